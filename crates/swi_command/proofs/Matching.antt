@@ -1,0 +1,35 @@
+-- When a command has matches on words, by the kinds of error that `clap` states, and that the
+-- commands of the table are ones of which it states them.
+use Rattle.std.proofs.Common.{◌≡◌, ◌&&◌, ap, refl, Bool, true, false, List, [], ◌∷◌, Some, None}
+use Rattle.clap.specs.Words.{App, Row, Text, Kinds, fault_of, matches_of, is_simple, is_simple_and_free}
+use Rattle.clap.proofs.OnLiterals.{clap_on_literals}
+use Rattle.swi_command.specs.CommandLine.{matches_on, without_fault, cached_app, plain_app}
+
+pub cached_is_simple : is_simple_and_free cached_app ≡ true
+unfolding clap_on_literals cached_app
+cached_is_simple = refl
+
+pub plain_is_simple : is_simple_and_free plain_app ≡ true
+unfolding clap_on_literals plain_app
+plain_is_simple = refl
+
+left_true : (a b : Bool) → (a && b) ≡ true → a ≡ true
+left_true true b h = refl
+left_true false b h = h
+
+pub simple_of_free : (a : App) → is_simple_and_free a ≡ true → is_simple a ≡ true
+simple_of_free a h = left_true (is_simple a) _ h
+
+pub matches_where_taken : (a : App) (words : List Text) → fault_of a words ≡ []
+    → matches_on a words ≡ Some (matches_of a words)
+unfolding matches_on
+matches_where_taken a words taken = ap (λ (ks : Kinds). without_fault ks (matches_of a words)) taken
+
+without_fault-none : (ks : Kinds) (rows : List Row) → (ks ≡ [] → ⊥) → without_fault ks rows ≡ None
+without_fault-none [] rows refused = absurd (refused refl)
+without_fault-none (k ∷ ks) rows refused = refl
+
+pub matches_where_refused : (a : App) (words : List Text) → (fault_of a words ≡ [] → ⊥)
+    → matches_on a words ≡ None
+unfolding matches_on
+matches_where_refused a words refused = without_fault-none (fault_of a words) (matches_of a words) refused

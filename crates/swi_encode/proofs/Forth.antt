@@ -1,0 +1,219 @@
+-- The word of a valid instruction decodes to it.
+use Rattle.std.proofs.Common.{◌≡◌, ℕ, ◌+◌, ◌*◌, ◌/◌, ◌%◌, ◌^◌, ◌<◌, arith, refl, ap, ◌∙◌, Some}
+use Rattle.std.proofs.lemmas.Bool.Decides.{nat_tests}
+use Rattle.swi_field.specs.Field.{field, extended}
+use Rattle.swi_isa.specs.declared.instr.BranchOp.{BranchOp}
+use Rattle.swi_isa.specs.declared.instr.BranchOp.TheVariants.{Beq, Bne, Blt, Bge, Bltu, Bgeu}
+use Rattle.swi_isa.specs.declared.instr.LoadOp.{LoadOp}
+use Rattle.swi_isa.specs.declared.instr.LoadOp.TheVariants.{Lb, Lh, Lw, Lbu, Lhu}
+use Rattle.swi_isa.specs.declared.instr.StoreOp.{StoreOp}
+use Rattle.swi_isa.specs.declared.instr.StoreOp.TheVariants.{Sb, Sh, Sw}
+use Rattle.swi_isa.specs.declared.instr.ImmOp.{ImmOp}
+use Rattle.swi_isa.specs.declared.instr.ImmOp.TheVariants.{Addi, Slti, Sltiu, Xori, Ori, Andi, Slli, Srli, Srai}
+use Rattle.swi_isa.specs.declared.instr.RegOp.{RegOp}
+use Rattle.swi_isa.specs.declared.instr.RegOp.TheVariants.{Add, Sub, Sll, Slt, Sltu, Xor, Srl, Sra, Or, And, Mul, Mulh, Mulhsu, Mulhu, Div, Divu, Rem, Remu}
+use Rattle.swi_isa.specs.declared.instr.AtomicOp.{AtomicOp}
+use Rattle.swi_isa.specs.declared.instr.AtomicOp.TheVariants.{LrW, ScW, SwapW, AddW, XorW, AndW, OrW, MinW, MaxW, MinuW, MaxuW}
+use Rattle.swi_isa.specs.declared.instr.Instr.{Instr}
+use Rattle.swi_isa.specs.declared.instr.Instr.TheVariants as instr
+use Rattle.swi_isa.specs.Decode.{decoded}
+use Rattle.swi_isa.specs.Table.{rd_of, rs1_of, rs2_of, imm_i, imm_s, imm_b, imm_u, imm_j}
+use Rattle.swi_isa.proofs.Rows.{decoded_is, decoded_at}
+use Rattle.swi_isa.proofs.Sums.{is_imm_i, is_imm_s, is_imm_b, is_imm_u, is_imm_j}
+use Rattle.swi_encode.specs.Valid.{IsExtended, IsEven, ImmFits, AtomicFits, IsValid}
+use Rattle.swi_encode.proofs.Codes.{branch_code_lt, load_code_lt, store_code_lt, reg_code_lt, reg_high_lt, atomic_code_lt}
+use Rattle.swi_encode.specs.Words.{InRange, word_of, u_word, j_word, i_word, s_word, b_word, r_word, alu_word, branch_code, load_code, store_code, reg_code, reg_high, atomic_code}
+
+again_12 : (v : ℕ) → v < 2 ^ 32 → IsExtended 12 v → extended 12 (v % 2 ^ 12) ≡ v
+again_12 v word range = grind (arith, nat_tests)
+
+again_13 : (v : ℕ) → v < 2 ^ 32 → IsExtended 13 v → extended 13 (v % 2 ^ 13) ≡ v
+again_13 v word range = grind (arith, nat_tests)
+
+again_21 : (v : ℕ) → v < 2 ^ 32 → IsExtended 21 v → extended 21 (v % 2 ^ 21) ≡ v
+again_21 v word range = grind (arith, nat_tests)
+
+-- the bits of an even offset
+bits_13 : (off : ℕ) → IsEven off → off / 2 ^ 12 % 2 * 2 ^ 12 + off / 2 ^ 11 % 2 * 2 ^ 11 + off / 2 ^ 5 % 2 ^ 6 * 2 ^ 5 + off / 2 % 2 ^ 4 * 2 ≡ off % 2 ^ 13
+bits_13 off even = omega arith
+
+bits_21 : (off : ℕ) → IsEven off → off / 2 ^ 20 % 2 * 2 ^ 20 + off / 2 ^ 12 % 2 ^ 8 * 2 ^ 12 + off / 2 ^ 11 % 2 * 2 ^ 11 + off / 2 % 2 ^ 10 * 2 ≡ off % 2 ^ 21
+bits_21 off even = omega arith
+
+-- what the fields of each format's word are
+record UFields (w o rd imm : ℕ) : Type 0 where
+  word : w < 2 ^ 32
+  opcode : field 6 0 w ≡ o
+  dest : rd_of w ≡ rd
+  value : imm_u w ≡ imm
+
+u_fields : (w o rd imm : ℕ) → o < 128 → rd < 32 → imm < 2 ^ 32 → imm % 2 ^ 12 ≡ 0 → w ≡ u_word o rd imm → UFields w o rd imm
+u_fields w o rd imm p1 p2 p3 p4 is =
+    let high : field 31 12 w * 2 ^ 12 ≡ imm = omega arith in
+    record { word = omega arith; opcode = omega arith; dest = omega arith; value = is_imm_u w ∙ high }
+
+record IFields (w o f rd rs1 imm : ℕ) : Type 0 where
+  word : w < 2 ^ 32
+  opcode : field 6 0 w ≡ o
+  funct3 : field 14 12 w ≡ f
+  dest : rd_of w ≡ rd
+  first : rs1_of w ≡ rs1
+  value : imm_i w ≡ imm
+
+i_fields : (w o f rd rs1 imm : ℕ) → o < 128 → f < 8 → rd < 32 → rs1 < 32 → imm < 2 ^ 32 → IsExtended 12 imm → w ≡ i_word o f rd rs1 imm → IFields w o f rd rs1 imm
+i_fields w o f rd rs1 imm p1 p2 p3 p4 p5 range is =
+    let low : field 31 20 w ≡ imm % 2 ^ 12 = omega arith in
+    record { word = omega arith; opcode = omega arith; funct3 = omega arith; dest = omega arith; first = omega arith; value = is_imm_i w ∙ ap (extended 12) low ∙ again_12 imm p5 range }
+
+record SFields (w f rs1 rs2 imm : ℕ) : Type 0 where
+  word : w < 2 ^ 32
+  opcode : field 6 0 w ≡ 0x23
+  funct3 : field 14 12 w ≡ f
+  first : rs1_of w ≡ rs1
+  second : rs2_of w ≡ rs2
+  value : imm_s w ≡ imm
+
+s_fields : (w f rs1 rs2 imm : ℕ) → f < 8 → rs1 < 32 → rs2 < 32 → imm < 2 ^ 32 → IsExtended 12 imm → w ≡ s_word f rs1 rs2 imm → SFields w f rs1 rs2 imm
+s_fields w f rs1 rs2 imm p1 p2 p3 p4 range is =
+    let low : field 31 25 w * 2 ^ 5 + field 11 7 w ≡ imm % 2 ^ 12 = omega arith in
+    record { word = omega arith; opcode = omega arith; funct3 = omega arith; first = omega arith; second = omega arith; value = is_imm_s w ∙ ap (extended 12) low ∙ again_12 imm p4 range }
+
+-- a branch's word, with its fields as variables
+b_parts : (a b c d e f g w : ℕ) → a < 2 → b < 64 → c < 32 → d < 32 → e < 8 → f < 16 → g < 2 →
+    w ≡ a * 2147483648 + b * 33554432 + c * 1048576 + d * 32768 + e * 4096 + f * 256 + g * 128 + 0x63 →
+    (w < 2 ^ 32) × (field 6 0 w ≡ 0x63) × (field 14 12 w ≡ e) × (field 19 15 w ≡ d) × (field 24 20 w ≡ c) × (field 31 31 w ≡ a) × (field 7 7 w ≡ g) × (field 30 25 w ≡ b) × (field 11 8 w ≡ f)
+b_parts a b c d e f g w pa pb pc pd pe pf pg is = (omega arith, omega arith, omega arith, omega arith, omega arith, omega arith, omega arith, omega arith, omega arith)
+
+record BFields (w f rs1 rs2 off : ℕ) : Type 0 where
+  word : w < 2 ^ 32
+  opcode : field 6 0 w ≡ 0x63
+  funct3 : field 14 12 w ≡ f
+  first : rs1_of w ≡ rs1
+  second : rs2_of w ≡ rs2
+  offset : imm_b w ≡ off
+
+b_fields : (w f rs1 rs2 off : ℕ) → f < 8 → rs1 < 32 → rs2 < 32 → off < 2 ^ 32 → IsExtended 13 off → IsEven off → w ≡ b_word f rs1 rs2 off → BFields w f rs1 rs2 off
+b_fields w f rs1 rs2 off pf p1 p2 word range even is =
+    let all : (w < 2 ^ 32) × (field 6 0 w ≡ 0x63) × (field 14 12 w ≡ f) × (field 19 15 w ≡ rs1) × (field 24 20 w ≡ rs2) × (field 31 31 w ≡ off / 2 ^ 12 % 2) × (field 7 7 w ≡ off / 2 ^ 11 % 2) × (field 30 25 w ≡ off / 2 ^ 5 % 2 ^ 6) × (field 11 8 w ≡ off / 2 % 2 ^ 4) = b_parts (off / 2 ^ 12 % 2) (off / 2 ^ 5 % 2 ^ 6) rs2 rs1 f (off / 2 % 2 ^ 4) (off / 2 ^ 11 % 2) w (omega arith) (omega arith) p2 p1 pf (omega arith) (omega arith) is in
+    record { word = all.0; opcode = all.1; funct3 = all.2; first = all.3; second = all.4; offset = is_imm_b w ∙ rw (all.5, all.6, all.7, all.8, bits_13 off even) (again_13 off word range) }
+
+-- a jump's word, with its fields as variables
+j_parts : (a b c d e w : ℕ) → a < 2 → b < 1024 → c < 2 → d < 256 → e < 32 →
+    w ≡ a * 2147483648 + b * 2097152 + c * 1048576 + d * 4096 + e * 128 + 0x6F →
+    (w < 2 ^ 32) × (field 6 0 w ≡ 0x6F) × (field 11 7 w ≡ e) × (field 31 31 w ≡ a) × (field 19 12 w ≡ d) × (field 20 20 w ≡ c) × (field 30 21 w ≡ b)
+j_parts a b c d e w pa pb pc pd pe is = (omega arith, omega arith, omega arith, omega arith, omega arith, omega arith, omega arith)
+
+record JFields (w rd off : ℕ) : Type 0 where
+  word : w < 2 ^ 32
+  opcode : field 6 0 w ≡ 0x6F
+  dest : rd_of w ≡ rd
+  offset : imm_j w ≡ off
+
+j_fields : (w rd off : ℕ) → rd < 32 → off < 2 ^ 32 → IsExtended 21 off → IsEven off → w ≡ j_word rd off → JFields w rd off
+j_fields w rd off p1 word range even is =
+    let all : (w < 2 ^ 32) × (field 6 0 w ≡ 0x6F) × (field 11 7 w ≡ rd) × (field 31 31 w ≡ off / 2 ^ 20 % 2) × (field 19 12 w ≡ off / 2 ^ 12 % 2 ^ 8) × (field 20 20 w ≡ off / 2 ^ 11 % 2) × (field 30 21 w ≡ off / 2 % 2 ^ 10) = j_parts (off / 2 ^ 20 % 2) (off / 2 % 2 ^ 10) (off / 2 ^ 11 % 2) (off / 2 ^ 12 % 2 ^ 8) rd w (omega arith) (omega arith) (omega arith) (omega arith) p1 is in
+    record { word = all.0; opcode = all.1; dest = all.2; offset = is_imm_j w ∙ rw (all.3, all.4, all.5, all.6, bits_21 off even) (again_21 off word range) }
+
+record RFields (w o f g rd rs1 rs2 : ℕ) : Type 0 where
+  word : w < 2 ^ 32
+  opcode : field 6 0 w ≡ o
+  funct3 : field 14 12 w ≡ f
+  funct7 : field 31 25 w ≡ g
+  dest : rd_of w ≡ rd
+  first : rs1_of w ≡ rs1
+  second : rs2_of w ≡ rs2
+
+r_fields : (w o f g rd rs1 rs2 : ℕ) → o < 128 → f < 8 → g < 128 → rd < 32 → rs1 < 32 → rs2 < 32 → w ≡ r_word o f g rd rs1 rs2 → RFields w o f g rd rs1 rs2
+r_fields w o f g rd rs1 rs2 p1 p2 p3 p4 p5 p6 is = record { word = omega arith; opcode = omega arith; funct3 = omega arith; funct7 = omega arith; dest = omega arith; first = omega arith; second = omega arith }
+
+branches : (op : BranchOp) (w rs1 rs2 off : ℕ) → BFields w (branch_code op) rs1 rs2 off → decoded w ≡ Some (instr.Branch op rs1 rs2 off)
+branches Beq w rs1 rs2 off h = rw (decoded_is w 0x63 0 (field 31 25 w) h.word h.opcode h.funct3 refl) (cc)
+branches Bne w rs1 rs2 off h = rw (decoded_is w 0x63 1 (field 31 25 w) h.word h.opcode h.funct3 refl) (cc)
+branches Blt w rs1 rs2 off h = rw (decoded_is w 0x63 4 (field 31 25 w) h.word h.opcode h.funct3 refl) (cc)
+branches Bge w rs1 rs2 off h = rw (decoded_is w 0x63 5 (field 31 25 w) h.word h.opcode h.funct3 refl) (cc)
+branches Bltu w rs1 rs2 off h = rw (decoded_is w 0x63 6 (field 31 25 w) h.word h.opcode h.funct3 refl) (cc)
+branches Bgeu w rs1 rs2 off h = rw (decoded_is w 0x63 7 (field 31 25 w) h.word h.opcode h.funct3 refl) (cc)
+
+loads : (op : LoadOp) (w rd rs1 imm : ℕ) → IFields w 3 (load_code op) rd rs1 imm → decoded w ≡ Some (instr.Load op rd rs1 imm)
+loads Lb w rd rs1 imm h = rw (decoded_is w 3 0 (field 31 25 w) h.word h.opcode h.funct3 refl) (cc)
+loads Lh w rd rs1 imm h = rw (decoded_is w 3 1 (field 31 25 w) h.word h.opcode h.funct3 refl) (cc)
+loads Lw w rd rs1 imm h = rw (decoded_is w 3 2 (field 31 25 w) h.word h.opcode h.funct3 refl) (cc)
+loads Lbu w rd rs1 imm h = rw (decoded_is w 3 4 (field 31 25 w) h.word h.opcode h.funct3 refl) (cc)
+loads Lhu w rd rs1 imm h = rw (decoded_is w 3 5 (field 31 25 w) h.word h.opcode h.funct3 refl) (cc)
+
+stores : (op : StoreOp) (w rs1 rs2 imm : ℕ) → SFields w (store_code op) rs1 rs2 imm → decoded w ≡ Some (instr.Store op rs1 rs2 imm)
+stores Sb w rs1 rs2 imm h = rw (decoded_is w 0x23 0 (field 31 25 w) h.word h.opcode h.funct3 refl) (cc)
+stores Sh w rs1 rs2 imm h = rw (decoded_is w 0x23 1 (field 31 25 w) h.word h.opcode h.funct3 refl) (cc)
+stores Sw w rs1 rs2 imm h = rw (decoded_is w 0x23 2 (field 31 25 w) h.word h.opcode h.funct3 refl) (cc)
+
+registers : (op : RegOp) (w rd rs1 rs2 : ℕ) → RFields w 0x33 (reg_code op) (reg_high op) rd rs1 rs2 → decoded w ≡ Some (instr.Op op rd rs1 rs2)
+registers Add w rd rs1 rs2 h = rw (decoded_is w 0x33 0 0 h.word h.opcode h.funct3 h.funct7) (cc)
+registers Sub w rd rs1 rs2 h = rw (decoded_is w 0x33 0 32 h.word h.opcode h.funct3 h.funct7) (cc)
+registers Sll w rd rs1 rs2 h = rw (decoded_is w 0x33 1 0 h.word h.opcode h.funct3 h.funct7) (cc)
+registers Slt w rd rs1 rs2 h = rw (decoded_is w 0x33 2 0 h.word h.opcode h.funct3 h.funct7) (cc)
+registers Sltu w rd rs1 rs2 h = rw (decoded_is w 0x33 3 0 h.word h.opcode h.funct3 h.funct7) (cc)
+registers Xor w rd rs1 rs2 h = rw (decoded_is w 0x33 4 0 h.word h.opcode h.funct3 h.funct7) (cc)
+registers Srl w rd rs1 rs2 h = rw (decoded_is w 0x33 5 0 h.word h.opcode h.funct3 h.funct7) (cc)
+registers Sra w rd rs1 rs2 h = rw (decoded_is w 0x33 5 32 h.word h.opcode h.funct3 h.funct7) (cc)
+registers Or w rd rs1 rs2 h = rw (decoded_is w 0x33 6 0 h.word h.opcode h.funct3 h.funct7) (cc)
+registers And w rd rs1 rs2 h = rw (decoded_is w 0x33 7 0 h.word h.opcode h.funct3 h.funct7) (cc)
+registers Mul w rd rs1 rs2 h = rw (decoded_is w 0x33 0 1 h.word h.opcode h.funct3 h.funct7) (cc)
+registers Mulh w rd rs1 rs2 h = rw (decoded_is w 0x33 1 1 h.word h.opcode h.funct3 h.funct7) (cc)
+registers Mulhsu w rd rs1 rs2 h = rw (decoded_is w 0x33 2 1 h.word h.opcode h.funct3 h.funct7) (cc)
+registers Mulhu w rd rs1 rs2 h = rw (decoded_is w 0x33 3 1 h.word h.opcode h.funct3 h.funct7) (cc)
+registers Div w rd rs1 rs2 h = rw (decoded_is w 0x33 4 1 h.word h.opcode h.funct3 h.funct7) (cc)
+registers Divu w rd rs1 rs2 h = rw (decoded_is w 0x33 5 1 h.word h.opcode h.funct3 h.funct7) (cc)
+registers Rem w rd rs1 rs2 h = rw (decoded_is w 0x33 6 1 h.word h.opcode h.funct3 h.funct7) (cc)
+registers Remu w rd rs1 rs2 h = rw (decoded_is w 0x33 7 1 h.word h.opcode h.funct3 h.funct7) (cc)
+
+record AFields (w h rd rs1 rs2 : ℕ) : Type 0 where
+  word : w < 2 ^ 32
+  opcode : field 6 0 w ≡ 0x2F
+  funct3 : field 14 12 w ≡ 2
+  funct5 : field 31 27 w ≡ h
+  dest : rd_of w ≡ rd
+  first : rs1_of w ≡ rs1
+  second : rs2_of w ≡ rs2
+
+a_fields : (w h rd rs1 rs2 : ℕ) → h < 32 → rd < 32 → rs1 < 32 → rs2 < 32 → w ≡ r_word 0x2F 2 (h * 4) rd rs1 rs2 → AFields w h rd rs1 rs2
+a_fields w h rd rs1 rs2 p1 p2 p3 p4 is = record { word = omega arith; opcode = omega arith; funct3 = omega arith; funct5 = omega arith; dest = omega arith; first = omega arith; second = omega arith }
+
+atomics : (op : AtomicOp) (w rd rs1 rs2 : ℕ) → AFields w (atomic_code op) rd rs1 rs2 → AtomicFits op rs2 → decoded w ≡ Some (instr.Atomic op rd rs1 rs2)
+atomics LrW w rd rs1 rs2 h fits = rw (decoded_at w 0x2F 2 (field 31 25 w) 2 0 h.word h.opcode h.funct3 refl h.funct5 (h.second ∙ fits)) (cc)
+atomics ScW w rd rs1 rs2 h fits = rw (decoded_at w 0x2F 2 (field 31 25 w) 3 (field 24 20 w) h.word h.opcode h.funct3 refl h.funct5 refl) (cc)
+atomics SwapW w rd rs1 rs2 h fits = rw (decoded_at w 0x2F 2 (field 31 25 w) 1 (field 24 20 w) h.word h.opcode h.funct3 refl h.funct5 refl) (cc)
+atomics AddW w rd rs1 rs2 h fits = rw (decoded_at w 0x2F 2 (field 31 25 w) 0 (field 24 20 w) h.word h.opcode h.funct3 refl h.funct5 refl) (cc)
+atomics XorW w rd rs1 rs2 h fits = rw (decoded_at w 0x2F 2 (field 31 25 w) 4 (field 24 20 w) h.word h.opcode h.funct3 refl h.funct5 refl) (cc)
+atomics AndW w rd rs1 rs2 h fits = rw (decoded_at w 0x2F 2 (field 31 25 w) 12 (field 24 20 w) h.word h.opcode h.funct3 refl h.funct5 refl) (cc)
+atomics OrW w rd rs1 rs2 h fits = rw (decoded_at w 0x2F 2 (field 31 25 w) 8 (field 24 20 w) h.word h.opcode h.funct3 refl h.funct5 refl) (cc)
+atomics MinW w rd rs1 rs2 h fits = rw (decoded_at w 0x2F 2 (field 31 25 w) 16 (field 24 20 w) h.word h.opcode h.funct3 refl h.funct5 refl) (cc)
+atomics MaxW w rd rs1 rs2 h fits = rw (decoded_at w 0x2F 2 (field 31 25 w) 20 (field 24 20 w) h.word h.opcode h.funct3 refl h.funct5 refl) (cc)
+atomics MinuW w rd rs1 rs2 h fits = rw (decoded_at w 0x2F 2 (field 31 25 w) 24 (field 24 20 w) h.word h.opcode h.funct3 refl h.funct5 refl) (cc)
+atomics MaxuW w rd rs1 rs2 h fits = rw (decoded_at w 0x2F 2 (field 31 25 w) 28 (field 24 20 w) h.word h.opcode h.funct3 refl h.funct5 refl) (cc)
+
+alu : (op : ImmOp) (w rd rs1 imm : ℕ) → rd < 32 → rs1 < 32 → imm < 2 ^ 32 → ImmFits op imm → w ≡ alu_word op rd rs1 imm → decoded w ≡ Some (instr.Alu op rd rs1 imm)
+alu Addi w rd rs1 imm p1 p2 p3 fits is = let h : IFields w 0x13 0 rd rs1 imm = i_fields w 0x13 0 rd rs1 imm (omega arith) (omega arith) p1 p2 p3 fits is in rw (decoded_is w 0x13 0 (field 31 25 w) h.word h.opcode h.funct3 refl) (cc)
+alu Slti w rd rs1 imm p1 p2 p3 fits is = let h : IFields w 0x13 2 rd rs1 imm = i_fields w 0x13 2 rd rs1 imm (omega arith) (omega arith) p1 p2 p3 fits is in rw (decoded_is w 0x13 2 (field 31 25 w) h.word h.opcode h.funct3 refl) (cc)
+alu Sltiu w rd rs1 imm p1 p2 p3 fits is = let h : IFields w 0x13 3 rd rs1 imm = i_fields w 0x13 3 rd rs1 imm (omega arith) (omega arith) p1 p2 p3 fits is in rw (decoded_is w 0x13 3 (field 31 25 w) h.word h.opcode h.funct3 refl) (cc)
+alu Xori w rd rs1 imm p1 p2 p3 fits is = let h : IFields w 0x13 4 rd rs1 imm = i_fields w 0x13 4 rd rs1 imm (omega arith) (omega arith) p1 p2 p3 fits is in rw (decoded_is w 0x13 4 (field 31 25 w) h.word h.opcode h.funct3 refl) (cc)
+alu Ori w rd rs1 imm p1 p2 p3 fits is = let h : IFields w 0x13 6 rd rs1 imm = i_fields w 0x13 6 rd rs1 imm (omega arith) (omega arith) p1 p2 p3 fits is in rw (decoded_is w 0x13 6 (field 31 25 w) h.word h.opcode h.funct3 refl) (cc)
+alu Andi w rd rs1 imm p1 p2 p3 fits is = let h : IFields w 0x13 7 rd rs1 imm = i_fields w 0x13 7 rd rs1 imm (omega arith) (omega arith) p1 p2 p3 fits is in rw (decoded_is w 0x13 7 (field 31 25 w) h.word h.opcode h.funct3 refl) (cc)
+alu Slli w rd rs1 imm p1 p2 p3 fits is = let h : RFields w 0x13 1 0 rd rs1 imm = r_fields w 0x13 1 0 rd rs1 imm (omega arith) (omega arith) (omega arith) p1 p2 fits is in rw (decoded_is w 0x13 1 0 h.word h.opcode h.funct3 h.funct7) (cc)
+alu Srli w rd rs1 imm p1 p2 p3 fits is = let h : RFields w 0x13 5 0 rd rs1 imm = r_fields w 0x13 5 0 rd rs1 imm (omega arith) (omega arith) (omega arith) p1 p2 fits is in rw (decoded_is w 0x13 5 0 h.word h.opcode h.funct3 h.funct7) (cc)
+alu Srai w rd rs1 imm p1 p2 p3 fits is = let h : RFields w 0x13 5 32 rd rs1 imm = r_fields w 0x13 5 32 rd rs1 imm (omega arith) (omega arith) (omega arith) p1 p2 fits is in rw (decoded_is w 0x13 5 32 h.word h.opcode h.funct3 h.funct7) (cc)
+
+-- the word of a valid instruction decodes to it
+pub decoded-word_of : (i : Instr) (w : ℕ) → w ≡ word_of i → InRange i → IsValid i → decoded w ≡ Some i
+decoded-word_of (instr.Lui rd imm) w is r v = let h : UFields w 0x37 rd imm = u_fields w 0x37 rd imm (omega arith) r.0 r.1 v is in rw (decoded_is w 0x37 (field 14 12 w) (field 31 25 w) h.word h.opcode refl refl) (cc)
+decoded-word_of (instr.Auipc rd imm) w is r v = let h : UFields w 0x17 rd imm = u_fields w 0x17 rd imm (omega arith) r.0 r.1 v is in rw (decoded_is w 0x17 (field 14 12 w) (field 31 25 w) h.word h.opcode refl refl) (cc)
+decoded-word_of (instr.Jal rd off) w is r v = let h : JFields w rd off = j_fields w rd off r.0 r.1 v.0 v.1 is in rw (decoded_is w 0x6F (field 14 12 w) (field 31 25 w) h.word h.opcode refl refl) (cc)
+decoded-word_of (instr.Jalr rd rs1 imm) w is r v = let h : IFields w 0x67 0 rd rs1 imm = i_fields w 0x67 0 rd rs1 imm (omega arith) (omega arith) r.0 r.1 r.2 v is in rw (decoded_is w 0x67 0 (field 31 25 w) h.word h.opcode h.funct3 refl) (cc)
+decoded-word_of (instr.Branch op rs1 rs2 off) w is r v = branches op w rs1 rs2 off (b_fields w (branch_code op) rs1 rs2 off (branch_code_lt op) r.0 r.1 r.2 v.0 v.1 is)
+decoded-word_of (instr.Load op rd rs1 imm) w is r v = loads op w rd rs1 imm (i_fields w 3 (load_code op) rd rs1 imm (omega arith) (load_code_lt op) r.0 r.1 r.2 v is)
+decoded-word_of (instr.Store op rs1 rs2 imm) w is r v = stores op w rs1 rs2 imm (s_fields w (store_code op) rs1 rs2 imm (store_code_lt op) r.0 r.1 r.2 v is)
+decoded-word_of (instr.Alu op rd rs1 imm) w is r v = alu op w rd rs1 imm r.0 r.1 r.2 v is
+decoded-word_of (instr.Op op rd rs1 rs2) w is r v = registers op w rd rs1 rs2 (r_fields w 0x33 (reg_code op) (reg_high op) rd rs1 rs2 (omega arith) (reg_code_lt op) (reg_high_lt op) r.0 r.1 r.2 is)
+decoded-word_of (instr.Atomic op rd rs1 rs2) w is r v = atomics op w rd rs1 rs2 (a_fields w (atomic_code op) rd rs1 rs2 (atomic_code_lt op) r.0 r.1 r.2 is) v
+decoded-word_of instr.Fence w is r v = rw is (decoded_is 0x0FF0000F 0x0F 0 7 (omega arith) refl refl refl)
+decoded-word_of instr.Ecall w is r v = rw is (decoded_is 0x73 0x73 0 0 (omega arith) refl refl refl)
+decoded-word_of instr.Ebreak w is r v = rw is (decoded_is 0x100073 0x73 0 0 (omega arith) refl refl refl)

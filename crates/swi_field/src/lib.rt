@@ -1,0 +1,57 @@
+//! Fields of a 32-bit word, with their places as constants.
+#![tactic(auto)]
+
+ghost use Rattle.std.specs.Prelude.{◌≡◌, ◌+◌, ◌-◌, ◌^◌, ◌<◌, ◌≤◌};
+ghost use Rattle.swi_field.specs.Field.{field, with_field, extended};
+
+/// Bits HI down to LO of `w`, both included, as a number. Bit 0 is the lowest.
+#[inline(always)]
+pub fn bits<const HI: u32, const LO: u32>(w: u32) -> u32
+    requires order { LO ≤ HI }
+    requires top { HI ≤ 31 }
+    ensures { result ≡ field HI LO w }
+{
+    (w >> LO) & (u32::MAX >> (31 + LO - HI))
+}
+
+/// `w` with bits HI down to LO, both included, replaced by `v`. The other bits stay.
+#[inline(always)]
+pub fn put_bits<const HI: u32, const LO: u32>(w: u32, v: u32) -> u32
+    requires order { LO ≤ HI }
+    requires top { HI ≤ 31 }
+    requires fits { v < 2 ^ (HI + 1 - LO) }
+    ensures { result ≡ with_field HI LO w v }
+{
+    let mask = (u32::MAX >> (31 + LO - HI)) << LO;
+    (w & !mask) | (v << LO)
+}
+
+/// Sign extension: the N-bit value `v` in two's complement, as 32 bits in two's complement.
+#[inline(always)]
+pub fn sign<const N: u32>(v: u32) -> u32
+    requires low { 1 ≤ N }
+    requires high { N ≤ 32 }
+    requires fits { v < 2 ^ N }
+    ensures { result ≡ extended N v }
+{
+    // turning the top bit over and taking it away again borrows through the bits above it: no branch
+    let top = 1 << (N - 1);
+    (v ^ top).wrapping_sub(top)
+}
+
+#[cfg(test)]
+mod tests {
+    use super::*;
+
+    // BNE x5, x0, -4 has funct7 1111111; ADDI x0, x0, 0 with rd 10 is ADDI a0, x0, 0; -4 in 13 bits.
+    #[test]
+    fn fields_of_known_words(rt: HostRuntime) {
+        assert_eq!(rt; bits::<31, 25>(0xFE02_9EE3), 0x7F);
+        assert_eq!(rt; bits::<31, 0>(0xFE02_9EE3), 0xFE02_9EE3);
+        assert_eq!(rt; put_bits::<11, 7>(0x0000_0013, 10), 0x0000_0513);
+        assert_eq!(rt; put_bits::<31, 0>(0x0000_0013, 0xFFFF_FFFF), 0xFFFF_FFFF);
+        assert_eq!(rt; sign::<13>(0x1FFC), 0xFFFF_FFFC);
+        assert_eq!(rt; sign::<13>(0x0FFC), 0x0FFC);
+        assert_eq!(rt; sign::<32>(0x8000_0000), 0x8000_0000);
+    }
+}

@@ -1,0 +1,49 @@
+-- A cache ram: its words, and what was done to it. Own rule.
+use Rattle.std.specs.Prelude.{◌≡◌, ◌⊎◌, ℕ, ◌+◌, ◌-◌, ◌^◌, ◌≤◌, min, max, List, slice_index, slice_set, Result, Ok, Err}
+use Rattle.swi_outside.specs.Causes.{Rose}
+
+pub record RamState : Type 0 where
+  -- the words, from index 0
+  pub words : List ℕ
+  -- how many fetches and how many sets answered `Ok`
+  pub fetches : ℕ
+  pub sets : ℕ
+  -- how many calls answered `Failed`
+  pub faults : ℕ
+  -- the least number above every index that was given to a fetch or a set
+  pub reach : ℕ
+  -- the index of the last fetch that answered `Ok`, 0 before the first
+  pub last : ℕ
+
+-- a count after so many more: it stands still at 2^64 - 1
+abbrev pub risen : ℕ → ℕ → ℕ
+risen n more = max n (min (n + more) (2 ^ 64 - 1))
+
+-- a count after one more
+abbrev pub counted : ℕ → ℕ
+counted n = risen n 1
+
+-- A fetch of word i, by its answer: no fetch changes a word.
+abbrev pub Fetched : {E : Type 0} → RamState → ℕ → Result ℕ E → RamState → Type 0
+Fetched old i (Ok w) new = (w ≡ slice_index old.words i)
+    × (new ≡ record old { fetches = counted old.fetches; reach = max old.reach (i + 1); last = i })
+Fetched old i (Err e) new = Rose old.faults new.faults × (old.faults ≤ new.faults)
+    × (new ≡ record old { faults = new.faults; reach = max old.reach (i + 1) })
+
+-- A set of word i to w, by its answer: a failed one leaves word i old or new, and every other as it was.
+abbrev pub WordSet : {E : Type 0} → RamState → ℕ → ℕ → Result Unit E → RamState → Type 0
+WordSet old i w (Ok u) new =
+    new ≡ record old { words = slice_set old.words i w; sets = counted old.sets; reach = max old.reach (i + 1) }
+WordSet old i w (Err e) new = Rose old.faults new.faults × (old.faults ≤ new.faults)
+    × ((new.words ≡ old.words) ⊎ (new.words ≡ slice_set old.words i w))
+    × (new ≡ record old { words = new.words; faults = new.faults; reach = max old.reach (i + 1) })
+
+-- a ram that was just made
+abbrev pub new_ram : List ℕ → RamState
+new_ram words = record { words = words; fetches = 0; sets = 0; faults = 0; reach = 0; last = 0 }
+
+-- a ram whose calls fail by a list of their numbers, from 1, fetches and sets counted together
+pub record FaultyRam : Type 0 where
+  pub ram : RamState
+  pub failing : List ℕ
+  pub calls : ℕ

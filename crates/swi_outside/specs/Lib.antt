@@ -1,0 +1,5 @@
+pub mod CacheRam
+pub mod Causes
+pub mod Shelf
+pub mod Sink
+pub mod Source

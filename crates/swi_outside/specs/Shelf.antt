@@ -1,0 +1,88 @@
+-- Contents under names, and the last call that failed. Own rule.
+use Rattle.std.specs.Prelude.{◌≡◌, ◌≢◌, ℕ, ◌<◌, ◌≤◌, List, [], ◌∷◌, length, Option, Some, None, ⊤, Result, Err, if◌then◌else◌, Bool, true, ◌&&◌, is_none, String, string_bytes, Vec}
+use Rattle.std.specs.declared.alloc.Global.{Global}
+use Rattle.std.specs.Str.{bytes_eq}
+use Rattle.swi_outside.specs.Causes.{Rose}
+use Rattle.swi_outside.specs.declared.shelf.ShelfError.{ShelfError}
+use Rattle.swi_outside.specs.declared.shelf.ShelfError.TheVariants.{Failed}
+use Rattle.swi_outside.specs.declared.shelf_call.ShelfCall.{ShelfCall}
+use Rattle.swi_outside.specs.declared.shelf_call.ShelfCall.TheVariants.{Get, Put}
+
+-- the bytes under each name, as bytes of its text
+abbrev pub Contents : Type 0
+Contents = List ℕ → Option (List ℕ)
+
+-- a call of a shelf, by the name that was given
+pub data Asked : Type 0 where
+  get_of : List ℕ → Asked
+  put_of : List ℕ → Asked
+
+-- what is told of one name stays
+abbrev pub SameAt : Option Contents → Option Contents → List ℕ → Type 0
+SameAt None new name = ⊤
+SameAt (Some m) None name = ⊥
+SameAt (Some m) (Some n) name = n name ≡ m name
+
+-- what is told of every name stays
+abbrev pub Same : Option Contents → Option Contents → Type 0
+Same old new = (name : List ℕ) → SameAt old new name
+
+-- what is told of every name but one stays
+abbrev pub SameElsewhere : Option Contents → Option Contents → List ℕ → Type 0
+SameElsewhere old new name = (other : List ℕ) → other ≢ name → SameAt old new other
+
+-- these bytes stand under a name, as far as is told
+abbrev pub Stands : Option Contents → List ℕ → List ℕ → Type 0
+Stands None name bytes = ⊤
+Stands (Some m) name bytes = m name ≡ Some bytes
+
+-- more bytes than the limit stand under a name, as far as is told
+abbrev pub IsLonger : Option Contents → List ℕ → ℕ → Type 0
+IsLonger None name limit = ⊤
+IsLonger (Some m) name limit = (bytes : List ℕ) × (m name ≡ Some bytes) × (limit < length bytes)
+
+-- the count never falls, `Failed` comes only where it rose, and only `Failed` raises it and changes
+-- what is told of the last failed call, to this call
+pub record ShelfCause {T : Type 0} (before now : ℕ) (last_before last_now : Option Asked) (asked : Asked) (result : Result T ShelfError) : Type 0 where
+  pub later : before ≤ now
+  pub failed : result ≡ Err Failed → Rose before now × (last_now ≡ Some asked)
+  pub quiet : (result ≡ Err Failed → ⊥) → (now ≡ before) × (last_now ≡ last_before)
+
+-- a call as a shelf keeps it
+abbrev pub asked_of : ShelfCall → List ℕ → Asked
+asked_of Get name = get_of name
+asked_of Put name = put_of name
+
+abbrev pub last_asked : Option (ShelfCall × String Global) → Option Asked
+last_asked None = None
+last_asked (Some p) = Some (asked_of p.0 (string_bytes p.1))
+
+-- a shelf in memory: its entries of a name and a content, the numbers of the calls that fail, from 1,
+-- the calls so far, the faults so far, and the last call that failed
+pub record ShelfState : Type 0 where
+  pub entries : List (List ℕ × List ℕ)
+  pub failing : List ℕ
+  pub calls : ℕ
+  pub faults : ℕ
+  pub last : Option (ShelfCall × List ℕ)
+
+-- the content of the first entry of a name
+abbrev pub lookup : List (List ℕ × List ℕ) → List ℕ → Option (List ℕ)
+lookup [] name = None
+lookup (e ∷ es) name = if bytes_eq e.0 name then Some e.1 else lookup es name
+
+-- no name stands in two entries
+abbrev pub names_differ : List (List ℕ × List ℕ) → Bool
+names_differ [] = true
+names_differ (e ∷ es) = is_none (lookup es e.0) && names_differ es
+
+abbrev pub entry_of : String Global × Vec ℕ Global → List ℕ × List ℕ
+entry_of e = (string_bytes e.0, e.1.items)
+
+abbrev pub last_of : Option (ShelfCall × String Global) → Option (ShelfCall × List ℕ)
+last_of None = None
+last_of (Some p) = Some (p.0, string_bytes p.1)
+
+abbrev pub asked_last : Option (ShelfCall × List ℕ) → Option Asked
+asked_last None = None
+asked_last (Some p) = Some (asked_of p.0 p.1)

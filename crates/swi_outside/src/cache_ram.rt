@@ -1,0 +1,24 @@
+ghost use Rattle.std.specs.Prelude.{◌≡◌, ◌<◌, length};
+ghost use Rattle.swi_outside.specs.CacheRam.{RamState, Fetched, WordSet};
+
+use crate::Failed;
+
+/// The small memory of 32-bit words that cached code is run from.
+pub trait CacheRam {
+    /// Its words, and what was done to it.
+    ghost state: { Self → RamState };
+
+    /// The number of words.
+    fn words(&self) -> u32
+        ensures { result ≡ length (state self.now).words };
+
+    /// The word at index `i`. A fetch, failed or not, changes no word.
+    fn fetch(&mut self, i: u32) -> Result<u32, Failed>
+        requires { i < length (state self.old).words }
+        ensures fetched { Fetched (state self.old) i result (state self.new) };
+
+    /// Puts `w` at index `i`. `Failed` leaves that word old or new, and every other as it was.
+    fn set(&mut self, i: u32, w: u32) -> Result<(), Failed>
+        requires { i < length (state self.old).words }
+        ensures set { WordSet (state self.old) i w result (state self.new) };
+}

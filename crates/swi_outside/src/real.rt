@@ -1,0 +1,92 @@
+ghost use Rattle.std.specs.Prelude.{◌≡◌};
+ghost use Rattle.swi_outside.specs.Sink.{WritesPiece};
+
+use crate::{Failed, Sink, Source};
+use std::io::{Read, Write};
+
+/// Input from a reader of std. It tells the bytes that the reader tells; std's input and files tell none.
+///
+/// Each `Err` of the reader is a fault, and is answered at once.
+#[derive(Drop)]
+pub struct RealSource<R> {
+    reader: R,
+    faults: u64,
+}
+
+impl<R: Read> RealSource<R> {
+    /// A source over a reader, as `rt.stdin()`, without a fault.
+    pub fn new(reader: R) -> RealSource<R>
+        ensures left { ⟦<RealSource<R> as Source>⟧.left result ≡ R.remaining reader }
+        ensures faults { ⟦<RealSource<R> as Source>⟧.faults result ≡ 0 }
+    {
+        RealSource { reader, faults: 0 }
+    }
+}
+
+impl<R: Read> Source for RealSource<R> {
+    ghost left = { λ s. R.remaining s.reader };
+
+    ghost faults = { λ s. s.faults };
+
+    fn read(&mut self, buf: &mut [u8]) -> Result<usize, Failed> {
+        match self.reader.read(buf) {
+            Ok(count) => Ok(count),
+            Err(_) => {
+                self.faults = self.faults.saturating_add(1);
+                Err(Failed)
+            }
+        }
+    }
+}
+
+/// Output to a writer of std. It tells the bytes that the writer tells; std's output and files tell none.
+///
+/// Each `Err` of the writer is a fault, and is answered at once; so is a writer that takes nothing of
+/// a piece that is not empty. It flushes nothing: hand in a writer that keeps nothing back, or `&mut`
+/// one that you flush afterwards.
+#[derive(Drop)]
+pub struct RealSink<W> {
+    writer: W,
+    faults: u64,
+}
+
+impl<W: Write> RealSink<W> {
+    /// A sink over a writer, as `rt.stdout()`, without a fault.
+    pub fn new(writer: W) -> RealSink<W>
+        ensures held { ⟦<RealSink<W> as Sink>⟧.held result ≡ W.contents writer }
+        ensures faults { ⟦<RealSink<W> as Sink>⟧.faults result ≡ 0 }
+    {
+        RealSink { writer, faults: 0 }
+    }
+}
+
+impl<W: Write> Sink for RealSink<W> {
+    ghost held = { λ s. W.contents s.writer };
+
+    ghost faults = { λ s. s.faults };
+
+    fn write(&mut self, piece: &[u8]) -> Result<(), Failed> {
+        match write_whole(&mut self.writer, piece) {
+            Ok(()) => Ok(()),
+            Err(Failed) => {
+                self.faults = self.faults.saturating_add(1);
+                Err(Failed)
+            }
+        }
+    }
+}
+
+/// Writes the whole piece, and gives up at the first `Err` and where the writer takes nothing.
+pub(crate) fn write_whole<W: Write>(writer: &mut W, piece: &[u8]) -> Result<(), Failed>
+    ensures { WritesPiece (W.contents writer.old) (W.contents writer.new) result piece.now }
+{
+    let mut rest = piece;
+    while !rest.is_empty() {
+        match writer.write(rest) {
+            Ok(0) => return Err(Failed),
+            Err(_) => return Err(Failed),
+            Ok(count) => rest = &rest[count..],
+        }
+    }
+    Ok(())
+}

@@ -1,0 +1,25 @@
+ghost use Rattle.std.specs.Prelude.{◌<◌, List, ℕ, length, Option};
+ghost use Rattle.std.specs.Io.{ReadsAtMost};
+ghost use Rattle.std.specs.Io.KnownBytes.{ReadConsumes};
+ghost use Rattle.swi_outside.specs.Causes.{HasCause};
+
+use crate::Failed;
+
+/// Input, byte after byte.
+pub trait Source {
+    /// The bytes that are left, where the source tells them.
+    ghost left: { Self → Option (List ℕ) };
+
+    /// How many calls failed. The count never falls, and stands still at 2^64 - 1.
+    ghost faults: { Self → ℕ };
+
+    /// Puts the next bytes at the front of a buffer that is not empty, and answers how many: at most
+    /// the buffer's length, and 0 where the input has ended.
+    ///
+    /// `Failed` takes nothing from the input.
+    fn read(&mut self, buf: &mut [u8]) -> Result<usize, Failed>
+        requires { 0 < length buf.old }
+        ensures bound { ReadsAtMost result buf.new }
+        ensures bytes { ReadConsumes (left self.old) (left self.new) result buf.new }
+        ensures cause { HasCause (faults self.old) (faults self.new) result };
+}
