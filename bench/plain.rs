@@ -1,0 +1,814 @@
+//! The flat machine of this repository written in plain Rust: the same instructions, decoder, memory
+//! and loop, without contracts. `bench/run` measures the proved program against it.
+//!
+//! Usage: plain FILE runs the ELF file as `swic plain FILE` does, and ends with the guest's status.
+
+use std::{env, fs, process};
+
+#[derive(Clone, Copy)]
+struct Reg {
+    number: u32,
+}
+
+impl Reg {
+    #[inline(always)]
+    fn of(number: u32) -> Reg {
+        Reg { number }
+    }
+
+    #[inline(always)]
+    fn num(self) -> u32 {
+        self.number
+    }
+}
+
+#[derive(Clone, Copy)]
+enum BranchOp {
+    Beq,
+    Bne,
+    Blt,
+    Bge,
+    Bltu,
+    Bgeu,
+}
+
+#[derive(Clone, Copy)]
+enum LoadOp {
+    Lb,
+    Lh,
+    Lw,
+    Lbu,
+    Lhu,
+}
+
+#[derive(Clone, Copy)]
+enum StoreOp {
+    Sb,
+    Sh,
+    Sw,
+}
+
+#[derive(Clone, Copy)]
+enum ImmOp {
+    Addi,
+    Slti,
+    Sltiu,
+    Xori,
+    Ori,
+    Andi,
+    Slli,
+    Srli,
+    Srai,
+}
+
+#[derive(Clone, Copy)]
+enum RegOp {
+    Add,
+    Sub,
+    Sll,
+    Slt,
+    Sltu,
+    Xor,
+    Srl,
+    Sra,
+    Or,
+    And,
+    Mul,
+    Mulh,
+    Mulhsu,
+    Mulhu,
+    Div,
+    Divu,
+    Rem,
+    Remu,
+}
+
+#[derive(Clone, Copy)]
+enum AtomicOp {
+    LrW,
+    ScW,
+    SwapW,
+    AddW,
+    XorW,
+    AndW,
+    OrW,
+    MinW,
+    MaxW,
+    MinuW,
+    MaxuW,
+}
+
+#[derive(Clone, Copy)]
+enum Instr {
+    Lui { rd: Reg, imm: u32 },
+    Auipc { rd: Reg, imm: u32 },
+    Jal { rd: Reg, off: u32 },
+    Jalr { rd: Reg, rs1: Reg, imm: u32 },
+    Branch { op: BranchOp, rs1: Reg, rs2: Reg, off: u32 },
+    Load { op: LoadOp, rd: Reg, rs1: Reg, imm: u32 },
+    Store { op: StoreOp, rs1: Reg, rs2: Reg, imm: u32 },
+    Alu { op: ImmOp, rd: Reg, rs1: Reg, imm: u32 },
+    Op { op: RegOp, rd: Reg, rs1: Reg, rs2: Reg },
+    Atomic { op: AtomicOp, rd: Reg, rs1: Reg, rs2: Reg },
+    Fence,
+    Ecall,
+    Ebreak,
+}
+
+#[inline(always)]
+fn bits<const HI: u32, const LO: u32>(w: u32) -> u32 {
+    (w >> LO) & (u32::MAX >> (31 + LO - HI))
+}
+
+#[inline(always)]
+fn sign<const N: u32>(v: u32) -> u32 {
+    let top = 1 << (N - 1);
+    (v ^ top).wrapping_sub(top)
+}
+
+#[inline(always)]
+fn rd(w: u32) -> Reg {
+    Reg::of(bits::<11, 7>(w))
+}
+
+#[inline(always)]
+fn rs1(w: u32) -> Reg {
+    Reg::of(bits::<19, 15>(w))
+}
+
+#[inline(always)]
+fn rs2(w: u32) -> Reg {
+    Reg::of(bits::<24, 20>(w))
+}
+
+#[inline(always)]
+fn i_value(w: u32) -> u32 {
+    sign::<12>(bits::<31, 20>(w))
+}
+
+#[inline(always)]
+fn s_value(w: u32) -> u32 {
+    sign::<12>(bits::<31, 25>(w) * 32 + bits::<11, 7>(w))
+}
+
+#[inline(always)]
+fn b_value(w: u32) -> u32 {
+    sign::<13>(bits::<31, 31>(w) * 4096 + bits::<7, 7>(w) * 2048 + bits::<30, 25>(w) * 32 + bits::<11, 8>(w) * 2)
+}
+
+#[inline(always)]
+fn j_value(w: u32) -> u32 {
+    sign::<21>(bits::<31, 31>(w) * 1_048_576 + bits::<19, 12>(w) * 4096 + bits::<20, 20>(w) * 2048 + bits::<30, 21>(w) * 2)
+}
+
+#[inline(always)]
+fn decode(w: u32) -> Option<Instr> {
+    let funct3 = bits::<14, 12>(w);
+    let funct7 = bits::<31, 25>(w);
+    macro_rules! branch {
+        ($op:ident) => { Some(Instr::Branch { op: BranchOp::$op, rs1: rs1(w), rs2: rs2(w), off: b_value(w) }) };
+    }
+    macro_rules! load {
+        ($op:ident) => { Some(Instr::Load { op: LoadOp::$op, rd: rd(w), rs1: rs1(w), imm: i_value(w) }) };
+    }
+    macro_rules! store {
+        ($op:ident) => { Some(Instr::Store { op: StoreOp::$op, rs1: rs1(w), rs2: rs2(w), imm: s_value(w) }) };
+    }
+    macro_rules! alu {
+        ($op:ident) => { Some(Instr::Alu { op: ImmOp::$op, rd: rd(w), rs1: rs1(w), imm: i_value(w) }) };
+    }
+    macro_rules! shift {
+        ($op:ident) => { Some(Instr::Alu { op: ImmOp::$op, rd: rd(w), rs1: rs1(w), imm: rs2(w).num() }) };
+    }
+    macro_rules! op {
+        ($op:ident) => { Some(Instr::Op { op: RegOp::$op, rd: rd(w), rs1: rs1(w), rs2: rs2(w) }) };
+    }
+    macro_rules! atomic {
+        ($op:ident) => { Some(Instr::Atomic { op: AtomicOp::$op, rd: rd(w), rs1: rs1(w), rs2: rs2(w) }) };
+    }
+    match bits::<6, 0>(w) {
+        0x37 => Some(Instr::Lui { rd: rd(w), imm: w & 0xFFFF_F000 }),
+        0x17 => Some(Instr::Auipc { rd: rd(w), imm: w & 0xFFFF_F000 }),
+        0x6F => Some(Instr::Jal { rd: rd(w), off: j_value(w) }),
+        0x67 => match funct3 {
+            0 => Some(Instr::Jalr { rd: rd(w), rs1: rs1(w), imm: i_value(w) }),
+            _ => None,
+        },
+        0x63 => match funct3 {
+            0 => branch!(Beq),
+            1 => branch!(Bne),
+            4 => branch!(Blt),
+            5 => branch!(Bge),
+            6 => branch!(Bltu),
+            7 => branch!(Bgeu),
+            _ => None,
+        },
+        0x03 => match funct3 {
+            0 => load!(Lb),
+            1 => load!(Lh),
+            2 => load!(Lw),
+            4 => load!(Lbu),
+            5 => load!(Lhu),
+            _ => None,
+        },
+        0x23 => match funct3 {
+            0 => store!(Sb),
+            1 => store!(Sh),
+            2 => store!(Sw),
+            _ => None,
+        },
+        0x13 => match funct3 {
+            0 => alu!(Addi),
+            2 => alu!(Slti),
+            3 => alu!(Sltiu),
+            4 => alu!(Xori),
+            6 => alu!(Ori),
+            7 => alu!(Andi),
+            1 => match funct7 {
+                0 => shift!(Slli),
+                _ => None,
+            },
+            5 => match funct7 {
+                0 => shift!(Srli),
+                0x20 => shift!(Srai),
+                _ => None,
+            },
+            _ => None,
+        },
+        0x33 => match funct7 {
+            0 => match funct3 {
+                0 => op!(Add),
+                1 => op!(Sll),
+                2 => op!(Slt),
+                3 => op!(Sltu),
+                4 => op!(Xor),
+                5 => op!(Srl),
+                6 => op!(Or),
+                7 => op!(And),
+                _ => None,
+            },
+            0x20 => match funct3 {
+                0 => op!(Sub),
+                5 => op!(Sra),
+                _ => None,
+            },
+            1 => match funct3 {
+                0 => op!(Mul),
+                1 => op!(Mulh),
+                2 => op!(Mulhsu),
+                3 => op!(Mulhu),
+                4 => op!(Div),
+                5 => op!(Divu),
+                6 => op!(Rem),
+                7 => op!(Remu),
+                _ => None,
+            },
+            _ => None,
+        },
+        0x2F => match funct3 {
+            2 => match bits::<31, 27>(w) {
+                0 => atomic!(AddW),
+                1 => atomic!(SwapW),
+                2 => match bits::<24, 20>(w) {
+                    0 => atomic!(LrW),
+                    _ => None,
+                },
+                3 => atomic!(ScW),
+                4 => atomic!(XorW),
+                8 => atomic!(OrW),
+                12 => atomic!(AndW),
+                16 => atomic!(MinW),
+                20 => atomic!(MaxW),
+                24 => atomic!(MinuW),
+                28 => atomic!(MaxuW),
+                _ => None,
+            },
+            _ => None,
+        },
+        0x0F => match funct3 {
+            0 => Some(Instr::Fence),
+            _ => None,
+        },
+        0x73 => match w {
+            0x0000_0073 => Some(Instr::Ecall),
+            0x0010_0073 => Some(Instr::Ebreak),
+            _ => None,
+        },
+        _ => None,
+    }
+}
+
+struct Access;
+
+struct Bank {
+    base: u32,
+    flags: u32,
+    file: u32,
+    bytes: Vec<u8>,
+}
+
+/// Where the text words lie: `len` bytes from an address on, in one bank.
+struct Text {
+    bank: usize,
+    from: u32,
+    len: u32,
+}
+
+/// Banks in ascending order of address.
+struct Bus {
+    banks: Vec<Bank>,
+    text: Text,
+}
+
+impl Bus {
+    #[inline(always)]
+    fn find(&self, a: u32) -> Option<usize> {
+        (0..self.banks.len())
+            .rev()
+            .find(|&i| (a.wrapping_sub(self.banks[i].base) as usize) < self.banks[i].bytes.len())
+    }
+
+    #[inline(always)]
+    fn load(&self, a: u32, k: u8) -> Result<u32, Access> {
+        let Some(i) = self.find(a) else {
+            return Err(Access);
+        };
+        let bank = &self.banks[i];
+        let at = (a - bank.base) as usize;
+        if bank.bytes.len() - at < usize::from(k) {
+            return self.load_across(a, k);
+        }
+        if bank.flags & 4 == 0 {
+            return Err(Access);
+        }
+        let bytes = &bank.bytes[at..at + usize::from(k)];
+        Ok(match k {
+            1 => u32::from(bytes[0]),
+            2 => u32::from(u16::from_le_bytes([bytes[0], bytes[1]])),
+            _ => u32::from_le_bytes([bytes[0], bytes[1], bytes[2], bytes[3]]),
+        })
+    }
+
+    #[cold]
+    #[inline(never)]
+    fn load_across(&self, a: u32, k: u8) -> Result<u32, Access> {
+        let mut v = 0;
+        for j in 0..u32::from(k) {
+            let at = a.checked_add(j).ok_or(Access)?;
+            let bank = &self.banks[self.find(at).ok_or(Access)?];
+            if bank.flags & 4 == 0 {
+                return Err(Access);
+            }
+            v |= u32::from(bank.bytes[(at - bank.base) as usize]) << (8 * j);
+        }
+        Ok(v)
+    }
+
+    #[inline(always)]
+    fn store(&mut self, a: u32, k: u8, v: u32) -> Result<(), Access> {
+        let Some(i) = self.find(a) else {
+            return Err(Access);
+        };
+        let bank = &mut self.banks[i];
+        let at = (a - bank.base) as usize;
+        if bank.bytes.len() - at < usize::from(k) {
+            return self.store_across(a, k, v);
+        }
+        if bank.flags & 2 == 0 {
+            return Err(Access);
+        }
+        let k = usize::from(k);
+        match k {
+            1 => bank.bytes[at] = v as u8,
+            2 => bank.bytes[at..at + 2].copy_from_slice(&(v as u16).to_le_bytes()),
+            _ => bank.bytes[at..at + 4].copy_from_slice(&v.to_le_bytes()),
+        }
+        Ok(())
+    }
+
+    #[inline(never)]
+    fn writable(&self, a: u32, n: u32) -> bool {
+        (0..n).all(|j| {
+            a.checked_add(j)
+                .and_then(|at| self.find(at))
+                .is_some_and(|i| self.banks[i].flags & 2 != 0)
+        })
+    }
+
+    #[cold]
+    #[inline(never)]
+    fn store_across(&mut self, a: u32, k: u8, v: u32) -> Result<(), Access> {
+        if !self.writable(a, u32::from(k)) {
+            return Err(Access);
+        }
+        for j in 0..u32::from(k) {
+            if let Some(i) = self.find(a + j) {
+                let bank = &mut self.banks[i];
+                let at = (a + j - bank.base) as usize;
+                bank.bytes[at] = (v >> (8 * j)) as u8;
+            }
+        }
+        Ok(())
+    }
+
+    #[inline(always)]
+    fn fetch(&self, a: u32) -> Option<u32> {
+        if a % 4 != 0 || a.wrapping_sub(self.text.from) >= self.text.len {
+            return None;
+        }
+        let bank = &self.banks[self.text.bank];
+        let at = (a - bank.base) as usize;
+        let bytes = &bank.bytes[at..at + 4];
+        Some(u32::from_le_bytes([bytes[0], bytes[1], bytes[2], bytes[3]]))
+    }
+}
+
+struct Regs {
+    words: [u32; 32],
+    reserved: Option<u32>,
+}
+
+impl Regs {
+    fn new() -> Regs {
+        Regs { words: [0; 32], reserved: None }
+    }
+
+    #[inline(always)]
+    fn get(&self, register: Reg) -> u32 {
+        self.words[register.num() as usize]
+    }
+
+    #[inline(always)]
+    fn set(&mut self, register: Reg, v: u32) {
+        self.words[register.num() as usize] = v;
+        self.words[0] = 0;
+    }
+}
+
+#[derive(Clone, Copy, Debug)]
+enum FaultKind {
+    FetchMisaligned,
+    FetchAccess,
+    Illegal,
+    Break,
+    LoadAccess,
+    StoreAccess,
+}
+
+enum Done {
+    Next(u32),
+    Call,
+    Break,
+    Fault(FaultKind, u32),
+}
+
+#[inline(always)]
+fn less(a: u32, b: u32) -> u32 {
+    u32::from(a.cast_signed() < b.cast_signed())
+}
+
+#[inline(always)]
+fn signed_right_shift(a: u32, b: u32) -> u32 {
+    (a.cast_signed() >> (b & 31)).cast_unsigned()
+}
+
+#[inline(always)]
+fn high_word(product: i64) -> u32 {
+    ((product >> 32) as i32).cast_unsigned()
+}
+
+#[inline(always)]
+fn quotient(a: u32, b: u32) -> u32 {
+    if b == 0 {
+        return u32::MAX;
+    }
+    a.cast_signed().wrapping_div(b.cast_signed()).cast_unsigned()
+}
+
+#[inline(always)]
+fn remainder(a: u32, b: u32) -> u32 {
+    if b == 0 {
+        return a;
+    }
+    a.cast_signed().wrapping_rem(b.cast_signed()).cast_unsigned()
+}
+
+#[inline(always)]
+fn value_of_op(op: RegOp, a: u32, b: u32) -> u32 {
+    match op {
+        RegOp::Add => a.wrapping_add(b),
+        RegOp::Sub => a.wrapping_sub(b),
+        RegOp::Sll => a << (b & 31),
+        RegOp::Slt => less(a, b),
+        RegOp::Sltu => u32::from(a < b),
+        RegOp::Xor => a ^ b,
+        RegOp::Srl => a >> (b & 31),
+        RegOp::Sra => signed_right_shift(a, b),
+        RegOp::Or => a | b,
+        RegOp::And => a & b,
+        RegOp::Mul => a.wrapping_mul(b),
+        RegOp::Mulh => high_word(i64::from(a.cast_signed()) * i64::from(b.cast_signed())),
+        RegOp::Mulhsu => high_word(i64::from(a.cast_signed()) * i64::from(b)),
+        RegOp::Mulhu => (u64::from(a) * u64::from(b) >> 32) as u32,
+        RegOp::Div => quotient(a, b),
+        RegOp::Divu => if b == 0 { u32::MAX } else { a / b },
+        RegOp::Rem => remainder(a, b),
+        RegOp::Remu => if b == 0 { a } else { a % b },
+    }
+}
+
+#[inline(always)]
+fn value_of_imm(op: ImmOp, a: u32, b: u32) -> u32 {
+    match op {
+        ImmOp::Addi => a.wrapping_add(b),
+        ImmOp::Slti => less(a, b),
+        ImmOp::Sltiu => u32::from(a < b),
+        ImmOp::Xori => a ^ b,
+        ImmOp::Ori => a | b,
+        ImmOp::Andi => a & b,
+        ImmOp::Slli => a << (b & 31),
+        ImmOp::Srli => a >> (b & 31),
+        ImmOp::Srai => signed_right_shift(a, b),
+    }
+}
+
+#[inline(always)]
+fn takes(op: BranchOp, a: u32, b: u32) -> bool {
+    match op {
+        BranchOp::Beq => a == b,
+        BranchOp::Bne => a != b,
+        BranchOp::Blt => a.cast_signed() < b.cast_signed(),
+        BranchOp::Bge => a.cast_signed() >= b.cast_signed(),
+        BranchOp::Bltu => a < b,
+        BranchOp::Bgeu => a >= b,
+    }
+}
+
+#[inline(always)]
+fn size_of_load(op: LoadOp) -> u8 {
+    match op {
+        LoadOp::Lb | LoadOp::Lbu => 1,
+        LoadOp::Lh | LoadOp::Lhu => 2,
+        LoadOp::Lw => 4,
+    }
+}
+
+#[inline(always)]
+fn size_of_store(op: StoreOp) -> u8 {
+    match op {
+        StoreOp::Sb => 1,
+        StoreOp::Sh => 2,
+        StoreOp::Sw => 4,
+    }
+}
+
+#[inline(always)]
+fn value_of_load(op: LoadOp, v: u32) -> u32 {
+    match op {
+        LoadOp::Lb => sign::<8>(v),
+        LoadOp::Lh => sign::<16>(v),
+        LoadOp::Lw | LoadOp::Lbu | LoadOp::Lhu => v,
+    }
+}
+
+fn word_of_atomic(op: AtomicOp, a: u32, b: u32) -> u32 {
+    match op {
+        AtomicOp::LrW => a,
+        AtomicOp::ScW | AtomicOp::SwapW => b,
+        AtomicOp::AddW => a.wrapping_add(b),
+        AtomicOp::XorW => a ^ b,
+        AtomicOp::AndW => a & b,
+        AtomicOp::OrW => a | b,
+        AtomicOp::MinW => a.cast_signed().min(b.cast_signed()).cast_unsigned(),
+        AtomicOp::MaxW => a.cast_signed().max(b.cast_signed()).cast_unsigned(),
+        AtomicOp::MinuW => a.min(b),
+        AtomicOp::MaxuW => a.max(b),
+    }
+}
+
+#[inline(never)]
+fn atomic(op: AtomicOp, rd: Reg, a: u32, v: u32, regs: &mut Regs, bus: &mut Bus) -> Result<(), FaultKind> {
+    match op {
+        AtomicOp::LrW => {
+            if a % 4 != 0 {
+                return Err(FaultKind::LoadAccess);
+            }
+            let word = bus.load(a, 4).map_err(|_| FaultKind::LoadAccess)?;
+            regs.set(rd, word);
+            regs.reserved = Some(a);
+        }
+        AtomicOp::ScW => {
+            if a % 4 != 0 || !bus.writable(a, 4) {
+                return Err(FaultKind::StoreAccess);
+            }
+            let failed = regs.reserved != Some(a);
+            if !failed {
+                bus.store(a, 4, v).map_err(|_| FaultKind::StoreAccess)?;
+            }
+            regs.set(rd, u32::from(failed));
+            regs.reserved = None;
+        }
+        _ => {
+            if a % 4 != 0 {
+                return Err(FaultKind::StoreAccess);
+            }
+            let old = bus.load(a, 4).map_err(|_| FaultKind::StoreAccess)?;
+            bus.store(a, 4, word_of_atomic(op, old, v)).map_err(|_| FaultKind::StoreAccess)?;
+            regs.set(rd, old);
+        }
+    }
+    Ok(())
+}
+
+#[inline(always)]
+fn exec(instr: &Instr, pc: u32, regs: &mut Regs, bus: &mut Bus) -> Done {
+    let next = pc.wrapping_add(4);
+    match *instr {
+        Instr::Lui { rd, imm } => {
+            regs.set(rd, imm);
+            Done::Next(next)
+        }
+        Instr::Auipc { rd, imm } => {
+            regs.set(rd, pc.wrapping_add(imm));
+            Done::Next(next)
+        }
+        Instr::Jal { rd, off } => {
+            let target = pc.wrapping_add(off);
+            if target % 4 != 0 {
+                return Done::Fault(FaultKind::FetchMisaligned, target);
+            }
+            regs.set(rd, next);
+            Done::Next(target)
+        }
+        Instr::Jalr { rd, rs1, imm } => {
+            let target = regs.get(rs1).wrapping_add(imm) & !1;
+            if target % 4 != 0 {
+                return Done::Fault(FaultKind::FetchMisaligned, target);
+            }
+            regs.set(rd, next);
+            Done::Next(target)
+        }
+        Instr::Branch { op, rs1, rs2, off } => {
+            if !takes(op, regs.get(rs1), regs.get(rs2)) {
+                return Done::Next(next);
+            }
+            let target = pc.wrapping_add(off);
+            if target % 4 != 0 {
+                return Done::Fault(FaultKind::FetchMisaligned, target);
+            }
+            Done::Next(target)
+        }
+        Instr::Load { op, rd, rs1, imm } => {
+            let a = regs.get(rs1).wrapping_add(imm);
+            let Ok(v) = bus.load(a, size_of_load(op)) else {
+                return Done::Fault(FaultKind::LoadAccess, a);
+            };
+            regs.set(rd, value_of_load(op, v));
+            Done::Next(next)
+        }
+        Instr::Store { op, rs1, rs2, imm } => {
+            let a = regs.get(rs1).wrapping_add(imm);
+            if bus.store(a, size_of_store(op), regs.get(rs2)).is_err() {
+                return Done::Fault(FaultKind::StoreAccess, a);
+            }
+            Done::Next(next)
+        }
+        Instr::Alu { op, rd, rs1, imm } => {
+            let v = value_of_imm(op, regs.get(rs1), imm);
+            regs.set(rd, v);
+            Done::Next(next)
+        }
+        Instr::Op { op, rd, rs1, rs2 } => {
+            let v = value_of_op(op, regs.get(rs1), regs.get(rs2));
+            regs.set(rd, v);
+            Done::Next(next)
+        }
+        Instr::Atomic { op, rd, rs1, rs2 } => {
+            let a = regs.get(rs1);
+            match atomic(op, rd, a, regs.get(rs2), regs, bus) {
+                Ok(()) => Done::Next(next),
+                Err(kind) => Done::Fault(kind, a),
+            }
+        }
+        Instr::Fence => Done::Next(next),
+        Instr::Ecall => Done::Call,
+        Instr::Ebreak => Done::Break,
+    }
+}
+
+enum End {
+    Exited(u32),
+    Faulted(FaultKind, u32),
+}
+
+struct Flat {
+    pc: u32,
+    regs: Regs,
+    bus: Bus,
+    steps: u64,
+    ending: Option<End>,
+}
+
+impl Flat {
+    #[inline(always)]
+    fn step(&mut self) {
+        let Some(word) = self.bus.fetch(self.pc) else {
+            return self.end(End::Faulted(FaultKind::FetchAccess, self.pc));
+        };
+        let Some(instr) = decode(word) else {
+            return self.end(End::Faulted(FaultKind::Illegal, self.pc));
+        };
+        match exec(&instr, self.pc, &mut self.regs, &mut self.bus) {
+            Done::Next(pc) => {
+                self.pc = pc;
+                self.steps += 1;
+            }
+            Done::Call => self.call(),
+            Done::Break => self.end(End::Faulted(FaultKind::Break, self.pc)),
+            Done::Fault(kind, a) => self.end(End::Faulted(kind, a)),
+        }
+    }
+
+    fn end(&mut self, end: End) {
+        self.steps += 1;
+        self.ending = Some(end);
+    }
+
+    /// The benchmark's guest makes one call, its exit.
+    #[inline(never)]
+    fn call(&mut self) {
+        match self.regs.get(Reg::of(17)) {
+            93 | 94 => self.end(End::Exited(self.regs.get(Reg::of(10)))),
+            _ => {
+                self.regs.set(Reg::of(10), 38u32.wrapping_neg());
+                self.pc = self.pc.wrapping_add(4);
+                self.steps += 1;
+            }
+        }
+    }
+
+    fn run(&mut self, limit: u64) {
+        while self.steps < limit && self.ending.is_none() {
+            self.step();
+        }
+    }
+}
+
+fn word_at(file: &[u8], at: usize) -> u32 {
+    u32::from_le_bytes([file[at], file[at + 1], file[at + 2], file[at + 3]])
+}
+
+fn half_at(file: &[u8], at: usize) -> usize {
+    usize::from(u16::from_le_bytes([file[at], file[at + 1]]))
+}
+
+fn machine_of(file: &[u8]) -> Flat {
+    let table = word_at(file, 28) as usize;
+    let mut banks = Vec::new();
+    for k in 0..half_at(file, 44) {
+        let at = table + 32 * k;
+        let [kind, offset, base, _, held, size, flags] = [0, 1, 2, 3, 4, 5, 6].map(|i| word_at(file, at + 4 * i));
+        if kind == 1 && size != 0 {
+            let mut bytes = file[offset as usize..(offset + held) as usize].to_vec();
+            bytes.resize(size as usize, 0);
+            banks.push(Bank { base, flags: flags & 7, file: held, bytes });
+        }
+    }
+    let heap = banks.iter().map(|bank| bank.base + bank.bytes.len() as u32).max().unwrap_or(0);
+    let stack = (heap + (1 << 20)).next_multiple_of(4096) + 4096;
+    banks.push(Bank { base: heap, flags: 6, file: 0, bytes: vec![0; 1 << 20] });
+    banks.push(Bank { base: stack, flags: 6, file: 0, bytes: vec![0; 1 << 16] });
+    banks.sort_by_key(|bank| bank.base);
+    let text = banks
+        .iter()
+        .position(|bank| bank.flags & 1 != 0)
+        .map(|bank| {
+            let skipped = banks[bank].base.next_multiple_of(4) - banks[bank].base;
+            let len = banks[bank].file.saturating_sub(skipped) / 4 * 4;
+            Text { bank, from: banks[bank].base + skipped, len }
+        })
+        .unwrap_or(Text { bank: 0, from: 0, len: 0 });
+    let mut regs = Regs::new();
+    regs.set(Reg::of(2), (stack + (1 << 16) - 64) / 16 * 16);
+    Flat { pc: word_at(file, 24), regs, bus: Bus { banks, text }, steps: 0, ending: None }
+}
+
+fn main() {
+    let path = env::args().nth(1).expect("a file");
+    let mut flat = machine_of(&fs::read(path).expect("a file that can be read"));
+    flat.run(1_000_000_000);
+    match flat.ending {
+        Some(End::Exited(code)) => {
+            eprintln!("exited: {code}, {} steps", flat.steps);
+            process::exit((code & 255) as i32);
+        }
+        Some(End::Faulted(kind, a)) => {
+            eprintln!("faulted: {kind:?} at {a:08x}, pc {:08x}, {} steps", flat.pc, flat.steps);
+            process::exit(241);
+        }
+        None => {
+            eprintln!("spent: {} steps, pc {:08x}", flat.steps, flat.pc);
+            process::exit(240);
+        }
+    }
+}

@@ -1,0 +1,4 @@
+pub mod BusLemmas
+pub mod CallLemmas
+pub mod MovesLemmas
+pub mod SinkLemmas

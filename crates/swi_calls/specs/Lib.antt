@@ -1,0 +1,7 @@
+pub mod Call
+pub mod Causes
+pub mod Flat
+pub mod Moves
+pub mod State
+pub mod StoresText
+pub mod Text

@@ -1,0 +1,11 @@
+-- Bytes that a call moves between memory and the outside. Own rule.
+use Rattle.std.specs.Prelude.{◌≡◌, ℕ, List, length, Option}
+use Rattle.std.specs.Io.KnownBytes.{Consumes}
+use Rattle.swi_memory.specs.Bus.{AreaData, with_bytes}
+
+-- so many bytes of the input were put into memory at a
+pub record ReadsInto (bus bus' : List AreaData) (left left' : Option (List ℕ)) (a count : ℕ) : Type 0 where
+  pub bytes : List ℕ
+  pub number : length bytes ≡ count
+  pub stored : bus' ≡ with_bytes bus a bytes
+  pub consumed : Consumes left left' bytes

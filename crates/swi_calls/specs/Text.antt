@@ -1,0 +1,19 @@
+-- Lines of text (own rule): numbers in decimal, words in eight hexadecimal digits, and the line that tells of a system call.
+use Rattle.std.specs.Prelude.{ℕ, List, [], ◌++◌, codes, decimal, Option, Some, None}
+use Rattle.std.specs.Int.{w32, to_be_bytes}
+use Rattle.hex.specs.Hex.{encode_lower}
+
+-- a word in eight hexadecimal digits, the highest first
+abbrev pub hex_word : ℕ → List ℕ
+hex_word w = encode_lower (to_be_bytes w32 w)
+
+-- what a call answered, where it returned
+abbrev pub answer_text : Option ℕ → List ℕ
+answer_text None = []
+answer_text (Some v) = codes " = " ++ hex_word v
+
+-- the line of a call: its number, its three arguments, and its answer
+abbrev pub call_line : ℕ → ℕ → ℕ → ℕ → Option ℕ → List ℕ
+call_line number a0 a1 a2 answer =
+    codes "call " ++ decimal number ++ codes " " ++ hex_word a0 ++ codes " " ++ hex_word a1 ++ codes " " ++ hex_word a2
+    ++ answer_text answer ++ codes "\n"

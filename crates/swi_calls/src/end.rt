@@ -1,0 +1,32 @@
+//! How calls and runs end.
+
+use swi_exec::FaultKind;
+
+/// How a run ends.
+#[derive(Clone, Copy, Debug, PartialEq, Eq)]
+pub enum End {
+    /// The guest exited with this code.
+    Exited(u32),
+    /// An instruction faulted, at this address.
+    Faulted(FaultKind, u32),
+    /// An instruction would have stored into the text, at this address. Only the cached machine ends so.
+    StoreText(u32),
+}
+
+/// What a system call that succeeded leaves to do.
+#[derive(Clone, Copy, Debug, PartialEq, Eq)]
+pub enum Called {
+    /// The run goes on behind the call.
+    Returned,
+    /// The run ends with this code.
+    Exited(u32),
+}
+
+/// A device that failed in a system call.
+#[derive(Clone, Copy, Debug, PartialEq, Eq)]
+pub enum CallFault {
+    /// The input failed.
+    SourceFault,
+    /// The output or the error sink failed.
+    SinkFault,
+}

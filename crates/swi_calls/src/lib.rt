@@ -1,0 +1,18 @@
+//! System calls of a guest, and what a flat machine is.
+#![tactic(auto)]
+
+mod end;
+mod heap;
+mod line;
+mod moves;
+mod stores_text;
+mod system_call;
+
+pub use end::{CallFault, Called, End};
+pub use heap::Heap;
+pub use line::{LINE_ROOM, Line};
+pub use stores_text::text_store;
+pub use system_call::{call, tell};
+
+#[cfg(test)]
+mod tests;

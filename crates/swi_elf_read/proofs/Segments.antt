@@ -1,0 +1,65 @@
+-- Loaded headers, one by one.
+use Rattle.std.proofs.Common.{◌≡◌, ℕ, ◌+◌, ◌<◌, ◌≤◌, ◌-◌, ◌≢◌, suc, Bool, true, false, List, [], ◌∷◌, ◌++◌, length, get_or, take, drop, arith, refl, add-one, filter, find, slice_get, length-append, Option, Some, None, sym, subst, inl, inr}
+use Rattle.std.specs.List.{list_any}
+use Rattle.std.proofs.Math.Seq.{take-suc}
+use Rattle.std.proofs.lemmas.List.{drop_more}
+use Rattle.std.proofs.lemmas.Bool.{cases_Bool}
+use Rattle.std.proofs.lemmas.Grind.{common_steps}
+use Rattle.std.proofs.lemmas.List.Elements.{filter-append}
+use Rattle.swi_elf_read.specs.declared.program_header.ProgramHeader.{ProgramHeader}
+use Rattle.swi_elf_read.specs.ProgramHeaders.{is_loaded, is_image}
+
+pub count_more : (hs : List ProgramHeader) (i : ℕ) (d : ProgramHeader) → i < length hs → is_loaded (get_or hs i d) ≡ true →
+    length (filter is_loaded (take (i + 1) hs)) ≡ length (filter is_loaded (take i hs)) + 1
+count_more hs i d within held =
+    let grown : take (i + 1) hs ≡ take i hs ++ (get_or hs i d ∷ []) = rw add-one (take-suc hs i d within) in
+    rw (grown, filter-append is_loaded, held, length-append) refl
+
+pub count_same : (hs : List ProgramHeader) (i : ℕ) (d : ProgramHeader) → i < length hs → is_loaded (get_or hs i d) ≡ false →
+    length (filter is_loaded (take (i + 1) hs)) ≡ length (filter is_loaded (take i hs))
+count_same hs i d within missed =
+    let grown : take (i + 1) hs ≡ take i hs ++ (get_or hs i d ∷ []) = rw add-one (take-suc hs i d within) in
+    rw (grown, filter-append is_loaded, missed, length-append) (omega arith)
+
+pub ruleset count_steps = (count_more, count_same)
+
+-- the loaded headers that are left, where one more is passed over
+pub nth_found : (hs : List ProgramHeader) (i : ℕ) (d : ProgramHeader) → i < length hs → is_loaded (get_or hs i d) ≡ true →
+    slice_get (filter is_loaded (drop i hs)) 0 ≡ Some (get_or hs i d)
+nth_found hs i d within held = rw (drop_more hs i d within, held) refl
+
+pub nth_next : (hs : List ProgramHeader) (i k : ℕ) (d : ProgramHeader) → i < length hs → is_loaded (get_or hs i d) ≡ true → k ≢ 0 →
+    slice_get (filter is_loaded (drop (i + 1) hs)) (k - 1) ≡ slice_get (filter is_loaded (drop i hs)) k
+nth_next hs i k d within held some =
+    let step : k ≡ suc (k - 1) = omega arith in
+    rw (drop_more hs i d within, held) (subst (λ (n : ℕ). slice_get (filter is_loaded (drop (i + 1) hs)) (k - 1) ≡ slice_get (get_or hs i d ∷ filter is_loaded (drop (i + 1) hs)) n) (sym step) refl)
+
+pub nth_same : (hs : List ProgramHeader) (i k : ℕ) (d : ProgramHeader) → i < length hs → is_loaded (get_or hs i d) ≡ false →
+    slice_get (filter is_loaded (drop (i + 1) hs)) k ≡ slice_get (filter is_loaded (drop i hs)) k
+nth_same hs i k d within missed = rw (drop_more hs i d within, missed) refl
+
+pub nth_end : (hs : List ProgramHeader) (i k : ℕ) → length hs ≤ i → slice_get (filter is_loaded (drop i hs)) k ≡ None
+nth_end hs i k past =
+    let none : drop i hs ≡ [] = grind (arith, common_steps) in
+    rw none refl
+
+pub ruleset nth_steps = (nth_found, nth_next, nth_same, nth_end)
+
+-- a first image is there exactly where there is one
+pub image_found : (hs : List ProgramHeader) (h : ProgramHeader) → find is_image hs ≡ Some h → list_any is_image hs ≡ true
+image_found [] h e = cc
+image_found (x ∷ hs) h e =
+    elim (cases_Bool (is_image x)) [
+      | inl held ↦ rw held refl
+      | inr missed ↦ rw missed (image_found hs h (rw missed at e))
+    ]
+
+pub image_missing : (hs : List ProgramHeader) → find is_image hs ≡ None → list_any is_image hs ≡ false
+image_missing [] e = refl
+image_missing (x ∷ hs) e =
+    elim (cases_Bool (is_image x)) [
+      | inl held ↦ let wrong : Some x ≡ None = rw held at e in cc
+      | inr missed ↦ rw missed (image_missing hs (rw missed at e))
+    ]
+
+pub ruleset image_steps = (image_found, image_missing)

@@ -1,0 +1,4 @@
+pub mod ProgramHeaders
+pub mod Elf
+pub mod Loaded
+pub mod Accepted

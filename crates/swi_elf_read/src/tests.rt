@@ -1,0 +1,365 @@
+use super::*;
+use std::alloc::Global;
+use std::test::Fail;
+
+/// Three instructions in one segment, by hand from the ELF document.
+const PLAIN: [u32; 24] = [
+    0x464C_457F,
+    0x0001_0101,
+    0,
+    0,
+    0x00F3_0002,
+    1,
+    0x0001_0000,
+    52,
+    0,
+    0,
+    0x0020_0034,
+    1,
+    0,
+    1,
+    0x54,
+    0x0001_0000,
+    0x0001_0000,
+    12,
+    12,
+    5,
+    4,
+    0x05D0_0893,
+    0x0070_0513,
+    0x0000_0073,
+];
+
+/// The same with the segment's header twice.
+const DOUBLE: [u32; 32] = [
+    0x464C_457F,
+    0x0001_0101,
+    0,
+    0,
+    0x00F3_0002,
+    1,
+    0x0001_0000,
+    52,
+    0,
+    0,
+    0x0020_0034,
+    2,
+    0,
+    1,
+    0x74,
+    0x0001_0000,
+    0x0001_0000,
+    12,
+    12,
+    5,
+    4,
+    1,
+    0x74,
+    0x0001_0000,
+    0x0001_0000,
+    12,
+    12,
+    5,
+    4,
+    0x05D0_0893,
+    0x0070_0513,
+    0x0000_0073,
+];
+
+/// Headers, code and a table in one segment, data with a zeroed tail in another, and two headers of
+/// types that are read past.
+const MIXED: [u32; 65] = [
+    0x464C_457F,
+    0x0001_0101,
+    0,
+    0,
+    0x00F3_0002,
+    1,
+    0x0001_00B4,
+    52,
+    0,
+    0,
+    0x0020_0034,
+    4,
+    0,
+    0x7000_0003,
+    0,
+    0,
+    0,
+    0,
+    0,
+    4,
+    1,
+    1,
+    0,
+    0x0001_0000,
+    0x0001_0000,
+    256,
+    256,
+    5,
+    4096,
+    1,
+    256,
+    0x0001_1100,
+    0x0001_1100,
+    4,
+    64,
+    6,
+    4096,
+    0x6474_E551,
+    0,
+    0,
+    0,
+    0,
+    0,
+    6,
+    16,
+    0x0040_0313,
+    0x0001_02B7,
+    0x0062_82B3,
+    0x0F42_A283,
+    0x0002_8067,
+    0x0010_0513,
+    0x05D0_0893,
+    0x0000_0073,
+    0x0010_0513,
+    0x0001_05B7,
+    0x0FC5_8593,
+    0x0030_0613,
+    0x0400_0893,
+    0x0000_0073,
+    0x0000_0513,
+    0xFDDF_F06F,
+    0x0001_00C8,
+    0x0001_00D4,
+    0x000A_6968,
+    1,
+];
+
+/// The plain file with a cache image behind it.
+const REWRITTEN: [u32; 50] = [
+    0x464C_457F,
+    0x0001_0101,
+    0,
+    0,
+    0x00F3_0002,
+    1,
+    0x0001_0000,
+    52,
+    0,
+    0,
+    0x0020_0034,
+    2,
+    0,
+    1,
+    0x74,
+    0x0001_0000,
+    0x0001_0000,
+    12,
+    12,
+    5,
+    1,
+    0x6C43_4953,
+    0x80,
+    0,
+    0,
+    72,
+    72,
+    4,
+    4,
+    0x05D0_0893,
+    0x0070_0513,
+    0x0000_0073,
+    0x3143_4953,
+    1,
+    8,
+    1,
+    3,
+    0x0001_0000,
+    0,
+    0,
+    1,
+    2,
+    0x05D0_0893,
+    0x0070_0513,
+    0x0000_0073,
+    0x0010_0073,
+    0x0001_000C,
+    0,
+    0,
+    0,
+];
+
+fn file_of(alloc: Global, words: &[u32]) -> Result<Vec<u8>, Fail> {
+    let mut bytes = Vec::new(alloc);
+    for word in words {
+        bytes.extend_from_slice(&word.to_le_bytes())?;
+    }
+    Ok(bytes)
+}
+
+/// The refusal of the first bytes, at most 2^26 of them.
+fn refusal_of(bytes: &[u8], size: usize) -> Option<ElfRefusal> {
+    match read_elf(&bytes[..size.min(bytes.len()).min(1 << 26)]) {
+        Ok(_) => None,
+        Err(refusal) => Some(refusal),
+    }
+}
+
+/// The refusal of a file of these words where one of them is another.
+fn refusal_with(
+    alloc: Global,
+    words: &mut [u32],
+    at: usize,
+    word: u32,
+) -> Result<Option<ElfRefusal>, Fail> {
+    if let Some(place) = words.get_mut(at) {
+        *place = word;
+    }
+    let bytes = file_of(alloc, words)?;
+    Ok(refusal_of(&bytes, bytes.len()))
+}
+
+#[test]
+fn one_changed_word_gives_its_refusal(rt: HostRuntime) -> Result<(), Fail> {
+    let table = [
+        (0, 0x464C_4580, Some(ElfRefusal::Magic(0))),
+        (1, 0x0001_0102, Some(ElfRefusal::Class(4))),
+        (1, 0x0001_0201, Some(ElfRefusal::Order(5))),
+        (1, 0x0002_0101, Some(ElfRefusal::Version(6))),
+        (5, 2, Some(ElfRefusal::Version(20))),
+        (4, 0x00F3_0003, Some(ElfRefusal::FileType(16))),
+        (4, 0x003E_0002, Some(ElfRefusal::Machine(18))),
+        (9, 1, Some(ElfRefusal::Flags(36))),
+        (9, 8, Some(ElfRefusal::Flags(36))),
+        (9, 0x10, None),
+        (10, 0x0020_0040, Some(ElfRefusal::HeaderSize(40))),
+        (10, 0x0038_0034, Some(ElfRefusal::HeaderSize(42))),
+        (11, 65, Some(ElfRefusal::Many(44))),
+        (11, 0, Some(ElfRefusal::NoText(0))),
+        (7, 0xFFFF_FFFF, Some(ElfRefusal::Table(28))),
+        (13, 2, Some(ElfRefusal::Dynamic(0))),
+        (13, 3, Some(ElfRefusal::Dynamic(0))),
+        (14, 0xFFFF_FFFF, Some(ElfRefusal::Extent(0))),
+        (17, 3, Some(ElfRefusal::NoText(0))),
+        (18, 11, Some(ElfRefusal::Extent(0))),
+        (18, 0xFFFF_FFFF, Some(ElfRefusal::Extent(0))),
+        (18, 33_554_433, Some(ElfRefusal::Large(0))),
+        (18, 33_554_432, None),
+        (19, 4, Some(ElfRefusal::NoText(0))),
+        (6, 0x0001_0002, Some(ElfRefusal::Entry(24))),
+        (6, 0x0001_000C, Some(ElfRefusal::Entry(24))),
+        (6, 0x0001_0008, None),
+        (15, 0xFFFF_FFF5, Some(ElfRefusal::Extent(0))),
+        (15, 0xFFFF_FFF4, Some(ElfRefusal::Entry(24))),
+    ];
+    for (at, word, want) in table {
+        assert_eq!(rt;
+            refusal_with(rt.alloc(), &mut PLAIN, at, word)?,
+            want,
+            "{word} at {at}"
+        );
+    }
+    Ok(())
+}
+
+#[test]
+fn second_segment_overlaps_or_is_a_second_text(rt: HostRuntime) -> Result<(), Fail> {
+    let table = [
+        (23, 0x0001_0000, Some(ElfRefusal::Overlap(1))),
+        (23, 0x0002_0000, Some(ElfRefusal::TwoTexts(1))),
+        (23, 0x0001_000B, Some(ElfRefusal::Overlap(1))),
+        (23, 0x0000_FFF5, Some(ElfRefusal::Overlap(1))),
+        (23, 0x0001_000C, Some(ElfRefusal::TwoTexts(1))),
+        (23, 0x0000_FFF4, Some(ElfRefusal::TwoTexts(1))),
+        (21, 4, None),
+        (26, 0, Some(ElfRefusal::Extent(1))),
+    ];
+    for (at, word, want) in table {
+        assert_eq!(rt;
+            refusal_with(rt.alloc(), &mut DOUBLE, at, word)?,
+            want,
+            "{word} at {at}"
+        );
+    }
+    Ok(())
+}
+
+#[test]
+fn front_of_a_file_is_refused(rt: HostRuntime) -> Result<(), Fail> {
+    let plain = file_of(rt.alloc(), &PLAIN)?;
+    let rewritten = file_of(rt.alloc(), &REWRITTEN)?;
+    for size in 0..201 {
+        let want = match size {
+            0..52 => Some(ElfRefusal::Short(size as u32)),
+            52..84 => Some(ElfRefusal::Table(28)),
+            84..96 => Some(ElfRefusal::Extent(0)),
+            _ => None,
+        };
+        assert_eq!(rt; refusal_of(&plain, size), want, "plain, {size}");
+        let want = match size {
+            0..52 => Some(ElfRefusal::Short(size as u32)),
+            52..116 => Some(ElfRefusal::Table(28)),
+            116..128 => Some(ElfRefusal::Extent(0)),
+            128..200 => Some(ElfRefusal::Extent(1)),
+            _ => None,
+        };
+        assert_eq!(rt; refusal_of(&rewritten, size), want, "rewritten, {size}");
+    }
+    Ok(())
+}
+
+/// What a file says: its kind, its entry, its flags, the first byte and the length of its cache
+/// image, and how many segments it loads.
+fn said(bytes: &[u8]) -> Option<(Kind, u32, u32, Option<(u8, usize)>, u32)> {
+    let Ok(e) = read_elf(&bytes[..bytes.len().min(1 << 26)]) else {
+        return None
+    };
+    let image = match image_bytes(&e) {
+        Some([first, rest @ ..]) => Some((*first, rest.len())),
+        _ => None,
+    };
+    Some((kind(&e), elf_entry(&e), elf_flags(&e), image, loaded(&e)))
+}
+
+/// The k-th segment that a file loads: its base, its rights, its size and the bytes of the file.
+fn segment_said(bytes: &[u8], k: u32) -> Option<(u32, u32, u32, &[u8])> {
+    let Ok(e) = read_elf(&bytes[..bytes.len().min(1 << 26)]) else {
+        return None
+    };
+    if k >= loaded(&e) {
+        return None;
+    }
+    let Loaded {
+        base,
+        flags,
+        size,
+        bytes,
+    } = loaded_at(&e, k);
+    Some((base, flags, size, bytes))
+}
+
+#[test]
+fn accepted_files_say_what_they_are(rt: HostRuntime) -> Result<(), Fail> {
+    let front = file_of(rt.alloc(), &MIXED[..64])?;
+    let mixed = file_of(rt.alloc(), &MIXED)?;
+    assert_eq!(rt;
+        said(&mixed),
+        Some((Kind::Original, 0x0001_00B4, 0, None, 2))
+    );
+    assert_eq!(rt;
+        segment_said(&mixed, 0),
+        Some((0x0001_0000, 5, 256, front.as_slice()))
+    );
+    assert_eq!(rt;
+        segment_said(&mixed, 1),
+        Some((0x0001_1100, 6, 64, [1, 0, 0, 0].as_slice()))
+    );
+    assert_eq!(rt; segment_said(&mixed, 2), None);
+    let rewritten = file_of(rt.alloc(), &REWRITTEN)?;
+    assert_eq!(rt;
+        said(&rewritten),
+        Some((Kind::Rewritten, 0x0001_0000, 0, Some((0x53, 71)), 1))
+    );
+    Ok(())
+}

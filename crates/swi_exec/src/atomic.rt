@@ -1,0 +1,101 @@
+//! The instructions of the A extension, on a hart that is alone with its memory.
+#![tactic(auto)]
+
+ghost use Rattle.std.specs.Prelude.{◌≡◌};
+ghost use Rattle.swi_exec.specs.Execute.{loads_reserved, stores_conditionally, updates, atomic_effect};
+
+use crate::done::{Done, FaultKind};
+use crate::registers::Regs;
+use crate::values::word_of_atomic;
+use swi_isa::{AtomicOp, Reg};
+use swi_memory::Bus;
+
+/// LR.W: puts the word at `a` into rd, and reserves `a`.
+fn load_reserved(rd: Reg, a: u32, pc: u32, regs: &mut Regs, bus: &Bus) -> Done
+    ensures done { result ≡ (loads_reserved rd a pc regs.old bus.now).done }
+    ensures regs { regs.new ≡ (loads_reserved rd a pc regs.old bus.now).regs }
+{
+    if a % 4 != 0 {
+        return Done::Fault(FaultKind::LoadAccess, a);
+    }
+    let Ok(word) = bus.load(a, 4) else {
+        return Done::Fault(FaultKind::LoadAccess, a);
+    };
+    regs.set(rd, word);
+    regs.reserve(Some(a));
+    Done::Next(pc.wrapping_add(4))
+}
+
+/// SC.W: stores `v` at `a` and puts 0 into rd where `a` is reserved, and else puts 1 into rd. Nothing
+/// is reserved afterwards.
+fn store_conditional(rd: Reg, a: u32, v: u32, pc: u32, regs: &mut Regs, bus: &mut Bus) -> Done
+    ensures done { result ≡ (stores_conditionally rd a v pc regs.old bus.old).done }
+    ensures regs { regs.new ≡ (stores_conditionally rd a v pc regs.old bus.old).regs }
+    ensures bus { bus.new ≡ (stores_conditionally rd a v pc regs.old bus.old).bus }
+{
+    if a % 4 != 0 {
+        return Done::Fault(FaultKind::StoreAccess, a);
+    }
+    if regs.reserved() == Some(a) {
+        if bus.store(a, 4, v).is_err() {
+            return Done::Fault(FaultKind::StoreAccess, a);
+        }
+        regs.set(rd, 0);
+    } else {
+        if !bus.writable(a, 4) {
+            return Done::Fault(FaultKind::StoreAccess, a);
+        }
+        regs.set(rd, 1);
+    }
+    regs.reserve(None);
+    Done::Next(pc.wrapping_add(4))
+}
+
+/// An AMO: puts the word at `a` into rd, and stores there the new word of it and `v`.
+fn update(op: AtomicOp, rd: Reg, a: u32, v: u32, pc: u32, regs: &mut Regs, bus: &mut Bus) -> Done
+    ensures done { result ≡ (updates op rd a v pc regs.old bus.old).done }
+    ensures regs { regs.new ≡ (updates op rd a v pc regs.old bus.old).regs }
+    ensures bus { bus.new ≡ (updates op rd a v pc regs.old bus.old).bus }
+{
+    if a % 4 != 0 {
+        return Done::Fault(FaultKind::StoreAccess, a);
+    }
+    let Ok(old) = bus.load(a, 4) else {
+        return Done::Fault(FaultKind::StoreAccess, a);
+    };
+    if bus.store(a, 4, word_of_atomic(op, old, v)).is_err() {
+        return Done::Fault(FaultKind::StoreAccess, a);
+    }
+    regs.set(rd, old);
+    Done::Next(pc.wrapping_add(4))
+}
+
+/// The atomic instruction `op` on the word at `a`, the value of rs1, with `v`, the value of rs2.
+#[inline(never)]
+pub fn atomic(
+    op: AtomicOp,
+    rd: Reg,
+    a: u32,
+    v: u32,
+    pc: u32,
+    regs: &mut Regs,
+    bus: &mut Bus,
+) -> Done
+    ensures done { result ≡ (atomic_effect op rd a v pc regs.old bus.old).done }
+    ensures regs { regs.new ≡ (atomic_effect op rd a v pc regs.old bus.old).regs }
+    ensures bus { bus.new ≡ (atomic_effect op rd a v pc regs.old bus.old).bus }
+{
+    match op {
+        AtomicOp::LrW => load_reserved(rd, a, pc, regs, bus),
+        AtomicOp::ScW => store_conditional(rd, a, v, pc, regs, bus),
+        AtomicOp::SwapW
+        | AtomicOp::AddW
+        | AtomicOp::XorW
+        | AtomicOp::AndW
+        | AtomicOp::OrW
+        | AtomicOp::MinW
+        | AtomicOp::MaxW
+        | AtomicOp::MinuW
+        | AtomicOp::MaxuW => update(op, rd, a, v, pc, regs, bus),
+    }
+}

@@ -1,0 +1,77 @@
+//! The registers of a hart.
+#![tactic(auto)]
+
+ghost use Rattle.std.specs.Prelude.{◌≡◌};
+ghost use Rattle.swi_exec.specs.Registers.{reg, with_reg, with_reservation, new_regs};
+
+use std::marker::Model;
+use swi_isa::Reg;
+
+/// The integer registers x0 to x31, each a word, of which x0 reads 0 always, and the address that
+/// LR.W reserved last, if it is still reserved.
+///
+/// Source: RISC-V unprivileged specification, sections "Programmers' Model for Base Integer ISA" and
+/// "Load-Reserved/Store-Conditional Instructions".
+#[derive(Drop)]
+pub struct Regs {
+    /// x0 is kept, as 0, so that no read asks which register it reads.
+    words: [u32; 32],
+    reserved: Option<u32>,
+}
+
+impl Model for Regs {
+    ghost use Rattle.std.specs.Prelude.{◌≡◌, slice_index};
+    ghost use Rattle.swi_exec.specs.Registers.{Registers};
+
+    ghost Value = { Registers };
+
+    ghost view = { λ r. record { words = r.words; reserved = r.reserved } };
+
+    ghost invariant = { λ r. slice_index r.words 0 ≡ 0 };
+}
+
+impl Regs {
+    /// All registers are 0, and no address is reserved.
+    pub fn new() -> Regs
+        ensures { result ≡ new_regs }
+    {
+        Regs {
+            words: [0; 32],
+            reserved: None,
+        }
+    }
+
+    /// The word in the register; x0 reads 0.
+    #[inline(always)]
+    pub fn get(&self, register: Reg) -> u32
+        ensures { result ≡ reg self.now register }
+    {
+        self.words[register.num() as usize]
+    }
+
+    /// Writes the word `v` to the register. A write to x0 changes nothing, and no write changes what
+    /// is reserved.
+    #[inline(always)]
+    pub fn set(&mut self, register: Reg, v: u32)
+        ensures { self.new ≡ with_reg self.old register v }
+    {
+        self.words[register.num() as usize] = v;
+        self.words[0] = 0;
+    }
+
+    /// The address that is reserved, if there is one.
+    #[inline(always)]
+    pub fn reserved(&self) -> Option<u32>
+        ensures { result ≡ self.now.reserved }
+    {
+        self.reserved
+    }
+
+    /// Reserves the address `a`, or none, in place of what was reserved. The registers stay.
+    #[inline(always)]
+    pub fn reserve(&mut self, a: Option<u32>)
+        ensures { self.new ≡ with_reservation self.old a }
+    {
+        self.reserved = a;
+    }
+}

@@ -1,0 +1,292 @@
+//! One step, and many.
+#![tactic(auto)]
+
+ghost use Rattle.std.specs.Prelude.{◌≡◌, ◌<◌, ◌≤◌, ◌+◌, ◌-◌, ◌^◌, None, Some, true, false, IfOk, OnOk, OnErr};
+ghost use Rattle.std.specs.Option.{ForSome};
+ghost use Rattle.std.specs.Io.KnownBytes.{Appends};
+ghost use Rattle.swi_outside.specs.Sink.{AppendsPrefix};
+ghost use Rattle.swi_calls.specs.Causes.{HasCauses};
+ghost use Rattle.swi_calls.specs.Flat.{ended, call_made, made, flat_run, started, machine_of};
+ghost use Rattle.swi_flat.specs.FlatData.{sound};
+ghost use Rattle.swi_program.specs.Layout.{IsLayoutOf};
+
+use std::alloc::Global;
+use std::marker::Model;
+use swi_calls::{CallFault, Called, End, Heap, call};
+use swi_exec::{Done, FaultKind, Regs, exec};
+use swi_isa::{Reg, decode};
+use swi_memory::{Bus, Layout};
+use swi_outside::{Memory, Sink, Source};
+use swi_program::Program;
+
+/// A machine that executes the words of a program where they stand.
+#[derive(Drop)]
+pub struct Flat {
+    pc: u32,
+    regs: Regs,
+    bus: Bus,
+    heap: Heap,
+    log: bool,
+    ending: Option<End>,
+    steps: u64,
+    failed: bool,
+}
+
+impl Model for Flat {
+    ghost use Rattle.std.specs.Prelude.{◌≡◌, ◌%◌};
+    ghost use Rattle.swi_flat.specs.FlatData.{FlatData};
+
+    ghost Value = { FlatData };
+
+    ghost view = { λ f. record {
+      machine = record { pc = f.pc; regs = f.regs; bus = f.bus; heap = f.heap; log = f.log; ending = f.ending; steps = f.steps };
+      failed = f.failed;
+    } };
+
+    ghost invariant = { λ f. f.pc % 4 ≡ 0 };
+}
+
+impl Flat {
+    /// The machine of a program before its first step, over the memory that the program's layout gives. With `log` each system
+    /// call is told in a line on the error sink.
+    ///
+    /// The only error is want of memory. All the memory of a run is taken here.
+    pub fn start(alloc: Global, p: &Program, l: &Layout, log: bool) -> Result<Flat, Memory>
+        requires laid_out { IsLayoutOf p.now.segments l.now }
+        ensures { IfOk result (λ f. f ≡ sound (machine_of p.now l.now log)) }
+    {
+        let Ok(bus) = Bus::new(alloc, p.segments(), l) else {
+            return Err(Memory)
+        };
+        let mut regs = Regs::new();
+        regs.set(Reg::of(2), l.sp);
+        Ok(Flat {
+            pc: p.entry(),
+            regs,
+            bus,
+            heap: Heap {
+                base: l.heap,
+                limit: l.heap + l.heap_len,
+                now: l.heap,
+            },
+            log,
+            ending: None,
+            steps: 0,
+            failed: false,
+        })
+    }
+
+    /// How the run has ended; None while it goes on.
+    pub fn ending(&self) -> Option<End>
+        ensures { result ≡ self.now.machine.ending }
+    {
+        self.ending
+    }
+
+    /// Whether a device failed in the last step. No further step can be made then.
+    pub fn failed(&self) -> bool
+        ensures { result ≡ self.now.failed }
+    {
+        self.failed
+    }
+
+    /// The address of the next instruction, or of the one that ended the run.
+    pub fn pc(&self) -> u32
+        ensures { result ≡ self.now.machine.pc }
+    {
+        self.pc
+    }
+
+    /// The number of steps made.
+    pub fn steps(&self) -> u64
+        ensures { result ≡ self.now.machine.steps }
+    {
+        self.steps
+    }
+
+    /// The registers.
+    pub fn regs(&self) -> &Regs
+        ensures { result.now ≡ self.now.machine.regs }
+    {
+        &self.regs
+    }
+
+    /// The memory.
+    pub fn bus(&self) -> &Bus
+        ensures { result.now ≡ self.now.machine.bus }
+    {
+        &self.bus
+    }
+
+    /// The heap's ends and the break.
+    pub fn heap(&self) -> Heap
+        ensures { result ≡ self.now.machine.heap }
+    {
+        self.heap
+    }
+
+    /// Ends the run, with this step.
+    #[cold]
+    #[inline(never)]
+    fn end(&mut self, end: End)
+        requires few { self.old.machine.steps < 2 ^ 48 }
+        ensures { self.new ≡ record self.old { machine = ended self.old.machine end } }
+    {
+        self.ending = Some(end);
+        self.steps += 1;
+    }
+
+    /// The step of a system call.
+    #[inline(never)]
+    #[tactic(auto, using(crate::proofs::Steps::exited_of))]
+    fn call<I: Source, O: Sink, E: Sink>(
+        &mut self,
+        input: &mut I,
+        out: &mut O,
+        err: &mut E,
+    ) -> Result<(), CallFault>
+        requires few { self.old.machine.steps < 2 ^ 48 }
+        requires unfailed { self.old.failed ≡ false }
+        ensures machine { OnOk result (ForSome (I.left input.old) (λ left. self.new ≡ sound (call_made self.old.machine left).machine)) }
+        ensures input { OnOk result (ForSome (I.left input.old) (λ left. I.left input.new ≡ Some (call_made self.old.machine left).input)) }
+        ensures output { OnOk result (ForSome (I.left input.old) (λ left.
+            Appends (O.held out.old) (O.held out.new) (call_made self.old.machine left).output)) }
+        ensures error { OnOk result (ForSome (I.left input.old) (λ left.
+            Appends (E.held err.old) (E.held err.new) (call_made self.old.machine left).error)) }
+        ensures counted { OnOk result (self.new.machine.steps ≡ self.old.machine.steps + 1) }
+        ensures unfailed { OnOk result (self.new.failed ≡ false) }
+        ensures failed { OnErr result (self.new.failed ≡ true) }
+        ensures uncounted { OnErr result (self.new.machine.steps ≡ self.old.machine.steps) }
+        ensures output_prefix { OnErr result (ForSome (I.left input.old) (λ left.
+            AppendsPrefix (O.held out.old) (O.held out.new) (call_made self.old.machine left).output)) }
+        ensures error_prefix { OnErr result (ForSome (I.left input.old) (λ left.
+            AppendsPrefix (E.held err.old) (E.held err.new) (call_made self.old.machine left).error)) }
+        ensures causes { HasCauses
+            (record { input = I.faults input.old; out = O.faults out.old; err = E.faults err.old })
+            (record { input = I.faults input.new; out = O.faults out.new; err = E.faults err.new }) result }
+    {
+        match call(
+            &mut self.regs,
+            &mut self.bus,
+            &mut self.heap,
+            self.log,
+            input,
+            out,
+            err,
+        ) {
+            Ok(Called::Returned) => {
+                self.pc = self.pc.wrapping_add(4);
+                self.steps += 1;
+                Ok(())
+            }
+            Ok(Called::Exited(code)) => {
+                self.end(End::Exited(code));
+                Ok(())
+            }
+            Err(fault) => {
+                self.failed = true;
+                Err(fault)
+            }
+        }
+    }
+
+    /// One step: the word at pc is fetched, decoded and executed. Afterwards the machine is one step further, or a device has
+    /// failed in a system call; then `failed` is true and the step is not counted.
+    #[inline(always)]
+    #[tactic(auto, unfolding(swi_calls::specs::Flat::made))]
+    pub fn step<I: Source, O: Sink, E: Sink>(
+        &mut self,
+        input: &mut I,
+        out: &mut O,
+        err: &mut E,
+    ) -> Result<(), CallFault>
+        requires going { self.old.machine.ending ≡ None }
+        requires few { self.old.machine.steps < 2 ^ 48 }
+        requires unfailed { self.old.failed ≡ false }
+        ensures machine { OnOk result (ForSome (I.left input.old) (λ left. self.new ≡ sound (made self.old.machine left).machine)) }
+        ensures input { OnOk result (ForSome (I.left input.old) (λ left. I.left input.new ≡ Some (made self.old.machine left).input)) }
+        ensures output { OnOk result (ForSome (I.left input.old) (λ left.
+            Appends (O.held out.old) (O.held out.new) (made self.old.machine left).output)) }
+        ensures error { OnOk result (ForSome (I.left input.old) (λ left.
+            Appends (E.held err.old) (E.held err.new) (made self.old.machine left).error)) }
+        ensures counted { OnOk result (self.new.machine.steps ≡ self.old.machine.steps + 1) }
+        ensures unfailed { OnOk result (self.new.failed ≡ false) }
+        ensures failed { OnErr result (self.new.failed ≡ true) }
+        ensures uncounted { OnErr result (self.new.machine.steps ≡ self.old.machine.steps) }
+        ensures output_prefix { OnErr result (ForSome (I.left input.old) (λ left.
+            AppendsPrefix (O.held out.old) (O.held out.new) (made self.old.machine left).output)) }
+        ensures error_prefix { OnErr result (ForSome (I.left input.old) (λ left.
+            AppendsPrefix (E.held err.old) (E.held err.new) (made self.old.machine left).error)) }
+        ensures causes { HasCauses
+            (record { input = I.faults input.old; out = O.faults out.old; err = E.faults err.old })
+            (record { input = I.faults input.new; out = O.faults out.new; err = E.faults err.new }) result }
+    {
+        let Some(word) = self.bus.fetch(self.pc) else {
+            self.end(End::Faulted(FaultKind::FetchAccess, self.pc));
+            return Ok(());
+        };
+        let Some(instruction) = decode(word) else {
+            self.end(End::Faulted(FaultKind::Illegal, self.pc));
+            return Ok(());
+        };
+        match exec(&instruction, self.pc, &mut self.regs, &mut self.bus) {
+            Done::Next(pc) => {
+                self.pc = pc;
+                self.steps += 1;
+                Ok(())
+            }
+            Done::Call => match self.call(input, out, err) {
+                Ok(()) => Ok(()),
+                Err(fault) => Err(fault),
+            },
+            Done::Break => {
+                self.end(End::Faulted(FaultKind::Break, self.pc));
+                Ok(())
+            }
+            Done::Fault(kind, address) => {
+                self.end(End::Faulted(kind, address));
+                Ok(())
+            }
+        }
+    }
+
+    /// Steps until `limit` steps are made since the start, or the run has ended, or a device fails.
+    ///
+    /// After a failure each sink holds a prefix of what the run writes.
+    pub fn run<I: Source, O: Sink, E: Sink>(
+        &mut self,
+        limit: u64,
+        input: &mut I,
+        out: &mut O,
+        err: &mut E,
+    ) -> Result<(), CallFault>
+        requires within { self.old.machine.steps ≤ limit }
+        requires few { limit ≤ 2 ^ 48 }
+        requires unfailed { self.old.failed ≡ false }
+        ensures machine { OnOk result (ForSome (I.left input.old) (λ left.
+            self.new ≡ sound (flat_run (limit - self.old.machine.steps) (started self.old.machine left)).machine)) }
+        ensures input { OnOk result (ForSome (I.left input.old) (λ left.
+            I.left input.new ≡ Some (flat_run (limit - self.old.machine.steps) (started self.old.machine left)).input)) }
+        ensures output { OnOk result (ForSome (I.left input.old) (λ left. Appends (O.held out.old) (O.held out.new)
+            (flat_run (limit - self.old.machine.steps) (started self.old.machine left)).output)) }
+        ensures error { OnOk result (ForSome (I.left input.old) (λ left. Appends (E.held err.old) (E.held err.new)
+            (flat_run (limit - self.old.machine.steps) (started self.old.machine left)).error)) }
+        ensures stops { OnOk result ((self.new.machine.ending ≡ None) → self.new.machine.steps ≡ limit) }
+        ensures unfailed { OnOk result (self.new.failed ≡ false) }
+        ensures failed { OnErr result (self.new.failed ≡ true) }
+        ensures output_prefix { OnErr result (ForSome (I.left input.old) (λ left. AppendsPrefix (O.held out.old) (O.held out.new)
+            (flat_run (limit - self.old.machine.steps) (started self.old.machine left)).output)) }
+        ensures error_prefix { OnErr result (ForSome (I.left input.old) (λ left. AppendsPrefix (E.held err.old) (E.held err.new)
+            (flat_run (limit - self.old.machine.steps) (started self.old.machine left)).error)) }
+        ensures causes { HasCauses
+            (record { input = I.faults input.old; out = O.faults out.old; err = E.faults err.old })
+            (record { input = I.faults input.new; out = O.faults out.new; err = E.faults err.new }) result }
+    {
+        while self.steps < limit && self.ending.is_none() {
+            if let Err(fault) = self.step(input, out, err) {
+                return Err(fault);
+            }
+        }
+        Ok(())
+    }
+}

@@ -1,0 +1,9 @@
+//! The flat machine: it runs the words of a program where they stand.
+#![tactic(auto)]
+
+mod flat;
+
+pub use flat::Flat;
+
+#[cfg(test)]
+mod tests;

@@ -1,0 +1,8 @@
+pub mod Accesses
+pub mod Fronts
+pub mod Gathered
+pub mod Looks
+pub mod Shapes
+pub mod StartText
+pub mod Texts
+pub mod Untouched

@@ -1,0 +1,21 @@
+-- Where the areas of a bus are found, and numbers in the bytes of one of them, for the contracts
+-- between the parts of this crate. Own rule.
+use Rattle.std.specs.Prelude.{◌≡◌, ℕ, ◌+◌, ◌/◌, ◌%◌, ◌<◌, zero, suc, true, false, List, [], ◌∷◌, length, slice_set}
+use Rattle.std.proofs.Common.{get_or}
+use Rattle.swi_memory.specs.declared.bank.Bank.{Bank}
+use Rattle.swi_memory.specs.Bus.{AreaData, is_in}
+use Rattle.swi_memory.specs.Views.{area}
+
+-- no area has a byte at the address
+abbrev pub HasNone : List AreaData → ℕ → Type 0
+HasNone [] a = Unit {0}
+HasNone (s ∷ rest) a = (is_in s a ≡ false) × HasNone rest a
+
+-- the bank at this place has a byte at the address
+abbrev pub IsFound : List Bank → ℕ → ℕ → Type 0
+IsFound banks a i = (i < length banks) × ((d : Bank) → is_in (area (get_or banks i d)) a ≡ true)
+
+-- the bytes with the lowest n bytes of v from a place on, the lowest first
+abbrev pub put_in : List ℕ → ℕ → ℕ → ℕ → List ℕ
+put_in bytes at zero v = bytes
+put_in bytes at (suc n) v = put_in (slice_set bytes at (v % 256)) (at + 1) n (v / 256)

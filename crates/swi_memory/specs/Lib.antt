@@ -1,0 +1,10 @@
+pub mod Bus
+pub mod BusOf
+pub mod BusView
+pub mod TextAt
+pub mod Found
+pub mod Gather
+pub mod Rights
+pub mod Segment
+pub mod SegmentView
+pub mod Views

@@ -1,0 +1,169 @@
+//! The memory of a machine.
+#![tactic(auto)]
+
+ghost use Rattle.std.specs.Prelude.{◌≡◌, ◌+◌, ◌*◌, ◌<◌, ◌≤◌, ◌^◌, ◌%◌, ℕ, true, false, length, slice_get, IfOk, IfSome, IsSomeAnd, OnOk, OnErr};
+ghost use Rattle.swi_memory.specs.Bus.{AreInOrder, IsSize, Read, Write, bytes_at, fetched, front_of, holds, loaded, stored, touches_text, with_bytes};
+ghost use Rattle.swi_memory.specs.BusOf.{AreApart, HasOneText, bus_of, ranges, word_in};
+
+use crate::access::Access;
+use crate::area::Area;
+use crate::bank::Bank;
+use crate::gather::gather;
+use crate::layout::Layout;
+use crate::right::Right;
+use crate::segment::Segment;
+use crate::text::Text;
+use crate::{bank, text};
+use std::alloc::Global;
+use std::marker::Model;
+use swi_outside::Memory;
+
+/// The segments of a program with the bytes that stand there now, its heap and its stack. Addresses
+/// and lengths are in bytes; numbers are little-endian.
+///
+/// Source: RISC-V unprivileged specification, section 1.4 "Memory" and section 2.6 "Load and Store
+/// Instructions". An access that passes address 2^32 - 1 is refused, a misaligned one works byte by
+/// byte, and only text words are fetched: own rule.
+#[derive(Drop)]
+pub struct Bus {
+    banks: Vec<Bank>,
+    text: Text,
+}
+
+impl Model for Bus {
+    ghost use Rattle.std.specs.Prelude.{List};
+    ghost use Rattle.swi_memory.specs.Bus.{AreaData};
+
+    ghost Value = { List AreaData };
+
+    ghost use Rattle.swi_memory.specs.BusView.{areas_of, IsBus};
+
+    ghost view = { areas_of };
+
+    ghost invariant = { IsBus };
+}
+
+impl Bus {
+    /// The bus at the start of a run: each segment's bytes with zeros behind them, the heap and the
+    /// stack. Memory where there is not enough memory, or where more areas than 2^32 - 1 are asked for.
+    pub fn new(alloc: Global, segments: &[Segment], l: &Layout) -> Result<Bus, Memory>
+        requires apart { AreApart (ranges segments.now l.now) }
+        requires heap_end { l.now.heap + l.now.heap_len ≤ 2 ^ 32 }
+        requires stack_end { l.now.stack + l.now.stack_len ≤ 2 ^ 32 }
+        requires one_text { HasOneText segments.now }
+        ensures start { IfOk result (λ bus. bus ≡ bus_of segments.now l.now) }
+        ensures order { IfOk result AreInOrder }
+        ensures text { IfOk result (λ bus. (a : ℕ) → fetched bus a ≡ word_in segments.now a) }
+    {
+        let banks = gather(alloc, segments, l)?;
+        if banks.len() > u32::MAX as usize {
+            return Err(Memory);
+        }
+        let text = text::find_text(&banks);
+        Ok(Bus { banks, text })
+    }
+
+    /// The number that the `k` bytes from the address on make; `k` is 1, 2 or 4. Access exactly where
+    /// one of them cannot be read.
+    #[inline(always)]
+    pub fn load(&self, a: u32, k: u8) -> Result<u32, Access>
+        requires { IsSize k }
+        ensures value { result ≡ loaded self.now a k }
+        ensures small { IfOk result (λ v. v < 2 ^ (8 * k)) }
+    {
+        bank::load(&self.banks, a, k)
+    }
+
+    /// Puts the lowest `k` bytes of `v` from the address on; `k` is 1, 2 or 4. Access exactly where
+    /// one of them cannot be written, and then nothing changes.
+    #[inline(always)]
+    pub fn store(&mut self, a: u32, k: u8, v: u32) -> Result<(), Access>
+        requires { IsSize k }
+        ensures ok { OnOk result (holds self.old Write a k ≡ true) }
+        ensures bytes { OnOk result (self.new ≡ stored self.old a k v) }
+        ensures refused { OnErr result (holds self.old Write a k ≡ false) }
+        ensures unchanged { OnErr result (self.new ≡ self.old) }
+        ensures text { touches_text self.old a k ≡ false → (x : ℕ) → fetched self.new x ≡ fetched self.old x }
+    {
+        bank::store(&mut self.banks, a, k, v)
+    }
+
+    /// The text word that stands now at the address. None exactly where no text word stands.
+    #[inline(always)]
+    pub fn fetch(&self, a: u32) -> Option<u32>
+        ensures value { result ≡ fetched self.now a }
+        ensures aligned { IfSome result (λ _. a % 4 ≡ 0) }
+    {
+        text::fetch(&self.banks, &self.text, a)
+    }
+
+    /// Whether each of the `n` bytes from the address on can be read. Of no byte, true.
+    pub fn readable(&self, a: u32, n: u32) -> bool
+        ensures { result ≡ holds self.now Read a n }
+    {
+        bank::are_held(&self.banks, Right::Read, a, n)
+    }
+
+    /// Whether each of the `n` bytes from the address on can be written. Of no byte, true.
+    pub fn writable(&self, a: u32, n: u32) -> bool
+        ensures { result ≡ holds self.now Write a n }
+    {
+        bank::are_held(&self.banks, Right::Write, a, n)
+    }
+
+    /// Whether one of the `n` bytes from the address on is a text word's. Of no byte, false.
+    #[inline(always)]
+    pub fn touches_text(&self, a: u32, n: u32) -> bool
+        ensures { result ≡ touches_text self.now a n }
+    {
+        text::is_touched(&self.text, a, n)
+    }
+
+    /// The longest front of the `n` bytes from the address on that lies in one segment or region: at
+    /// least one byte.
+    pub fn front(&self, a: u32, n: u32) -> &[u8]
+        requires some { 0 < n }
+        requires readable { holds self.now Read a n ≡ true }
+        ensures value { result.now ≡ front_of self.now a n }
+        ensures some { 0 < length result.now }
+        ensures short { length result.now ≤ n }
+        ensures bytes { result.now ≡ bytes_at self.now a (length result.now) }
+    {
+        bank::front(&self.banks, a, n)
+    }
+
+    /// Puts the bytes of `piece`, at most 2^26 of them, from the address on. Access exactly where one
+    /// of them cannot be written, and then nothing changes.
+    pub fn copy_in(&mut self, a: u32, piece: &[u8]) -> Result<(), Access>
+        requires { length piece.now ≤ 2 ^ 26 }
+        ensures ok { OnOk result (holds self.old Write a (length piece.now) ≡ true) }
+        ensures bytes { OnOk result (self.new ≡ with_bytes self.old a piece.now) }
+        ensures refused { OnErr result (holds self.old Write a (length piece.now) ≡ false) }
+        ensures unchanged { OnErr result (self.new ≡ self.old) }
+        ensures text { touches_text self.old a (length piece.now) ≡ false → (x : ℕ) → fetched self.new x ≡ fetched self.old x }
+    {
+        bank::copy_in(&mut self.banks, a, piece)
+    }
+
+    /// The number of segments and regions that have at least one byte.
+    pub fn areas(&self) -> u32
+        ensures count { result ≡ length self.now }
+        ensures order { AreInOrder self.now }
+    {
+        self.banks.len() as u32
+    }
+
+    /// The segment or region at place `k` of those that have a byte, in ascending order of address,
+    /// with its bytes as they stand now.
+    pub fn area(&self, k: u32) -> Area<'_>
+        requires { k < length self.now }
+        ensures { IsSomeAnd (slice_get self.now k) (λ s. (result.base ≡ s.base) × (result.flags ≡ s.flags) × (result.bytes.now ≡ s.bytes)) }
+    {
+        let bank = &self.banks[k as usize];
+        Area {
+            base: bank.base,
+            flags: bank.flags,
+            bytes: &bank.bytes,
+        }
+    }
+}

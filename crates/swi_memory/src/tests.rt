@@ -1,0 +1,203 @@
+use super::*;
+use std::alloc::Global;
+use std::test::Fail;
+use swi_outside::Memory;
+
+// Text from 0x1002 on, whose file has 15 bytes, so that its words stand at 0x1004, 0x1008 and 0x100C;
+// data adjoins it at 0x1012; bytes that can only be written stand at 0x2000, bytes that can only be
+// read at 0; the heap is empty, and the stack ends with the last address.
+fn memory(alloc: Global) -> Result<Bus, Memory> {
+    let Ok(text) = [1, 2, 3, 4, 5, 6, 7, 8, 9, 10, 11, 12, 13, 14, 15].to_vec(alloc) else {
+        return Err(Memory);
+    };
+    let Ok(data) = [0xA0, 0xA1].to_vec(alloc) else {
+        return Err(Memory);
+    };
+    let Ok(low) = [0x71, 0x72, 0x73, 0x74].to_vec(alloc) else {
+        return Err(Memory);
+    };
+    let segments = [
+        Segment::of(0x1012, 6, 4, data),
+        Segment::of(0x1002, 5, 16, text),
+        Segment::of(0x2000, 2, 4, Vec::new(alloc)),
+        Segment::of(0, 4, 4, low),
+    ];
+    let layout = Layout {
+        heap: 0x3000,
+        heap_len: 0,
+        stack: 0xFFFF_FFF0,
+        stack_len: 16,
+        sp: 0xFFFF_FFB0,
+    };
+    Bus::new(alloc, &segments, &layout)
+}
+
+fn load(bus: &Bus, a: u32, k: u8) -> Option<u32> {
+    match k {
+        1 => bus.load(a, 1).ok(),
+        2 => bus.load(a, 2).ok(),
+        _ => bus.load(a, 4).ok(),
+    }
+}
+
+fn store(bus: &mut Bus, a: u32, k: u8, v: u32) -> bool {
+    match k {
+        1 => bus.store(a, 1, v).is_ok(),
+        2 => bus.store(a, 2, v).is_ok(),
+        _ => bus.store(a, 4, v).is_ok(),
+    }
+}
+
+#[test]
+fn loads_are_little_endian_and_cross_adjoining_segments_but_not_the_last_address(
+    rt: HostRuntime,
+) -> Result<(), Fail> {
+    let Ok(bus) = memory(rt.alloc()) else {
+        return Ok(());
+    };
+    for (a, k, want) in [
+        (0x1002, 1, Some(0x01)),
+        (0x1004, 4, Some(0x0605_0403)),
+        (0x100F, 2, Some(0x0F0E)),
+        (0x1010, 4, Some(0xA1A0_000F)),
+        (0x1011, 2, Some(0xA000)),
+        (0x1013, 4, None),
+        (0x1014, 2, Some(0)),
+        (0x1001, 4, None),
+        (0x2000, 1, None),
+        (0xFFFF_FFFC, 4, Some(0)),
+        (0xFFFF_FFFD, 4, None),
+        (0xFFFF_FFFF, 1, Some(0)),
+        (0xFFFF_FFFF, 2, None),
+        (0x0000_0000, 4, Some(0x7473_7271)),
+        (0x0000_0001, 4, None),
+    ] {
+        assert_eq!(rt; load(&bus, a, k), want, "at {a:x}, {k} bytes");
+    }
+    Ok(())
+}
+
+#[test]
+fn stores_change_their_bytes_alone_and_a_refused_one_changes_nothing(
+    rt: HostRuntime,
+) -> Result<(), Fail> {
+    let Ok(mut bus) = memory(rt.alloc()) else {
+        return Ok(());
+    };
+    for (a, k, v, accepted, then, want) in [
+        (0x1012, 4, 0x1122_3344, true, 0x1010, Some(0x3344_000F)),
+        (0x1013, 2, 0xFFFF_5566, true, 0x1012, Some(0x1155_6644)),
+        (0x1015, 1, 0x1_77, true, 0x1012, Some(0x7755_6644)),
+        (0x1011, 2, 0x8888, false, 0x1010, Some(0x6644_000F)),
+        (0x1014, 4, 0x9999_9999, false, 0x1012, Some(0x7755_6644)),
+        (
+            0xFFFF_FFFC,
+            4,
+            0xAABB_CCDD,
+            true,
+            0xFFFF_FFFC,
+            Some(0xAABB_CCDD),
+        ),
+        (
+            0xFFFF_FFFE,
+            4,
+            0x1111_1111,
+            false,
+            0xFFFF_FFFC,
+            Some(0xAABB_CCDD),
+        ),
+        (
+            0xFFFF_FFFF,
+            2,
+            0x2222,
+            false,
+            0x0000_0000,
+            Some(0x7473_7271),
+        ),
+        (0x1004, 4, 0x3333_3333, false, 0x1004, Some(0x0605_0403)),
+    ] {
+        assert_eq!(rt; store(&mut bus, a, k, v), accepted, "at {a:x}, {k} bytes");
+        assert_eq!(rt; load(&bus, then, 4), want, "after {a:x}, {k} bytes");
+    }
+    Ok(())
+}
+
+#[test]
+fn whole_words_of_the_file_are_fetched_and_nothing_else(rt: HostRuntime) -> Result<(), Fail> {
+    let Ok(bus) = memory(rt.alloc()) else {
+        return Ok(());
+    };
+    for (a, want) in [
+        (0x1000, None),
+        (0x1002, None),
+        (0x1004, Some(0x0605_0403)),
+        (0x1006, None),
+        (0x100C, Some(0x0E0D_0C0B)),
+        (0x1010, None),
+        (0x1014, None),
+        (0xFFFF_FFFC, None),
+    ] {
+        assert_eq!(rt; bus.fetch(a), want, "at {a:x}");
+    }
+    Ok(())
+}
+
+#[test]
+fn ranges_are_judged_byte_by_byte(rt: HostRuntime) -> Result<(), Fail> {
+    let Ok(bus) = memory(rt.alloc()) else {
+        return Ok(());
+    };
+    for (a, n, readable, writable, touches_text) in [
+        (0x9999, 0, true, true, false),
+        (0x1002, 2, true, false, false),
+        (0x1002, 3, true, false, true),
+        (0x100F, 1, true, false, true),
+        (0x1010, 1, true, false, false),
+        (0x1010, 6, true, false, false),
+        (0x1012, 4, true, true, false),
+        (0x1012, 5, false, false, false),
+        (0x2000, 4, false, true, false),
+        (0xFFFF_FFF0, 16, true, true, false),
+        (0xFFFF_FFF0, 17, false, false, false),
+        (0x0000_0000, 0xFFFF_FFFF, false, false, true),
+        (0x0000_1008, 0, true, true, false),
+    ] {
+        assert_eq!(rt; bus.readable(a, n), readable, "at {a:x}, {n} bytes");
+        assert_eq!(rt; bus.writable(a, n), writable, "at {a:x}, {n} bytes");
+        assert_eq!(rt; bus.touches_text(a, n), touches_text, "at {a:x}, {n} bytes");
+    }
+    Ok(())
+}
+
+#[test]
+fn pieces_end_with_their_segment_and_areas_stand_in_order(rt: HostRuntime) -> Result<(), Fail> {
+    let Ok(mut bus) = memory(rt.alloc()) else {
+        return Ok(());
+    };
+    assert_eq!(rt; bus.copy_in(0x1012, b"xyz"), Ok(()));
+    assert_eq!(rt; bus.copy_in(0x1014, b"xyz"), Err(Access));
+    assert_eq!(rt; bus.copy_in(0xFFFF_FFFF, b"xy"), Err(Access));
+    assert_eq!(rt; load(&bus, 0x1012, 4), Some(0x007A_7978));
+    assert!(rt; bus.readable(0x1010, 6));
+    assert_eq!(rt; bus.front(0x1010, 6), [15, 0].as_slice());
+    assert!(rt; bus.readable(0x1012, 2));
+    assert_eq!(rt; bus.front(0x1012, 2), b"xy".as_slice());
+    assert_eq!(rt; bus.areas(), 5);
+    for (k, base, flags, size) in [
+        (0, 0x0000, 4, 4),
+        (1, 0x1002, 5, 16),
+        (2, 0x1012, 6, 4),
+        (3, 0x2000, 2, 4),
+        (4, 0xFFFF_FFF0, 6, 16),
+    ] {
+        if k < bus.areas() {
+            let area = bus.area(k);
+            assert_eq!(rt;
+                (area.base, area.flags, area.bytes.len()),
+                (base, flags, size),
+                "{k}"
+            );
+        }
+    }
+    Ok(())
+}

@@ -1,0 +1,85 @@
+//! Where the text words lie.
+#![tactic(auto)]
+
+ghost use Rattle.std.specs.Prelude.{◌≡◌, ◌+◌, ◌≤◌, ◌^◌, List, length, true};
+ghost use Rattle.swi_memory.specs.Bus.{AreaData, AreInOrder, Execute, fetched, grants, touches_text};
+ghost use Rattle.swi_memory.specs.TextAt.{HasOne, IsText, IsTextOf};
+ghost use Rattle.swi_memory.specs.Views.{area, areas};
+
+use crate::bank::{Bank, number};
+use crate::right::Right;
+
+/// The text words: `len` bytes from the address `from` on, both multiples of 4, in the bank at place
+/// `bank`. Where there are none, `len` is 0.
+#[derive(Clone, Copy)]
+pub struct Text {
+    pub bank: usize,
+    pub from: u32,
+    pub len: u32,
+}
+
+/// The word that stands at a text word's address.
+#[inline(always)]
+pub fn fetch(banks: &[Bank], text: &Text, a: u32) -> Option<u32>
+    requires order { AreInOrder (areas banks.now) }
+    requires text { IsText (areas banks.now) text.now }
+    ensures { result ≡ fetched (areas banks.now) a }
+{
+    if a % 4 != 0 || a.wrapping_sub(text.from) >= text.len {
+        return None;
+    }
+    let bank = &banks[text.bank];
+    Some(number(&bank.bytes, (a - bank.base) as usize, 4))
+}
+
+/// Whether one of n bytes from the address on is a text word's.
+#[inline(always)]
+pub fn is_touched(text: &Text, a: u32, n: u32) -> bool
+    ensures { (bus : List AreaData) → IsText bus text.now → result ≡ touches_text bus a n }
+{
+    let from = u64::from(text.from);
+    let first = u64::from(a);
+    let end = (from + u64::from(text.len)).min(first + u64::from(n));
+    from.max(first) < end
+}
+
+/// The text words of a bank that can be executed: the whole words among the bytes of its file.
+fn text_in(bank: &Bank, place: usize) -> Text
+    requires file { bank.now.file ≤ length bank.now.bytes.items }
+    requires end { bank.now.base + length bank.now.bytes.items ≤ 2 ^ 32 }
+    requires executable { grants Execute bank.now.flags ≡ true }
+    ensures { IsTextOf (area bank.now) place result }
+{
+    let file = bank.file;
+    let skipped = (4 - bank.base % 4) % 4;
+    if file < skipped + 4 {
+        return Text {
+            bank: place,
+            from: 0,
+            len: 0,
+        };
+    }
+    Text {
+        bank: place,
+        from: bank.base + skipped,
+        len: (file - skipped) / 4 * 4,
+    }
+}
+
+/// Where the text words of the banks lie.
+pub fn find_text(banks: &[Bank]) -> Text
+    requires order { AreInOrder (areas banks.now) }
+    requires one { HasOne (areas banks.now) }
+    ensures { IsText (areas banks.now) result }
+{
+    for (i, bank) in banks.iter().enumerate() {
+        if Right::Execute.is_in(bank.flags) {
+            return text_in(bank, i);
+        }
+    }
+    Text {
+        bank: 0,
+        from: 0,
+        len: 0,
+    }
+}

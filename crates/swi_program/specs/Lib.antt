@@ -1,0 +1,5 @@
+pub mod Program
+pub mod Text
+pub mod Layout
+pub mod ProgramOf
+pub mod Viewed

@@ -1,0 +1,13 @@
+//! A program: its segments, its text, and where its heap and its stack lie.
+#![tactic(auto)]
+
+pub mod placement;
+pub mod programs;
+pub mod text_view;
+
+pub use placement::{Room, lay_out};
+pub use programs::{Program, one_text, program_of};
+pub use text_view::TextView;
+
+#[cfg(test)]
+mod tests;

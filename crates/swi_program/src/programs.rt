@@ -1,0 +1,189 @@
+//! Programs, and what they are made of.
+#![tactic(auto)]
+
+ghost use Rattle.std.specs.Prelude.{◌≡◌, ℕ, ◌+◌, ◌*◌, ◌%◌, ◌^◌, ◌<◌, ◌≤◌, length, filter, find, sum_by, map, IfOk, option_copied, option_map, slice_get, Some, [], ◌∷◌};
+ghost use Rattle.swi_elf_read.specs.Loaded.{loaded_segments, AreLoadable};
+ghost use Rattle.swi_memory.specs.BusOf.{AreApart, range_of, texts, word_in};
+ghost use Rattle.swi_program.specs.Program.{can_execute, AreSegments};
+ghost use Rattle.swi_program.specs.Text.{text_of, word_of, IsTextAddress, HasText, IsSized};
+ghost use Rattle.swi_memory.specs.declared.layout.Layout.{Layout};
+ghost use Rattle.swi_program.specs.Layout.{IsLayoutOf, IsRoomy};
+ghost use Rattle.swi_program.specs.ProgramOf.{program_of_file, program_of_words, segment_of, bytes_of_words};
+
+use crate::text_view::{self, TextView};
+use std::alloc::Global;
+use std::marker::Model;
+use swi_elf_read::{Elf, elf_entry, elf_flags, loaded, loaded_at};
+use swi_memory::Segment;
+use swi_outside::Memory;
+
+/// A program. Contracts see it as its entry address, the flags of its ELF header and its segments.
+#[derive(Drop)]
+pub struct Program {
+    entry: u32,
+    flags: u32,
+    segments: Vec<Segment>,
+}
+
+impl Model for Program {
+    ghost use Rattle.swi_program.specs.Program.{ProgramData, IsProgram};
+
+    ghost Value = { ProgramData };
+
+    ghost view = { λ p. record { entry = p.entry; flags = p.flags; segments = p.segments.items } };
+
+    ghost invariant = { λ p. IsProgram (record { entry = p.entry; flags = p.flags; segments = p.segments.items }) };
+}
+
+/// The first executable segment.
+fn first_executable(segments: &[Segment]) -> Option<&Segment>
+    ensures { option_copied result ≡ find can_execute segments.now }
+{
+    segments.iter().find(|s| s.flags() % 2 == 1)
+}
+
+impl Program {
+    /// The address at which a run begins: that of an instruction word.
+    #[tactic(auto, using(crate::proofs::Texts::entry_word))]
+    pub fn entry(&self) -> u32
+        ensures value { result ≡ self.now.entry }
+        ensures word { IsTextAddress (text_of self.now.segments) result }
+    {
+        self.entry
+    }
+
+    /// The flags of the ELF header, of which bits 0 to 3 are clear.
+    pub fn flags(&self) -> u32
+        ensures value { result ≡ self.now.flags }
+        ensures plain { result % 16 ≡ 0 }
+    {
+        self.flags
+    }
+
+    /// The segments, in the order of the file's program headers. Each layout of the program leaves
+    /// them their room.
+    #[tactic(auto, using(crate::proofs::Ends::room_law, crate::proofs::Texts::texts_counted))]
+    pub fn segments(&self) -> &[Segment]
+        ensures value { result.now ≡ self.now.segments }
+        ensures each { AreSegments self.now.segments }
+        ensures apart { AreApart (map range_of self.now.segments) }
+        ensures one_text { texts self.now.segments ≡ 1 }
+        ensures memory { sum_by (λ s. s.size) self.now.segments ≤ 2 ^ 25 }
+        ensures room { (l : Layout) → IsLayoutOf self.now.segments l → IsRoomy self.now.segments l }
+    {
+        &self.segments
+    }
+
+    /// The executable segment.
+    fn executable(&self) -> &Segment
+        ensures found { find can_execute self.now.segments ≡ Some result.now }
+        ensures whole { HasText result.now }
+        ensures held { (a : ℕ) → word_in self.now.segments a ≡ word_of (text_of self.now.segments) a }
+    {
+        match first_executable(&self.segments) {
+            Some(segment) => segment,
+            None => unreachable!(),
+        }
+    }
+
+    /// The text: the instruction words of the executable segment, 1 to 2^19 of them.
+    #[tactic(auto, unfolding(crate::specs::Text::text_of))]
+    pub fn text(&self) -> TextView<'_>
+        ensures value { result ≡ text_of self.now.segments }
+        ensures sized { IsSized (text_of self.now.segments) }
+
+        // At each address stands the word that the segments hold there.
+        ensures held { (a : ℕ) → word_in self.now.segments a ≡ word_of (text_of self.now.segments) a }
+    {
+        text_view::text_of(self.executable())
+    }
+}
+
+/// A copy of the k-th segment that a file loads.
+fn segment_at(alloc: Global, e: &Elf, k: u32) -> Result<Segment, Memory>
+    requires within { k < length (loaded_segments e.now) }
+    requires each { AreLoadable (loaded_segments e.now) }
+    ensures { IfOk result (λ s. option_map segment_of (slice_get (loaded_segments e.now) k) ≡ Some s) }
+{
+    let segment = loaded_at(e, k);
+    let Ok(bytes) = Vec::from_slice(alloc, segment.bytes) else {
+        return Err(Memory)
+    };
+    Ok(Segment::of(segment.base, segment.flags, segment.size, bytes))
+}
+
+/// The program of an accepted file: its entry, its flags and the segments that it loads.
+///
+/// The only error is want of memory.
+#[tactic(auto, using(crate::proofs::FromFile::file_steps, crate::proofs::FromFile::file_program))]
+pub fn program_of(alloc: Global, e: &Elf) -> Result<Program, Memory>
+    ensures { IfOk result (λ p. p ≡ program_of_file e.now) }
+{
+    let count = loaded(e);
+    let (entry, flags) = (elf_entry(e), elf_flags(e));
+    let mut segments = Vec::new(alloc);
+    for k in 0..count {
+        let Ok(segment) = segment_at(alloc, e, k) else {
+            return Err(Memory)
+        };
+        if segments.push(segment).is_err() {
+            return Err(Memory);
+        }
+    }
+    Ok(Program {
+        entry,
+        flags,
+        segments,
+    })
+}
+
+/// The bytes of the words, the lowest byte of each first.
+#[tactic(auto, using(crate::proofs::FromWords::byte_steps))]
+fn bytes_of_words(alloc: Global, words: &[u32]) -> Result<Vec<u8>, Memory>
+    ensures { IfOk result (λ bytes. bytes.items ≡ bytes_of_words words.now) }
+{
+    let mut bytes = Vec::new(alloc);
+    for word in words {
+        if bytes.extend_from_slice(&word.to_le_bytes()).is_err() {
+            return Err(Memory);
+        }
+    }
+    Ok(bytes)
+}
+
+/// The program of these instruction words at a base address, at which a run begins: one segment
+/// that can be read and executed.
+///
+/// The only error is want of memory.
+#[tactic(auto, using(crate::proofs::FromWords::length_bytes, crate::proofs::FromWords::words_program))]
+pub fn one_text(alloc: Global, base: u32, words: &[u32]) -> Result<Program, Memory>
+    requires aligned { base % 4 ≡ 0 }
+    requires some { 0 < length words.now }
+    requires few { length words.now ≤ 2 ^ 19 }
+    requires end { base + 4 * length words.now ≤ 2 ^ 32 }
+    ensures { IfOk result (λ p. p ≡ program_of_words base words.now) }
+{
+    let Ok(bytes) = bytes_of_words(alloc, words) else {
+        return Err(Memory)
+    };
+    let size = 4 * words.len() as u32;
+    let Ok(segments) = one(alloc, Segment::of(base, 5, size, bytes)) else {
+        return Err(Memory)
+    };
+    Ok(Program {
+        entry: base,
+        flags: 0,
+        segments,
+    })
+}
+
+/// A list of one segment.
+fn one(alloc: Global, segment: Segment) -> Result<Vec<Segment>, Memory>
+    ensures { IfOk result (λ list. list.items ≡ segment ∷ []) }
+{
+    let mut segments = Vec::new(alloc);
+    if segments.push(segment).is_err() {
+        return Err(Memory);
+    }
+    Ok(segments)
+}

@@ -1,0 +1,259 @@
+use super::*;
+use std::alloc::Global;
+use std::test::Fail;
+use swi_elf_read::read_elf;
+use swi_memory::Layout;
+
+/// Three instructions in one segment, by hand from the ELF document.
+const PLAIN: [u32; 24] = [
+    0x464C_457F,
+    0x0001_0101,
+    0,
+    0,
+    0x00F3_0002,
+    1,
+    0x0001_0000,
+    52,
+    0,
+    0,
+    0x0020_0034,
+    1,
+    0,
+    1,
+    0x54,
+    0x0001_0000,
+    0x0001_0000,
+    12,
+    12,
+    5,
+    4,
+    0x05D0_0893,
+    0x0070_0513,
+    0x0000_0073,
+];
+
+/// Headers, code and a table in one segment, data with a zeroed tail in another, and two headers of
+/// types that are read past.
+const MIXED: [u32; 65] = [
+    0x464C_457F,
+    0x0001_0101,
+    0,
+    0,
+    0x00F3_0002,
+    1,
+    0x0001_00B4,
+    52,
+    0,
+    0,
+    0x0020_0034,
+    4,
+    0,
+    0x7000_0003,
+    0,
+    0,
+    0,
+    0,
+    0,
+    4,
+    1,
+    1,
+    0,
+    0x0001_0000,
+    0x0001_0000,
+    256,
+    256,
+    5,
+    4096,
+    1,
+    256,
+    0x0001_1100,
+    0x0001_1100,
+    4,
+    64,
+    6,
+    4096,
+    0x6474_E551,
+    0,
+    0,
+    0,
+    0,
+    0,
+    6,
+    16,
+    0x0040_0313,
+    0x0001_02B7,
+    0x0062_82B3,
+    0x0F42_A283,
+    0x0002_8067,
+    0x0010_0513,
+    0x05D0_0893,
+    0x0000_0073,
+    0x0010_0513,
+    0x0001_05B7,
+    0x0FC5_8593,
+    0x0030_0613,
+    0x0400_0893,
+    0x0000_0073,
+    0x0000_0513,
+    0xFDDF_F06F,
+    0x0001_00C8,
+    0x0001_00D4,
+    0x000A_6968,
+    1,
+];
+
+fn file_of(alloc: Global, words: &[u32]) -> Result<Vec<u8>, Fail> {
+    let mut bytes = Vec::new(alloc);
+    for word in words {
+        bytes.extend_from_slice(&word.to_le_bytes())?;
+    }
+    Ok(bytes)
+}
+
+/// The program of a file of these words, which is accepted.
+fn program(alloc: Global, words: &[u32]) -> Result<Option<Program>, Fail> {
+    let bytes = file_of(alloc, words)?;
+    let Ok(e) = read_elf(&bytes[..bytes.len().min(1 << 26)]) else {
+        return Ok(None)
+    };
+    match program_of(alloc, &e) {
+        Ok(program) => Ok(Some(program)),
+        Err(_) => Ok(None),
+    }
+}
+
+/// The program of a plain file whose segment and entry are at another address.
+fn moved(alloc: Global, base: u32) -> Result<Option<Program>, Fail> {
+    let mut words = PLAIN;
+    words[6] = base;
+    words[15] = base;
+    program(alloc, &words)
+}
+
+/// Each segment as base, rights and size, and the bytes of the file that they have.
+fn segments_said(alloc: Global, p: &Program) -> Result<Vec<(u32, u32, u32, usize)>, Fail> {
+    let mut said = Vec::new(alloc);
+    for s in p.segments() {
+        said.push((s.base(), s.flags(), s.size(), s.bytes().len()))?;
+    }
+    Ok(said)
+}
+
+/// Where the text begins, and its words.
+fn text_said(alloc: Global, p: &Program) -> Result<(u32, Vec<u32>), Fail> {
+    let text = p.text();
+    let mut words = Vec::new(alloc);
+    for k in 0..text.len() {
+        words.push(text.word(k))?;
+    }
+    Ok((text.base(), words))
+}
+
+#[test]
+fn program_of_a_file_has_its_segments_and_text(rt: HostRuntime) -> Result<(), Fail> {
+    let alloc = rt.alloc();
+    let p = program(alloc, &MIXED)?.expect(&rt, "accepted");
+    assert_eq!(rt; (p.entry(), p.flags()), (0x0001_00B4, 0));
+    assert_eq!(rt;
+        segments_said(alloc, &p)?.as_slice(),
+        [(0x0001_0000, 5, 256, 256), (0x0001_1100, 6, 64, 4)].as_slice()
+    );
+    let (base, words) = text_said(alloc, &p)?;
+    assert_eq!(rt; base, 0x0001_0000);
+    assert_eq!(rt; words.as_slice(), &MIXED[..64]);
+    Ok(())
+}
+
+#[test]
+fn words_give_the_program_of_their_file(rt: HostRuntime) -> Result<(), Fail> {
+    let alloc = rt.alloc();
+    let filed = program(alloc, &PLAIN)?.expect(&rt, "accepted");
+    let made = one_text(alloc, 0x0001_0000, &[0x05D0_0893, 0x0070_0513, 0x0000_0073]).expect(
+        &rt, "memory",
+    );
+    assert_eq!(rt;
+        (made.entry(), made.flags()),
+        (filed.entry(), filed.flags())
+    );
+    assert_eq!(rt;
+        segments_said(alloc, &made)?.as_slice(),
+        segments_said(alloc, &filed)?.as_slice()
+    );
+    assert_eq!(rt;
+        text_said(alloc, &made)?.1.as_slice(),
+        [0x05D0_0893, 0x0070_0513, 0x0000_0073].as_slice()
+    );
+    assert_eq!(rt;
+        text_said(alloc, &made)?.1.as_slice(),
+        text_said(alloc, &filed)?.1.as_slice()
+    );
+    Ok(())
+}
+
+#[test]
+fn layout_leaves_room_or_says_where_it_ends(rt: HostRuntime) -> Result<(), Fail> {
+    let table = [
+        (
+            0x0001_0000,
+            1_048_576,
+            65_536,
+            Ok(Layout {
+                heap: 0x0001_000C,
+                heap_len: 1_048_576,
+                stack: 0x0011_2000,
+                stack_len: 65_536,
+                sp: 0x0012_1FC0,
+            }),
+        ),
+        (
+            0xFFFF_0000,
+            1_048_576,
+            65_536,
+            Err(Room { end: 4_296_024_064 }),
+        ),
+        (
+            0xFFFF_0000,
+            0,
+            4096,
+            Ok(Layout {
+                heap: 0xFFFF_000C,
+                heap_len: 0,
+                stack: 0xFFFF_2000,
+                stack_len: 4096,
+                sp: 0xFFFF_2FC0,
+            }),
+        ),
+        (
+            0xFFFF_0000,
+            0,
+            57_344,
+            Ok(Layout {
+                heap: 0xFFFF_000C,
+                heap_len: 0,
+                stack: 0xFFFF_2000,
+                stack_len: 57_344,
+                sp: 0xFFFF_FFC0,
+            }),
+        ),
+        (0xFFFF_0000, 0, 57_360, Err(Room { end: 0x1_0000_0010 })),
+        (0xFFFF_FFF4, 0, 4096, Err(Room { end: 0x1_0000_2000 })),
+        (
+            0x0000_0000,
+            67_108_864,
+            16_777_216,
+            Ok(Layout {
+                heap: 12,
+                heap_len: 67_108_864,
+                stack: 0x0400_2000,
+                stack_len: 16_777_216,
+                sp: 0x0500_1FC0,
+            }),
+        ),
+    ];
+    for (base, heap, stack, want) in table {
+        let p = moved(rt.alloc(), base)?.expect(&rt, "accepted");
+        assert!(rt; heap <= 67_108_864 && stack >= 4096 && stack <= 16_777_216 && stack % 16 == 0);
+        assert_eq!(rt; lay_out(&p, heap, stack), want, "{base}, {heap}, {stack}");
+    }
+    Ok(())
+}

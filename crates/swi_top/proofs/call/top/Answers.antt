@@ -1,0 +1,7 @@
+use Rattle.swi_calls.proofs.SinkLemmas.{Appends-none}
+use Rattle.swi_top.proofs.call.top.Goals as goal
+
+pub returns-in-Err-Memory-clause-writes : goal.returns-in-Err-Memory-clause-writes
+returns-in-Err-Memory-clause-writes g c request file left means told known =
+    let line = c.refuse-in-Err-Memory.ensures.prefix in
+    ((0, Appends-none (g.O.Sink.held c.args.out.now)), (0, line.0, rw c.refuse-in-Err-Memory.ensures.same line.1))

@@ -1,0 +1,144 @@
+//! The top call.
+#![tactic(auto)]
+
+ghost use Rattle.std.specs.Prelude.{◌≡◌, ◌⊎◌, ◌≤◌, ℕ, List, Some, None, IfOk, IfErr, IsErrOf, length, map, string_bytes};
+ghost use Rattle.std.specs.Io.KnownBytes.{Appends};
+ghost use Rattle.swi_outside.specs.Causes.{HasCause, Rose};
+ghost use Rattle.swi_outside.specs.Shelf.{Same, get_of};
+ghost use Rattle.swi_outside.specs.Sink.{AppendsPrefix, WritesPiece};
+ghost use Rattle.swi_command.specs.CommandLine.{HasLimitsInRange, Request, command_of, request_of};
+ghost use Rattle.swi_top.specs.Answer.{IsAsked, IsChecked, IsEarly, IsTold, IsUntouched, UsesRam, Writes, ending_of, name_of, options_of, request_refusal, run_error, run_of, run_output};
+ghost use Rattle.swi_top.specs.Causes.{HasCauses};
+ghost use Rattle.swi_top.specs.Texts.{ending_line, refusal_line};
+
+use crate::commands::perform;
+use crate::texts::{line_of_ending, line_of_refusal};
+use crate::{Ending, Refusal};
+use std::alloc::Global;
+use swi_command::{Command, CommandError, parse_command};
+use swi_outside::{CacheRam, Failed, Shelf, Sink, Source};
+
+/// Writes the line of an ending, where it has one.
+fn write_ending<E: Sink>(ending: &Ending, err: &mut E) -> Result<(), Failed>
+    ensures bytes { WritesPiece (E.held err.old) (E.held err.new) result (ending_line ending.now) }
+    ensures cause { HasCause (E.faults err.old) (E.faults err.new) result }
+{
+    let line = line_of_ending(ending);
+    if line.as_bytes().is_empty() {
+        return Ok(());
+    }
+    err.write(line.as_bytes())
+}
+
+/// Writes the line of a refusal, and hands the refusal on. Where the write fails, the refusal stays the answer.
+fn refuse<E: Sink>(refusal: Refusal, err: &mut E) -> Refusal
+    ensures same { result ≡ refusal }
+    ensures prefix { AppendsPrefix (E.held err.old) (E.held err.new) (refusal_line refusal) }
+    ensures whole { (Rose (E.faults err.old) (E.faults err.new) → ⊥) → Appends (E.held err.old) (E.held err.new) (refusal_line refusal) }
+    ensures later { E.faults err.old ≤ E.faults err.new }
+{
+    let _ = err.write(line_of_refusal(&refusal).as_bytes());
+    refusal
+}
+
+/// Does what a command asks for, and writes its last line.
+fn run_command<F: Shelf, I: Source, O: Sink, E: Sink, R: CacheRam>(
+    alloc: Global,
+    command: &Command,
+    shelf: &mut F,
+    input: &mut I,
+    out: &mut O,
+    err: &mut E,
+    ram: &mut R,
+) -> Result<Ending, Refusal>
+    requires limits { HasLimitsInRange command.now }
+    requires ram { 8 ≤ length (R.state ram.old).words }
+    ensures asked { IfErr result IsAsked }
+    ensures checked { (file : List ℕ) → IsTold (F.contents shelf.old) (name_of (request_of command.now)) file →
+        IsChecked (request_refusal (request_of command.now) file) result }
+    ensures ending { IfOk result (λ e. (file : List ℕ) (left : List ℕ) → IsTold (F.contents shelf.old) (name_of (request_of command.now)) file →
+        I.left input.old ≡ Some left → e ≡ ending_of (run_of (options_of (request_of command.now)) file left)) }
+    ensures writes { (file : List ℕ) (left : List ℕ) → IsTold (F.contents shelf.old) (name_of (request_of command.now)) file → I.left input.old ≡ Some left →
+        Writes result (run_output (options_of (request_of command.now)) (run_of (options_of (request_of command.now)) file left))
+        (run_error (run_of (options_of (request_of command.now)) file left)) (O.held out.old) (O.held out.new) (E.held err.old) (E.held err.new) }
+    ensures early { IfErr result (λ r. IsEarly r →
+        IsUntouched (I.left input.old) (I.left input.new) (O.held out.old) (O.held out.new) (R.state ram.old) (R.state ram.new)) }
+    ensures line_prefix { IfErr result (λ r. IsEarly r → AppendsPrefix (E.held err.old) (E.held err.new) (refusal_line r)) }
+    ensures line { IfErr result (λ r. IsEarly r → (Rose (E.faults err.old) (E.faults err.new) → ⊥) →
+        Appends (E.held err.old) (E.held err.new) (refusal_line r)) }
+    ensures ram { UsesRam (request_of command.now) (R.state ram.old) (R.state ram.new) result }
+    ensures contents { Same (F.contents shelf.old) (F.contents shelf.new) }
+    ensures last_failed { IsErrOf result Refusal.ShelfFault → F.last_failed shelf.new ≡ Some (get_of (name_of (request_of command.now))) }
+    ensures causes { HasCauses
+        (record { shelf = F.faults shelf.old; input = I.faults input.old; out = O.faults out.old; err = E.faults err.old; ram = (R.state ram.old).faults })
+        (record { shelf = F.faults shelf.new; input = I.faults input.new; out = O.faults out.new; err = E.faults err.new; ram = (R.state ram.new).faults }) result }
+{
+    match perform(alloc, command, shelf, input, out, err, ram) {
+        Ok(ending) => match write_ending(&ending, err) {
+            Ok(()) => Ok(ending),
+            Err(_) => Err(refuse(Refusal::SinkFault, err)),
+        },
+        Err(refusal) => Err(refuse(refusal, err)),
+    }
+}
+
+/// Does what the words after the program's name ask for, over the devices that are handed in, and answers how it ended.
+///
+/// `plain FILE` runs the file's program on the flat machine, and `cached FILE` on the cached one, as far as that is built:
+/// through the first eight words of `ram`. What the guest writes goes to `out` and `err`; with `--state` the state after the run
+/// goes to `out`, and with `--calls` a line for each system call to `err`. The line of an ending or of a refusal goes to `err` last.
+///
+/// The refusals come in this order: `Usage` where the words are no command; `ShelfFault` where the file can't be read; `FileLong`,
+/// `Elf` and `Room` where the file isn't accepted; `NotBuilt` on the cached machine; a fault of the device that failed. `Memory`
+/// comes where there was no memory, which is all taken before the first step. A refusal before the run changes nothing but `err`
+/// and the shelf's count of faults. After a fault each sink holds a prefix of what the run writes, and on `err` the refusal's line
+/// or a prefix of it follows.
+pub fn top<F: Shelf, I: Source, O: Sink, E: Sink, R: CacheRam>(
+    alloc: Global,
+    words: &[String],
+    shelf: &mut F,
+    input: &mut I,
+    out: &mut O,
+    err: &mut E,
+    ram: &mut R,
+) -> Result<Ending, Refusal>
+    requires ram { 8 ≤ length (R.state ram.old).words }
+
+    // Usage comes exactly where the words mean no command, but for want of memory.
+    ensures usage { IsErrOf result Refusal.Usage → command_of (map (λ w. string_bytes w) words.now) ≡ None }
+    ensures no_command { command_of (map (λ w. string_bytes w) words.now) ≡ None → IsErrOf result Refusal.Usage ⊎ IsErrOf result Refusal.Memory }
+
+    // A command ends only where its file passes every check, and is refused by the first that fails.
+    ensures checked { (request : Request) (file : List ℕ) → command_of (map (λ w. string_bytes w) words.now) ≡ Some request →
+        IsTold (F.contents shelf.old) (name_of request) file → IsChecked (request_refusal request file) result }
+
+    // It ends as the flat machine's run of the file does, and writes what that run writes.
+    ensures ending { IfOk result (λ e. (request : Request) (file : List ℕ) (left : List ℕ) → command_of (map (λ w. string_bytes w) words.now) ≡ Some request →
+        IsTold (F.contents shelf.old) (name_of request) file → I.left input.old ≡ Some left → e ≡ ending_of (run_of (options_of request) file left)) }
+    ensures writes { (request : Request) (file : List ℕ) (left : List ℕ) → command_of (map (λ w. string_bytes w) words.now) ≡ Some request →
+        IsTold (F.contents shelf.old) (name_of request) file → I.left input.old ≡ Some left →
+        Writes result (run_output (options_of request) (run_of (options_of request) file left)) (run_error (run_of (options_of request) file left))
+        (O.held out.old) (O.held out.new) (E.held err.old) (E.held err.new) }
+
+    // A refusal before the run.
+    ensures early { IfErr result (λ r. IsEarly r →
+        IsUntouched (I.left input.old) (I.left input.new) (O.held out.old) (O.held out.new) (R.state ram.old) (R.state ram.new)) }
+    ensures line_prefix { IfErr result (λ r. IsEarly r → AppendsPrefix (E.held err.old) (E.held err.new) (refusal_line r)) }
+    ensures line { IfErr result (λ r. IsEarly r → (Rose (E.faults err.old) (E.faults err.new) → ⊥) →
+        Appends (E.held err.old) (E.held err.new) (refusal_line r)) }
+
+    ensures ram { (request : Request) → command_of (map (λ w. string_bytes w) words.now) ≡ Some request →
+        UsesRam request (R.state ram.old) (R.state ram.new) result }
+    ensures contents { Same (F.contents shelf.old) (F.contents shelf.new) }
+    ensures last_failed { (request : Request) → command_of (map (λ w. string_bytes w) words.now) ≡ Some request →
+        IsErrOf result Refusal.ShelfFault → F.last_failed shelf.new ≡ Some (get_of (name_of request)) }
+    ensures causes { HasCauses
+        (record { shelf = F.faults shelf.old; input = I.faults input.old; out = O.faults out.old; err = E.faults err.old; ram = (R.state ram.old).faults })
+        (record { shelf = F.faults shelf.new; input = I.faults input.new; out = O.faults out.new; err = E.faults err.new; ram = (R.state ram.new).faults }) result }
+{
+    match parse_command(alloc, words) {
+        Ok(command) => run_command(alloc, &command, shelf, input, out, err, ram),
+        Err(CommandError::Usage) => Err(refuse(Refusal::Usage, err)),
+        Err(CommandError::Memory) => Err(refuse(Refusal::Memory, err)),
+    }
+}

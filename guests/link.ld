@@ -1,0 +1,44 @@
+/* Two segments: text and constants (read, execute), and data (read, write).
+   The heap begins where the data segment ends, so that end is a multiple of 16. */
+OUTPUT_ARCH(riscv)
+ENTRY(_start)
+
+PHDRS
+{
+  text PT_LOAD FLAGS(5);
+  data PT_LOAD FLAGS(6);
+}
+
+SECTIONS
+{
+  . = 0x10000;
+  .text :
+  {
+    *(.text.start)
+    *(.text .text.*)
+    *(.rodata .rodata.* .srodata .srodata.*)
+    . = ALIGN(4);
+  } :text
+
+  . = ALIGN(4096);
+  .data :
+  {
+    *(.data .data.*)
+    __global_pointer$ = . + 0x800;
+    *(.sdata .sdata.*)
+    . = ALIGN(16);
+  } :data
+
+  /* Thread-local data: one thread, so one block, which tp points to. */
+  .tdata : { __tls_base = .; *(.tdata .tdata.*) } :data
+  .tbss (NOLOAD) : { *(.tbss .tbss.*) } :data
+  .bss (NOLOAD) :
+  {
+    . = . + SIZEOF(.tbss);
+    *(.sbss .sbss.*)
+    *(.bss .bss.* COMMON)
+    . = ALIGN(16);
+  } :data
+
+  /DISCARD/ : { *(.comment) *(.note .note.*) *(.eh_frame .eh_frame_hdr) *(.riscv.attributes) }
+}
