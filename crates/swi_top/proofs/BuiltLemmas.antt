@@ -1,5 +1,5 @@
 -- What the cached machine doesn't build, and the endings of what it runs.
-use Rattle.std.proofs.Common.{◌≡◌, ◌*◌, ℕ, Bool, false, List, [], Option, Some, None, Ok, refl, sym, ap, ◌∙◌}
+use Rattle.std.proofs.Common.{◌≡◌, ◌*◌, ℕ, Bool, false, List, [], Option, Some, None, Ok, refl}
 use Rattle.swi_memory.specs.declared.layout.Layout.{Layout}
 use Rattle.swi_outside.specs.CacheRam.{RamState}
 use Rattle.swi_program.specs.Program.{ProgramData}
@@ -10,7 +10,7 @@ use Rattle.swi_calls.specs.Flat.{flat_start}
 use Rattle.swi_board.specs.First.{FirstData, RoseWithin, not_built_text, foreign_call, ran_to}
 use Rattle.swi_top.specs.declared.answer.Ending.{Ending}
 use Rattle.swi_top.specs.declared.answer.Refusal.TheVariants as refusal
-use Rattle.swi_top.specs.Answer.{Fetches, built_refusal, ending_of, ending_by}
+use Rattle.swi_top.specs.Answer.{Fetches, built_refusal, ending_of}
 
 pub built_none : (has_image : Bool) (o : RunOptions) (p : ProgramData) (l : Layout) (base : ℕ) (words : List ℕ) → has_image ≡ false →
     base ≡ (text_of p.segments).base → words ≡ (text_of p.segments).words → not_built_text base words ≡ None →

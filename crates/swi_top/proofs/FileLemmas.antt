@@ -4,7 +4,7 @@ use Rattle.std.proofs.lemmas.Bool.Decides.{nat_tests}
 use Rattle.swi_outside.specs.Shelf.{Contents, IsLonger}
 use Rattle.swi_command.specs.declared.RunOptions.{RunOptions}
 use Rattle.swi_top.specs.declared.answer.Refusal.TheVariants as refusal
-use Rattle.swi_top.specs.Answer.{IsTold, file_refusal, file_limit}
+use Rattle.swi_top.specs.Answer.{IsTold, file_refusal}
 
 -- what stands there is longer
 longer : (contents : Option Contents) (name file : List ℕ) (limit : ℕ) → IsTold contents name file → IsLonger contents name limit → limit < length file

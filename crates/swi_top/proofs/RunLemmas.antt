@@ -1,5 +1,5 @@
 -- A run of the flat machine from its start.
-use Rattle.std.proofs.Common.{◌≡◌, ℕ, ◌-◌, List, Ok, refl, sym, ap, arith}
+use Rattle.std.proofs.Common.{◌≡◌, ℕ, ◌-◌, List, refl, arith}
 use Rattle.swi_calls.specs.State.{Machine}
 use Rattle.swi_calls.specs.Flat.{flat_run, flat_start, started}
 use Rattle.swi_flat.specs.FlatData.{FlatData, sound}

@@ -1,10 +1,9 @@
 -- A program's machine stands at its start over the program's text.
-use Rattle.std.proofs.Common.{◌≡◌, ◌==◌, ◌&&◌, ℕ, ◌+◌, ◌-◌, ◌*◌, ◌/◌, ◌%◌, ◌<◌, ◌≤◌, ◌^◌, Bool, true, false, nat_le, List, [], ◌∷◌, length, slice_index, Option, Some, None, arith, refl, sym, ap, ◌∙◌, if◌then◌else◌}
+use Rattle.std.proofs.Common.{◌≡◌, ◌==◌, ◌&&◌, ℕ, ◌+◌, ◌-◌, ◌*◌, ◌/◌, ◌%◌, ◌<◌, ◌≤◌, ◌^◌, Bool, true, nat_le, List, [], ◌∷◌, length, slice_index, Some, arith, refl, sym, ◌∙◌}
 use Rattle.std.proofs.lemmas.Bool.Decides.{nat_tests}
 use Rattle.swi_memory.specs.declared.layout.Layout.{Layout}
 use Rattle.swi_memory.specs.Segment.{SegmentData}
-use Rattle.swi_memory.specs.Bus.{fetched}
-use Rattle.swi_memory.specs.BusOf.{bus_of, texts, word_in}
+use Rattle.swi_memory.specs.BusOf.{texts, word_in}
 use Rattle.swi_memory.specs.Gather.{AreWhole}
 use Rattle.swi_memory.proofs.Gathered.{bus_in_order}
 use Rattle.swi_memory.proofs.StartText.{start_text}

@@ -1,6 +1,6 @@
 -- What a command answers and writes, for its words, its file and the input. Own rule.
-use Rattle.std.specs.Prelude.{◌≡◌, ◌⊎◌, ◌*◌, ◌≤◌, ◌^◌, ℕ, Bool, nat_lt, List, [], ◌++◌, length, take, Option, Some, None, Result, Ok, Err, ⊤, is_some, if◌then◌else◌}
-use Rattle.std.specs.Io.KnownBytes.{Appends, Keeps}
+use Rattle.std.specs.Prelude.{◌≡◌, ◌*◌, ◌^◌, ℕ, Bool, nat_lt, List, [], ◌++◌, length, take, Option, Some, None, Result, Ok, Err, ⊤, if◌then◌else◌}
+use Rattle.std.specs.Io.KnownBytes.{Appends}
 use Rattle.swi_outside.specs.Sink.{AppendsPrefix}
 use Rattle.swi_outside.specs.CacheRam.{RamState}
 use Rattle.swi_outside.specs.Shelf.{Contents}

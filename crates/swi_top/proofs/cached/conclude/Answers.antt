@@ -1,6 +1,4 @@
 use Rattle.std.proofs.Common.{◌≡◌, true, false, is_err, sym, refl, ◌∙◌}
-use Rattle.std.specs.Io.KnownBytes.{Appends}
-use Rattle.swi_outside.specs.Sink.{AppendsPrefix, WritesPiece}
 use Rattle.swi_calls.specs.Flat.{machine_of}
 use Rattle.swi_calls.proofs.SinkLemmas.{prefix_whole, write_failed, write_done}
 use Rattle.swi_board.specs.First.{ran_to}

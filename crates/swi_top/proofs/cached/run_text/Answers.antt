@@ -1,4 +1,4 @@
-use Rattle.std.proofs.Common.{◌≡◌, [], ap, sym, refl, ◌∙◌, inl, inr, rules}
+use Rattle.std.proofs.Common.{◌≡◌, [], ap, ◌∙◌, inl, inr, rules}
 use Rattle.swi_program.specs.Text.{TextData, text_of}
 use Rattle.swi_calls.specs.Flat.{machine_of}
 use Rattle.swi_top.proofs.StartLemmas.{starts_at}

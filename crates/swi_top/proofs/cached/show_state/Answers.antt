@@ -1,4 +1,4 @@
-use Rattle.std.proofs.Common.{◌≡◌, ap, sym, ◌∙◌, rules}
+use Rattle.std.proofs.Common.{◌≡◌, ap, sym, ◌∙◌}
 use Rattle.swi_outside.specs.Sink.{WritesPiece}
 use Rattle.swi_top.specs.Texts.{state_text}
 use Rattle.swi_top.proofs.TextLemmas.{state_text-words}

@@ -1,4 +1,4 @@
-use Rattle.std.proofs.Common.{◌≡◌, ap, ◌∙◌, Err, rules}
+use Rattle.std.proofs.Common.{ap, ◌∙◌, Err}
 use Rattle.swi_top.proofs.RunLemmas.{prepared_run}
 use Rattle.swi_top.proofs.commands.cached.Goals as goal
 

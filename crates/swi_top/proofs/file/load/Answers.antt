@@ -1,5 +1,4 @@
-use Rattle.std.proofs.Common.{◌≡◌, ◌⊎◌, inl, inr, Some}
-use Rattle.swi_top.specs.Answer.{file_refusal}
+use Rattle.std.proofs.Common.{inl, inr}
 use Rattle.swi_top.proofs.FileLemmas.{long_refused}
 use Rattle.swi_top.proofs.file.load.Goals as goal
 

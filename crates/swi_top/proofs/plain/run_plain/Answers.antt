@@ -1,11 +1,11 @@
-use Rattle.std.proofs.Common.{◌≡◌, ◌-◌, true, false, is_err, ap, sym, refl, ◌∙◌, rules}
+use Rattle.std.proofs.Common.{◌≡◌, true, false, is_err, ap, sym, refl, ◌∙◌}
 use Rattle.std.specs.Io.KnownBytes.{Appends}
 use Rattle.swi_outside.specs.Sink.{AppendsPrefix}
 use Rattle.swi_calls.specs.State.{Machine, FlatState}
-use Rattle.swi_calls.specs.Flat.{flat_run, flat_start, started, machine_of}
+use Rattle.swi_calls.specs.Flat.{flat_run, flat_start, machine_of}
 use Rattle.swi_calls.proofs.SinkLemmas.{Appends-append, prefix_first, prefix_last, prefix_whole, write_failed, write_done}
 use Rattle.swi_flat.specs.FlatData.{FlatData}
-use Rattle.swi_top.specs.Answer.{ending_by, state_shown, run_output}
+use Rattle.swi_top.specs.Answer.{ending_by, state_shown}
 use Rattle.swi_top.proofs.RunLemmas.{run_from_start}
 use Rattle.swi_top.proofs.plain.run_plain.Goals as goal
 
