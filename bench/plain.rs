@@ -3,7 +3,8 @@
 //!
 //! Usage: plain FILE runs the ELF file as `swic plain FILE` does, and ends with the guest's status.
 
-use std::{env, fs, process};
+use std::io::{Read, Write};
+use std::{env, fs, io, process};
 
 #[derive(Clone, Copy)]
 struct Reg {
@@ -386,19 +387,31 @@ impl Bus {
         Ok(())
     }
 
+    /// Whether each of n bytes lies in a bank with the right.
     #[inline(never)]
-    fn writable(&self, a: u32, n: u32) -> bool {
+    fn permits(&self, a: u32, n: u32, right: u32) -> bool {
         (0..n).all(|j| {
             a.checked_add(j)
                 .and_then(|at| self.find(at))
-                .is_some_and(|i| self.banks[i].flags & 2 != 0)
+                .is_some_and(|i| self.banks[i].flags & right != 0)
         })
+    }
+
+    /// The longest front of n bytes that lies in one bank.
+    fn front(&mut self, a: u32, n: u32) -> &mut [u8] {
+        let Some(i) = self.find(a) else {
+            return &mut [];
+        };
+        let bank = &mut self.banks[i];
+        let at = (a - bank.base) as usize;
+        let len = (bank.bytes.len() - at).min(n as usize);
+        &mut bank.bytes[at..at + len]
     }
 
     #[cold]
     #[inline(never)]
     fn store_across(&mut self, a: u32, k: u8, v: u32) -> Result<(), Access> {
-        if !self.writable(a, u32::from(k)) {
+        if !self.permits(a, u32::from(k), 2) {
             return Err(Access);
         }
         for j in 0..u32::from(k) {
@@ -598,7 +611,7 @@ fn atomic(op: AtomicOp, rd: Reg, a: u32, v: u32, regs: &mut Regs, bus: &mut Bus)
             regs.reserved = Some(a);
         }
         AtomicOp::ScW => {
-            if a % 4 != 0 || !bus.writable(a, 4) {
+            if a % 4 != 0 || !bus.permits(a, 4, 2) {
                 return Err(FaultKind::StoreAccess);
             }
             let failed = regs.reserved != Some(a);
@@ -701,10 +714,17 @@ enum End {
     Faulted(FaultKind, u32),
 }
 
+struct Heap {
+    base: u32,
+    limit: u32,
+    now: u32,
+}
+
 struct Flat {
     pc: u32,
     regs: Regs,
     bus: Bus,
+    heap: Heap,
     steps: u64,
     ending: Option<End>,
 }
@@ -734,17 +754,58 @@ impl Flat {
         self.ending = Some(end);
     }
 
-    /// The benchmark's guest makes one call, its exit.
     #[inline(never)]
     fn call(&mut self) {
-        match self.regs.get(Reg::of(17)) {
-            93 | 94 => self.end(End::Exited(self.regs.get(Reg::of(10)))),
-            _ => {
-                self.regs.set(Reg::of(10), 38u32.wrapping_neg());
-                self.pc = self.pc.wrapping_add(4);
-                self.steps += 1;
+        let [first, second, third, number] = [10, 11, 12, 17].map(|k| self.regs.get(Reg::of(k)));
+        let answer = match number {
+            63 => self.read(first, second, third),
+            64 => self.write(first, second, third),
+            93 | 94 => return self.end(End::Exited(first)),
+            214 => {
+                if (self.heap.base..=self.heap.limit).contains(&first) {
+                    self.heap.now = first;
+                }
+                self.heap.now
+            }
+            _ => 38u32.wrapping_neg(),
+        };
+        self.regs.set(Reg::of(10), answer);
+        self.pc = self.pc.wrapping_add(4);
+        self.steps += 1;
+    }
+
+    fn read(&mut self, descriptor: u32, buffer: u32, count: u32) -> u32 {
+        if descriptor != 0 {
+            return 9u32.wrapping_neg();
+        }
+        if !self.bus.permits(buffer, count, 2) {
+            return 14u32.wrapping_neg();
+        }
+        let mut done = 0;
+        while done < count {
+            match io::stdin().read(self.bus.front(buffer + done, count - done)).expect("input that can be read") {
+                0 => break,
+                got => done += got as u32,
             }
         }
+        done
+    }
+
+    fn write(&mut self, descriptor: u32, buffer: u32, count: u32) -> u32 {
+        if descriptor != 1 && descriptor != 2 {
+            return 9u32.wrapping_neg();
+        }
+        if !self.bus.permits(buffer, count, 4) {
+            return 14u32.wrapping_neg();
+        }
+        let mut done = 0;
+        while done < count {
+            let bytes = self.bus.front(buffer + done, count - done);
+            done += bytes.len() as u32;
+            let written = if descriptor == 1 { io::stdout().write_all(bytes) } else { io::stderr().write_all(bytes) };
+            written.expect("a stream that can be written");
+        }
+        count
     }
 
     fn run(&mut self, limit: u64) {
@@ -790,7 +851,8 @@ fn machine_of(file: &[u8]) -> Flat {
         .unwrap_or(Text { bank: 0, from: 0, len: 0 });
     let mut regs = Regs::new();
     regs.set(Reg::of(2), (stack + (1 << 16) - 64) / 16 * 16);
-    Flat { pc: word_at(file, 24), regs, bus: Bus { banks, text }, steps: 0, ending: None }
+    let heap = Heap { base: heap, limit: heap + (1 << 20), now: heap };
+    Flat { pc: word_at(file, 24), regs, bus: Bus { banks, text }, heap, steps: 0, ending: None }
 }
 
 fn main() {
@@ -798,10 +860,7 @@ fn main() {
     let mut flat = machine_of(&fs::read(path).expect("a file that can be read"));
     flat.run(1_000_000_000);
     match flat.ending {
-        Some(End::Exited(code)) => {
-            eprintln!("exited: {code}, {} steps", flat.steps);
-            process::exit((code & 255) as i32);
-        }
+        Some(End::Exited(code)) => process::exit((code & 255) as i32),
         Some(End::Faulted(kind, a)) => {
             eprintln!("faulted: {kind:?} at {a:08x}, pc {:08x}, {} steps", flat.pc, flat.steps);
             process::exit(241);
