@@ -65,13 +65,13 @@ struct Row {
     status: u8,
 }
 
-/// Whether the row's command answers and writes what the row says.
-fn holds(alloc: Global, row: &Row) -> Result<bool, Fail> {
+/// Whether the row's command, with this file under the name `A`, answers and writes what the row says.
+fn holds_with(alloc: Global, row: &Row, file: Vec<u8>) -> Result<bool, Fail> {
     let mut words = Vec::new(alloc);
     for word in row.words.split_whitespace() {
         words.push(String::from_str(alloc, word)?)?;
     }
-    let mut shelf = shelf_of(alloc, file_of(alloc, row.text, row.rights)?)?;
+    let mut shelf = shelf_of(alloc, file)?;
     let input = Vec::from_slice(alloc, row.input.as_bytes())?;
     let mut input = MemSource::new(input, Vec::new(alloc));
     let mut out = MemSink::new(alloc, 4096, Vec::new(alloc))?;
@@ -82,6 +82,11 @@ fn holds(alloc: Global, row: &Row) -> Result<bool, Fail> {
     );
     let same = answer == row.answer && status_of(&answer) == row.status;
     Ok(same && out.held() == row.out.as_bytes() && err.held() == row.err.as_bytes())
+}
+
+/// Whether the row's command answers and writes what the row says.
+fn holds(alloc: Global, row: &Row) -> Result<bool, Fail> {
+    holds_with(alloc, row, file_of(alloc, row.text, row.rights)?)
 }
 
 /// Words with known answers: worked by hand from the specification of the instructions and of this program's texts.
@@ -436,6 +441,91 @@ static ROWS: [Row; 27] = [
 fn commands_answer_and_write(rt: HostRuntime) -> Result<(), Fail> {
     for row in ROWS.iter() {
         assert!(rt; holds(rt.alloc(), row)?, "at {}", row.words);
+    }
+    Ok(())
+}
+
+/// Files of 2^26 and of 2^26 + 1 bytes, all of them 0: only the longer one is refused for its length.
+static LONG_ROWS: [(bool, Row); 2] = [
+    (
+        false,
+        Row {
+            words: "plain A",
+            text: &[],
+            rights: 0,
+            input: "",
+            failing: &[],
+            answer: Err(Refusal::Elf(ElfRefusal::Magic(0))),
+            out: "",
+            err: "elf 2 Magic 0\n",
+            status: 243,
+        },
+    ),
+    (
+        true,
+        Row {
+            words: "plain A",
+            text: &[],
+            rights: 0,
+            input: "",
+            failing: &[],
+            answer: Err(Refusal::FileLong { limit: 67_108_864 }),
+            out: "",
+            err: "file too long\n",
+            status: 248,
+        },
+    ),
+];
+
+#[test]
+fn a_file_may_have_two_to_the_26_bytes(rt: HostRuntime) -> Result<(), Fail> {
+    for (is_longer, row) in LONG_ROWS.iter() {
+        let mut file = [0u8; 65_536].as_slice().repeat(rt.alloc(), 1024)?;
+        if *is_longer {
+            file.push(0)?;
+        }
+        assert!(rt; holds_with(rt.alloc(), row, file)?, "at {}", *is_longer);
+    }
+    Ok(())
+}
+
+/// A file of the first row's text at 0xFFFF0000: the stack's place decides whether it has room.
+static HIGH_ROWS: [Row; 2] = [
+    Row {
+        words: "plain A",
+        text: &[0x05D0_0893, 0x0070_0513, 0x0000_0073],
+        rights: 5,
+        input: "",
+        failing: &[],
+        answer: Err(Refusal::Room { end: 4_296_024_064 }),
+        out: "",
+        err: "elf 19 Room 4296024064\n",
+        status: 243,
+    },
+    Row {
+        words: "plain A --heap 0 --stack 4096",
+        text: &[0x05D0_0893, 0x0070_0513, 0x0000_0073],
+        rights: 5,
+        input: "",
+        failing: &[],
+        answer: Ok(Ending::Exited(7, 3)),
+        out: "",
+        err: "",
+        status: 7,
+    },
+];
+
+#[test]
+fn a_text_at_the_top_has_room_for_a_small_stack(rt: HostRuntime) -> Result<(), Fail> {
+    for row in HIGH_ROWS.iter() {
+        let mut file = file_of(rt.alloc(), row.text, row.rights)?;
+        // The upper halves of e_entry and p_vaddr.
+        for at in [26usize, 27, 62, 63] {
+            if at < file.len() {
+                file[at] = 0xFF;
+            }
+        }
+        assert!(rt; holds_with(rt.alloc(), row, file)?, "at {}", row.words);
     }
     Ok(())
 }
