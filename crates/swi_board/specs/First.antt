@@ -11,8 +11,8 @@ use Rattle.swi_isa.specs.Decode.{decoded}
 use Rattle.swi_memory.specs.Bus.{fetched}
 use Rattle.swi_exec.specs.Arithmetic.{sum_of}
 use Rattle.swi_exec.specs.Registers.{Registers, with_reg, new_regs}
-use Rattle.swi_outside.specs.Causes.{Rose}
-use Rattle.swi_outside.specs.CacheRam.{RamState, risen}
+use Rattle.swi_outside.specs.Causes.{Rose, risen}
+use Rattle.swi_outside.specs.CacheRam.{RamState}
 use Rattle.swi_calls.specs.declared.end.End.{End}
 use Rattle.swi_calls.specs.declared.end.End.TheVariants.{Exited}
 use Rattle.swi_calls.specs.Call.{number_of, told}

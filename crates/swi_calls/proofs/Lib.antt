@@ -1,4 +1,3 @@
 pub mod BusLemmas
 pub mod CallLemmas
 pub mod MovesLemmas
-pub mod SinkLemmas

@@ -6,7 +6,7 @@ use Rattle.swi_outside.specs.Sink.{AppendsPrefix}
 use Rattle.swi_calls.specs.State.{Machine, FlatState}
 use Rattle.swi_calls.specs.Flat.{Made, made, flat_step, flat_run, started}
 use Rattle.swi_flat.specs.FlatData.{FlatData, sound}
-use Rattle.swi_calls.proofs.SinkLemmas.{Appends-none, Appends-append, prefix_behind}
+use Rattle.swi_outside.proofs.SinkLemmas.{Appends-none, Appends-append, prefix_behind}
 
 flat_run_none : (s : FlatState) → flat_run 0 s ≡ s
 unfolding flat_run

@@ -1,6 +1,6 @@
 -- A cache ram: its words, and what was done to it. Own rule.
-use Rattle.std.specs.Prelude.{◌≡◌, ◌⊎◌, ℕ, ◌+◌, ◌-◌, ◌^◌, ◌≤◌, min, max, List, slice_index, slice_set, Result, Ok, Err}
-use Rattle.swi_outside.specs.Causes.{Rose}
+use Rattle.std.specs.Prelude.{◌≡◌, ◌⊎◌, ℕ, ◌+◌, ◌≤◌, max, List, slice_index, slice_set, Result, Ok, Err}
+use Rattle.swi_outside.specs.Causes.{Rose, counted}
 
 pub record RamState : Type 0 where
   -- the words, from index 0
@@ -14,14 +14,6 @@ pub record RamState : Type 0 where
   pub reach : ℕ
   -- the index of the last fetch that answered `Ok`, 0 before the first
   pub last : ℕ
-
--- a count after so many more: it stands still at 2^64 - 1
-abbrev pub risen : ℕ → ℕ → ℕ
-risen n more = max n (min (n + more) (2 ^ 64 - 1))
-
--- a count after one more
-abbrev pub counted : ℕ → ℕ
-counted n = risen n 1
 
 -- A fetch of word i, by its answer: no fetch changes a word.
 abbrev pub Fetched : {E : Type 0} → RamState → ℕ → Result ℕ E → RamState → Type 0

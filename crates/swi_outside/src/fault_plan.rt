@@ -1,6 +1,5 @@
 ghost use Rattle.std.specs.Prelude.{◌≡◌, Contains, IsErr, IsTrue, [], ◌↔◌};
-ghost use Rattle.swi_outside.specs.CacheRam.{counted};
-ghost use Rattle.swi_outside.specs.Causes.{HasCause, Rose};
+ghost use Rattle.swi_outside.specs.Causes.{HasCause, Rose, counted};
 
 use crate::Failed;
 

@@ -1,5 +1,6 @@
 ghost use Rattle.std.specs.Prelude.{◌≡◌, ◌<◌, ◌↔◌, length, slice_index, replicate, IfOk, IsErr, OnErr, Contains};
-ghost use Rattle.swi_outside.specs.CacheRam.{Fetched, WordSet, counted, new_ram};
+ghost use Rattle.swi_outside.specs.CacheRam.{Fetched, WordSet, new_ram};
+ghost use Rattle.swi_outside.specs.Causes.{counted};
 
 use crate::fault_plan::FaultPlan;
 use crate::{CacheRam, Failed, Memory};

@@ -1,6 +1,6 @@
 ghost use Rattle.std.specs.Prelude.{◌≡◌, ◌≤◌, ◌<◌, ◌⊎◌, ℕ, length, Option, None, Some, IfOk, IsTrue, OnOk, OnErr, Contains, MatchOption, map, position, string_bytes};
 ghost use Rattle.std.specs.Str.{bytes_eq};
-ghost use Rattle.swi_outside.specs.CacheRam.{counted};
+ghost use Rattle.swi_outside.specs.Causes.{counted};
 ghost use Rattle.swi_outside.specs.Shelf.{get_of, put_of, Same, SameElsewhere, Stands, IsLonger, ShelfCause, lookup, names_differ, entry_of, asked_last};
 
 use crate::fault_plan::FaultPlan;

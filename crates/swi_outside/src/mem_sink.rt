@@ -1,6 +1,5 @@
 ghost use Rattle.std.specs.Prelude.{◌≡◌, ◌+◌, ◌-◌, ◌<◌, ◌≤◌, ◌⊎◌, ◌↔◌, ◌++◌, [], length, min, take, IfOk, IsErr, Contains, Some};
-ghost use Rattle.swi_outside.specs.CacheRam.{counted};
-ghost use Rattle.swi_outside.specs.Causes.{HasCause};
+ghost use Rattle.swi_outside.specs.Causes.{HasCause, counted};
 ghost use Rattle.swi_outside.specs.Sink.{WritesPiece};
 
 use crate::fault_plan::FaultPlan;

@@ -1,5 +1,5 @@
 use Rattle.std.proofs.Common.{◌≡◌, true, false, is_err, sym, ◌∙◌, rules}
-use Rattle.swi_calls.proofs.SinkLemmas.{write_failed, write_done}
+use Rattle.swi_outside.proofs.SinkLemmas.{write_failed, write_done}
 use Rattle.swi_calls.proofs.MovesLemmas.{written_more, written_part}
 use Rattle.swi_calls.proofs.moves.write_from.Goals as goal
 

@@ -3,7 +3,7 @@ use Rattle.std.specs.Io.KnownBytes.{Appends}
 use Rattle.swi_outside.specs.Sink.{AppendsPrefix}
 use Rattle.swi_calls.specs.Call.{called, served, told}
 use Rattle.swi_calls.proofs.CallLemmas.{heap_none, heap_moved}
-use Rattle.swi_calls.proofs.SinkLemmas.{Appends-append, prefix_first, prefix_whole, prefix_last, write_failed, write_done}
+use Rattle.swi_outside.proofs.SinkLemmas.{Appends-append, prefix_first, prefix_whole, prefix_last, write_failed, write_done}
 use Rattle.swi_calls.proofs.system_call.call.Goals as goal
 
 pub returns-in-Err-clause-error_prefix : goal.returns-in-Err-clause-error_prefix

@@ -1,7 +1,7 @@
 use Rattle.std.proofs.Common.{◌≡◌}
 use Rattle.swi_outside.specs.Sink.{AppendsPrefix}
 use Rattle.swi_command.specs.CommandLine.{request_of}
-use Rattle.swi_calls.proofs.SinkLemmas.{prefix_whole}
+use Rattle.swi_outside.proofs.SinkLemmas.{prefix_whole}
 use Rattle.swi_top.specs.declared.answer.Refusal.TheVariants as refusal
 use Rattle.swi_top.specs.Answer.{ending_of, options_of, run_of, run_output}
 use Rattle.swi_top.specs.Texts.{ending_line, refusal_line}

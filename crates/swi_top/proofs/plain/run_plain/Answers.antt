@@ -3,7 +3,7 @@ use Rattle.std.specs.Io.KnownBytes.{Appends}
 use Rattle.swi_outside.specs.Sink.{AppendsPrefix}
 use Rattle.swi_calls.specs.State.{Machine, FlatState}
 use Rattle.swi_calls.specs.Flat.{flat_run, flat_start, machine_of}
-use Rattle.swi_calls.proofs.SinkLemmas.{Appends-append, prefix_first, prefix_last, prefix_whole, write_failed, write_done}
+use Rattle.swi_outside.proofs.SinkLemmas.{Appends-append, prefix_first, prefix_last, prefix_whole, write_failed, write_done}
 use Rattle.swi_flat.specs.FlatData.{FlatData}
 use Rattle.swi_top.specs.Answer.{ending_by, state_shown}
 use Rattle.swi_top.proofs.RunLemmas.{run_from_start}

@@ -2,7 +2,7 @@ use Rattle.std.proofs.Common.{◌≡◌, ◌<◌, true, false, is_err, arith, ru
 use Rattle.std.specs.Io.KnownBytes.{Appends}
 use Rattle.swi_outside.specs.Sink.{AppendsPrefix}
 use Rattle.swi_top.specs.Texts.{register_line}
-use Rattle.swi_calls.proofs.SinkLemmas.{write_failed, write_done}
+use Rattle.swi_outside.proofs.SinkLemmas.{write_failed, write_done}
 use Rattle.swi_top.proofs.TextLemmas.{lines_none, lines_more, lines_broken}
 use Rattle.swi_top.proofs.texts.write_registers.Goals as goal
 

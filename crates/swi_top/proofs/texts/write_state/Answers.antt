@@ -2,7 +2,7 @@ use Rattle.std.proofs.Common.{◌≡◌, true, false, is_err, sym, ◌∙◌}
 use Rattle.std.specs.Io.KnownBytes.{Appends}
 use Rattle.swi_outside.specs.Sink.{AppendsPrefix, WritesPiece}
 use Rattle.swi_top.specs.Texts.{pc_line, break_line, register_lines}
-use Rattle.swi_calls.proofs.SinkLemmas.{write_failed, write_done}
+use Rattle.swi_outside.proofs.SinkLemmas.{write_failed, write_done}
 use Rattle.swi_top.proofs.TextLemmas.{state_first, state_second, state_third}
 use Rattle.swi_top.proofs.texts.write_state.Goals as goal
 
