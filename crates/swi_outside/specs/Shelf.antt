@@ -64,7 +64,7 @@ pub record ShelfState : Type 0 where
   pub failing : List ℕ
   pub calls : ℕ
   pub faults : ℕ
-  pub last : Option (ShelfCall × List ℕ)
+  pub last : Option Asked
 
 -- the content of the first entry of a name
 abbrev pub lookup : List (List ℕ × List ℕ) → List ℕ → Option (List ℕ)
@@ -78,11 +78,3 @@ names_differ (e ∷ es) = is_none (lookup es e.0) && names_differ es
 
 abbrev pub entry_of : String Global × Vec ℕ Global → List ℕ × List ℕ
 entry_of e = (string_bytes e.0, e.1.items)
-
-abbrev pub last_of : Option (ShelfCall × String Global) → Option (ShelfCall × List ℕ)
-last_of None = None
-last_of (Some p) = Some (p.0, string_bytes p.1)
-
-abbrev pub asked_last : Option (ShelfCall × List ℕ) → Option Asked
-asked_last None = None
-asked_last (Some p) = Some (asked_of p.0 p.1)

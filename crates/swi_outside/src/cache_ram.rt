@@ -12,12 +12,17 @@ pub trait CacheRam {
     fn words(&self) -> u32
         ensures { result ≡ length (state self.now).words };
 
-    /// The word at index `i`. A fetch, failed or not, changes no word.
+    /// The word at index `i`, which is below `words()`. A fetch, failed or not, changes no word.
+    ///
+    /// `Failed` comes only where the count of faults rose; it raises `reach` all the same.
     fn fetch(&mut self, i: u32) -> Result<u32, Failed>
         requires { i < length (state self.old).words }
         ensures fetched { Fetched (state self.old) i result (state self.new) };
 
-    /// Puts `w` at index `i`. `Failed` leaves that word old or new, and every other as it was.
+    /// Puts `w` at index `i`, which is below `words()`.
+    ///
+    /// `Failed` leaves that word old or new, and every other as it was. It comes only where the count of
+    /// faults rose; it raises `reach` all the same.
     fn set(&mut self, i: u32, w: u32) -> Result<(), Failed>
         requires { i < length (state self.old).words }
         ensures set { WordSet (state self.old) i w result (state self.new) };

@@ -61,7 +61,7 @@ impl FaultRam {
         })
     }
 
-    /// The word at index `i`. This counts as no call.
+    /// The word at index `i`, which is below `words()`. This counts as no call.
     pub fn word(&self, i: u32) -> u32
         requires { i < length self.now.ram.words }
         ensures { result ≡ slice_index self.now.ram.words i }
@@ -116,9 +116,8 @@ impl CacheRam for FaultRam {
         ensures counted { self.new ≡ record self.old { ram = self.new.ram; calls = counted self.old.calls } }
     {
         self.reach = self.reach.max(i + 1);
-        let word = &mut self.words[i as usize];
         self.plan.try_call()?;
-        *word = w;
+        self.words[i as usize] = w;
         self.sets = self.sets.saturating_add(1);
         Ok(())
     }

@@ -2,7 +2,7 @@ ghost use Rattle.std.specs.Prelude.{◌≡◌, ◌≤◌, None, IfOk, length};
 ghost use Rattle.swi_outside.specs.Source.{TakesAll, TakesMore};
 
 use crate::real::write_whole;
-use crate::shelf_call::ShelfCall;
+use crate::shelf_call::{ShelfCall, key_of};
 use crate::{Failed, Shelf, ShelfError};
 use std::alloc::Global;
 use std::fs;
@@ -44,10 +44,7 @@ impl<R: Files> Shelf for FolderShelf<R> {
     ghost last_failed = { λ s. last_asked s.last };
 
     fn get(&mut self, alloc: Global, name: &str, limit: u32) -> Result<Vec<u8>, ShelfError> {
-        let key = match String::from_str(alloc, name) {
-            Ok(key) => key,
-            Err(_) => return Err(ShelfError::Memory),
-        };
+        let key = key_of(alloc, name)?;
         match read_file(&self.files, alloc, name, limit) {
             Err(ShelfError::Failed) => {
                 self.faults = self.faults.saturating_add(1);
@@ -59,10 +56,7 @@ impl<R: Files> Shelf for FolderShelf<R> {
     }
 
     fn put(&mut self, alloc: Global, name: &str, bytes: &[u8]) -> Result<(), ShelfError> {
-        let key = match String::from_str(alloc, name) {
-            Ok(key) => key,
-            Err(_) => return Err(ShelfError::Memory),
-        };
+        let key = key_of(alloc, name)?;
         match write_file(&self.files, name, bytes) {
             Ok(()) => Ok(()),
             Err(_) => {

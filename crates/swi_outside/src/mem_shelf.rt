@@ -1,10 +1,10 @@
 ghost use Rattle.std.specs.Prelude.{◌≡◌, ◌≤◌, ◌<◌, ◌⊎◌, ℕ, length, Option, None, Some, IfOk, IsTrue, OnOk, OnErr, Contains, MatchOption, map, position, string_bytes};
 ghost use Rattle.std.specs.Str.{bytes_eq};
 ghost use Rattle.swi_outside.specs.Causes.{counted};
-ghost use Rattle.swi_outside.specs.Shelf.{get_of, put_of, Same, SameElsewhere, Stands, IsLonger, ShelfCause, lookup, names_differ, entry_of, asked_last};
+ghost use Rattle.swi_outside.specs.Shelf.{get_of, put_of, Same, SameElsewhere, Stands, IsLonger, ShelfCause, lookup, names_differ, entry_of};
 
 use crate::fault_plan::FaultPlan;
-use crate::shelf_call::ShelfCall;
+use crate::shelf_call::{ShelfCall, key_of};
 use crate::{Shelf, ShelfError};
 use std::alloc::Global;
 use std::marker::Model;
@@ -19,7 +19,7 @@ pub struct MemShelf {
 
 impl Model for MemShelf {
     ghost use Rattle.std.specs.Prelude.{map};
-    ghost use Rattle.swi_outside.specs.Shelf.{ShelfState, entry_of, last_of};
+    ghost use Rattle.swi_outside.specs.Shelf.{ShelfState, entry_of, last_asked};
 
     ghost Value = { ShelfState };
 
@@ -28,7 +28,7 @@ impl Model for MemShelf {
       failing = s.plan.failing.items;
       calls = s.plan.calls;
       faults = s.plan.faults;
-      last = last_of s.last;
+      last = last_asked s.last;
     } };
 }
 
@@ -106,14 +106,14 @@ impl Shelf for MemShelf {
 
     ghost faults = { λ s. s.faults };
 
-    ghost last_failed = { λ s. asked_last s.last };
+    ghost last_failed = { λ s. s.last };
 
     fn get(&mut self, alloc: Global, name: &str, limit: u32) -> Result<Vec<u8>, ShelfError>
         ensures same { Same (Some (lookup self.old.entries)) (Some (lookup self.new.entries)) }
         ensures content { IfOk result (λ bytes. Stands (Some (lookup self.old.entries)) name.now bytes.items) }
         ensures within { IfOk result (λ bytes. length bytes.items ≤ limit) }
         ensures long { result ≡ Err ShelfError.Long → IsLonger (Some (lookup self.old.entries)) name.now limit }
-        ensures cause { ShelfCause self.old.faults self.new.faults (asked_last self.old.last) (asked_last self.new.last)
+        ensures cause { ShelfCause self.old.faults self.new.faults self.old.last self.new.last
             (get_of name.now) result }
 
         // A listed call fails, and one of a name that is not there. No other call fails.
@@ -128,10 +128,7 @@ impl Shelf for MemShelf {
         } }
     {
         let fails = self.plan.count_call();
-        let key = match String::from_str(alloc, name) {
-            Ok(key) => key,
-            Err(_) => return Err(ShelfError::Memory),
-        };
+        let key = key_of(alloc, name)?;
         match find(&self.entries, name) {
             Some(bytes) if !fails => copy_within(alloc, bytes, limit),
             _ => {
@@ -148,7 +145,7 @@ impl Shelf for MemShelf {
         ensures not_long { result ≡ Err ShelfError.Long → ⊥ }
         ensures memory { result ≡ Err ShelfError.Memory →
             Same (Some (lookup self.old.entries)) (Some (lookup self.new.entries)) }
-        ensures cause { ShelfCause self.old.faults self.new.faults (asked_last self.old.last) (asked_last self.new.last)
+        ensures cause { ShelfCause self.old.faults self.new.faults self.old.last self.new.last
             (put_of name.now) result }
 
         // A listed call fails, and no other. A failed one changes no content.
@@ -164,10 +161,7 @@ impl Shelf for MemShelf {
         } }
     {
         let fails = self.plan.count_call();
-        let key = match String::from_str(alloc, name) {
-            Ok(key) => key,
-            Err(_) => return Err(ShelfError::Memory),
-        };
+        let key = key_of(alloc, name)?;
         if fails {
             self.plan.count_fault();
             self.last = Some((ShelfCall::Put, key));

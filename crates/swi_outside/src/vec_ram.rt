@@ -51,7 +51,7 @@ impl VecRam {
         })
     }
 
-    /// The word at index `i`. This counts as no call.
+    /// The word at index `i`, which is below `words()`. This counts as no call.
     pub fn word(&self, i: u32) -> u32
         requires { i < length self.now.words }
         ensures { result ≡ slice_index self.now.words i }
