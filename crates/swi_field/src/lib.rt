@@ -4,7 +4,7 @@
 ghost use Rattle.std.specs.Prelude.{◌≡◌, ◌+◌, ◌-◌, ◌^◌, ◌<◌, ◌≤◌};
 ghost use Rattle.swi_field.specs.Field.{field, with_field, extended};
 
-/// Bits HI down to LO of `w`, both included, as a number. Bit 0 is the lowest.
+/// Bits HI down to LO of `w`, both included, as a number. Bit 0 is the lowest; LO is at most HI, and HI at most 31.
 #[inline(always)]
 pub fn bits<const HI: u32, const LO: u32>(w: u32) -> u32
     requires order { LO ≤ HI }
@@ -14,7 +14,9 @@ pub fn bits<const HI: u32, const LO: u32>(w: u32) -> u32
     (w >> LO) & (u32::MAX >> (31 + LO - HI))
 }
 
-/// `w` with bits HI down to LO, both included, replaced by `v`. The other bits stay.
+/// `w` with bits HI down to LO, both included, replaced by `v`, which fits the field. The other bits stay.
+///
+/// LO is at most HI, and HI at most 31.
 #[inline(always)]
 pub fn put_bits<const HI: u32, const LO: u32>(w: u32, v: u32) -> u32
     requires order { LO ≤ HI }
@@ -26,7 +28,8 @@ pub fn put_bits<const HI: u32, const LO: u32>(w: u32, v: u32) -> u32
     (w & !mask) | (v << LO)
 }
 
-/// Sign extension: the N-bit value `v` in two's complement, as 32 bits in two's complement.
+/// Sign extension: the N-bit value `v` in two's complement, as 32 bits in two's complement (RISC-V unprivileged
+/// specification, section 2.3). N is 1 to 32, and `v` is below 2^N.
 #[inline(always)]
 pub fn sign<const N: u32>(v: u32) -> u32
     requires low { 1 ≤ N }
