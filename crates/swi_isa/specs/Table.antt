@@ -21,20 +21,20 @@ use Rattle.swi_isa.specs.declared.instr.Instr.TheVariants as instr
 -- The name of a row and its form in one: which fields the word has, with the operation where a form has several.
 -- No two rows have the same.
 pub data Form : Type 0 where
-  UpperLui : Form
-  UpperAuipc : Form
-  Jump : Form
-  JumpRegister : Form
-  Conditional : BranchOp → Form
-  LoadFrom : LoadOp → Form
-  StoreTo : StoreOp → Form
-  WithImmediate : ImmOp → Form
-  WithAmount : ImmOp → Form
-  WithRegister : RegOp → Form
-  OnMemory : AtomicOp → Form
-  Fencing : Form
-  Calling : Form
-  Breaking : Form
+  Lui : Form
+  Auipc : Form
+  Jal : Form
+  Jalr : Form
+  Branch : BranchOp → Form
+  Load : LoadOp → Form
+  Store : StoreOp → Form
+  OpImm : ImmOp → Form
+  ShiftImm : ImmOp → Form
+  Op : RegOp → Form
+  Amo : AtomicOp → Form
+  Fence : Form
+  Ecall : Form
+  Ebreak : Form
 
 -- the words that have the bits of the value under the mask
 pub record Row : Type 0 where
@@ -49,65 +49,65 @@ row f m v = record { form = f; mask = m; value = v }
 -- (31 to 27), and for LR.W also rs2 (24 to 20), which is 0.
 abbrev pub rows : List Row
 rows =
-    row UpperLui 0x0000007F 0x00000037 ∷
-    row UpperAuipc 0x0000007F 0x00000017 ∷
-    row Jump 0x0000007F 0x0000006F ∷
-    row JumpRegister 0x0000707F 0x00000067 ∷
-    row (Conditional Beq) 0x0000707F 0x00000063 ∷
-    row (Conditional Bne) 0x0000707F 0x00001063 ∷
-    row (Conditional Blt) 0x0000707F 0x00004063 ∷
-    row (Conditional Bge) 0x0000707F 0x00005063 ∷
-    row (Conditional Bltu) 0x0000707F 0x00006063 ∷
-    row (Conditional Bgeu) 0x0000707F 0x00007063 ∷
-    row (LoadFrom Lb) 0x0000707F 0x00000003 ∷
-    row (LoadFrom Lh) 0x0000707F 0x00001003 ∷
-    row (LoadFrom Lw) 0x0000707F 0x00002003 ∷
-    row (LoadFrom Lbu) 0x0000707F 0x00004003 ∷
-    row (LoadFrom Lhu) 0x0000707F 0x00005003 ∷
-    row (StoreTo Sb) 0x0000707F 0x00000023 ∷
-    row (StoreTo Sh) 0x0000707F 0x00001023 ∷
-    row (StoreTo Sw) 0x0000707F 0x00002023 ∷
-    row (WithImmediate Addi) 0x0000707F 0x00000013 ∷
-    row (WithImmediate Slti) 0x0000707F 0x00002013 ∷
-    row (WithImmediate Sltiu) 0x0000707F 0x00003013 ∷
-    row (WithImmediate Xori) 0x0000707F 0x00004013 ∷
-    row (WithImmediate Ori) 0x0000707F 0x00006013 ∷
-    row (WithImmediate Andi) 0x0000707F 0x00007013 ∷
-    row (WithAmount Slli) 0xFE00707F 0x00001013 ∷
-    row (WithAmount Srli) 0xFE00707F 0x00005013 ∷
-    row (WithAmount Srai) 0xFE00707F 0x40005013 ∷
-    row (WithRegister Add) 0xFE00707F 0x00000033 ∷
-    row (WithRegister Sub) 0xFE00707F 0x40000033 ∷
-    row (WithRegister Sll) 0xFE00707F 0x00001033 ∷
-    row (WithRegister Slt) 0xFE00707F 0x00002033 ∷
-    row (WithRegister Sltu) 0xFE00707F 0x00003033 ∷
-    row (WithRegister Xor) 0xFE00707F 0x00004033 ∷
-    row (WithRegister Srl) 0xFE00707F 0x00005033 ∷
-    row (WithRegister Sra) 0xFE00707F 0x40005033 ∷
-    row (WithRegister Or) 0xFE00707F 0x00006033 ∷
-    row (WithRegister And) 0xFE00707F 0x00007033 ∷
-    row (WithRegister Mul) 0xFE00707F 0x02000033 ∷
-    row (WithRegister Mulh) 0xFE00707F 0x02001033 ∷
-    row (WithRegister Mulhsu) 0xFE00707F 0x02002033 ∷
-    row (WithRegister Mulhu) 0xFE00707F 0x02003033 ∷
-    row (WithRegister Div) 0xFE00707F 0x02004033 ∷
-    row (WithRegister Divu) 0xFE00707F 0x02005033 ∷
-    row (WithRegister Rem) 0xFE00707F 0x02006033 ∷
-    row (WithRegister Remu) 0xFE00707F 0x02007033 ∷
-    row (OnMemory LrW) 0xF9F0707F 0x1000202F ∷
-    row (OnMemory ScW) 0xF800707F 0x1800202F ∷
-    row (OnMemory SwapW) 0xF800707F 0x0800202F ∷
-    row (OnMemory AddW) 0xF800707F 0x0000202F ∷
-    row (OnMemory XorW) 0xF800707F 0x2000202F ∷
-    row (OnMemory AndW) 0xF800707F 0x6000202F ∷
-    row (OnMemory OrW) 0xF800707F 0x4000202F ∷
-    row (OnMemory MinW) 0xF800707F 0x8000202F ∷
-    row (OnMemory MaxW) 0xF800707F 0xA000202F ∷
-    row (OnMemory MinuW) 0xF800707F 0xC000202F ∷
-    row (OnMemory MaxuW) 0xF800707F 0xE000202F ∷
-    row Fencing 0x0000707F 0x0000000F ∷
-    row Calling 0xFFFFFFFF 0x00000073 ∷
-    row Breaking 0xFFFFFFFF 0x00100073 ∷
+    row Lui 0x0000007F 0x00000037 ∷
+    row Auipc 0x0000007F 0x00000017 ∷
+    row Jal 0x0000007F 0x0000006F ∷
+    row Jalr 0x0000707F 0x00000067 ∷
+    row (Branch Beq) 0x0000707F 0x00000063 ∷
+    row (Branch Bne) 0x0000707F 0x00001063 ∷
+    row (Branch Blt) 0x0000707F 0x00004063 ∷
+    row (Branch Bge) 0x0000707F 0x00005063 ∷
+    row (Branch Bltu) 0x0000707F 0x00006063 ∷
+    row (Branch Bgeu) 0x0000707F 0x00007063 ∷
+    row (Load Lb) 0x0000707F 0x00000003 ∷
+    row (Load Lh) 0x0000707F 0x00001003 ∷
+    row (Load Lw) 0x0000707F 0x00002003 ∷
+    row (Load Lbu) 0x0000707F 0x00004003 ∷
+    row (Load Lhu) 0x0000707F 0x00005003 ∷
+    row (Store Sb) 0x0000707F 0x00000023 ∷
+    row (Store Sh) 0x0000707F 0x00001023 ∷
+    row (Store Sw) 0x0000707F 0x00002023 ∷
+    row (OpImm Addi) 0x0000707F 0x00000013 ∷
+    row (OpImm Slti) 0x0000707F 0x00002013 ∷
+    row (OpImm Sltiu) 0x0000707F 0x00003013 ∷
+    row (OpImm Xori) 0x0000707F 0x00004013 ∷
+    row (OpImm Ori) 0x0000707F 0x00006013 ∷
+    row (OpImm Andi) 0x0000707F 0x00007013 ∷
+    row (ShiftImm Slli) 0xFE00707F 0x00001013 ∷
+    row (ShiftImm Srli) 0xFE00707F 0x00005013 ∷
+    row (ShiftImm Srai) 0xFE00707F 0x40005013 ∷
+    row (Op Add) 0xFE00707F 0x00000033 ∷
+    row (Op Sub) 0xFE00707F 0x40000033 ∷
+    row (Op Sll) 0xFE00707F 0x00001033 ∷
+    row (Op Slt) 0xFE00707F 0x00002033 ∷
+    row (Op Sltu) 0xFE00707F 0x00003033 ∷
+    row (Op Xor) 0xFE00707F 0x00004033 ∷
+    row (Op Srl) 0xFE00707F 0x00005033 ∷
+    row (Op Sra) 0xFE00707F 0x40005033 ∷
+    row (Op Or) 0xFE00707F 0x00006033 ∷
+    row (Op And) 0xFE00707F 0x00007033 ∷
+    row (Op Mul) 0xFE00707F 0x02000033 ∷
+    row (Op Mulh) 0xFE00707F 0x02001033 ∷
+    row (Op Mulhsu) 0xFE00707F 0x02002033 ∷
+    row (Op Mulhu) 0xFE00707F 0x02003033 ∷
+    row (Op Div) 0xFE00707F 0x02004033 ∷
+    row (Op Divu) 0xFE00707F 0x02005033 ∷
+    row (Op Rem) 0xFE00707F 0x02006033 ∷
+    row (Op Remu) 0xFE00707F 0x02007033 ∷
+    row (Amo LrW) 0xF9F0707F 0x1000202F ∷
+    row (Amo ScW) 0xF800707F 0x1800202F ∷
+    row (Amo SwapW) 0xF800707F 0x0800202F ∷
+    row (Amo AddW) 0xF800707F 0x0000202F ∷
+    row (Amo XorW) 0xF800707F 0x2000202F ∷
+    row (Amo AndW) 0xF800707F 0x6000202F ∷
+    row (Amo OrW) 0xF800707F 0x4000202F ∷
+    row (Amo MinW) 0xF800707F 0x8000202F ∷
+    row (Amo MaxW) 0xF800707F 0xA000202F ∷
+    row (Amo MinuW) 0xF800707F 0xC000202F ∷
+    row (Amo MaxuW) 0xF800707F 0xE000202F ∷
+    row Fence 0x0000707F 0x0000000F ∷
+    row Ecall 0xFFFFFFFF 0x00000073 ∷
+    row Ebreak 0xFFFFFFFF 0x00100073 ∷
     []
 
 -- the bits of the word under the mask are the value
@@ -166,17 +166,17 @@ imm_j w = extended 21 (placed bits_j w)
 
 -- the instruction of a row's form, with the fields of the word
 abbrev pub made : Form → ℕ → Instr
-made UpperLui w = instr.Lui (rd_of w) (imm_u w)
-made UpperAuipc w = instr.Auipc (rd_of w) (imm_u w)
-made Jump w = instr.Jal (rd_of w) (imm_j w)
-made JumpRegister w = instr.Jalr (rd_of w) (rs1_of w) (imm_i w)
-made (Conditional op) w = instr.Branch op (rs1_of w) (rs2_of w) (imm_b w)
-made (LoadFrom op) w = instr.Load op (rd_of w) (rs1_of w) (imm_i w)
-made (StoreTo op) w = instr.Store op (rs1_of w) (rs2_of w) (imm_s w)
-made (WithImmediate op) w = instr.Alu op (rd_of w) (rs1_of w) (imm_i w)
-made (WithAmount op) w = instr.Alu op (rd_of w) (rs1_of w) (rs2_of w)
-made (WithRegister op) w = instr.Op op (rd_of w) (rs1_of w) (rs2_of w)
-made (OnMemory op) w = instr.Atomic op (rd_of w) (rs1_of w) (rs2_of w)
-made Fencing w = instr.Fence
-made Calling w = instr.Ecall
-made Breaking w = instr.Ebreak
+made Lui w = instr.Lui (rd_of w) (imm_u w)
+made Auipc w = instr.Auipc (rd_of w) (imm_u w)
+made Jal w = instr.Jal (rd_of w) (imm_j w)
+made Jalr w = instr.Jalr (rd_of w) (rs1_of w) (imm_i w)
+made (Branch op) w = instr.Branch op (rs1_of w) (rs2_of w) (imm_b w)
+made (Load op) w = instr.Load op (rd_of w) (rs1_of w) (imm_i w)
+made (Store op) w = instr.Store op (rs1_of w) (rs2_of w) (imm_s w)
+made (OpImm op) w = instr.Alu op (rd_of w) (rs1_of w) (imm_i w)
+made (ShiftImm op) w = instr.Alu op (rd_of w) (rs1_of w) (rs2_of w)
+made (Op op) w = instr.Op op (rd_of w) (rs1_of w) (rs2_of w)
+made (Amo op) w = instr.Atomic op (rd_of w) (rs1_of w) (rs2_of w)
+made Fence w = instr.Fence
+made Ecall w = instr.Ecall
+made Ebreak w = instr.Ebreak

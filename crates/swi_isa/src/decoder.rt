@@ -31,7 +31,7 @@ pub fn decode(w: u32) -> Option<Instr>
         ($op:ident) => { Some(Instr::Alu { op: ImmOp::$op, rd: rd(w), rs1: rs1(w), imm: i_value(w) }) };
     }
     macro_rules! shift {
-        ($op:ident) => { Some(Instr::Alu { op: ImmOp::$op, rd: rd(w), rs1: rs1(w), imm: rs2(w).num() }) };
+        ($op:ident) => { Some(Instr::Alu { op: ImmOp::$op, rd: rd(w), rs1: rs1(w), imm: bits::<24, 20>(w) }) };
     }
     macro_rules! op {
         ($op:ident) => { Some(Instr::Op { op: RegOp::$op, rd: rd(w), rs1: rs1(w), rs2: rs2(w) }) };
