@@ -1,5 +1,5 @@
 -- What the loaded segments of an accepted file keep.
-use Rattle.std.proofs.Common.{◌≡◌, ℕ, ◌+◌, ◌-◌, ◌*◌, ◌<◌, ◌≤◌, ◌%◌, ◌^◌, ◌==◌, ◌⊎◌, ◌&&◌, ◌||◌, suc, min, not, Bool, true, false, List, [], ◌∷◌, ◌++◌, length, get_or, take, drop, map, filter, arith, refl, sym, ap, ◌∙◌, append_assoc, append-nil, length-take, length-drop, Option, Some, None, option_map, nat_lt, nat_le, position, sum_by, fold, inl, inr}
+use Rattle.std.proofs.Common.{◌≡◌, ℕ, ◌+◌, ◌-◌, ◌≤◌, ◌%◌, ◌^◌, ◌==◌, ◌⊎◌, ◌&&◌, min, not, Bool, true, false, List, [], ◌∷◌, ◌++◌, length, take, drop, map, filter, arith, refl, sym, ◌∙◌, append_assoc, append-nil, length-take, length-drop, Option, Some, None, option_map, nat_le, position, sum_by, fold, inl, inr}
 use Rattle.std.specs.List.{list_any, position_from}
 use Rattle.std.proofs.lemmas.Bool.{cases_Bool, or_parts, and_parts, or_right, eqb-true}
 use Rattle.std.proofs.lemmas.Bool.Decides.{nat_tests}
@@ -10,9 +10,9 @@ use Rattle.std.proofs.lemmas.List.Elements.{filter-append}
 use Rattle.swi_elf_read.specs.declared.program_header.ProgramHeader.{ProgramHeader}
 use Rattle.swi_elf_read.specs.declared.refusal.ElfRefusal.{ElfRefusal}
 use Rattle.swi_elf_read.specs.declared.refusal.ElfRefusal.TheVariants.{Flags, Extent, Overlap, NoText, TwoTexts, Large, Entry}
-use Rattle.swi_elf_read.specs.ProgramHeaders.{is_loaded, is_load, is_image, is_text, is_executable, is_outside, is_past_memory, is_extent_wrong, shares_address, is_overlap, is_second_text, is_too_large, passes_limit, memory_of, memory_taken, is_word_address, is_text_word, has_text_word, first_from, first_among}
+use Rattle.swi_elf_read.specs.ProgramHeaders.{is_loaded, is_text, is_executable, is_extent_wrong, shares_address, is_overlap, is_second_text, is_too_large, passes_limit, memory_of, memory_taken, is_word_address, is_text_word, has_text_word, first_from, first_among}
 use Rattle.swi_elf_read.specs.Elf.{first_some, refuse_if, table_checks, table_refusal, first_refusal, identification_refusal, header_checks, header_refusal, program_headers, e_entry, e_flags, has_plain_flags}
-use Rattle.swi_elf_read.specs.Loaded.{LoadedData, loaded_of, loaded_from, loaded_segments, bytes_of, can_execute, has_word_at, IsLoadable, AreLoadable, IsClearOf, AreApart}
+use Rattle.swi_elf_read.specs.Loaded.{loaded_of, loaded_from, loaded_segments, bytes_of, can_execute, has_word_at, IsLoadable, AreLoadable, IsClearOf, AreApart}
 
 -- checks that all pass
 

@@ -1,5 +1,5 @@
 -- Loaded headers, one by one.
-use Rattle.std.proofs.Common.{◌≡◌, ℕ, ◌+◌, ◌<◌, ◌≤◌, ◌-◌, ◌≢◌, suc, Bool, true, false, List, [], ◌∷◌, ◌++◌, length, get_or, take, drop, arith, refl, add-one, filter, find, slice_get, length-append, Option, Some, None, sym, subst, inl, inr}
+use Rattle.std.proofs.Common.{◌≡◌, ℕ, ◌+◌, ◌<◌, ◌≤◌, ◌-◌, ◌≢◌, suc, true, false, List, [], ◌∷◌, ◌++◌, length, get_or, take, drop, arith, refl, add-one, filter, find, slice_get, length-append, Some, None, sym, subst, inl, inr}
 use Rattle.std.specs.List.{list_any}
 use Rattle.std.proofs.Math.Seq.{take-suc}
 use Rattle.std.proofs.lemmas.List.{drop_more}

@@ -2,12 +2,12 @@
 -- Source: System V ABI, "ELF Header" and "ELF Identification"; RISC-V ELF psABI, "File Header" (e_machine 243,
 -- e_flags: EF_RISCV_RVC bit 0, EF_RISCV_FLOAT_ABI bits 1 and 2, EF_RISCV_RVE bit 3). The order of the checks, the
 -- limits and what a refusal carries are this project's own rules.
-use Rattle.std.specs.Prelude.{ℕ, ◌+◌, ◌*◌, ◌/◌, ◌%◌, ◌==◌, Bool, not, nat_lt, nat_eq, List, [], ◌∷◌, length, take, drop, slice_index, filter, position, find, Option, Some, None, option_map, is_some, if◌then◌else◌}
+use Rattle.std.specs.Prelude.{ℕ, ◌+◌, ◌*◌, ◌%◌, ◌==◌, Bool, not, nat_lt, nat_eq, List, [], ◌∷◌, length, slice_index, position, Option, Some, None, option_map, if◌then◌else◌}
 use Rattle.std.specs.List.{list_any, starts_with}
 use Rattle.swi_elf_read.specs.declared.refusal.ElfRefusal.{ElfRefusal}
 use Rattle.swi_elf_read.specs.declared.refusal.ElfRefusal.TheVariants.{Short, Magic, Class, Order, Version, FileType, Machine, Flags, HeaderSize, Many, Table, Dynamic, Extent, Overlap, NoText, TwoTexts, Large, Entry}
 use Rattle.swi_elf_read.specs.declared.program_header.ProgramHeader.{ProgramHeader}
-use Rattle.swi_elf_read.specs.ProgramHeaders.{half_at, word_at, table_at, is_dynamic, is_extent_wrong, is_overlap, has_text_word, is_second_text, is_too_large, is_text_word, first_among, is_loaded, is_image}
+use Rattle.swi_elf_read.specs.ProgramHeaders.{half_at, word_at, table_at, is_dynamic, is_extent_wrong, is_overlap, has_text_word, is_second_text, is_too_large, is_text_word, first_among}
 
 -- e_ident[EI_MAG0] to e_ident[EI_MAG3]: 0x7F, 'E', 'L', 'F'
 abbrev pub magic : List ℕ
@@ -68,7 +68,7 @@ first_some [] = None
 first_some (Some refusal ∷ rest) = Some refusal
 first_some (None ∷ rest) = first_some rest
 
--- the checks of the ELF identification
+-- the checks of the ELF identification: ELFCLASS32, ELFDATA2LSB and EV_CURRENT are 1
 abbrev pub identification_checks : List ℕ → List (Option ElfRefusal)
 identification_checks file =
     refuse_if (nat_lt (length file) 52) (Short (length file))
@@ -81,7 +81,7 @@ identification_checks file =
 abbrev pub identification_refusal : List ℕ → Option ElfRefusal
 identification_refusal file = first_some (identification_checks file)
 
--- the checks of the other fields of the ELF header
+-- the checks of the other fields of the ELF header: EV_CURRENT is 1, ET_EXEC is 2, EM_RISCV is 243
 abbrev pub header_checks : List ℕ → List (Option ElfRefusal)
 header_checks file =
     refuse_if (not (e_version file == 1)) (Version 20)

@@ -1,7 +1,7 @@
 -- Program headers of a 32-bit ELF file, and what is asked of them.
--- Source: System V ABI, "Program Header" (p_type, p_flags, "Base Address") and the standard's little-endian
--- data encoding. The type of a cache image and the limits on sizes are this project's own rules.
-use Rattle.std.specs.Prelude.{ℕ, zero, suc, ◌+◌, ◌-◌, ◌*◌, ◌/◌, ◌%◌, ◌^◌, ◌==◌, Bool, ◌&&◌, ◌||◌, not, nat_lt, nat_le, List, [], ◌∷◌, ◌++◌, length, drop, filter, sum_by, Option, Some, None, if◌then◌else◌}
+-- Source: System V ABI, "Program Header" (p_type, p_flags) and the standard's little-endian data encoding.
+-- The type of a cache image and the limits on sizes are this project's own rules.
+use Rattle.std.specs.Prelude.{ℕ, zero, suc, ◌+◌, ◌*◌, ◌/◌, ◌%◌, ◌^◌, ◌==◌, Bool, ◌&&◌, ◌||◌, nat_lt, nat_le, List, [], ◌∷◌, ◌++◌, length, drop, filter, sum_by, Option, Some, None, if◌then◌else◌}
 use Rattle.std.specs.List.{list_any}
 use Rattle.byteorder.specs.Endian.{little_number}
 use Rattle.swi_elf_read.specs.declared.program_header.ProgramHeader.{ProgramHeader}
@@ -61,7 +61,7 @@ is_outside n h = nat_lt h.p_memsz h.p_filesz || (nat_lt 0 h.p_filesz && nat_lt n
 abbrev pub is_past_memory : ProgramHeader → Bool
 is_past_memory h = nat_lt (2 ^ 32) (h.p_vaddr + h.p_memsz)
 
--- an entry that is used, in a file of n bytes, and has a wrong extent
+-- in a file of n bytes, a PT_LOAD entry or one of a cache image is outside, or a PT_LOAD entry is past memory
 unfoldable pub is_extent_wrong : ℕ → ProgramHeader → Bool
 is_extent_wrong n h = ((is_load h || is_image h) && is_outside n h) || (is_load h && is_past_memory h)
 

@@ -6,7 +6,7 @@ ghost use Rattle.std.specs.List.{list_any};
 ghost use Rattle.swi_elf_read.specs.ProgramHeaders.{word_at, half_at, is_dynamic, is_extent_wrong, is_overlap, is_second_text, is_too_large, passes_limit, memory_taken, first_among, shares_address, is_text, is_loaded, has_text_word, is_text_word};
 ghost use Rattle.swi_elf_read.specs.Elf.{identification_refusal, header_refusal, table_refusal, e_phoff, e_phnum};
 
-use crate::program_header::{ProgramHeader, half_at, word_at};
+use crate::program_header::{HEADER_SIZE, MAX_HEADERS, ProgramHeader, half_at, word_at};
 use crate::refusal::ElfRefusal;
 
 /// How many bytes of memory the loaded segments may take together.
@@ -14,6 +14,12 @@ const MEMORY_LIMIT: u64 = 1 << 25;
 
 /// How many bytes the executable segment may have in the file.
 const TEXT_LIMIT: u32 = 1 << 21;
+
+/// The type of an executable file.
+const ET_EXEC: u16 = 2;
+
+/// The machine RISC-V.
+const EM_RISCV: u16 = 243;
 
 /// The bytes that an ELF file begins with.
 const MAGIC: [u8; 4] = [0x7F, b'E', b'L', b'F'];
@@ -52,10 +58,10 @@ pub(crate) fn header_refusal(bytes: &[u8]) -> Option<ElfRefusal>
     if word_at(bytes, 20) != 1 {
         return Some(ElfRefusal::Version(20));
     }
-    if half_at(bytes, 16) != 2 {
+    if half_at(bytes, 16) != ET_EXEC {
         return Some(ElfRefusal::FileType(16));
     }
-    if half_at(bytes, 18) != 243 {
+    if half_at(bytes, 18) != EM_RISCV {
         return Some(ElfRefusal::Machine(18));
     }
     if word_at(bytes, 36) % 16 != 0 {
@@ -64,14 +70,14 @@ pub(crate) fn header_refusal(bytes: &[u8]) -> Option<ElfRefusal>
     if half_at(bytes, 40) != 52 {
         return Some(ElfRefusal::HeaderSize(40));
     }
-    if half_at(bytes, 42) != 32 {
+    if usize::from(half_at(bytes, 42)) != HEADER_SIZE {
         return Some(ElfRefusal::HeaderSize(42));
     }
-    let count = half_at(bytes, 44);
-    if count > 64 {
+    let count = usize::from(half_at(bytes, 44));
+    if count > MAX_HEADERS {
         return Some(ElfRefusal::Many(44));
     }
-    if word_at(bytes, 28) as usize + 32 * count as usize > bytes.len() {
+    if word_at(bytes, 28) as usize + HEADER_SIZE * count > bytes.len() {
         return Some(ElfRefusal::Table(28));
     }
     None

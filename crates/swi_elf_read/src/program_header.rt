@@ -73,17 +73,24 @@ impl ProgramHeader {
         self.p_type == PT_DYNAMIC || self.p_type == PT_INTERP
     }
 
-    /// Whether the segment has an extent that a file of so many bytes, or memory, cannot have.
+    /// The address past its last byte in memory.
+    fn memory_end(&self) -> u64
+        ensures { result ≡ self.now.p_vaddr + self.now.p_memsz }
+    {
+        u64::from(self.p_vaddr) + u64::from(self.p_memsz)
+    }
+
+    /// Whether the header is `PT_LOAD` or a cache image's and has more bytes in the file than in
+    /// memory, or bytes past the end of a file of so many; or is `PT_LOAD` and passes address 2^32.
     #[tactic(auto, unfolding(crate::specs::ProgramHeaders::is_extent_wrong))]
     pub fn is_extent_wrong(&self, file_size: usize) -> bool
         ensures { result ≡ is_extent_wrong file_size self.now }
     {
         let load = self.p_type == PT_LOAD;
         let file_end = u64::from(self.p_offset) + u64::from(self.p_filesz);
-        let memory_end = u64::from(self.p_vaddr) + u64::from(self.p_memsz);
         let outside = self.p_filesz > self.p_memsz
             || (self.p_filesz > 0 && file_end > file_size as u64);
-        ((load || self.is_image()) && outside) || (load && memory_end > 1 << 32)
+        ((load || self.is_image()) && outside) || (load && self.memory_end() > 1 << 32)
     }
 
     /// Whether some address is in both segments.
@@ -91,12 +98,11 @@ impl ProgramHeader {
     pub fn shares_address(&self, other: &ProgramHeader) -> bool
         ensures { result ≡ shares_address self.now other.now }
     {
-        let end = u64::from(self.p_vaddr) + u64::from(self.p_memsz);
-        let other_end = u64::from(other.p_vaddr) + u64::from(other.p_memsz);
-        u64::from(self.p_vaddr) < other_end && u64::from(other.p_vaddr) < end
+        u64::from(self.p_vaddr) < other.memory_end() && u64::from(other.p_vaddr) < self.memory_end()
     }
 
-    /// Whether a whole instruction word of the file stands at the address.
+    /// Whether the segment is text, and a whole instruction word of its file bytes stands at the
+    /// address (at most 2^32).
     #[tactic(auto, unfolding(crate::specs::ProgramHeaders::is_text_word, crate::specs::ProgramHeaders::is_word_address))]
     pub fn is_text_word(&self, address: u64) -> bool
         requires { address ≤ 2 ^ 32 }

@@ -1,7 +1,7 @@
 //! An accepted file and what it says.
 #![tactic(auto)]
 
-ghost use Rattle.std.specs.Prelude.{◌≡◌, ◌≢◌, ◌≤◌, ◌<◌, ◌+◌, ◌%◌, ◌^◌, ◌↔◌, ℕ, List, None, Some, IfOk, IfErr, OnOk, IsSome, IsNone, IsTrue, IsFalse, find, filter, length, slice_get, option_copied, sum_by};
+ghost use Rattle.std.specs.Prelude.{◌≡◌, ◌≤◌, ◌<◌, ◌+◌, ◌%◌, ◌^◌, ◌↔◌, ℕ, List, None, Some, IfOk, IfErr, OnOk, IsSome, IsTrue, IsFalse, find, filter, length, slice_get, option_copied, sum_by};
 ghost use Rattle.std.specs.List.{list_any};
 ghost use Rattle.swi_elf_read.specs.Elf.{first_refusal, e_entry, e_flags, program_headers};
 ghost use Rattle.swi_elf_read.specs.ProgramHeaders.{is_loaded, is_image};
@@ -33,7 +33,11 @@ impl<'a> Model for Elf<'a> {
     ghost invariant = { λ e. IsRead e.bytes.now e.headers.items };
 }
 
-/// Checks a file. The refusal is that of the first check that fails.
+/// Checks a whole file of at most 2^26 bytes, which stays borrowed. The error is the first check
+/// that fails, in the order of `ElfRefusal`.
+///
+/// Source: System V ABI, "ELF Header" and "Program Header"; RISC-V ELF psABI, "File Header". The
+/// limits and the order: own rule.
 #[tactic(auto, unfolding(crate::specs::Elf::first_refusal))]
 pub fn read_elf<'a>(bytes: &'a [u8]) -> Result<Elf<'a>, ElfRefusal>
     requires { length bytes.now ≤ 2 ^ 26 }
@@ -174,7 +178,8 @@ pub fn loaded(e: &Elf) -> u32
     count_loaded(&e.headers)
 }
 
-/// The k-th segment that a run loads, in the order of the program headers.
+/// The k-th segment that a run loads, in the order of the program headers: k counts from 0 and is
+/// below `loaded(e)`.
 #[tactic(auto, unfolding(crate::specs::Loaded::loaded_segments))]
 pub fn loaded_at<'a>(e: &Elf<'a>, k: u32) -> Loaded<'a>
     requires { k < length (loaded_segments e.now) }

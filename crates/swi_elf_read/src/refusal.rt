@@ -30,8 +30,8 @@ pub enum ElfRefusal {
     Table(u32),
     /// A file to be linked at run time. Carries the index of the header that says so.
     Dynamic(u32),
-    /// A segment that is larger in the file than in memory, or that does not end within the file or
-    /// within 2^32 bytes of memory. Carries the header's index.
+    /// A `PT_LOAD` header, or one of a cache image, with more bytes in the file than in memory or bytes
+    /// past the file's end; or a `PT_LOAD` header that passes address 2^32. Carries the header's index.
     Extent(u32),
     /// A loaded segment that shares an address with one before it. Carries the header's index.
     Overlap(u32),

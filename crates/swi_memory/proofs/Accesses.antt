@@ -1,7 +1,8 @@
 -- Loads and stores that lie in one area.
-use Rattle.std.proofs.Common.{◌≡◌, ℕ, ◌+◌, ◌-◌, ◌*◌, ◌/◌, ◌%◌, ◌<◌, ◌≤◌, ◌^◌, ◌&&◌, zero, suc, inl, inr, List, [], ◌∷◌, length, get_or, set, take, drop, true, false, nat_lt, Ok, Err, arith, refl, sym, ap, ◌∙◌}
+use Rattle.std.proofs.Common.{◌≡◌, ℕ, ◌+◌, ◌-◌, ◌*◌, ◌/◌, ◌%◌, ◌<◌, ◌≤◌, ◌^◌, ◌&&◌, ◌++◌, zero, suc, inl, inr, List, [], ◌∷◌, length, get_or, set, take, drop, true, false, nat_lt, Ok, Err, arith, refl, sym, ap, ◌∙◌}
 use Rattle.std.proofs.lemmas.Bool.{cond-true, cond-false, cases_Bool, lt-ltb, and_parts, ltb-true}
 use Rattle.std.proofs.lemmas.Bool.Decides.{nat_tests}
+use Rattle.std.proofs.lemmas.List.Edits.{sets, sets-eq}
 use Rattle.std.proofs.lemmas.List.{length-set, get_or-set_same, length-map, map-set, drop_more, get_or_default, take_all, length-drop}
 use Rattle.swi_memory.specs.declared.bank.Bank.{Bank}
 use Rattle.swi_memory.specs.Views.{area, areas}
@@ -77,30 +78,51 @@ order_set from (x ∷ rest) zero s bytes order is bound same =
 order_set from (x ∷ rest) (suc i) s bytes order is bound same =
     (order.0, order.1, order.2, order_set (x.base + length x.bytes) rest i s bytes order.3 is (omega arith) same)
 
-pub stored_within : (bus : List AreaData) (i : ℕ) (s : AreaData) (a n v : ℕ) → Within bus i s a n → stored bus a n v ≡ set bus i (record s { bytes = put_in s.bytes (a - s.base) n v })
-stored_within bus i s a zero v w = same_set bus i s w.is
-  where
-    same_set : (xs : List AreaData) (j : ℕ) (t : AreaData) → t ≡ get_or xs j t → xs ≡ set xs j t
-    same_set [] j t is = refl
-    same_set (x ∷ xs) zero t is = ap (λ y. y ∷ xs) (sym is)
-    same_set (x ∷ xs) (suc j) t is = ap (λ l. x ∷ l) (same_set xs j t is)
-stored_within bus i s a (suc n) v w =
-    let here : (a < 2 ^ 32) × Looked bus i s a = first_of_them bus i s a n w in
-    let bytes : List ℕ = set s.bytes (a - s.base) (v % 256) in
-    let t : AreaData = record s { bytes = bytes } in
-    let size : length bytes ≡ length s.bytes = length-set s.bytes (a - s.base) (v % 256) in
-    let next : a + 1 - s.base ≡ a - s.base + 1 = omega (arith, w.from) in
-    let later : Within (set bus i t) i t (a + 1) n = record {
-      order = order_set 0 bus i s bytes w.order w.is w.bound size;
+same_set : (bus : List AreaData) (i : ℕ) (s : AreaData) → s ≡ get_or bus i s → bus ≡ set bus i s
+same_set [] i s is = refl
+same_set (x ∷ rest) zero s is = ap (λ y. y ∷ rest) (sym is)
+same_set (x ∷ rest) (suc i) s is = ap (λ l. x ∷ l) (same_set rest i s is)
+
+-- the area with its byte at a changed
+abbrev changed_at : AreaData → ℕ → ℕ → AreaData
+changed_at s a b = record s { bytes = set s.bytes (a - s.base) b }
+
+-- the bytes behind a, where that at a changed
+rest_of_changed : (bus : List AreaData) (i : ℕ) (s : AreaData) (a n b : ℕ) → Within bus i s a (suc n) → Within (set bus i (changed_at s a b)) i (changed_at s a b) (a + 1) n
+rest_of_changed bus i s a n b w =
+    let t : AreaData = changed_at s a b in
+    let size : length (set s.bytes (a - s.base) b) ≡ length s.bytes = length-set s.bytes (a - s.base) b in
+    record {
+      order = order_set 0 bus i s (set s.bytes (a - s.base) b) w.order w.is w.bound size;
       bound = omega (arith, w.bound, length-set bus i t);
       is = sym (get_or-set_same bus i t t w.bound);
       from = omega (arith, w.from);
       end = omega (arith, w.end, size);
-    } in
+    }
+
+pub stored_within : (bus : List AreaData) (i : ℕ) (s : AreaData) (a n v : ℕ) → Within bus i s a n → stored bus a n v ≡ set bus i (record s { bytes = put_in s.bytes (a - s.base) n v })
+stored_within bus i s a zero v w = same_set bus i s w.is
+stored_within bus i s a (suc n) v w =
+    let here : (a < 2 ^ 32) × Looked bus i s a = first_of_them bus i s a n w in
+    let bytes : List ℕ = set s.bytes (a - s.base) (v % 256) in
+    let t : AreaData = changed_at s a (v % 256) in
+    let next : a + 1 - s.base ≡ a - s.base + 1 = omega (arith, w.from) in
     ap (λ m. stored m (a + 1) n (v / 256)) (here.1.put (v % 256))
-    ∙ stored_within (set bus i t) i t (a + 1) n (v / 256) later
+    ∙ stored_within (set bus i t) i t (a + 1) n (v / 256) (rest_of_changed bus i s a n (v % 256) w)
     ∙ set_twice bus i t (record t { bytes = put_in bytes (a + 1 - s.base) n (v / 256) })
     ∙ ap (λ at. set bus i (record s { bytes = put_in bytes at n (v / 256) })) next
+
+copied_within : (bus : List AreaData) (i : ℕ) (s : AreaData) (a : ℕ) (piece : List ℕ) → Within bus i s a (length piece) → with_bytes bus a piece ≡ set bus i (record s { bytes = sets s.bytes (a - s.base) piece })
+copied_within bus i s a [] w = same_set bus i s w.is
+copied_within bus i s a (b ∷ piece) w =
+    let here : (a < 2 ^ 32) × Looked bus i s a = first_of_them bus i s a (length piece) w in
+    let bytes : List ℕ = set s.bytes (a - s.base) b in
+    let t : AreaData = changed_at s a b in
+    let next : a + 1 - s.base ≡ suc (a - s.base) = omega (arith, w.from) in
+    ap (λ m. with_bytes m (a + 1) piece) (here.1.put b)
+    ∙ copied_within (set bus i t) i t (a + 1) piece (rest_of_changed bus i s a (length piece) b w)
+    ∙ set_twice bus i t (record t { bytes = sets bytes (a + 1 - s.base) piece })
+    ∙ ap (λ at. set bus i (record s { bytes = sets bytes at piece })) next
 
 -- the byte at a is in a bank that was found, and may not be used so
 pub holds_denied : (banks : List Bank) (i : ℕ) (b : Bank) (r : Right) (a n : ℕ) → AreInOrderFrom 0 (areas banks) → IsFound banks a i → b ≡ get_or banks i b → 0 < n → grants r b.flags ≡ false → holds (areas banks) r a n ≡ false
@@ -194,10 +216,10 @@ pub written_order : (banks : List Bank) (i a b : ℕ) (d t : Bank) → AreInOrde
 written_order banks i a b d t order found made = rw (written banks i a b d t order found made) (order_with_byte 0 (areas banks) a b order)
 
 -- whether k bytes may be stored in a bank that was found
-pub denied_found : (banks : List Bank) (i a k : ℕ) (r : Right) (d : Bank) → AreInOrderFrom 0 (areas banks) → IsFound banks a i → IsSize k → grants r (get_or banks i d).flags ≡ false → holds (areas banks) r a k ≡ false
-denied_found banks i a k r d order found size denied =
+pub denied_found : (banks : List Bank) (i a k : ℕ) (r : Right) (d : Bank) → AreInOrderFrom 0 (areas banks) → IsFound banks a i → 0 < k → grants r (get_or banks i d).flags ≡ false → holds (areas banks) r a k ≡ false
+denied_found banks i a k r d order found some denied =
     let old : Bank = get_or banks i d in
-    holds_denied banks i old r a k order found (get_or_default banks i d old found.0) (size_some k size) denied
+    holds_denied banks i old r a k order found (get_or_default banks i d old found.0) some denied
 
 pub held_found : (banks : List Bank) (i a k : ℕ) (r : Right) (d : Bank) → AreInOrderFrom 0 (areas banks) → IsFound banks a i → k ≤ length (get_or banks i d).bytes.items - (a - (get_or banks i d).base) → grants r (get_or banks i d).flags ≡ true → holds (areas banks) r a k ≡ true
 held_found banks i a k r d order found short granted =
@@ -212,6 +234,27 @@ stored_found banks i a k v d t order found short made =
     let old : Bank = get_or banks i d in
     let is : old ≡ get_or banks i old = get_or_default banks i d old found.0 in
     areas_set banks i t ∙ ap (set (areas banks) i) made ∙ sym (stored_within (areas banks) i (area old) a k v (range_of banks i old a k order found is short))
+
+-- the same of a piece
+pub copied_found : (banks : List Bank) (i a : ℕ) (piece : List ℕ) (d t : Bank) → AreInOrderFrom 0 (areas banks) → IsFound banks a i → length piece ≤ length (get_or banks i d).bytes.items - (a - (get_or banks i d).base) →
+    area t ≡ record (area (get_or banks i d)) { bytes = take (a - (get_or banks i d).base) (get_or banks i d).bytes.items ++ piece ++ drop (a - (get_or banks i d).base + length piece) (get_or banks i d).bytes.items } →
+    areas (set banks i t) ≡ with_bytes (areas banks) a piece
+copied_found banks i a piece d t order found short made =
+    let old : Bank = get_or banks i d in
+    let is : old ≡ get_or banks i old = get_or_default banks i d old found.0 in
+    let at : Place old a = place_of banks i old a found is in
+    let fits : a - old.base + length piece ≤ length old.bytes.items = omega (arith, at.from, at.end) in
+    areas_set banks i t ∙ ap (set (areas banks) i) made
+    ∙ ap (λ bytes. set (areas banks) i (record (area old) { bytes = bytes })) (sym (sets-eq piece old.bytes.items (a - old.base) fits))
+    ∙ sym (copied_within (areas banks) i (area old) a piece (range_of banks i old a (length piece) order found is short))
+
+-- no byte is put and none is held in a piece without bytes
+pub copied_none : (bus : List AreaData) (a : ℕ) (piece : List ℕ) → length piece ≡ 0 → bus ≡ with_bytes bus a piece
+copied_none bus a [] none = refl
+copied_none bus a (b ∷ piece) none = absurd (omega arith)
+
+pub held_none : (bus : List AreaData) (r : Right) (a n : ℕ) → n ≡ 0 → holds bus r a n ≡ true
+held_none bus r a n none = rw none refl
 
 -- the bytes behind a place, as the code cuts them
 pub rest_is : (xs : List ℕ) (at : ℕ) → take (length xs - at) (drop at xs) ≡ drop at xs

@@ -1,7 +1,7 @@
 //! Banks of bytes, and the accesses to them.
 #![tactic(auto)]
 
-ghost use Rattle.std.specs.Prelude.{◌≡◌, ◌+◌, ◌*◌, ◌<◌, ◌≤◌, ◌^◌, ◌&&◌, true, false, nat_lt, length, IfOk, OnOk, OnErr, MatchOption, MatchResult};
+ghost use Rattle.std.specs.Prelude.{◌≡◌, ◌+◌, ◌*◌, ◌<◌, ◌≤◌, ◌^◌, ◌&&◌, ◌++◌, true, false, nat_lt, length, take, drop, IfOk, OnOk, OnErr, MatchOption, MatchResult};
 ghost use Rattle.swi_memory.specs.Bus.{AreInOrder, IsSize, Read, Write, byte_at, front_of, holds, holds_byte, is_in, loaded, number_in, stored, with_byte, with_bytes};
 ghost use Rattle.swi_memory.specs.Found.{HasNone, IsFound, put_in};
 ghost use Rattle.swi_memory.specs.Views.{area, areas};
@@ -268,8 +268,18 @@ pub fn front(banks: &[Bank], a: u32, n: u32) -> &[u8]
     }
 }
 
-/// Puts the bytes from the address on. A refusal changes nothing.
-pub fn copy_in(banks: &mut [Bank], a: u32, piece: &[u8]) -> Result<(), Access>
+/// Puts a piece from a place on.
+fn put_piece(bytes: &mut [u8], at: usize, piece: &[u8])
+    requires { at + length piece.now ≤ length bytes.old }
+    ensures { bytes.new ≡ take at bytes.old ++ piece.now ++ drop (at + length piece.now) bytes.old }
+{
+    bytes[at..at + piece.len()].copy_from_slice(piece);
+}
+
+/// A copy byte by byte, for a piece that reaches past the end of its bank.
+#[cold]
+#[inline(never)]
+fn copy_across(banks: &mut [Bank], a: u32, piece: &[u8]) -> Result<(), Access>
     requires order { AreInOrder (areas banks.old) }
     requires short { length piece.now ≤ 2 ^ 26 }
     ensures ok { OnOk result (holds (areas banks.old) Write a (length piece.now) ≡ true) }
@@ -284,4 +294,32 @@ pub fn copy_in(banks: &mut [Bank], a: u32, piece: &[u8]) -> Result<(), Access>
         write_byte(banks, a.wrapping_add(i as u32), *b);
     }
     Ok(())
+}
+
+/// Puts the bytes from the address on. A refusal changes nothing.
+pub fn copy_in(banks: &mut [Bank], a: u32, piece: &[u8]) -> Result<(), Access>
+    requires order { AreInOrder (areas banks.old) }
+    requires short { length piece.now ≤ 2 ^ 26 }
+    ensures ok { OnOk result (holds (areas banks.old) Write a (length piece.now) ≡ true) }
+    ensures bytes { OnOk result (areas banks.new ≡ with_bytes (areas banks.old) a piece.now) }
+    ensures refused { OnErr result (holds (areas banks.old) Write a (length piece.now) ≡ false) }
+    ensures unchanged { OnErr result (areas banks.new ≡ areas banks.old) }
+{
+    if piece.is_empty() {
+        return Ok(());
+    }
+    let Some(i) = find(banks, a) else {
+        return Err(Access);
+    };
+    let bank = &mut banks[i];
+    let at = (a - bank.base) as usize;
+    if bank.bytes.len() - at < piece.len() {
+        return copy_across(banks, a, piece);
+    }
+    if Right::Write.is_in(bank.flags) {
+        put_piece(&mut bank.bytes, at, piece);
+        Ok(())
+    } else {
+        Err(Access)
+    }
 }

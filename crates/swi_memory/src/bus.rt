@@ -45,7 +45,9 @@ impl Model for Bus {
 
 impl Bus {
     /// The bus at the start of a run: each segment's bytes with zeros behind them, the heap and the
-    /// stack. Memory where there is not enough memory, or where more areas than 2^32 - 1 are asked for.
+    /// stack. No two of the segments and regions share an address, none ends past 2^32, and one segment
+    /// at most can be executed. Memory where there is not enough memory, or where more areas than
+    /// 2^32 - 1 are asked for.
     pub fn new(alloc: Global, segments: &[Segment], l: &Layout) -> Result<Bus, Memory>
         requires apart { AreApart (ranges segments.now l.now) }
         requires heap_end { l.now.heap + l.now.heap_len ≤ 2 ^ 32 }
@@ -120,7 +122,7 @@ impl Bus {
     }
 
     /// The longest front of the `n` bytes from the address on that lies in one segment or region: at
-    /// least one byte.
+    /// least one byte. `n` is positive, and each of the bytes can be read.
     pub fn front(&self, a: u32, n: u32) -> &[u8]
         requires some { 0 < n }
         requires readable { holds self.now Read a n ≡ true }
@@ -154,7 +156,7 @@ impl Bus {
     }
 
     /// The segment or region at place `k` of those that have a byte, in ascending order of address,
-    /// with its bytes as they stand now.
+    /// with its bytes as they stand now. `k` counts from 0 and is below `areas()`.
     pub fn area(&self, k: u32) -> Area<'_>
         requires { k < length self.now }
         ensures { IsSomeAnd (slice_get self.now k) (λ s. (result.base ≡ s.base) × (result.flags ≡ s.flags) × (result.bytes.now ≡ s.bytes)) }

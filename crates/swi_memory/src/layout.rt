@@ -13,6 +13,6 @@ pub struct Layout {
     pub stack: u32,
     /// The stack's length.
     pub stack_len: u32,
-    /// The stack pointer at the start.
+    /// The stack pointer at the start: by `lay_out` a multiple of 16.
     pub sp: u32,
 }

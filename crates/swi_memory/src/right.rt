@@ -7,8 +7,11 @@ ghost use Rattle.swi_memory.specs.Rights.{grants};
 /// What an access needs: the right to read, to write or to execute.
 #[derive(Clone, Copy, PartialEq, Eq, Debug)]
 pub enum Right {
+    /// PF_R, which is 4.
     Read,
+    /// PF_W, which is 2.
     Write,
+    /// PF_X, which is 1.
     Execute,
 }
 

@@ -31,7 +31,8 @@ impl Model for Segment {
 
 impl Segment {
     /// The segment with these rights (4 read, 2 write, 1 execute), of `size` bytes, of which the
-    /// file has the first.
+    /// file has the first. The rights are below 8, there are at most `size` bytes, and `base + size`
+    /// is at most 2^32.
     pub fn of(base: u32, flags: u32, size: u32, bytes: Vec<u8>) -> Segment
         requires rights { flags < 8 }
         requires front { vec_len bytes ≤ size }

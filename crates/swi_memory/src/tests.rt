@@ -1,21 +1,14 @@
 use super::*;
 use std::alloc::Global;
 use std::test::Fail;
-use swi_outside::Memory;
 
 // Text from 0x1002 on, whose file has 15 bytes, so that its words stand at 0x1004, 0x1008 and 0x100C;
 // data adjoins it at 0x1012; bytes that can only be written stand at 0x2000, bytes that can only be
 // read at 0; the heap is empty, and the stack ends with the last address.
-fn memory(alloc: Global) -> Result<Bus, Memory> {
-    let Ok(text) = [1, 2, 3, 4, 5, 6, 7, 8, 9, 10, 11, 12, 13, 14, 15].to_vec(alloc) else {
-        return Err(Memory);
-    };
-    let Ok(data) = [0xA0, 0xA1].to_vec(alloc) else {
-        return Err(Memory);
-    };
-    let Ok(low) = [0x71, 0x72, 0x73, 0x74].to_vec(alloc) else {
-        return Err(Memory);
-    };
+fn memory(alloc: Global) -> Result<Bus, Fail> {
+    let text = [1, 2, 3, 4, 5, 6, 7, 8, 9, 10, 11, 12, 13, 14, 15].to_vec(alloc)?;
+    let data = [0xA0, 0xA1].to_vec(alloc)?;
+    let low = [0x71, 0x72, 0x73, 0x74].to_vec(alloc)?;
     let segments = [
         Segment::of(0x1012, 6, 4, data),
         Segment::of(0x1002, 5, 16, text),
@@ -29,7 +22,7 @@ fn memory(alloc: Global) -> Result<Bus, Memory> {
         stack_len: 16,
         sp: 0xFFFF_FFB0,
     };
-    Bus::new(alloc, &segments, &layout)
+    Ok(Bus::new(alloc, &segments, &layout)?)
 }
 
 fn load(bus: &Bus, a: u32, k: u8) -> Option<u32> {
@@ -52,9 +45,7 @@ fn store(bus: &mut Bus, a: u32, k: u8, v: u32) -> bool {
 fn loads_are_little_endian_and_cross_adjoining_segments_but_not_the_last_address(
     rt: HostRuntime,
 ) -> Result<(), Fail> {
-    let Ok(bus) = memory(rt.alloc()) else {
-        return Ok(());
-    };
+    let bus = memory(rt.alloc())?;
     for (a, k, want) in [
         (0x1002, 1, Some(0x01)),
         (0x1004, 4, Some(0x0605_0403)),
@@ -81,9 +72,7 @@ fn loads_are_little_endian_and_cross_adjoining_segments_but_not_the_last_address
 fn stores_change_their_bytes_alone_and_a_refused_one_changes_nothing(
     rt: HostRuntime,
 ) -> Result<(), Fail> {
-    let Ok(mut bus) = memory(rt.alloc()) else {
-        return Ok(());
-    };
+    let mut bus = memory(rt.alloc())?;
     for (a, k, v, accepted, then, want) in [
         (0x1012, 4, 0x1122_3344, true, 0x1010, Some(0x3344_000F)),
         (0x1013, 2, 0xFFFF_5566, true, 0x1012, Some(0x1155_6644)),
@@ -124,9 +113,7 @@ fn stores_change_their_bytes_alone_and_a_refused_one_changes_nothing(
 
 #[test]
 fn whole_words_of_the_file_are_fetched_and_nothing_else(rt: HostRuntime) -> Result<(), Fail> {
-    let Ok(bus) = memory(rt.alloc()) else {
-        return Ok(());
-    };
+    let bus = memory(rt.alloc())?;
     for (a, want) in [
         (0x1000, None),
         (0x1002, None),
@@ -144,9 +131,7 @@ fn whole_words_of_the_file_are_fetched_and_nothing_else(rt: HostRuntime) -> Resu
 
 #[test]
 fn ranges_are_judged_byte_by_byte(rt: HostRuntime) -> Result<(), Fail> {
-    let Ok(bus) = memory(rt.alloc()) else {
-        return Ok(());
-    };
+    let bus = memory(rt.alloc())?;
     for (a, n, readable, writable, touches_text) in [
         (0x9999, 0, true, true, false),
         (0x1002, 2, true, false, false),
@@ -171,9 +156,7 @@ fn ranges_are_judged_byte_by_byte(rt: HostRuntime) -> Result<(), Fail> {
 
 #[test]
 fn pieces_end_with_their_segment_and_areas_stand_in_order(rt: HostRuntime) -> Result<(), Fail> {
-    let Ok(mut bus) = memory(rt.alloc()) else {
-        return Ok(());
-    };
+    let mut bus = memory(rt.alloc())?;
     assert_eq!(rt; bus.copy_in(0x1012, b"xyz"), Ok(()));
     assert_eq!(rt; bus.copy_in(0x1014, b"xyz"), Err(Access));
     assert_eq!(rt; bus.copy_in(0xFFFF_FFFF, b"xy"), Err(Access));

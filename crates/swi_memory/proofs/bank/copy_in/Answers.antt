@@ -1,18 +1,40 @@
-use Rattle.std.proofs.Common.{◌≡◌, ◌+◌, ◌%◌, ◌^◌, ◌<◌, arith, ◌∙◌, ap, drop, get_or, rules}
-use Rattle.swi_memory.specs.Bus.{Write, with_byte, with_bytes}
-use Rattle.swi_memory.specs.Views.{areas}
-use Rattle.swi_memory.proofs.Accesses.{holds_small, with_bytes_more}
+use Rattle.std.proofs.Common.{◌≡◌, ◌<◌, ◌++◌, List, ℕ, get_or, length, take, drop, ap, arith, ◌∙◌, ◌+◌, ◌-◌, rules}
+use Rattle.std.specs.Vec.{with_items}
+use Rattle.std.proofs.lemmas.List.{with_items_is}
+use Rattle.swi_memory.specs.declared.bank.Bank.{Bank}
+use Rattle.swi_memory.specs.Bus.{Write}
+use Rattle.swi_memory.specs.Found.{IsFound}
+use Rattle.swi_memory.specs.Views.{area, areas}
+use Rattle.swi_memory.proofs.Accesses.{holds_none, held_none, copied_none, denied_found, held_found, copied_found}
 use Rattle.swi_memory.proofs.bank.copy_in.Goals as goal
 
-pub loop-i-preserved : goal.loop-i-preserved
-loop-i-preserved c =
-    let small : c.args.a + c.loop-i.i < 2 ^ 32 = holds_small (areas c.args.banks.now) Write c.args.a _ c.loop-i.i (search rules) c.loop-i-test.true in
-    let place : (c.args.a + c.loop-i.i) % 2 ^ 32 ≡ c.args.a + c.loop-i.i = omega arith in
-    let put : areas c.write_byte.new.banks ≡ with_byte (areas c.loop-i.banks) (c.args.a + c.loop-i.i) (get_or c.args.piece.now c.loop-i.i 0) = c.write_byte.ensures.value ∙ ap (λ x. with_byte (areas c.loop-i.banks) x (get_or c.args.piece.now c.loop-i.i 0)) place in
-    record {
-      order = c.write_byte.ensures.order;
-      left =
-          ap (λ m. with_bytes m (c.args.a + (c.loop-i.i + 1)) (drop (c.loop-i.i + 1) c.args.piece.now)) put
-          ∙ with_bytes_more (areas c.loop-i.banks) c.args.a c.loop-i.i c.args.piece.now c.loop-i-test.true
-          ∙ c.loop-i.invariant.left;
-    }
+pub returns-then-is_empty-clause-ok : goal.returns-then-is_empty-clause-ok
+returns-then-is_empty-clause-ok c = held_none (areas c.args.banks.now) Write c.args.a (length c.args.piece.now) (search rules)
+
+pub returns-then-is_empty-clause-bytes : goal.returns-then-is_empty-clause-bytes
+returns-then-is_empty-clause-bytes c = copied_none (areas c.args.banks.now) c.args.a c.args.piece.now (search rules)
+
+pub returns-in_default-clause-refused : goal.returns-in_default-clause-refused
+returns-in_default-clause-refused c = holds_none (areas c.args.banks.now) Write c.args.a (length c.args.piece.now) (search rules) (search rules)
+
+pub returns-then-is_in-clause-ok : goal.returns-then-is_in-clause-ok
+returns-then-is_in-clause-ok c =
+    let found : IsFound c.args.banks.now c.args.a c.in-Some.i = search rules in
+    held_found c.args.banks.now c.in-Some.i c.args.a (length c.args.piece.now) Write c.index-banks-i.result c.requires.order found (omega (arith, ap length c.deref_mut.ensures.value)) (search rules)
+
+pub returns-then-is_in-clause-bytes : goal.returns-then-is_in-clause-bytes
+returns-then-is_in-clause-bytes c =
+    let found : IsFound c.args.banks.now c.args.a c.in-Some.i = search rules in
+    let old : Bank = get_or c.args.banks.now c.in-Some.i c.index-banks-i.result in
+    let at : ℕ = c.args.a - old.base in
+    let bytes : c.put_piece.new.bytes ≡ take at old.bytes.items ++ c.args.piece.now ++ drop (at + length c.args.piece.now) old.bytes.items =
+    c.put_piece.ensures ∙ ap (λ xs. take at xs ++ c.args.piece.now ++ drop (at + length c.args.piece.now) xs) c.deref_mut.ensures.value in
+    let same : length c.put_piece.new.bytes ≡ old.bytes.len = omega (arith, ap length c.deref_mut.ensures.value, c.put_piece.auto.bytes, old.bytes.ok.0) in
+    copied_found c.args.banks.now c.in-Some.i c.args.a c.args.piece.now c.index-banks-i.result (record old { bytes = with_items old.bytes c.put_piece.new.bytes }) c.requires.order found
+    (omega (arith, ap length c.deref_mut.ensures.value))
+    (ap (λ xs. record (area old) { bytes = xs }) (with_items_is old.bytes c.put_piece.new.bytes same ∙ bytes))
+
+pub returns-else-is_in-clause-refused : goal.returns-else-is_in-clause-refused
+returns-else-is_in-clause-refused c =
+    let found : IsFound c.args.banks.now c.args.a c.in-Some.i = search rules in
+    denied_found c.args.banks.now c.in-Some.i c.args.a (length c.args.piece.now) Write c.index-banks-i.result c.requires.order found (search rules) (search rules)

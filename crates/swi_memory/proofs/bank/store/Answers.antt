@@ -14,7 +14,7 @@ returns-in_default-clause-refused c = holds_none (areas c.args.banks.now) Write 
 pub returns-then-not-is_in-clause-refused : goal.returns-then-not-is_in-clause-refused
 returns-then-not-is_in-clause-refused c =
     let found : IsFound c.args.banks.now c.args.a c.in-Some.i = search rules in
-    denied_found c.args.banks.now c.in-Some.i c.args.a c.args.k Write c.index-banks-i.result c.requires.order found c.requires.size (search rules)
+    denied_found c.args.banks.now c.in-Some.i c.args.a c.args.k Write c.index-banks-i.result c.requires.order found (size_some c.args.k c.requires.size) (search rules)
 
 pub returns-clause-ok : goal.returns-clause-ok
 returns-clause-ok c =

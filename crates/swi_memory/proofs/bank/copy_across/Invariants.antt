@@ -1,7 +1,7 @@
 use Rattle.std.proofs.Common.{◌≡◌, ◌+◌, drop}
 use Rattle.swi_memory.specs.Bus.{AreInOrder, with_bytes}
 use Rattle.swi_memory.specs.Views.{areas}
-use Rattle.swi_memory.proofs.bank.copy_in.Given as goal
+use Rattle.swi_memory.proofs.bank.copy_across.Given as goal
 
 -- what is to come is what was to come at first
 abbrev pub invariant-loop-i : goal.invariant-loop-i
