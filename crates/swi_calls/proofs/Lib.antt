@@ -1,3 +1,4 @@
 pub mod BusLemmas
 pub mod CallLemmas
+pub mod FirstStores
 pub mod MovesLemmas

@@ -1,5 +1,6 @@
 pub mod Call
 pub mod Causes
+pub mod FirstStore
 pub mod Flat
 pub mod Moves
 pub mod State

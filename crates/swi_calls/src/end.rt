@@ -7,7 +7,8 @@ use swi_exec::FaultKind;
 pub enum End {
     /// The guest exited with this code.
     Exited(u32),
-    /// An instruction faulted, at this address.
+    /// An instruction faulted. The address is the target of a jump or that of an access, and for fetch-access, illegal and break
+    /// the pc.
     Faulted(FaultKind, u32),
     /// An instruction would have stored into the text, at this address. Only the cached machine ends so.
     StoreText(u32),

@@ -1,6 +1,7 @@
 //! System calls of a guest, and what a flat machine is.
 #![tactic(auto)]
 
+mod arguments;
 mod end;
 mod heap;
 mod line;

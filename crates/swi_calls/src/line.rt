@@ -47,6 +47,7 @@ impl Line {
         ensures bytes { self.new ≡ self.old ++ text.now }
         ensures size { length self.new ≡ length self.old + length text.now }
     {
+        // there is room, so this doesn't fail
         let _ = self.bytes.try_extend_from_slice(text.as_bytes());
     }
 
@@ -57,6 +58,7 @@ impl Line {
         ensures size { length self.new ≤ length self.old + 20 }
     {
         let mut buffer = itoa::Buffer::new();
+        // there is room, so this doesn't fail
         let _ = self
             .bytes
             .try_extend_from_slice(buffer.format(number).as_bytes());
@@ -70,6 +72,7 @@ impl Line {
     {
         let mut digits = [0u8; 8];
         let bytes = word.to_be_bytes();
+        // eight digits for four bytes, and room for them, so neither fails
         let _ = hex::encode_to_slice(&bytes, &mut digits);
         let _ = self.bytes.try_extend_from_slice(&digits);
     }

@@ -1,8 +1,8 @@
 //! Bytes between memory and the outside, in pieces, without memory of their own.
 #![tactic(auto)]
 
-ghost use Rattle.std.specs.Prelude.{◌≡◌, ◌≤◌, ◌<◌, ◌+◌, ◌^◌, ℕ, true, IfOk, OnOk, OnErr, length};
-ghost use Rattle.std.specs.Io.KnownBytes.{Appends, Consumes, IsAtEnd};
+ghost use Rattle.std.specs.Prelude.{◌≡◌, ◌≤◌, ◌<◌, ◌+◌, ℕ, true, IfOk, OnOk, OnErr, length};
+ghost use Rattle.std.specs.Io.KnownBytes.{Appends, IsAtEnd};
 ghost use Rattle.swi_outside.specs.Causes.{HasCause};
 ghost use Rattle.swi_outside.specs.Sink.{AppendsPrefix};
 ghost use Rattle.swi_memory.specs.declared.right.Right.TheVariants.{Read, Write};
@@ -24,6 +24,7 @@ fn put_piece(bus: &mut Bus, a: u32, count: u32, done: u32, piece: &[u8])
     ensures bytes { bus.new ≡ with_bytes bus.old (a + done) piece.now }
     ensures held_still { holds bus.new Write a count ≡ true }
 {
+    // the bytes can be written, so this doesn't fail
     let _ = bus.copy_in(a.wrapping_add(done), piece);
 }
 
@@ -47,10 +48,7 @@ fn read_piece<I: Source>(
 {
     let mut piece = [0u8; PIECE];
     let room = (count - done).min(PIECE as u32) as usize;
-    let taken = match input.read(&mut piece[..room]) {
-        Ok(taken) => taken,
-        Err(_) => return Err(Failed),
-    };
+    let taken = input.read(&mut piece[..room])?;
     put_piece(bus, a, count, done, &piece[..taken]);
     Ok(taken as u32)
 }
@@ -71,10 +69,7 @@ pub(crate) fn read_into<I: Source>(
 {
     let mut done = 0;
     while done < count {
-        let taken = match read_piece(bus, a, count, done, input) {
-            Ok(taken) => taken,
-            Err(_) => return Err(Failed),
-        };
+        let taken = read_piece(bus, a, count, done, input)?;
         if taken == 0 {
             return Ok(done);
         }
@@ -104,9 +99,7 @@ pub(crate) fn write_from<S: Sink>(bus: &Bus, a: u32, count: u32, sink: &mut S) -
     let mut done = 0;
     while done < count {
         let piece = piece_at(bus, a, count, done);
-        if sink.write(piece).is_err() {
-            return Err(Failed);
-        }
+        sink.write(piece)?;
         done += piece.len() as u32;
     }
     Ok(())

@@ -4,25 +4,13 @@
 ghost use Rattle.std.specs.Prelude.{◌≡◌};
 ghost use Rattle.swi_memory.specs.declared.right.Right.TheVariants.{Write};
 ghost use Rattle.swi_memory.specs.Bus.{holds};
-ghost use Rattle.swi_exec.specs.Execute.{store_size};
 ghost use Rattle.swi_calls.specs.StoresText.{atomic_range, in_text, range_if, read_range, text_store_of};
 
+use crate::arguments::{first_argument, number_of, second_argument, third_argument};
 use crate::system_call::READ;
-use swi_exec::Regs;
-use swi_isa::{AtomicOp, Instr, Reg, StoreOp};
+use swi_exec::{Regs, size_of_store};
+use swi_isa::{AtomicOp, Instr};
 use swi_memory::Bus;
-
-/// How many bytes a store writes.
-#[inline(always)]
-fn size_of_store(op: StoreOp) -> u32
-    ensures { result ≡ store_size op }
-{
-    match op {
-        StoreOp::Sb => 1,
-        StoreOp::Sh => 2,
-        StoreOp::Sw => 4,
-    }
-}
 
 /// `a`, where the `n` bytes from there on can all be written and one of them is a text word's.
 #[inline(always)]
@@ -67,8 +55,8 @@ fn atomic_store(op: AtomicOp, a: u32, regs: &Regs, bus: &Bus) -> Option<u32>
 fn read_store(regs: &Regs, bus: &Bus) -> Option<u32>
     ensures { result ≡ in_text bus.now (read_range regs.now bus.now) }
 {
-    if regs.get(Reg::of(17)) == READ && regs.get(Reg::of(10)) == 0 {
-        store_at(bus, regs.get(Reg::of(11)), regs.get(Reg::of(12)))
+    if number_of(regs) == READ && first_argument(regs) == 0 {
+        store_at(bus, second_argument(regs), third_argument(regs))
     } else {
         None
     }
@@ -85,7 +73,8 @@ pub fn text_store(i: &Instr, regs: &Regs, bus: &Bus) -> Option<u32>
 {
     match *i {
         Instr::Store { op, rs1, imm, .. } => {
-            store_at(bus, regs.get(rs1).wrapping_add(imm), size_of_store(op))
+            let size = u32::from(size_of_store(op));
+            store_at(bus, regs.get(rs1).wrapping_add(imm), size)
         }
         Instr::Atomic { op, rs1, .. } => atomic_store(op, regs.get(rs1), regs, bus),
         Instr::Ecall => read_store(regs, bus),

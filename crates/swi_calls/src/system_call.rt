@@ -3,16 +3,15 @@
 
 ghost use Rattle.std.specs.Prelude.{◌≡◌, ◌≤◌, ℕ, Some, Option, IfOk, OnOk, OnErr, List, true, length, ◌+◌, ◌++◌};
 ghost use Rattle.std.specs.Option.{ForSome};
-ghost use Rattle.std.specs.Io.KnownBytes.{Appends, Consumes};
+ghost use Rattle.std.specs.Io.KnownBytes.{Appends};
 ghost use Rattle.swi_outside.specs.Causes.{HasCause};
 ghost use Rattle.swi_outside.specs.Sink.{AppendsPrefix, WritesPiece};
-ghost use Rattle.swi_memory.specs.Bus.{with_bytes};
-ghost use Rattle.swi_exec.specs.Registers.{reg};
-ghost use Rattle.swi_calls.specs.Call.{IsServed, called, called_of, code_of, read_served, write_served, served, brk_heap, told, number_of, read_room, room_of_call, second_argument};
+ghost use Rattle.swi_calls.specs.Call.{IsServed, called, called_of, read_served, write_served, served, brk_heap, told, number_of, read_room, room_of_call, second_argument};
 ghost use Rattle.swi_calls.specs.Causes.{HasCauses, WritesCause};
 ghost use Rattle.swi_calls.specs.Moves.{ReadsInto};
 ghost use Rattle.swi_calls.specs.Text.{answer_text};
 
+use crate::arguments::{first_argument, number_of, second_argument, third_argument};
 use crate::moves::{read_into, write_from};
 use crate::{CallFault, Called, Heap, Line};
 use swi_exec::Regs;
@@ -30,11 +29,13 @@ const EXIT_GROUP: u32 = 94;
 
 const BRK: u32 = 214;
 
-// The answers -9, -14 and -38.
+/// -9, EBADF.
 const BAD_DESCRIPTOR: u32 = u32::MAX - 8;
 
+/// -14, EFAULT.
 const BAD_ADDRESS: u32 = u32::MAX - 13;
 
+/// -38, ENOSYS.
 const UNKNOWN_CALL: u32 = u32::MAX - 37;
 
 /// read(descriptor, buffer, count), which takes bytes of the input.
@@ -82,11 +83,9 @@ fn write<O: Sink, E: Sink>(
         return Ok(BAD_ADDRESS);
     }
     if descriptor == 1 {
-        if write_from(bus, buffer, count, out).is_err() {
-            return Err(Failed);
-        }
-    } else if write_from(bus, buffer, count, err).is_err() {
-        return Err(Failed);
+        write_from(bus, buffer, count, out)?;
+    } else {
+        write_from(bus, buffer, count, err)?;
     }
     Ok(count)
 }
@@ -127,10 +126,10 @@ fn serve<I: Source, O: Sink, E: Sink>(
         (record { input = I.faults input.old; out = O.faults out.old; err = E.faults err.old })
         (record { input = I.faults input.new; out = O.faults out.new; err = E.faults err.new }) result }
 {
-    let first = regs.get(Reg::of(10));
-    let second = regs.get(Reg::of(11));
-    let third = regs.get(Reg::of(12));
-    match regs.get(Reg::of(17)) {
+    let first = first_argument(regs);
+    let second = second_argument(regs);
+    let third = third_argument(regs);
+    match number_of(regs) {
         READ => match read(bus, first, second, third, input) {
             Ok(answer) => Ok(Some(answer)),
             Err(_) => Err(CallFault::SourceFault),
@@ -163,20 +162,20 @@ fn call_line(regs: &Regs, answer: Option<u32>) -> Line
 {
     let mut line = Line::new();
     line.text("call ");
-    line.decimal(u64::from(regs.get(Reg::of(17))));
+    line.decimal(u64::from(number_of(regs)));
     line.text(" ");
-    line.hex_word(regs.get(Reg::of(10)));
+    line.hex_word(first_argument(regs));
     line.text(" ");
-    line.hex_word(regs.get(Reg::of(11)));
+    line.hex_word(second_argument(regs));
     line.text(" ");
-    line.hex_word(regs.get(Reg::of(12)));
+    line.hex_word(third_argument(regs));
     push_answer(&mut line, answer);
     line.text("\n");
     line
 }
 
 /// Writes the line that tells of a call to the error sink, where calls are told. The registers are
-/// those before the call; None is the answer of a call that ends the run.
+/// those before the call; None is the answer of a call that ends the run. After Failed a prefix of the line was written.
 pub fn tell<E: Sink>(log: bool, regs: &Regs, answer: Option<u32>, err: &mut E) -> Result<(), Failed>
     ensures bytes { WritesPiece (E.held err.old) (E.held err.new) result (told log regs.now answer) }
     ensures cause { HasCause (E.faults err.old) (E.faults err.new) result }
@@ -193,19 +192,24 @@ fn move_break(heap: &mut Heap, regs: &Regs, answer: u32)
     ensures brk { number_of regs.now ≡ 214 → heap.new ≡ record heap.old { now = answer } }
     ensures other { (number_of regs.now ≡ 214 → ⊥) → heap.new ≡ heap.old }
 {
-    if regs.get(Reg::of(17)) == BRK {
+    if number_of(regs) == BRK {
         heap.now = answer;
     }
 }
 
 /// Does one system call of the guest: its number stands in a7, its arguments in a0, a1 and a2, and its answer goes to a0.
 ///
-/// read (63), write (64), exit and exit_group (93, 94) and brk (214) are there; every other number answers -38. A descriptor
-/// other than 0, or than 1 and 2, answers -9, and a buffer with a byte that can't be written, or read, -14. With `log` each call
-/// is told in a line on `err`, after what it wrote there itself. Bytes move in pieces of at most 256, and no memory is taken.
+/// read (63) from descriptor 0 takes bytes until the count or the input's end, and answers their number. write (64) to 1, the
+/// output, or 2, the errors, answers the count. exit and exit_group (93, 94) end the run with code a0 and change no register.
+/// brk (214) moves the break to an address from the heap's base to its limit, both included, and answers the break. Every other
+/// number answers -38. The descriptor is looked at first (-9), then the buffer (-14); with a good descriptor a count of 0 answers
+/// 0. With `log` a line on `err` tells of each call, after its own output. Bytes move in pieces of at most 256, and no memory is
+/// taken.
 ///
-/// A failure leaves the registers and the break as they were. What was written is then a prefix of what the call writes, and of
-/// a read a front of the buffer may be filled.
+/// SourceFault: the input failed; SinkFault: a sink did. Either leaves the registers and the break as they were. What was written
+/// is then a prefix of what the call writes, and of a read a front of the buffer may be filled.
+///
+/// Source: Linux on RISC-V (numbers, registers, error answers); which calls are there, and the break as a mere number: own rule.
 #[inline(never)]
 #[tactic(auto, unfolding(crate::specs::Call::called))]
 pub fn call<I: Source, O: Sink, E: Sink>(
@@ -240,15 +244,12 @@ pub fn call<I: Source, O: Sink, E: Sink>(
         (record { input = I.faults input.old; out = O.faults out.old; err = E.faults err.old })
         (record { input = I.faults input.new; out = O.faults out.new; err = E.faults err.new }) result }
 {
-    let answer = match serve(regs, bus, *heap, input, out, err) {
-        Ok(answer) => answer,
-        Err(fault) => return Err(fault),
-    };
+    let answer = serve(regs, bus, *heap, input, out, err)?;
     if tell(log, regs, answer, err).is_err() {
         return Err(CallFault::SinkFault);
     }
     let Some(answer) = answer else {
-        return Ok(Called::Exited(regs.get(Reg::of(10))));
+        return Ok(Called::Exited(first_argument(regs)));
     };
     move_break(heap, regs, answer);
     regs.set(Reg::of(10), answer);

@@ -258,12 +258,60 @@ fn calls_are_told_after_what_they_write(rt: HostRuntime) -> Result<(), Fail> {
     Ok(())
 }
 
-/// A call's number and arguments, the calls that fail of the input, the output and the errors, 0 for none, and then the fault,
-/// and what the output and the errors hold.
-static FAILURES: [(u32, u32, u32, u32, u32, u32, u32, CallFault, &str, &str); 5] = [
-    (63, 0, 0x2_0000, 3, 1, 0, 0, CallFault::SourceFault, "", ""),
-    (63, 0, 0x2_0000, 7, 2, 0, 0, CallFault::SourceFault, "", ""),
-    (63, 0, 0x2_0000, 6, 0, 0, 1, CallFault::SinkFault, "", ""),
+/// A call's number and arguments, the calls that fail of the input, the output and the errors, 0 for none, and then the fault, the
+/// word at 0x20000, and what the output and the errors hold. The break stays.
+static FAILURES: [(
+    u32,
+    u32,
+    u32,
+    u32,
+    u32,
+    u32,
+    u32,
+    CallFault,
+    u32,
+    &str,
+    &str,
+); 5] = [
+    (
+        63,
+        0,
+        0x2_0000,
+        3,
+        1,
+        0,
+        0,
+        CallFault::SourceFault,
+        0x7A79_7877,
+        "",
+        "",
+    ),
+    (
+        63,
+        0,
+        0x2_0000,
+        7,
+        2,
+        0,
+        0,
+        CallFault::SourceFault,
+        0x6463_6261,
+        "",
+        "",
+    ),
+    (
+        63,
+        0,
+        0x2_0000,
+        6,
+        0,
+        0,
+        1,
+        CallFault::SinkFault,
+        0x6463_6261,
+        "",
+        "",
+    ),
     (
         64,
         1,
@@ -273,6 +321,7 @@ static FAILURES: [(u32, u32, u32, u32, u32, u32, u32, CallFault, &str, &str); 5]
         2,
         0,
         CallFault::SinkFault,
+        0x7A79_7877,
         "wxyz\0\0\0\0",
         "",
     ),
@@ -285,15 +334,16 @@ static FAILURES: [(u32, u32, u32, u32, u32, u32, u32, CallFault, &str, &str); 5]
         0,
         2,
         CallFault::SinkFault,
+        0x7A79_7877,
         "",
         "wxyz\0\0\0\0",
     ),
 ];
 
 #[test]
-fn failed_devices_leave_a_prefix_and_a0(rt: HostRuntime) -> Result<(), Fail> {
+fn failed_devices_leave_a_prefix_a0_and_the_break(rt: HostRuntime) -> Result<(), Fail> {
     let alloc = rt.alloc();
-    for (k, (number, a0, a1, a2, reads, outs, errs, fault, output, error)) in FAILURES
+    for (k, (number, a0, a1, a2, reads, outs, errs, fault, word, output, error)) in FAILURES
         .into_iter()
         .enumerate()
     {
@@ -306,6 +356,8 @@ fn failed_devices_leave_a_prefix_and_a0(rt: HostRuntime) -> Result<(), Fail> {
         );
         assert_eq!(rt; called, Err(fault), "row {k}");
         assert_eq!(rt; regs.get(Reg::of(10)), a0, "row {k}");
+        assert_eq!(rt; heap, HEAP, "row {k}");
+        assert_eq!(rt; bus.load(0x2_0000, 4), Ok(word), "row {k}");
         assert_eq!(rt; out.held(), output.as_bytes(), "row {k}");
         assert_eq!(rt; err.held(), error.as_bytes(), "row {k}");
     }
@@ -314,13 +366,13 @@ fn failed_devices_leave_a_prefix_and_a0(rt: HostRuntime) -> Result<(), Fail> {
 
 /// A source that gives at most so many bytes at once.
 #[derive(Drop)]
-struct Drops<'a> {
+struct Trickle<'a> {
     rest: &'a [u8],
     most: usize,
     faults: u64,
 }
 
-impl Source for Drops<'_> {
+impl Source for Trickle<'_> {
     ghost left = { λ _. None };
 
     ghost faults = { λ s. s.faults };
@@ -354,7 +406,7 @@ fn reads_go_on_until_the_count_or_the_end(rt: HostRuntime) -> Result<(), Fail> {
             HEAP,
         );
         let whole = bytes.get(..length).unwrap_or(&[]);
-        let mut input = Drops {
+        let mut input = Trickle {
             rest: whole,
             most,
             faults: 0,
@@ -381,38 +433,39 @@ fn reads_go_on_until_the_count_or_the_end(rt: HostRuntime) -> Result<(), Fail> {
     Ok(())
 }
 
-/// A word, x10 and x11, the address that is reserved, 0 for none, x17, and the address at which it would store into the text, 0
-/// for none. x12 is 4.
-static STORES: [(u32, u32, u32, u32, u32, u32); 18] = [
+/// A word, x10, x11 and x12, the address that is reserved, 0 for none, x17, and the address at which it would store into the text,
+/// 0 for none.
+static STORES: [(u32, u32, u32, u32, u32, u32, u32); 19] = [
     // sw, sh and sb of x11 at x10
-    (0x00B5_2023, 0x1_0000, 0, 0, 0, 0x1_0000),
-    (0x00B5_2023, 0x1_0006, 0, 0, 0, 0),
-    (0x00B5_1023, 0x1_0006, 0, 0, 0, 0x1_0006),
-    (0x00B5_0023, 0x1_0008, 0, 0, 0, 0),
-    (0x00B5_2023, 0x2_0000, 0, 0, 0, 0),
+    (0x00B5_2023, 0x1_0000, 0, 0, 0, 0, 0x1_0000),
+    (0x00B5_2023, 0x1_0006, 0, 0, 0, 0, 0),
+    (0x00B5_1023, 0x1_0006, 0, 0, 0, 0, 0x1_0006),
+    (0x00B5_0023, 0x1_0008, 0, 0, 0, 0, 0),
+    (0x00B5_2023, 0x2_0000, 0, 0, 0, 0, 0),
     // lr.w of x10; sc.w and amoadd.w of x11 at x10
-    (0x1005_252F, 0x1_0000, 0, 0, 0, 0),
-    (0x18B5_252F, 0x1_0004, 0, 0x1_0004, 0, 0x1_0004),
-    (0x18B5_252F, 0x1_0004, 0, 0x1_0000, 0, 0),
-    (0x18B5_252F, 0x1_0004, 0, 0, 0, 0),
-    (0x00B5_252F, 0x1_0004, 0, 0, 0, 0x1_0004),
-    (0x00B5_252F, 0x1_0002, 0, 0, 0, 0),
-    (0x00B5_252F, 0x2_0000, 0, 0, 0, 0),
+    (0x1005_252F, 0x1_0000, 0, 0, 0, 0, 0),
+    (0x18B5_252F, 0x1_0004, 0, 0, 0x1_0004, 0, 0x1_0004),
+    (0x18B5_252F, 0x1_0004, 0, 0, 0x1_0000, 0, 0),
+    (0x18B5_252F, 0x1_0004, 0, 0, 0, 0, 0),
+    (0x00B5_252F, 0x1_0004, 0, 0, 0, 0, 0x1_0004),
+    (0x00B5_252F, 0x1_0002, 0, 0, 0, 0, 0),
+    (0x00B5_252F, 0x2_0000, 0, 0, 0, 0, 0),
     // ecall
-    (0x0000_0073, 0, 0x1_0004, 0, 63, 0x1_0004),
-    (0x0000_0073, 0, 0x1_0006, 0, 63, 0),
-    (0x0000_0073, 1, 0x1_0004, 0, 63, 0),
-    (0x0000_0073, 0, 0x2_0000, 0, 63, 0),
-    (0x0000_0073, 0, 0x1_0004, 0, 64, 0),
+    (0x0000_0073, 0, 0x1_0004, 4, 0, 63, 0x1_0004),
+    (0x0000_0073, 0, 0x1_0006, 4, 0, 63, 0),
+    (0x0000_0073, 1, 0x1_0004, 4, 0, 63, 0),
+    (0x0000_0073, 0, 0x2_0000, 4, 0, 63, 0),
+    (0x0000_0073, 0, 0x1_0004, 4, 0, 64, 0),
+    (0x0000_0073, 0, 0x1_0004, 0, 0, 63, 0),
     // lw of x10
-    (0x0005_2503, 0x1_0000, 0, 0, 0, 0),
+    (0x0005_2503, 0x1_0000, 0, 0, 0, 0, 0),
 ];
 
 #[test]
 fn stores_into_the_text_are_found(rt: HostRuntime) -> Result<(), Fail> {
     let bus = small_bus(rt.alloc())?;
-    for (k, (word, x10, x11, reserved, x17, found)) in STORES.into_iter().enumerate() {
-        let mut regs = regs_of(x17, x10, x11, 4);
+    for (k, (word, x10, x11, x12, reserved, x17, found)) in STORES.into_iter().enumerate() {
+        let mut regs = regs_of(x17, x10, x11, x12);
         regs.reserve(Some(reserved).filter(|a| *a != 0));
         let instruction = decode(word).unwrap_or(Instr::Fence);
         let address = text_store(&instruction, &regs, &bus);

@@ -97,20 +97,12 @@ pub fn remainder_unsigned(a: u32, b: u32) -> u32
 pub fn least(a: u32, b: u32) -> u32
     ensures { result ≡ least_of a b }
 {
-    if b.cast_signed() < a.cast_signed() {
-        b
-    } else {
-        a
-    }
+    a.cast_signed().min(b.cast_signed()).cast_unsigned()
 }
 
 /// The greatest of two words, read as signed.
 pub fn greatest(a: u32, b: u32) -> u32
     ensures { result ≡ greatest_of a b }
 {
-    if a.cast_signed() < b.cast_signed() {
-        b
-    } else {
-        a
-    }
+    a.cast_signed().max(b.cast_signed()).cast_unsigned()
 }

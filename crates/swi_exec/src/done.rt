@@ -1,26 +1,28 @@
 //! How an instruction ends.
 #![tactic(auto)]
 
-/// Why a run stops at an instruction: the exceptions of the RISC-V privileged specification that a
-/// program in one mode can raise, but for its system calls. Here each ends the run.
-#[derive(Clone, Copy, PartialEq, Eq, Debug, Drop)]
+/// Why a run stops at an instruction. The names are those of exceptions of the RISC-V privileged
+/// specification. A misaligned load or store goes byte by byte, and a misaligned LR.W, SC.W or AMO is an
+/// access fault: own rule.
+#[derive(Clone, Copy, PartialEq, Eq, Debug)]
 pub enum FaultKind {
     /// A taken branch, JAL or JALR goes to an address that is not a multiple of 4.
     FetchMisaligned,
-    /// No instruction stands at the pc.
+    /// No text word stands at the pc (own rule).
     FetchAccess,
     /// The word at the pc is no instruction.
     Illegal,
     /// EBREAK.
     Break,
-    /// A load from bytes that cannot be read, or an LR.W that is misaligned.
+    /// A load or LR.W from bytes that cannot be read, or a misaligned LR.W.
     LoadAccess,
-    /// A store to bytes that cannot be written, or an SC.W or AMO that is misaligned.
+    /// A store or SC.W to bytes that cannot be written, an AMO on bytes that cannot be both read and
+    /// written, or a misaligned SC.W or AMO.
     StoreAccess,
 }
 
 /// What comes after an instruction.
-#[derive(Clone, Copy, PartialEq, Eq, Debug, Drop)]
+#[derive(Clone, Copy, PartialEq, Eq, Debug)]
 pub enum Done {
     /// The instruction at this address.
     Next(u32),

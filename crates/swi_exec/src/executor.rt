@@ -17,7 +17,8 @@ use swi_memory::Bus;
 /// call, or ends the run. FENCE changes nothing. The bits aq and rl of the atomic instructions have no
 /// meaning on one hart.
 ///
-/// Source: RISC-V unprivileged specification, RV32I, and the M and A extensions.
+/// Source: RISC-V unprivileged specification, RV32I, and the M and A extensions. What a misaligned access
+/// does, which accesses fault, and when SC.W stores: own rule.
 #[inline(always)]
 pub fn exec(instr: &Instr, pc: u32, regs: &mut Regs, bus: &mut Bus) -> Done
     requires { pc % 4 ≡ 0 }

@@ -3,14 +3,15 @@
 
 mod arithmetic;
 mod atomic;
-pub mod done;
-pub mod executor;
-pub mod registers;
+mod done;
+mod executor;
+mod registers;
 mod values;
 
 pub use done::{Done, FaultKind};
 pub use executor::exec;
 pub use registers::Regs;
+pub use values::size_of_store;
 
 #[cfg(test)]
 mod tests;

@@ -1,6 +1,7 @@
 //! Instructions on operands. What each leaves is what qemu-riscv32 left of the word that GNU as wrote for
 //! it; tools/exec_vectors.py makes the three tables. What faults, and with which address, is from the RISC-V
-//! unprivileged specification, but for the misaligned accesses, which this crate's definitions refuse.
+//! unprivileged specification, but for the misaligned atomic instructions, and accesses past the last
+//! address, which are own rules.
 #![tactic(auto)]
 
 use crate::{Done, FaultKind, Regs, exec};

@@ -125,7 +125,7 @@ pub fn word_of_atomic(op: AtomicOp, a: u32, b: u32) -> u32
         AtomicOp::OrW => a | b,
         AtomicOp::MinW => least(a, b),
         AtomicOp::MaxW => greatest(a, b),
-        AtomicOp::MinuW => if b < a { b } else { a },
-        AtomicOp::MaxuW => if a < b { b } else { a },
+        AtomicOp::MinuW => a.min(b),
+        AtomicOp::MaxuW => a.max(b),
     }
 }

@@ -1,0 +1,52 @@
+-- The first step that would store into the text.
+use Rattle.std.proofs.Common.{◌≡◌, ℕ, zero, suc, ◌<◌, true, false, [], ◌∷◌, None, refl, arith}
+use Rattle.swi_isa.specs.Table.{imm_u, imm_s}
+use Rattle.swi_isa.specs.Decode.{decoded, decoded_by}
+use Rattle.swi_memory.specs.Bus.{AreaData}
+use Rattle.swi_exec.specs.Registers.{new_regs}
+use Rattle.swi_calls.specs.State.{Machine, FlatState}
+use Rattle.swi_calls.specs.Flat.{made, flat_run, started}
+use Rattle.swi_calls.specs.FirstStore.{StoresAt, IsFirstStore}
+
+-- auipc x5, 0 and sw x0, 0(x5), where they can be written
+text : AreaData
+text = record { base = 0x10000; flags = 7; file = 8; bytes = 0x97 ∷ 0x02 ∷ 0x00 ∷ 0x00 ∷ 0x23 ∷ 0xA0 ∷ 0x02 ∷ 0x00 ∷ [] }
+
+-- the same, where they can't
+fixed_text : AreaData
+fixed_text = record text { flags = 5 }
+
+-- a machine at the first of them
+abbrev at_start : AreaData → FlatState
+at_start area = started (record {
+  pc = 0x10000;
+  regs = new_regs;
+  bus = area ∷ [];
+  heap = record { base = 0; limit = 0; now = 0 };
+  log = false;
+  ending = None;
+  steps = 0;
+}) []
+
+none_before : (j : ℕ) → suc j < 2 → StoresAt (at_start text) j → ⊥
+unfolding text flat_run made decoded decoded_by imm_u imm_s
+none_before zero early h = let no_store : false ≡ true = h.stores in cc
+none_before (suc j) early h = omega (arith, early)
+
+second_stores_at : StoresAt (at_start text) 1
+unfolding text flat_run made decoded decoded_by imm_u imm_s
+second_stores_at = record { going = refl; stores = refl }
+
+-- the second step is the first that would store into the text
+second_stores : IsFirstStore (at_start text) 9 2
+second_stores = record {
+  one_at_least = omega arith;
+  within = omega arith;
+  here = second_stores_at;
+  first = none_before;
+}
+
+-- a store that faults is none
+faults_first : StoresAt (at_start fixed_text) 1 → ⊥
+unfolding text fixed_text flat_run made decoded decoded_by imm_u imm_s
+faults_first h = let no_store : false ≡ true = h.stores in cc
