@@ -1,5 +1,5 @@
 -- What a command answers and writes, for its words, its file and the input. Own rule.
-use Rattle.std.specs.Prelude.{◌≡◌, ◌*◌, ◌^◌, ℕ, Bool, nat_lt, List, [], ◌++◌, length, take, Option, Some, None, Result, Ok, Err, ⊤, if◌then◌else◌}
+use Rattle.std.specs.Prelude.{◌≡◌, ◌⊎◌, ◌*◌, ◌^◌, ℕ, Bool, nat_lt, List, [], ◌++◌, length, take, Option, Some, None, Result, Ok, Err, ⊤, if◌then◌else◌}
 use Rattle.std.specs.Io.KnownBytes.{Appends}
 use Rattle.swi_outside.specs.Sink.{AppendsPrefix}
 use Rattle.swi_outside.specs.CacheRam.{RamState}
@@ -156,15 +156,7 @@ IsCheck refusal.Memory = ⊥
 -- any refusal of a command that the words mean
 abbrev pub IsAsked : Refusal → Type 0
 IsAsked refusal.Usage = ⊥
-IsAsked refusal.ShelfFault = ⊤
-IsAsked (refusal.FileLong limit) = ⊤
-IsAsked (refusal.Elf r) = ⊤
-IsAsked (refusal.Room end) = ⊤
-IsAsked (refusal.NotBuilt address) = ⊤
-IsAsked refusal.SourceFault = ⊤
-IsAsked refusal.SinkFault = ⊤
-IsAsked refusal.RamFault = ⊤
-IsAsked refusal.Memory = ⊤
+IsAsked r = ⊤
 
 -- a command ends only where no check fails, and is refused by the first that does
 abbrev pub IsChecked : Option Refusal → Result Ending Refusal → Type 0
@@ -174,6 +166,10 @@ IsChecked expected (Err r) = IsCheck r → expected ≡ Some r
 -- some bytes of a text, and then some of another
 abbrev pub AppendsPrefixes : Option (List ℕ) → Option (List ℕ) → List ℕ → List ℕ → Type 0
 AppendsPrefixes old new first second = (k : ℕ) × (j : ℕ) × Appends old new (take k first ++ take j second)
+
+-- some bytes of a text, and then the whole of another
+abbrev pub AppendsBehindPrefix : Option (List ℕ) → Option (List ℕ) → List ℕ → List ℕ → Type 0
+AppendsBehindPrefix old new first last = (k : ℕ) × Appends old new (take k first ++ last)
 
 -- What the sinks gained. A run writes all of its texts; of a command that is refused or in which a device failed the output is a
 -- prefix of the run's, and the errors are a prefix of the run's, then the refusal's line or a prefix of it.
@@ -199,22 +195,25 @@ IsEarly refusal.SinkFault = ⊥
 IsEarly refusal.RamFault = ⊥
 IsEarly refusal.Memory = ⊤
 
+-- a refusal that comes before anything is written: an early one, or one by a check
+abbrev pub IsBeforeWriting : Refusal → Type 0
+IsBeforeWriting r = IsEarly r ⊎ IsCheck r
+
 -- no input was taken, no output written, and the ram is as it was
 pub record IsUntouched (left left' out out' : Option (List ℕ)) (before after : RamState) : Type 0 where
   pub input : left' ≡ left
   pub output : out' ≡ out
   pub ram : after ≡ before
 
--- of the ram: the cached machine uses its first eight words alone, and fetches at least one word a step and at most three
+-- of the ram: a cached run that ended, by an exit or by its steps, fetched at least one word a step and at most three
 abbrev pub Fetches : RamState → RamState → Result Ending Refusal → Type 0
 Fetches ram ram' (Ok (ending.Exited code n)) = RoseWithin n (3 * n) ram.fetches ram'.fetches
 Fetches ram ram' (Ok (ending.Spent n pc)) = RoseWithin n (3 * n) ram.fetches ram'.fetches
-Fetches ram ram' (Ok (ending.Faulted kind pc a n)) = ⊥
-Fetches ram ram' (Ok (ending.StoreText pc a n)) = ⊥
 Fetches ram ram' (Ok _) = ⊥
 Fetches ram ram' (Err r) = ⊤
 
--- a plain run leaves the ram alone
+-- A plain run leaves the ram alone. A cached one keeps the words behind the first eight, and `reach` doesn't pass the larger of what it
+-- was and 8.
 abbrev pub UsesRam : Request → RamState → RamState → Result Ending Refusal → Type 0
 UsesRam (RunCached name o) before after result = KeepsBeyond before after × Fetches before after result
 UsesRam (RunPlain name o) before after result = after ≡ before

@@ -10,7 +10,7 @@ ghost use Rattle.swi_calls.specs.Flat.{flat_run, flat_start, machine_of};
 ghost use Rattle.swi_command.specs.CommandLine.{IsInRange};
 ghost use Rattle.swi_program.specs.Layout.{IsLayoutOf};
 ghost use Rattle.swi_board.specs.First.{KeepsBeyond, RoseWithin, exit_line, ran_to};
-ghost use Rattle.swi_top.specs.Answer.{Fetches, IsAsked, IsEarly, built_refusal, ending_of, run_output};
+ghost use Rattle.swi_top.specs.Answer.{Fetches, IsAsked, IsCheck, IsEarly, built_refusal, ending_of, run_output};
 ghost use Rattle.swi_top.specs.Texts.{state_text};
 ghost use Rattle.swi_top.specs.Causes.{HasCauses};
 
@@ -181,6 +181,7 @@ pub(crate) fn run_cached<O: Sink, E: Sink, R: CacheRam>(
     ensures asked { IfErr result IsAsked }
     ensures late { IfErr result (λ r. IsEarly r → r ≡ Refusal.Memory) }
     ensures memory { result ≡ Err Refusal.Memory → (R.state ram.new ≡ R.state ram.old) × (O.held out.new ≡ O.held out.old) × (E.held err.new ≡ E.held err.old) }
+    ensures unwritten { IfErr result (λ r. IsCheck r → (O.held out.new ≡ O.held out.old) × (E.held err.new ≡ E.held err.old)) }
     ensures keeps { KeepsBeyond (R.state ram.old) (R.state ram.new) }
     ensures fetches { Fetches (R.state ram.old) (R.state ram.new) result }
     ensures causes { HasCauses

@@ -7,7 +7,7 @@ ghost use Rattle.swi_outside.specs.Causes.{HasCause, Rose};
 ghost use Rattle.swi_outside.specs.Shelf.{Same, get_of};
 ghost use Rattle.swi_outside.specs.Sink.{AppendsPrefix, WritesPiece};
 ghost use Rattle.swi_command.specs.CommandLine.{HasLimitsInRange, Request, command_of, request_of};
-ghost use Rattle.swi_top.specs.Answer.{IsAsked, IsChecked, IsEarly, IsTold, IsUntouched, UsesRam, Writes, ending_of, name_of, options_of, request_refusal, run_error, run_of, run_output};
+ghost use Rattle.swi_top.specs.Answer.{AppendsBehindPrefix, IsAsked, IsBeforeWriting, IsCheck, IsChecked, IsEarly, IsTold, IsUntouched, UsesRam, Writes, ending_of, name_of, options_of, request_refusal, run_error, run_of, run_output};
 ghost use Rattle.swi_top.specs.Causes.{HasCauses};
 ghost use Rattle.swi_top.specs.Texts.{ending_line, refusal_line};
 
@@ -63,12 +63,17 @@ fn run_command<F: Shelf, I: Source, O: Sink, E: Sink, R: CacheRam>(
         (run_error (run_of (options_of (request_of command.now)) file left)) (O.held out.old) (O.held out.new) (E.held err.old) (E.held err.new) }
     ensures early { IfErr result (λ r. IsEarly r →
         IsUntouched (I.left input.old) (I.left input.new) (O.held out.old) (O.held out.new) (R.state ram.old) (R.state ram.new)) }
-    ensures line_prefix { IfErr result (λ r. IsEarly r → AppendsPrefix (E.held err.old) (E.held err.new) (refusal_line r)) }
-    ensures line { IfErr result (λ r. IsEarly r → (Rose (E.faults err.old) (E.faults err.new) → ⊥) →
+    ensures unwritten { IfErr result (λ r. IsCheck r → (I.left input.new ≡ I.left input.old) × (O.held out.new ≡ O.held out.old)) }
+    ensures line_prefix { IfErr result (λ r. IsBeforeWriting r → AppendsPrefix (E.held err.old) (E.held err.new) (refusal_line r)) }
+    ensures line { IfErr result (λ r. IsBeforeWriting r → (Rose (E.faults err.old) (E.faults err.new) → ⊥) →
         Appends (E.held err.old) (E.held err.new) (refusal_line r)) }
+    ensures last_line { (file : List ℕ) (left : List ℕ) → IsTold (F.contents shelf.old) (name_of (request_of command.now)) file → I.left input.old ≡ Some left →
+        (Rose (E.faults err.old) (E.faults err.new) → ⊥) → IfErr result (λ r. AppendsBehindPrefix (E.held err.old) (E.held err.new)
+        (run_error (run_of (options_of (request_of command.now)) file left)) (refusal_line r)) }
     ensures ram { UsesRam (request_of command.now) (R.state ram.old) (R.state ram.new) result }
     ensures contents { Same (F.contents shelf.old) (F.contents shelf.new) }
     ensures last_failed { IsErrOf result Refusal.ShelfFault → F.last_failed shelf.new ≡ Some (get_of (name_of (request_of command.now))) }
+    ensures last_kept { (IsErrOf result Refusal.ShelfFault → ⊥) → F.last_failed shelf.new ≡ F.last_failed shelf.old }
     ensures causes { HasCauses
         (record { shelf = F.faults shelf.old; input = I.faults input.old; out = O.faults out.old; err = E.faults err.old; ram = (R.state ram.old).faults })
         (record { shelf = F.faults shelf.new; input = I.faults input.new; out = O.faults out.new; err = E.faults err.new; ram = (R.state ram.new).faults }) result }
@@ -84,15 +89,17 @@ fn run_command<F: Shelf, I: Source, O: Sink, E: Sink, R: CacheRam>(
 
 /// Does what the words after the program's name ask for, over the devices that are handed in, and answers how it ended.
 ///
-/// `plain FILE` runs the file's program on the flat machine, and `cached FILE` on the cached one, as far as that is built:
-/// through the first eight words of `ram`. What the guest writes goes to `out` and `err`; with `--state` the state after the run
-/// goes to `out`, and with `--calls` a line for each system call to `err`. The line of an ending or of a refusal goes to `err` last.
+/// `plain FILE` runs the file's program on the flat machine, and leaves `ram` as it was. `cached FILE` runs it on the cached one, as
+/// far as that is built: through the first eight words of `ram`, which has at least eight; the words behind them keep their values.
+/// What the guest writes goes to `out` and `err`; with `--state` the state after the run goes to `out`, and with `--calls` a line for
+/// each system call to `err`. The line of an ending or of a refusal goes to `err` last.
 ///
 /// The refusals come in this order: `Usage` where the words are no command; `ShelfFault` where the file can't be read; `FileLong`,
 /// `Elf` and `Room` where the file isn't accepted; `NotBuilt` on the cached machine; a fault of the device that failed. `Memory`
 /// comes where there was no memory, which is all taken before the first step. A refusal before the run changes nothing but `err`
-/// and the shelf's count of faults. After a fault each sink holds a prefix of what the run writes, and on `err` the refusal's line
-/// or a prefix of it follows.
+/// and what the shelf says of its faults. `NotBuilt` takes no input and writes nothing but its line, but the run may have come to a
+/// call that isn't built: then the first eight words of `ram` and its counts have changed. After a fault each sink holds a prefix of
+/// what the run writes, and on `err` the refusal's line follows, or a prefix of it where that write failed too.
 pub fn top<F: Shelf, I: Source, O: Sink, E: Sink, R: CacheRam>(
     alloc: Global,
     words: &[String],
@@ -120,18 +127,25 @@ pub fn top<F: Shelf, I: Source, O: Sink, E: Sink, R: CacheRam>(
         Writes result (run_output (options_of request) (run_of (options_of request) file left)) (run_error (run_of (options_of request) file left))
         (O.held out.old) (O.held out.new) (E.held err.old) (E.held err.new) }
 
-    // A refusal before the run.
+    // A refusal before the run leaves the devices as they were, and one by a check takes no input and writes no output.
     ensures early { IfErr result (λ r. IsEarly r →
         IsUntouched (I.left input.old) (I.left input.new) (O.held out.old) (O.held out.new) (R.state ram.old) (R.state ram.new)) }
-    ensures line_prefix { IfErr result (λ r. IsEarly r → AppendsPrefix (E.held err.old) (E.held err.new) (refusal_line r)) }
-    ensures line { IfErr result (λ r. IsEarly r → (Rose (E.faults err.old) (E.faults err.new) → ⊥) →
+    ensures unwritten { IfErr result (λ r. IsCheck r → (I.left input.new ≡ I.left input.old) × (O.held out.new ≡ O.held out.old)) }
+    ensures line_prefix { IfErr result (λ r. IsBeforeWriting r → AppendsPrefix (E.held err.old) (E.held err.new) (refusal_line r)) }
+    ensures line { IfErr result (λ r. IsBeforeWriting r → (Rose (E.faults err.old) (E.faults err.new) → ⊥) →
         Appends (E.held err.old) (E.held err.new) (refusal_line r)) }
+
+    // The line of any refusal stands last and whole, where the error sink's count of faults didn't rise.
+    ensures last_line { (request : Request) (file : List ℕ) (left : List ℕ) → command_of (map (λ w. string_bytes w) words.now) ≡ Some request →
+        IsTold (F.contents shelf.old) (name_of request) file → I.left input.old ≡ Some left → (Rose (E.faults err.old) (E.faults err.new) → ⊥) →
+        IfErr result (λ r. AppendsBehindPrefix (E.held err.old) (E.held err.new) (run_error (run_of (options_of request) file left)) (refusal_line r)) }
 
     ensures ram { (request : Request) → command_of (map (λ w. string_bytes w) words.now) ≡ Some request →
         UsesRam request (R.state ram.old) (R.state ram.new) result }
     ensures contents { Same (F.contents shelf.old) (F.contents shelf.new) }
     ensures last_failed { (request : Request) → command_of (map (λ w. string_bytes w) words.now) ≡ Some request →
         IsErrOf result Refusal.ShelfFault → F.last_failed shelf.new ≡ Some (get_of (name_of request)) }
+    ensures last_kept { (IsErrOf result Refusal.ShelfFault → ⊥) → F.last_failed shelf.new ≡ F.last_failed shelf.old }
     ensures causes { HasCauses
         (record { shelf = F.faults shelf.old; input = I.faults input.old; out = O.faults out.old; err = E.faults err.old; ram = (R.state ram.old).faults })
         (record { shelf = F.faults shelf.new; input = I.faults input.new; out = O.faults out.new; err = E.faults err.new; ram = (R.state ram.new).faults }) result }

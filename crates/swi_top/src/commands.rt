@@ -5,7 +5,7 @@ ghost use Rattle.std.specs.Prelude.{◌≡◌, ◌≤◌, ℕ, List, Some, IfOk,
 ghost use Rattle.swi_outside.specs.Shelf.{Same, get_of};
 ghost use Rattle.swi_command.specs.CommandLine.{HasLimitsInRange, IsInRange, request_of};
 ghost use Rattle.swi_board.specs.First.{KeepsBeyond};
-ghost use Rattle.swi_top.specs.Answer.{Fetches, IsAsked, IsChecked, IsEarly, IsTold, IsUntouched, UsesRam, WritesRun, cached_refusal, ending_of, file_refusal, name_of, options_of, or_else, request_refusal, run_of, run_output};
+ghost use Rattle.swi_top.specs.Answer.{Fetches, IsAsked, IsBeforeWriting, IsCheck, IsChecked, IsEarly, IsTold, IsUntouched, UsesRam, WritesRun, cached_refusal, ending_of, file_refusal, name_of, options_of, or_else, request_refusal, run_of, run_output};
 ghost use Rattle.swi_top.specs.Causes.{HasCauses};
 
 use crate::cached::run_cached;
@@ -35,8 +35,10 @@ fn plain<F: Shelf, I: Source, O: Sink, E: Sink>(
         WritesRun result (run_output options.now (run_of options.now file left)) (run_of options.now file left).error
         (O.held out.old) (O.held out.new) (E.held err.old) (E.held err.new) }
     ensures early { IfErr result (λ r. IsEarly r → (I.left input.new ≡ I.left input.old) × (O.held out.new ≡ O.held out.old) × (E.held err.new ≡ E.held err.old)) }
+    ensures unwritten { IfErr result (λ r. IsCheck r → (I.left input.new ≡ I.left input.old) × (O.held out.new ≡ O.held out.old) × (E.held err.new ≡ E.held err.old)) }
     ensures contents { Same (F.contents shelf.old) (F.contents shelf.new) }
     ensures last_failed { IsErrOf result Refusal.ShelfFault → F.last_failed shelf.new ≡ Some (get_of name.now) }
+    ensures last_kept { (IsErrOf result Refusal.ShelfFault → ⊥) → F.last_failed shelf.new ≡ F.last_failed shelf.old }
     ensures causes { HasCauses
         (record { shelf = F.faults shelf.old; input = I.faults input.old; out = O.faults out.old; err = E.faults err.old; ram = 0 })
         (record { shelf = F.faults shelf.new; input = I.faults input.new; out = O.faults out.new; err = E.faults err.new; ram = 0 }) result }
@@ -72,10 +74,12 @@ fn cached<F: Shelf, O: Sink, E: Sink, R: CacheRam>(
         WritesRun result (run_output options.now (run_of options.now file left)) (run_of options.now file left).error
         (O.held out.old) (O.held out.new) (E.held err.old) (E.held err.new) }
     ensures early { IfErr result (λ r. IsEarly r → (R.state ram.new ≡ R.state ram.old) × (O.held out.new ≡ O.held out.old) × (E.held err.new ≡ E.held err.old)) }
+    ensures unwritten { IfErr result (λ r. IsCheck r → (O.held out.new ≡ O.held out.old) × (E.held err.new ≡ E.held err.old)) }
     ensures keeps { KeepsBeyond (R.state ram.old) (R.state ram.new) }
     ensures fetches { Fetches (R.state ram.old) (R.state ram.new) result }
     ensures contents { Same (F.contents shelf.old) (F.contents shelf.new) }
     ensures last_failed { IsErrOf result Refusal.ShelfFault → F.last_failed shelf.new ≡ Some (get_of name.now) }
+    ensures last_kept { (IsErrOf result Refusal.ShelfFault → ⊥) → F.last_failed shelf.new ≡ F.last_failed shelf.old }
     ensures causes { HasCauses
         (record { shelf = F.faults shelf.old; input = 0; out = O.faults out.old; err = E.faults err.old; ram = (R.state ram.old).faults })
         (record { shelf = F.faults shelf.new; input = 0; out = O.faults out.new; err = E.faults err.new; ram = (R.state ram.new).faults }) result }
@@ -112,10 +116,12 @@ pub(crate) fn perform<F: Shelf, I: Source, O: Sink, E: Sink, R: CacheRam>(
         (run_of (options_of (request_of command.now)) file left).error (O.held out.old) (O.held out.new) (E.held err.old) (E.held err.new) }
     ensures early { IfErr result (λ r. IsEarly r →
         IsUntouched (I.left input.old) (I.left input.new) (O.held out.old) (O.held out.new) (R.state ram.old) (R.state ram.new)) }
-    ensures silent { IfErr result (λ r. IsEarly r → E.held err.new ≡ E.held err.old) }
+    ensures unwritten { IfErr result (λ r. IsCheck r → (I.left input.new ≡ I.left input.old) × (O.held out.new ≡ O.held out.old)) }
+    ensures silent { IfErr result (λ r. IsBeforeWriting r → E.held err.new ≡ E.held err.old) }
     ensures ram { UsesRam (request_of command.now) (R.state ram.old) (R.state ram.new) result }
     ensures contents { Same (F.contents shelf.old) (F.contents shelf.new) }
     ensures last_failed { IsErrOf result Refusal.ShelfFault → F.last_failed shelf.new ≡ Some (get_of (name_of (request_of command.now))) }
+    ensures last_kept { (IsErrOf result Refusal.ShelfFault → ⊥) → F.last_failed shelf.new ≡ F.last_failed shelf.old }
     ensures causes { HasCauses
         (record { shelf = F.faults shelf.old; input = I.faults input.old; out = O.faults out.old; err = E.faults err.old; ram = (R.state ram.old).faults })
         (record { shelf = F.faults shelf.new; input = I.faults input.new; out = O.faults out.new; err = E.faults err.new; ram = (R.state ram.new).faults }) result }

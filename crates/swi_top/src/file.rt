@@ -1,7 +1,7 @@
 //! The file of a command: it is read, checked and laid out.
 #![tactic(auto)]
 
-ghost use Rattle.std.specs.Prelude.{◌≡◌, ◌⊎◌, ◌≤◌, ◌^◌, None, Some, Ok, IfOk, OnOk, IfErr, List, ℕ, length};
+ghost use Rattle.std.specs.Prelude.{◌≡◌, ◌⊎◌, ◌≤◌, None, Some, Ok, IfOk, OnOk, IfErr, List, ℕ, length};
 ghost use Rattle.swi_outside.specs.Shelf.{get_of, Same, Stands, IsLonger};
 ghost use Rattle.swi_command.specs.CommandLine.{IsInRange};
 ghost use Rattle.std.specs.List.{list_any};
@@ -9,7 +9,7 @@ ghost use Rattle.swi_elf_read.specs.Elf.{program_headers};
 ghost use Rattle.swi_elf_read.specs.ProgramHeaders.{is_image};
 ghost use Rattle.swi_program.specs.Layout.{IsLayoutOf, laid_out};
 ghost use Rattle.swi_program.specs.ProgramOf.{program_of_file};
-ghost use Rattle.swi_top.specs.Answer.{IsAsked, IsEarly, IsPreparedOf, IsTold, file_refusal, room_refusal};
+ghost use Rattle.swi_top.specs.Answer.{IsAsked, IsEarly, IsPreparedOf, IsTold, file_limit, file_refusal, room_refusal};
 ghost use Rattle.swi_top.specs.Causes.{ReadCause};
 
 use crate::Refusal;
@@ -31,9 +31,9 @@ pub(crate) fn read_file<F: Shelf>(
 ) -> Result<Vec<u8>, Refusal>
     ensures same { Same (F.contents shelf.old) (F.contents shelf.new) }
     ensures content { IfOk result (λ bytes. Stands (F.contents shelf.old) name.now bytes.items) }
-    ensures within { IfOk result (λ bytes. length bytes.items ≤ 2 ^ 26) }
+    ensures within { IfOk result (λ bytes. length bytes.items ≤ file_limit) }
     ensures refused { IfErr result (λ r. (r ≡ Refusal.ShelfFault) ⊎ ((r ≡ Refusal.Memory) ⊎
-        ((r ≡ Refusal.FileLong 67108864) × IsLonger (F.contents shelf.old) name.now 67108864))) }
+        ((r ≡ Refusal.FileLong file_limit) × IsLonger (F.contents shelf.old) name.now file_limit))) }
     ensures asked { IfErr result IsAsked }
     ensures early { IfErr result IsEarly }
     ensures cause { ReadCause (F.faults shelf.old) (F.faults shelf.new) (F.last_failed shelf.old) (F.last_failed shelf.new) (get_of name.now) result }
@@ -84,7 +84,7 @@ fn prepare_elf(alloc: Global, elf: &Elf<'_>, options: &RunOptions) -> Result<Pre
 /// The program of a file, laid out: the file passes every check.
 #[tactic(auto, unfolding(crate::specs::Answer::file_refusal))]
 pub(crate) fn prepare(alloc: Global, file: &[u8], options: &RunOptions) -> Result<Prepared, Refusal>
-    requires within { length file.now ≤ 2 ^ 26 }
+    requires within { length file.now ≤ file_limit }
     requires ranges { IsInRange options.now }
     ensures program { IfOk result (λ p. p.program ≡ program_of_file file.now) }
     ensures layout { IfOk result (λ p. laid_out (program_of_file file.now).segments options.now.heap options.now.stack ≡ Ok p.layout) }

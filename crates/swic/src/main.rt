@@ -12,7 +12,7 @@ use swi_top::{Refusal, status_of, top};
 /// The words of cache RAM.
 const RAM_WORDS: u32 = 1 << 21;
 
-/// The words after the program's name; None where they are no text.
+/// The words after the program's name; None where they could not be read, as where one is no text.
 fn words_of(rt: &HostRuntime) -> Option<Result<Vec<String>, AllocError>> {
     match env::args(rt) {
         Ok(words) => Some(words.skip(1).collect(rt.alloc())),
@@ -53,6 +53,6 @@ fn main(rt: HostRuntime) -> ExitCode {
     ExitCode::from(match words_of(&rt) {
         Some(Ok(words)) => run(&rt, words.as_slice()),
         Some(Err(_)) => status_of(&Err(Refusal::Memory)),
-        None => status_of(&Err(Refusal::Usage)),
+        None => run(&rt, &[]),
     })
 }
