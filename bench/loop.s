@@ -1,11 +1,15 @@
 # A guest of about 10^8 instructions: sums, shifts, products, loads and stores of each size, branches
-# and calls, as compiled code has them. It ends by exit with the low byte of what it computed.
+# and calls, as compiled code has them. It ends by exit with the low seven bits of what it computed.
+#
+# Built in this folder by Debian's gcc-riscv64-unknown-elf:
+#   riscv64-unknown-elf-gcc -march=rv32ima -mabi=ilp32 -nostartfiles -nostdlib -T loop.ld \
+#       -Wl,-n,--build-id=none -s loop.s -o loop.elf
     .globl _start
     .text
 _start:
     lui     s0, %hi(table)
     addi    s0, s0, %lo(table)
-    li      s1, 4000000             # turns of 25 instructions
+    li      s1, 4000000             # turns of 25 or 26 instructions
     li      s2, 0x12345
     li      s3, 0
 turn:

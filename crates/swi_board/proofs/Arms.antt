@@ -9,11 +9,11 @@ use Rattle.swi_exec.specs.Registers.{Registers, reg, with_reg}
 use Rattle.swi_calls.specs.Call.{number_of, first_argument}
 use Rattle.swi_board.specs.Cut.{ebreak, rendered, filled}
 use Rattle.swi_board.specs.First.{ecall, is_text_address, not_built_text}
-use Rattle.swi_board.specs.Slot.{Did, added, skipped, left, exited, called_other, ran_of, regs_after, Stands, AtWord, Steps, IsForeign, ArePlain}
+use Rattle.swi_board.specs.Slot.{ran_of, regs_after, Stands, AtWord, Steps, IsForeign, ArePlain}
 use Rattle.swi_board.specs.declared.execute.Ran.{Ran}
 use Rattle.swi_board.specs.declared.execute.Ran.TheVariants.{Next, Skip, Exit, Ended, Foreign, Unknown}
 use Rattle.swi_board.specs.declared.machine.Hart.{Hart}
-use Rattle.swi_board.proofs.Stepping.{adds_rendered, branches_rendered, image_exit, image_target, stands_behind, did_at}
+use Rattle.swi_board.proofs.Stepping.{Did, added, skipped, left, exited, called_other, adds_rendered, branches_rendered, image_exit, image_target, stands_behind, did_at}
 use Rattle.swi_board.proofs.Flat.{steps_add, steps_skip, steps_leave, steps_exit, steps_foreign, plain_after, plain_same}
 
 -- the five cases, each where its answer came

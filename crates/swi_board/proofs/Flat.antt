@@ -16,7 +16,7 @@ use Rattle.swi_calls.specs.Call.{called, number_of, first_argument, told}
 use Rattle.swi_calls.specs.State.{Machine, FlatState}
 use Rattle.swi_calls.specs.Flat.{made, joined, with_word as word_made, with_instruction, flat_step, flat_run, started}
 use Rattle.swi_board.specs.First.{FirstData, StartsAt, ecall, is_text_address, is_ecall, is_foreign, foreign_call, with_words, ran_to}
-use Rattle.swi_board.specs.Slot.{machine_at, flat_at, data_of, RunsOver, Steps, IsForeign, ArePlain, Left, Runs, ComesToCall}
+use Rattle.swi_board.specs.Slot.{machine_at, flat_at, data_of, RunsOver, Steps, IsForeign, ArePlain, Runs, ComesToCall}
 use Rattle.swi_board.specs.declared.machine.Hart.{Hart}
 use Rattle.swi_board.proofs.Decoded.{ecall_decoded}
 
@@ -216,6 +216,12 @@ run_none s = refl
 calls_none : (s : FlatState) → foreign_call 0 s ≡ None
 unfolding foreign_call
 calls_none s = refl
+
+-- what is left of a run of n steps from the first hart on is what the flat machine still has before it
+abbrev pub Left : ℕ → List ℕ → ℕ → Hart → Hart → Type 0
+Left base words n first h = (m : Machine) (input : List ℕ) → RunsOver m base words →
+    (flat_run (n - h.steps) (flat_at m h input) ≡ flat_run n (flat_at m first input))
+    × (foreign_call (n - h.steps) (flat_at m h input) ≡ foreign_call n (flat_at m first input))
 
 module _ (base : ℕ) (words : List ℕ) (n : ℕ) (first h : Hart) (before : Left base words n first h) where
   pub left_further : (next : Hart) → Steps base words h next None → h.steps < n → next.steps ≡ h.steps + 1 → ArePlain next.regs → Left base words n first next

@@ -9,14 +9,16 @@ use Rattle.swi_isa.specs.declared.instr.Instr.{Instr}
 use Rattle.swi_isa.specs.declared.instr.Instr.TheVariants as instr
 use Rattle.swi_isa.specs.Decode.{decoded}
 use Rattle.swi_exec.specs.Arithmetic.{sum_of}
-use Rattle.swi_exec.specs.Registers.{Registers, reg}
-use Rattle.swi_calls.specs.Call.{number_of}
+use Rattle.swi_exec.specs.Registers.{Registers, reg, with_reg}
+use Rattle.swi_calls.specs.Call.{number_of, first_argument}
 use Rattle.swi_board.specs.Cut.{ebreak, skip_word, rendered_as, rendering, rendered, filled, GoesOn, Placed}
 use Rattle.swi_board.specs.First.{ecall, is_text_address, not_built_text}
-use Rattle.swi_board.specs.Slot.{Kind, calls, adds, branches, Did, added, skipped, left, exited, called_other, ran_of, regs_after, StandsIn, Stands, AtWord}
+use Rattle.swi_board.specs.Slot.{ran_of, regs_after, StandsIn, Stands, AtWord}
+use Rattle.swi_board.specs.declared.execute.Ran.{Ran}
+use Rattle.swi_board.specs.declared.execute.Ran.TheVariants.{Next, Skip, Exit, Ended, Foreign}
 use Rattle.swi_board.specs.declared.machine.Hart.{Hart}
 use Rattle.swi_board.proofs.Decoded.{ecall_decoded, ebreak_decoded, branch_registers, skip_decoded}
-use Rattle.swi_board.proofs.Texts.{each_built, kind_of}
+use Rattle.swi_board.proofs.Texts.{Kind, calls, adds, branches, each_built, kind_of}
 use Rattle.swi_board.proofs.Fills.{size_of, filled_fits, filled_falls, goes_behind}
 
 pub text_address : (base n k : ℕ) → base % 4 ≡ 0 → k < n → is_text_address base n (base + 4 * k) ≡ true
@@ -66,7 +68,18 @@ first_no_exit base count a w (branches rs1 rs2 off e text behind) is =
     let two : decoded (first_word a w) ≡ Some instr.Ebreak = ap decoded is ∙ ebreak_decoded in
     cc
 
--- what it does
+-- what the first word of what stands for text word k did: to the registers, and what comes after it
+pub data Did (base : ℕ) (words : List ℕ) (k : ℕ) (regs : Registers) (r : Ran) (next : Registers) : Type 0 where
+  added : (rd rs1 imm : ℕ) → decoded (slice_index words k) ≡ Some (instr.Alu Addi rd rs1 imm) → k + 1 < length words → r ≡ Next →
+      next ≡ with_reg regs rd (sum_of (reg regs rs1) imm) → Did base words k regs r next
+  skipped : (rs1 rs2 off : ℕ) → decoded (slice_index words k) ≡ Some (instr.Branch Bne rs1 rs2 off) → k + 1 < length words →
+      (reg regs rs1 == reg regs rs2) ≡ true → r ≡ Skip 12 → next ≡ regs → Did base words k regs r next
+  left : (rs1 rs2 off : ℕ) → decoded (slice_index words k) ≡ Some (instr.Branch Bne rs1 rs2 off) →
+      is_text_address base (length words) (sum_of (base + 4 * k) off) ≡ true → (reg regs rs1 == reg regs rs2) ≡ false → r ≡ Exit → next ≡ regs →
+      Did base words k regs r next
+  exited : slice_index words k ≡ ecall → number_of regs ≡ 93 → r ≡ Ended (first_argument regs) → next ≡ regs → Did base words k regs r next
+  called_other : slice_index words k ≡ ecall → (number_of regs == 93) ≡ false → r ≡ Foreign → next ≡ regs → Did base words k regs r next
+
 did_call : (base : ℕ) (words : List ℕ) (k : ℕ) (regs : Registers) → slice_index words k ≡ ecall → (t : Bool) → t ≡ (number_of regs == 93) →
     Did base words k regs (ran_of (Some instr.Ecall) regs) regs
 did_call base words k regs is true e = exited is (eqb-true (number_of regs) 93 (sym e)) (rw (← e) refl) refl

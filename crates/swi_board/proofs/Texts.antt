@@ -12,7 +12,13 @@ use Rattle.swi_isa.specs.declared.instr.Instr.TheVariants as instr
 use Rattle.swi_isa.specs.Decode.{decoded}
 use Rattle.swi_exec.specs.Arithmetic.{sum_of}
 use Rattle.swi_board.specs.First.{ecall, is_addi, is_bne, is_text_address, goes_on_within, is_built, first_unbuilt, not_built_text}
-use Rattle.swi_board.specs.Slot.{Kind, calls, adds, branches}
+
+-- a text word at an address that can be built: ECALL, or ADDI or BNE with a word behind it
+pub data Kind (base count a w : ℕ) : Type 0 where
+  calls : w ≡ ecall → Kind base count a w
+  adds : (rd rs1 imm : ℕ) → decoded w ≡ Some (instr.Alu Addi rd rs1 imm) → a + 4 < base + 4 * count → Kind base count a w
+  branches : (rs1 rs2 off : ℕ) → decoded w ≡ Some (instr.Branch Bne rs1 rs2 off) → is_text_address base count (sum_of a off) ≡ true → a + 4 < base + 4 * count →
+      Kind base count a w
 
 -- a word is behind the k-th
 pub is_behind : (base count k : ℕ) → nat_lt (k + 1) count ≡ nat_lt (base + 4 * k + 4) (base + 4 * count)

@@ -14,7 +14,7 @@ ebreak = 0x00100073
 abbrev pub skip_word : ℕ → ℕ → ℕ
 skip_word rs1 rs2 = 0x663 + rs1 * 2 ^ 15 + rs2 * 2 ^ 20
 
--- a branch becomes the opposite branch over an exit to its target; any other word stays
+-- a branch, which is BNE in a text that is built, becomes BEQ over an exit to its target; any other word stays
 abbrev pub rendered_as : ℕ → ℕ → Option Instr → List ℕ
 rendered_as a w (Some (instr.Branch op rs1 rs2 off)) = skip_word rs1 rs2 ∷ ebreak ∷ sum_of a off ∷ []
 rendered_as a w _ = w ∷ []

@@ -116,7 +116,8 @@ FaultsAnswered before after (Ok first) = after ≡ before
 FaultsAnswered before after (Err (NotBuilt address)) = after ≡ before
 FaultsAnswered before after (Err RamFault) = Rose before after × (before ≤ after)
 
--- of a ram only the first eight words were used
+-- a ram keeps its length, the words behind the first eight keep their values, and `reach` doesn't pass the larger of what it
+-- was and 8
 pub record KeepsBeyond (before after : RamState) : Type 0 where
   pub same_length : length after.words ≡ length before.words
   pub beyond : (i : ℕ) → 8 ≤ i → slice_index after.words i ≡ slice_index before.words i

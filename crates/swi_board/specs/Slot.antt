@@ -1,10 +1,9 @@
 -- The machine that runs out of one slot of eight words, against the flat machine. Own rule.
-use Rattle.std.specs.Prelude.{◌≡◌, ◌==◌, ℕ, ◌+◌, ◌-◌, ◌*◌, ◌<◌, true, false, List, length, slice_index, Option, Some, None, if◌then◌else◌}
-use Rattle.swi_isa.specs.declared.instr.BranchOp.TheVariants.{Beq, Bne}
+use Rattle.std.specs.Prelude.{◌≡◌, ◌==◌, ℕ, ◌+◌, ◌*◌, ◌<◌, true, false, List, length, slice_index, Option, Some, None, if◌then◌else◌}
+use Rattle.swi_isa.specs.declared.instr.BranchOp.TheVariants.{Beq}
 use Rattle.swi_isa.specs.declared.instr.ImmOp.TheVariants.{Addi}
 use Rattle.swi_isa.specs.declared.instr.Instr.{Instr}
 use Rattle.swi_isa.specs.declared.instr.Instr.TheVariants as instr
-use Rattle.swi_isa.specs.Decode.{decoded}
 use Rattle.swi_exec.specs.Arithmetic.{sum_of}
 use Rattle.swi_exec.specs.Registers.{Registers, reg, with_reg}
 use Rattle.swi_memory.specs.Bus.{fetched}
@@ -12,7 +11,7 @@ use Rattle.swi_calls.specs.Call.{number_of, first_argument}
 use Rattle.swi_calls.specs.State.{Machine, FlatState}
 use Rattle.swi_calls.specs.Flat.{flat_step, flat_run, started}
 use Rattle.swi_board.specs.Cut.{filled, GoesOn, Placed}
-use Rattle.swi_board.specs.First.{ecall, is_text_address, is_foreign, foreign_call, ran_to, FirstData}
+use Rattle.swi_board.specs.First.{is_foreign, foreign_call, ran_to, FirstData}
 use Rattle.swi_board.specs.declared.execute.Ran.{Ran}
 use Rattle.swi_board.specs.declared.execute.Ran.TheVariants.{Next, Skip, Exit, Ended, Foreign, Unknown}
 use Rattle.swi_board.specs.declared.machine.Hart.{Hart}
@@ -36,13 +35,6 @@ pub record AtWord (base : ℕ) (words ram : List ℕ) (h : Hart) : Type 0 where
   pub placed : Placed base words h.block h.at index
   pub stands_in : StandsIn base words ram h.block
 
--- a text word at an address that can be built: ECALL, or ADDI or BNE with a word behind it
-pub data Kind (base count a w : ℕ) : Type 0 where
-  calls : w ≡ ecall → Kind base count a w
-  adds : (rd rs1 imm : ℕ) → decoded w ≡ Some (instr.Alu Addi rd rs1 imm) → a + 4 < base + 4 * count → Kind base count a w
-  branches : (rs1 rs2 off : ℕ) → decoded w ≡ Some (instr.Branch Bne rs1 rs2 off) → is_text_address base count (sum_of a off) ≡ true → a + 4 < base + 4 * count →
-      Kind base count a w
-
 -- what a fetched word does
 abbrev pub ran_of : Option Instr → Registers → Ran
 ran_of (Some (instr.Alu Addi rd rs1 imm)) regs = Next
@@ -53,18 +45,6 @@ ran_of _ regs = Unknown
 abbrev pub regs_after : Option Instr → Registers → Registers
 regs_after (Some (instr.Alu Addi rd rs1 imm)) regs = with_reg regs rd (sum_of (reg regs rs1) imm)
 regs_after _ regs = regs
-
--- what the first word of what stands for text word k did: to the registers, and what comes after it
-pub data Did (base : ℕ) (words : List ℕ) (k : ℕ) (regs : Registers) (r : Ran) (next : Registers) : Type 0 where
-  added : (rd rs1 imm : ℕ) → decoded (slice_index words k) ≡ Some (instr.Alu Addi rd rs1 imm) → k + 1 < length words → r ≡ Next →
-      next ≡ with_reg regs rd (sum_of (reg regs rs1) imm) → Did base words k regs r next
-  skipped : (rs1 rs2 off : ℕ) → decoded (slice_index words k) ≡ Some (instr.Branch Bne rs1 rs2 off) → k + 1 < length words →
-      (reg regs rs1 == reg regs rs2) ≡ true → r ≡ Skip 12 → next ≡ regs → Did base words k regs r next
-  left : (rs1 rs2 off : ℕ) → decoded (slice_index words k) ≡ Some (instr.Branch Bne rs1 rs2 off) →
-      is_text_address base (length words) (sum_of (base + 4 * k) off) ≡ true → (reg regs rs1 == reg regs rs2) ≡ false → r ≡ Exit → next ≡ regs →
-      Did base words k regs r next
-  exited : slice_index words k ≡ ecall → number_of regs ≡ 93 → r ≡ Ended (first_argument regs) → next ≡ regs → Did base words k regs r next
-  called_other : slice_index words k ≡ ecall → (number_of regs == 93) ≡ false → r ≡ Foreign → next ≡ regs → Did base words k regs r next
 
 -- a machine where the hart is
 abbrev pub machine_at : Machine → Hart → Machine
@@ -95,12 +75,6 @@ IsForeign base words h = (m : Machine) → RunsOver m base words → is_foreign 
 pub record ArePlain (regs : Registers) : Type 0 where
   pub unreserved : regs.reserved ≡ None
   pub zero_stays : slice_index regs.words 0 ≡ 0
-
--- what is left of a run of n steps from the first hart on is what the flat machine still has before it
-abbrev pub Left : ℕ → List ℕ → ℕ → Hart → Hart → Type 0
-Left base words n first h = (m : Machine) (input : List ℕ) → RunsOver m base words →
-    (flat_run (n - h.steps) (flat_at m h input) ≡ flat_run n (flat_at m first input))
-    × (foreign_call (n - h.steps) (flat_at m h input) ≡ foreign_call n (flat_at m first input))
 
 -- a run of n steps from the first hart on came to the last one
 abbrev pub Runs : ℕ → List ℕ → ℕ → Hart → Hart → Option ℕ → Type 0

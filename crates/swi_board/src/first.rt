@@ -81,13 +81,14 @@ impl First {
 }
 
 /// Runs a text of ADDI, BNE and ECALL cached, through one slot of eight words of `ram`, for at most `n`
-/// original steps. The text is `words`, from the address `base` on; the run begins at `entry` with `sp` in
-/// x2, and only the call exit (93) is built.
+/// original steps. The text is `words`, from the address `base` on; the run begins at `entry`, which is a text
+/// word's address, with `sp` in x2, and only the call exit (93) is built. `base` is a multiple of 4; there are
+/// 1 to 2^19 words, which end within 2^32; `n` is at most 2^48; `ram` has at least eight words.
 ///
 /// NotBuilt comes before anything else where a text word is none of the three, is a BNE whose target is no
 /// text word's address, or is the last one and no ECALL: with that word's address, and the ram untouched.
-/// Later it comes where the run comes to another call: with its address. After RamFault only the words from
-/// the eighth on are known.
+/// Later it comes where the run comes to another call: with its address. After that, and after RamFault, all
+/// that is known of the ram's words is that those behind the first eight have kept their values.
 pub fn run_first<M: CacheRam>(
     base: u32,
     words: &[u32],

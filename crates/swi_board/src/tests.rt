@@ -78,6 +78,15 @@ fn texts_run_through_one_slot_as_they_run_flat(rt: HostRuntime) -> Result<(), Fa
 }
 
 #[test]
+fn a_block_that_stands_is_not_copied_again(rt: HostRuntime) -> Result<(), Fail> {
+    // The loop stays in the first block, and the last word stands in the second.
+    let mut ram = VecRam::new(rt.alloc(), 8)?;
+    assert_eq!(rt; run_text(&COUNT, 100, &mut ram).is_ok(), true);
+    assert_eq!(rt; (ram.sets(), ram.fetches()), (16, 12));
+    Ok(())
+}
+
+#[test]
 fn what_is_not_built_is_told_by_its_address(rt: HostRuntime) -> Result<(), Fail> {
     let rows: [(&[u32], u64, u32); 5] = [
         // the last word is no ECALL

@@ -1,6 +1,7 @@
 use Rattle.std.proofs.Common.{◌≡◌, ◌≤◌, ◌*◌, ◌-◌}
 use Rattle.swi_board.specs.First.{KeepsBeyond, RoseWithin}
-use Rattle.swi_board.specs.Slot.{Stands, ArePlain, Left}
+use Rattle.swi_board.specs.Slot.{Stands, ArePlain}
+use Rattle.swi_board.proofs.Flat.{Left}
 use Rattle.swi_board.proofs.machine.run.Given as goal
 
 abbrev pub invariant-loop-hart : goal.invariant-loop-hart
