@@ -12,13 +12,13 @@ use Rattle.swi_isa.specs.declared.instr.AtomicOp.TheVariants.{LrW, ScW, SwapW, A
 use Rattle.swi_isa.specs.declared.instr.Instr.{Instr}
 use Rattle.swi_isa.specs.Decode.{decoded, decoded_by}
 use Rattle.swi_isa.specs.Table.{rows, Row, matches, made, Form, rd_of, rs1_of, rs2_of, imm_i, imm_s, imm_b, imm_u, imm_j}
-use Rattle.swi_isa.specs.Table.{UpperLui, UpperAuipc, Jump, JumpRegister, Conditional, LoadFrom, StoreTo, WithImmediate, WithAmount, WithRegister, OnMemory, Fencing, Calling, Breaking}
+use Rattle.swi_isa.specs.Table.{Lui, Auipc, Jal, Jalr, Branch, Load, Store, OpImm, ShiftImm, Op, Amo, Fence, Ecall, Ebreak}
 use Rattle.swi_isa.proofs.Rows.{under_7, under_15, under_32, under_atomic, under_reserve}
 use Rattle.swi_isa.proofs.Sums.{is_imm_i, is_imm_s, is_imm_b, is_imm_u, is_imm_j}
 use Rattle.swi_encode.specs.Canonical.{canonical}
 use Rattle.swi_encode.specs.Valid.{IsExtended, IsEven, ImmFits, AtomicFits, IsValid}
-use Rattle.swi_encode.proofs.Codes.{branch_code_lt, load_code_lt, store_code_lt, reg_code_lt}
-use Rattle.swi_encode.specs.Words.{word_of, u_word, j_word, i_word, s_word, b_word, r_word, alu_word, branch_code, load_code, store_code, reg_code, reg_high, atomic_code}
+use Rattle.swi_encode.proofs.Codes.{branch_funct3_lt, load_funct3_lt, store_funct3_lt, op_funct3_lt}
+use Rattle.swi_encode.specs.Words.{word_of, u_word, j_word, i_word, s_word, b_word, r_word, alu_word, branch_funct3, load_funct3, store_funct3, op_funct3, op_funct7, atomic_funct5}
 
 -- the row that a word was decoded by, with a test that all rows pass
 pub record Found (test : Row → Bool) (w : ℕ) (i : Instr) : Type 0 where
@@ -37,20 +37,20 @@ found test (r ∷ rs) w i all e =
       | inr miss ↦ found test rs w i both.1 (sym (cond-false _ _ _ miss) ∙ e)
     ]
 
-abbrev alu_code : ImmOp → ℕ
-alu_code Addi = 0
-alu_code Slti = 2
-alu_code Sltiu = 3
-alu_code Xori = 4
-alu_code Ori = 6
-alu_code Andi = 7
-alu_code Slli = 1
-alu_code Srli = 5
-alu_code Srai = 5
+abbrev alu_funct3 : ImmOp → ℕ
+alu_funct3 Addi = 0
+alu_funct3 Slti = 2
+alu_funct3 Sltiu = 3
+alu_funct3 Xori = 4
+alu_funct3 Ori = 6
+alu_funct3 Andi = 7
+alu_funct3 Slli = 1
+alu_funct3 Srli = 5
+alu_funct3 Srai = 5
 
-abbrev shift_high : ImmOp → ℕ
-shift_high Srai = 32
-shift_high _ = 0
+abbrev shift_funct7 : ImmOp → ℕ
+shift_funct7 Srai = 32
+shift_funct7 _ = 0
 
 abbrev is_shift : ImmOp → Bool
 is_shift Slli = true
@@ -74,20 +74,20 @@ atomic_mask MaxuW = 0xF800707F
 
 -- the mask and the value of each form's row
 abbrev shape : Form → ℕ → ℕ → Bool
-shape UpperLui m v = eqb m 0x7F && eqb v 0x37
-shape UpperAuipc m v = eqb m 0x7F && eqb v 0x17
-shape Jump m v = eqb m 0x7F && eqb v 0x6F
-shape JumpRegister m v = eqb m 0x707F && eqb v 0x67
-shape (Conditional op) m v = eqb m 0x707F && eqb v (0x63 + branch_code op * 4096)
-shape (LoadFrom op) m v = eqb m 0x707F && eqb v (3 + load_code op * 4096)
-shape (StoreTo op) m v = eqb m 0x707F && eqb v (0x23 + store_code op * 4096)
-shape (WithImmediate op) m v = not (is_shift op) && (eqb m 0x707F && eqb v (0x13 + alu_code op * 4096))
-shape (WithAmount op) m v = is_shift op && (eqb m 0xFE00707F && eqb v (0x13 + alu_code op * 4096 + shift_high op * 33554432))
-shape (WithRegister op) m v = eqb m 0xFE00707F && eqb v (0x33 + reg_code op * 4096 + reg_high op * 33554432)
-shape (OnMemory op) m v = eqb m (atomic_mask op) && eqb v (0x202F + atomic_code op * 134217728)
-shape Fencing m v = true
-shape Calling m v = eqb m 0xFFFFFFFF && eqb v 0x73
-shape Breaking m v = eqb m 0xFFFFFFFF && eqb v 0x100073
+shape Lui m v = eqb m 0x7F && eqb v 0x37
+shape Auipc m v = eqb m 0x7F && eqb v 0x17
+shape Jal m v = eqb m 0x7F && eqb v 0x6F
+shape Jalr m v = eqb m 0x707F && eqb v 0x67
+shape (Branch op) m v = eqb m 0x707F && eqb v (0x63 + branch_funct3 op * 4096)
+shape (Load op) m v = eqb m 0x707F && eqb v (3 + load_funct3 op * 4096)
+shape (Store op) m v = eqb m 0x707F && eqb v (0x23 + store_funct3 op * 4096)
+shape (OpImm op) m v = not (is_shift op) && (eqb m 0x707F && eqb v (0x13 + alu_funct3 op * 4096))
+shape (ShiftImm op) m v = is_shift op && (eqb m 0xFE00707F && eqb v (0x13 + alu_funct3 op * 4096 + shift_funct7 op * 33554432))
+shape (Op op) m v = eqb m 0xFE00707F && eqb v (0x33 + op_funct3 op * 4096 + op_funct7 op * 33554432)
+shape (Amo op) m v = eqb m (atomic_mask op) && eqb v (0x202F + atomic_funct5 op * 134217728)
+shape Fence m v = true
+shape Ecall m v = eqb m 0xFFFFFFFF && eqb v 0x73
+shape Ebreak m v = eqb m 0xFFFFFFFF && eqb v 0x100073
 
 abbrev is_shaped : Row → Bool
 is_shaped r = shape r.form r.mask r.value
@@ -142,7 +142,7 @@ fields_15 w o f p q e = (omega (arith, e, under_15 w), omega (arith, e, under_15
 fields_32 : (w o f g : ℕ) → w < 2 ^ 32 → o < 128 → f < 8 → bit_and w 0xFE00707F ≡ o + f * 4096 + g * 33554432 → (field 6 0 w ≡ o) × (field 14 12 w ≡ f) × (field 31 25 w ≡ g)
 fields_32 w o f g word p q e = (omega (arith, e, under_32 w word), omega (arith, e, under_32 w word), omega (arith, e, under_32 w word))
 
-alu_again : (op : ImmOp) (m v w : ℕ) → w < 2 ^ 32 → shape (WithImmediate op) m v ≡ true → eqb (bit_and w m) v ≡ true → w ≡ alu_word op (rd_of w) (rs1_of w) (imm_i w)
+alu_again : (op : ImmOp) (m v w : ℕ) → w < 2 ^ 32 → shape (OpImm op) m v ≡ true → eqb (bit_and w m) v ≡ true → w ≡ alu_word op (rd_of w) (rs1_of w) (imm_i w)
 alu_again Addi m v w word s fits = let h : (field 6 0 w ≡ 0x13) × (field 14 12 w ≡ 0) = fields_15 w 0x13 0 (omega arith) (omega arith) (at m v w 0x707F 19 s fits) in i_again w 0x13 0 word h.0 h.1
 alu_again Slti m v w word s fits = let h : (field 6 0 w ≡ 0x13) × (field 14 12 w ≡ 2) = fields_15 w 0x13 2 (omega arith) (omega arith) (at m v w 0x707F 8211 s fits) in i_again w 0x13 2 word h.0 h.1
 alu_again Sltiu m v w word s fits = let h : (field 6 0 w ≡ 0x13) × (field 14 12 w ≡ 3) = fields_15 w 0x13 3 (omega arith) (omega arith) (at m v w 0x707F 12307 s fits) in i_again w 0x13 3 word h.0 h.1
@@ -153,7 +153,7 @@ alu_again Slli m v w word s fits = cc
 alu_again Srli m v w word s fits = cc
 alu_again Srai m v w word s fits = cc
 
-shift_again : (op : ImmOp) (m v w : ℕ) → w < 2 ^ 32 → shape (WithAmount op) m v ≡ true → eqb (bit_and w m) v ≡ true → w ≡ alu_word op (rd_of w) (rs1_of w) (rs2_of w)
+shift_again : (op : ImmOp) (m v w : ℕ) → w < 2 ^ 32 → shape (ShiftImm op) m v ≡ true → eqb (bit_and w m) v ≡ true → w ≡ alu_word op (rd_of w) (rs1_of w) (rs2_of w)
 shift_again Addi m v w word s fits = cc
 shift_again Slti m v w word s fits = cc
 shift_again Sltiu m v w word s fits = cc
@@ -183,7 +183,7 @@ fields_atomic w h word e = (omega (arith, e, under_atomic w word), omega (arith,
 a_again : (w h : ℕ) → w < 2 ^ 32 → field 6 0 w ≡ 0x2F → field 14 12 w ≡ 2 → field 31 27 w ≡ h → r_word 0x2F 2 (h * 4) (rd_of w) (rs1_of w) (rs2_of w) ≡ with_field 26 25 w 0
 a_again w h word opcode funct3 funct5 = omega arith
 
-atomic_again : (op : AtomicOp) (m v w : ℕ) → w < 2 ^ 32 → shape (OnMemory op) m v ≡ true → eqb (bit_and w m) v ≡ true → r_word 0x2F 2 (atomic_code op * 4) (rd_of w) (rs1_of w) (rs2_of w) ≡ with_field 26 25 w 0
+atomic_again : (op : AtomicOp) (m v w : ℕ) → w < 2 ^ 32 → shape (Amo op) m v ≡ true → eqb (bit_and w m) v ≡ true → r_word 0x2F 2 (atomic_funct5 op * 4) (rd_of w) (rs1_of w) (rs2_of w) ≡ with_field 26 25 w 0
 atomic_again LrW m v w word s fits = let h : ReserveFields w = reserve_fields w word (at m v w 0xF9F0707F 0x1000202F s fits) in a_again w 2 word h.opcode h.funct3 h.funct5
 atomic_again ScW m v w word s fits = let h : (field 6 0 w ≡ 0x2F) × (field 14 12 w ≡ 2) × (field 31 27 w ≡ 3) = fields_atomic w 3 word (at m v w 0xF800707F 402661423 s fits) in a_again w 3 word h.0 h.1 h.2
 atomic_again SwapW m v w word s fits = let h : (field 6 0 w ≡ 0x2F) × (field 14 12 w ≡ 2) × (field 31 27 w ≡ 1) = fields_atomic w 1 word (at m v w 0xF800707F 134225967 s fits) in a_again w 1 word h.0 h.1 h.2
@@ -197,20 +197,20 @@ atomic_again MinuW m v w word s fits = let h : (field 6 0 w ≡ 0x2F) × (field 
 atomic_again MaxuW m v w word s fits = let h : (field 6 0 w ≡ 0x2F) × (field 14 12 w ≡ 2) × (field 31 27 w ≡ 28) = fields_atomic w 28 word (at m v w 0xF800707F 3758104623 s fits) in a_again w 28 word h.0 h.1 h.2
 
 again : (f : Form) (m v w : ℕ) → w < 2 ^ 32 → shape f m v ≡ true → eqb (bit_and w m) v ≡ true → word_of (made f w) ≡ canonical (made f w) w
-again UpperLui m v w word s fits = sym (u_again w 0x37 word (sym (under_7 w) ∙ at m v w 0x7F 0x37 s fits))
-again UpperAuipc m v w word s fits = sym (u_again w 0x17 word (sym (under_7 w) ∙ at m v w 0x7F 0x17 s fits))
-again Jump m v w word s fits = sym (j_again w word (sym (under_7 w) ∙ at m v w 0x7F 0x6F s fits))
-again JumpRegister m v w word s fits = let h : (field 6 0 w ≡ 0x67) × (field 14 12 w ≡ 0) = fields_15 w 0x67 0 (omega arith) (omega arith) (at m v w 0x707F 0x67 s fits) in sym (i_again w 0x67 0 word h.0 h.1)
-again (Conditional op) m v w word s fits = let h : (field 6 0 w ≡ 0x63) × (field 14 12 w ≡ branch_code op) = fields_15 w 0x63 (branch_code op) (omega arith) (branch_code_lt op) (at m v w 0x707F _ s fits) in sym (b_again w (branch_code op) word h.0 h.1)
-again (LoadFrom op) m v w word s fits = let h : (field 6 0 w ≡ 3) × (field 14 12 w ≡ load_code op) = fields_15 w 3 (load_code op) (omega arith) (load_code_lt op) (at m v w 0x707F _ s fits) in sym (i_again w 3 (load_code op) word h.0 h.1)
-again (StoreTo op) m v w word s fits = let h : (field 6 0 w ≡ 0x23) × (field 14 12 w ≡ store_code op) = fields_15 w 0x23 (store_code op) (omega arith) (store_code_lt op) (at m v w 0x707F _ s fits) in sym (s_again w (store_code op) word h.0 h.1)
-again (WithImmediate op) m v w word s fits = sym (alu_again op m v w word s fits)
-again (WithAmount op) m v w word s fits = sym (shift_again op m v w word s fits)
-again (WithRegister op) m v w word s fits = let h : (field 6 0 w ≡ 0x33) × (field 14 12 w ≡ reg_code op) × (field 31 25 w ≡ reg_high op) = fields_32 w 0x33 (reg_code op) (reg_high op) word (omega arith) (reg_code_lt op) (at m v w 0xFE00707F _ s fits) in sym (r_again w 0x33 (reg_code op) (reg_high op) word h.0 h.1 h.2)
-again (OnMemory op) m v w word s fits = atomic_again op m v w word s fits
-again Fencing m v w word s fits = refl
-again Calling m v w word s fits = sym (whole w 0x73 word (at m v w 0xFFFFFFFF 0x73 s fits))
-again Breaking m v w word s fits = sym (whole w 0x100073 word (at m v w 0xFFFFFFFF 0x100073 s fits))
+again Lui m v w word s fits = sym (u_again w 0x37 word (sym (under_7 w) ∙ at m v w 0x7F 0x37 s fits))
+again Auipc m v w word s fits = sym (u_again w 0x17 word (sym (under_7 w) ∙ at m v w 0x7F 0x17 s fits))
+again Jal m v w word s fits = sym (j_again w word (sym (under_7 w) ∙ at m v w 0x7F 0x6F s fits))
+again Jalr m v w word s fits = let h : (field 6 0 w ≡ 0x67) × (field 14 12 w ≡ 0) = fields_15 w 0x67 0 (omega arith) (omega arith) (at m v w 0x707F 0x67 s fits) in sym (i_again w 0x67 0 word h.0 h.1)
+again (Branch op) m v w word s fits = let h : (field 6 0 w ≡ 0x63) × (field 14 12 w ≡ branch_funct3 op) = fields_15 w 0x63 (branch_funct3 op) (omega arith) (branch_funct3_lt op) (at m v w 0x707F _ s fits) in sym (b_again w (branch_funct3 op) word h.0 h.1)
+again (Load op) m v w word s fits = let h : (field 6 0 w ≡ 3) × (field 14 12 w ≡ load_funct3 op) = fields_15 w 3 (load_funct3 op) (omega arith) (load_funct3_lt op) (at m v w 0x707F _ s fits) in sym (i_again w 3 (load_funct3 op) word h.0 h.1)
+again (Store op) m v w word s fits = let h : (field 6 0 w ≡ 0x23) × (field 14 12 w ≡ store_funct3 op) = fields_15 w 0x23 (store_funct3 op) (omega arith) (store_funct3_lt op) (at m v w 0x707F _ s fits) in sym (s_again w (store_funct3 op) word h.0 h.1)
+again (OpImm op) m v w word s fits = sym (alu_again op m v w word s fits)
+again (ShiftImm op) m v w word s fits = sym (shift_again op m v w word s fits)
+again (Op op) m v w word s fits = let h : (field 6 0 w ≡ 0x33) × (field 14 12 w ≡ op_funct3 op) × (field 31 25 w ≡ op_funct7 op) = fields_32 w 0x33 (op_funct3 op) (op_funct7 op) word (omega arith) (op_funct3_lt op) (at m v w 0xFE00707F _ s fits) in sym (r_again w 0x33 (op_funct3 op) (op_funct7 op) word h.0 h.1 h.2)
+again (Amo op) m v w word s fits = atomic_again op m v w word s fits
+again Fence m v w word s fits = refl
+again Ecall m v w word s fits = sym (whole w 0x73 word (at m v w 0xFFFFFFFF 0x73 s fits))
+again Ebreak m v w word s fits = sym (whole w 0x100073 word (at m v w 0xFFFFFFFF 0x100073 s fits))
 
 -- the word of what a word decodes to
 pub canonical-decoded : (w : ℕ) (i : Instr) → w < 2 ^ 32 → decoded w ≡ Some i → word_of i ≡ canonical i w
@@ -244,7 +244,7 @@ valid_b w = subst (λ n. IsExtended 13 n × IsEven n) (sym (is_imm_b w)) (is_13 
 valid_j : (w : ℕ) → IsExtended 21 (imm_j w) × IsEven (imm_j w)
 valid_j w = subst (λ n. IsExtended 21 n × IsEven n) (sym (is_imm_j w)) (is_21 (field 31 31 w * 2 ^ 20 + field 19 12 w * 2 ^ 12 + field 20 20 w * 2 ^ 11 + field 30 21 w * 2) (omega arith) (omega arith))
 
-valid_atomic : (op : AtomicOp) (m v w : ℕ) → w < 2 ^ 32 → shape (OnMemory op) m v ≡ true → eqb (bit_and w m) v ≡ true → AtomicFits op (rs2_of w)
+valid_atomic : (op : AtomicOp) (m v w : ℕ) → w < 2 ^ 32 → shape (Amo op) m v ≡ true → eqb (bit_and w m) v ≡ true → AtomicFits op (rs2_of w)
 valid_atomic LrW m v w word s fits = let h : ReserveFields w = reserve_fields w word (at m v w 0xF9F0707F 0x1000202F s fits) in h.second
 valid_atomic ScW m v w word s fits = tt
 valid_atomic SwapW m v w word s fits = tt
@@ -257,7 +257,7 @@ valid_atomic MaxW m v w word s fits = tt
 valid_atomic MinuW m v w word s fits = tt
 valid_atomic MaxuW m v w word s fits = tt
 
-valid_imm : (op : ImmOp) (m v w : ℕ) → shape (WithImmediate op) m v ≡ true → ImmFits op (imm_i w)
+valid_imm : (op : ImmOp) (m v w : ℕ) → shape (OpImm op) m v ≡ true → ImmFits op (imm_i w)
 valid_imm Addi m v w s = valid_i w
 valid_imm Slti m v w s = valid_i w
 valid_imm Sltiu m v w s = valid_i w
@@ -268,7 +268,7 @@ valid_imm Slli m v w s = absurd (false≢true s)
 valid_imm Srli m v w s = absurd (false≢true s)
 valid_imm Srai m v w s = absurd (false≢true s)
 
-valid_shift : (op : ImmOp) (m v w : ℕ) → shape (WithAmount op) m v ≡ true → ImmFits op (rs2_of w)
+valid_shift : (op : ImmOp) (m v w : ℕ) → shape (ShiftImm op) m v ≡ true → ImmFits op (rs2_of w)
 valid_shift Addi m v w s = absurd (false≢true s)
 valid_shift Slti m v w s = absurd (false≢true s)
 valid_shift Sltiu m v w s = absurd (false≢true s)
@@ -280,20 +280,20 @@ valid_shift Srli m v w s = omega arith
 valid_shift Srai m v w s = omega arith
 
 valid_made : (f : Form) (m v w : ℕ) → w < 2 ^ 32 → shape f m v ≡ true → eqb (bit_and w m) v ≡ true → IsValid (made f w)
-valid_made UpperLui m v w word s fits = valid_u w
-valid_made UpperAuipc m v w word s fits = valid_u w
-valid_made Jump m v w word s fits = valid_j w
-valid_made JumpRegister m v w word s fits = valid_i w
-valid_made (Conditional op) m v w word s fits = valid_b w
-valid_made (LoadFrom op) m v w word s fits = valid_i w
-valid_made (StoreTo op) m v w word s fits = valid_s w
-valid_made (WithImmediate op) m v w word s fits = valid_imm op m v w s
-valid_made (WithAmount op) m v w word s fits = valid_shift op m v w s
-valid_made (WithRegister op) m v w word s fits = tt
-valid_made (OnMemory op) m v w word s fits = valid_atomic op m v w word s fits
-valid_made Fencing m v w word s fits = tt
-valid_made Calling m v w word s fits = tt
-valid_made Breaking m v w word s fits = tt
+valid_made Lui m v w word s fits = valid_u w
+valid_made Auipc m v w word s fits = valid_u w
+valid_made Jal m v w word s fits = valid_j w
+valid_made Jalr m v w word s fits = valid_i w
+valid_made (Branch op) m v w word s fits = valid_b w
+valid_made (Load op) m v w word s fits = valid_i w
+valid_made (Store op) m v w word s fits = valid_s w
+valid_made (OpImm op) m v w word s fits = valid_imm op m v w s
+valid_made (ShiftImm op) m v w word s fits = valid_shift op m v w s
+valid_made (Op op) m v w word s fits = tt
+valid_made (Amo op) m v w word s fits = valid_atomic op m v w word s fits
+valid_made Fence m v w word s fits = tt
+valid_made Ecall m v w word s fits = tt
+valid_made Ebreak m v w word s fits = tt
 
 pub IsValid-decoded : (w : ℕ) (i : Instr) → w < 2 ^ 32 → decoded w ≡ Some i → IsValid i
 unfolding decoded

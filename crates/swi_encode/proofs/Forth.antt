@@ -21,8 +21,8 @@ use Rattle.swi_isa.specs.Table.{rd_of, rs1_of, rs2_of, imm_i, imm_s, imm_b, imm_
 use Rattle.swi_isa.proofs.Rows.{decoded_is, decoded_at}
 use Rattle.swi_isa.proofs.Sums.{is_imm_i, is_imm_s, is_imm_b, is_imm_u, is_imm_j}
 use Rattle.swi_encode.specs.Valid.{IsExtended, IsEven, ImmFits, AtomicFits, IsValid}
-use Rattle.swi_encode.proofs.Codes.{branch_code_lt, load_code_lt, store_code_lt, reg_code_lt, reg_high_lt, atomic_code_lt}
-use Rattle.swi_encode.specs.Words.{InRange, word_of, u_word, j_word, i_word, s_word, b_word, r_word, alu_word, branch_code, load_code, store_code, reg_code, reg_high, atomic_code}
+use Rattle.swi_encode.proofs.Codes.{branch_funct3_lt, load_funct3_lt, store_funct3_lt, op_funct3_lt, op_funct7_lt, atomic_funct5_lt}
+use Rattle.swi_encode.specs.Words.{InRange, word_of, u_word, j_word, i_word, s_word, b_word, r_word, alu_word, branch_funct3, load_funct3, store_funct3, op_funct3, op_funct7, atomic_funct5}
 
 again_12 : (v : ℕ) → v < 2 ^ 32 → IsExtended 12 v → extended 12 (v % 2 ^ 12) ≡ v
 again_12 v word range = grind (arith, nat_tests)
@@ -126,7 +126,7 @@ record RFields (w o f g rd rs1 rs2 : ℕ) : Type 0 where
 r_fields : (w o f g rd rs1 rs2 : ℕ) → o < 128 → f < 8 → g < 128 → rd < 32 → rs1 < 32 → rs2 < 32 → w ≡ r_word o f g rd rs1 rs2 → RFields w o f g rd rs1 rs2
 r_fields w o f g rd rs1 rs2 p1 p2 p3 p4 p5 p6 is = record { word = omega arith; opcode = omega arith; funct3 = omega arith; funct7 = omega arith; dest = omega arith; first = omega arith; second = omega arith }
 
-branches : (op : BranchOp) (w rs1 rs2 off : ℕ) → BFields w (branch_code op) rs1 rs2 off → decoded w ≡ Some (instr.Branch op rs1 rs2 off)
+branches : (op : BranchOp) (w rs1 rs2 off : ℕ) → BFields w (branch_funct3 op) rs1 rs2 off → decoded w ≡ Some (instr.Branch op rs1 rs2 off)
 branches Beq w rs1 rs2 off h = rw (decoded_is w 0x63 0 (field 31 25 w) h.word h.opcode h.funct3 refl) (cc)
 branches Bne w rs1 rs2 off h = rw (decoded_is w 0x63 1 (field 31 25 w) h.word h.opcode h.funct3 refl) (cc)
 branches Blt w rs1 rs2 off h = rw (decoded_is w 0x63 4 (field 31 25 w) h.word h.opcode h.funct3 refl) (cc)
@@ -134,19 +134,19 @@ branches Bge w rs1 rs2 off h = rw (decoded_is w 0x63 5 (field 31 25 w) h.word h.
 branches Bltu w rs1 rs2 off h = rw (decoded_is w 0x63 6 (field 31 25 w) h.word h.opcode h.funct3 refl) (cc)
 branches Bgeu w rs1 rs2 off h = rw (decoded_is w 0x63 7 (field 31 25 w) h.word h.opcode h.funct3 refl) (cc)
 
-loads : (op : LoadOp) (w rd rs1 imm : ℕ) → IFields w 3 (load_code op) rd rs1 imm → decoded w ≡ Some (instr.Load op rd rs1 imm)
+loads : (op : LoadOp) (w rd rs1 imm : ℕ) → IFields w 3 (load_funct3 op) rd rs1 imm → decoded w ≡ Some (instr.Load op rd rs1 imm)
 loads Lb w rd rs1 imm h = rw (decoded_is w 3 0 (field 31 25 w) h.word h.opcode h.funct3 refl) (cc)
 loads Lh w rd rs1 imm h = rw (decoded_is w 3 1 (field 31 25 w) h.word h.opcode h.funct3 refl) (cc)
 loads Lw w rd rs1 imm h = rw (decoded_is w 3 2 (field 31 25 w) h.word h.opcode h.funct3 refl) (cc)
 loads Lbu w rd rs1 imm h = rw (decoded_is w 3 4 (field 31 25 w) h.word h.opcode h.funct3 refl) (cc)
 loads Lhu w rd rs1 imm h = rw (decoded_is w 3 5 (field 31 25 w) h.word h.opcode h.funct3 refl) (cc)
 
-stores : (op : StoreOp) (w rs1 rs2 imm : ℕ) → SFields w (store_code op) rs1 rs2 imm → decoded w ≡ Some (instr.Store op rs1 rs2 imm)
+stores : (op : StoreOp) (w rs1 rs2 imm : ℕ) → SFields w (store_funct3 op) rs1 rs2 imm → decoded w ≡ Some (instr.Store op rs1 rs2 imm)
 stores Sb w rs1 rs2 imm h = rw (decoded_is w 0x23 0 (field 31 25 w) h.word h.opcode h.funct3 refl) (cc)
 stores Sh w rs1 rs2 imm h = rw (decoded_is w 0x23 1 (field 31 25 w) h.word h.opcode h.funct3 refl) (cc)
 stores Sw w rs1 rs2 imm h = rw (decoded_is w 0x23 2 (field 31 25 w) h.word h.opcode h.funct3 refl) (cc)
 
-registers : (op : RegOp) (w rd rs1 rs2 : ℕ) → RFields w 0x33 (reg_code op) (reg_high op) rd rs1 rs2 → decoded w ≡ Some (instr.Op op rd rs1 rs2)
+registers : (op : RegOp) (w rd rs1 rs2 : ℕ) → RFields w 0x33 (op_funct3 op) (op_funct7 op) rd rs1 rs2 → decoded w ≡ Some (instr.Op op rd rs1 rs2)
 registers Add w rd rs1 rs2 h = rw (decoded_is w 0x33 0 0 h.word h.opcode h.funct3 h.funct7) (cc)
 registers Sub w rd rs1 rs2 h = rw (decoded_is w 0x33 0 32 h.word h.opcode h.funct3 h.funct7) (cc)
 registers Sll w rd rs1 rs2 h = rw (decoded_is w 0x33 1 0 h.word h.opcode h.funct3 h.funct7) (cc)
@@ -178,7 +178,7 @@ record AFields (w h rd rs1 rs2 : ℕ) : Type 0 where
 a_fields : (w h rd rs1 rs2 : ℕ) → h < 32 → rd < 32 → rs1 < 32 → rs2 < 32 → w ≡ r_word 0x2F 2 (h * 4) rd rs1 rs2 → AFields w h rd rs1 rs2
 a_fields w h rd rs1 rs2 p1 p2 p3 p4 is = record { word = omega arith; opcode = omega arith; funct3 = omega arith; funct5 = omega arith; dest = omega arith; first = omega arith; second = omega arith }
 
-atomics : (op : AtomicOp) (w rd rs1 rs2 : ℕ) → AFields w (atomic_code op) rd rs1 rs2 → AtomicFits op rs2 → decoded w ≡ Some (instr.Atomic op rd rs1 rs2)
+atomics : (op : AtomicOp) (w rd rs1 rs2 : ℕ) → AFields w (atomic_funct5 op) rd rs1 rs2 → AtomicFits op rs2 → decoded w ≡ Some (instr.Atomic op rd rs1 rs2)
 atomics LrW w rd rs1 rs2 h fits = rw (decoded_at w 0x2F 2 (field 31 25 w) 2 0 h.word h.opcode h.funct3 refl h.funct5 (h.second ∙ fits)) (cc)
 atomics ScW w rd rs1 rs2 h fits = rw (decoded_at w 0x2F 2 (field 31 25 w) 3 (field 24 20 w) h.word h.opcode h.funct3 refl h.funct5 refl) (cc)
 atomics SwapW w rd rs1 rs2 h fits = rw (decoded_at w 0x2F 2 (field 31 25 w) 1 (field 24 20 w) h.word h.opcode h.funct3 refl h.funct5 refl) (cc)
@@ -208,12 +208,12 @@ decoded-word_of (instr.Lui rd imm) w is r v = let h : UFields w 0x37 rd imm = u_
 decoded-word_of (instr.Auipc rd imm) w is r v = let h : UFields w 0x17 rd imm = u_fields w 0x17 rd imm (omega arith) r.0 r.1 v is in rw (decoded_is w 0x17 (field 14 12 w) (field 31 25 w) h.word h.opcode refl refl) (cc)
 decoded-word_of (instr.Jal rd off) w is r v = let h : JFields w rd off = j_fields w rd off r.0 r.1 v.0 v.1 is in rw (decoded_is w 0x6F (field 14 12 w) (field 31 25 w) h.word h.opcode refl refl) (cc)
 decoded-word_of (instr.Jalr rd rs1 imm) w is r v = let h : IFields w 0x67 0 rd rs1 imm = i_fields w 0x67 0 rd rs1 imm (omega arith) (omega arith) r.0 r.1 r.2 v is in rw (decoded_is w 0x67 0 (field 31 25 w) h.word h.opcode h.funct3 refl) (cc)
-decoded-word_of (instr.Branch op rs1 rs2 off) w is r v = branches op w rs1 rs2 off (b_fields w (branch_code op) rs1 rs2 off (branch_code_lt op) r.0 r.1 r.2 v.0 v.1 is)
-decoded-word_of (instr.Load op rd rs1 imm) w is r v = loads op w rd rs1 imm (i_fields w 3 (load_code op) rd rs1 imm (omega arith) (load_code_lt op) r.0 r.1 r.2 v is)
-decoded-word_of (instr.Store op rs1 rs2 imm) w is r v = stores op w rs1 rs2 imm (s_fields w (store_code op) rs1 rs2 imm (store_code_lt op) r.0 r.1 r.2 v is)
+decoded-word_of (instr.Branch op rs1 rs2 off) w is r v = branches op w rs1 rs2 off (b_fields w (branch_funct3 op) rs1 rs2 off (branch_funct3_lt op) r.0 r.1 r.2 v.0 v.1 is)
+decoded-word_of (instr.Load op rd rs1 imm) w is r v = loads op w rd rs1 imm (i_fields w 3 (load_funct3 op) rd rs1 imm (omega arith) (load_funct3_lt op) r.0 r.1 r.2 v is)
+decoded-word_of (instr.Store op rs1 rs2 imm) w is r v = stores op w rs1 rs2 imm (s_fields w (store_funct3 op) rs1 rs2 imm (store_funct3_lt op) r.0 r.1 r.2 v is)
 decoded-word_of (instr.Alu op rd rs1 imm) w is r v = alu op w rd rs1 imm r.0 r.1 r.2 v is
-decoded-word_of (instr.Op op rd rs1 rs2) w is r v = registers op w rd rs1 rs2 (r_fields w 0x33 (reg_code op) (reg_high op) rd rs1 rs2 (omega arith) (reg_code_lt op) (reg_high_lt op) r.0 r.1 r.2 is)
-decoded-word_of (instr.Atomic op rd rs1 rs2) w is r v = atomics op w rd rs1 rs2 (a_fields w (atomic_code op) rd rs1 rs2 (atomic_code_lt op) r.0 r.1 r.2 is) v
+decoded-word_of (instr.Op op rd rs1 rs2) w is r v = registers op w rd rs1 rs2 (r_fields w 0x33 (op_funct3 op) (op_funct7 op) rd rs1 rs2 (omega arith) (op_funct3_lt op) (op_funct7_lt op) r.0 r.1 r.2 is)
+decoded-word_of (instr.Atomic op rd rs1 rs2) w is r v = atomics op w rd rs1 rs2 (a_fields w (atomic_funct5 op) rd rs1 rs2 (atomic_funct5_lt op) r.0 r.1 r.2 is) v
 decoded-word_of instr.Fence w is r v = rw is (decoded_is 0x0FF0000F 0x0F 0 7 (omega arith) refl refl refl)
 decoded-word_of instr.Ecall w is r v = rw is (decoded_is 0x73 0x73 0 0 (omega arith) refl refl refl)
 decoded-word_of instr.Ebreak w is r v = rw is (decoded_is 0x100073 0x73 0 0 (omega arith) refl refl refl)

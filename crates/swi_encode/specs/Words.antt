@@ -17,81 +17,78 @@ use Rattle.swi_isa.specs.declared.instr.AtomicOp.TheVariants.{LrW, ScW, SwapW, A
 use Rattle.swi_isa.specs.declared.instr.Instr.{Instr}
 use Rattle.swi_isa.specs.declared.instr.Instr.TheVariants as instr
 
--- funct3 of each operation
-abbrev pub branch_code : BranchOp → ℕ
-branch_code Beq = 0
-branch_code Bne = 1
-branch_code Blt = 4
-branch_code Bge = 5
-branch_code Bltu = 6
-branch_code Bgeu = 7
+abbrev pub branch_funct3 : BranchOp → ℕ
+branch_funct3 Beq = 0
+branch_funct3 Bne = 1
+branch_funct3 Blt = 4
+branch_funct3 Bge = 5
+branch_funct3 Bltu = 6
+branch_funct3 Bgeu = 7
 
-abbrev pub load_code : LoadOp → ℕ
-load_code Lb = 0
-load_code Lh = 1
-load_code Lw = 2
-load_code Lbu = 4
-load_code Lhu = 5
+abbrev pub load_funct3 : LoadOp → ℕ
+load_funct3 Lb = 0
+load_funct3 Lh = 1
+load_funct3 Lw = 2
+load_funct3 Lbu = 4
+load_funct3 Lhu = 5
 
-abbrev pub store_code : StoreOp → ℕ
-store_code Sb = 0
-store_code Sh = 1
-store_code Sw = 2
+abbrev pub store_funct3 : StoreOp → ℕ
+store_funct3 Sb = 0
+store_funct3 Sh = 1
+store_funct3 Sw = 2
 
-abbrev pub reg_code : RegOp → ℕ
-reg_code Add = 0
-reg_code Sub = 0
-reg_code Sll = 1
-reg_code Slt = 2
-reg_code Sltu = 3
-reg_code Xor = 4
-reg_code Srl = 5
-reg_code Sra = 5
-reg_code Or = 6
-reg_code And = 7
-reg_code Mul = 0
-reg_code Mulh = 1
-reg_code Mulhsu = 2
-reg_code Mulhu = 3
-reg_code Div = 4
-reg_code Divu = 5
-reg_code Rem = 6
-reg_code Remu = 7
+abbrev pub op_funct3 : RegOp → ℕ
+op_funct3 Add = 0
+op_funct3 Sub = 0
+op_funct3 Sll = 1
+op_funct3 Slt = 2
+op_funct3 Sltu = 3
+op_funct3 Xor = 4
+op_funct3 Srl = 5
+op_funct3 Sra = 5
+op_funct3 Or = 6
+op_funct3 And = 7
+op_funct3 Mul = 0
+op_funct3 Mulh = 1
+op_funct3 Mulhsu = 2
+op_funct3 Mulhu = 3
+op_funct3 Div = 4
+op_funct3 Divu = 5
+op_funct3 Rem = 6
+op_funct3 Remu = 7
 
--- funct7
-abbrev pub reg_high : RegOp → ℕ
-reg_high Add = 0
-reg_high Sub = 32
-reg_high Sll = 0
-reg_high Slt = 0
-reg_high Sltu = 0
-reg_high Xor = 0
-reg_high Srl = 0
-reg_high Sra = 32
-reg_high Or = 0
-reg_high And = 0
-reg_high Mul = 1
-reg_high Mulh = 1
-reg_high Mulhsu = 1
-reg_high Mulhu = 1
-reg_high Div = 1
-reg_high Divu = 1
-reg_high Rem = 1
-reg_high Remu = 1
+abbrev pub op_funct7 : RegOp → ℕ
+op_funct7 Add = 0
+op_funct7 Sub = 32
+op_funct7 Sll = 0
+op_funct7 Slt = 0
+op_funct7 Sltu = 0
+op_funct7 Xor = 0
+op_funct7 Srl = 0
+op_funct7 Sra = 32
+op_funct7 Or = 0
+op_funct7 And = 0
+op_funct7 Mul = 1
+op_funct7 Mulh = 1
+op_funct7 Mulhsu = 1
+op_funct7 Mulhu = 1
+op_funct7 Div = 1
+op_funct7 Divu = 1
+op_funct7 Rem = 1
+op_funct7 Remu = 1
 
--- funct5
-abbrev pub atomic_code : AtomicOp → ℕ
-atomic_code LrW = 2
-atomic_code ScW = 3
-atomic_code SwapW = 1
-atomic_code AddW = 0
-atomic_code XorW = 4
-atomic_code AndW = 12
-atomic_code OrW = 8
-atomic_code MinW = 16
-atomic_code MaxW = 20
-atomic_code MinuW = 24
-atomic_code MaxuW = 28
+abbrev pub atomic_funct5 : AtomicOp → ℕ
+atomic_funct5 LrW = 2
+atomic_funct5 ScW = 3
+atomic_funct5 SwapW = 1
+atomic_funct5 AddW = 0
+atomic_funct5 XorW = 4
+atomic_funct5 AndW = 12
+atomic_funct5 OrW = 8
+atomic_funct5 MinW = 16
+atomic_funct5 MaxW = 20
+atomic_funct5 MinuW = 24
+atomic_funct5 MaxuW = 28
 
 -- the formats: o is the opcode, f funct3, g funct7
 abbrev pub u_word : ℕ → ℕ → ℕ → ℕ
@@ -130,12 +127,12 @@ word_of (instr.Lui rd imm) = u_word 0x37 rd imm
 word_of (instr.Auipc rd imm) = u_word 0x17 rd imm
 word_of (instr.Jal rd off) = j_word rd off
 word_of (instr.Jalr rd rs1 imm) = i_word 0x67 0 rd rs1 imm
-word_of (instr.Branch op rs1 rs2 off) = b_word (branch_code op) rs1 rs2 off
-word_of (instr.Load op rd rs1 imm) = i_word 0x03 (load_code op) rd rs1 imm
-word_of (instr.Store op rs1 rs2 imm) = s_word (store_code op) rs1 rs2 imm
+word_of (instr.Branch op rs1 rs2 off) = b_word (branch_funct3 op) rs1 rs2 off
+word_of (instr.Load op rd rs1 imm) = i_word 0x03 (load_funct3 op) rd rs1 imm
+word_of (instr.Store op rs1 rs2 imm) = s_word (store_funct3 op) rs1 rs2 imm
 word_of (instr.Alu op rd rs1 imm) = alu_word op rd rs1 imm
-word_of (instr.Op op rd rs1 rs2) = r_word 0x33 (reg_code op) (reg_high op) rd rs1 rs2
-word_of (instr.Atomic op rd rs1 rs2) = r_word 0x2F 2 (atomic_code op * 4) rd rs1 rs2
+word_of (instr.Op op rd rs1 rs2) = r_word 0x33 (op_funct3 op) (op_funct7 op) rd rs1 rs2
+word_of (instr.Atomic op rd rs1 rs2) = r_word 0x2F 2 (atomic_funct5 op * 4) rd rs1 rs2
 word_of instr.Fence = 0x0FF0000F
 word_of instr.Ecall = 0x73
 word_of instr.Ebreak = 0x100073

@@ -185,7 +185,7 @@ fn word(i: &Instr) -> u32
 }
 
 /// The word of a valid instruction: it decodes to the instruction again, and it is the only such word but for
-/// FENCE, whose word is that of `fence iorw, iorw`, and for an atomic, whose bits aq and rl are clear.
+/// FENCE, whose word is that of `fence iorw, iorw`, and for an atomic, whose bits aq and rl are clear (own rule).
 pub fn encode(i: &Instr) -> u32
     requires { IsValid i.now }
     ensures decodes { decoded result ≡ Some i.now }
@@ -246,8 +246,9 @@ fn fields_fit(i: &Instr) -> bool
 }
 
 /// Whether the fields of the instruction fit their encoding, that is whether it has a word: an immediate is one
-/// that its format can hold, an offset is even, a shift is by less than 32, and LR.W has rs2 = 0. Every
-/// instruction that a word decodes to is valid.
+/// that its format can hold, an offset is even, a shift is by less than 32, and LR.W has rs2 = 0 (RISC-V
+/// unprivileged specification, sections 2.3 to 2.5; LR.W: the A chapter). Every instruction that a word decodes
+/// to is valid.
 pub fn valid(i: &Instr) -> bool
     ensures fits { IsTrue result ↔ IsValid i.now }
     ensures of_decoded { (w : ℕ) → w < 2 ^ 32 → decoded w ≡ Some i.now → IsTrue result }
