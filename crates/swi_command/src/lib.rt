@@ -48,7 +48,12 @@ pub enum CommandError {
     Memory,
 }
 
-/// The command that the words after the program's name ask for.
+/// The command that the words after the program's name ask for. Usage comes where no command takes
+/// the words; Memory may come in place of any answer.
+///
+/// `cached` and `plain` take FILE, `--steps`, `--heap`, `--stack` and the flags `--state` and
+/// `--calls`. What is not given is 1000000000 steps, 1048576 bytes of heap, 65536 of stack, and no
+/// flag.
 ///
 /// Options may stand before, between and after the FILE, as `--x v` or `--x=v`, each at most
 /// once. A value that begins with `-` is taken only as `--x=v`, and `--` ends the options. A number
@@ -78,14 +83,9 @@ fn parse_cached(alloc: Global, words: &[String]) -> Result<Command, CommandError
         (matches_on cached_app (map (λ w. string_bytes w) words.now)) ≡ None }
     ensures ranges { IfOk result HasLimitsInRange }
 {
-    let matches = match cached_matches(alloc, words) {
-        Ok(matches) => matches,
-        Err(error) => return Err(error),
-    };
-    match read_run(alloc, &matches) {
-        Ok((file, options)) => Ok(Command::Cached { file, options }),
-        Err(error) => Err(error),
-    }
+    let matches = cached_matches(alloc, words)?;
+    let (file, options) = read_run(alloc, &matches)?;
+    Ok(Command::Cached { file, options })
 }
 
 /// The command of words that begin with `plain`.
@@ -96,14 +96,9 @@ fn parse_plain(alloc: Global, words: &[String]) -> Result<Command, CommandError>
         (matches_on plain_app (map (λ w. string_bytes w) words.now)) ≡ None }
     ensures ranges { IfOk result HasLimitsInRange }
 {
-    let matches = match plain_matches(alloc, words) {
-        Ok(matches) => matches,
-        Err(error) => return Err(error),
-    };
-    match read_run(alloc, &matches) {
-        Ok((file, options)) => Ok(Command::Plain { file, options }),
-        Err(error) => Err(error),
-    }
+    let matches = plain_matches(alloc, words)?;
+    let (file, options) = read_run(alloc, &matches)?;
+    Ok(Command::Plain { file, options })
 }
 
 #[cfg(test)]

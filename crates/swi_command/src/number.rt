@@ -8,7 +8,7 @@ fn read_number(text: &str) -> Option<u64>
     ensures { result ≡ number text.now }
 {
     // `parse` takes a leading plus.
-    if text.is_empty() || text.len() > 19 || text.as_bytes()[0] == b'+' {
+    if text.is_empty() || text.len() > 19 || text.starts_with('+') {
         return None;
     }
     text.parse::<u64>().ok()
@@ -33,7 +33,7 @@ pub fn read_number_in(text: &str, rule: NumberRule) -> Option<u64>
     ensures aligned { IfSome result (λ n. n % rule.unit ≡ 0) }
 {
     match read_number(text) {
-        Some(number) if rule.least <= number && number <= rule.most && number % rule.unit == 0 => {
+        Some(number) if (rule.least..=rule.most).contains(&number) && number % rule.unit == 0 => {
             Some(number)
         }
         _ => None,

@@ -1,6 +1,6 @@
 //! The options of a run, read from `clap`'s matches.
 
-ghost use Rattle.std.specs.Prelude.{◌≡◌, ◌<◌, ◌≤◌, ◌%◌, IfSome, IfOk, Some, None, option_map, codes, string_bytes};
+ghost use Rattle.std.specs.Prelude.{◌≡◌, ◌<◌, ◌≤◌, ◌%◌, IfSome, IfOk, Some, None, option_map, string_bytes};
 ghost use Rattle.clap.specs.Words.{rows_of, found_of, first_of};
 ghost use Rattle.swi_command.specs.CommandLine.{number_option, is_set, options_of, run_of, IsInRange};
 

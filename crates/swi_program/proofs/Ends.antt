@@ -45,10 +45,14 @@ apart_with [] heap stack apart below on = ((inr (inr (inl on)), tt), (tt, tt))
 apart_with (x ∷ xs) heap stack apart below on =
     (clear_with (range_of x) xs heap stack apart.0 below.0 (omega (arith, below.0)), apart_with xs heap stack apart.1 below.1 on)
 
--- a layout leaves its room
-pub roomy_of : (xs : List SegmentData) (heap stack : ℕ) (l : Layout) → AreApart (map range_of xs) → laid_out xs heap stack ≡ Ok l → IsRoomy xs l
+-- an answer is the layout in the definition, which ends at the last address at most
+record IsLaidOut (xs : List SegmentData) (heap stack : ℕ) (l : Layout) : Type 0 where
+  end : stack_end xs heap stack ≤ 2 ^ 32
+  is : record { heap = highest_end xs; heap_len = heap; stack = stack_base xs heap; stack_len = stack; sp = stack_pointer (stack_end xs heap stack) } ≡ l
+
+laid_out_is : (xs : List SegmentData) (heap stack : ℕ) (l : Layout) → laid_out xs heap stack ≡ Ok l → IsLaidOut xs heap stack l
 unfolding laid_out
-roomy_of xs heap stack l apart e =
+laid_out_is xs heap stack l e =
     elim (cases_Bool (nat_lt (2 ^ 32) (stack_end xs heap stack))) [
       | inl past ↦
           let room : Room = record { end = stack_end xs heap stack } in
@@ -65,15 +69,19 @@ roomy_of xs heap stack l apart e =
           } in
           let answer : Result Layout Room = Ok made in
           let right : answer ≡ Ok l = rw fits at e in
-          let same : made ≡ l = cc in
-          let least : stack_end xs heap stack ≤ 2 ^ 32 = ltb-false (2 ^ 32) (stack_end xs heap stack) fits in
-          subst (λ (k : Layout). IsRoomy xs k) same (record {
-            heap = end_below xs;
-            stack = omega arith;
-            end = least;
-            apart = apart_with xs (record { base = highest_end xs; size = heap }) (record { base = stack_base xs heap; size = stack }) apart (end_below xs) (omega arith);
-          })
+          record { end = ltb-false (2 ^ 32) (stack_end xs heap stack) fits; is = cc }
     ]
+
+-- a layout leaves its room
+pub roomy_of : (xs : List SegmentData) (heap stack : ℕ) (l : Layout) → AreApart (map range_of xs) → laid_out xs heap stack ≡ Ok l → IsRoomy xs l
+roomy_of xs heap stack l apart e =
+    let laid : IsLaidOut xs heap stack l = laid_out_is xs heap stack l e in
+    subst (λ (k : Layout). IsRoomy xs k) laid.is (record {
+      heap = end_below xs;
+      stack = omega arith;
+      end = laid.end;
+      apart = apart_with xs (record { base = highest_end xs; size = heap }) (record { base = stack_base xs heap; size = stack }) apart (end_below xs) (omega arith);
+    })
 
 pub room_law : (xs : List SegmentData) (l : Layout) → AreApart (map range_of xs) → IsLayoutOf xs l → IsRoomy xs l
 room_law xs l apart e = roomy_of xs l.heap_len l.stack_len l apart e
@@ -84,27 +92,9 @@ answer_roomy xs heap stack (Err room) apart e = tt
 
 -- a layout is the one of its own lengths
 lengths_of : (xs : List SegmentData) (heap stack : ℕ) (l : Layout) → laid_out xs heap stack ≡ Ok l → (heap ≡ l.heap_len) × (stack ≡ l.stack_len)
-unfolding laid_out
 lengths_of xs heap stack l e =
-    elim (cases_Bool (nat_lt (2 ^ 32) (stack_end xs heap stack))) [
-      | inl past ↦
-          let room : Room = record { end = stack_end xs heap stack } in
-          let refused : Result Layout Room = Err room in
-          let wrong : refused ≡ Ok l = rw past at e in
-          cc
-      | inr fits ↦
-          let made : Layout = record {
-            heap = highest_end xs;
-            heap_len = heap;
-            stack = stack_base xs heap;
-            stack_len = stack;
-            sp = stack_pointer (stack_end xs heap stack);
-          } in
-          let answer : Result Layout Room = Ok made in
-          let right : answer ≡ Ok l = rw fits at e in
-          let same : made ≡ l = cc in
-          (ap (λ (k : Layout). k.heap_len) same, ap (λ (k : Layout). k.stack_len) same)
-    ]
+    let laid : IsLaidOut xs heap stack l = laid_out_is xs heap stack l e in
+    (ap (λ (k : Layout). k.heap_len) laid.is, ap (λ (k : Layout). k.stack_len) laid.is)
 
 pub answer_own : (xs : List SegmentData) (heap stack : ℕ) (r : Result Layout Room) → r ≡ laid_out xs heap stack → IfOk r (IsLayoutOf xs)
 answer_own xs heap stack (Ok l) e =

@@ -1,8 +1,9 @@
 -- Words of a list of bytes.
 use Rattle.std.proofs.Common.{◌≡◌, ℕ, ◌+◌, ◌-◌, ◌*◌, ◌/◌, ◌<◌, ◌≤◌, zero, suc, List, length, get_or, take, drop, arith, refl, ap, ◌∙◌, Some, length-take, length-drop, get_or-drop, get_or-take}
 use Rattle.byteorder.specs.Endian.{little_number}
+use Rattle.swi_elf_read.specs.ProgramHeaders.{round_up_4}
 use Rattle.swi_program.specs.Program.{SegmentData}
-use Rattle.swi_program.specs.Text.{words_from, text_in, round_up_4}
+use Rattle.swi_program.specs.Text.{words_from, text_in}
 use Rattle.swi_program.specs.Viewed.{seen}
 
 -- how many words there are

@@ -1,10 +1,13 @@
 -- A program: an entry address, the flags of an ELF header and the segments that a run loads.
 -- Source: System V ABI, "ELF Header" (e_entry, e_flags) and "Program Header" (PT_LOAD); RISC-V ELF psABI, "File
 -- Header" (bits 0 to 3 of e_flags). The limits on sizes and that there is one executable segment: own rule.
-use Rattle.std.specs.Prelude.{◌≡◌, ℕ, ◌+◌, ◌%◌, ◌^◌, ◌<◌, ◌≤◌, ◌==◌, Bool, true, ◌&&◌, nat_le, List, [], ◌∷◌, length, map, filter, sum_by}
+use Rattle.std.specs.Prelude.{◌≡◌, ℕ, ◌+◌, ◌%◌, ◌^◌, ◌<◌, ◌≤◌, Bool, true, List, [], ◌∷◌, length, map, filter, sum_by}
 use Rattle.std.specs.List.{list_any}
 pub use Rattle.swi_memory.specs.Segment.{SegmentData}
-use Rattle.swi_memory.specs.BusOf.{AreApart, range_of}
+use Rattle.swi_memory.specs.declared.right.Right.TheVariants.{Execute}
+use Rattle.swi_memory.specs.Bus.{has_word}
+use Rattle.swi_memory.specs.BusOf.{AreApart, area_of, range_of}
+use Rattle.swi_memory.specs.Rights.{grants}
 
 pub record ProgramData : Type 0 where
   pub entry : ℕ
@@ -13,11 +16,11 @@ pub record ProgramData : Type 0 where
 
 -- the right to execute
 abbrev pub can_execute : SegmentData → Bool
-can_execute s = s.flags % 2 == 1
+can_execute s = grants Execute s.flags
 
 -- a text word: a whole word at a multiple of 4, within the file's bytes of an executable segment
 abbrev pub has_word_at : ℕ → SegmentData → Bool
-has_word_at a s = can_execute s && (a % 4 == 0 && (nat_le s.base a && nat_le (a + 4) (s.base + length s.bytes)))
+has_word_at a s = has_word (area_of s) a
 
 -- what holds of each segment of a program
 pub record IsSegment (s : SegmentData) : Type 0 where

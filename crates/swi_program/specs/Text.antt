@@ -3,6 +3,7 @@
 -- aligned on 4 bytes, and parcels are little-endian). That the words past the file's bytes are none: own rule.
 use Rattle.std.specs.Prelude.{◌≡◌, ℕ, zero, suc, ◌+◌, ◌-◌, ◌*◌, ◌/◌, ◌%◌, ◌^◌, ◌≤◌, ◌<◌, ◌==◌, ◌&&◌, nat_le, if◌then◌else◌, slice_index, List, [], ◌∷◌, length, drop, find, Option, Some, None}
 use Rattle.byteorder.specs.Endian.{little_number}
+use Rattle.swi_elf_read.specs.ProgramHeaders.{round_up_4}
 use Rattle.swi_program.specs.Program.{SegmentData, can_execute}
 
 -- the address of the first word, and the words
@@ -14,10 +15,6 @@ pub record TextData : Type 0 where
 unfoldable pub words_from : List ℕ → ℕ → ℕ → List ℕ
 words_from bytes at zero = []
 words_from bytes at (suc n) = little_number 4 (drop at bytes) ∷ words_from bytes (at + 4) n
-
--- the least multiple of 4 that is not below a
-abbrev pub round_up_4 : ℕ → ℕ
-round_up_4 a = (a + 3) / 4 * 4
 
 -- the address of the first text word of a segment, and how many there are up to the end of the file's bytes
 abbrev pub text_base : SegmentData → ℕ

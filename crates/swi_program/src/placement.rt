@@ -1,7 +1,7 @@
 //! Where the heap and the stack of a program lie.
 #![tactic(auto)]
 
-ghost use Rattle.std.specs.Prelude.{◌≡◌, ◌+◌, ◌%◌, ◌^◌, ◌≤◌, max, IfOk};
+ghost use Rattle.std.specs.Prelude.{◌≡◌, ◌+◌, ◌%◌, ◌^◌, ◌≤◌, IfOk};
 ghost use Rattle.swi_program.specs.Layout.{laid_out, highest_end, IsLayoutOf, IsRoomy};
 
 use crate::programs::Program;
@@ -14,12 +14,6 @@ pub struct Room {
     pub end: u64,
 }
 
-fn larger(a: u64, b: u64) -> u64
-    ensures { result ≡ max a b }
-{
-    if a < b { b } else { a }
-}
-
 /// The highest address past a segment.
 #[tactic(auto, using(crate::proofs::Ends::end_steps))]
 fn highest_end(segments: &[Segment]) -> u64
@@ -29,7 +23,7 @@ fn highest_end(segments: &[Segment]) -> u64
     let mut highest = 0;
     for segment in segments {
         let end = u64::from(segment.base()) + u64::from(segment.size());
-        highest = larger(highest, end);
+        highest = highest.max(end);
     }
     highest
 }
@@ -59,8 +53,12 @@ fn place(segments: &[Segment], heap: u32, stack: u32) -> Result<Layout, Room>
 
 /// The layout of a program with a heap and a stack of these lengths in bytes.
 ///
-/// The heap begins at the highest segment's end. The stack begins 4096 bytes after the heap's end
-/// rounded up to a multiple of 4096. The refusal comes exactly where the stack's end passes 2^32.
+/// The heap begins at the highest segment's end and has at most 67108864 bytes. The stack begins
+/// 4096 bytes after the heap's end rounded up to a multiple of 4096, and has 4096 to 16777216 bytes,
+/// a multiple of 16. The stack pointer is 64 below the stack's end, rounded down to a multiple of
+/// 16. The refusal comes exactly where the stack's end passes 2^32.
+///
+/// Own rule, but for the stack pointer's 16 (RISC-V ELF psABI, "Integer Calling Convention").
 pub fn lay_out(p: &Program, heap: u32, stack: u32) -> Result<Layout, Room>
     requires heap_range { heap ≤ 2 ^ 26 }
     requires stack_least { 4096 ≤ stack }

@@ -1,7 +1,7 @@
 //! Programs, and what they are made of.
 #![tactic(auto)]
 
-ghost use Rattle.std.specs.Prelude.{◌≡◌, ℕ, ◌+◌, ◌*◌, ◌%◌, ◌^◌, ◌<◌, ◌≤◌, length, filter, find, sum_by, map, IfOk, option_copied, option_map, slice_get, Some, [], ◌∷◌};
+ghost use Rattle.std.specs.Prelude.{◌≡◌, ℕ, ◌+◌, ◌*◌, ◌%◌, ◌^◌, ◌<◌, ◌≤◌, length, find, sum_by, map, IfOk, option_copied, option_map, slice_get, Some, [], ◌∷◌};
 ghost use Rattle.swi_elf_read.specs.Loaded.{loaded_segments, AreLoadable};
 ghost use Rattle.swi_memory.specs.BusOf.{AreApart, range_of, texts, word_in};
 ghost use Rattle.swi_program.specs.Program.{can_execute, AreSegments};
@@ -123,9 +123,7 @@ pub fn program_of(alloc: Global, e: &Elf) -> Result<Program, Memory>
     let (entry, flags) = (elf_entry(e), elf_flags(e));
     let mut segments = Vec::new(alloc);
     for k in 0..count {
-        let Ok(segment) = segment_at(alloc, e, k) else {
-            return Err(Memory)
-        };
+        let segment = segment_at(alloc, e, k)?;
         if segments.push(segment).is_err() {
             return Err(Memory);
         }
@@ -152,7 +150,8 @@ fn bytes_of_words(alloc: Global, words: &[u32]) -> Result<Vec<u8>, Memory>
 }
 
 /// The program of these instruction words at a base address, at which a run begins: one segment
-/// that can be read and executed.
+/// that can be read and executed. The base is a multiple of 4; there are 1 to 2^19 words, which end
+/// at 2^32 at most. The ELF flags are 0.
 ///
 /// The only error is want of memory.
 #[tactic(auto, using(crate::proofs::FromWords::length_bytes, crate::proofs::FromWords::words_program))]
@@ -163,13 +162,9 @@ pub fn one_text(alloc: Global, base: u32, words: &[u32]) -> Result<Program, Memo
     requires end { base + 4 * length words.now ≤ 2 ^ 32 }
     ensures { IfOk result (λ p. p ≡ program_of_words base words.now) }
 {
-    let Ok(bytes) = bytes_of_words(alloc, words) else {
-        return Err(Memory)
-    };
+    let bytes = bytes_of_words(alloc, words)?;
     let size = 4 * words.len() as u32;
-    let Ok(segments) = one(alloc, Segment::of(base, 5, size, bytes)) else {
-        return Err(Memory)
-    };
+    let segments = one(alloc, Segment::of(base, 5, size, bytes))?;
     Ok(Program {
         entry: base,
         flags: 0,

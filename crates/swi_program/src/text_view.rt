@@ -50,7 +50,7 @@ impl<'a> TextView<'a> {
         (self.bytes.len() / 4) as u32
     }
 
-    /// The k-th instruction word.
+    /// The k-th instruction word: k counts from 0 and is below `len()`.
     #[tactic(auto, using(crate::proofs::Words::word_views))]
     pub fn word(&self, k: u32) -> u32
         requires { k < length self.now.words }

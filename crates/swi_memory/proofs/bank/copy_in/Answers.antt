@@ -1,4 +1,4 @@
-use Rattle.std.proofs.Common.{◌≡◌, ◌<◌, ◌++◌, List, ℕ, get_or, length, take, drop, ap, arith, ◌∙◌, ◌+◌, ◌-◌, rules}
+use Rattle.std.proofs.Common.{◌≡◌, ◌++◌, ℕ, get_or, length, take, drop, ap, arith, ◌∙◌, ◌+◌, ◌-◌, rules}
 use Rattle.std.specs.Vec.{with_items}
 use Rattle.std.proofs.lemmas.List.{with_items_is}
 use Rattle.swi_memory.specs.declared.bank.Bank.{Bank}
