@@ -7,7 +7,6 @@ use Rattle.swi_isa.specs.declared.instr.AtomicOp.TheVariants.{LrW, ScW, SwapW, A
 use Rattle.swi_isa.specs.declared.instr.Instr.{Instr}
 use Rattle.swi_isa.specs.declared.instr.Instr.TheVariants as instr
 use Rattle.swi_memory.specs.Bus.{AreaData}
-use Rattle.swi_exec.specs.declared.done.Done.{Done}
 use Rattle.swi_exec.specs.declared.done.Done.TheVariants as done
 use Rattle.swi_exec.specs.declared.done.FaultKind.{FaultKind}
 use Rattle.swi_exec.specs.Arithmetic.{sum_of}
