@@ -4,7 +4,7 @@ use Rattle.swi_isa.specs.Table.{imm_u, imm_s}
 use Rattle.swi_isa.specs.Decode.{decoded, decoded_by}
 use Rattle.swi_memory.specs.Bus.{AreaData}
 use Rattle.swi_exec.specs.Registers.{new_regs}
-use Rattle.swi_calls.specs.State.{Machine, FlatState}
+use Rattle.swi_calls.specs.State.{FlatState}
 use Rattle.swi_calls.specs.Flat.{made, flat_run, started}
 use Rattle.swi_calls.specs.FirstStore.{StoresAt, IsFirstStore}
 

@@ -1,5 +1,5 @@
 -- The first step of a run that would store into the text. Own rule: the run of the cached machine, for which the text is fixed, ends there.
-use Rattle.std.specs.Prelude.{◌≡◌, ℕ, suc, ◌-◌, ◌≤◌, ◌<◌, true, Option, None, is_some}
+use Rattle.std.specs.Prelude.{◌≡◌, ℕ, suc, ◌-◌, ◌≤◌, ◌<◌, true, None, is_some}
 use Rattle.swi_calls.specs.Flat.{flat_run}
 use Rattle.swi_calls.specs.State.{FlatState}
 use Rattle.swi_calls.specs.StoresText.{next_store}

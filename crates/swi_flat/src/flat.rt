@@ -1,12 +1,14 @@
 //! One step, and many.
 #![tactic(auto)]
 
-ghost use Rattle.std.specs.Prelude.{◌≡◌, ◌<◌, ◌≤◌, ◌+◌, ◌-◌, ◌^◌, None, Some, true, false, IfOk, OnOk, OnErr};
+ghost use Rattle.std.specs.Prelude.{◌≡◌, ◌<◌, ◌≤◌, ◌+◌, ◌-◌, ◌^◌, ℕ, None, Some, true, false, IfOk, OnOk, OnErr};
 ghost use Rattle.std.specs.Option.{ForSome};
 ghost use Rattle.std.specs.Io.KnownBytes.{Appends};
 ghost use Rattle.swi_outside.specs.Sink.{AppendsPrefix};
+ghost use Rattle.swi_calls.specs.Call.{room_of_call, second_argument};
 ghost use Rattle.swi_calls.specs.Causes.{HasCauses};
 ghost use Rattle.swi_calls.specs.Flat.{ended, call_made, made, flat_run, started, machine_of};
+ghost use Rattle.swi_calls.specs.Moves.{ReadsInto};
 ghost use Rattle.swi_flat.specs.FlatData.{sound};
 ghost use Rattle.swi_program.specs.Layout.{IsLayoutOf};
 
@@ -48,16 +50,14 @@ impl Model for Flat {
 
 impl Flat {
     /// The machine of a program before its first step, over the memory that the program's layout gives. With `log` each system
-    /// call is told in a line on the error sink.
+    /// call is told in a line on the error sink. `l` is the layout that `lay_out` gives `p`, with the lengths that `l` holds.
     ///
     /// The only error is want of memory. All the memory of a run is taken here.
     pub fn start(alloc: Global, p: &Program, l: &Layout, log: bool) -> Result<Flat, Memory>
         requires laid_out { IsLayoutOf p.now.segments l.now }
         ensures { IfOk result (λ f. f ≡ sound (machine_of p.now l.now log)) }
     {
-        let Ok(bus) = Bus::new(alloc, p.segments(), l) else {
-            return Err(Memory)
-        };
+        let bus = Bus::new(alloc, p.segments(), l)?;
         let mut regs = Regs::new();
         regs.set(Reg::of(2), l.sp);
         Ok(Flat {
@@ -97,7 +97,7 @@ impl Flat {
         self.pc
     }
 
-    /// The number of steps made.
+    /// The number of steps made, the one that ended the run included.
     pub fn steps(&self) -> u64
         ensures { result ≡ self.now.machine.steps }
     {
@@ -155,8 +155,9 @@ impl Flat {
             Appends (E.held err.old) (E.held err.new) (call_made self.old.machine left).error)) }
         ensures counted { OnOk result (self.new.machine.steps ≡ self.old.machine.steps + 1) }
         ensures unfailed { OnOk result (self.new.failed ≡ false) }
-        ensures failed { OnErr result (self.new.failed ≡ true) }
-        ensures uncounted { OnErr result (self.new.machine.steps ≡ self.old.machine.steps) }
+        ensures stays { OnErr result (self.new ≡ record { machine = record self.old.machine { bus = self.new.machine.bus }; failed = true }) }
+        ensures front { OnErr result ((k : ℕ) × (k ≤ room_of_call self.old.machine.regs self.old.machine.bus) ×
+            ReadsInto self.old.machine.bus self.new.machine.bus (I.left input.old) (I.left input.new) (second_argument self.old.machine.regs) k) }
         ensures output_prefix { OnErr result (ForSome (I.left input.old) (λ left.
             AppendsPrefix (O.held out.old) (O.held out.new) (call_made self.old.machine left).output)) }
         ensures error_prefix { OnErr result (ForSome (I.left input.old) (λ left.
@@ -190,8 +191,11 @@ impl Flat {
         }
     }
 
-    /// One step: the word at pc is fetched, decoded and executed. Afterwards the machine is one step further, or a device has
-    /// failed in a system call; then `failed` is true and the step is not counted.
+    /// One step: the word at pc is fetched, decoded and executed. Only where the run has not ended, no device has failed, and
+    /// fewer than 2^48 steps are made.
+    ///
+    /// Afterwards the machine is one step further, or a device has failed in a system call. Then `failed` is true, and the machine
+    /// is as it was, its steps included, but that of a read a front of the buffer may be filled.
     #[inline(always)]
     #[tactic(auto, unfolding(swi_calls::specs::Flat::made))]
     pub fn step<I: Source, O: Sink, E: Sink>(
@@ -211,8 +215,9 @@ impl Flat {
             Appends (E.held err.old) (E.held err.new) (made self.old.machine left).error)) }
         ensures counted { OnOk result (self.new.machine.steps ≡ self.old.machine.steps + 1) }
         ensures unfailed { OnOk result (self.new.failed ≡ false) }
-        ensures failed { OnErr result (self.new.failed ≡ true) }
-        ensures uncounted { OnErr result (self.new.machine.steps ≡ self.old.machine.steps) }
+        ensures stays { OnErr result (self.new ≡ record { machine = record self.old.machine { bus = self.new.machine.bus }; failed = true }) }
+        ensures front { OnErr result ((k : ℕ) × (k ≤ room_of_call self.old.machine.regs self.old.machine.bus) ×
+            ReadsInto self.old.machine.bus self.new.machine.bus (I.left input.old) (I.left input.new) (second_argument self.old.machine.regs) k) }
         ensures output_prefix { OnErr result (ForSome (I.left input.old) (λ left.
             AppendsPrefix (O.held out.old) (O.held out.new) (made self.old.machine left).output)) }
         ensures error_prefix { OnErr result (ForSome (I.left input.old) (λ left.
@@ -235,10 +240,7 @@ impl Flat {
                 self.steps += 1;
                 Ok(())
             }
-            Done::Call => match self.call(input, out, err) {
-                Ok(()) => Ok(()),
-                Err(fault) => Err(fault),
-            },
+            Done::Call => self.call(input, out, err),
             Done::Break => {
                 self.end(End::Faulted(FaultKind::Break, self.pc));
                 Ok(())
@@ -250,9 +252,10 @@ impl Flat {
         }
     }
 
-    /// Steps until `limit` steps are made since the start, or the run has ended, or a device fails.
+    /// Steps until `limit` steps are made since the start, or the run has ended, or a device fails. `limit` is from `steps()` to
+    /// 2^48; no device has failed before.
     ///
-    /// After a failure each sink holds a prefix of what the run writes.
+    /// After a failure the run has not ended, `steps` is below `limit`, and each sink gained a prefix of what the run writes.
     pub fn run<I: Source, O: Sink, E: Sink>(
         &mut self,
         limit: u64,
@@ -274,6 +277,8 @@ impl Flat {
         ensures stops { OnOk result ((self.new.machine.ending ≡ None) → self.new.machine.steps ≡ limit) }
         ensures unfailed { OnOk result (self.new.failed ≡ false) }
         ensures failed { OnErr result (self.new.failed ≡ true) }
+        ensures going { OnErr result (self.new.machine.ending ≡ None) }
+        ensures uncounted { OnErr result (self.new.machine.steps < limit) }
         ensures output_prefix { OnErr result (ForSome (I.left input.old) (λ left. AppendsPrefix (O.held out.old) (O.held out.new)
             (flat_run (limit - self.old.machine.steps) (started self.old.machine left)).output)) }
         ensures error_prefix { OnErr result (ForSome (I.left input.old) (λ left. AppendsPrefix (E.held err.old) (E.held err.new)
@@ -283,9 +288,7 @@ impl Flat {
             (record { input = I.faults input.new; out = O.faults out.new; err = E.faults err.new }) result }
     {
         while self.steps < limit && self.ending.is_none() {
-            if let Err(fault) = self.step(input, out, err) {
-                return Err(fault);
-            }
+            self.step(input, out, err)?;
         }
         Ok(())
     }

@@ -254,6 +254,41 @@ fn echo_writes_its_input_or_fails_with_its_devices(rt: HostRuntime) -> Result<()
     Ok(())
 }
 
+/// The same of up to 1000 bytes.
+static LARGE_ECHO: [u32; 12] = [
+    0x03F0_0893,
+    0x0000_0513,
+    0xC001_0593,
+    0x3E80_0613,
+    0x0000_0073,
+    0x0005_0613,
+    0x0010_0513,
+    0x0400_0893,
+    0x0000_0073,
+    0x0000_0513,
+    0x05D0_0893,
+    0x0000_0073,
+];
+
+#[test]
+fn a_large_echo_takes_its_count_or_what_there_is(rt: HostRuntime) -> Result<(), Fail> {
+    let alloc = rt.alloc();
+    for (length, count) in [(1500u32, 1000), (300, 300)] {
+        let mut bytes = Vec::new(alloc);
+        for j in 0..length {
+            bytes.push((j % 251) as u8)?;
+        }
+        let mut flat = started(alloc, &LARGE_ECHO, false)?;
+        let mut input = MemSource::new(bytes.clone()?, Vec::new(alloc));
+        let mut out = MemSink::new(alloc, 1000, Vec::new(alloc))?;
+        let mut err = MemSink::new(alloc, 0, Vec::new(alloc))?;
+        assert_eq!(rt; flat.run(100, &mut input, &mut out, &mut err), Ok(()));
+        assert_eq!(rt; (flat.ending(), flat.steps()), (Some(End::Exited(0)), 12));
+        assert_eq!(rt; Some(out.held()), bytes.get(..count));
+    }
+    Ok(())
+}
+
 #[test]
 fn calls_are_told_where_the_run_asks_for_it(rt: HostRuntime) -> Result<(), Fail> {
     let alloc = rt.alloc();

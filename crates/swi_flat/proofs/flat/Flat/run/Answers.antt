@@ -1,4 +1,5 @@
 use Rattle.std.proofs.Common.{◌≡◌, ◌+◌, ◌-◌, suc, is_some, true, false, ap, sym, refl, arith, rules}
+use Rattle.std.proofs.lemmas.Result.{err_from_is_err_and}
 use Rattle.swi_flat.specs.FlatData.{FlatData}
 use Rattle.swi_flat.proofs.Runs.{so_far_none, so_far_more, so_far_over, so_far_all, so_far_broken, data_is}
 use Rattle.swi_flat.proofs.flat.Flat.run.Goals as goal
@@ -14,8 +15,10 @@ loop-self-init g c = record {
   err_still = refl;
 }
 
-pub returns-in-Err-clause-output_prefix : goal.returns-in-Err-clause-output_prefix
-returns-in-Err-clause-output_prefix g c left told =
+pub returns-in_err-step-clause-output_prefix : goal.returns-in_err-step-clause-output_prefix
+returns-in_err-step-clause-output_prefix g c =
+    let p = err_from_is_err_and c.from_residual.result c.from_residual.ensures.1 in
+    rw p.1 (λ left told.
     let going : is_some c.loop-self.self.machine.ending ≡ false = search rules in
     let seen : c.loop-self.self.machine.steps ≡ c.self.inside.steps = sym (ap (λ (f : FlatData). f.machine.steps) c.self.view_is) in
     let more : c.args.limit - c.loop-self.self.machine.steps ≡ suc (c.args.limit - (c.loop-self.self.machine.steps + 1)) = omega (arith, seen) in
@@ -23,10 +26,12 @@ returns-in-Err-clause-output_prefix g c left told =
     (so_far_broken (c.args.limit - c.args.self.now.machine.steps) (c.args.limit - c.loop-self.self.machine.steps) (c.args.limit - (c.loop-self.self.machine.steps + 1))
     c.args.self.now.machine c.loop-self.self.machine left (g.I.Source.left c.loop-self.input) (g.O.Sink.held c.args.out.now) (g.O.Sink.held c.loop-self.out) (g.O.Sink.held c.step.new.out)
     (g.E.Sink.held c.args.err.now) (g.E.Sink.held c.loop-self.err) (g.E.Sink.held c.step.new.err) more going h
-    (c.in-Err.ensures.output_prefix h.input h.left_is) (c.in-Err.ensures.error_prefix h.input h.left_is)).out
+    (c.in_err-step.ensures.output_prefix h.input h.left_is) (c.in_err-step.ensures.error_prefix h.input h.left_is)).out)
 
-pub returns-in-Err-clause-error_prefix : goal.returns-in-Err-clause-error_prefix
-returns-in-Err-clause-error_prefix g c left told =
+pub returns-in_err-step-clause-error_prefix : goal.returns-in_err-step-clause-error_prefix
+returns-in_err-step-clause-error_prefix g c =
+    let p = err_from_is_err_and c.from_residual.result c.from_residual.ensures.1 in
+    rw p.1 (λ left told.
     let going : is_some c.loop-self.self.machine.ending ≡ false = search rules in
     let seen : c.loop-self.self.machine.steps ≡ c.self.inside.steps = sym (ap (λ (f : FlatData). f.machine.steps) c.self.view_is) in
     let more : c.args.limit - c.loop-self.self.machine.steps ≡ suc (c.args.limit - (c.loop-self.self.machine.steps + 1)) = omega (arith, seen) in
@@ -34,7 +39,7 @@ returns-in-Err-clause-error_prefix g c left told =
     (so_far_broken (c.args.limit - c.args.self.now.machine.steps) (c.args.limit - c.loop-self.self.machine.steps) (c.args.limit - (c.loop-self.self.machine.steps + 1))
     c.args.self.now.machine c.loop-self.self.machine left (g.I.Source.left c.loop-self.input) (g.O.Sink.held c.args.out.now) (g.O.Sink.held c.loop-self.out) (g.O.Sink.held c.step.new.out)
     (g.E.Sink.held c.args.err.now) (g.E.Sink.held c.loop-self.err) (g.E.Sink.held c.step.new.err) more going h
-    (c.in-Err.ensures.output_prefix h.input h.left_is) (c.in-Err.ensures.error_prefix h.input h.left_is)).err
+    (c.in_err-step.ensures.output_prefix h.input h.left_is) (c.in_err-step.ensures.error_prefix h.input h.left_is)).err)
 
 pub loop-self-preserved : goal.loop-self-preserved
 loop-self-preserved g c =
@@ -48,8 +53,8 @@ loop-self-preserved g c =
           so_far_more (c.args.limit - c.args.self.now.machine.steps) (c.args.limit - c.loop-self.self.machine.steps) (c.args.limit - c.step.new.self.machine.steps)
           c.args.self.now.machine c.loop-self.self.machine c.step.new.self.machine left (g.I.Source.left c.loop-self.input) (g.I.Source.left c.step.new.input)
           (g.O.Sink.held c.args.out.now) (g.O.Sink.held c.loop-self.out) (g.O.Sink.held c.step.new.out) (g.E.Sink.held c.args.err.now) (g.E.Sink.held c.loop-self.err) (g.E.Sink.held c.step.new.err)
-          more going h (ap (λ (f : FlatData). f.machine) (c.in_default.ensures.machine h.input h.left_is)) (c.in_default.ensures.input h.input h.left_is)
-          (c.in_default.ensures.output h.input h.left_is) (c.in_default.ensures.error h.input h.left_is);
+          more going h (ap (λ (f : FlatData). f.machine) (c.in_ok-step.ensures.machine h.input h.left_is)) (c.in_ok-step.ensures.input h.input h.left_is)
+          (c.in_ok-step.ensures.output h.input h.left_is) (c.in_ok-step.ensures.error h.input h.left_is);
       within = omega (arith, counted, seen);
       unfailed = search rules;
       input_still = search rules;

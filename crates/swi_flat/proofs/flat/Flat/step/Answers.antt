@@ -1,11 +1,24 @@
-use Rattle.std.proofs.Common.{◌≡◌, rules}
+use Rattle.std.proofs.Common.{◌≡◌, ◌≤◌, ℕ, List, true, subst, sym, ap, ◌∙◌, OnErr, rules}
+use Rattle.swi_calls.specs.Call.{room_of_call, second_argument}
 use Rattle.swi_calls.specs.Flat.{made, call_made}
+use Rattle.swi_calls.specs.Moves.{ReadsInto}
+use Rattle.swi_calls.specs.State.{Machine}
+use Rattle.swi_flat.specs.FlatData.{FlatData}
+use Rattle.swi_flat.proofs.Steps.{untouched, prefix_as}
 use Rattle.swi_flat.proofs.flat.Flat.step.Goals as goal
 
-pub returns-in-Err-clause-output_prefix : goal.returns-in-Err-clause-output_prefix
-unfolding made
-returns-in-Err-clause-output_prefix g c left known =
-    let e : made c.args.self.now.machine left ≡ call_made (record {
+pub returns-in-Call-clause-stays : goal.returns-in-Call-clause-stays
+returns-in-Call-clause-stays g c =
+    let before : Machine = record {
+      pc = c.self.inside.pc;
+      regs = c.self.inside.regs;
+      bus = c.self.inside.bus;
+      heap = c.self.inside.heap;
+      log = c.self.inside.log;
+      ending = c.self.inside.ending;
+      steps = c.self.inside.steps;
+    } in
+    let after : Machine = record {
       pc = c.self.inside.pc;
       regs = c.exec.new.regs;
       bus = c.exec.new.bus;
@@ -13,14 +26,25 @@ returns-in-Err-clause-output_prefix g c left known =
       log = c.self.inside.log;
       ending = c.self.inside.ending;
       steps = c.self.inside.steps;
-    }) left = search rules in
-    let h = c.in-Err.ensures.output_prefix left known in
-    (h.0, rw e h.1)
+    } in
+    let same : after ≡ c.args.self.now.machine =
+    untouched before c.in-Some-decode.instruction c.exec.new.regs c.exec.new.bus (sym c.in-Call.ensures.done) c.exec.ensures.regs c.exec.ensures.bus
+    ∙ ap (λ (f : FlatData). f.machine) c.self.view_is in
+    subst (λ (m : Machine). OnErr c.call.result (c.call.new.self ≡ record { machine = record m { bus = c.call.new.self.machine.bus }; failed = true }))
+    same c.call.ensures.stays
 
-pub returns-in-Err-clause-error_prefix : goal.returns-in-Err-clause-error_prefix
-unfolding made
-returns-in-Err-clause-error_prefix g c left known =
-    let e : made c.args.self.now.machine left ≡ call_made (record {
+pub returns-in-Call-clause-front : goal.returns-in-Call-clause-front
+returns-in-Call-clause-front g c =
+    let before : Machine = record {
+      pc = c.self.inside.pc;
+      regs = c.self.inside.regs;
+      bus = c.self.inside.bus;
+      heap = c.self.inside.heap;
+      log = c.self.inside.log;
+      ending = c.self.inside.ending;
+      steps = c.self.inside.steps;
+    } in
+    let after : Machine = record {
       pc = c.self.inside.pc;
       regs = c.exec.new.regs;
       bus = c.exec.new.bus;
@@ -28,6 +52,42 @@ returns-in-Err-clause-error_prefix g c left known =
       log = c.self.inside.log;
       ending = c.self.inside.ending;
       steps = c.self.inside.steps;
-    }) left = search rules in
-    let h = c.in-Err.ensures.error_prefix left known in
-    (h.0, rw e h.1)
+    } in
+    let same : after ≡ c.args.self.now.machine =
+    untouched before c.in-Some-decode.instruction c.exec.new.regs c.exec.new.bus (sym c.in-Call.ensures.done) c.exec.ensures.regs c.exec.ensures.bus
+    ∙ ap (λ (f : FlatData). f.machine) c.self.view_is in
+    subst (λ (m : Machine). OnErr c.call.result ((k : ℕ) × (k ≤ room_of_call m.regs m.bus) ×
+    ReadsInto m.bus c.call.new.self.machine.bus (g.I.Source.left c.args.input.now) (g.I.Source.left c.call.new.input) (second_argument m.regs) k))
+    same c.call.ensures.front
+
+pub returns-in-Call-clause-output_prefix : goal.returns-in-Call-clause-output_prefix
+unfolding made
+returns-in-Call-clause-output_prefix g c =
+    let after : Machine = record {
+      pc = c.self.inside.pc;
+      regs = c.exec.new.regs;
+      bus = c.exec.new.bus;
+      heap = c.self.inside.heap;
+      log = c.self.inside.log;
+      ending = c.self.inside.ending;
+      steps = c.self.inside.steps;
+    } in
+    let is : (left : List ℕ) → made c.args.self.now.machine left ≡ call_made after left = λ left. search rules in
+    prefix_as c.call.result (g.I.Source.left c.args.input.now) (g.O.Sink.held c.args.out.now) (g.O.Sink.held c.call.new.out)
+    (λ left. (call_made after left).output) (λ left. (made c.args.self.now.machine left).output) (λ left. ap (λ m. m.output) (is left)) c.call.ensures.output_prefix
+
+pub returns-in-Call-clause-error_prefix : goal.returns-in-Call-clause-error_prefix
+unfolding made
+returns-in-Call-clause-error_prefix g c =
+    let after : Machine = record {
+      pc = c.self.inside.pc;
+      regs = c.exec.new.regs;
+      bus = c.exec.new.bus;
+      heap = c.self.inside.heap;
+      log = c.self.inside.log;
+      ending = c.self.inside.ending;
+      steps = c.self.inside.steps;
+    } in
+    let is : (left : List ℕ) → made c.args.self.now.machine left ≡ call_made after left = λ left. search rules in
+    prefix_as c.call.result (g.I.Source.left c.args.input.now) (g.E.Sink.held c.args.err.now) (g.E.Sink.held c.call.new.err)
+    (λ left. (call_made after left).error) (λ left. (made c.args.self.now.machine left).error) (λ left. ap (λ m. m.error) (is left)) c.call.ensures.error_prefix
