@@ -97,9 +97,9 @@ fn run_command<F: Shelf, I: Source, O: Sink, E: Sink, R: CacheRam>(
 /// The refusals come in this order: `Usage` where the words are no command; `ShelfFault` where the file can't be read; `FileLong`,
 /// `Elf` and `Room` where the file isn't accepted; `NotBuilt` on the cached machine; a fault of the device that failed. `Memory`
 /// comes where there was no memory, which is all taken before the first step. A refusal before the run changes nothing but `err`
-/// and what the shelf says of its faults. `NotBuilt` takes no input and writes nothing but its line, but the run may have come to a
-/// call that isn't built: then the first eight words of `ram` and its counts have changed. After a fault each sink holds a prefix of
-/// what the run writes, and on `err` the refusal's line follows, or a prefix of it where that write failed too.
+/// and what the shelf says of its faults. `NotBuilt` takes no input and writes nothing but its line; but as the run may have come to
+/// the call that isn't built, the first eight words of `ram` and its counts may have changed. After a fault each sink holds a prefix
+/// of what the run writes, and on `err` the refusal's line follows, or a prefix of it where the error sink failed.
 pub fn top<F: Shelf, I: Source, O: Sink, E: Sink, R: CacheRam>(
     alloc: Global,
     words: &[String],
@@ -127,7 +127,7 @@ pub fn top<F: Shelf, I: Source, O: Sink, E: Sink, R: CacheRam>(
         Writes result (run_output (options_of request) (run_of (options_of request) file left)) (run_error (run_of (options_of request) file left))
         (O.held out.old) (O.held out.new) (E.held err.old) (E.held err.new) }
 
-    // A refusal before the run leaves the devices as they were, and one by a check takes no input and writes no output.
+    // A refusal before the run leaves the input, the output and the ram as they were, and one by a check the first two.
     ensures early { IfErr result (λ r. IsEarly r →
         IsUntouched (I.left input.old) (I.left input.new) (O.held out.old) (O.held out.new) (R.state ram.old) (R.state ram.new)) }
     ensures unwritten { IfErr result (λ r. IsCheck r → (I.left input.new ≡ I.left input.old) × (O.held out.new ≡ O.held out.old)) }
