@@ -7,7 +7,7 @@ use Rattle.swi_isa.specs.declared.instr.BranchOp.TheVariants.{Beq}
 use Rattle.swi_isa.specs.declared.instr.Instr.{Instr}
 use Rattle.swi_isa.specs.declared.instr.Instr.TheVariants as instr
 use Rattle.swi_isa.specs.Decode.{decoded, decoded_by}
-use Rattle.swi_isa.specs.Table.{Form, UpperLui, UpperAuipc, Jump, JumpRegister, Conditional, LoadFrom, StoreTo, WithImmediate, WithAmount, WithRegister, OnMemory, Fencing, Calling, Breaking, Row, rows, matches, made, rs1_of, rs2_of, imm_b, placed, bits_b}
+use Rattle.swi_isa.specs.Table.{Form, Lui, Auipc, Jal, Jalr, Branch, Load, Store, OpImm, ShiftImm, Op, Amo, Fence, Ecall, Ebreak, Row, rows, matches, made, rs1_of, rs2_of, imm_b, placed, bits_b}
 use Rattle.swi_board.specs.Cut.{ebreak, skip_word}
 use Rattle.swi_board.specs.First.{ecall}
 
@@ -30,20 +30,20 @@ made_of (r ∷ rest) w i e = by_case (λ here. made_of rest w i here) (matches r
     by_case next false is e = next e
 
 registers_of : (f : Form) (w : ℕ) (op : BranchOp) (a b off : ℕ) → instr.Branch op a b off ≡ made f w → (a ≡ rs1_of w) × (b ≡ rs2_of w)
-registers_of (Conditional o) w op a b off e = (cc, cc)
-registers_of UpperLui w op a b off e = absurd (cc)
-registers_of UpperAuipc w op a b off e = absurd (cc)
-registers_of Jump w op a b off e = absurd (cc)
-registers_of JumpRegister w op a b off e = absurd (cc)
-registers_of (LoadFrom o) w op a b off e = absurd (cc)
-registers_of (StoreTo o) w op a b off e = absurd (cc)
-registers_of (WithImmediate o) w op a b off e = absurd (cc)
-registers_of (WithAmount o) w op a b off e = absurd (cc)
-registers_of (WithRegister o) w op a b off e = absurd (cc)
-registers_of (OnMemory o) w op a b off e = absurd (cc)
-registers_of Fencing w op a b off e = absurd (cc)
-registers_of Calling w op a b off e = absurd (cc)
-registers_of Breaking w op a b off e = absurd (cc)
+registers_of (Branch o) w op a b off e = (cc, cc)
+registers_of Lui w op a b off e = absurd (cc)
+registers_of Auipc w op a b off e = absurd (cc)
+registers_of Jal w op a b off e = absurd (cc)
+registers_of Jalr w op a b off e = absurd (cc)
+registers_of (Load o) w op a b off e = absurd (cc)
+registers_of (Store o) w op a b off e = absurd (cc)
+registers_of (OpImm o) w op a b off e = absurd (cc)
+registers_of (ShiftImm o) w op a b off e = absurd (cc)
+registers_of (Op o) w op a b off e = absurd (cc)
+registers_of (Amo o) w op a b off e = absurd (cc)
+registers_of Fence w op a b off e = absurd (cc)
+registers_of Ecall w op a b off e = absurd (cc)
+registers_of Ebreak w op a b off e = absurd (cc)
 
 -- the registers of a branch are registers
 pub branch_registers : (w : ℕ) (op : BranchOp) (a b off : ℕ) → decoded w ≡ Some (instr.Branch op a b off) → (a < 32) × (b < 32)
