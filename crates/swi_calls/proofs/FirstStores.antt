@@ -10,7 +10,7 @@ use Rattle.swi_calls.specs.FirstStore.{StoresAt, IsFirstStore}
 
 -- auipc x5, 0 and sw x0, 0(x5), where they can be written
 text : AreaData
-text = record { base = 0x10000; flags = 7; file = 8; bytes = 0x97 ∷ 0x02 ∷ 0x00 ∷ 0x00 ∷ 0x23 ∷ 0xA0 ∷ 0x02 ∷ 0x00 ∷ [] }
+text = record { base = 0x10000; flags = 7; file_size = 8; bytes = 0x97 ∷ 0x02 ∷ 0x00 ∷ 0x00 ∷ 0x23 ∷ 0xA0 ∷ 0x02 ∷ 0x00 ∷ [] }
 
 -- the same, where they can't
 fixed_text : AreaData

@@ -7,7 +7,7 @@ use Rattle.std.proofs.lemmas.List.{length-replicate}
 use Rattle.swi_memory.specs.declared.bank.Bank.{Bank}
 use Rattle.swi_memory.specs.declared.layout.Layout.{Layout}
 use Rattle.swi_memory.specs.Bus.{AreaData, AreInOrder, AreInOrderFrom, Execute, grants}
-use Rattle.swi_memory.specs.BusOf.{AreApart, HasOneText, IsClear, IsClearOf, Range, area_of, bus_of, placed, range_of, ranges, region, texts, with_area, with_areas}
+use Rattle.swi_memory.specs.BusOf.{AreApart, HasOneTextAtMost, IsClear, IsClearOf, Range, area_of, bus_of, placed, range_of, ranges, region, texts, with_area, with_areas}
 use Rattle.swi_memory.specs.Gather.{AreWhole, place_in}
 use Rattle.swi_memory.specs.Segment.{SegmentData}
 use Rattle.swi_memory.specs.TextAt.{HasOne, executables}
@@ -51,16 +51,16 @@ clear_above r s (inr (inr (inr h))) some_r some_s high = h
 
 -- an area with bytes, of which some came from a file, below 2 ^ 32
 pub record IsWhole (s : AreaData) : Type 0 where
-  pub file : s.file ≤ length s.bytes
+  pub file_size : s.file_size ≤ length s.bytes
   pub end : s.base + length s.bytes ≤ 2 ^ 32
 
 order_placed : (from : ℕ) (made : List AreaData) (s : AreaData) → AreInOrderFrom from made → from ≤ s.base → 0 < length s.bytes → IsWhole s → IsClearOf (range_at s) (map range_at made) → AreInOrderFrom from (placed made s)
-order_placed from [] s order behind some whole clear = (behind, some, whole.file, whole.end)
+order_placed from [] s order behind some whole clear = (behind, some, whole.file_size, whole.end)
 order_placed from (t ∷ rest) s order behind some whole clear =
     elim (cases_Bool (nat_lt s.base t.base)) [
       | inl before ↦
           let end : s.base + length s.bytes ≤ t.base = clear_below (range_at s) (range_at t) clear.0 some order.1 (ltb-true s.base t.base before) in
-          let now : AreInOrderFrom from (s ∷ (t ∷ rest)) = (behind, some, whole.file, (end, order.1, order.2, order.3)) in
+          let now : AreInOrderFrom from (s ∷ (t ∷ rest)) = (behind, some, whole.file_size, (end, order.1, order.2, order.3)) in
           rw before now
       | inr after ↦
           let high : t.base ≤ s.base = grind (arith, nat_tests) in
@@ -131,11 +131,11 @@ ranges_are (s ∷ rest) l whole = rw (size_of_segment s whole.0) (ap (λ r. rang
 
 pub all_whole : (segments : List SegmentData) (l : Layout) → AreWhole segments → l.heap + l.heap_len ≤ 2 ^ 32 → l.stack + l.stack_len ≤ 2 ^ 32 → AllWhole (parts segments l)
 all_whole [] l whole heap stack = (
-  record { file = omega arith; end = omega (arith, length_zeros l.heap_len, heap) },
-  (record { file = omega arith; end = omega (arith, length_zeros l.stack_len, stack) }, tt),
+  record { file_size = omega arith; end = omega (arith, length_zeros l.heap_len, heap) },
+  (record { file_size = omega arith; end = omega (arith, length_zeros l.stack_len, stack) }, tt),
 )
 all_whole (s ∷ rest) l whole heap stack = (
-  record { file = omega (arith, size_of_segment s whole.0, whole.0); end = omega (arith, size_of_segment s whole.0, whole.1) },
+  record { file_size = omega (arith, size_of_segment s whole.0, whole.0); end = omega (arith, size_of_segment s whole.0, whole.1) },
   all_whole rest l whole.2 heap stack,
 )
 
@@ -170,5 +170,5 @@ pub ones_of : (segments : List SegmentData) (l : Layout) → executables (parts 
 ones_of [] l = refl
 ones_of (s ∷ rest) l = ap (λ n. (if grants Execute s.flags then 1 else 0) + n) (ones_of rest l)
 
-pub bus_has_one : (segments : List SegmentData) (l : Layout) → HasOneText segments → HasOne (bus_of segments l)
+pub bus_has_one : (segments : List SegmentData) (l : Layout) → HasOneTextAtMost segments → HasOne (bus_of segments l)
 bus_has_one segments l one = omega (arith, ones_all [] (parts segments l), ones_of segments l, one)

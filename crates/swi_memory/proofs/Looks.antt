@@ -13,7 +13,7 @@ use Rattle.swi_memory.specs.Views.{area, areas}
 pub record InPlace (from : ℕ) (s : AreaData) : Type 0 where
   pub behind : from ≤ s.base
   pub some : 0 < length s.bytes
-  pub file : s.file ≤ length s.bytes
+  pub file_size : s.file_size ≤ length s.bytes
   pub end : s.base + length s.bytes ≤ 2 ^ 32
 
 pub from_small : (from : ℕ) (bus : List AreaData) → AreInOrderFrom from bus → from ≤ 2 ^ 32
@@ -23,11 +23,11 @@ from_small from (x ∷ rest) o = omega (arith, from_small (x.base + length x.byt
 pub in_place : (from : ℕ) (bus : List AreaData) (i : ℕ) (s : AreaData) → AreInOrderFrom from bus → i < length bus → s ≡ get_or bus i s → InPlace from s
 in_place from [] i s o within is = absurd (omega arith)
 in_place from (x ∷ rest) zero s o within is =
-    let all : InPlace from x = record { behind = o.0; some = o.1; file = o.2; end = from_small (x.base + length x.bytes) rest o.3 } in
+    let all : InPlace from x = record { behind = o.0; some = o.1; file_size = o.2; end = from_small (x.base + length x.bytes) rest o.3 } in
     rw is all
 in_place from (x ∷ rest) (suc i) s o within is =
     let later : InPlace (x.base + length x.bytes) s = in_place (x.base + length x.bytes) rest i s o.3 (omega arith) is in
-    record { behind = omega (arith, later.behind, o.0); some = later.some; file = later.file; end = later.end }
+    record { behind = omega (arith, later.behind, o.0); some = later.some; file_size = later.file_size; end = later.end }
 
 -- what a test of an address says
 pub within : (s : AreaData) (a : ℕ) → is_in s a ≡ true → (s.base ≤ a) × (a < s.base + length s.bytes)

@@ -16,7 +16,7 @@ use Rattle.swi_memory.specs.TextAt.{InArea, IsText}
 pub record SameArea (s t : AreaData) : Type 0 where
   pub base : t.base ≡ s.base
   pub flags : t.flags ≡ s.flags
-  pub file : t.file ≡ s.file
+  pub file_size : t.file_size ≡ s.file_size
   pub size : length t.bytes ≡ length s.bytes
 
 abbrev pub SameShape : List AreaData → List AreaData → Type 0
@@ -26,7 +26,7 @@ SameShape (s ∷ old) [] = ⊥
 SameShape (s ∷ old) (t ∷ new) = SameArea s t × SameShape old new
 
 same_area : (s : AreaData) → SameArea s s
-same_area s = record { base = refl; flags = refl; file = refl; size = refl }
+same_area s = record { base = refl; flags = refl; file_size = refl; size = refl }
 
 pub shape_refl : (bus : List AreaData) → SameShape bus bus
 shape_refl [] = tt
@@ -39,7 +39,7 @@ shape_trans [] (t ∷ mid) new h k = absurd h
 shape_trans (s ∷ old) [] new h k = absurd h
 shape_trans (s ∷ old) (t ∷ mid) [] h k = absurd k
 shape_trans (s ∷ old) (t ∷ mid) (u ∷ new) h k = (
-  record { base = k.0.base ∙ h.0.base; flags = k.0.flags ∙ h.0.flags; file = k.0.file ∙ h.0.file; size = k.0.size ∙ h.0.size },
+  record { base = k.0.base ∙ h.0.base; flags = k.0.flags ∙ h.0.flags; file_size = k.0.file_size ∙ h.0.file_size; size = k.0.size ∙ h.0.size },
   shape_trans old mid new h.1 k.1,
 )
 
@@ -49,7 +49,7 @@ shape_with_byte (s ∷ rest) a b =
     elim (cases_Bool (is_in s a)) [
       | inl hit ↦
           let now : SameShape (s ∷ rest) (record s { bytes = set s.bytes (a - s.base) b } ∷ rest) =
-          (record { base = refl; flags = refl; file = refl; size = length-set s.bytes (a - s.base) b }, shape_refl rest) in
+          (record { base = refl; flags = refl; file_size = refl; size = length-set s.bytes (a - s.base) b }, shape_refl rest) in
           rw hit now
       | inr miss ↦
           let now : SameShape (s ∷ rest) (s ∷ with_byte rest a b) = (same_area s, shape_with_byte rest a b) in
@@ -74,12 +74,12 @@ order_of_shape from (s ∷ old) (t ∷ new) h order =
     let end : s.base + length s.bytes ≡ t.base + length t.bytes = omega (arith, h.0.base, h.0.size) in (
       omega (arith, h.0.base, order.0),
       omega (arith, h.0.size, order.1),
-      omega (arith, h.0.file, h.0.size, order.2),
+      omega (arith, h.0.file_size, h.0.size, order.2),
       order_of_shape (t.base + length t.bytes) old new h.1 (rw end at order.3),
     )
 
 word_of_area : (s t : AreaData) (x : ℕ) → SameArea s t → has_word t x ≡ has_word s x
-word_of_area s t x h = rw (h.flags, h.base, h.file) refl
+word_of_area s t x h = rw (h.flags, h.base, h.file_size) refl
 
 pub word_of_shape : (old new : List AreaData) (x : ℕ) → SameShape old new → is_text_word new x ≡ is_text_word old x
 word_of_shape [] [] x h = refl

@@ -5,7 +5,7 @@ use Rattle.std.proofs.lemmas.List.{get_or_default, get_or_append_left}
 use Rattle.std.proofs.lemmas.Bool.Decides.{nat_tests}
 use Rattle.swi_memory.specs.declared.layout.Layout.{Layout}
 use Rattle.swi_memory.specs.Bus.{AreaData, AreInOrder, Execute, fetched, grants, has_word, is_text_word, number_in}
-use Rattle.swi_memory.specs.BusOf.{HasOneText, area_of, bus_of, placed, with_area, with_areas, word_in}
+use Rattle.swi_memory.specs.BusOf.{HasOneTextAtMost, area_of, bus_of, placed, with_area, with_areas, word_in}
 use Rattle.swi_memory.specs.Gather.{AreWhole}
 use Rattle.swi_memory.specs.Segment.{SegmentData}
 use Rattle.swi_memory.specs.TextAt.{executables}
@@ -28,7 +28,7 @@ can_execute : (s : AreaData) (a : ℕ) → has_word s a ≡ true → grants Exec
 can_execute s a word = grind (arith, nat_tests)
 
 -- where a word stands in an area that is whole
-in_area : (s : AreaData) (a : ℕ) → has_word s a ≡ true → (s.base ≤ a) × (a + 4 ≤ s.base + s.file)
+in_area : (s : AreaData) (a : ℕ) → has_word s a ≡ true → (s.base ≤ a) × (a + 4 ≤ s.base + s.file_size)
 in_area s a word = grind (arith, nat_tests)
 
 no_word_among : (bus : List AreaData) (a : ℕ) → executables bus ≡ 0 → word_among bus a ≡ None
@@ -85,9 +85,9 @@ empty_has_none : (s : AreaData) (a : ℕ) → IsWhole s → (length s.bytes == 0
 empty_has_none s a whole empty =
     elim (cases_Bool (has_word s a)) [
       | inl word ↦
-          let at : (s.base ≤ a) × (a + 4 ≤ s.base + s.file) = in_area s a word in
+          let at : (s.base ≤ a) × (a + 4 ≤ s.base + s.file_size) = in_area s a word in
           let none : length s.bytes ≡ 0 = grind (arith, nat_tests) in
-          absurd (omega (arith, at.0, at.1, whole.file, none))
+          absurd (omega (arith, at.0, at.1, whole.file_size, none))
       | inr word ↦ word
     ]
 
@@ -168,18 +168,18 @@ fetched_among : (bus : List AreaData) (a : ℕ) → AreInOrder bus → fetched b
 fetched_among bus a order =
     elim (cases_Bool (is_text_word bus a)) [
       | inl word ↦
-          let d : AreaData = record { base = 0; flags = 0; file = 0; bytes = [] } in
+          let d : AreaData = record { base = 0; flags = 0; file_size = 0; bytes = [] } in
           let at : WordAt bus a d = word_at bus a d word in
           let s : AreaData = get_or bus at.place d in
           let is : s ≡ get_or bus at.place s = get_or_default bus at.place d s at.bound in
           let place : InPlace 0 s = in_place 0 bus at.place s order at.bound is in
-          let lies : (s.base ≤ a) × (a + 4 ≤ s.base + s.file) = in_area s a at.word in
-          let range : Within bus at.place s a 4 = record { order = order; bound = at.bound; is = is; from = lies.0; end = omega (arith, lies.1, place.file) } in
+          let lies : (s.base ≤ a) × (a + 4 ≤ s.base + s.file_size) = in_area s a at.word in
+          let range : Within bus at.place s a 4 = record { order = order; bound = at.bound; is = is; from = lies.0; end = omega (arith, lies.1, place.file_size) } in
           cond-true _ _ _ word ∙ ap (λ v. Some v) (number_within bus at.place s a 4 range) ∙ sym at.value
       | inr word ↦ cond-false _ _ _ word ∙ sym (no_word_at bus a word)
     ]
 
-pub start_text : (segments : List SegmentData) (l : Layout) (a : ℕ) → AreInOrder (bus_of segments l) → AreWhole segments → l.heap + l.heap_len ≤ 2 ^ 32 → l.stack + l.stack_len ≤ 2 ^ 32 → HasOneText segments → fetched (bus_of segments l) a ≡ word_in segments a
+pub start_text : (segments : List SegmentData) (l : Layout) (a : ℕ) → AreInOrder (bus_of segments l) → AreWhole segments → l.heap + l.heap_len ≤ 2 ^ 32 → l.stack + l.stack_len ≤ 2 ^ 32 → HasOneTextAtMost segments → fetched (bus_of segments l) a ≡ word_in segments a
 start_text segments l a order whole heap stack one =
     let few : executables [] + executables (parts segments l) ≤ 1 = omega (arith, ones_of segments l, one) in
     fetched_among (bus_of segments l) a order

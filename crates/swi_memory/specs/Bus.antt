@@ -8,11 +8,11 @@ pub use Rattle.swi_memory.specs.declared.right.Right.{Right}
 pub use Rattle.swi_memory.specs.declared.right.Right.TheVariants.{Read, Write, Execute}
 pub use Rattle.swi_memory.specs.Rights.{grants}
 
--- bytes from a base on, as they stand now, with rights (4 read, 2 write, 1 execute). The first `file` of them came from a file
+-- bytes from a base on, as they stand now, with rights (4 read, 2 write, 1 execute). The first `file_size` of them came from a file
 pub record AreaData : Type 0 where
   pub base : ℕ
   pub flags : ℕ
-  pub file : ℕ
+  pub file_size : ℕ
   pub bytes : List ℕ
 
 -- whether the area has a byte at the address
@@ -79,7 +79,7 @@ front_of (s ∷ rest) a n = if is_in s a then take n (drop (a - s.base) s.bytes)
 
 -- whether a text word of the area stands at the address: a whole word among the bytes that came from the file
 abbrev pub has_word : AreaData → ℕ → Bool
-has_word s a = grants Execute s.flags && ((a % 4 == 0) && (nat_le s.base a && nat_le (a + 4) (s.base + s.file)))
+has_word s a = grants Execute s.flags && ((a % 4 == 0) && (nat_le s.base a && nat_le (a + 4) (s.base + s.file_size)))
 
 -- whether a text word stands at the address
 abbrev pub is_text_word : List AreaData → ℕ → Bool
@@ -98,7 +98,7 @@ touches_text bus a (suc n) = is_text_word bus (a / 4 * 4) || touches_text bus (a
 -- areas of at least one byte, each behind the one before it, and all from this address on and below 2 ^ 32
 abbrev pub AreInOrderFrom : ℕ → List AreaData → Type 0
 AreInOrderFrom from [] = from ≤ 2 ^ 32
-AreInOrderFrom from (s ∷ rest) = (from ≤ s.base) × (0 < length s.bytes) × (s.file ≤ length s.bytes) × AreInOrderFrom (s.base + length s.bytes) rest
+AreInOrderFrom from (s ∷ rest) = (from ≤ s.base) × (0 < length s.bytes) × (s.file_size ≤ length s.bytes) × AreInOrderFrom (s.base + length s.bytes) rest
 
 -- areas of at least one byte, apart, in ascending order, below 2 ^ 32
 abbrev pub AreInOrder : List AreaData → Type 0

@@ -37,16 +37,16 @@ texts [] = 0
 texts (s ∷ rest) = (if grants Execute s.flags then 1 else 0) + texts rest
 
 -- one segment at most can be executed
-abbrev pub HasOneText : List SegmentData → Type 0
-HasOneText segments = texts segments ≤ 1
+abbrev pub HasOneTextAtMost : List SegmentData → Type 0
+HasOneTextAtMost segments = texts segments ≤ 1
 
 -- a segment in memory: the file's bytes, then zeros
 abbrev pub area_of : SegmentData → AreaData
-area_of s = record { base = s.base; flags = s.flags; file = length s.bytes; bytes = s.bytes ++ replicate (s.size - length s.bytes) 0 }
+area_of s = record { base = s.base; flags = s.flags; file_size = length s.bytes; bytes = s.bytes ++ replicate (s.size - length s.bytes) 0 }
 
 -- a region in memory: zeros that can be read and written
 abbrev pub region : ℕ → ℕ → AreaData
-region base size = record { base = base; flags = 6; file = 0; bytes = replicate size 0 }
+region base size = record { base = base; flags = 6; file_size = 0; bytes = replicate size 0 }
 
 -- the areas with one more, in ascending order of base
 abbrev pub placed : List AreaData → AreaData → List AreaData

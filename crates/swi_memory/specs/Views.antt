@@ -4,7 +4,7 @@ use Rattle.swi_memory.specs.declared.bank.Bank.{Bank}
 use Rattle.swi_memory.specs.Bus.{AreaData}
 
 abbrev pub area : Bank → AreaData
-area b = record { base = b.base; flags = b.flags; file = b.file; bytes = b.bytes.items }
+area b = record { base = b.base; flags = b.flags; file_size = b.file_size; bytes = b.bytes.items }
 
 abbrev pub areas : List Bank → List AreaData
 areas banks = map area banks

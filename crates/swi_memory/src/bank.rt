@@ -9,13 +9,13 @@ ghost use Rattle.swi_memory.specs.Views.{area, areas};
 use crate::access::Access;
 use crate::right::Right;
 
-/// Bytes from a base on, with rights: 4 read, 2 write, 1 execute. The first `file` of them came from
-/// a file.
+/// Bytes from a base on, with rights: 4 read, 2 write, 1 execute. The first `file_size` of them came
+/// from a file.
 #[derive(Drop)]
 pub struct Bank {
     pub base: u32,
     pub flags: u32,
-    pub file: u32,
+    pub file_size: u32,
     pub bytes: Vec<u8>,
 }
 

@@ -3,7 +3,7 @@
 
 ghost use Rattle.std.specs.Prelude.{◌≡◌, ◌+◌, ◌*◌, ◌<◌, ◌≤◌, ◌^◌, ◌%◌, ℕ, true, false, length, slice_get, IfOk, IfSome, IsSomeAnd, OnOk, OnErr};
 ghost use Rattle.swi_memory.specs.Bus.{AreInOrder, IsSize, Read, Write, bytes_at, fetched, front_of, holds, loaded, stored, touches_text, with_bytes};
-ghost use Rattle.swi_memory.specs.BusOf.{AreApart, HasOneText, bus_of, ranges, word_in};
+ghost use Rattle.swi_memory.specs.BusOf.{AreApart, HasOneTextAtMost, bus_of, ranges, word_in};
 
 use crate::access::Access;
 use crate::area::Area;
@@ -52,7 +52,7 @@ impl Bus {
         requires apart { AreApart (ranges segments.now l.now) }
         requires heap_end { l.now.heap + l.now.heap_len ≤ 2 ^ 32 }
         requires stack_end { l.now.stack + l.now.stack_len ≤ 2 ^ 32 }
-        requires one_text { HasOneText segments.now }
+        requires one_text { HasOneTextAtMost segments.now }
         ensures start { IfOk result (λ bus. bus ≡ bus_of segments.now l.now) }
         ensures order { IfOk result AreInOrder }
         ensures text { IfOk result (λ bus. (a : ℕ) → fetched bus a ≡ word_in segments.now a) }

@@ -63,7 +63,7 @@ fn zeros(alloc: Global, base: u32, size: u32) -> Result<Bank, Memory>
     Ok(Bank {
         base,
         flags: 6,
-        file: 0,
+        file_size: 0,
         bytes: filled(alloc, &[], size)?,
     })
 }
@@ -80,7 +80,7 @@ pub fn gather(alloc: Global, segments: &[Segment], l: &Layout) -> Result<Vec<Ban
         let bank = Bank {
             base: s.base(),
             flags: s.flags(),
-            file: bytes.len() as u32,
+            file_size: bytes.len() as u32,
             bytes: filled(alloc, bytes, size)?,
         };
         place(&mut banks, bank)?;

@@ -45,14 +45,14 @@ pub fn is_touched(text: &Text, a: u32, n: u32) -> bool
 
 /// The text words of a bank that can be executed: the whole words among the bytes of its file.
 fn text_in(bank: &Bank, place: usize) -> Text
-    requires file { bank.now.file ≤ length bank.now.bytes.items }
+    requires file_size { bank.now.file_size ≤ length bank.now.bytes.items }
     requires end { bank.now.base + length bank.now.bytes.items ≤ 2 ^ 32 }
     requires executable { grants Execute bank.now.flags ≡ true }
     ensures { IsTextOf (area bank.now) place result }
 {
-    let file = bank.file;
+    let size = bank.file_size;
     let skipped = (4 - bank.base % 4) % 4;
-    if file < skipped + 4 {
+    if size < skipped + 4 {
         return Text {
             bank: place,
             from: 0,
@@ -62,7 +62,7 @@ fn text_in(bank: &Bank, place: usize) -> Text
     Text {
         bank: place,
         from: bank.base + skipped,
-        len: (file - skipped) / 4 * 4,
+        len: (size - skipped) / 4 * 4,
     }
 }
 

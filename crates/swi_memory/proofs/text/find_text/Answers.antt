@@ -4,8 +4,8 @@ use Rattle.swi_memory.proofs.Looks.{bank_place}
 use Rattle.swi_memory.proofs.Texts.{text_found}
 use Rattle.swi_memory.proofs.text.find_text.Goals as goal
 
-pub text_in-requires-clause-file : goal.text_in-requires-clause-file
-text_in-requires-clause-file c = (bank_place c.args.banks.now c.loop-i.i c.index-banks-i.result c.requires.order c.loop-i-test.true c.index-banks-i.is).file
+pub text_in-requires-clause-file_size : goal.text_in-requires-clause-file_size
+text_in-requires-clause-file_size c = (bank_place c.args.banks.now c.loop-i.i c.index-banks-i.result c.requires.order c.loop-i-test.true c.index-banks-i.is).file_size
 
 pub text_in-requires-clause-end : goal.text_in-requires-clause-end
 text_in-requires-clause-end c = (bank_place c.args.banks.now c.loop-i.i c.index-banks-i.result c.requires.order c.loop-i-test.true c.index-banks-i.is).end
