@@ -42,7 +42,7 @@ impl Line {
     }
 
     /// Appends a text, for which there must be room.
-    pub fn text(&mut self, text: &str)
+    pub fn push_text(&mut self, text: &str)
         requires { length self.old + length text.now ≤ LINE_ROOM }
         ensures bytes { self.new ≡ self.old ++ text.now }
         ensures size { length self.new ≡ length self.old + length text.now }
@@ -52,7 +52,7 @@ impl Line {
     }
 
     /// Appends a number in decimal digits, at most 20 of them, for which there must be room.
-    pub fn decimal(&mut self, number: u64)
+    pub fn push_decimal(&mut self, number: u64)
         requires { length self.old + 20 ≤ LINE_ROOM }
         ensures bytes { self.new ≡ self.old ++ decimal number }
         ensures size { length self.new ≤ length self.old + 20 }
@@ -65,7 +65,7 @@ impl Line {
     }
 
     /// Appends a word in eight lower-case hexadecimal digits, the highest first, for which there must be room.
-    pub fn hex_word(&mut self, word: u32)
+    pub fn push_hex_word(&mut self, word: u32)
         requires { length self.old + 8 ≤ LINE_ROOM }
         ensures bytes { self.new ≡ self.old ++ hex_word word }
         ensures size { length self.new ≡ length self.old + 8 }

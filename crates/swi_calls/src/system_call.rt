@@ -151,8 +151,8 @@ fn push_answer(line: &mut Line, answer: Option<u32>)
     ensures size { length line.new ≤ length line.old + 11 }
 {
     if let Some(answer) = answer {
-        line.text(" = ");
-        line.hex_word(answer);
+        line.push_text(" = ");
+        line.push_hex_word(answer);
     }
 }
 
@@ -161,16 +161,16 @@ fn call_line(regs: &Regs, answer: Option<u32>) -> Line
     ensures { result ≡ told true regs.now answer }
 {
     let mut line = Line::new();
-    line.text("call ");
-    line.decimal(u64::from(number_of(regs)));
-    line.text(" ");
-    line.hex_word(first_argument(regs));
-    line.text(" ");
-    line.hex_word(second_argument(regs));
-    line.text(" ");
-    line.hex_word(third_argument(regs));
+    line.push_text("call ");
+    line.push_decimal(u64::from(number_of(regs)));
+    line.push_text(" ");
+    line.push_hex_word(first_argument(regs));
+    line.push_text(" ");
+    line.push_hex_word(second_argument(regs));
+    line.push_text(" ");
+    line.push_hex_word(third_argument(regs));
     push_answer(&mut line, answer);
-    line.text("\n");
+    line.push_text("\n");
     line
 }
 

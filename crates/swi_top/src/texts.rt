@@ -32,11 +32,11 @@ fn spent_line(steps: u64, pc: u32) -> Line
     ensures { result ≡ ending_line (Ending.Spent steps pc) }
 {
     let mut line = Line::new();
-    line.text("spent: ");
-    line.decimal(steps);
-    line.text(" steps, pc ");
-    line.hex_word(pc);
-    line.text("\n");
+    line.push_text("spent: ");
+    line.push_decimal(steps);
+    line.push_text(" steps, pc ");
+    line.push_hex_word(pc);
+    line.push_text("\n");
     line
 }
 
@@ -44,15 +44,15 @@ fn fault_line(kind: FaultKind, pc: u32, address: u32, steps: u64) -> Line
     ensures { result ≡ ending_line (Ending.Faulted kind pc address steps) }
 {
     let mut line = Line::new();
-    line.text("fault: ");
-    line.text(kind_text(kind));
-    line.text(" at ");
-    line.hex_word(pc);
-    line.text(", address ");
-    line.hex_word(address);
-    line.text(", ");
-    line.decimal(steps);
-    line.text(" steps\n");
+    line.push_text("fault: ");
+    line.push_text(kind_text(kind));
+    line.push_text(" at ");
+    line.push_hex_word(pc);
+    line.push_text(", address ");
+    line.push_hex_word(address);
+    line.push_text(", ");
+    line.push_decimal(steps);
+    line.push_text(" steps\n");
     line
 }
 
@@ -60,13 +60,13 @@ fn store_line(pc: u32, address: u32, steps: u64) -> Line
     ensures { result ≡ ending_line (Ending.StoreText pc address steps) }
 {
     let mut line = Line::new();
-    line.text("store into text: pc ");
-    line.hex_word(pc);
-    line.text(", address ");
-    line.hex_word(address);
-    line.text(", ");
-    line.decimal(steps);
-    line.text(" steps\n");
+    line.push_text("store into text: pc ");
+    line.push_hex_word(pc);
+    line.push_text(", address ");
+    line.push_hex_word(address);
+    line.push_text(", ");
+    line.push_decimal(steps);
+    line.push_text(" steps\n");
     line
 }
 
@@ -116,13 +116,13 @@ fn elf_line(number: u64, name: &str, carried: u64) -> Line
     ensures { result ≡ elf_line (check_is number name.now carried) }
 {
     let mut line = Line::new();
-    line.text("elf ");
-    line.decimal(number);
-    line.text(" ");
-    line.text(name);
-    line.text(" ");
-    line.decimal(carried);
-    line.text("\n");
+    line.push_text("elf ");
+    line.push_decimal(number);
+    line.push_text(" ");
+    line.push_text(name);
+    line.push_text(" ");
+    line.push_decimal(carried);
+    line.push_text("\n");
     line
 }
 
@@ -131,7 +131,7 @@ fn plain_line(text: &str) -> Line
     ensures { result ≡ text.now }
 {
     let mut line = Line::new();
-    line.text(text);
+    line.push_text(text);
     line
 }
 
@@ -139,9 +139,9 @@ fn not_built_line(address: u32) -> Line
     ensures { result ≡ refusal_line (Refusal.NotBuilt address) }
 {
     let mut line = Line::new();
-    line.text("not built: ");
-    line.hex_word(address);
-    line.text("\n");
+    line.push_text("not built: ");
+    line.push_hex_word(address);
+    line.push_text("\n");
     line
 }
 
@@ -172,9 +172,9 @@ fn pc_line(pc: u32) -> Line
     ensures { result ≡ pc_line pc }
 {
     let mut line = Line::new();
-    line.text("pc ");
-    line.hex_word(pc);
-    line.text("\n");
+    line.push_text("pc ");
+    line.push_hex_word(pc);
+    line.push_text("\n");
     line
 }
 
@@ -183,11 +183,11 @@ fn register_line(regs: &Regs, number: u32) -> Line
     ensures { result ≡ register_line regs.now number }
 {
     let mut line = Line::new();
-    line.text("x");
-    line.decimal(u64::from(number));
-    line.text(" ");
-    line.hex_word(regs.get(Reg::of(number)));
-    line.text("\n");
+    line.push_text("x");
+    line.push_decimal(u64::from(number));
+    line.push_text(" ");
+    line.push_hex_word(regs.get(Reg::of(number)));
+    line.push_text("\n");
     line
 }
 
@@ -195,9 +195,9 @@ fn break_line(now: u32) -> Line
     ensures { result ≡ break_line now }
 {
     let mut line = Line::new();
-    line.text("break ");
-    line.hex_word(now);
-    line.text("\n");
+    line.push_text("break ");
+    line.push_hex_word(now);
+    line.push_text("\n");
     line
 }
 
