@@ -218,3 +218,10 @@ IsAligned (done.Next pc) = pc % 4 ≡ 0
 IsAligned done.Call = Unit
 IsAligned done.Break = Unit
 IsAligned (done.Fault kind a) = Unit
+
+-- where the instruction has no next one, registers and memory are as they were
+abbrev pub StaysUnlessNext : Done → Registers → Registers → List AreaData → List AreaData → Type 0
+StaysUnlessNext (done.Next pc) regs regs' bus bus' = Unit
+StaysUnlessNext done.Call regs regs' bus bus' = (regs' ≡ regs) × (bus' ≡ bus)
+StaysUnlessNext done.Break regs regs' bus bus' = (regs' ≡ regs) × (bus' ≡ bus)
+StaysUnlessNext (done.Fault kind a) regs regs' bus bus' = (regs' ≡ regs) × (bus' ≡ bus)

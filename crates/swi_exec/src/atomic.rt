@@ -2,7 +2,7 @@
 #![tactic(auto)]
 
 ghost use Rattle.std.specs.Prelude.{◌≡◌};
-ghost use Rattle.swi_exec.specs.Execute.{loads_reserved, stores_conditionally, updates, atomic_effect};
+ghost use Rattle.swi_exec.specs.Execute.{loads_reserved, stores_conditionally, updates, atomic_effect, StaysUnlessNext};
 
 use crate::done::{Done, FaultKind};
 use crate::registers::Regs;
@@ -14,6 +14,7 @@ use swi_memory::Bus;
 fn load_reserved(rd: Reg, a: u32, pc: u32, regs: &mut Regs, bus: &Bus) -> Done
     ensures done { result ≡ (loads_reserved rd a pc regs.old bus.now).done }
     ensures regs { regs.new ≡ (loads_reserved rd a pc regs.old bus.now).regs }
+    ensures unchanged { StaysUnlessNext result regs.old regs.new bus.now bus.now }
 {
     if a % 4 != 0 {
         return Done::Fault(FaultKind::LoadAccess, a);
@@ -32,6 +33,7 @@ fn store_conditional(rd: Reg, a: u32, v: u32, pc: u32, regs: &mut Regs, bus: &mu
     ensures done { result ≡ (stores_conditionally rd a v pc regs.old bus.old).done }
     ensures regs { regs.new ≡ (stores_conditionally rd a v pc regs.old bus.old).regs }
     ensures bus { bus.new ≡ (stores_conditionally rd a v pc regs.old bus.old).bus }
+    ensures unchanged { StaysUnlessNext result regs.old regs.new bus.old bus.new }
 {
     if a % 4 != 0 {
         return Done::Fault(FaultKind::StoreAccess, a);
@@ -56,6 +58,7 @@ fn update(op: AtomicOp, rd: Reg, a: u32, v: u32, pc: u32, regs: &mut Regs, bus: 
     ensures done { result ≡ (updates op rd a v pc regs.old bus.old).done }
     ensures regs { regs.new ≡ (updates op rd a v pc regs.old bus.old).regs }
     ensures bus { bus.new ≡ (updates op rd a v pc regs.old bus.old).bus }
+    ensures unchanged { StaysUnlessNext result regs.old regs.new bus.old bus.new }
 {
     if a % 4 != 0 {
         return Done::Fault(FaultKind::StoreAccess, a);
@@ -84,6 +87,7 @@ pub fn atomic(
     ensures done { result ≡ (atomic_effect op rd a v pc regs.old bus.old).done }
     ensures regs { regs.new ≡ (atomic_effect op rd a v pc regs.old bus.old).regs }
     ensures bus { bus.new ≡ (atomic_effect op rd a v pc regs.old bus.old).bus }
+    ensures unchanged { StaysUnlessNext result regs.old regs.new bus.old bus.new }
 {
     match op {
         AtomicOp::LrW => load_reserved(rd, a, pc, regs, bus),

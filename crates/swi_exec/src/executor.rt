@@ -2,7 +2,7 @@
 #![tactic(auto)]
 
 ghost use Rattle.std.specs.Prelude.{◌≡◌, ◌%◌};
-ghost use Rattle.swi_exec.specs.Execute.{executed, IsAligned};
+ghost use Rattle.swi_exec.specs.Execute.{executed, IsAligned, StaysUnlessNext};
 
 use crate::atomic::atomic;
 use crate::done::{Done, FaultKind};
@@ -26,6 +26,7 @@ pub fn exec(instr: &Instr, pc: u32, regs: &mut Regs, bus: &mut Bus) -> Done
     ensures regs { regs.new ≡ (executed instr.now pc regs.old bus.old).regs }
     ensures bus { bus.new ≡ (executed instr.now pc regs.old bus.old).bus }
     ensures aligned { IsAligned result }
+    ensures unchanged { StaysUnlessNext result regs.old regs.new bus.old bus.new }
 {
     let next = pc.wrapping_add(4);
     match *instr {

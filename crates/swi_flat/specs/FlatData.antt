@@ -1,6 +1,10 @@
--- The flat machine as contracts see it (own rule).
-use Rattle.std.specs.Prelude.{Bool, false}
-use Rattle.swi_calls.specs.State.{Machine}
+-- The flat machine as contracts see it, and a run of it that a device broke off (own rule).
+use Rattle.std.specs.Prelude.{ℕ, ◌-◌, ◌≤◌, List, Bool, Option, Some, false, true}
+use Rattle.swi_memory.specs.Bus.{AreaData}
+use Rattle.swi_calls.specs.Call.{room_of_call, second_argument}
+use Rattle.swi_calls.specs.Flat.{flat_run, started}
+use Rattle.swi_calls.specs.Moves.{ReadsInto}
+use Rattle.swi_calls.specs.State.{Machine, FlatState}
 
 -- the machine, and whether a device has failed in one of its steps
 pub record FlatData : Type 0 where
@@ -10,3 +14,17 @@ pub record FlatData : Type 0 where
 -- a machine in which no device has failed
 abbrev pub sound : Machine → FlatData
 sound m = record { machine = m; failed = false }
+
+-- a machine whose next step failed: as it was, but for this memory
+abbrev pub stopped : Machine → List AreaData → FlatData
+stopped m bus = record { machine = record m { bus = bus }; failed = true }
+
+-- the state of the run from a machine, with this input, at which so many steps are counted
+abbrev pub state_at : ℕ → Machine → List ℕ → FlatState
+state_at steps first input = flat_run (steps - first.steps) (started first input)
+
+-- memory and the input that is left after a step that failed in this state: a front of the buffer of the read that the registers
+-- ask for may be filled, with just the bytes that were taken from the input; where they ask for no read, both are as they were
+abbrev pub FillsFront : FlatState → List AreaData → Option (List ℕ) → Type 0
+FillsFront s bus left = (k : ℕ) × (k ≤ room_of_call s.machine.regs s.machine.bus) ×
+    ReadsInto s.machine.bus bus (Some s.input) left (second_argument s.machine.regs) k

@@ -9,7 +9,7 @@ ghost use Rattle.swi_calls.specs.Call.{room_of_call, second_argument};
 ghost use Rattle.swi_calls.specs.Causes.{HasCauses};
 ghost use Rattle.swi_calls.specs.Flat.{ended, call_made, made, flat_run, started, machine_of};
 ghost use Rattle.swi_calls.specs.Moves.{ReadsInto};
-ghost use Rattle.swi_flat.specs.FlatData.{sound};
+ghost use Rattle.swi_flat.specs.FlatData.{sound, stopped, state_at, FillsFront};
 ghost use Rattle.swi_program.specs.Layout.{IsLayoutOf};
 
 use std::alloc::Global;
@@ -255,7 +255,9 @@ impl Flat {
     /// Steps until `limit` steps are made since the start, or the run has ended, or a device fails. `limit` is from `steps()` to
     /// 2^48; no device has failed before.
     ///
-    /// After a failure the run has not ended, `steps` is below `limit`, and each sink gained a prefix of what the run writes.
+    /// After a failure the run has not ended, and `steps` is below `limit`. Where the input tells its bytes, the machine is where
+    /// the steps made have brought it: the step that failed left it as it was, but that at a read a front of the buffer may be
+    /// filled, with just the bytes that were taken from the input. Each sink gained a prefix of what the run to `limit` writes.
     pub fn run<I: Source, O: Sink, E: Sink>(
         &mut self,
         limit: u64,
@@ -279,6 +281,11 @@ impl Flat {
         ensures failed { OnErr result (self.new.failed ≡ true) }
         ensures going { OnErr result (self.new.machine.ending ≡ None) }
         ensures uncounted { OnErr result (self.new.machine.steps < limit) }
+        ensures no_fewer { OnErr result (self.old.machine.steps ≤ self.new.machine.steps) }
+        ensures stays { OnErr result (ForSome (I.left input.old) (λ left.
+            self.new ≡ stopped (state_at self.new.machine.steps self.old.machine left).machine self.new.machine.bus)) }
+        ensures front { OnErr result (ForSome (I.left input.old) (λ left.
+            FillsFront (state_at self.new.machine.steps self.old.machine left) self.new.machine.bus (I.left input.new))) }
         ensures output_prefix { OnErr result (ForSome (I.left input.old) (λ left. AppendsPrefix (O.held out.old) (O.held out.new)
             (flat_run (limit - self.old.machine.steps) (started self.old.machine left)).output)) }
         ensures error_prefix { OnErr result (ForSome (I.left input.old) (λ left. AppendsPrefix (E.held err.old) (E.held err.new)

@@ -1,13 +1,13 @@
-use Rattle.std.proofs.Common.{◌≡◌, ◌+◌, ◌-◌, suc, is_some, true, false, ap, sym, refl, arith, rules}
+use Rattle.std.proofs.Common.{◌≡◌, ◌+◌, ◌-◌, ℕ, List, Some, is_some, true, false, ap, sym, refl, arith, rules}
 use Rattle.std.proofs.lemmas.Result.{err_from_is_err_and}
-use Rattle.swi_flat.specs.FlatData.{FlatData}
+use Rattle.swi_flat.specs.FlatData.{FlatData, stopped}
 use Rattle.swi_flat.proofs.Runs.{so_far_none, so_far_more, so_far_over, so_far_all, so_far_broken, data_is}
 use Rattle.swi_flat.proofs.flat.Flat.run.Goals as goal
 
 pub loop-self-init : goal.loop-self-init
 loop-self-init g c = record {
-  so_far = λ left told. so_far_none (c.args.limit - c.args.self.now.machine.steps) (c.args.limit - c.args.self.now.machine.steps) c.args.self.now.machine left
-      (g.I.Source.left c.args.input.now) (g.O.Sink.held c.args.out.now) (g.E.Sink.held c.args.err.now) refl told;
+  so_far = λ left told. so_far_none (omega arith) told;
+  no_fewer = omega arith;
   within = c.requires.within;
   unfailed = c.requires.unfailed;
   input_still = refl;
@@ -15,46 +15,18 @@ loop-self-init g c = record {
   err_still = refl;
 }
 
-pub returns-in_err-step-clause-output_prefix : goal.returns-in_err-step-clause-output_prefix
-returns-in_err-step-clause-output_prefix g c =
-    let p = err_from_is_err_and c.from_residual.result c.from_residual.ensures.1 in
-    rw p.1 (λ left told.
-    let going : is_some c.loop-self.self.machine.ending ≡ false = search rules in
-    let seen : c.loop-self.self.machine.steps ≡ c.self.inside.steps = sym (ap (λ (f : FlatData). f.machine.steps) c.self.view_is) in
-    let more : c.args.limit - c.loop-self.self.machine.steps ≡ suc (c.args.limit - (c.loop-self.self.machine.steps + 1)) = omega (arith, seen) in
-    let h = c.loop-self.invariant.so_far left told in
-    (so_far_broken (c.args.limit - c.args.self.now.machine.steps) (c.args.limit - c.loop-self.self.machine.steps) (c.args.limit - (c.loop-self.self.machine.steps + 1))
-    c.args.self.now.machine c.loop-self.self.machine left (g.I.Source.left c.loop-self.input) (g.O.Sink.held c.args.out.now) (g.O.Sink.held c.loop-self.out) (g.O.Sink.held c.step.new.out)
-    (g.E.Sink.held c.args.err.now) (g.E.Sink.held c.loop-self.err) (g.E.Sink.held c.step.new.err) more going h
-    (c.in_err-step.ensures.output_prefix h.input h.left_is) (c.in_err-step.ensures.error_prefix h.input h.left_is)).out)
-
-pub returns-in_err-step-clause-error_prefix : goal.returns-in_err-step-clause-error_prefix
-returns-in_err-step-clause-error_prefix g c =
-    let p = err_from_is_err_and c.from_residual.result c.from_residual.ensures.1 in
-    rw p.1 (λ left told.
-    let going : is_some c.loop-self.self.machine.ending ≡ false = search rules in
-    let seen : c.loop-self.self.machine.steps ≡ c.self.inside.steps = sym (ap (λ (f : FlatData). f.machine.steps) c.self.view_is) in
-    let more : c.args.limit - c.loop-self.self.machine.steps ≡ suc (c.args.limit - (c.loop-self.self.machine.steps + 1)) = omega (arith, seen) in
-    let h = c.loop-self.invariant.so_far left told in
-    (so_far_broken (c.args.limit - c.args.self.now.machine.steps) (c.args.limit - c.loop-self.self.machine.steps) (c.args.limit - (c.loop-self.self.machine.steps + 1))
-    c.args.self.now.machine c.loop-self.self.machine left (g.I.Source.left c.loop-self.input) (g.O.Sink.held c.args.out.now) (g.O.Sink.held c.loop-self.out) (g.O.Sink.held c.step.new.out)
-    (g.E.Sink.held c.args.err.now) (g.E.Sink.held c.loop-self.err) (g.E.Sink.held c.step.new.err) more going h
-    (c.in_err-step.ensures.output_prefix h.input h.left_is) (c.in_err-step.ensures.error_prefix h.input h.left_is)).err)
-
 pub loop-self-preserved : goal.loop-self-preserved
 loop-self-preserved g c =
     let going : is_some c.loop-self.self.machine.ending ≡ false = search rules in
     let seen : c.loop-self.self.machine.steps ≡ c.self.inside.steps = sym (ap (λ (f : FlatData). f.machine.steps) c.self.view_is) in
     let counted : c.step.new.self.machine.steps ≡ c.loop-self.self.machine.steps + 1 = search rules in
+    let no_fewer = c.loop-self.invariant.no_fewer in
     record {
       so_far = λ left told.
           let h = c.loop-self.invariant.so_far left told in
-          let more : c.args.limit - c.loop-self.self.machine.steps ≡ suc (c.args.limit - c.step.new.self.machine.steps) = omega (arith, counted, seen) in
-          so_far_more (c.args.limit - c.args.self.now.machine.steps) (c.args.limit - c.loop-self.self.machine.steps) (c.args.limit - c.step.new.self.machine.steps)
-          c.args.self.now.machine c.loop-self.self.machine c.step.new.self.machine left (g.I.Source.left c.loop-self.input) (g.I.Source.left c.step.new.input)
-          (g.O.Sink.held c.args.out.now) (g.O.Sink.held c.loop-self.out) (g.O.Sink.held c.step.new.out) (g.E.Sink.held c.args.err.now) (g.E.Sink.held c.loop-self.err) (g.E.Sink.held c.step.new.err)
-          more going h (ap (λ (f : FlatData). f.machine) (c.in_ok-step.ensures.machine h.input h.left_is)) (c.in_ok-step.ensures.input h.input h.left_is)
-          (c.in_ok-step.ensures.output h.input h.left_is) (c.in_ok-step.ensures.error h.input h.left_is);
+          so_far_more h (omega (arith, counted, no_fewer)) going (ap (λ (f : FlatData). f.machine) (c.in_ok-step.ensures.machine h.input h.left_is))
+          (c.in_ok-step.ensures.input h.input h.left_is) (c.in_ok-step.ensures.output h.input h.left_is) (c.in_ok-step.ensures.error h.input h.left_is);
+      no_fewer = omega (arith, counted, no_fewer);
       within = omega (arith, counted, seen);
       unfailed = search rules;
       input_still = search rules;
@@ -62,62 +34,83 @@ loop-self-preserved g c =
       err_still = search rules;
     }
 
-pub returns-else-is_none-clause-machine : goal.returns-else-is_none-clause-machine
-returns-else-is_none-clause-machine g c left told =
-    let over : is_some c.loop-self.self.machine.ending ≡ true = search rules in
-    data_is c.loop-self.self _ (so_far_over (c.args.limit - c.args.self.now.machine.steps) (c.args.limit - c.loop-self.self.machine.steps) c.args.self.now.machine c.loop-self.self.machine left
-    (g.I.Source.left c.loop-self.input) (g.O.Sink.held c.args.out.now) (g.O.Sink.held c.loop-self.out) (g.E.Sink.held c.args.err.now) (g.E.Sink.held c.loop-self.err)
-    over (c.loop-self.invariant.so_far left told)).machine c.loop-self.invariant.unfailed
-
-pub returns-else-is_none-clause-input : goal.returns-else-is_none-clause-input
-returns-else-is_none-clause-input g c left told =
-    let over : is_some c.loop-self.self.machine.ending ≡ true = search rules in
-    (so_far_over (c.args.limit - c.args.self.now.machine.steps) (c.args.limit - c.loop-self.self.machine.steps) c.args.self.now.machine c.loop-self.self.machine left
-    (g.I.Source.left c.loop-self.input) (g.O.Sink.held c.args.out.now) (g.O.Sink.held c.loop-self.out) (g.E.Sink.held c.args.err.now) (g.E.Sink.held c.loop-self.err)
-    over (c.loop-self.invariant.so_far left told)).left_is
-
-pub returns-else-is_none-clause-output : goal.returns-else-is_none-clause-output
-returns-else-is_none-clause-output g c left told =
-    let over : is_some c.loop-self.self.machine.ending ≡ true = search rules in
-    (so_far_over (c.args.limit - c.args.self.now.machine.steps) (c.args.limit - c.loop-self.self.machine.steps) c.args.self.now.machine c.loop-self.self.machine left
-    (g.I.Source.left c.loop-self.input) (g.O.Sink.held c.args.out.now) (g.O.Sink.held c.loop-self.out) (g.E.Sink.held c.args.err.now) (g.E.Sink.held c.loop-self.err)
-    over (c.loop-self.invariant.so_far left told)).out
-
-pub returns-else-is_none-clause-error : goal.returns-else-is_none-clause-error
-returns-else-is_none-clause-error g c left told =
-    let over : is_some c.loop-self.self.machine.ending ≡ true = search rules in
-    (so_far_over (c.args.limit - c.args.self.now.machine.steps) (c.args.limit - c.loop-self.self.machine.steps) c.args.self.now.machine c.loop-self.self.machine left
-    (g.I.Source.left c.loop-self.input) (g.O.Sink.held c.args.out.now) (g.O.Sink.held c.loop-self.out) (g.E.Sink.held c.args.err.now) (g.E.Sink.held c.loop-self.err)
-    over (c.loop-self.invariant.so_far left told)).err
-
-pub returns-after-loop-self-clause-machine : goal.returns-after-loop-self-clause-machine
-returns-after-loop-self-clause-machine g c left told =
+pub returns-in_err-step : goal.returns-in_err-step
+returns-in_err-step g c =
+    let p = err_from_is_err_and c.from_residual.result c.from_residual.ensures.1 in
+    let going : is_some c.loop-self.self.machine.ending ≡ false = search rules in
     let seen : c.loop-self.self.machine.steps ≡ c.self.inside.steps = sym (ap (λ (f : FlatData). f.machine.steps) c.self.view_is) in
-    let none : c.args.limit - c.loop-self.self.machine.steps ≡ 0 = omega (arith, seen) in
-    data_is c.loop-self.self _ (so_far_all (c.args.limit - c.args.self.now.machine.steps) (c.args.limit - c.loop-self.self.machine.steps) c.args.self.now.machine c.loop-self.self.machine left
-    (g.I.Source.left c.loop-self.input) (g.O.Sink.held c.args.out.now) (g.O.Sink.held c.loop-self.out) (g.E.Sink.held c.args.err.now) (g.E.Sink.held c.loop-self.err)
-    none (c.loop-self.invariant.so_far left told)).machine c.loop-self.invariant.unfailed
+    let no_fewer = c.loop-self.invariant.no_fewer in
+    let is : c.step.new.self ≡ stopped c.loop-self.self.machine c.step.new.self.machine.bus = c.in_err-step.ensures.stays in
+    let still : c.step.new.self.machine.steps ≡ c.loop-self.self.machine.steps = ap (λ (f : FlatData). f.machine.steps) is in
+    let broken = λ (left : List ℕ) (told : g.I.Source.left c.args.input.now ≡ Some left).
+    let h = c.loop-self.invariant.so_far left told in
+    so_far_broken h {all = c.args.limit - c.args.self.now.machine.steps} {next = c.step.new.self} (c.args.limit - (c.loop-self.self.machine.steps + 1))
+    (omega (arith, seen, no_fewer)) (omega (arith, still)) going is c.in_err-step.ensures.front
+    (c.in_err-step.ensures.output_prefix h.input h.left_is) (c.in_err-step.ensures.error_prefix h.input h.left_is) in
+    rw p.1 (record {
+      machine = tt;
+      input = tt;
+      output = tt;
+      error = tt;
+      stops = tt;
+      unfailed = tt;
+      failed = search rules;
+      going = search rules;
+      uncounted = omega (arith, seen, still);
+      no_fewer = omega (arith, no_fewer, still);
+      stays = λ left told. (broken left told).stays;
+      front = λ left told. (broken left told).front;
+      output_prefix = λ left told. (broken left told).out;
+      error_prefix = λ left told. (broken left told).err;
+      causes = search rules;
+    })
 
-pub returns-after-loop-self-clause-input : goal.returns-after-loop-self-clause-input
-returns-after-loop-self-clause-input g c left told =
-    let seen : c.loop-self.self.machine.steps ≡ c.self.inside.steps = sym (ap (λ (f : FlatData). f.machine.steps) c.self.view_is) in
-    let none : c.args.limit - c.loop-self.self.machine.steps ≡ 0 = omega (arith, seen) in
-    (so_far_all (c.args.limit - c.args.self.now.machine.steps) (c.args.limit - c.loop-self.self.machine.steps) c.args.self.now.machine c.loop-self.self.machine left
-    (g.I.Source.left c.loop-self.input) (g.O.Sink.held c.args.out.now) (g.O.Sink.held c.loop-self.out) (g.E.Sink.held c.args.err.now) (g.E.Sink.held c.loop-self.err)
-    none (c.loop-self.invariant.so_far left told)).left_is
+pub returns-else-is_none : goal.returns-else-is_none
+returns-else-is_none g c =
+    let over : is_some c.loop-self.self.machine.ending ≡ true = search rules in
+    let no_fewer = c.loop-self.invariant.no_fewer in
+    let within = c.loop-self.invariant.within in
+    let all = λ (left : List ℕ) (told : g.I.Source.left c.args.input.now ≡ Some left).
+    so_far_over (c.loop-self.invariant.so_far left told) {all = c.args.limit - c.args.self.now.machine.steps} (c.args.limit - c.loop-self.self.machine.steps)
+    (omega (arith, no_fewer, within)) over in
+    record {
+      machine = λ left told. data_is c.loop-self.self _ (all left told).machine c.loop-self.invariant.unfailed;
+      input = λ left told. (all left told).left_is;
+      output = λ left told. (all left told).out;
+      error = λ left told. (all left told).err;
+      stops = search rules;
+      unfailed = c.loop-self.invariant.unfailed;
+      failed = tt;
+      going = tt;
+      uncounted = tt;
+      no_fewer = tt;
+      stays = tt;
+      front = tt;
+      output_prefix = tt;
+      error_prefix = tt;
+      causes = search rules;
+    }
 
-pub returns-after-loop-self-clause-output : goal.returns-after-loop-self-clause-output
-returns-after-loop-self-clause-output g c left told =
+pub returns-after-loop-self : goal.returns-after-loop-self
+returns-after-loop-self g c =
     let seen : c.loop-self.self.machine.steps ≡ c.self.inside.steps = sym (ap (λ (f : FlatData). f.machine.steps) c.self.view_is) in
-    let none : c.args.limit - c.loop-self.self.machine.steps ≡ 0 = omega (arith, seen) in
-    (so_far_all (c.args.limit - c.args.self.now.machine.steps) (c.args.limit - c.loop-self.self.machine.steps) c.args.self.now.machine c.loop-self.self.machine left
-    (g.I.Source.left c.loop-self.input) (g.O.Sink.held c.args.out.now) (g.O.Sink.held c.loop-self.out) (g.E.Sink.held c.args.err.now) (g.E.Sink.held c.loop-self.err)
-    none (c.loop-self.invariant.so_far left told)).out
-
-pub returns-after-loop-self-clause-error : goal.returns-after-loop-self-clause-error
-returns-after-loop-self-clause-error g c left told =
-    let seen : c.loop-self.self.machine.steps ≡ c.self.inside.steps = sym (ap (λ (f : FlatData). f.machine.steps) c.self.view_is) in
-    let none : c.args.limit - c.loop-self.self.machine.steps ≡ 0 = omega (arith, seen) in
-    (so_far_all (c.args.limit - c.args.self.now.machine.steps) (c.args.limit - c.loop-self.self.machine.steps) c.args.self.now.machine c.loop-self.self.machine left
-    (g.I.Source.left c.loop-self.input) (g.O.Sink.held c.args.out.now) (g.O.Sink.held c.loop-self.out) (g.E.Sink.held c.args.err.now) (g.E.Sink.held c.loop-self.err)
-    none (c.loop-self.invariant.so_far left told)).err
+    let no_fewer = c.loop-self.invariant.no_fewer in
+    let all = λ (left : List ℕ) (told : g.I.Source.left c.args.input.now ≡ Some left).
+    so_far_all (c.loop-self.invariant.so_far left told) {all = c.args.limit - c.args.self.now.machine.steps} (omega (arith, no_fewer, seen)) in
+    record {
+      machine = λ left told. data_is c.loop-self.self _ (all left told).machine c.loop-self.invariant.unfailed;
+      input = λ left told. (all left told).left_is;
+      output = λ left told. (all left told).out;
+      error = λ left told. (all left told).err;
+      stops = search rules;
+      unfailed = c.loop-self.invariant.unfailed;
+      failed = tt;
+      going = tt;
+      uncounted = tt;
+      no_fewer = tt;
+      stays = tt;
+      front = tt;
+      output_prefix = tt;
+      error_prefix = tt;
+      causes = search rules;
+    }

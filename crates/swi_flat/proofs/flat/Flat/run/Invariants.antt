@@ -5,8 +5,9 @@ use Rattle.swi_flat.proofs.flat.Flat.run.Given as goal
 
 abbrev pub invariant-loop-self : goal.invariant-loop-self
 invariant-loop-self g l = record {
-  so_far : ForSome (g.I.Source.left l.fn.input) (λ left. SoFar (l.limit - l.fn.self.machine.steps) (l.limit - l.self.machine.steps) l.fn.self.machine l.self.machine left
+  so_far : ForSome (g.I.Source.left l.fn.input) (λ left. SoFar (l.self.machine.steps - l.fn.self.machine.steps) l.fn.self.machine l.self.machine left
       (g.I.Source.left l.input) (g.O.Sink.held l.fn.out) (g.O.Sink.held l.out) (g.E.Sink.held l.fn.err) (g.E.Sink.held l.err));
+  no_fewer : l.fn.self.machine.steps ≤ l.self.machine.steps;
   within : l.self.machine.steps ≤ l.limit;
   unfailed : l.self.failed ≡ false;
   input_still : g.I.Source.faults l.input ≡ g.I.Source.faults l.fn.input;

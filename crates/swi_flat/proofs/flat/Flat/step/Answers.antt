@@ -1,64 +1,15 @@
-use Rattle.std.proofs.Common.{◌≡◌, ◌≤◌, ℕ, List, true, subst, sym, ap, ◌∙◌, OnErr, rules}
-use Rattle.swi_calls.specs.Call.{room_of_call, second_argument}
+use Rattle.std.proofs.Common.{◌≡◌, ℕ, List, ap, ◌∙◌, rules}
 use Rattle.swi_calls.specs.Flat.{made, call_made}
-use Rattle.swi_calls.specs.Moves.{ReadsInto}
 use Rattle.swi_calls.specs.State.{Machine}
 use Rattle.swi_flat.specs.FlatData.{FlatData}
-use Rattle.swi_flat.proofs.Steps.{untouched, prefix_as}
+use Rattle.swi_flat.proofs.Steps.{prefix_as}
 use Rattle.swi_flat.proofs.flat.Flat.step.Goals as goal
-
-pub returns-in-Call-clause-stays : goal.returns-in-Call-clause-stays
-returns-in-Call-clause-stays g c =
-    let before : Machine = record {
-      pc = c.self.inside.pc;
-      regs = c.self.inside.regs;
-      bus = c.self.inside.bus;
-      heap = c.self.inside.heap;
-      log = c.self.inside.log;
-      ending = c.self.inside.ending;
-      steps = c.self.inside.steps;
-    } in
-    let after : Machine = record {
-      pc = c.self.inside.pc;
-      regs = c.exec.new.regs;
-      bus = c.exec.new.bus;
-      heap = c.self.inside.heap;
-      log = c.self.inside.log;
-      ending = c.self.inside.ending;
-      steps = c.self.inside.steps;
-    } in
-    let same : after ≡ c.args.self.now.machine =
-    untouched before c.in-Some-decode.instruction c.exec.new.regs c.exec.new.bus (sym c.in-Call.ensures.done) c.exec.ensures.regs c.exec.ensures.bus
-    ∙ ap (λ (f : FlatData). f.machine) c.self.view_is in
-    subst (λ (m : Machine). OnErr c.call.result (c.call.new.self ≡ record { machine = record m { bus = c.call.new.self.machine.bus }; failed = true }))
-    same c.call.ensures.stays
 
 pub returns-in-Call-clause-front : goal.returns-in-Call-clause-front
 returns-in-Call-clause-front g c =
-    let before : Machine = record {
-      pc = c.self.inside.pc;
-      regs = c.self.inside.regs;
-      bus = c.self.inside.bus;
-      heap = c.self.inside.heap;
-      log = c.self.inside.log;
-      ending = c.self.inside.ending;
-      steps = c.self.inside.steps;
-    } in
-    let after : Machine = record {
-      pc = c.self.inside.pc;
-      regs = c.exec.new.regs;
-      bus = c.exec.new.bus;
-      heap = c.self.inside.heap;
-      log = c.self.inside.log;
-      ending = c.self.inside.ending;
-      steps = c.self.inside.steps;
-    } in
-    let same : after ≡ c.args.self.now.machine =
-    untouched before c.in-Some-decode.instruction c.exec.new.regs c.exec.new.bus (sym c.in-Call.ensures.done) c.exec.ensures.regs c.exec.ensures.bus
-    ∙ ap (λ (f : FlatData). f.machine) c.self.view_is in
-    subst (λ (m : Machine). OnErr c.call.result ((k : ℕ) × (k ≤ room_of_call m.regs m.bus) ×
-    ReadsInto m.bus c.call.new.self.machine.bus (g.I.Source.left c.args.input.now) (g.I.Source.left c.call.new.input) (second_argument m.regs) k))
-    same c.call.ensures.front
+    let regs_are = c.in-Call.ensures.unchanged.0 ∙ ap (λ (f : FlatData). f.machine.regs) c.self.view_is in
+    let bus_is = c.in-Call.ensures.unchanged.1 ∙ ap (λ (f : FlatData). f.machine.bus) c.self.view_is in
+    rw (← regs_are, ← bus_is) c.call.ensures.front
 
 pub returns-in-Call-clause-output_prefix : goal.returns-in-Call-clause-output_prefix
 unfolding made
