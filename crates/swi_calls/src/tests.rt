@@ -1,11 +1,11 @@
-//! System calls on a small memory. The calls' numbers and answers are Linux's on RISC-V: 9 is EBADF, 14 is EFAULT and 38
-//! is ENOSYS of its error numbers.
+//! System calls on a small memory. The calls' numbers and answers are Linux's on RISC-V.
 #![tactic(auto)]
 
 ghost use Rattle.std.specs.Prelude.{None};
 
 use super::*;
 use std::alloc::Global;
+use std::process::Abort;
 use std::test::Fail;
 use swi_exec::Regs;
 use swi_isa::{Instr, Reg, decode};
@@ -16,15 +16,15 @@ use swi_outside::{Failed, MemSink, MemSource, Source};
 /// be read and four that can be written.
 fn small_bus(alloc: Global) -> Result<Bus, Fail> {
     let segments = [
-        Segment::of(0x1_0000, 7, 8, [0; 8].to_vec(alloc)?),
-        Segment::of(0x2_0000, 6, 8, b"wxyz".to_vec(alloc)?),
-        Segment::of(0x3_0000, 4, 4, Vec::new(alloc)),
-        Segment::of(0x4_0000, 2, 4, Vec::new(alloc)),
+        Segment::of(0x10000, 7, 8, [0; 8].to_vec(alloc)?),
+        Segment::of(0x20000, 6, 8, b"wxyz".to_vec(alloc)?),
+        Segment::of(0x30000, 4, 4, Vec::new(alloc)),
+        Segment::of(0x40000, 2, 4, Vec::new(alloc)),
     ];
     let layout = Layout {
-        heap: 0x2_0008,
+        heap: 0x20008,
         heap_len: 1016,
-        stack: 0x5_0000,
+        stack: 0x50000,
         stack_len: 0,
         sp: 0,
     };
@@ -32,9 +32,9 @@ fn small_bus(alloc: Global) -> Result<Bus, Fail> {
 }
 
 const HEAP: Heap = Heap {
-    base: 0x2_0008,
-    limit: 0x2_0400,
-    now: 0x2_0100,
+    base: 0x20008,
+    limit: 0x20400,
+    now: 0x20100,
 };
 
 /// Registers with the call's number and its arguments.
@@ -47,195 +47,182 @@ fn regs_of(number: u32, a0: u32, a1: u32, a2: u32) -> Regs {
     regs
 }
 
-/// A call's number and arguments, and then its answer, the break, the word at 0x20000, and what went to the output and to the
-/// errors. Nothing more is read than the input "abcdef".
-static ANSWERS: [(u32, u32, u32, u32, u32, u32, u32, &str, &str); 31] = [
-    // read
-    (63, 0, 0x2_0000, 3, 3, 0x2_0100, 0x7A63_6261, "", ""),
-    (63, 0, 0x2_0000, 6, 6, 0x2_0100, 0x6463_6261, "", ""),
-    (63, 0, 0x2_0000, 1024, 6, 0x2_0100, 0x6463_6261, "", ""),
-    (
-        63,
-        0,
-        0x2_0000,
-        1025,
-        0xFFFF_FFF2,
-        0x2_0100,
-        0x7A79_7877,
-        "",
-        "",
-    ),
-    (63, 0, 0x2_0006, 4, 4, 0x2_0100, 0x7A79_7877, "", ""),
-    (
-        63,
-        0,
-        0x3_0000,
-        1,
-        0xFFFF_FFF2,
-        0x2_0100,
-        0x7A79_7877,
-        "",
-        "",
-    ),
-    (63, 0, 0x4_0000, 4, 4, 0x2_0100, 0x7A79_7877, "", ""),
-    (
-        63,
-        0,
-        0xFFFF_FFFF,
-        2,
-        0xFFFF_FFF2,
-        0x2_0100,
-        0x7A79_7877,
-        "",
-        "",
-    ),
-    (63, 0, 0, 0, 0, 0x2_0100, 0x7A79_7877, "", ""),
-    (
-        63,
-        1,
-        0x2_0000,
-        3,
-        0xFFFF_FFF7,
-        0x2_0100,
-        0x7A79_7877,
-        "",
-        "",
-    ),
-    (63, 1, 0, 1, 0xFFFF_FFF7, 0x2_0100, 0x7A79_7877, "", ""),
-    (63, 1, 0, 0, 0xFFFF_FFF7, 0x2_0100, 0x7A79_7877, "", ""),
-    // write
-    (64, 1, 0x2_0000, 4, 4, 0x2_0100, 0x7A79_7877, "wxyz", ""),
-    (64, 2, 0x2_0000, 3, 3, 0x2_0100, 0x7A79_7877, "", "wxy"),
-    (
-        64,
-        1,
-        0x2_0003,
-        7,
-        7,
-        0x2_0100,
-        0x7A79_7877,
-        "z\0\0\0\0\0\0",
-        "",
-    ),
-    (64, 1, 0x3_0000, 4, 4, 0x2_0100, 0x7A79_7877, "\0\0\0\0", ""),
-    (
-        64,
-        1,
-        0x3_0000,
-        5,
-        0xFFFF_FFF2,
-        0x2_0100,
-        0x7A79_7877,
-        "",
-        "",
-    ),
-    (
-        64,
-        2,
-        0x4_0000,
-        1,
-        0xFFFF_FFF2,
-        0x2_0100,
-        0x7A79_7877,
-        "",
-        "",
-    ),
-    (64, 1, 0, 0, 0, 0x2_0100, 0x7A79_7877, "", ""),
-    (
-        64,
-        0,
-        0x2_0000,
-        4,
-        0xFFFF_FFF7,
-        0x2_0100,
-        0x7A79_7877,
-        "",
-        "",
-    ),
-    (64, 3, 0, 1, 0xFFFF_FFF7, 0x2_0100, 0x7A79_7877, "", ""),
-    (64, 3, 0, 0, 0xFFFF_FFF7, 0x2_0100, 0x7A79_7877, "", ""),
-    // brk
-    (214, 0, 0, 0, 0x2_0100, 0x2_0100, 0x7A79_7877, "", ""),
-    (214, 0x2_0007, 0, 0, 0x2_0100, 0x2_0100, 0x7A79_7877, "", ""),
-    (214, 0x2_0008, 0, 0, 0x2_0008, 0x2_0008, 0x7A79_7877, "", ""),
-    (214, 0x2_0222, 0, 0, 0x2_0222, 0x2_0222, 0x7A79_7877, "", ""),
-    (214, 0x2_0400, 0, 0, 0x2_0400, 0x2_0400, 0x7A79_7877, "", ""),
-    (214, 0x2_0401, 0, 0, 0x2_0100, 0x2_0100, 0x7A79_7877, "", ""),
-    // unknown calls
-    (0, 0, 0, 0, 0xFFFF_FFDA, 0x2_0100, 0x7A79_7877, "", ""),
-    (80, 0, 0, 0, 0xFFFF_FFDA, 0x2_0100, 0x7A79_7877, "", ""),
-    (
-        65_599,
-        0,
-        0x2_0000,
-        3,
-        0xFFFF_FFDA,
-        0x2_0100,
-        0x7A79_7877,
-        "",
-        "",
-    ),
+/// -9, EBADF.
+const BAD_DESCRIPTOR: u32 = u32::MAX - 8;
+
+/// -14, EFAULT.
+const BAD_ADDRESS: u32 = u32::MAX - 13;
+
+/// -38, ENOSYS.
+const UNKNOWN_CALL: u32 = u32::MAX - 37;
+
+/// The word at 0x20000 before a call.
+const WXYZ: u32 = 0x7A797877;
+
+/// The word at 0x20000 with three bytes of the input over it.
+const ABCZ: u32 = 0x7A636261;
+
+/// The word at 0x20000 with four bytes of the input over it.
+const ABCD: u32 = 0x64636261;
+
+/// What a call leaves: its answer, the break, the word at 0x20000, and what went to the output and to the errors.
+#[derive(Drop)]
+struct Left {
+    answer: u32,
+    brk: u32,
+    word: u32,
+    out: &'static str,
+    err: &'static str,
+}
+
+/// What a call leaves that answers 0 and changes nothing.
+const UNCHANGED: Left = Left {
+    answer: 0,
+    brk: HEAP.now,
+    word: WXYZ,
+    out: "",
+    err: "",
+};
+
+/// Makes a call with the input "abcdef", which is to return and to leave this.
+fn assert_leaves(
+    rt: &impl Abort,
+    alloc: Global,
+    row: usize,
+    (number, a0, a1, a2): (u32, u32, u32, u32),
+    left: &Left,
+) -> Result<(), Fail> {
+    let (mut regs, mut bus, mut heap) = (regs_of(number, a0, a1, a2), small_bus(alloc)?, HEAP);
+    let mut input = MemSource::new(b"abcdef".to_vec(alloc)?, Vec::new(alloc));
+    let mut out = MemSink::new(alloc, 64, Vec::new(alloc))?;
+    let mut err = MemSink::new(alloc, 64, Vec::new(alloc))?;
+    let called = call(
+        &mut regs, &mut bus, &mut heap, false, &mut input, &mut out, &mut err,
+    );
+    assert_eq!(rt; called, Ok(Called::Returned), "row {row}");
+    assert_eq!(rt; regs.get(Reg::of(10)), left.answer, "row {row}");
+    assert_eq!(rt; heap.now, left.brk, "row {row}");
+    assert_eq!(rt; bus.load(0x20000, 4), Ok(left.word), "row {row}");
+    assert_eq!(rt; out.held(), left.out.as_bytes(), "row {row}");
+    assert_eq!(rt; err.held(), left.err.as_bytes(), "row {row}");
+    Ok(())
+}
+
+/// A read's descriptor, buffer and count, its answer, and the word at 0x20000 after it.
+static READS: [((u32, u32, u32), u32, u32); 12] = [
+    ((0, 0x20000, 3), 3, ABCZ),
+    ((0, 0x20000, 6), 6, ABCD),
+    ((0, 0x20000, 1024), 6, ABCD),
+    ((0, 0x20000, 1025), BAD_ADDRESS, WXYZ),
+    ((0, 0x20006, 4), 4, WXYZ),
+    ((0, 0x30000, 1), BAD_ADDRESS, WXYZ),
+    ((0, 0x40000, 4), 4, WXYZ),
+    ((0, 0xFFFFFFFF, 2), BAD_ADDRESS, WXYZ),
+    ((0, 0, 0), 0, WXYZ),
+    ((1, 0x20000, 3), BAD_DESCRIPTOR, WXYZ),
+    ((1, 0, 1), BAD_DESCRIPTOR, WXYZ),
+    ((1, 0, 0), BAD_DESCRIPTOR, WXYZ),
 ];
 
 #[test]
-fn calls_answer_by_their_numbers_and_arguments(rt: HostRuntime) -> Result<(), Fail> {
-    let alloc = rt.alloc();
-    for (k, (number, a0, a1, a2, answer, brk, word, output, error)) in ANSWERS
-        .into_iter()
-        .enumerate()
-    {
-        let (mut regs, mut bus, mut heap) = (regs_of(number, a0, a1, a2), small_bus(alloc)?, HEAP);
-        let mut input = MemSource::new(b"abcdef".to_vec(alloc)?, Vec::new(alloc));
-        let mut out = MemSink::new(alloc, 64, Vec::new(alloc))?;
-        let mut err = MemSink::new(alloc, 64, Vec::new(alloc))?;
-        let called = call(
-            &mut regs, &mut bus, &mut heap, false, &mut input, &mut out, &mut err,
-        );
-        assert_eq!(rt; called, Ok(Called::Returned), "row {k}");
-        assert_eq!(rt; regs.get(Reg::of(10)), answer, "row {k}");
-        assert_eq!(rt; heap.now, brk, "row {k}");
-        assert_eq!(rt; bus.load(0x2_0000, 4), Ok(word), "row {k}");
-        assert_eq!(rt; out.held(), output.as_bytes(), "row {k}");
-        assert_eq!(rt; err.held(), error.as_bytes(), "row {k}");
+fn reads_answer_their_count_and_store_it(rt: HostRuntime) -> Result<(), Fail> {
+    for (k, ((descriptor, buffer, count), answer, word)) in READS.into_iter().enumerate() {
+        let left = Left {
+            answer,
+            word,
+            ..UNCHANGED
+        };
+        assert_leaves(&rt, rt.alloc(), k, (63, descriptor, buffer, count), &left)?;
+    }
+    Ok(())
+}
+
+/// A write's descriptor, buffer and count, its answer, and what it gives to the output and to the errors.
+static WRITES: [((u32, u32, u32), u32, &str, &str); 10] = [
+    ((1, 0x20000, 4), 4, "wxyz", ""),
+    ((2, 0x20000, 3), 3, "", "wxy"),
+    ((1, 0x20003, 7), 7, "z\0\0\0\0\0\0", ""),
+    ((1, 0x30000, 4), 4, "\0\0\0\0", ""),
+    ((1, 0x30000, 5), BAD_ADDRESS, "", ""),
+    ((2, 0x40000, 1), BAD_ADDRESS, "", ""),
+    ((1, 0, 0), 0, "", ""),
+    ((0, 0x20000, 4), BAD_DESCRIPTOR, "", ""),
+    ((3, 0, 1), BAD_DESCRIPTOR, "", ""),
+    ((3, 0, 0), BAD_DESCRIPTOR, "", ""),
+];
+
+#[test]
+fn writes_answer_their_count_and_give_it_to_their_sink(rt: HostRuntime) -> Result<(), Fail> {
+    for (k, ((descriptor, buffer, count), answer, out, err)) in WRITES.into_iter().enumerate() {
+        let left = Left {
+            answer,
+            out,
+            err,
+            ..UNCHANGED
+        };
+        assert_leaves(&rt, rt.alloc(), k, (64, descriptor, buffer, count), &left)?;
+    }
+    Ok(())
+}
+
+/// The address to which the break is to move, and where it then is.
+static BREAKS: [(u32, u32); 6] = [
+    (0, 0x20100),
+    (0x20007, 0x20100),
+    (0x20008, 0x20008),
+    (0x20222, 0x20222),
+    (0x20400, 0x20400),
+    (0x20401, 0x20100),
+];
+
+#[test]
+fn the_break_moves_in_the_heap_and_is_the_answer(rt: HostRuntime) -> Result<(), Fail> {
+    for (k, (address, brk)) in BREAKS.into_iter().enumerate() {
+        let left = Left {
+            answer: brk,
+            brk,
+            ..UNCHANGED
+        };
+        assert_leaves(&rt, rt.alloc(), k, (214, address, 0, 0), &left)?;
+    }
+    Ok(())
+}
+
+/// Numbers that no call has, with arguments.
+static UNKNOWN: [(u32, u32, u32, u32); 3] = [(0, 0, 0, 0), (80, 0, 0, 0), (65599, 0, 0x20000, 3)];
+
+#[test]
+fn unknown_calls_are_refused(rt: HostRuntime) -> Result<(), Fail> {
+    for (k, unknown) in UNKNOWN.into_iter().enumerate() {
+        let left = Left {
+            answer: UNKNOWN_CALL,
+            ..UNCHANGED
+        };
+        assert_leaves(&rt, rt.alloc(), k, unknown, &left)?;
     }
     Ok(())
 }
 
 /// A call's number and arguments, and what it writes to the errors where calls are told.
-static LINES: [(u32, u32, u32, u32, &str); 5] = [
+static LINES: [((u32, u32, u32, u32), &str); 5] = [
     (
-        63,
-        0,
-        0x2_0000,
-        16,
+        (63, 0, 0x20000, 16),
         "call 63 00000000 00020000 00000010 = 00000003\n",
     ),
     (
-        64,
-        1,
-        0x2_0000,
-        3,
+        (64, 1, 0x20000, 3),
         "call 64 00000001 00020000 00000003 = 00000003\n",
     ),
     (
-        64,
-        2,
-        0x2_0000,
-        3,
+        (64, 2, 0x20000, 3),
         "wxycall 64 00000002 00020000 00000003 = 00000003\n",
     ),
     (
-        93,
-        0xFFFF_FFFF,
-        0x2_0000,
-        3,
+        (93, 0xFFFFFFFF, 0x20000, 3),
         "call 93 ffffffff 00020000 00000003\n",
     ),
     (
-        4_294_967_295,
-        1,
-        2,
-        3,
+        (4294967295, 1, 2, 3),
         "call 4294967295 00000001 00000002 00000003 = ffffffda\n",
     ),
 ];
@@ -243,7 +230,7 @@ static LINES: [(u32, u32, u32, u32, &str); 5] = [
 #[test]
 fn calls_are_told_after_what_they_write(rt: HostRuntime) -> Result<(), Fail> {
     let alloc = rt.alloc();
-    for (k, (number, a0, a1, a2, line)) in LINES.into_iter().enumerate() {
+    for (k, ((number, a0, a1, a2), line)) in LINES.into_iter().enumerate() {
         let (mut regs, mut bus, mut heap) = (regs_of(number, a0, a1, a2), small_bus(alloc)?, HEAP);
         let mut input = MemSource::new(b"abc".to_vec(alloc)?, Vec::new(alloc));
         let mut out = MemSink::new(alloc, 64, Vec::new(alloc))?;
@@ -258,108 +245,88 @@ fn calls_are_told_after_what_they_write(rt: HostRuntime) -> Result<(), Fail> {
     Ok(())
 }
 
-/// A call's number and arguments, the calls that fail of the input, the output and the errors, 0 for none, and then the fault, the
-/// word at 0x20000, and what the output and the errors hold. The break stays.
-static FAILURES: [(
-    u32,
-    u32,
-    u32,
-    u32,
-    u32,
-    u32,
-    u32,
-    CallFault,
-    u32,
-    &str,
-    &str,
-); 5] = [
-    (
-        63,
-        0,
-        0x2_0000,
-        3,
-        1,
-        0,
-        0,
-        CallFault::SourceFault,
-        0x7A79_7877,
-        "",
-        "",
-    ),
-    (
-        63,
-        0,
-        0x2_0000,
-        7,
-        2,
-        0,
-        0,
-        CallFault::SourceFault,
-        0x6463_6261,
-        "",
-        "",
-    ),
-    (
-        63,
-        0,
-        0x2_0000,
-        6,
-        0,
-        0,
-        1,
-        CallFault::SinkFault,
-        0x6463_6261,
-        "",
-        "",
-    ),
-    (
-        64,
-        1,
-        0x2_0000,
-        12,
-        0,
-        2,
-        0,
-        CallFault::SinkFault,
-        0x7A79_7877,
-        "wxyz\0\0\0\0",
-        "",
-    ),
-    (
-        64,
-        2,
-        0x2_0000,
-        8,
-        0,
-        0,
-        2,
-        CallFault::SinkFault,
-        0x7A79_7877,
-        "",
-        "wxyz\0\0\0\0",
-    ),
+/// A call's number and arguments, the calls that fail of the input, the output and the errors, 0 for none, and then the fault,
+/// the word at 0x20000, and what the output and the errors hold. The break stays.
+#[derive(Drop)]
+struct Failure {
+    call: (u32, u32, u32, u32),
+    input_fails: u32,
+    out_fails: u32,
+    err_fails: u32,
+    fault: CallFault,
+    word: u32,
+    out: &'static str,
+    err: &'static str,
+}
+
+/// What a failure says where it says nothing else: no failing call, and nothing stored or written.
+const QUIET: Failure = Failure {
+    call: (0, 0, 0, 0),
+    input_fails: 0,
+    out_fails: 0,
+    err_fails: 0,
+    fault: CallFault::SinkFault,
+    word: WXYZ,
+    out: "",
+    err: "",
+};
+
+static FAILURES: [Failure; 5] = [
+    Failure {
+        call: (63, 0, 0x20000, 3),
+        input_fails: 1,
+        fault: CallFault::SourceFault,
+        ..QUIET
+    },
+    Failure {
+        call: (63, 0, 0x20000, 7),
+        input_fails: 2,
+        fault: CallFault::SourceFault,
+        word: ABCD,
+        ..QUIET
+    },
+    Failure {
+        call: (63, 0, 0x20000, 6),
+        err_fails: 1,
+        fault: CallFault::SinkFault,
+        word: ABCD,
+        ..QUIET
+    },
+    Failure {
+        call: (64, 1, 0x20000, 12),
+        out_fails: 2,
+        fault: CallFault::SinkFault,
+        out: "wxyz\0\0\0\0",
+        ..QUIET
+    },
+    Failure {
+        call: (64, 2, 0x20000, 8),
+        err_fails: 2,
+        fault: CallFault::SinkFault,
+        err: "wxyz\0\0\0\0",
+        ..QUIET
+    },
 ];
 
 #[test]
 fn failed_devices_leave_a_prefix_a0_and_the_break(rt: HostRuntime) -> Result<(), Fail> {
     let alloc = rt.alloc();
-    for (k, (number, a0, a1, a2, reads, outs, errs, fault, word, output, error)) in FAILURES
-        .into_iter()
-        .enumerate()
-    {
+    for (k, failure) in FAILURES.iter().enumerate() {
+        let (number, a0, a1, a2) = failure.call;
         let (mut regs, mut bus, mut heap) = (regs_of(number, a0, a1, a2), small_bus(alloc)?, HEAP);
-        let mut input = MemSource::new(b"abcdef".to_vec(alloc)?, [reads].to_vec(alloc)?);
-        let mut out = MemSink::new(alloc, 64, [outs].to_vec(alloc)?)?;
-        let mut err = MemSink::new(alloc, 64, [errs].to_vec(alloc)?)?;
+        let input_fails = [failure.input_fails].to_vec(alloc)?;
+        let mut input = MemSource::new(b"abcdef".to_vec(alloc)?, input_fails);
+        let mut out = MemSink::new(alloc, 64, [failure.out_fails].to_vec(alloc)?)?;
+        let mut err = MemSink::new(alloc, 64, [failure.err_fails].to_vec(alloc)?)?;
         let called = call(
             &mut regs, &mut bus, &mut heap, true, &mut input, &mut out, &mut err,
         );
-        assert_eq!(rt; called, Err(fault), "row {k}");
+        assert_eq!(rt; called, Err(failure.fault), "row {k}");
         assert_eq!(rt; regs.get(Reg::of(10)), a0, "row {k}");
         assert_eq!(rt; heap, HEAP, "row {k}");
-        assert_eq!(rt; bus.load(0x2_0000, 4), Ok(word), "row {k}");
-        assert_eq!(rt; out.held(), output.as_bytes(), "row {k}");
-        assert_eq!(rt; err.held(), error.as_bytes(), "row {k}");
+        assert_eq!(rt; bus.load(0x20000, 4), Ok(failure.word), "row {k}");
+        assert_eq!(rt; out.held(), failure.out.as_bytes(), "row {k}");
+        assert_eq!(rt; err.held(), failure.err.as_bytes(), "row {k}");
     }
     Ok(())
 }
@@ -401,7 +368,7 @@ fn reads_go_on_until_the_count_or_the_end(rt: HostRuntime) -> Result<(), Fail> {
         (0, 1, 0),
     ] {
         let (mut regs, mut bus, mut heap) = (
-            regs_of(63, 0, 0x2_0010, 1000),
+            regs_of(63, 0, 0x20010, 1000),
             small_bus(alloc)?,
             HEAP,
         );
@@ -420,7 +387,7 @@ fn reads_go_on_until_the_count_or_the_end(rt: HostRuntime) -> Result<(), Fail> {
             (read, regs.get(Reg::of(10))),
             (Ok(Called::Returned), count)
         );
-        let mut regs = regs_of(64, 1, 0x2_0010, count);
+        let mut regs = regs_of(64, 1, 0x20010, count);
         let written = call(
             &mut regs, &mut bus, &mut heap, false, &mut input, &mut out, &mut err,
         );
@@ -433,43 +400,83 @@ fn reads_go_on_until_the_count_or_the_end(rt: HostRuntime) -> Result<(), Fail> {
     Ok(())
 }
 
-/// A word, x10, x11 and x12, the address that is reserved, 0 for none, x17, and the address at which it would store into the text,
-/// 0 for none.
-static STORES: [(u32, u32, u32, u32, u32, u32, u32); 19] = [
+/// Where the instruction of a word would store into the text of the small bus.
+fn found(
+    alloc: Global,
+    word: u32,
+    mut regs: Regs,
+    reserved: Option<u32>,
+) -> Result<Option<u32>, Fail> {
+    regs.reserve(reserved);
+    let bus = small_bus(alloc)?;
+    Ok(text_store(&decode(word).unwrap_or(Instr::Fence), &regs, &bus))
+}
+
+/// A word, x10, and the address at which it would store into the text.
+static STORES: [(u32, u32, Option<u32>); 6] = [
     // sw, sh and sb of x11 at x10
-    (0x00B5_2023, 0x1_0000, 0, 0, 0, 0, 0x1_0000),
-    (0x00B5_2023, 0x1_0006, 0, 0, 0, 0, 0),
-    (0x00B5_1023, 0x1_0006, 0, 0, 0, 0, 0x1_0006),
-    (0x00B5_0023, 0x1_0008, 0, 0, 0, 0, 0),
-    (0x00B5_2023, 0x2_0000, 0, 0, 0, 0, 0),
-    // lr.w of x10; sc.w and amoadd.w of x11 at x10
-    (0x1005_252F, 0x1_0000, 0, 0, 0, 0, 0),
-    (0x18B5_252F, 0x1_0004, 0, 0, 0x1_0004, 0, 0x1_0004),
-    (0x18B5_252F, 0x1_0004, 0, 0, 0x1_0000, 0, 0),
-    (0x18B5_252F, 0x1_0004, 0, 0, 0, 0, 0),
-    (0x00B5_252F, 0x1_0004, 0, 0, 0, 0, 0x1_0004),
-    (0x00B5_252F, 0x1_0002, 0, 0, 0, 0, 0),
-    (0x00B5_252F, 0x2_0000, 0, 0, 0, 0, 0),
-    // ecall
-    (0x0000_0073, 0, 0x1_0004, 4, 0, 63, 0x1_0004),
-    (0x0000_0073, 0, 0x1_0006, 4, 0, 63, 0),
-    (0x0000_0073, 1, 0x1_0004, 4, 0, 63, 0),
-    (0x0000_0073, 0, 0x2_0000, 4, 0, 63, 0),
-    (0x0000_0073, 0, 0x1_0004, 4, 0, 64, 0),
-    (0x0000_0073, 0, 0x1_0004, 0, 0, 63, 0),
+    (0x00B52023, 0x10000, Some(0x10000)),
+    (0x00B52023, 0x10006, None),
+    (0x00B51023, 0x10006, Some(0x10006)),
+    (0x00B50023, 0x10008, None),
+    (0x00B52023, 0x20000, None),
     // lw of x10
-    (0x0005_2503, 0x1_0000, 0, 0, 0, 0, 0),
+    (0x00052503, 0x10000, None),
 ];
 
 #[test]
 fn stores_into_the_text_are_found(rt: HostRuntime) -> Result<(), Fail> {
-    let bus = small_bus(rt.alloc())?;
-    for (k, (word, x10, x11, x12, reserved, x17, found)) in STORES.into_iter().enumerate() {
-        let mut regs = regs_of(x17, x10, x11, x12);
-        regs.reserve(Some(reserved).filter(|a| *a != 0));
-        let instruction = decode(word).unwrap_or(Instr::Fence);
-        let address = text_store(&instruction, &regs, &bus);
-        assert_eq!(rt; address.unwrap_or(0), found, "row {k}");
+    for (k, (word, x10, address)) in STORES.into_iter().enumerate() {
+        let regs = regs_of(0, x10, 0, 0);
+        assert_eq!(rt; found(rt.alloc(), word, regs, None)?, address, "row {k}");
+    }
+    Ok(())
+}
+
+/// A word, x10, the address that is reserved, and the address at which it would store into the text.
+static ATOMICS: [(u32, u32, Option<u32>, Option<u32>); 7] = [
+    // lr.w of x10
+    (0x1005252F, 0x10000, None, None),
+    // sc.w of x11 at x10
+    (0x18B5252F, 0x10004, Some(0x10004), Some(0x10004)),
+    (0x18B5252F, 0x10004, Some(0x10000), None),
+    (0x18B5252F, 0x10004, None, None),
+    // amoadd.w of x11 at x10
+    (0x00B5252F, 0x10004, None, Some(0x10004)),
+    (0x00B5252F, 0x10002, None, None),
+    (0x00B5252F, 0x20000, None, None),
+];
+
+#[test]
+fn atomic_stores_into_the_text_are_found(rt: HostRuntime) -> Result<(), Fail> {
+    for (k, (word, x10, reserved, address)) in ATOMICS.into_iter().enumerate() {
+        let regs = regs_of(0, x10, 0, 0);
+        assert_eq!(rt;
+            found(rt.alloc(), word, regs, reserved)?,
+            address,
+            "row {k}"
+        );
+    }
+    Ok(())
+}
+
+const ECALL: u32 = 0x00000073;
+
+/// A call's number and arguments, and the address at which its ecall would store into the text.
+static CALLS: [((u32, u32, u32, u32), Option<u32>); 6] = [
+    ((63, 0, 0x10004, 4), Some(0x10004)),
+    ((63, 0, 0x10006, 4), None),
+    ((63, 1, 0x10004, 4), None),
+    ((63, 0, 0x20000, 4), None),
+    ((64, 0, 0x10004, 4), None),
+    ((63, 0, 0x10004, 0), None),
+];
+
+#[test]
+fn reads_into_the_text_are_found(rt: HostRuntime) -> Result<(), Fail> {
+    for (k, ((number, a0, a1, a2), address)) in CALLS.into_iter().enumerate() {
+        let regs = regs_of(number, a0, a1, a2);
+        assert_eq!(rt; found(rt.alloc(), ECALL, regs, None)?, address, "row {k}");
     }
     Ok(())
 }
