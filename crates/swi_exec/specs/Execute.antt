@@ -219,7 +219,7 @@ IsAligned done.Call = Unit
 IsAligned done.Break = Unit
 IsAligned (done.Fault kind a) = Unit
 
--- where the instruction has no next one, registers and memory are as they were
+-- where a call, a break or a fault comes after the instruction, registers and memory are as they were. Own rule
 abbrev pub StaysUnlessNext : Done → Registers → Registers → List AreaData → List AreaData → Type 0
 StaysUnlessNext (done.Next pc) regs regs' bus bus' = Unit
 StaysUnlessNext done.Call regs regs' bus bus' = (regs' ≡ regs) × (bus' ≡ bus)
