@@ -155,7 +155,7 @@ impl Flat {
             Appends (E.held err.old) (E.held err.new) (call_made self.old.machine left).error)) }
         ensures counted { OnOk result (self.new.machine.steps ≡ self.old.machine.steps + 1) }
         ensures unfailed { OnOk result (self.new.failed ≡ false) }
-        ensures stays { OnErr result (self.new ≡ record { machine = record self.old.machine { bus = self.new.machine.bus }; failed = true }) }
+        ensures stays { OnErr result (self.new ≡ stopped self.old.machine self.new.machine.bus) }
         ensures front { OnErr result ((k : ℕ) × (k ≤ room_of_call self.old.machine.regs self.old.machine.bus) ×
             ReadsInto self.old.machine.bus self.new.machine.bus (I.left input.old) (I.left input.new) (second_argument self.old.machine.regs) k) }
         ensures output_prefix { OnErr result (ForSome (I.left input.old) (λ left.
@@ -215,7 +215,7 @@ impl Flat {
             Appends (E.held err.old) (E.held err.new) (made self.old.machine left).error)) }
         ensures counted { OnOk result (self.new.machine.steps ≡ self.old.machine.steps + 1) }
         ensures unfailed { OnOk result (self.new.failed ≡ false) }
-        ensures stays { OnErr result (self.new ≡ record { machine = record self.old.machine { bus = self.new.machine.bus }; failed = true }) }
+        ensures stays { OnErr result (self.new ≡ stopped self.old.machine self.new.machine.bus) }
         ensures front { OnErr result ((k : ℕ) × (k ≤ room_of_call self.old.machine.regs self.old.machine.bus) ×
             ReadsInto self.old.machine.bus self.new.machine.bus (I.left input.old) (I.left input.new) (second_argument self.old.machine.regs) k) }
         ensures output_prefix { OnErr result (ForSome (I.left input.old) (λ left.
