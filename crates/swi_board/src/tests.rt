@@ -8,21 +8,15 @@ use super::*;
 use std::test::Fail;
 use swi_outside::{CacheRam, FaultRam, VecRam};
 
-const BASE: u32 = 0x0001_0000;
+const BASE: u32 = 0x10000;
 
-const STACK: u32 = 0x0012_1FC0;
+const STACK: u32 = 0x121FC0;
 
 /// li a7, 93; li a0, 7; ecall
-const SEVEN: [u32; 3] = [0x05D0_0893, 0x0070_0513, 0x0000_0073];
+const SEVEN: [u32; 3] = [0x05D00893, 0x00700513, 0x00000073];
 
 /// li t0, 3; 1: addi t0, t0, -1; bnez t0, 1b; li a7, 93; ecall
-const COUNT: [u32; 5] = [
-    0x0030_0293,
-    0xFFF2_8293,
-    0xFE02_9EE3,
-    0x05D0_0893,
-    0x0000_0073,
-];
+const COUNT: [u32; 5] = [0x00300293, 0xFFF28293, 0xFE029EE3, 0x05D00893, 0x00000073];
 
 /// The exit code, the steps, the pc, and x0, x2, x5, x10 and x17.
 type Left = (Option<u32>, u64, u32, [u32; 5]);
@@ -53,21 +47,13 @@ fn run_text<M: CacheRam>(words: &[u32], n: u64, ram: &mut M) -> Result<Left, Fir
 #[test]
 fn texts_run_through_one_slot_as_they_run_flat(rt: HostRuntime) -> Result<(), Fail> {
     let rows: [(&[u32], u64, Left); 7] = [
-        (
-            &SEVEN,
-            10,
-            (Some(7), 3, 0x0001_0008, [0, STACK, 0, 7, 0x5D]),
-        ),
-        (
-            &COUNT,
-            100,
-            (Some(0), 9, 0x0001_0010, [0, STACK, 0, 0, 0x5D]),
-        ),
-        (&COUNT, 9, (Some(0), 9, 0x0001_0010, [0, STACK, 0, 0, 0x5D])),
-        (&COUNT, 8, (None, 8, 0x0001_0010, [0, STACK, 0, 0, 0x5D])),
-        (&COUNT, 4, (None, 4, 0x0001_0008, [0, STACK, 1, 0, 0])),
+        (&SEVEN, 10, (Some(7), 3, 0x10008, [0, STACK, 0, 7, 0x5D])),
+        (&COUNT, 100, (Some(0), 9, 0x10010, [0, STACK, 0, 0, 0x5D])),
+        (&COUNT, 9, (Some(0), 9, 0x10010, [0, STACK, 0, 0, 0x5D])),
+        (&COUNT, 8, (None, 8, 0x10010, [0, STACK, 0, 0, 0x5D])),
+        (&COUNT, 4, (None, 4, 0x10008, [0, STACK, 1, 0, 0])),
         (&COUNT, 0, (None, 0, BASE, [0, STACK, 0, 0, 0])),
-        (&[0x0000_0073], 0, (None, 0, BASE, [0, STACK, 0, 0, 0])),
+        (&[0x00000073], 0, (None, 0, BASE, [0, STACK, 0, 0, 0])),
     ];
     for (words, n, left) in rows {
         assert!(rt; !words.is_empty() && words.len() <= 8 && n <= 100);
@@ -90,14 +76,14 @@ fn a_block_that_stands_is_not_copied_again(rt: HostRuntime) -> Result<(), Fail> 
 fn what_is_not_built_is_told_by_its_address(rt: HostRuntime) -> Result<(), Fail> {
     let rows: [(&[u32], u64, u32); 5] = [
         // the last word is no ECALL
-        (&[0x0000_0013], 9, 0x0001_0000),
+        (&[0x00000013], 9, 0x10000),
         // EBREAK
-        (&[0x0000_0013, 0x0010_0073, 0x0000_0073], 9, 0x0001_0004),
+        (&[0x00000013, 0x00100073, 0x00000073], 9, 0x10004),
         // a branch to the word before the text, and one behind its last word
-        (&[0xFE02_9EE3, 0x0000_0073], 9, 0x0001_0000),
-        (&[0x0002_9463, 0x0000_0073], 0, 0x0001_0000),
+        (&[0xFE029EE3, 0x00000073], 9, 0x10000),
+        (&[0x00029463, 0x00000073], 0, 0x10000),
         // a call with 0 in a7
-        (&[0x0000_0073], 1, 0x0001_0000),
+        (&[0x00000073], 1, 0x10000),
     ];
     for (words, n, address) in rows {
         assert!(rt; !words.is_empty() && words.len() <= 8 && n <= 100);

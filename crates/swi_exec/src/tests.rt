@@ -13,13 +13,13 @@ use swi_memory::{Bus, Layout, Segment};
 /// from 0x40000 on that can be written.
 fn bus_of_rows(alloc: Global) -> Option<Bus> {
     let segments = [
-        Segment::of(0x3_0000, 4, 4, Vec::new(alloc)),
-        Segment::of(0x4_0000, 2, 4, Vec::new(alloc)),
+        Segment::of(0x30000, 4, 4, Vec::new(alloc)),
+        Segment::of(0x40000, 2, 4, Vec::new(alloc)),
     ];
     let layout = Layout {
-        heap: 0x2_0000,
+        heap: 0x20000,
         heap_len: 16,
-        stack: 0x5_0000,
+        stack: 0x50000,
         stack_len: 0,
         sp: 0,
     };
@@ -516,27 +516,27 @@ static MEMORY: [(u32, u32, u32, u32, u32, u32, u32, u32); 46] = [
 /// A word, x1, and the fault.
 static FAULTS: [(u32, u32, FaultKind, u32); 16] = [
     // jal x3, +6; jalr x3, 2(x1); beq x1, x1, +6
-    (0x0060_01EF, 0, FaultKind::FetchMisaligned, 0x1_0006),
-    (0x0020_81E7, 0x1_0001, FaultKind::FetchMisaligned, 0x1_0002),
-    (0x0010_8363, 0, FaultKind::FetchMisaligned, 0x1_0006),
+    (0x006001EF, 0, FaultKind::FetchMisaligned, 0x10006),
+    (0x002081E7, 0x10001, FaultKind::FetchMisaligned, 0x10002),
+    (0x00108363, 0, FaultKind::FetchMisaligned, 0x10006),
     // lw x3, -4(x1); lw x3, 0(x1) across an end, of bytes that cannot be read, and past the last address
-    (0xFFC0_A183, 0, FaultKind::LoadAccess, 0xFFFF_FFFC),
-    (0x0000_A183, 0x2_000D, FaultKind::LoadAccess, 0x2_000D),
-    (0x0000_A183, 0x4_0000, FaultKind::LoadAccess, 0x4_0000),
-    (0x0000_A183, 0xFFFF_FFFE, FaultKind::LoadAccess, 0xFFFF_FFFE),
+    (0xFFC0A183, 0, FaultKind::LoadAccess, 0xFFFFFFFC),
+    (0x0000A183, 0x2000D, FaultKind::LoadAccess, 0x2000D),
+    (0x0000A183, 0x40000, FaultKind::LoadAccess, 0x40000),
+    (0x0000A183, 0xFFFFFFFE, FaultKind::LoadAccess, 0xFFFFFFFE),
     // sw x2, 0(x1) across an end, and to bytes that cannot be written
-    (0x0020_A023, 0x2_000D, FaultKind::StoreAccess, 0x2_000D),
-    (0x0020_A023, 0x3_0000, FaultKind::StoreAccess, 0x3_0000),
+    (0x0020A023, 0x2000D, FaultKind::StoreAccess, 0x2000D),
+    (0x0020A023, 0x30000, FaultKind::StoreAccess, 0x30000),
     // lr.w x3, (x1)
-    (0x1000_A1AF, 0x2_0002, FaultKind::LoadAccess, 0x2_0002),
-    (0x1000_A1AF, 0x4_0000, FaultKind::LoadAccess, 0x4_0000),
+    (0x1000A1AF, 0x20002, FaultKind::LoadAccess, 0x20002),
+    (0x1000A1AF, 0x40000, FaultKind::LoadAccess, 0x40000),
     // sc.w x3, x2, (x1)
-    (0x1820_A1AF, 0x2_0002, FaultKind::StoreAccess, 0x2_0002),
-    (0x1820_A1AF, 0x3_0000, FaultKind::StoreAccess, 0x3_0000),
+    (0x1820A1AF, 0x20002, FaultKind::StoreAccess, 0x20002),
+    (0x1820A1AF, 0x30000, FaultKind::StoreAccess, 0x30000),
     // amoadd.w x3, x2, (x1)
-    (0x0020_A1AF, 0x2_0002, FaultKind::StoreAccess, 0x2_0002),
-    (0x0020_A1AF, 0x3_0000, FaultKind::StoreAccess, 0x3_0000),
-    (0x0020_A1AF, 0x4_0000, FaultKind::StoreAccess, 0x4_0000),
+    (0x0020A1AF, 0x20002, FaultKind::StoreAccess, 0x20002),
+    (0x0020A1AF, 0x30000, FaultKind::StoreAccess, 0x30000),
+    (0x0020A1AF, 0x40000, FaultKind::StoreAccess, 0x40000),
 ];
 
 #[test]
@@ -544,8 +544,8 @@ fn values_are_those_of_a_riscv_processor(rt: HostRuntime) {
     let mut bus = bus_of_rows(rt.alloc()).expect(&rt, "no memory");
     for (k, (word, x1, x2, x3)) in VALUES.into_iter().enumerate() {
         let mut regs = regs_of(x1, x2);
-        let done = exec(&instr_of(word), 0x1_0000, &mut regs, &mut bus);
-        assert_eq!(rt; done, Done::Next(0x1_0004), "row {k}");
+        let done = exec(&instr_of(word), 0x10000, &mut regs, &mut bus);
+        assert_eq!(rt; done, Done::Next(0x10004), "row {k}");
         assert_eq!(rt; regs.get(Reg::of(3)), x3, "row {k}");
     }
 }
@@ -572,14 +572,14 @@ fn accesses_are_those_of_a_riscv_processor(rt: HostRuntime) {
     {
         let mut regs = regs_of(x1, x2);
         regs.reserve(Some(reserved).filter(|a| *a != 0));
-        assert!(rt; bus.store(0x2_0000, 4, 0x8CB4_A596).is_ok(), "row {k}");
-        assert!(rt; bus.store(0x2_0004, 4, 0x7F01_FE80).is_ok(), "row {k}");
-        let done = exec(&instr_of(word), 0x1_0000, &mut regs, &mut bus);
-        assert_eq!(rt; done, Done::Next(0x1_0004), "row {k}");
+        assert!(rt; bus.store(0x20000, 4, 0x8CB4A596).is_ok(), "row {k}");
+        assert!(rt; bus.store(0x20004, 4, 0x7F01FE80).is_ok(), "row {k}");
+        let done = exec(&instr_of(word), 0x10000, &mut regs, &mut bus);
+        assert_eq!(rt; done, Done::Next(0x10004), "row {k}");
         assert_eq!(rt; regs.get(Reg::of(2)), x2_then, "row {k}");
         assert_eq!(rt; regs.get(Reg::of(3)), x3_then, "row {k}");
-        assert_eq!(rt; bus.load(0x2_0000, 4), Ok(first), "row {k}");
-        assert_eq!(rt; bus.load(0x2_0004, 4), Ok(second), "row {k}");
+        assert_eq!(rt; bus.load(0x20000, 4), Ok(first), "row {k}");
+        assert_eq!(rt; bus.load(0x20004, 4), Ok(second), "row {k}");
     }
 }
 
@@ -588,12 +588,12 @@ fn a_fault_names_its_address_and_changes_nothing(rt: HostRuntime) {
     let mut bus = bus_of_rows(rt.alloc()).expect(&rt, "no memory");
     for (k, (word, x1, kind, a)) in FAULTS.into_iter().enumerate() {
         let mut regs = regs_of(x1, 7);
-        regs.reserve(Some(0x2_0000));
-        let done = exec(&instr_of(word), 0x1_0000, &mut regs, &mut bus);
+        regs.reserve(Some(0x20000));
+        let done = exec(&instr_of(word), 0x10000, &mut regs, &mut bus);
         assert_eq!(rt; done, Done::Fault(kind, a), "row {k}");
         assert_eq!(rt; regs.get(Reg::of(3)), 0x55, "row {k}");
-        assert_eq!(rt; regs.reserved(), Some(0x2_0000), "row {k}");
-        assert_eq!(rt; bus.load(0x2_000C, 4), Ok(0), "row {k}");
+        assert_eq!(rt; regs.reserved(), Some(0x20000), "row {k}");
+        assert_eq!(rt; bus.load(0x2000C, 4), Ok(0), "row {k}");
     }
 }
 
@@ -601,19 +601,13 @@ fn a_fault_names_its_address_and_changes_nothing(rt: HostRuntime) {
 #[test]
 fn a_reservation_lasts_until_the_next_sc(rt: HostRuntime) {
     let mut bus = bus_of_rows(rt.alloc()).expect(&rt, "no memory");
-    let mut regs = regs_of(0x2_0000, 7);
-    for word in [
-        0x1000_A1AF,
-        0x0000_A183,
-        0x0020_A023,
-        0x0020_A1AF,
-        0x1820_A1AF,
-    ] {
-        exec(&instr_of(word), 0x1_0000, &mut regs, &mut bus);
+    let mut regs = regs_of(0x20000, 7);
+    for word in [0x1000A1AF, 0x0000A183, 0x0020A023, 0x0020A1AF, 0x1820A1AF] {
+        exec(&instr_of(word), 0x10000, &mut regs, &mut bus);
     }
     assert_eq!(rt; regs.get(Reg::of(3)), 0);
-    assert_eq!(rt; bus.load(0x2_0000, 4), Ok(7));
-    exec(&instr_of(0x1820_A1AF), 0x1_0000, &mut regs, &mut bus);
+    assert_eq!(rt; bus.load(0x20000, 4), Ok(7));
+    exec(&instr_of(0x1820A1AF), 0x10000, &mut regs, &mut bus);
     assert_eq!(rt; regs.get(Reg::of(3)), 1);
 }
 
@@ -622,11 +616,11 @@ fn ecall_and_ebreak_are_left_to_the_caller(rt: HostRuntime) {
     let mut bus = bus_of_rows(rt.alloc()).expect(&rt, "no memory");
     let mut regs = regs_of(1, 2);
     assert_eq!(rt;
-        exec(&instr_of(0x0000_0073), 0x1_0000, &mut regs, &mut bus),
+        exec(&instr_of(0x00000073), 0x10000, &mut regs, &mut bus),
         Done::Call
     );
     assert_eq!(rt;
-        exec(&instr_of(0x0010_0073), 0x1_0000, &mut regs, &mut bus),
+        exec(&instr_of(0x00100073), 0x10000, &mut regs, &mut bus),
         Done::Break
     );
 }

@@ -6,8 +6,9 @@ ghost use Rattle.std.specs.Prelude.{◌≡◌, ◌<◌, ◌≤◌, false, length
 use super::*;
 use std::alloc::Global;
 use std::test::Fail;
-use swi_calls::{CallFault, End};
-use swi_exec::FaultKind;
+use swi_calls::CallFault;
+use swi_calls::End::{self, *};
+use swi_exec::FaultKind::*;
 use swi_outside::{MemSink, MemSource};
 use swi_program::{lay_out, one_text};
 
@@ -18,169 +19,106 @@ fn started(alloc: Global, words: &[u32], log: bool) -> Result<Flat, Fail>
     requires few { length words.now ≤ 64 }
     ensures { IfOk result (λ f. (f.machine.steps ≡ 0) × (f.failed ≡ false)) }
 {
-    let program = one_text(alloc, 0x1_0000, words)?;
+    let program = one_text(alloc, 0x10000, words)?;
     let Ok(layout) = lay_out(&program, 1 << 20, 1 << 16) else {
         return Err(Fail::from("no room"));
     };
     Ok(Flat::start(alloc, &program, &layout, log)?)
 }
 
+/// Exits with 7.
+const SEVEN: &[u32] = &[0x05D00893, 0x00700513, 0x00000073];
+
+/// Counts from 3 down to 0, and exits with 0.
+const COUNT: &[u32] = &[0x00300293, 0xFFF28293, 0xFE029EE3, 0x05D00893, 0x00000073];
+
+/// Jumps to an address beside the text.
+const AWAY: &[u32] = &[0x000202B7, 0x000280E7];
+
 /// Words, how many steps may be made, and then how the run ends, where pc stands, and how many steps were made.
 static RUNS: [(&[u32], u64, Option<End>, u32, u64); 17] = [
-    (
-        &[0x05D0_0893, 0x0070_0513, 0x0000_0073],
-        1_000_000_000,
-        Some(End::Exited(7)),
-        0x1_0008,
-        3,
-    ),
+    (SEVEN, 1_000_000_000, Some(Exited(7)), 0x10008, 3),
     // a loop: not begun, in its midst, and whole
-    (
-        &[
-            0x0030_0293,
-            0xFFF2_8293,
-            0xFE02_9EE3,
-            0x05D0_0893,
-            0x0000_0073,
-        ],
-        0,
-        None,
-        0x1_0000,
-        0,
-    ),
-    (
-        &[
-            0x0030_0293,
-            0xFFF2_8293,
-            0xFE02_9EE3,
-            0x05D0_0893,
-            0x0000_0073,
-        ],
-        4,
-        None,
-        0x1_0008,
-        4,
-    ),
-    (
-        &[
-            0x0030_0293,
-            0xFFF2_8293,
-            0xFE02_9EE3,
-            0x05D0_0893,
-            0x0000_0073,
-        ],
-        9,
-        Some(End::Exited(0)),
-        0x1_0010,
-        9,
-    ),
+    (COUNT, 0, None, 0x10000, 0),
+    (COUNT, 4, None, 0x10008, 4),
+    (COUNT, 9, Some(Exited(0)), 0x10010, 9),
     // a call of a routine, which overwrites its own return address
     (
         &[
-            0x0000_0097,
-            0x00C0_80E7,
-            0x0000_0000,
-            0x05D0_0893,
-            0x0000_8513,
-            0x0000_0073,
+            0x00000097, 0x00C080E7, 0x00000000, 0x05D00893, 0x00008513, 0x00000073,
         ],
         9,
-        Some(End::Exited(0x1_0008)),
-        0x1_0014,
+        Some(Exited(0x10008)),
+        0x10014,
         5,
     ),
     // a jump beside the text, before the fetch and after it
-    (&[0x0002_02B7, 0x0002_80E7], 2, None, 0x2_0000, 2),
-    (
-        &[0x0002_02B7, 0x0002_80E7],
-        3,
-        Some(End::Faulted(FaultKind::FetchAccess, 0x2_0000)),
-        0x2_0000,
-        3,
-    ),
+    (AWAY, 2, None, 0x20000, 2),
+    (AWAY, 3, Some(Faulted(FetchAccess, 0x20000)), 0x20000, 3),
     // a branch to an address that is no multiple of 4, taken and not taken
     (
-        &[0x0000_0363],
+        &[0x00000363],
         9,
-        Some(End::Faulted(FaultKind::FetchMisaligned, 0x1_0006)),
-        0x1_0000,
+        Some(Faulted(FetchMisaligned, 0x10006)),
+        0x10000,
         1,
     ),
     (
-        &[0x0000_1363, 0x05D0_0893, 0x0000_0073],
+        &[0x00001363, 0x05D00893, 0x00000073],
         9,
-        Some(End::Exited(0)),
-        0x1_0008,
+        Some(Exited(0)),
+        0x10008,
         3,
     ),
     // a store into the text, which can't be written
     (
-        &[0x0000_0297, 0x0002_A023],
+        &[0x00000297, 0x0002A023],
         9,
-        Some(End::Faulted(FaultKind::StoreAccess, 0x1_0000)),
-        0x1_0004,
+        Some(Faulted(StoreAccess, 0x10000)),
+        0x10004,
         2,
     ),
     // no instruction, and ebreak
-    (
-        &[0x0000_0000],
-        9,
-        Some(End::Faulted(FaultKind::Illegal, 0x1_0000)),
-        0x1_0000,
-        1,
-    ),
-    (
-        &[0x0010_0073],
-        9,
-        Some(End::Faulted(FaultKind::Break, 0x1_0000)),
-        0x1_0000,
-        1,
-    ),
+    (&[0], 9, Some(Faulted(Illegal, 0x10000)), 0x10000, 1),
+    (&[0x00100073], 9, Some(Faulted(Break, 0x10000)), 0x10000, 1),
     // brk(0), and call 80
     (
-        &[0x0D60_0893, 0x0000_0073, 0x05D0_0893, 0x0000_0073],
+        &[0x0D600893, 0x00000073, 0x05D00893, 0x00000073],
         9,
-        Some(End::Exited(0x1_0010)),
-        0x1_000C,
+        Some(Exited(0x10010)),
+        0x1000C,
         4,
     ),
     (
-        &[0x0500_0893, 0x0000_0073, 0x05D0_0893, 0x0000_0073],
+        &[0x05000893, 0x00000073, 0x05D00893, 0x00000073],
         9,
-        Some(End::Exited(4_294_967_258)),
-        0x1_000C,
+        Some(Exited(4_294_967_258)),
+        0x1000C,
         4,
     ),
     // lr.w, two sc.w of which the second fails, lw, add; then an amo on the text, and a misaligned lr.w
     (
         &[
-            0x0050_0613,
-            0x1001_252F,
-            0x18C1_25AF,
-            0x18C1_26AF,
-            0x00C1_252F,
-            0x0001_2503,
-            0x00D5_0533,
-            0x05D0_0893,
-            0x0000_0073,
+            0x00500613, 0x1001252F, 0x18C125AF, 0x18C126AF, 0x00C1252F, 0x00012503, 0x00D50533,
+            0x05D00893, 0x00000073,
         ],
         9,
-        Some(End::Exited(11)),
-        0x1_0020,
+        Some(Exited(11)),
+        0x10020,
         9,
     ),
     (
-        &[0x0000_0297, 0x08A2_A52F],
+        &[0x00000297, 0x08A2A52F],
         9,
-        Some(End::Faulted(FaultKind::StoreAccess, 0x1_0000)),
-        0x1_0004,
+        Some(Faulted(StoreAccess, 0x10000)),
+        0x10004,
         2,
     ),
     (
-        &[0x0021_0293, 0x1002_A52F],
+        &[0x00210293, 0x1002A52F],
         9,
-        Some(End::Faulted(FaultKind::LoadAccess, 0x12_1FC2)),
-        0x1_0004,
+        Some(Faulted(LoadAccess, 0x121FC2)),
+        0x10004,
         2,
     ),
 ];
@@ -207,18 +145,8 @@ fn programs_end_where_their_words_say(rt: HostRuntime) -> Result<(), Fail> {
 
 /// Reads up to 16 bytes of the input to the stack, writes them to the output, and exits with 0.
 static ECHO: [u32; 12] = [
-    0x03F0_0893,
-    0x0000_0513,
-    0x0001_0593,
-    0x0100_0613,
-    0x0000_0073,
-    0x0005_0613,
-    0x0010_0513,
-    0x0400_0893,
-    0x0000_0073,
-    0x0000_0513,
-    0x05D0_0893,
-    0x0000_0073,
+    0x03F00893, 0x00000513, 0x00010593, 0x01000613, 0x00000073, 0x00050613, 0x00100513, 0x04000893,
+    0x00000073, 0x00000513, 0x05D00893, 0x00000073,
 ];
 
 /// The input, the calls that fail of the input and of the output, 0 for none, and then the answer, the output, and how many
@@ -256,18 +184,8 @@ fn echo_writes_its_input_or_fails_with_its_devices(rt: HostRuntime) -> Result<()
 
 /// The same of up to 1000 bytes.
 static LARGE_ECHO: [u32; 12] = [
-    0x03F0_0893,
-    0x0000_0513,
-    0xC001_0593,
-    0x3E80_0613,
-    0x0000_0073,
-    0x0005_0613,
-    0x0010_0513,
-    0x0400_0893,
-    0x0000_0073,
-    0x0000_0513,
-    0x05D0_0893,
-    0x0000_0073,
+    0x03F00893, 0x00000513, 0xC0010593, 0x3E800613, 0x00000073, 0x00050613, 0x00100513, 0x04000893,
+    0x00000073, 0x00000513, 0x05D00893, 0x00000073,
 ];
 
 #[test]
@@ -283,7 +201,7 @@ fn a_large_echo_takes_its_count_or_what_there_is(rt: HostRuntime) -> Result<(), 
         let mut out = MemSink::new(alloc, 1000, Vec::new(alloc))?;
         let mut err = MemSink::new(alloc, 0, Vec::new(alloc))?;
         assert_eq!(rt; flat.run(100, &mut input, &mut out, &mut err), Ok(()));
-        assert_eq!(rt; (flat.ending(), flat.steps()), (Some(End::Exited(0)), 12));
+        assert_eq!(rt; (flat.ending(), flat.steps()), (Some(Exited(0)), 12));
         assert_eq!(rt; Some(out.held()), bytes.get(..count));
     }
     Ok(())
@@ -301,6 +219,6 @@ fn calls_are_told_where_the_run_asks_for_it(rt: HostRuntime) -> Result<(), Fail>
                 call 64 00000001 00121fc0 00000003 = 00000003\n\
                 call 93 00000000 00121fc0 00000003\n";
     assert_eq!(rt; err.held(), told.as_bytes());
-    assert_eq!(rt; flat.regs().get(swi_isa::Reg::of(2)), 0x12_1FC0);
+    assert_eq!(rt; flat.regs().get(swi_isa::Reg::of(2)), 0x121FC0);
     Ok(())
 }

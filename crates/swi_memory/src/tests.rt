@@ -18,9 +18,9 @@ fn memory(alloc: Global) -> Result<Bus, Fail> {
     let layout = Layout {
         heap: 0x3000,
         heap_len: 0,
-        stack: 0xFFFF_FFF0,
+        stack: 0xFFFFFFF0,
         stack_len: 16,
-        sp: 0xFFFF_FFB0,
+        sp: 0xFFFFFFB0,
     };
     Ok(Bus::new(alloc, &segments, &layout)?)
 }
@@ -48,20 +48,20 @@ fn loads_are_little_endian_and_cross_adjoining_segments_but_not_the_last_address
     let bus = memory(rt.alloc())?;
     for (a, k, want) in [
         (0x1002, 1, Some(0x01)),
-        (0x1004, 4, Some(0x0605_0403)),
+        (0x1004, 4, Some(0x06050403)),
         (0x100F, 2, Some(0x0F0E)),
-        (0x1010, 4, Some(0xA1A0_000F)),
+        (0x1010, 4, Some(0xA1A0000F)),
         (0x1011, 2, Some(0xA000)),
         (0x1013, 4, None),
         (0x1014, 2, Some(0)),
         (0x1001, 4, None),
         (0x2000, 1, None),
-        (0xFFFF_FFFC, 4, Some(0)),
-        (0xFFFF_FFFD, 4, None),
-        (0xFFFF_FFFF, 1, Some(0)),
-        (0xFFFF_FFFF, 2, None),
-        (0x0000_0000, 4, Some(0x7473_7271)),
-        (0x0000_0001, 4, None),
+        (0xFFFFFFFC, 4, Some(0)),
+        (0xFFFFFFFD, 4, None),
+        (0xFFFFFFFF, 1, Some(0)),
+        (0xFFFFFFFF, 2, None),
+        (0x00000000, 4, Some(0x74737271)),
+        (0x00000001, 4, None),
     ] {
         assert_eq!(rt; load(&bus, a, k), want, "at {a:x}, {k} bytes");
     }
@@ -74,36 +74,29 @@ fn stores_change_their_bytes_alone_and_a_refused_one_changes_nothing(
 ) -> Result<(), Fail> {
     let mut bus = memory(rt.alloc())?;
     for (a, k, v, accepted, then, want) in [
-        (0x1012, 4, 0x1122_3344, true, 0x1010, Some(0x3344_000F)),
-        (0x1013, 2, 0xFFFF_5566, true, 0x1012, Some(0x1155_6644)),
-        (0x1015, 1, 0x1_77, true, 0x1012, Some(0x7755_6644)),
-        (0x1011, 2, 0x8888, false, 0x1010, Some(0x6644_000F)),
-        (0x1014, 4, 0x9999_9999, false, 0x1012, Some(0x7755_6644)),
+        (0x1012, 4, 0x11223344, true, 0x1010, Some(0x3344000F)),
+        (0x1013, 2, 0xFFFF5566, true, 0x1012, Some(0x11556644)),
+        (0x1015, 1, 0x177, true, 0x1012, Some(0x77556644)),
+        (0x1011, 2, 0x8888, false, 0x1010, Some(0x6644000F)),
+        (0x1014, 4, 0x99999999, false, 0x1012, Some(0x77556644)),
         (
-            0xFFFF_FFFC,
+            0xFFFFFFFC,
             4,
-            0xAABB_CCDD,
+            0xAABBCCDD,
             true,
-            0xFFFF_FFFC,
-            Some(0xAABB_CCDD),
+            0xFFFFFFFC,
+            Some(0xAABBCCDD),
         ),
         (
-            0xFFFF_FFFE,
+            0xFFFFFFFE,
             4,
-            0x1111_1111,
+            0x11111111,
             false,
-            0xFFFF_FFFC,
-            Some(0xAABB_CCDD),
+            0xFFFFFFFC,
+            Some(0xAABBCCDD),
         ),
-        (
-            0xFFFF_FFFF,
-            2,
-            0x2222,
-            false,
-            0x0000_0000,
-            Some(0x7473_7271),
-        ),
-        (0x1004, 4, 0x3333_3333, false, 0x1004, Some(0x0605_0403)),
+        (0xFFFFFFFF, 2, 0x2222, false, 0x00000000, Some(0x74737271)),
+        (0x1004, 4, 0x33333333, false, 0x1004, Some(0x06050403)),
     ] {
         assert_eq!(rt; store(&mut bus, a, k, v), accepted, "at {a:x}, {k} bytes");
         assert_eq!(rt; load(&bus, then, 4), want, "after {a:x}, {k} bytes");
@@ -117,12 +110,12 @@ fn whole_words_of_the_file_are_fetched_and_nothing_else(rt: HostRuntime) -> Resu
     for (a, want) in [
         (0x1000, None),
         (0x1002, None),
-        (0x1004, Some(0x0605_0403)),
+        (0x1004, Some(0x06050403)),
         (0x1006, None),
-        (0x100C, Some(0x0E0D_0C0B)),
+        (0x100C, Some(0x0E0D0C0B)),
         (0x1010, None),
         (0x1014, None),
-        (0xFFFF_FFFC, None),
+        (0xFFFFFFFC, None),
     ] {
         assert_eq!(rt; bus.fetch(a), want, "at {a:x}");
     }
@@ -142,10 +135,10 @@ fn ranges_are_judged_byte_by_byte(rt: HostRuntime) -> Result<(), Fail> {
         (0x1012, 4, true, true, false),
         (0x1012, 5, false, false, false),
         (0x2000, 4, false, true, false),
-        (0xFFFF_FFF0, 16, true, true, false),
-        (0xFFFF_FFF0, 17, false, false, false),
-        (0x0000_0000, 0xFFFF_FFFF, false, false, true),
-        (0x0000_1008, 0, true, true, false),
+        (0xFFFFFFF0, 16, true, true, false),
+        (0xFFFFFFF0, 17, false, false, false),
+        (0x00000000, 0xFFFFFFFF, false, false, true),
+        (0x00001008, 0, true, true, false),
     ] {
         assert_eq!(rt; bus.readable(a, n), readable, "at {a:x}, {n} bytes");
         assert_eq!(rt; bus.writable(a, n), writable, "at {a:x}, {n} bytes");
@@ -159,8 +152,8 @@ fn pieces_end_with_their_segment_and_areas_stand_in_order(rt: HostRuntime) -> Re
     let mut bus = memory(rt.alloc())?;
     assert_eq!(rt; bus.copy_in(0x1012, b"xyz"), Ok(()));
     assert_eq!(rt; bus.copy_in(0x1014, b"xyz"), Err(Access));
-    assert_eq!(rt; bus.copy_in(0xFFFF_FFFF, b"xy"), Err(Access));
-    assert_eq!(rt; load(&bus, 0x1012, 4), Some(0x007A_7978));
+    assert_eq!(rt; bus.copy_in(0xFFFFFFFF, b"xy"), Err(Access));
+    assert_eq!(rt; load(&bus, 0x1012, 4), Some(0x007A7978));
     assert!(rt; bus.readable(0x1010, 6));
     assert_eq!(rt; bus.front(0x1010, 6), [15, 0].as_slice());
     assert!(rt; bus.readable(0x1012, 2));
@@ -171,7 +164,7 @@ fn pieces_end_with_their_segment_and_areas_stand_in_order(rt: HostRuntime) -> Re
         (1, 0x1002, 5, 16),
         (2, 0x1012, 6, 4),
         (3, 0x2000, 2, 4),
-        (4, 0xFFFF_FFF0, 6, 16),
+        (4, 0xFFFFFFF0, 6, 16),
     ] {
         if k < bus.areas() {
             let area = bus.area(k);

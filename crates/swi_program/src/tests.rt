@@ -6,100 +6,19 @@ use swi_memory::Layout;
 
 /// Three instructions in one segment, by hand from the ELF document.
 const PLAIN: [u32; 24] = [
-    0x464C_457F,
-    0x0001_0101,
-    0,
-    0,
-    0x00F3_0002,
-    1,
-    0x0001_0000,
-    52,
-    0,
-    0,
-    0x0020_0034,
-    1,
-    0,
-    1,
-    0x54,
-    0x0001_0000,
-    0x0001_0000,
-    12,
-    12,
-    5,
-    4,
-    0x05D0_0893,
-    0x0070_0513,
-    0x0000_0073,
+    0x464C457F, 0x00010101, 0, 0, 0x00F30002, 1, 0x00010000, 52, 0, 0, 0x00200034, 1, 0, 1, 0x54,
+    0x00010000, 0x00010000, 12, 12, 5, 4, 0x05D00893, 0x00700513, 0x00000073,
 ];
 
 /// Headers, code and a table in one segment, data with a zeroed tail in another, and two headers of
 /// types that are read past.
 const MIXED: [u32; 65] = [
-    0x464C_457F,
-    0x0001_0101,
-    0,
-    0,
-    0x00F3_0002,
-    1,
-    0x0001_00B4,
-    52,
-    0,
-    0,
-    0x0020_0034,
-    4,
-    0,
-    0x7000_0003,
-    0,
-    0,
-    0,
-    0,
-    0,
-    4,
-    1,
-    1,
-    0,
-    0x0001_0000,
-    0x0001_0000,
-    256,
-    256,
-    5,
-    4096,
-    1,
-    256,
-    0x0001_1100,
-    0x0001_1100,
-    4,
-    64,
-    6,
-    4096,
-    0x6474_E551,
-    0,
-    0,
-    0,
-    0,
-    0,
-    6,
-    16,
-    0x0040_0313,
-    0x0001_02B7,
-    0x0062_82B3,
-    0x0F42_A283,
-    0x0002_8067,
-    0x0010_0513,
-    0x05D0_0893,
-    0x0000_0073,
-    0x0010_0513,
-    0x0001_05B7,
-    0x0FC5_8593,
-    0x0030_0613,
-    0x0400_0893,
-    0x0000_0073,
-    0x0000_0513,
-    0xFDDF_F06F,
-    0x0001_00C8,
-    0x0001_00D4,
-    0x000A_6968,
-    1,
+    0x464C457F, 0x00010101, 0, 0, 0x00F30002, 1, 0x000100B4, 52, 0, 0, 0x00200034, 4, 0,
+    0x70000003, 0, 0, 0, 0, 0, 4, 1, 1, 0, 0x00010000, 0x00010000, 256, 256, 5, 4096, 1, 256,
+    0x00011100, 0x00011100, 4, 64, 6, 4096, 0x6474E551, 0, 0, 0, 0, 0, 6, 16, 0x00400313,
+    0x000102B7, 0x006282B3, 0x0F42A283, 0x00028067, 0x00100513, 0x05D00893, 0x00000073, 0x00100513,
+    0x000105B7, 0x0FC58593, 0x00300613, 0x04000893, 0x00000073, 0x00000513, 0xFDDFF06F, 0x000100C8,
+    0x000100D4, 0x000A6968, 1,
 ];
 
 fn file_of(alloc: Global, words: &[u32]) -> Result<Vec<u8>, Fail> {
@@ -153,13 +72,13 @@ fn text_said(alloc: Global, p: &Program) -> Result<(u32, Vec<u32>), Fail> {
 fn program_of_a_file_has_its_segments_and_text(rt: HostRuntime) -> Result<(), Fail> {
     let alloc = rt.alloc();
     let p = program(alloc, &MIXED)?.expect(&rt, "accepted");
-    assert_eq!(rt; (p.entry(), p.flags()), (0x0001_00B4, 0));
+    assert_eq!(rt; (p.entry(), p.flags()), (0x000100B4, 0));
     assert_eq!(rt;
         segments_said(alloc, &p)?.as_slice(),
-        [(0x0001_0000, 5, 256, 256), (0x0001_1100, 6, 64, 4)].as_slice()
+        [(0x00010000, 5, 256, 256), (0x00011100, 6, 64, 4)].as_slice()
     );
     let (base, words) = text_said(alloc, &p)?;
-    assert_eq!(rt; base, 0x0001_0000);
+    assert_eq!(rt; base, 0x00010000);
     assert_eq!(rt; words.as_slice(), &MIXED[..64]);
     Ok(())
 }
@@ -168,7 +87,7 @@ fn program_of_a_file_has_its_segments_and_text(rt: HostRuntime) -> Result<(), Fa
 fn words_give_the_program_of_their_file(rt: HostRuntime) -> Result<(), Fail> {
     let alloc = rt.alloc();
     let filed = program(alloc, &PLAIN)?.expect(&rt, "accepted");
-    let made = one_text(alloc, 0x0001_0000, &[0x05D0_0893, 0x0070_0513, 0x0000_0073]).expect(
+    let made = one_text(alloc, 0x00010000, &[0x05D00893, 0x00700513, 0x00000073]).expect(
         &rt, "memory",
     );
     assert_eq!(rt;
@@ -181,7 +100,7 @@ fn words_give_the_program_of_their_file(rt: HostRuntime) -> Result<(), Fail> {
     );
     assert_eq!(rt;
         text_said(alloc, &made)?.1.as_slice(),
-        [0x05D0_0893, 0x0070_0513, 0x0000_0073].as_slice()
+        [0x05D00893, 0x00700513, 0x00000073].as_slice()
     );
     assert_eq!(rt;
         text_said(alloc, &made)?.1.as_slice(),
@@ -194,59 +113,59 @@ fn words_give_the_program_of_their_file(rt: HostRuntime) -> Result<(), Fail> {
 fn layout_leaves_room_or_says_where_it_ends(rt: HostRuntime) -> Result<(), Fail> {
     let table = [
         (
-            0x0001_0000,
+            0x00010000,
             1_048_576,
             65_536,
             Ok(Layout {
-                heap: 0x0001_000C,
+                heap: 0x0001000C,
                 heap_len: 1_048_576,
-                stack: 0x0011_2000,
+                stack: 0x00112000,
                 stack_len: 65_536,
-                sp: 0x0012_1FC0,
+                sp: 0x00121FC0,
             }),
         ),
         (
-            0xFFFF_0000,
+            0xFFFF0000,
             1_048_576,
             65_536,
             Err(Room { end: 4_296_024_064 }),
         ),
         (
-            0xFFFF_0000,
+            0xFFFF0000,
             0,
             4096,
             Ok(Layout {
-                heap: 0xFFFF_000C,
+                heap: 0xFFFF000C,
                 heap_len: 0,
-                stack: 0xFFFF_2000,
+                stack: 0xFFFF2000,
                 stack_len: 4096,
-                sp: 0xFFFF_2FC0,
+                sp: 0xFFFF2FC0,
             }),
         ),
         (
-            0xFFFF_0000,
+            0xFFFF0000,
             0,
             57_344,
             Ok(Layout {
-                heap: 0xFFFF_000C,
+                heap: 0xFFFF000C,
                 heap_len: 0,
-                stack: 0xFFFF_2000,
+                stack: 0xFFFF2000,
                 stack_len: 57_344,
-                sp: 0xFFFF_FFC0,
+                sp: 0xFFFFFFC0,
             }),
         ),
-        (0xFFFF_0000, 0, 57_360, Err(Room { end: 0x1_0000_0010 })),
-        (0xFFFF_FFF4, 0, 4096, Err(Room { end: 0x1_0000_2000 })),
+        (0xFFFF0000, 0, 57_360, Err(Room { end: 0x100000010 })),
+        (0xFFFFFFF4, 0, 4096, Err(Room { end: 0x100002000 })),
         (
-            0x0000_0000,
+            0x00000000,
             67_108_864,
             16_777_216,
             Ok(Layout {
                 heap: 12,
                 heap_len: 67_108_864,
-                stack: 0x0400_2000,
+                stack: 0x04002000,
                 stack_len: 16_777_216,
-                sp: 0x0500_1FC0,
+                sp: 0x05001FC0,
             }),
         ),
     ];
