@@ -167,6 +167,8 @@ pub(crate) fn run_cached<O: Sink, E: Sink, R: CacheRam>(
     requires ram { 8 ≤ length (R.state ram.old).words }
     ensures ending { IfOk result (λ e. (input : List ℕ) →
         e ≡ ending_of (flat_run options.now.steps (flat_start prepared.now.program prepared.now.layout options.now.calls input))) }
+    ensures taken { OnOk result ((input : List ℕ) →
+        (flat_run options.now.steps (flat_start prepared.now.program prepared.now.layout options.now.calls input)).input ≡ input) }
     ensures output { OnOk result ((input : List ℕ) → Appends (O.held out.old) (O.held out.new)
         (run_output options.now (flat_run options.now.steps (flat_start prepared.now.program prepared.now.layout options.now.calls input)))) }
     ensures error { OnOk result ((input : List ℕ) → Appends (E.held err.old) (E.held err.new)

@@ -1,7 +1,7 @@
 //! The top call.
 #![tactic(auto)]
 
-ghost use Rattle.std.specs.Prelude.{◌≡◌, ◌⊎◌, ◌≤◌, ℕ, List, Some, None, IfOk, IfErr, IsErrOf, length, map, string_bytes};
+ghost use Rattle.std.specs.Prelude.{◌≡◌, ◌⊎◌, ◌≤◌, ℕ, List, Some, None, IfOk, IfErr, OnOk, IsErrOf, length, map, string_bytes};
 ghost use Rattle.std.specs.Io.KnownBytes.{Appends};
 ghost use Rattle.swi_outside.specs.Causes.{HasCause, Rose};
 ghost use Rattle.swi_outside.specs.Shelf.{Same, get_of};
@@ -58,6 +58,8 @@ fn run_command<F: Shelf, I: Source, O: Sink, E: Sink, R: CacheRam>(
         IsChecked (request_refusal (request_of command.now) file) result }
     ensures ending { IfOk result (λ e. (file : List ℕ) (left : List ℕ) → IsTold (F.contents shelf.old) (name_of (request_of command.now)) file →
         I.left input.old ≡ Some left → e ≡ ending_of (run_of (options_of (request_of command.now)) file left)) }
+    ensures taken { OnOk result ((file : List ℕ) (left : List ℕ) → IsTold (F.contents shelf.old) (name_of (request_of command.now)) file →
+        I.left input.old ≡ Some left → I.left input.new ≡ Some (run_of (options_of (request_of command.now)) file left).input) }
     ensures writes { (file : List ℕ) (left : List ℕ) → IsTold (F.contents shelf.old) (name_of (request_of command.now)) file → I.left input.old ≡ Some left →
         Writes result (run_output (options_of (request_of command.now)) (run_of (options_of (request_of command.now)) file left))
         (run_error (run_of (options_of (request_of command.now)) file left)) (O.held out.old) (O.held out.new) (E.held err.old) (E.held err.new) }
@@ -91,8 +93,9 @@ fn run_command<F: Shelf, I: Source, O: Sink, E: Sink, R: CacheRam>(
 ///
 /// `plain FILE` runs the file's program on the flat machine, and leaves `ram` as it was. `cached FILE` runs it on the cached one, as
 /// far as that is built: through the first eight words of `ram`, which has at least eight; the words behind them keep their values.
-/// What the guest writes goes to `out` and `err`; with `--state` the state after the run goes to `out`, and with `--calls` a line for
-/// each system call to `err`. The line of an ending or of a refusal goes to `err` last.
+/// What the guest reads comes from `input`; where the run ended, no more was taken than it read. What the guest writes goes to `out`
+/// and `err`; with `--state` the state after the run goes to `out`, and with `--calls` a line for each system call to `err`. The line
+/// of an ending or of a refusal goes to `err` last.
 ///
 /// The refusals come in this order: `Usage` where the words are no command; `ShelfFault` where the file can't be read; `FileLong`,
 /// `Elf` and `Room` where the file isn't accepted; `NotBuilt` on the cached machine; a fault of the device that failed. `Memory`
@@ -119,9 +122,12 @@ pub fn top<F: Shelf, I: Source, O: Sink, E: Sink, R: CacheRam>(
     ensures checked { (request : Request) (file : List ℕ) → command_of (map (λ w. string_bytes w) words.now) ≡ Some request →
         IsTold (F.contents shelf.old) (name_of request) file → IsChecked (request_refusal request file) result }
 
-    // It ends as the flat machine's run of the file does, and writes what that run writes.
+    // It ends as the flat machine's run of the file does, takes the input that that run takes, and writes what it writes.
     ensures ending { IfOk result (λ e. (request : Request) (file : List ℕ) (left : List ℕ) → command_of (map (λ w. string_bytes w) words.now) ≡ Some request →
         IsTold (F.contents shelf.old) (name_of request) file → I.left input.old ≡ Some left → e ≡ ending_of (run_of (options_of request) file left)) }
+    ensures taken { OnOk result ((request : Request) (file : List ℕ) (left : List ℕ) → command_of (map (λ w. string_bytes w) words.now) ≡ Some request →
+        IsTold (F.contents shelf.old) (name_of request) file → I.left input.old ≡ Some left →
+        I.left input.new ≡ Some (run_of (options_of request) file left).input) }
     ensures writes { (request : Request) (file : List ℕ) (left : List ℕ) → command_of (map (λ w. string_bytes w) words.now) ≡ Some request →
         IsTold (F.contents shelf.old) (name_of request) file → I.left input.old ≡ Some left →
         Writes result (run_output (options_of request) (run_of (options_of request) file left)) (run_error (run_of (options_of request) file left))

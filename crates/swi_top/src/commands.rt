@@ -1,7 +1,7 @@
 //! The commands, over the devices that are handed in.
 #![tactic(auto)]
 
-ghost use Rattle.std.specs.Prelude.{◌≡◌, ◌≤◌, ℕ, List, Some, IfOk, IfErr, IsErrOf, length};
+ghost use Rattle.std.specs.Prelude.{◌≡◌, ◌≤◌, ℕ, List, Some, IfOk, IfErr, OnOk, IsErrOf, length};
 ghost use Rattle.swi_outside.specs.Shelf.{Same, get_of};
 ghost use Rattle.swi_command.specs.CommandLine.{HasLimitsInRange, IsInRange, request_of};
 ghost use Rattle.swi_board.specs.First.{KeepsBeyond};
@@ -31,6 +31,8 @@ fn plain<F: Shelf, I: Source, O: Sink, E: Sink>(
     ensures checked { (file : List ℕ) → IsTold (F.contents shelf.old) name.now file → IsChecked (file_refusal options.now file) result }
     ensures ending { IfOk result (λ e. (file : List ℕ) (left : List ℕ) → IsTold (F.contents shelf.old) name.now file → I.left input.old ≡ Some left →
         e ≡ ending_of (run_of options.now file left)) }
+    ensures taken { OnOk result ((file : List ℕ) (left : List ℕ) → IsTold (F.contents shelf.old) name.now file → I.left input.old ≡ Some left →
+        I.left input.new ≡ Some (run_of options.now file left).input) }
     ensures writes { (file : List ℕ) (left : List ℕ) → IsTold (F.contents shelf.old) name.now file → I.left input.old ≡ Some left →
         WritesRun result (run_output options.now (run_of options.now file left)) (run_of options.now file left).error
         (O.held out.old) (O.held out.new) (E.held err.old) (E.held err.new) }
@@ -70,6 +72,8 @@ fn cached<F: Shelf, O: Sink, E: Sink, R: CacheRam>(
         IsChecked (or_else (file_refusal options.now file) (cached_refusal options.now file)) result }
     ensures ending { IfOk result (λ e. (file : List ℕ) (left : List ℕ) → IsTold (F.contents shelf.old) name.now file →
         e ≡ ending_of (run_of options.now file left)) }
+    ensures taken { OnOk result ((file : List ℕ) (left : List ℕ) → IsTold (F.contents shelf.old) name.now file →
+        (run_of options.now file left).input ≡ left) }
     ensures writes { (file : List ℕ) (left : List ℕ) → IsTold (F.contents shelf.old) name.now file →
         WritesRun result (run_output options.now (run_of options.now file left)) (run_of options.now file left).error
         (O.held out.old) (O.held out.new) (E.held err.old) (E.held err.new) }
@@ -111,6 +115,8 @@ pub(crate) fn perform<F: Shelf, I: Source, O: Sink, E: Sink, R: CacheRam>(
         IsChecked (request_refusal (request_of command.now) file) result }
     ensures ending { IfOk result (λ e. (file : List ℕ) (left : List ℕ) → IsTold (F.contents shelf.old) (name_of (request_of command.now)) file →
         I.left input.old ≡ Some left → e ≡ ending_of (run_of (options_of (request_of command.now)) file left)) }
+    ensures taken { OnOk result ((file : List ℕ) (left : List ℕ) → IsTold (F.contents shelf.old) (name_of (request_of command.now)) file →
+        I.left input.old ≡ Some left → I.left input.new ≡ Some (run_of (options_of (request_of command.now)) file left).input) }
     ensures writes { (file : List ℕ) (left : List ℕ) → IsTold (F.contents shelf.old) (name_of (request_of command.now)) file → I.left input.old ≡ Some left →
         WritesRun result (run_output (options_of (request_of command.now)) (run_of (options_of (request_of command.now)) file left))
         (run_of (options_of (request_of command.now)) file left).error (O.held out.old) (O.held out.new) (E.held err.old) (E.held err.new) }

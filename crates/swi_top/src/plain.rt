@@ -59,6 +59,8 @@ pub(crate) fn run_plain<I: Source, O: Sink, E: Sink>(
     requires laid_out { IsLayoutOf prepared.now.program.segments prepared.now.layout }
     ensures ending { IfOk result (λ e. ForSome (I.left input.old) (λ left.
         e ≡ ending_of (flat_run options.now.steps (flat_start prepared.now.program prepared.now.layout options.now.calls left)))) }
+    ensures taken { OnOk result (ForSome (I.left input.old) (λ left. I.left input.new
+        ≡ Some (flat_run options.now.steps (flat_start prepared.now.program prepared.now.layout options.now.calls left)).input)) }
     ensures output { OnOk result (ForSome (I.left input.old) (λ left. Appends (O.held out.old) (O.held out.new)
         (run_output options.now (flat_run options.now.steps (flat_start prepared.now.program prepared.now.layout options.now.calls left))))) }
     ensures error { OnOk result (ForSome (I.left input.old) (λ left. Appends (E.held err.old) (E.held err.new)

@@ -1,4 +1,4 @@
-use Rattle.std.proofs.Common.{[]}
+use Rattle.std.proofs.Common.{[], refl}
 use Rattle.swi_calls.specs.Flat.{machine_of}
 use Rattle.swi_top.proofs.BuiltLemmas.{fetches_of}
 use Rattle.swi_top.proofs.cached.run_cached.Goals as goal
@@ -27,3 +27,7 @@ returns-in-Err-conclude-clause-output_prefix g c input =
 pub returns-in-Err-conclude-clause-error_prefix : goal.returns-in-Err-conclude-clause-error_prefix
 returns-in-Err-conclude-clause-error_prefix g c input =
     rw (c.in-Ok.ensures.run input) (c.in-Err-conclude.ensures.error_prefix input)
+
+pub returns-in-Ok-conclude-clause-taken : goal.returns-in-Ok-conclude-clause-taken
+returns-in-Ok-conclude-clause-taken g c input =
+    rw (c.in-Ok.ensures.run input) refl

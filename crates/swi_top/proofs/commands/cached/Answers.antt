@@ -23,3 +23,8 @@ returns-clause-early g c early =
     let is = c.in-Err-run_cached.is ∙ ap Err memory in
     let kept = c.run_cached.ensures.memory is in
     (kept.0, kept.1, kept.2)
+
+pub returns-in-Ok-run_cached-clause-taken : goal.returns-in-Ok-run_cached-clause-taken
+returns-in-Ok-run_cached-clause-taken g c file left told =
+    let is = prepared_run c.in-Ok.prepared c.args.options.now file left (c.in-Ok.ensures.prepared file told) in
+    rw is at (c.in-Ok-run_cached.ensures.taken left)

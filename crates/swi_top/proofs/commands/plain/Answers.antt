@@ -15,3 +15,8 @@ pub returns-clause-writes : goal.returns-clause-writes
 returns-clause-writes g c file left told known =
     let is = prepared_run c.in-Ok.prepared c.args.options.now file left (c.in-Ok.ensures.prepared file told) in
     (rw is at (c.in-Err-run_plain.ensures.output_prefix left known), rw is at (c.in-Err-run_plain.ensures.error_prefix left known))
+
+pub returns-in-Ok-run_plain-clause-taken : goal.returns-in-Ok-run_plain-clause-taken
+returns-in-Ok-run_plain-clause-taken g c file left told known =
+    let is = prepared_run c.in-Ok.prepared c.args.options.now file left (c.in-Ok.ensures.prepared file told) in
+    rw is at (c.in-Ok-run_plain.ensures.taken left known)

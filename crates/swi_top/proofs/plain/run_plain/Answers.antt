@@ -72,3 +72,8 @@ pub returns-clause-error : goal.returns-clause-error
 returns-clause-error g c left told =
     let is = run_from_start c.in-Ok.machine (machine_of c.args.prepared.now.program c.args.prepared.now.layout c.args.options.now.calls) c.args.options.now.steps left c.in-Ok.ensures refl in
     rw is at (c.in-Ok-run.ensures.error left told)
+
+pub returns-clause-taken : goal.returns-clause-taken
+returns-clause-taken g c left told =
+    let is = run_from_start c.in-Ok.machine (machine_of c.args.prepared.now.program c.args.prepared.now.layout c.args.options.now.calls) c.args.options.now.steps left c.in-Ok.ensures refl in
+    rw is at (c.in-Ok-run.ensures.input left told)
