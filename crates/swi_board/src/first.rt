@@ -32,14 +32,14 @@ pub struct First {
 }
 
 impl Model for First {
-    ghost use Rattle.std.specs.Prelude.{◌≡◌, slice_index};
+    ghost use Rattle.std.specs.Prelude.{◌≡◌, None, slice_index};
     ghost use Rattle.swi_board.specs.First.{FirstData};
 
     ghost Value = { FirstData };
 
     ghost view = { λ f. record { exited = f.exited; steps = f.steps; pc = f.pc; regs = f.regs.words } };
 
-    ghost invariant = { λ f. slice_index f.regs.words 0 ≡ 0 };
+    ghost invariant = { λ f. (slice_index f.regs.words 0 ≡ 0) × (f.regs.reserved ≡ None) };
 }
 
 impl First {
@@ -72,9 +72,10 @@ impl First {
         self.regs.get(Reg::of(k))
     }
 
-    /// All registers.
+    /// All registers. They reserve nothing.
     pub fn regs(&self) -> &Regs
-        ensures { result.now.words ≡ self.now.regs }
+        ensures words { result.now.words ≡ self.now.regs }
+        ensures unreserved { result.now.reserved ≡ None }
     {
         &self.regs
     }

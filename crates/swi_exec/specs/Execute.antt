@@ -1,6 +1,6 @@
 -- What each instruction does. Source: RISC-V unprivileged specification, the chapters on RV32I, the "M" extension and the "A"
--- extension. That a misaligned load or store goes byte by byte, that a misaligned LR.W, SC.W or AMO faults, and that SC.W
--- succeeds exactly where its address is the one that is reserved: own rules, which the specification leaves open.
+-- extension. That a misaligned load or store goes byte by byte, that a misaligned LR.W, SC.W or AMO faults, and that an SC.W that
+-- doesn't fault succeeds exactly where its address is the one that is reserved: own rules, which the specification leaves open.
 use Rattle.std.specs.Prelude.{◌≡◌, ◌==◌, ℕ, ◌/◌, ◌*◌, ◌%◌, Bool, false, not, ◌&&◌, nat_lt, int_lt, List, Option, Some, None, if◌then◌else◌, bit_and, bit_or, bit_xor}
 use Rattle.swi_field.specs.Field.{extended}
 use Rattle.swi_isa.specs.declared.instr.BranchOp.{BranchOp}
@@ -168,7 +168,7 @@ loads_reserved rd a pc regs bus =
     if lets_reserve bus a then goes_on pc (with_reservation (with_reg regs rd (number_at bus a 4)) (Some a)) bus
     else faults kind.LoadAccess a regs bus
 
--- SC.W: where its address is reserved, v is stored and rd is 0, and else rd is 1. Nothing is reserved afterwards
+-- SC.W, where it doesn't fault: v is stored and rd is 0 where its address is reserved, and else rd is 1; nothing is reserved afterwards
 abbrev pub stores_conditionally : ℕ → ℕ → ℕ → ℕ → Registers → List AreaData → Effect
 stores_conditionally rd a v pc regs bus =
     if lets_store_word bus a then

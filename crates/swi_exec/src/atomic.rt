@@ -28,7 +28,7 @@ fn load_reserved(rd: Reg, a: u32, pc: u32, regs: &mut Regs, bus: &Bus) -> Done
 }
 
 /// SC.W: stores `v` at `a` and puts 0 into rd where `a` is reserved, and else puts 1 into rd. Nothing
-/// is reserved afterwards.
+/// is reserved afterwards, unless it faults.
 fn store_conditional(rd: Reg, a: u32, v: u32, pc: u32, regs: &mut Regs, bus: &mut Bus) -> Done
     ensures done { result ≡ (stores_conditionally rd a v pc regs.old bus.old).done }
     ensures regs { regs.new ≡ (stores_conditionally rd a v pc regs.old bus.old).regs }
