@@ -10,7 +10,8 @@ pub enum End {
     /// An instruction faulted. The address is the target of a jump or that of an access, and for fetch-access, illegal and break
     /// the pc.
     Faulted(FaultKind, u32),
-    /// An instruction would have stored into the text, at this address. Only the cached machine ends so.
+    /// An instruction would have stored into the text, by an access or a read's buffer that begins at this address. Only the cached
+    /// machine ends so.
     StoreText(u32),
 }
 

@@ -62,7 +62,8 @@ fn read_store(regs: &Regs, bus: &Bus) -> Option<u32>
     }
 }
 
-/// The address at which the instruction would store into the text; None where it would not. It changes nothing.
+/// The address at which the instruction would store into the text: the first of its access or of its buffer, of which a later byte
+/// may be the first that is a text word's. None where it would not. It changes nothing.
 ///
 /// A store does where it succeeds and one of its bytes is a text word's, an AMO where it doesn't fault, and SC.W where it
 /// succeeds. A system call does where it reads from descriptor 0 into a buffer that can be written and of which a byte is a

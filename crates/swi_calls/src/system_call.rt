@@ -1,7 +1,7 @@
 //! One system call.
 #![tactic(auto)]
 
-ghost use Rattle.std.specs.Prelude.{◌≡◌, ◌≤◌, ℕ, Some, Option, IfOk, OnOk, OnErr, List, true, length, ◌+◌, ◌++◌};
+ghost use Rattle.std.specs.Prelude.{◌≡◌, ◌≤◌, ℕ, Some, Option, IfOk, OnOk, OnErr, IsErrOf, List, true, false, length, ◌+◌, ◌++◌};
 ghost use Rattle.std.specs.Option.{ForSome};
 ghost use Rattle.std.specs.Io.KnownBytes.{Appends};
 ghost use Rattle.swi_outside.specs.Causes.{HasCause};
@@ -74,6 +74,8 @@ fn write<O: Sink, E: Sink>(
     ensures error { OnOk result ((input : List ℕ) → Appends (E.held err.old) (E.held err.new) (write_served descriptor buffer count bus.now input).error) }
     ensures output_prefix { OnErr result ((input : List ℕ) → AppendsPrefix (O.held out.old) (O.held out.new) (write_served descriptor buffer count bus.now input).output) }
     ensures error_prefix { OnErr result ((input : List ℕ) → AppendsPrefix (E.held err.old) (E.held err.new) (write_served descriptor buffer count bus.now input).error) }
+    ensures output_alone { (descriptor ≡ 2 → ⊥) → (E.held err.new ≡ E.held err.old) × (E.faults err.new ≡ E.faults err.old) }
+    ensures errors_alone { (descriptor ≡ 1 → ⊥) → (O.held out.new ≡ O.held out.old) × (O.faults out.new ≡ O.faults out.old) }
     ensures cause { WritesCause (O.faults out.old) (O.faults out.new) (E.faults err.old) (E.faults err.new) result }
 {
     if descriptor != 1 && descriptor != 2 {
@@ -122,6 +124,8 @@ fn serve<I: Source, O: Sink, E: Sink>(
         AppendsPrefix (O.held out.old) (O.held out.new) (served regs.now bus.old heap left).output)) }
     ensures error_prefix { OnErr result (ForSome (I.left input.old) (λ left.
         AppendsPrefix (E.held err.old) (E.held err.new) (served regs.now bus.old heap left).error)) }
+    ensures failed_output { OnErr result ((O.faults out.new ≡ O.faults out.old → ⊥) → E.held err.new ≡ E.held err.old) }
+    ensures failed_input { IsErrOf result CallFault.SourceFault → (O.held out.new ≡ O.held out.old) × (E.held err.new ≡ E.held err.old) }
     ensures causes { HasCauses
         (record { input = I.faults input.old; out = O.faults out.old; err = E.faults err.old })
         (record { input = I.faults input.new; out = O.faults out.new; err = E.faults err.new }) result }
@@ -174,10 +178,11 @@ fn call_line(regs: &Regs, answer: Option<u32>) -> Line
     line
 }
 
-/// Writes the line that tells of a call to the error sink, where calls are told. The registers are
+/// Writes the line that tells of a call to the error sink, where calls are told; else the sink is not called. The registers are
 /// those before the call; None is the answer of a call that ends the run. After Failed a prefix of the line was written.
 pub fn tell<E: Sink>(log: bool, regs: &Regs, answer: Option<u32>, err: &mut E) -> Result<(), Failed>
     ensures bytes { WritesPiece (E.held err.old) (E.held err.new) result (told log regs.now answer) }
+    ensures unasked { log ≡ false → (E.held err.new ≡ E.held err.old) × (E.faults err.new ≡ E.faults err.old) }
     ensures cause { HasCause (E.faults err.old) (E.faults err.new) result }
 {
     if log {
@@ -203,11 +208,11 @@ fn move_break(heap: &mut Heap, regs: &Regs, answer: u32)
 /// output, or 2, the errors, answers the count. exit and exit_group (93, 94) end the run with code a0 and change no register.
 /// brk (214) moves the break to an address from the heap's base to its limit, both included, and answers the break. Every other
 /// number answers -38. The descriptor is looked at first (-9), then the buffer (-14); with a good descriptor a count of 0 answers
-/// 0. With `log` a line on `err` tells of each call, after its own output. Bytes move in pieces of at most 256, and no memory is
-/// taken.
+/// 0. With `log` a line on `err` tells of each call, behind what the call itself writes there. Bytes move in pieces of at most 256.
 ///
-/// SourceFault: the input failed; SinkFault: a sink did. Either leaves the registers and the break as they were. What was written
-/// is then a prefix of what the call writes, and of a read a front of the buffer may be filled.
+/// SourceFault: the input failed; SinkFault: a sink did. Either leaves the registers and the break as they were. Each sink has then
+/// gained a prefix of what the call writes there, and of a read a front of the buffer may be filled. A call whose input or output
+/// failed is not told.
 ///
 /// Source: Linux on RISC-V (numbers, registers, error answers); which calls are there, and the break as a mere number: own rule.
 #[inline(never)]
@@ -240,6 +245,8 @@ pub fn call<I: Source, O: Sink, E: Sink>(
         AppendsPrefix (O.held out.old) (O.held out.new) (called log regs.old bus.old heap.old left).output)) }
     ensures error_prefix { OnErr result (ForSome (I.left input.old) (λ left.
         AppendsPrefix (E.held err.old) (E.held err.new) (called log regs.old bus.old heap.old left).error)) }
+    ensures failed_output { OnErr result ((O.faults out.new ≡ O.faults out.old → ⊥) → E.held err.new ≡ E.held err.old) }
+    ensures failed_input { IsErrOf result CallFault.SourceFault → (O.held out.new ≡ O.held out.old) × (E.held err.new ≡ E.held err.old) }
     ensures causes { HasCauses
         (record { input = I.faults input.old; out = O.faults out.old; err = E.faults err.old })
         (record { input = I.faults input.new; out = O.faults out.new; err = E.faults err.new }) result }

@@ -1,7 +1,7 @@
 //! One step, and many.
 #![tactic(auto)]
 
-ghost use Rattle.std.specs.Prelude.{◌≡◌, ◌<◌, ◌≤◌, ◌+◌, ◌-◌, ◌^◌, ℕ, None, Some, true, false, IfOk, OnOk, OnErr};
+ghost use Rattle.std.specs.Prelude.{◌≡◌, ◌<◌, ◌≤◌, ◌+◌, ◌-◌, ◌^◌, ℕ, None, Some, true, false, IfOk, OnOk, OnErr, IsErrOf};
 ghost use Rattle.std.specs.Option.{ForSome};
 ghost use Rattle.std.specs.Io.KnownBytes.{Appends};
 ghost use Rattle.swi_outside.specs.Sink.{AppendsPrefix};
@@ -162,6 +162,8 @@ impl Flat {
             AppendsPrefix (O.held out.old) (O.held out.new) (call_made self.old.machine left).output)) }
         ensures error_prefix { OnErr result (ForSome (I.left input.old) (λ left.
             AppendsPrefix (E.held err.old) (E.held err.new) (call_made self.old.machine left).error)) }
+        ensures failed_output { OnErr result ((O.faults out.new ≡ O.faults out.old → ⊥) → E.held err.new ≡ E.held err.old) }
+        ensures failed_input { IsErrOf result CallFault.SourceFault → (O.held out.new ≡ O.held out.old) × (E.held err.new ≡ E.held err.old) }
         ensures causes { HasCauses
             (record { input = I.faults input.old; out = O.faults out.old; err = E.faults err.old })
             (record { input = I.faults input.new; out = O.faults out.new; err = E.faults err.new }) result }
@@ -222,6 +224,8 @@ impl Flat {
             AppendsPrefix (O.held out.old) (O.held out.new) (made self.old.machine left).output)) }
         ensures error_prefix { OnErr result (ForSome (I.left input.old) (λ left.
             AppendsPrefix (E.held err.old) (E.held err.new) (made self.old.machine left).error)) }
+        ensures failed_output { OnErr result ((O.faults out.new ≡ O.faults out.old → ⊥) → E.held err.new ≡ E.held err.old) }
+        ensures failed_input { IsErrOf result CallFault.SourceFault → (O.held out.new ≡ O.held out.old) × (E.held err.new ≡ E.held err.old) }
         ensures causes { HasCauses
             (record { input = I.faults input.old; out = O.faults out.old; err = E.faults err.old })
             (record { input = I.faults input.new; out = O.faults out.new; err = E.faults err.new }) result }

@@ -93,16 +93,16 @@ fn run_command<F: Shelf, I: Source, O: Sink, E: Sink, R: CacheRam>(
 ///
 /// `plain FILE` runs the file's program on the flat machine, and leaves `ram` as it was. `cached FILE` runs it on the cached one, as
 /// far as that is built: through the first eight words of `ram`, which has at least eight; the words behind them keep their values.
-/// What the guest reads comes from `input`; where the run ended, no more was taken than it read. What the guest writes goes to `out`
-/// and `err`; with `--state` the state after the run goes to `out`, and with `--calls` a line for each system call to `err`. The line
-/// of an ending or of a refusal goes to `err` last.
+/// What the guest reads comes from `input`; where an ending is answered, no more was taken than it read. What the guest writes goes
+/// to `out` and `err`; with `--state` the state after the run goes to `out`, and with `--calls` a line for each system call to `err`.
+/// The line of an ending or of a refusal goes to `err` last.
 ///
 /// The refusals come in this order: `Usage` where the words are no command; `ShelfFault` where the file can't be read; `FileLong`,
-/// `Elf` and `Room` where the file isn't accepted; `NotBuilt` on the cached machine; a fault of the device that failed. `Memory`
-/// comes where there was no memory, which is all taken before the first step. A refusal before the run changes nothing but `err`
-/// and what the shelf says of its faults. `NotBuilt` takes no input and writes nothing but its line; but as the run may have come to
-/// the call that isn't built, the first eight words of `ram` and its counts may have changed. After a fault each sink holds a prefix
-/// of what the run writes, and on `err` the refusal's line follows, or a prefix of it where the error sink failed.
+/// `Elf` and `Room` where the file isn't accepted; `NotBuilt` on the cached machine; a fault of the device that failed, which may also
+/// come in place of `NotBuilt`. `Memory` comes where there was no memory, which is all taken before the first step. `Usage`,
+/// `ShelfFault`, `FileLong`, `Elf`, `Room` and `Memory` change nothing but `err` and what the shelf says of its faults. `NotBuilt`
+/// takes no input and writes nothing but its line; the first eight words of `ram` and its counts may have changed. After a fault each
+/// sink holds a prefix of what the run writes, and on `err` the refusal's line follows, or a prefix of it where the error sink failed.
 pub fn top<F: Shelf, I: Source, O: Sink, E: Sink, R: CacheRam>(
     alloc: Global,
     words: &[String],
