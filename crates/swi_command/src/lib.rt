@@ -56,8 +56,8 @@ pub enum CommandError {
 /// flag.
 ///
 /// Options may stand before, between and after the FILE, as `--x v` or `--x=v`, each at most
-/// once. A value that begins with `-` is taken only as `--x=v`, and `--` ends the options. A number
-/// is 1 to 19 decimal digits.
+/// once. An option's value that begins with `-` is taken only as `--x=v`. `--` ends the options; a FILE
+/// that begins with `-` is `-` itself or stands behind it. A number is 1 to 19 decimal digits.
 pub fn parse_command(alloc: Global, words: &[String]) -> Result<Command, CommandError>
     ensures ok { IfOk result (λ c. command_of (map (λ w. string_bytes w) words.now)
         ≡ Some (request_of c)) }

@@ -1,4 +1,4 @@
-ghost use Rattle.std.specs.Prelude.{◌≡◌, ◌+◌, ◌<◌, ◌≤◌, ◌-◌, ◌↔◌, ◌++◌, length, min, take, drop, IfOk, IsErr, Contains, Some};
+ghost use Rattle.std.specs.Prelude.{◌≡◌, ◌+◌, ◌<◌, ◌≤◌, ◌-◌, ◌↔◌, ◌++◌, length, min, take, drop, IfOk, IsErr, OnErr, Contains, Some};
 ghost use Rattle.std.specs.Io.{ReadsAtMost};
 ghost use Rattle.std.specs.Io.KnownBytes.{ReadConsumes};
 ghost use Rattle.swi_outside.specs.Causes.{HasCause, counted};
@@ -57,6 +57,7 @@ fn copy_front(bytes: &[u8], taken: usize, buf: &mut [u8]) -> usize
     requires { taken ≤ length bytes.now }
     ensures count { result ≡ min (length buf.old) (length bytes.now - taken) }
     ensures bytes { drop taken bytes.now ≡ take result buf.new ++ drop (taken + result) bytes.now }
+    ensures rest { drop result buf.new ≡ drop result buf.old }
 {
     let count = buf.len().min(bytes.len() - taken);
     buf[..count].copy_from_slice(&bytes[taken..taken + count]);
@@ -77,6 +78,10 @@ impl Source for MemSource {
         // No other call fails, and an answer is as many bytes as there are and fit.
         ensures listed { IsErr result ↔ Contains self.old.failing (counted self.old.calls) }
         ensures count { IfOk result (λ k. k ≡ min (length buf.old) (length self.old.left)) }
+
+        // Nothing else of the buffer changes.
+        ensures rest { IfOk result (λ k. drop k buf.new ≡ drop k buf.old) }
+        ensures untouched { OnErr result (buf.new ≡ buf.old) }
         ensures counted { self.new ≡ record self.old {
           left = self.new.left;
           calls = counted self.old.calls;

@@ -1,4 +1,5 @@
-ghost use Rattle.std.specs.Prelude.{◌≡◌};
+ghost use Rattle.std.specs.Prelude.{◌≡◌, IsErr, MatchResult};
+ghost use Rattle.swi_outside.specs.Causes.{counted};
 ghost use Rattle.swi_outside.specs.Sink.{WritesPiece};
 
 use crate::{Failed, Sink, Source};
@@ -29,13 +30,7 @@ impl<R: Read> Source for RealSource<R> {
     ghost faults = { λ s. s.faults };
 
     fn read(&mut self, buf: &mut [u8]) -> Result<usize, Failed> {
-        match self.reader.read(buf) {
-            Ok(count) => Ok(count),
-            Err(_) => {
-                self.faults = self.faults.saturating_add(1);
-                Err(Failed)
-            }
-        }
+        count_failure(&mut self.faults, self.reader.read(buf))
     }
 }
 
@@ -66,12 +61,20 @@ impl<W: Write> Sink for RealSink<W> {
     ghost faults = { λ s. s.faults };
 
     fn write(&mut self, piece: &[u8]) -> Result<(), Failed> {
-        match write_whole(&mut self.writer, piece) {
-            Ok(()) => Ok(()),
-            Err(Failed) => {
-                self.faults = self.faults.saturating_add(1);
-                Err(Failed)
-            }
+        count_failure(&mut self.faults, write_whole(&mut self.writer, piece))
+    }
+}
+
+/// Hands an answer on; an `Err` is a fault, and is counted.
+fn count_failure<T, E: Drop>(faults: &mut u64, answer: Result<T, E>) -> Result<T, Failed>
+    ensures handed { MatchResult answer (λ value. result ≡ Ok value) (λ _. IsErr result) }
+    ensures counted { MatchResult answer (λ _. faults.new ≡ faults.old) (λ _. faults.new ≡ counted faults.old) }
+{
+    match answer {
+        Ok(value) => Ok(value),
+        Err(_) => {
+            *faults = faults.saturating_add(1);
+            Err(Failed)
         }
     }
 }

@@ -19,7 +19,8 @@ pub trait Shelf {
     /// What stands under each name, where the shelf tells it.
     ghost contents: { Self → Option Contents };
 
-    /// How many calls failed. The count never falls, and stands still at 2^64 - 1.
+    /// A count that rises with each call that failed, and with no other. It never falls, and stands
+    /// still at 2^64 - 1.
     ghost faults: { Self → ℕ };
 
     /// The last call that answered `Failed`, none before the first.
@@ -27,8 +28,8 @@ pub trait Shelf {
 
     /// The whole content under `name`, of at most `limit` bytes. It changes no content.
     ///
-    /// `Long` comes exactly where the content has more than `limit` bytes and the call didn't fail;
-    /// a name that is not there is a fault. The memory for the name is taken before anything else.
+    /// `Long` comes only where the content has more than `limit` bytes. Where it has, and where the name
+    /// is not there, no `Ok` comes.
     fn get(&mut self, alloc: Global, name: &str, limit: u32) -> Result<Vec<u8>, ShelfError>
         ensures same { Same (contents self.old) (contents self.new) }
         ensures content { IfOk result (λ bytes. Stands (contents self.old) name.now bytes.items) }
@@ -40,7 +41,7 @@ pub trait Shelf {
     /// Sets the content under `name`, and leaves all others. It never answers `Long`.
     ///
     /// After `Failed` nothing is known of that name alone, and after `Memory` every content is as it
-    /// was. The memory for the name is taken before anything else.
+    /// was.
     fn put(&mut self, alloc: Global, name: &str, bytes: &[u8]) -> Result<(), ShelfError>
         ensures others { SameElsewhere (contents self.old) (contents self.new) name.now }
         ensures stands { OnOk result (Stands (contents self.new) name.now bytes.now) }

@@ -9,7 +9,8 @@ pub trait Sink {
     /// The bytes that it holds, where the sink tells them.
     ghost held: { Self → Option (List ℕ) };
 
-    /// How many calls failed. The count never falls, and stands still at 2^64 - 1.
+    /// A count that rises with each call that failed, and with no other. It never falls, and stands
+    /// still at 2^64 - 1.
     ghost faults: { Self → ℕ };
 
     /// Appends the whole piece. `Failed` appends a prefix of it.

@@ -10,13 +10,15 @@ pub trait Source {
     /// The bytes that are left, where the source tells them.
     ghost left: { Self → Option (List ℕ) };
 
-    /// How many calls failed. The count never falls, and stands still at 2^64 - 1.
+    /// A count that rises with each call that failed, and with no other. It never falls, and stands
+    /// still at 2^64 - 1.
     ghost faults: { Self → ℕ };
 
     /// Puts the next bytes at the front of a buffer that is not empty, and answers how many: at most
     /// the buffer's length, and 0 where the input has ended.
     ///
-    /// `Failed` takes nothing from the input.
+    /// `Failed` takes nothing from the input. What the buffer holds behind these bytes, and all of it
+    /// after `Failed`, is not said.
     fn read(&mut self, buf: &mut [u8]) -> Result<usize, Failed>
         requires { 0 < length buf.old }
         ensures bound { ReadsAtMost result buf.new }

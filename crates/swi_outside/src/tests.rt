@@ -208,3 +208,27 @@ fn shelf_over_files_puts_and_gets(rt: HostRuntime) -> Result<(), Fail> {
     );
     Ok(())
 }
+
+#[test]
+fn source_over_a_reader_ends_where_it_ends(rt: HostRuntime) -> Result<(), Fail> {
+    let mut source = RealSource::new(b"ab".as_slice());
+    let mut buf = [0; 4];
+    assert_eq!(rt; read_from(&mut source, &mut buf), Ok(2));
+    assert_eq!(rt; read_from(&mut source, &mut buf), Ok(0));
+    Ok(())
+}
+
+#[test]
+fn shelf_over_files_gets_more_than_a_piece(rt: HostRuntime) -> Result<(), Fail> {
+    let alloc = rt.alloc();
+    let name = "swi_outside-shelf-long";
+    let mut shelf = FolderShelf::new(&rt);
+    let long = vec![in alloc; 7u8; 9000]?;
+    assert_eq!(rt; put_to(&mut shelf, alloc, name, long.as_slice()), Ok(()));
+    assert_eq!(rt;
+        get_from(&mut shelf, alloc, name, 9000)?.as_slice(),
+        long.as_slice()
+    );
+    fs::remove_file(&rt, name)?;
+    Ok(())
+}
