@@ -1,12 +1,13 @@
 -- System calls by their numbers.
-use Rattle.std.proofs.Common.{◌≡◌, ℕ, ◌==◌, ◌&&◌, nat_le, List, refl, sym, ◌∙◌, inl, inr, Option, Some, None, arith}
+use Rattle.std.proofs.Common.{◌≡◌, ℕ, ◌==◌, ◌&&◌, nat_le, Bool, true, false, List, [], ◌∷◌, ◌++◌, refl, sym, ◌∙◌, inl, inr, Option, Some, None, arith}
 use Rattle.std.proofs.lemmas.Bool.{cases_Bool}
 use Rattle.std.proofs.lemmas.Bool.Decides.{nat_tests}
 use Rattle.swi_outside.specs.Sink.{AppendsPrefix}
 use Rattle.swi_memory.specs.Bus.{AreaData}
 use Rattle.swi_exec.specs.Registers.{Registers, reg}
 use Rattle.swi_calls.specs.declared.heap.Heap.{Heap}
-use Rattle.swi_calls.specs.Call.{number_of, first_argument, brk_heap, heap_after, served, write_served}
+use Rattle.swi_calls.specs.declared.end.Called.TheVariants as called
+use Rattle.swi_calls.specs.Call.{called_of, number_of, first_argument, brk_heap, heap_after, served, write_served, told}
 
 -- a call by its number is a write
 served-write : (regs : Registers) (bus : List AreaData) (heap : Heap) (input : List ℕ) → reg regs 17 ≡ 64 →
@@ -66,3 +67,28 @@ heap_moved regs bus heap new input v is brk other = elim (cases_Bool (number_of 
       let not_brk : number_of regs ≡ 214 → ⊥ = λ (number : number_of regs ≡ 214). grind (arith, nat_tests) in
       other not_brk ∙ heap_other regs heap not_brk
 ]
+
+-- a call that exited with a code
+pub exited_of : (x : Option ℕ) (code : ℕ) → called.Exited code ≡ called_of x → x ≡ Some code
+exited_of None code h = cc
+exited_of (Some v) code h = cc
+
+-- where nothing is written to a sink, neither the call nor its line asks it
+no_line : (log : Bool) (regs : Registers) (answer : Option ℕ) (error : List ℕ) → error ++ told log regs answer ≡ [] → log ≡ false
+no_line false regs answer error none = refl
+no_line true regs answer [] none = cc
+no_line true regs answer (b ∷ error) none = cc
+
+no_front : (front back : List ℕ) → front ++ back ≡ [] → front ≡ []
+no_front [] back none = refl
+no_front (b ∷ front) back none = cc
+
+pub unasked_first : (front back : List ℕ) (o p : Option (List ℕ)) (f h : ℕ) → (front ≡ [] → (p ≡ o) × (h ≡ f)) → front ++ back ≡ [] → (p ≡ o) × (h ≡ f)
+unasked_first front back o p f h first none = first (no_front front back none)
+
+pub unasked_told : (log : Bool) (regs : Registers) (answer : Option ℕ) (error : List ℕ) (o p q : Option (List ℕ)) (f h i : ℕ) →
+    (error ≡ [] → (p ≡ o) × (h ≡ f)) → (log ≡ false → (q ≡ p) × (i ≡ h)) → error ++ told log regs answer ≡ [] → (q ≡ o) × (i ≡ f)
+unasked_told log regs answer error o p q f h i first line none =
+    let a : (p ≡ o) × (h ≡ f) = first (no_front error (told log regs answer) none) in
+    let b : (q ≡ p) × (i ≡ h) = line (no_line log regs answer error none) in
+    (b.0 ∙ a.0, b.1 ∙ a.1)

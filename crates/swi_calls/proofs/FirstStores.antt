@@ -1,12 +1,15 @@
 -- The first step that would store into the text.
-use Rattle.std.proofs.Common.{◌≡◌, ℕ, zero, suc, ◌<◌, true, false, [], ◌∷◌, None, refl, arith}
+use Rattle.std.proofs.Common.{◌≡◌, ℕ, zero, suc, ◌<◌, true, false, [], ◌∷◌, Some, None, refl, arith}
 use Rattle.swi_isa.specs.Table.{imm_u, imm_s}
 use Rattle.swi_isa.specs.Decode.{decoded, decoded_by}
 use Rattle.swi_memory.specs.Bus.{AreaData}
 use Rattle.swi_exec.specs.Registers.{new_regs}
+use Rattle.swi_exec.specs.declared.done.FaultKind.TheVariants.{StoreAccess}
+use Rattle.swi_calls.specs.declared.end.End.TheVariants.{Faulted}
 use Rattle.swi_calls.specs.State.{FlatState}
 use Rattle.swi_calls.specs.Flat.{made, flat_run, started}
 use Rattle.swi_calls.specs.FirstStore.{StoresAt, IsFirstStore}
+use Rattle.swi_calls.specs.Held.{held_run, stopped_at}
 
 -- auipc x5, 0 and sw x0, 0(x5), where they can be written
 text : AreaData
@@ -50,3 +53,12 @@ second_stores = record {
 faults_first : StoresAt (at_start fixed_text) 1 → ⊥
 unfolding text fixed_text flat_run made decoded decoded_by imm_u imm_s
 faults_first h = let no_store : false ≡ true = h.stores in cc
+
+-- over the fixed text the run ends before that store, and where the store faults it is the flat machine's
+held_there : held_run 9 (at_start text) ≡ stopped_at (flat_run 1 (at_start text)) 0x10000
+unfolding text flat_run held_run made decoded decoded_by imm_u imm_s
+held_there = refl
+
+held_fault : (held_run 9 (at_start fixed_text)).machine.ending ≡ Some (Faulted StoreAccess 0x10000)
+unfolding text fixed_text held_run made decoded decoded_by imm_u imm_s
+held_fault = refl

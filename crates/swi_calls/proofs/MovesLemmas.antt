@@ -4,8 +4,9 @@ use Rattle.std.specs.Io.KnownBytes.{Appends, Consumes}
 use Rattle.swi_outside.specs.Sink.{AppendsPrefix}
 use Rattle.swi_memory.specs.Bus.{AreaData, bytes_at, with_bytes}
 use Rattle.swi_calls.specs.Moves.{ReadsInto}
-use Rattle.swi_calls.proofs.BusLemmas.{bytes_at-add, with_bytes-append}
-use Rattle.swi_outside.proofs.SinkLemmas.{Appends-append, Consumes-append, prefix_behind}
+use Rattle.swi_memory.specs.Laws.{bytes_at-add, with_bytes-append}
+use Rattle.swi_outside.specs.Laws.{Appends-append, Consumes-append}
+use Rattle.swi_outside.proofs.SinkLemmas.{prefix_behind}
 
 -- one piece more
 pub reads_more : (bus mid next : List AreaData) (first now last : Option (List ℕ)) (a d k : ℕ) (piece : List ℕ) → ReadsInto bus mid first now a d →

@@ -1,6 +1,6 @@
 -- The faults of the devices of a system call, and the answers that they license. Own rule.
 use Rattle.std.specs.Prelude.{◌≡◌, ◌⊎◌, ℕ, ◌≤◌, Result, OnOk, OnErr, IsErrOf}
-use Rattle.swi_outside.specs.Causes.{Rose}
+use Rattle.swi_outside.specs.Causes.{Rose, DeviceCause, PairCause}
 use Rattle.swi_calls.specs.declared.end.CallFault.{CallFault}
 use Rattle.swi_calls.specs.declared.end.CallFault.TheVariants.{SourceFault, SinkFault}
 
@@ -10,17 +10,11 @@ pub record Faults : Type 0 where
   pub out : ℕ
   pub err : ℕ
 
--- each fault is answered only where its device's count rose, a count that rose is answered, and no count falls
+-- the input's fault is SourceFault, that of a sink SinkFault; without either no count rose
 pub record HasCauses {T : Type 0} (before after : Faults) (result : Result T CallFault) : Type 0 where
-  pub input_later : before.input ≤ after.input
-  pub out_later : before.out ≤ after.out
-  pub err_later : before.err ≤ after.err
-  pub source : IsErrOf result SourceFault → Rose before.input after.input
-  pub sink : IsErrOf result SinkFault → Rose before.out after.out ⊎ Rose before.err after.err
+  pub source : DeviceCause before.input after.input (IsErrOf result SourceFault)
+  pub sinks : PairCause before.out after.out before.err after.err (IsErrOf result SinkFault)
   pub quiet : OnOk result (after ≡ before)
-  pub input_told : (after.input ≡ before.input) ⊎ IsErrOf result SourceFault
-  pub out_told : (after.out ≡ before.out) ⊎ IsErrOf result SinkFault
-  pub err_told : (after.err ≡ before.err) ⊎ IsErrOf result SinkFault
 
 -- a write to one of two sinks: it fails only where one's count rose, and only a failure raises one
 pub record WritesCause {T E : Type 0} (out out' err err' : ℕ) (result : Result T E) : Type 0 where

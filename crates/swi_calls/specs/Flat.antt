@@ -15,7 +15,8 @@ use Rattle.swi_program.specs.Program.{ProgramData}
 use Rattle.swi_calls.specs.declared.end.End.{End}
 use Rattle.swi_calls.specs.declared.end.End.TheVariants.{Exited, Faulted}
 use Rattle.swi_calls.specs.Call.{CallEffect, called}
-use Rattle.swi_calls.specs.State.{Machine, FlatState}
+use Rattle.swi_calls.specs.declared.machine.Machine.{Machine}
+use Rattle.swi_calls.specs.State.{FlatState}
 
 -- what a step leaves and writes
 pub record Made : Type 0 where

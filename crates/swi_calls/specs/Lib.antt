@@ -2,6 +2,8 @@ pub mod Call
 pub mod Causes
 pub mod FirstStore
 pub mod Flat
+pub mod Held
+pub mod Laws
 pub mod Moves
 pub mod State
 pub mod StoresText

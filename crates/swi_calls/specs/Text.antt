@@ -1,11 +1,6 @@
--- Lines of text (own rule): numbers in decimal, words in eight hexadecimal digits, and the line that tells of a system call.
+-- The line that tells of a system call: its number in decimal, and words in eight hexadecimal digits. Own rule.
 use Rattle.std.specs.Prelude.{ℕ, List, [], ◌++◌, codes, decimal, Option, Some, None}
-use Rattle.std.specs.Int.{w32, to_be_bytes}
-use Rattle.hex.specs.Hex.{encode_lower}
-
--- a word in eight hexadecimal digits, the highest first
-abbrev pub hex_word : ℕ → List ℕ
-hex_word w = encode_lower (to_be_bytes w32 w)
+use Rattle.swi_line.specs.Hex.{hex_word}
 
 -- what a call answered, where it returned
 abbrev pub answer_text : Option ℕ → List ℕ

@@ -7,11 +7,11 @@ use swi_exec::FaultKind;
 pub enum End {
     /// The guest exited with this code.
     Exited(u32),
-    /// An instruction faulted. The address is the target of a jump or that of an access, and for fetch-access, illegal and break
-    /// the pc.
+    /// An instruction faulted. The address is the target of a jump or that of an access, and for fetch-access,
+    /// illegal and break the pc.
     Faulted(FaultKind, u32),
-    /// An instruction would have stored into the text, by an access or a read's buffer that begins at this address. Only the cached
-    /// machine ends so.
+    /// An instruction would have stored into the text, by an access or a read's buffer that begins at this address.
+    /// Only the cached machine ends so.
     StoreText(u32),
 }
 

@@ -4,14 +4,14 @@
 mod arguments;
 mod end;
 mod heap;
-mod line;
+mod machine;
 mod moves;
 mod stores_text;
 mod system_call;
 
 pub use end::{CallFault, Called, End};
 pub use heap::Heap;
-pub use line::{LINE_ROOM, Line};
+pub use machine::Machine;
 pub use stores_text::text_store;
 pub use system_call::{call, tell};
 

@@ -1,7 +1,7 @@
 //! Bytes between memory and the outside, in pieces, without memory of their own.
 #![tactic(auto)]
 
-ghost use Rattle.std.specs.Prelude.{◌≡◌, ◌≤◌, ◌<◌, ◌+◌, ℕ, true, IfOk, OnOk, OnErr, length};
+ghost use Rattle.std.specs.Prelude.{◌≡◌, ◌≤◌, ◌<◌, ◌+◌, ℕ, true, IfOk, OnOk, OnErr, length, []};
 ghost use Rattle.std.specs.Io.KnownBytes.{Appends, IsAtEnd};
 ghost use Rattle.swi_outside.specs.Causes.{HasCause};
 ghost use Rattle.swi_outside.specs.Sink.{AppendsPrefix};
@@ -28,8 +28,8 @@ fn put_piece(bus: &mut Bus, a: u32, count: u32, done: u32, piece: &[u8])
     let _ = bus.copy_in(a.wrapping_add(done), piece);
 }
 
-/// Puts the next piece of the input into memory, behind `done` of `count` bytes at `a`, and answers its length, which is
-/// 0 at the end of the input.
+/// Puts the next piece of the input into memory, behind `done` of `count` bytes at `a`, and answers its length, which
+/// is 0 at the end of the input.
 fn read_piece<I: Source>(
     bus: &mut Bus,
     a: u32,
@@ -64,7 +64,8 @@ pub(crate) fn read_into<I: Source>(
     ensures within { IfOk result (λ k. k ≤ count) }
     ensures reads { IfOk result (λ k. ReadsInto bus.old bus.new (I.left input.old) (I.left input.new) a k) }
     ensures at_end { IfOk result (λ k. k < count → IsAtEnd (I.left input.new)) }
-    ensures failed { OnErr result ((k : ℕ) × (k ≤ count) × ReadsInto bus.old bus.new (I.left input.old) (I.left input.new) a k) }
+    ensures failed { OnErr result ((k : ℕ) × (k ≤ count)
+        × ReadsInto bus.old bus.new (I.left input.old) (I.left input.new) a k) }
     ensures cause { HasCause (I.faults input.old) (I.faults input.new) result }
 {
     let mut done = 0;
@@ -94,6 +95,8 @@ pub(crate) fn write_from<S: Sink>(bus: &Bus, a: u32, count: u32, sink: &mut S) -
     requires held { holds bus.now Read a count ≡ true }
     ensures ok { OnOk result (Appends (S.held sink.old) (S.held sink.new) (bytes_at bus.now a count)) }
     ensures prefix { OnErr result (AppendsPrefix (S.held sink.old) (S.held sink.new) (bytes_at bus.now a count)) }
+    ensures unasked { bytes_at bus.now a count ≡ [] → (S.held sink.new ≡ S.held sink.old)
+        × (S.faults sink.new ≡ S.faults sink.old) }
     ensures cause { HasCause (S.faults sink.old) (S.faults sink.new) result }
 {
     let mut done = 0;

@@ -1,7 +1,7 @@
 //! One system call.
 #![tactic(auto)]
 
-ghost use Rattle.std.specs.Prelude.{◌≡◌, ◌≤◌, ℕ, Some, Option, IfOk, OnOk, OnErr, IsErrOf, List, true, false, length, ◌+◌, ◌++◌};
+ghost use Rattle.std.specs.Prelude.{◌≡◌, ◌≤◌, ℕ, Some, None, Option, [], IfOk, OnOk, OnErr, IsErrOf, List, true, false, length, ◌+◌, ◌++◌};
 ghost use Rattle.std.specs.Option.{ForSome};
 ghost use Rattle.std.specs.Io.KnownBytes.{Appends};
 ghost use Rattle.swi_outside.specs.Causes.{HasCause};
@@ -9,13 +9,16 @@ ghost use Rattle.swi_outside.specs.Sink.{AppendsPrefix, WritesPiece};
 ghost use Rattle.swi_calls.specs.Call.{IsServed, called, called_of, read_served, write_served, served, brk_heap, told, number_of, read_room, room_of_call, second_argument};
 ghost use Rattle.swi_calls.specs.Causes.{HasCauses, WritesCause};
 ghost use Rattle.swi_calls.specs.Moves.{ReadsInto};
+ghost use Rattle.swi_calls.specs.StoresText.{read_into_text};
+ghost use Rattle.swi_memory.specs.Bus.{fetched};
 ghost use Rattle.swi_calls.specs.Text.{answer_text};
 
 use crate::arguments::{first_argument, number_of, second_argument, third_argument};
 use crate::moves::{read_into, write_from};
-use crate::{CallFault, Called, Heap, Line};
+use crate::{CallFault, Called, Heap};
 use swi_exec::Regs;
 use swi_isa::Reg;
+use swi_line::Line;
 use swi_memory::Bus;
 use swi_outside::{Failed, Sink, Source};
 
@@ -48,7 +51,8 @@ fn read<I: Source>(
 ) -> Result<u32, Failed>
     ensures served { IfOk result (λ v. ForSome (I.left input.old) (λ left.
         IsServed (read_served descriptor buffer count bus.old left) (Some v) bus.new (I.left input.new))) }
-    ensures moved { (k : ℕ) × (k ≤ read_room descriptor buffer count bus.old) × ReadsInto bus.old bus.new (I.left input.old) (I.left input.new) buffer k }
+    ensures moved { (k : ℕ) × (k ≤ read_room descriptor buffer count bus.old)
+        × ReadsInto bus.old bus.new (I.left input.old) (I.left input.new) buffer k }
     ensures cause { HasCause (I.faults input.old) (I.faults input.new) result }
 {
     if descriptor != 0 {
@@ -69,13 +73,24 @@ fn write<O: Sink, E: Sink>(
     out: &mut O,
     err: &mut E,
 ) -> Result<u32, Failed>
-    ensures answered { IfOk result (λ v. (input : List ℕ) → (write_served descriptor buffer count bus.now input).answer ≡ Some v) }
-    ensures output { OnOk result ((input : List ℕ) → Appends (O.held out.old) (O.held out.new) (write_served descriptor buffer count bus.now input).output) }
-    ensures error { OnOk result ((input : List ℕ) → Appends (E.held err.old) (E.held err.new) (write_served descriptor buffer count bus.now input).error) }
-    ensures output_prefix { OnErr result ((input : List ℕ) → AppendsPrefix (O.held out.old) (O.held out.new) (write_served descriptor buffer count bus.now input).output) }
-    ensures error_prefix { OnErr result ((input : List ℕ) → AppendsPrefix (E.held err.old) (E.held err.new) (write_served descriptor buffer count bus.now input).error) }
-    ensures output_alone { (descriptor ≡ 2 → ⊥) → (E.held err.new ≡ E.held err.old) × (E.faults err.new ≡ E.faults err.old) }
-    ensures errors_alone { (descriptor ≡ 1 → ⊥) → (O.held out.new ≡ O.held out.old) × (O.faults out.new ≡ O.faults out.old) }
+    ensures answered { IfOk result (λ v. (input : List ℕ) →
+        (write_served descriptor buffer count bus.now input).answer ≡ Some v) }
+    ensures output { OnOk result ((input : List ℕ) →
+        Appends (O.held out.old) (O.held out.new) (write_served descriptor buffer count bus.now input).output) }
+    ensures error { OnOk result ((input : List ℕ) →
+        Appends (E.held err.old) (E.held err.new) (write_served descriptor buffer count bus.now input).error) }
+    ensures output_prefix { OnErr result ((input : List ℕ) →
+        AppendsPrefix (O.held out.old) (O.held out.new) (write_served descriptor buffer count bus.now input).output) }
+    ensures error_prefix { OnErr result ((input : List ℕ) →
+        AppendsPrefix (E.held err.old) (E.held err.new) (write_served descriptor buffer count bus.now input).error) }
+    ensures output_alone { (descriptor ≡ 2 → ⊥) → (E.held err.new ≡ E.held err.old)
+        × (E.faults err.new ≡ E.faults err.old) }
+    ensures errors_alone { (descriptor ≡ 1 → ⊥) → (O.held out.new ≡ O.held out.old)
+        × (O.faults out.new ≡ O.faults out.old) }
+    ensures unasked_output { (input : List ℕ) → (write_served descriptor buffer count bus.now input).output ≡ [] →
+        (O.held out.new ≡ O.held out.old) × (O.faults out.new ≡ O.faults out.old) }
+    ensures unasked_error { (input : List ℕ) → (write_served descriptor buffer count bus.now input).error ≡ [] →
+        (E.held err.new ≡ E.held err.old) × (E.faults err.new ≡ E.faults err.old) }
     ensures cause { WritesCause (O.faults out.old) (O.faults out.new) (E.faults err.old) (E.faults err.new) result }
 {
     if descriptor != 1 && descriptor != 2 {
@@ -103,7 +118,8 @@ fn moved_break(heap: Heap, a: u32) -> u32
     }
 }
 
-/// Does the call that the registers hold, but for its answer and the break. None is the answer of a call that ends the run.
+/// Does the call that the registers hold, but for its answer and the break. None is the answer of a call that ends
+/// the run.
 fn serve<I: Source, O: Sink, E: Sink>(
     regs: &Regs,
     bus: &mut Bus,
@@ -125,7 +141,12 @@ fn serve<I: Source, O: Sink, E: Sink>(
     ensures error_prefix { OnErr result (ForSome (I.left input.old) (λ left.
         AppendsPrefix (E.held err.old) (E.held err.new) (served regs.now bus.old heap left).error)) }
     ensures failed_output { OnErr result ((O.faults out.new ≡ O.faults out.old → ⊥) → E.held err.new ≡ E.held err.old) }
-    ensures failed_input { IsErrOf result CallFault.SourceFault → (O.held out.new ≡ O.held out.old) × (E.held err.new ≡ E.held err.old) }
+    ensures failed_input { IsErrOf result CallFault.SourceFault → (O.held out.new ≡ O.held out.old)
+        × (E.held err.new ≡ E.held err.old) }
+    ensures unasked_output { (left : List ℕ) → (served regs.now bus.old heap left).output ≡ [] →
+        (O.held out.new ≡ O.held out.old) × (O.faults out.new ≡ O.faults out.old) }
+    ensures unasked_error { (left : List ℕ) → (served regs.now bus.old heap left).error ≡ [] →
+        (E.held err.new ≡ E.held err.old) × (E.faults err.new ≡ E.faults err.old) }
     ensures causes { HasCauses
         (record { input = I.faults input.old; out = O.faults out.old; err = E.faults err.old })
         (record { input = I.faults input.new; out = O.faults out.new; err = E.faults err.new }) result }
@@ -178,8 +199,9 @@ fn call_line(regs: &Regs, answer: Option<u32>) -> Line
     line
 }
 
-/// Writes the line that tells of a call to the error sink, where calls are told; else the sink is not called. The registers are
-/// those before the call; None is the answer of a call that ends the run. After Failed a prefix of the line was written.
+/// Writes the line that tells of a call to the error sink, where calls are told; else the sink is not called. The
+/// registers are those before the call; None is the answer of a call that ends the run. After Failed a prefix of the
+/// line was written.
 pub fn tell<E: Sink>(log: bool, regs: &Regs, answer: Option<u32>, err: &mut E) -> Result<(), Failed>
     ensures bytes { WritesPiece (E.held err.old) (E.held err.new) result (told log regs.now answer) }
     ensures unasked { log ≡ false → (E.held err.new ≡ E.held err.old) × (E.faults err.new ≡ E.faults err.old) }
@@ -202,19 +224,22 @@ fn move_break(heap: &mut Heap, regs: &Regs, answer: u32)
     }
 }
 
-/// Does one system call of the guest: its number stands in a7, its arguments in a0, a1 and a2, and its answer goes to a0.
+/// Does one system call of the guest: its number stands in a7, its arguments in a0, a1 and a2, and its answer goes to
+/// a0.
 ///
-/// read (63) from descriptor 0 takes bytes until the count or the input's end, and answers their number. write (64) to 1, the
-/// output, or 2, the errors, answers the count. exit and exit_group (93, 94) end the run with code a0 and change no register.
-/// brk (214) moves the break to an address from the heap's base to its limit, both included, and answers the break. Every other
-/// number answers -38. The descriptor is looked at first (-9), then the buffer (-14); with a good descriptor a count of 0 answers
-/// 0. With `log` a line on `err` tells of each call, behind what the call itself writes there. Bytes move in pieces of at most 256.
+/// read (63) from descriptor 0 takes bytes until the count or the input's end, and answers their number. write (64)
+/// to 1, the output, or 2, the errors, answers the count. exit and exit_group (93, 94) end the run with code a0 and
+/// change no register. brk (214) moves the break to an address from the heap's base to its limit, both included, and
+/// answers the break. Every other number answers -38. The descriptor is looked at first (-9), then the buffer (-14);
+/// with a good descriptor a count of 0 answers 0. With `log` a line on `err` tells of each call, behind what the call
+/// itself writes there. Bytes move in pieces of at most 256.
 ///
-/// SourceFault: the input failed; SinkFault: a sink did. Either leaves the registers and the break as they were. Each sink has then
-/// gained a prefix of what the call writes there, and of a read a front of the buffer may be filled. A call whose input or output
-/// failed is not told.
+/// SourceFault: the input failed; SinkFault: a sink did. Either leaves the registers and the break as they were. Each
+/// sink has then gained a prefix of what the call writes there, and of a read a front of the buffer may be filled. A
+/// call whose input or output failed is not told.
 ///
-/// Source: Linux on RISC-V (numbers, registers, error answers); which calls are there, and the break as a mere number: own rule.
+/// Source: Linux on RISC-V (numbers, registers, error answers); which calls are there, and the break as a mere
+/// number: own rule.
 #[inline(never)]
 #[tactic(auto, unfolding(crate::specs::Call::called))]
 pub fn call<I: Source, O: Sink, E: Sink>(
@@ -228,9 +253,12 @@ pub fn call<I: Source, O: Sink, E: Sink>(
 ) -> Result<Called, CallFault>
     ensures answer { IfOk result (λ c. ForSome (I.left input.old) (λ left.
         c ≡ called_of (called log regs.old bus.old heap.old left).exited)) }
-    ensures regs { OnOk result (ForSome (I.left input.old) (λ left. regs.new ≡ (called log regs.old bus.old heap.old left).regs)) }
-    ensures bus { OnOk result (ForSome (I.left input.old) (λ left. bus.new ≡ (called log regs.old bus.old heap.old left).bus)) }
-    ensures heap { OnOk result (ForSome (I.left input.old) (λ left. heap.new ≡ (called log regs.old bus.old heap.old left).heap)) }
+    ensures regs { OnOk result (ForSome (I.left input.old) (λ left.
+        regs.new ≡ (called log regs.old bus.old heap.old left).regs)) }
+    ensures bus { OnOk result (ForSome (I.left input.old) (λ left.
+        bus.new ≡ (called log regs.old bus.old heap.old left).bus)) }
+    ensures heap { OnOk result (ForSome (I.left input.old) (λ left.
+        heap.new ≡ (called log regs.old bus.old heap.old left).heap)) }
     ensures input { OnOk result (ForSome (I.left input.old) (λ left.
         I.left input.new ≡ Some (called log regs.old bus.old heap.old left).input)) }
     ensures output { OnOk result (ForSome (I.left input.old) (λ left.
@@ -239,14 +267,20 @@ pub fn call<I: Source, O: Sink, E: Sink>(
         Appends (E.held err.old) (E.held err.new) (called log regs.old bus.old heap.old left).error)) }
     ensures regs_stay { OnErr result (regs.new ≡ regs.old) }
     ensures heap_stays { OnErr result (heap.new ≡ heap.old) }
-    ensures front { OnErr result ((k : ℕ) × (k ≤ room_of_call regs.old bus.old) ×
-        ReadsInto bus.old bus.new (I.left input.old) (I.left input.new) (second_argument regs.old) k) }
+    ensures moved { (k : ℕ) × (k ≤ room_of_call regs.old bus.old) ×
+        ReadsInto bus.old bus.new (I.left input.old) (I.left input.new) (second_argument regs.old) k }
+    ensures text { read_into_text regs.old bus.old ≡ None → (a : ℕ) → fetched bus.new a ≡ fetched bus.old a }
     ensures output_prefix { OnErr result (ForSome (I.left input.old) (λ left.
         AppendsPrefix (O.held out.old) (O.held out.new) (called log regs.old bus.old heap.old left).output)) }
     ensures error_prefix { OnErr result (ForSome (I.left input.old) (λ left.
         AppendsPrefix (E.held err.old) (E.held err.new) (called log regs.old bus.old heap.old left).error)) }
     ensures failed_output { OnErr result ((O.faults out.new ≡ O.faults out.old → ⊥) → E.held err.new ≡ E.held err.old) }
-    ensures failed_input { IsErrOf result CallFault.SourceFault → (O.held out.new ≡ O.held out.old) × (E.held err.new ≡ E.held err.old) }
+    ensures failed_input { IsErrOf result CallFault.SourceFault → (O.held out.new ≡ O.held out.old)
+        × (E.held err.new ≡ E.held err.old) }
+    ensures unasked_output { (left : List ℕ) → (called log regs.old bus.old heap.old left).output ≡ [] →
+        (O.held out.new ≡ O.held out.old) × (O.faults out.new ≡ O.faults out.old) }
+    ensures unasked_error { (left : List ℕ) → (called log regs.old bus.old heap.old left).error ≡ [] →
+        (E.held err.new ≡ E.held err.old) × (E.faults err.new ≡ E.faults err.old) }
     ensures causes { HasCauses
         (record { input = I.faults input.old; out = O.faults out.old; err = E.faults err.old })
         (record { input = I.faults input.new; out = O.faults out.new; err = E.faults err.new }) result }

@@ -12,8 +12,8 @@ use swi_isa::{Instr, Reg, decode};
 use swi_memory::{Bus, Layout, Segment};
 use swi_outside::{Failed, MemSink, MemSource, Source};
 
-/// A text of two words that can be written, "wxyz" with four zeros that adjoin a heap of 1016 bytes, and four zeros that can
-/// be read and four that can be written.
+/// A text of two words that can be written, "wxyz" with four zeros that adjoin a heap of 1016 bytes, and four zeros
+/// that can be read and four that can be written.
 fn small_bus(alloc: Global) -> Result<Bus, Fail> {
     let segments = [
         Segment::of(0x10000, 7, 8, [0; 8].to_vec(alloc)?),
@@ -165,6 +165,22 @@ fn writes_answer_their_count_and_give_it_to_their_sink(rt: HostRuntime) -> Resul
     Ok(())
 }
 
+#[test]
+fn a_read_asks_no_more_after_the_end(rt: HostRuntime) -> Result<(), Fail> {
+    let alloc = rt.alloc();
+    let (mut regs, mut bus, mut heap) = (regs_of(63, 0, 0x20000, 8), small_bus(alloc)?, HEAP);
+    // the first call takes all, the second finds the end, and the third would fail
+    let mut input = MemSource::new(b"abc".to_vec(alloc)?, [3].to_vec(alloc)?);
+    let mut out = MemSink::new(alloc, 0, Vec::new(alloc))?;
+    let mut err = MemSink::new(alloc, 0, Vec::new(alloc))?;
+    let called = call(
+        &mut regs, &mut bus, &mut heap, false, &mut input, &mut out, &mut err,
+    );
+    assert_eq!(rt; called, Ok(Called::Returned));
+    assert_eq!(rt; regs.get(Reg::of(10)), 3);
+    Ok(())
+}
+
 /// The address to which the break is to move, and where it then is.
 static BREAKS: [(u32, u32); 6] = [
     (0, 0x20100),
@@ -245,8 +261,8 @@ fn calls_are_told_after_what_they_write(rt: HostRuntime) -> Result<(), Fail> {
     Ok(())
 }
 
-/// A call's number and arguments, the calls that fail of the input, the output and the errors, 0 for none, and then the fault,
-/// the word at 0x20000, and what the output and the errors hold. The break stays.
+/// A call's number and arguments, the calls that fail of the input, the output and the errors, 0 for none, and then
+/// the fault, the word at 0x20000, and what the output and the errors hold. The break stays.
 #[derive(Drop)]
 struct Failure {
     call: (u32, u32, u32, u32),

@@ -13,7 +13,7 @@ use Rattle.swi_isa.specs.declared.instr.Instr.{Instr}
 use Rattle.swi_isa.specs.Decode.{decoded, decoded_by}
 use Rattle.swi_isa.specs.Table.{rows, Row, matches, made, Form, rd_of, rs1_of, rs2_of, imm_i, imm_s, imm_b, imm_u, imm_j}
 use Rattle.swi_isa.specs.Table.{Lui, Auipc, Jal, Jalr, Branch, Load, Store, OpImm, ShiftImm, Op, Amo, Fence, Ecall, Ebreak}
-use Rattle.swi_isa.proofs.Rows.{under_7, under_15, under_32, under_atomic, under_reserve}
+use Rattle.swi_isa.proofs.Masks.{under_7, under_15, under_32, under_atomic, under_reserve}
 use Rattle.swi_isa.proofs.Sums.{is_imm_i, is_imm_s, is_imm_b, is_imm_u, is_imm_j}
 use Rattle.swi_encode.specs.Canonical.{canonical}
 use Rattle.swi_encode.specs.Valid.{IsExtended, IsEven, ImmFits, AtomicFits, IsValid}

@@ -1,5 +1,5 @@
 -- The word of a valid instruction decodes to it.
-use Rattle.std.proofs.Common.{◌≡◌, ℕ, ◌+◌, ◌*◌, ◌/◌, ◌%◌, ◌^◌, ◌<◌, arith, refl, ap, ◌∙◌, Some}
+use Rattle.std.proofs.Common.{◌≡◌, ℕ, ◌+◌, ◌*◌, ◌/◌, ◌%◌, ◌^◌, ◌<◌, arith, ap, ◌∙◌, Some}
 use Rattle.std.proofs.lemmas.Bool.Decides.{nat_tests}
 use Rattle.swi_field.specs.Field.{field, extended}
 use Rattle.swi_isa.specs.declared.instr.BranchOp.{BranchOp}
@@ -18,7 +18,8 @@ use Rattle.swi_isa.specs.declared.instr.Instr.{Instr}
 use Rattle.swi_isa.specs.declared.instr.Instr.TheVariants as instr
 use Rattle.swi_isa.specs.Decode.{decoded}
 use Rattle.swi_isa.specs.Table.{rd_of, rs1_of, rs2_of, imm_i, imm_s, imm_b, imm_u, imm_j}
-use Rattle.swi_isa.proofs.Rows.{decoded_is, decoded_at}
+use Rattle.swi_isa.proofs.Masks.{under_7, under_15, under_32, under_atomic, under_reserve}
+use Rattle.swi_isa.proofs.Apart.{by_tests}
 use Rattle.swi_isa.proofs.Sums.{is_imm_i, is_imm_s, is_imm_b, is_imm_u, is_imm_j}
 use Rattle.swi_encode.specs.Valid.{IsExtended, IsEven, ImmFits, AtomicFits, IsValid}
 use Rattle.swi_encode.proofs.Codes.{branch_funct3_lt, load_funct3_lt, store_funct3_lt, op_funct3_lt, op_funct7_lt, atomic_funct5_lt}
@@ -127,44 +128,44 @@ r_fields : (w o f g rd rs1 rs2 : ℕ) → o < 128 → f < 8 → g < 128 → rd <
 r_fields w o f g rd rs1 rs2 p1 p2 p3 p4 p5 p6 is = record { word = omega arith; opcode = omega arith; funct3 = omega arith; funct7 = omega arith; dest = omega arith; first = omega arith; second = omega arith }
 
 branches : (op : BranchOp) (w rs1 rs2 off : ℕ) → BFields w (branch_funct3 op) rs1 rs2 off → decoded w ≡ Some (instr.Branch op rs1 rs2 off)
-branches Beq w rs1 rs2 off h = rw (decoded_is w 0x63 0 (field 31 25 w) h.word h.opcode h.funct3 refl) (cc)
-branches Bne w rs1 rs2 off h = rw (decoded_is w 0x63 1 (field 31 25 w) h.word h.opcode h.funct3 refl) (cc)
-branches Blt w rs1 rs2 off h = rw (decoded_is w 0x63 4 (field 31 25 w) h.word h.opcode h.funct3 refl) (cc)
-branches Bge w rs1 rs2 off h = rw (decoded_is w 0x63 5 (field 31 25 w) h.word h.opcode h.funct3 refl) (cc)
-branches Bltu w rs1 rs2 off h = rw (decoded_is w 0x63 6 (field 31 25 w) h.word h.opcode h.funct3 refl) (cc)
-branches Bgeu w rs1 rs2 off h = rw (decoded_is w 0x63 7 (field 31 25 w) h.word h.opcode h.funct3 refl) (cc)
+branches Beq w rs1 rs2 off h = grind (arith, by_tests, under_15)
+branches Bne w rs1 rs2 off h = grind (arith, by_tests, under_15)
+branches Blt w rs1 rs2 off h = grind (arith, by_tests, under_15)
+branches Bge w rs1 rs2 off h = grind (arith, by_tests, under_15)
+branches Bltu w rs1 rs2 off h = grind (arith, by_tests, under_15)
+branches Bgeu w rs1 rs2 off h = grind (arith, by_tests, under_15)
 
 loads : (op : LoadOp) (w rd rs1 imm : ℕ) → IFields w 3 (load_funct3 op) rd rs1 imm → decoded w ≡ Some (instr.Load op rd rs1 imm)
-loads Lb w rd rs1 imm h = rw (decoded_is w 3 0 (field 31 25 w) h.word h.opcode h.funct3 refl) (cc)
-loads Lh w rd rs1 imm h = rw (decoded_is w 3 1 (field 31 25 w) h.word h.opcode h.funct3 refl) (cc)
-loads Lw w rd rs1 imm h = rw (decoded_is w 3 2 (field 31 25 w) h.word h.opcode h.funct3 refl) (cc)
-loads Lbu w rd rs1 imm h = rw (decoded_is w 3 4 (field 31 25 w) h.word h.opcode h.funct3 refl) (cc)
-loads Lhu w rd rs1 imm h = rw (decoded_is w 3 5 (field 31 25 w) h.word h.opcode h.funct3 refl) (cc)
+loads Lb w rd rs1 imm h = grind (arith, by_tests, under_15)
+loads Lh w rd rs1 imm h = grind (arith, by_tests, under_15)
+loads Lw w rd rs1 imm h = grind (arith, by_tests, under_15)
+loads Lbu w rd rs1 imm h = grind (arith, by_tests, under_15)
+loads Lhu w rd rs1 imm h = grind (arith, by_tests, under_15)
 
 stores : (op : StoreOp) (w rs1 rs2 imm : ℕ) → SFields w (store_funct3 op) rs1 rs2 imm → decoded w ≡ Some (instr.Store op rs1 rs2 imm)
-stores Sb w rs1 rs2 imm h = rw (decoded_is w 0x23 0 (field 31 25 w) h.word h.opcode h.funct3 refl) (cc)
-stores Sh w rs1 rs2 imm h = rw (decoded_is w 0x23 1 (field 31 25 w) h.word h.opcode h.funct3 refl) (cc)
-stores Sw w rs1 rs2 imm h = rw (decoded_is w 0x23 2 (field 31 25 w) h.word h.opcode h.funct3 refl) (cc)
+stores Sb w rs1 rs2 imm h = grind (arith, by_tests, under_15)
+stores Sh w rs1 rs2 imm h = grind (arith, by_tests, under_15)
+stores Sw w rs1 rs2 imm h = grind (arith, by_tests, under_15)
 
 registers : (op : RegOp) (w rd rs1 rs2 : ℕ) → RFields w 0x33 (op_funct3 op) (op_funct7 op) rd rs1 rs2 → decoded w ≡ Some (instr.Op op rd rs1 rs2)
-registers Add w rd rs1 rs2 h = rw (decoded_is w 0x33 0 0 h.word h.opcode h.funct3 h.funct7) (cc)
-registers Sub w rd rs1 rs2 h = rw (decoded_is w 0x33 0 32 h.word h.opcode h.funct3 h.funct7) (cc)
-registers Sll w rd rs1 rs2 h = rw (decoded_is w 0x33 1 0 h.word h.opcode h.funct3 h.funct7) (cc)
-registers Slt w rd rs1 rs2 h = rw (decoded_is w 0x33 2 0 h.word h.opcode h.funct3 h.funct7) (cc)
-registers Sltu w rd rs1 rs2 h = rw (decoded_is w 0x33 3 0 h.word h.opcode h.funct3 h.funct7) (cc)
-registers Xor w rd rs1 rs2 h = rw (decoded_is w 0x33 4 0 h.word h.opcode h.funct3 h.funct7) (cc)
-registers Srl w rd rs1 rs2 h = rw (decoded_is w 0x33 5 0 h.word h.opcode h.funct3 h.funct7) (cc)
-registers Sra w rd rs1 rs2 h = rw (decoded_is w 0x33 5 32 h.word h.opcode h.funct3 h.funct7) (cc)
-registers Or w rd rs1 rs2 h = rw (decoded_is w 0x33 6 0 h.word h.opcode h.funct3 h.funct7) (cc)
-registers And w rd rs1 rs2 h = rw (decoded_is w 0x33 7 0 h.word h.opcode h.funct3 h.funct7) (cc)
-registers Mul w rd rs1 rs2 h = rw (decoded_is w 0x33 0 1 h.word h.opcode h.funct3 h.funct7) (cc)
-registers Mulh w rd rs1 rs2 h = rw (decoded_is w 0x33 1 1 h.word h.opcode h.funct3 h.funct7) (cc)
-registers Mulhsu w rd rs1 rs2 h = rw (decoded_is w 0x33 2 1 h.word h.opcode h.funct3 h.funct7) (cc)
-registers Mulhu w rd rs1 rs2 h = rw (decoded_is w 0x33 3 1 h.word h.opcode h.funct3 h.funct7) (cc)
-registers Div w rd rs1 rs2 h = rw (decoded_is w 0x33 4 1 h.word h.opcode h.funct3 h.funct7) (cc)
-registers Divu w rd rs1 rs2 h = rw (decoded_is w 0x33 5 1 h.word h.opcode h.funct3 h.funct7) (cc)
-registers Rem w rd rs1 rs2 h = rw (decoded_is w 0x33 6 1 h.word h.opcode h.funct3 h.funct7) (cc)
-registers Remu w rd rs1 rs2 h = rw (decoded_is w 0x33 7 1 h.word h.opcode h.funct3 h.funct7) (cc)
+registers Add w rd rs1 rs2 h = grind (arith, by_tests, under_32)
+registers Sub w rd rs1 rs2 h = grind (arith, by_tests, under_32)
+registers Sll w rd rs1 rs2 h = grind (arith, by_tests, under_32)
+registers Slt w rd rs1 rs2 h = grind (arith, by_tests, under_32)
+registers Sltu w rd rs1 rs2 h = grind (arith, by_tests, under_32)
+registers Xor w rd rs1 rs2 h = grind (arith, by_tests, under_32)
+registers Srl w rd rs1 rs2 h = grind (arith, by_tests, under_32)
+registers Sra w rd rs1 rs2 h = grind (arith, by_tests, under_32)
+registers Or w rd rs1 rs2 h = grind (arith, by_tests, under_32)
+registers And w rd rs1 rs2 h = grind (arith, by_tests, under_32)
+registers Mul w rd rs1 rs2 h = grind (arith, by_tests, under_32)
+registers Mulh w rd rs1 rs2 h = grind (arith, by_tests, under_32)
+registers Mulhsu w rd rs1 rs2 h = grind (arith, by_tests, under_32)
+registers Mulhu w rd rs1 rs2 h = grind (arith, by_tests, under_32)
+registers Div w rd rs1 rs2 h = grind (arith, by_tests, under_32)
+registers Divu w rd rs1 rs2 h = grind (arith, by_tests, under_32)
+registers Rem w rd rs1 rs2 h = grind (arith, by_tests, under_32)
+registers Remu w rd rs1 rs2 h = grind (arith, by_tests, under_32)
 
 record AFields (w h rd rs1 rs2 : ℕ) : Type 0 where
   word : w < 2 ^ 32
@@ -179,41 +180,41 @@ a_fields : (w h rd rs1 rs2 : ℕ) → h < 32 → rd < 32 → rs1 < 32 → rs2 < 
 a_fields w h rd rs1 rs2 p1 p2 p3 p4 is = record { word = omega arith; opcode = omega arith; funct3 = omega arith; funct5 = omega arith; dest = omega arith; first = omega arith; second = omega arith }
 
 atomics : (op : AtomicOp) (w rd rs1 rs2 : ℕ) → AFields w (atomic_funct5 op) rd rs1 rs2 → AtomicFits op rs2 → decoded w ≡ Some (instr.Atomic op rd rs1 rs2)
-atomics LrW w rd rs1 rs2 h fits = rw (decoded_at w 0x2F 2 (field 31 25 w) 2 0 h.word h.opcode h.funct3 refl h.funct5 (h.second ∙ fits)) (cc)
-atomics ScW w rd rs1 rs2 h fits = rw (decoded_at w 0x2F 2 (field 31 25 w) 3 (field 24 20 w) h.word h.opcode h.funct3 refl h.funct5 refl) (cc)
-atomics SwapW w rd rs1 rs2 h fits = rw (decoded_at w 0x2F 2 (field 31 25 w) 1 (field 24 20 w) h.word h.opcode h.funct3 refl h.funct5 refl) (cc)
-atomics AddW w rd rs1 rs2 h fits = rw (decoded_at w 0x2F 2 (field 31 25 w) 0 (field 24 20 w) h.word h.opcode h.funct3 refl h.funct5 refl) (cc)
-atomics XorW w rd rs1 rs2 h fits = rw (decoded_at w 0x2F 2 (field 31 25 w) 4 (field 24 20 w) h.word h.opcode h.funct3 refl h.funct5 refl) (cc)
-atomics AndW w rd rs1 rs2 h fits = rw (decoded_at w 0x2F 2 (field 31 25 w) 12 (field 24 20 w) h.word h.opcode h.funct3 refl h.funct5 refl) (cc)
-atomics OrW w rd rs1 rs2 h fits = rw (decoded_at w 0x2F 2 (field 31 25 w) 8 (field 24 20 w) h.word h.opcode h.funct3 refl h.funct5 refl) (cc)
-atomics MinW w rd rs1 rs2 h fits = rw (decoded_at w 0x2F 2 (field 31 25 w) 16 (field 24 20 w) h.word h.opcode h.funct3 refl h.funct5 refl) (cc)
-atomics MaxW w rd rs1 rs2 h fits = rw (decoded_at w 0x2F 2 (field 31 25 w) 20 (field 24 20 w) h.word h.opcode h.funct3 refl h.funct5 refl) (cc)
-atomics MinuW w rd rs1 rs2 h fits = rw (decoded_at w 0x2F 2 (field 31 25 w) 24 (field 24 20 w) h.word h.opcode h.funct3 refl h.funct5 refl) (cc)
-atomics MaxuW w rd rs1 rs2 h fits = rw (decoded_at w 0x2F 2 (field 31 25 w) 28 (field 24 20 w) h.word h.opcode h.funct3 refl h.funct5 refl) (cc)
+atomics LrW w rd rs1 rs2 h fits = grind (arith, by_tests, under_reserve)
+atomics ScW w rd rs1 rs2 h fits = grind (arith, by_tests, under_atomic)
+atomics SwapW w rd rs1 rs2 h fits = grind (arith, by_tests, under_atomic)
+atomics AddW w rd rs1 rs2 h fits = grind (arith, by_tests, under_atomic)
+atomics XorW w rd rs1 rs2 h fits = grind (arith, by_tests, under_atomic)
+atomics AndW w rd rs1 rs2 h fits = grind (arith, by_tests, under_atomic)
+atomics OrW w rd rs1 rs2 h fits = grind (arith, by_tests, under_atomic)
+atomics MinW w rd rs1 rs2 h fits = grind (arith, by_tests, under_atomic)
+atomics MaxW w rd rs1 rs2 h fits = grind (arith, by_tests, under_atomic)
+atomics MinuW w rd rs1 rs2 h fits = grind (arith, by_tests, under_atomic)
+atomics MaxuW w rd rs1 rs2 h fits = grind (arith, by_tests, under_atomic)
 
 alu : (op : ImmOp) (w rd rs1 imm : ℕ) → rd < 32 → rs1 < 32 → imm < 2 ^ 32 → ImmFits op imm → w ≡ alu_word op rd rs1 imm → decoded w ≡ Some (instr.Alu op rd rs1 imm)
-alu Addi w rd rs1 imm p1 p2 p3 fits is = let h : IFields w 0x13 0 rd rs1 imm = i_fields w 0x13 0 rd rs1 imm (omega arith) (omega arith) p1 p2 p3 fits is in rw (decoded_is w 0x13 0 (field 31 25 w) h.word h.opcode h.funct3 refl) (cc)
-alu Slti w rd rs1 imm p1 p2 p3 fits is = let h : IFields w 0x13 2 rd rs1 imm = i_fields w 0x13 2 rd rs1 imm (omega arith) (omega arith) p1 p2 p3 fits is in rw (decoded_is w 0x13 2 (field 31 25 w) h.word h.opcode h.funct3 refl) (cc)
-alu Sltiu w rd rs1 imm p1 p2 p3 fits is = let h : IFields w 0x13 3 rd rs1 imm = i_fields w 0x13 3 rd rs1 imm (omega arith) (omega arith) p1 p2 p3 fits is in rw (decoded_is w 0x13 3 (field 31 25 w) h.word h.opcode h.funct3 refl) (cc)
-alu Xori w rd rs1 imm p1 p2 p3 fits is = let h : IFields w 0x13 4 rd rs1 imm = i_fields w 0x13 4 rd rs1 imm (omega arith) (omega arith) p1 p2 p3 fits is in rw (decoded_is w 0x13 4 (field 31 25 w) h.word h.opcode h.funct3 refl) (cc)
-alu Ori w rd rs1 imm p1 p2 p3 fits is = let h : IFields w 0x13 6 rd rs1 imm = i_fields w 0x13 6 rd rs1 imm (omega arith) (omega arith) p1 p2 p3 fits is in rw (decoded_is w 0x13 6 (field 31 25 w) h.word h.opcode h.funct3 refl) (cc)
-alu Andi w rd rs1 imm p1 p2 p3 fits is = let h : IFields w 0x13 7 rd rs1 imm = i_fields w 0x13 7 rd rs1 imm (omega arith) (omega arith) p1 p2 p3 fits is in rw (decoded_is w 0x13 7 (field 31 25 w) h.word h.opcode h.funct3 refl) (cc)
-alu Slli w rd rs1 imm p1 p2 p3 fits is = let h : RFields w 0x13 1 0 rd rs1 imm = r_fields w 0x13 1 0 rd rs1 imm (omega arith) (omega arith) (omega arith) p1 p2 fits is in rw (decoded_is w 0x13 1 0 h.word h.opcode h.funct3 h.funct7) (cc)
-alu Srli w rd rs1 imm p1 p2 p3 fits is = let h : RFields w 0x13 5 0 rd rs1 imm = r_fields w 0x13 5 0 rd rs1 imm (omega arith) (omega arith) (omega arith) p1 p2 fits is in rw (decoded_is w 0x13 5 0 h.word h.opcode h.funct3 h.funct7) (cc)
-alu Srai w rd rs1 imm p1 p2 p3 fits is = let h : RFields w 0x13 5 32 rd rs1 imm = r_fields w 0x13 5 32 rd rs1 imm (omega arith) (omega arith) (omega arith) p1 p2 fits is in rw (decoded_is w 0x13 5 32 h.word h.opcode h.funct3 h.funct7) (cc)
+alu Addi w rd rs1 imm p1 p2 p3 fits is = let h : IFields w 0x13 0 rd rs1 imm = i_fields w 0x13 0 rd rs1 imm (omega arith) (omega arith) p1 p2 p3 fits is in grind (arith, by_tests, under_15)
+alu Slti w rd rs1 imm p1 p2 p3 fits is = let h : IFields w 0x13 2 rd rs1 imm = i_fields w 0x13 2 rd rs1 imm (omega arith) (omega arith) p1 p2 p3 fits is in grind (arith, by_tests, under_15)
+alu Sltiu w rd rs1 imm p1 p2 p3 fits is = let h : IFields w 0x13 3 rd rs1 imm = i_fields w 0x13 3 rd rs1 imm (omega arith) (omega arith) p1 p2 p3 fits is in grind (arith, by_tests, under_15)
+alu Xori w rd rs1 imm p1 p2 p3 fits is = let h : IFields w 0x13 4 rd rs1 imm = i_fields w 0x13 4 rd rs1 imm (omega arith) (omega arith) p1 p2 p3 fits is in grind (arith, by_tests, under_15)
+alu Ori w rd rs1 imm p1 p2 p3 fits is = let h : IFields w 0x13 6 rd rs1 imm = i_fields w 0x13 6 rd rs1 imm (omega arith) (omega arith) p1 p2 p3 fits is in grind (arith, by_tests, under_15)
+alu Andi w rd rs1 imm p1 p2 p3 fits is = let h : IFields w 0x13 7 rd rs1 imm = i_fields w 0x13 7 rd rs1 imm (omega arith) (omega arith) p1 p2 p3 fits is in grind (arith, by_tests, under_15)
+alu Slli w rd rs1 imm p1 p2 p3 fits is = let h : RFields w 0x13 1 0 rd rs1 imm = r_fields w 0x13 1 0 rd rs1 imm (omega arith) (omega arith) (omega arith) p1 p2 fits is in grind (arith, by_tests, under_32)
+alu Srli w rd rs1 imm p1 p2 p3 fits is = let h : RFields w 0x13 5 0 rd rs1 imm = r_fields w 0x13 5 0 rd rs1 imm (omega arith) (omega arith) (omega arith) p1 p2 fits is in grind (arith, by_tests, under_32)
+alu Srai w rd rs1 imm p1 p2 p3 fits is = let h : RFields w 0x13 5 32 rd rs1 imm = r_fields w 0x13 5 32 rd rs1 imm (omega arith) (omega arith) (omega arith) p1 p2 fits is in grind (arith, by_tests, under_32)
 
 -- the word of a valid instruction decodes to it
 pub decoded-word_of : (i : Instr) (w : ℕ) → w ≡ word_of i → InRange i → IsValid i → decoded w ≡ Some i
-decoded-word_of (instr.Lui rd imm) w is r v = let h : UFields w 0x37 rd imm = u_fields w 0x37 rd imm (omega arith) r.0 r.1 v is in rw (decoded_is w 0x37 (field 14 12 w) (field 31 25 w) h.word h.opcode refl refl) (cc)
-decoded-word_of (instr.Auipc rd imm) w is r v = let h : UFields w 0x17 rd imm = u_fields w 0x17 rd imm (omega arith) r.0 r.1 v is in rw (decoded_is w 0x17 (field 14 12 w) (field 31 25 w) h.word h.opcode refl refl) (cc)
-decoded-word_of (instr.Jal rd off) w is r v = let h : JFields w rd off = j_fields w rd off r.0 r.1 v.0 v.1 is in rw (decoded_is w 0x6F (field 14 12 w) (field 31 25 w) h.word h.opcode refl refl) (cc)
-decoded-word_of (instr.Jalr rd rs1 imm) w is r v = let h : IFields w 0x67 0 rd rs1 imm = i_fields w 0x67 0 rd rs1 imm (omega arith) (omega arith) r.0 r.1 r.2 v is in rw (decoded_is w 0x67 0 (field 31 25 w) h.word h.opcode h.funct3 refl) (cc)
+decoded-word_of (instr.Lui rd imm) w is r v = let h : UFields w 0x37 rd imm = u_fields w 0x37 rd imm (omega arith) r.0 r.1 v is in grind (arith, by_tests, under_7)
+decoded-word_of (instr.Auipc rd imm) w is r v = let h : UFields w 0x17 rd imm = u_fields w 0x17 rd imm (omega arith) r.0 r.1 v is in grind (arith, by_tests, under_7)
+decoded-word_of (instr.Jal rd off) w is r v = let h : JFields w rd off = j_fields w rd off r.0 r.1 v.0 v.1 is in grind (arith, by_tests, under_7)
+decoded-word_of (instr.Jalr rd rs1 imm) w is r v = let h : IFields w 0x67 0 rd rs1 imm = i_fields w 0x67 0 rd rs1 imm (omega arith) (omega arith) r.0 r.1 r.2 v is in grind (arith, by_tests, under_15)
 decoded-word_of (instr.Branch op rs1 rs2 off) w is r v = branches op w rs1 rs2 off (b_fields w (branch_funct3 op) rs1 rs2 off (branch_funct3_lt op) r.0 r.1 r.2 v.0 v.1 is)
 decoded-word_of (instr.Load op rd rs1 imm) w is r v = loads op w rd rs1 imm (i_fields w 3 (load_funct3 op) rd rs1 imm (omega arith) (load_funct3_lt op) r.0 r.1 r.2 v is)
 decoded-word_of (instr.Store op rs1 rs2 imm) w is r v = stores op w rs1 rs2 imm (s_fields w (store_funct3 op) rs1 rs2 imm (store_funct3_lt op) r.0 r.1 r.2 v is)
 decoded-word_of (instr.Alu op rd rs1 imm) w is r v = alu op w rd rs1 imm r.0 r.1 r.2 v is
 decoded-word_of (instr.Op op rd rs1 rs2) w is r v = registers op w rd rs1 rs2 (r_fields w 0x33 (op_funct3 op) (op_funct7 op) rd rs1 rs2 (omega arith) (op_funct3_lt op) (op_funct7_lt op) r.0 r.1 r.2 is)
 decoded-word_of (instr.Atomic op rd rs1 rs2) w is r v = atomics op w rd rs1 rs2 (a_fields w (atomic_funct5 op) rd rs1 rs2 (atomic_funct5_lt op) r.0 r.1 r.2 is) v
-decoded-word_of instr.Fence w is r v = rw is (decoded_is 0x0FF0000F 0x0F 0 7 (omega arith) refl refl refl)
-decoded-word_of instr.Ecall w is r v = rw is (decoded_is 0x73 0x73 0 0 (omega arith) refl refl refl)
-decoded-word_of instr.Ebreak w is r v = rw is (decoded_is 0x100073 0x73 0 0 (omega arith) refl refl refl)
+decoded-word_of instr.Fence w is r v = rw is (grind (arith, by_tests))
+decoded-word_of instr.Ecall w is r v = rw is (grind (arith, by_tests))
+decoded-word_of instr.Ebreak w is r v = rw is (grind (arith, by_tests))

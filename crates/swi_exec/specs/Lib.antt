@@ -1,3 +1,4 @@
 pub mod Arithmetic
 pub mod Execute
 pub mod Registers
+pub mod StoresText

@@ -1,8 +1,12 @@
 //! The instructions of the A extension, on a hart that is alone with its memory.
 #![tactic(auto)]
 
-ghost use Rattle.std.specs.Prelude.{◌≡◌};
-ghost use Rattle.swi_exec.specs.Execute.{loads_reserved, stores_conditionally, updates, atomic_effect, StaysUnlessNext};
+ghost use Rattle.std.specs.Prelude.{◌≡◌, ◌%◌, ℕ, None};
+ghost use Rattle.swi_isa.specs.declared.instr.AtomicOp.TheVariants.{ScW};
+ghost use Rattle.swi_memory.specs.Bus.{fetched};
+ghost use Rattle.swi_exec.specs.declared.done.Done.TheVariants.{Call};
+ghost use Rattle.swi_exec.specs.Execute.{loads_reserved, stores_conditionally, updates, atomic_effect, lets_update, IsAligned, StaysUnlessNext};
+ghost use Rattle.swi_exec.specs.StoresText.{atomic_into_text, into_text};
 
 use crate::done::{Done, FaultKind};
 use crate::registers::Regs;
@@ -12,8 +16,10 @@ use swi_memory::Bus;
 
 /// LR.W: puts the word at `a` into rd, and reserves `a`.
 fn load_reserved(rd: Reg, a: u32, pc: u32, regs: &mut Regs, bus: &Bus) -> Done
+    requires { pc % 4 ≡ 0 }
     ensures done { result ≡ (loads_reserved rd a pc regs.old bus.now).done }
     ensures regs { regs.new ≡ (loads_reserved rd a pc regs.old bus.now).regs }
+    ensures aligned { IsAligned result }
     ensures unchanged { StaysUnlessNext result regs.old regs.new bus.now bus.now }
 {
     if a % 4 != 0 {
@@ -30,10 +36,13 @@ fn load_reserved(rd: Reg, a: u32, pc: u32, regs: &mut Regs, bus: &Bus) -> Done
 /// SC.W: stores `v` at `a` and puts 0 into rd where `a` is reserved, and else puts 1 into rd. Nothing
 /// is reserved afterwards, unless it faults.
 fn store_conditional(rd: Reg, a: u32, v: u32, pc: u32, regs: &mut Regs, bus: &mut Bus) -> Done
+    requires { pc % 4 ≡ 0 }
     ensures done { result ≡ (stores_conditionally rd a v pc regs.old bus.old).done }
     ensures regs { regs.new ≡ (stores_conditionally rd a v pc regs.old bus.old).regs }
     ensures bus { bus.new ≡ (stores_conditionally rd a v pc regs.old bus.old).bus }
+    ensures aligned { IsAligned result }
     ensures unchanged { StaysUnlessNext result regs.old regs.new bus.old bus.new }
+    ensures text { atomic_into_text ScW a regs.old bus.old ≡ None → (x : ℕ) → fetched bus.new x ≡ fetched bus.old x }
 {
     if a % 4 != 0 {
         return Done::Fault(FaultKind::StoreAccess, a);
@@ -55,10 +64,14 @@ fn store_conditional(rd: Reg, a: u32, v: u32, pc: u32, regs: &mut Regs, bus: &mu
 
 /// An AMO: puts the word at `a` into rd, and stores there the new word of it and `v`.
 fn update(op: AtomicOp, rd: Reg, a: u32, v: u32, pc: u32, regs: &mut Regs, bus: &mut Bus) -> Done
+    requires { pc % 4 ≡ 0 }
     ensures done { result ≡ (updates op rd a v pc regs.old bus.old).done }
     ensures regs { regs.new ≡ (updates op rd a v pc regs.old bus.old).regs }
     ensures bus { bus.new ≡ (updates op rd a v pc regs.old bus.old).bus }
+    ensures aligned { IsAligned result }
     ensures unchanged { StaysUnlessNext result regs.old regs.new bus.old bus.new }
+    ensures text { into_text bus.old (lets_update bus.old a) a 4 ≡ None →
+        (x : ℕ) → fetched bus.new x ≡ fetched bus.old x }
 {
     if a % 4 != 0 {
         return Done::Fault(FaultKind::StoreAccess, a);
@@ -84,10 +97,14 @@ pub fn atomic(
     regs: &mut Regs,
     bus: &mut Bus,
 ) -> Done
+    requires { pc % 4 ≡ 0 }
     ensures done { result ≡ (atomic_effect op rd a v pc regs.old bus.old).done }
     ensures regs { regs.new ≡ (atomic_effect op rd a v pc regs.old bus.old).regs }
     ensures bus { bus.new ≡ (atomic_effect op rd a v pc regs.old bus.old).bus }
+    ensures aligned { IsAligned result }
     ensures unchanged { StaysUnlessNext result regs.old regs.new bus.old bus.new }
+    ensures text { atomic_into_text op a regs.old bus.old ≡ None → (x : ℕ) → fetched bus.new x ≡ fetched bus.old x }
+    ensures call { result ≡ Call → ⊥ }
 {
     match op {
         AtomicOp::LrW => load_reserved(rd, a, pc, regs, bus),

@@ -1,9 +1,8 @@
 //! How an instruction ends.
 #![tactic(auto)]
 
-/// Why a run stops at an instruction. The names are those of exceptions of the RISC-V privileged
-/// specification. A misaligned load or store goes byte by byte, and a misaligned LR.W, SC.W or AMO is an
-/// access fault: own rule.
+/// Why a run stops at an instruction, after the exceptions of the RISC-V privileged specification. A misaligned
+/// load or store goes byte by byte, and a misaligned LR.W, SC.W or AMO is an access fault: own rule.
 #[derive(Clone, Copy, PartialEq, Eq, Debug)]
 pub enum FaultKind {
     /// A taken branch, JAL or JALR goes to an address that is not a multiple of 4.

@@ -1,8 +1,12 @@
 //! One instruction.
 #![tactic(auto)]
 
-ghost use Rattle.std.specs.Prelude.{◌≡◌, ◌%◌};
+ghost use Rattle.std.specs.Prelude.{◌≡◌, ◌%◌, ℕ, None};
+ghost use Rattle.swi_isa.specs.declared.instr.Instr.TheVariants.{Ecall};
+ghost use Rattle.swi_memory.specs.Bus.{fetched};
+ghost use Rattle.swi_exec.specs.declared.done.Done.TheVariants.{Call};
 ghost use Rattle.swi_exec.specs.Execute.{executed, IsAligned, StaysUnlessNext};
+ghost use Rattle.swi_exec.specs.StoresText.{text_store_of};
 
 use crate::atomic::atomic;
 use crate::done::{Done, FaultKind};
@@ -14,8 +18,8 @@ use swi_memory::Bus;
 /// Executes one instruction that stands at pc, a multiple of 4, and says what comes after it.
 ///
 /// An ECALL, an EBREAK and a fault change neither registers nor memory: the caller does the system
-/// call, or ends the run. FENCE changes nothing. The bits aq and rl of the atomic instructions have no
-/// meaning on one hart.
+/// call, or ends the run. Only ECALL answers Call. FENCE changes nothing. Where `text_store` is None every text
+/// word stays as it is. The bits aq and rl of the atomic instructions have no meaning on one hart.
 ///
 /// Source: RISC-V unprivileged specification, RV32I, and the M and A extensions. What a misaligned access
 /// does, which accesses fault, and when SC.W stores: own rule.
@@ -27,6 +31,8 @@ pub fn exec(instr: &Instr, pc: u32, regs: &mut Regs, bus: &mut Bus) -> Done
     ensures bus { bus.new ≡ (executed instr.now pc regs.old bus.old).bus }
     ensures aligned { IsAligned result }
     ensures unchanged { StaysUnlessNext result regs.old regs.new bus.old bus.new }
+    ensures call { result ≡ Call → instr.now ≡ Ecall }
+    ensures text { text_store_of instr.now regs.old bus.old ≡ None → (a : ℕ) → fetched bus.new a ≡ fetched bus.old a }
 {
     let next = pc.wrapping_add(4);
     match *instr {

@@ -6,12 +6,13 @@ mod atomic;
 mod done;
 mod executor;
 mod registers;
+mod stores_text;
 mod values;
 
 pub use done::{Done, FaultKind};
 pub use executor::exec;
 pub use registers::Regs;
-pub use values::size_of_store;
+pub use stores_text::{store_into_text, text_store};
 
 #[cfg(test)]
 mod tests;

@@ -272,7 +272,7 @@ static VALUES: [(u32, u32, u32, u32); 198] = [
 ];
 
 /// A word, its address, x1 and x2, and then the pc, x1 and x3.
-static JUMPS: [(u32, u32, u32, u32, u32, u32, u32); 37] = [
+static JUMPS: [(u32, u32, u32, u32, u32, u32, u32); 38] = [
     // beq
     (0x00208463, 0x10000058, 0x5, 0x5, 0x10000060, 0x5, 0x55),
     (
@@ -345,22 +345,24 @@ static JUMPS: [(u32, u32, u32, u32, u32, u32, u32); 37] = [
         0x0020F463, 0x10001088, 0xFFFFFFFF, 0xFFFFFFFF, 0x10001090, 0xFFFFFFFF, 0x55,
     ),
     (0x0020F463, 0x1000111C, 0x2, 0x3, 0x10001120, 0x2, 0x55),
+    // bne
+    (0x00001163, 0x100011B0, 0, 0, 0x100011B4, 0, 0x55),
     // jal
-    (0x008001EF, 0x100011B0, 0, 0, 0x100011B8, 0, 0x100011B4),
-    (0x0080006F, 0x10001244, 0, 0, 0x1000124C, 0, 0x55),
+    (0x008001EF, 0x10001244, 0, 0, 0x1000124C, 0, 0x10001248),
+    (0x0080006F, 0x100012D8, 0, 0, 0x100012E0, 0, 0x55),
     // jalr
     (
-        0x000081E7, 0x100012DC, 0x100012E4, 0, 0x100012E4, 0x100012E4, 0x100012E0,
+        0x000081E7, 0x10001370, 0x10001378, 0, 0x10001378, 0x10001378, 0x10001374,
     ),
     (
-        0x001081E7, 0x10001374, 0x1000137C, 0, 0x1000137C, 0x1000137C, 0x10001378,
+        0x001081E7, 0x10001408, 0x10001410, 0, 0x10001410, 0x10001410, 0x1000140C,
     ),
     (
-        0xFFC080E7, 0x1000140C, 0x10001418, 0, 0x10001414, 0x10001410, 0x55,
+        0xFFC080E7, 0x100014A0, 0x100014AC, 0, 0x100014A8, 0x100014A4, 0x55,
     ),
     // auipc
-    (0x80000197, 0x100014A0, 0, 0, 0x100014A4, 0, 0x900014A0),
-    (0x00012197, 0x10001534, 0, 0, 0x10001538, 0, 0x10013534),
+    (0x80000197, 0x10001534, 0, 0, 0x10001538, 0, 0x90001534),
+    (0x00012197, 0x100015C8, 0, 0, 0x100015CC, 0, 0x100135C8),
 ];
 
 /// A word, the address that is reserved, or 0 for none, x1 and x2, and then x2, x3 and the two words from
@@ -609,6 +611,19 @@ fn a_reservation_lasts_until_the_next_sc(rt: HostRuntime) {
     assert_eq!(rt; bus.load(0x20000, 4), Ok(7));
     exec(&instr_of(0x1820A1AF), 0x10000, &mut regs, &mut bus);
     assert_eq!(rt; regs.get(Reg::of(3)), 1);
+}
+
+// lr.w at x1, sc.w of x2 at x2, and then at x1: what qemu-riscv32 answers, too
+#[test]
+fn an_sc_to_another_address_ends_the_reservation(rt: HostRuntime) {
+    let mut bus = bus_of_rows(rt.alloc()).expect(&rt, "no memory");
+    let mut regs = regs_of(0x20000, 0x20004);
+    for (word, x3) in [(0x1000A1AF, 0), (0x182121AF, 1), (0x1820A1AF, 1)] {
+        exec(&instr_of(word), 0x10000, &mut regs, &mut bus);
+        assert_eq!(rt; regs.get(Reg::of(3)), x3, "{word:08X}");
+        assert_eq!(rt; bus.load(0x20000, 4), Ok(0), "{word:08X}");
+        assert_eq!(rt; bus.load(0x20004, 4), Ok(0), "{word:08X}");
+    }
 }
 
 #[test]

@@ -1,66 +1,16 @@
 -- Runs of the flat machine, step by step.
-use Rattle.std.proofs.Common.{◌≡◌, ℕ, zero, suc, ◌+◌, ◌-◌, ◌≤◌, true, false, refl, sym, ap, subst, ◌∙◌, is_some, Bool, Option, Some, List, [], ◌++◌, append_assoc, arith}
-use Rattle.std.proofs.lemmas.List.{append-nil}
+use Rattle.std.proofs.Common.{◌≡◌, ℕ, ◌+◌, ◌-◌, ◌≤◌, true, false, refl, sym, ap, subst, ◌∙◌, is_some, Option, Some, List, [], ◌++◌, take}
 use Rattle.std.specs.Io.KnownBytes.{Appends}
-use Rattle.swi_outside.specs.Sink.{AppendsPrefix}
+use Rattle.swi_outside.specs.Sink.{AppendsPrefix, AppendsThenPrefix}
 use Rattle.swi_calls.specs.Call.{room_of_call, second_argument}
-use Rattle.swi_calls.specs.State.{Machine, FlatState}
-use Rattle.swi_calls.specs.Flat.{Made, made, flat_step, flat_run, started}
+use Rattle.swi_calls.specs.declared.machine.Machine.{Machine}
+use Rattle.swi_calls.specs.State.{FlatState}
+use Rattle.swi_calls.specs.Flat.{made, flat_step, flat_run, started}
 use Rattle.swi_calls.specs.Moves.{ReadsInto}
-use Rattle.swi_flat.specs.FlatData.{FlatData, sound, stopped, state_at, FillsFront}
-use Rattle.swi_outside.proofs.SinkLemmas.{Appends-none, Appends-append, prefix_behind}
-
-flat_run_none : (s : FlatState) → flat_run 0 s ≡ s
-unfolding flat_run
-flat_run_none s = refl
-
--- with an ending nothing changes
-flat_run_over : (k : ℕ) (s : FlatState) → is_some s.machine.ending ≡ true → flat_run k s ≡ s
-unfolding flat_run
-flat_run_over zero s over = refl
-flat_run_over (suc k) s over = rw over refl
-
--- without one a step is made
-flat_run_more : (k : ℕ) (s : FlatState) → is_some s.machine.ending ≡ false → flat_run (suc k) s ≡ flat_run k (flat_step s)
-unfolding flat_run
-flat_run_more k s going = rw going refl
-
--- a run of a steps and then b
-flat_run_sum_by : (a b : ℕ) (s : FlatState) (over : Bool) → is_some s.machine.ending ≡ over →
-    flat_run (a + b) (flat_step s) ≡ flat_run b (flat_run a (flat_step s)) → flat_run (suc (a + b)) s ≡ flat_run b (flat_run (suc a) s)
-flat_run_sum_by a b s true over rest = rw (flat_run_over (suc a) s over, flat_run_over b s over, flat_run_over (suc (a + b)) s over) refl
-flat_run_sum_by a b s false going rest = rw (flat_run_more a s going, flat_run_more (a + b) s going) rest
-
-flat_run_sum : (a b : ℕ) (s : FlatState) → flat_run (a + b) s ≡ flat_run b (flat_run a s)
-flat_run_sum zero b s = let none : zero + b ≡ b = omega arith in rw (none, flat_run_none s) refl
-flat_run_sum (suc a) b s =
-    let more : suc a + b ≡ suc (a + b) = omega arith in
-    rw more (flat_run_sum_by a b s (is_some s.machine.ending) refl (flat_run_sum a b (flat_step s)))
-
--- what was written stays at the front
-record Grown (before after : FlatState) : Type 0 where
-  output : List ℕ
-  error : List ℕ
-  output_is : after.output ≡ before.output ++ output
-  error_is : after.error ≡ before.error ++ error
-
-grown_none : (s : FlatState) → Grown s s
-grown_none s = record { output = []; error = []; output_is = sym (append-nil s.output); error_is = sym (append-nil s.error) }
-
-grown_step : (k : ℕ) (s : FlatState) (b : Bool) → is_some s.machine.ending ≡ b → Grown (flat_step s) (flat_run k (flat_step s)) → Grown s (flat_run (suc k) s)
-grown_step k s true over rest = rw (flat_run_over (suc k) s over) (grown_none s)
-grown_step k s false going rest =
-    let m : Made = made s.machine s.input in
-    rw (flat_run_more k s going) (record {
-      output = m.output ++ rest.output;
-      error = m.error ++ rest.error;
-      output_is = rest.output_is ∙ append_assoc s.output m.output rest.output;
-      error_is = rest.error_is ∙ append_assoc s.error m.error rest.error;
-    })
-
-grown : (k : ℕ) (s : FlatState) → Grown s (flat_run k s)
-grown zero s = rw (flat_run_none s) (grown_none s)
-grown (suc k) s = grown_step k s (is_some s.machine.ending) refl (grown k (flat_step s))
+use Rattle.swi_calls.specs.Laws.{flat_run_none, flat_run_over, flat_run_more}
+use Rattle.swi_flat.specs.Laws.{flat_run_sum}
+use Rattle.swi_flat.specs.FlatData.{FlatData, unfailed, stopped, state_at, next_made, FillsFront}
+use Rattle.swi_outside.specs.Laws.{Appends-none, Appends-append}
 
 -- A run from its start that has made so many steps: what was taken and written so far, and that the definition's run of as many
 -- steps comes to the machine now, with just that.
@@ -92,12 +42,12 @@ pub record Complete (all : ℕ) (first now : Machine) (left : List ℕ) (left_no
   pub out : Appends out_first out_now (flat_run all (started first left)).output
   pub err : Appends err_first err_now (flat_run all (started first left)).error
 
--- a run whose next step failed: where it stands, and that what was written is a prefix of what all its steps write
-pub record Broken (all : ℕ) (first : Machine) (next : FlatData) (left : List ℕ) (left_next out_first out_next err_first err_next : Option (List ℕ)) : Type 0 where
+-- a run whose next step failed: where it stands, and what the sinks hold
+pub record Broken (first : Machine) (next : FlatData) (left : List ℕ) (left_next out_first out_next err_first err_next : Option (List ℕ)) : Type 0 where
   pub stays : next ≡ stopped (state_at next.machine.steps first left).machine next.machine.bus
   pub front : FillsFront (state_at next.machine.steps first left) next.machine.bus left_next
-  pub out : AppendsPrefix out_first out_next (flat_run all (started first left)).output
-  pub err : AppendsPrefix err_first err_next (flat_run all (started first left)).error
+  pub out : AppendsThenPrefix out_first out_next (state_at next.machine.steps first left).output (next_made (state_at next.machine.steps first left)).output
+  pub err : AppendsThenPrefix err_first err_next (state_at next.machine.steps first left).error (next_made (state_at next.machine.steps first left)).error
 
 module _ {steps : ℕ} {first now : Machine} {left : List ℕ} {left_now out_first out_now err_first err_now : Option (List ℕ)}
     (h : SoFar steps first now left left_now out_first out_now err_first err_now) where
@@ -134,25 +84,27 @@ module _ {steps : ℕ} {first now : Machine} {left : List ℕ} {left_now out_fir
   pub so_far_all : {all : ℕ} → all ≡ steps + 0 → Complete all first now left left_now out_first out_now err_first err_now
   so_far_all {all} whole = complete 0 whole (flat_run_none reached)
 
+  -- the state that is reached after as many steps
+  pub state_is : (count : ℕ) → count - first.steps ≡ steps → state_at count first left ≡ reached
+  state_is count counted = ap (λ k. flat_run k (started first left)) counted ∙ h.run
+
   -- a step that failed
-  pub so_far_broken : {all : ℕ} {next : FlatData} {left_next out_next err_next : Option (List ℕ)} (fewer : ℕ) →
-      all ≡ steps + suc fewer → next.machine.steps - first.steps ≡ steps → is_some now.ending ≡ false → next ≡ stopped now next.machine.bus →
+  pub so_far_broken : {next : FlatData} {left_next out_next err_next : Option (List ℕ)} → next.machine.steps - first.steps ≡ steps →
+      next ≡ stopped now next.machine.bus →
       (k : ℕ) × (k ≤ room_of_call now.regs now.bus) × ReadsInto now.bus next.machine.bus left_now left_next (second_argument now.regs) k →
       AppendsPrefix out_now out_next (made now h.input).output → AppendsPrefix err_now err_next (made now h.input).error →
-      Broken all first next left left_next out_first out_next err_first err_next
-  so_far_broken {all} {next} {left_next} {out_next} {err_next} fewer whole counted going is fills writes tells =
-      let m : Made = made now h.input in
-      let rest : Grown (flat_step reached) (flat_run fewer (flat_step reached)) = grown fewer (flat_step reached) in
-      let here : state_at next.machine.steps first left ≡ reached = ap (λ k. flat_run k (started first left)) counted ∙ h.run in
-      let end : flat_run all (started first left) ≡ flat_run fewer (flat_step reached) =
-      ap (λ k. flat_run k (started first left)) whole ∙ further (suc fewer) ∙ flat_run_more fewer reached going in
+      Broken first next left left_next out_first out_next err_first err_next
+  so_far_broken {next} {left_next} {out_next} {err_next} counted is fills writes tells =
+      let here : state_at next.machine.steps first left ≡ reached = state_is next.machine.steps counted in
       record {
         stays = subst (λ (s : FlatState). next ≡ stopped s.machine next.machine.bus) (sym here) is;
         front = subst (λ (s : FlatState). FillsFront s next.machine.bus left_next) (sym here)
             (subst (λ l. (k : ℕ) × (k ≤ room_of_call now.regs now.bus) × ReadsInto now.bus next.machine.bus l left_next (second_argument now.regs) k) h.left_is fills);
-        out = rw (end, rest.output_is, append_assoc h.output m.output rest.output) (prefix_behind out_first out_now out_next h.output m.output rest.output h.out writes);
-        err = rw (end, rest.error_is, append_assoc h.error m.error rest.error) (prefix_behind err_first err_now err_next h.error m.error rest.error h.err tells);
+        out = subst (λ (s : FlatState). AppendsThenPrefix out_first out_next s.output (next_made s).output) (sym here)
+            (writes.0, Appends-append out_first out_now out_next h.output (take writes.0 (made now h.input).output) h.out writes.1);
+        err = subst (λ (s : FlatState). AppendsThenPrefix err_first err_next s.error (next_made s).error) (sym here)
+            (tells.0, Appends-append err_first err_now err_next h.error (take tells.0 (made now h.input).error) h.err tells.1);
       }
 
-pub data_is : (f : FlatData) (m : Machine) → f.machine ≡ m → f.failed ≡ false → f ≡ sound m
-data_is f m e unfailed = rw (← e, ← unfailed) refl
+pub data_is : (f : FlatData) (m : Machine) → f.machine ≡ m → f.failed ≡ false → f ≡ unfailed m
+data_is f m e none_failed = rw (← e, ← none_failed) refl

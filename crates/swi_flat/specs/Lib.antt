@@ -1,1 +1,2 @@
 pub mod FlatData
+pub mod Laws

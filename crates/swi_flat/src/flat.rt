@@ -1,20 +1,22 @@
 //! One step, and many.
 #![tactic(auto)]
 
-ghost use Rattle.std.specs.Prelude.{◌≡◌, ◌<◌, ◌≤◌, ◌+◌, ◌-◌, ◌^◌, ℕ, None, Some, true, false, IfOk, OnOk, OnErr, IsErrOf};
+ghost use Rattle.std.specs.Prelude.{◌≡◌, ◌<◌, ◌≤◌, ◌+◌, ◌-◌, ◌^◌, ℕ, List, [], None, Some, true, false, IfOk, OnOk, OnErr, IsErrOf};
 ghost use Rattle.std.specs.Option.{ForSome};
 ghost use Rattle.std.specs.Io.KnownBytes.{Appends};
-ghost use Rattle.swi_outside.specs.Sink.{AppendsPrefix};
+ghost use Rattle.swi_outside.specs.Sink.{AppendsPrefix, AppendsThenPrefix};
 ghost use Rattle.swi_calls.specs.Call.{room_of_call, second_argument};
 ghost use Rattle.swi_calls.specs.Causes.{HasCauses};
-ghost use Rattle.swi_calls.specs.Flat.{ended, call_made, made, flat_run, started, machine_of};
+ghost use Rattle.swi_calls.specs.Flat.{made, flat_run, started, machine_of};
 ghost use Rattle.swi_calls.specs.Moves.{ReadsInto};
-ghost use Rattle.swi_flat.specs.FlatData.{sound, stopped, state_at, FillsFront};
+ghost use Rattle.swi_flat.specs.FlatData.{unfailed, stopped, state_at, next_made, FillsFront};
+ghost use Rattle.swi_memory.specs.Bus.{fetched};
 ghost use Rattle.swi_program.specs.Layout.{IsLayoutOf};
+ghost use Rattle.swi_program.specs.Text.{text_of, word_of};
 
 use std::alloc::Global;
 use std::marker::Model;
-use swi_calls::{CallFault, Called, End, Heap, call};
+use swi_calls::{CallFault, End, Heap, Machine};
 use swi_exec::{Done, FaultKind, Regs, exec};
 use swi_isa::{Reg, decode};
 use swi_memory::{Bus, Layout};
@@ -24,13 +26,7 @@ use swi_program::Program;
 /// A machine that executes the words of a program where they stand.
 #[derive(Drop)]
 pub struct Flat {
-    pc: u32,
-    regs: Regs,
-    bus: Bus,
-    heap: Heap,
-    log: bool,
-    ending: Option<End>,
-    steps: u64,
+    machine: Machine,
     failed: bool,
 }
 
@@ -40,38 +36,39 @@ impl Model for Flat {
 
     ghost Value = { FlatData };
 
-    ghost view = { λ f. record {
-      machine = record { pc = f.pc; regs = f.regs; bus = f.bus; heap = f.heap; log = f.log; ending = f.ending; steps = f.steps };
-      failed = f.failed;
-    } };
+    ghost view = { λ f. record { machine = f.machine; failed = f.failed } };
 
-    ghost invariant = { λ f. f.pc % 4 ≡ 0 };
+    ghost invariant = { λ f. f.machine.pc % 4 ≡ 0 };
 }
 
 impl Flat {
-    /// The machine of a program before its first step, over the memory that the program's layout gives. With `log` each system
-    /// call is told in a line on the error sink. `l` is the layout that `lay_out` gives `p`, with the lengths that `l` holds.
+    /// The machine of a program before its first step, over the memory that the program's layout gives. With `log`
+    /// each system call is told in a line on the error sink. `l` is the layout that `lay_out` gives `p`, with the
+    /// lengths that `l` holds.
     ///
     /// The only error is want of memory. All the memory of a run is taken here.
     pub fn start(alloc: Global, p: &Program, l: &Layout, log: bool) -> Result<Flat, Memory>
         requires laid_out { IsLayoutOf p.now.segments l.now }
-        ensures { IfOk result (λ f. f ≡ sound (machine_of p.now l.now log)) }
+        ensures machine { IfOk result (λ f. f ≡ unfailed (machine_of p.now l.now log)) }
+        ensures text { IfOk result (λ f. (a : ℕ) → fetched f.machine.bus a ≡ word_of (text_of p.now.segments) a) }
     {
         let bus = Bus::new(alloc, p.segments(), l)?;
         let mut regs = Regs::new();
         regs.set(Reg::of(2), l.sp);
         Ok(Flat {
-            pc: p.entry(),
-            regs,
-            bus,
-            heap: Heap {
-                base: l.heap,
-                limit: l.heap + l.heap_len,
-                now: l.heap,
+            machine: Machine {
+                pc: p.entry(),
+                regs,
+                bus,
+                heap: Heap {
+                    base: l.heap,
+                    limit: l.heap + l.heap_len,
+                    now: l.heap,
+                },
+                log,
+                ending: None,
+                steps: 0,
             },
-            log,
-            ending: None,
-            steps: 0,
             failed: false,
         })
     }
@@ -80,7 +77,7 @@ impl Flat {
     pub fn ending(&self) -> Option<End>
         ensures { result ≡ self.now.machine.ending }
     {
-        self.ending
+        self.machine.ending
     }
 
     /// Whether a device failed in the last step. No further step can be made then.
@@ -94,110 +91,42 @@ impl Flat {
     pub fn pc(&self) -> u32
         ensures { result ≡ self.now.machine.pc }
     {
-        self.pc
+        self.machine.pc
     }
 
     /// The number of steps made, the one that ended the run included.
     pub fn steps(&self) -> u64
         ensures { result ≡ self.now.machine.steps }
     {
-        self.steps
+        self.machine.steps
     }
 
     /// The registers.
     pub fn regs(&self) -> &Regs
         ensures { result.now ≡ self.now.machine.regs }
     {
-        &self.regs
+        &self.machine.regs
     }
 
     /// The memory.
     pub fn bus(&self) -> &Bus
         ensures { result.now ≡ self.now.machine.bus }
     {
-        &self.bus
+        &self.machine.bus
     }
 
     /// The heap's ends and the break.
     pub fn heap(&self) -> Heap
         ensures { result ≡ self.now.machine.heap }
     {
-        self.heap
+        self.machine.heap
     }
 
-    /// Ends the run, with this step.
-    #[cold]
-    #[inline(never)]
-    fn end(&mut self, end: End)
-        requires few { self.old.machine.steps < 2 ^ 48 }
-        ensures { self.new ≡ record self.old { machine = ended self.old.machine end } }
-    {
-        self.ending = Some(end);
-        self.steps += 1;
-    }
-
-    /// The step of a system call.
-    #[inline(never)]
-    #[tactic(auto, using(crate::proofs::Steps::exited_of))]
-    fn call<I: Source, O: Sink, E: Sink>(
-        &mut self,
-        input: &mut I,
-        out: &mut O,
-        err: &mut E,
-    ) -> Result<(), CallFault>
-        requires few { self.old.machine.steps < 2 ^ 48 }
-        requires unfailed { self.old.failed ≡ false }
-        ensures machine { OnOk result (ForSome (I.left input.old) (λ left. self.new ≡ sound (call_made self.old.machine left).machine)) }
-        ensures input { OnOk result (ForSome (I.left input.old) (λ left. I.left input.new ≡ Some (call_made self.old.machine left).input)) }
-        ensures output { OnOk result (ForSome (I.left input.old) (λ left.
-            Appends (O.held out.old) (O.held out.new) (call_made self.old.machine left).output)) }
-        ensures error { OnOk result (ForSome (I.left input.old) (λ left.
-            Appends (E.held err.old) (E.held err.new) (call_made self.old.machine left).error)) }
-        ensures counted { OnOk result (self.new.machine.steps ≡ self.old.machine.steps + 1) }
-        ensures unfailed { OnOk result (self.new.failed ≡ false) }
-        ensures stays { OnErr result (self.new ≡ stopped self.old.machine self.new.machine.bus) }
-        ensures front { OnErr result ((k : ℕ) × (k ≤ room_of_call self.old.machine.regs self.old.machine.bus) ×
-            ReadsInto self.old.machine.bus self.new.machine.bus (I.left input.old) (I.left input.new) (second_argument self.old.machine.regs) k) }
-        ensures output_prefix { OnErr result (ForSome (I.left input.old) (λ left.
-            AppendsPrefix (O.held out.old) (O.held out.new) (call_made self.old.machine left).output)) }
-        ensures error_prefix { OnErr result (ForSome (I.left input.old) (λ left.
-            AppendsPrefix (E.held err.old) (E.held err.new) (call_made self.old.machine left).error)) }
-        ensures failed_output { OnErr result ((O.faults out.new ≡ O.faults out.old → ⊥) → E.held err.new ≡ E.held err.old) }
-        ensures failed_input { IsErrOf result CallFault.SourceFault → (O.held out.new ≡ O.held out.old) × (E.held err.new ≡ E.held err.old) }
-        ensures causes { HasCauses
-            (record { input = I.faults input.old; out = O.faults out.old; err = E.faults err.old })
-            (record { input = I.faults input.new; out = O.faults out.new; err = E.faults err.new }) result }
-    {
-        match call(
-            &mut self.regs,
-            &mut self.bus,
-            &mut self.heap,
-            self.log,
-            input,
-            out,
-            err,
-        ) {
-            Ok(Called::Returned) => {
-                self.pc = self.pc.wrapping_add(4);
-                self.steps += 1;
-                Ok(())
-            }
-            Ok(Called::Exited(code)) => {
-                self.end(End::Exited(code));
-                Ok(())
-            }
-            Err(fault) => {
-                self.failed = true;
-                Err(fault)
-            }
-        }
-    }
-
-    /// One step: the word at pc is fetched, decoded and executed. Only where the run has not ended, no device has failed, and
-    /// fewer than 2^48 steps are made.
+    /// One step: the word at pc is fetched, decoded and executed. Only where the run has not ended, no device has
+    /// failed, and fewer than 2^48 steps are made.
     ///
-    /// Afterwards the machine is one step further, or a device has failed in a system call. Then `failed` is true, and the machine
-    /// is as it was, its steps included, but that of a read a front of the buffer may be filled.
+    /// Afterwards the machine is one step further, or a device has failed in a system call. Then `failed` is true,
+    /// and the machine is as it was, its steps included, but that of a read a front of the buffer may be filled.
     #[inline(always)]
     #[tactic(auto, unfolding(swi_calls::specs::Flat::made))]
     pub fn step<I: Source, O: Sink, E: Sink>(
@@ -209,8 +138,10 @@ impl Flat {
         requires going { self.old.machine.ending ≡ None }
         requires few { self.old.machine.steps < 2 ^ 48 }
         requires unfailed { self.old.failed ≡ false }
-        ensures machine { OnOk result (ForSome (I.left input.old) (λ left. self.new ≡ sound (made self.old.machine left).machine)) }
-        ensures input { OnOk result (ForSome (I.left input.old) (λ left. I.left input.new ≡ Some (made self.old.machine left).input)) }
+        ensures machine { OnOk result (ForSome (I.left input.old) (λ left.
+            self.new ≡ unfailed (made self.old.machine left).machine)) }
+        ensures input { OnOk result (ForSome (I.left input.old) (λ left.
+            I.left input.new ≡ Some (made self.old.machine left).input)) }
         ensures output { OnOk result (ForSome (I.left input.old) (λ left.
             Appends (O.held out.old) (O.held out.new) (made self.old.machine left).output)) }
         ensures error { OnOk result (ForSome (I.left input.old) (λ left.
@@ -219,49 +150,68 @@ impl Flat {
         ensures unfailed { OnOk result (self.new.failed ≡ false) }
         ensures stays { OnErr result (self.new ≡ stopped self.old.machine self.new.machine.bus) }
         ensures front { OnErr result ((k : ℕ) × (k ≤ room_of_call self.old.machine.regs self.old.machine.bus) ×
-            ReadsInto self.old.machine.bus self.new.machine.bus (I.left input.old) (I.left input.new) (second_argument self.old.machine.regs) k) }
+            ReadsInto self.old.machine.bus self.new.machine.bus (I.left input.old) (I.left input.new)
+            (second_argument self.old.machine.regs) k) }
         ensures output_prefix { OnErr result (ForSome (I.left input.old) (λ left.
             AppendsPrefix (O.held out.old) (O.held out.new) (made self.old.machine left).output)) }
         ensures error_prefix { OnErr result (ForSome (I.left input.old) (λ left.
             AppendsPrefix (E.held err.old) (E.held err.new) (made self.old.machine left).error)) }
-        ensures failed_output { OnErr result ((O.faults out.new ≡ O.faults out.old → ⊥) → E.held err.new ≡ E.held err.old) }
-        ensures failed_input { IsErrOf result CallFault.SourceFault → (O.held out.new ≡ O.held out.old) × (E.held err.new ≡ E.held err.old) }
+        ensures failed_output { OnErr result ((O.faults out.new ≡ O.faults out.old → ⊥) →
+            E.held err.new ≡ E.held err.old) }
+        ensures failed_input { IsErrOf result CallFault.SourceFault → (O.held out.new ≡ O.held out.old)
+            × (E.held err.new ≡ E.held err.old) }
+        ensures unasked_output { (left : List ℕ) → (made self.old.machine left).output ≡ [] →
+            (O.held out.new ≡ O.held out.old) × (O.faults out.new ≡ O.faults out.old) }
+        ensures unasked_error { (left : List ℕ) → (made self.old.machine left).error ≡ [] →
+            (E.held err.new ≡ E.held err.old) × (E.faults err.new ≡ E.faults err.old) }
         ensures causes { HasCauses
             (record { input = I.faults input.old; out = O.faults out.old; err = E.faults err.old })
             (record { input = I.faults input.new; out = O.faults out.new; err = E.faults err.new }) result }
     {
-        let Some(word) = self.bus.fetch(self.pc) else {
-            self.end(End::Faulted(FaultKind::FetchAccess, self.pc));
+        let machine = &mut self.machine;
+        let Some(word) = machine.bus.fetch(machine.pc) else {
+            machine.fault(FaultKind::FetchAccess, machine.pc);
             return Ok(());
         };
         let Some(instruction) = decode(word) else {
-            self.end(End::Faulted(FaultKind::Illegal, self.pc));
+            machine.fault(FaultKind::Illegal, machine.pc);
             return Ok(());
         };
-        match exec(&instruction, self.pc, &mut self.regs, &mut self.bus) {
+        match exec(
+            &instruction,
+            machine.pc,
+            &mut machine.regs,
+            &mut machine.bus,
+        ) {
             Done::Next(pc) => {
-                self.pc = pc;
-                self.steps += 1;
+                machine.pc = pc;
+                machine.steps += 1;
                 Ok(())
             }
-            Done::Call => self.call(input, out, err),
+            Done::Call => {
+                let result = machine.call_step(input, out, err);
+                self.failed = result.is_err();
+                result
+            }
             Done::Break => {
-                self.end(End::Faulted(FaultKind::Break, self.pc));
+                machine.fault(FaultKind::Break, machine.pc);
                 Ok(())
             }
             Done::Fault(kind, address) => {
-                self.end(End::Faulted(kind, address));
+                machine.fault(kind, address);
                 Ok(())
             }
         }
     }
 
-    /// Steps until `limit` steps are made since the start, or the run has ended, or a device fails. `limit` is from `steps()` to
-    /// 2^48; no device has failed before.
+    /// Steps until `limit` steps are made since the start, or the run has ended, or a device fails. `limit` is from
+    /// `steps()` to 2^48; no device has failed before.
     ///
-    /// After a failure the run has not ended, and `steps` is below `limit`. Where the input tells its bytes, the machine is where
-    /// the steps made have brought it: the step that failed left it as it was, but that at a read a front of the buffer may be
-    /// filled, with just the bytes that were taken from the input. Each sink gained a prefix of what the run to `limit` writes.
+    /// After a failure the run has not ended, and `steps` is below `limit`. Where the input tells its bytes, the
+    /// machine is where the steps made have brought it: the step that failed left it as it was, but that at a read a
+    /// front of the buffer may be filled, with just the bytes that were taken from the input. Each sink gained what
+    /// the steps made write, and a prefix of what the step that failed writes; where that is nothing, the sink was
+    /// not asked.
     pub fn run<I: Source, O: Sink, E: Sink>(
         &mut self,
         limit: u64,
@@ -273,9 +223,10 @@ impl Flat {
         requires few { limit ≤ 2 ^ 48 }
         requires unfailed { self.old.failed ≡ false }
         ensures machine { OnOk result (ForSome (I.left input.old) (λ left.
-            self.new ≡ sound (flat_run (limit - self.old.machine.steps) (started self.old.machine left)).machine)) }
+            self.new ≡ unfailed (flat_run (limit - self.old.machine.steps) (started self.old.machine left)).machine)) }
         ensures input { OnOk result (ForSome (I.left input.old) (λ left.
-            I.left input.new ≡ Some (flat_run (limit - self.old.machine.steps) (started self.old.machine left)).input)) }
+            I.left input.new ≡ Some (flat_run (limit - self.old.machine.steps)
+            (started self.old.machine left)).input)) }
         ensures output { OnOk result (ForSome (I.left input.old) (λ left. Appends (O.held out.old) (O.held out.new)
             (flat_run (limit - self.old.machine.steps) (started self.old.machine left)).output)) }
         ensures error { OnOk result (ForSome (I.left input.old) (λ left. Appends (E.held err.old) (E.held err.new)
@@ -289,16 +240,33 @@ impl Flat {
         ensures stays { OnErr result (ForSome (I.left input.old) (λ left.
             self.new ≡ stopped (state_at self.new.machine.steps self.old.machine left).machine self.new.machine.bus)) }
         ensures front { OnErr result (ForSome (I.left input.old) (λ left.
-            FillsFront (state_at self.new.machine.steps self.old.machine left) self.new.machine.bus (I.left input.new))) }
-        ensures output_prefix { OnErr result (ForSome (I.left input.old) (λ left. AppendsPrefix (O.held out.old) (O.held out.new)
-            (flat_run (limit - self.old.machine.steps) (started self.old.machine left)).output)) }
-        ensures error_prefix { OnErr result (ForSome (I.left input.old) (λ left. AppendsPrefix (E.held err.old) (E.held err.new)
-            (flat_run (limit - self.old.machine.steps) (started self.old.machine left)).error)) }
+            FillsFront (state_at self.new.machine.steps self.old.machine left) self.new.machine.bus
+            (I.left input.new))) }
+        ensures output_part { OnErr result (ForSome (I.left input.old) (λ left.
+            AppendsThenPrefix (O.held out.old) (O.held out.new)
+            (state_at self.new.machine.steps self.old.machine left).output
+            (next_made (state_at self.new.machine.steps self.old.machine left)).output)) }
+        ensures error_part { OnErr result (ForSome (I.left input.old) (λ left.
+            AppendsThenPrefix (E.held err.old) (E.held err.new)
+            (state_at self.new.machine.steps self.old.machine left).error
+            (next_made (state_at self.new.machine.steps self.old.machine left)).error)) }
+        ensures failed_output { OnErr result ((O.faults out.new ≡ O.faults out.old → ⊥) →
+            ForSome (I.left input.old) (λ left.
+            Appends (E.held err.old) (E.held err.new) (state_at self.new.machine.steps self.old.machine left).error)) }
+        ensures failed_input { IsErrOf result CallFault.SourceFault → ForSome (I.left input.old) (λ left.
+            Appends (O.held out.old) (O.held out.new) (state_at self.new.machine.steps self.old.machine left).output
+            × Appends (E.held err.old) (E.held err.new) (state_at self.new.machine.steps self.old.machine left).error) }
+        ensures unasked_output { OnErr result (ForSome (I.left input.old) (λ left.
+            (next_made (state_at self.new.machine.steps self.old.machine left)).output ≡ [] →
+            O.faults out.new ≡ O.faults out.old)) }
+        ensures unasked_error { OnErr result (ForSome (I.left input.old) (λ left.
+            (next_made (state_at self.new.machine.steps self.old.machine left)).error ≡ [] →
+            E.faults err.new ≡ E.faults err.old)) }
         ensures causes { HasCauses
             (record { input = I.faults input.old; out = O.faults out.old; err = E.faults err.old })
             (record { input = I.faults input.new; out = O.faults out.new; err = E.faults err.new }) result }
     {
-        while self.steps < limit && self.ending.is_none() {
+        while self.machine.steps < limit && self.machine.ending.is_none() {
             self.step(input, out, err)?;
         }
         Ok(())

@@ -149,8 +149,8 @@ static ECHO: [u32; 12] = [
     0x00000073, 0x00000513, 0x05D00893, 0x00000073,
 ];
 
-/// The input, the calls that fail of the input and of the output, 0 for none, and then the answer, the output, and how many
-/// steps were made.
+/// The input, the calls that fail of the input and of the output, 0 for none, and then the answer, the output, and
+/// how many steps were made.
 static ECHOES: [(&str, u32, u32, Result<(), CallFault>, &str, u64); 5] = [
     ("abc", 0, 0, Ok(()), "abc", 12),
     ("abcdefghijklmnopqrst", 0, 0, Ok(()), "abcdefghijklmnop", 12),

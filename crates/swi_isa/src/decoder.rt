@@ -1,7 +1,9 @@
 //! From a word to its instruction.
 #![tactic(auto)]
 
-ghost use Rattle.std.specs.Prelude.{◌≡◌, ◌↔◌, IsTrue, IsSome, length, if◌then◌else◌};
+ghost use Rattle.std.specs.Prelude.{◌≡◌, ◌↔◌, ◌%◌, ℕ, IsTrue, IsSome, Some, length, if◌then◌else◌};
+ghost use Rattle.swi_isa.specs.declared.instr.BranchOp.{BranchOp as Condition};
+ghost use Rattle.swi_isa.specs.declared.instr.Instr.TheVariants.{Branch, Ebreak, Jal, Jalr};
 ghost use Rattle.swi_isa.specs.Decode.{decoded};
 ghost use Rattle.swi_isa.specs.Table.{matching};
 
@@ -12,12 +14,19 @@ use swi_field::bits;
 /// The RV32IMA instruction that the word `w` is; None where it is illegal, that is where it is none of the
 /// 59 instructions of the RISC-V unprivileged specification's listings for RV32I, M and A.
 #[inline(always)]
-#[tactic(auto, using(crate::proofs::Arms::arms))]
+#[tactic(auto, using(crate::proofs::Apart::by_tests))]
 pub fn decode(w: u32) -> Option<Instr>
     ensures { result ≡ decoded w }
 {
-    let funct3 = bits::<14, 12>(w);
-    let funct7 = bits::<31, 25>(w);
+    macro_rules! upper {
+        ($variant:ident) => { Some(Instr::$variant { rd: rd(w), imm: u_value(w) }) };
+    }
+    macro_rules! jal {
+        () => { Some(Instr::Jal { rd: rd(w), off: j_value(w) }) };
+    }
+    macro_rules! jalr {
+        () => { Some(Instr::Jalr { rd: rd(w), rs1: rs1(w), imm: i_value(w) }) };
+    }
     macro_rules! branch {
         ($op:ident) => { Some(Instr::Branch { op: BranchOp::$op, rs1: rs1(w), rs2: rs2(w), off: b_value(w) }) };
     }
@@ -39,136 +48,91 @@ pub fn decode(w: u32) -> Option<Instr>
     macro_rules! atomic {
         ($op:ident) => { Some(Instr::Atomic { op: AtomicOp::$op, rd: rd(w), rs1: rs1(w), rs2: rs2(w) }) };
     }
-    match bits::<6, 0>(w) {
-        0x37 => Some(Instr::Lui {
-            rd: rd(w),
-            imm: u_value(w),
-        }),
-        0x17 => Some(Instr::Auipc {
-            rd: rd(w),
-            imm: u_value(w),
-        }),
-        0x6F => Some(Instr::Jal {
-            rd: rd(w),
-            off: j_value(w),
-        }),
-        0x67 => match funct3 {
-            0 => Some(Instr::Jalr {
-                rd: rd(w),
-                rs1: rs1(w),
-                imm: i_value(w),
-            }),
-            _ => None,
-        },
-        0x63 => match funct3 {
-            0 => branch!(Beq),
-            1 => branch!(Bne),
-            4 => branch!(Blt),
-            5 => branch!(Bge),
-            6 => branch!(Bltu),
-            7 => branch!(Bgeu),
-            _ => None,
-        },
-        0x03 => match funct3 {
-            0 => load!(Lb),
-            1 => load!(Lh),
-            2 => load!(Lw),
-            4 => load!(Lbu),
-            5 => load!(Lhu),
-            _ => None,
-        },
-        0x23 => match funct3 {
-            0 => store!(Sb),
-            1 => store!(Sh),
-            2 => store!(Sw),
-            _ => None,
-        },
-        0x13 => match funct3 {
-            0 => alu!(Addi),
-            2 => alu!(Slti),
-            3 => alu!(Sltiu),
-            4 => alu!(Xori),
-            6 => alu!(Ori),
-            7 => alu!(Andi),
-            1 => match funct7 {
-                0 => shift!(Slli),
-                _ => None,
-            },
-            5 => match funct7 {
-                0 => shift!(Srli),
-                0x20 => shift!(Srai),
-                _ => None,
-            },
-            _ => None,
-        },
-        0x33 => match funct7 {
-            0 => match funct3 {
-                0 => op!(Add),
-                1 => op!(Sll),
-                2 => op!(Slt),
-                3 => op!(Sltu),
-                4 => op!(Xor),
-                5 => op!(Srl),
-                6 => op!(Or),
-                7 => op!(And),
-                _ => None,
-            },
-            0x20 => match funct3 {
-                0 => op!(Sub),
-                5 => op!(Sra),
-                _ => None,
-            },
-            1 => match funct3 {
-                0 => op!(Mul),
-                1 => op!(Mulh),
-                2 => op!(Mulhsu),
-                3 => op!(Mulhu),
-                4 => op!(Div),
-                5 => op!(Divu),
-                6 => op!(Rem),
-                7 => op!(Remu),
-                _ => None,
-            },
-            _ => None,
-        },
-        0x2F => match funct3 {
-            2 => match bits::<31, 27>(w) {
-                0 => atomic!(AddW),
-                1 => atomic!(SwapW),
-                2 => match bits::<24, 20>(w) {
-                    0 => atomic!(LrW),
-                    _ => None,
-                },
-                3 => atomic!(ScW),
-                4 => atomic!(XorW),
-                8 => atomic!(OrW),
-                12 => atomic!(AndW),
-                16 => atomic!(MinW),
-                20 => atomic!(MaxW),
-                24 => atomic!(MinuW),
-                28 => atomic!(MaxuW),
-                _ => None,
-            },
-            _ => None,
-        },
-        0x0F => match funct3 {
-            0 => Some(Instr::Fence),
-            _ => None,
-        },
-        0x73 => match w {
-            0x0000_0073 => Some(Instr::Ecall),
-            0x0010_0073 => Some(Instr::Ebreak),
-            _ => None,
-        },
-        _ => None,
+    // The table's rows in the order in which programs execute them, since a test that comes early costs less:
+    // no word matches two rows, so the order changes nothing else. Other tests of one mask stand between those
+    // of branches: of four in a row, a step apart, the compiler makes a jump through a table, which costs more
+    // than they do.
+    macro_rules! row {
+        ($mask:literal, $value:literal, $instr:expr) => {
+            if w & $mask == $value {
+                return $instr;
+            }
+        };
     }
+    row!(0x0000_707F, 0x0000_0013, alu!(Addi));
+    row!(0x0000_707F, 0x0000_2003, load!(Lw));
+    row!(0x0000_707F, 0x0000_1063, branch!(Bne));
+    row!(0x0000_707F, 0x0000_2023, store!(Sw));
+    row!(0xFE00_707F, 0x0000_0033, op!(Add));
+    row!(0x0000_707F, 0x0000_0063, branch!(Beq));
+    row!(0x0000_707F, 0x0000_4003, load!(Lbu));
+    row!(0xFE00_707F, 0x0000_1013, shift!(Slli));
+    row!(0x0000_707F, 0x0000_7013, alu!(Andi));
+    row!(0xFE00_707F, 0x0000_4033, op!(Xor));
+    row!(0x0000_707F, 0x0000_4063, branch!(Blt));
+    row!(0x0000_707F, 0x0000_5063, branch!(Bge));
+    row!(0x0000_007F, 0x0000_0037, upper!(Lui));
+    row!(0x0000_707F, 0x0000_6063, branch!(Bltu));
+    row!(0x0000_707F, 0x0000_7063, branch!(Bgeu));
+    row!(0x0000_007F, 0x0000_006F, jal!());
+    row!(0x0000_707F, 0x0000_0067, jalr!());
+    row!(0x0000_707F, 0x0000_1003, load!(Lh));
+    row!(0x0000_707F, 0x0000_0023, store!(Sb));
+    row!(0x0000_707F, 0x0000_1023, store!(Sh));
+    row!(0xFE00_707F, 0x0000_5013, shift!(Srli));
+    row!(0xFE00_707F, 0x4000_5013, shift!(Srai));
+    row!(0xFE00_707F, 0x4000_0033, op!(Sub));
+    row!(0xFE00_707F, 0x0200_0033, op!(Mul));
+    row!(0x0000_707F, 0x0000_0003, load!(Lb));
+    row!(0x0000_707F, 0x0000_5003, load!(Lhu));
+    row!(0x0000_707F, 0x0000_2013, alu!(Slti));
+    row!(0x0000_707F, 0x0000_3013, alu!(Sltiu));
+    row!(0x0000_707F, 0x0000_4013, alu!(Xori));
+    row!(0x0000_707F, 0x0000_6013, alu!(Ori));
+    row!(0xFE00_707F, 0x0000_7033, op!(And));
+    row!(0xFE00_707F, 0x0000_6033, op!(Or));
+    row!(0xFE00_707F, 0x0000_1033, op!(Sll));
+    row!(0xFE00_707F, 0x0000_5033, op!(Srl));
+    row!(0xFE00_707F, 0x4000_5033, op!(Sra));
+    row!(0xFE00_707F, 0x0000_2033, op!(Slt));
+    row!(0xFE00_707F, 0x0000_3033, op!(Sltu));
+    row!(0xFE00_707F, 0x0200_1033, op!(Mulh));
+    row!(0xFE00_707F, 0x0200_2033, op!(Mulhsu));
+    row!(0xFE00_707F, 0x0200_3033, op!(Mulhu));
+    row!(0xFE00_707F, 0x0200_4033, op!(Div));
+    row!(0xFE00_707F, 0x0200_5033, op!(Divu));
+    row!(0xFE00_707F, 0x0200_6033, op!(Rem));
+    row!(0xFE00_707F, 0x0200_7033, op!(Remu));
+    row!(0x0000_007F, 0x0000_0017, upper!(Auipc));
+    row!(0x0000_707F, 0x0000_000F, Some(Instr::Fence));
+    row!(0xFFFF_FFFF, 0x0000_0073, Some(Instr::Ecall));
+    row!(0xFFFF_FFFF, 0x0010_0073, Some(Instr::Ebreak));
+    row!(0xF9F0_707F, 0x1000_202F, atomic!(LrW));
+    row!(0xF800_707F, 0x1800_202F, atomic!(ScW));
+    row!(0xF800_707F, 0x0800_202F, atomic!(SwapW));
+    row!(0xF800_707F, 0x0000_202F, atomic!(AddW));
+    row!(0xF800_707F, 0x2000_202F, atomic!(XorW));
+    row!(0xF800_707F, 0x6000_202F, atomic!(AndW));
+    row!(0xF800_707F, 0x4000_202F, atomic!(OrW));
+    row!(0xF800_707F, 0x8000_202F, atomic!(MinW));
+    row!(0xF800_707F, 0xA000_202F, atomic!(MaxW));
+    row!(0xF800_707F, 0xC000_202F, atomic!(MinuW));
+    row!(0xF800_707F, 0xE000_202F, atomic!(MaxuW));
+    None
 }
 
 /// Whether the word `w` is an RV32IMA instruction. A legal word matches one row of the instruction table and
-/// an illegal one none, so that a word never has two meanings.
+/// an illegal one none, so that a word never has two meanings. Of each word: where it is a JAL or a branch, its
+/// offset is even; where it is a JALR, its two low bits are 11; and it is EBREAK where it is 0x00100073 and
+/// nowhere else.
 pub fn is_legal(w: u32) -> bool
     ensures legal { IsTrue result ↔ IsSome (decoded w) }
     ensures one_row { length (matching w) ≡ (if result then 1 else 0) }
+    ensures jal_even { (rd off : ℕ) → decoded w ≡ Some (Jal rd off) → off % 2 ≡ 0 }
+    ensures branch_even { (op : Condition) → (rs1 rs2 off : ℕ) →
+        decoded w ≡ Some (Branch op rs1 rs2 off) → off % 2 ≡ 0 }
+    ensures jalr_low { (rd rs1 imm : ℕ) → decoded w ≡ Some (Jalr rd rs1 imm) → w % 4 ≡ 3 }
+    ensures ebreak { decoded w ≡ Some Ebreak ↔ w ≡ 0x00100073 }
 {
     decode(w).is_some()
 }

@@ -1,6 +1,6 @@
 -- Loads and stores that lie in one area.
-use Rattle.std.proofs.Common.{◌≡◌, ℕ, ◌+◌, ◌-◌, ◌*◌, ◌/◌, ◌%◌, ◌<◌, ◌≤◌, ◌^◌, ◌&&◌, ◌++◌, zero, suc, inl, inr, List, [], ◌∷◌, length, get_or, set, take, drop, true, false, nat_lt, Ok, Err, arith, refl, sym, ap, ◌∙◌}
-use Rattle.std.proofs.lemmas.Bool.{cond-true, cond-false, cases_Bool, lt-ltb, and_parts, ltb-true}
+use Rattle.std.proofs.Common.{◌≡◌, ℕ, ◌+◌, ◌-◌, ◌*◌, ◌/◌, ◌%◌, ◌<◌, ◌≤◌, ◌^◌, ◌++◌, zero, suc, inl, inr, List, [], ◌∷◌, length, get_or, set, take, drop, true, false, nat_lt, Ok, Err, arith, refl, sym, ap, ◌∙◌}
+use Rattle.std.proofs.lemmas.Bool.{cond-true, cond-false, cases_Bool, lt-ltb}
 use Rattle.std.proofs.lemmas.Bool.Decides.{nat_tests}
 use Rattle.std.proofs.lemmas.List.Edits.{sets, sets-eq}
 use Rattle.std.proofs.lemmas.List.{length-set, get_or-set_same, length-map, map-set, drop_more, get_or_default, take_all, length-drop}
@@ -8,7 +8,8 @@ use Rattle.swi_memory.specs.declared.bank.Bank.{Bank}
 use Rattle.swi_memory.specs.Views.{area, areas}
 use Rattle.swi_memory.specs.Bus.{AreaData, Right, Read, AreInOrderFrom, IsSize, is_in, grants, holds, holds_byte, number_at, loaded, with_byte, with_bytes, stored, number_in}
 use Rattle.swi_memory.specs.Found.{HasNone, IsFound, put_in}
-use Rattle.swi_memory.proofs.Looks.{Place, area_at, place_of, seen, InPlace, Looked, in_place, looked, inside, none_holds}
+use Rattle.swi_memory.specs.Laws.{inside}
+use Rattle.swi_memory.proofs.Looks.{Place, area_at, place_of, seen, InPlace, Looked, in_place, looked, none_holds}
 
 -- the area at place i of an ordered bus, with n bytes from a on in it
 pub record Within (bus : List AreaData) (i : ℕ) (s : AreaData) (a n : ℕ) : Type 0 where
@@ -190,17 +191,6 @@ with_bytes_more bus a i piece bound =
     let next : a + (i + 1) ≡ a + i + 1 = omega arith in
     rw (drop_more piece i 0 bound, next) refl
 
--- each byte of a range that is held has an address
-pub holds_small : (bus : List AreaData) (r : Right) (a n i : ℕ) → holds bus r a n ≡ true → i < n → a + i < 2 ^ 32
-holds_small bus r a zero i h bound = absurd (omega arith)
-holds_small bus r a (suc n) zero h bound =
-    let here : ((nat_lt a (2 ^ 32) && holds_byte bus r a) ≡ true) × (holds bus r (a + 1) n ≡ true) = and_parts _ _ h in
-    let first : (nat_lt a (2 ^ 32) ≡ true) × (holds_byte bus r a ≡ true) = and_parts _ _ here.0 in
-    omega (arith, ltb-true a (2 ^ 32) first.0)
-holds_small bus r a (suc n) (suc i) h bound =
-    let here : ((nat_lt a (2 ^ 32) && holds_byte bus r a) ≡ true) × (holds bus r (a + 1) n ≡ true) = and_parts _ _ h in
-    omega (arith, holds_small bus r (a + 1) n i here.1 (omega arith))
-
 -- a bank that was found, changed at one byte
 pub written : (banks : List Bank) (i a b : ℕ) (d t : Bank) → AreInOrderFrom 0 (areas banks) → IsFound banks a i →
     area t ≡ record (area (get_or banks i d)) { bytes = set (get_or banks i d).bytes.items (a - (get_or banks i d).base) b } →
@@ -247,14 +237,6 @@ copied_found banks i a piece d t order found short made =
     areas_set banks i t ∙ ap (set (areas banks) i) made
     ∙ ap (λ bytes. set (areas banks) i (record (area old) { bytes = bytes })) (sym (sets-eq piece old.bytes.items (a - old.base) fits))
     ∙ sym (copied_within (areas banks) i (area old) a piece (range_of banks i old a (length piece) order found is short))
-
--- no byte is put and none is held in a piece without bytes
-pub copied_none : (bus : List AreaData) (a : ℕ) (piece : List ℕ) → length piece ≡ 0 → bus ≡ with_bytes bus a piece
-copied_none bus a [] none = refl
-copied_none bus a (b ∷ piece) none = absurd (omega arith)
-
-pub held_none : (bus : List AreaData) (r : Right) (a n : ℕ) → n ≡ 0 → holds bus r a n ≡ true
-held_none bus r a n none = rw none refl
 
 -- the bytes behind a place, as the code cuts them
 pub rest_is : (xs : List ℕ) (at : ℕ) → take (length xs - at) (drop at xs) ≡ drop at xs

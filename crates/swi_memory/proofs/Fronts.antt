@@ -2,7 +2,8 @@
 use Rattle.std.proofs.Common.{◌≡◌, ℕ, ◌+◌, ◌-◌, ◌<◌, ◌≤◌, ◌^◌, ◌&&◌, zero, suc, min, List, [], ◌∷◌, length, get_or, take, drop, true, false, nat_lt, arith, refl, sym, ap, ◌∙◌, inl, inr, length-take, length-drop, get_or-take, get_or-drop}
 use Rattle.std.proofs.lemmas.Bool.{cases_Bool, cond-true, cond-false, and_parts, false≢true}
 use Rattle.swi_memory.specs.Bus.{AreaData, Right, AreInOrderFrom, byte_at, bytes_at, front_of, grants, holds, holds_byte, is_in}
-use Rattle.swi_memory.proofs.Looks.{inside, outside, within}
+use Rattle.swi_memory.specs.Laws.{inside, within}
+use Rattle.swi_memory.proofs.Looks.{outside}
 
 length_front : (s : AreaData) (a n : ℕ) → length (take n (drop (a - s.base) s.bytes)) ≡ min n (length s.bytes - (a - s.base))
 length_front s a n = length-take n (drop (a - s.base) s.bytes) ∙ ap (min n) (length-drop (a - s.base) s.bytes)

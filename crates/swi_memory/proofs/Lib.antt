@@ -5,4 +5,4 @@ pub mod Looks
 pub mod Shapes
 pub mod StartText
 pub mod Texts
-pub mod Untouched
+pub mod Written

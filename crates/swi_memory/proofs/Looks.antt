@@ -7,6 +7,7 @@ use Rattle.std.proofs.lemmas.Bool.Decides.{nat_tests}
 use Rattle.swi_memory.specs.declared.bank.Bank.{Bank}
 use Rattle.swi_memory.specs.Bus.{AreaData, Right, AreInOrderFrom, is_in, grants, holds_byte, byte_at, with_byte, front_of}
 use Rattle.swi_memory.specs.Found.{HasNone, IsFound}
+use Rattle.swi_memory.specs.Laws.{within}
 use Rattle.swi_memory.specs.Views.{area, areas}
 
 -- what the order says of one area
@@ -30,12 +31,6 @@ in_place from (x ∷ rest) (suc i) s o within is =
     record { behind = omega (arith, later.behind, o.0); some = later.some; file_size = later.file_size; end = later.end }
 
 -- what a test of an address says
-pub within : (s : AreaData) (a : ℕ) → is_in s a ≡ true → (s.base ≤ a) × (a < s.base + length s.bytes)
-within s a h = grind (arith, nat_tests)
-
-pub inside : (s : AreaData) (a : ℕ) → s.base ≤ a → a < s.base + length s.bytes → is_in s a ≡ true
-inside s a p q = grind (arith, nat_tests)
-
 pub outside : (s : AreaData) (a : ℕ) → s.base + length s.bytes ≤ a → is_in s a ≡ false
 outside s a p = grind (arith, nat_tests)
 

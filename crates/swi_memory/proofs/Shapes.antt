@@ -1,5 +1,5 @@
 -- A store keeps where the areas lie, and so their order and their text.
-use Rattle.std.proofs.Common.{◌≡◌, ℕ, ◌+◌, ◌-◌, ◌/◌, ◌%◌, ◌<◌, zero, suc, inl, inr, List, [], ◌∷◌, length, get_or, set, Result, Ok, Err, OnOk, OnErr, arith, refl, ap, ◌∙◌}
+use Rattle.std.proofs.Common.{◌≡◌, ℕ, ◌+◌, ◌-◌, ◌/◌, ◌%◌, ◌<◌, zero, suc, inl, inr, List, [], ◌∷◌, length, get_or, set, Bool, Result, Ok, Err, arith, refl, ap, ◌∙◌}
 use Rattle.std.proofs.lemmas.Bool.{cases_Bool}
 use Rattle.std.proofs.lemmas.List.{length-set, with_items_is}
 use Rattle.std.specs.Vec.{with_items}
@@ -10,6 +10,7 @@ use Rattle.swi_memory.specs.declared.text.Text.{Text}
 use Rattle.swi_memory.specs.Bus.{AreaData, AreInOrderFrom, has_word, is_in, is_text_word, stored, with_byte, with_bytes}
 use Rattle.swi_memory.specs.BusView.{IsBus}
 use Rattle.swi_memory.specs.Views.{areas}
+use Rattle.swi_memory.specs.Writes.{Writes}
 use Rattle.swi_memory.specs.TextAt.{InArea, IsText}
 
 -- two areas of one place, rights and length
@@ -111,14 +112,10 @@ text_of_shape old new t h text = record {
       record { from = omega (arith, same.base, was.from); end = omega (arith, same.base, same.size, was.end) };
 }
 
--- a store that may be refused keeps the shape
-pub shape_after : (result : Result (Unit {0}) Access) (old new : List AreaData) (a k v : ℕ) → OnOk result (new ≡ stored old a k v) → OnErr result (new ≡ old) → SameShape old new
-shape_after (Ok u) old new a k v done refused = rw done (shape_stored old a k v)
-shape_after (Err e) old new a k v done refused = rw refused (shape_refl old)
-
-pub shape_copied : (result : Result (Unit {0}) Access) (old new : List AreaData) (a : ℕ) (bytes : List ℕ) → OnOk result (new ≡ with_bytes old a bytes) → OnErr result (new ≡ old) → SameShape old new
-shape_copied (Ok u) old new a bytes done refused = rw done (shape_with_bytes old a bytes)
-shape_copied (Err e) old new a bytes done refused = rw refused (shape_refl old)
+-- a write that may be refused keeps the shape
+pub shape_after : (may : Bool) (old put new : List AreaData) (result : Result (Unit {0}) Access) → Writes may old put new result → SameShape old put → SameShape old new
+shape_after may old put new (Ok u) w same = rw w.bytes same
+shape_after may old put new (Err e) w same = rw w.unchanged (shape_refl old)
 
 -- a bus whose banks keep their shape is one still
 pub still_bus : (b : Inside) (banks : List Bank) → IsBus b → length banks ≡ b.banks.len → SameShape (areas b.banks.items) (areas banks) → IsBus (record { banks = with_items b.banks banks; text = b.text })

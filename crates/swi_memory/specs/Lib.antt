@@ -8,3 +8,5 @@ pub mod Rights
 pub mod Segment
 pub mod SegmentView
 pub mod Views
+pub mod Writes
+pub mod Laws

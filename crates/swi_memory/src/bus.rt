@@ -2,7 +2,7 @@
 #![tactic(auto)]
 
 ghost use Rattle.std.specs.Prelude.{◌≡◌, ◌+◌, ◌*◌, ◌<◌, ◌≤◌, ◌^◌, ◌%◌, ℕ, true, false, length, slice_get, IfOk, IfSome, IsSomeAnd, OnOk, OnErr};
-ghost use Rattle.swi_memory.specs.Bus.{AreInOrder, IsSize, Read, Write, bytes_at, fetched, front_of, holds, loaded, stored, touches_text, with_bytes};
+ghost use Rattle.swi_memory.specs.Bus.{AreInOrder, IsSize, Read, Right, Write, bytes_at, fetched, front_of, holds, loaded, stored, touches_text, with_bytes};
 ghost use Rattle.swi_memory.specs.BusOf.{AreApart, HasOneTextAtMost, bus_of, ranges, word_in};
 
 use crate::access::Access;
@@ -13,7 +13,7 @@ use crate::layout::Layout;
 use crate::right::Right;
 use crate::segment::Segment;
 use crate::text::Text;
-use crate::{bank, text};
+use crate::{copies, loads, ranges, stores, text};
 use std::alloc::Global;
 use std::marker::Model;
 use swi_outside::Memory;
@@ -73,11 +73,12 @@ impl Bus {
         ensures value { result ≡ loaded self.now a k }
         ensures small { IfOk result (λ v. v < 2 ^ (8 * k)) }
     {
-        bank::load(&self.banks, a, k)
+        loads::load(&self.banks, a, k)
     }
 
     /// Puts the lowest `k` bytes of `v` from the address on; `k` is 1, 2 or 4. Access exactly where
-    /// one of them cannot be written, and then nothing changes.
+    /// one of them cannot be written, and then nothing changes. Rights stay, and where none of the bytes is
+    /// a text word's, so does what is fetched.
     #[inline(always)]
     pub fn store(&mut self, a: u32, k: u8, v: u32) -> Result<(), Access>
         requires { IsSize k }
@@ -86,8 +87,9 @@ impl Bus {
         ensures refused { OnErr result (holds self.old Write a k ≡ false) }
         ensures unchanged { OnErr result (self.new ≡ self.old) }
         ensures text { touches_text self.old a k ≡ false → (x : ℕ) → fetched self.new x ≡ fetched self.old x }
+        ensures rights { (right : Right) → (x n : ℕ) → holds self.new right x n ≡ holds self.old right x n }
     {
-        bank::store(&mut self.banks, a, k, v)
+        stores::store(&mut self.banks, a, k, v)
     }
 
     /// The text word that stands now at the address. None exactly where no text word stands.
@@ -103,14 +105,14 @@ impl Bus {
     pub fn readable(&self, a: u32, n: u32) -> bool
         ensures { result ≡ holds self.now Read a n }
     {
-        bank::are_held(&self.banks, Right::Read, a, n)
+        ranges::are_held(&self.banks, Right::Read, a, n)
     }
 
     /// Whether each of the `n` bytes from the address on can be written. Of no byte, true.
     pub fn writable(&self, a: u32, n: u32) -> bool
         ensures { result ≡ holds self.now Write a n }
     {
-        bank::are_held(&self.banks, Right::Write, a, n)
+        ranges::are_held(&self.banks, Right::Write, a, n)
     }
 
     /// Whether one of the `n` bytes from the address on is a text word's. Of no byte, false.
@@ -131,20 +133,23 @@ impl Bus {
         ensures short { length result.now ≤ n }
         ensures bytes { result.now ≡ bytes_at self.now a (length result.now) }
     {
-        bank::front(&self.banks, a, n)
+        ranges::front(&self.banks, a, n)
     }
 
     /// Puts the bytes of `piece`, at most 2^26 of them, from the address on. Access exactly where one
-    /// of them cannot be written, and then nothing changes.
+    /// of them cannot be written, and then nothing changes. Rights stay, and where none of the bytes is a
+    /// text word's, so does what is fetched.
     pub fn copy_in(&mut self, a: u32, piece: &[u8]) -> Result<(), Access>
         requires { length piece.now ≤ 2 ^ 26 }
         ensures ok { OnOk result (holds self.old Write a (length piece.now) ≡ true) }
         ensures bytes { OnOk result (self.new ≡ with_bytes self.old a piece.now) }
         ensures refused { OnErr result (holds self.old Write a (length piece.now) ≡ false) }
         ensures unchanged { OnErr result (self.new ≡ self.old) }
-        ensures text { touches_text self.old a (length piece.now) ≡ false → (x : ℕ) → fetched self.new x ≡ fetched self.old x }
+        ensures text { touches_text self.old a (length piece.now) ≡ false →
+            (x : ℕ) → fetched self.new x ≡ fetched self.old x }
+        ensures rights { (right : Right) → (x n : ℕ) → holds self.new right x n ≡ holds self.old right x n }
     {
-        bank::copy_in(&mut self.banks, a, piece)
+        copies::copy_in(&mut self.banks, a, piece)
     }
 
     /// The number of segments and regions that have at least one byte.
@@ -159,7 +164,8 @@ impl Bus {
     /// with its bytes as they stand now. `k` counts from 0 and is below `areas()`.
     pub fn area(&self, k: u32) -> Area<'_>
         requires { k < length self.now }
-        ensures { IsSomeAnd (slice_get self.now k) (λ s. (result.base ≡ s.base) × (result.flags ≡ s.flags) × (result.bytes.now ≡ s.bytes)) }
+        ensures { IsSomeAnd (slice_get self.now k) (λ s.
+            (result.base ≡ s.base) × (result.flags ≡ s.flags) × (result.bytes.now ≡ s.bytes)) }
     {
         let bank = &self.banks[k as usize];
         Area {

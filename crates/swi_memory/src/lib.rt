@@ -5,10 +5,14 @@ pub mod access;
 pub mod area;
 mod bank;
 pub mod bus;
+mod copies;
 mod gather;
 pub mod layout;
+mod loads;
+mod ranges;
 pub mod right;
 pub mod segment;
+mod stores;
 mod text;
 
 pub use access::Access;

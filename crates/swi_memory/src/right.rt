@@ -16,9 +16,9 @@ pub enum Right {
 }
 
 impl Right {
-    /// Whether the flags, the sum of 4 (read), 2 (write) and 1 (execute), have this right.
+    /// Whether flags, the sum of 4 (read), 2 (write) and 1 (execute), grant this right.
     #[inline(always)]
-    pub fn is_in(self, flags: u32) -> bool
+    pub fn grants(self, flags: u32) -> bool
         ensures { result ≡ grants self flags }
     {
         match self {

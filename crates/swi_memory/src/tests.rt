@@ -122,6 +122,25 @@ fn whole_words_of_the_file_are_fetched_and_nothing_else(rt: HostRuntime) -> Resu
     Ok(())
 }
 
+// a text of 12 bytes, of which the file has seven
+#[test]
+fn no_word_is_fetched_beside_the_bytes_of_the_file(rt: HostRuntime) -> Result<(), Fail> {
+    let text = [1, 2, 3, 4, 5, 6, 7].to_vec(rt.alloc())?;
+    let layout = Layout {
+        heap: 0x3000,
+        heap_len: 0,
+        stack: 0x4000,
+        stack_len: 16,
+        sp: 0x4000,
+    };
+    let segments = [Segment::of(0x1000, 5, 12, text)];
+    let bus = Bus::new(rt.alloc(), &segments, &layout)?;
+    for (a, want) in [(0x1000, Some(0x04030201)), (0x1004, None), (0x1008, None)] {
+        assert_eq!(rt; bus.fetch(a), want, "at {a:x}");
+    }
+    Ok(())
+}
+
 #[test]
 fn ranges_are_judged_byte_by_byte(rt: HostRuntime) -> Result<(), Fail> {
     let bus = memory(rt.alloc())?;

@@ -6,7 +6,8 @@ ghost use Rattle.swi_memory.specs.Bus.{AreaData, AreInOrder, Execute, fetched, g
 ghost use Rattle.swi_memory.specs.TextAt.{HasOne, IsText, IsTextOf};
 ghost use Rattle.swi_memory.specs.Views.{area, areas};
 
-use crate::bank::{Bank, number};
+use crate::bank::Bank;
+use crate::loads::number;
 use crate::right::Right;
 
 /// The text words: `len` bytes from the address `from` on, both multiples of 4, in the bank at place
@@ -73,7 +74,7 @@ pub fn find_text(banks: &[Bank]) -> Text
     ensures { IsText (areas banks.now) result }
 {
     for (i, bank) in banks.iter().enumerate() {
-        if Right::Execute.is_in(bank.flags) {
+        if Right::Execute.grants(bank.flags) {
             return text_in(bank, i);
         }
     }

@@ -1,25 +1,10 @@
--- What sinks hold after several writes, and what sources have left after several reads.
-use Rattle.std.proofs.Common.{◌≡◌, ℕ, ◌+◌, ◌≤◌, zero, suc, min, List, [], ◌∷◌, ◌++◌, length, take, arith, rules, refl, sym, ap, ◌∙◌, Option, Some, None, Result, Ok, Err, is_err, true, false, append_assoc}
+-- What sinks hold after several writes.
+use Rattle.std.proofs.Common.{◌≡◌, ℕ, ◌+◌, ◌≤◌, zero, suc, min, List, [], ◌∷◌, ◌++◌, length, take, arith, rules, refl, sym, ap, ◌∙◌, Option, Result, Ok, Err, is_err, true, false}
 use Rattle.std.proofs.lemmas.List.{append-nil, take-append-le, take_min}
 use Rattle.std.proofs.lemmas.Grind.{common_steps}
-use Rattle.std.specs.Io.KnownBytes.{Appends, Consumes}
-use Rattle.swi_outside.specs.Sink.{AppendsPrefix, WritesPiece}
-
-pub Appends-none : (o : Option (List ℕ)) → Appends o o []
-Appends-none None = tt
-Appends-none (Some h) = sym (append-nil h)
-
-pub Appends-append : (o p q : Option (List ℕ)) (x y : List ℕ) → Appends o p x → Appends p q y → Appends o q (x ++ y)
-Appends-append None p q x y h i = tt
-Appends-append (Some a) None q x y h i = absurd h
-Appends-append (Some a) (Some b) None x y h i = absurd i
-Appends-append (Some a) (Some b) (Some c) x y h i = i ∙ ap (λ l. l ++ y) h ∙ append_assoc a x y
-
-pub Consumes-append : (o p q : Option (List ℕ)) (x y : List ℕ) → Consumes o p x → Consumes p q y → Consumes o q (x ++ y)
-Consumes-append None p q x y h i = tt
-Consumes-append (Some a) None q x y h i = absurd h
-Consumes-append (Some a) (Some b) None x y h i = absurd i
-Consumes-append (Some a) (Some b) (Some c) x y h i = h ∙ ap (λ l. x ++ l) i ∙ sym (append_assoc x y c)
+use Rattle.std.specs.Io.KnownBytes.{Appends}
+use Rattle.swi_outside.specs.Laws.{Appends-append}
+use Rattle.swi_outside.specs.Sink.{AppendsPrefix, AppendsThenPrefix, WritesPiece}
 
 take_into : (xs ys : List ℕ) (d m : ℕ) → length xs ≡ d → take (d + m) (xs ++ ys) ≡ xs ++ take m ys
 take_into [] ys d m e = let z : d + m ≡ m = omega arith in rw z refl
@@ -27,14 +12,17 @@ take_into (x ∷ xs) ys zero m e = absurd (omega arith)
 take_into (x ∷ xs) ys (suc d) m e = let s : suc d + m ≡ suc (d + m) = omega arith in rw s (ap (λ bs. x ∷ bs) (take_into xs ys d m (omega arith)))
 
 -- a prefix of what comes behind what was written is a prefix of the whole
-pub prefix_behind : (o p q : Option (List ℕ)) (x y z : List ℕ) → Appends o p x → AppendsPrefix p q y → AppendsPrefix o q (x ++ (y ++ z))
-prefix_behind o p q x y z h i =
-    let m : ℕ = min i.0 (length y) in
-    let cut : take i.0 y ≡ take m y = sym (take_min i.0 y) in
+pub then_prefix : (o q : Option (List ℕ)) (x y z : List ℕ) → AppendsThenPrefix o q x y → AppendsPrefix o q (x ++ (y ++ z))
+then_prefix o q x y z h =
+    let m : ℕ = min h.0 (length y) in
+    let cut : take h.0 y ≡ take m y = sym (take_min h.0 y) in
     let within : m ≤ length y = omega arith in
-    let front : take (length x + m) (x ++ (y ++ z)) ≡ x ++ take i.0 y =
+    let front : take (length x + m) (x ++ (y ++ z)) ≡ x ++ take h.0 y =
     take_into x (y ++ z) (length x) m refl ∙ ap (λ l. x ++ l) (take-append-le m y z within ∙ sym cut) in
-    (length x + m, rw front (Appends-append o p q x (take i.0 y) h i.1))
+    (length x + m, rw front h.1)
+
+pub prefix_behind : (o p q : Option (List ℕ)) (x y z : List ℕ) → Appends o p x → AppendsPrefix p q y → AppendsPrefix o q (x ++ (y ++ z))
+prefix_behind o p q x y z h i = then_prefix o q x y z (i.0, Appends-append o p q x (take i.0 y) h i.1)
 
 -- a prefix of the first part is a prefix of the whole
 pub prefix_first : (o p : Option (List ℕ)) (x y : List ℕ) → AppendsPrefix o p x → AppendsPrefix o p (x ++ y)

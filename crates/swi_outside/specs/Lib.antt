@@ -1,5 +1,6 @@
 pub mod CacheRam
 pub mod Causes
+pub mod Laws
 pub mod Shelf
 pub mod Sink
 pub mod Source

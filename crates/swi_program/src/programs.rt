@@ -70,6 +70,9 @@ impl Program {
         ensures one_text { texts self.now.segments ≡ 1 }
         ensures memory { sum_by (λ s. s.size) self.now.segments ≤ 2 ^ 25 }
         ensures room { (l : Layout) → IsLayoutOf self.now.segments l → IsRoomy self.now.segments l }
+
+        // At each address they hold the word of the text that stands there.
+        ensures held { (a : ℕ) → word_in self.now.segments a ≡ word_of (text_of self.now.segments) a }
     {
         &self.segments
     }

@@ -5,9 +5,10 @@ use Rattle.swi_outside.specs.CacheRam.{RamState}
 use Rattle.swi_program.specs.Program.{ProgramData}
 use Rattle.swi_program.specs.Text.{text_of}
 use Rattle.swi_command.specs.declared.RunOptions.{RunOptions}
-use Rattle.swi_calls.specs.State.{Machine}
+use Rattle.swi_calls.specs.declared.machine.Machine.{Machine}
 use Rattle.swi_calls.specs.Flat.{flat_start}
-use Rattle.swi_board.specs.First.{FirstData, RoseWithin, not_built_text, foreign_call, ran_to}
+use Rattle.swi_outside.specs.CacheRam.{RoseWithin}
+use Rattle.swi_first.specs.First.{FirstData, not_built_text, foreign_call, ran_to}
 use Rattle.swi_top.specs.declared.answer.Ending.{Ending}
 use Rattle.swi_top.specs.declared.answer.Refusal.TheVariants as refusal
 use Rattle.swi_top.specs.Answer.{Fetches, built_refusal, ending_of}

@@ -3,7 +3,8 @@ use Rattle.std.proofs.Common.{ℕ, ◌≤◌, List, ◌++◌, take, Option, Resu
 use Rattle.std.specs.Io.KnownBytes.{Appends}
 use Rattle.swi_outside.specs.Causes.{Rose, HasCause}
 use Rattle.swi_outside.specs.Sink.{AppendsPrefix, WritesPiece}
-use Rattle.swi_outside.proofs.SinkLemmas.{Appends-append, prefix_first, prefix_last, prefix_whole}
+use Rattle.swi_outside.specs.Laws.{Appends-append}
+use Rattle.swi_outside.proofs.SinkLemmas.{prefix_first, prefix_last, prefix_whole}
 use Rattle.swi_top.specs.Answer.{AppendsBehindPrefix, AppendsPrefixes}
 
 -- a write appends a prefix, and the whole where it doesn't fail

@@ -11,7 +11,7 @@ use Rattle.swi_program.specs.Program.{ProgramData, AreSegments}
 use Rattle.swi_program.specs.Layout.{IsRoomy}
 use Rattle.swi_program.specs.Text.{TextData, IsSized, text_of, word_of}
 use Rattle.swi_calls.specs.Flat.{machine_of}
-use Rattle.swi_board.specs.First.{StartsAt}
+use Rattle.swi_first.specs.First.{StartsAt}
 
 whole : (segments : List SegmentData) → AreSegments segments → AreWhole segments
 whole [] each = tt

@@ -3,7 +3,8 @@ use Rattle.std.proofs.Common.{◌≡◌, ◌⊎◌, ℕ, zero, suc, ◌+◌, ◌
 use Rattle.std.proofs.lemmas.List.{append-nil}
 use Rattle.std.specs.Io.KnownBytes.{Appends}
 use Rattle.swi_outside.specs.Sink.{AppendsPrefix, WritesPiece}
-use Rattle.swi_outside.proofs.SinkLemmas.{Appends-none, Appends-append, prefix_behind, prefix_first}
+use Rattle.swi_outside.specs.Laws.{Appends-none, Appends-append}
+use Rattle.swi_outside.proofs.SinkLemmas.{prefix_behind, prefix_first}
 use Rattle.swi_exec.specs.Registers.{Registers}
 use Rattle.swi_top.specs.Texts.{register_line, register_lines, pc_line, break_line, state_text}
 

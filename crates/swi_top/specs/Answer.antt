@@ -18,9 +18,11 @@ use Rattle.swi_command.specs.declared.RunOptions.{RunOptions}
 use Rattle.swi_command.specs.CommandLine.{Request, RunCached, RunPlain}
 use Rattle.swi_calls.specs.declared.end.End.{End}
 use Rattle.swi_calls.specs.declared.end.End.TheVariants as end
-use Rattle.swi_calls.specs.State.{Machine, FlatState}
+use Rattle.swi_calls.specs.declared.machine.Machine.{Machine}
+use Rattle.swi_calls.specs.State.{FlatState}
 use Rattle.swi_calls.specs.Flat.{flat_run, flat_start}
-use Rattle.swi_board.specs.First.{not_built_text, foreign_call, KeepsBeyond, RoseWithin}
+use Rattle.swi_outside.specs.CacheRam.{KeepsBeyond, RoseWithin}
+use Rattle.swi_first.specs.First.{not_built_text, foreign_call}
 use Rattle.swi_top.specs.declared.file.Prepared.{Prepared}
 use Rattle.swi_top.specs.declared.answer.Ending.{Ending}
 use Rattle.swi_top.specs.declared.answer.Ending.TheVariants as ending
@@ -215,5 +217,5 @@ Fetches ram ram' (Err r) = ⊤
 -- A plain run leaves the ram alone. A cached one keeps the words behind the first eight, and `reach` doesn't pass the larger of what it
 -- was and 8.
 abbrev pub UsesRam : Request → RamState → RamState → Result Ending Refusal → Type 0
-UsesRam (RunCached name o) before after result = KeepsBeyond before after × Fetches before after result
+UsesRam (RunCached name o) before after result = KeepsBeyond 8 before after × Fetches before after result
 UsesRam (RunPlain name o) before after result = after ≡ before

@@ -1,6 +1,6 @@
 -- The lines that a command writes (own rule): a run's ending and a refusal to the error sink, the state to the output.
 use Rattle.std.specs.Prelude.{ℕ, zero, suc, List, [], ◌++◌, codes, decimal}
-use Rattle.swi_calls.specs.Text.{hex_word}
+use Rattle.swi_line.specs.Hex.{hex_word}
 use Rattle.swi_elf_read.specs.declared.refusal.ElfRefusal.{ElfRefusal}
 use Rattle.swi_elf_read.specs.declared.refusal.ElfRefusal.TheVariants.{Short, Magic, Class, Order, Version, FileType, Machine, Flags, HeaderSize, Many, Table, Dynamic, Extent, Overlap, NoText, TwoTexts, Large, Entry}
 use Rattle.swi_exec.specs.declared.done.FaultKind.{FaultKind}

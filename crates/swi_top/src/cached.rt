@@ -5,11 +5,12 @@ ghost use Rattle.std.specs.Prelude.{◌≡◌, ◌⊎◌, ◌≤◌, ◌*◌, If
 ghost use Rattle.std.specs.Io.KnownBytes.{Appends};
 ghost use Rattle.swi_outside.specs.Causes.{HasCause};
 ghost use Rattle.swi_outside.specs.Sink.{AppendsPrefix, WritesPiece};
-ghost use Rattle.swi_calls.specs.State.{Machine};
+ghost use Rattle.swi_calls.specs.declared.machine.Machine.{Machine};
 ghost use Rattle.swi_calls.specs.Flat.{flat_run, flat_start, machine_of};
 ghost use Rattle.swi_command.specs.CommandLine.{IsInRange};
 ghost use Rattle.swi_program.specs.Layout.{IsLayoutOf};
-ghost use Rattle.swi_board.specs.First.{KeepsBeyond, RoseWithin, exit_line, ran_to};
+ghost use Rattle.swi_outside.specs.CacheRam.{KeepsBeyond, RoseWithin};
+ghost use Rattle.swi_first.specs.First.{exit_line, ran_to};
 ghost use Rattle.swi_top.specs.Answer.{Fetches, IsAsked, IsCheck, IsEarly, built_refusal, ending_of, run_output};
 ghost use Rattle.swi_top.specs.Texts.{state_text};
 ghost use Rattle.swi_top.specs.Causes.{HasCauses};
@@ -18,9 +19,9 @@ use crate::file::Prepared;
 use crate::texts::write_state;
 use crate::{Ending, Refusal};
 use std::alloc::Global;
-use swi_board::{First, FirstStop, run_first};
 use swi_calls::tell;
 use swi_command::RunOptions;
+use swi_first::{First, FirstStop, run_first};
 use swi_outside::{CacheRam, Failed, Memory, Sink};
 use swi_program::TextView;
 
@@ -124,7 +125,7 @@ fn run_text<R: CacheRam>(
     ensures asked { IfErr result IsAsked }
     ensures late { IfErr result (λ r. IsEarly r → r ≡ Refusal.Memory) }
     ensures memory { result ≡ Err Refusal.Memory → R.state ram.new ≡ R.state ram.old }
-    ensures keeps { KeepsBeyond (R.state ram.old) (R.state ram.new) }
+    ensures keeps { KeepsBeyond 8 (R.state ram.old) (R.state ram.new) }
     ensures fetches { IfOk result (λ first. RoseWithin first.steps (3 * first.steps) (R.state ram.old).fetches (R.state ram.new).fetches) }
     ensures causes { HasCauses
         (record { shelf = 0; input = 0; out = 0; err = 0; ram = (R.state ram.old).faults })
@@ -184,7 +185,7 @@ pub(crate) fn run_cached<O: Sink, E: Sink, R: CacheRam>(
     ensures late { IfErr result (λ r. IsEarly r → r ≡ Refusal.Memory) }
     ensures memory { result ≡ Err Refusal.Memory → (R.state ram.new ≡ R.state ram.old) × (O.held out.new ≡ O.held out.old) × (E.held err.new ≡ E.held err.old) }
     ensures unwritten { IfErr result (λ r. IsCheck r → (O.held out.new ≡ O.held out.old) × (E.held err.new ≡ E.held err.old)) }
-    ensures keeps { KeepsBeyond (R.state ram.old) (R.state ram.new) }
+    ensures keeps { KeepsBeyond 8 (R.state ram.old) (R.state ram.new) }
     ensures fetches { Fetches (R.state ram.old) (R.state ram.new) result }
     ensures causes { HasCauses
         (record { shelf = 0; input = 0; out = O.faults out.old; err = E.faults err.old; ram = (R.state ram.old).faults })

@@ -4,7 +4,7 @@
 ghost use Rattle.std.specs.Prelude.{◌≡◌, ◌≤◌, ℕ, List, Some, IfOk, IfErr, OnOk, IsErrOf, length};
 ghost use Rattle.swi_outside.specs.Shelf.{Same, get_of};
 ghost use Rattle.swi_command.specs.CommandLine.{HasLimitsInRange, IsInRange, request_of};
-ghost use Rattle.swi_board.specs.First.{KeepsBeyond};
+ghost use Rattle.swi_outside.specs.CacheRam.{KeepsBeyond};
 ghost use Rattle.swi_top.specs.Answer.{Fetches, IsAsked, IsBeforeWriting, IsCheck, IsChecked, IsEarly, IsTold, IsUntouched, UsesRam, WritesRun, cached_refusal, ending_of, file_refusal, name_of, options_of, or_else, request_refusal, run_of, run_output};
 ghost use Rattle.swi_top.specs.Causes.{HasCauses};
 
@@ -79,7 +79,7 @@ fn cached<F: Shelf, O: Sink, E: Sink, R: CacheRam>(
         (O.held out.old) (O.held out.new) (E.held err.old) (E.held err.new) }
     ensures early { IfErr result (λ r. IsEarly r → (R.state ram.new ≡ R.state ram.old) × (O.held out.new ≡ O.held out.old) × (E.held err.new ≡ E.held err.old)) }
     ensures unwritten { IfErr result (λ r. IsCheck r → (O.held out.new ≡ O.held out.old) × (E.held err.new ≡ E.held err.old)) }
-    ensures keeps { KeepsBeyond (R.state ram.old) (R.state ram.new) }
+    ensures keeps { KeepsBeyond 8 (R.state ram.old) (R.state ram.new) }
     ensures fetches { Fetches (R.state ram.old) (R.state ram.new) result }
     ensures contents { Same (F.contents shelf.old) (F.contents shelf.new) }
     ensures last_failed { IsErrOf result Refusal.ShelfFault → F.last_failed shelf.new ≡ Some (get_of name.now) }

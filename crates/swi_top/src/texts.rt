@@ -8,10 +8,10 @@ ghost use Rattle.swi_outside.specs.Sink.{WritesPiece};
 ghost use Rattle.swi_top.specs.Texts.{kind_name, ending_line, check_of, check_is, elf_line, refusal_line, register_line, register_lines, pc_line, break_line, state_text};
 
 use crate::{Ending, Refusal};
-use swi_calls::Line;
 use swi_elf_read::ElfRefusal;
 use swi_exec::{FaultKind, Regs};
 use swi_isa::Reg;
+use swi_line::Line;
 use swi_outside::{Failed, Sink};
 
 fn kind_text(kind: FaultKind) -> &'static str

@@ -1,4 +1,4 @@
-use Rattle.std.proofs.Common.{rules}
+use Rattle.std.proofs.Common.{◌≡◌, rules, arith}
 use Rattle.std.proofs.lemmas.Result.{err_from_is_err_and}
 use Rattle.swi_calls.proofs.MovesLemmas.{written_more, written_part}
 use Rattle.swi_calls.proofs.moves.write_from.Goals as goal
@@ -14,5 +14,6 @@ loop-done-preserved g c = record {
   within = c.piece_at-piece.ensures.within;
   written = written_more c.args.bus.now c.args.a c.loop-done.done c.piece_at-piece.result.now (g.S.Sink.held c.args.sink.now) (g.S.Sink.held c.loop-done.sink) (g.S.Sink.held c.write.new.self)
       c.loop-done.invariant.written c.piece_at-piece.ensures.bytes c.in_ok-write.ensures.bytes;
+  unasked = λ (none : c.args.count ≡ 0). absurd (omega arith);
   still = search rules;
 }

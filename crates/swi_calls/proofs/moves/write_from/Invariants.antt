@@ -7,6 +7,7 @@ abbrev pub invariant-loop-done : goal.invariant-loop-done
 invariant-loop-done g l = record {
   within : l.done ≤ l.count;
   written : Appends (g.S.Sink.held l.fn.sink) (g.S.Sink.held l.sink) (bytes_at l.bus l.a l.done);
+  unasked : l.count ≡ 0 → g.S.Sink.held l.sink ≡ g.S.Sink.held l.fn.sink;
   still : g.S.Sink.faults l.sink ≡ g.S.Sink.faults l.fn.sink;
 }
 

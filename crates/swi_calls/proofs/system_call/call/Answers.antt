@@ -3,8 +3,10 @@ use Rattle.std.proofs.lemmas.Result.{err_from_is_err_and}
 use Rattle.std.specs.Io.KnownBytes.{Appends}
 use Rattle.swi_outside.specs.Sink.{AppendsPrefix}
 use Rattle.swi_calls.specs.Call.{called, served, told}
-use Rattle.swi_calls.proofs.CallLemmas.{heap_none, heap_moved}
-use Rattle.swi_outside.proofs.SinkLemmas.{Appends-append, prefix_first, prefix_whole, prefix_last, write_failed, write_done}
+use Rattle.swi_calls.proofs.CallLemmas.{heap_none, heap_moved, unasked_first, unasked_told}
+use Rattle.swi_calls.proofs.TextLemmas.{moved_text}
+use Rattle.swi_outside.specs.Laws.{Appends-append}
+use Rattle.swi_outside.proofs.SinkLemmas.{prefix_first, prefix_whole, prefix_last, write_failed, write_done}
 use Rattle.swi_calls.proofs.system_call.call.Goals as goal
 
 pub returns-in_err-answer-clause-error_prefix : goal.returns-in_err-answer-clause-error_prefix
@@ -49,3 +51,49 @@ returns-clause-error g c left known =
     Appends-append (g.E.Sink.held c.args.err.now) (g.E.Sink.held c.serve.new.err) (g.E.Sink.held c.tell.new.err) (served c.args.regs.now c.args.bus.now c.args.heap.now left).error
     (told c.args.log c.args.regs.now (served c.args.regs.now c.args.bus.now c.args.heap.now left).answer) (c.in_ok-answer.ensures.error left known)
     (rw (c.in_ok-answer.ensures.served left known).answered at line)
+
+pub returns-in_err-answer-clause-text : goal.returns-in_err-answer-clause-text
+returns-in_err-answer-clause-text g c =
+    moved_text c.args.regs.now c.args.bus.now c.serve.new.bus (g.I.Source.left c.args.input.now) (g.I.Source.left c.serve.new.input) c.serve.ensures.moved
+
+pub returns-then-is_err-clause-text : goal.returns-then-is_err-clause-text
+returns-then-is_err-clause-text g c =
+    moved_text c.args.regs.now c.args.bus.now c.serve.new.bus (g.I.Source.left c.args.input.now) (g.I.Source.left c.serve.new.input) c.serve.ensures.moved
+
+pub returns-in_default-clause-text : goal.returns-in_default-clause-text
+returns-in_default-clause-text g c =
+    moved_text c.args.regs.now c.args.bus.now c.serve.new.bus (g.I.Source.left c.args.input.now) (g.I.Source.left c.serve.new.input) c.serve.ensures.moved
+
+pub returns-clause-text : goal.returns-clause-text
+returns-clause-text g c =
+    moved_text c.args.regs.now c.args.bus.now c.serve.new.bus (g.I.Source.left c.args.input.now) (g.I.Source.left c.serve.new.input) c.serve.ensures.moved
+
+pub returns-in_err-answer-clause-unasked_error : goal.returns-in_err-answer-clause-unasked_error
+unfolding called
+returns-in_err-answer-clause-unasked_error g c left none =
+    unasked_first (served c.args.regs.now c.args.bus.now c.args.heap.now left).error (told c.args.log c.args.regs.now (served c.args.regs.now c.args.bus.now c.args.heap.now left).answer)
+    (g.E.Sink.held c.args.err.now) (g.E.Sink.held c.serve.new.err) (g.E.Sink.faults c.args.err.now) (g.E.Sink.faults c.serve.new.err) (c.in_err-answer.ensures.unasked_error left) none
+
+pub returns-then-is_err-clause-unasked_error : goal.returns-then-is_err-clause-unasked_error
+unfolding called
+returns-then-is_err-clause-unasked_error g c left none =
+    unasked_told c.args.log c.args.regs.now (served c.args.regs.now c.args.bus.now c.args.heap.now left).answer (served c.args.regs.now c.args.bus.now c.args.heap.now left).error
+    (g.E.Sink.held c.args.err.now) (g.E.Sink.held c.serve.new.err) (g.E.Sink.held c.tell.new.err)
+    (g.E.Sink.faults c.args.err.now) (g.E.Sink.faults c.serve.new.err) (g.E.Sink.faults c.tell.new.err)
+    (c.in_ok-answer.ensures.unasked_error left) c.tell.ensures.unasked none
+
+pub returns-in_default-clause-unasked_error : goal.returns-in_default-clause-unasked_error
+unfolding called
+returns-in_default-clause-unasked_error g c left none =
+    unasked_told c.args.log c.args.regs.now (served c.args.regs.now c.args.bus.now c.args.heap.now left).answer (served c.args.regs.now c.args.bus.now c.args.heap.now left).error
+    (g.E.Sink.held c.args.err.now) (g.E.Sink.held c.serve.new.err) (g.E.Sink.held c.tell.new.err)
+    (g.E.Sink.faults c.args.err.now) (g.E.Sink.faults c.serve.new.err) (g.E.Sink.faults c.tell.new.err)
+    (c.in_ok-answer.ensures.unasked_error left) c.tell.ensures.unasked none
+
+pub returns-clause-unasked_error : goal.returns-clause-unasked_error
+unfolding called
+returns-clause-unasked_error g c left none =
+    unasked_told c.args.log c.args.regs.now (served c.args.regs.now c.args.bus.now c.args.heap.now left).answer (served c.args.regs.now c.args.bus.now c.args.heap.now left).error
+    (g.E.Sink.held c.args.err.now) (g.E.Sink.held c.serve.new.err) (g.E.Sink.held c.tell.new.err)
+    (g.E.Sink.faults c.args.err.now) (g.E.Sink.faults c.serve.new.err) (g.E.Sink.faults c.tell.new.err)
+    (c.in_ok-answer.ensures.unasked_error left) c.tell.ensures.unasked none

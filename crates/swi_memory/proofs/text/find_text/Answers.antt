@@ -10,7 +10,7 @@ text_in-requires-clause-file_size c = (bank_place c.args.banks.now c.loop-i.i c.
 pub text_in-requires-clause-end : goal.text_in-requires-clause-end
 text_in-requires-clause-end c = (bank_place c.args.banks.now c.loop-i.i c.index-banks-i.result c.requires.order c.loop-i-test.true c.index-banks-i.is).end
 
-pub returns-then-is_in : goal.returns-then-is_in
-returns-then-is_in c =
+pub returns-then-grants : goal.returns-then-grants
+returns-then-grants c =
     let executable : grants Execute c.index-banks-i.result.flags ≡ true = search rules in
     text_found c.args.banks.now c.loop-i.i c.index-banks-i.result c.text_in.result c.loop-i.invariant.words c.loop-i.invariant.one c.loop-i-test.true c.index-banks-i.is executable c.text_in.ensures

@@ -1,7 +1,7 @@
 use Rattle.std.proofs.Common.{◌≡◌, true, false, is_err, sym, refl, ◌∙◌}
 use Rattle.swi_calls.specs.Flat.{machine_of}
 use Rattle.swi_outside.proofs.SinkLemmas.{prefix_whole, write_failed, write_done}
-use Rattle.swi_board.specs.First.{ran_to}
+use Rattle.swi_first.specs.First.{ran_to}
 use Rattle.swi_top.specs.Answer.{state_shown}
 use Rattle.swi_top.proofs.cached.conclude.Goals as goal
 

@@ -1,4 +1,4 @@
-use Rattle.swi_outside.proofs.SinkLemmas.{Appends-none}
+use Rattle.swi_outside.specs.Laws.{Appends-none}
 use Rattle.swi_top.proofs.call.top.Goals as goal
 
 pub returns-in-Err-Memory-clause-writes : goal.returns-in-Err-Memory-clause-writes
