@@ -4,10 +4,12 @@
 pub mod placement;
 pub mod programs;
 pub mod text_view;
+pub mod word_bytes;
 
 pub use placement::{Room, lay_out};
 pub use programs::{Program, one_text, program_of};
 pub use text_view::TextView;
+pub use word_bytes::append_words;
 
 #[cfg(test)]
 mod tests;

@@ -8,9 +8,10 @@ ghost use Rattle.swi_program.specs.Program.{can_execute, AreSegments};
 ghost use Rattle.swi_program.specs.Text.{text_of, word_of, IsTextAddress, HasText, IsSized};
 ghost use Rattle.swi_memory.specs.declared.layout.Layout.{Layout};
 ghost use Rattle.swi_program.specs.Layout.{IsLayoutOf, IsRoomy};
-ghost use Rattle.swi_program.specs.ProgramOf.{program_of_file, program_of_words, segment_of, bytes_of_words};
+ghost use Rattle.swi_program.specs.ProgramOf.{program_of_file, program_of_words, segment_of};
 
 use crate::text_view::{self, TextView};
+use crate::word_bytes::append_words;
 use std::alloc::Global;
 use std::marker::Model;
 use swi_elf_read::{Elf, elf_entry, elf_flags, loaded, loaded_at};
@@ -138,20 +139,6 @@ pub fn program_of(alloc: Global, e: &Elf) -> Result<Program, Memory>
     })
 }
 
-/// The bytes of the words, the lowest byte of each first.
-#[tactic(auto, using(crate::proofs::FromWords::byte_steps))]
-fn bytes_of_words(alloc: Global, words: &[u32]) -> Result<Vec<u8>, Memory>
-    ensures { IfOk result (λ bytes. bytes.items ≡ bytes_of_words words.now) }
-{
-    let mut bytes = Vec::new(alloc);
-    for word in words {
-        if bytes.extend_from_slice(&word.to_le_bytes()).is_err() {
-            return Err(Memory);
-        }
-    }
-    Ok(bytes)
-}
-
 /// The program of these instruction words at a base address, at which a run begins: one segment
 /// that can be read and executed. The base is a multiple of 4; there are 1 to 2^19 words, which end
 /// at 2^32 at most. The ELF flags are 0.
@@ -165,7 +152,8 @@ pub fn one_text(alloc: Global, base: u32, words: &[u32]) -> Result<Program, Memo
     requires end { base + 4 * length words.now ≤ 2 ^ 32 }
     ensures { IfOk result (λ p. p ≡ program_of_words base words.now) }
 {
-    let bytes = bytes_of_words(alloc, words)?;
+    let mut bytes = Vec::new(alloc);
+    append_words(&mut bytes, words)?;
     let size = 4 * words.len() as u32;
     let segments = one(alloc, Segment::of(base, 5, size, bytes))?;
     Ok(Program {

@@ -1,0 +1,4 @@
+pub mod Headers
+pub mod Tables
+pub mod Checks
+pub mod ReadBack

@@ -1,0 +1,3 @@
+pub mod FileHeader
+pub mod Rewritten
+pub mod ReadsAs

@@ -1,0 +1,10 @@
+//! The writer of ELF files that hold a program and its cache image.
+#![tactic(auto)]
+
+mod program_header;
+pub mod writer;
+
+pub use writer::write_elf;
+
+#[cfg(test)]
+mod tests;

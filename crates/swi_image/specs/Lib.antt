@@ -1,0 +1,7 @@
+pub mod Words
+pub mod Format
+pub mod Checks
+pub mod Place
+pub mod Kept
+pub mod Sound
+pub mod Laws
