@@ -1,0 +1,5 @@
+pub mod Errors
+pub mod Places
+pub mod Words
+pub mod Blocks
+pub mod Never

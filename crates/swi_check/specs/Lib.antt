@@ -1,0 +1,2 @@
+pub mod Mismatches
+pub mod Parts

@@ -1,0 +1,33 @@
+use Rattle.std.proofs.Common.{◌≡◌, length, arith, subst, ℕ}
+use Rattle.swi_image.specs.Format.{image_of}
+use Rattle.swi_cut.specs.Drafts.{IsDraft, AreGreedy}
+use Rattle.swi_cut.proofs.Drafted.{greedy_more, greedy_none}
+use Rattle.swi_cut.proofs.Finished.{cut_of_made}
+use Rattle.swi_cut.proofs.cutter.cut_text.Goals as goal
+
+pub loop-done-init : goal.loop-done-init
+loop-done-init c = (
+  c.new-draft.ensures.draft c.args.text.now c.args.most,
+  omega arith,
+  greedy_none c.args.text.now c.args.most c.new-draft.result.starts.items c.new-draft.ensures.starts,
+)
+
+pub loop-done-preserved : goal.loop-done-preserved
+loop-done-preserved c = (
+  (c.in-Ok-add_block.ensures {u = tt}).draft,
+  (c.in-Ok.ensures {u = tt}).run.within,
+  greedy_more c.args.text.now c.args.most c.loop-done.done c.in-Ok.end c.loop-done.draft.starts.items c.add_block.new.self.starts.items c.loop-done.invariant.2 (c.in-Ok.ensures {u = tt}).greedy (c.in-Ok-add_block.ensures {u = tt}).starts,
+)
+
+pub image-requires-clause-draft : goal.image-requires-clause-draft
+image-requires-clause-draft c =
+    let all : c.loop-done.done ≡ length c.args.text.now.words = omega (arith, c.loop-done.invariant.1) in
+    subst (λ (n : ℕ). IsDraft c.args.text.now c.args.most n c.loop-done.draft) all c.loop-done.invariant.0
+
+pub returns-in-Ok-image-clause-cut : goal.returns-in-Ok-image-clause-cut
+returns-in-Ok-image-clause-cut c =
+    let all : c.loop-done.done ≡ length c.args.text.now.words = omega (arith, c.loop-done.invariant.1) in
+    cut_of_made c.args.text.now c.args.most c.loop-done.draft.starts.items c.loop-done.draft.ends.items c.loop-done.draft.offsets.items c.loop-done.draft.words.items (image_of c.in-Ok-image.image)
+    (subst (λ (n : ℕ). IsDraft c.args.text.now c.args.most n c.loop-done.draft) all c.loop-done.invariant.0)
+    (subst (λ (n : ℕ). AreGreedy c.args.text.now c.args.most c.loop-done.draft.starts.items n) all c.loop-done.invariant.2)
+    (c.in-Ok-image.ensures {u = tt})

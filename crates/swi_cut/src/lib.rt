@@ -1,0 +1,14 @@
+//! The cutter: from the text of a program to its cache image, and from an image to its version 2.
+#![tactic(auto)]
+
+mod cutter;
+mod draft;
+mod refusal;
+mod upgrader;
+
+pub use cutter::cut;
+pub use refusal::CutRefusal;
+pub use upgrader::upgrade;
+
+#[cfg(test)]
+mod tests;

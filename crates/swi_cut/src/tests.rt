@@ -1,0 +1,92 @@
+//! Rows of texts and their images.
+ghost use Rattle.std.specs.Prelude.{◌<◌, ◌≤◌, length};
+
+use super::*;
+use std::alloc::Global;
+use std::test::Fail;
+use swi_image::Image;
+use swi_program::one_text;
+
+/// Exits with 7.
+const SEVEN: [u32; 3] = [0x05D00893, 0x00700513, 0x00000073];
+
+/// Counts x5 down from 3 and exits.
+const COUNTS: [u32; 5] = [0x00300293, 0xFFF28293, 0xFE029EE3, 0x05D00893, 0x00000073];
+
+/// Calls its fifth word by a JALR.
+const CALLS: [u32; 6] = [
+    0x00000097, 0x00C080E7, 0, 0x05D00893, 0x00008513, 0x00000073,
+];
+
+/// The words of an image.
+fn words_of(alloc: Global, image: &Image) -> Result<Vec<u32>, Fail> {
+    let mut words = Vec::new(alloc);
+    for chunk in image.bytes().chunks_exact(4) {
+        words.push(u32::from_le_bytes([chunk[0], chunk[1], chunk[2], chunk[3]]))?;
+    }
+    Ok(words)
+}
+
+/// What the program of these words is cut into.
+fn cut_words(alloc: Global, text: &[u32], most: u32) -> Result<Result<Vec<u32>, CutRefusal>, Fail>
+    requires some { 0 < length text.now }
+    requires few { length text.now ≤ 8 }
+    requires least { 2 ≤ most }
+    requires most { most ≤ 1024 }
+{
+    let program = one_text(alloc, 0x10000, text)?;
+    match cut(alloc, &program, most) {
+        Ok(image) => Ok(Ok(words_of(alloc, &image)?)),
+        Err(refusal) => Ok(Err(refusal)),
+    }
+}
+
+#[test]
+fn texts_are_cut_into_full_blocks(rt: HostRuntime) -> Result<(), Fail> {
+    let one_block = [
+        0x31434953, 2, 8, 1, 3, 0x00010000, 0, 5, 0, 1, 2, 0x05D00893, 0x00700513, 0x00000073,
+        0x00100073, 0x0001000C,
+    ];
+    let exactly_full = [
+        0x31434953, 2, 5, 1, 3, 0x00010000, 0, 5, 0, 1, 2, 0x05D00893, 0x00700513, 0x00000073,
+        0x00100073, 0x0001000C,
+    ];
+    let three_blocks = [
+        0x31434953, 2, 5, 3, 6, 0x00010000, 0, 2, 4, 5, 10, 14, 0, 2, 0, 2, 0, 1, 0x000100B7,
+        0x00008093, 0x00100073, 0x00C080E7, 0x00010008, 0x00100073, 0x00010009, 0x05D00893,
+        0x00100073, 0x00010010, 0x00008513, 0x00000073, 0x00100073, 0x00010018,
+    ];
+    let table: [(&[u32], u32, &[u32]); 3] = [
+        (&SEVEN, 8, &one_block),
+        (&SEVEN, 5, &exactly_full),
+        (&CALLS, 5, &three_blocks),
+    ];
+    for (text, most, want) in table {
+        if text.is_empty() || text.len() > 8 || most < 2 || most > 1024 {
+            return Err(Fail::from("no row"));
+        }
+        let want = Vec::from_slice(rt.alloc(), want)?;
+        assert_eq!(rt; cut_words(rt.alloc(), text, most)?, Ok(want));
+    }
+    Ok(())
+}
+
+#[test]
+fn word_that_does_not_fit_is_refused(rt: HostRuntime) -> Result<(), Fail> {
+    let long = |address, needs| Err(CutRefusal::Long { address, needs });
+    assert_eq!(rt; cut_words(rt.alloc(), &COUNTS, 4)?, long(0x10008, 5));
+    assert_eq!(rt; cut_words(rt.alloc(), &COUNTS, 2)?, long(0x10000, 3));
+    assert_eq!(rt; cut_words(rt.alloc(), &CALLS, 2)?, long(0x10000, 4));
+    Ok(())
+}
+
+#[test]
+fn version_2_is_upgraded_to_itself(rt: HostRuntime) -> Result<(), Fail> {
+    let program = one_text(rt.alloc(), 0x10000, &CALLS)?;
+    let Ok(image) = cut(rt.alloc(), &program, 5) else {
+        return Err(Fail::from("no image"));
+    };
+    let again = upgrade(rt.alloc(), &program, &image.view())?;
+    assert_eq!(rt; again.bytes(), image.bytes());
+    Ok(())
+}

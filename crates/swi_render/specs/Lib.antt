@@ -1,0 +1,5 @@
+pub mod Rendering
+pub mod ImageOf
+pub mod Among
+pub mod Cut
+pub mod Carried
