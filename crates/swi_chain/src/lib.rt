@@ -1,0 +1,9 @@
+//! Which words are linked to which slot.
+#![tactic(auto)]
+
+mod chains;
+
+pub use chains::Chains;
+
+#[cfg(test)]
+mod tests;

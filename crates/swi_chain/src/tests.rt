@@ -1,0 +1,17 @@
+use super::*;
+use std::test::Fail;
+
+#[test]
+fn words_leave_a_list_in_any_order(rt: HostRuntime) -> Result<(), Fail> {
+    let mut chains = Chains::new(rt.alloc(), 2, 10)?;
+    chains.link(6, 0);
+    chains.link(3, 0);
+    chains.link(8, 1);
+    assert_eq!(rt; chains.first_into(0), Some(3));
+    assert_eq!(rt; chains.target(6), Some(0));
+    chains.unlink(3);
+    assert_eq!(rt; chains.first_into(0), Some(6));
+    assert_eq!(rt; chains.target(3), None);
+    assert_eq!(rt; chains.first_into(1), Some(8));
+    Ok(())
+}

@@ -1,0 +1,6 @@
+mod Lists
+mod Leaving
+mod Clearing
+mod Knowing
+mod Seen
+mod Exits

@@ -1,0 +1,4 @@
+pub mod Targets
+pub mod Undone
+pub mod Homes
+pub mod Chained

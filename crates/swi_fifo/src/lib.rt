@@ -1,0 +1,10 @@
+//! The cache service that finds each link and each block without a search.
+#![tactic(auto)]
+
+mod table;
+mod undo;
+
+pub use table::{ChainTable, FifoRom, chains};
+
+#[cfg(test)]
+mod tests;

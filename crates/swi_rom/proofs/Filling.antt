@@ -1,0 +1,56 @@
+-- A ram that fails while a block is copied.
+use Rattle.std.proofs.Common.{◌≡◌, ℕ, ◌+◌, ◌*◌, ◌<◌, ◌≤◌, List, slice_index, slice_index_or, arith, subst, sym, ap, inl, inr}
+use Rattle.std.proofs.lemmas.Nat.{row_fits}
+use Rattle.std.proofs.lemmas.Bool.{cases_lt}
+use Rattle.std.proofs.lemmas.List.{get_or_read}
+use Rattle.swi_image.specs.Format.{ImageData}
+use Rattle.swi_outside.specs.CacheRam.{RamState}
+use Rattle.swi_rom.specs.Slots.{Slots, InShape}
+use Rattle.swi_rom.specs.Steps.{MadeRoom, FailedBelow, LinksInside, Wrote, leading_in}
+use Rattle.swi_rom.specs.Sound.{SlotsSound}
+use Rattle.swi_rom.specs.SlotLinks.{word_below, word_slot}
+use Rattle.swi_rom.specs.Rams.{failed_more, failed_wider, wrote_none}
+
+-- the slot that is filled ends within the slots
+pub slot_fits : (s : Slots) (n : ℕ) → InShape s → n ≤ s.size → s.next * s.size + n ≤ s.slots * s.size
+slot_fits s n shape le = omega (arith, row_fits s.next s.size s.slots s.size shape.next_below (omega arith))
+
+-- what was written to make room
+pub room_wrote : (s t : Slots) (a b : RamState) → MadeRoom s t a b → (n : ℕ) × Wrote (s.slots * s.size) n a b
+room_wrote s t a b room = elim (cases_lt s.filled s.slots) [
+  | inl lt ↦ (0, subst (λ (x : RamState). Wrote (s.slots * s.size) 0 a x) (sym (room.free lt).1) (wrote_none (s.slots * s.size) a))
+  | inr le ↦ (leading_in s.size s.next s.targets (s.slots * s.size), (room.full le).0.wrote)
+]
+
+pub room_keeps : (s t : Slots) (a b : RamState) → MadeRoom s t a b → (t.next ≡ s.next) × (t.size ≡ s.size) × (t.slots ≡ s.slots)
+room_keeps s t a b room = elim (cases_lt s.filled s.slots) [
+  | inl lt ↦ (ap (λ (x : Slots). x.next) (room.free lt).0, ap (λ (x : Slots). x.size) (room.free lt).0, ap (λ (x : Slots). x.slots) (room.free lt).0)
+  | inr le ↦ (ap (λ (x : Slots). x.next) (room.full le).1, ap (λ (x : Slots). x.size) (room.full le).1, ap (λ (x : Slots). x.slots) (room.full le).1)
+]
+
+pub fill_failed : (s t : Slots) (first n : ℕ) (a b c : RamState) → InShape s → n ≤ s.size → first ≡ t.next * t.size → MadeRoom s t a b → FailedBelow (first + n) b c → FailedBelow (s.slots * s.size) a c
+fill_failed s t first n a b c shape le at room failed =
+    let w = room_wrote s t a b room in
+    let k = room_keeps s t a b room in
+    failed_more (s.slots * s.size) (s.slots * s.size) w.0 a b c w.1
+    (failed_wider (first + n) (s.slots * s.size) b c failed (rw (at, k.0, k.1) (slot_fits s n shape le))) (omega arith)
+
+-- the links of the slot that is filled next stand within its block
+pub links_inside : (s : Slots) (v : ImageData) (words : List ℕ) → SlotsSound s v words → LinksInside s s.next
+links_inside s v words sound o le lt = elim (cases_lt (slice_index s.targets (s.next * s.size + o)) s.slots) [
+  | inl t ↦ absurd (
+      let stands = sound.stands (s.next * s.size + o) (word_below s s.next o sound.shape sound.shape.next_below lt) t in
+      let filled : s.next < s.filled = omega (arith, stands, (word_slot s s.next o lt).0) in
+      let link = sound.linked s.next o filled lt t in
+      omega (arith, link.is_exit.inside, sound.lengths_are s.next filled))
+  | inr ge ↦ ge
+]
+
+-- as the code meets them, before the table is told
+pub room_inside : (s t : Slots) (slots size n : ℕ) → s ≡ t → InShape s → slots ≡ s.slots → size ≡ s.size → n ≡ slice_index_or s.lengths s.next n → LinksInside t t.next →
+    (o : ℕ) → n ≤ o → o < size → slots ≤ slice_index s.targets (s.next * size + o)
+room_inside s t slots size n e shape slots_is size_is is inside o le lt =
+    let here : n ≡ slice_index s.lengths s.next = get_or_read s.lengths s.next n (omega (arith, shape.next_below, shape.lengths_long)) is 0 in
+    let known : LinksInside s s.next = subst (λ (x : Slots). LinksInside x x.next) (sym e) inside in
+    let free : s.slots ≤ slice_index s.targets (s.next * s.size + o) = known o (omega arith) (omega arith) in
+    subst (λ (x : ℕ). slots ≤ slice_index s.targets (s.next * x + o)) (sym size_is) (omega (arith, slots_is))

@@ -1,0 +1,54 @@
+use Rattle.std.proofs.Common.{ℕ, ◌+◌, ◌*◌, ap, arith, sym, ◌∙◌}
+use Rattle.swi_rom.specs.Record.{direct}
+use Rattle.swi_rom.specs.Slots.{Slots}
+use Rattle.swi_rom.proofs.Crossing.{outside_served}
+use Rattle.swi_rom.proofs.Calls.{place_block, index_fits, exit_not_linked, home_within, home_read, exit_after, index_after, links_after, free_after, crossed_call, crossed_fault}
+use Rattle.swi_rom.proofs.slots.SlotRomCacheRom.cross.Goals as goal
+
+pub returns-in-None-clause-served : goal.returns-in-None-clause-served
+returns-in-None-clause-served g c = λ b o f h lt at.
+    outside_served _ _ (direct b o c.args.target) _ (exit_not_linked _ _ _ _ _ b o f c.requires.sound c.requires.exit h lt at) (sym c.in-None.ensures.place)
+
+pub index-home-requires : goal.index-home-requires
+index-home-requires g c =
+    let w = home_within _ _ _ _ _ _ c.self.view_is c.requires.sound c.requires.exit in
+    omega (arith, w)
+
+pub overflow_add-index : goal.overflow_add-index
+overflow_add-index g c =
+    let q = (place_block _ _ _ _ _ c.requires.sound c.in-Some.ensures.place).1 in
+    omega (arith, index_fits _ _ _ _ _ c.in-Ok.slot c.self-2.inside.size _ _ c.requires.sound c.in-Ok.ensures.arrived q (ap (λ (s : Slots). s.size) c.self-2.view_is ∙ c.in-Ok.ensures.size))
+
+pub link_exit-requires-clause-at : goal.link_exit-requires-clause-at
+link_exit-requires-clause-at g c = exit_after _ _ _ _ _ _ _ _ _ _ c.requires.sound c.requires.exit c.in-Ok.ensures.arrived
+
+pub link_exit-requires-clause-to : goal.link_exit-requires-clause-to
+link_exit-requires-clause-to g c =
+    index_after _ _ _ _ _ c.in-Ok.slot c.self-2.inside.size _ _ c.in-Ok.ensures.arrived (place_block _ _ _ _ _ c.requires.sound c.in-Some.ensures.place).1 (ap (λ (s : Slots). s.size) c.self-2.view_is ∙ c.in-Ok.ensures.size)
+
+pub link_exit-requires-clause-free : goal.link_exit-requires-clause-free
+link_exit-requires-clause-free g c = free_after _ _ _ _ _ _ _ _ _ _ c.requires.sound c.requires.exit c.in-Ok.ensures.arrived (home_read _ _ _ _ _ _ _ c.self.view_is c.requires.sound c.requires.exit c.index-home.ensures)
+
+pub link_exit-requires-clause-slot : goal.link_exit-requires-clause-slot
+link_exit-requires-clause-slot g c = omega (arith, c.in-Ok.ensures.arrived.filled, c.in-Ok.ensures.arrived.sound.shape.filled_most)
+
+pub link_exit-requires-clause-links : goal.link_exit-requires-clause-links
+link_exit-requires-clause-links g c = links_after _ _ _ _ _ _ _ _ _ c.requires.sound c.requires.exit c.in-Ok.ensures.arrived c.requires.services
+
+pub returns-in-Ok-link_exit-clause-served : goal.returns-in-Ok-link_exit-clause-served
+returns-in-Ok-link_exit-clause-served g c =
+    (crossed_call _ _ _ _ _ _ c.in-Ok.slot _ _ _ _ _ _ _ c.requires.sound c.requires.exit (sym c.in-Some.ensures.place) c.in-Ok.ensures.arrived
+    (home_read _ _ _ _ _ _ _ c.self.view_is c.requires.sound c.requires.exit c.index-home.ensures)
+    (ap (λ (n : ℕ). c.in-Ok.slot * n + c.in-Some.place.1) (ap (λ (s : Slots). s.size) c.self-2.view_is ∙ c.in-Ok.ensures.size))
+    c.in-Ok-link_exit.ensures.linked).0
+
+pub returns-in-Ok-link_exit-clause-stays : goal.returns-in-Ok-link_exit-clause-stays
+returns-in-Ok-link_exit-clause-stays g c =
+    (crossed_call _ _ _ _ _ _ c.in-Ok.slot _ _ _ _ _ _ _ c.requires.sound c.requires.exit (sym c.in-Some.ensures.place) c.in-Ok.ensures.arrived
+    (home_read _ _ _ _ _ _ _ c.self.view_is c.requires.sound c.requires.exit c.index-home.ensures)
+    (ap (λ (n : ℕ). c.in-Ok.slot * n + c.in-Some.place.1) (ap (λ (s : Slots). s.size) c.self-2.view_is ∙ c.in-Ok.ensures.size))
+    c.in-Ok-link_exit.ensures.linked).1
+
+pub returns-in-Err-link_exit-clause-served : goal.returns-in-Err-link_exit-clause-served
+returns-in-Err-link_exit-clause-served g c = λ b o f h lt at.
+    crossed_fault _ _ _ _ _ _ _ _ _ _ _ _ (sym c.in-Some.ensures.place) c.in-Ok.ensures.arrived c.in-Err-link_exit.ensures.failed

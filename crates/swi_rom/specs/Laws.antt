@@ -1,0 +1,21 @@
+-- The laws of a service with slots.
+use Rattle.std.specs.Prelude.{ℕ, List, ◌≤◌, ◌^◌}
+use Rattle.swi_image.specs.Format.{ImageData}
+use Rattle.swi_image.specs.Sound.{IsImage}
+use Rattle.swi_rom.specs.Coherent.{Coherent, StandsAt}
+use Rattle.swi_rom.specs.Slots.{Slots, kept_by, span_of, setting_of, shown_by}
+use Rattle.swi_rom.specs.Sound.{SlotsSound}
+use Rattle.swi_rom.specs.Coheres.{coheres, small_span, image_is}
+use Rattle.swi_rom.specs.Readers.{shown_stands}
+
+pub slots_coherent : (s : Slots) (v : ImageData) (words : List ℕ) → SlotsSound s v words → Coherent v (kept_by s) (span_of (setting_of s)) words
+slots_coherent = coheres
+
+pub slots_small : (s : Slots) (v : ImageData) (words : List ℕ) → SlotsSound s v words → span_of (setting_of s) ≤ 2 ^ 21
+slots_small = small_span
+
+pub slots_image : (s : Slots) (v : ImageData) (words : List ℕ) → SlotsSound s v words → IsImage v
+slots_image = image_is
+
+pub slots_shown : (s : Slots) (v : ImageData) (words : List ℕ) → SlotsSound s v words → (i : ℕ) → StandsAt v (kept_by s) i (shown_by s i)
+slots_shown = shown_stands

@@ -1,0 +1,129 @@
+ghost use Rattle.std.specs.Prelude.{◌≡◌, ◌+◌, ◌^◌, ◌<◌, ◌≤◌, List, ℕ, Option, length, true};
+ghost use Rattle.swi_image.specs.Format.{ImageData};
+ghost use Rattle.swi_image.specs.Place.{length_at};
+ghost use Rattle.swi_image.specs.Sound.{IsImage};
+ghost use Rattle.swi_rom.specs.Record.{Record, Transfer, direct, indirect, is_linked, writes, Placed};
+ghost use Rattle.swi_rom.specs.Coherent.{Coherent, StandsAt, ExitAt, resident_of};
+ghost use Rattle.swi_rom.specs.Served.{Served, OnServed};
+
+use swi_image::ImageView;
+use swi_outside::CacheRam;
+
+/// What a service has done since it was made.
+#[derive(Clone, Copy, Debug, PartialEq, Eq)]
+pub struct Counts {
+    /// Transfers that were served. The boot is none.
+    pub services: u64,
+    /// Blocks that were copied into the ram, that of the boot included.
+    pub misses: u64,
+    /// Blocks that made room for another.
+    pub evictions: u64,
+    /// Exits that became jumps to their target's place.
+    pub links: u64,
+    /// Links that became exits again, since their target's block was evicted.
+    pub unlinks: u64,
+    /// Words that the misses copied.
+    pub copied: u64,
+}
+
+/// Why a service gives no index.
+#[derive(Clone, Copy, Debug, PartialEq, Eq)]
+pub enum RomStop {
+    /// The target is no text address; nothing has changed.
+    Outside,
+    /// The ram failed. Only its words outside the service's are known, and no further call is allowed.
+    RamFault,
+}
+
+/// A cache service: it keeps blocks of an image in a ram, on demand.
+pub trait CacheRom: Drop {
+    /// What the service keeps.
+    ghost kept: { Self → Record };
+
+    /// What `new` fixes and no call changes.
+    ghost setting: { Self → List ℕ };
+
+    /// How many words of the ram it uses, by its setting.
+    ghost span: { List ℕ → ℕ };
+
+    /// The next record.
+    ghost policy: { List ℕ → Record → ImageData → Transfer → Record };
+
+    /// It may serve this image, with these words in the ram.
+    ghost sound: { Self → ImageData → List ℕ → Type 0 };
+
+    /// What stands at an index.
+    ghost shown: { Self → ℕ → Option (ℕ × ℕ) };
+
+    /// Serves a jump to an address: the index in the ram of the target's first word, whose block is copied
+    /// there if it isn't placed. While nothing is placed this is the boot. `Outside` comes exactly where no
+    /// text word stands at the address.
+    fn enter<M: CacheRam>(
+        &mut self,
+        image: &ImageView<'_>,
+        ram: &mut M,
+        target: u32,
+    ) -> Result<u32, RomStop>
+        requires sound { sound self.old image.now (M.state ram.old).words }
+        requires services { (kept self.old).counts.services < 2 ^ 50 }
+        ensures served { Served image.now (span (setting self.old)) target (kept self.old)
+            (policy (setting self.old) (kept self.old) image.now (indirect target)) (kept self.new)
+            (M.state ram.old) (M.state ram.new) result }
+        ensures setting { setting self.new ≡ setting self.old }
+        ensures stays { OnServed result (sound self.new image.now (M.state ram.new).words) };
+
+    /// Serves the direct exit at index `at`, which isn't linked, to the address in its descriptor, as `enter`
+    /// does. Afterwards the exit is linked, where its block is still placed and a JAL reaches from it to the
+    /// target's place.
+    fn cross<M: CacheRam>(
+        &mut self,
+        image: &ImageView<'_>,
+        ram: &mut M,
+        at: u32,
+        target: u32,
+    ) -> Result<u32, RomStop>
+        requires sound { sound self.old image.now (M.state ram.old).words }
+        requires services { (kept self.old).counts.services < 2 ^ 50 }
+        requires exit { ExitAt image.now (kept self.old) at target }
+        ensures served { (b o f : ℕ) → Placed (kept self.old) b f → o < length_at image.now b → at ≡ f + o →
+            Served image.now (span (setting self.old)) target (kept self.old)
+            (policy (setting self.old) (kept self.old) image.now (direct b o target)) (kept self.new)
+            (M.state ram.old) (M.state ram.new) result }
+        ensures setting { setting self.new ≡ setting self.old }
+        ensures stays { OnServed result (sound self.new image.now (M.state ram.new).words) };
+
+    /// Block and offset of the placed word at an index; None exactly where no block is placed.
+    fn at(&self, i: u32) -> Option<(u32, u32)>
+        ensures { result ≡ shown self.now i };
+
+    /// The k-th oldest block and its first word; None exactly from the number of placed blocks on.
+    fn resident(&self, k: u32) -> Option<(u32, u32)>
+        ensures { result ≡ resident_of (kept self.now) k };
+
+    fn counts(&self) -> Counts
+        ensures { result ≡ (kept self.now).counts };
+
+    /// It keeps the words coherent.
+    ghost coherent: { (s : Self) (v : ImageData) (words : List ℕ) → sound s v words →
+        Coherent v (kept s) (span (setting s)) words };
+
+    /// The span is at most 8 MiB.
+    ghost small: { (s : Self) (v : ImageData) (words : List ℕ) → sound s v words → span (setting s) ≤ 2 ^ 21 };
+
+    ghost image: { (s : Self) (v : ImageData) (words : List ℕ) → sound s v words → IsImage v };
+
+    ghost shown_is: { (s : Self) (v : ImageData) (words : List ℕ) → sound s v words →
+        (i : ℕ) → StandsAt v (kept s) i (shown s i) };
+
+    /// Over a link nothing changes.
+    ghost first: { (setting : List ℕ) (r : Record) (v : ImageData) (b o t : ℕ) → is_linked r b o ≡ true →
+        policy setting r v (direct b o t) ≡ r };
+
+    /// One transfer is at most one service.
+    ghost second: { (setting : List ℕ) (r : Record) (v : ImageData) (t : Transfer) →
+        (policy setting r v t).counts.services ≤ r.counts.services + 1 };
+
+    /// No transfer takes back what was written.
+    ghost third: { (setting : List ℕ) (r : Record) (v : ImageData) (t : Transfer) →
+        writes r ≤ writes (policy setting r v t) };
+}

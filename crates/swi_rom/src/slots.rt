@@ -1,0 +1,411 @@
+//! A service with slots of one size.
+#![tactic(auto)]
+
+ghost use Rattle.std.specs.Prelude.{◌≡◌, ◌+◌, ◌-◌, ◌*◌, ◌/◌, ◌%◌, ◌^◌, ◌<◌, ◌≤◌, ◌==◌, ℕ, List, length, replicate, slice_index, slice_get, Option, IfOk, OnOk, OnErr, IfSome, MatchOption, IsTrue, min, nat_lt, if◌then◌else◌};
+ghost use Rattle.swi_image.specs.Format.{ImageData};
+ghost use Rattle.swi_image.specs.Sound.{IsImage};
+ghost use Rattle.swi_rom.specs.Record.{reaches};
+ghost use Rattle.swi_rom.specs.Coherent.{resident_of};
+ghost use Rattle.swi_rom.specs.Slots.{Slots, InShape, kept_by};
+ghost use Rattle.swi_rom.specs.Sound.{SlotsSound};
+ghost use Rattle.swi_rom.specs.Steps.{FailedBelow, MadeRoom, Filled, Linked, MaybeLinked, can_link, IsAbsent, LinksInside, settled, counted_slots, wrapped};
+ghost use Rattle.swi_rom.specs.Arrived.{Arrived};
+
+use crate::table::LinkTable;
+use crate::write::{copy, jump, reach};
+use crate::{CacheRom, Counts, RomStop};
+use std::alloc::Global;
+use std::marker::Model;
+use swi_image::ImageView;
+use swi_outside::{CacheRam, Failed, Memory};
+
+/// A cache of slots of one size, each of which holds a block. While a slot is free the lowest is filled, and then
+/// the oldest block makes room. The table finds blocks and links.
+#[derive(Drop)]
+pub struct SlotRom<T: LinkTable> {
+    slots: u32,
+    size: u32,
+    next: u32,
+    filled: u32,
+    blocks: Vec<u32>,
+    lengths: Vec<u32>,
+    table: T,
+    counts: Counts,
+}
+
+impl<T: LinkTable> Model for SlotRom<T> {
+    ghost use Rattle.std.specs.Prelude.{◌≡◌};
+    ghost use Rattle.swi_rom.specs.Slots.{Slots, InShape};
+
+    ghost Value = { Slots };
+
+    ghost view = { λ s. record {
+      slots = s.slots;
+      size = s.size;
+      next = s.next;
+      filled = s.filled;
+      blocks = s.blocks.items;
+      lengths = s.lengths.items;
+      targets = T.targets s.table;
+      counts = s.counts;
+    } };
+
+    ghost invariant = { λ s. InShape (record {
+      slots = s.slots;
+      size = s.size;
+      next = s.next;
+      filled = s.filled;
+      blocks = s.blocks.items;
+      lengths = s.lengths.items;
+      targets = T.targets s.table;
+      counts = s.counts;
+    }) × (T.slot_count s.table ≡ s.slots) × (T.slot_size s.table ≡ s.size)
+        × T.knows s.table s.filled s.blocks.items };
+}
+
+// The slot after a slot: after the last one comes the first.
+fn following(slot: u32, slots: u32) -> u32
+    requires { slot < slots }
+    ensures { result ≡ wrapped (slot + 1) slots }
+{
+    if slot + 1 == slots { 0 } else { slot + 1 }
+}
+
+// A slot counted on past the filled ones, from the first again.
+fn turned(slot: u32, filled: u32) -> u32
+    ensures { result ≡ (if nat_lt slot filled then slot else slot - filled) }
+{
+    if slot < filled { slot } else { slot - filled }
+}
+
+impl<T: LinkTable> SlotRom<T> {
+    /// An empty cache of up to `cache_bytes` bytes, in as many slots of `block_words` words as they hold: for every
+    /// image with blocks of so many words, and every ram that holds the slots.
+    pub fn new(alloc: Global, cache_bytes: u32, block_words: u32) -> Result<SlotRom<T>, Memory>
+        requires least { 2 ≤ block_words }
+        requires most { block_words ≤ 1024 }
+        requires bytes { 4 * block_words ≤ cache_bytes }
+        requires limit { cache_bytes ≤ 2 ^ 23 }
+        ensures empty { IfOk result (λ s. s ≡ record {
+          slots = cache_bytes / 4 / block_words;
+          size = block_words;
+          next = 0;
+          filled = 0;
+          blocks = replicate (cache_bytes / 4 / block_words) 0;
+          lengths = replicate (cache_bytes / 4 / block_words) 0;
+          targets = replicate (cache_bytes / 4 / block_words * block_words) (cache_bytes / 4 / block_words);
+          counts = record { services = 0; misses = 0; evictions = 0; links = 0; unlinks = 0; copied = 0 };
+        }) }
+        ensures sound { IfOk result (λ s. (v : ImageData) (words : List ℕ) → IsImage v →
+            block_words ≡ v.block_words → cache_bytes / 4 / block_words * block_words ≤ length words →
+            SlotsSound s v words) }
+    {
+        let slots = cache_bytes / 4 / block_words;
+        let blocks = match vec![in alloc; 0u32; slots as usize] {
+            Ok(blocks) => blocks,
+            Err(_) => return Err(Memory),
+        };
+        let lengths = match vec![in alloc; 0u32; slots as usize] {
+            Ok(lengths) => lengths,
+            Err(_) => return Err(Memory),
+        };
+        let table = T::new(alloc, slots, block_words)?;
+        Ok(SlotRom {
+            slots,
+            size: block_words,
+            next: 0,
+            filled: 0,
+            blocks,
+            lengths,
+            table,
+            counts: Counts {
+                services: 0,
+                misses: 0,
+                evictions: 0,
+                links: 0,
+                unlinks: 0,
+                copied: 0,
+            },
+        })
+    }
+
+    /// The table of links, which agrees with what the service keeps.
+    pub fn table(&self) -> &T
+        ensures slots { T.slot_count result.now ≡ self.now.slots }
+        ensures size { T.slot_size result.now ≡ self.now.size }
+        ensures targets { T.targets result.now ≡ self.now.targets }
+        ensures knows { T.knows result.now self.now.filled self.now.blocks }
+    {
+        &self.table
+    }
+
+    // The slot of a block.
+    fn find(&self, block: u32) -> Option<u32>
+        requires { block < 2 ^ 19 }
+        ensures { MatchOption result (IsAbsent self.now block)
+            (λ n. (n < self.now.filled) × (slice_index self.now.blocks n ≡ block)) }
+    {
+        self.table.find(&self.blocks, self.filled, block)
+    }
+
+    // Counts a service, but for the boot.
+    fn count(&mut self)
+        requires { self.old.counts.services < 2 ^ 50 }
+        ensures { self.new ≡ counted_slots self.old }
+    {
+        if self.filled > 0 {
+            self.counts.services += 1;
+        }
+    }
+
+    // Empties the next slot, where all are filled.
+    fn make_room<M: CacheRam>(&mut self, ram: &mut M) -> Result<(), Failed>
+        requires fits { self.old.slots * self.old.size ≤ length (M.state ram.old).words }
+        requires evictions { self.old.counts.evictions < 2 ^ 60 }
+        requires unlinks { self.old.counts.unlinks < 2 ^ 60 }
+        requires inside { LinksInside self.old self.old.next }
+        ensures room { OnOk result (MadeRoom self.old self.new (M.state ram.old) (M.state ram.new)) }
+        ensures failed { OnErr result (FailedBelow (self.old.slots * self.old.size)
+            (M.state ram.old) (M.state ram.new)) }
+        ensures slots { self.new.slots ≡ self.old.slots }
+        ensures size { self.new.size ≡ self.old.size }
+    {
+        if self.filled < self.slots {
+            return Ok(());
+        }
+        let words = self.lengths[self.next as usize];
+        let undone = self.table.clear(self.next, words, ram)?;
+        self.counts.evictions += 1;
+        self.counts.unlinks += undone as u64;
+        Ok(())
+    }
+
+    // The block has taken the next slot.
+    fn settle(&mut self, block: u32, length: u32)
+        requires misses { self.old.counts.misses < 2 ^ 51 }
+        requires copied { self.old.counts.copied < 2 ^ 62 }
+        requires block { block < 2 ^ 19 }
+        requires absent { IsAbsent self.old block }
+        ensures { self.new ≡ settled self.old block length }
+    {
+        self.table
+            .settle(&self.blocks, self.filled, self.next, block);
+        self.blocks[self.next as usize] = block;
+        self.lengths[self.next as usize] = length;
+        self.counts.misses += 1;
+        self.counts.copied += length as u64;
+        self.filled = (self.filled + 1).min(self.slots);
+        self.next = following(self.next, self.slots);
+    }
+
+    // Copies a block that stands nowhere into the next slot.
+    fn fill<M: CacheRam>(
+        &mut self,
+        image: &ImageView<'_>,
+        ram: &mut M,
+        block: u32,
+    ) -> Result<(), Failed>
+        requires sound { SlotsSound self.old image.now (M.state ram.old).words }
+        requires services { self.old.counts.services ≤ 2 ^ 50 }
+        requires block { block < length image.now.starts }
+        requires absent { IsAbsent self.old block }
+        ensures filled { OnOk result (Filled image.now self.old block self.new
+            (M.state ram.old) (M.state ram.new)) }
+        ensures failed { OnErr result (FailedBelow (self.old.slots * self.old.size)
+            (M.state ram.old) (M.state ram.new)) }
+        ensures slots { self.new.slots ≡ self.old.slots }
+        ensures size { self.new.size ≡ self.old.size }
+    {
+        self.make_room(ram)?;
+        let length = image.length(block);
+        copy(image, ram, block, self.next * self.size, length)?;
+        self.settle(block, length);
+        Ok(())
+    }
+
+    // Serves a transfer into a block: the block's slot.
+    fn arrive<M: CacheRam>(
+        &mut self,
+        image: &ImageView<'_>,
+        ram: &mut M,
+        block: u32,
+    ) -> Result<u32, Failed>
+        requires sound { SlotsSound self.old image.now (M.state ram.old).words }
+        requires services { self.old.counts.services < 2 ^ 50 }
+        requires block { block < length image.now.starts }
+        ensures arrived { IfOk result (λ n. Arrived image.now self.old block n self.new
+            (M.state ram.old) (M.state ram.new)) }
+        ensures failed { OnErr result (FailedBelow (self.old.slots * self.old.size)
+            (M.state ram.old) (M.state ram.new)) }
+        ensures slots { self.new.slots ≡ self.old.slots }
+        ensures size { self.new.size ≡ self.old.size }
+    {
+        self.count();
+        match self.find(block) {
+            Some(slot) => Ok(slot),
+            None => {
+                let slot = self.next;
+                self.fill(image, ram, block)?;
+                Ok(slot)
+            }
+        }
+    }
+
+    // Makes the exit at an index a jump to an index in a slot.
+    fn link<M: CacheRam>(&mut self, ram: &mut M, at: u32, slot: u32, to: u32) -> Result<(), Failed>
+        requires at { at < self.old.slots * self.old.size }
+        requires to { to < self.old.slots * self.old.size }
+        requires fits { self.old.slots * self.old.size ≤ length (M.state ram.old).words }
+        requires reaches { IsTrue (reaches at to) }
+        requires small { self.old.slots * self.old.size ≤ 2 ^ 21 }
+        requires links { self.old.counts.links < 2 ^ 60 }
+        requires slot { slot < self.old.slots }
+        requires free { self.old.slots ≤ slice_index self.old.targets at }
+        ensures linked { OnOk result (Linked self.old self.new at slot to (M.state ram.old) (M.state ram.new)) }
+        ensures failed { OnErr result (FailedBelow (self.old.slots * self.old.size)
+            (M.state ram.old) (M.state ram.new)) }
+        ensures slots { self.new.slots ≡ self.old.slots }
+        ensures size { self.new.size ≡ self.old.size }
+    {
+        ram.set(at, jump(at, to))?;
+        self.table.link(at, slot);
+        self.counts.links += 1;
+        Ok(())
+    }
+
+    // Makes the exit at an index a link, where its block still stands in its slot and a JAL reaches.
+    fn link_exit<M: CacheRam>(
+        &mut self,
+        ram: &mut M,
+        at: u32,
+        home: u32,
+        slot: u32,
+        to: u32,
+    ) -> Result<(), Failed>
+        requires at { at < self.old.slots * self.old.size }
+        requires to { to < self.old.slots * self.old.size }
+        requires fits { self.old.slots * self.old.size ≤ length (M.state ram.old).words }
+        requires small { self.old.slots * self.old.size ≤ 2 ^ 21 }
+        requires links { self.old.counts.links < 2 ^ 60 }
+        requires slot { slot < self.old.slots }
+        requires free { (slice_index self.old.blocks (at / self.old.size) ≡ home) →
+            self.old.slots ≤ slice_index self.old.targets at }
+        ensures linked { OnOk result (MaybeLinked self.old self.new (can_link self.old at home to) at slot to
+            (M.state ram.old) (M.state ram.new)) }
+        ensures failed { OnErr result (FailedBelow (self.old.slots * self.old.size)
+            (M.state ram.old) (M.state ram.new)) }
+        ensures slots { self.new.slots ≡ self.old.slots }
+        ensures size { self.new.size ≡ self.old.size }
+    {
+        if self.blocks[(at / self.size) as usize] != home {
+            return Ok(());
+        }
+        if !reach(at, to) {
+            return Ok(());
+        }
+        self.link(ram, at, slot, to)
+    }
+}
+
+impl<T: LinkTable> CacheRom for SlotRom<T> {
+    ghost use Rattle.swi_rom.specs.Fifo.{fifo, fifo_first, fifo_second, fifo_third};
+    ghost use Rattle.swi_rom.specs.Slots.{kept_by, setting_of, span_of, shown_by};
+    ghost use Rattle.swi_rom.specs.Sound.{SlotsSound};
+
+    ghost kept = { kept_by };
+
+    ghost setting = { setting_of };
+
+    ghost span = { span_of };
+
+    ghost policy = { fifo };
+
+    ghost sound = { SlotsSound };
+
+    ghost shown = { shown_by };
+
+    fn enter<M: CacheRam>(
+        &mut self,
+        image: &ImageView<'_>,
+        ram: &mut M,
+        target: u32,
+    ) -> Result<u32, RomStop> {
+        let (block, offset) = match image.place(target) {
+            Some(place) => place,
+            None => return Err(RomStop::Outside),
+        };
+        let slot = match self.arrive(image, ram, block) {
+            Ok(slot) => slot,
+            Err(_) => return Err(RomStop::RamFault),
+        };
+        Ok(slot * self.size + offset)
+    }
+
+    fn cross<M: CacheRam>(
+        &mut self,
+        image: &ImageView<'_>,
+        ram: &mut M,
+        at: u32,
+        target: u32,
+    ) -> Result<u32, RomStop> {
+        let (block, offset) = match image.place(target) {
+            Some(place) => place,
+            None => return Err(RomStop::Outside),
+        };
+        let home = self.blocks[(at / self.size) as usize];
+        let slot = match self.arrive(image, ram, block) {
+            Ok(slot) => slot,
+            Err(_) => return Err(RomStop::RamFault),
+        };
+        let index = slot * self.size + offset;
+        match self.link_exit(ram, at, home, slot, index) {
+            Ok(()) => Ok(index),
+            Err(_) => Err(RomStop::RamFault),
+        }
+    }
+
+    fn at(&self, i: u32) -> Option<(u32, u32)> {
+        let slot = i / self.size;
+        let offset = i % self.size;
+        if slot >= self.filled {
+            return None;
+        }
+        if offset >= self.lengths[slot as usize] {
+            return None;
+        }
+        Some((self.blocks[slot as usize], offset))
+    }
+
+    fn resident(&self, k: u32) -> Option<(u32, u32)>
+        ensures value { result ≡ resident_of (kept_by self.now) k }
+        // Of q placed blocks the k-th oldest stands in slot (misses - q + k) mod slots.
+        ensures slot { IfSome result (λ e. e.1 ≡
+            (self.now.counts.misses - self.now.filled + k) % self.now.slots * self.now.size) }
+    {
+        if k >= self.filled {
+            return None;
+        }
+        let slot = turned(self.next + k, self.filled);
+        Some((self.blocks[slot as usize], slot * self.size))
+    }
+
+    fn counts(&self) -> Counts {
+        self.counts
+    }
+
+    ghost use Rattle.swi_rom.specs.Laws.{slots_coherent, slots_small, slots_image, slots_shown};
+
+    ghost coherent = { slots_coherent };
+
+    ghost small = { slots_small };
+
+    ghost image = { slots_image };
+
+    ghost shown_is = { slots_shown };
+
+    ghost first = { fifo_first };
+
+    ghost second = { fifo_second };
+
+    ghost third = { fifo_third };
+}
