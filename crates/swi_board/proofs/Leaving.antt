@@ -1,0 +1,110 @@
+-- From a service's answer to what the board says of it.
+use Rattle.std.proofs.Common.{◌≡◌, ℕ, ◌+◌, ◌-◌, ◌<◌, true, false, List, Some, None, Ok, Err, Result, slice_index, refl, sym, ap, subst, ◌∙◌, inl, inr, arith}
+use Rattle.std.proofs.lemmas.Bool.{cases_Bool}
+use Rattle.swi_image.specs.Format.{ImageData}
+use Rattle.swi_image.specs.Place.{place_of, word_at}
+use Rattle.swi_image.specs.Sound.{IsImage}
+use Rattle.swi_image.specs.Laws.{place_inside}
+use Rattle.swi_isa.specs.declared.instr.Instr.TheVariants as instr
+use Rattle.swi_isa.specs.Decode.{decoded}
+use Rattle.swi_outside.specs.CacheRam.{RamState}
+use Rattle.swi_render.specs.Rendering.{ebreak}
+use Rattle.swi_rom.specs.Record.{Record, IsJump, jump_offset, is_linked, writes}
+use Rattle.swi_rom.specs.Coherent.{Coherent, TargetAt, StandsAt}
+use Rattle.swi_rom.specs.Served.{Served}
+use Rattle.swi_rom.specs.declared.rom.RomStop.{RomStop}
+use Rattle.swi_rom.specs.declared.rom.RomStop.TheVariants.{Outside, RamFault}
+use Rattle.swi_board.specs.declared.hart.Stage.TheVariants.{Start}
+use Rattle.swi_board.specs.declared.hart.Control.TheVariants.{At}
+use Rattle.swi_board.specs.Board.{Arrives}
+use Rattle.swi_board.specs.Leaving.{LeaveAt, RamServed, RamFailed}
+use Rattle.swi_isa.specs.Laws.{ebreak_decodes}
+
+-- what the service shows at the target's index is the target's place
+pub arrives_shown : (v : ImageData) (r : Record) (span : ℕ) (words : List ℕ) (t i b o : ℕ) → Coherent v r span words → IsImage v → StandsAt v r i (Some (b, o)) → TargetAt v r t i → Arrives v r t (At i b o Start)
+arrives_shown v r span words t i b o coherent image stands at =
+    let inside = place_inside v image t at.block at.offset at.place_is in
+    let same = coherent.apart at.block at.first at.offset b stands.0 o at.is_placed stands.1 inside.1 stands.2 (sym at.index ∙ stands.3) in
+    ((stands.0, stands.1, stands.3), at.place_is ∙ (ap (λ n. Some (n, at.offset)) same.0 ∙ ap (λ n. Some (b, n)) same.1))
+
+pub none_shown : (v : ImageData) (r : Record) (t i : ℕ) → IsImage v → StandsAt v r i None → TargetAt v r t i → ⊥
+none_shown v r t i image none at =
+    let inside = place_inside v image t at.block at.offset at.place_is in
+    let past = none at.block at.first at.is_placed (omega (arith, at.index)) in
+    omega (arith, at.index, inside.1, past)
+
+module _ (v : ImageData) (span t : ℕ) (old next new : Record) (before after : RamState) where
+  pub ram_placed : (i : ℕ) → Served v span t old next new before after (Ok i) → RamServed span (writes new - writes old) before after
+  ram_placed i s = record {
+    quiet = s.quiet;
+    fetches_stay = s.spared.fetches_stay;
+    last_stays = s.spared.last_stays;
+    sets_rise = s.sets_rise;
+    kept = record { same_length = s.spared.length_stays; beyond = s.spared.beyond; reached = s.spared.reached };
+  }
+
+  pub by_error : {e d : RomStop} → e ≡ d → Served v span t old next new before after (Err e) → Served v span t old next new before after (Err d)
+  by_error {e} {d} is s = subst (λ (k : RomStop). Served v span t old next new before after (Err k)) is s
+
+  pub ram_outside : Served v span t old next new before after (Err Outside) → RamServed span (writes new - writes old) before after
+  ram_outside s = record {
+    quiet = s.quiet;
+    fetches_stay = s.spared.fetches_stay;
+    last_stays = s.spared.last_stays;
+    sets_rise = s.sets_rise;
+    kept = record { same_length = s.spared.length_stays; beyond = s.spared.beyond; reached = s.spared.reached };
+  }
+
+  pub ram_failed : Served v span t old next new before after (Err RamFault) → RamFailed span before after
+  ram_failed s = record { rose = s.failed refl; later = s.spared.later; fetches_stay = s.spared.fetches_stay; kept = record { same_length = s.spared.length_stays; beyond = s.spared.beyond; reached = s.spared.reached } }
+
+-- a fetched exit is not linked
+pub exit_unlinked : (v : ImageData) (r : Record) (span : ℕ) (words : List ℕ) (w i b o : ℕ) → Coherent v r span words → LeaveAt v r words w i b o → w ≡ ebreak → is_linked r b o ≡ false
+exit_unlinked v r span words w i b o coherent at is =
+    elim (cases_Bool (is_linked r b o)) [
+      | inl linked ↦
+          let l = coherent.linked b at.first o at.is_placed linked in
+          let jal : decoded (slice_index words (at.first + o)) ≡ Some (instr.Jal 0 (jump_offset (at.first + o) l.0)) = l.2 in
+          let got : slice_index words (at.first + o) ≡ ebreak = ap (λ n. slice_index words n) (sym at.index) ∙ sym at.fetched ∙ is in
+          let two : Some (instr.Jal 0 (jump_offset (at.first + o) l.0)) ≡ Some instr.Ebreak = sym jal ∙ ap decoded got ∙ ebreak_decodes in
+          absurd (cc)
+      | inr plain ↦ plain
+    ]
+
+-- another word in its place is a link
+pub jump_linked : (v : ImageData) (r : Record) (span : ℕ) (words : List ℕ) (w i b o : ℕ) → Coherent v r span words → LeaveAt v r words w i b o → (w ≡ ebreak → ⊥) → is_linked r b o ≡ true
+jump_linked v r span words w i b o coherent at other =
+    elim (cases_Bool (is_linked r b o)) [
+      | inl linked ↦ linked
+      | inr plain ↦
+          let got : slice_index words (at.first + o) ≡ word_at v b o = coherent.plain b at.first o at.is_placed (omega (arith, at.inside)) plain in
+          absurd (other (at.fetched ∙ ap (λ n. slice_index words n) at.index ∙ got ∙ at.leaves))
+    ]
+
+-- where the link leads
+pub record Linked (v : ImageData) (r : Record) (span : ℕ) (w i t : ℕ) : Type 0 where
+  pub to : ℕ
+  pub target : TargetAt v r t to
+  pub jumps : IsJump i to w
+  pub small : to < span
+
+pub link_at : (v : ImageData) (r : Record) (span : ℕ) (words : List ℕ) (w i b o : ℕ) → Coherent v r span words → IsImage v → LeaveAt v r words w i b o → (w ≡ ebreak → ⊥) → Linked v r span w i (word_at v b (o + 1))
+link_at v r span words w i b o coherent image at other =
+    let l = coherent.linked b at.first o at.is_placed (jump_linked v r span words w i b o coherent at other) in
+    let inside = place_inside v image (word_at v b (o + 1)) l.1.block l.1.offset l.1.place_is in
+    let end = coherent.inside l.1.block l.1.first l.1.is_placed in
+    record {
+      to = l.0;
+      target = l.1;
+      jumps = subst (λ n. IsJump i l.0 n) (ap (λ n. slice_index words n) (sym at.index) ∙ sym at.fetched) (subst (λ n. IsJump n l.0 (slice_index words (at.first + o))) (sym at.index) l.2);
+      small = omega (arith, l.1.index, inside.1, end);
+    }
+
+pub index_small : (v : ImageData) (r : Record) (span : ℕ) (words : List ℕ) (w i b o : ℕ) → Coherent v r span words → LeaveAt v r words w i b o → i < span
+index_small v r span words w i b o coherent at =
+    let end = coherent.inside b at.first at.is_placed in
+    omega (arith, at.index, at.inside, end)
+
+-- the service fails only where the target has a place
+pub failed_place : (v : ImageData) (span t : ℕ) (old next new : Record) (before after : RamState) → Served v span t old next new before after (Err RamFault) → place_of v t ≡ None → ⊥
+failed_place v span t old next new before after s none = let e : ◌≡◌ {A = Result ℕ RomStop} (Err RamFault) (Err Outside) = s.only_outside none in cc

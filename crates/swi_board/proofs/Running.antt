@@ -1,0 +1,454 @@
+-- Whole runs: what is still to come stays the same from step to step.
+use Rattle.std.proofs.Common.{◌≡◌, ◌⊎◌, if◌then◌else◌, ℕ, suc, ◌+◌, ◌-◌, ◌*◌, ◌^◌, ◌<◌, ◌≤◌, max, Bool, true, false, ◌&&◌, Option, Some, None, is_some, List, [], ◌++◌, refl, sym, ap, subst, ◌∙◌, inl, inr, arith, append-nil}
+use Rattle.std.proofs.lemmas.Bool.{false≢true}
+use Rattle.std.specs.Io.KnownBytes.{Appends}
+use Rattle.swi_memory.specs.Bus.{fetched}
+use Rattle.swi_calls.specs.declared.end.End.{End}
+use Rattle.swi_calls.specs.declared.machine.Machine.{Machine}
+use Rattle.swi_calls.specs.State.{FlatState}
+use Rattle.swi_calls.specs.Flat.{Made as Step, quiet, started}
+use Rattle.swi_image.specs.Format.{ImageData}
+use Rattle.swi_render.specs.Carried.{Carries}
+use Rattle.swi_outside.specs.Causes.{risen}
+use Rattle.swi_outside.specs.CacheRam.{RamState, KeepsBeyond}
+use Rattle.swi_rom.specs.Record.{Record, Transfer, writes}
+use Rattle.swi_outside.specs.Laws.{Appends-append, Appends-none}
+use Rattle.swi_board.specs.declared.hart.Control.{Control}
+use Rattle.swi_board.specs.declared.hart.Control.TheVariants.{At, Outside}
+use Rattle.swi_calls.specs.Held.{held_made, held_step, held_run}
+use Rattle.swi_board.specs.Hart.{HartData, next_made, completes}
+use Rattle.swi_board.specs.Board.{Matches, Follows, Fits}
+use Rattle.swi_board.specs.Calling.{Made}
+use Rattle.swi_board.specs.Leaving.{transfer_at, moved, RamRan, RamStepped, fetches_after}
+use Rattle.swi_board.specs.Runs.{weight, is_outside, unfetched, fetched_by, depth, most, most_by, most_calls, Grown}
+use Rattle.swi_board.proofs.Midway.{step_follows}
+use Rattle.swi_board.proofs.Kept.{next_text, image_same}
+use Rattle.swi_board.proofs.Growing.{depth_most, calls_most}
+use Rattle.swi_board.specs.Ran.{Ran}
+use Rattle.swi_board.specs.Transfers.{transfers, cost, size, here_of, spent, spent_by, spent_run, after_all}
+use Rattle.swi_calls.specs.Laws.{held_run_none, held_run_over, held_run_more}
+use Rattle.swi_board.proofs.Held.{same_steps, held_steps, run_snoc, no_exit_no_transfer, next_state}
+use Rattle.swi_board.proofs.Progress.{Progress}
+use Rattle.swi_board.proofs.Progressing.{progress}
+use Rattle.swi_board.proofs.Counting.{progress_left, progress_spent, Left, transfers_none, cost_none, over_transfers, over_cost}
+
+-- where a run from one state of the flat machine has come
+pub record Goes (policy : Record → ImageData → Transfer → Record) (v : ImageData) (r0 : Record) (n : ℕ) (s0 : FlatState) (h0 h : HartData) (r : Record) (left out0 out err0 err : Option (List ℕ)) : Type 0 where
+  pub now : FlatState
+  pub image : Carries (fetched now.machine.bus) v
+  pub matches : Matches v r now.machine h.machine h.control
+  pub left_is : left ≡ Some now.input
+  pub wrote : Appends out0 out now.output
+  pub told : Appends err0 err now.error
+  pub run_left : held_run (n - h.machine.steps) now ≡ held_run (n - h0.machine.steps) s0
+  pub records_left : after_all policy v r (transfers v (n - h.machine.steps) now (here_of v now.machine h.control)) ≡ after_all policy v r0 (transfers v (n - h0.machine.steps) s0 (here_of v s0.machine h0.control))
+  pub from : h0.machine.steps ≤ h.machine.steps
+  pub now_is : h.machine.ending ≡ None → now ≡ held_run (h.machine.steps - h0.machine.steps) s0
+  pub later : h0.count ≤ h.count
+  pub fetch_left : (n' : ℕ) → (h.machine.steps < n') ⊎ (n' ≡ n) → fetched_by h0 h + size 0 v (n' - h.machine.steps) now (here_of v now.machine h.control) + spent_run s0.machine h0.control
+      ≡ size 0 v (n' - h0.machine.steps) s0 (here_of v s0.machine h0.control) + spent_run now.machine h.control
+  pub enough : h.machine.ending ≡ None → size 0 v (h.machine.steps - h0.machine.steps) s0 (here_of v s0.machine h0.control) + spent now.machine h.control ≤ fetched_by h0 h + spent_run s0.machine h0.control
+  pub cost_left : h.count + cost v (n - h.machine.steps) now (here_of v now.machine h.control) + spent_run s0.machine h0.control
+      ≡ h0.count + cost v (n - h0.machine.steps) s0 (here_of v s0.machine h0.control) + spent_run now.machine h.control
+
+weight_one : (c : Control) → weight 1 c ≡ 1
+weight_one (At i b o stage) = refl
+weight_one Outside = refl
+
+-- one machine step more is one fetch more, but outside the text
+pub fetched_one : (h0 h h' : HartData) → h0.count ≤ h.count → h.machine.ending ≡ None → h'.count ≡ h.count + 1 → (is_some h'.machine.ending && is_outside h'.control) ≡ is_outside h.control → fetched_by h0 h' ≡ fetched_by h0 h + weight 0 h.control
+fetched_one h0 h h' later running one outside =
+    by h.control (unfetched h) (ap (λ (e : Option End). if is_some e && is_outside h.control then 1 else 0) running)
+    (unfetched h') (ap (λ (t : Bool). if t then 1 else 0) outside)
+  where
+    by : (c : Control) (u : ℕ) → u ≡ 0 → (u' : ℕ) → u' ≡ (if is_outside c then 1 else 0) → h'.count - h0.count - u' ≡ h.count - h0.count - u + weight 0 c
+    by (At i b o stage) u none u' is = omega (arith, later, one)
+    by Outside u none u' is = omega (arith, later, one)
+
+module _ (policy : Record → ImageData → Transfer → Record) (v : ImageData) (n : ℕ) (s0 : FlatState) (h0 h h' : HartData) (r0 r new : Record) (left left' out0 out out' err0 err err' : Option (List ℕ))
+    (goes : Goes policy v r0 n s0 h0 h r left out0 out err0 err) (more : h.machine.steps < n) (running : h.machine.ending ≡ None) (word : h.machine.pc < 2 ^ 32) (moves : new ≡ moved policy r v (transfer_at v h.machine h.control))
+    (step : Made v new h h' goes.now.input left' out out' err err') (outside : (is_some h'.machine.ending && is_outside h'.control) ≡ is_outside h.control) where
+  follows : Follows v new step.stepped (next_made v h.machine h.control goes.now.machine goes.now.input)
+  follows = step_follows v r new goes.now.machine h.machine h.control step.stepped goes.now.input goes.image goes.matches running word (no_exit_no_transfer policy v r new h.machine h.control moves) step.step
+
+  flat_running : is_some goes.now.machine.ending ≡ false
+  flat_running = ap (λ (e : Option End). is_some e) (sym (same_steps v r goes.now.machine h.machine h.control goes.matches).1 ∙ running)
+
+  next_by : Bool → Step
+  next_by t = if t then held_made goes.now.machine goes.now.input else quiet goes.now.machine goes.now.input
+
+  state_machine : (t : Bool) → (next_state t goes.now).machine ≡ (if t then held_made goes.now.machine goes.now.input else quiet goes.now.machine goes.now.input).machine
+  state_machine true = refl
+  state_machine false = refl
+
+  state_input : (t : Bool) → (next_state t goes.now).input ≡ (if t then held_made goes.now.machine goes.now.input else quiet goes.now.machine goes.now.input).input
+  state_input true = refl
+  state_input false = refl
+
+  state_output : (t : Bool) → goes.now.output ++ (if t then held_made goes.now.machine goes.now.input else quiet goes.now.machine goes.now.input).output ≡ (next_state t goes.now).output
+  state_output true = refl
+  state_output false = append-nil goes.now.output
+
+  state_error : (t : Bool) → goes.now.error ++ (if t then held_made goes.now.machine goes.now.input else quiet goes.now.machine goes.now.input).error ≡ (next_state t goes.now).error
+  state_error true = refl
+  state_error false = append-nil goes.now.error
+
+  left_by : (t : Bool) → (next_state t goes.now).machine.steps ≡ h'.machine.steps → held_run (n - h'.machine.steps) (next_state t goes.now) ≡ held_run (n - h.machine.steps) goes.now
+  left_by false steps =
+      let was = (same_steps v r goes.now.machine h.machine h.control goes.matches).0 in
+      let same : n - h'.machine.steps ≡ n - h.machine.steps = omega arith in
+      ap (λ k. held_run k goes.now) same
+  left_by true steps =
+      let was = (same_steps v r goes.now.machine h.machine h.control goes.matches).0 in
+      let k = n - h.machine.steps - 1 in
+      let more_is : n - h.machine.steps ≡ suc (n - h.machine.steps - 1) = omega arith in
+      let right = ap (λ j. held_run j goes.now) more_is ∙ held_run_more (n - h.machine.steps - 1) goes.now flat_running in
+      elim (held_steps goes.now.machine goes.now.input) [
+        | inl one ↦
+            let less : n - h'.machine.steps ≡ n - h.machine.steps - 1 = omega arith in
+            ap (λ j. held_run j (held_step goes.now)) less ∙ sym right
+        | inr stop ↦ held_run_over (n - h'.machine.steps) (held_step goes.now) stop.1 ∙ sym (right ∙ held_run_over (n - h.machine.steps - 1) (held_step goes.now) stop.1)
+      ]
+
+  moved_by : (n' : ℕ) (more' : h.machine.steps < n') → Left policy v n' goes.now r new h.machine h.control step.stepped h.machine.steps h'.machine.steps flat_running more' (same_steps v r goes.now.machine h.machine h.control goes.matches).0 (completes v h.machine h.control)
+  moved_by n' more' =
+      let matches : Matches v new (next_state (completes v h.machine h.control) goes.now).machine h'.machine h'.control =
+      subst (λ (k : HartData). Matches v new (next_state (completes v h.machine h.control) goes.now).machine k.machine k.control) (sym step.did.hart)
+      (subst (λ (f : Machine). Matches v new f step.stepped.made.machine step.stepped.control) (sym (state_machine (completes v h.machine h.control))) follows.matches) in
+      progress_left policy v n' goes.now r new h.machine h.control step.stepped h.machine.steps h'.machine.steps flat_running more' (same_steps v r goes.now.machine h.machine h.control goes.matches).0
+      (progress policy v r new goes.now.machine h.machine h.control step.stepped goes.now.input goes.image goes.matches running word moves (no_exit_no_transfer policy v r new h.machine h.control moves) step.step)
+      (sym (same_steps v new (next_state (completes v h.machine h.control) goes.now).machine h'.machine h'.control matches).0)
+
+  moved_on : Left policy v n goes.now r new h.machine h.control step.stepped h.machine.steps h'.machine.steps flat_running more (same_steps v r goes.now.machine h.machine h.control goes.matches).0 (completes v h.machine h.control)
+  moved_on = moved_by n more
+
+  count_is : h'.count ≡ h.count + 1
+  count_is = ap (λ (k : HartData). k.count) step.did.hart
+
+  control_is : h'.control ≡ step.stepped.control
+  control_is = ap (λ (k : HartData). k.control) step.did.hart
+
+  costs_by : (w a b x y s z k : ℕ) → w ≡ 1 → k ≡ h.count + 1 → a + w + x ≡ b + y → h.count + b + s ≡ z + x → k + a + s ≡ z + y
+  costs_by w a b x y s z k u p q t = omega arith
+
+  running_spent_now : spent_run goes.now.machine h.control ≡ spent goes.now.machine h.control
+  running_spent_now = by goes.now.machine.ending flat_running
+    where
+      by : (e : Option End) → is_some e ≡ false → spent_by e goes.now.machine h.control ≡ spent goes.now.machine h.control
+      by None e = refl
+      by (Some x) e = absurd (false≢true (sym e))
+
+  left_is_by : Left policy v n goes.now r new h.machine h.control step.stepped h.machine.steps h'.machine.steps flat_running more (same_steps v r goes.now.machine h.machine h.control goes.matches).0 (completes v h.machine h.control) →
+      (after_all policy v new (transfers v (n - h'.machine.steps) (next_state (completes v h.machine h.control) goes.now) (here_of v (next_state (completes v h.machine h.control) goes.now).machine h'.control)) ≡ after_all policy v r0 (transfers v (n - h0.machine.steps) s0 (here_of v s0.machine h0.control)))
+      × (h'.count + cost v (n - h'.machine.steps) (next_state (completes v h.machine h.control) goes.now) (here_of v (next_state (completes v h.machine h.control) goes.now).machine h'.control) + spent_run s0.machine h0.control
+      ≡ h0.count + cost v (n - h0.machine.steps) s0 (here_of v s0.machine h0.control) + spent_run (next_state (completes v h.machine h.control) goes.now).machine h'.control)
+  unfolding Left
+  left_is_by l =
+      let one = subst (λ (c : Control). after_all policy v new (transfers v (n - h'.machine.steps) (next_state (completes v h.machine h.control) goes.now) (here_of v (next_state (completes v h.machine h.control) goes.now).machine c)) ≡ after_all policy v r (transfers v (n - h.machine.steps) goes.now (here_of v goes.now.machine h.control))) (sym control_is) l.0 in
+      let two = subst (λ (c : Control). cost v (n - h'.machine.steps) (next_state (completes v h.machine h.control) goes.now) (here_of v (next_state (completes v h.machine h.control) goes.now).machine c) + weight 1 h.control + spent goes.now.machine h.control
+      ≡ cost v (n - h.machine.steps) goes.now (here_of v goes.now.machine h.control) + spent_run (next_state (completes v h.machine h.control) goes.now).machine c) (sym control_is) (l.1 1) in
+      let old = goes.cost_left ∙ ap (λ k. h0.count + cost v (n - h0.machine.steps) s0 (here_of v s0.machine h0.control) + k) running_spent_now in
+      (one ∙ goes.records_left, costs_by _ _ _ _ _ (spent_run s0.machine h0.control) (h0.count + cost v (n - h0.machine.steps) s0 (here_of v s0.machine h0.control)) h'.count (weight_one h.control) count_is two old)
+
+  -- the fetches that are still to come
+  fetches_by : (f a x b y s z f' w : ℕ) → f' ≡ f + w → a + w + x ≡ b + y → f + b + s ≡ z + x → f' + a + s ≡ z + y
+  fetches_by f a x b y s z f' w e p q = omega arith
+
+  left_fetches : (n' : ℕ) (more' : h.machine.steps < n') → Left policy v n' goes.now r new h.machine h.control step.stepped h.machine.steps h'.machine.steps flat_running more' (same_steps v r goes.now.machine h.machine h.control goes.matches).0 (completes v h.machine h.control) →
+      fetched_by h0 h' + size 0 v (n' - h'.machine.steps) (next_state (completes v h.machine h.control) goes.now) (here_of v (next_state (completes v h.machine h.control) goes.now).machine h'.control) + spent_run s0.machine h0.control
+      ≡ size 0 v (n' - h0.machine.steps) s0 (here_of v s0.machine h0.control) + spent_run (next_state (completes v h.machine h.control) goes.now).machine h'.control
+  unfolding Left
+  left_fetches n' more' l =
+      let two = subst (λ (c : Control). size 0 v (n' - h'.machine.steps) (next_state (completes v h.machine h.control) goes.now) (here_of v (next_state (completes v h.machine h.control) goes.now).machine c) + weight 0 h.control + spent goes.now.machine h.control
+      ≡ size 0 v (n' - h.machine.steps) goes.now (here_of v goes.now.machine h.control) + spent_run (next_state (completes v h.machine h.control) goes.now).machine c) (sym control_is) (l.1 0) in
+      let old = goes.fetch_left n' (inl more') ∙ ap (λ k. size 0 v (n' - h0.machine.steps) s0 (here_of v s0.machine h0.control) + k) running_spent_now in
+      fetches_by (fetched_by h0 h) _ _ _ _ (spent_run s0.machine h0.control) _ (fetched_by h0 h') (weight 0 h.control) (fetched_one h0 h h' goes.later running count_is outside) two old
+
+  steps_rise : h.machine.steps ≤ (next_state (completes v h.machine h.control) goes.now).machine.steps
+  steps_rise = by (completes v h.machine h.control)
+    where
+      was : h.machine.steps ≡ goes.now.machine.steps
+      was = (same_steps v r goes.now.machine h.machine h.control goes.matches).0
+
+      by : (t : Bool) → h.machine.steps ≤ (next_state t goes.now).machine.steps
+      by true = elim (held_steps goes.now.machine goes.now.input) [
+        | inl one ↦ omega (arith, one, was)
+        | inr stop ↦ omega (arith, stop.0, was)
+      ]
+      by false = omega (arith, was)
+
+  now_by : (t : Bool) → (next_state t goes.now).machine.steps ≡ h'.machine.steps → (next_state t goes.now).machine.ending ≡ None → next_state t goes.now ≡ held_run (h'.machine.steps - h0.machine.steps) s0
+  now_by false steps on =
+      let was = (same_steps v r goes.now.machine h.machine h.control goes.matches).0 in
+      let same : h'.machine.steps - h0.machine.steps ≡ h.machine.steps - h0.machine.steps = omega (arith, steps, was) in
+      goes.now_is running ∙ ap (λ k. held_run k s0) (sym same)
+  now_by true steps on =
+      let was = (same_steps v r goes.now.machine h.machine h.control goes.matches).0 in
+      let low = goes.from in
+      let is = goes.now_is running in
+      elim (held_steps goes.now.machine goes.now.input) [
+        | inl one ↦
+            let next : h'.machine.steps - h0.machine.steps ≡ suc (h.machine.steps - h0.machine.steps) = omega (arith, steps, one, was, low) in
+            let going : is_some (held_run (h.machine.steps - h0.machine.steps) s0).machine.ending ≡ false = ap (λ (k : FlatState). is_some k.machine.ending) (sym is) ∙ flat_running in
+            ap (λ (k : FlatState). held_step k) is ∙ sym (run_snoc (h.machine.steps - h0.machine.steps) s0 going) ∙ ap (λ k. held_run k s0) (sym next)
+        | inr stop ↦ absurd (false≢true (sym (ap (λ (e : Option End). is_some e) on) ∙ stop.1))
+      ]
+
+  progressed : Progress policy v r new goes.now.machine h.machine h.control step.stepped goes.now.input
+  progressed = progress policy v r new goes.now.machine h.machine h.control step.stepped goes.now.input goes.image goes.matches running word moves (no_exit_no_transfer policy v r new h.machine h.control moves) step.step
+
+  -- no fewer words are fetched than the steps made have
+  enough_by : (t : Bool) → completes v h.machine h.control ≡ t → (next_state (completes v h.machine h.control) goes.now).machine.steps ≡ h'.machine.steps → (next_state (completes v h.machine h.control) goes.now).machine.ending ≡ None →
+      size 0 v (h'.machine.steps - h0.machine.steps) s0 (here_of v s0.machine h0.control) + spent (next_state (completes v h.machine h.control) goes.now).machine h'.control ≤ fetched_by h0 h' + spent_run s0.machine h0.control
+  enough_by false e steps on =
+      let was = (same_steps v r goes.now.machine h.machine h.control goes.matches).0 in
+      let here : (next_state (completes v h.machine h.control) goes.now).machine ≡ goes.now.machine = ap (λ (t : Bool). (next_state t goes.now).machine) e in
+      let same : h'.machine.steps - h0.machine.steps ≡ h.machine.steps - h0.machine.steps = (let s = ap (λ (k : Machine). k.steps) here in omega (arith, steps, was, s)) in
+      let all = ap (λ k. size 0 v k s0 (here_of v s0.machine h0.control)) same in
+      let deeper = progress_spent policy v r new goes.now.machine h.machine h.control step.stepped goes.now.input progressed e in
+      let one = fetched_one h0 h h' goes.later running count_is outside in
+      let spends : spent (next_state (completes v h.machine h.control) goes.now).machine h'.control ≡ spent goes.now.machine step.stepped.control =
+      ap (λ (k : Machine). spent k h'.control) here ∙ ap (λ (c : Control). spent goes.now.machine c) control_is in
+      let old = goes.enough running in
+      omega (arith, all, deeper, one, spends, old)
+  enough_by true e steps on =
+      let was = (same_steps v r goes.now.machine h.machine h.control goes.matches).0 in
+      let low = goes.from in
+      let here : next_state (completes v h.machine h.control) goes.now ≡ held_step goes.now = ap (λ (t : Bool). next_state t goes.now) e in
+      let one : (held_step goes.now).machine.steps ≡ goes.now.machine.steps + 1 =
+      elim (held_steps goes.now.machine goes.now.input) [
+        | inl one ↦ one
+        | inr stop ↦ absurd (false≢true (ap (λ (e : Option End). is_some e) (sym on) ∙ (ap (λ (k : FlatState). is_some k.machine.ending) here ∙ stop.1)))
+      ] in
+      let counted : h'.machine.steps ≡ h.machine.steps + 1 = (let s = ap (λ (k : FlatState). k.machine.steps) here in omega (arith, one, steps, was, s)) in
+      let less : h.machine.steps < h.machine.steps + 1 = omega arith in
+      let all = left_fetches (h.machine.steps + 1) less (moved_by (h.machine.steps + 1) less) in
+      let none : h.machine.steps + 1 - h'.machine.steps ≡ 0 = omega (arith, counted) in
+      let nothing = ap (λ k. size 0 v k (next_state (completes v h.machine h.control) goes.now) (here_of v (next_state (completes v h.machine h.control) goes.now).machine h'.control)) none
+      ∙ cost_none 0 v (next_state (completes v h.machine h.control) goes.now) (here_of v (next_state (completes v h.machine h.control) goes.now).machine h'.control) in
+      let span : h.machine.steps + 1 - h0.machine.steps ≡ h'.machine.steps - h0.machine.steps = omega (arith, counted, low) in
+      let total = ap (λ k. size 0 v k s0 (here_of v s0.machine h0.control)) span in
+      let spends : spent_run (next_state (completes v h.machine h.control) goes.now).machine h'.control ≡ spent (next_state (completes v h.machine h.control) goes.now).machine h'.control =
+      ap (λ (e : Option End). spent_by e (next_state (completes v h.machine h.control) goes.now).machine h'.control) on in
+      omega (arith, all, nothing, total, spends)
+
+  pub goes_on : Goes policy v r0 n s0 h0 h' new left' out0 out' err0 err'
+  goes_on =
+      let t = completes v h.machine h.control in
+      let matches : Matches v new (next_state (completes v h.machine h.control) goes.now).machine h'.machine h'.control =
+      subst (λ (k : HartData). Matches v new (next_state (completes v h.machine h.control) goes.now).machine k.machine k.control) (sym step.did.hart)
+      (subst (λ (f : Machine). Matches v new f step.stepped.made.machine step.stepped.control) (sym (state_machine (completes v h.machine h.control))) follows.matches) in
+      record {
+        now = next_state (completes v h.machine h.control) goes.now;
+        image = image_same v (λ a. fetched goes.now.machine.bus a) (λ a. fetched (next_state (completes v h.machine h.control) goes.now).machine.bus a)
+            (λ a. ap (λ (f : Machine). fetched f.bus a) (state_machine (completes v h.machine h.control)) ∙ next_text a v h.machine h.control goes.now.machine goes.now.input) goes.image;
+        matches = matches;
+        left_is = step.did.input ∙ ap (λ (l : List ℕ). Some l) (follows.input ∙ sym (state_input (completes v h.machine h.control)));
+        wrote = subst (λ (l : List ℕ). Appends out0 out' l) (state_output (completes v h.machine h.control))
+            (Appends-append out0 out out' goes.now.output (next_made v h.machine h.control goes.now.machine goes.now.input).output goes.wrote (subst (λ (l : List ℕ). Appends out out' l) follows.output step.did.output));
+        told = subst (λ (l : List ℕ). Appends err0 err' l) (state_error (completes v h.machine h.control))
+            (Appends-append err0 err err' goes.now.error (next_made v h.machine h.control goes.now.machine goes.now.input).error goes.told (subst (λ (l : List ℕ). Appends err err' l) follows.error step.did.error));
+        run_left = left_by (completes v h.machine h.control) (sym (same_steps v new (next_state (completes v h.machine h.control) goes.now).machine h'.machine h'.control matches).0) ∙ goes.run_left;
+        records_left = (left_is_by moved_on).0;
+        from = let low = goes.from in let up = steps_rise in let now_steps = (same_steps v new (next_state (completes v h.machine h.control) goes.now).machine h'.machine h'.control matches).0 in omega (arith, low, up, now_steps);
+        now_is = λ on. now_by (completes v h.machine h.control) (sym (same_steps v new (next_state (completes v h.machine h.control) goes.now).machine h'.machine h'.control matches).0)
+            (sym (same_steps v new (next_state (completes v h.machine h.control) goes.now).machine h'.machine h'.control matches).1 ∙ on);
+        later = let l = goes.later in omega (arith, l, count_is);
+        fetch_left = λ n' ahead.
+            let now_steps = (same_steps v new (next_state (completes v h.machine h.control) goes.now).machine h'.machine h'.control matches).0 in
+            let more' : h.machine.steps < n' = elim ahead [ inl less ↦ (let up = steps_rise in omega (arith, less, up, now_steps)) | inr is ↦ omega (arith, is, more) ] in
+            left_fetches n' more' (moved_by n' more');
+        enough = λ on. enough_by (completes v h.machine h.control) refl (sym (same_steps v new (next_state (completes v h.machine h.control) goes.now).machine h'.machine h'.control matches).0)
+            (sym (same_steps v new (next_state (completes v h.machine h.control) goes.now).machine h'.machine h'.control matches).1 ∙ on);
+        cost_left = (left_is_by moved_on).1;
+      }
+
+-- the end of a run: no step is left, or it has ended
+pub goes_out : (policy : Record → ImageData → Transfer → Record) (v : ImageData) (r0 : Record) (n : ℕ) (s0 : FlatState) (h0 h : HartData) (r : Record) (left out0 out err0 err : Option (List ℕ)) → Goes policy v r0 n s0 h0 h r left out0 out err0 err → (n ≤ h.machine.steps) ⊎ (is_some h.machine.ending ≡ true) →
+    Ran policy v (n - h0.machine.steps) s0 h0 r0 h r left out0 out err0 err
+goes_out policy v r0 n s0 h0 h r left out0 out err0 err goes over =
+    let stood : held_run (n - h.machine.steps) goes.now ≡ goes.now =
+    elim over [
+      | inl done ↦ let none : n - h.machine.steps ≡ 0 = omega arith in ap (λ k. held_run k goes.now) none ∙ held_run_none goes.now
+      | inr ended ↦ held_run_over (n - h.machine.steps) goes.now (ap (λ (e : Option End). is_some e) (sym (same_steps v r goes.now.machine h.machine h.control goes.matches).1) ∙ ended)
+    ] in
+    let is : goes.now ≡ held_run (n - h0.machine.steps) s0 = sym stood ∙ goes.run_left in
+    record {
+      matches = subst (λ (s : FlatState). Matches v r s.machine h.machine h.control) is goes.matches;
+      input = goes.left_is ∙ ap (λ (s : FlatState). Some s.input) is;
+      output = subst (λ (s : FlatState). Appends out0 out s.output) is goes.wrote;
+      error = subst (λ (s : FlatState). Appends err0 err s.error) is goes.told;
+      record_is = sym (ap (λ (l : List Transfer). after_all policy v r l) none_left) ∙ goes.records_left;
+      cost_is = no_cost _ _ _ _ _ goes.cost_left free_left ∙ ap (λ (s : FlatState). h0.count + cost v (n - h0.machine.steps) s0 (here_of v s0.machine h0.control) + spent_run s.machine h.control) is;
+      fetches_are = no_fetch _ _ _ _ _ (goes.fetch_left n (inr refl)) free_fetch ∙ ap (λ (s : FlatState). size 0 v (n - h0.machine.steps) s0 (here_of v s0.machine h0.control) + spent_run s.machine h.control) is;
+    }
+  where
+    no_fetch : (a b s z y : ℕ) → a + b + s ≡ z + y → b ≡ 0 → a + s ≡ z + y
+    no_fetch a b s z y p q = omega arith
+
+    no_cost : (a b s z y : ℕ) → a + b + s ≡ z + y → b ≡ 0 → a + s ≡ z + y
+    no_cost a b s z y p q = omega arith
+
+    ended_now : is_some h.machine.ending ≡ true → is_some goes.now.machine.ending ≡ true
+    ended_now ended = ap (λ (e : Option End). is_some e) (sym (same_steps v r goes.now.machine h.machine h.control goes.matches).1) ∙ ended
+
+    free_fetch : size 0 v (n - h.machine.steps) goes.now (here_of v goes.now.machine h.control) ≡ 0
+    free_fetch = elim over [
+      | inl done ↦ let none : n - h.machine.steps ≡ 0 = omega arith in ap (λ k. size 0 v k goes.now (here_of v goes.now.machine h.control)) none ∙ cost_none 0 v goes.now (here_of v goes.now.machine h.control)
+      | inr ended ↦ over_cost 0 v (n - h.machine.steps) goes.now (here_of v goes.now.machine h.control) (ended_now ended)
+    ]
+
+    none_left : transfers v (n - h.machine.steps) goes.now (here_of v goes.now.machine h.control) ≡ []
+    none_left = elim over [
+      | inl done ↦ let none : n - h.machine.steps ≡ 0 = omega arith in ap (λ k. transfers v k goes.now (here_of v goes.now.machine h.control)) none ∙ transfers_none v goes.now (here_of v goes.now.machine h.control)
+      | inr ended ↦ over_transfers v (n - h.machine.steps) goes.now (here_of v goes.now.machine h.control) (ended_now ended)
+    ]
+
+    free_left : cost v (n - h.machine.steps) goes.now (here_of v goes.now.machine h.control) ≡ 0
+    free_left = elim over [
+      | inl done ↦ let none : n - h.machine.steps ≡ 0 = omega arith in ap (λ k. cost v k goes.now (here_of v goes.now.machine h.control)) none ∙ cost_none 1 v goes.now (here_of v goes.now.machine h.control)
+      | inr ended ↦ over_cost 1 v (n - h.machine.steps) goes.now (here_of v goes.now.machine h.control) (ended_now ended)
+    ]
+
+-- what holds all along a run
+pub record Running (policy : Record → ImageData → Transfer → Record) (v : ImageData) (n : ℕ) (span : ℕ) (h0 : HartData) (r0 : Record) (ram0 : RamState) (left0 out0 err0 : Option (List ℕ)) (h : HartData) (r : Record) (ram : RamState) (left out err : Option (List ℕ)) : Type 0 where
+  pub steps : h.machine.steps ≤ n
+  pub failed : h.failed ≡ h0.failed
+  pub booted : h.booted ≡ h0.booted
+  pub later : h0.count ≤ h.count
+  pub written : writes r0 ≤ writes r
+  pub ram_ran : RamRan span (fetched_by h0 h) (writes r - writes r0) ram0 ram
+  pub fits : Fits v r h
+  pub count : h.count + most v h0.machine h0.control ≤ h0.count + most v h.machine h.control
+  pub calls : h.machine.ending ≡ None → r.counts.services + most_calls v h0.machine h0.control ≤ r0.counts.services + most_calls v h.machine h.control
+  pub goes : (l : List ℕ) → left0 ≡ Some l → (f : Machine) → Carries (fetched f.bus) v → Matches v r0 f h0.machine h0.control → Goes policy v r0 n (started f l) h0 h r left out0 out err0 err
+
+less_self : (n : ℕ) → n - n ≡ 0
+less_self n = omega arith
+
+none_yet : (f a s : ℕ) → f ≡ 0 → f + a + s ≡ a + s
+none_yet f a s e = omega arith
+
+fetched_none : (h : HartData) → fetched_by h h ≡ 0
+fetched_none h = none (unfetched h)
+  where
+    none : (u : ℕ) → h.count - h.count - u ≡ 0
+    none u = omega arith
+
+none_enough : (v : ImageData) (f : Machine) (l : List ℕ) (h : HartData) (r : Record) → h.machine.ending ≡ None → Matches v r f h.machine h.control →
+    size 0 v (h.machine.steps - h.machine.steps) (started f l) (here_of v f h.control) + spent f h.control ≤ fetched_by h h + spent_run f h.control
+none_enough v f l h r on same =
+    let none = ap (λ k. size 0 v k (started f l) (here_of v f h.control)) (less_self h.machine.steps) ∙ cost_none 0 v (started f l) (here_of v f h.control) in
+    let spends : spent_run f h.control ≡ spent f h.control = ap (λ (e : Option End). spent_by e f h.control) (sym (same_steps v r f h.machine h.control same).1 ∙ on) in
+    omega (arith, none, spends)
+
+-- nothing was done to the ram yet
+ram_started : (span : ℕ) (h : HartData) (r : Record) (ram : RamState) → RamRan span (fetched_by h h) (writes r - writes r) ram ram
+ram_started span h r ram =
+    rw (fetched_none h) (record { quiet = refl; fetches = no_rise ram.fetches; sets = less_none ram.sets (writes r); kept = record { same_length = refl; beyond = λ i le. refl; reached = grind arith } })
+  where
+    no_rise : (a : ℕ) → a ≡ risen a 0
+    no_rise a = grind arith
+
+    less_none : (a w : ℕ) → a ≡ risen a (w - w)
+    less_none a w = grind arith
+
+pub started_run : (policy : Record → ImageData → Transfer → Record) (v : ImageData) (n : ℕ) (span : ℕ) (h : HartData) (r : Record) (ram : RamState) (left out err : Option (List ℕ)) → Fits v r h → h.machine.steps ≤ n →
+    Running policy v n span h r ram left out err h r ram left out err
+started_run policy v n span h r ram left out err fits le = record {
+  steps = le;
+  failed = refl;
+  booted = refl;
+  later = omega arith;
+  written = omega arith;
+  ram_ran = ram_started span h r ram;
+  fits = fits;
+  count = omega arith;
+  calls = λ e. omega arith;
+  goes = λ l told f image same. record { now = started f l; image = image; matches = same; left_is = told; wrote = Appends-none out; told = Appends-none err; run_left = refl; records_left = refl; from = omega arith; now_is = λ on. sym (ap (λ k. held_run k (started f l)) (less_self h.machine.steps) ∙ held_run_none (started f l)); later = omega arith; fetch_left = λ n' ahead. none_yet _ _ _ (fetched_none h); enough = λ on. none_enough v f l h r on same; cost_left = refl };
+}
+
+most_running : (v : ImageData) (m : Machine) (c : Control) → m.ending ≡ None → most v m c ≡ 3 * m.steps + depth v m c
+most_running v m c e = ap (λ (k : Option End). most_by k v m c) e
+
+-- the loop's measure falls
+pub falls : (v : ImageData) (n : ℕ) (r new : Record) (h h' : HartData) → h.machine.steps < n → h.machine.ending ≡ None → Grown v r new h h' →
+    3 * n + 5 - most v h'.machine h'.control < 3 * n + 5 - most v h.machine h.control
+falls v n r new h h' more running grown =
+    let m = most_running v h.machine h.control running in
+    let d = depth_most v h.machine h.control in
+    let g = grown.most in
+    omega arith
+
+-- what several calls of the ram leave alone
+pub kept_both : (span : ℕ) (first before after : RamState) → KeepsBeyond span first before → KeepsBeyond span before after → KeepsBeyond span first after
+kept_both span first before after one two = record {
+  same_length = two.same_length ∙ one.same_length;
+  beyond = λ i le. two.beyond i le ∙ one.beyond i le;
+  reached = let p = one.reached in let q = two.reached in reach_both first.reach before.reach after.reach p q;
+}
+  where
+    reach_both : (p q s : ℕ) → q ≤ max p span → s ≤ max q span → s ≤ max p span
+    reach_both p q s x y = grind arith
+
+-- one step more
+ram_more : (span fetched more one : ℕ) (c : Control) (first before after : RamState) → RamRan span fetched more first before → RamStepped span one c before after → RamRan span (fetched + weight 0 c) (more + one) first after
+ram_more span fetched more one c first before after ran step = record {
+  quiet = step.quiet ∙ ran.quiet;
+  fetches = step.fetches ∙ ap (λ n. fetches_after c n) ran.fetches ∙ more_fetches c first.fetches fetched;
+  sets = step.sets ∙ ap (λ n. risen n one) ran.sets ∙ risen_twice first.sets more one;
+  kept = kept_both span first before after ran.kept step.kept;
+}
+  where
+    risen_twice : (a x y : ℕ) → risen (risen a x) y ≡ risen a (x + y)
+    risen_twice a x y = grind arith
+
+    no_more : (n : ℕ) → n ≡ n + 0
+    no_more n = omega arith
+
+    more_fetches : (c : Control) (a f : ℕ) → fetches_after c (risen a f) ≡ risen a (f + weight 0 c)
+    more_fetches (At i b o stage) a f = risen_twice a f 1
+    more_fetches Outside a f = ap (λ n. risen a n) (no_more f)
+
+module _ (policy : Record → ImageData → Transfer → Record) (v : ImageData) (n : ℕ) (span : ℕ) (h0 : HartData) (r0 : Record) (ram0 : RamState) (left0 out0 err0 : Option (List ℕ)) (h : HartData) (r : Record) (ram : RamState) (left out err : Option (List ℕ)) (so_far : Running policy v n span h0 r0 ram0 left0 out0 err0 h r ram left out err)
+    (more : h.machine.steps < n) (running : h.machine.ending ≡ None) (word : h.machine.pc < 2 ^ 32) (small : n ≤ 2 ^ 48) where
+  pub count_small : h0.count ≤ 2 ^ 55 → h.count < 2 ^ 56
+  count_small le =
+      let m = most_running v h.machine h.control running in
+      let d = depth_most v h.machine h.control in
+      let c = so_far.count in
+      omega arith
+
+  pub calls_small : r0.counts.services ≤ 2 ^ 49 → r.counts.services < 2 ^ 50
+  calls_small le =
+      let c = so_far.calls running in
+      let k = calls_most (depth v h.machine h.control) in
+      omega arith
+
+  module _ (h' : HartData) (new : Record) (ram' : RamState) (left' out' err' : Option (List ℕ)) (stepped : RamStepped span (writes new - writes r) h.control ram ram') (rises : writes r ≤ writes new) (fits : Fits v new h') (grown : Grown v r new h h') (moves : new ≡ moved policy r v (transfer_at v h.machine h.control))
+      (step : (l : List ℕ) → left ≡ Some l → Made v new h h' l left' out out' err err') where
+    sum_less : (a b c : ℕ) → a ≤ b → b ≤ c → b - a + (c - b) ≡ c - a
+    sum_less a b c p q = omega arith
+
+    pub runs_on : Running policy v n span h0 r0 ram0 left0 out0 err0 h' new ram' left' out' err'
+    runs_on = record {
+      steps = let g = grown.one in omega (arith, g, more);
+      failed = grown.failed ∙ so_far.failed;
+      booted = grown.booted ∙ so_far.booted;
+      later = let g = grown.count in let l = so_far.later in omega (arith, g, l);
+      written = let w = so_far.written in omega (arith, w, rises);
+      ram_ran = subst (λ k. RamRan span k (writes new - writes r0) ram0 ram') (sym (fetched_one h0 h h' so_far.later running grown.count grown.outside))
+          (subst (λ k. RamRan span (fetched_by h0 h + weight 0 h.control) k ram0 ram') (sum_less (writes r0) (writes r) (writes new) so_far.written rises)
+          (ram_more span (fetched_by h0 h) (writes r - writes r0) (writes new - writes r) h.control ram0 ram ram' so_far.ram_ran stepped));
+      fits = fits;
+      count =
+          let m = most_running v h.machine h.control running in
+          let g = grown.most in
+          let k = grown.count in
+          let c = so_far.count in
+          omega arith;
+      calls = λ e. (let g = grown.calls e in let c = so_far.calls running in omega arith);
+      goes = λ l told f image same.
+          let old = so_far.goes l told f image same in
+          goes_on policy v n (started f l) h0 h h' r0 r new left left' out0 out out' err0 err err' old more running word moves (step old.now.input old.left_is) grown.outside;
+    }

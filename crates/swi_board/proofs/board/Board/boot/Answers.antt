@@ -1,0 +1,24 @@
+use Rattle.std.proofs.Common.{◌+◌, Bool, Some, None, if◌then◌else◌, ap, ◌∙◌}
+use Rattle.swi_memory.specs.Bus.{fetched}
+use Rattle.swi_program.specs.Text.{text_of, word_of}
+use Rattle.swi_rom.specs.Record.{indirect}
+use Rattle.swi_board.specs.Hart.{HartData}
+use Rattle.swi_board.specs.Leaving.{moved, entries, entry_transfer}
+use Rattle.swi_board.proofs.Kept.{image_same}
+use Rattle.swi_board.proofs.Entering.{text_place, text_some}
+use Rattle.swi_board.proofs.board.Board.boot.Goals as goal
+
+pub resume-requires-clause-carries : goal.resume-requires-clause-carries
+resume-requires-clause-carries g c =
+    image_same c.args.image.now (λ a. word_of (text_of c.args.p.now.segments) a) (λ a. fetched c.in-Ok.hart.machine.bus a) c.in-Ok.ensures.text c.requires.carries
+
+pub returns-in-Ok-resume-clause-count : goal.returns-in-Ok-resume-clause-count
+returns-in-Ok-resume-clause-count g c =
+    ap (λ (h : HartData). h.count) c.in-Ok-resume.ensures.hart ∙ ap (λ (h : HartData). h.count + entries c.args.image.now h.machine.pc) c.in-Ok.ensures.hart
+    ∙ ap (λ n. 0 + n) (text_place (text_of c.args.p.now.segments) c.args.image.now c.args.p.now.entry c.requires.carries c.start.ensures.entry)
+
+pub returns-in-Ok-resume-clause-policy : goal.returns-in-Ok-resume-clause-policy
+returns-in-Ok-resume-clause-policy g c =
+    c.in-Ok-resume.ensures.policy
+    ∙ ap (λ (h : HartData). moved (g.R.CacheRom.policy (g.R.CacheRom.setting c.args.rom)) (g.R.CacheRom.kept c.args.rom) c.args.image.now (entry_transfer c.args.image.now h.machine.pc)) c.in-Ok.ensures.hart
+    ∙ ap (λ (q : Bool). moved (g.R.CacheRom.policy (g.R.CacheRom.setting c.args.rom)) (g.R.CacheRom.kept c.args.rom) c.args.image.now (if q then Some (indirect c.args.p.now.entry) else None)) (text_some (text_of c.args.p.now.segments) c.args.image.now c.args.p.now.entry c.requires.carries c.start.ensures.entry)

@@ -1,0 +1,22 @@
+use Rattle.std.proofs.Common.{◌≡◌, ◌⊎◌, ◌<◌, ◌*◌, ◌+◌, ◌-◌, ℕ, List, Some, None, true}
+use Rattle.swi_board.specs.Hart.{is_between}
+use Rattle.swi_board.specs.Faults.{Faults}
+use Rattle.swi_board.specs.Runs.{most}
+use Rattle.swi_board.proofs.Running.{Running}
+use Rattle.swi_board.proofs.many.run.Given as goal
+
+abbrev pub invariant-loop-hart : goal.invariant-loop-hart
+invariant-loop-hart g l = record {
+  running : Running (g.R.CacheRom.policy (g.R.CacheRom.setting l.fn.rom)) l.image l.n (g.R.CacheRom.span (g.R.CacheRom.setting l.fn.rom))
+      l.fn.hart (g.R.CacheRom.kept l.fn.rom) (g.M.CacheRam.state l.fn.ram) (g.I.Source.left l.fn.input) (g.O.Sink.held l.fn.out) (g.E.Sink.held l.fn.err)
+      l.hart (g.R.CacheRom.kept l.rom) (g.M.CacheRam.state l.ram) (g.I.Source.left l.input) (g.O.Sink.held l.out) (g.E.Sink.held l.err);
+  settles : (left : List ℕ) → g.I.Source.left l.fn.input ≡ Some left → is_between l.fn.hart.control ≡ true → l.hart.machine.ending ≡ None →
+      (l.hart.machine.steps < l.n) ⊎ (is_between l.hart.control ≡ true);
+  setting : g.R.CacheRom.setting l.rom ≡ g.R.CacheRom.setting l.fn.rom;
+  sound : g.R.CacheRom.sound l.rom l.image (g.M.CacheRam.state l.ram).words;
+  quiet : ◌≡◌ {A = Faults} (record { ram = (g.M.CacheRam.state l.ram).faults; input = g.I.Source.faults l.input; out = g.O.Sink.faults l.out; err = g.E.Sink.faults l.err })
+      (record { ram = (g.M.CacheRam.state l.fn.ram).faults; input = g.I.Source.faults l.fn.input; out = g.O.Sink.faults l.fn.out; err = g.E.Sink.faults l.fn.err });
+}
+
+abbrev pub decreases-loop-hart : goal.decreases-loop-hart
+decreases-loop-hart g l = 3 * l.n + 5 - most l.image l.hart.machine l.hart.control

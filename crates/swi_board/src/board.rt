@@ -1,0 +1,374 @@
+//! A hart with its service.
+#![tactic(auto)]
+
+ghost use Rattle.std.specs.Prelude.{◌≡◌, ◌⊎◌, ◌+◌, ◌-◌, ◌*◌, ◌^◌, ◌<◌, ◌≤◌, ℕ, IfOk, OnOk, OnErr, IsErrOf, Some, None, is_some, true, false};
+ghost use Rattle.swi_outside.specs.Causes.{Rose};
+ghost use Rattle.swi_memory.specs.Bus.{fetched};
+ghost use Rattle.swi_calls.specs.Flat.{machine_of, started};
+ghost use Rattle.swi_program.specs.Layout.{IsLayoutOf};
+ghost use Rattle.swi_program.specs.Text.{text_of, word_of};
+ghost use Rattle.swi_image.specs.Place.{place_of};
+ghost use Rattle.swi_render.specs.Carried.{Carries};
+ghost use Rattle.swi_rom.specs.Record.{indirect, writes};
+ghost use Rattle.swi_board.specs.Hart.{is_between, index_of, place_under, next_made};
+ghost use Rattle.swi_board.specs.Board.{Arrives, Fits, Matches, BoardOf};
+ghost use Rattle.swi_board.specs.Leaving.{RamServed, RamFailed, moved, entry_transfer, entries, RamRan, RamStepped, RamBroken, broken, transfer_at};
+ghost use Rattle.swi_board.specs.Transfers.{here_of, spent_run};
+ghost use Rattle.std.specs.Option.{ForSome};
+ghost use Rattle.swi_calls.specs.declared.machine.Machine.{Machine};
+ghost use Rattle.swi_board.specs.Ran.{Ran, BrokeOff, RamBrokeOff, Followed};
+ghost use Rattle.swi_board.specs.Calling.{Made, BrokenStep, OnDevice, with_memory};
+ghost use Rattle.swi_board.specs.Faults.{HasCauses};
+ghost use Rattle.swi_outside.specs.CacheRam.{KeepsBeyond};
+ghost use Rattle.swi_board.specs.Runs.{most, fetched_by, Grown};
+
+use crate::exit::jump;
+use crate::fault::BoardFault;
+use crate::hart::{Control, Hart};
+use crate::many::{run, step};
+use std::alloc::Global;
+use std::marker::Model;
+use swi_calls::{End, Heap};
+use swi_exec::Regs;
+use swi_image::ImageView;
+use swi_memory::{Bus, Layout};
+use swi_outside::{CacheRam, Failed, Sink, Source};
+use swi_program::Program;
+use swi_rom::CacheRom;
+
+/// What stops a boot.
+#[derive(Clone, Copy, Debug, PartialEq, Eq)]
+pub enum BootStop {
+    /// The ram failed.
+    RamFault,
+    /// Memory was refused, before the first call of the ram.
+    Memory,
+}
+
+/// A machine that runs a program out of a cache ram: a hart, and the service that keeps the ram's words.
+#[derive(Drop)]
+pub struct Board<R: CacheRom> {
+    hart: Hart,
+    rom: R,
+}
+
+impl<R: CacheRom> Model for Board<R> {
+    ghost use Rattle.swi_board.specs.Board.{BoardOf};
+
+    ghost Value = { BoardOf R };
+
+    ghost view = { λ b. record { hart = b.hart; rom = b.rom } };
+}
+
+/// Enters the ram at the hart's address.
+fn enter<R: CacheRom, M: CacheRam>(
+    hart: &mut Hart,
+    rom: &mut R,
+    image: &ImageView<'_>,
+    ram: &mut M,
+) -> Result<(), Failed>
+    requires count { hart.old.count < 2 ^ 56 }
+    requires sound { R.sound rom.old image.now (M.state ram.old).words }
+    requires services { (R.kept rom.old).counts.services < 2 ^ 50 }
+    ensures hart { OnOk result (hart.new ≡ record hart.old { control = hart.new.control; count = hart.old.count + entries image.now hart.old.machine.pc; booted = true }) }
+    ensures control { OnOk result (Arrives image.now (R.kept rom.new) hart.old.machine.pc hart.new.control) }
+    ensures policy { OnOk result (R.kept rom.new ≡ moved (R.policy (R.setting rom.old)) (R.kept rom.old) image.now (entry_transfer image.now hart.old.machine.pc)) }
+    ensures setting { R.setting rom.new ≡ R.setting rom.old }
+    ensures sound { OnOk result (R.sound rom.new image.now (M.state ram.new).words) }
+    ensures ram { OnOk result (RamServed (R.span (R.setting rom.old)) (writes (R.kept rom.new) - writes (R.kept rom.old))
+        (M.state ram.old) (M.state ram.new)) }
+    ensures failed { OnErr result (RamFailed (R.span (R.setting rom.old)) (M.state ram.old) (M.state ram.new)) }
+{
+    let pc = hart.origin_pc();
+    if image.place(pc).is_some() {
+        let control = match jump(rom, image, ram, pc) {
+            Ok(control) => control,
+            Err(_) => return Err(Failed),
+        };
+        hart.control = control;
+        hart.count += 1;
+    } else {
+        hart.control = Control::Outside;
+    }
+    hart.booted = true;
+    Ok(())
+}
+
+impl<R: CacheRom> Board<R> {
+    /// A board of a hart and a service, at the hart's address: where a text word stands there, one service enters it, and that is a
+    /// machine instruction; else neither service nor ram is called. The image is one of the text that the hart holds, the service is
+    /// sound for it and the ram, and the hart has not ended, and is between two instructions.
+    ///
+    /// `Failed` comes only where the ram's count of faults rose; hart and service are then given up.
+    pub fn resume<M: CacheRam>(
+        image: &ImageView<'_>,
+        hart: Hart,
+        rom: R,
+        ram: &mut M,
+    ) -> Result<Board<R>, Failed>
+        requires carries { Carries (fetched hart.machine.bus) image.now }
+        requires running { hart.machine.ending ≡ None }
+        requires unfailed { hart.failed ≡ false }
+        requires between { is_between hart.control ≡ true }
+        requires count { hart.count < 2 ^ 56 }
+        requires sound { R.sound rom image.now (M.state ram.old).words }
+        requires services { (R.kept rom).counts.services < 2 ^ 50 }
+        ensures hart { IfOk result (λ b. b.hart ≡ record hart { control = b.hart.control; count = hart.count + entries image.now hart.machine.pc; booted = true }) }
+        ensures matches { IfOk result (λ b. Matches image.now (R.kept b.rom) hart.machine b.hart.machine b.hart.control) }
+        ensures fits { IfOk result (λ b. Fits image.now (R.kept b.rom) b.hart) }
+        ensures here { IfOk result (λ b. here_of image.now hart.machine b.hart.control ≡ place_of image.now hart.machine.pc) }
+        ensures spent { IfOk result (λ b. spent_run hart.machine b.hart.control ≡ 0) }
+        ensures between { IfOk result (λ b. is_between b.hart.control ≡ true) }
+        ensures policy { IfOk result (λ b. R.kept b.rom ≡ moved (R.policy (R.setting rom)) (R.kept rom) image.now (entry_transfer image.now hart.machine.pc)) }
+        ensures setting { IfOk result (λ b. R.setting b.rom ≡ R.setting rom) }
+        ensures sound { IfOk result (λ b. R.sound b.rom image.now (M.state ram.new).words) }
+        ensures ram { IfOk result (λ b. RamServed (R.span (R.setting rom)) (writes (R.kept b.rom) - writes (R.kept rom)) (M.state ram.old) (M.state ram.new)) }
+        ensures failed { OnErr result (RamFailed (R.span (R.setting rom)) (M.state ram.old) (M.state ram.new)) }
+    {
+        let mut hart = hart;
+        let mut rom = rom;
+        match enter(&mut hart, &mut rom, image, ram) {
+            Ok(_) => Ok(Board { hart, rom }),
+            Err(_) => Err(Failed),
+        }
+    }
+
+    /// The board of a program before its first step: its hart is started, and then resumed. That is one machine instruction.
+    ///
+    /// All memory is taken before the first call of the ram. RamFault comes only where the ram's count of faults rose.
+    pub fn boot<M: CacheRam>(
+        alloc: Global,
+        image: &ImageView<'_>,
+        p: &Program,
+        l: &Layout,
+        log: bool,
+        rom: R,
+        ram: &mut M,
+    ) -> Result<Board<R>, BootStop>
+        requires laid_out { IsLayoutOf p.now.segments l.now }
+        requires carries { Carries (word_of (text_of p.now.segments)) image.now }
+        requires sound { R.sound rom image.now (M.state ram.old).words }
+        requires services { (R.kept rom).counts.services < 2 ^ 50 }
+        ensures machine { IfOk result (λ b. b.hart.machine ≡ machine_of p.now l.now log) }
+        ensures count { IfOk result (λ b. b.hart.count ≡ 1) }
+        ensures unfailed { IfOk result (λ b. b.hart.failed ≡ false) }
+        ensures booted { IfOk result (λ b. b.hart.booted ≡ true) }
+        ensures between { IfOk result (λ b. is_between b.hart.control ≡ true) }
+        ensures matches { IfOk result (λ b. Matches image.now (R.kept b.rom) (machine_of p.now l.now log) b.hart.machine b.hart.control) }
+        ensures fits { IfOk result (λ b. Fits image.now (R.kept b.rom) b.hart) }
+        ensures here { IfOk result (λ b. here_of image.now (machine_of p.now l.now log) b.hart.control ≡ place_of image.now p.now.entry) }
+        ensures spent { IfOk result (λ b. spent_run (machine_of p.now l.now log) b.hart.control ≡ 0) }
+        ensures policy { IfOk result (λ b. R.kept b.rom ≡ R.policy (R.setting rom) (R.kept rom) image.now (indirect p.now.entry)) }
+        ensures setting { IfOk result (λ b. R.setting b.rom ≡ R.setting rom) }
+        ensures sound { IfOk result (λ b. R.sound b.rom image.now (M.state ram.new).words) }
+        ensures ram { IfOk result (λ b. RamServed (R.span (R.setting rom)) (writes (R.kept b.rom) - writes (R.kept rom)) (M.state ram.old) (M.state ram.new)) }
+        ensures failed { IsErrOf result BootStop.RamFault → RamFailed (R.span (R.setting rom)) (M.state ram.old) (M.state ram.new) }
+        ensures untouched { IsErrOf result BootStop.Memory → M.state ram.new ≡ M.state ram.old }
+    {
+        let hart = match Hart::start(alloc, p, l, log) {
+            Ok(hart) => hart,
+            Err(_) => return Err(BootStop::Memory),
+        };
+        match Board::resume(image, hart, rom, ram) {
+            Ok(board) => Ok(board),
+            Err(_) => Err(BootStop::RamFault),
+        }
+    }
+
+    /// The hart and the service. Nothing changes.
+    pub fn part(self) -> (Hart, R)
+        requires unfailed { self.hart.failed ≡ false }
+        ensures hart { result.0 ≡ self.hart }
+        ensures rom { result.1 ≡ self.rom }
+    {
+        (self.hart, self.rom)
+    }
+
+    /// A board of a hart that is booted and a service that shows the hart's place at the index under its control. Nothing changes or
+    /// is counted. That the service is sound for the hart's image and the ram is asked by the next `step` or `run`.
+    pub fn join(hart: Hart, rom: R) -> Board<R>
+        requires booted { hart.booted ≡ true }
+        requires shown { (i : ℕ) → index_of hart.machine.ending hart.control ≡ Some i → R.shown rom i ≡ place_under hart.machine.ending hart.control }
+        ensures hart { result.hart ≡ hart }
+        ensures rom { result.rom ≡ rom }
+    {
+        Board { hart, rom }
+    }
+
+    /// One machine instruction: the word under control is fetched and executed, or an exit is left, over its link or by a service.
+    /// The image fits the board and the service is sound for it and the ram; the run has not ended, and no device has failed.
+    ///
+    /// It follows each flat machine that the board matches: by a step, or by none where the word completes no instruction. After
+    /// an error `failed` is true, and no step is counted.
+    pub fn step<M: CacheRam, I: Source, O: Sink, E: Sink>(
+        &mut self,
+        image: &ImageView<'_>,
+        ram: &mut M,
+        input: &mut I,
+        out: &mut O,
+        err: &mut E,
+    ) -> Result<(), BoardFault>
+        requires running { self.old.hart.machine.ending ≡ None }
+        requires unfailed { self.old.hart.failed ≡ false }
+        requires few { self.old.hart.machine.steps < 2 ^ 48 }
+        requires count { self.old.hart.count < 2 ^ 56 }
+        requires services { (R.kept self.old.rom).counts.services < 2 ^ 50 }
+        requires fits { Fits image.now (R.kept self.old.rom) self.old.hart }
+        requires sound { R.sound self.old.rom image.now (M.state ram.old).words }
+        ensures follows { OnOk result (ForSome (I.left input.old) (λ left. (f : Machine) → Carries (fetched f.bus) image.now →
+            Matches image.now (R.kept self.old.rom) f self.old.hart.machine self.old.hart.control →
+            Followed image.now (R.kept self.new.rom) self.new.hart (next_made image.now self.old.hart.machine self.old.hart.control f left)
+            (I.left input.new) (O.held out.old) (O.held out.new) (E.held err.old) (E.held err.new))) }
+        ensures made { OnOk result (ForSome (I.left input.old) (λ left. Made image.now (R.kept self.new.rom) self.old.hart self.new.hart left
+            (I.left input.new) (O.held out.old) (O.held out.new) (E.held err.old) (E.held err.new))) }
+        ensures unfailed { OnOk result (self.new.hart.failed ≡ false) }
+        ensures booted { OnOk result (self.new.hart.booted ≡ self.old.hart.booted) }
+        ensures fits { OnOk result (Fits image.now (R.kept self.new.rom) self.new.hart) }
+        ensures policy { OnOk result (R.kept self.new.rom ≡ moved (R.policy (R.setting self.old.rom)) (R.kept self.old.rom) image.now
+            (transfer_at image.now self.old.hart.machine self.old.hart.control)) }
+        ensures setting { R.setting self.new.rom ≡ R.setting self.old.rom }
+        ensures sound { OnOk result (R.sound self.new.rom image.now (M.state ram.new).words) }
+        ensures ram { OnOk result (RamStepped (R.span (R.setting self.old.rom)) (writes (R.kept self.new.rom) - writes (R.kept self.old.rom)) self.old.hart.control
+            (M.state ram.old) (M.state ram.new)) }
+        ensures grown { OnOk result (Grown image.now (R.kept self.old.rom) (R.kept self.new.rom) self.old.hart self.new.hart) }
+        ensures stopped { OnErr result (self.new.hart ≡ broken (with_memory self.old.hart self.new.hart.machine.bus)) }
+        ensures broke { OnDevice result (ForSome (I.left input.old) (λ left. BrokenStep image.now (R.kept self.old.rom) self.old.hart left
+            (I.left input.new) (O.held out.old) (O.held out.new) (E.held err.old) (E.held err.new))) }
+        ensures unwritten { IsErrOf result BoardFault.SourceFault → (O.held out.new ≡ O.held out.old) × (E.held err.new ≡ E.held err.old) }
+        ensures others_stay { IsErrOf result BoardFault.RamFault →
+            (I.left input.new ≡ I.left input.old) × ((O.held out.new ≡ O.held out.old) × (E.held err.new ≡ E.held err.old)) }
+        ensures ram_failed { IsErrOf result BoardFault.RamFault → RamBroken image.now self.old.hart.machine self.old.hart.control
+            (R.span (R.setting self.old.rom)) (M.state ram.old) (M.state ram.new) }
+        ensures kept { KeepsBeyond (R.span (R.setting self.old.rom)) (M.state ram.old) (M.state ram.new) }
+        ensures causes { HasCauses
+            (record { ram = (M.state ram.old).faults; input = I.faults input.old; out = O.faults out.old; err = E.faults err.old })
+            (record { ram = (M.state ram.new).faults; input = I.faults input.new; out = O.faults out.new; err = E.faults err.new }) result }
+    {
+        step(&mut self.hart, &mut self.rom, image, ram, input, out, err)
+    }
+
+    /// Steps until `n` original steps are made, or the run has ended.
+    ///
+    /// Each fault comes only where its device's count rose. After one `failed` is true, and the step that it broke off is not counted.
+    pub fn run<M: CacheRam, I: Source, O: Sink, E: Sink>(
+        &mut self,
+        image: &ImageView<'_>,
+        ram: &mut M,
+        input: &mut I,
+        out: &mut O,
+        err: &mut E,
+        n: u64,
+    ) -> Result<(), BoardFault>
+        requires fits { Fits image.now (R.kept self.old.rom) self.old.hart }
+        requires sound { R.sound self.old.rom image.now (M.state ram.old).words }
+        requires steps { self.old.hart.machine.steps ≤ n }
+        requires unfailed { self.old.hart.failed ≡ false }
+        requires limit { n ≤ 2 ^ 48 }
+        requires count { self.old.hart.count ≤ 2 ^ 55 }
+        requires services { (R.kept self.old.rom).counts.services ≤ 2 ^ 49 }
+        ensures ran { OnOk result (ForSome (I.left input.old) (λ left. (f : Machine) → Carries (fetched f.bus) image.now →
+            Matches image.now (R.kept self.old.rom) f self.old.hart.machine self.old.hart.control →
+            Ran (R.policy (R.setting self.old.rom)) image.now (n - self.old.hart.machine.steps) (started f left) self.old.hart (R.kept self.old.rom) self.new.hart (R.kept self.new.rom) (I.left input.new)
+            (O.held out.old) (O.held out.new) (E.held err.old) (E.held err.new))) }
+        ensures count { OnOk result (self.new.hart.count + most image.now self.old.hart.machine self.old.hart.control ≤ self.old.hart.count + most image.now self.new.hart.machine self.new.hart.control) }
+        ensures fits { OnOk result (Fits image.now (R.kept self.new.rom) self.new.hart) }
+        ensures setting { R.setting self.new.rom ≡ R.setting self.old.rom }
+        ensures sound { OnOk result (R.sound self.new.rom image.now (M.state ram.new).words) }
+        ensures unfailed { OnOk result (self.new.hart.failed ≡ false) }
+        ensures booted { OnOk result (self.new.hart.booted ≡ self.old.hart.booted) }
+        ensures done { OnOk result ((self.new.hart.machine.steps ≡ n) ⊎ (is_some self.new.hart.machine.ending ≡ true)) }
+        ensures settled { OnOk result (ForSome (I.left input.old) (λ left. is_between self.old.hart.control ≡ true →
+            self.new.hart.machine.ending ≡ None → is_between self.new.hart.control ≡ true)) }
+        ensures ram { OnOk result (RamRan (R.span (R.setting self.old.rom)) (fetched_by self.old.hart self.new.hart) (writes (R.kept self.new.rom) - writes (R.kept self.old.rom))
+            (M.state ram.old) (M.state ram.new)) }
+        ensures kept { KeepsBeyond (R.span (R.setting self.old.rom)) (M.state ram.old) (M.state ram.new) }
+        ensures failed { OnErr result (self.new.hart.failed ≡ true) }
+        ensures going { OnErr result (self.new.hart.machine.ending ≡ None) }
+        ensures uncounted { OnErr result (self.new.hart.machine.steps < n) }
+        ensures broke { OnDevice result (ForSome (I.left input.old) (λ left. (f : Machine) → Carries (fetched f.bus) image.now →
+            Matches image.now (R.kept self.old.rom) f self.old.hart.machine self.old.hart.control →
+            BrokeOff result (n - self.old.hart.machine.steps) (started f left) self.old.hart self.new.hart (I.left input.new)
+            (O.held out.old) (O.held out.new) (E.held err.old) (E.held err.new))) }
+        ensures ram_broke { IsErrOf result BoardFault.RamFault → ForSome (I.left input.old) (λ left. (f : Machine) → Carries (fetched f.bus) image.now →
+            Matches image.now (R.kept self.old.rom) f self.old.hart.machine self.old.hart.control →
+            RamBrokeOff image.now (n - self.old.hart.machine.steps) (started f left) self.old.hart self.new.hart (M.state ram.old) (M.state ram.new) (I.left input.new)
+            (O.held out.old) (O.held out.new) (E.held err.old) (E.held err.new)) }
+        ensures causes { HasCauses
+            (record { ram = (M.state ram.old).faults; input = I.faults input.old; out = O.faults out.old; err = E.faults err.old })
+            (record { ram = (M.state ram.new).faults; input = I.faults input.new; out = O.faults out.new; err = E.faults err.new }) result }
+    {
+        run(
+            &mut self.hart,
+            &mut self.rom,
+            image,
+            ram,
+            input,
+            out,
+            err,
+            n,
+        )
+    }
+
+    /// How the run has ended; None while it goes on.
+    pub fn ending(&self) -> Option<End>
+        ensures { result ≡ self.now.hart.machine.ending }
+    {
+        self.hart.ending()
+    }
+
+    /// Whether a device failed in the last step. No further step can be made then.
+    pub fn failed(&self) -> bool
+        ensures { result ≡ self.now.hart.failed }
+    {
+        self.hart.failed()
+    }
+
+    /// The number of original steps made, one that ended the run included, but for a store into the text.
+    pub fn steps(&self) -> u64
+        ensures { result ≡ self.now.hart.machine.steps }
+    {
+        self.hart.steps()
+    }
+
+    /// The registers.
+    pub fn regs(&self) -> &Regs
+        ensures { result.now ≡ self.now.hart.machine.regs }
+    {
+        self.hart.regs()
+    }
+
+    /// The memory.
+    pub fn bus(&self) -> &Bus
+        ensures { result.now ≡ self.now.hart.machine.bus }
+    {
+        self.hart.bus()
+    }
+
+    /// The heap's ends and the break.
+    pub fn heap(&self) -> Heap
+        ensures { result ≡ self.now.hart.machine.heap }
+    {
+        self.hart.heap()
+    }
+
+    /// The original address of the instruction under control, or of the one that ended the run.
+    pub fn origin_pc(&self) -> u32
+        ensures { result ≡ self.now.hart.machine.pc }
+    {
+        self.hart.origin_pc()
+    }
+
+    /// The number of machine instructions made, that of the boot included.
+    pub fn machine_steps(&self) -> u64
+        ensures { result ≡ self.now.hart.count }
+    {
+        self.hart.machine_steps()
+    }
+
+    /// The service.
+    pub fn rom(&self) -> &R
+        ensures { result.now ≡ self.now.rom }
+    {
+        &self.rom
+    }
+}

@@ -1,0 +1,125 @@
+//! Exits of blocks.
+#![tactic(auto)]
+
+ghost use Rattle.std.specs.Prelude.{◌≡◌, ◌⊎◌, ◌+◌, ◌-◌, ◌*◌, ◌^◌, ◌%◌, ◌<◌, ◌≤◌, ℕ, List, length, IfOk, OnOk, OnErr, Some, None};
+ghost use Rattle.swi_image.specs.Format.{ImageData};
+ghost use Rattle.swi_image.specs.Place.{place_of, word_at, length_at};
+ghost use Rattle.swi_rom.specs.Record.{direct, indirect, writes, IsJump};
+ghost use Rattle.swi_rom.specs.Coherent.{TargetAt};
+ghost use Rattle.swi_board.specs.Board.{Arrives};
+ghost use Rattle.swi_board.specs.Leaving.{LeaveAt, RamServed, RamFailed, fell};
+ghost use Rattle.swi_board.specs.Hart.{exit_kind};
+
+use crate::hart::{Control, ExitKind, Stage};
+use swi_image::ImageView;
+use swi_isa::{Instr, decode};
+use swi_outside::{CacheRam, Failed};
+use swi_rom::{CacheRom, RomStop};
+
+/// The word of EBREAK, which stands for an exit.
+const EBREAK: u32 = 0x0010_0073;
+
+/// What an exit is for.
+pub(crate) fn exit_kind(d: u32) -> ExitKind
+    ensures { result ≡ exit_kind d }
+{
+    match d % 4 {
+        0 => ExitKind::Direct,
+        1 => ExitKind::Trap,
+        2 => ExitKind::Misaligned,
+        _ => ExitKind::Indirect,
+    }
+}
+
+/// Whether an exit at the block's offset that was left for the target is one behind the block's last text word.
+pub(crate) fn fell(stage: Stage, pc: u32, target: u32, control: Control, b: u32, o: u32) -> bool
+    ensures { result ≡ fell stage pc target control b o }
+{
+    match stage {
+        Stage::Start => match control {
+            Control::At(_, block, offset, _) => target == pc && !(block == b && offset == o),
+            Control::Outside => target == pc,
+        },
+        _ => false,
+    }
+}
+
+/// The index to which the jump at an index goes.
+fn jump_index(word: u32, i: u32) -> u32
+    ensures { (j : ℕ) → IsJump i j word → j < 2 ^ 30 → i < 2 ^ 30 → result ≡ j }
+{
+    match decode(word) {
+        Some(Instr::Jal { off, .. }) => i.wrapping_mul(4).wrapping_add(off) / 4,
+        _ => 0,
+    }
+}
+
+/// Control at the word of the ram where a target stands.
+pub(crate) fn control_at<R: CacheRom>(rom: &R, index: u32) -> Control
+    ensures { (v : ImageData) (words : List ℕ) (t : ℕ) → R.sound rom.now v words → TargetAt v (R.kept rom.now) t index → Arrives v (R.kept rom.now) t result }
+{
+    match rom.at(index) {
+        Some((b, o)) => Control::At(index, b, o, Stage::Start),
+        None => Control::Outside,
+    }
+}
+
+/// Leaves a block by an exit, over its link or by a service.
+#[inline(never)]
+pub(crate) fn leave<R: CacheRom, M: CacheRam>(
+    rom: &mut R,
+    image: &ImageView<'_>,
+    ram: &mut M,
+    got: u32,
+    at: (u32, u32, u32),
+    target: u32,
+) -> Result<Control, Failed>
+    requires sound { R.sound rom.old image.now (M.state ram.old).words }
+    requires services { (R.kept rom.old).counts.services < 2 ^ 50 }
+    requires exit { LeaveAt image.now (R.kept rom.old) (M.state ram.old).words got at.0 at.1 at.2 }
+    requires target { target ≡ word_at image.now at.1 (at.2 + 1) }
+    ensures control { IfOk result (λ c. Arrives image.now (R.kept rom.new) target c) }
+    ensures policy { OnOk result (R.kept rom.new ≡ R.policy (R.setting rom.old) (R.kept rom.old) image.now (direct at.1 at.2 target)) }
+    ensures setting { R.setting rom.new ≡ R.setting rom.old }
+    ensures sound { OnOk result (R.sound rom.new image.now (M.state ram.new).words) }
+    ensures ram { OnOk result (RamServed (R.span (R.setting rom.old)) (writes (R.kept rom.new) - writes (R.kept rom.old))
+        (M.state ram.old) (M.state ram.new)) }
+    ensures failed { OnErr result (RamFailed (R.span (R.setting rom.old)) (M.state ram.old) (M.state ram.new)) }
+    ensures placed { OnErr result (place_of image.now target ≡ None → ⊥) }
+{
+    let (i, _, _) = at;
+    if got != EBREAK {
+        return Ok(control_at(rom, jump_index(got, i)));
+    }
+    match rom.cross(image, ram, i, target) {
+        Ok(index) => Ok(control_at(rom, index)),
+        Err(RomStop::Outside) => Ok(Control::Outside),
+        Err(RomStop::RamFault) => Err(Failed),
+    }
+}
+
+/// Goes to an address by a jump over a register.
+#[inline(never)]
+pub(crate) fn jump<R: CacheRom, M: CacheRam>(
+    rom: &mut R,
+    image: &ImageView<'_>,
+    ram: &mut M,
+    target: u32,
+) -> Result<Control, Failed>
+    requires sound { R.sound rom.old image.now (M.state ram.old).words }
+    requires services { (R.kept rom.old).counts.services < 2 ^ 50 }
+    ensures control { IfOk result (λ c. Arrives image.now (R.kept rom.new) target c) }
+    ensures policy { OnOk result (R.kept rom.new ≡ R.policy (R.setting rom.old) (R.kept rom.old) image.now (indirect target)) }
+    ensures setting { R.setting rom.new ≡ R.setting rom.old }
+    ensures sound { OnOk result (R.sound rom.new image.now (M.state ram.new).words) }
+    ensures ram { OnOk result (RamServed (R.span (R.setting rom.old)) (writes (R.kept rom.new) - writes (R.kept rom.old))
+        (M.state ram.old) (M.state ram.new)) }
+    ensures failed { OnErr result (RamFailed (R.span (R.setting rom.old)) (M.state ram.old) (M.state ram.new)) }
+    ensures placed { OnErr result (place_of image.now target ≡ None → ⊥) }
+{
+    match rom.enter(image, ram, target) {
+        Ok(index) => Ok(control_at(rom, index)),
+        Err(RomStop::Outside) => Ok(Control::Outside),
+        Err(RomStop::RamFault) => Err(Failed),
+    }
+}

@@ -1,0 +1,15 @@
+//! The machine that runs out of a cache ram.
+#![tactic(auto)]
+
+mod board;
+mod exit;
+mod fault;
+mod hart;
+mod many;
+mod quick;
+mod step;
+mod word;
+
+pub use board::{Board, BootStop};
+pub use fault::BoardFault;
+pub use hart::{Control, Hart, Stage};

@@ -1,0 +1,206 @@
+//! A step whose fetched word is the image's, or a link.
+#![tactic(auto)]
+
+ghost use Rattle.std.specs.Prelude.{◌≡◌, ◌⊎◌, ◌+◌, ◌-◌, ◌*◌, ◌^◌, ◌%◌, ◌<◌, ◌≤◌, ℕ, List, [], length, slice_index, IfOk, OnOk, OnErr, IsErrOf, Some, None, true, false};
+ghost use Rattle.std.specs.Option.{ForSome};
+ghost use Rattle.swi_outside.specs.CacheRam.{KeepsBeyond};
+ghost use Rattle.swi_rom.specs.Record.{writes};
+ghost use Rattle.swi_board.specs.Board.{Fits};
+ghost use Rattle.swi_board.specs.Calling.{Made, BrokenStep, OnDevice, with_memory};
+ghost use Rattle.swi_board.specs.Faults.{HasCauses};
+ghost use Rattle.swi_board.specs.Runs.{Grown};
+ghost use Rattle.swi_board.specs.Leaving.{Home, leaves, moved, transfer_at, HasPlace, broken, RamServed, RamFailed, RamStepped, RamBroken};
+
+use crate::fault::{BoardFault, fault_of};
+use crate::hart::{Control, Hart, Stage};
+use crate::step::{exit_step, role};
+use crate::word::{end, word_step};
+use swi_calls::End;
+use swi_exec::FaultKind;
+use swi_image::ImageView;
+use swi_isa::{Instr, decode};
+use swi_outside::{CacheRam, Sink, Source};
+use swi_rom::CacheRom;
+
+/// Whether the word leaves its block.
+#[inline(always)]
+fn leaves(x: &Instr) -> bool
+    ensures { result ≡ leaves x.now }
+{
+    matches!(*x, Instr::Jal { .. } | Instr::Ebreak)
+}
+
+/// A step at a word of the ram that was fetched.
+#[inline(always)]
+fn at_word<R: CacheRom, M: CacheRam, I: Source, O: Sink, E: Sink>(
+    hart: &mut Hart,
+    rom: &mut R,
+    image: &ImageView<'_>,
+    ram: &mut M,
+    input: &mut I,
+    out: &mut O,
+    err: &mut E,
+    got: u32,
+    at: (u32, u32, u32, Stage),
+) -> Result<(), BoardFault>
+    requires running { hart.old.machine.ending ≡ None }
+    requires word { hart.old.machine.pc < 2 ^ 32 }
+    requires few { hart.old.machine.steps < 2 ^ 48 }
+    requires count { hart.old.count < 2 ^ 56 }
+    requires services { (R.kept rom.old).counts.services < 2 ^ 50 }
+    requires control { hart.old.control ≡ Control.At at.0 at.1 at.2 at.3 }
+    requires fits { Fits image.now (R.kept rom.old) hart.old }
+    requires home { Home image.now (R.kept rom.old) hart.old.machine at.0 at.1 at.2 at.3 }
+    requires sound { R.sound rom.old image.now (M.state ram.old).words }
+    requires got { got ≡ slice_index (M.state ram.old).words at.0 }
+    ensures made { OnOk result (ForSome (I.left input.old) (λ left. Made image.now (R.kept rom.new) hart.old hart.new left
+        (I.left input.new) (O.held out.old) (O.held out.new) (E.held err.old) (E.held err.new))) }
+    ensures fits { OnOk result (Fits image.now (R.kept rom.new) hart.new) }
+    ensures policy { OnOk result (R.kept rom.new ≡ moved (R.policy (R.setting rom.old)) (R.kept rom.old) image.now
+        (transfer_at image.now hart.old.machine hart.old.control)) }
+    ensures setting { R.setting rom.new ≡ R.setting rom.old }
+    ensures sound { OnOk result (R.sound rom.new image.now (M.state ram.new).words) }
+    ensures ram { OnOk result (RamServed (R.span (R.setting rom.old)) (writes (R.kept rom.new) - writes (R.kept rom.old))
+        (M.state ram.old) (M.state ram.new)) }
+    ensures grown { OnOk result (Grown image.now (R.kept rom.old) (R.kept rom.new) hart.old hart.new) }
+    ensures stopped { OnErr result (hart.new ≡ broken (with_memory hart.old hart.new.machine.bus)) }
+    ensures broke { OnDevice result (ForSome (I.left input.old) (λ left. BrokenStep image.now (R.kept rom.old) hart.old left
+        (I.left input.new) (O.held out.old) (O.held out.new) (E.held err.old) (E.held err.new))) }
+    ensures unwritten { IsErrOf result BoardFault.SourceFault → (O.held out.new ≡ O.held out.old) × (E.held err.new ≡ E.held err.old) }
+    ensures others_stay { IsErrOf result BoardFault.RamFault →
+        (I.left input.new ≡ I.left input.old) × ((O.held out.new ≡ O.held out.old) × (E.held err.new ≡ E.held err.old)) }
+    ensures ram_failed { IsErrOf result BoardFault.RamFault → RamFailed (R.span (R.setting rom.old)) (M.state ram.old) (M.state ram.new) }
+    ensures placed { IsErrOf result BoardFault.RamFault → HasPlace image.now (transfer_at image.now hart.old.machine hart.old.control) }
+    ensures kept { KeepsBeyond (R.span (R.setting rom.old)) (M.state ram.old) (M.state ram.new) }
+    ensures causes { HasCauses
+        (record { ram = (M.state ram.old).faults; input = I.faults input.old; out = O.faults out.old; err = E.faults err.old })
+        (record { ram = (M.state ram.new).faults; input = I.faults input.new; out = O.faults out.new; err = E.faults err.new }) result }
+{
+    let (_, _, _, stage) = at;
+    let Some(x) = decode(got) else { unreachable!() };
+    if leaves(&x) {
+        return match exit_step(hart, rom, image, ram, got, at) {
+            Ok(_) => Ok(()),
+            Err(_) => {
+                hart.failed = true;
+                Err(BoardFault::RamFault)
+            }
+        };
+    }
+    let role = role(hart, stage, &x);
+    match word_step(hart, at, &x, role, input, out, err) {
+        Ok(_) => Ok(()),
+        Err(fault) => {
+            hart.failed = true;
+            Err(fault_of(fault))
+        }
+    }
+}
+
+/// A step at a word of the ram.
+#[inline(always)]
+fn at_step<R: CacheRom, M: CacheRam, I: Source, O: Sink, E: Sink>(
+    hart: &mut Hart,
+    rom: &mut R,
+    image: &ImageView<'_>,
+    ram: &mut M,
+    input: &mut I,
+    out: &mut O,
+    err: &mut E,
+    at: (u32, u32, u32, Stage),
+) -> Result<(), BoardFault>
+    requires running { hart.old.machine.ending ≡ None }
+    requires word { hart.old.machine.pc < 2 ^ 32 }
+    requires few { hart.old.machine.steps < 2 ^ 48 }
+    requires count { hart.old.count < 2 ^ 56 }
+    requires services { (R.kept rom.old).counts.services < 2 ^ 50 }
+    requires control { hart.old.control ≡ Control.At at.0 at.1 at.2 at.3 }
+    requires fits { Fits image.now (R.kept rom.old) hart.old }
+    requires home { Home image.now (R.kept rom.old) hart.old.machine at.0 at.1 at.2 at.3 }
+    requires sound { R.sound rom.old image.now (M.state ram.old).words }
+    ensures made { OnOk result (ForSome (I.left input.old) (λ left. Made image.now (R.kept rom.new) hart.old hart.new left
+        (I.left input.new) (O.held out.old) (O.held out.new) (E.held err.old) (E.held err.new))) }
+    ensures fits { OnOk result (Fits image.now (R.kept rom.new) hart.new) }
+    ensures policy { OnOk result (R.kept rom.new ≡ moved (R.policy (R.setting rom.old)) (R.kept rom.old) image.now
+        (transfer_at image.now hart.old.machine hart.old.control)) }
+    ensures setting { R.setting rom.new ≡ R.setting rom.old }
+    ensures sound { OnOk result (R.sound rom.new image.now (M.state ram.new).words) }
+    ensures ram { OnOk result (RamStepped (R.span (R.setting rom.old)) (writes (R.kept rom.new) - writes (R.kept rom.old)) hart.old.control
+        (M.state ram.old) (M.state ram.new)) }
+    ensures grown { OnOk result (Grown image.now (R.kept rom.old) (R.kept rom.new) hart.old hart.new) }
+    ensures stopped { OnErr result (hart.new ≡ broken (with_memory hart.old hart.new.machine.bus)) }
+    ensures broke { OnDevice result (ForSome (I.left input.old) (λ left. BrokenStep image.now (R.kept rom.old) hart.old left
+        (I.left input.new) (O.held out.old) (O.held out.new) (E.held err.old) (E.held err.new))) }
+    ensures unwritten { IsErrOf result BoardFault.SourceFault → (O.held out.new ≡ O.held out.old) × (E.held err.new ≡ E.held err.old) }
+    ensures others_stay { IsErrOf result BoardFault.RamFault →
+        (I.left input.new ≡ I.left input.old) × ((O.held out.new ≡ O.held out.old) × (E.held err.new ≡ E.held err.old)) }
+    ensures ram_failed { IsErrOf result BoardFault.RamFault → RamBroken image.now hart.old.machine hart.old.control
+        (R.span (R.setting rom.old)) (M.state ram.old) (M.state ram.new) }
+    ensures kept { KeepsBeyond (R.span (R.setting rom.old)) (M.state ram.old) (M.state ram.new) }
+    ensures causes { HasCauses
+        (record { ram = (M.state ram.old).faults; input = I.faults input.old; out = O.faults out.old; err = E.faults err.old })
+        (record { ram = (M.state ram.new).faults; input = I.faults input.new; out = O.faults out.new; err = E.faults err.new }) result }
+{
+    let (i, _, _, _) = at;
+    let got = match ram.fetch(i) {
+        Ok(got) => got,
+        Err(_) => {
+            hart.failed = true;
+            return Err(BoardFault::RamFault);
+        }
+    };
+    at_word(hart, rom, image, ram, input, out, err, got, at)
+}
+
+/// One machine step.
+#[inline(always)]
+pub(crate) fn quick_step<R: CacheRom, M: CacheRam, I: Source, O: Sink, E: Sink>(
+    hart: &mut Hart,
+    rom: &mut R,
+    image: &ImageView<'_>,
+    ram: &mut M,
+    input: &mut I,
+    out: &mut O,
+    err: &mut E,
+) -> Result<(), BoardFault>
+    requires running { hart.old.machine.ending ≡ None }
+    requires few { hart.old.machine.steps < 2 ^ 48 }
+    requires count { hart.old.count < 2 ^ 56 }
+    requires services { (R.kept rom.old).counts.services < 2 ^ 50 }
+    requires fits { Fits image.now (R.kept rom.old) hart.old }
+    requires sound { R.sound rom.old image.now (M.state ram.old).words }
+    ensures word { hart.old.machine.pc < 2 ^ 32 }
+    ensures made { OnOk result (ForSome (I.left input.old) (λ left. Made image.now (R.kept rom.new) hart.old hart.new left
+        (I.left input.new) (O.held out.old) (O.held out.new) (E.held err.old) (E.held err.new))) }
+    ensures fits { OnOk result (Fits image.now (R.kept rom.new) hart.new) }
+    ensures policy { OnOk result (R.kept rom.new ≡ moved (R.policy (R.setting rom.old)) (R.kept rom.old) image.now
+        (transfer_at image.now hart.old.machine hart.old.control)) }
+    ensures setting { R.setting rom.new ≡ R.setting rom.old }
+    ensures sound { OnOk result (R.sound rom.new image.now (M.state ram.new).words) }
+    ensures ram { OnOk result (RamStepped (R.span (R.setting rom.old)) (writes (R.kept rom.new) - writes (R.kept rom.old)) hart.old.control
+        (M.state ram.old) (M.state ram.new)) }
+    ensures grown { OnOk result (Grown image.now (R.kept rom.old) (R.kept rom.new) hart.old hart.new) }
+    ensures stopped { OnErr result (hart.new ≡ broken (with_memory hart.old hart.new.machine.bus)) }
+    ensures broke { OnDevice result (ForSome (I.left input.old) (λ left. BrokenStep image.now (R.kept rom.old) hart.old left
+        (I.left input.new) (O.held out.old) (O.held out.new) (E.held err.old) (E.held err.new))) }
+    ensures unwritten { IsErrOf result BoardFault.SourceFault → (O.held out.new ≡ O.held out.old) × (E.held err.new ≡ E.held err.old) }
+    ensures others_stay { IsErrOf result BoardFault.RamFault →
+        (I.left input.new ≡ I.left input.old) × ((O.held out.new ≡ O.held out.old) × (E.held err.new ≡ E.held err.old)) }
+    ensures ram_failed { IsErrOf result BoardFault.RamFault → RamBroken image.now hart.old.machine hart.old.control
+        (R.span (R.setting rom.old)) (M.state ram.old) (M.state ram.new) }
+    ensures kept { KeepsBeyond (R.span (R.setting rom.old)) (M.state ram.old) (M.state ram.new) }
+    ensures causes { HasCauses
+        (record { ram = (M.state ram.old).faults; input = I.faults input.old; out = O.faults out.old; err = E.faults err.old })
+        (record { ram = (M.state ram.new).faults; input = I.faults input.new; out = O.faults out.new; err = E.faults err.new }) result }
+{
+    let pc = hart.origin_pc();
+    match hart.control {
+        Control::At(i, b, o, stage) => {
+            at_step(hart, rom, image, ram, input, out, err, (i, b, o, stage))
+        }
+        Control::Outside => {
+            end(hart, End::Faulted(FaultKind::FetchAccess, pc));
+            Ok(())
+        }
+    }
+}
