@@ -1,0 +1,162 @@
+-- A run that came to its end.
+use Rattle.std.proofs.Common.{◌≡◌, ◌==◌, ℕ, ◌+◌, ◌-◌, ◌*◌, ◌≤◌, true, not, ◌&&◌, if◌then◌else◌, List, [], ◌∷◌, Option, Some, None, refl, sym, ap, subst, ◌∙◌, arith}
+use Rattle.std.proofs.lemmas.Bool.{false≢true}
+use Rattle.swi_outside.specs.Causes.{risen}
+use Rattle.swi_outside.specs.CacheRam.{RamState, KeepsBeyond}
+use Rattle.swi_calls.specs.declared.end.End.{End}
+use Rattle.swi_calls.specs.declared.end.End.TheVariants.{Exited, Faulted, StoreText}
+use Rattle.swi_calls.specs.declared.machine.Machine.{Machine}
+use Rattle.swi_image.specs.Format.{ImageData}
+use Rattle.swi_image.specs.Place.{place_of}
+use Rattle.swi_rom.specs.Coherent.{Coherent}
+use Rattle.swi_rom.specs.Fifo.{fifo, fifo_third}
+use Rattle.swi_rom.specs.Laws.{slots_coherent}
+use Rattle.swi_rom.specs.Rams.{risen_more}
+use Rattle.swi_rom.specs.Record.{Record, Transfer, writes}
+use Rattle.swi_rom.specs.Slots.{Slots, kept_by, setting_of, span_of as span_by}
+use Rattle.swi_rom.specs.Sound.{SlotsSound}
+use Rattle.swi_board.specs.declared.hart.Stage.TheVariants.{Start, Low, Return, Leave}
+use Rattle.swi_board.specs.declared.hart.Control.{Control}
+use Rattle.swi_board.specs.declared.hart.Control.TheVariants.{At, Outside}
+use Rattle.swi_board.specs.Hart.{HartData, is_between, is_place}
+use Rattle.swi_board.specs.Leaving.{RamRan}
+use Rattle.swi_board.specs.Ran.{Ran}
+use Rattle.swi_board.specs.Runs.{depth, most, most_by, fetched_by}
+use Rattle.swi_board.specs.Transfers.{transfers, cost, fetches, here_of, spent_by, spent_run, after_all}
+use Rattle.swi_cached.specs.Cached.{CachedRun, span_of, end_of, fetches_after, policy_of, record_after, record_at_boot}
+use Rattle.swi_cached.specs.Answers.{Ended, IsShort, RamAfter}
+use Rattle.swi_cached.specs.Booted.{Booted}
+use Rattle.swi_board.proofs.Running.{kept_both}
+use Rattle.swi_cached.proofs.Boot.{same_between}
+
+-- between two instructions nothing of the next is made
+spent_settled : (f : Machine) (c : Control) → (f.ending ≡ None → is_between c ≡ true) → spent_run f c ≡ 0
+spent_settled f c = by f.ending c
+  where
+    by : (e : Option End) (c : Control) → (e ≡ None → is_between c ≡ true) → spent_by e f c ≡ 0
+    by (Some e) c between = refl
+    by None (At i b o Start) between = refl
+    by None (At i b o Low) between = absurd (false≢true (between refl))
+    by None (At i b o Return) between = absurd (false≢true (between refl))
+    by None (At i b o Leave) between = absurd (false≢true (between refl))
+    by None Outside between = refl
+
+none_left : (a b x y : ℕ) → x ≡ 0 → y ≡ 0 → a + x ≡ b + y → a ≡ b
+none_left a b x y p q e = omega (arith, p, q, e)
+
+module _ (c : CachedRun) (h0 h : HartData) (s0 : Slots) (r : Record) (before mid after : RamState) (left' out out' err err' : Option (List ℕ))
+    (booted : Booted c h0 s0 before mid) (ran : Ran (policy_of c) c.image c.limit c.start h0 (kept_by s0) h r left' out out' err err')
+    (settled : h.machine.ending ≡ None → is_between h.control ≡ true) where
+  same : h.machine ≡ (end_of c).machine
+  same = same_between c.image r (end_of c).machine h.machine h.control settled ran.matches
+
+  rest : spent_run (end_of c).machine h.control ≡ 0
+  rest = spent_settled (end_of c).machine h.control (λ going. settled (ap (λ (m : Machine). m.ending) same ∙ going))
+
+  counts : (a b x y : ℕ) → x ≡ 0 → y ≡ 0 → h0.count ≡ 1 → a + x ≡ h0.count + b + y → a ≡ 1 + b
+  counts a b x y p q one e = omega (arith, p, q, one, e)
+
+  record_is : r ≡ record_after c c.limit
+  record_is =
+      ran.record_is
+      ∙ ap (λ (k : Option (ℕ × ℕ)). after_all (policy_of c) c.image (kept_by s0) (transfers c.image c.limit c.start k)) booted.here
+      ∙ ap (λ (k : Record). after_all (policy_of c) c.image k (transfers c.image c.limit c.start (place_of c.image c.start.machine.pc))) booted.kept
+
+  pub has_ended : Ended c h r left' out out' err err'
+  has_ended = record {
+    machine = same;
+    count = subst (λ (k : Option (ℕ × ℕ)). h.count ≡ 1 + cost c.image c.limit c.start k) booted.here
+        (counts h.count (cost c.image c.limit c.start (here_of c.image c.start.machine h0.control)) (spent_run c.start.machine h0.control) (spent_run (end_of c).machine h.control) booted.spent rest booted.count ran.cost_is);
+    record_is = record_is;
+    input = ran.input;
+    output = ran.output;
+    error = ran.error;
+  }
+
+  fetched : fetched_by h0 h ≡ fetches_after c c.limit
+  fetched =
+      none_left (fetched_by h0 h) (fetches c.image c.limit c.start (here_of c.image c.start.machine h0.control)) (spent_run c.start.machine h0.control) (spent_run (end_of c).machine h.control) booted.spent rest ran.fetches_are
+      ∙ ap (λ (k : Option (ℕ × ℕ)). fetches c.image c.limit c.start k) booted.here
+
+  rises : (ts : List Transfer) (q : Record) → writes q ≤ writes (after_all (policy_of c) c.image q ts)
+  rises [] q = omega arith
+  rises (t ∷ ts) q =
+      let one = fifo_third (c.slots ∷ c.image.block_words ∷ []) q c.image t in
+      let more = rises ts (policy_of c q c.image t) in
+      omega (arith, one, more)
+
+  sum_is : (a b n : ℕ) → a ≤ b → n ≡ a → a + (b - n) ≡ b
+  sum_is a b n le e = omega (arith, le, e)
+
+  pub ram_after : (s : Slots) → r ≡ kept_by s → setting_of s ≡ setting_of s0 → SlotsSound s c.image after.words →
+      RamRan (span_by (setting_of s0)) (fetched_by h0 h) (writes r - writes (kept_by s0)) mid after → RamAfter c before after
+  ram_after s is setting sound ram = record {
+    coherent =
+        subst (λ (n : ℕ). Coherent c.image (record_after c c.limit) n after.words) (ap span_by (setting ∙ booted.setting))
+        (subst (λ (q : Record). Coherent c.image q (span_by (setting_of s)) after.words) (sym is ∙ record_is) (slots_coherent s c.image after.words sound));
+    fetches = ram.fetches ∙ ap (λ n. risen n (fetched_by h0 h)) booted.ram.fetches_stay ∙ ap (λ n. risen before.fetches n) fetched;
+    sets =
+        ram.sets ∙ ap (λ n. risen n (writes r - writes (kept_by s0))) booted.ram.sets_rise
+        ∙ risen_more before.sets (writes (record_at_boot c)) (writes r - writes (kept_by s0))
+        ∙ ap (λ n. risen before.sets n) (ap (λ (q : Record). writes (record_at_boot c) + (writes q - writes (kept_by s0))) record_is
+        ∙ sum_is (writes (record_at_boot c)) (writes (record_after c c.limit)) (writes (kept_by s0))
+        (rises (transfers c.image c.limit c.start (place_of c.image c.start.machine.pc)) (record_at_boot c)) (ap (λ (q : Record). writes q) booted.kept));
+  }
+
+-- a run of the board, in the words of its boot
+pub ran_on : (c : CachedRun) (h0 h : HartData) (s0 : Slots) (r : Record) (before mid : RamState) (left' out out' err err' : Option (List ℕ)) → Booted c h0 s0 before mid → c.start.machine.steps ≡ 0 →
+    Ran (fifo (setting_of s0)) c.image (c.limit - h0.machine.steps) c.start h0 (kept_by s0) h r left' out out' err err' →
+    Ran (policy_of c) c.image c.limit c.start h0 (kept_by s0) h r left' out out' err err'
+ran_on c h0 h s0 r before mid left' out out' err err' booted none ran =
+    let steps : h0.machine.steps ≡ c.start.machine.steps = ap (λ (m : Machine). m.steps) booted.machine in
+    let all : c.limit - h0.machine.steps ≡ c.limit = omega (arith, steps, none) in
+    subst (λ (k : List ℕ). Ran (fifo k) c.image c.limit c.start h0 (kept_by s0) h r left' out out' err err') booted.setting
+    (subst (λ (n : ℕ). Ran (fifo (setting_of s0)) c.image n c.start h0 (kept_by s0) h r left' out out' err err') all ran)
+
+-- the words behind the slots, over the boot and the run
+pub kept_on : (c : CachedRun) (h0 : HartData) (s0 : Slots) (before mid after : RamState) → Booted c h0 s0 before mid → KeepsBeyond (span_by (setting_of s0)) mid after →
+    KeepsBeyond (span_of c) before after
+kept_on c h0 s0 before mid after booted kept =
+    kept_both (span_of c) before mid after booted.ram.kept (subst (λ (k : List ℕ). KeepsBeyond (span_by k) mid after) booted.setting kept)
+
+-- a control at a text word's place is not at an exit behind a block's last text word
+depth_booted : (v : ImageData) (m : Machine) (c : Control) → is_between c ≡ true → here_of v m c ≡ place_of v m.pc → depth v m c ≡ 1
+depth_booted v m (At i b o Start) between here = ap (λ (p : Option (ℕ × ℕ)). if not (is_place p b o) then 0 else 1) (sym here) ∙ by b o
+  where
+    by : (b o : ℕ) → ◌≡◌ {A = ℕ} (if not (b == b && o == o) then 0 else 1) 1
+    by b o = grind arith
+depth_booted v m (At i b o Low) between here = absurd (false≢true between)
+depth_booted v m (At i b o Return) between here = absurd (false≢true between)
+depth_booted v m (At i b o Leave) between here = absurd (false≢true between)
+depth_booted v m Outside between here = refl
+
+depth_settled : (v : ImageData) (m : Machine) (c : Control) → is_between c ≡ true → depth v m c ≤ 1
+depth_settled v m (At i b o Start) between = grind arith
+depth_settled v m (At i b o Low) between = absurd (false≢true between)
+depth_settled v m (At i b o Return) between = absurd (false≢true between)
+depth_settled v m (At i b o Leave) between = absurd (false≢true between)
+depth_settled v m Outside between = omega arith
+
+most_settled : (v : ImageData) (m : Machine) (c : Control) → (m.ending ≡ None → is_between c ≡ true) →
+    (most v m c ≤ 3 * m.steps + 2) × (((a : ℕ) → m.ending ≡ Some (StoreText a) → ⊥) → most v m c ≤ 3 * m.steps + 1)
+most_settled v m c = by m.ending
+  where
+    by : (e : Option End) → (e ≡ None → is_between c ≡ true) →
+        (most_by e v m c ≤ 3 * m.steps + 2) × (((a : ℕ) → e ≡ Some (StoreText a) → ⊥) → most_by e v m c ≤ 3 * m.steps + 1)
+    by None between = let d = depth_settled v m c (between refl) in (omega (arith, d), λ _. omega (arith, d))
+    by (Some (Exited code)) between = (omega arith, λ _. omega arith)
+    by (Some (Faulted k a)) between = (omega arith, λ _. omega arith)
+    by (Some (StoreText a)) between = (omega arith, λ never. absurd (never a refl))
+
+pub is_short : (c : CachedRun) (h0 h : HartData) (s0 : Slots) (before mid : RamState) → Booted c h0 s0 before mid → c.start.machine.ending ≡ None → c.start.machine.steps ≡ 0 →
+    (h.machine.ending ≡ None → is_between h.control ≡ true) →
+    h.count + most c.image h0.machine h0.control ≤ h0.count + most c.image h.machine h.control → IsShort h
+is_short c h0 h s0 before mid booted going none settled rise =
+    let deep = depth_booted c.image c.start.machine h0.control booted.between booted.here in
+    let sum : 3 * c.start.machine.steps + depth c.image c.start.machine h0.control ≡ 1 = omega (arith, none, deep) in
+    let start : most c.image h0.machine h0.control ≡ 1 =
+    ap (λ (m : Machine). most c.image m h0.control) booted.machine ∙ ap (λ (e : Option End). most_by e c.image c.start.machine h0.control) going ∙ sum in
+    let last = most_settled c.image h.machine h.control settled in
+    let one = booted.count in
+    let most_last = last.0 in
+    record { most = omega (arith, start, one, rise, most_last); fewer = λ never. let fewer = last.1 never in omega (arith, start, one, rise, fewer) }

@@ -1,0 +1,113 @@
+-- A run that a device broke off, and the two laws of its program.
+use Rattle.std.proofs.Common.{◌≡◌, ℕ, suc, ◌+◌, ◌-◌, ◌<◌, ◌≤◌, Bool, true, false, List, [], Option, Some, None, is_some, Result, IsErrOf, if◌then◌else◌, refl, sym, ap, subst, ◌∙◌, arith}
+use Rattle.std.proofs.lemmas.Bool.{false≢true}
+use Rattle.std.specs.Io.KnownBytes.{Appends}
+use Rattle.swi_outside.specs.Causes.{risen}
+use Rattle.swi_outside.specs.CacheRam.{RamState}
+use Rattle.swi_outside.specs.Laws.{Appends-none}
+use Rattle.swi_calls.specs.declared.machine.Machine.{Machine}
+use Rattle.swi_calls.specs.State.{FlatState}
+use Rattle.swi_calls.specs.Held.{held_run, held_step}
+use Rattle.swi_calls.specs.Laws.{held_is_flat, held_stops, held_run_none}
+use Rattle.swi_image.specs.Format.{ImageData}
+use Rattle.swi_image.specs.Place.{place_of}
+use Rattle.swi_rom.specs.Slots.{Slots}
+use Rattle.swi_board.specs.declared.fault.BoardFault.{BoardFault}
+use Rattle.swi_board.specs.declared.fault.BoardFault.TheVariants.{SourceFault as board_source}
+use Rattle.swi_board.specs.Hart.{HartData}
+use Rattle.swi_board.specs.Ran.{RamBrokeOff, BrokeOff}
+use Rattle.swi_board.specs.Transfers.{size, fetches, spent_run, at_fall, settled, step_size, here_after}
+use Rattle.swi_cached.specs.declared.run.CachedStop.{CachedStop}
+use Rattle.swi_cached.specs.declared.run.CachedStop.TheVariants.{SourceFault}
+use Rattle.swi_cached.specs.Cached.{CachedRun, fetches_after, IsFlatRun, StopsBeforeStore}
+use Rattle.swi_cached.specs.Answers.{RamFailed, StepFailed}
+use Rattle.swi_cached.specs.Booted.{Booted}
+
+-- what a run of the board is broken off at, in the words of its boot
+pub all_steps : (c : CachedRun) (h0 : HartData) (s0 : Slots) (before mid : RamState) → Booted c h0 s0 before mid → c.start.machine.steps ≡ 0 → c.limit - h0.machine.steps ≡ c.limit
+all_steps c h0 s0 before mid booted none =
+    let steps : h0.machine.steps ≡ c.start.machine.steps = ap (λ (m : Machine). m.steps) booted.machine in
+    omega (arith, steps, none)
+
+-- the ram failed in the run
+pub ram_failed : (c : CachedRun) (h0 h' : HartData) (s0 : Slots) (before mid after : RamState) (left' out out' err err' : Option (List ℕ)) → Booted c h0 s0 before mid →
+    RamBrokeOff c.image c.limit c.start h0 h' mid after left' out out' err err' → RamFailed c before after left' out out' err err'
+ram_failed c h0 h' s0 before mid after left' out out' err err' booted broke =
+    let fetched : ℕ = broke.fetched in
+    let no_rest = booted.spent in
+    let least : fetches_after c broke.steps ≤ broke.fetched + spent_run c.start.machine h0.control =
+    subst (λ (k : Option (ℕ × ℕ)). fetches c.image broke.steps c.start k ≤ broke.fetched + spent_run c.start.machine h0.control) booted.here broke.enough in
+    record {
+      fetched = broke.fetched;
+      fetches = broke.fetches_are ∙ ap (λ n. risen n broke.fetched) booted.ram.fetches_stay;
+      steps = broke.steps;
+      within = broke.within;
+      enough = omega (arith, least, no_rest);
+      longest = λ more.
+          let next : broke.fetched + spent_run c.start.machine h0.control < fetches_after c (broke.steps + 1) =
+          subst (λ (k : Option (ℕ × ℕ)). broke.fetched + spent_run c.start.machine h0.control < fetches c.image (broke.steps + 1) c.start k) booted.here (broke.longest more) in
+          omega (arith, next, no_rest);
+      output = broke.output;
+      error = broke.error;
+      input = broke.input;
+    }
+
+-- the first step of a program fetches a word
+first_fetch : (v : ImageData) (s : FlatState) (p : Option (ℕ × ℕ)) → s.machine.ending ≡ None → is_some p ≡ true → p ≡ place_of v s.machine.pc → 0 < size 0 v 1 s p
+unfolding size
+first_fetch v s None going some at = absurd (false≢true some)
+first_fetch v s (Some p) going some at = rw going (by (at_fall v s.machine (Some p)) refl)
+  where
+    by : (t : Bool) → at_fall v s.machine (Some p) ≡ t → 0 < (if at_fall v s.machine (Some p) then 1 else 0) + step_size 0 s.machine (settled v s.machine (Some p)) + size 0 v 0 (held_step s) (here_after v s.machine (settled v s.machine (Some p)) (held_step s).machine)
+    by true e = rw e (omega arith)
+    by false e = rw e (omega arith)
+
+none_made : (v : ImageData) (s : FlatState) (p : Option (ℕ × ℕ)) → size 0 v 0 s p ≤ 0
+unfolding size
+none_made v s p = omega arith
+
+-- or before the first step
+pub boot_failed : (c : CachedRun) (before after : RamState) (left out err : Option (List ℕ)) → c.start.machine.ending ≡ None → c.start.output ≡ [] → c.start.error ≡ [] →
+    left ≡ Some c.start.input → is_some (place_of c.image c.start.machine.pc) ≡ true → after.fetches ≡ before.fetches → RamFailed c before after left out out err err
+boot_failed c before after left out err going no_output no_error told placed same =
+    let first = held_run_none c.start in
+    record {
+      fetched = 0;
+      fetches = same ∙ risen_none before.fetches;
+      steps = 0;
+      within = omega arith;
+      enough = none_made c.image c.start (place_of c.image c.start.machine.pc);
+      longest = λ more. first_fetch c.image c.start (place_of c.image c.start.machine.pc) going placed refl;
+      output = subst (λ (piece : List ℕ). Appends out out piece) (sym (ap (λ (s : FlatState). s.output) first ∙ no_output)) (Appends-none out);
+      error = subst (λ (piece : List ℕ). Appends err err piece) (sym (ap (λ (s : FlatState). s.error) first ∙ no_error)) (Appends-none err);
+      input = told ∙ ap (λ (s : FlatState). Some s.input) (sym first);
+    }
+  where
+    risen_none : (n : ℕ) → n ≡ risen n 0
+    risen_none n = grind arith
+
+-- the input or a sink failed
+pub step_failed : {S T : Type 0} (c : CachedRun) (h0 h' : HartData) (r : Result S BoardFault) (result : Result T CachedStop) (left' out out' err err' : Option (List ℕ)) →
+    (IsErrOf result SourceFault → IsErrOf r board_source) → BrokeOff r c.limit c.start h0 h' left' out out' err err' → StepFailed c result left' out out' err err'
+step_failed c h0 h' r result left' out out' err err' same broke = record {
+  steps = broke.steps;
+  fewer = broke.fewer;
+  going = broke.going;
+  output_front = broke.output_front;
+  output = broke.output;
+  error_front = broke.error_front;
+  error = broke.error;
+  unwritten = λ e. broke.unwritten (same e);
+  taken = broke.taken;
+  input = broke.input;
+  few = broke.few;
+}
+
+pub is_flat_run : (c : CachedRun) → IsFlatRun c
+is_flat_run c = λ never. held_is_flat c.limit c.start never
+
+pub stops_before_store : (c : CachedRun) → StopsBeforeStore c
+stops_before_store c = λ k less never at.
+    let stop = held_stops k c.start never at (c.limit - k - 1) in
+    let all : suc k + (c.limit - k - 1) ≡ c.limit = omega (arith, less) in
+    (stop.0, stop.1, ap (λ n. held_run n c.start) (sym all) ∙ stop.2)

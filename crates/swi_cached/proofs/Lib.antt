@@ -1,0 +1,4 @@
+mod Boot
+mod Ended
+mod Failed
+mod Causing

@@ -1,0 +1,91 @@
+-- What a run on the cached machine leaves: where it came to its end, and where a device failed. Own rule.
+use Rattle.std.specs.Prelude.{◌≡◌, ℕ, ◌+◌, ◌*◌, ◌<◌, ◌≤◌, List, ◌++◌, length, take, Option, Some, None, Result, OnOk, IsErrOf}
+use Rattle.std.specs.Io.KnownBytes.{Appends, Consumes}
+use Rattle.swi_outside.specs.Causes.{DeviceCause, PairCause, risen}
+use Rattle.swi_outside.specs.CacheRam.{RamState}
+use Rattle.swi_calls.specs.Flat.{Made}
+use Rattle.swi_calls.specs.Held.{held_made}
+use Rattle.swi_calls.specs.declared.end.End.TheVariants.{StoreText}
+use Rattle.swi_rom.specs.Coherent.{Coherent}
+use Rattle.swi_rom.specs.Record.{Record, writes}
+use Rattle.swi_board.specs.declared.fault.BoardFault.{BoardFault}
+use Rattle.swi_board.specs.declared.fault.BoardFault.TheVariants as board
+use Rattle.swi_board.specs.Faults.{Faults}
+use Rattle.swi_board.specs.Hart.{HartData}
+use Rattle.swi_cached.specs.declared.run.CachedStop.{CachedStop}
+use Rattle.swi_cached.specs.declared.run.CachedStop.TheVariants.{RamFault, SourceFault, SinkFault}
+use Rattle.swi_cached.specs.Cached.{CachedRun, span_of, program_after, end_of, instructions_after, fetches_after, record_after}
+
+-- A run that came to its end: as the program did, with so many machine instructions, and the service as its policy
+-- leads. Of the input just what the program took is gone, and the sinks gained what it wrote.
+pub record Ended (c : CachedRun) (h : HartData) (kept : Record)
+    (left' out out' err err' : Option (List ℕ)) : Type 0 where
+  pub machine : h.machine ≡ (end_of c).machine
+  pub count : h.count ≡ instructions_after c c.limit
+  pub record_is : kept ≡ record_after c c.limit
+  pub input : left' ≡ Some (end_of c).input
+  pub output : Appends out out' (end_of c).output
+  pub error : Appends err err' (end_of c).error
+
+-- at most three machine instructions for each step, and one for the boot; one more where the run stopped before a store
+-- into the text
+pub record IsShort (h : HartData) : Type 0 where
+  pub most : h.count ≤ 3 * h.machine.steps + 2
+  pub fewer : ((a : ℕ) → h.machine.ending ≡ Some (StoreText a) → ⊥) → h.count ≤ 3 * h.machine.steps + 1
+
+-- the ram after a run
+pub record RamAfter (c : CachedRun) (before after : RamState) : Type 0 where
+  -- each placed block stands in its slot word for word, but that at each link there is a jump to its target's place
+  pub coherent : Coherent c.image (record_after c c.limit) (span_of c) after.words
+  -- so many words were fetched, and so many written: the copied blocks, the links, and the links undone
+  pub fetches : after.fetches ≡ risen before.fetches (fetches_after c c.limit)
+  pub sets : after.sets ≡ risen before.sets (writes (record_after c c.limit))
+
+-- The ram failed: both sinks hold just what the most steps wrote, and of the input is gone just what they took, whose
+-- fetches were made.
+pub record RamFailed (c : CachedRun) (before after : RamState)
+    (left' out out' err err' : Option (List ℕ)) : Type 0 where
+  pub fetched : ℕ
+  pub fetches : after.fetches ≡ risen before.fetches fetched
+  pub steps : ℕ
+  pub within : steps ≤ c.limit
+  pub enough : fetches_after c steps ≤ fetched
+  pub longest : steps < c.limit → fetched < fetches_after c (steps + 1)
+  pub output : Appends out out' (program_after c steps).output
+  pub error : Appends err err' (program_after c steps).error
+  pub input : left' ≡ Some (program_after c steps).input
+
+-- the step that comes after so many
+abbrev pub step_after : CachedRun → ℕ → Made
+step_after c n = held_made (program_after c n).machine (program_after c n).input
+
+-- The input or a sink failed at a step: so many were made before it; each sink gained what they wrote, and then a front
+-- of what the next one writes: none where the input failed. Of the input no more is gone than what they took, and a
+-- front of what the next one takes.
+pub record StepFailed {T : Type 0} (c : CachedRun) (result : Result T CachedStop)
+    (left' out out' err err' : Option (List ℕ)) : Type 0 where
+  pub steps : ℕ
+  pub fewer : steps < c.limit
+  pub going : (program_after c steps).machine.ending ≡ None
+  pub output_front : ℕ
+  pub output : Appends out out' ((program_after c steps).output ++ take output_front (step_after c steps).output)
+  pub error_front : ℕ
+  pub error : Appends err err' ((program_after c steps).error ++ take error_front (step_after c steps).error)
+  pub unwritten : IsErrOf result SourceFault → (output_front ≡ 0) × (error_front ≡ 0)
+  pub taken : List ℕ
+  pub input : Consumes (Some (program_after c steps).input) left' taken
+  pub few : length taken + length (step_after c steps).input ≤ length (program_after c steps).input
+
+-- a fault of the board in a step stops the run
+abbrev pub stop_of : BoardFault → CachedStop
+stop_of board.RamFault = RamFault
+stop_of board.SourceFault = SourceFault
+stop_of board.SinkFault = SinkFault
+
+-- each fault is answered only where its device's count rose, a count that rose is answered, none falls, and without a
+-- fault none rises
+pub record HasCauses {T : Type 0} (before after : Faults) (result : Result T CachedStop) : Type 0 where
+  pub ram : DeviceCause before.ram after.ram (IsErrOf result RamFault)
+  pub source : DeviceCause before.input after.input (IsErrOf result SourceFault)
+  pub sinks : PairCause before.out after.out before.err after.err (IsErrOf result SinkFault)
+  pub quiet : OnOk result (after ≡ before)

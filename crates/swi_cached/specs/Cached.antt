@@ -1,0 +1,89 @@
+-- A run on the cached machine, as data: what it does besides what its program does. Own rule.
+use Rattle.std.specs.Prelude.{◌≡◌, ℕ, ◌+◌, ◌*◌, ◌/◌, ◌<◌, Bool, List, [], ◌∷◌, Some}
+use Rattle.swi_calls.specs.Flat.{flat_run, flat_start}
+use Rattle.swi_calls.specs.FirstStore.{StoresAt}
+use Rattle.swi_calls.specs.Held.{held_run, stopped_at}
+use Rattle.swi_calls.specs.State.{FlatState}
+use Rattle.swi_calls.specs.StoresText.{next_store}
+use Rattle.swi_image.specs.Format.{ImageData}
+use Rattle.swi_image.specs.Place.{place_of}
+use Rattle.swi_memory.specs.declared.layout.Layout.{Layout}
+use Rattle.swi_program.specs.Program.{ProgramData}
+use Rattle.swi_rom.specs.Fifo.{fifo}
+use Rattle.swi_rom.specs.Record.{Record, Transfer, indirect}
+use Rattle.swi_board.specs.Transfers.{transfers, cost, fetches, after_all}
+
+-- a run: its image, the slots of the cache, the program before its first step, and the most steps
+pub record CachedRun : Type 0 where
+  pub image : ImageData
+  pub slots : ℕ
+  pub start : FlatState
+  pub limit : ℕ
+
+-- as many slots as a cache of so many bytes has room for blocks
+abbrev pub slots_of : ℕ → ImageData → ℕ
+slots_of bytes v = bytes / (4 * v.block_words)
+
+-- the run of a program in such a cache, with this input
+abbrev pub run_of : ImageData → ℕ → ProgramData → Layout → Bool → ℕ → List ℕ → CachedRun
+run_of v bytes p l log limit input = record {
+  image = v;
+  slots = slots_of bytes v;
+  start = flat_start p l log input;
+  limit = limit;
+}
+
+-- the words of the ram that the slots take
+abbrev pub span_of : CachedRun → ℕ
+span_of c = c.slots * c.image.block_words
+
+-- The program after so many steps. It is the flat machine, which executes the original instructions where they stand,
+-- but that it ends before a step that would store into the text.
+abbrev pub program_after : CachedRun → ℕ → FlatState
+program_after c n = held_run n c.start
+
+abbrev pub end_of : CachedRun → FlatState
+end_of c = program_after c c.limit
+
+-- where none of the steps would store into the text, the flat machine comes to the same end
+abbrev pub IsFlatRun : CachedRun → Type 0
+IsFlatRun c = ((j : ℕ) → j < c.limit → StoresAt c.start j → ⊥) → end_of c ≡ flat_run c.limit c.start
+
+-- and where step k + 1 is the first that would, the run ends as the flat machine stands after k steps, with the ending
+-- StoreText
+abbrev pub StopsBeforeStore : CachedRun → Type 0
+StopsBeforeStore c = (k : ℕ) → k < c.limit → ((j : ℕ) → j < k → StoresAt c.start j → ⊥) → StoresAt c.start k →
+    (a : ℕ) × (next_store (flat_run k c.start).machine ≡ Some a) × (end_of c ≡ stopped_at (flat_run k c.start) a)
+
+-- the machine instructions of the first n steps: one for the boot, and for each step one to three
+abbrev pub instructions_after : CachedRun → ℕ → ℕ
+instructions_after c n = 1 + cost c.image n c.start (place_of c.image c.start.machine.pc)
+
+-- the words that those fetch: one for each machine instruction but the boot, and none for a step at an address without
+-- a text word
+abbrev pub fetches_after : CachedRun → ℕ → ℕ
+fetches_after c n = fetches c.image n c.start (place_of c.image c.start.machine.pc)
+
+-- nothing is placed, linked or counted yet
+abbrev pub empty_record : Record
+empty_record = record {
+  turn = 0;
+  placed = [];
+  links = [];
+  counts = record { services = 0; misses = 0; evictions = 0; links = 0; unlinks = 0; copied = 0 };
+  more = [];
+}
+
+-- the policy: first in, first out, in slots of a block each
+abbrev pub policy_of : CachedRun → Record → ImageData → Transfer → Record
+policy_of c = fifo (c.slots ∷ c.image.block_words ∷ [])
+
+-- the boot enters the block of the first instruction
+abbrev pub record_at_boot : CachedRun → Record
+record_at_boot c = policy_of c empty_record c.image (indirect c.start.machine.pc)
+
+-- The blocks that are placed, the oldest first, the links and the counts after the first n steps: each transfer of
+-- control behind the boot is served by the policy.
+abbrev pub record_after : CachedRun → ℕ → Record
+record_after c n = after_all (policy_of c) c.image (record_at_boot c)
+    (transfers c.image n c.start (place_of c.image c.start.machine.pc))

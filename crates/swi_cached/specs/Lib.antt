@@ -1,0 +1,3 @@
+pub mod Cached
+pub mod Booted
+pub mod Answers

@@ -1,0 +1,193 @@
+//! The run: the service, the boot, and the steps.
+#![tactic(auto)]
+
+ghost use Rattle.std.specs.Prelude.{◌≡◌, ◌⊎◌, ◌+◌, ◌*◌, ◌^◌, ◌<◌, ◌≤◌, ◌∷◌, [], List, ℕ, length, IfOk, OnOk, IsErrOf, Some, None, true, false, is_some};
+ghost use Rattle.std.specs.Option.{ForSome};
+ghost use Rattle.swi_image.specs.Place.{place_of};
+ghost use Rattle.swi_outside.specs.CacheRam.{KeepsBeyond};
+ghost use Rattle.swi_program.specs.Layout.{IsLayoutOf};
+ghost use Rattle.swi_program.specs.Text.{text_of, word_of};
+ghost use Rattle.swi_render.specs.Carried.{Carries};
+ghost use Rattle.swi_render.specs.ImageOf.{IsImageOf};
+ghost use Rattle.swi_rom.specs.Slots.{Slots, kept_by, setting_of};
+ghost use Rattle.swi_rom.specs.Sound.{SlotsSound};
+ghost use Rattle.swi_calls.specs.Flat.{machine_of, flat_start};
+ghost use Rattle.swi_board.specs.Leaving.{RamFailed as ServiceFailed};
+ghost use Rattle.swi_cached.specs.Cached.{run_of, slots_of, span_of, empty_record, IsFlatRun, StopsBeforeStore};
+ghost use Rattle.swi_cached.specs.Answers.{Ended, IsShort, RamAfter, RamFailed, StepFailed, HasCauses, stop_of};
+ghost use Rattle.swi_cached.specs.Booted.{Booted};
+
+use std::alloc::Global;
+use swi_board::{Board, BoardFault, BootStop};
+use swi_fifo::FifoRom;
+use swi_image::ImageView;
+use swi_memory::Layout;
+use swi_outside::{CacheRam, Memory, Sink, Source};
+use swi_program::Program;
+
+/// What stops a run on the cached machine.
+#[derive(Clone, Copy, Debug, PartialEq, Eq)]
+pub enum CachedStop {
+    /// Memory was refused, before the first call of a device: nothing has changed.
+    Memory,
+    /// The ram failed.
+    RamFault,
+    /// The input failed.
+    SourceFault,
+    /// The output or the error sink failed.
+    SinkFault,
+}
+
+/// How a fault in a step stops the run.
+fn stop_of(fault: BoardFault) -> CachedStop
+    ensures { result ≡ stop_of fault }
+{
+    match fault {
+        BoardFault::RamFault => CachedStop::RamFault,
+        BoardFault::SourceFault => CachedStop::SourceFault,
+        BoardFault::SinkFault => CachedStop::SinkFault,
+    }
+}
+
+/// The image carries the program's text, which it is one of.
+fn carry(image: &ImageView<'_>, program: &Program)
+    requires own { IsImageOf (text_of program.now.segments) image.now }
+    ensures carries { Carries (word_of (text_of program.now.segments)) image.now }
+    ensures placed { is_some (place_of image.now program.now.entry) ≡ true }
+{
+    let _blocks = image.blocks();
+    let _text = program.text();
+    let _entry = program.entry();
+}
+
+/// An empty service of the image's blocks.
+fn service(alloc: Global, image: &ImageView<'_>, cache_bytes: u32) -> Result<FifoRom, Memory>
+    requires least { 4 * image.now.block_words ≤ cache_bytes }
+    requires most { cache_bytes ≤ 2 ^ 23 }
+    ensures setting { IfOk result (λ s. setting_of s ≡ slots_of cache_bytes image.now ∷ image.now.block_words ∷ []) }
+    ensures empty { IfOk result (λ s. kept_by s ≡ empty_record) }
+    ensures sound { IfOk result (λ s. (words : List ℕ) → cache_bytes ≤ 4 * length words →
+        SlotsSound s image.now words) }
+{
+    let _blocks = image.blocks();
+    FifoRom::new(alloc, cache_bytes, image.block_words())
+}
+
+/// The board of the program before its first step.
+fn boot<R: CacheRam>(
+    alloc: Global,
+    image: &ImageView<'_>,
+    program: &Program,
+    layout: &Layout,
+    cache_bytes: u32,
+    log: bool,
+    ram: &mut R,
+) -> Result<Board<FifoRom>, CachedStop>
+    requires laid_out { IsLayoutOf program.now.segments layout.now }
+    requires own { IsImageOf (text_of program.now.segments) image.now }
+    requires least { 4 * image.now.block_words ≤ cache_bytes }
+    requires most { cache_bytes ≤ 2 ^ 23 }
+    requires held { cache_bytes ≤ 4 * length (R.state ram.old).words }
+    ensures booted { IfOk result (λ b. (limit : ℕ) (left : List ℕ) →
+        Booted (run_of image.now cache_bytes program.now layout.now log limit left) b.hart b.rom
+        (R.state ram.old) (R.state ram.new)) }
+    ensures placed { is_some (place_of image.now program.now.entry) ≡ true }
+    ensures untouched { IsErrOf result CachedStop.Memory → R.state ram.new ≡ R.state ram.old }
+    ensures failed { IsErrOf result CachedStop.RamFault →
+        ServiceFailed (slots_of cache_bytes image.now * image.now.block_words) (R.state ram.old) (R.state ram.new) }
+    ensures not_source { IsErrOf result CachedStop.SourceFault → ⊥ }
+    ensures not_sink { IsErrOf result CachedStop.SinkFault → ⊥ }
+{
+    carry(image, program);
+    let Ok(rom) = service(alloc, image, cache_bytes) else {
+        return Err(CachedStop::Memory);
+    };
+    match Board::boot(alloc, image, program, layout, log, rom, ram) {
+        Ok(board) => Ok(board),
+        Err(BootStop::RamFault) => Err(CachedStop::RamFault),
+        Err(BootStop::Memory) => Err(CachedStop::Memory),
+    }
+}
+
+/// Runs a program out of a cache ram: the blocks of its image are copied on demand into slots of a cache of so many
+/// bytes, the oldest first out, and `limit` original steps are made, or fewer where the program ends. The board that is
+/// answered tells how it ended, and what it cost.
+///
+/// The image is one of the program's text, and the layout is the program's. The cache holds a block of the image, and
+/// has at most 8 MiB and no more bytes than the ram; `limit` is at most 2^48. With `log` each system call is told in a
+/// line on the error sink.
+///
+/// The program's steps, its registers and memory and the bytes that it reads and writes are those of the flat machine,
+/// up to a step that would store into the text: the run ends before it.
+///
+/// After `Memory` nothing has changed. After `RamFault` the sinks hold just what the steps wrote whose fetches were
+/// made; after `SourceFault` what the steps made have written; after `SinkFault` that, and a front of what the next step
+/// writes. The words of the ram behind the slots never change. Own rule.
+pub fn run_cached<I: Source, O: Sink, E: Sink, R: CacheRam>(
+    alloc: Global,
+    image: &ImageView<'_>,
+    program: &Program,
+    layout: &Layout,
+    cache_bytes: u32,
+    log: bool,
+    limit: u64,
+    input: &mut I,
+    out: &mut O,
+    err: &mut E,
+    ram: &mut R,
+) -> Result<Board<FifoRom>, CachedStop>
+    requires laid_out { IsLayoutOf program.now.segments layout.now }
+    requires own { IsImageOf (text_of program.now.segments) image.now }
+    requires least { 4 * image.now.block_words ≤ cache_bytes }
+    requires most { cache_bytes ≤ 2 ^ 23 }
+    requires held { cache_bytes ≤ 4 * length (R.state ram.old).words }
+    requires limit { limit ≤ 2 ^ 48 }
+    ensures ended { IfOk result (λ b. ForSome (I.left input.old) (λ left.
+        Ended (run_of image.now cache_bytes program.now layout.now log limit left) b.hart (kept_by b.rom)
+        (I.left input.new) (O.held out.old) (O.held out.new) (E.held err.old) (E.held err.new))) }
+    ensures unfailed { IfOk result (λ b. b.hart.failed ≡ false) }
+    ensures short { IfOk result (λ b. ForSome (I.left input.old) (λ left. IsShort b.hart)) }
+    ensures done { IfOk result (λ b. (b.hart.machine.steps ≡ limit) ⊎ (is_some b.hart.machine.ending ≡ true)) }
+    ensures ram { OnOk result (ForSome (I.left input.old) (λ left.
+        RamAfter (run_of image.now cache_bytes program.now layout.now log limit left)
+        (R.state ram.old) (R.state ram.new))) }
+    ensures kept { KeepsBeyond (slots_of cache_bytes image.now * image.now.block_words)
+        (R.state ram.old) (R.state ram.new) }
+    ensures memory { IsErrOf result CachedStop.Memory →
+        (R.state ram.new ≡ R.state ram.old) × (I.left input.new ≡ I.left input.old)
+        × (O.held out.new ≡ O.held out.old) × (E.held err.new ≡ E.held err.old) }
+    ensures ram_failed { IsErrOf result CachedStop.RamFault → ForSome (I.left input.old) (λ left.
+        RamFailed (run_of image.now cache_bytes program.now layout.now log limit left)
+        (R.state ram.old) (R.state ram.new)
+        (I.left input.new) (O.held out.old) (O.held out.new) (E.held err.old) (E.held err.new)) }
+    ensures step_failed { IsErrOf result CachedStop.SourceFault ⊎ IsErrOf result CachedStop.SinkFault →
+        ForSome (I.left input.old) (λ left.
+        StepFailed (run_of image.now cache_bytes program.now layout.now log limit left) result
+        (I.left input.new) (O.held out.old) (O.held out.new) (E.held err.old) (E.held err.new)) }
+    ensures causes { HasCauses
+        (record {
+          ram = (R.state ram.old).faults;
+          input = I.faults input.old;
+          out = O.faults out.old;
+          err = E.faults err.old;
+        })
+        (record {
+          ram = (R.state ram.new).faults;
+          input = I.faults input.new;
+          out = O.faults out.new;
+          err = E.faults err.new;
+        }) result }
+    // The program's run is the flat machine's, up to the first store into the text.
+    ensures flat { (left : List ℕ) → IsFlatRun (run_of image.now cache_bytes program.now layout.now log limit left) }
+    ensures stops { (left : List ℕ) →
+        StopsBeforeStore (run_of image.now cache_bytes program.now layout.now log limit left) }
+{
+    let mut board = match boot(alloc, image, program, layout, cache_bytes, log, ram) {
+        Ok(board) => board,
+        Err(stop) => return Err(stop),
+    };
+    match board.run(image, ram, input, out, err, limit) {
+        Ok(()) => Ok(board),
+        Err(fault) => Err(stop_of(fault)),
+    }
+}

@@ -1,0 +1,446 @@
+//! Runs over devices in memory, with known answers: worked by hand from the rules of the machine and of the cache.
+
+use super::*;
+use std::alloc::Global;
+use std::test::Fail;
+use swi_board::Board;
+use swi_calls::End::{self, *};
+use swi_cut::cut;
+use swi_elf_read::read_elf;
+use swi_exec::FaultKind::*;
+use swi_fifo::FifoRom;
+use swi_outside::{CacheRam, FaultRam, MemSink, MemSource};
+use swi_program::{Program, lay_out, program_of};
+use swi_rom::CacheRom;
+
+/// The words of an ELF file in front of its one segment's text, by hand from the ELF document.
+const FRONT: [u32; 15] = [
+    0x464C457F, 0x00010101, 0, 0, 0x00F30002, 1, 0x00010000, 52, 0, 0, 0x00200034, 1, 0, 1, 0x54,
+];
+
+/// Exits with 7.
+const SEVEN: &[u32] = &[0x05D00893, 0x00700513, 0x00000073];
+
+/// Counts from 3 down to 0, and exits with 0.
+const COUNT: &[u32] = &[0x00300293, 0xFFF28293, 0xFE029EE3, 0x05D00893, 0x00000073];
+
+/// Jumps over one word, over one more, and back to the first.
+const ROUND: &[u32] = &[0x0040006F, 0x0040006F, 0xFF9FF06F];
+
+/// Calls a routine that exits with the address behind the call.
+const CALL: &[u32] = &[
+    0x00000097, 0x00C080E7, 0x00000000, 0x05D00893, 0x00008513, 0x00000073,
+];
+
+/// Jumps to 0x20000, beside the text.
+const BESIDE: &[u32] = &[0x000202B7, 0x000280E7];
+
+/// Stores 0 at the text's first word, and exits with 0.
+const STORE: &[u32] = &[0x00000297, 0x0002A023, 0x05D00893, 0x00000073];
+
+/// Swaps the text's first word with 0.
+const SWAP: &[u32] = &[0x00000297, 0x08A2A52F];
+
+/// Reads up to 16 bytes of the input to the stack, writes them to the output, and exits with 0.
+const ECHO: &[u32] = &[
+    0x03F00893, 0x00000513, 0x00010593, 0x01000613, 0x00000073, 0x00050613, 0x00100513, 0x04000893,
+    0x00000073, 0x00000513, 0x05D00893, 0x00000073,
+];
+
+/// A run: its text and the rights of its segment, the words of a block, the bytes of the cache, the most steps, and the failing calls of
+/// the ram, the input and the output: the number of one, 0 for none.
+#[derive(Clone, Copy)]
+struct Run {
+    text: &'static [u32],
+    rights: u32,
+    block_words: u32,
+    cache_bytes: u32,
+    limit: u64,
+    ram_fails: u32,
+    input_fails: u32,
+    out_fails: u32,
+}
+
+/// What a run says where it says nothing else.
+const PLAIN: Run = Run {
+    text: SEVEN,
+    rights: 5,
+    block_words: 16,
+    cache_bytes: 4096,
+    limit: 1000,
+    ram_fails: 0,
+    input_fails: 0,
+    out_fails: 0,
+};
+
+/// What stands after a run: the answer, the output and the ram.
+#[derive(Drop)]
+struct Stands {
+    answer: Result<Board<FifoRom>, CachedStop>,
+    out: MemSink,
+    ram: FaultRam,
+}
+
+/// The program of a file of one segment at 0x10000 with this text.
+fn program_with(alloc: Global, text: &[u32], rights: u32) -> Result<Program, Fail> {
+    if text.len() > 60 {
+        return Err(Fail::from("too many words for a test"));
+    }
+    let size = 4 * text.len() as u32;
+    let mut bytes = Vec::new(alloc);
+    let segment = [0x10000, 0x10000, size, size, rights, 4];
+    for word in [&FRONT[..], &segment, text].concat(alloc)? {
+        bytes.extend_from_slice(word.to_le_bytes().as_slice())?;
+    }
+    if bytes.len() > 1024 {
+        return Err(Fail::from("too many bytes for a test"));
+    }
+    let Ok(elf) = read_elf(&bytes) else {
+        return Err(Fail::from("no program"));
+    };
+    Ok(program_of(alloc, &elf)?)
+}
+
+/// Runs a text over the input `abc`, with a ram of so many words.
+fn stands_after(alloc: Global, run: &Run, words: u32) -> Result<Stands, Fail> {
+    let program = program_with(alloc, run.text, run.rights)?;
+    let Ok(layout) = lay_out(&program, 1 << 20, 1 << 16) else {
+        return Err(Fail::from("no room"));
+    };
+    if run.block_words < 2 || run.block_words > 1024 {
+        return Err(Fail::from("no block"));
+    }
+    let Ok(image) = cut(alloc, &program, run.block_words) else {
+        return Err(Fail::from("no image"));
+    };
+    let view = image.view();
+    if run.cache_bytes < 4 * view.block_words()
+        || run.cache_bytes > 1 << 20
+        || words < run.cache_bytes / 4 + 1
+        || run.limit > 1000
+    {
+        return Err(Fail::from("no cache"));
+    }
+    let mut input = MemSource::new(b"abc".to_vec(alloc)?, [run.input_fails].to_vec(alloc)?);
+    let mut out = MemSink::new(alloc, 4096, [run.out_fails].to_vec(alloc)?)?;
+    let mut err = MemSink::new(alloc, 4096, Vec::new(alloc))?;
+    let mut ram = FaultRam::new(alloc, words, [run.ram_fails].to_vec(alloc)?)?;
+    let answer = run_cached(
+        alloc,
+        &view,
+        &program,
+        &layout,
+        run.cache_bytes,
+        false,
+        run.limit,
+        &mut input,
+        &mut out,
+        &mut err,
+        &mut ram,
+    );
+    Ok(Stands { answer, out, ram })
+}
+
+/// The ending and the address of a run, and its counts: steps, instructions, services, misses, evictions, links, unlinks, fetches, writes.
+struct Row {
+    run: Run,
+    ending: Option<End>,
+    pc: u32,
+    counts: [u64; 9],
+}
+
+/// The counts of a board and its ram.
+fn counts_of(board: &Board<FifoRom>, ram: &FaultRam) -> [u64; 9] {
+    let counts = board.rom().counts();
+    [
+        board.steps(),
+        board.machine_steps(),
+        counts.services,
+        counts.misses,
+        counts.evictions,
+        counts.links,
+        counts.unlinks,
+        ram.fetches(),
+        ram.sets(),
+    ]
+}
+
+/// Runs with known answers.
+static ROWS: [Row; 15] = [
+    Row {
+        run: Run {
+            text: SEVEN,
+            block_words: 8,
+            ..PLAIN
+        },
+        ending: Some(Exited(7)),
+        pc: 0x10008,
+        counts: [3, 4, 0, 1, 0, 0, 0, 3, 5],
+    },
+    // the block is linked to itself: whole, in its midst, and not begun
+    Row {
+        run: Run {
+            text: COUNT,
+            cache_bytes: 64,
+            ..PLAIN
+        },
+        ending: Some(Exited(0)),
+        pc: 0x10010,
+        counts: [9, 12, 1, 1, 0, 1, 0, 11, 10],
+    },
+    Row {
+        run: Run {
+            text: COUNT,
+            cache_bytes: 64,
+            limit: 4,
+            ..PLAIN
+        },
+        ending: None,
+        pc: 0x10008,
+        counts: [4, 6, 1, 1, 0, 1, 0, 5, 10],
+    },
+    Row {
+        run: Run {
+            text: COUNT,
+            cache_bytes: 64,
+            limit: 0,
+            ..PLAIN
+        },
+        ending: None,
+        pc: 0x10000,
+        counts: [0, 1, 0, 1, 0, 0, 0, 0, 9],
+    },
+    // one slot: each exit's block is evicted by its target; and two slots, with a link undone
+    Row {
+        run: Run {
+            text: COUNT,
+            block_words: 5,
+            cache_bytes: 20,
+            ..PLAIN
+        },
+        ending: Some(Exited(0)),
+        pc: 0x10010,
+        counts: [9, 16, 6, 7, 6, 0, 0, 15, 31],
+    },
+    Row {
+        run: Run {
+            text: COUNT,
+            block_words: 5,
+            cache_bytes: 40,
+            ..PLAIN
+        },
+        ending: Some(Exited(0)),
+        pc: 0x10010,
+        counts: [9, 16, 3, 3, 1, 3, 1, 15, 17],
+    },
+    // first in, first out at its worst
+    Row {
+        run: Run {
+            text: ROUND,
+            block_words: 2,
+            cache_bytes: 16,
+            limit: 6,
+            ..PLAIN
+        },
+        ending: None,
+        pc: 0x10000,
+        counts: [6, 7, 6, 7, 5, 6, 0, 6, 20],
+    },
+    // a jump to an address in a register, in one block and in three
+    Row {
+        run: Run {
+            text: CALL,
+            ..PLAIN
+        },
+        ending: Some(Exited(65544)),
+        pc: 0x10014,
+        counts: [5, 7, 1, 1, 0, 0, 0, 6, 12],
+    },
+    Row {
+        run: Run {
+            text: CALL,
+            block_words: 5,
+            cache_bytes: 60,
+            ..PLAIN
+        },
+        ending: Some(Exited(65544)),
+        pc: 0x10014,
+        counts: [5, 8, 2, 3, 0, 1, 0, 7, 15],
+    },
+    // outside the text nothing is fetched
+    Row {
+        run: Run {
+            text: BESIDE,
+            limit: 2,
+            ..PLAIN
+        },
+        ending: None,
+        pc: 0x20000,
+        counts: [2, 3, 0, 1, 0, 0, 0, 2, 4],
+    },
+    Row {
+        run: Run {
+            text: BESIDE,
+            limit: 3,
+            ..PLAIN
+        },
+        ending: Some(Faulted(FetchAccess, 0x20000)),
+        pc: 0x20000,
+        counts: [3, 4, 0, 1, 0, 0, 0, 2, 4],
+    },
+    // a branch to an address that is no multiple of 4, taken
+    Row {
+        run: Run {
+            text: &[0x00000363],
+            ..PLAIN
+        },
+        ending: Some(Faulted(FetchMisaligned, 0x10006)),
+        pc: 0x10000,
+        counts: [1, 3, 0, 1, 0, 0, 0, 2, 5],
+    },
+    // a stop before a store into the text is an instruction, but no step
+    Row {
+        run: Run {
+            text: STORE,
+            rights: 7,
+            ..PLAIN
+        },
+        ending: Some(StoreText(0x10000)),
+        pc: 0x10004,
+        counts: [1, 4, 0, 1, 0, 0, 0, 3, 7],
+    },
+    Row {
+        run: Run {
+            text: SWAP,
+            rights: 7,
+            ..PLAIN
+        },
+        ending: Some(StoreText(0x10000)),
+        pc: 0x10004,
+        counts: [1, 4, 0, 1, 0, 0, 0, 3, 5],
+    },
+    // lr.w, two sc.w of which the second fails, lw, add
+    Row {
+        run: Run {
+            text: &[
+                0x00500613, 0x1001252F, 0x18C125AF, 0x18C126AF, 0x00C1252F, 0x00012503, 0x00D50533,
+                0x05D00893, 0x00000073,
+            ],
+            ..PLAIN
+        },
+        ending: Some(Exited(11)),
+        pc: 0x10020,
+        counts: [9, 10, 0, 1, 0, 0, 0, 9, 11],
+    },
+];
+
+#[test]
+fn runs_end_and_count(rt: HostRuntime) -> Result<(), Fail> {
+    for (k, row) in ROWS.iter().enumerate() {
+        let done = stands_after(rt.alloc(), &row.run, 2048)?;
+        let Ok(board) = &done.answer else {
+            return Err(Fail::from("no run"));
+        };
+        assert_eq!(rt; board.ending(), row.ending, "row {k}");
+        assert_eq!(rt; board.origin_pc(), row.pc, "row {k}");
+        assert_eq!(rt; counts_of(board, &done.ram), row.counts, "row {k}");
+    }
+    Ok(())
+}
+
+/// The first words of the ram after `COUNT` in blocks of 5 words, in one slot and in two.
+static WORDS: [(u32, &[u32]); 2] = [
+    (
+        20,
+        &[
+            0x05D00893, 0x00000073, 0x00100073, 0x00010014, 0x0001000C, 0,
+        ],
+    ),
+    // the seventh word was linked, and has been restored
+    (
+        40,
+        &[
+            0x05D00893, 0x00000073, 0x00100073, 0x00010014, 0, 0x00028663, 0x00100073, 0x00010004,
+            0xFE1FF06F, 0x0001000C, 0,
+        ],
+    ),
+];
+
+#[test]
+fn blocks_stand_in_the_ram(rt: HostRuntime) -> Result<(), Fail> {
+    for (cache_bytes, words) in WORDS {
+        let done = stands_after(
+            rt.alloc(),
+            &Run {
+                text: COUNT,
+                block_words: 5,
+                cache_bytes,
+                ..PLAIN
+            },
+            64,
+        )?;
+        for (i, word) in words.iter().enumerate() {
+            if i < 64 && done.ram.words() == 64 {
+                assert_eq!(rt;
+                    done.ram.word(i as u32),
+                    *word,
+                    "{cache_bytes} bytes, word {i}"
+                );
+            }
+        }
+    }
+    Ok(())
+}
+
+/// A run, the first call of the ram whose failing leaves the output whole, and the first that it doesn't make.
+static FAILING: [(&[u32], u32, u32, &[u8]); 2] = [(COUNT, 1, 22, b""), (ECHO, 24, 27, b"abc")];
+
+#[test]
+fn each_call_of_the_ram_fails(rt: HostRuntime) -> Result<(), Fail> {
+    for (text, whole, calls, bytes) in FAILING {
+        for ram_fails in 1..=calls {
+            let done = stands_after(
+                rt.alloc(),
+                &Run {
+                    text,
+                    cache_bytes: 64,
+                    ram_fails,
+                    ..PLAIN
+                },
+                17,
+            )?;
+            let stopped = matches!(&done.answer, Err(CachedStop::RamFault));
+            assert_eq!(rt; stopped, ram_fails < calls, "call {ram_fails}");
+            let held: &[u8] = if ram_fails < whole { b"" } else { bytes };
+            assert_eq!(rt; done.out.held(), held, "call {ram_fails}");
+        }
+    }
+    Ok(())
+}
+
+#[test]
+fn source_and_sink_fail(rt: HostRuntime) -> Result<(), Fail> {
+    let done = stands_after(
+        rt.alloc(),
+        &Run {
+            text: ECHO,
+            input_fails: 1,
+            ..PLAIN
+        },
+        2048,
+    )?;
+    assert!(rt; matches!(&done.answer, Err(CachedStop::SourceFault)));
+    assert!(rt; done.out.held().is_empty());
+    let done = stands_after(
+        rt.alloc(),
+        &Run {
+            text: ECHO,
+            out_fails: 1,
+            ..PLAIN
+        },
+        2048,
+    )?;
+    assert!(rt; matches!(&done.answer, Err(CachedStop::SinkFault)));
+    assert!(rt; done.out.held().is_empty());
+    Ok(())
+}
