@@ -3,15 +3,18 @@
 use Rattle.std.proofs.Common.{◌≡◌, ◌&&◌, ap, refl, Bool, true, false, List, [], ◌∷◌, Some, None}
 use Rattle.clap.specs.Words.{App, Row, Text, Kinds, fault_of, matches_of, is_simple, is_simple_and_free}
 use Rattle.clap.proofs.OnLiterals.{clap_on_literals}
-use Rattle.swi_command.specs.CommandLine.{matches_on, without_fault, cached_app, plain_app}
+use Rattle.swi_command.specs.Arguments.{form_of}
+use Rattle.swi_command.specs.CommandLine.{matches_on, without_fault, app_by}
+use Rattle.swi_command.specs.declared.name.CommandName.{CommandName}
+use Rattle.swi_command.specs.declared.name.CommandName.TheVariants.{Rewrite, Cached, Plain, Check, Upgrade}
 
-pub cached_is_simple : is_simple_and_free cached_app ≡ true
-unfolding clap_on_literals cached_app
-cached_is_simple = refl
-
-pub plain_is_simple : is_simple_and_free plain_app ≡ true
-unfolding clap_on_literals plain_app
-plain_is_simple = refl
+pub app_is_simple : (name : CommandName) → is_simple_and_free (app_by (form_of name)) ≡ true
+unfolding clap_on_literals
+app_is_simple Rewrite = refl
+app_is_simple Cached = refl
+app_is_simple Plain = refl
+app_is_simple Check = refl
+app_is_simple Upgrade = refl
 
 left_true : (a b : Bool) → (a && b) ≡ true → a ≡ true
 left_true true b h = refl

@@ -1,34 +1,32 @@
 -- What words ask for, by the command that the first of them names.
-use Rattle.std.proofs.Common.{◌≡◌, ◌∙◌, ap, sym, subst, refl, Bool, true, false, List, [], ◌∷◌, Option, Some, None, map, string_bytes, String, Global, codes, option_and_then, slice_get, option_copied, Bor}
+use Rattle.std.proofs.Common.{◌≡◌, ◌∙◌, ap, sym, refl, Bool, true, false, List, [], ◌∷◌, Option, Some, None, map, string_bytes, String, Global, codes, option_map, option_and_then, slice_get, option_copied, Bor}
 use Rattle.std.specs.Str.{bytes_eq}
 use Rattle.std.proofs.lemmas.Slice.Eq.{bytes_eq-Decides}
 use Rattle.clap.specs.Words.{Text}
-use Rattle.swi_command.specs.CommandLine.{command_of, cached_request, plain_request, cached_app, plain_app, matches_on}
+use Rattle.swi_command.specs.Arguments.{form_of}
+use Rattle.swi_command.specs.CommandLine.{Form, form_named, form_first, command_of, request_by}
+use Rattle.swi_command.specs.declared.name.CommandName.{CommandName}
 
--- the first of the words, as text
-pub first_text : (words : List (String Global)) (first : Option (Bor (String Global))) (w : Bor (String Global))
-    → option_copied first ≡ slice_get words 0 → first ≡ Some w
-    → slice_get (map (λ s. string_bytes s) words) 0 ≡ Some (string_bytes w.now)
-first_text [] first w at is = cc
-first_text (s ∷ rest) first w at is =
-    let same : s ≡ w.now = cc in
-    ap (λ (x : String Global). Some (string_bytes x)) same
+-- the command that the first of the words names, where the code named it
+pub form_first-named : (words : List (String Global)) (first : Option (Bor (String Global))) (w : Bor (String Global)) (text : Text)
+    (found named : Option CommandName) → option_copied first ≡ slice_get words 0 → first ≡ Some w → text ≡ string_bytes w.now
+    → option_map form_of found ≡ form_named text → found ≡ named → form_first (map (λ s. string_bytes s) words) ≡ option_map form_of named
+unfolding form_first
+form_first-named [] first w text found named at is read table same = cc
+form_first-named (s ∷ rest) first w text found named at is read table same =
+    let here : s ≡ w.now = cc in
+    ap form_named (ap (λ (x : String Global). string_bytes x) here ∙ sym read) ∙ sym table ∙ ap (λ (n : Option CommandName). option_map form_of n) same
 
-pub command_of-cached : (words : List Text) → slice_get words 0 ≡ Some (codes "cached")
-    → command_of words ≡ option_and_then cached_request (matches_on cached_app words)
+pub form_first-nothing : (words : List (String Global)) (first : Option (Bor (String Global)))
+    → option_copied first ≡ slice_get words 0 → first ≡ None → form_first (map (λ s. string_bytes s) words) ≡ None
+unfolding form_first
+form_first-nothing [] first at none = refl
+form_first-nothing (s ∷ rest) first at none = cc
+
+-- what words ask for, by the form that their first names
+pub command_of-by : (words : List Text) (form : Option Form) → form_first words ≡ form → command_of words ≡ option_and_then (request_by words) form
 unfolding command_of
-command_of-cached [] named = cc
-command_of-cached (w ∷ rest) named =
-    let is : w ≡ codes "cached" = cc in
-    subst (λ (x : Text). command_of (x ∷ rest) ≡ option_and_then cached_request (matches_on cached_app (x ∷ rest))) (sym is) refl
-
-pub command_of-plain : (words : List Text) → slice_get words 0 ≡ Some (codes "plain")
-    → command_of words ≡ option_and_then plain_request (matches_on plain_app words)
-unfolding command_of
-command_of-plain [] named = cc
-command_of-plain (w ∷ rest) named =
-    let is : w ≡ codes "plain" = cc in
-    subst (λ (x : Text). command_of (x ∷ rest) ≡ option_and_then plain_request (matches_on plain_app (x ∷ rest))) (sym is) refl
+command_of-by words form is = ap (option_and_then (request_by words)) is
 
 differs : (a b : Text) → (a ≡ b → ⊥) → bytes_eq a b ≡ false
 differs a b other = go (bytes_eq a b) refl
@@ -37,18 +35,14 @@ differs a b other = go (bytes_eq a b) refl
     go true same = absurd (other ((bytes_eq-Decides a b).0 same))
     go false same = refl
 
-pub command_of-nothing : (words : List (String Global)) (first : Option (Bor (String Global)))
-    → option_copied first ≡ slice_get words 0 → first ≡ None → command_of (map (λ s. string_bytes s) words) ≡ None
-unfolding command_of
-command_of-nothing [] first at none = refl
-command_of-nothing (s ∷ rest) first at none = cc
-
-pub command_of-unknown : (words : List Text) (name : Text) → slice_get words 0 ≡ Some name
-    → (name ≡ codes "cached" → ⊥) → (name ≡ codes "plain" → ⊥) → command_of words ≡ None
-unfolding command_of
-command_of-unknown [] name named not_cached not_plain = cc
-command_of-unknown (w ∷ rest) name named not_cached not_plain =
-    let is : w ≡ name = cc in
-    let first : bytes_eq w (codes "cached") ≡ false = differs w (codes "cached") (λ e. not_cached (sym is ∙ e)) in
-    let second : bytes_eq w (codes "plain") ≡ false = differs w (codes "plain") (λ e. not_plain (sym is ∙ e)) in
-    rw (first, second) refl
+-- no command has another name than those of the table
+pub form_named-none : (w : Text) → (w ≡ codes "rewrite" → ⊥) → (w ≡ codes "cached" → ⊥) → (w ≡ codes "plain" → ⊥)
+    → (w ≡ codes "check" → ⊥) → (w ≡ codes "upgrade" → ⊥) → form_named w ≡ None
+unfolding form_named
+form_named-none w rewrite cached plain check upgrade =
+    let at_rewrite = differs w (codes "rewrite") rewrite in
+    let at_cached = differs w (codes "cached") cached in
+    let at_plain = differs w (codes "plain") plain in
+    let at_check = differs w (codes "check") check in
+    let at_upgrade = differs w (codes "upgrade") upgrade in
+    rw (at_rewrite, at_cached, at_plain, at_check, at_upgrade) refl

@@ -1,7 +1,7 @@
--- The command line: which words ask for which run. Own rule, over the meaning that the crate `clap`
+-- The command line: which words ask for which command. Own rule, over the meaning that the crate `clap`
 -- states of a command without subcommands: `fault_of`, which is empty where it takes the words, and
 -- `matches_of`, the values that the words give each argument.
-use Rattle.std.specs.Prelude.{◌≡◌, ◌≤◌, ◌^◌, ◌%◌, ◌==◌, ◌&&◌, ℕ, Bool, true, false, List, [], ◌∷◌, length, nat_le, codes, Option, Some, None, option_map, option_and_then, find, string_bytes, if◌then◌else◌}
+use Rattle.std.specs.Prelude.{◌≡◌, ◌≤◌, ◌<◌, ◌^◌, ◌-◌, ◌%◌, ◌==◌, ◌&&◌, ℕ, Bool, true, false, List, [], ◌∷◌, length, nat_le, codes, Option, Some, None, option_map, option_and_then, find, string_bytes, if◌then◌else◌}
 use Rattle.std.specs.Option.{option_map_or}
 use Rattle.std.specs.Str.{all_ascii_digits, bytes_eq}
 use Rattle.std.specs.Str.Parse.{digits_value}
@@ -9,9 +9,12 @@ use Rattle.clap.specs.Words.{App, Row, Rule, Text, new_app, new_rule, with_rule,
 use Rattle.clap.specs.Simple.{on_top}
 use Rattle.clap.specs.Kinds.{Kinds}
 use Rattle.clap.specs.declared.builder.action.ArgAction.TheVariants.{Set, SetTrue}
-use Rattle.swi_command.specs.declared.RunOptions.{RunOptions}
-use Rattle.swi_command.specs.declared.Command.{Command}
-use Rattle.swi_command.specs.declared.Command.TheVariants.{Cached, Plain}
+use Rattle.swi_command.specs.declared.command.CacheOptions.{CacheOptions}
+use Rattle.swi_command.specs.declared.command.Command.{Command}
+use Rattle.swi_command.specs.declared.command.Command.TheVariants.{Rewrite, Cached, Plain, Check, Upgrade}
+use Rattle.swi_command.specs.declared.command.Reports.{Reports}
+use Rattle.swi_command.specs.declared.command.RunLimits.{RunLimits}
+use Rattle.swi_command.specs.declared.command.RunOptions.{RunOptions}
 
 -- ---- numbers
 
@@ -26,52 +29,119 @@ abbrev pub number_in : ℕ → ℕ → ℕ → Text → Option ℕ
 number_in least most unit t = option_and_then
     (λ n. if nat_le least n && (nat_le n most && (n % unit == 0)) then Some n else None) (number t)
 
+-- an option with a number: its name, its least and greatest, the number of which it is a multiple,
+-- and what stands where the words do not give it
+pub record NumberForm : Type 0 where
+  pub name : Text
+  pub least : ℕ
+  pub most : ℕ
+  pub unit : ℕ
+  pub default : ℕ
+
+abbrev pub number_form : Text → ℕ → ℕ → ℕ → ℕ → NumberForm
+number_form name least most unit default =
+    record { name = name; least = least; most = most; unit = unit; default = default }
+
+-- the most steps of a run
+abbrev pub steps_form : NumberForm
+steps_form = number_form (codes "steps") 0 (2 ^ 48) 1 1000000000
+
+-- bytes of the cache
+abbrev pub cache_form : NumberForm
+cache_form = number_form (codes "cache") 8 (2 ^ 32 - 1) 1 4096
+
+-- words of a block
+abbrev pub block_form : NumberForm
+block_form = number_form (codes "block") 2 1024 1 64
+
+-- bytes of the heap
+abbrev pub heap_form : NumberForm
+heap_form = number_form (codes "heap") 0 67108864 1 1048576
+
+-- bytes of the stack
+abbrev pub stack_form : NumberForm
+stack_form = number_form (codes "stack") 4096 16777216 16 65536
+
 -- ---- what the matches give
 
 -- the number of an option, or its default where the words do not give it
-abbrev pub number_option : Text → ℕ → ℕ → ℕ → ℕ → List Row → Option ℕ
-number_option name least most unit default rows =
-    option_map_or (number_in least most unit) (first_of name rows) (Some default)
+abbrev pub number_of : NumberForm → List Row → Option ℕ
+number_of form rows = option_map_or (number_in form.least form.most form.unit)
+    (first_of form.name rows) (Some form.default)
 
 -- the flag was given
 abbrev pub is_set : Text → List Row → Bool
 is_set name rows = option_map_or (λ t. bytes_eq t (codes "true")) (first_of name rows) false
 
--- the table of the options with a number: its least and greatest, the number of which it is a
--- multiple, and its default
-abbrev pub steps_of : List Row → Option ℕ
-steps_of rows = number_option (codes "steps") 0 (2 ^ 48) 1 1000000000 rows
-
-abbrev pub heap_of : List Row → Option ℕ
-heap_of rows = number_option (codes "heap") 0 67108864 1 1048576 rows
-
-abbrev pub stack_of : List Row → Option ℕ
-stack_of rows = number_option (codes "stack") 4096 16777216 16 65536 rows
-
--- the limits of a run and what is written of it
-abbrev pub options_of : List Row → Option RunOptions
-options_of rows = option_and_then (λ n. option_and_then (λ h. option_map (λ s. record {
+-- the limits of a run
+abbrev pub limits_of : List Row → Option RunLimits
+limits_of rows = option_and_then (λ n. option_and_then (λ h. option_map (λ s. record {
   steps = n;
   heap = h;
   stack = s;
+}) (number_of stack_form rows)) (number_of heap_form rows)) (number_of steps_form rows)
+
+-- what is written of a run
+abbrev pub reports_of : List Row → Reports
+reports_of rows = record {
   state = is_set (codes "state") rows;
   calls = is_set (codes "calls") rows;
-}) (stack_of rows)) (heap_of rows)) (steps_of rows)
+  stats = is_set (codes "stats") rows;
+}
 
--- a file's name and the options of a run on it
-abbrev pub run_of : List Row → Option (Text × RunOptions)
-run_of rows =
-    option_and_then (λ file. option_map (λ options. (file, options)) (options_of rows))
-    (first_of (codes "FILE") rows)
+abbrev pub options_of : List Row → Option RunOptions
+options_of rows =
+    option_map (λ l. record { limits = l; reports = reports_of rows }) (limits_of rows)
+
+-- the sizes of the cache and of its blocks
+abbrev pub cache_of : List Row → Option CacheOptions
+cache_of rows = option_and_then (λ c. option_map (λ b. record {
+  cache_bytes = c;
+  block_words = b;
+}) (number_of block_form rows)) (number_of cache_form rows)
+
+-- ---- what words ask for
+
+-- a command with the names of its files and its options
+pub data Request : Type 0 where
+  RewriteFile : (input : Text) (output : Text) (block_words : ℕ) → Request
+  RunCached : (file : Text) (cache : CacheOptions) (options : RunOptions) → Request
+  RunPlain : (file : Text) (options : RunOptions) → Request
+  CheckFile : (file : Text) → Request
+  UpgradeFile : (input : Text) (output : Text) → Request
+
+abbrev pub rewrite_request : List Row → Option Request
+rewrite_request rows = option_and_then (λ i. option_and_then (λ o.
+    option_map (λ b. RewriteFile i o b) (number_of block_form rows))
+    (first_of (codes "OUT") rows)) (first_of (codes "IN") rows)
+
+abbrev pub cached_request : List Row → Option Request
+cached_request rows = option_and_then (λ f. option_and_then (λ c.
+    option_map (λ o. RunCached f c o) (options_of rows))
+    (cache_of rows)) (first_of (codes "FILE") rows)
+
+abbrev pub plain_request : List Row → Option Request
+plain_request rows = option_and_then (λ f.
+    option_map (λ o. RunPlain f o) (options_of rows)) (first_of (codes "FILE") rows)
+
+abbrev pub check_request : List Row → Option Request
+check_request rows = option_map (λ f. CheckFile f) (first_of (codes "FILE") rows)
+
+abbrev pub upgrade_request : List Row → Option Request
+upgrade_request rows = option_and_then (λ i.
+    option_map (λ o. UpgradeFile i o) (first_of (codes "OUT") rows)) (first_of (codes "IN") rows)
 
 -- ---- the commands as `clap` takes them
 
+-- a word that must be given, by its place
 abbrev pub positional : Text → Rule
 positional name = record (new_rule name) { required = true }
 
+-- `--name value`
 abbrev pub option : Text → Rule
 option name = record (new_rule name) { long = Some name; action = Some Set }
 
+-- `--name`
 abbrev pub flag : Text → Rule
 flag name = record (new_rule name) { long = Some name; action = Some SetTrue }
 
@@ -83,20 +153,66 @@ abbrev pub with_rules : App → List Rule → App
 with_rules a [] = a
 with_rules a (r ∷ rs) = with_rules (with_rule a r) rs
 
--- FILE --steps n --heap n --stack n
-abbrev pub machine_rules : List Rule
-machine_rules = positional (codes "FILE") ∷ option (codes "steps") ∷ option (codes "heap")
-    ∷ option (codes "stack") ∷ []
+-- ---- the table of the commands
 
--- --state --calls
-abbrev pub report_rules : List Rule
-report_rules = flag (codes "state") ∷ flag (codes "calls") ∷ []
+-- a command's name, the arguments that it takes, and what their matches ask for
+pub record Form : Type 0 where
+  pub name : Text
+  pub rules : List Rule
+  pub request : List Row → Option Request
 
-unfoldable pub cached_app : App
-cached_app = with_rules (with_rules (command (codes "cached")) machine_rules) report_rules
+-- IN OUT --block n
+abbrev pub rewrite_form : Form
+rewrite_form = record {
+  name = codes "rewrite";
+  rules = positional (codes "IN") ∷ positional (codes "OUT") ∷ option (codes "block") ∷ [];
+  request = rewrite_request;
+}
 
-unfoldable pub plain_app : App
-plain_app = with_rules (with_rules (command (codes "plain")) machine_rules) report_rules
+-- FILE --steps n --cache n --block n --heap n --stack n --state --calls --stats
+abbrev pub cached_form : Form
+cached_form = record {
+  name = codes "cached";
+  rules = positional (codes "FILE") ∷ option (codes "steps") ∷ option (codes "cache")
+      ∷ option (codes "block") ∷ option (codes "heap") ∷ option (codes "stack")
+      ∷ flag (codes "state") ∷ flag (codes "calls") ∷ flag (codes "stats") ∷ [];
+  request = cached_request;
+}
+
+-- FILE --steps n --heap n --stack n --state --calls --stats
+abbrev pub plain_form : Form
+plain_form = record {
+  name = codes "plain";
+  rules = positional (codes "FILE") ∷ option (codes "steps") ∷ option (codes "heap")
+      ∷ option (codes "stack") ∷ flag (codes "state") ∷ flag (codes "calls")
+      ∷ flag (codes "stats") ∷ [];
+  request = plain_request;
+}
+
+-- FILE
+abbrev pub check_form : Form
+check_form = record {
+  name = codes "check";
+  rules = positional (codes "FILE") ∷ [];
+  request = check_request;
+}
+
+-- IN OUT
+abbrev pub upgrade_form : Form
+upgrade_form = record {
+  name = codes "upgrade";
+  rules = positional (codes "IN") ∷ positional (codes "OUT") ∷ [];
+  request = upgrade_request;
+}
+
+abbrev pub forms : List Form
+forms = rewrite_form ∷ cached_form ∷ plain_form ∷ check_form ∷ upgrade_form ∷ []
+
+-- the command of a name
+unfoldable pub form_named : Text → Option Form
+form_named name = find (λ form. bytes_eq name form.name) forms
+
+-- ---- what the words ask for
 
 -- the matches of words at which no kind of error may come
 abbrev pub without_fault : Kinds → List Row → Option (List Row)
@@ -107,48 +223,46 @@ without_fault (k ∷ ks) rows = None
 unfoldable pub matches_on : App → List Text → Option (List Row)
 matches_on a words = without_fault (fault_of a words) (matches_of a words)
 
--- ---- what words ask for
-
--- the command with its file's name and its options
-pub data Request : Type 0 where
-  RunCached : (file : Text) (options : RunOptions) → Request
-  RunPlain : (file : Text) (options : RunOptions) → Request
-
-abbrev pub cached_request : List Row → Option Request
-cached_request rows = option_map (λ r. RunCached r.0 r.1) (run_of rows)
-
-abbrev pub plain_request : List Row → Option Request
-plain_request rows = option_map (λ r. RunPlain r.0 r.1) (run_of rows)
-
--- a command's name, the words that it takes, and what their matches ask for
-pub record Form : Type 0 where
-  pub name : Text
-  pub app : App
-  pub request : List Row → Option Request
-
--- the table of the commands
-abbrev pub forms : List Form
-forms = record { name = codes "cached"; app = cached_app; request = cached_request }
-    ∷ record { name = codes "plain"; app = plain_app; request = plain_request } ∷ []
+-- a command as `clap` takes it
+abbrev pub app_by : Form → App
+app_by form = with_rules (command form.name) form.rules
 
 abbrev pub request_by : List Text → Form → Option Request
-request_by words form = option_and_then form.request (matches_on form.app words)
+request_by words form = option_and_then form.request (matches_on (app_by form) words)
+
+-- the command that the first of the words names
+unfoldable pub form_first : List Text → Option Form
+form_first [] = None
+form_first (name ∷ rest) = form_named name
 
 -- what the words after the program's name ask for: the first names the command, and it reads the rest
 unfoldable pub command_of : List Text → Option Request
-command_of [] = None
-command_of (name ∷ rest) =
-    option_and_then (request_by (name ∷ rest)) (find (λ form. bytes_eq name form.name) forms)
+command_of words = option_and_then (request_by words) (form_first words)
 
 -- what a command asks for
 abbrev pub request_of : Command → Request
-request_of (Cached file options) = RunCached (string_bytes file) options
+request_of (Rewrite input output block_words) =
+    RewriteFile (string_bytes input) (string_bytes output) block_words
+request_of (Cached file cache options) = RunCached (string_bytes file) cache options
 request_of (Plain file options) = RunPlain (string_bytes file) options
+request_of (Check file) = CheckFile (string_bytes file)
+request_of (Upgrade input output) = UpgradeFile (string_bytes input) (string_bytes output)
 
 -- ---- ranges
 
+-- words of a block
+pub record IsBlockSize (words : ℕ) : Type 0 where
+  pub least : 2 ≤ words
+  pub most : words ≤ 1024
+
+-- the sizes of the cache and of its blocks lie in their options' ranges
+pub record IsCacheInRange (o : CacheOptions) : Type 0 where
+  pub cache_least : 8 ≤ o.cache_bytes
+  pub cache_most : o.cache_bytes < 2 ^ 32
+  pub block : IsBlockSize o.block_words
+
 -- the limits of a run lie in their options' ranges
-pub record IsInRange (o : RunOptions) : Type 0 where
+pub record IsInRange (o : RunLimits) : Type 0 where
   pub steps : o.steps ≤ 2 ^ 48
   pub heap : o.heap ≤ 67108864
   pub stack_least : 4096 ≤ o.stack
@@ -157,5 +271,8 @@ pub record IsInRange (o : RunOptions) : Type 0 where
 
 -- and so do those of a command
 abbrev pub HasLimitsInRange : Command → Type 0
-HasLimitsInRange (Cached file options) = IsInRange options
-HasLimitsInRange (Plain file options) = IsInRange options
+HasLimitsInRange (Rewrite input output block_words) = IsBlockSize block_words
+HasLimitsInRange (Cached file cache options) = IsCacheInRange cache × IsInRange options.limits
+HasLimitsInRange (Plain file options) = IsInRange options.limits
+HasLimitsInRange (Check file) = Unit
+HasLimitsInRange (Upgrade input output) = Unit

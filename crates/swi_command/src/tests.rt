@@ -1,4 +1,4 @@
-use crate::{Command, RunOptions, parse_command};
+use crate::{CacheOptions, Command, Reports, RunLimits, RunOptions, parse_command};
 use std::alloc::Global;
 use std::test::Fail;
 
@@ -14,24 +14,55 @@ fn words_of(alloc: Global, line: &str) -> Result<Vec<String>, Fail> {
     Ok(words)
 }
 
-/// A run as its command, its file in brackets, its limits and its flags.
-fn run_text(alloc: Global, name: &str, file: &str, run: RunOptions) -> Result<String, Fail> {
-    let state = if run.state { " state" } else { "" };
-    let calls = if run.calls { " calls" } else { "" };
-    let RunOptions {
-        steps,
-        heap,
-        stack,
-        ..
-    } = run;
-    Ok(format!(in alloc; "{name} [{file}] {steps} {heap} {stack}{state}{calls}")?)
+/// The options of a run as its limits and its flags.
+fn run_text(alloc: Global, options: RunOptions) -> Result<String, Fail> {
+    let RunLimits { steps, heap, stack } = options.limits;
+    let Reports {
+        state,
+        calls,
+        stats,
+    } = options.reports;
+    let state = if state { " state" } else { "" };
+    let calls = if calls { " calls" } else { "" };
+    let stats = if stats { " stats" } else { "" };
+    Ok(format!(in alloc; "{steps} {heap} {stack}{state}{calls}{stats}")?)
+}
+
+/// A command as its name, its files in brackets and its options.
+fn command_text(alloc: Global, command: &Command) -> Result<String, Fail> {
+    match command {
+        Command::Rewrite {
+            input,
+            output,
+            block_words,
+        } => Ok(format!(in alloc; "rewrite [{input}] [{output}] {block_words}")?),
+        Command::Cached {
+            file,
+            cache,
+            options,
+        } => {
+            let CacheOptions {
+                cache_bytes,
+                block_words,
+            } = cache;
+            let run = run_text(alloc, *options)?;
+            Ok(format!(in alloc; "cached [{file}] {cache_bytes} {block_words} {run}")?)
+        }
+        Command::Plain { file, options } => {
+            let run = run_text(alloc, *options)?;
+            Ok(format!(in alloc; "plain [{file}] {run}")?)
+        }
+        Command::Check { file } => Ok(format!(in alloc; "check [{file}]")?),
+        Command::Upgrade { input, output } => {
+            Ok(format!(in alloc; "upgrade [{input}] [{output}]")?)
+        }
+    }
 }
 
 fn answer_to(alloc: Global, line: &str) -> Result<String, Fail> {
     let words = words_of(alloc, line)?;
     match parse_command(alloc, words.as_slice()) {
-        Ok(Command::Cached { file, options }) => run_text(alloc, "cached", file.as_str(), options),
-        Ok(Command::Plain { file, options }) => run_text(alloc, "plain", file.as_str(), options),
+        Ok(command) => command_text(alloc, &command),
         Err(error) => Ok(format!(in alloc; "{error:?}")?),
     }
 }
@@ -42,17 +73,17 @@ fn reads_command_lines(rt: HostRuntime) -> Result<(), Fail> {
         // Options stand before and after the file, in both forms.
         (
             "cached --steps 4 A --state",
-            "cached [A] 4 1048576 65536 state",
+            "cached [A] 4096 64 4 1048576 65536 state",
         ),
         (
             "cached A --state --steps=4",
-            "cached [A] 4 1048576 65536 state",
+            "cached [A] 4096 64 4 1048576 65536 state",
         ),
         (
             "plain --heap 0 A --calls --stack=4096",
             "plain [A] 1000000000 0 4096 calls",
         ),
-        ("cached A", "cached [A] 1000000000 1048576 65536"),
+        ("cached A", "cached [A] 4096 64 1000000000 1048576 65536"),
         ("plain A", "plain [A] 1000000000 1048576 65536"),
         (
             "plain A --stack 4112 --calls --state",
@@ -71,27 +102,71 @@ fn reads_command_lines(rt: HostRuntime) -> Result<(), Fail> {
         ("cached A --steps=", USAGE),
         (
             "cached A --steps 0000000000000000004",
-            "cached [A] 4 1048576 65536",
+            "cached [A] 4096 64 4 1048576 65536",
         ),
         ("cached A --steps 00000000000000000004", USAGE),
         ("cached A --steps 9999999999999999999", USAGE),
         (
             "cached A --steps 281474976710656",
-            "cached [A] 281474976710656 1048576 65536",
+            "cached [A] 4096 64 281474976710656 1048576 65536",
         ),
         ("cached A --steps 281474976710657", USAGE),
         (
             "cached A --heap 67108864",
-            "cached [A] 1000000000 67108864 65536",
+            "cached [A] 4096 64 1000000000 67108864 65536",
         ),
         ("cached A --heap 67108865", USAGE),
         ("cached A --stack 4104", USAGE),
         ("cached A --stack 4080", USAGE),
         (
             "cached A --stack 16777216",
-            "cached [A] 1000000000 1048576 16777216",
+            "cached [A] 4096 64 1000000000 1048576 16777216",
         ),
         ("cached A --stack 16777232", USAGE),
+        // The cache and its blocks.
+        (
+            "cached A --cache 8 --block=2 --stats",
+            "cached [A] 8 2 1000000000 1048576 65536 stats",
+        ),
+        (
+            "cached --cache=4294967295 A --block 1024",
+            "cached [A] 4294967295 1024 1000000000 1048576 65536",
+        ),
+        ("cached A --cache 7", USAGE),
+        ("cached A --cache 4294967296", USAGE),
+        ("cached A --block 1", USAGE),
+        ("cached A --block 1025", USAGE),
+        ("cached A --cache 8 --cache 8", USAGE),
+        ("cached A --stats --stats", USAGE),
+        ("cached A --stats=1", USAGE),
+        (
+            "plain --stats A --state",
+            "plain [A] 1000000000 1048576 65536 state stats",
+        ),
+        ("plain A --cache 4096", USAGE),
+        ("plain A --block 64", USAGE),
+        // Two files stand in their order.
+        ("rewrite A B", "rewrite [A] [B] 64"),
+        ("rewrite --block 8 A B", "rewrite [A] [B] 8"),
+        ("rewrite B --block=1024 A", "rewrite [B] [A] 1024"),
+        ("rewrite A -- --block", "rewrite [A] [--block] 64"),
+        ("rewrite A", USAGE),
+        ("rewrite A B C", USAGE),
+        ("rewrite A B --block 8 --block 8", USAGE),
+        ("rewrite A B --block=1", USAGE),
+        ("rewrite A B --cache 4096", USAGE),
+        ("rewrite A B --state", USAGE),
+        ("upgrade A B", "upgrade [A] [B]"),
+        ("upgrade -- -A EMPTY", "upgrade [-A] []"),
+        ("upgrade A", USAGE),
+        ("upgrade A B --block 64", USAGE),
+        // A command may take no option.
+        ("check A", "check [A]"),
+        ("check -- -A", "check [-A]"),
+        ("check A B", USAGE),
+        ("check", USAGE),
+        ("check A --steps 4", USAGE),
+        ("check A --stats", USAGE),
         // A value that begins with `-` is taken only behind `=`, and then is no number.
         ("cached A --steps -4", USAGE),
         ("cached A --steps=-4", USAGE),
@@ -110,11 +185,10 @@ fn reads_command_lines(rt: HostRuntime) -> Result<(), Fail> {
         ("plain -- A --state", USAGE),
         ("plain --", USAGE),
         // `-` and the empty word are names of files; other words with a dash are options.
-        ("cached -", "cached [-] 1000000000 1048576 65536"),
-        ("cached EMPTY", "cached [] 1000000000 1048576 65536"),
+        ("cached -", "cached [-] 4096 64 1000000000 1048576 65536"),
+        ("cached EMPTY", "cached [] 4096 64 1000000000 1048576 65536"),
         ("cached -A", USAGE),
         ("cached A -1", USAGE),
-        ("cached A --cache 64", USAGE),
         // An option's name is written whole.
         ("cached A --step 4", USAGE),
         ("cached A --stat", USAGE),
@@ -125,7 +199,10 @@ fn reads_command_lines(rt: HostRuntime) -> Result<(), Fail> {
         ("cached A --help", USAGE),
         ("cached A -V", USAGE),
         ("cached A --version", USAGE),
-        ("cached help", "cached [help] 1000000000 1048576 65536"),
+        (
+            "cached help",
+            "cached [help] 4096 64 1000000000 1048576 65536",
+        ),
         ("--help", USAGE),
         ("help", USAGE),
         // The first word is the name of a command, written whole.

@@ -1,6 +1,8 @@
-pub mod BuiltLemmas
-pub mod FileLemmas
-pub mod FinishLemmas
-pub mod RunLemmas
-pub mod StartLemmas
-pub mod TextLemmas
+pub mod Images
+pub mod Refusals
+pub mod Puts
+pub mod Confirming
+pub mod Lines
+pub mod Running
+pub mod Flats
+pub mod Caching

@@ -1,4 +1,7 @@
-pub mod Answer
+pub mod Devices
 pub mod Causes
-pub mod Status
-pub mod Texts
+pub mod Checks
+pub mod Runs
+pub mod Answers
+pub mod Plain
+pub mod Caching

@@ -1,18 +1,18 @@
 //! The commands of `swic`, as one call over the devices that are handed in.
 #![tactic(auto)]
 
-mod answer;
 mod cached;
 mod call;
+mod check;
 mod commands;
 mod file;
+mod image;
 mod plain;
-mod status;
-mod texts;
-
-pub use answer::{Ending, Refusal};
-pub use call::top;
-pub use status::status_of;
-
+mod report;
+mod rewrite;
+mod sizes;
 #[cfg(test)]
 mod tests;
+
+pub use call::top;
+pub use swi_answer::{Ending, Refusal, status_of};

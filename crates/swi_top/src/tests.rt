@@ -1,13 +1,15 @@
 //! Commands over devices in memory.
 #![tactic(auto)]
 
-use super::*;
-use crate::Ending::*;
-use crate::Refusal::*;
+use crate::Ending::{self, *};
+use crate::Refusal::{self, *};
+use crate::top;
 use std::alloc::Global;
 use std::test::Fail;
+use swi_check::Mismatch as Difference;
 use swi_elf_read::ElfRefusal::{self, *};
 use swi_exec::FaultKind::*;
+use swi_image::ImageRefusal;
 use swi_outside::{FaultRam, MemShelf, MemSink, MemSource};
 
 /// A file with `SEVEN` in one segment at 0x10000, by hand from the ELF document.
@@ -33,26 +35,8 @@ const TABLE: [u32; 65] = [
     0x000100D4, 0x000A6968, 1,
 ];
 
-/// What `TABLE` writes by `--state`: its own bytes, then the state where it ends.
-const TABLE_OUTPUT: &str =
-    "hi\npc 000100d0\nx0 00000000\nx1 00000000\nx2 00122fc0\nx3 00000000\nx4 00000000\nx5 000100d4\n\
-    x6 00000004\nx7 00000000\nx8 00000000\nx9 00000000\nx10 00000000\nx11 000100fc\n\
-    x12 00000003\nx13 00000000\nx14 00000000\nx15 00000000\nx16 00000000\nx17 0000005d\n\
-    x18 00000000\nx19 00000000\nx20 00000000\nx21 00000000\nx22 00000000\nx23 00000000\n\
-    x24 00000000\nx25 00000000\nx26 00000000\nx27 00000000\nx28 00000000\nx29 00000000\n\
-    x30 00000000\nx31 00000000\nbreak 00011140\n";
-
 /// Exits with 7.
 const SEVEN: &[u32] = &[0x05D00893, 0x00700513, 0x00000073];
-
-/// The state where `SEVEN` ends.
-const STATE_OF_SEVEN: &str =
-    "pc 00010008\nx0 00000000\nx1 00000000\nx2 00121fc0\nx3 00000000\nx4 00000000\nx5 00000000\n\
-    x6 00000000\nx7 00000000\nx8 00000000\nx9 00000000\nx10 00000007\nx11 00000000\n\
-    x12 00000000\nx13 00000000\nx14 00000000\nx15 00000000\nx16 00000000\nx17 0000005d\n\
-    x18 00000000\nx19 00000000\nx20 00000000\nx21 00000000\nx22 00000000\nx23 00000000\n\
-    x24 00000000\nx25 00000000\nx26 00000000\nx27 00000000\nx28 00000000\nx29 00000000\n\
-    x30 00000000\nx31 00000000\nbreak 0001000c\n";
 
 /// Counts from 3 down to 0, and exits with 0.
 const COUNT: &[u32] = &[0x00300293, 0xFFF28293, 0xFE029EE3, 0x05D00893, 0x00000073];
@@ -65,6 +49,9 @@ const STATE_AFTER_4: &str =
     x18 00000000\nx19 00000000\nx20 00000000\nx21 00000000\nx22 00000000\nx23 00000000\n\
     x24 00000000\nx25 00000000\nx26 00000000\nx27 00000000\nx28 00000000\nx29 00000000\n\
     x30 00000000\nx31 00000000\nbreak 00010014\n";
+
+/// Jumps to 0x20000, beside the text.
+const BESIDE: &[u32] = &[0x000202B7, 0x000280E7];
 
 /// Stores 0 at the text's first word, and exits with 0.
 const STORE: &[u32] = &[0x00000297, 0x0002A023, 0x05D00893, 0x00000073];
@@ -84,7 +71,26 @@ const LONG_ECHO: &[u32] = &[
     0x00000073, 0x00000513, 0x05D00893, 0x00000073,
 ];
 
-const USAGE: &str = "usage: swic rewrite, cached, plain, trace, list, check, measure\n";
+/// `PLAIN` rewritten with blocks of 8 words, in version 1.
+const FIRST: [u32; 50] = [
+    0x464C457F, 0x00010101, 0, 0, 0x00F30002, 1, 0x00010000, 52, 0, 0, 0x00200034, 2, 0, 1, 0x74,
+    0x00010000, 0x00010000, 12, 12, 5, 1, 0x6C434953, 0x80, 0, 0, 72, 72, 4, 4, 0x05D00893,
+    0x00700513, 0x00000073, 0x31434953, 1, 8, 1, 3, 0x00010000, 0, 0, 1, 2, 0x05D00893, 0x00700513,
+    0x00000073, 0x00100073, 0x0001000C, 0, 0, 0,
+];
+
+/// The same in version 2.
+const SECOND: [u32; 48] = [
+    0x464C457F, 0x00010101, 0, 0, 0x00F30002, 1, 0x00010000, 52, 0, 0, 0x00200034, 2, 0, 1, 0x74,
+    0x00010000, 0x00010000, 12, 12, 5, 1, 0x6C434953, 0x80, 0, 0, 64, 64, 4, 4, 0x05D00893,
+    0x00700513, 0x00000073, 0x31434953, 2, 8, 1, 3, 0x00010000, 0, 5, 0, 1, 2, 0x05D00893,
+    0x00700513, 0x00000073, 0x00100073, 0x0001000C,
+];
+
+/// A word that no image has at most of its places.
+const NONE: u32 = 0xFFFF_FFFF;
+
+const USAGE: &str = "usage: swic rewrite, cached, plain, trace, list, check, measure, upgrade\n";
 
 /// The bytes of a file of these words.
 fn bytes_of(alloc: Global, words: &[u32]) -> Result<Vec<u8>, Fail> {
@@ -115,38 +121,40 @@ fn file_of(alloc: Global, text: &[u32], rights: u32, base: u32) -> Result<Vec<u8
     bytes_of(alloc, &words)
 }
 
-/// A command and all that is handed in: its words, the file's words and rights, the input, and the failing calls of the devices: the
-/// number of one, 0 for none, and those of the ram; and what then comes: the answer, the output, the errors and the status.
+/// A command and all that is handed in: its words, the file's text and rights, the input, the words of the ram, and the failing calls of
+/// the devices: the number of one, 0 for none; and what then comes: the answer, the output and the errors.
 #[derive(Drop)]
 struct Row {
     words: &'static str,
     text: &'static [u32],
     rights: u32,
     input: &'static str,
+    ram: u32,
+    shelf_fails: u32,
     input_fails: u32,
     out_fails: u32,
     err_fails: u32,
-    ram_fails: &'static [u32],
+    ram_fails: u32,
     answer: Result<Ending, Refusal>,
     out: &'static str,
     err: &'static str,
-    status: u8,
 }
 
-/// What a row says where it says nothing else: no input, no failing call, and nothing written.
+/// What a row says where it says nothing else: no failing call, and nothing written.
 const QUIET: Row = Row {
     words: "plain A",
     text: SEVEN,
     rights: 5,
     input: "",
+    ram: 1024,
+    shelf_fails: 0,
     input_fails: 0,
     out_fails: 0,
     err_fails: 0,
-    ram_fails: &[],
+    ram_fails: 0,
     answer: Ok(Exited(7, 3)),
     out: "",
     err: "",
-    status: 7,
 };
 
 /// A row that is `QUIET` but for these fields.
@@ -154,179 +162,592 @@ macro_rules! row {
     ($($field:ident: $value:expr),*) => { Row { $($field: $value,)* ..QUIET } };
 }
 
-/// Does the row's command, with this file under the name `A` and this input: the answer, the output and the errors.
-fn run(
-    alloc: Global,
-    row: &Row,
-    file: Vec<u8>,
-    input: &[u8],
-) -> Result<(Result<Ending, Refusal>, MemSink, MemSink), Fail> {
+/// What stands after a row's command: the answer, what the sinks hold, the shelf and the ram.
+#[derive(Drop)]
+struct Stands {
+    answer: Result<Ending, Refusal>,
+    shelf: MemShelf,
+    out: MemSink,
+    err: MemSink,
+    ram: FaultRam,
+}
+
+/// Does the row's command, with this file under the name `A`.
+fn run(alloc: Global, row: &Row, file: Vec<u8>) -> Result<Stands, Fail> {
+    run_words(alloc, row.words, row, file)
+}
+
+/// Does a command, with this file under the name `A` and the row's other devices.
+fn run_words(alloc: Global, text: &str, row: &Row, file: Vec<u8>) -> Result<Stands, Fail> {
     let mut words = Vec::new(alloc);
-    for word in row.words.split_whitespace() {
+    for word in text.split_whitespace() {
         words.push(String::from_str(alloc, word)?)?;
     }
     let files = vec![in alloc; (String::from_str(alloc, "A")?, file)]?;
-    let mut shelf = MemShelf::new(files, Vec::new(alloc));
-    let mut input = MemSource::new(input.to_vec(alloc)?, [row.input_fails].to_vec(alloc)?);
+    let mut shelf = MemShelf::new(files, [row.shelf_fails].to_vec(alloc)?);
+    let bytes = row.input.as_bytes().to_vec(alloc)?;
+    let mut input = MemSource::new(bytes, [row.input_fails].to_vec(alloc)?);
     let mut out = MemSink::new(alloc, 4096, [row.out_fails].to_vec(alloc)?)?;
     let mut err = MemSink::new(alloc, 4096, [row.err_fails].to_vec(alloc)?)?;
-    let mut ram = FaultRam::new(alloc, 16, row.ram_fails.to_vec(alloc)?)?;
+    let mut ram = FaultRam::new(alloc, row.ram, [row.ram_fails].to_vec(alloc)?)?;
     let answer = top(
         alloc, &words, &mut shelf, &mut input, &mut out, &mut err, &mut ram,
     );
-    Ok((answer, out, err))
+    Ok(Stands {
+        answer,
+        shelf,
+        out,
+        err,
+        ram,
+    })
 }
 
 /// Whether the row's command, with this file under the name `A`, answers and writes what the row says.
 fn holds(alloc: Global, row: &Row, file: Vec<u8>) -> Result<bool, Fail> {
-    let (answer, out, err) = run(alloc, row, file, row.input.as_bytes())?;
-    let same = answer == row.answer && status_of(&answer) == row.status;
-    Ok(same && out.held() == row.out.as_bytes() && err.held() == row.err.as_bytes())
+    let done = run(alloc, row, file)?;
+    let same = done.answer == row.answer;
+    Ok(same && done.out.held() == row.out.as_bytes() && done.err.held() == row.err.as_bytes())
 }
 
-/// Words with known answers: worked by hand from the specification of the instructions and of this program's texts.
-static ROWS: [Row; 39] = [
-    // one exit, on both machines
-    row!(words: "plain A"),
-    row!(words: "cached A --steps 10"),
-    row!(words: "cached --calls A", err: "call 93 00000007 00000000 00000000\n"),
-    row!(words: "cached A --steps 10 --state", out: STATE_OF_SEVEN),
+/// Options and texts with known answers, on both machines: worked by hand from the specification of the instructions and of this program's texts.
+static ROWS: [Row; 19] = [
+    row!(words: "--steps 10"),
+    row!(words: "--calls", err: "call 93 00000007 00000000 00000000\n"),
     // a loop: whole, in its midst and not begun
-    row!(words: "cached A --steps 100", text: COUNT, answer: Ok(Exited(0, 9)), status: 0),
-    row!(words: "cached A --steps=4 --state", text: COUNT, answer: Ok(Spent(4, 0x10008)),
-        out: STATE_AFTER_4, err: "spent: 4 steps, pc 00010008\n", status: 240),
-    row!(words: "plain --state A --steps 4", text: COUNT, answer: Ok(Spent(4, 0x10008)),
-        out: STATE_AFTER_4, err: "spent: 4 steps, pc 00010008\n", status: 240),
-    row!(words: "cached A --steps 0", text: COUNT, answer: Ok(Spent(0, 0x10000)),
-        err: "spent: 0 steps, pc 00010000\n", status: 240),
-    // what the cached machine doesn't build: a last word that falls through, a word, a call that the run comes to, and one that it doesn't
-    row!(words: "cached A --steps 9", text: &[0x00000013], answer: Err(NotBuilt { address: 0x10000 }),
-        err: "not built: 00010000\n", status: 253),
-    row!(words: "cached A --steps 9", text: &[0x00000013, 0x00100073, 0x00000073],
-        answer: Err(NotBuilt { address: 0x10004 }), err: "not built: 00010004\n", status: 253),
-    row!(words: "cached A --steps 1", text: &[0x00000073], answer: Err(NotBuilt { address: 0x10000 }),
-        err: "not built: 00010000\n", status: 253),
-    row!(words: "cached A --steps 0", text: &[0x00000073], answer: Ok(Spent(0, 0x10000)),
-        err: "spent: 0 steps, pc 00010000\n", status: 240),
-    // devices that fail under the cached machine: the ram, and the error sink, which then takes the next line
-    row!(words: "cached A", ram_fails: &[9], answer: Err(RamFault), err: "ram fault\n", status: 249),
-    row!(words: "cached --calls A", err_fails: 1,
-        answer: Err(SinkFault), err: "sink fault\n", status: 249),
-    row!(words: "cached A --steps 1", text: &[0x00000073], err_fails: 1,
-        answer: Err(NotBuilt { address: 0x10000 }), status: 253),
-    // words that are no command, and a file that isn't there
-    row!(words: "cashed A", answer: Err(Usage), err: USAGE, status: 250),
-    row!(words: "plain", answer: Err(Usage), err: USAGE, status: 250),
-    row!(words: "plain B", answer: Err(ShelfFault), err: "shelf fault\n", status: 248),
-    row!(words: "plain B", err_fails: 1, answer: Err(ShelfFault), status: 248),
-    // a file with no word of text
-    row!(text: &[], answer: Err(Elf(NoText(0))), err: "elf 15 NoText 0\n", status: 243),
+    row!(words: "--steps 100", text: COUNT, answer: Ok(Exited(0, 9))),
+    row!(words: "--steps=4 --state", text: COUNT, answer: Ok(Spent(4, 0x10008)), out: STATE_AFTER_4,
+        err: "spent: 4 steps, pc 00010008\n"),
+    row!(words: "--steps 0", text: COUNT, answer: Ok(Spent(0, 0x10000)), err: "spent: 0 steps, pc 00010000\n"),
     // a jump beside the text, before the fetch and after it
-    row!(words: "plain A --steps 2", text: &[0x000202B7, 0x000280E7],
-        answer: Ok(Spent(2, 0x20000)), err: "spent: 2 steps, pc 00020000\n", status: 240),
-    row!(words: "plain A --steps 3", text: &[0x000202B7, 0x000280E7],
-        answer: Ok(Faulted(FetchAccess, 0x20000, 0x20000, 3)),
-        err: "fault: fetch-access at 00020000, address 00020000, 3 steps\n", status: 241),
+    row!(words: "--steps 2", text: BESIDE, answer: Ok(Spent(2, 0x20000)), err: "spent: 2 steps, pc 00020000\n"),
+    row!(words: "--steps 3", text: BESIDE, answer: Ok(Faulted(FetchAccess, 0x20000, 0x20000, 3)),
+        err: "fault: fetch-access at 00020000, address 00020000, 3 steps\n"),
     // a branch to an address that is no multiple of 4, taken and not taken
-    row!(text: &[0x00000363], answer: Ok(Faulted(FetchMisaligned, 0x10000, 0x10006, 1)),
-        err: "fault: fetch-misaligned at 00010000, address 00010006, 1 steps\n", status: 241),
-    row!(text: &[0x00001363, 0x05D00893, 0x00000073], answer: Ok(Exited(0, 3)), status: 0),
-    // a store into the text, which can be written or not; then the same by an atomic swap, with no word behind it
-    row!(text: STORE, rights: 7, answer: Ok(Exited(0, 4)), status: 0),
-    row!(text: STORE, answer: Ok(Faulted(StoreAccess, 0x10004, 0x10000, 2)),
-        err: "fault: store-access at 00010004, address 00010000, 2 steps\n", status: 241),
-    row!(text: SWAP, rights: 7, answer: Ok(Faulted(FetchAccess, 0x10008, 0x10008, 3)),
-        err: "fault: fetch-access at 00010008, address 00010008, 3 steps\n", status: 241),
-    row!(text: SWAP, answer: Ok(Faulted(StoreAccess, 0x10004, 0x10000, 2)),
-        err: "fault: store-access at 00010004, address 00010000, 2 steps\n", status: 241),
+    row!(words: "--heap=0", text: &[0x00000363], answer: Ok(Faulted(FetchMisaligned, 0x10000, 0x10006, 1)),
+        err: "fault: fetch-misaligned at 00010000, address 00010006, 1 steps\n"),
+    row!(words: "--heap=0", text: &[0x00001363, 0x05D00893, 0x00000073], answer: Ok(Exited(0, 3))),
+    // a store into a text that can't be written, and the same by an atomic swap
+    row!(words: "--heap=0", text: STORE, answer: Ok(Faulted(StoreAccess, 0x10004, 0x10000, 2)),
+        err: "fault: store-access at 00010004, address 00010000, 2 steps\n"),
+    row!(words: "--heap=0", text: SWAP, answer: Ok(Faulted(StoreAccess, 0x10004, 0x10000, 2)),
+        err: "fault: store-access at 00010004, address 00010000, 2 steps\n"),
     // an echo: its calls told, of a longer input and of none; then each of its devices fails
-    row!(words: "plain A --calls", text: ECHO, input: "abc", answer: Ok(Exited(0, 12)), out: "abc",
+    row!(words: "--calls", text: ECHO, input: "abc", answer: Ok(Exited(0, 12)), out: "abc",
         err: "call 63 00000000 00121fc0 00000010 = 00000003\n\
             call 64 00000001 00121fc0 00000003 = 00000003\n\
-            call 93 00000000 00121fc0 00000003\n", status: 0),
-    row!(text: ECHO, input: "abcdefghijklmnopqrst", answer: Ok(Exited(0, 12)),
-        out: "abcdefghijklmnop", status: 0),
-    row!(text: ECHO, answer: Ok(Exited(0, 12)), status: 0),
-    row!(text: ECHO, input: "abc", input_fails: 1,
-        answer: Err(SourceFault), err: "source fault\n", status: 249),
-    row!(text: ECHO, input: "abc", out_fails: 1,
-        answer: Err(SinkFault), err: "sink fault\n", status: 249),
-    row!(words: "plain A --calls", text: ECHO, input: "abc", err_fails: 1,
-        answer: Err(SinkFault), err: "sink fault\n", status: 249),
+            call 93 00000000 00121fc0 00000003\n"),
+    row!(words: "--heap 0", text: ECHO, input: "abcdefghijklmnopqrst", answer: Ok(Exited(0, 12)), out: "abcdefghijklmnop"),
+    row!(words: "--calls", text: ECHO, input: "abc", err_fails: 1, answer: Err(SinkFault), err: "sink fault\n"),
     // brk(0), and call 80
-    row!(words: "plain A --heap=0", text: &[0x0D600893, 0x00000073, 0x05D00893, 0x00000073],
-        answer: Ok(Exited(65552, 4)), status: 16),
-    row!(words: "plain A --stack 4096", text: &[0x05000893, 0x00000073, 0x05D00893, 0x00000073],
-        answer: Ok(Exited(4294967258, 4)), status: 218),
+    row!(words: "--stack 4096", text: &[0x0D600893, 0x00000073, 0x05D00893, 0x00000073], answer: Ok(Exited(65552, 4))),
+    row!(words: "--stack 4096", text: &[0x05000893, 0x00000073, 0x05D00893, 0x00000073], answer: Ok(Exited(4294967258, 4))),
     // lr.w, two sc.w of which the second fails, lw, add; an sc.w with nothing reserved; a misaligned lr.w
-    row!(words: "plain A --steps 9", text: &[0x00500613, 0x1001252F, 0x18C125AF, 0x18C126AF,
-        0x00C1252F, 0x00012503, 0x00D50533, 0x05D00893, 0x00000073],
-        answer: Ok(Exited(11, 9)), status: 11),
-    row!(words: "plain A --steps 8", text: &[0x00000297, 0x18A2A52F, 0x05D00893, 0x00000073],
-        rights: 7, answer: Ok(Exited(1, 4)), status: 1),
-    row!(words: "plain A --steps 7", text: &[0x00210293, 0x1002A52F],
-        answer: Ok(Faulted(LoadAccess, 0x10004, 0x121FC2, 2)),
-        err: "fault: load-access at 00010004, address 00121fc2, 2 steps\n", status: 241),
+    row!(words: "--steps 9", text: &[0x00500613, 0x1001252F, 0x18C125AF, 0x18C126AF, 0x00C1252F, 0x00012503, 0x00D50533,
+        0x05D00893, 0x00000073], answer: Ok(Exited(11, 9))),
+    row!(words: "--steps 8", text: &[0x00000297, 0x18A2A52F, 0x05D00893, 0x00000073], rights: 7, answer: Ok(Exited(1, 4))),
+    row!(words: "--steps 7", text: &[0x00210293, 0x1002A52F], answer: Ok(Faulted(LoadAccess, 0x10004, 0x121FC2, 2)),
+        err: "fault: load-access at 00010004, address 00121fc2, 2 steps\n"),
+];
+
+#[test]
+fn runs_answer_and_write_on_both_machines(rt: HostRuntime) -> Result<(), Fail> {
+    let alloc = rt.alloc();
+    for (k, row) in ROWS.iter().enumerate() {
+        for command in ["plain A ", "cached A "] {
+            let words = [command, row.words].concat(alloc)?;
+            let file = file_of(alloc, row.text, row.rights, 0x10000)?;
+            let done = run_words(alloc, &words, row, file)?;
+            assert_eq!(rt; done.answer, row.answer, "row {k}: {words}");
+            assert_eq!(rt; done.out.held(), row.out.as_bytes(), "row {k}: {words}");
+            assert_eq!(rt; done.err.held(), row.err.as_bytes(), "row {k}: {words}");
+        }
+    }
+    Ok(())
+}
+
+/// Commands that are refused, that fail, or that only one machine has.
+static SINGLE_ROWS: [Row; 16] = [
+    // a store into a text that can be written: the cached machine stops before it
+    row!(text: STORE, rights: 7, answer: Ok(Exited(0, 4))),
+    row!(words: "cached A", text: STORE, rights: 7, answer: Ok(StoreText(0x10004, 0x10000, 1)),
+        err: "store into text: pc 00010004, address 00010000, 1 steps\n"),
+    row!(words: "cached A", text: SWAP, rights: 7, answer: Ok(StoreText(0x10004, 0x10000, 1)),
+        err: "store into text: pc 00010004, address 00010000, 1 steps\n"),
+    // a block that is too small, and caches that are too small, too large, and larger than the ram
+    row!(words: "cached A --block 4", text: COUNT, answer: Err(Long { address: 0x10008, needs: 5 }),
+        err: "long: 00010008 5\n"),
+    row!(words: "rewrite A B --block 4", text: COUNT, answer: Err(Long { address: 0x10008, needs: 5 }),
+        err: "long: 00010008 5\n"),
+    row!(words: "cached A --block 64 --cache 255", answer: Err(CacheSmall { bytes: 255, least: 256 }),
+        err: "cache small: 255 256\n"),
+    row!(words: "cached B --cache 8388609", answer: Err(CacheLarge { bytes: 8388609 }), err: "cache large: 8388609\n"),
+    row!(words: "cached B --cache 20", ram: 4, answer: Err(RamSmall { bytes: 20, held: 16 }), err: "ram small: 20 16\n"),
+    // words that are no command, a file that isn't there, and one without an image
+    row!(words: "cashed A", answer: Err(Usage), err: USAGE),
+    row!(words: "", answer: Err(Usage), err: USAGE),
+    row!(words: "plain B", answer: Err(ShelfFault), err: "shelf fault\n"),
+    row!(words: "plain B", err_fails: 1, answer: Err(ShelfFault)),
+    row!(words: "check A", answer: Err(NoImage), err: "no image\n"),
+    row!(words: "upgrade A B", answer: Err(NoImage), err: "no image\n"),
+    row!(text: &[], answer: Err(Elf(NoText(0))), err: "elf 15 NoText 0\n"),
+    // the error sink fails at the ending's line, and takes the next
+    row!(words: "cached A --steps 1", err_fails: 1, answer: Err(SinkFault), err: "sink fault\n"),
 ];
 
 #[test]
 fn commands_answer_and_write(rt: HostRuntime) -> Result<(), Fail> {
-    for (k, row) in ROWS.iter().enumerate() {
+    for (k, row) in SINGLE_ROWS.iter().enumerate() {
         let file = file_of(rt.alloc(), row.text, row.rights, 0x10000)?;
         assert!(rt; holds(rt.alloc(), row, file)?, "row {k}: {}", row.words);
     }
     Ok(())
 }
 
+/// Jumps over one word, over one more, and back to the first.
+const ROUND: &[u32] = &[0x0040006F, 0x0040006F, 0xFF9FF06F];
+
+/// Calls a routine that exits with the address behind the call.
+const CALL: &[u32] = &[
+    0x00000097, 0x00C080E7, 0x00000000, 0x05D00893, 0x00008513, 0x00000073,
+];
+
+/// The names of the counts, in their order.
+const COUNTS: [&str; 9] = [
+    "steps",
+    "instructions",
+    "services",
+    "misses",
+    "evictions",
+    "links",
+    "unlinks",
+    "fetches",
+    "writes",
+];
+
+/// A command on the cached machine and its text; and then the answer and the counts, worked by hand from the rules of the cache.
+static COUNTED: [(&str, &[u32], Ending, [u64; 9]); 14] = [
+    (
+        "--block 8",
+        SEVEN,
+        Exited(7, 3),
+        [3, 4, 0, 1, 0, 0, 0, 3, 5],
+    ),
+    // the block is linked to itself; in the midst, and not begun
+    (
+        "--block 16 --cache 64",
+        COUNT,
+        Exited(0, 9),
+        [9, 12, 1, 1, 0, 1, 0, 11, 10],
+    ),
+    (
+        "--block 16 --cache 64 --steps 4",
+        COUNT,
+        Spent(4, 0x10008),
+        [4, 6, 1, 1, 0, 1, 0, 5, 10],
+    ),
+    (
+        "--block 16 --cache 64 --steps 0",
+        COUNT,
+        Spent(0, 0x10000),
+        [0, 1, 0, 1, 0, 0, 0, 0, 9],
+    ),
+    // one slot: each exit's block is evicted by its target; and two slots, with a link undone
+    (
+        "--block 5 --cache 20",
+        COUNT,
+        Exited(0, 9),
+        [9, 16, 6, 7, 6, 0, 0, 15, 31],
+    ),
+    (
+        "--block 5 --cache 40",
+        COUNT,
+        Exited(0, 9),
+        [9, 16, 3, 3, 1, 3, 1, 15, 17],
+    ),
+    // first in, first out at its worst
+    (
+        "--block 2 --cache 16 --steps 6",
+        ROUND,
+        Spent(6, 0x10000),
+        [6, 7, 6, 7, 5, 6, 0, 6, 20],
+    ),
+    // a jump to an address in a register, in one block and in three
+    (
+        "--block 16",
+        CALL,
+        Exited(65544, 5),
+        [5, 7, 1, 1, 0, 0, 0, 6, 12],
+    ),
+    (
+        "--block 5 --cache 60",
+        CALL,
+        Exited(65544, 5),
+        [5, 8, 2, 3, 0, 1, 0, 7, 15],
+    ),
+    // outside the text nothing is fetched
+    (
+        "--steps 2",
+        BESIDE,
+        Spent(2, 0x20000),
+        [2, 3, 0, 1, 0, 0, 0, 2, 4],
+    ),
+    (
+        "--steps 3",
+        BESIDE,
+        Faulted(FetchAccess, 0x20000, 0x20000, 3),
+        [3, 4, 0, 1, 0, 0, 0, 2, 4],
+    ),
+    (
+        "--heap 0",
+        &[0x00000363],
+        Faulted(FetchMisaligned, 0x10000, 0x10006, 1),
+        [1, 3, 0, 1, 0, 0, 0, 2, 5],
+    ),
+    // a stop before a store into the text is an instruction, but no step
+    (
+        "--heap 1",
+        STORE,
+        StoreText(0x10004, 0x10000, 1),
+        [1, 4, 0, 1, 0, 0, 0, 3, 7],
+    ),
+    (
+        "--steps 9",
+        &[
+            0x00500613, 0x1001252F, 0x18C125AF, 0x18C126AF, 0x00C1252F, 0x00012503, 0x00D50533,
+            0x05D00893, 0x00000073,
+        ],
+        Exited(11, 9),
+        [9, 10, 0, 1, 0, 0, 0, 9, 11],
+    ),
+];
+
+#[test]
+fn cached_runs_have_their_counts(rt: HostRuntime) -> Result<(), Fail> {
+    let alloc = rt.alloc();
+    for (options, text, ending, counts) in COUNTED.into_iter() {
+        let words = ["cached A --stats ", options].concat(alloc)?;
+        let done = run_words(alloc, &words, &QUIET, file_of(alloc, text, 7, 0x10000)?)?;
+        assert_eq!(rt; done.answer, Ok(ending), "{words}");
+        let mut expected = Vec::new(alloc);
+        for (name, count) in COUNTS.iter().zip(counts.iter()) {
+            expected.extend_from_slice(format!(in alloc; "{name} {count}\n")?.as_bytes())?;
+        }
+        assert_eq!(rt; done.out.held(), expected.as_slice(), "{words}");
+        assert_eq!(rt; done.ram.fetches(), counts[7], "{words}");
+        assert_eq!(rt; done.ram.sets(), counts[8], "{words}");
+    }
+    Ok(())
+}
+
+/// The ram after two runs: a link undone, whose word is an exit again, and links that stand.
+const LINKED: [u32; 10] = [
+    0x05D00893, 0x00000073, 0x00100073, 0x00010014, 0, 0x00028663, 0x00100073, 0x00010004,
+    0xFE1FF06F, 0x0001000C,
+];
+
+#[test]
+fn links_stand_in_the_ram(rt: HostRuntime) -> Result<(), Fail> {
+    let alloc = rt.alloc();
+    let row = row!(words: "cached A --block 5 --cache 40", text: COUNT);
+    let done = run(alloc, &row, file_of(alloc, COUNT, 5, 0x10000)?)?;
+    for (i, word) in LINKED.into_iter().enumerate() {
+        assert_eq!(rt; done.ram.word(i as u32), word, "word {i}");
+    }
+    Ok(())
+}
+
+/// A command on `FIRST` or `SECOND`, and the words of the file that then stands under `B`.
+#[test]
+fn files_are_rewritten_and_upgraded(rt: HostRuntime) -> Result<(), Fail> {
+    let alloc = rt.alloc();
+    for (words, file) in [
+        ("rewrite A B --block 8", &PLAIN[..]),
+        ("rewrite A B --block=8", &FIRST[..]),
+        ("upgrade A B", &FIRST[..]),
+        ("upgrade A B", &SECOND[..]),
+    ] {
+        let done = run_words(alloc, words, &QUIET, bytes_of(alloc, file)?)?;
+        assert_eq!(rt; done.answer, Ok(Done), "{words}");
+        let expected = bytes_of(alloc, &SECOND)?;
+        assert_eq!(rt; done.shelf.held("B"), Some(expected.as_slice()), "{words}");
+        assert!(rt;
+            done.out.held().is_empty() && done.err.held().is_empty(),
+            "{words}"
+        );
+    }
+    for file in [&FIRST[..], &SECOND[..]] {
+        let row = row!(words: "check A", answer: Ok(Done), out: "ok: 1 blocks of 8 words\n");
+        assert!(rt; holds(alloc, &row, bytes_of(alloc, file)?)?);
+    }
+    Ok(())
+}
+
+#[test]
+fn a_file_may_be_rewritten_in_its_place(rt: HostRuntime) -> Result<(), Fail> {
+    let alloc = rt.alloc();
+    let done = run_words(
+        alloc,
+        "rewrite A A --block 8",
+        &QUIET,
+        bytes_of(alloc, &PLAIN)?,
+    )?;
+    let expected = bytes_of(alloc, &SECOND)?;
+    assert_eq!(rt; done.shelf.held("A"), Some(expected.as_slice()));
+    Ok(())
+}
+
+/// The place of a word of `FIRST` and what stands there instead; and then the refusal, and its line.
+static IMAGES: [(usize, u32, Refusal, &str); 12] = [
+    (32, NONE, Image(ImageRefusal::Magic(0)), "image 1 Magic 0\n"),
+    (
+        33,
+        NONE,
+        Image(ImageRefusal::Version(1)),
+        "image 2 Version 1\n",
+    ),
+    (
+        34,
+        NONE,
+        Image(ImageRefusal::BlockSize(2)),
+        "image 3 BlockSize 2\n",
+    ),
+    (
+        35,
+        NONE,
+        Image(ImageRefusal::Length(18)),
+        "image 4 Length 18\n",
+    ),
+    (
+        36,
+        NONE,
+        Image(ImageRefusal::Length(18)),
+        "image 4 Length 18\n",
+    ),
+    (
+        25,
+        68,
+        Image(ImageRefusal::Length(17)),
+        "image 4 Length 17\n",
+    ),
+    (
+        37,
+        NONE,
+        Mismatch(Difference::Cover { address: 0x10000 }),
+        "mismatch: cover 00010000\n",
+    ),
+    (38, NONE, Image(ImageRefusal::Table(6)), "image 5 Table 6\n"),
+    (
+        39,
+        NONE,
+        Image(ImageRefusal::Offsets(7)),
+        "image 6 Offsets 7\n",
+    ),
+    (
+        41,
+        NONE,
+        Image(ImageRefusal::Offsets(9)),
+        "image 6 Offsets 9\n",
+    ),
+    (
+        43,
+        0x00800513,
+        Mismatch(Difference::Word {
+            block: 0,
+            offset: 1,
+            held: 0x00800513,
+            required: 0x00700513,
+        }),
+        "mismatch: word 0 1 00800513 00700513\n",
+    ),
+    (
+        49,
+        NONE,
+        Mismatch(Difference::Word {
+            block: 0,
+            offset: 7,
+            held: NONE,
+            required: 0,
+        }),
+        "mismatch: word 0 7 ffffffff 00000000\n",
+    ),
+];
+
+#[test]
+fn a_changed_image_is_refused_by_each_command_that_reads_it(rt: HostRuntime) -> Result<(), Fail> {
+    let alloc = rt.alloc();
+    for (at, word, refusal, line) in IMAGES.into_iter() {
+        for words in ["cached A", "plain A", "check A", "upgrade A B"] {
+            let row = row!(words: words, answer: Err(refusal), err: line);
+            assert!(rt;
+                holds(alloc, &row, bytes_with(alloc, &FIRST, at, word)?)?,
+                "{words}: {word} at {at}"
+            );
+        }
+    }
+    Ok(())
+}
+
+/// The place of a word of `SECOND` and what stands there instead, and how many words there are; and then the refusal.
+static SECOND_IMAGES: [(usize, u32, Refusal); 3] = [
+    (39, 9, Image(ImageRefusal::Length(16))),
+    (39, 4, Image(ImageRefusal::Length(16))),
+    (33, 3, Image(ImageRefusal::Version(1))),
+];
+
+#[test]
+fn a_changed_image_of_version_2_is_refused(rt: HostRuntime) -> Result<(), Fail> {
+    let alloc = rt.alloc();
+    for (at, word, refusal) in SECOND_IMAGES.into_iter() {
+        let done = run_words(
+            alloc,
+            "check A",
+            &QUIET,
+            bytes_with(alloc, &SECOND, at, word)?,
+        )?;
+        assert_eq!(rt; done.answer, Err(refusal), "{word} at {at}");
+    }
+    // an end that is too far, with zeros behind; and one too near, without the last word
+    let mut longer = [&SECOND[..], &[0, 0, 0, 0]].concat(alloc)?;
+    for (at, word) in [(25, 80), (26, 80), (39, 9)] {
+        longer[at] = word;
+    }
+    let done = run_words(alloc, "check A", &QUIET, bytes_of(alloc, &longer)?)?;
+    assert_eq!(rt; done.answer, Err(Image(ImageRefusal::Lengths(7))));
+    let mut shorter = SECOND[..47].to_vec(alloc)?;
+    for (at, word) in [(25, 60), (26, 60), (39, 4)] {
+        shorter[at] = word;
+    }
+    let done = run_words(alloc, "check A", &QUIET, bytes_of(alloc, &shorter)?)?;
+    assert_eq!(rt;
+        done.answer,
+        Err(Mismatch(Difference::Length {
+            block: 0,
+            held: 4,
+            required: 5
+        }))
+    );
+    Ok(())
+}
+
+/// How many of the first bytes of `FIRST` are there; and then what `cached` answers.
+static FRONTS: [(usize, Result<Ending, Refusal>); 9] = [
+    (0, Err(Elf(Short(0)))),
+    (51, Err(Elf(Short(51)))),
+    (52, Err(Elf(Table(28)))),
+    (115, Err(Elf(Table(28)))),
+    (116, Err(Elf(Extent(0)))),
+    (127, Err(Elf(Extent(0)))),
+    (128, Err(Elf(Extent(1)))),
+    (199, Err(Elf(Extent(1)))),
+    (200, Ok(Exited(7, 3))),
+];
+
+#[test]
+fn the_front_of_a_file_is_refused(rt: HostRuntime) -> Result<(), Fail> {
+    for (size, answer) in FRONTS.into_iter() {
+        let mut file = bytes_of(rt.alloc(), &FIRST)?;
+        file.truncate(size);
+        assert_eq!(rt;
+            run_words(rt.alloc(), "cached A", &QUIET, file)?.answer,
+            answer,
+            "{size}"
+        );
+    }
+    Ok(())
+}
+
 #[test]
 fn a_jump_table_is_run(rt: HostRuntime) -> Result<(), Fail> {
-    let row = row!(answer: Ok(Exited(0, 15)), out: "hi\n", status: 0);
-    assert!(rt; holds(rt.alloc(), &row, bytes_of(rt.alloc(), &TABLE)?)?);
+    for words in ["plain A", "cached A"] {
+        let row = row!(words: words, answer: Ok(Exited(0, 15)), out: "hi\n");
+        assert!(rt;
+            holds(rt.alloc(), &row, bytes_of(rt.alloc(), &TABLE)?)?,
+            "{words}"
+        );
+    }
     Ok(())
 }
 
-/// The calls of the output that a run of the table with its state makes, one for `hi` and one for each line of the state.
-const TABLE_CALLS: u32 = 35;
+/// The ram of 16 words fails at each call in turn, until the run makes fewer.
+#[test]
+fn each_call_of_the_ram_may_fail(rt: HostRuntime) -> Result<(), Fail> {
+    let alloc = rt.alloc();
+    for call in 1..=22u32 {
+        let row =
+            row!(words: "cached A --block 16 --cache 64 --stats", text: COUNT, ram: 16, ram_fails: call);
+        let done = run(alloc, &row, file_of(alloc, COUNT, 5, 0x10000)?)?;
+        if call == 22 {
+            assert_eq!(rt; done.answer, Ok(Exited(0, 9)));
+        } else {
+            assert_eq!(rt; done.answer, Err(RamFault), "call {call}");
+            assert!(rt; done.out.held().is_empty(), "call {call}");
+            assert_eq!(rt; done.err.held(), b"ram fault\n".as_slice(), "call {call}");
+        }
+    }
+    Ok(())
+}
 
 #[test]
-fn each_call_of_the_output_may_fail(rt: HostRuntime) -> Result<(), Fail> {
+fn a_run_whose_ram_fails_has_written_what_its_steps_wrote(rt: HostRuntime) -> Result<(), Fail> {
     let alloc = rt.alloc();
-    for call in 1..=TABLE_CALLS {
-        let row = row!(words: "plain A --state", out_fails: call);
-        let (answer, out, err) = run(alloc, &row, bytes_of(alloc, &TABLE)?, b"")?;
-        assert_eq!(rt; answer, Err(SinkFault), "call {call}");
+    for call in 1..=27u32 {
+        let row = row!(words: "cached A --block 16", text: ECHO, input: "abc", ram_fails: call);
+        let done = run(alloc, &row, file_of(alloc, ECHO, 5, 0x10000)?)?;
+        let answer = if call == 27 {
+            Ok(Exited(0, 12))
+        } else {
+            Err(RamFault)
+        };
+        assert_eq!(rt; done.answer, answer, "call {call}");
+        let out = if call < 24 { "" } else { "abc" };
+        assert_eq!(rt; done.out.held(), out.as_bytes(), "call {call}");
+    }
+    Ok(())
+}
+
+#[test]
+fn a_source_or_a_sink_that_fails_is_answered(rt: HostRuntime) -> Result<(), Fail> {
+    let alloc = rt.alloc();
+    for words in ["plain A", "cached A"] {
+        let row =
+            row!(words: words, text: ECHO, input: "abc", input_fails: 1, answer: Err(SourceFault), err: "source fault\n");
         assert!(rt;
-            TABLE_OUTPUT.as_bytes().starts_with(out.held()),
+            holds(alloc, &row, file_of(alloc, ECHO, 5, 0x10000)?)?,
+            "{words}"
+        );
+        let row =
+            row!(words: words, text: ECHO, input: "abc", out_fails: 1, answer: Err(SinkFault), err: "sink fault\n");
+        assert!(rt;
+            holds(alloc, &row, file_of(alloc, ECHO, 5, 0x10000)?)?,
+            "{words}"
+        );
+    }
+    let whole = run_words(alloc, "cached A --stats", &QUIET, bytes_of(alloc, &TABLE)?)?;
+    for call in 1..=10u32 {
+        let row = row!(words: "cached A --stats", out_fails: call);
+        let done = run(alloc, &row, bytes_of(alloc, &TABLE)?)?;
+        assert_eq!(rt; done.answer, Err(SinkFault), "call {call}");
+        assert!(rt;
+            whole.out.held().starts_with(done.out.held()),
             "call {call}"
         );
-        assert_eq!(rt; err.held(), b"sink fault\n".as_slice(), "call {call}");
+        assert_eq!(rt; done.err.held(), b"sink fault\n".as_slice(), "call {call}");
     }
-    let row = row!(words: "plain A --state", out_fails: TABLE_CALLS + 1,
-        answer: Ok(Exited(0, 15)), out: TABLE_OUTPUT, status: 0);
-    assert!(rt; holds(alloc, &row, bytes_of(alloc, &TABLE)?)?);
     Ok(())
 }
 
 #[test]
-fn a_long_input_is_echoed_up_to_1000_bytes(rt: HostRuntime) -> Result<(), Fail> {
+fn a_shelf_that_fails_changes_no_other_name(rt: HostRuntime) -> Result<(), Fail> {
     let alloc = rt.alloc();
-    for (size, echoed) in [(1500u32, 1000usize), (300, 300)] {
-        let mut input = Vec::new(alloc);
-        for j in 0..size {
-            input.push((j % 251) as u8)?;
-        }
-        let file = file_of(alloc, LONG_ECHO, 5, 0x10000)?;
-        let (answer, out, _) = run(alloc, &QUIET, file, &input)?;
-        assert_eq!(rt; answer, Ok(Exited(0, 12)), "{size}");
-        assert_eq!(rt; out.held().len(), echoed, "{size}");
-        assert!(rt; input.starts_with(out.held()), "{size}");
+    for call in 1..=3u32 {
+        let row = row!(words: "rewrite A B --block 8", shelf_fails: call);
+        let done = run(alloc, &row, bytes_of(alloc, &PLAIN)?)?;
+        let answer = if call < 3 { Err(ShelfFault) } else { Ok(Done) };
+        assert_eq!(rt; done.answer, answer, "call {call}");
+        let file = bytes_of(alloc, &PLAIN)?;
+        assert_eq!(rt; done.shelf.held("A"), Some(file.as_slice()), "call {call}");
     }
     Ok(())
-}
-
-/// The row of a file that is refused, with this line alone.
-fn refused(refusal: ElfRefusal, line: &'static str) -> Row {
-    row!(answer: Err(Elf(refusal)), err: line, status: 243)
 }
 
 /// The place of a word of `PLAIN` and what stands there instead; and then the check that fails, and its line.
@@ -364,43 +785,24 @@ fn a_changed_file_is_refused_with_its_line(rt: HostRuntime) -> Result<(), Fail> 
     for (at, word, refusal, line) in CHANGED.into_iter() {
         let file = bytes_with(alloc, &PLAIN, at, word)?;
         assert!(rt;
-            holds(alloc, &refused(refusal, line), file)?,
+            holds(alloc, &row!(answer: Err(Elf(refusal)), err: line), file)?,
             "{word} at {at}"
         );
     }
     for (at, word, refusal, line) in DOUBLE_CHANGED.into_iter() {
         let file = bytes_with(alloc, &DOUBLE, at, word)?;
         assert!(rt;
-            holds(alloc, &refused(refusal, line), file)?,
+            holds(alloc, &row!(answer: Err(Elf(refusal)), err: line), file)?,
             "{word} at {at}"
         );
     }
     Ok(())
 }
 
-/// How many of a file's first bytes are there; and then the check that fails, and its line.
-static CUT: [(usize, ElfRefusal, &str); 5] = [
-    (0, Short(0), "elf 1 Short 0\n"),
-    (51, Short(51), "elf 1 Short 51\n"),
-    (83, Table(28), "elf 11 Table 28\n"),
-    (84, Extent(0), "elf 13 Extent 0\n"),
-    (95, Extent(0), "elf 13 Extent 0\n"),
-];
-
-#[test]
-fn the_front_of_a_file_is_refused_with_its_line(rt: HostRuntime) -> Result<(), Fail> {
-    for (size, refusal, line) in CUT.into_iter() {
-        let mut file = bytes_of(rt.alloc(), &PLAIN)?;
-        file.truncate(size);
-        assert!(rt; holds(rt.alloc(), &refused(refusal, line), file)?, "{size}");
-    }
-    Ok(())
-}
-
 /// Files of 2^26 and of 2^26 + 1 bytes, all of them 0: only the longer one is refused for its length.
 static LONG_ROWS: [Row; 2] = [
-    row!(answer: Err(Elf(Magic(0))), err: "elf 2 Magic 0\n", status: 243),
-    row!(answer: Err(FileLong { limit: 67_108_864 }), err: "file too long\n", status: 248),
+    row!(answer: Err(Elf(Magic(0))), err: "elf 2 Magic 0\n"),
+    row!(answer: Err(FileLong { limit: 67_108_864 }), err: "file too long\n"),
 ];
 
 #[test]
@@ -417,8 +819,8 @@ fn a_file_may_have_two_to_the_26_bytes(rt: HostRuntime) -> Result<(), Fail> {
 
 /// A file of `SEVEN` at 0xFFFF0000: the stack's place decides whether it has room.
 static HIGH_ROWS: [Row; 2] = [
-    row!(answer: Err(Room { end: 4_296_024_064 }), err: "elf 19 Room 4296024064\n", status: 243),
-    row!(words: "plain A --heap 0 --stack 4096"),
+    row!(answer: Err(Room { end: 4_296_024_064 }), err: "elf 19 Room 4296024064\n"),
+    row!(words: "cached A --heap 0 --stack 4096"),
 ];
 
 #[test]

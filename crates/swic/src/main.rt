@@ -1,7 +1,7 @@
 //! `swic`: the words of the command line, the files and the streams go to the top call, and its answer is the exit status.
 #![tactic(auto)]
 
-ghost use Rattle.std.specs.Prelude.{◌≤◌, IfOk, length};
+ghost use Rattle.std.specs.Prelude.{◌^◌, ◌≤◌, IfOk, length};
 
 use std::alloc::{AllocError, Global};
 use std::env;
@@ -9,7 +9,7 @@ use std::process::ExitCode;
 use swi_outside::{FolderShelf, Memory, RealSink, RealSource, VecRam};
 use swi_top::{Refusal, status_of, top};
 
-/// The words of cache RAM.
+/// The words of cache RAM: those of the largest cache, of 2^23 bytes.
 const RAM_WORDS: u32 = 1 << 21;
 
 /// The words after the program's name; None where they could not be read, as where one is no text.
@@ -20,10 +20,10 @@ fn words_of(rt: &HostRuntime) -> Option<Result<Vec<String>, AllocError>> {
     }
 }
 
-/// A cache RAM of so many words.
+/// A cache RAM of so many words, which holds the largest cache.
 fn cache_ram(alloc: Global, words: u32) -> Result<VecRam, Memory>
-    requires { 8 ≤ words }
-    ensures { IfOk result (λ ram. 8 ≤ length ram.words) }
+    requires { 2 ^ 21 ≤ words }
+    ensures { IfOk result (λ ram. words ≤ length ram.words) }
 {
     VecRam::new(alloc, words)
 }

@@ -1,37 +1,39 @@
-use Rattle.std.proofs.Common.{◌≡◌, ◌∙◌, ap, sym, subst, IfOk, Some, map, string_bytes, Option}
-use Rattle.swi_command.specs.CommandLine.{Request, request_of}
-use Rattle.swi_command.proofs.Naming.{first_text, command_of-cached, command_of-plain, command_of-nothing, command_of-unknown}
+use Rattle.std.proofs.Common.{◌≡◌, ◌∙◌, sym, subst, IfOk, Option, Some, None, map, string_bytes}
+use Rattle.swi_command.specs.Arguments.{form_of}
+use Rattle.swi_command.specs.CommandLine.{Request, form_first, request_of}
+use Rattle.swi_command.proofs.Naming.{form_first-named, form_first-nothing, command_of-by}
 use Rattle.swi_command.proofs.parse_command.Goals as goal
 
 pub returns-in_default-clause-usage : goal.returns-in_default-clause-usage
-returns-in_default-clause-usage c usage = command_of-nothing c.args.words.now c.first.result c.first.ensures.value c.in_default.is
+returns-in_default-clause-usage c usage =
+    command_of-by (map (λ w. string_bytes w) c.args.words.now) None
+    (form_first-nothing c.args.words.now c.first.result c.first.ensures.value c.in_default.is)
 
-pub returns-in-cached-clause-ok : goal.returns-in-cached-clause-ok
-returns-in-cached-clause-ok c =
-    let named = first_text c.args.words.now c.first.result c.in-Some.name c.first.ensures.value c.in-Some.is in
-    let is = command_of-cached (map (λ w. string_bytes w) c.args.words.now) (named ∙ ap Some (sym c.as_str.ensures.value ∙ c.in-cached.is)) in
-    subst (λ (r : Option Request). IfOk c.parse_cached.result (λ x. r ≡ Some (request_of x))) (sym is) c.parse_cached.ensures.ok
+pub returns-in_default-named-clause-usage : goal.returns-in_default-named-clause-usage
+returns-in_default-named-clause-usage c usage =
+    let none : form_first (map (λ w. string_bytes w) c.args.words.now) ≡ None =
+    form_first-named c.args.words.now c.first.result c.in-Some.word c.as_str.result.now c.named.result None
+    c.first.ensures.value c.in-Some.is c.as_str.ensures.value c.named.ensures c.in_default-named.is in
+    command_of-by (map (λ w. string_bytes w) c.args.words.now) None none
 
-pub returns-in-cached-clause-usage : goal.returns-in-cached-clause-usage
-returns-in-cached-clause-usage c usage =
-    let named = first_text c.args.words.now c.first.result c.in-Some.name c.first.ensures.value c.in-Some.is in
-    command_of-cached (map (λ w. string_bytes w) c.args.words.now) (named ∙ ap Some (sym c.as_str.ensures.value ∙ c.in-cached.is))
-    ∙ c.parse_cached.ensures.usage usage
+pub returns-clause-ok : goal.returns-clause-ok
+returns-clause-ok c =
+    let form : form_first (map (λ w. string_bytes w) c.args.words.now) ≡ Some (form_of c.in-Some-named.name) =
+    form_first-named c.args.words.now c.first.result c.in-Some.word c.as_str.result.now c.named.result (Some c.in-Some-named.name)
+    c.first.ensures.value c.in-Some.is c.as_str.ensures.value c.named.ensures c.in-Some-named.is in
+    subst (λ (r : Option Request). IfOk c.parse_named.result (λ x. r ≡ Some (request_of x)))
+    (sym (command_of-by (map (λ w. string_bytes w) c.args.words.now) (Some (form_of c.in-Some-named.name)) form)) c.parse_named.ensures.ok
 
-pub returns-in-plain-clause-ok : goal.returns-in-plain-clause-ok
-returns-in-plain-clause-ok c =
-    let named = first_text c.args.words.now c.first.result c.in-Some.name c.first.ensures.value c.in-Some.is in
-    let is = command_of-plain (map (λ w. string_bytes w) c.args.words.now) (named ∙ ap Some (sym c.as_str.ensures.value ∙ c.in-plain.is)) in
-    subst (λ (r : Option Request). IfOk c.parse_plain.result (λ x. r ≡ Some (request_of x))) (sym is) c.parse_plain.ensures.ok
+pub returns-clause-usage : goal.returns-clause-usage
+returns-clause-usage c usage =
+    let form : form_first (map (λ w. string_bytes w) c.args.words.now) ≡ Some (form_of c.in-Some-named.name) =
+    form_first-named c.args.words.now c.first.result c.in-Some.word c.as_str.result.now c.named.result (Some c.in-Some-named.name)
+    c.first.ensures.value c.in-Some.is c.as_str.ensures.value c.named.ensures c.in-Some-named.is in
+    command_of-by (map (λ w. string_bytes w) c.args.words.now) (Some (form_of c.in-Some-named.name)) form ∙ c.parse_named.ensures.usage usage
 
-pub returns-in-plain-clause-usage : goal.returns-in-plain-clause-usage
-returns-in-plain-clause-usage c usage =
-    let named = first_text c.args.words.now c.first.result c.in-Some.name c.first.ensures.value c.in-Some.is in
-    command_of-plain (map (λ w. string_bytes w) c.args.words.now) (named ∙ ap Some (sym c.as_str.ensures.value ∙ c.in-plain.is))
-    ∙ c.parse_plain.ensures.usage usage
-
-pub returns-in_default-as_str-clause-usage : goal.returns-in_default-as_str-clause-usage
-returns-in_default-as_str-clause-usage c usage =
-    let named = first_text c.args.words.now c.first.result c.in-Some.name c.first.ensures.value c.in-Some.is in
-    command_of-unknown (map (λ w. string_bytes w) c.args.words.now) c.as_str.result.now (named ∙ ap Some (sym c.as_str.ensures.value))
-    c.in_default-as_str.not-cached c.in_default-as_str.not-plain
+pub returns-clause-unknown : goal.returns-clause-unknown
+returns-clause-unknown c unknown =
+    let form : form_first (map (λ w. string_bytes w) c.args.words.now) ≡ Some (form_of c.in-Some-named.name) =
+    form_first-named c.args.words.now c.first.result c.in-Some.word c.as_str.result.now c.named.result (Some c.in-Some-named.name)
+    c.first.ensures.value c.in-Some.is c.as_str.ensures.value c.named.ensures c.in-Some-named.is in
+    cc

@@ -1,48 +1,34 @@
-use Rattle.std.proofs.Common.{◌≡◌}
-use Rattle.swi_outside.specs.Causes.{Rose}
-use Rattle.swi_outside.specs.Sink.{AppendsPrefix}
 use Rattle.swi_command.specs.CommandLine.{request_of}
-use Rattle.swi_outside.proofs.SinkLemmas.{prefix_whole}
-use Rattle.swi_top.specs.declared.answer.Refusal.TheVariants as refusal
-use Rattle.swi_top.specs.Answer.{ending_of, options_of, run_of, run_output}
-use Rattle.swi_top.specs.Texts.{ending_line, refusal_line}
-use Rattle.swi_top.proofs.FinishLemmas.{behind_prefix, calm_first, calm_last, prefixes_behind, prefixes_first}
+use Rattle.swi_answer.specs.declared.answer.Refusal.TheVariants as refusal
+use Rattle.swi_top.specs.Devices.{Devices, seen}
+use Rattle.swi_top.proofs.Lines.{ended_line_still, ending_failed, refused_line, told_to}
 use Rattle.swi_top.proofs.call.run_command.Goals as goal
 
-pub returns-in-Err-write_ending-clause-writes : goal.returns-in-Err-write_ending-clause-writes
-returns-in-Err-write_ending-clause-writes g c file left told known =
-    let run = (run_of (options_of (request_of c.args.command.now)) file left) in
-    let w = c.in-Ok.ensures.writes file left told known in
-    let e : c.in-Ok.ending ≡ ending_of run = c.in-Ok.ensures.ending file left told known in
-    let part : AppendsPrefix (g.E.Sink.held c.perform.new.err) (g.E.Sink.held c.write_ending.new.err) (ending_line c.in-Ok.ending) = c.in-Err-write_ending.ensures.bytes in (
-      prefix_whole (g.O.Sink.held c.args.out.now) (g.O.Sink.held c.perform.new.out) (run_output (options_of (request_of c.args.command.now)) run) w.0,
-      rw c.refuse.ensures.same (prefixes_behind (g.E.Sink.held c.args.err.now) (g.E.Sink.held c.perform.new.err) (g.E.Sink.held c.write_ending.new.err) (g.E.Sink.held c.refuse.new.err)
-          run.error (ending_line (ending_of run)) (refusal_line refusal.SinkFault) w.1 (rw e at part) c.refuse.ensures.prefix),
-    )
+pub returns-in-Ok-write_ending : goal.returns-in-Ok-write_ending
+returns-in-Ok-write_ending g c =
+    let middle : Devices = seen (g.F.Shelf.contents c.perform.new.shelf) (g.F.Shelf.last_failed c.perform.new.shelf) (g.F.Shelf.faults c.perform.new.shelf)
+    (g.I.Source.left c.perform.new.input) (g.I.Source.faults c.perform.new.input) (g.O.Sink.held c.perform.new.out) (g.O.Sink.faults c.perform.new.out)
+    (g.E.Sink.held c.perform.new.err) (g.E.Sink.faults c.perform.new.err) (g.R.CacheRam.state c.perform.new.ram) in
+    ended_line_still (request_of c.args.command.now) _ middle c.in-Ok.ending (g.E.Sink.held c.write_ending.new.err) (g.E.Sink.faults c.write_ending.new.err)
+    c.in-Ok-write_ending.ensures.cause.quiet c.in-Ok.ensures c.in-Ok-write_ending.ensures.bytes (λ e. (c.in-Ok-write_ending.ensures.unasked e).0)
 
-pub returns-in-Err-clause-writes : goal.returns-in-Err-clause-writes
-returns-in-Err-clause-writes g c file left told known =
-    let run = (run_of (options_of (request_of c.args.command.now)) file left) in
-    let w = c.in-Err.ensures.writes file left told known in (
-      w.0,
-      rw c.refuse-in-Err.ensures.same (prefixes_first (g.E.Sink.held c.args.err.now) (g.E.Sink.held c.perform.new.err) (g.E.Sink.held c.refuse-in-Err.new.err)
-          run.error (ending_line (ending_of run)) (refusal_line c.in-Err.refusal) w.1 c.refuse-in-Err.ensures.prefix),
-    )
+pub returns-in-Err-write_ending : goal.returns-in-Err-write_ending
+returns-in-Err-write_ending g c =
+    let middle : Devices = seen (g.F.Shelf.contents c.perform.new.shelf) (g.F.Shelf.last_failed c.perform.new.shelf) (g.F.Shelf.faults c.perform.new.shelf)
+    (g.I.Source.left c.perform.new.input) (g.I.Source.faults c.perform.new.input) (g.O.Sink.held c.perform.new.out) (g.O.Sink.faults c.perform.new.out)
+    (g.E.Sink.held c.perform.new.err) (g.E.Sink.faults c.perform.new.err) (g.R.CacheRam.state c.perform.new.ram) in
+    rw c.refuse.ensures.same
+    (refused_line (request_of c.args.command.now) _ (told_to middle (g.E.Sink.held c.write_ending.new.err) (g.E.Sink.faults c.write_ending.new.err)) refusal.SinkFault
+    (g.E.Sink.held c.refuse.new.err) (g.E.Sink.faults c.refuse.new.err)
+    (ending_failed (request_of c.args.command.now) _ middle c.in-Ok.ending (g.E.Sink.held c.write_ending.new.err) (g.E.Sink.faults c.write_ending.new.err)
+    c.in-Ok.ensures c.in-Err-write_ending.ensures.bytes c.in-Err-write_ending.ensures.asked c.in-Err-write_ending.ensures.cause.later c.in-Err-write_ending.ensures.cause.failed)
+    c.refuse.ensures.line c.refuse.ensures.later)
 
-pub returns-in-Err-write_ending-clause-last_line : goal.returns-in-Err-write_ending-clause-last_line
-returns-in-Err-write_ending-clause-last_line g c file left told known calm =
-    let before = g.E.Sink.faults c.args.err.now in
-    let now = g.E.Sink.faults c.write_ending.new.err in
-    let after = g.E.Sink.faults c.refuse.new.err in
-    let last : Rose (g.E.Sink.faults c.perform.new.err) now → ⊥ = calm_last before (g.E.Sink.faults c.perform.new.err) now c.perform.ensures.causes.err_later
-    (calm_first before now after c.refuse.ensures.later calm) in
-    absurd (last c.in-Err-write_ending.ensures.cause.failed)
-
-pub returns-in-Err-clause-last_line : goal.returns-in-Err-clause-last_line
-returns-in-Err-clause-last_line g c file left told known calm =
-    let run = (run_of (options_of (request_of c.args.command.now)) file left) in
-    let w = c.in-Err.ensures.writes file left told known in
-    let still : Rose (g.E.Sink.faults c.perform.new.err) (g.E.Sink.faults c.refuse-in-Err.new.err) → ⊥ =
-    calm_last (g.E.Sink.faults c.args.err.now) (g.E.Sink.faults c.perform.new.err) (g.E.Sink.faults c.refuse-in-Err.new.err) c.perform.ensures.causes.err_later calm in
-    rw c.refuse-in-Err.ensures.same (behind_prefix (g.E.Sink.held c.args.err.now) (g.E.Sink.held c.perform.new.err) (g.E.Sink.held c.refuse-in-Err.new.err)
-    run.error (ending_line (ending_of run)) (refusal_line c.in-Err.refusal) w.1 (c.refuse-in-Err.ensures.whole still))
+pub returns-in-Err : goal.returns-in-Err
+returns-in-Err g c =
+    let middle : Devices = seen (g.F.Shelf.contents c.perform.new.shelf) (g.F.Shelf.last_failed c.perform.new.shelf) (g.F.Shelf.faults c.perform.new.shelf)
+    (g.I.Source.left c.perform.new.input) (g.I.Source.faults c.perform.new.input) (g.O.Sink.held c.perform.new.out) (g.O.Sink.faults c.perform.new.out)
+    (g.E.Sink.held c.perform.new.err) (g.E.Sink.faults c.perform.new.err) (g.R.CacheRam.state c.perform.new.ram) in
+    rw c.refuse-in-Err.ensures.same
+    (refused_line (request_of c.args.command.now) _ middle c.in-Err.refusal (g.E.Sink.held c.refuse-in-Err.new.err) (g.E.Sink.faults c.refuse-in-Err.new.err)
+    c.in-Err.ensures c.refuse-in-Err.ensures.line c.refuse-in-Err.ensures.later)

@@ -1,83 +1,85 @@
-use Rattle.std.proofs.Common.{◌≡◌, true, false, is_err, ap, sym, refl, ◌∙◌}
-use Rattle.std.specs.Io.KnownBytes.{Appends}
-use Rattle.swi_outside.specs.Sink.{AppendsPrefix}
-use Rattle.swi_calls.specs.declared.machine.Machine.{Machine}
-use Rattle.swi_calls.specs.State.{FlatState}
-use Rattle.swi_calls.specs.Flat.{flat_run, flat_start, machine_of}
-use Rattle.swi_outside.specs.Laws.{Appends-append}
-use Rattle.swi_outside.proofs.SinkLemmas.{prefix_first, prefix_last, prefix_whole, write_failed, write_done}
-use Rattle.swi_flat.specs.FlatData.{FlatData}
-use Rattle.swi_top.specs.Answer.{ending_by, state_shown}
-use Rattle.swi_top.proofs.RunLemmas.{broken_error, broken_output, run_from_start}
+use Rattle.std.proofs.Common.{◌≤◌, ℕ, Option, Err, inr, refl, ap, ◌∙◌, subst}
+use Rattle.swi_outside.specs.Causes.{Rose}
+use Rattle.swi_calls.specs.Causes.{Faults}
+use Rattle.swi_calls.specs.declared.end.End.{End}
+use Rattle.swi_calls.specs.declared.end.CallFault.{CallFault}
+use Rattle.swi_answer.specs.declared.answer.Refusal.TheVariants as refusal
+use Rattle.swi_top.specs.Devices.{Devices}
+use Rattle.swi_top.specs.Plain.{RunsPlain}
+use Rattle.swi_top.specs.Runs.{ending_by}
+use Rattle.swi_top.proofs.Refusals.{late_causes}
+use Rattle.swi_top.proofs.Running.{refusal_of, report_failed, run_done, run_failed, run_to}
 use Rattle.swi_top.proofs.plain.run_plain.Goals as goal
 
-pub returns-in-Err-SourceFault-clause-output_prefix : goal.returns-in-Err-SourceFault-clause-output_prefix
-returns-in-Err-SourceFault-clause-output_prefix g c left told =
-    let final = flat_run c.args.options.now.steps (flat_start c.args.prepared.now.program c.args.prepared.now.layout c.args.options.now.calls left) in
-    let part : AppendsPrefix (g.O.Sink.held c.args.out.now) (g.O.Sink.held c.run.new.out) final.output =
-    broken_output c.in-Ok.machine c.run.new.self (machine_of c.args.prepared.now.program c.args.prepared.now.layout c.args.options.now.calls) c.args.options.now.steps left
-    (g.O.Sink.held c.args.out.now) (g.O.Sink.held c.run.new.out) c.in-Ok.ensures.machine refl c.in-Err-SourceFault.ensures.uncounted c.in-Err-SourceFault.ensures.going (c.in-Err-SourceFault.ensures.stays left told) (c.in-Err-SourceFault.ensures.output_part left told) in
-    prefix_first (g.O.Sink.held c.args.out.now) (g.O.Sink.held c.run.new.out) final.output (state_shown c.args.options.now.state final.machine) part
+pub returns-in_default : goal.returns-in_default
+returns-in_default g c = λ d. record {
+  done = tt;
+  refused = inr (inr refl);
+  memory = λ _. refl;
+  failed = λ never. absurd (never refl);
+  causes = late_causes _ refusal.Memory tt;
+}
 
-pub returns-in-Err-SourceFault-clause-error_prefix : goal.returns-in-Err-SourceFault-clause-error_prefix
-returns-in-Err-SourceFault-clause-error_prefix g c left told =
-    broken_error c.in-Ok.machine c.run.new.self (machine_of c.args.prepared.now.program c.args.prepared.now.layout c.args.options.now.calls) c.args.options.now.steps left
-    (g.E.Sink.held c.args.err.now) (g.E.Sink.held c.run.new.err) c.in-Ok.ensures.machine refl c.in-Err-SourceFault.ensures.uncounted c.in-Err-SourceFault.ensures.going (c.in-Err-SourceFault.ensures.stays left told) (c.in-Err-SourceFault.ensures.error_part left told)
+pub returns-in-Err-SourceFault : goal.returns-in-Err-SourceFault
+returns-in-Err-SourceFault g c = λ d.
+    let before : Devices = record d {
+      input = g.I.Source.left c.args.input.now;
+      output = g.O.Sink.held c.args.out.now;
+      error = g.E.Sink.held c.args.err.now;
+      faults = record d.faults { input = g.I.Source.faults c.args.input.now; out = g.O.Sink.faults c.args.out.now; err = g.E.Sink.faults c.args.err.now };
+    } in
+    let e = c.in-Err-SourceFault.ensures in
+    let after : Devices = run_to before (g.I.Source.left c.run.new.input) (g.O.Sink.held c.run.new.out) (g.E.Sink.held c.run.new.err)
+    (g.I.Source.faults c.run.new.input) (g.O.Sink.faults c.run.new.out) (g.E.Sink.faults c.run.new.err) in
+    subst (λ (f : CallFault). RunsPlain c.args.options.now c.args.prepared.now.program c.args.prepared.now.layout before after (Err (refusal_of f))) c.in-Err-SourceFault.field-0-is
+    (run_failed c.in-Err-SourceFault.field-0 c.args.options.now c.args.prepared.now.program c.args.prepared.now.layout c.in-Ok.machine c.run.new.self before _ _ _ _ _ _
+    c.in-Ok.ensures.machine e.going e.uncounted e.stays e.front e.output_part e.error_part e.failed_input e.causes)
 
-pub returns-in-Err-SinkFault-clause-output_prefix : goal.returns-in-Err-SinkFault-clause-output_prefix
-returns-in-Err-SinkFault-clause-output_prefix g c left told =
-    let final = flat_run c.args.options.now.steps (flat_start c.args.prepared.now.program c.args.prepared.now.layout c.args.options.now.calls left) in
-    let part : AppendsPrefix (g.O.Sink.held c.args.out.now) (g.O.Sink.held c.run.new.out) final.output =
-    broken_output c.in-Ok.machine c.run.new.self (machine_of c.args.prepared.now.program c.args.prepared.now.layout c.args.options.now.calls) c.args.options.now.steps left
-    (g.O.Sink.held c.args.out.now) (g.O.Sink.held c.run.new.out) c.in-Ok.ensures.machine refl c.in-Err-SinkFault.ensures.uncounted c.in-Err-SinkFault.ensures.going (c.in-Err-SinkFault.ensures.stays left told) (c.in-Err-SinkFault.ensures.output_part left told) in
-    prefix_first (g.O.Sink.held c.args.out.now) (g.O.Sink.held c.run.new.out) final.output (state_shown c.args.options.now.state final.machine) part
+pub returns-in-Err-SinkFault : goal.returns-in-Err-SinkFault
+returns-in-Err-SinkFault g c = λ d.
+    let before : Devices = record d {
+      input = g.I.Source.left c.args.input.now;
+      output = g.O.Sink.held c.args.out.now;
+      error = g.E.Sink.held c.args.err.now;
+      faults = record d.faults { input = g.I.Source.faults c.args.input.now; out = g.O.Sink.faults c.args.out.now; err = g.E.Sink.faults c.args.err.now };
+    } in
+    let e = c.in-Err-SinkFault.ensures in
+    let after : Devices = run_to before (g.I.Source.left c.run.new.input) (g.O.Sink.held c.run.new.out) (g.E.Sink.held c.run.new.err)
+    (g.I.Source.faults c.run.new.input) (g.O.Sink.faults c.run.new.out) (g.E.Sink.faults c.run.new.err) in
+    subst (λ (f : CallFault). RunsPlain c.args.options.now c.args.prepared.now.program c.args.prepared.now.layout before after (Err (refusal_of f))) c.in-Err-SinkFault.field-0-is
+    (run_failed c.in-Err-SinkFault.field-0 c.args.options.now c.args.prepared.now.program c.args.prepared.now.layout c.in-Ok.machine c.run.new.self before _ _ _ _ _ _
+    c.in-Ok.ensures.machine e.going e.uncounted e.stays e.front e.output_part e.error_part e.failed_input e.causes)
 
-pub returns-in-Err-SinkFault-clause-error_prefix : goal.returns-in-Err-SinkFault-clause-error_prefix
-returns-in-Err-SinkFault-clause-error_prefix g c left told =
-    broken_error c.in-Ok.machine c.run.new.self (machine_of c.args.prepared.now.program c.args.prepared.now.layout c.args.options.now.calls) c.args.options.now.steps left
-    (g.E.Sink.held c.args.err.now) (g.E.Sink.held c.run.new.err) c.in-Ok.ensures.machine refl c.in-Err-SinkFault.ensures.uncounted c.in-Err-SinkFault.ensures.going (c.in-Err-SinkFault.ensures.stays left told) (c.in-Err-SinkFault.ensures.error_part left told)
+pub returns-in-Ok-write_report : goal.returns-in-Ok-write_report
+returns-in-Ok-write_report g c = λ d.
+    let before : Devices = record d {
+      input = g.I.Source.left c.args.input.now;
+      output = g.O.Sink.held c.args.out.now;
+      error = g.E.Sink.held c.args.err.now;
+      faults = record d.faults { input = g.I.Source.faults c.args.input.now; out = g.O.Sink.faults c.args.out.now; err = g.E.Sink.faults c.args.err.now };
+    } in
+    let e = c.in-Ok-run.ensures in
+    let written = rw (c.pc-pc.ensures, c.steps-steps.ensures, c.regs-regs.ensures, c.bus-bus.ensures, c.heap-heap.ensures) at c.in-Ok-write_report.ensures.bytes in
+    let ends = c.ending_of.ensures ∙ ap (λ (x : Option End). ending_by x c.pc-pc.result c.steps-steps.result) c.ending.ensures
+    ∙ ap (λ (n : ℕ). ending_by c.run.new.self.machine.ending n c.steps-steps.result) c.pc-pc.ensures
+    ∙ ap (λ (n : ℕ). ending_by c.run.new.self.machine.ending c.run.new.self.machine.pc n) c.steps-steps.ensures in
+    let causes = e.causes.quiet in
+    run_done c.args.options.now c.args.prepared.now.program c.args.prepared.now.layout c.in-Ok.machine c.run.new.self before _ (g.O.Sink.held c.run.new.out) _ _ _ _ _ _
+    c.in-Ok.ensures.machine e.machine e.input e.output e.error ends written
+    (ap (λ (x : Faults). x.input) causes) (c.in-Ok-write_report.ensures.cause.quiet ∙ ap (λ (x : Faults). x.out) causes) (ap (λ (x : Faults). x.err) causes)
 
-pub returns-then-is_err-clause-output_prefix : goal.returns-then-is_err-clause-output_prefix
-returns-then-is_err-clause-output_prefix g c left told =
-    let final = flat_run c.args.options.now.steps (flat_start c.args.prepared.now.program c.args.prepared.now.layout c.args.options.now.calls left) in
-    let is = run_from_start c.in-Ok.machine (machine_of c.args.prepared.now.program c.args.prepared.now.layout c.args.options.now.calls) c.args.options.now.steps left c.in-Ok.ensures.machine refl in
-    let machine : c.run.new.self.machine ≡ final.machine = ap (λ (f : FlatData). f.machine) (c.in-Ok-run.ensures.machine left told) ∙ ap (λ (s : FlatState). s.machine) is in
-    let whole : Appends (g.O.Sink.held c.args.out.now) (g.O.Sink.held c.run.new.out) final.output = rw is at (c.in-Ok-run.ensures.output left told) in
-    let failed : is_err c.show_state.result ≡ true = sym c.is_err.ensures.value ∙ c.if-is_err.true in
-    let part : AppendsPrefix (g.O.Sink.held c.run.new.out) (g.O.Sink.held c.show_state.new.out) (state_shown c.args.options.now.state c.run.new.self.machine) =
-    write_failed (g.O.Sink.held c.run.new.out) (g.O.Sink.held c.show_state.new.out) c.show_state.result (state_shown c.args.options.now.state c.run.new.self.machine) failed c.show_state.ensures.bytes in
-    prefix_last (g.O.Sink.held c.args.out.now) (g.O.Sink.held c.run.new.out) (g.O.Sink.held c.show_state.new.out) final.output (state_shown c.args.options.now.state final.machine) whole (rw machine at part)
-
-pub returns-then-is_err-clause-error_prefix : goal.returns-then-is_err-clause-error_prefix
-returns-then-is_err-clause-error_prefix g c left told =
-    let final = flat_run c.args.options.now.steps (flat_start c.args.prepared.now.program c.args.prepared.now.layout c.args.options.now.calls left) in
-    let is = run_from_start c.in-Ok.machine (machine_of c.args.prepared.now.program c.args.prepared.now.layout c.args.options.now.calls) c.args.options.now.steps left c.in-Ok.ensures.machine refl in
-    prefix_whole (g.E.Sink.held c.args.err.now) (g.E.Sink.held c.run.new.err) final.error (rw is at (c.in-Ok-run.ensures.error left told))
-
-pub returns-clause-ending : goal.returns-clause-ending
-returns-clause-ending g c left told =
-    let final = flat_run c.args.options.now.steps (flat_start c.args.prepared.now.program c.args.prepared.now.layout c.args.options.now.calls left) in
-    let is = run_from_start c.in-Ok.machine (machine_of c.args.prepared.now.program c.args.prepared.now.layout c.args.options.now.calls) c.args.options.now.steps left c.in-Ok.ensures.machine refl in
-    let machine : c.run.new.self.machine ≡ final.machine = ap (λ (f : FlatData). f.machine) (c.in-Ok-run.ensures.machine left told) ∙ ap (λ (s : FlatState). s.machine) is in
-    c.ending_of.ensures ∙ ap (λ (m : Machine). ending_by m m.ending) machine
-
-pub returns-clause-output : goal.returns-clause-output
-returns-clause-output g c left told =
-    let final = flat_run c.args.options.now.steps (flat_start c.args.prepared.now.program c.args.prepared.now.layout c.args.options.now.calls left) in
-    let is = run_from_start c.in-Ok.machine (machine_of c.args.prepared.now.program c.args.prepared.now.layout c.args.options.now.calls) c.args.options.now.steps left c.in-Ok.ensures.machine refl in
-    let machine : c.run.new.self.machine ≡ final.machine = ap (λ (f : FlatData). f.machine) (c.in-Ok-run.ensures.machine left told) ∙ ap (λ (s : FlatState). s.machine) is in
-    let whole : Appends (g.O.Sink.held c.args.out.now) (g.O.Sink.held c.run.new.out) final.output = rw is at (c.in-Ok-run.ensures.output left told) in
-    let done : is_err c.show_state.result ≡ false = sym c.is_err.ensures.value ∙ c.if-is_err.false in
-    let shown : Appends (g.O.Sink.held c.run.new.out) (g.O.Sink.held c.show_state.new.out) (state_shown c.args.options.now.state c.run.new.self.machine) =
-    write_done (g.O.Sink.held c.run.new.out) (g.O.Sink.held c.show_state.new.out) c.show_state.result (state_shown c.args.options.now.state c.run.new.self.machine) done c.show_state.ensures.bytes in
-    Appends-append (g.O.Sink.held c.args.out.now) (g.O.Sink.held c.run.new.out) (g.O.Sink.held c.show_state.new.out) final.output (state_shown c.args.options.now.state final.machine) whole (rw machine at shown)
-
-pub returns-clause-error : goal.returns-clause-error
-returns-clause-error g c left told =
-    let is = run_from_start c.in-Ok.machine (machine_of c.args.prepared.now.program c.args.prepared.now.layout c.args.options.now.calls) c.args.options.now.steps left c.in-Ok.ensures.machine refl in
-    rw is at (c.in-Ok-run.ensures.error left told)
-
-pub returns-clause-taken : goal.returns-clause-taken
-returns-clause-taken g c left told =
-    let is = run_from_start c.in-Ok.machine (machine_of c.args.prepared.now.program c.args.prepared.now.layout c.args.options.now.calls) c.args.options.now.steps left c.in-Ok.ensures.machine refl in
-    rw is at (c.in-Ok-run.ensures.input left told)
+pub returns : goal.returns
+returns g c = λ d.
+    let before : Devices = record d {
+      input = g.I.Source.left c.args.input.now;
+      output = g.O.Sink.held c.args.out.now;
+      error = g.E.Sink.held c.args.err.now;
+      faults = record d.faults { input = g.I.Source.faults c.args.input.now; out = g.O.Sink.faults c.args.out.now; err = g.E.Sink.faults c.args.err.now };
+    } in
+    let e = c.in-Ok-run.ensures in
+    let part = rw (c.pc-pc.ensures, c.steps-steps.ensures, c.regs-regs.ensures, c.bus-bus.ensures, c.heap-heap.ensures) at c.in-Err.ensures.bytes in
+    let causes = e.causes.quiet in
+    report_failed c.args.options.now c.args.prepared.now.program c.args.prepared.now.layout c.in-Ok.machine c.run.new.self before _ (g.O.Sink.held c.run.new.out) _ _ _ _ _
+    c.in-Ok.ensures.machine e.machine e.input e.output e.error part
+    (ap (λ (x : Faults). x.input) causes) (subst (λ (n : ℕ). n ≤ g.O.Sink.faults c.write_report.new.out) (ap (λ (x : Faults). x.out) causes) c.in-Err.ensures.cause.later)
+    (subst (λ (n : ℕ). Rose n (g.O.Sink.faults c.write_report.new.out)) (ap (λ (x : Faults). x.out) causes) c.in-Err.ensures.cause.failed) (ap (λ (x : Faults). x.err) causes)

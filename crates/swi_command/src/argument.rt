@@ -1,0 +1,131 @@
+//! The arguments of the commands: words by place, options with a number, and flags.
+
+ghost use Rattle.std.specs.Prelude.{◌≡◌, ◌<◌, ◌≤◌, ◌%◌};
+ghost use Rattle.swi_command.specs.Arguments.{positional_name, form_of_number, flag_name, argument_name};
+
+use crate::number::NumberRule;
+
+/// A word that must be given, by its place.
+#[derive(Clone, Copy)]
+pub enum Positional {
+    File,
+    Input,
+    Output,
+}
+
+/// An option with a number.
+#[derive(Clone, Copy)]
+pub enum NumberOption {
+    Steps,
+    Cache,
+    Block,
+    Heap,
+    Stack,
+}
+
+/// An option without a value.
+#[derive(Clone, Copy)]
+pub enum Flag {
+    State,
+    Calls,
+    Stats,
+}
+
+/// What a command takes behind its name.
+#[derive(Clone, Copy)]
+pub enum Argument {
+    Positional(Positional),
+    Number(NumberOption),
+    Flag(Flag),
+}
+
+impl Positional {
+    pub fn name(self) -> &'static str
+        ensures { result.now ≡ positional_name self }
+    {
+        match self {
+            Positional::File => "FILE",
+            Positional::Input => "IN",
+            Positional::Output => "OUT",
+        }
+    }
+}
+
+impl NumberOption {
+    pub fn name(self) -> &'static str
+        ensures { result.now ≡ (form_of_number self).name }
+    {
+        match self {
+            NumberOption::Steps => "steps",
+            NumberOption::Cache => "cache",
+            NumberOption::Block => "block",
+            NumberOption::Heap => "heap",
+            NumberOption::Stack => "stack",
+        }
+    }
+
+    /// Steps, bytes of the cache, words of a block, bytes of the heap and of the stack.
+    pub fn rule(self) -> NumberRule
+        ensures least { result.least ≡ (form_of_number self).least }
+        ensures most { result.most ≡ (form_of_number self).most }
+        ensures unit { result.unit ≡ (form_of_number self).unit }
+        ensures default { result.default ≡ (form_of_number self).default }
+    {
+        match self {
+            NumberOption::Steps => NumberRule {
+                least: 0,
+                most: 1 << 48,
+                unit: 1,
+                default: 1_000_000_000,
+            },
+            NumberOption::Cache => NumberRule {
+                least: 8,
+                most: (1 << 32) - 1,
+                unit: 1,
+                default: 4096,
+            },
+            NumberOption::Block => NumberRule {
+                least: 2,
+                most: 1024,
+                unit: 1,
+                default: 64,
+            },
+            NumberOption::Heap => NumberRule {
+                least: 0,
+                most: 67_108_864,
+                unit: 1,
+                default: 1_048_576,
+            },
+            NumberOption::Stack => NumberRule {
+                least: 4096,
+                most: 16_777_216,
+                unit: 16,
+                default: 65_536,
+            },
+        }
+    }
+}
+
+impl Flag {
+    pub fn name(self) -> &'static str
+        ensures { result.now ≡ flag_name self }
+    {
+        match self {
+            Flag::State => "state",
+            Flag::Calls => "calls",
+            Flag::Stats => "stats",
+        }
+    }
+}
+
+impl Argument {
+    pub fn name(self) -> &'static str
+        ensures { result.now ≡ argument_name self }
+    {
+        match self {
+            Argument::Positional(place) => place.name(),
+            Argument::Number(option) => option.name(),
+            Argument::Flag(flag) => flag.name(),
+        }
+    }
+}

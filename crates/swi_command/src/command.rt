@@ -1,0 +1,79 @@
+//! What words can ask for.
+
+/// The most that a run takes.
+#[derive(Clone, Copy, Debug, PartialEq, Eq)]
+pub struct RunLimits {
+    /// The most steps that the run takes, at most 2^48.
+    pub steps: u64,
+    /// The heap's size in bytes, at most 67108864.
+    pub heap: u32,
+    /// The stack's size in bytes, 4096 to 16777216 and a multiple of 16.
+    pub stack: u32,
+}
+
+/// What is written of a run.
+#[derive(Clone, Copy, Debug, PartialEq, Eq)]
+pub struct Reports {
+    /// The state after the run.
+    pub state: bool,
+    /// A line for each system call.
+    pub calls: bool,
+    /// The counts after the run.
+    pub stats: bool,
+}
+
+/// What a run needs besides the file.
+#[derive(Clone, Copy, Debug, PartialEq, Eq)]
+pub struct RunOptions {
+    pub limits: RunLimits,
+    pub reports: Reports,
+}
+
+/// The sizes of a cache.
+#[derive(Clone, Copy, Debug, PartialEq, Eq)]
+pub struct CacheOptions {
+    /// The cache's size in bytes, 8 to 2^32 - 1.
+    pub cache_bytes: u32,
+    /// The size of a block in words, 2 to 1024.
+    pub block_words: u32,
+}
+
+/// What the words ask for. Each file is a name.
+#[derive(Debug, Drop, PartialEq, Eq)]
+pub enum Command {
+    /// The input's program, cut into blocks of so many words (2 to 1024), is put under the output's name.
+    Rewrite {
+        input: String,
+        output: String,
+        block_words: u32,
+    },
+    /// A run of the file's program on the cached machine.
+    Cached {
+        file: String,
+        cache: CacheOptions,
+        options: RunOptions,
+    },
+    /// A run of the file's program on the flat machine, which has no cache.
+    Plain {
+        file: String,
+        options: RunOptions,
+    },
+    /// The file's image is checked against its text.
+    Check {
+        file: String,
+    },
+    /// The input with its image in the newest version is put under the output's name.
+    Upgrade {
+        input: String,
+        output: String,
+    },
+}
+
+/// Why words give no command.
+#[derive(Clone, Copy, Debug, PartialEq, Eq)]
+pub enum CommandError {
+    /// No command takes the words.
+    Usage,
+    /// Memory ran out, and the words are not judged.
+    Memory,
+}

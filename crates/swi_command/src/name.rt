@@ -1,0 +1,83 @@
+//! The table of the commands: their names, and the arguments that each takes.
+
+ghost use Rattle.std.specs.Prelude.{◌≡◌, map, option_map};
+ghost use Rattle.swi_command.specs.Arguments.{form_of, rule_of_argument};
+ghost use Rattle.swi_command.specs.CommandLine.{form_named};
+
+use crate::argument::{Argument, Flag, NumberOption, Positional};
+
+#[derive(Clone, Copy)]
+pub enum CommandName {
+    Rewrite,
+    Cached,
+    Plain,
+    Check,
+    Upgrade,
+}
+
+impl CommandName {
+    /// The command that the word names.
+    pub fn named(word: &str) -> Option<CommandName>
+        ensures { option_map form_of result ≡ form_named word.now }
+    {
+        match word {
+            "rewrite" => Some(CommandName::Rewrite),
+            "cached" => Some(CommandName::Cached),
+            "plain" => Some(CommandName::Plain),
+            "check" => Some(CommandName::Check),
+            "upgrade" => Some(CommandName::Upgrade),
+            _ => None,
+        }
+    }
+
+    /// The word that names the command.
+    pub fn word(self) -> &'static str
+        ensures { result.now ≡ (form_of self).name }
+    {
+        match self {
+            CommandName::Rewrite => "rewrite",
+            CommandName::Cached => "cached",
+            CommandName::Plain => "plain",
+            CommandName::Check => "check",
+            CommandName::Upgrade => "upgrade",
+        }
+    }
+
+    /// The arguments that the command takes.
+    pub fn arguments(self) -> &'static [Argument]
+        ensures { map rule_of_argument result.now ≡ (form_of self).rules }
+    {
+        match self {
+            CommandName::Rewrite => &[
+                Argument::Positional(Positional::Input),
+                Argument::Positional(Positional::Output),
+                Argument::Number(NumberOption::Block),
+            ],
+            CommandName::Cached => &[
+                Argument::Positional(Positional::File),
+                Argument::Number(NumberOption::Steps),
+                Argument::Number(NumberOption::Cache),
+                Argument::Number(NumberOption::Block),
+                Argument::Number(NumberOption::Heap),
+                Argument::Number(NumberOption::Stack),
+                Argument::Flag(Flag::State),
+                Argument::Flag(Flag::Calls),
+                Argument::Flag(Flag::Stats),
+            ],
+            CommandName::Plain => &[
+                Argument::Positional(Positional::File),
+                Argument::Number(NumberOption::Steps),
+                Argument::Number(NumberOption::Heap),
+                Argument::Number(NumberOption::Stack),
+                Argument::Flag(Flag::State),
+                Argument::Flag(Flag::Calls),
+                Argument::Flag(Flag::Stats),
+            ],
+            CommandName::Check => &[Argument::Positional(Positional::File)],
+            CommandName::Upgrade => &[
+                Argument::Positional(Positional::Input),
+                Argument::Positional(Positional::Output),
+            ],
+        }
+    }
+}

@@ -1,0 +1,148 @@
+//! A command and its options, read from `clap`'s matches.
+
+ghost use Rattle.std.specs.Prelude.{◌≡◌, ◌≤◌, ◌%◌, IfSome, IfOk, Some, None, option_map, string_bytes};
+ghost use Rattle.clap.specs.Words.{rows_of, found_of, first_of};
+ghost use Rattle.swi_command.specs.Arguments.{positional_name, form_of_number, flag_name, form_of};
+ghost use Rattle.swi_command.specs.CommandLine.{number_of, is_set, limits_of, reports_of, options_of, cache_of, request_of, IsBlockSize, IsCacheInRange, IsInRange, HasLimitsInRange};
+
+use crate::argument::{Flag, NumberOption, Positional};
+use crate::name::CommandName;
+use crate::number::read_number_in;
+use crate::{CacheOptions, Command, CommandError, Reports, RunLimits, RunOptions};
+use clap::ArgMatches;
+use std::alloc::Global;
+
+/// The first value that the words give the argument.
+fn value_of<'a>(matches: &ArgMatches<'a>, name: &str) -> Option<&'a str>
+    ensures { option_map (λ s. s.now) result ≡ first_of name.now (rows_of (found_of matches.now)) }
+{
+    matches.get_str(name)
+}
+
+/// The name of a file.
+fn file_name(
+    alloc: Global,
+    matches: &ArgMatches<'_>,
+    place: Positional,
+) -> Result<String, CommandError>
+    ensures ok { IfOk result (λ s. first_of (positional_name place)
+        (rows_of (found_of matches.now)) ≡ Some (string_bytes s)) }
+    ensures usage { result ≡ Err CommandError.Usage
+        → first_of (positional_name place) (rows_of (found_of matches.now)) ≡ None }
+{
+    let Some(text) = value_of(matches, place.name()) else {
+        return Err(CommandError::Usage);
+    };
+    match text.to_string(alloc) {
+        Ok(name) => Ok(name),
+        Err(_) => Err(CommandError::Memory),
+    }
+}
+
+/// The number of an option, or its default.
+fn number(matches: &ArgMatches<'_>, option: NumberOption) -> Option<u64>
+    ensures value { result ≡ number_of (form_of_number option) (rows_of (found_of matches.now)) }
+    ensures least { IfSome result (λ n. (form_of_number option).least ≤ n) }
+    ensures most { IfSome result (λ n. n ≤ (form_of_number option).most) }
+    ensures aligned { IfSome result (λ n. n % (form_of_number option).unit ≡ 0) }
+{
+    let rule = option.rule();
+    match value_of(matches, option.name()) {
+        Some(text) => read_number_in(text, rule),
+        None => Some(rule.default),
+    }
+}
+
+/// Whether the flag was given.
+fn is_given(matches: &ArgMatches<'_>, flag: Flag) -> bool
+    ensures { result ≡ is_set (flag_name flag) (rows_of (found_of matches.now)) }
+{
+    match value_of(matches, flag.name()) {
+        Some(text) => text == "true",
+        None => false,
+    }
+}
+
+fn run_limits(matches: &ArgMatches<'_>) -> Option<RunLimits>
+    ensures value { result ≡ limits_of (rows_of (found_of matches.now)) }
+    ensures ranges { IfSome result IsInRange }
+{
+    let steps = number(matches, NumberOption::Steps)?;
+    let heap = number(matches, NumberOption::Heap)?;
+    let stack = number(matches, NumberOption::Stack)?;
+    Some(RunLimits {
+        steps,
+        heap: heap as u32,
+        stack: stack as u32,
+    })
+}
+
+fn run_options(matches: &ArgMatches<'_>) -> Option<RunOptions>
+    ensures value { result ≡ options_of (rows_of (found_of matches.now)) }
+    ensures ranges { IfSome result (λ o. IsInRange o.limits) }
+{
+    let limits = run_limits(matches)?;
+    let reports = Reports {
+        state: is_given(matches, Flag::State),
+        calls: is_given(matches, Flag::Calls),
+        stats: is_given(matches, Flag::Stats),
+    };
+    Some(RunOptions { limits, reports })
+}
+
+fn block_words(matches: &ArgMatches<'_>) -> Option<u32>
+    ensures value { result ≡ number_of (form_of_number NumberOption.Block) (rows_of (found_of matches.now)) }
+    ensures ranges { IfSome result IsBlockSize }
+{
+    let words = number(matches, NumberOption::Block)?;
+    Some(words as u32)
+}
+
+fn cache_options(matches: &ArgMatches<'_>) -> Option<CacheOptions>
+    ensures value { result ≡ cache_of (rows_of (found_of matches.now)) }
+    ensures ranges { IfSome result IsCacheInRange }
+{
+    let cache = number(matches, NumberOption::Cache)?;
+    Some(CacheOptions {
+        cache_bytes: cache as u32,
+        block_words: block_words(matches)?,
+    })
+}
+
+/// The command of that name with what the matches give its arguments.
+pub fn command_from(
+    alloc: Global,
+    name: CommandName,
+    matches: &ArgMatches<'_>,
+) -> Result<Command, CommandError>
+    ensures ok { IfOk result (λ c. (form_of name).request (rows_of (found_of matches.now))
+        ≡ Some (request_of c)) }
+    ensures usage { result ≡ Err CommandError.Usage
+        → (form_of name).request (rows_of (found_of matches.now)) ≡ None }
+    ensures ranges { IfOk result HasLimitsInRange }
+{
+    let usage = CommandError::Usage;
+    match name {
+        CommandName::Rewrite => Ok(Command::Rewrite {
+            input: file_name(alloc, matches, Positional::Input)?,
+            output: file_name(alloc, matches, Positional::Output)?,
+            block_words: block_words(matches).ok_or(usage)?,
+        }),
+        CommandName::Cached => Ok(Command::Cached {
+            file: file_name(alloc, matches, Positional::File)?,
+            cache: cache_options(matches).ok_or(usage)?,
+            options: run_options(matches).ok_or(usage)?,
+        }),
+        CommandName::Plain => Ok(Command::Plain {
+            file: file_name(alloc, matches, Positional::File)?,
+            options: run_options(matches).ok_or(usage)?,
+        }),
+        CommandName::Check => Ok(Command::Check {
+            file: file_name(alloc, matches, Positional::File)?,
+        }),
+        CommandName::Upgrade => Ok(Command::Upgrade {
+            input: file_name(alloc, matches, Positional::Input)?,
+            output: file_name(alloc, matches, Positional::Output)?,
+        }),
+    }
+}

@@ -1,3 +1,0 @@
-pub mod Cut
-pub mod First
-pub mod Slot

@@ -1,0 +1,13 @@
+use Rattle.std.proofs.Common.{◌≡◌, ◌≤◌, ◌-◌, ◌/◌}
+use Rattle.std.specs.Io.KnownBytes.{Appends}
+use Rattle.std.specs.List.{flat_map}
+use Rattle.swi_report.specs.State.{numbers, numbered_row}
+use Rattle.swi_report.proofs.memory.write_rows.Given as goal
+
+abbrev pub invariant-loop-row : goal.invariant-loop-row
+invariant-loop-row g l = record {
+  from : l.area.base / 16 ≤ l.row;
+  written : Appends (g.S.Sink.held l.fn.sink) (g.S.Sink.held l.sink)
+      (flat_map (numbered_row l.area.base l.area.bytes.now) (numbers (l.area.base / 16) (l.row - l.area.base / 16)));
+  still : g.S.Sink.faults l.sink ≡ g.S.Sink.faults l.fn.sink;
+}

@@ -1,0 +1,11 @@
+use Rattle.std.proofs.Common.{◌≡◌}
+use Rattle.std.specs.Io.KnownBytes.{Appends}
+use Rattle.std.specs.List.{flat_map}
+use Rattle.swi_report.specs.State.{numbers, register_line}
+use Rattle.swi_report.proofs.state.write_registers.Given as goal
+
+abbrev pub invariant-loop-number : goal.invariant-loop-number
+invariant-loop-number g l = record {
+  written : Appends (g.S.Sink.held l.fn.sink) (g.S.Sink.held l.sink) (flat_map (register_line l.regs) (numbers 0 l.number));
+  still : g.S.Sink.faults l.sink ≡ g.S.Sink.faults l.fn.sink;
+}

@@ -1,0 +1,84 @@
+//! The state after a run.
+
+ghost use Rattle.std.specs.Prelude.{◌≡◌, ◌<◌};
+ghost use Rattle.std.specs.List.{flat_map};
+ghost use Rattle.swi_outside.specs.Causes.{HasCause};
+ghost use Rattle.swi_outside.specs.Sink.{WritesPiece};
+ghost use Rattle.swi_report.specs.State.{numbers, pc_line, register_line, break_line, state_text_of};
+
+use crate::memory::write_memory;
+use swi_calls::Heap;
+use swi_exec::Regs;
+use swi_isa::Reg;
+use swi_line::Line;
+use swi_memory::Bus;
+use swi_outside::{Failed, Sink};
+
+fn pc_line(pc: u32) -> Line
+    ensures { result ≡ pc_line pc }
+{
+    let mut line = Line::new();
+    line.push_text("pc ");
+    line.push_hex_word(pc);
+    line.push_text("\n");
+    line
+}
+
+fn register_line(regs: &Regs, number: u32) -> Line
+    requires { number < 32 }
+    ensures { result ≡ register_line regs.now number }
+{
+    let mut line = Line::new();
+    line.push_text("x");
+    line.push_decimal(u64::from(number));
+    line.push_text(" ");
+    line.push_hex_word(regs.get(Reg::of(number)));
+    line.push_text("\n");
+    line
+}
+
+fn break_line(now: u32) -> Line
+    ensures { result ≡ break_line now }
+{
+    let mut line = Line::new();
+    line.push_text("break ");
+    line.push_hex_word(now);
+    line.push_text("\n");
+    line
+}
+
+/// Writes the lines of the 32 registers.
+fn write_registers<S: Sink>(regs: &Regs, sink: &mut S) -> Result<(), Failed>
+    ensures bytes { WritesPiece (S.held sink.old) (S.held sink.new) result
+        (flat_map (register_line regs.now) (numbers 0 32)) }
+    ensures cause { HasCause (S.faults sink.old) (S.faults sink.new) result }
+{
+    for number in 0..32 {
+        sink.write(register_line(regs, number).as_bytes())?;
+    }
+    Ok(())
+}
+
+/// Writes the state after a run to the sink: the pc, the registers and the break, a line each, then
+/// the memory that can be written, in order of address, sixteen bytes a line. A line has its address,
+/// a multiple of 16, and a byte outside the segment or region is `--` there; sixteen bytes that are
+/// all zero or outside have no line. `pc` is the address of the next instruction, or of the one that
+/// ended the run.
+///
+/// Failed only where the sink's count of faults rose; it then holds a front of the text.
+pub fn state_text<S: Sink>(
+    pc: u32,
+    regs: &Regs,
+    bus: &Bus,
+    heap: &Heap,
+    sink: &mut S,
+) -> Result<(), Failed>
+    ensures bytes { WritesPiece (S.held sink.old) (S.held sink.new) result
+        (state_text_of pc regs.now bus.now heap.entry.now.now) }
+    ensures cause { HasCause (S.faults sink.old) (S.faults sink.new) result }
+{
+    sink.write(pc_line(pc).as_bytes())?;
+    write_registers(regs, sink)?;
+    sink.write(break_line(heap.now).as_bytes())?;
+    write_memory(bus, sink)
+}

@@ -1,0 +1,589 @@
+-- A run on the cached machine, from what its parts say.
+use Rattle.std.proofs.Common.{◌≡◌, ◌⊎◌, inl, inr, ℕ, ◌+◌, ◌*◌, ◌/◌, ◌<◌, ◌≤◌, List, [], ◌∷◌, ◌++◌, length, take, Option, None, Some, Result, Ok, Err, IsErrOf, refl, sym, ◌∙◌, subst, ap, arith}
+use Rattle.std.proofs.Math.Nat.{div-mul-le_self}
+use Rattle.std.proofs.lemmas.List.{append-nil}
+use Rattle.std.specs.Io.KnownBytes.{Appends}
+use Rattle.swi_outside.specs.Causes.{DeviceCause, Rose}
+use Rattle.swi_outside.specs.CacheRam.{KeepsBeyond, RamState}
+use Rattle.swi_outside.specs.Laws.{Appends-append, Appends-none}
+use Rattle.swi_outside.specs.Shelf.{Asked, Contents, Same, Stands}
+use Rattle.swi_outside.specs.Sink.{AppendsPrefix}
+use Rattle.swi_elf_read.specs.Elf as elf
+use Rattle.swi_elf_read.specs.Loaded.{image_of as image_in}
+use Rattle.swi_memory.specs.declared.layout.Layout.{Layout}
+use Rattle.swi_program.specs.Program.{ProgramData}
+use Rattle.swi_program.specs.ProgramOf.{program_of_file}
+use Rattle.swi_image.specs.Format.{ImageData, image_of}
+use Rattle.swi_render.specs.Cut.{Fits, IsCut}
+use Rattle.swi_command.specs.CommandLine.{Request, RunCached}
+use Rattle.swi_command.specs.declared.command.CacheOptions.{CacheOptions}
+use Rattle.swi_command.specs.declared.command.RunOptions.{RunOptions}
+use Rattle.swi_calls.specs.declared.machine.Machine.{Machine}
+use Rattle.swi_calls.specs.Flat.{flat_start}
+use Rattle.swi_calls.specs.State.{FlatState}
+use Rattle.swi_rom.specs.Record.{Record}
+use Rattle.swi_board.specs.Hart.{HartData}
+use Rattle.swi_cached.specs.declared.run.CachedStop.{CachedStop}
+use Rattle.swi_cached.specs.declared.run.CachedStop.TheVariants as stop
+use Rattle.swi_cached.specs.Answers as run
+use Rattle.swi_cached.specs.Cached.{CachedRun, slots_of, end_of, program_after, instructions_after, record_after}
+use Rattle.swi_answer.specs.declared.answer.Ending.{Ending}
+use Rattle.swi_answer.specs.declared.answer.Refusal.{Refusal}
+use Rattle.swi_answer.specs.declared.answer.Refusal.TheVariants as refusal
+use Rattle.swi_top.specs.Answers.{Answers, CachedFailed, Does, IsChecked, IsImageFor, IsRunFault, IsSizeRefusal, Leaves, RunsCached, cached_report, cached_run, held_next, work_of}
+use Rattle.swi_top.specs.Caching.{AnswersFile, IsCachedErr, IsFileErr, RunsOnCache}
+use Rattle.swi_top.specs.Causes.{HasCauses}
+use Rattle.swi_top.specs.Checks.{Check, FitsUnlessImage, HoldsBlock, Fails, ImageFails, ImagePasses, IsAccepted, IsLong, IsRefusedBy, IsRefusedOr, Passes, block_words, cache_refusal, checks_of, file_limit, room_in, size_refusal, text_in}
+use Rattle.swi_top.specs.Devices.{Devices}
+use Rattle.swi_top.specs.Runs.{ending_by, report}
+use Rattle.swi_top.proofs.Refusals.{IsLate, checked_by, keeps_ram, late_causes, late_run, ok_causes, quiet_cause, refused_late, sized_along, sized_err, sized_ok, told_is}
+use Rattle.swi_top.proofs.Confirming.{out_causes}
+use Rattle.swi_top.proofs.Images.{fails_some, of_none, passes_none, passes_some, run_checks}
+use Rattle.swi_top.proofs.Flats.{start_is}
+
+-- the devices after a run
+abbrev pub ran_all : Devices → Option (List ℕ) → Option (List ℕ) → Option (List ℕ) → RamState → ℕ → ℕ → ℕ → Devices
+ran_all d i o e ram source out err =
+    record d { input = i; output = o; error = e; ram = ram; faults = record d.faults { input = source; out = out; err = err; ram = ram.faults } }
+
+-- the cached run of a program with this input
+abbrev pub run_with : RunOptions → CacheOptions → ImageData → ProgramData → Layout → List ℕ → CachedRun
+run_with o cache v p l input = cached_run cache o v (flat_start p l o.reports.calls input)
+
+keeps_all : (n : ℕ) (r : RamState) → KeepsBeyond n r r
+keeps_all n r = record { same_length = refl; beyond = λ i h. refl; reached = omega arith }
+
+pub small : (o : RunOptions) (cache : CacheOptions) (v : ImageData) (p : ProgramData) (l : Layout) (d : Devices) → cache.cache_bytes < 4 * v.block_words →
+    RunsOnCache o cache v p l d d (Err (refusal.CacheSmall cache.cache_bytes (4 * v.block_words)))
+small o cache v p l d lt = record {
+  done = tt;
+  holds = tt;
+  refused = (refl, refl, lt);
+  quiet = λ _. refl;
+  failed = λ f. absurd f;
+  beyond = keeps_all _ d.ram;
+  causes = late_causes d.faults (refusal.CacheSmall cache.cache_bytes (4 * v.block_words)) tt;
+}
+
+pub no_memory : (o : RunOptions) (cache : CacheOptions) (v : ImageData) (p : ProgramData) (l : Layout) (d : Devices) →
+    RunsOnCache o cache v p l d d (Err refusal.Memory)
+no_memory o cache v p l d = record {
+  done = tt;
+  holds = tt;
+  refused = tt;
+  quiet = λ _. refl;
+  failed = λ f. absurd f;
+  beyond = keeps_all _ d.ram;
+  causes = late_causes d.faults refusal.Memory tt;
+}
+
+-- the counts of the board's devices
+abbrev pub BoardCauses : {T : Type 0} → Devices → ℕ → ℕ → ℕ → ℕ → Result T CachedStop → Type 0
+BoardCauses d ram source out err r =
+    run.HasCauses (record { ram = d.faults.ram; input = d.faults.input; out = d.faults.out; err = d.faults.err }) (record { ram = ram; input = source; out = out; err = err }) r
+
+same_count : {P : Type 0} (n m : ℕ) → DeviceCause n m P → (P → ⊥) → m ≡ n
+same_count n m h never = elim h.told [ inl e ↦ e | inr p ↦ absurd (never p) ]
+
+pub memory_after : {T : Type 0} (o : RunOptions) (cache : CacheOptions) (v : ImageData) (p : ProgramData) (l : Layout) (d : Devices) (i out e : Option (List ℕ)) (ram : RamState) (fi fo fe : ℕ) →
+    d.ram.faults ≡ d.faults.ram → (ram ≡ d.ram) × (i ≡ d.input) × (out ≡ d.output) × (e ≡ d.error) → BoardCauses {T = T} d ram.faults fi fo fe (Err stop.Memory) →
+    RunsOnCache o cache v p l d (ran_all d i out e ram fi fo fe) (Err refusal.Memory)
+memory_after o cache v p l d i out e ram fi fo fe tied same h =
+    let fi_is : fi ≡ d.faults.input = same_count d.faults.input fi h.source (λ x. let bad : ⊥ = cc in bad) in
+    let fo_is : fo ≡ d.faults.out = elim h.sinks.one_told [ inl q ↦ q | inr x ↦ absurd (let bad : ⊥ = cc in bad) ] in
+    let fe_is : fe ≡ d.faults.err = elim h.sinks.other_told [ inl q ↦ q | inr x ↦ absurd (let bad : ⊥ = cc in bad) ] in
+    let Goal : Option (List ℕ) → Option (List ℕ) → Option (List ℕ) → RamState → ℕ → ℕ → ℕ → ℕ → Type 0 = λ a b x r k m n s.
+    RunsOnCache o cache v p l d (record d { input = a; output = b; error = x; ram = r; faults = record d.faults { input = k; out = m; err = n; ram = s } }) (Err refusal.Memory) in
+    let ram_is : ram.faults ≡ d.faults.ram = ap (λ (r : RamState). r.faults) same.0 ∙ tied in
+    subst (λ (a : Option (List ℕ)). Goal a out e ram fi fo fe ram.faults) (sym same.1)
+    (subst (λ (b : Option (List ℕ)). Goal d.input b e ram fi fo fe ram.faults) (sym same.2)
+    (subst (λ (x : Option (List ℕ)). Goal d.input d.output x ram fi fo fe ram.faults) (sym same.3)
+    (subst (λ (k : ℕ). Goal d.input d.output d.error ram k fo fe ram.faults) (sym fi_is)
+    (subst (λ (k : ℕ). Goal d.input d.output d.error ram d.faults.input k fe ram.faults) (sym fo_is)
+    (subst (λ (k : ℕ). Goal d.input d.output d.error ram d.faults.input d.faults.out k ram.faults) (sym fe_is)
+    (subst (λ (k : ℕ). Goal d.input d.output d.error ram d.faults.input d.faults.out d.faults.err k) (sym ram_is)
+    (subst (λ (r : RamState). Goal d.input d.output d.error r d.faults.input d.faults.out d.faults.err d.faults.ram) (sym same.0) (no_memory o cache v p l d))))))))
+
+ram_causes : {T : Type 0} (d : Devices) (ram source out err : ℕ) → BoardCauses {T = T} d ram source out err (Err stop.RamFault) →
+    HasCauses {T = Ending} d.faults (record d.faults { input = source; out = out; err = err; ram = ram }) (Err refusal.RamFault)
+ram_causes d ram source out err h = record {
+  shelf = quiet_cause d.faults.shelf _ (λ x. let bad : ⊥ = cc in bad);
+  source = record { later = h.source.later; cause = λ x. absurd (let bad : ⊥ = cc in bad); told = inl (same_count _ _ h.source (λ x. let bad : ⊥ = cc in bad)) };
+  ram = record { later = h.ram.later; cause = λ _. h.ram.cause refl; told = inr refl };
+  out_later = h.sinks.one_later;
+  err_later = h.sinks.other_later;
+  sink = λ x. absurd (let bad : ⊥ = cc in bad);
+  out_told = inl (elim h.sinks.one_told [ inl q ↦ q | inr x ↦ absurd (let bad : ⊥ = cc in bad) ]);
+  quiet = tt;
+}
+
+source_causes : {T : Type 0} (d : Devices) (ram source out err : ℕ) → BoardCauses {T = T} d ram source out err (Err stop.SourceFault) →
+    HasCauses {T = Ending} d.faults (record d.faults { input = source; out = out; err = err; ram = ram }) (Err refusal.SourceFault)
+source_causes d ram source out err h = record {
+  shelf = quiet_cause d.faults.shelf _ (λ x. let bad : ⊥ = cc in bad);
+  source = record { later = h.source.later; cause = λ _. h.source.cause refl; told = inr refl };
+  ram = record { later = h.ram.later; cause = λ x. absurd (let bad : ⊥ = cc in bad); told = inl (same_count _ _ h.ram (λ x. let bad : ⊥ = cc in bad)) };
+  out_later = h.sinks.one_later;
+  err_later = h.sinks.other_later;
+  sink = λ x. absurd (let bad : ⊥ = cc in bad);
+  out_told = inl (elim h.sinks.one_told [ inl q ↦ q | inr x ↦ absurd (let bad : ⊥ = cc in bad) ]);
+  quiet = tt;
+}
+
+sink_causes : {T : Type 0} (d : Devices) (ram source out err : ℕ) → BoardCauses {T = T} d ram source out err (Err stop.SinkFault) →
+    HasCauses {T = Ending} d.faults (record d.faults { input = source; out = out; err = err; ram = ram }) (Err refusal.SinkFault)
+sink_causes d ram source out err h = record {
+  shelf = quiet_cause d.faults.shelf _ (λ x. let bad : ⊥ = cc in bad);
+  source = record { later = h.source.later; cause = λ x. absurd (let bad : ⊥ = cc in bad); told = inl (same_count _ _ h.source (λ x. let bad : ⊥ = cc in bad)) };
+  ram = record { later = h.ram.later; cause = λ x. absurd (let bad : ⊥ = cc in bad); told = inl (same_count _ _ h.ram (λ x. let bad : ⊥ = cc in bad)) };
+  out_later = h.sinks.one_later;
+  err_later = h.sinks.other_later;
+  sink = λ _. h.sinks.cause refl;
+  out_told = inr refl;
+  quiet = tt;
+}
+
+to_nil : (a b : Option (List ℕ)) (x : List ℕ) → Appends a b x → Appends a b (x ++ [])
+to_nil a b x h = subst (λ (y : List ℕ). Appends a b y) (sym (append-nil x)) h
+
+pub ram_failed : {T : Type 0} (o : RunOptions) (cache : CacheOptions) (v : ImageData) (p : ProgramData) (l : Layout) (d : Devices) (i out e : Option (List ℕ)) (ram : RamState) (fi fo fe : ℕ) →
+    4 * v.block_words ≤ cache.cache_bytes → KeepsBeyond (slots_of cache.cache_bytes v * v.block_words) d.ram ram →
+    ((left : List ℕ) → d.input ≡ Some left → run.RamFailed (run_with o cache v p l left) d.ram ram i d.output out d.error e) →
+    BoardCauses {T = T} d ram.faults fi fo fe (Err stop.RamFault) → RunsOnCache o cache v p l d (ran_all d i out e ram fi fo fe) (Err refusal.RamFault)
+ram_failed o cache v p l d i out e ram fi fo fe held kept broke h = record {
+  done = tt;
+  holds = tt;
+  refused = tt;
+  quiet = λ never. absurd (never tt);
+  failed = λ _. (
+    held,
+    λ left told. let b = broke left told in inl (record {
+      fault = refl;
+      fetched = b.fetched;
+      fetches = b.fetches;
+      steps = b.steps;
+      within = b.within;
+      enough = b.enough;
+      longest = b.longest;
+      output = b.output;
+      error = to_nil d.error e (program_after (run_with o cache v p l left) b.steps).error b.error;
+      input = b.input;
+    }),
+  );
+  beyond = kept;
+  causes = ram_causes d ram.faults fi fo fe h;
+}
+
+front_none : (a b : Option (List ℕ)) (x y : List ℕ) (n : ℕ) → n ≡ 0 → Appends a b (x ++ take n y) → Appends a b x
+front_none a b x y n zero h =
+    let all : Appends a b (x ++ []) = subst (λ (k : ℕ). Appends a b (x ++ take k y)) zero h in
+    subst (λ (z : List ℕ). Appends a b z) (append-nil x) all
+
+source_failed : {T : Type 0} (o : RunOptions) (cache : CacheOptions) (v : ImageData) (p : ProgramData) (l : Layout) (d : Devices) (i out e : Option (List ℕ)) (ram : RamState) (fi fo fe : ℕ) →
+    4 * v.block_words ≤ cache.cache_bytes → KeepsBeyond (slots_of cache.cache_bytes v * v.block_words) d.ram ram →
+    ((left : List ℕ) → d.input ≡ Some left → run.StepFailed {T = T} (run_with o cache v p l left) (Err stop.SourceFault) i d.output out d.error e) →
+    BoardCauses {T = T} d ram.faults fi fo fe (Err stop.SourceFault) → RunsOnCache o cache v p l d (ran_all d i out e ram fi fo fe) (Err refusal.SourceFault)
+source_failed o cache v p l d i out e ram fi fo fe held kept broke h = record {
+  done = tt;
+  holds = tt;
+  refused = tt;
+  quiet = λ never. absurd (never tt);
+  failed = λ _. (
+    held,
+    λ left told.
+        let b = broke left told in
+        let c = run_with o cache v p l left in
+        let none = b.unwritten refl in
+        inr (inl (record {
+          steps = b.steps;
+          fewer = b.fewer;
+          failed = record {
+            fault = inl refl;
+            going = b.going;
+            output = (b.output_front, b.output);
+            error_front = b.error_front;
+            error = to_nil d.error e _ b.error;
+            source = λ _. (front_none d.output out _ _ b.output_front none.0 b.output, to_nil d.error e _ (front_none d.error e _ _ b.error_front none.1 b.error));
+            taken = b.taken;
+            no_more = let few : length b.taken + length (held_next (program_after c b.steps)).input ≤ length (program_after c b.steps).input = b.few in omega arith;
+            input = b.input;
+          };
+        })),
+  );
+  beyond = kept;
+  causes = source_causes d ram.faults fi fo fe h;
+}
+
+sink_failed : {T : Type 0} (o : RunOptions) (cache : CacheOptions) (v : ImageData) (p : ProgramData) (l : Layout) (d : Devices) (i out e : Option (List ℕ)) (ram : RamState) (fi fo fe : ℕ) →
+    4 * v.block_words ≤ cache.cache_bytes → KeepsBeyond (slots_of cache.cache_bytes v * v.block_words) d.ram ram →
+    ((left : List ℕ) → d.input ≡ Some left → run.StepFailed {T = T} (run_with o cache v p l left) (Err stop.SinkFault) i d.output out d.error e) →
+    BoardCauses {T = T} d ram.faults fi fo fe (Err stop.SinkFault) → RunsOnCache o cache v p l d (ran_all d i out e ram fi fo fe) (Err refusal.SinkFault)
+sink_failed o cache v p l d i out e ram fi fo fe held kept broke h = record {
+  done = tt;
+  holds = tt;
+  refused = tt;
+  quiet = λ never. absurd (never tt);
+  failed = λ _. (
+    held,
+    λ left told.
+        let b = broke left told in
+        let c = run_with o cache v p l left in
+        inr (inl (record {
+          steps = b.steps;
+          fewer = b.fewer;
+          failed = record {
+            fault = inr refl;
+            going = b.going;
+            output = (b.output_front, b.output);
+            error_front = b.error_front;
+            error = to_nil d.error e _ b.error;
+            source = λ x. absurd (let bad : ⊥ = cc in bad);
+            taken = b.taken;
+            no_more = let few : length b.taken + length (held_next (program_after c b.steps)).input ≤ length (program_after c b.steps).input = b.few in omega arith;
+            input = b.input;
+          };
+        })),
+  );
+  beyond = kept;
+  causes = sink_causes d ram.faults fi fo fe h;
+}
+
+-- as the run's answer names the fault
+pub source_by : {T : Type 0} (o : RunOptions) (cache : CacheOptions) (v : ImageData) (p : ProgramData) (l : Layout) (d : Devices) (i out e : Option (List ℕ)) (ram : RamState) (fi fo fe : ℕ) (f : CachedStop) →
+    f ≡ stop.SourceFault → 4 * v.block_words ≤ cache.cache_bytes → KeepsBeyond (slots_of cache.cache_bytes v * v.block_words) d.ram ram →
+    ((left : List ℕ) → d.input ≡ Some left → run.StepFailed {T = T} (run_with o cache v p l left) (Err f) i d.output out d.error e) →
+    BoardCauses {T = T} d ram.faults fi fo fe (Err f) → RunsOnCache o cache v p l d (ran_all d i out e ram fi fo fe) (Err refusal.SourceFault)
+source_by {T} o cache v p l d i out e ram fi fo fe f is held kept broke h =
+    source_failed {T = T} o cache v p l d i out e ram fi fo fe held kept
+    (subst (λ (s : CachedStop). (left : List ℕ) → d.input ≡ Some left → run.StepFailed {T = T} (run_with o cache v p l left) (Err s) i d.output out d.error e) is broke)
+    (subst (λ (s : CachedStop). BoardCauses {T = T} d ram.faults fi fo fe (Err s)) is h)
+
+pub sink_by : {T : Type 0} (o : RunOptions) (cache : CacheOptions) (v : ImageData) (p : ProgramData) (l : Layout) (d : Devices) (i out e : Option (List ℕ)) (ram : RamState) (fi fo fe : ℕ) (f : CachedStop) →
+    f ≡ stop.SinkFault → 4 * v.block_words ≤ cache.cache_bytes → KeepsBeyond (slots_of cache.cache_bytes v * v.block_words) d.ram ram →
+    ((left : List ℕ) → d.input ≡ Some left → run.StepFailed {T = T} (run_with o cache v p l left) (Err f) i d.output out d.error e) →
+    BoardCauses {T = T} d ram.faults fi fo fe (Err f) → RunsOnCache o cache v p l d (ran_all d i out e ram fi fo fe) (Err refusal.SinkFault)
+sink_by {T} o cache v p l d i out e ram fi fo fe f is held kept broke h =
+    sink_failed {T = T} o cache v p l d i out e ram fi fo fe held kept
+    (subst (λ (s : CachedStop). (left : List ℕ) → d.input ≡ Some left → run.StepFailed {T = T} (run_with o cache v p l left) (Err s) i d.output out d.error e) is broke)
+    (subst (λ (s : CachedStop). BoardCauses {T = T} d ram.faults fi fo fe (Err s)) is h)
+
+-- the report of a board that came to its end
+abbrev pub board_report : RunOptions → HartData → Record → List ℕ
+board_report o h r = report o.reports h.machine (Some (work_of h.count h.machine.ending r))
+
+report_is : (o : RunOptions) (c : CachedRun) (h : HartData) (r : Record) → h.machine ≡ (end_of c).machine → h.count ≡ instructions_after c c.limit →
+    r ≡ record_after c c.limit → board_report o h r ≡ cached_report o c
+report_is o c h r machine count kept =
+    ap (λ (m : Machine). report o.reports m (Some (work_of h.count m.ending r))) machine
+    ∙ ap (λ (n : ℕ). report o.reports (end_of c).machine (Some (work_of n (end_of c).machine.ending r))) count
+    ∙ ap (λ (k : Record). report o.reports (end_of c).machine (Some (work_of (instructions_after c c.limit) (end_of c).machine.ending k))) kept
+
+-- the run came to its end, and the report was written
+pub run_ended : (o : RunOptions) (cache : CacheOptions) (v : ImageData) (p : ProgramData) (l : Layout) (d : Devices) (h : HartData) (r : Record) (i mid out e : Option (List ℕ)) (ram : RamState) (fi fo fe : ℕ) (x : Ending) →
+    4 * v.block_words ≤ cache.cache_bytes → KeepsBeyond (slots_of cache.cache_bytes v * v.block_words) d.ram ram →
+    ((left : List ℕ) → d.input ≡ Some left → run.Ended (run_with o cache v p l left) h r i d.output mid d.error e) →
+    ((left : List ℕ) → d.input ≡ Some left → run.IsShort h) → ((left : List ℕ) → d.input ≡ Some left → run.RamAfter (run_with o cache v p l left) d.ram ram) →
+    x ≡ ending_by h.machine.ending h.machine.pc h.machine.steps → Appends mid out (board_report o h r) →
+    fi ≡ d.faults.input → fo ≡ d.faults.out → fe ≡ d.faults.err → ram.faults ≡ d.faults.ram →
+    RunsOnCache o cache v p l d (ran_all d i out e ram fi fo fe) (Ok x)
+run_ended o cache v p l d h r i mid out e ram fi fo fe x held kept ended short after ending written fi_is fo_is fe_is ram_is = record {
+  done = λ left told.
+      let c = run_with o cache v p l left in
+      let b = ended left told in
+      let s = short left told in record {
+        ran = record {
+          ending = ending ∙ ap (λ (m : Machine). ending_by m.ending m.pc m.steps) b.machine;
+          input = b.input;
+          output = Appends-append d.output mid out (end_of c).output (cached_report o c) b.output
+              (subst (λ (y : List ℕ). Appends mid out y) (report_is o c h r b.machine b.count b.record_is) written);
+          error = to_nil d.error e (end_of c).error b.error;
+        };
+        ram = after left told;
+        most = subst (λ (n : ℕ). n ≤ 3 * (end_of c).machine.steps + 2) b.count (subst (λ (m : Machine). h.count ≤ 3 * m.steps + 2) b.machine s.most);
+        fewer = λ never. subst (λ (n : ℕ). n ≤ 3 * (end_of c).machine.steps + 1) b.count
+            (subst (λ (m : Machine). h.count ≤ 3 * m.steps + 1) b.machine
+            (s.fewer (λ a is. never a (ap (λ (m : Machine). m.ending) (sym b.machine) ∙ is))));
+      };
+  holds = held;
+  refused = tt;
+  quiet = tt;
+  failed = tt;
+  beyond = kept;
+  causes = subst (λ (n : ℕ). HasCauses d.faults (record d.faults { input = n; out = fo; err = fe; ram = ram.faults }) (Ok x)) (sym fi_is)
+      (subst (λ (n : ℕ). HasCauses d.faults (record d.faults { out = n; err = fe; ram = ram.faults }) (Ok x)) (sym fo_is)
+      (subst (λ (n : ℕ). HasCauses d.faults (record d.faults { err = n; ram = ram.faults }) (Ok x)) (sym fe_is)
+      (subst (λ (n : ℕ). HasCauses d.faults (record d.faults { ram = n }) (Ok x)) (sym ram_is) (ok_causes d.faults x))));
+}
+
+-- or not to its end
+pub report_broke : (o : RunOptions) (cache : CacheOptions) (v : ImageData) (p : ProgramData) (l : Layout) (d : Devices) (h : HartData) (r : Record) (i mid out e : Option (List ℕ)) (ram : RamState) (fi fo fe : ℕ) →
+    4 * v.block_words ≤ cache.cache_bytes → KeepsBeyond (slots_of cache.cache_bytes v * v.block_words) d.ram ram →
+    ((left : List ℕ) → d.input ≡ Some left → run.Ended (run_with o cache v p l left) h r i d.output mid d.error e) →
+    ((left : List ℕ) → d.input ≡ Some left → run.RamAfter (run_with o cache v p l left) d.ram ram) → AppendsPrefix mid out (board_report o h r) →
+    fi ≡ d.faults.input → d.faults.out ≤ fo → Rose d.faults.out fo → fe ≡ d.faults.err → ram.faults ≡ d.faults.ram →
+    RunsOnCache o cache v p l d (ran_all d i out e ram fi fo fe) (Err refusal.SinkFault)
+report_broke o cache v p l d h r i mid out e ram fi fo fe held kept ended after part fi_is later rose fe_is ram_is = record {
+  done = tt;
+  holds = tt;
+  refused = tt;
+  quiet = λ never. absurd (never tt);
+  failed = λ _. (
+    held,
+    λ left told.
+        let c = run_with o cache v p l left in
+        let b = ended left told in
+        inr (inr (
+          record {
+            output_front = part.0;
+            output = Appends-append d.output mid out (end_of c).output (take part.0 (cached_report o c)) b.output
+                (subst (λ (y : List ℕ). Appends mid out (take part.0 y)) (report_is o c h r b.machine b.count b.record_is) part.1);
+            error_front = 0;
+            error = to_nil d.error e ((end_of c).error ++ []) (to_nil d.error e (end_of c).error b.error);
+            input = b.input;
+            fault = refl;
+          },
+          after left told,
+        )),
+  );
+  beyond = kept;
+  causes = subst (λ (n : ℕ). HasCauses {T = Ending} d.faults (record d.faults { input = n; out = fo; err = fe; ram = ram.faults }) (Err refusal.SinkFault)) (sym fi_is)
+      (subst (λ (n : ℕ). HasCauses {T = Ending} d.faults (record d.faults { out = fo; err = n; ram = ram.faults }) (Err refusal.SinkFault)) (sym fe_is)
+      (subst (λ (n : ℕ). HasCauses {T = Ending} d.faults (record d.faults { out = fo; ram = n }) (Err refusal.SinkFault)) (sym ram_is) (out_causes d.faults fo later rose)));
+}
+
+-- ---- from the run of a file's program to what is said of its file
+
+keeps_less : (a b : ℕ) (r s : RamState) → a ≤ b → KeepsBeyond a r s → KeepsBeyond b r s
+keeps_less a b r s h k = record {
+  same_length = k.same_length;
+  beyond = λ i from. k.beyond i (omega arith);
+  reached = omega (arith, k.reached);
+}
+
+span_within : (n b : ℕ) → n / (4 * b) * b ≤ n / 4
+span_within n b =
+    let whole : n / (4 * b) * (4 * b) ≤ n = div-mul-le_self n (4 * b) in
+    let apart : n / (4 * b) * (4 * b) ≡ 4 * (n / (4 * b) * b) = omega arith in
+    omega arith
+
+pub last_fails : (file : List ℕ) (cs : List Check) (c : Check) (r : Refusal) → IsAccepted file cs → Fails file c r → IsRefusedBy file (cs ++ (c ∷ [])) r
+last_fails file [] c r passed fails = inl fails
+last_fails file (x ∷ xs) c r passed fails = inr (passed.0, last_fails file xs c r passed.1 fails)
+
+pub last_passes : (file : List ℕ) (cs : List Check) (c : Check) → IsAccepted file cs → Passes file c → IsAccepted file (cs ++ (c ∷ []))
+last_passes file [] c passed passes = (passes, tt)
+last_passes file (x ∷ xs) c passed passes = (passed.0, last_passes file xs c passed.1 passes)
+
+late_file : (r : Refusal) → IsLate r → IsFileErr r
+late_file refusal.Usage h = h
+late_file refusal.ShelfFault h = h
+late_file (refusal.CacheLarge bytes) h = h
+late_file (refusal.RamSmall bytes held) h = h
+late_file _ h = tt
+
+late_answer : (q : Request) (file : List ℕ) (d : Devices) (r : Refusal) → IsLate r → ((last : Option Asked) → IsChecked file (checks_of q) last (Err r)) → AnswersFile q file d d (Err r)
+late_answer q file d r late checked = record {
+  checked = checked;
+  done = tt;
+  failed = λ f. absurd (late_run r late f);
+  refused = λ _. refl;
+  kind = late_file r late;
+  ram = keeps_ram q d.ram;
+  causes = late_causes d.faults r late;
+}
+
+-- the file fails a check, or there was no memory
+pub file_refused : (q : Request) (file : List ℕ) (d : Devices) (r : Refusal) → IsRefusedOr file (checks_of q) r → AnswersFile q file d d (Err r)
+file_refused q file d r why = elim why [
+  | inl e ↦ subst (λ (x : Refusal). AnswersFile q file d d (Err x)) (sym e) (late_answer q file d refusal.Memory tt (λ _. tt))
+  | inr by ↦ late_answer q file d r (refused_late file (checks_of q) r by) (λ last. checked_by file (checks_of q) last r by)
+]
+
+-- the checks before that of the cache
+abbrev pub front_of : CacheOptions → RunOptions → List Check
+front_of cache o = run_checks o.limits (FitsUnlessImage cache.block_words ∷ [])
+
+err_checked : (file : List ℕ) (cache : CacheOptions) (o : RunOptions) (v : ImageData) (last : Option Asked) (r : Refusal) →
+    IsAccepted file (front_of cache o) → block_words (image_in file) cache.block_words ≡ v.block_words → IsCachedErr cache v r →
+    (IsRunFault r → 4 * v.block_words ≤ cache.cache_bytes) → IsChecked file (checks_of (RunCached [] cache o)) last (Err r)
+err_checked file cache o v last refusal.SourceFault front size h held = last_passes file (front_of cache o) (HoldsBlock cache) front (let b : 4 * v.block_words ≤ cache.cache_bytes = held tt in omega arith)
+err_checked file cache o v last refusal.SinkFault front size h held = last_passes file (front_of cache o) (HoldsBlock cache) front (let b : 4 * v.block_words ≤ cache.cache_bytes = held tt in omega arith)
+err_checked file cache o v last refusal.RamFault front size h held = last_passes file (front_of cache o) (HoldsBlock cache) front (let b : 4 * v.block_words ≤ cache.cache_bytes = held tt in omega arith)
+err_checked file cache o v last refusal.Memory front size h held = tt
+err_checked file cache o v last (refusal.CacheSmall bytes least) front size h held =
+    let bytes_is : bytes ≡ cache.cache_bytes = h.0 in
+    let least_is : least ≡ 4 * block_words (image_in file) cache.block_words = omega (arith, h.1) in
+    last_fails file (front_of cache o) (HoldsBlock cache) (refusal.CacheSmall bytes least) front
+    (omega (arith, h.2), ap (λ (x : ℕ). refusal.CacheSmall x least) bytes_is ∙ ap (λ (x : ℕ). refusal.CacheSmall cache.cache_bytes x) least_is)
+err_checked file cache o v last _ front size h held = absurd h
+
+cached_kind : (cache : CacheOptions) (v : ImageData) (r : Refusal) → IsCachedErr cache v r → IsFileErr r
+cached_kind cache v refusal.SourceFault h = tt
+cached_kind cache v refusal.SinkFault h = tt
+cached_kind cache v refusal.RamFault h = tt
+cached_kind cache v refusal.Memory h = tt
+cached_kind cache v (refusal.CacheSmall bytes least) h = tt
+cached_kind cache v _ h = absurd h
+
+keeps_run : (cache : CacheOptions) (v : ImageData) (r s : RamState) → KeepsBeyond (slots_of cache.cache_bytes v * v.block_words) r s → KeepsBeyond (cache.cache_bytes / 4) r s
+keeps_run cache v r s k = keeps_less _ _ r s (span_within cache.cache_bytes v.block_words) k
+
+pub file_answer : (cache : CacheOptions) (o : RunOptions) (file : List ℕ) (v : ImageData) (l : Layout) (d m : Devices) (r : Result Ending Refusal) →
+    IsAccepted file (front_of cache o) → block_words (image_in file) cache.block_words ≡ v.block_words → IsImageFor file cache.block_words (image_in file) v →
+    room_in file o.limits ≡ Ok l → RunsOnCache o cache v (program_of_file file) l d m r → AnswersFile (RunCached [] cache o) file d m r
+file_answer cache o file v l d m (Ok e) front size is_for room run = record {
+  checked = λ last. last_passes file (front_of cache o) (HoldsBlock cache) front (let b : 4 * v.block_words ≤ cache.cache_bytes = run.holds in omega arith);
+  done = (v, is_for, run.beyond, λ input told. subst (λ (s : FlatState). RunsCached o (cached_run cache o v s) d m e []) (start_is o file input l room) (run.done input told));
+  failed = tt;
+  refused = tt;
+  kind = tt;
+  ram = keeps_run cache v d.ram m.ram run.beyond;
+  causes = run.causes;
+}
+file_answer cache o file v l d m (Err r) front size is_for room run = record {
+  checked = λ last. err_checked file cache o v last r front size run.refused (λ f. (run.failed f).0);
+  done = tt;
+  failed = λ f. (v, is_for, run.beyond, λ input told. subst (λ (s : FlatState). CachedFailed o (cached_run cache o v s) d m r []) (start_is o file input l room) ((run.failed f).1 input told));
+  refused = run.quiet;
+  kind = cached_kind cache v r run.refused;
+  ram = keeps_run cache v d.ram m.ram run.beyond;
+  causes = run.causes;
+}
+
+-- by the greedy cut, where the file has no image
+pub by_cut : (cache : CacheOptions) (o : RunOptions) (file : List ℕ) (v : ImageData) (l : Layout) (d m : Devices) (r : Result Ending Refusal) → length file ≤ file_limit →
+    elf.first_refusal file ≡ None → room_in file o.limits ≡ Ok l → image_in file ≡ None → Fits (text_in file) cache.block_words → IsCut (text_in file) cache.block_words v →
+    RunsOnCache o cache v (program_of_file file) l d m r → AnswersFile (RunCached [] cache o) file d m r
+by_cut cache o file v l d m r short accepted room none fits cut run =
+    file_answer cache o file v l d m r (passes_none file o.limits l (FitsUnlessImage cache.block_words ∷ []) short accepted room none (λ _. fits, tt))
+    (subst (λ (x : Option (List ℕ)). block_words x cache.block_words ≡ v.block_words) (sym none) (sym cut.most_words))
+    (subst (λ (x : Option (List ℕ)). IsImageFor file cache.block_words x v) (sym none) cut) room run
+
+pub cut_refused : (cache : CacheOptions) (o : RunOptions) (file : List ℕ) (l : Layout) (d : Devices) (r : Refusal) → length file ≤ file_limit →
+    elf.first_refusal file ≡ None → room_in file o.limits ≡ Ok l → image_in file ≡ None → (r ≡ refusal.Memory) ⊎ IsLong (text_in file) cache.block_words r →
+    AnswersFile (RunCached [] cache o) file d d (Err r)
+cut_refused cache o file l d r short accepted room none why = file_refused (RunCached [] cache o) file d r (elim why [
+  | inl e ↦ inl e
+  | inr long ↦ inr (inr (short, inr (accepted, inr ((l, room), inr (of_none (image_in file) _ none, inr (of_none (image_in file) _ none, inl (none, long)))))))
+])
+
+-- by the file's own image
+pub by_image : (cache : CacheOptions) (o : RunOptions) (file bytes : List ℕ) (v : ImageData) (l : Layout) (d m : Devices) (r : Result Ending Refusal) → length file ≤ file_limit →
+    elf.first_refusal file ≡ None → room_in file o.limits ≡ Ok l → image_in file ≡ Some bytes → ImagePasses (text_in file) bytes → v ≡ image_of bytes →
+    RunsOnCache o cache v (program_of_file file) l d m r → AnswersFile (RunCached [] cache o) file d m r
+by_image cache o file bytes v l d m r short accepted room has passes view run =
+    file_answer cache o file v l d m r
+    (passes_some file o.limits l (FitsUnlessImage cache.block_words ∷ []) bytes short accepted room has passes (λ none. absurd (let bad : ⊥ = cc in bad), tt))
+    (subst (λ (x : Option (List ℕ)). block_words x cache.block_words ≡ v.block_words) (sym has) (ap (λ (x : ImageData). x.block_words) (sym view)))
+    (subst (λ (x : Option (List ℕ)). IsImageFor file cache.block_words x v) (sym has) view) room run
+
+pub image_refused : (cache : CacheOptions) (o : RunOptions) (file bytes : List ℕ) (l : Layout) (d : Devices) (r : Refusal) → length file ≤ file_limit →
+    elf.first_refusal file ≡ None → room_in file o.limits ≡ Ok l → image_in file ≡ Some bytes → ImageFails (text_in file) bytes r →
+    AnswersFile (RunCached [] cache o) file d d (Err r)
+image_refused cache o file bytes l d r short accepted room has fails = file_refused (RunCached [] cache o) file d r
+    (inr (fails_some file o.limits l (FitsUnlessImage cache.block_words ∷ HoldsBlock cache ∷ []) bytes r short accepted room has fails))
+
+-- ---- from what is said of the file to the command's answer
+
+-- the devices after the command
+abbrev pub cached_to : Devices → Option Contents → Option (List ℕ) → Option (List ℕ) → Option (List ℕ) → RamState → ℕ → ℕ → ℕ → Devices
+cached_to d c i out e ram source o err = ran_all (record d { contents = c }) i out e ram source o err
+
+done_again : (o : RunOptions) (r : CachedRun) (d m : Devices) (c : Option Contents) (e : Ending) → RunsCached o r (record d { contents = c }) m e [] → RunsCached o r d m e []
+done_again o r d m c e h = record {
+  ran = let a = h.ran in record { ending = a.ending; input = a.input; output = a.output; error = a.error };
+  ram = h.ram;
+  most = h.most;
+  fewer = h.fewer;
+}
+
+left_again : (o : RunOptions) (k : CachedRun) (d m : Devices) (c : Option Contents) (r : Refusal) → CachedFailed o k (record d { contents = c }) m r [] → CachedFailed o k d m r []
+left_again o k d m c r h = elim h [
+  | inl a ↦ inl (record {
+    fault = a.fault;
+    fetched = a.fetched;
+    fetches = a.fetches;
+    steps = a.steps;
+    within = a.within;
+    enough = a.enough;
+    longest = a.longest;
+    output = a.output;
+    error = a.error;
+    input = a.input;
+  })
+  | inr b ↦ inr (elim b [
+    | inl a ↦ inl (record {
+      steps = a.steps;
+      fewer = a.fewer;
+      failed = let f = a.failed in record {
+        fault = f.fault;
+        going = f.going;
+        output = f.output;
+        error_front = f.error_front;
+        error = f.error;
+        source = f.source;
+        taken = f.taken;
+        no_more = f.no_more;
+        input = f.input;
+      };
+    })
+    | inr p ↦ let a = p.0 in inr (record { output_front = a.output_front; output = a.output; error_front = a.error_front; error = a.error; input = a.input; fault = a.fault }, p.1)
+  ])
+]
+
+file_size : (r : Refusal) → IsFileErr r → IsSizeRefusal r → ⊥
+file_size (refusal.CacheLarge bytes) h f = h
+file_size (refusal.RamSmall bytes held) h f = h
+file_size _ h f = f
+
+file_not : (r s : Refusal) → IsFileErr r → (IsFileErr s → ⊥) → IsErrOf {T = Ending} (Err r) s → ⊥
+file_not r s h never e = never (let p : r ≡ s = cc in subst IsFileErr p h)
+
+cached_ok : (name : List ℕ) (cache : CacheOptions) (o : RunOptions) (d : Devices) (c : Option Contents) (i out e : Option (List ℕ)) (ram : RamState) (fi fo fe : ℕ) (bytes : List ℕ) (x : Ending) →
+    size_refusal cache.cache_bytes (length d.ram.words) ≡ None → Same d.contents c → Stands d.contents name bytes →
+    AnswersFile (RunCached [] cache o) bytes (record d { contents = c }) (cached_to d c i out e ram fi fo fe) (Ok x) →
+    Answers (RunCached name cache o) d (cached_to d c i out e ram fi fo fe) (Ok x) []
+cached_ok name cache o d c i out e ram fi fo fe bytes x size same stands a =
+    let m : Devices = cached_to d c i out e ram fi fo fe in record {
+      asked = λ y. let bad : ⊥ = cc in bad;
+      sized = sized_along (cache_refusal (RunCached name cache o) (length d.ram.words)) (Ok x) size (sized_ok x);
+      checked = λ file told. subst (λ (f : List ℕ). IsAccepted f (checks_of (RunCached name cache o))) (told_is d.contents name file bytes told stands) (a.checked d.last_failed);
+      ended = tt;
+      done = λ file told. subst (λ (f : List ℕ). Does (RunCached name cache o) f d m x []) (told_is d.contents name file bytes told stands)
+          (let h = a.done in (h.0, h.1, h.2, λ input left. done_again o _ d m c x (h.3 input left)));
+      failed = tt;
+      refused = tt;
+      shelf = record { others = λ n _. same n; refused = tt; quiet = λ _. refl; failed = λ y. absurd (let never : ⊥ = cc in never) };
+      ram = a.ram;
+      causes = a.causes;
+    }
+
+cached_refused : (name : List ℕ) (cache : CacheOptions) (o : RunOptions) (d : Devices) (c : Option Contents) (i out e : Option (List ℕ)) (ram : RamState) (fi fo fe : ℕ) (bytes : List ℕ) (r : Refusal) →
+    size_refusal cache.cache_bytes (length d.ram.words) ≡ None → Same d.contents c → Stands d.contents name bytes →
+    AnswersFile (RunCached [] cache o) bytes (record d { contents = c }) (cached_to d c i out e ram fi fo fe) (Err r) →
+    Answers (RunCached name cache o) d (cached_to d c i out e ram fi fo fe) (Err r) []
+cached_refused name cache o d c i out e ram fi fo fe bytes r size same stands a =
+    let m : Devices = cached_to d c i out e ram fi fo fe in record {
+      asked = file_not r refusal.Usage a.kind (λ x. x);
+      sized = sized_along (cache_refusal (RunCached name cache o) (length d.ram.words)) (Err r) size (sized_err r (file_size r a.kind));
+      checked = λ file told. subst (λ (f : List ℕ). IsChecked f (checks_of (RunCached name cache o)) d.last_failed (Err r)) (told_is d.contents name file bytes told stands) (a.checked d.last_failed);
+      ended = tt;
+      done = tt;
+      failed = λ fault file told. subst (λ (f : List ℕ). Leaves (RunCached name cache o) f d m r []) (told_is d.contents name file bytes told stands)
+          (let h = a.failed fault in (h.0, h.1, h.2, λ input left. left_again o _ d m c r (h.3 input left)));
+      refused = λ never. let same_all : m ≡ record d { contents = c } = a.refused never in (
+        record { input = ap (λ (y : Devices). y.input) same_all; output = ap (λ (y : Devices). y.output) same_all; ram = ap (λ (y : Devices). y.ram) same_all },
+        subst (λ (y : Option (List ℕ)). Appends d.error y []) (sym (ap (λ (y : Devices). y.error) same_all)) (Appends-none d.error),
+      );
+      shelf = record { others = λ n _. same n; refused = λ _. same; quiet = λ _. refl; failed = λ y. absurd (file_not r refusal.ShelfFault a.kind (λ x. x) y) };
+      ram = a.ram;
+      causes = a.causes;
+    }
+
+-- either way
+pub cached_answers : (name : List ℕ) (cache : CacheOptions) (o : RunOptions) (d : Devices) (c : Option Contents) (i out e : Option (List ℕ)) (ram : RamState) (fi fo fe : ℕ) (bytes : List ℕ) (r : Result Ending Refusal) →
+    size_refusal cache.cache_bytes (length d.ram.words) ≡ None → Same d.contents c → Stands d.contents name bytes →
+    AnswersFile (RunCached [] cache o) bytes (record d { contents = c }) (cached_to d c i out e ram fi fo fe) r →
+    Answers (RunCached name cache o) d (cached_to d c i out e ram fi fo fe) r []
+cached_answers name cache o d c i out e ram fi fo fe bytes (Ok x) size same stands a = cached_ok name cache o d c i out e ram fi fo fe bytes x size same stands a
+cached_answers name cache o d c i out e ram fi fo fe bytes (Err r) size same stands a = cached_refused name cache o d c i out e ram fi fo fe bytes r size same stands a

@@ -1,0 +1,151 @@
+-- What `plain` answers, from what the run of its file's program does.
+use Rattle.std.proofs.Common.{◌≡◌, ◌⊎◌, inl, inr, ℕ, List, [], Option, None, Result, Ok, Err, IsErrOf, refl, sym, subst, ap}
+use Rattle.std.specs.Io.KnownBytes.{Appends}
+use Rattle.swi_outside.specs.Laws.{Appends-none}
+use Rattle.swi_outside.specs.Shelf.{Asked, Contents, Same, Stands}
+use Rattle.swi_memory.specs.declared.layout.Layout.{Layout}
+use Rattle.swi_command.specs.CommandLine.{RunPlain}
+use Rattle.swi_command.specs.declared.command.RunOptions.{RunOptions}
+use Rattle.swi_calls.specs.Flat.{flat_run, flat_start}
+use Rattle.swi_calls.specs.State.{FlatState}
+use Rattle.swi_flat.specs.FlatData.{next_made}
+use Rattle.swi_program.specs.ProgramOf.{program_of_file}
+use Rattle.swi_answer.specs.declared.answer.Ending.{Ending}
+use Rattle.swi_answer.specs.declared.answer.Refusal.{Refusal}
+use Rattle.swi_answer.specs.declared.answer.Refusal.TheVariants as refusal
+use Rattle.swi_top.specs.Devices.{Devices}
+use Rattle.swi_top.specs.Checks.{IsAccepted, checks_of, room_in}
+use Rattle.swi_top.specs.Runs.{Ran, FailedAtStep, FailedAfterRun, layout_in, start_of}
+use Rattle.swi_top.specs.Answers.{Answers, Does, IsChecked, IsRunFault, IsSized, Leaves, plain_report, read_room_of}
+use Rattle.swi_top.specs.Plain.{RunsPlain}
+use Rattle.swi_top.proofs.Refusals.{sized_err, sized_ok, told_is}
+
+pub start_is : (o : RunOptions) (file input : List ℕ) (l : Layout) → room_in file o.limits ≡ Ok l →
+    flat_start (program_of_file file) l o.reports.calls input ≡ start_of o file input
+unfolding start_of
+start_is o file input l room = ap (λ (x : Layout). flat_start (program_of_file file) x o.reports.calls input)
+    (sym (ap layout_in room))
+
+-- what a run from a start does, and where it fails
+abbrev pub RanFrom : RunOptions → FlatState → Devices → Devices → Ending → Type 0
+RanFrom o s before after e = Ran (flat_run o.limits.steps s) (plain_report o (flat_run o.limits.steps s)) before after e []
+
+abbrev pub FailedFrom : RunOptions → FlatState → Devices → Devices → Refusal → Type 0
+FailedFrom o s before after r =
+    FailedAtStep (λ n. flat_run n s) next_made read_room_of o.limits.steps before after r []
+    ⊎ FailedAfterRun (flat_run o.limits.steps s) (plain_report o (flat_run o.limits.steps s)) before after r []
+
+-- the devices after a run: all but what it isn't handed
+abbrev pub ran_to : Devices → Option Contents → Option (List ℕ) → Option (List ℕ) → Option (List ℕ) → ℕ → ℕ → ℕ → Devices
+ran_to d c i o e source out err = record d { contents = c; input = i; output = o; error = e; faults = record d.faults { input = source; out = out; err = err } }
+
+plain_err_checked : (bytes : List ℕ) (name : List ℕ) (o : RunOptions) (last : Option Asked) (r : Refusal) →
+    (r ≡ refusal.SourceFault) ⊎ ((r ≡ refusal.SinkFault) ⊎ (r ≡ refusal.Memory)) → IsAccepted bytes (checks_of (RunPlain name o)) →
+    IsChecked bytes (checks_of (RunPlain name o)) last (Err r)
+plain_err_checked bytes name o last r kind accepted =
+    let Goal : Refusal → Type 0 = λ x. IsChecked bytes (checks_of (RunPlain name o)) last (Err x) in
+    elim kind [
+      | inl e ↦ subst Goal (sym e) accepted
+      | inr k ↦ elim k [ inl e ↦ subst Goal (sym e) accepted | inr e ↦ subst Goal (sym e) tt ]
+    ]
+
+abbrev IsPlainErr : Refusal → Type 0
+IsPlainErr refusal.SourceFault = Unit {0}
+IsPlainErr refusal.SinkFault = Unit {0}
+IsPlainErr refusal.Memory = Unit {0}
+IsPlainErr _ = ⊥
+
+plain_err : (r : Refusal) → (r ≡ refusal.SourceFault) ⊎ ((r ≡ refusal.SinkFault) ⊎ (r ≡ refusal.Memory)) → IsPlainErr r
+plain_err r kind = elim kind [
+  | inl e ↦ subst IsPlainErr (sym e) tt
+  | inr k ↦ elim k [ inl e ↦ subst IsPlainErr (sym e) tt | inr e ↦ subst IsPlainErr (sym e) tt ]
+]
+
+plain_size : (r : Refusal) → IsPlainErr r → IsSized None (Err r)
+plain_size refusal.SourceFault h = sized_err refusal.SourceFault (λ x. x)
+plain_size refusal.SinkFault h = sized_err refusal.SinkFault (λ x. x)
+plain_size refusal.Memory h = sized_err refusal.Memory (λ x. x)
+plain_size _ h = absurd h
+
+plain_shelf : (r : Refusal) → IsPlainErr r → IsErrOf {T = Ending} (Err r) refusal.ShelfFault → ⊥
+plain_shelf r h e = let p : r ≡ refusal.ShelfFault = cc in subst IsPlainErr p h
+
+plain_memory : (r : Refusal) → IsPlainErr r → (IsRunFault r → ⊥) → r ≡ refusal.Memory
+plain_memory refusal.SourceFault h never = absurd (never tt)
+plain_memory refusal.SinkFault h never = absurd (never tt)
+plain_memory refusal.Memory h never = refl
+plain_memory _ h never = absurd h
+
+run_not_memory : (r : Refusal) → IsRunFault r → r ≡ refusal.Memory → ⊥
+run_not_memory r f e = subst IsRunFault e f
+
+pub plain_ok : (name : List ℕ) (o : RunOptions) (d : Devices) (c : Option Contents) (i out e : Option (List ℕ)) (fi fo fe : ℕ) (bytes : List ℕ) (l : Layout) (x : Ending) →
+    Same d.contents c → Stands d.contents name bytes → IsAccepted bytes (checks_of (RunPlain name o)) → room_in bytes o.limits ≡ Ok l →
+    RunsPlain o (program_of_file bytes) l (record d { contents = c }) (ran_to d c i out e fi fo fe) (Ok x) →
+    Answers (RunPlain name o) d (ran_to d c i out e fi fo fe) (Ok x) []
+plain_ok name o d c i out e fi fo fe bytes l x same stands accepted room run = record {
+  asked = λ y. let bad : ⊥ = cc in bad;
+  sized = sized_ok x;
+  checked = λ file told. subst (λ (f : List ℕ). IsAccepted f (checks_of (RunPlain name o))) (told_is d.contents name file bytes told stands) accepted;
+  ended = tt;
+  done = λ file told. subst (λ (f : List ℕ). Does (RunPlain name o) f d (ran_to d c i out e fi fo fe) x []) (told_is d.contents name file bytes told stands)
+      (λ input left. subst (λ (s : FlatState). RanFrom o s d (ran_to d c i out e fi fo fe) x) (start_is o bytes input l room)
+      (let r = run.done input left in record { ending = r.ending; input = r.input; output = r.output; error = r.error }));
+  failed = tt;
+  refused = tt;
+  shelf = record { others = λ n _. same n; refused = tt; quiet = λ _. refl; failed = λ y. absurd (let never : ⊥ = cc in never) };
+  ram = refl;
+  causes = run.causes;
+}
+
+failed_again : (o : RunOptions) (s : FlatState) (d m : Devices) (c : Option Contents) (r : Refusal) → FailedFrom o s (record d { contents = c }) m r → FailedFrom o s d m r
+failed_again o s d m c r h = elim h [
+  | inl a ↦ inl (record {
+    steps = a.steps;
+    fewer = a.fewer;
+    failed = let f = a.failed in record {
+      fault = f.fault;
+      going = f.going;
+      output = f.output;
+      error_front = f.error_front;
+      error = f.error;
+      source = f.source;
+      taken = f.taken;
+      no_more = f.no_more;
+      input = f.input;
+    };
+  })
+  | inr a ↦ inr (record { output_front = a.output_front; output = a.output; error_front = a.error_front; error = a.error; input = a.input; fault = a.fault })
+]
+
+pub plain_refused : (name : List ℕ) (o : RunOptions) (d : Devices) (c : Option Contents) (i out e : Option (List ℕ)) (fi fo fe : ℕ) (bytes : List ℕ) (l : Layout) (r : Refusal) →
+    Same d.contents c → Stands d.contents name bytes → IsAccepted bytes (checks_of (RunPlain name o)) → room_in bytes o.limits ≡ Ok l →
+    RunsPlain o (program_of_file bytes) l (record d { contents = c }) (ran_to d c i out e fi fo fe) (Err r) →
+    Answers (RunPlain name o) d (ran_to d c i out e fi fo fe) (Err r) []
+plain_refused name o d c i out e fi fo fe bytes l r same stands accepted room run =
+    let kind = plain_err r run.refused in record {
+      asked = λ y. let p : r ≡ refusal.Usage = cc in subst IsPlainErr p kind;
+      sized = plain_size r kind;
+      checked = λ file told. subst (λ (f : List ℕ). IsChecked f (checks_of (RunPlain name o)) d.last_failed (Err r)) (told_is d.contents name file bytes told stands)
+          (plain_err_checked bytes name o d.last_failed r run.refused accepted);
+      ended = tt;
+      done = tt;
+      failed = λ fault file told. subst (λ (f : List ℕ). Leaves (RunPlain name o) f d (ran_to d c i out e fi fo fe) r []) (told_is d.contents name file bytes told stands)
+          (λ input left. subst (λ (s : FlatState). FailedFrom o s d (ran_to d c i out e fi fo fe) r) (start_is o bytes input l room)
+          (failed_again o _ d (ran_to d c i out e fi fo fe) c r (run.failed (run_not_memory r fault) input left)));
+      refused = λ never. let same_all : ran_to d c i out e fi fo fe ≡ record d { contents = c } = run.memory (ap (λ (y : Refusal). Err y) (plain_memory r kind never)) in (
+        record { input = ap (λ (y : Devices). y.input) same_all; output = ap (λ (y : Devices). y.output) same_all; ram = refl },
+        subst (λ (y : Option (List ℕ)). Appends d.error y []) (sym (ap (λ (y : Devices). y.error) same_all)) (Appends-none d.error),
+      );
+      shelf = record { others = λ n _. same n; refused = λ _. same; quiet = λ _. refl; failed = λ y. absurd (plain_shelf r kind y) };
+      ram = refl;
+      causes = run.causes;
+    }
+
+-- either way
+pub plain_answers : (name : List ℕ) (o : RunOptions) (d : Devices) (c : Option Contents) (i out e : Option (List ℕ)) (fi fo fe : ℕ) (bytes : List ℕ) (l : Layout) (r : Result Ending Refusal) →
+    Same d.contents c → Stands d.contents name bytes → IsAccepted bytes (checks_of (RunPlain name o)) → room_in bytes o.limits ≡ Ok l →
+    RunsPlain o (program_of_file bytes) l (record d { contents = c }) (ran_to d c i out e fi fo fe) r →
+    Answers (RunPlain name o) d (ran_to d c i out e fi fo fe) r []
+plain_answers name o d c i out e fi fo fe bytes l (Ok x) same stands accepted room run = plain_ok name o d c i out e fi fo fe bytes l x same stands accepted room run
+plain_answers name o d c i out e fi fo fe bytes l (Err r) same stands accepted room run = plain_refused name o d c i out e fi fo fe bytes l r same stands accepted room run

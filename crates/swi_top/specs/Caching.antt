@@ -1,0 +1,57 @@
+-- A run on the cached machine, as its functions say it. Own rule.
+use Rattle.std.specs.Prelude.{◌≡◌, ℕ, ◌*◌, ◌<◌, ◌≤◌, List, [], Option, Some, Result, IfOk, IfErr, OnOk, ⊤}
+use Rattle.swi_outside.specs.CacheRam.{KeepsBeyond}
+use Rattle.swi_memory.specs.declared.layout.Layout.{Layout}
+use Rattle.swi_program.specs.Program.{ProgramData}
+use Rattle.swi_image.specs.Format.{ImageData}
+use Rattle.swi_command.specs.declared.command.CacheOptions.{CacheOptions}
+use Rattle.swi_command.specs.declared.command.RunOptions.{RunOptions}
+use Rattle.swi_calls.specs.Flat.{flat_start}
+use Rattle.swi_answer.specs.declared.answer.Ending.{Ending}
+use Rattle.swi_answer.specs.declared.answer.Refusal.{Refusal}
+use Rattle.swi_answer.specs.declared.answer.Refusal.TheVariants as refusal
+use Rattle.swi_cached.specs.Cached.{slots_of}
+use Rattle.swi_top.specs.Answers.{CachedFailed, Does, IsChecked, IsRunFault, KeepsRam, Leaves, RunsCached, cached_run}
+use Rattle.swi_top.specs.Checks.{checks_of}
+use Rattle.swi_command.specs.CommandLine.{Request}
+use Rattle.swi_outside.specs.Shelf.{Asked}
+use Rattle.swi_top.specs.Causes.{HasCauses}
+use Rattle.swi_top.specs.Devices.{Devices}
+
+-- why it is refused
+abbrev pub IsCachedErr : CacheOptions → ImageData → Refusal → Type 0
+IsCachedErr cache v refusal.SourceFault = ⊤
+IsCachedErr cache v refusal.SinkFault = ⊤
+IsCachedErr cache v refusal.RamFault = ⊤
+IsCachedErr cache v refusal.Memory = ⊤
+IsCachedErr cache v (refusal.CacheSmall bytes least) = (bytes ≡ cache.cache_bytes) × (least ≡ 4 * v.block_words) × (bytes < least)
+IsCachedErr cache v _ = ⊥
+
+-- what a run does: it comes to its end, or a device fails in it or behind it; or the cache holds no block, or there was no memory
+pub record RunsOnCache (o : RunOptions) (cache : CacheOptions) (v : ImageData) (p : ProgramData) (l : Layout) (before after : Devices) (result : Result Ending Refusal) : Type 0 where
+  pub done : IfOk result (λ e. (input : List ℕ) → before.input ≡ Some input → RunsCached o (cached_run cache o v (flat_start p l o.reports.calls input)) before after e [])
+  pub holds : OnOk result (4 * v.block_words ≤ cache.cache_bytes)
+  pub refused : IfErr result (IsCachedErr cache v)
+  pub quiet : IfErr result (λ r. (IsRunFault r → ⊥) → after ≡ before)
+  pub failed : IfErr result (λ r. IsRunFault r → (4 * v.block_words ≤ cache.cache_bytes)
+      × ((input : List ℕ) → before.input ≡ Some input → CachedFailed o (cached_run cache o v (flat_start p l o.reports.calls input)) before after r []))
+  pub beyond : KeepsBeyond (slots_of cache.cache_bytes v * v.block_words) before.ram after.ram
+  pub causes : HasCauses before.faults after.faults result
+
+-- a refusal by a check of the file or in the run, or want of memory
+abbrev pub IsFileErr : Refusal → Type 0
+IsFileErr refusal.Usage = ⊥
+IsFileErr refusal.ShelfFault = ⊥
+IsFileErr (refusal.CacheLarge bytes) = ⊥
+IsFileErr (refusal.RamSmall bytes held) = ⊥
+IsFileErr _ = ⊤
+
+-- what a command answers to a file that was read: all that `Answers` says but for the shelf
+pub record AnswersFile (q : Request) (file : List ℕ) (before after : Devices) (result : Result Ending Refusal) : Type 0 where
+  pub checked : (last : Option Asked) → IsChecked file (checks_of q) last result
+  pub done : IfOk result (λ e. Does q file before after e [])
+  pub failed : IfErr result (λ r. IsRunFault r → Leaves q file before after r [])
+  pub refused : IfErr result (λ r. (IsRunFault r → ⊥) → after ≡ before)
+  pub kind : IfErr result IsFileErr
+  pub ram : KeepsRam q before.ram after.ram
+  pub causes : HasCauses before.faults after.faults result
