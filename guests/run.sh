@@ -1,6 +1,7 @@
 #!/usr/bin/env bash
-# run.sh COMMAND..: runs each guest by 'COMMAND.. plain NAME.elf' on the input that expect/ has
-# for it, and compares output, error output and status. Its own status is 0 where all agree.
+# run.sh COMMAND..: runs each guest by 'COMMAND.. plain NAME.elf' and, through caches of several sizes, by
+# 'COMMAND.. cached NAME.elf', on the input that expect/ has for it, and compares output, error output and
+# status. Its own status is 0 where all agree.
 set -u
 here=$(cd "$(dirname "$0")" && pwd)
 [ $# -gt 0 ] || { echo "usage: run.sh COMMAND.." >&2; exit 2; }
@@ -9,14 +10,13 @@ trap 'rm -rf "$work"' EXIT
 passed=0
 failed=0
 
-for file in "$here"/*.elf; do
-  name=$(basename "$file" .elf)
-  expected=$here/expect/$name
+# Runs a guest by these words and compares.
+compare() { # NAME WORD..
+  local name=$1 expected=$here/expect/$1 input status=0 wrong=
+  shift
   input=$expected.in
   [ -f "$input" ] || input=/dev/null
-  status=0
-  "$@" plain "$file" <"$input" >"$work/out" 2>"$work/err" || status=$?
-  wrong=
+  "$@" <"$input" >"$work/out" 2>"$work/err" || status=$?
   cmp -s "$work/out" "$expected.out" || wrong="$wrong output"
   cmp -s "$work/err" "$expected.err" || wrong="$wrong error-output"
   [ "$status" = "$(cat "$expected.status")" ] || wrong="$wrong status=$status"
@@ -24,8 +24,15 @@ for file in "$here"/*.elf; do
     passed=$((passed + 1))
   else
     failed=$((failed + 1))
-    echo "$name differs in:$wrong"
+    echo "$* differs in:$wrong"
   fi
+}
+
+for file in "$here"/*.elf; do
+  name=$(basename "$file" .elf)
+  compare "$name" "$@" plain "$file"
+  compare "$name" "$@" cached "$file"
+  compare "$name" "$@" cached "$file" --cache 512 --block 16
 done
 
 echo "$passed passed, $failed failed"
