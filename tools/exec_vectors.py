@@ -57,6 +57,8 @@ def jumps():
     for op in BRANCHES:
         for a, b in [(5, 5), (0x80000000, 1), (1, 0x80000000), (0xFFFFFFFF, 0xFFFFFFFF), (2, 3)]:
             yield Row(f"{op} x1, x2, TARGET", a, b, jumps=True)
+    # not taken: that the target isn't a multiple of 4 is no fault
+    yield Row("bne x0, x0, .+2", jumps=True)
     yield Row("jal x3, TARGET", jumps=True)
     yield Row("jal x0, TARGET", jumps=True)
     yield Row("jalr x3, 0(x1)", "TARGET", jumps=True)
