@@ -10,7 +10,7 @@ use swi_check::Mismatch as Difference;
 use swi_elf_read::ElfRefusal::{self, *};
 use swi_exec::FaultKind::*;
 use swi_image::ImageRefusal;
-use swi_outside::{FaultRam, MemShelf, MemSink, MemSource};
+use swi_outside::{CacheRam, FaultRam, MemShelf, MemSink, MemSource};
 
 /// A file with `SEVEN` in one segment at 0x10000, by hand from the ELF document.
 const PLAIN: [u32; 24] = [
@@ -451,7 +451,9 @@ fn links_stand_in_the_ram(rt: HostRuntime) -> Result<(), Fail> {
     let row = row!(words: "cached A --block 5 --cache 40", text: COUNT);
     let done = run(alloc, &row, file_of(alloc, COUNT, 5, 0x10000)?)?;
     for (i, word) in LINKED.into_iter().enumerate() {
-        assert_eq!(rt; done.ram.word(i as u32), word, "word {i}");
+        let at = i as u32;
+        assert!(rt; at < done.ram.words(), "word {i}");
+        assert_eq!(rt; done.ram.word(at), word, "word {i}");
     }
     Ok(())
 }
@@ -609,13 +611,17 @@ fn a_changed_image_of_version_2_is_refused(rt: HostRuntime) -> Result<(), Fail> 
     // an end that is too far, with zeros behind; and one too near, without the last word
     let mut longer = [&SECOND[..], &[0, 0, 0, 0]].concat(alloc)?;
     for (at, word) in [(25, 80), (26, 80), (39, 9)] {
-        longer[at] = word;
+        if let Some(place) = longer.get_mut(at) {
+            *place = word;
+        }
     }
     let done = run_words(alloc, "check A", &QUIET, bytes_of(alloc, &longer)?)?;
     assert_eq!(rt; done.answer, Err(Image(ImageRefusal::Lengths(7))));
     let mut shorter = SECOND[..47].to_vec(alloc)?;
     for (at, word) in [(25, 60), (26, 60), (39, 4)] {
-        shorter[at] = word;
+        if let Some(place) = shorter.get_mut(at) {
+            *place = word;
+        }
     }
     let done = run_words(alloc, "check A", &QUIET, bytes_of(alloc, &shorter)?)?;
     assert_eq!(rt;
