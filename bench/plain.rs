@@ -1,7 +1,10 @@
 //! The flat machine of this repository written in plain Rust: the same instructions, decoder, memory
 //! and loop, without contracts. `bench/run` measures the proved program against it.
 //!
-//! Usage: plain FILE runs the ELF file as `swic plain FILE` does, and ends with the guest's status.
+//! Usage: plain FILE runs the ELF file as `swic plain FILE` does, and ends with the guest's status; plain FILE BYTES WORDS runs
+//! it as `swic cached FILE --cache BYTES --block WORDS` does (cached.rs).
+
+mod cached;
 
 use std::io::{Read, Write};
 use std::{env, fs, io, process};
@@ -199,9 +202,11 @@ fn decode(w: u32) -> Option<Instr> {
     macro_rules! atomic {
         ($op:ident) => { Some(Instr::Atomic { op: AtomicOp::$op, rd: rd(w), rs1: rs1(w), rs2: rs2(w) }) };
     }
-    // The table's rows in the order in which programs execute them, since a test that comes early costs less: no word matches
-    // two rows, so the order changes nothing else. Other tests of one mask stand between those of branches: of four in a row,
-    // a step apart, the compiler makes a jump through a table, which costs more than they do.
+    // Three bits of the opcode part the table's rows into five groups, so that few tests are made of a word. Within
+    // a group the rows stand in the order in which programs execute them, since a test that comes early costs less:
+    // no word matches two rows, so the order changes nothing else. Rows of another mask or group stand between those
+    // of loads, branches and operations on immediates: of four tests in a row, a step apart, the compiler makes a
+    // jump through a table, which on many machines costs more than they do.
     macro_rules! row {
         ($mask:literal, $value:literal, $instr:expr) => {
             if w & $mask == $value {
@@ -209,65 +214,82 @@ fn decode(w: u32) -> Option<Instr> {
             }
         };
     }
-    row!(0x0000_707F, 0x0000_0013, alu!(Addi));
-    row!(0x0000_707F, 0x0000_2003, load!(Lw));
+    if w & 0x10 != 0 {
+        if w & 0x20 == 0 {
+            // operations on immediates
+            row!(0x0000_707F, 0x0000_0013, alu!(Addi));
+            row!(0x0000_707F, 0x0000_7013, alu!(Andi));
+            row!(0xFE00_707F, 0x0000_1013, shift!(Slli));
+            row!(0xFE00_707F, 0x0000_5013, shift!(Srli));
+            row!(0x0000_707F, 0x0000_4013, alu!(Xori));
+            row!(0xFE00_707F, 0x4000_5013, shift!(Srai));
+            row!(0x0000_707F, 0x0000_3013, alu!(Sltiu));
+            row!(0x0000_707F, 0x0000_6013, alu!(Ori));
+            row!(0x0000_707F, 0x0000_2013, alu!(Slti));
+            row!(0x0000_007F, 0x0000_0017, upper!(Auipc));
+            return None;
+        }
+        // operations on registers
+        row!(0xFE00_707F, 0x0000_0033, op!(Add));
+        row!(0xFE00_707F, 0x4000_0033, op!(Sub));
+        row!(0x0000_007F, 0x0000_0037, upper!(Lui));
+        row!(0xFE00_707F, 0x0000_4033, op!(Xor));
+        row!(0xFE00_707F, 0x0000_7033, op!(And));
+        row!(0xFE00_707F, 0x0000_6033, op!(Or));
+        row!(0xFE00_707F, 0x0000_3033, op!(Sltu));
+        row!(0xFE00_707F, 0x0200_0033, op!(Mul));
+        row!(0xFE00_707F, 0x0000_1033, op!(Sll));
+        row!(0xFE00_707F, 0x0000_5033, op!(Srl));
+        row!(0xFE00_707F, 0x4000_5033, op!(Sra));
+        row!(0xFE00_707F, 0x0000_2033, op!(Slt));
+        row!(0xFE00_707F, 0x0200_1033, op!(Mulh));
+        row!(0xFE00_707F, 0x0200_2033, op!(Mulhsu));
+        row!(0xFE00_707F, 0x0200_3033, op!(Mulhu));
+        row!(0xFE00_707F, 0x0200_4033, op!(Div));
+        row!(0xFE00_707F, 0x0200_5033, op!(Divu));
+        row!(0xFE00_707F, 0x0200_6033, op!(Rem));
+        row!(0xFE00_707F, 0x0200_7033, op!(Remu));
+        row!(0xFFFF_FFFF, 0x0000_0073, Some(Instr::Ecall));
+        row!(0xFFFF_FFFF, 0x0010_0073, Some(Instr::Ebreak));
+        return None;
+    }
+    if w & 0x40 == 0 {
+        if w & 0x20 == 0 {
+            // loads
+            row!(0x0000_707F, 0x0000_2003, load!(Lw));
+            row!(0x0000_707F, 0x0000_4003, load!(Lbu));
+            row!(0x0000_707F, 0x0000_5003, load!(Lhu));
+            row!(0x0000_707F, 0x0000_000F, Some(Instr::Fence));
+            row!(0x0000_707F, 0x0000_1003, load!(Lh));
+            row!(0x0000_707F, 0x0000_0003, load!(Lb));
+            return None;
+        }
+        // stores and atomic operations
+        row!(0x0000_707F, 0x0000_2023, store!(Sw));
+        row!(0x0000_707F, 0x0000_0023, store!(Sb));
+        row!(0x0000_707F, 0x0000_1023, store!(Sh));
+        row!(0xF9F0_707F, 0x1000_202F, atomic!(LrW));
+        row!(0xF800_707F, 0x1800_202F, atomic!(ScW));
+        row!(0xF800_707F, 0x0800_202F, atomic!(SwapW));
+        row!(0xF800_707F, 0x0000_202F, atomic!(AddW));
+        row!(0xF800_707F, 0x2000_202F, atomic!(XorW));
+        row!(0xF800_707F, 0x6000_202F, atomic!(AndW));
+        row!(0xF800_707F, 0x4000_202F, atomic!(OrW));
+        row!(0xF800_707F, 0x8000_202F, atomic!(MinW));
+        row!(0xF800_707F, 0xA000_202F, atomic!(MaxW));
+        row!(0xF800_707F, 0xC000_202F, atomic!(MinuW));
+        row!(0xF800_707F, 0xE000_202F, atomic!(MaxuW));
+        return None;
+    }
+    // branches and jumps
     row!(0x0000_707F, 0x0000_1063, branch!(Bne));
-    row!(0x0000_707F, 0x0000_2023, store!(Sw));
-    row!(0xFE00_707F, 0x0000_0033, op!(Add));
     row!(0x0000_707F, 0x0000_0063, branch!(Beq));
-    row!(0x0000_707F, 0x0000_4003, load!(Lbu));
-    row!(0xFE00_707F, 0x0000_1013, shift!(Slli));
-    row!(0x0000_707F, 0x0000_7013, alu!(Andi));
-    row!(0xFE00_707F, 0x0000_4033, op!(Xor));
-    row!(0x0000_707F, 0x0000_4063, branch!(Blt));
-    row!(0x0000_707F, 0x0000_5063, branch!(Bge));
-    row!(0x0000_007F, 0x0000_0037, upper!(Lui));
-    row!(0x0000_707F, 0x0000_6063, branch!(Bltu));
-    row!(0x0000_707F, 0x0000_7063, branch!(Bgeu));
     row!(0x0000_007F, 0x0000_006F, jal!());
+    row!(0x0000_707F, 0x0000_4063, branch!(Blt));
+    row!(0x0000_707F, 0x0000_6063, branch!(Bltu));
     row!(0x0000_707F, 0x0000_0067, jalr!());
-    row!(0x0000_707F, 0x0000_1003, load!(Lh));
-    row!(0x0000_707F, 0x0000_0023, store!(Sb));
-    row!(0x0000_707F, 0x0000_1023, store!(Sh));
-    row!(0xFE00_707F, 0x0000_5013, shift!(Srli));
-    row!(0xFE00_707F, 0x4000_5013, shift!(Srai));
-    row!(0xFE00_707F, 0x4000_0033, op!(Sub));
-    row!(0xFE00_707F, 0x0200_0033, op!(Mul));
-    row!(0x0000_707F, 0x0000_0003, load!(Lb));
-    row!(0x0000_707F, 0x0000_5003, load!(Lhu));
-    row!(0x0000_707F, 0x0000_2013, alu!(Slti));
-    row!(0x0000_707F, 0x0000_3013, alu!(Sltiu));
-    row!(0x0000_707F, 0x0000_4013, alu!(Xori));
-    row!(0x0000_707F, 0x0000_6013, alu!(Ori));
-    row!(0xFE00_707F, 0x0000_7033, op!(And));
-    row!(0xFE00_707F, 0x0000_6033, op!(Or));
-    row!(0xFE00_707F, 0x0000_1033, op!(Sll));
-    row!(0xFE00_707F, 0x0000_5033, op!(Srl));
-    row!(0xFE00_707F, 0x4000_5033, op!(Sra));
-    row!(0xFE00_707F, 0x0000_2033, op!(Slt));
-    row!(0xFE00_707F, 0x0000_3033, op!(Sltu));
-    row!(0xFE00_707F, 0x0200_1033, op!(Mulh));
-    row!(0xFE00_707F, 0x0200_2033, op!(Mulhsu));
-    row!(0xFE00_707F, 0x0200_3033, op!(Mulhu));
-    row!(0xFE00_707F, 0x0200_4033, op!(Div));
-    row!(0xFE00_707F, 0x0200_5033, op!(Divu));
-    row!(0xFE00_707F, 0x0200_6033, op!(Rem));
-    row!(0xFE00_707F, 0x0200_7033, op!(Remu));
-    row!(0x0000_007F, 0x0000_0017, upper!(Auipc));
-    row!(0x0000_707F, 0x0000_000F, Some(Instr::Fence));
-    row!(0xFFFF_FFFF, 0x0000_0073, Some(Instr::Ecall));
-    row!(0xFFFF_FFFF, 0x0010_0073, Some(Instr::Ebreak));
-    row!(0xF9F0_707F, 0x1000_202F, atomic!(LrW));
-    row!(0xF800_707F, 0x1800_202F, atomic!(ScW));
-    row!(0xF800_707F, 0x0800_202F, atomic!(SwapW));
-    row!(0xF800_707F, 0x0000_202F, atomic!(AddW));
-    row!(0xF800_707F, 0x2000_202F, atomic!(XorW));
-    row!(0xF800_707F, 0x6000_202F, atomic!(AndW));
-    row!(0xF800_707F, 0x4000_202F, atomic!(OrW));
-    row!(0xF800_707F, 0x8000_202F, atomic!(MinW));
-    row!(0xF800_707F, 0xA000_202F, atomic!(MaxW));
-    row!(0xF800_707F, 0xC000_202F, atomic!(MinuW));
-    row!(0xF800_707F, 0xE000_202F, atomic!(MaxuW));
+    row!(0x0000_707F, 0x0000_5063, branch!(Bge));
+    row!(0x0000_707F, 0x0000_7063, branch!(Bgeu));
     None
 }
 
@@ -293,6 +315,10 @@ struct Bus {
     text: Text,
 }
 
+fn word(bytes: &[u8]) -> u32 {
+    u32::from_le_bytes([bytes[0], bytes[1], bytes[2], bytes[3]])
+}
+
 impl Bus {
     #[inline(always)]
     fn find(&self, a: u32) -> Option<usize> {
@@ -301,24 +327,27 @@ impl Bus {
             .find(|&i| (a.wrapping_sub(self.banks[i].base) as usize) < self.banks[i].bytes.len())
     }
 
+    /// The place of the bank that has all k bytes and grants the right.
+    #[inline(always)]
+    fn find_all(&self, right: u32, a: u32, k: u8) -> Option<usize> {
+        (0..self.banks.len()).rev().find(|&i| {
+            let bank = &self.banks[i];
+            a.wrapping_sub(bank.base) as usize + usize::from(k) <= bank.bytes.len() && bank.flags & right != 0
+        })
+    }
+
     #[inline(always)]
     fn load(&self, a: u32, k: u8) -> Result<u32, Access> {
-        let Some(i) = self.find(a) else {
-            return Err(Access);
+        let Some(i) = self.find_all(4, a, k) else {
+            return self.load_across(a, k);
         };
         let bank = &self.banks[i];
         let at = (a - bank.base) as usize;
-        if bank.bytes.len() - at < usize::from(k) {
-            return self.load_across(a, k);
-        }
-        if bank.flags & 4 == 0 {
-            return Err(Access);
-        }
         let bytes = &bank.bytes[at..at + usize::from(k)];
         Ok(match k {
             1 => u32::from(bytes[0]),
             2 => u32::from(u16::from_le_bytes([bytes[0], bytes[1]])),
-            _ => u32::from_le_bytes([bytes[0], bytes[1], bytes[2], bytes[3]]),
+            _ => word(bytes),
         })
     }
 
@@ -339,18 +368,11 @@ impl Bus {
 
     #[inline(always)]
     fn store(&mut self, a: u32, k: u8, v: u32) -> Result<(), Access> {
-        let Some(i) = self.find(a) else {
-            return Err(Access);
+        let Some(i) = self.find_all(2, a, k) else {
+            return self.store_across(a, k, v);
         };
         let bank = &mut self.banks[i];
         let at = (a - bank.base) as usize;
-        if bank.bytes.len() - at < usize::from(k) {
-            return self.store_across(a, k, v);
-        }
-        if bank.flags & 2 == 0 {
-            return Err(Access);
-        }
-        let k = usize::from(k);
         match k {
             1 => bank.bytes[at] = v as u8,
             2 => bank.bytes[at..at + 2].copy_from_slice(&(v as u16).to_le_bytes()),
@@ -404,7 +426,7 @@ impl Bus {
         let bank = &self.banks[self.text.bank];
         let at = (a - bank.base) as usize;
         let bytes = &bank.bytes[at..at + 4];
-        Some(u32::from_le_bytes([bytes[0], bytes[1], bytes[2], bytes[3]]))
+        Some(word(bytes))
     }
 }
 
@@ -530,20 +552,20 @@ fn takes(op: BranchOp, a: u32, b: u32) -> bool {
 }
 
 #[inline(always)]
-fn size_of_load(op: LoadOp) -> u8 {
+fn load(op: LoadOp, a: u32, bus: &Bus) -> Result<u32, Access> {
     match op {
-        LoadOp::Lb | LoadOp::Lbu => 1,
-        LoadOp::Lh | LoadOp::Lhu => 2,
-        LoadOp::Lw => 4,
+        LoadOp::Lb | LoadOp::Lbu => bus.load(a, 1),
+        LoadOp::Lh | LoadOp::Lhu => bus.load(a, 2),
+        LoadOp::Lw => bus.load(a, 4),
     }
 }
 
 #[inline(always)]
-fn size_of_store(op: StoreOp) -> u8 {
+fn store(op: StoreOp, a: u32, v: u32, bus: &mut Bus) -> Result<(), Access> {
     match op {
-        StoreOp::Sb => 1,
-        StoreOp::Sh => 2,
-        StoreOp::Sw => 4,
+        StoreOp::Sb => bus.store(a, 1, v),
+        StoreOp::Sh => bus.store(a, 2, v),
+        StoreOp::Sw => bus.store(a, 4, v),
     }
 }
 
@@ -645,7 +667,7 @@ fn exec(instr: &Instr, pc: u32, regs: &mut Regs, bus: &mut Bus) -> Done {
         }
         Instr::Load { op, rd, rs1, imm } => {
             let a = regs.get(rs1).wrapping_add(imm);
-            let Ok(v) = bus.load(a, size_of_load(op)) else {
+            let Ok(v) = load(op, a, bus) else {
                 return Done::Fault(FaultKind::LoadAccess, a);
             };
             regs.set(rd, value_of_load(op, v));
@@ -653,7 +675,7 @@ fn exec(instr: &Instr, pc: u32, regs: &mut Regs, bus: &mut Bus) -> Done {
         }
         Instr::Store { op, rs1, rs2, imm } => {
             let a = regs.get(rs1).wrapping_add(imm);
-            if bus.store(a, size_of_store(op), regs.get(rs2)).is_err() {
+            if store(op, a, regs.get(rs2), bus).is_err() {
                 return Done::Fault(FaultKind::StoreAccess, a);
             }
             Done::Next(next)
@@ -702,7 +724,6 @@ struct Flat {
 }
 
 impl Flat {
-    #[inline(always)]
     fn step(&mut self) {
         let Some(word) = self.bus.fetch(self.pc) else {
             return self.end(End::Faulted(FaultKind::FetchAccess, self.pc));
@@ -780,10 +801,39 @@ impl Flat {
         count
     }
 
+    /// Steps up to the limit, or to the first that is a call, a break or a fault.
+    #[inline(never)]
+    fn advance(&mut self, limit: u64) {
+        let mut pc = self.pc;
+        let mut steps = self.steps;
+        while steps < limit {
+            let Some(next) = execute(pc, &mut self.regs, &mut self.bus) else {
+                break;
+            };
+            pc = next;
+            steps += 1;
+        }
+        self.pc = pc;
+        self.steps = steps;
+    }
+
     fn run(&mut self, limit: u64) {
         while self.steps < limit && self.ending.is_none() {
-            self.step();
+            self.advance(limit);
+            if self.steps < limit {
+                self.step();
+            }
         }
+    }
+}
+
+/// Executes the instruction at pc, and gives the address of the next one; None where it is a call, a break or a fault.
+#[inline(always)]
+fn execute(pc: u32, regs: &mut Regs, bus: &mut Bus) -> Option<u32> {
+    let instr = decode(bus.fetch(pc)?)?;
+    match exec(&instr, pc, regs, bus) {
+        Done::Next(next) => Some(next),
+        Done::Call | Done::Break | Done::Fault(..) => None,
     }
 }
 
@@ -830,7 +880,11 @@ fn machine_of(file: &[u8]) -> Flat {
 fn main() {
     let path = env::args().nth(1).expect("a file");
     let mut flat = machine_of(&fs::read(path).expect("a file that can be read"));
-    flat.run(1_000_000_000);
+    let numbers: Vec<u32> = env::args().skip(2).map(|word| word.parse().expect("a number")).collect();
+    match numbers[..] {
+        [bytes, words] => flat = cached::run(flat, bytes, words, 1_000_000_000),
+        _ => flat.run(1_000_000_000),
+    }
     match flat.ending {
         Some(End::Exited(code)) => process::exit((code & 255) as i32),
         Some(End::Faulted(kind, a)) => {

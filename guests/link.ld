@@ -20,6 +20,22 @@ SECTIONS
     . = ALIGN(4);
   } :text
 
+  /* The constructors, which start.S calls; picolibc's exit calls the destructors. */
+  .init_array :
+  {
+    __init_array_start = .;
+    KEEP(*(SORT_BY_INIT_PRIORITY(.init_array.*)))
+    KEEP(*(.init_array))
+    __init_array_end = .;
+  } :text
+  .fini_array :
+  {
+    __fini_array_start = .;
+    KEEP(*(SORT_BY_INIT_PRIORITY(.fini_array.*)))
+    KEEP(*(.fini_array))
+    __fini_array_end = .;
+  } :text
+
   . = ALIGN(4096);
   .data :
   {

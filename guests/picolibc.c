@@ -1,31 +1,47 @@
-/* What picolibc leaves to the program: the three streams, the heap and the exit. */
+/* What picolibc leaves to the program: the three streams, the heap and the end. */
 #include <stddef.h>
 #include <stdint.h>
 #include <stdio.h>
+#include <stdlib.h>
 #include <unistd.h>
 #include "calls.h"
 
-static int put_output(char c, FILE *file)
+/* The output's line so far: one system call a line, not one a byte. Where the program faults it isn't written. */
+static char line[128];
+static u32 held;
+
+static int flush_output(FILE *file)
 {
     (void)file;
-    return write_to(1, &c, 1) == 1 ? (u8)c : EOF;
+    u32 count = held;
+    held = 0;
+    return count == 0 || write_to(1, line, count) == (int)count ? 0 : EOF;
+}
+
+static int put_output(char c, FILE *file)
+{
+    line[held++] = c;
+    if ((c == '\n' || held == sizeof line) && flush_output(file) != 0)
+        return EOF;
+    return (u8)c;
 }
 
 static int put_error(char c, FILE *file)
 {
-    (void)file;
+    flush_output(file);
     return write_to(2, &c, 1) == 1 ? (u8)c : EOF;
 }
 
+/* One byte at a time, so that a program can talk to a terminal; its question is written first. */
 static int get_input(FILE *file)
 {
     u8 c;
-    (void)file;
+    flush_output(file);
     return read_input(&c, 1) == 1 ? c : EOF;
 }
 
 static FILE input = FDEV_SETUP_STREAM(NULL, get_input, NULL, _FDEV_SETUP_READ);
-static FILE output = FDEV_SETUP_STREAM(put_output, NULL, NULL, _FDEV_SETUP_WRITE);
+static FILE output = FDEV_SETUP_STREAM(put_output, NULL, flush_output, _FDEV_SETUP_WRITE);
 static FILE errors = FDEV_SETUP_STREAM(put_error, NULL, NULL, _FDEV_SETUP_WRITE);
 FILE *const stdin = &input;
 FILE *const stdout = &output;
@@ -42,6 +58,28 @@ void *sbrk(ptrdiff_t bytes)
 
 void _exit(int code)
 {
+    flush_output(&output);
     for (;;)
         call(CALL_EXIT, code, 0, 0);
 }
+
+/* What start.S calls with main's answer: atexit's functions and C++'s destructors are called, then _exit. */
+void finish(int code)
+{
+    exit(code);
+}
+
+/* For abort, and so for assert: a signal to the program itself ends it, with the status that a shell gives. */
+int getpid(void)
+{
+    return 1;
+}
+
+int kill(int process, int signal)
+{
+    (void)process;
+    _exit(128 + signal);
+}
+
+/* C++ names by it whose destructors are to be called. */
+void *__dso_handle;

@@ -1,5 +1,5 @@
 -- The step of a system call.
-use Rattle.std.proofs.Common.{◌≡◌, refl, ℕ, Bool, true, false, if◌then◌else◌, Option, Some, None, List, ◌%◌, ◌/◌, ◌*◌, ◌==◌}
+use Rattle.std.proofs.Common.{◌≡◌, refl, ℕ, Bool, true, false, if◌then◌else◌, List, ◌%◌, ◌/◌, ◌*◌, ◌==◌}
 use Rattle.swi_isa.specs.declared.instr.AtomicOp.{AtomicOp}
 use Rattle.swi_isa.specs.declared.instr.AtomicOp.TheVariants.{LrW, ScW, SwapW, AddW, XorW, AndW, OrW, MinW, MaxW, MinuW, MaxuW}
 use Rattle.swi_isa.specs.declared.instr.Instr.{Instr}
@@ -10,13 +10,6 @@ use Rattle.swi_exec.specs.Arithmetic.{sum_of}
 use Rattle.swi_exec.specs.Registers.{Registers, reg, with_reg}
 use Rattle.swi_exec.specs.Execute.{Effect, executed, is_taken, lets_reserve, lets_store_word, lets_update, is_reserved, load_size, store_size, address_of, updates, jumps}
 use Rattle.swi_exec.specs.declared.done.Done.TheVariants as done
-use Rattle.swi_calls.specs.declared.end.Called.TheVariants as called
-use Rattle.swi_calls.specs.Call.{called_of}
-
--- a call that exited with a code
-pub exited_of : (x : Option ℕ) (code : ℕ) → called.Exited code ≡ called_of x → x ≡ Some code
-exited_of None code h = cc
-exited_of (Some v) code h = cc
 
 if_no_call : (t : Bool) (a b : Effect) → (a.done ≡ done.Call → ⊥) → (b.done ≡ done.Call → ⊥) → (if t then a else b).done ≡ done.Call → ⊥
 if_no_call true a b x y = x

@@ -55,7 +55,7 @@ module _ (v : ImageData) (r : Record) (m : Machine) (span : ℕ) (words : List �
       omega (arith, offset_below, (image.lengths b home.known).1, image.most)
 
   -- a word that is no exit stands in the ram as in the image
-  got_word : (w : WordHome v m b o stage) → slice_index words i ≡ word_at v b o
+  pub got_word : (w : WordHome v m b o stage) → slice_index words i ≡ word_at v b o
   got_word w =
       ap (λ n. slice_index words n) home.index ∙ elim (cases_Bool (is_linked r b o)) [
         | inl linked ↦

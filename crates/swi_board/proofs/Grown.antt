@@ -7,7 +7,7 @@ use Rattle.swi_calls.specs.declared.machine.Machine.{Machine}
 use Rattle.swi_calls.specs.Flat.{ends, ended}
 use Rattle.swi_image.specs.Format.{ImageData}
 use Rattle.swi_image.specs.Place.{word_at}
-use Rattle.swi_rom.specs.Record.{Record, Transfer, writes}
+use Rattle.swi_rom.specs.Record.{Record, Transfer}
 use Rattle.swi_board.specs.declared.hart.Stage.{Stage}
 use Rattle.swi_board.specs.declared.hart.Stage.TheVariants.{Start}
 use Rattle.swi_board.specs.declared.hart.Role.{Role}
@@ -26,11 +26,11 @@ pub moved_services : (policy : Record → ImageData → Transfer → Record) →
 moved_services policy second r new v None is = let e = ap (λ (k : Record). k.counts.services) is in omega arith
 moved_services policy second r new v (Some t) is = let e = ap (λ (k : Record). k.counts.services) is in let s = second r v t in omega arith
 
--- no step takes a write back
-pub moved_writes : (policy : Record → ImageData → Transfer → Record) → ((r : Record) (v : ImageData) (t : Transfer) → writes r ≤ writes (policy r v t)) →
-    (r new : Record) (v : ImageData) (o : Option Transfer) → new ≡ moved policy r v o → writes r ≤ writes new
-moved_writes policy third r new v None is = let e = ap (λ (k : Record). writes k) is in omega arith
-moved_writes policy third r new v (Some t) is = let e = ap (λ (k : Record). writes k) is in let s = third r v t in omega arith
+-- what no transfer lowers no step lowers
+pub moved_rises : (measure : Record → ℕ) (policy : Record → ImageData → Transfer → Record) → ((r : Record) (v : ImageData) (t : Transfer) → measure r ≤ measure (policy r v t)) →
+    (r new : Record) (v : ImageData) (o : Option Transfer) → new ≡ moved policy r v o → measure r ≤ measure new
+moved_rises measure policy rises r new v None is = let e = ap (λ (k : Record). measure k) is in omega arith
+moved_rises measure policy rises r new v (Some t) is = let e = ap (λ (k : Record). measure k) is in let s = rises r v t in omega arith
 
 module _ (v : ImageData) (r new : Record) (h h' : HartData) (i b o : ℕ) (stage : Stage) (control : h.control ≡ At i b o stage) (running : None ≡ h.machine.ending) where
   grown_by : (n : ℕ) (m' : Machine) (c' : Control) → h'.machine ≡ m' → h'.control ≡ c' → h'.count ≡ h.count + 1 → h'.failed ≡ h.failed → h'.booted ≡ h.booted → (is_some h'.machine.ending && is_outside h'.control) ≡ false → new.counts.services ≤ r.counts.services + n → Grows v h.machine m' (At i b o stage) c' n → Grown v r new h h'

@@ -1,4 +1,5 @@
 pub mod Table
+pub mod Advancing
 pub mod Own
 pub mod Standing
 pub mod Stepping
@@ -26,3 +27,4 @@ pub mod Breaking
 pub mod Entering
 pub mod Following
 pub mod Settling
+pub mod Exchanging

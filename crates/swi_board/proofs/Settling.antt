@@ -3,7 +3,7 @@ use Rattle.std.proofs.Common.{◌≡◌, ◌⊎◌, ◌==◌, ℕ, ◌+◌, ◌<
 use Rattle.swi_isa.specs.declared.instr.Instr.{Instr}
 use Rattle.swi_isa.specs.declared.instr.Instr.TheVariants as instr
 use Rattle.swi_isa.specs.Decode.{decoded}
-use Rattle.swi_exec.specs.Execute.{Effect, executed, address_of}
+use Rattle.swi_exec.specs.Execute.{executed, address_of}
 use Rattle.swi_calls.specs.declared.end.End.{End}
 use Rattle.swi_calls.specs.declared.machine.Machine.{Machine}
 use Rattle.swi_image.specs.Format.{ImageData}
@@ -11,16 +11,16 @@ use Rattle.swi_image.specs.Place.{word_at}
 use Rattle.swi_render.specs.Rendering.{ebreak}
 use Rattle.swi_rom.specs.Record.{Record}
 use Rattle.swi_board.specs.declared.hart.Stage.{Stage}
-use Rattle.swi_board.specs.declared.hart.Stage.TheVariants.{Start, Low, Return, Leave}
+use Rattle.swi_board.specs.declared.hart.Stage.TheVariants.{Start}
 use Rattle.swi_board.specs.declared.hart.Control.{Control}
 use Rattle.swi_board.specs.declared.hart.Control.TheVariants.{At, Outside}
 use Rattle.swi_board.specs.declared.hart.Role.{Role}
 use Rattle.swi_board.specs.declared.hart.Role.TheVariants.{Lead, Whole, Over}
 use Rattle.swi_board.specs.declared.hart.ExitKind.{ExitKind}
 use Rattle.swi_board.specs.declared.hart.ExitKind.TheVariants.{Direct, Misaligned, Trap, Indirect}
-use Rattle.swi_board.specs.Hart.{HartData, Stepped, hart_after, is_between, behind, role_of, original, exit_kind, word_stepped, over_by, skips, with_left}
-use Rattle.swi_board.specs.Board.{Arrives, BoardStep, HomeStep, ExitStep, Jumps, JumpsBy}
-use Rattle.swi_board.specs.Calling.{Did, Made}
+use Rattle.swi_board.specs.Hart.{HartData, Stepped, is_between, behind, role_of, original, exit_kind, word_stepped, over_by, skips, with_left}
+use Rattle.swi_board.specs.Board.{BoardStep, HomeStep, ExitStep, Jumps, JumpsBy}
+use Rattle.swi_board.specs.Calling.{Made}
 use Rattle.swi_board.proofs.Entering.{entered_between}
 
 -- control is between two instructions, or no step was made, or the run has ended

@@ -1,5 +1,7 @@
 -- Exits and transfers of a board. Own rule.
 use Rattle.std.specs.Prelude.{◌≡◌, ◌⊎◌, ◌==◌, ℕ, ◌+◌, ◌*◌, ◌/◌, ◌%◌, ◌<◌, ◌≤◌, Bool, true, false, not, ◌&&◌, List, Option, Some, None, is_some, length, slice_index, if◌then◌else◌}
+use Rattle.swi_isa.specs.declared.instr.ImmOp.{ImmOp}
+use Rattle.swi_isa.specs.declared.instr.ImmOp.TheVariants.{Addi}
 use Rattle.swi_isa.specs.declared.instr.Instr.{Instr}
 use Rattle.swi_isa.specs.declared.instr.Instr.TheVariants as instr
 use Rattle.swi_isa.specs.Decode.{decoded}
@@ -85,16 +87,39 @@ fell Return pc t c b o = false
 fell Leave pc t c b o = false
 
 -- the role of a fetched word, by itself, and where it is a LUI by the original instruction
-abbrev pub first_quick : Instr → Option Instr → Role
-first_quick (instr.Lui rd imm) original = first_role original
-first_quick (instr.Branch op rs1 rs2 off) original = Over
-first_quick _ original = Whole
+abbrev pub upper_quick : Stage → Option Instr → Role
+upper_quick Start original = first_role original
+upper_quick Low original = Whole
+upper_quick Return original = Whole
+upper_quick Leave original = Whole
+
+abbrev pub return_quick : ImmOp → Role
+return_quick Addi = Lead Leave
+return_quick _ = Whole
+
+abbrev pub immediate_quick : Stage → ImmOp → Role
+immediate_quick Start op = Whole
+immediate_quick Low op = Whole
+immediate_quick Return op = return_quick op
+immediate_quick Leave op = Whole
 
 abbrev pub quick_role : Stage → Instr → Option Instr → Role
-quick_role Start x original = first_quick x original
-quick_role Low x original = Whole
-quick_role Return x original = Lead Leave
-quick_role Leave x original = Whole
+quick_role stage (instr.Lui rd imm) original = upper_quick stage original
+quick_role stage (instr.Branch op rs1 rs2 off) original = Over
+quick_role stage (instr.Alu op rd rs1 imm) original = immediate_quick stage op
+quick_role stage _ original = Whole
+
+-- words that only change a register
+abbrev pub changes_register : Instr → Bool
+changes_register (instr.Load op rd rs1 imm) = true
+changes_register (instr.Alu op rd rs1 imm) = true
+changes_register (instr.Op op rd rs1 rs2) = true
+changes_register _ = false
+
+-- the offset of a JAL, and else 0
+abbrev pub offset_of : Option Instr → ℕ
+offset_of (Some (instr.Jal rd off)) = off
+offset_of _ = 0
 
 -- words that are never executed as they stand in the ram
 abbrev pub leaves : Instr → Bool

@@ -10,8 +10,10 @@ ghost use Rattle.swi_program.specs.Text.{text_of, word_of};
 ghost use Rattle.swi_image.specs.Place.{place_of};
 ghost use Rattle.swi_render.specs.Carried.{Carries};
 ghost use Rattle.swi_rom.specs.Record.{indirect, writes};
-ghost use Rattle.swi_board.specs.Hart.{is_between, index_of, place_under, next_made};
+ghost use Rattle.swi_board.specs.Hart.{is_between, index_of, place_under, next_made, role_of, original};
+ghost use Rattle.swi_board.specs.Exchanged.{Exchanged, PlainAt, ExecutesHeld};
 ghost use Rattle.swi_board.specs.Board.{Arrives, Fits, Matches, BoardOf};
+ghost use Rattle.swi_rom.specs.Served.{SameFrom};
 ghost use Rattle.swi_board.specs.Leaving.{RamServed, RamFailed, moved, entry_transfer, entries, RamRan, RamStepped, RamBroken, broken, transfer_at};
 ghost use Rattle.swi_board.specs.Transfers.{here_of, spent_run};
 ghost use Rattle.std.specs.Option.{ForSome};
@@ -24,7 +26,7 @@ ghost use Rattle.swi_board.specs.Runs.{most, fetched_by, Grown};
 
 use crate::exit::jump;
 use crate::fault::BoardFault;
-use crate::hart::{Control, Hart};
+use crate::hart::{Control, Hart, Role, Stage};
 use crate::many::{run, step};
 use std::alloc::Global;
 use std::marker::Model;
@@ -70,12 +72,17 @@ fn enter<R: CacheRom, M: CacheRam>(
     requires count { hart.old.count < 2 ^ 56 }
     requires sound { R.sound rom.old image.now (M.state ram.old).words }
     requires services { (R.kept rom.old).counts.services < 2 ^ 50 }
-    ensures hart { OnOk result (hart.new ≡ record hart.old { control = hart.new.control; count = hart.old.count + entries image.now hart.old.machine.pc; booted = true }) }
+    ensures hart { OnOk result (hart.new
+        ≡ record hart.old { control = hart.new.control; count = hart.old.count + entries image.now hart.old.machine.pc; booted = true }) }
     ensures control { OnOk result (Arrives image.now (R.kept rom.new) hart.old.machine.pc hart.new.control) }
-    ensures policy { OnOk result (R.kept rom.new ≡ moved (R.policy (R.setting rom.old)) (R.kept rom.old) image.now (entry_transfer image.now hart.old.machine.pc)) }
+    ensures policy { OnOk result (R.kept rom.new ≡ moved (R.policy (R.setting rom.old))
+        (R.kept rom.old) image.now (entry_transfer image.now hart.old.machine.pc)) }
     ensures setting { R.setting rom.new ≡ R.setting rom.old }
     ensures sound { OnOk result (R.sound rom.new image.now (M.state ram.new).words) }
-    ensures ram { OnOk result (RamServed (R.span (R.setting rom.old)) (writes (R.kept rom.new) - writes (R.kept rom.old))
+    ensures unused { OnOk result (SameFrom (R.extent (R.setting rom.old) (R.kept rom.new))
+        (M.state ram.old).words (M.state ram.new).words) }
+    ensures ram { OnOk result (RamServed (R.span (R.setting rom.old))
+        (writes (R.kept rom.new) - writes (R.kept rom.old))
         (M.state ram.old) (M.state ram.new)) }
     ensures failed { OnErr result (RamFailed (R.span (R.setting rom.old)) (M.state ram.old) (M.state ram.new)) }
 {
@@ -85,19 +92,20 @@ fn enter<R: CacheRom, M: CacheRam>(
             Ok(control) => control,
             Err(_) => return Err(Failed),
         };
-        hart.control = control;
+        hart.control.go(control);
         hart.count += 1;
     } else {
-        hart.control = Control::Outside;
+        hart.control.go(Control::Outside);
     }
     hart.booted = true;
     Ok(())
 }
 
 impl<R: CacheRom> Board<R> {
-    /// A board of a hart and a service, at the hart's address: where a text word stands there, one service enters it, and that is a
-    /// machine instruction; else neither service nor ram is called. The image is one of the text that the hart holds, the service is
-    /// sound for it and the ram, and the hart has not ended, and is between two instructions.
+    /// A board of a hart and a service, at the hart's address: where a text word stands there, one service enters it,
+    /// and that is a machine instruction; else neither service nor ram is called. The image is one of the text that the
+    /// hart holds, the service is sound for it and the ram, and the hart has not ended, and is between two
+    /// instructions.
     ///
     /// `Failed` comes only where the ram's count of faults rose; hart and service are then given up.
     pub fn resume<M: CacheRam>(
@@ -113,16 +121,23 @@ impl<R: CacheRom> Board<R> {
         requires count { hart.count < 2 ^ 56 }
         requires sound { R.sound rom image.now (M.state ram.old).words }
         requires services { (R.kept rom).counts.services < 2 ^ 50 }
-        ensures hart { IfOk result (λ b. b.hart ≡ record hart { control = b.hart.control; count = hart.count + entries image.now hart.machine.pc; booted = true }) }
-        ensures matches { IfOk result (λ b. Matches image.now (R.kept b.rom) hart.machine b.hart.machine b.hart.control) }
+        ensures hart { IfOk result (λ b. b.hart
+            ≡ record hart { control = b.hart.control; count = hart.count + entries image.now hart.machine.pc; booted = true }) }
+        ensures matches { IfOk result (λ b. Matches image.now
+            (R.kept b.rom) hart.machine b.hart.machine b.hart.control) }
         ensures fits { IfOk result (λ b. Fits image.now (R.kept b.rom) b.hart) }
-        ensures here { IfOk result (λ b. here_of image.now hart.machine b.hart.control ≡ place_of image.now hart.machine.pc) }
+        ensures here { IfOk result (λ b. here_of image.now hart.machine b.hart.control
+            ≡ place_of image.now hart.machine.pc) }
         ensures spent { IfOk result (λ b. spent_run hart.machine b.hart.control ≡ 0) }
         ensures between { IfOk result (λ b. is_between b.hart.control ≡ true) }
-        ensures policy { IfOk result (λ b. R.kept b.rom ≡ moved (R.policy (R.setting rom)) (R.kept rom) image.now (entry_transfer image.now hart.machine.pc)) }
+        ensures policy { IfOk result (λ b. R.kept b.rom ≡ moved (R.policy (R.setting rom))
+            (R.kept rom) image.now (entry_transfer image.now hart.machine.pc)) }
         ensures setting { IfOk result (λ b. R.setting b.rom ≡ R.setting rom) }
         ensures sound { IfOk result (λ b. R.sound b.rom image.now (M.state ram.new).words) }
-        ensures ram { IfOk result (λ b. RamServed (R.span (R.setting rom)) (writes (R.kept b.rom) - writes (R.kept rom)) (M.state ram.old) (M.state ram.new)) }
+        ensures unused { IfOk result (λ b. SameFrom (R.extent (R.setting rom) (R.kept b.rom))
+            (M.state ram.old).words (M.state ram.new).words) }
+        ensures ram { IfOk result (λ b. RamServed (R.span (R.setting rom))
+            (writes (R.kept b.rom) - writes (R.kept rom)) (M.state ram.old) (M.state ram.new)) }
         ensures failed { OnErr result (RamFailed (R.span (R.setting rom)) (M.state ram.old) (M.state ram.new)) }
     {
         let mut hart = hart;
@@ -133,7 +148,8 @@ impl<R: CacheRom> Board<R> {
         }
     }
 
-    /// The board of a program before its first step: its hart is started, and then resumed. That is one machine instruction.
+    /// The board of a program before its first step: its hart is started, and then resumed. That is one machine
+    /// instruction.
     ///
     /// All memory is taken before the first call of the ram. RamFault comes only where the ram's count of faults rose.
     pub fn boot<M: CacheRam>(
@@ -154,15 +170,22 @@ impl<R: CacheRom> Board<R> {
         ensures unfailed { IfOk result (λ b. b.hart.failed ≡ false) }
         ensures booted { IfOk result (λ b. b.hart.booted ≡ true) }
         ensures between { IfOk result (λ b. is_between b.hart.control ≡ true) }
-        ensures matches { IfOk result (λ b. Matches image.now (R.kept b.rom) (machine_of p.now l.now log) b.hart.machine b.hart.control) }
+        ensures matches { IfOk result (λ b. Matches image.now (R.kept b.rom)
+            (machine_of p.now l.now log) b.hart.machine b.hart.control) }
         ensures fits { IfOk result (λ b. Fits image.now (R.kept b.rom) b.hart) }
-        ensures here { IfOk result (λ b. here_of image.now (machine_of p.now l.now log) b.hart.control ≡ place_of image.now p.now.entry) }
+        ensures here { IfOk result (λ b. here_of image.now (machine_of p.now l.now log) b.hart.control
+            ≡ place_of image.now p.now.entry) }
         ensures spent { IfOk result (λ b. spent_run (machine_of p.now l.now log) b.hart.control ≡ 0) }
-        ensures policy { IfOk result (λ b. R.kept b.rom ≡ R.policy (R.setting rom) (R.kept rom) image.now (indirect p.now.entry)) }
+        ensures policy { IfOk result (λ b. R.kept b.rom ≡ R.policy (R.setting rom)
+            (R.kept rom) image.now (indirect p.now.entry)) }
         ensures setting { IfOk result (λ b. R.setting b.rom ≡ R.setting rom) }
         ensures sound { IfOk result (λ b. R.sound b.rom image.now (M.state ram.new).words) }
-        ensures ram { IfOk result (λ b. RamServed (R.span (R.setting rom)) (writes (R.kept b.rom) - writes (R.kept rom)) (M.state ram.old) (M.state ram.new)) }
-        ensures failed { IsErrOf result BootStop.RamFault → RamFailed (R.span (R.setting rom)) (M.state ram.old) (M.state ram.new) }
+        ensures unused { IfOk result (λ b. SameFrom (R.extent (R.setting rom) (R.kept b.rom))
+            (M.state ram.old).words (M.state ram.new).words) }
+        ensures ram { IfOk result (λ b. RamServed (R.span (R.setting rom))
+            (writes (R.kept b.rom) - writes (R.kept rom)) (M.state ram.old) (M.state ram.new)) }
+        ensures failed { IsErrOf result BootStop.RamFault →
+            RamFailed (R.span (R.setting rom)) (M.state ram.old) (M.state ram.new) }
         ensures untouched { IsErrOf result BootStop.Memory → M.state ram.new ≡ M.state ram.old }
     {
         let hart = match Hart::start(alloc, p, l, log) {
@@ -184,22 +207,29 @@ impl<R: CacheRom> Board<R> {
         (self.hart, self.rom)
     }
 
-    /// A board of a hart that is booted and a service that shows the hart's place at the index under its control. Nothing changes or
-    /// is counted. That the service is sound for the hart's image and the ram is asked by the next `step` or `run`.
+    /// A board of a hart that is booted and a service that shows the hart's place at the index under its control.
+    /// Nothing changes or is counted. That the service is sound for the hart's image and the ram is asked by the next
+    /// `step` or `run`.
     pub fn join(hart: Hart, rom: R) -> Board<R>
         requires booted { hart.booted ≡ true }
-        requires shown { (i : ℕ) → index_of hart.machine.ending hart.control ≡ Some i → R.shown rom i ≡ place_under hart.machine.ending hart.control }
+        requires shown { (i : ℕ) → index_of hart.machine.ending hart.control ≡ Some i → R.shown rom i
+            ≡ place_under hart.machine.ending hart.control }
         ensures hart { result.hart ≡ hart }
         ensures rom { result.rom ≡ rom }
     {
         Board { hart, rom }
     }
 
-    /// One machine instruction: the word under control is fetched and executed, or an exit is left, over its link or by a service.
-    /// The image fits the board and the service is sound for it and the ram; the run has not ended, and no device has failed.
+    /// One machine instruction: the word under control is fetched and executed, or an exit is left, over its link or by
+    /// a service. The image fits the board and the service is sound for it and the ram; the run has not ended, and no
+    /// device has failed.
     ///
-    /// It follows each flat machine that the board matches: by a step, or by none where the word completes no instruction. After
-    /// an error `failed` is true, and no step is counted.
+    /// Where the image's word under control is plain (LUI, or arithmetic), the ram may hold another plain word there,
+    /// as long as the service is sound with the image's word put back: the word that was fetched is executed, and the
+    /// step goes on as over the image's.
+    ///
+    /// It follows each flat machine that the board matches: by a step, or by none where the word completes no
+    /// instruction. After an error `failed` is true, and no step is counted.
     pub fn step<M: CacheRam, I: Source, O: Sink, E: Sink>(
         &mut self,
         image: &ImageView<'_>,
@@ -214,30 +244,57 @@ impl<R: CacheRom> Board<R> {
         requires count { self.old.hart.count < 2 ^ 56 }
         requires services { (R.kept self.old.rom).counts.services < 2 ^ 50 }
         requires fits { Fits image.now (R.kept self.old.rom) self.old.hart }
-        requires sound { R.sound self.old.rom image.now (M.state ram.old).words }
-        ensures follows { OnOk result (ForSome (I.left input.old) (λ left. (f : Machine) → Carries (fetched f.bus) image.now →
+        requires sound { R.sound self.old.rom image.now (M.state ram.old).words
+            ⊎ Exchanged (λ words. R.sound self.old.rom image.now words) image.now
+            (M.state ram.old).words self.old.hart.control }
+        ensures follows { R.sound self.old.rom image.now (M.state ram.old).words →
+            OnOk result (ForSome (I.left input.old) (λ left. (f : Machine) → Carries (fetched f.bus) image.now →
             Matches image.now (R.kept self.old.rom) f self.old.hart.machine self.old.hart.control →
-            Followed image.now (R.kept self.new.rom) self.new.hart (next_made image.now self.old.hart.machine self.old.hart.control f left)
+            Followed image.now (R.kept self.new.rom) self.new.hart
+            (next_made image.now self.old.hart.machine self.old.hart.control f left)
             (I.left input.new) (O.held out.old) (O.held out.new) (E.held err.old) (E.held err.new))) }
-        ensures made { OnOk result (ForSome (I.left input.old) (λ left. Made image.now (R.kept self.new.rom) self.old.hart self.new.hart left
+        ensures made { R.sound self.old.rom image.now (M.state ram.old).words →
+            OnOk result (ForSome (I.left input.old)
+            (λ left. Made image.now (R.kept self.new.rom) self.old.hart self.new.hart left
             (I.left input.new) (O.held out.old) (O.held out.new) (E.held err.old) (E.held err.new))) }
+        ensures executes { OnOk result ((i b o : ℕ) (stage : Stage) →
+            PlainAt image.now (M.state ram.old).words self.old.hart.control i b o stage →
+            ExecutesHeld self.old.hart self.new.hart self.old.rom self.new.rom i b o stage (M.state ram.old).words
+            (M.state ram.new).words
+            (I.left input.old) (I.left input.new) (O.held out.old) (O.held out.new) (E.held err.old) (E.held err.new)) }
+        ensures whole { OnOk result ((i b o : ℕ) (stage : Stage) →
+            PlainAt image.now (M.state ram.old).words self.old.hart.control i b o stage →
+            role_of stage (original self.old.hart.machine) ≡ Role.Whole →
+            Fits image.now (R.kept self.new.rom) self.new.hart) }
         ensures unfailed { OnOk result (self.new.hart.failed ≡ false) }
         ensures booted { OnOk result (self.new.hart.booted ≡ self.old.hart.booted) }
-        ensures fits { OnOk result (Fits image.now (R.kept self.new.rom) self.new.hart) }
-        ensures policy { OnOk result (R.kept self.new.rom ≡ moved (R.policy (R.setting self.old.rom)) (R.kept self.old.rom) image.now
+        ensures fits { R.sound self.old.rom image.now (M.state ram.old).words →
+            OnOk result (Fits image.now (R.kept self.new.rom) self.new.hart) }
+        ensures policy { OnOk result (R.kept self.new.rom ≡ moved (R.policy (R.setting self.old.rom))
+            (R.kept self.old.rom) image.now
             (transfer_at image.now self.old.hart.machine self.old.hart.control)) }
         ensures setting { R.setting self.new.rom ≡ R.setting self.old.rom }
-        ensures sound { OnOk result (R.sound self.new.rom image.now (M.state ram.new).words) }
-        ensures ram { OnOk result (RamStepped (R.span (R.setting self.old.rom)) (writes (R.kept self.new.rom) - writes (R.kept self.old.rom)) self.old.hart.control
+        ensures sound { R.sound self.old.rom image.now (M.state ram.old).words →
+            OnOk result (R.sound self.new.rom image.now (M.state ram.new).words) }
+        ensures unused { OnOk result (SameFrom (R.extent (R.setting self.old.rom) (R.kept self.new.rom))
+            (M.state ram.old).words (M.state ram.new).words) }
+        ensures ram { OnOk result (RamStepped (R.span (R.setting self.old.rom))
+            (writes (R.kept self.new.rom) - writes (R.kept self.old.rom)) self.old.hart.control
             (M.state ram.old) (M.state ram.new)) }
-        ensures grown { OnOk result (Grown image.now (R.kept self.old.rom) (R.kept self.new.rom) self.old.hart self.new.hart) }
+        ensures grown { R.sound self.old.rom image.now (M.state ram.old).words →
+            OnOk result (Grown image.now (R.kept self.old.rom) (R.kept self.new.rom) self.old.hart self.new.hart) }
         ensures stopped { OnErr result (self.new.hart ≡ broken (with_memory self.old.hart self.new.hart.machine.bus)) }
-        ensures broke { OnDevice result (ForSome (I.left input.old) (λ left. BrokenStep image.now (R.kept self.old.rom) self.old.hart left
+        ensures broke { R.sound self.old.rom image.now (M.state ram.old).words →
+            OnDevice result (ForSome (I.left input.old)
+            (λ left. BrokenStep image.now (R.kept self.old.rom) self.old.hart left
             (I.left input.new) (O.held out.old) (O.held out.new) (E.held err.old) (E.held err.new))) }
-        ensures unwritten { IsErrOf result BoardFault.SourceFault → (O.held out.new ≡ O.held out.old) × (E.held err.new ≡ E.held err.old) }
+        ensures unwritten { IsErrOf result BoardFault.SourceFault → (O.held out.new ≡ O.held out.old)
+            × (E.held err.new ≡ E.held err.old) }
         ensures others_stay { IsErrOf result BoardFault.RamFault →
-            (I.left input.new ≡ I.left input.old) × ((O.held out.new ≡ O.held out.old) × (E.held err.new ≡ E.held err.old)) }
-        ensures ram_failed { IsErrOf result BoardFault.RamFault → RamBroken image.now self.old.hart.machine self.old.hart.control
+            (I.left input.new ≡ I.left input.old) × ((O.held out.new ≡ O.held out.old) × (E.held err.new
+            ≡ E.held err.old)) }
+        ensures ram_failed { IsErrOf result BoardFault.RamFault →
+            RamBroken image.now self.old.hart.machine self.old.hart.control
             (R.span (R.setting self.old.rom)) (M.state ram.old) (M.state ram.new) }
         ensures kept { KeepsBeyond (R.span (R.setting self.old.rom)) (M.state ram.old) (M.state ram.new) }
         ensures causes { HasCauses
@@ -249,7 +306,8 @@ impl<R: CacheRom> Board<R> {
 
     /// Steps until `n` original steps are made, or the run has ended.
     ///
-    /// Each fault comes only where its device's count rose. After one `failed` is true, and the step that it broke off is not counted.
+    /// Each fault comes only where its device's count rose. After one `failed` is true, and the step that it broke off
+    /// is not counted.
     pub fn run<M: CacheRam, I: Source, O: Sink, E: Sink>(
         &mut self,
         image: &ImageView<'_>,
@@ -266,32 +324,42 @@ impl<R: CacheRom> Board<R> {
         requires limit { n ≤ 2 ^ 48 }
         requires count { self.old.hart.count ≤ 2 ^ 55 }
         requires services { (R.kept self.old.rom).counts.services ≤ 2 ^ 49 }
-        ensures ran { OnOk result (ForSome (I.left input.old) (λ left. (f : Machine) → Carries (fetched f.bus) image.now →
+        ensures ran { OnOk result (ForSome (I.left input.old) (λ left. (f : Machine) →
+            Carries (fetched f.bus) image.now →
             Matches image.now (R.kept self.old.rom) f self.old.hart.machine self.old.hart.control →
-            Ran (R.policy (R.setting self.old.rom)) image.now (n - self.old.hart.machine.steps) (started f left) self.old.hart (R.kept self.old.rom) self.new.hart (R.kept self.new.rom) (I.left input.new)
+            Ran (R.policy (R.setting self.old.rom)) image.now (n - self.old.hart.machine.steps)
+            (started f left) self.old.hart (R.kept self.old.rom) self.new.hart (R.kept self.new.rom) (I.left input.new)
             (O.held out.old) (O.held out.new) (E.held err.old) (E.held err.new))) }
-        ensures count { OnOk result (self.new.hart.count + most image.now self.old.hart.machine self.old.hart.control ≤ self.old.hart.count + most image.now self.new.hart.machine self.new.hart.control) }
+        ensures count { OnOk result
+            (self.new.hart.count + most image.now self.old.hart.machine self.old.hart.control ≤ self.old.hart.count + most image.now self.new.hart.machine self.new.hart.control) }
         ensures fits { OnOk result (Fits image.now (R.kept self.new.rom) self.new.hart) }
         ensures setting { R.setting self.new.rom ≡ R.setting self.old.rom }
         ensures sound { OnOk result (R.sound self.new.rom image.now (M.state ram.new).words) }
+        ensures unused { OnOk result (SameFrom (R.extent (R.setting self.old.rom) (R.kept self.new.rom))
+            (M.state ram.old).words (M.state ram.new).words) }
         ensures unfailed { OnOk result (self.new.hart.failed ≡ false) }
         ensures booted { OnOk result (self.new.hart.booted ≡ self.old.hart.booted) }
         ensures done { OnOk result ((self.new.hart.machine.steps ≡ n) ⊎ (is_some self.new.hart.machine.ending ≡ true)) }
         ensures settled { OnOk result (ForSome (I.left input.old) (λ left. is_between self.old.hart.control ≡ true →
             self.new.hart.machine.ending ≡ None → is_between self.new.hart.control ≡ true)) }
-        ensures ram { OnOk result (RamRan (R.span (R.setting self.old.rom)) (fetched_by self.old.hart self.new.hart) (writes (R.kept self.new.rom) - writes (R.kept self.old.rom))
+        ensures ram { OnOk result (RamRan (R.span (R.setting self.old.rom)) (fetched_by self.old.hart self.new.hart)
+            (writes (R.kept self.new.rom) - writes (R.kept self.old.rom))
             (M.state ram.old) (M.state ram.new)) }
         ensures kept { KeepsBeyond (R.span (R.setting self.old.rom)) (M.state ram.old) (M.state ram.new) }
         ensures failed { OnErr result (self.new.hart.failed ≡ true) }
         ensures going { OnErr result (self.new.hart.machine.ending ≡ None) }
         ensures uncounted { OnErr result (self.new.hart.machine.steps < n) }
-        ensures broke { OnDevice result (ForSome (I.left input.old) (λ left. (f : Machine) → Carries (fetched f.bus) image.now →
+        ensures broke { OnDevice result (ForSome (I.left input.old) (λ left. (f : Machine) →
+            Carries (fetched f.bus) image.now →
             Matches image.now (R.kept self.old.rom) f self.old.hart.machine self.old.hart.control →
-            BrokeOff result (n - self.old.hart.machine.steps) (started f left) self.old.hart self.new.hart (I.left input.new)
+            BrokeOff result (n - self.old.hart.machine.steps)
+            (started f left) self.old.hart self.new.hart (I.left input.new)
             (O.held out.old) (O.held out.new) (E.held err.old) (E.held err.new))) }
-        ensures ram_broke { IsErrOf result BoardFault.RamFault → ForSome (I.left input.old) (λ left. (f : Machine) → Carries (fetched f.bus) image.now →
+        ensures ram_broke { IsErrOf result BoardFault.RamFault → ForSome (I.left input.old) (λ left. (f : Machine) →
+            Carries (fetched f.bus) image.now →
             Matches image.now (R.kept self.old.rom) f self.old.hart.machine self.old.hart.control →
-            RamBrokeOff image.now (n - self.old.hart.machine.steps) (started f left) self.old.hart self.new.hart (M.state ram.old) (M.state ram.new) (I.left input.new)
+            RamBrokeOff image.now (n - self.old.hart.machine.steps)
+            (started f left) self.old.hart self.new.hart (M.state ram.old) (M.state ram.new) (I.left input.new)
             (O.held out.old) (O.held out.new) (E.held err.old) (E.held err.new)) }
         ensures causes { HasCauses
             (record { ram = (M.state ram.old).faults; input = I.faults input.old; out = O.faults out.old; err = E.faults err.old })

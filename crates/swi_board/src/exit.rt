@@ -5,14 +5,15 @@ ghost use Rattle.std.specs.Prelude.{◌≡◌, ◌⊎◌, ◌+◌, ◌-◌, ◌*
 ghost use Rattle.swi_image.specs.Format.{ImageData};
 ghost use Rattle.swi_image.specs.Place.{place_of, word_at, length_at};
 ghost use Rattle.swi_rom.specs.Record.{direct, indirect, writes, IsJump};
+ghost use Rattle.swi_rom.specs.Served.{SameFrom};
 ghost use Rattle.swi_rom.specs.Coherent.{TargetAt};
 ghost use Rattle.swi_board.specs.Board.{Arrives};
-ghost use Rattle.swi_board.specs.Leaving.{LeaveAt, RamServed, RamFailed, fell};
+ghost use Rattle.swi_board.specs.Leaving.{LeaveAt, RamServed, RamFailed, fell, offset_of};
+ghost use Rattle.swi_isa.specs.Decode.{decoded};
 ghost use Rattle.swi_board.specs.Hart.{exit_kind};
 
 use crate::hart::{Control, ExitKind, Stage};
 use swi_image::ImageView;
-use swi_isa::{Instr, decode};
 use swi_outside::{CacheRam, Failed};
 use swi_rom::{CacheRom, RomStop};
 
@@ -44,19 +45,17 @@ pub(crate) fn fell(stage: Stage, pc: u32, target: u32, control: Control, b: u32,
     }
 }
 
-/// The index to which the jump at an index goes.
-fn jump_index(word: u32, i: u32) -> u32
-    ensures { (j : ℕ) → IsJump i j word → j < 2 ^ 30 → i < 2 ^ 30 → result ≡ j }
+/// The index to which the jump at an index goes, by its offset.
+fn jump_index(off: u32, i: u32) -> u32
+    ensures { (j w : ℕ) → IsJump i j w → off ≡ offset_of (decoded w) → j < 2 ^ 30 → i < 2 ^ 30 → result ≡ j }
 {
-    match decode(word) {
-        Some(Instr::Jal { off, .. }) => i.wrapping_mul(4).wrapping_add(off) / 4,
-        _ => 0,
-    }
+    i.wrapping_mul(4).wrapping_add(off) / 4
 }
 
 /// Control at the word of the ram where a target stands.
 pub(crate) fn control_at<R: CacheRom>(rom: &R, index: u32) -> Control
-    ensures { (v : ImageData) (words : List ℕ) (t : ℕ) → R.sound rom.now v words → TargetAt v (R.kept rom.now) t index → Arrives v (R.kept rom.now) t result }
+    ensures { (v : ImageData) (words : List ℕ) (t : ℕ) → R.sound rom.now v words →
+        TargetAt v (R.kept rom.now) t index → Arrives v (R.kept rom.now) t result }
 {
     match rom.at(index) {
         Some((b, o)) => Control::At(index, b, o, Stage::Start),
@@ -71,25 +70,31 @@ pub(crate) fn leave<R: CacheRom, M: CacheRam>(
     image: &ImageView<'_>,
     ram: &mut M,
     got: u32,
+    off: u32,
     at: (u32, u32, u32),
     target: u32,
 ) -> Result<Control, Failed>
     requires sound { R.sound rom.old image.now (M.state ram.old).words }
     requires services { (R.kept rom.old).counts.services < 2 ^ 50 }
+    requires offset { off ≡ offset_of (decoded got) }
     requires exit { LeaveAt image.now (R.kept rom.old) (M.state ram.old).words got at.0 at.1 at.2 }
     requires target { target ≡ word_at image.now at.1 (at.2 + 1) }
     ensures control { IfOk result (λ c. Arrives image.now (R.kept rom.new) target c) }
-    ensures policy { OnOk result (R.kept rom.new ≡ R.policy (R.setting rom.old) (R.kept rom.old) image.now (direct at.1 at.2 target)) }
+    ensures policy { OnOk result (R.kept rom.new ≡ R.policy (R.setting rom.old)
+        (R.kept rom.old) image.now (direct at.1 at.2 target)) }
     ensures setting { R.setting rom.new ≡ R.setting rom.old }
     ensures sound { OnOk result (R.sound rom.new image.now (M.state ram.new).words) }
-    ensures ram { OnOk result (RamServed (R.span (R.setting rom.old)) (writes (R.kept rom.new) - writes (R.kept rom.old))
+    ensures unused { OnOk result (SameFrom (R.extent (R.setting rom.old) (R.kept rom.new))
+        (M.state ram.old).words (M.state ram.new).words) }
+    ensures ram { OnOk result (RamServed (R.span (R.setting rom.old))
+        (writes (R.kept rom.new) - writes (R.kept rom.old))
         (M.state ram.old) (M.state ram.new)) }
     ensures failed { OnErr result (RamFailed (R.span (R.setting rom.old)) (M.state ram.old) (M.state ram.new)) }
     ensures placed { OnErr result (place_of image.now target ≡ None → ⊥) }
 {
     let (i, _, _) = at;
     if got != EBREAK {
-        return Ok(control_at(rom, jump_index(got, i)));
+        return Ok(control_at(rom, jump_index(off, i)));
     }
     match rom.cross(image, ram, i, target) {
         Ok(index) => Ok(control_at(rom, index)),
@@ -109,10 +114,14 @@ pub(crate) fn jump<R: CacheRom, M: CacheRam>(
     requires sound { R.sound rom.old image.now (M.state ram.old).words }
     requires services { (R.kept rom.old).counts.services < 2 ^ 50 }
     ensures control { IfOk result (λ c. Arrives image.now (R.kept rom.new) target c) }
-    ensures policy { OnOk result (R.kept rom.new ≡ R.policy (R.setting rom.old) (R.kept rom.old) image.now (indirect target)) }
+    ensures policy { OnOk result (R.kept rom.new ≡ R.policy (R.setting rom.old)
+        (R.kept rom.old) image.now (indirect target)) }
     ensures setting { R.setting rom.new ≡ R.setting rom.old }
     ensures sound { OnOk result (R.sound rom.new image.now (M.state ram.new).words) }
-    ensures ram { OnOk result (RamServed (R.span (R.setting rom.old)) (writes (R.kept rom.new) - writes (R.kept rom.old))
+    ensures unused { OnOk result (SameFrom (R.extent (R.setting rom.old) (R.kept rom.new))
+        (M.state ram.old).words (M.state ram.new).words) }
+    ensures ram { OnOk result (RamServed (R.span (R.setting rom.old))
+        (writes (R.kept rom.new) - writes (R.kept rom.old))
         (M.state ram.old) (M.state ram.new)) }
     ensures failed { OnErr result (RamFailed (R.span (R.setting rom.old)) (M.state ram.old) (M.state ram.new)) }
     ensures placed { OnErr result (place_of image.now target ≡ None → ⊥) }

@@ -8,6 +8,7 @@ ghost use Rattle.swi_program.specs.Layout.{IsLayoutOf};
 ghost use Rattle.swi_program.specs.Text.{text_of, word_of, IsTextAddress};
 ghost use Rattle.swi_board.specs.Hart.{unbooted, index_of, place_under};
 
+use crate::position::Position;
 use std::alloc::Global;
 use std::marker::Model;
 use swi_calls::{End, Heap, Machine};
@@ -62,7 +63,7 @@ pub enum ExitKind {
 /// All of a board but its service.
 #[derive(Drop)]
 pub struct Hart {
-    pub(crate) control: Control,
+    pub(crate) control: Position,
     pub(crate) machine: Machine,
     pub(crate) count: u64,
     pub(crate) failed: bool,
@@ -78,9 +79,9 @@ impl Model for Hart {
 }
 
 impl Hart {
-    /// The hart of a program before its first step, over the memory that the program's layout gives; it is not booted. With `log`
-    /// each system call is told in a line on the error sink. `l` is the layout that `lay_out` gives `p`, with the lengths that `l`
-    /// holds.
+    /// The hart of a program before its first step, over the memory that the program's layout gives; it is not booted.
+    /// With `log` each system call is told in a line on the error sink. `l` is the layout that `lay_out` gives `p`,
+    /// with the lengths that `l` holds.
     ///
     /// The only error is want of memory. All the memory of a run is taken here, but for the service's.
     pub fn start(alloc: Global, p: &Program, l: &Layout, log: bool) -> Result<Hart, Memory>
@@ -94,7 +95,7 @@ impl Hart {
         let mut regs = Regs::new();
         regs.set(Reg::of(2), l.sp);
         Ok(Hart {
-            control: Control::Outside,
+            control: Position::outside(),
             machine: Machine {
                 pc,
                 regs,
@@ -172,12 +173,12 @@ impl Hart {
         self.count
     }
 
-    /// The index in the ram of the word under control; None exactly where the hart is not booted, has an ending, or stands where no
-    /// text word is.
+    /// The index in the ram of the word under control; None exactly where the hart is not booted, has an ending, or
+    /// stands where no text word is.
     pub fn at(&self) -> Option<u32>
         ensures { result ≡ index_of self.now.machine.ending self.now.control }
     {
-        match (self.machine.ending, self.control) {
+        match (self.machine.ending, self.control.control()) {
             (None, Control::At(index, _, _, _)) => Some(index),
             _ => None,
         }
@@ -187,7 +188,7 @@ impl Hart {
     pub fn place(&self) -> Option<(u32, u32)>
         ensures { result ≡ place_under self.now.machine.ending self.now.control }
     {
-        match (self.machine.ending, self.control) {
+        match (self.machine.ending, self.control.control()) {
             (None, Control::At(_, block, offset, _)) => Some((block, offset)),
             _ => None,
         }

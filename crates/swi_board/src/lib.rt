@@ -6,6 +6,8 @@ mod exit;
 mod fault;
 mod hart;
 mod many;
+mod plain;
+mod position;
 mod quick;
 mod step;
 mod word;

@@ -9,12 +9,13 @@ ghost use Rattle.swi_board.specs.Board.{Fits};
 ghost use Rattle.swi_board.specs.Calling.{Made, BrokenStep, OnDevice, with_memory};
 ghost use Rattle.swi_board.specs.Faults.{HasCauses};
 ghost use Rattle.swi_board.specs.Runs.{Grown};
-ghost use Rattle.swi_board.specs.Leaving.{Home, leaves, moved, transfer_at, HasPlace, broken, RamServed, RamFailed, RamStepped, RamBroken};
+ghost use Rattle.swi_rom.specs.Served.{SameFrom};
+ghost use Rattle.swi_board.specs.Leaving.{Home, leaves, offset_of, moved, transfer_at, HasPlace, broken, RamServed, RamFailed, RamStepped, RamBroken};
 
 use crate::fault::{BoardFault, fault_of};
 use crate::hart::{Control, Hart, Stage};
-use crate::step::{exit_step, role};
-use crate::word::{end, word_step};
+use crate::step::exit_step;
+use crate::word::{end, role_step};
 use swi_calls::End;
 use swi_exec::FaultKind;
 use swi_image::ImageView;
@@ -28,6 +29,17 @@ fn leaves(x: &Instr) -> bool
     ensures { result ≡ leaves x.now }
 {
     matches!(*x, Instr::Jal { .. } | Instr::Ebreak)
+}
+
+/// The offset of a JAL, and else 0.
+#[inline(always)]
+fn offset_of(x: &Instr) -> u32
+    ensures { result ≡ offset_of (Some x.now) }
+{
+    match *x {
+        Instr::Jal { off, .. } => off,
+        _ => 0,
+    }
 }
 
 /// A step at a word of the ram that was fetched.
@@ -53,33 +65,43 @@ fn at_word<R: CacheRom, M: CacheRam, I: Source, O: Sink, E: Sink>(
     requires home { Home image.now (R.kept rom.old) hart.old.machine at.0 at.1 at.2 at.3 }
     requires sound { R.sound rom.old image.now (M.state ram.old).words }
     requires got { got ≡ slice_index (M.state ram.old).words at.0 }
-    ensures made { OnOk result (ForSome (I.left input.old) (λ left. Made image.now (R.kept rom.new) hart.old hart.new left
+    ensures made { OnOk result (ForSome (I.left input.old)
+        (λ left. Made image.now (R.kept rom.new) hart.old hart.new left
         (I.left input.new) (O.held out.old) (O.held out.new) (E.held err.old) (E.held err.new))) }
     ensures fits { OnOk result (Fits image.now (R.kept rom.new) hart.new) }
     ensures policy { OnOk result (R.kept rom.new ≡ moved (R.policy (R.setting rom.old)) (R.kept rom.old) image.now
         (transfer_at image.now hart.old.machine hart.old.control)) }
     ensures setting { R.setting rom.new ≡ R.setting rom.old }
     ensures sound { OnOk result (R.sound rom.new image.now (M.state ram.new).words) }
-    ensures ram { OnOk result (RamServed (R.span (R.setting rom.old)) (writes (R.kept rom.new) - writes (R.kept rom.old))
+    ensures unused { OnOk result (SameFrom (R.extent (R.setting rom.old) (R.kept rom.new))
+        (M.state ram.old).words (M.state ram.new).words) }
+    ensures ram { OnOk result (RamServed (R.span (R.setting rom.old))
+        (writes (R.kept rom.new) - writes (R.kept rom.old))
         (M.state ram.old) (M.state ram.new)) }
     ensures grown { OnOk result (Grown image.now (R.kept rom.old) (R.kept rom.new) hart.old hart.new) }
     ensures stopped { OnErr result (hart.new ≡ broken (with_memory hart.old hart.new.machine.bus)) }
-    ensures broke { OnDevice result (ForSome (I.left input.old) (λ left. BrokenStep image.now (R.kept rom.old) hart.old left
+    ensures broke { OnDevice result (ForSome (I.left input.old)
+        (λ left. BrokenStep image.now (R.kept rom.old) hart.old left
         (I.left input.new) (O.held out.old) (O.held out.new) (E.held err.old) (E.held err.new))) }
-    ensures unwritten { IsErrOf result BoardFault.SourceFault → (O.held out.new ≡ O.held out.old) × (E.held err.new ≡ E.held err.old) }
+    ensures unwritten { IsErrOf result BoardFault.SourceFault → (O.held out.new ≡ O.held out.old) × (E.held err.new
+        ≡ E.held err.old) }
     ensures others_stay { IsErrOf result BoardFault.RamFault →
-        (I.left input.new ≡ I.left input.old) × ((O.held out.new ≡ O.held out.old) × (E.held err.new ≡ E.held err.old)) }
-    ensures ram_failed { IsErrOf result BoardFault.RamFault → RamFailed (R.span (R.setting rom.old)) (M.state ram.old) (M.state ram.new) }
-    ensures placed { IsErrOf result BoardFault.RamFault → HasPlace image.now (transfer_at image.now hart.old.machine hart.old.control) }
+        (I.left input.new ≡ I.left input.old) × ((O.held out.new ≡ O.held out.old) × (E.held err.new
+        ≡ E.held err.old)) }
+    ensures ram_failed { IsErrOf result BoardFault.RamFault →
+        RamFailed (R.span (R.setting rom.old)) (M.state ram.old) (M.state ram.new) }
+    ensures placed { IsErrOf result BoardFault.RamFault →
+        HasPlace image.now (transfer_at image.now hart.old.machine hart.old.control) }
     ensures kept { KeepsBeyond (R.span (R.setting rom.old)) (M.state ram.old) (M.state ram.new) }
     ensures causes { HasCauses
         (record { ram = (M.state ram.old).faults; input = I.faults input.old; out = O.faults out.old; err = E.faults err.old })
         (record { ram = (M.state ram.new).faults; input = I.faults input.new; out = O.faults out.new; err = E.faults err.new }) result }
 {
-    let (_, _, _, stage) = at;
     let Some(x) = decode(got) else { unreachable!() };
     if leaves(&x) {
-        return match exit_step(hart, rom, image, ram, got, at) {
+        // A tuple of its own: `at` is then passed to nothing that isn't inlined, and stays in registers.
+        let place = (at.0, at.1, at.2, at.3);
+        return match exit_step(hart, rom, image, ram, got, offset_of(&x), place) {
             Ok(_) => Ok(()),
             Err(_) => {
                 hart.failed = true;
@@ -87,8 +109,7 @@ fn at_word<R: CacheRom, M: CacheRam, I: Source, O: Sink, E: Sink>(
             }
         };
     }
-    let role = role(hart, stage, &x);
-    match word_step(hart, at, &x, role, input, out, err) {
+    match role_step(hart, at, &x, input, out, err) {
         Ok(_) => Ok(()),
         Err(fault) => {
             hart.failed = true;
@@ -118,22 +139,29 @@ fn at_step<R: CacheRom, M: CacheRam, I: Source, O: Sink, E: Sink>(
     requires fits { Fits image.now (R.kept rom.old) hart.old }
     requires home { Home image.now (R.kept rom.old) hart.old.machine at.0 at.1 at.2 at.3 }
     requires sound { R.sound rom.old image.now (M.state ram.old).words }
-    ensures made { OnOk result (ForSome (I.left input.old) (λ left. Made image.now (R.kept rom.new) hart.old hart.new left
+    ensures made { OnOk result (ForSome (I.left input.old)
+        (λ left. Made image.now (R.kept rom.new) hart.old hart.new left
         (I.left input.new) (O.held out.old) (O.held out.new) (E.held err.old) (E.held err.new))) }
     ensures fits { OnOk result (Fits image.now (R.kept rom.new) hart.new) }
     ensures policy { OnOk result (R.kept rom.new ≡ moved (R.policy (R.setting rom.old)) (R.kept rom.old) image.now
         (transfer_at image.now hart.old.machine hart.old.control)) }
     ensures setting { R.setting rom.new ≡ R.setting rom.old }
     ensures sound { OnOk result (R.sound rom.new image.now (M.state ram.new).words) }
-    ensures ram { OnOk result (RamStepped (R.span (R.setting rom.old)) (writes (R.kept rom.new) - writes (R.kept rom.old)) hart.old.control
+    ensures unused { OnOk result (SameFrom (R.extent (R.setting rom.old) (R.kept rom.new))
+        (M.state ram.old).words (M.state ram.new).words) }
+    ensures ram { OnOk result (RamStepped (R.span (R.setting rom.old))
+        (writes (R.kept rom.new) - writes (R.kept rom.old)) hart.old.control
         (M.state ram.old) (M.state ram.new)) }
     ensures grown { OnOk result (Grown image.now (R.kept rom.old) (R.kept rom.new) hart.old hart.new) }
     ensures stopped { OnErr result (hart.new ≡ broken (with_memory hart.old hart.new.machine.bus)) }
-    ensures broke { OnDevice result (ForSome (I.left input.old) (λ left. BrokenStep image.now (R.kept rom.old) hart.old left
+    ensures broke { OnDevice result (ForSome (I.left input.old)
+        (λ left. BrokenStep image.now (R.kept rom.old) hart.old left
         (I.left input.new) (O.held out.old) (O.held out.new) (E.held err.old) (E.held err.new))) }
-    ensures unwritten { IsErrOf result BoardFault.SourceFault → (O.held out.new ≡ O.held out.old) × (E.held err.new ≡ E.held err.old) }
+    ensures unwritten { IsErrOf result BoardFault.SourceFault → (O.held out.new ≡ O.held out.old) × (E.held err.new
+        ≡ E.held err.old) }
     ensures others_stay { IsErrOf result BoardFault.RamFault →
-        (I.left input.new ≡ I.left input.old) × ((O.held out.new ≡ O.held out.old) × (E.held err.new ≡ E.held err.old)) }
+        (I.left input.new ≡ I.left input.old) × ((O.held out.new ≡ O.held out.old) × (E.held err.new
+        ≡ E.held err.old)) }
     ensures ram_failed { IsErrOf result BoardFault.RamFault → RamBroken image.now hart.old.machine hart.old.control
         (R.span (R.setting rom.old)) (M.state ram.old) (M.state ram.new) }
     ensures kept { KeepsBeyond (R.span (R.setting rom.old)) (M.state ram.old) (M.state ram.new) }
@@ -141,8 +169,7 @@ fn at_step<R: CacheRom, M: CacheRam, I: Source, O: Sink, E: Sink>(
         (record { ram = (M.state ram.old).faults; input = I.faults input.old; out = O.faults out.old; err = E.faults err.old })
         (record { ram = (M.state ram.new).faults; input = I.faults input.new; out = O.faults out.new; err = E.faults err.new }) result }
 {
-    let (i, _, _, _) = at;
-    let got = match ram.fetch(i) {
+    let got = match ram.fetch(at.0) {
         Ok(got) => got,
         Err(_) => {
             hart.failed = true;
@@ -170,22 +197,29 @@ pub(crate) fn quick_step<R: CacheRom, M: CacheRam, I: Source, O: Sink, E: Sink>(
     requires fits { Fits image.now (R.kept rom.old) hart.old }
     requires sound { R.sound rom.old image.now (M.state ram.old).words }
     ensures word { hart.old.machine.pc < 2 ^ 32 }
-    ensures made { OnOk result (ForSome (I.left input.old) (λ left. Made image.now (R.kept rom.new) hart.old hart.new left
+    ensures made { OnOk result (ForSome (I.left input.old)
+        (λ left. Made image.now (R.kept rom.new) hart.old hart.new left
         (I.left input.new) (O.held out.old) (O.held out.new) (E.held err.old) (E.held err.new))) }
     ensures fits { OnOk result (Fits image.now (R.kept rom.new) hart.new) }
     ensures policy { OnOk result (R.kept rom.new ≡ moved (R.policy (R.setting rom.old)) (R.kept rom.old) image.now
         (transfer_at image.now hart.old.machine hart.old.control)) }
     ensures setting { R.setting rom.new ≡ R.setting rom.old }
     ensures sound { OnOk result (R.sound rom.new image.now (M.state ram.new).words) }
-    ensures ram { OnOk result (RamStepped (R.span (R.setting rom.old)) (writes (R.kept rom.new) - writes (R.kept rom.old)) hart.old.control
+    ensures unused { OnOk result (SameFrom (R.extent (R.setting rom.old) (R.kept rom.new))
+        (M.state ram.old).words (M.state ram.new).words) }
+    ensures ram { OnOk result (RamStepped (R.span (R.setting rom.old))
+        (writes (R.kept rom.new) - writes (R.kept rom.old)) hart.old.control
         (M.state ram.old) (M.state ram.new)) }
     ensures grown { OnOk result (Grown image.now (R.kept rom.old) (R.kept rom.new) hart.old hart.new) }
     ensures stopped { OnErr result (hart.new ≡ broken (with_memory hart.old hart.new.machine.bus)) }
-    ensures broke { OnDevice result (ForSome (I.left input.old) (λ left. BrokenStep image.now (R.kept rom.old) hart.old left
+    ensures broke { OnDevice result (ForSome (I.left input.old)
+        (λ left. BrokenStep image.now (R.kept rom.old) hart.old left
         (I.left input.new) (O.held out.old) (O.held out.new) (E.held err.old) (E.held err.new))) }
-    ensures unwritten { IsErrOf result BoardFault.SourceFault → (O.held out.new ≡ O.held out.old) × (E.held err.new ≡ E.held err.old) }
+    ensures unwritten { IsErrOf result BoardFault.SourceFault → (O.held out.new ≡ O.held out.old) × (E.held err.new
+        ≡ E.held err.old) }
     ensures others_stay { IsErrOf result BoardFault.RamFault →
-        (I.left input.new ≡ I.left input.old) × ((O.held out.new ≡ O.held out.old) × (E.held err.new ≡ E.held err.old)) }
+        (I.left input.new ≡ I.left input.old) × ((O.held out.new ≡ O.held out.old) × (E.held err.new
+        ≡ E.held err.old)) }
     ensures ram_failed { IsErrOf result BoardFault.RamFault → RamBroken image.now hart.old.machine hart.old.control
         (R.span (R.setting rom.old)) (M.state ram.old) (M.state ram.new) }
     ensures kept { KeepsBeyond (R.span (R.setting rom.old)) (M.state ram.old) (M.state ram.new) }
@@ -194,7 +228,7 @@ pub(crate) fn quick_step<R: CacheRom, M: CacheRam, I: Source, O: Sink, E: Sink>(
         (record { ram = (M.state ram.new).faults; input = I.faults input.new; out = O.faults out.new; err = E.faults err.new }) result }
 {
     let pc = hart.origin_pc();
-    match hart.control {
+    match hart.control.control() {
         Control::At(i, b, o, stage) => {
             at_step(hart, rom, image, ram, input, out, err, (i, b, o, stage))
         }

@@ -8,10 +8,11 @@ ghost use Rattle.swi_memory.specs.Bus.{fetched};
 ghost use Rattle.swi_image.specs.Format.{ImageData};
 ghost use Rattle.swi_image.specs.Place.{place_of, word_at, length_at};
 ghost use Rattle.swi_rom.specs.Record.{direct, indirect, writes, IsJump};
+ghost use Rattle.swi_rom.specs.Served.{SameFrom};
 ghost use Rattle.swi_rom.specs.Coherent.{TargetAt};
 ghost use Rattle.swi_board.specs.Board.{Arrives, ExitStep, Jumps, JumpsBy};
-ghost use Rattle.swi_board.specs.Leaving.{HasPlace, LeaveAt, RamServed, RamFailed, fell, quick_role, ExitHome, PlacedAt, Counted, step_to, moved, exit_transfer, broken, is_jalr, jump_transfer};
-ghost use Rattle.swi_board.specs.Hart.{exit_kind, original, trap_kind, first_role};
+ghost use Rattle.swi_board.specs.Leaving.{offset_of, HasPlace, LeaveAt, RamServed, RamFailed, fell, quick_role, upper_quick, ExitHome, PlacedAt, Counted, step_to, moved, exit_transfer, broken, is_jalr, jump_transfer};
+ghost use Rattle.swi_board.specs.Hart.{exit_kind, original, trap_kind};
 
 use crate::exit::{exit_kind, fell, jump, leave};
 use crate::hart::{Control, ExitKind, Hart, Role, Stage};
@@ -19,7 +20,7 @@ use crate::word::end;
 use swi_calls::End;
 use swi_exec::FaultKind;
 use swi_image::ImageView;
-use swi_isa::{Instr, Reg, decode};
+use swi_isa::{ImmOp, Instr, Reg, decode};
 use swi_outside::{CacheRam, Failed};
 use swi_rom::CacheRom;
 
@@ -35,9 +36,12 @@ fn original(hart: &Hart) -> Option<Instr>
 
 /// The role of a LUI.
 #[inline(never)]
-fn upper_role(hart: &Hart) -> Role
-    ensures { result ≡ first_role (original hart.now.machine) }
+fn upper_role(hart: &Hart, stage: Stage) -> Role
+    ensures { result ≡ upper_quick stage (original hart.now.machine) }
 {
+    if stage != Stage::Start {
+        return Role::Whole;
+    }
     match original(hart) {
         Some(Instr::Auipc { .. }) => Role::Lead(Stage::Low),
         Some(Instr::Jal { .. }) => Role::Lead(Stage::Return),
@@ -46,19 +50,23 @@ fn upper_role(hart: &Hart) -> Role
     }
 }
 
-/// The role of a fetched word.
+/// The role of a fetched word. What the word is decides first: each way out of the decoder then leads to its own case,
+/// and no word but a LUI and an ADDI asks for the stage.
 #[inline(always)]
 pub(crate) fn role(hart: &Hart, stage: Stage, x: &Instr) -> Role
     ensures { result ≡ quick_role stage x.now (original hart.now.machine) }
 {
-    match stage {
-        Stage::Start => match *x {
-            Instr::Lui { .. } => upper_role(hart),
-            Instr::Branch { .. } => Role::Over,
-            _ => Role::Whole,
+    match *x {
+        Instr::Lui { .. } => upper_role(hart, stage),
+        Instr::Branch { .. } => Role::Over,
+        Instr::Alu {
+            op: ImmOp::Addi,
+            ..
+        } => match stage {
+            Stage::Return => Role::Lead(Stage::Leave),
+            Stage::Start | Stage::Low | Stage::Leave => Role::Whole,
         },
-        Stage::Low | Stage::Leave => Role::Whole,
-        Stage::Return => Role::Lead(Stage::Leave),
+        _ => Role::Whole,
     }
 }
 
@@ -79,6 +87,7 @@ fn direct_step<R: CacheRom, M: CacheRam>(
     image: &ImageView<'_>,
     ram: &mut M,
     got: u32,
+    off: u32,
     at: (u32, u32, u32, Stage),
     target: u32,
 ) -> Result<(), Failed>
@@ -90,22 +99,28 @@ fn direct_step<R: CacheRom, M: CacheRam>(
     requires placed { PlacedAt (R.kept rom.old) at.0 at.1 at.2 }
     requires block { at.1 < length image.now.starts }
     requires fetched { got ≡ slice_index (M.state ram.old).words at.0 }
+    requires offset { off ≡ offset_of (decoded got) }
     requires target { target ≡ word_at image.now at.1 (at.2 + 1) }
     requires direct { target % 4 ≡ 0 }
     ensures step { OnOk result ((input : List ℕ) →
-        ExitStep ExitKind.Direct image.now (R.kept rom.new) hart.old.machine (step_to hart.new input) input at.0 at.1 at.2 at.3) }
+        ExitStep ExitKind.Direct image.now (R.kept rom.new) hart.old.machine
+        (step_to hart.new input) input at.0 at.1 at.2 at.3) }
     ensures counted { OnOk result (Counted hart.old hart.new) }
-    ensures policy { OnOk result (R.kept rom.new ≡ R.policy (R.setting rom.old) (R.kept rom.old) image.now (direct at.1 at.2 target)) }
+    ensures policy { OnOk result (R.kept rom.new ≡ R.policy (R.setting rom.old)
+        (R.kept rom.old) image.now (direct at.1 at.2 target)) }
     ensures setting { R.setting rom.new ≡ R.setting rom.old }
     ensures sound { OnOk result (R.sound rom.new image.now (M.state ram.new).words) }
-    ensures ram { OnOk result (RamServed (R.span (R.setting rom.old)) (writes (R.kept rom.new) - writes (R.kept rom.old))
+    ensures unused { OnOk result (SameFrom (R.extent (R.setting rom.old) (R.kept rom.new))
+        (M.state ram.old).words (M.state ram.new).words) }
+    ensures ram { OnOk result (RamServed (R.span (R.setting rom.old))
+        (writes (R.kept rom.new) - writes (R.kept rom.old))
         (M.state ram.old) (M.state ram.new)) }
     ensures failed { OnErr result (RamFailed (R.span (R.setting rom.old)) (M.state ram.old) (M.state ram.new)) }
     ensures placed { OnErr result (HasPlace image.now (Some (direct at.1 at.2 target))) }
     ensures stays { OnErr result (hart.new ≡ hart.old) }
 {
     let (i, b, o, stage) = at;
-    let control = match leave(rom, image, ram, got, (i, b, o), target) {
+    let control = match leave(rom, image, ram, got, off, (i, b, o), target) {
         Ok(control) => control,
         Err(_) => return Err(Failed),
     };
@@ -113,7 +128,7 @@ fn direct_step<R: CacheRom, M: CacheRam>(
         hart.machine.pc = target;
         hart.machine.steps += 1;
     }
-    hart.control = control;
+    hart.control.go(control);
     hart.count += 1;
     Ok(())
 }
@@ -134,13 +149,18 @@ fn jump_step<R: CacheRom, M: CacheRam>(
     requires control { hart.old.control ≡ Control.At at.0 at.1 at.2 at.3 }
     requires sound { R.sound rom.old image.now (M.state ram.old).words }
     requires services { (R.kept rom.old).counts.services < 2 ^ 50 }
-    ensures step { OnOk result ((input : List ℕ) → Jumps (target % 4 == 0) image.now (R.kept rom.new) (step_to hart.new input) input
+    ensures step { OnOk result ((input : List ℕ) → Jumps (target % 4 == 0) image.now (R.kept rom.new)
+        (step_to hart.new input) input
         (Control.At at.0 at.1 at.2 at.3) hart.old.machine rd link target) }
     ensures counted { OnOk result (Counted hart.old hart.new) }
-    ensures policy { OnOk result (R.kept rom.new ≡ moved (R.policy (R.setting rom.old)) (R.kept rom.old) image.now (if target % 4 == 0 then Some (indirect target) else None)) }
+    ensures policy { OnOk result (R.kept rom.new ≡ moved (R.policy (R.setting rom.old))
+        (R.kept rom.old) image.now (if target % 4 == 0 then Some (indirect target) else None)) }
     ensures setting { R.setting rom.new ≡ R.setting rom.old }
     ensures sound { OnOk result (R.sound rom.new image.now (M.state ram.new).words) }
-    ensures ram { OnOk result (RamServed (R.span (R.setting rom.old)) (writes (R.kept rom.new) - writes (R.kept rom.old))
+    ensures unused { OnOk result (SameFrom (R.extent (R.setting rom.old) (R.kept rom.new))
+        (M.state ram.old).words (M.state ram.new).words) }
+    ensures ram { OnOk result (RamServed (R.span (R.setting rom.old))
+        (writes (R.kept rom.new) - writes (R.kept rom.old))
         (M.state ram.old) (M.state ram.new)) }
     ensures failed { OnErr result (RamFailed (R.span (R.setting rom.old)) (M.state ram.old) (M.state ram.new)) }
     ensures placed { OnErr result (HasPlace image.now (if target % 4 == 0 then Some (indirect target) else None)) }
@@ -155,7 +175,7 @@ fn jump_step<R: CacheRom, M: CacheRam>(
         Err(_) => return Err(Failed),
     };
     hart.machine.regs.set(rd, link);
-    hart.control = control;
+    hart.control.go(control);
     hart.machine.pc = target;
     hart.machine.steps += 1;
     hart.count += 1;
@@ -185,13 +205,18 @@ fn jalr_step<R: CacheRom, M: CacheRam>(
     requires sound { R.sound rom.old image.now (M.state ram.old).words }
     requires services { (R.kept rom.old).counts.services < 2 ^ 50 }
     requires jalr { is_jalr x.now ≡ true }
-    ensures step { OnOk result ((input : List ℕ) → JumpsBy (Some x.now) image.now (R.kept rom.new) (step_to hart.new input) input
+    ensures step { OnOk result ((input : List ℕ) → JumpsBy (Some x.now) image.now (R.kept rom.new)
+        (step_to hart.new input) input
         (Control.At at.0 at.1 at.2 at.3) hart.old.machine link) }
     ensures counted { OnOk result (Counted hart.old hart.new) }
-    ensures policy { OnOk result (R.kept rom.new ≡ moved (R.policy (R.setting rom.old)) (R.kept rom.old) image.now (jump_transfer (Some x.now) hart.old.machine)) }
+    ensures policy { OnOk result (R.kept rom.new ≡ moved (R.policy (R.setting rom.old))
+        (R.kept rom.old) image.now (jump_transfer (Some x.now) hart.old.machine)) }
     ensures setting { R.setting rom.new ≡ R.setting rom.old }
     ensures sound { OnOk result (R.sound rom.new image.now (M.state ram.new).words) }
-    ensures ram { OnOk result (RamServed (R.span (R.setting rom.old)) (writes (R.kept rom.new) - writes (R.kept rom.old))
+    ensures unused { OnOk result (SameFrom (R.extent (R.setting rom.old) (R.kept rom.new))
+        (M.state ram.old).words (M.state ram.new).words) }
+    ensures ram { OnOk result (RamServed (R.span (R.setting rom.old))
+        (writes (R.kept rom.new) - writes (R.kept rom.old))
         (M.state ram.old) (M.state ram.new)) }
     ensures failed { OnErr result (RamFailed (R.span (R.setting rom.old)) (M.state ram.old) (M.state ram.new)) }
     ensures placed { OnErr result (HasPlace image.now (jump_transfer (Some x.now) hart.old.machine)) }
@@ -214,6 +239,7 @@ pub(crate) fn exit_step<R: CacheRom, M: CacheRam>(
     image: &ImageView<'_>,
     ram: &mut M,
     got: u32,
+    off: u32,
     at: (u32, u32, u32, Stage),
 ) -> Result<(), Failed>
     requires few { hart.old.machine.steps < 2 ^ 48 }
@@ -226,23 +252,29 @@ pub(crate) fn exit_step<R: CacheRom, M: CacheRam>(
     requires block { at.1 < length image.now.starts }
     requires small { at.2 < 2 ^ 22 }
     requires fetched { got ≡ slice_index (M.state ram.old).words at.0 }
+    requires offset { off ≡ offset_of (decoded got) }
     ensures step { OnOk result ((input : List ℕ) →
-        ExitStep (exit_kind (word_at image.now at.1 (at.2 + 1))) image.now (R.kept rom.new) hart.old.machine (step_to hart.new input) input at.0 at.1 at.2 at.3) }
+        ExitStep (exit_kind (word_at image.now at.1 (at.2 + 1))) image.now (R.kept rom.new) hart.old.machine
+        (step_to hart.new input) input at.0 at.1 at.2 at.3) }
     ensures counted { OnOk result (Counted hart.old hart.new) }
     ensures policy { OnOk result (R.kept rom.new ≡ moved (R.policy (R.setting rom.old)) (R.kept rom.old) image.now
         (exit_transfer (exit_kind (word_at image.now at.1 (at.2 + 1))) image.now hart.old.machine at.1 at.2)) }
     ensures setting { R.setting rom.new ≡ R.setting rom.old }
     ensures sound { OnOk result (R.sound rom.new image.now (M.state ram.new).words) }
-    ensures ram { OnOk result (RamServed (R.span (R.setting rom.old)) (writes (R.kept rom.new) - writes (R.kept rom.old))
+    ensures unused { OnOk result (SameFrom (R.extent (R.setting rom.old) (R.kept rom.new))
+        (M.state ram.old).words (M.state ram.new).words) }
+    ensures ram { OnOk result (RamServed (R.span (R.setting rom.old))
+        (writes (R.kept rom.new) - writes (R.kept rom.old))
         (M.state ram.old) (M.state ram.new)) }
     ensures failed { OnErr result (RamFailed (R.span (R.setting rom.old)) (M.state ram.old) (M.state ram.new)) }
-    ensures placed { OnErr result (HasPlace image.now (exit_transfer (exit_kind (word_at image.now at.1 (at.2 + 1))) image.now hart.old.machine at.1 at.2)) }
+    ensures placed { OnErr result (HasPlace image.now (exit_transfer (exit_kind (word_at image.now at.1
+        (at.2 + 1))) image.now hart.old.machine at.1 at.2)) }
     ensures stays { OnErr result (hart.new ≡ hart.old) }
 {
     let (_, b, o, _) = at;
     let d = image.word(b, o + 1);
     match exit_kind(d) {
-        ExitKind::Direct => direct_step(hart, rom, image, ram, got, at, d),
+        ExitKind::Direct => direct_step(hart, rom, image, ram, got, off, at, d),
         ExitKind::Misaligned => {
             end(hart, End::Faulted(FaultKind::FetchMisaligned, d));
             Ok(())

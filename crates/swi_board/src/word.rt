@@ -10,10 +10,13 @@ ghost use Rattle.swi_calls.specs.Call.{room_of_call, second_argument};
 ghost use Rattle.swi_calls.specs.Moves.{ReadsInto};
 ghost use Rattle.swi_calls.specs.StoresText.{text_store_of};
 ghost use Rattle.swi_calls.specs.Flat.{ended, call_made};
-ghost use Rattle.swi_board.specs.Hart.{hart_after, word_stepped, call_stepped};
+ghost use Rattle.swi_board.specs.declared.hart.Control.{Control};
+ghost use Rattle.swi_board.specs.Hart.{hart_after, word_stepped, call_stepped, original};
+ghost use Rattle.swi_board.specs.Leaving.{quick_role, changes_register};
 ghost use Rattle.swi_board.specs.Calling.{Called as CalledAt, Did, Moved, WordWent, with_memory};
 
-use crate::hart::{Control, Hart, Role, Stage};
+use crate::hart::{Hart, Role, Stage};
+use crate::step::role;
 use swi_calls::{CallFault, End, text_store};
 use swi_exec::{Done, FaultKind, exec};
 use swi_isa::Instr;
@@ -36,13 +39,20 @@ pub(crate) fn end(hart: &mut Hart, end: End)
 #[inline(never)]
 fn stop(hart: &mut Hart, address: u32)
     requires count { hart.old.count < 2 ^ 56 }
-    ensures { hart.new ≡ record hart.old { machine = record hart.old.machine { ending = Some (End.StoreText address) }; count = hart.old.count + 1 } }
+    ensures { hart.new ≡ record hart.old {
+      machine = record hart.old.machine {
+        ending = Some
+            (End.StoreText address);
+      };
+      count = hart.old.count + 1;
+    } }
 {
     hart.machine.ending = Some(End::StoreText(address));
     hart.count += 1;
 }
 
-/// Executes a word that is no exit, by its role. Answers whether a system call is to be made, and then nothing has changed.
+/// Executes a word that is no exit, by its role. Answers whether a system call is to be made, and then nothing has
+/// changed.
 #[inline(always)]
 #[tactic(auto, using(crate::proofs::Calls::call_is))]
 pub(crate) fn run_word(hart: &mut Hart, at: (u32, u32, u32, Stage), x: &Instr, role: Role) -> bool
@@ -52,32 +62,30 @@ pub(crate) fn run_word(hart: &mut Hart, at: (u32, u32, u32, Stage), x: &Instr, r
     requires control { hart.old.control ≡ Control.At at.0 at.1 at.2 at.3 }
     requires small { at.0 < 2 ^ 22 }
     requires inside { at.2 < 2 ^ 22 }
-    ensures asks { result ≡ true → (x.now ≡ Instr.Ecall) × (text_store_of x.now hart.old.machine.regs hart.old.machine.bus ≡ None) }
+    ensures asks { result ≡ true → (x.now ≡ Instr.Ecall)
+        × (text_store_of x.now hart.old.machine.regs hart.old.machine.bus ≡ None) }
     ensures called { result ≡ true → (hart.new ≡ hart.old) × ((input : List ℕ) →
-        word_stepped role at.0 at.1 at.2 at.3 hart.old.machine x.now input ≡ call_stepped at.0 at.1 at.2 at.3 hart.old.machine input) }
-    ensures ran { result ≡ false → (input : List ℕ) → hart.new ≡ hart_after hart.old (word_stepped role at.0 at.1 at.2 at.3 hart.old.machine x.now input) }
-    ensures took { result ≡ false → (input : List ℕ) → (word_stepped role at.0 at.1 at.2 at.3 hart.old.machine x.now input).made.input ≡ input }
-    ensures output { result ≡ false → (input : List ℕ) → (word_stepped role at.0 at.1 at.2 at.3 hart.old.machine x.now input).made.output ≡ [] }
-    ensures error { result ≡ false → (input : List ℕ) → (word_stepped role at.0 at.1 at.2 at.3 hart.old.machine x.now input).made.error ≡ [] }
+        word_stepped role at.0 at.1 at.2 at.3 hart.old.machine x.now input
+        ≡ call_stepped at.0 at.1 at.2 at.3 hart.old.machine input) }
+    ensures ran { result ≡ false → (input : List ℕ) → hart.new
+        ≡ hart_after hart.old (word_stepped role at.0 at.1 at.2 at.3 hart.old.machine x.now input) }
+    ensures took { result ≡ false → (input : List ℕ) →
+        (word_stepped role at.0 at.1 at.2 at.3 hart.old.machine x.now input).made.input ≡ input }
+    ensures output { result ≡ false → (input : List ℕ) →
+        (word_stepped role at.0 at.1 at.2 at.3 hart.old.machine x.now input).made.output ≡ [] }
+    ensures error { result ≡ false → (input : List ℕ) →
+        (word_stepped role at.0 at.1 at.2 at.3 hart.old.machine x.now input).made.error ≡ [] }
 {
-    let (i, b, o, stage) = at;
+    let i = at.0;
     match role {
         Role::Lead(next) => {
             exec(x, 4 * i, &mut hart.machine.regs, &mut hart.machine.bus);
-            hart.control = Control::At(i + 1, b, o + 1, next);
+            hart.control.advance(at, 1, next);
             hart.count += 1;
             false
         }
         Role::Over => {
-            let done = exec(x, 4 * i, &mut hart.machine.regs, &mut hart.machine.bus);
-            if done == Done::Next(4 * i + 12) {
-                hart.control = Control::At(i + 3, b, o + 3, Stage::Start);
-                hart.machine.pc = hart.machine.pc.wrapping_add(4);
-                hart.machine.steps += 1;
-            } else {
-                hart.control = Control::At(i + 1, b, o + 1, Stage::Leave);
-            }
-            hart.count += 1;
+            over_word(hart, at, x);
             false
         }
         Role::Whole => {
@@ -87,7 +95,7 @@ pub(crate) fn run_word(hart: &mut Hart, at: (u32, u32, u32, Stage), x: &Instr, r
             }
             match exec(x, 4 * i, &mut hart.machine.regs, &mut hart.machine.bus) {
                 Done::Next(_) => {
-                    hart.control = Control::At(i + 1, b, o + 1, Stage::Start);
+                    hart.control.advance(at, 1, Stage::Start);
                     hart.machine.pc = hart.machine.pc.wrapping_add(4);
                     hart.machine.steps += 1;
                     hart.count += 1;
@@ -108,6 +116,72 @@ pub(crate) fn run_word(hart: &mut Hart, at: (u32, u32, u32, Stage), x: &Instr, r
     }
 }
 
+/// Whether a word only changes a register.
+#[inline(always)]
+fn changes_register(x: &Instr) -> bool
+    ensures { result ≡ changes_register x.now }
+{
+    matches!(
+        *x,
+        Instr::Alu { .. } | Instr::Op { .. } | Instr::Load { .. }
+    )
+}
+
+/// Executes a branch, which stands over an exit.
+#[inline(always)]
+fn over_word(hart: &mut Hart, at: (u32, u32, u32, Stage), x: &Instr)
+    requires running { hart.old.machine.ending ≡ None }
+    requires few { hart.old.machine.steps < 2 ^ 48 }
+    requires count { hart.old.count < 2 ^ 56 }
+    requires control { hart.old.control ≡ Control.At at.0 at.1 at.2 at.3 }
+    requires small { at.0 < 2 ^ 22 }
+    requires inside { at.2 < 2 ^ 22 }
+    ensures ran { (input : List ℕ) → hart.new
+        ≡ hart_after hart.old (word_stepped Role.Over at.0 at.1 at.2 at.3 hart.old.machine x.now input) }
+{
+    let i = at.0;
+    let done = exec(x, 4 * i, &mut hart.machine.regs, &mut hart.machine.bus);
+    if done == Done::Next(4 * i + 12) {
+        hart.control.advance(at, 3, Stage::Start);
+        hart.machine.pc = hart.machine.pc.wrapping_add(4);
+        hart.machine.steps += 1;
+    } else {
+        hart.control.advance(at, 1, Stage::Leave);
+    }
+    hart.count += 1;
+}
+
+/// Executes a word that completes its instruction, and that only changes a register.
+#[inline(always)]
+fn register_word(hart: &mut Hart, at: (u32, u32, u32, Stage), x: &Instr)
+    requires running { hart.old.machine.ending ≡ None }
+    requires few { hart.old.machine.steps < 2 ^ 48 }
+    requires count { hart.old.count < 2 ^ 56 }
+    requires control { hart.old.control ≡ Control.At at.0 at.1 at.2 at.3 }
+    requires small { at.0 < 2 ^ 22 }
+    requires inside { at.2 < 2 ^ 22 }
+    requires register { changes_register x.now ≡ true }
+    ensures ran { (input : List ℕ) → hart.new
+        ≡ hart_after hart.old (word_stepped Role.Whole at.0 at.1 at.2 at.3 hart.old.machine x.now input) }
+    ensures took { (input : List ℕ) →
+        (word_stepped Role.Whole at.0 at.1 at.2 at.3 hart.old.machine x.now input).made.input ≡ input }
+    ensures output { (input : List ℕ) →
+        (word_stepped Role.Whole at.0 at.1 at.2 at.3 hart.old.machine x.now input).made.output ≡ [] }
+    ensures error { (input : List ℕ) →
+        (word_stepped Role.Whole at.0 at.1 at.2 at.3 hart.old.machine x.now input).made.error ≡ [] }
+{
+    match exec(x, 4 * at.0, &mut hart.machine.regs, &mut hart.machine.bus) {
+        Done::Next(_) => {
+            hart.control.advance(at, 1, Stage::Start);
+            hart.machine.pc = hart.machine.pc.wrapping_add(4);
+            hart.machine.steps += 1;
+            hart.count += 1;
+        }
+        Done::Fault(kind, address) => end(hart, End::Faulted(kind, address)),
+        Done::Call | Done::Break => unreachable!(),
+    }
+}
+
 /// The step of a system call.
 #[inline(never)]
 pub(crate) fn call_word<I: Source, O: Sink, E: Sink>(
@@ -125,7 +199,8 @@ pub(crate) fn call_word<I: Source, O: Sink, E: Sink>(
     requires inside { at.2 < 2 ^ 22 }
     ensures hart { OnOk result (ForSome (I.left input.old) (λ left.
         hart.new ≡ hart_after hart.old (call_stepped at.0 at.1 at.2 at.3 hart.old.machine left))) }
-    ensures input { OnOk result (ForSome (I.left input.old) (λ left. I.left input.new ≡ Some (call_made hart.old.machine left).input)) }
+    ensures input { OnOk result (ForSome (I.left input.old) (λ left. I.left input.new
+        ≡ Some (call_made hart.old.machine left).input)) }
     ensures output { OnOk result (ForSome (I.left input.old) (λ left.
         Appends (O.held out.old) (O.held out.new) (call_made hart.old.machine left).output)) }
     ensures error { OnOk result (ForSome (I.left input.old) (λ left.
@@ -137,16 +212,16 @@ pub(crate) fn call_word<I: Source, O: Sink, E: Sink>(
         AppendsPrefix (O.held out.old) (O.held out.new) (call_made hart.old.machine left).output)) }
     ensures error_prefix { OnErr result (ForSome (I.left input.old) (λ left.
         AppendsPrefix (E.held err.old) (E.held err.new) (call_made hart.old.machine left).error)) }
-    ensures unwritten { IsErrOf result CallFault.SourceFault → (O.held out.new ≡ O.held out.old) × (E.held err.new ≡ E.held err.old) }
+    ensures unwritten { IsErrOf result CallFault.SourceFault → (O.held out.new ≡ O.held out.old) × (E.held err.new
+        ≡ E.held err.old) }
     ensures causes { HasCauses
         (record { input = I.faults input.old; out = O.faults out.old; err = E.faults err.old })
         (record { input = I.faults input.new; out = O.faults out.new; err = E.faults err.new }) result }
 {
-    let (i, b, o, _) = at;
     match hart.machine.call_step(input, out, err) {
         Ok(_) => {
             if hart.machine.ending.is_none() {
-                hart.control = Control::At(i + 1, b, o + 1, Stage::Start);
+                hart.control.advance(at, 1, Stage::Start);
             }
             hart.count += 1;
             Ok(())
@@ -173,25 +248,90 @@ pub(crate) fn word_step<I: Source, O: Sink, E: Sink>(
     requires small { at.0 < 2 ^ 22 }
     requires inside { at.2 < 2 ^ 22 }
     ensures did { OnOk result (ForSome (I.left input.old) (λ left. Did hart.old hart.new
-        (word_stepped role at.0 at.1 at.2 at.3 hart.old.machine x.now left) (I.left input.new) (O.held out.old) (O.held out.new) (E.held err.old) (E.held err.new))) }
-    ensures went { OnOk result (WordWent x.now (λ left. word_stepped role at.0 at.1 at.2 at.3 hart.old.machine x.now left)
-        (λ left. call_stepped at.0 at.1 at.2 at.3 hart.old.machine left) at.0 at.1 at.2 at.3 hart.old hart.new (I.left input.old) (I.left input.new)) }
+        (word_stepped role at.0 at.1 at.2 at.3 hart.old.machine x.now left) (I.left input.new) (O.held out.old)
+        (O.held out.new) (E.held err.old) (E.held err.new))) }
+    ensures went { OnOk result (WordWent x.now
+        (λ left. word_stepped role at.0 at.1 at.2 at.3 hart.old.machine x.now left)
+        (λ left. call_stepped at.0 at.1 at.2 at.3 hart.old.machine left) at.0 at.1 at.2 at.3 hart.old hart.new
+        (I.left input.old) (I.left input.new)) }
     ensures stays { OnErr result (hart.new ≡ with_memory hart.old hart.new.machine.bus) }
     ensures asked { OnErr result ((input : List ℕ) → word_stepped role at.0 at.1 at.2 at.3 hart.old.machine x.now input
         ≡ call_stepped at.0 at.1 at.2 at.3 hart.old.machine input) }
     ensures moved { OnErr result (Moved hart.old.machine hart.new.machine.bus (I.left input.old) (I.left input.new)) }
     ensures output_prefix { OnErr result (ForSome (I.left input.old) (λ left.
-        AppendsPrefix (O.held out.old) (O.held out.new) (word_stepped role at.0 at.1 at.2 at.3 hart.old.machine x.now left).made.output)) }
+        AppendsPrefix (O.held out.old) (O.held out.new)
+        (word_stepped role at.0 at.1 at.2 at.3 hart.old.machine x.now left).made.output)) }
     ensures error_prefix { OnErr result (ForSome (I.left input.old) (λ left.
-        AppendsPrefix (E.held err.old) (E.held err.new) (word_stepped role at.0 at.1 at.2 at.3 hart.old.machine x.now left).made.error)) }
-    ensures unwritten { IsErrOf result CallFault.SourceFault → (O.held out.new ≡ O.held out.old) × (E.held err.new ≡ E.held err.old) }
+        AppendsPrefix (E.held err.old) (E.held err.new)
+        (word_stepped role at.0 at.1 at.2 at.3 hart.old.machine x.now left).made.error)) }
+    ensures unwritten { IsErrOf result CallFault.SourceFault → (O.held out.new ≡ O.held out.old) × (E.held err.new
+        ≡ E.held err.old) }
     ensures causes { HasCauses
         (record { input = I.faults input.old; out = O.faults out.old; err = E.faults err.old })
         (record { input = I.faults input.new; out = O.faults out.new; err = E.faults err.new }) result }
 {
     if run_word(hart, at, x, role) {
-        call_word(hart, at, input, out, err)
+        call_word(hart, (at.0, at.1, at.2, at.3), input, out, err)
     } else {
         Ok(())
     }
+}
+
+/// A step at a word that is no exit, by the role that it has. Each kind of word that programs execute most comes to its
+/// own `exec` right behind the decoder, so that the compiler joins the two, without a jump through a table between
+/// them.
+#[inline(always)]
+pub(crate) fn role_step<I: Source, O: Sink, E: Sink>(
+    hart: &mut Hart,
+    at: (u32, u32, u32, Stage),
+    x: &Instr,
+    input: &mut I,
+    out: &mut O,
+    err: &mut E,
+) -> Result<(), CallFault>
+    requires running { hart.old.machine.ending ≡ None }
+    requires few { hart.old.machine.steps < 2 ^ 48 }
+    requires count { hart.old.count < 2 ^ 56 }
+    requires control { hart.old.control ≡ Control.At at.0 at.1 at.2 at.3 }
+    requires small { at.0 < 2 ^ 22 }
+    requires inside { at.2 < 2 ^ 22 }
+    ensures did { OnOk result (ForSome (I.left input.old) (λ left. Did hart.old hart.new
+        (word_stepped (quick_role at.3 x.now
+        (original hart.old.machine)) at.0 at.1 at.2 at.3 hart.old.machine x.now left) (I.left input.new)
+        (O.held out.old) (O.held out.new) (E.held err.old) (E.held err.new))) }
+    ensures went { OnOk result (WordWent x.now (λ left. word_stepped (quick_role at.3 x.now
+        (original hart.old.machine)) at.0 at.1 at.2 at.3 hart.old.machine x.now left)
+        (λ left. call_stepped at.0 at.1 at.2 at.3 hart.old.machine left) at.0 at.1 at.2 at.3 hart.old hart.new
+        (I.left input.old) (I.left input.new)) }
+    ensures stays { OnErr result (hart.new ≡ with_memory hart.old hart.new.machine.bus) }
+    ensures asked { OnErr result ((input : List ℕ) →
+        word_stepped (quick_role at.3 x.now
+        (original hart.old.machine)) at.0 at.1 at.2 at.3 hart.old.machine x.now input
+        ≡ call_stepped at.0 at.1 at.2 at.3 hart.old.machine input) }
+    ensures moved { OnErr result (Moved hart.old.machine hart.new.machine.bus (I.left input.old) (I.left input.new)) }
+    ensures output_prefix { OnErr result (ForSome (I.left input.old) (λ left.
+        AppendsPrefix (O.held out.old) (O.held out.new)
+        (word_stepped (quick_role at.3 x.now
+        (original hart.old.machine)) at.0 at.1 at.2 at.3 hart.old.machine x.now left).made.output)) }
+    ensures error_prefix { OnErr result (ForSome (I.left input.old) (λ left.
+        AppendsPrefix (E.held err.old) (E.held err.new)
+        (word_stepped (quick_role at.3 x.now
+        (original hart.old.machine)) at.0 at.1 at.2 at.3 hart.old.machine x.now left).made.error)) }
+    ensures unwritten { IsErrOf result CallFault.SourceFault → (O.held out.new ≡ O.held out.old) × (E.held err.new
+        ≡ E.held err.old) }
+    ensures causes { HasCauses
+        (record { input = I.faults input.old; out = O.faults out.old; err = E.faults err.old })
+        (record { input = I.faults input.new; out = O.faults out.new; err = E.faults err.new }) result }
+{
+    let (_, _, _, stage) = at;
+    if let Instr::Branch { .. } = *x {
+        over_word(hart, at, x);
+        return Ok(());
+    }
+    if stage != Stage::Return && changes_register(x) {
+        register_word(hart, at, x);
+        return Ok(());
+    }
+    let role = role(hart, stage, x);
+    word_step(hart, at, x, role, input, out, err)
 }

@@ -1,5 +1,5 @@
 -- The empty service, and the board before its first step.
-use Rattle.std.proofs.Common.{◌≡◌, ℕ, zero, suc, ◌*◌, ◌/◌, ◌<◌, ◌≤◌, true, List, [], ◌∷◌, replicate, slice_index, Option, Some, None, Result, Ok, Err, IfOk, refl, sym, ap, subst, ◌∙◌, arith}
+use Rattle.std.proofs.Common.{◌≡◌, ℕ, zero, suc, ◌-◌, ◌*◌, ◌/◌, ◌<◌, ◌≤◌, true, List, [], ◌∷◌, replicate, slice_index, Option, Some, None, Result, Ok, Err, IfOk, refl, sym, ap, subst, ◌∙◌, arith}
 use Rattle.std.proofs.lemmas.List.{get_or-replicate}
 use Rattle.std.proofs.lemmas.Bool.{false≢true, le-ltb}
 use Rattle.std.proofs.Math.Nat.{div-div-eq-div-mul, div-mul-le_self}
@@ -9,7 +9,7 @@ use Rattle.swi_calls.specs.declared.end.End.{End}
 use Rattle.swi_calls.specs.declared.machine.Machine.{Machine}
 use Rattle.swi_image.specs.Format.{ImageData}
 use Rattle.swi_render.specs.Carried.{Carries}
-use Rattle.swi_rom.specs.Record.{Record, indirect}
+use Rattle.swi_rom.specs.Record.{Record, indirect, writes}
 use Rattle.swi_rom.specs.Slots.{Slots, kept_by, setting_of, queue_of, numbered, links_of, link_at, collected}
 use Rattle.swi_board.specs.declared.hart.Stage.TheVariants.{Start, Low, Return, Leave}
 use Rattle.swi_board.specs.declared.hart.Control.{Control}
@@ -83,3 +83,7 @@ services_booted c h s before after booted =
 pub if_ok : {T E : Type 0} {P Q : T → Type 0} (r : Result T E) → ((x : T) → P x → Q x) → IfOk r P → IfOk r Q
 if_ok (Ok x) f p = f x p
 if_ok (Err e) f p = tt
+
+-- the writes of the boot are the first
+pub wrote_at_boot : (old new next : Record) → old ≡ empty_record → new ≡ next → writes new - writes old ≡ writes next
+wrote_at_boot old new next none is = rw (none, is) (omega arith)

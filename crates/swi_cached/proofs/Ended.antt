@@ -9,10 +9,11 @@ use Rattle.swi_calls.specs.declared.machine.Machine.{Machine}
 use Rattle.swi_image.specs.Format.{ImageData}
 use Rattle.swi_image.specs.Place.{place_of}
 use Rattle.swi_rom.specs.Coherent.{Coherent}
-use Rattle.swi_rom.specs.Fifo.{fifo, fifo_third}
+use Rattle.swi_rom.specs.Fifo.{fifo, extent_of, fifo_third, fifo_grows}
 use Rattle.swi_rom.specs.Laws.{slots_coherent}
 use Rattle.swi_rom.specs.Rams.{risen_more}
 use Rattle.swi_rom.specs.Record.{Record, Transfer, writes}
+use Rattle.swi_rom.specs.Served.{SameFrom}
 use Rattle.swi_rom.specs.Slots.{Slots, kept_by, setting_of, span_of as span_by}
 use Rattle.swi_rom.specs.Sound.{SlotsSound}
 use Rattle.swi_board.specs.declared.hart.Stage.TheVariants.{Start, Low, Return, Leave}
@@ -78,19 +79,19 @@ module _ (c : CachedRun) (h0 h : HartData) (s0 : Slots) (r : Record) (before mid
       none_left (fetched_by h0 h) (fetches c.image c.limit c.start (here_of c.image c.start.machine h0.control)) (spent_run c.start.machine h0.control) (spent_run (end_of c).machine h.control) booted.spent rest ran.fetches_are
       ∙ ap (λ (k : Option (ℕ × ℕ)). fetches c.image c.limit c.start k) booted.here
 
-  rises : (ts : List Transfer) (q : Record) → writes q ≤ writes (after_all (policy_of c) c.image q ts)
-  rises [] q = omega arith
-  rises (t ∷ ts) q =
-      let one = fifo_third (c.slots ∷ c.image.block_words ∷ []) q c.image t in
-      let more = rises ts (policy_of c q c.image t) in
+  rises : (measure : Record → ℕ) → ((q : Record) (t : Transfer) → measure q ≤ measure (policy_of c q c.image t)) → (ts : List Transfer) (q : Record) → measure q ≤ measure (after_all (policy_of c) c.image q ts)
+  rises measure up [] q = omega arith
+  rises measure up (t ∷ ts) q =
+      let one = up q t in
+      let more = rises measure up ts (policy_of c q c.image t) in
       omega (arith, one, more)
 
   sum_is : (a b n : ℕ) → a ≤ b → n ≡ a → a + (b - n) ≡ b
   sum_is a b n le e = omega (arith, le, e)
 
   pub ram_after : (s : Slots) → r ≡ kept_by s → setting_of s ≡ setting_of s0 → SlotsSound s c.image after.words →
-      RamRan (span_by (setting_of s0)) (fetched_by h0 h) (writes r - writes (kept_by s0)) mid after → RamAfter c before after
-  ram_after s is setting sound ram = record {
+      RamRan (span_by (setting_of s0)) (fetched_by h0 h) (writes r - writes (kept_by s0)) mid after → SameFrom (extent_of (setting_of s0) r) mid.words after.words → RamAfter c before after
+  ram_after s is setting sound ram unused = record {
     coherent =
         subst (λ (n : ℕ). Coherent c.image (record_after c c.limit) n after.words) (ap span_by (setting ∙ booted.setting))
         (subst (λ (q : Record). Coherent c.image q (span_by (setting_of s)) after.words) (sym is ∙ record_is) (slots_coherent s c.image after.words sound));
@@ -100,7 +101,11 @@ module _ (c : CachedRun) (h0 h : HartData) (s0 : Slots) (r : Record) (before mid
         ∙ risen_more before.sets (writes (record_at_boot c)) (writes r - writes (kept_by s0))
         ∙ ap (λ n. risen before.sets n) (ap (λ (q : Record). writes (record_at_boot c) + (writes q - writes (kept_by s0))) record_is
         ∙ sum_is (writes (record_at_boot c)) (writes (record_after c c.limit)) (writes (kept_by s0))
-        (rises (transfers c.image c.limit c.start (place_of c.image c.start.machine.pc)) (record_at_boot c)) (ap (λ (q : Record). writes q) booted.kept));
+        (rises (λ q. writes q) (λ q t. fifo_third (c.slots ∷ c.image.block_words ∷ []) q c.image t) (transfers c.image c.limit c.start (place_of c.image c.start.machine.pc)) (record_at_boot c)) (ap (λ (q : Record). writes q) booted.kept));
+    unused = λ i le.
+        let grew = rises (λ q. extent_of (c.slots ∷ c.image.block_words ∷ []) q) (λ q t. fifo_grows (c.slots ∷ c.image.block_words ∷ []) q c.image t) (transfers c.image c.limit c.start (place_of c.image c.start.machine.pc)) (record_at_boot c) in
+        let later = subst (λ (q : Record). SameFrom (extent_of (c.slots ∷ c.image.block_words ∷ []) q) mid.words after.words) record_is (subst (λ (k : List ℕ). SameFrom (extent_of k r) mid.words after.words) booted.setting unused) in
+        later i le ∙ booted.unused i (omega (arith, le, grew));
   }
 
 -- a run of the board, in the words of its boot

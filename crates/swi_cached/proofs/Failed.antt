@@ -104,10 +104,10 @@ step_failed c h0 h' r result left' out out' err err' same broke = record {
 }
 
 pub is_flat_run : (c : CachedRun) → IsFlatRun c
-is_flat_run c = λ never. held_is_flat c.limit c.start never
+is_flat_run c = λ n never. held_is_flat n c.start never
 
 pub stops_before_store : (c : CachedRun) → StopsBeforeStore c
-stops_before_store c = λ k less never at.
-    let stop = held_stops k c.start never at (c.limit - k - 1) in
-    let all : suc k + (c.limit - k - 1) ≡ c.limit = omega (arith, less) in
+stops_before_store c = λ n k less never at.
+    let stop = held_stops k c.start never at (n - k - 1) in
+    let all : suc k + (n - k - 1) ≡ n = omega (arith, less) in
     (stop.0, stop.1, ap (λ n. held_run n c.start) (sym all) ∙ stop.2)

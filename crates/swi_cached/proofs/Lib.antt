@@ -1,4 +1,5 @@
 mod Boot
 mod Ended
-mod Failed
+pub mod Failed
 mod Causing
+mod Fetched

@@ -1,5 +1,5 @@
 -- What a run on the cached machine leaves: where it came to its end, and where a device failed. Own rule.
-use Rattle.std.specs.Prelude.{◌≡◌, ℕ, ◌+◌, ◌*◌, ◌<◌, ◌≤◌, List, ◌++◌, length, take, Option, Some, None, Result, OnOk, IsErrOf}
+use Rattle.std.specs.Prelude.{◌≡◌, ℕ, ◌+◌, ◌*◌, ◌<◌, ◌≤◌, List, ◌++◌, length, slice_index, take, Option, Some, None, Result, OnOk, IsErrOf}
 use Rattle.std.specs.Io.KnownBytes.{Appends, Consumes}
 use Rattle.swi_outside.specs.Causes.{DeviceCause, PairCause, risen}
 use Rattle.swi_outside.specs.CacheRam.{RamState}
@@ -14,7 +14,7 @@ use Rattle.swi_board.specs.Faults.{Faults}
 use Rattle.swi_board.specs.Hart.{HartData}
 use Rattle.swi_cached.specs.declared.run.CachedStop.{CachedStop}
 use Rattle.swi_cached.specs.declared.run.CachedStop.TheVariants.{RamFault, SourceFault, SinkFault}
-use Rattle.swi_cached.specs.Cached.{CachedRun, span_of, program_after, end_of, instructions_after, fetches_after, record_after}
+use Rattle.swi_cached.specs.Cached.{CachedRun, span_of, program_after, end_of, instructions_after, fetches_after, record_after, used_after}
 
 -- A run that came to its end: as the program did, with so many machine instructions, and the service as its policy
 -- leads. Of the input just what the program took is gone, and the sinks gained what it wrote.
@@ -40,6 +40,8 @@ pub record RamAfter (c : CachedRun) (before after : RamState) : Type 0 where
   -- so many words were fetched, and so many written: the copied blocks, the links, and the links undone
   pub fetches : after.fetches ≡ risen before.fetches (fetches_after c c.limit)
   pub sets : after.sets ≡ risen before.sets (writes (record_after c c.limit))
+  -- the words of slots that no block ever used, and those behind the slots, are as before
+  pub unused : (i : ℕ) → used_after c c.limit ≤ i → slice_index after.words i ≡ slice_index before.words i
 
 -- The ram failed: both sinks hold just what the most steps wrote, and of the input is gone just what they took, whose
 -- fetches were made.

@@ -3,6 +3,8 @@ use Rattle.std.specs.Prelude.{◌≡◌, true, false, [], ◌∷◌}
 use Rattle.swi_outside.specs.CacheRam.{RamState}
 use Rattle.swi_image.specs.Place.{place_of}
 use Rattle.swi_rom.specs.Record.{writes}
+use Rattle.swi_rom.specs.Fifo.{extent_of}
+use Rattle.swi_rom.specs.Served.{SameFrom}
 use Rattle.swi_rom.specs.Slots.{Slots, kept_by, setting_of}
 use Rattle.swi_rom.specs.Sound.{SlotsSound}
 use Rattle.swi_board.specs.Board.{Matches, Fits}
@@ -23,4 +25,5 @@ pub record Booted (c : CachedRun) (h : HartData) (s : Slots) (before after : Ram
   pub kept : kept_by s ≡ record_at_boot c
   pub setting : setting_of s ≡ c.slots ∷ c.image.block_words ∷ []
   pub sound : SlotsSound s c.image after.words
+  pub unused : SameFrom (extent_of (c.slots ∷ c.image.block_words ∷ []) (record_at_boot c)) before.words after.words
   pub ram : RamServed (span_of c) (writes (record_at_boot c)) before after

@@ -1,5 +1,8 @@
 -- A run on the cached machine, as data: what it does besides what its program does. Own rule.
-use Rattle.std.specs.Prelude.{◌≡◌, ℕ, ◌+◌, ◌*◌, ◌/◌, ◌<◌, Bool, List, [], ◌∷◌, Some}
+use Rattle.std.specs.Prelude.{◌≡◌, ℕ, ◌+◌, ◌*◌, ◌/◌, ◌<◌, min, Bool, List, [], ◌∷◌, Option, Some}
+use Rattle.swi_exec.specs.declared.done.FaultKind.TheVariants.{FetchAccess}
+use Rattle.swi_calls.specs.declared.end.End.{End}
+use Rattle.swi_calls.specs.declared.end.End.TheVariants.{Faulted}
 use Rattle.swi_calls.specs.Flat.{flat_run, flat_start}
 use Rattle.swi_calls.specs.FirstStore.{StoresAt}
 use Rattle.swi_calls.specs.Held.{held_run, stopped_at}
@@ -45,15 +48,15 @@ program_after c n = held_run n c.start
 abbrev pub end_of : CachedRun → FlatState
 end_of c = program_after c c.limit
 
--- where none of the steps would store into the text, the flat machine comes to the same end
+-- however many steps are made: where none of them would store into the text, the flat machine comes to the same state
 abbrev pub IsFlatRun : CachedRun → Type 0
-IsFlatRun c = ((j : ℕ) → j < c.limit → StoresAt c.start j → ⊥) → end_of c ≡ flat_run c.limit c.start
+IsFlatRun c = (n : ℕ) → ((j : ℕ) → j < n → StoresAt c.start j → ⊥) → program_after c n ≡ flat_run n c.start
 
 -- and where step k + 1 is the first that would, the run ends as the flat machine stands after k steps, with the ending
 -- StoreText
 abbrev pub StopsBeforeStore : CachedRun → Type 0
-StopsBeforeStore c = (k : ℕ) → k < c.limit → ((j : ℕ) → j < k → StoresAt c.start j → ⊥) → StoresAt c.start k →
-    (a : ℕ) × (next_store (flat_run k c.start).machine ≡ Some a) × (end_of c ≡ stopped_at (flat_run k c.start) a)
+StopsBeforeStore c = (n k : ℕ) → k < n → ((j : ℕ) → j < k → StoresAt c.start j → ⊥) → StoresAt c.start k →
+    (a : ℕ) × (next_store (flat_run k c.start).machine ≡ Some a) × (program_after c n ≡ stopped_at (flat_run k c.start) a)
 
 -- the machine instructions of the first n steps: one for the boot, and for each step one to three
 abbrev pub instructions_after : CachedRun → ℕ → ℕ
@@ -63,6 +66,15 @@ instructions_after c n = 1 + cost c.image n c.start (place_of c.image c.start.ma
 -- a text word
 abbrev pub fetches_after : CachedRun → ℕ → ℕ
 fetches_after c n = fetches c.image n c.start (place_of c.image c.start.machine.pc)
+
+-- one where the program has ended at an address without a text word
+abbrev pub unfetched : Option End → ℕ
+unfetched (Some (Faulted FetchAccess a)) = 1
+unfetched _ = 0
+
+-- however many steps are made: each machine instruction but the boot has fetched a word, but for one at such an address
+abbrev pub IsCounted : CachedRun → Type 0
+IsCounted c = (n : ℕ) → instructions_after c n ≡ 1 + fetches_after c n + unfetched (program_after c n).machine.ending
 
 -- nothing is placed, linked or counted yet
 abbrev pub empty_record : Record
@@ -87,3 +99,7 @@ record_at_boot c = policy_of c empty_record c.image (indirect c.start.machine.pc
 abbrev pub record_after : CachedRun → ℕ → Record
 record_after c n = after_all (policy_of c) c.image (record_at_boot c)
     (transfers c.image n c.start (place_of c.image c.start.machine.pc))
+
+-- the words of the slots into which a block was copied within the first n steps: the lowest slots, one for each miss
+abbrev pub used_after : CachedRun → ℕ → ℕ
+used_after c n = min (record_after c n).counts.misses c.slots * c.image.block_words

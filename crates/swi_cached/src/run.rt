@@ -13,7 +13,7 @@ ghost use Rattle.swi_rom.specs.Slots.{Slots, kept_by, setting_of};
 ghost use Rattle.swi_rom.specs.Sound.{SlotsSound};
 ghost use Rattle.swi_calls.specs.Flat.{machine_of, flat_start};
 ghost use Rattle.swi_board.specs.Leaving.{RamFailed as ServiceFailed};
-ghost use Rattle.swi_cached.specs.Cached.{run_of, slots_of, span_of, empty_record, IsFlatRun, StopsBeforeStore};
+ghost use Rattle.swi_cached.specs.Cached.{run_of, slots_of, span_of, empty_record, IsCounted, IsFlatRun, StopsBeforeStore};
 ghost use Rattle.swi_cached.specs.Answers.{Ended, IsShort, RamAfter, RamFailed, StepFailed, HasCauses, stop_of};
 ghost use Rattle.swi_cached.specs.Booted.{Booted};
 
@@ -50,10 +50,11 @@ fn stop_of(fault: BoardFault) -> CachedStop
 }
 
 /// The image carries the program's text, which it is one of.
-fn carry(image: &ImageView<'_>, program: &Program)
+pub(crate) fn carry(image: &ImageView<'_>, program: &Program)
     requires own { IsImageOf (text_of program.now.segments) image.now }
     ensures carries { Carries (word_of (text_of program.now.segments)) image.now }
     ensures placed { is_some (place_of image.now program.now.entry) ≡ true }
+    ensures word { program.now.entry < 2 ^ 32 }
 {
     let _blocks = image.blocks();
     let _text = program.text();
@@ -92,6 +93,7 @@ fn boot<R: CacheRam>(
         Booted (run_of image.now cache_bytes program.now layout.now log limit left) b.hart b.rom
         (R.state ram.old) (R.state ram.new)) }
     ensures placed { is_some (place_of image.now program.now.entry) ≡ true }
+    ensures word { program.now.entry < 2 ^ 32 }
     ensures untouched { IsErrOf result CachedStop.Memory → R.state ram.new ≡ R.state ram.old }
     ensures failed { IsErrOf result CachedStop.RamFault →
         ServiceFailed (slots_of cache_bytes image.now * image.now.block_words) (R.state ram.old) (R.state ram.new) }
@@ -121,8 +123,8 @@ fn boot<R: CacheRam>(
 /// up to a step that would store into the text: the run ends before it.
 ///
 /// After `Memory` nothing has changed. After `RamFault` the sinks hold just what the steps wrote whose fetches were
-/// made; after `SourceFault` what the steps made have written; after `SinkFault` that, and a front of what the next step
-/// writes. The words of the ram behind the slots never change. Own rule.
+/// made; after `SourceFault` what the steps made have written; after `SinkFault` that, and a front of what the next
+/// step writes. The words of the ram behind the slots never change. Own rule.
 pub fn run_cached<I: Source, O: Sink, E: Sink, R: CacheRam>(
     alloc: Global,
     image: &ImageView<'_>,
@@ -151,6 +153,8 @@ pub fn run_cached<I: Source, O: Sink, E: Sink, R: CacheRam>(
     ensures ram { OnOk result (ForSome (I.left input.old) (λ left.
         RamAfter (run_of image.now cache_bytes program.now layout.now log limit left)
         (R.state ram.old) (R.state ram.new))) }
+    ensures counted { OnOk result ((left : List ℕ) →
+        IsCounted (run_of image.now cache_bytes program.now layout.now log limit left)) }
     ensures kept { KeepsBeyond (slots_of cache_bytes image.now * image.now.block_words)
         (R.state ram.old) (R.state ram.new) }
     ensures memory { IsErrOf result CachedStop.Memory →

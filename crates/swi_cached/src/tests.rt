@@ -13,6 +13,8 @@ use swi_outside::{CacheRam, FaultRam, MemSink, MemSource};
 use swi_program::{Program, lay_out, program_of};
 use swi_rom::CacheRom;
 
+mod board;
+
 /// The words of an ELF file in front of its one segment's text, by hand from the ELF document.
 const FRONT: [u32; 15] = [
     0x464C457F, 0x00010101, 0, 0, 0x00F30002, 1, 0x00010000, 52, 0, 0, 0x00200034, 1, 0, 1, 0x54,
@@ -47,8 +49,8 @@ const ECHO: &[u32] = &[
     0x00000073, 0x00000513, 0x05D00893, 0x00000073,
 ];
 
-/// A run: its text and the rights of its segment, the words of a block, the bytes of the cache, the most steps, and the failing calls of
-/// the ram, the input and the output: the number of one, 0 for none.
+/// A run: its text and the rights of its segment, the words of a block, the bytes of the cache, the most steps, and the
+/// failing calls of the ram, the input and the output: the number of one, 0 for none.
 #[derive(Clone, Copy)]
 struct Run {
     text: &'static [u32],
@@ -141,7 +143,8 @@ fn stands_after(alloc: Global, run: &Run, words: u32) -> Result<Stands, Fail> {
     Ok(Stands { answer, out, ram })
 }
 
-/// The ending and the address of a run, and its counts: steps, instructions, services, misses, evictions, links, unlinks, fetches, writes.
+/// The ending and the address of a run, and its counts: steps, instructions, services, misses, evictions, links,
+/// unlinks, fetches, writes.
 struct Row {
     run: Run,
     ending: Option<End>,

@@ -1,94 +1,126 @@
--- System calls by their numbers.
-use Rattle.std.proofs.Common.{◌≡◌, ℕ, ◌==◌, ◌&&◌, nat_le, Bool, true, false, List, [], ◌∷◌, ◌++◌, refl, sym, ◌∙◌, inl, inr, Option, Some, None, arith}
-use Rattle.std.proofs.lemmas.Bool.{cases_Bool}
-use Rattle.std.proofs.lemmas.Bool.Decides.{nat_tests}
+-- What a system call does with the devices.
+use Rattle.std.proofs.Common.{◌≡◌, ℕ, Bool, true, false, List, [], ◌∷◌, ◌++◌, refl, ap, ◌∙◌, inl, inr, Option, Some, None, Result, Ok, Err, is_err, IsErrOf, rules}
+use Rattle.std.specs.Io.KnownBytes.{Appends}
+use Rattle.swi_outside.specs.Causes.{HasCause}
 use Rattle.swi_outside.specs.Sink.{AppendsPrefix}
-use Rattle.swi_memory.specs.Bus.{AreaData}
-use Rattle.swi_exec.specs.Registers.{Registers, reg}
-use Rattle.swi_calls.specs.declared.heap.Heap.{Heap}
-use Rattle.swi_calls.specs.declared.end.Called.TheVariants as called
-use Rattle.swi_calls.specs.Call.{called_of, number_of, first_argument, brk_heap, heap_after, served, write_served, told}
+use Rattle.swi_outside.specs.Laws.{Appends-none, Appends-append}
+use Rattle.swi_outside.proofs.SinkLemmas.{prefix_first, prefix_whole, prefix_last}
+use Rattle.swi_calls.specs.declared.end.CallFault.{CallFault}
+use Rattle.swi_calls.specs.declared.end.CallFault.TheVariants.{SourceFault, SinkFault}
+use Rattle.swi_calls.specs.declared.machine.Machine.{Machine}
+use Rattle.swi_calls.specs.declared.request.Called.{Called}
+use Rattle.swi_calls.specs.declared.request.Request.{Request}
+use Rattle.swi_calls.specs.Call.{answer_of, called, called_of, exchange_of_call, request_of, served, told, told_by}
+use Rattle.swi_calls.specs.Causes.{Faults, HasCauses}
+use Rattle.swi_calls.specs.Exchange.{Devices, Exchange, Exchanged}
+use Rattle.swi_calls.specs.Flat.{call_made, exchange_of}
 
--- a call by its number is a write
-served-write : (regs : Registers) (bus : List AreaData) (heap : Heap) (input : List ℕ) → reg regs 17 ≡ 64 →
-    served regs bus heap input ≡ write_served (reg regs 10) (reg regs 11) (reg regs 12) bus input
-served-write regs bus heap input number = rw number refl
+-- a sink that gained nothing has gained a prefix of anything
+pub nothing_gained : (o : Option (List ℕ)) (x : List ℕ) → AppendsPrefix o o x
+nothing_gained o x = (0, Appends-none o)
 
--- what a write that failed has written
-pub output_of_write : (regs : Registers) (bus : List AreaData) (heap : Heap) (input : List ℕ) (number a0 a1 a2 : ℕ) (o p : Option (List ℕ)) →
-    number ≡ 64 → number ≡ reg regs 17 → a0 ≡ reg regs 10 → a1 ≡ reg regs 11 → a2 ≡ reg regs 12 →
-    AppendsPrefix o p (write_served a0 a1 a2 bus input).output → AppendsPrefix o p (served regs bus heap input).output
-output_of_write regs bus heap input number a0 a1 a2 o p is n e f g h =
-    let w : reg regs 17 ≡ 64 = cc in
-    rw (served-write regs bus heap input w) (rw (e, f, g) at h)
+-- no bytes in both is none in either
+none_first : (x y : List ℕ) → x ++ y ≡ [] → x ≡ []
+none_first [] y none = refl
+none_first (b ∷ x) y none = cc
 
-pub error_of_write : (regs : Registers) (bus : List AreaData) (heap : Heap) (input : List ℕ) (number a0 a1 a2 : ℕ) (o p : Option (List ℕ)) →
-    number ≡ 64 → number ≡ reg regs 17 → a0 ≡ reg regs 10 → a1 ≡ reg regs 11 → a2 ≡ reg regs 12 →
-    AppendsPrefix o p (write_served a0 a1 a2 bus input).error → AppendsPrefix o p (served regs bus heap input).error
-error_of_write regs bus heap input number a0 a1 a2 o p is n e f g h =
-    let w : reg regs 17 ≡ 64 = cc in
-    rw (served-write regs bus heap input w) (rw (e, f, g) at h)
+none_last : (x y : List ℕ) → x ++ y ≡ [] → y ≡ []
+none_last [] y none = none
+none_last (b ∷ x) y none = cc
 
--- the break becomes the answer of brk
-heap_is : (a v : ℕ) (heap : Heap) → v ≡ (brk_heap a heap).now → record heap { now = v } ≡ brk_heap a heap
-heap_is a v heap is = elim (cases_Bool (nat_le heap.base a && nat_le a heap.limit)) [
-  | inl in_range ↦ rw (is, in_range) refl
-  | inr out_of_range ↦ rw (is, out_of_range) refl
-]
+-- where a call's line is empty, calls are not told
+no_line : (log : Bool) (r : Request) (answer : Option ℕ) → told_by log r answer ≡ [] → log ≡ false
+no_line false r answer none = refl
+no_line true r answer none = cc
 
-pub heap_brk : (regs : Registers) (bus : List AreaData) (heap : Heap) (input : List ℕ) (v : ℕ) → number_of regs ≡ 214 →
-    Some v ≡ (served regs bus heap input).answer → record heap { now = v } ≡ heap_after regs heap
-heap_brk regs bus heap input v number is =
-    let e : heap_after regs heap ≡ brk_heap (first_argument regs) heap = rw number refl in
-    let a : Some v ≡ Some (brk_heap (first_argument regs) heap).now = rw number at is in
-    let same : v ≡ (brk_heap (first_argument regs) heap).now = cc in
-    heap_is (first_argument regs) v heap same ∙ sym e
+-- the line that was written is that of the answer
+pub line_as : (P : List ℕ → Type 0) (log : Bool) (r : Request) (answer : Option ℕ) (c : Called) → c ≡ called_of r answer → P (told_by log r (answer_of c)) → P (told_by log r answer)
+line_as P log r None c is h = rw is at h
+line_as P log r (Some v) c is h = rw is at h
 
--- no other call moves it
-pub heap_other : (regs : Registers) (heap : Heap) → (number_of regs ≡ 214 → ⊥) → heap ≡ heap_after regs heap
-heap_other regs heap other = elim (cases_Bool (number_of regs == 214)) [
-  | inl is ↦ absurd (other (grind (arith, nat_tests)))
-  | inr no_brk ↦ rw no_brk refl
-]
+-- the same fault, whatever the call would have answered
+named_as : {T U : Type 0} (f g : CallFault) → IsErrOf {T = T} (Err f) g → IsErrOf {T = U} (Err f) g
+named_as f g e = let same : f ≡ g = cc in ap (λ h. Err h) same
 
--- a call without an answer isn't brk
-pub heap_none : (regs : Registers) (bus : List AreaData) (heap : Heap) (input : List ℕ) → None ≡ (served regs bus heap input).answer → heap ≡ heap_after regs heap
-heap_none regs bus heap input is = heap_other regs heap (λ (number : number_of regs ≡ 214).
-    let a : None ≡ Some (brk_heap (first_argument regs) heap).now = rw number at is in cc)
+causes_as : {T U : Type 0} (f : CallFault) (d e : Faults) → HasCauses {T = T} d e (Err f) → HasCauses {T = U} d e (Err f)
+causes_as f d e h = record {
+  source = record { later = h.source.later; cause = λ n. h.source.cause (named_as f SourceFault n); told = elim h.source.told [ inl same ↦ inl same | inr n ↦ inr (named_as f SourceFault n) ] };
+  sinks = record {
+    one_later = h.sinks.one_later;
+    other_later = h.sinks.other_later;
+    cause = λ n. h.sinks.cause (named_as f SinkFault n);
+    one_told = elim h.sinks.one_told [ inl same ↦ inl same | inr n ↦ inr (named_as f SinkFault n) ];
+    other_told = elim h.sinks.other_told [ inl same ↦ inl same | inr n ↦ inr (named_as f SinkFault n) ];
+  };
+  quiet = tt;
+}
 
--- the break after a call that returned
-pub heap_moved : (regs : Registers) (bus : List AreaData) (heap new : Heap) (input : List ℕ) (v : ℕ) → Some v ≡ (served regs bus heap input).answer →
-    (number_of regs ≡ 214 → new ≡ record heap { now = v }) → ((number_of regs ≡ 214 → ⊥) → new ≡ heap) → new ≡ heap_after regs heap
-heap_moved regs bus heap new input v is brk other = elim (cases_Bool (number_of regs == 214)) [
-  | inl yes_brk ↦
-      let number : number_of regs ≡ 214 = grind (arith, nat_tests) in
-      brk number ∙ heap_brk regs bus heap input v number is
-  | inr no_brk ↦
-      let not_brk : number_of regs ≡ 214 → ⊥ = λ (number : number_of regs ≡ 214). grind (arith, nat_tests) in
-      other not_brk ∙ heap_other regs heap not_brk
-]
+module _ (m : Machine) (d e : Devices) (p q : Faults) where
+  abbrev call_does : List ℕ → Exchange
+  call_does left = exchange_of_call (served m.regs m.bus m.heap left)
 
--- a call that exited with a code
-pub exited_of : (x : Option ℕ) (code : ℕ) → called.Exited code ≡ called_of x → x ≡ Some code
-exited_of None code h = cc
-exited_of (Some v) code h = cc
+  abbrev line : List ℕ → List ℕ
+  line left = told m.log m.regs (served m.regs m.bus m.heap left).answer
 
--- where nothing is written to a sink, neither the call nor its line asks it
-no_line : (log : Bool) (regs : Registers) (answer : Option ℕ) (error : List ℕ) → error ++ told log regs answer ≡ [] → log ≡ false
-no_line false regs answer error none = refl
-no_line true regs answer [] none = cc
-no_line true regs answer (b ∷ error) none = cc
+  abbrev step_does : List ℕ → Exchange
+  step_does left = exchange_of (call_made m left)
 
-no_front : (front back : List ℕ) → front ++ back ≡ [] → front ≡ []
-no_front [] back none = refl
-no_front (b ∷ front) back none = cc
+  -- the call failed
+  pub call_failed : {T U : Type 0} (f : CallFault) → Exchanged {T = T} call_does d e p q (Err f) → Exchanged {T = U} step_does d e p q (Err f)
+  unfolding called
+  call_failed f h = record {
+    input = tt;
+    output = tt;
+    error = tt;
+    output_prefix = h.output_prefix;
+    error_prefix = λ left told. prefix_first d.error e.error (call_does left).error (line left) (h.error_prefix left told);
+    failed_input = λ n. h.failed_input (named_as f SourceFault n);
+    failed_output = h.failed_output;
+    failed_error = h.failed_error;
+    unasked_output = h.unasked_output;
+    unasked_error = λ left none. h.unasked_error left (none_first (call_does left).error (line left) none);
+    causes = causes_as f p q h.causes;
+  }
 
-pub unasked_first : (front back : List ℕ) (o p : Option (List ℕ)) (f h : ℕ) → (front ≡ [] → (p ≡ o) × (h ≡ f)) → front ++ back ≡ [] → (p ≡ o) × (h ≡ f)
-unasked_first front back o p f h first none = first (no_front front back none)
+  -- it didn't, and its line, or a part of it, went to the errors
+  module _ {T : Type 0} (v : T) (x : Option (List ℕ)) (n : ℕ) (h : Exchanged call_does d e p q (Ok v)) (unasked : m.log ≡ false → (x ≡ e.error) × (n ≡ q.err)) where
+    line_unasked : (left : List ℕ) → (call_does left).error ++ line left ≡ [] → (x ≡ d.error) × (n ≡ p.err)
+    line_unasked left none =
+        let first = h.unasked_error left (none_first (call_does left).error (line left) none) in
+        let last = unasked (no_line m.log (request_of m.regs) (served m.regs m.bus m.heap left).answer (none_last (call_does left).error (line left) none)) in
+        (last.0 ∙ first.0, last.1 ∙ first.1)
 
-pub unasked_told : (log : Bool) (regs : Registers) (answer : Option ℕ) (error : List ℕ) (o p q : Option (List ℕ)) (f h i : ℕ) →
-    (error ≡ [] → (p ≡ o) × (h ≡ f)) → (log ≡ false → (q ≡ p) × (i ≡ h)) → error ++ told log regs answer ≡ [] → (q ≡ o) × (i ≡ f)
-unasked_told log regs answer error o p q f h i first line none =
-    let a : (p ≡ o) × (h ≡ f) = first (no_front error (told log regs answer) none) in
-    let b : (q ≡ p) × (i ≡ h) = line (no_line log regs answer error none) in
-    (b.0 ∙ a.0, b.1 ∙ a.1)
+    pub line_failed : {U V : Type 0} (t : Result V U) → is_err t ≡ true → ((left : List ℕ) → d.input ≡ Some left → AppendsPrefix e.error x (line left)) →
+        HasCause q.err n t → Exchanged {T = Unit {0}} step_does d (record e { error = x }) p (record q { err = n }) (Err SinkFault)
+    unfolding called
+    line_failed (Ok u) failed gained cause = cc
+    line_failed (Err f) failed gained cause = record {
+      input = tt;
+      output = tt;
+      error = tt;
+      output_prefix = λ left told. prefix_whole d.output e.output (call_does left).output (h.output left told);
+      error_prefix = λ left told. prefix_last d.error e.error x (call_does left).error (line left) (h.error left told) (gained left told);
+      failed_input = λ other. let never : ⊥ = cc in absurd never;
+      failed_output = λ rose. absurd (rose (ap (λ (f : Faults). f.out) h.causes.quiet));
+      failed_error = λ rose. h.output;
+      unasked_output = h.unasked_output;
+      unasked_error = line_unasked;
+      causes = search rules;
+    }
+
+    pub line_told : n ≡ q.err → ((left : List ℕ) → d.input ≡ Some left → Appends e.error x (line left)) →
+        Exchanged {T = Unit {0}} step_does d (record e { error = x }) p (record q { err = n }) (Ok tt)
+    unfolding called
+    line_told same gained = record {
+      input = h.input;
+      output = h.output;
+      error = λ left told. Appends-append d.error e.error x (call_does left).error (line left) (h.error left told) (gained left told);
+      output_prefix = tt;
+      error_prefix = tt;
+      failed_input = λ other. let never : ⊥ = cc in absurd never;
+      failed_output = tt;
+      failed_error = tt;
+      unasked_output = h.unasked_output;
+      unasked_error = line_unasked;
+      causes = search rules;
+    }

@@ -5,8 +5,10 @@ use Rattle.swi_memory.specs.declared.right.Right.TheVariants.{Read, Write}
 use Rattle.swi_memory.specs.Bus.{AreaData, holds, bytes_at, with_bytes}
 use Rattle.swi_exec.specs.Registers.{Registers, reg, with_reg}
 use Rattle.swi_calls.specs.declared.heap.Heap.{Heap}
-use Rattle.swi_calls.specs.declared.end.Called.{Called}
-use Rattle.swi_calls.specs.declared.end.Called.TheVariants.{Returned, Exited}
+use Rattle.swi_calls.specs.declared.request.Called.{Called}
+use Rattle.swi_calls.specs.declared.request.Called.TheVariants.{Returned, Exited}
+use Rattle.swi_calls.specs.declared.request.Request.{Request}
+use Rattle.swi_calls.specs.Exchange.{Exchange}
 use Rattle.swi_calls.specs.Text.{call_line}
 
 -- the registers of a call: its number in a7, its arguments in a0, a1 and a2, where a0 takes the answer too
@@ -21,6 +23,10 @@ second_argument regs = reg regs 11
 
 abbrev pub third_argument : Registers → ℕ
 third_argument regs = reg regs 12
+
+-- what the guest asks for
+abbrev pub request_of : Registers → Request
+request_of regs = record { number = number_of regs; first = first_argument regs; second = second_argument regs; third = third_argument regs }
 
 -- a number below 0 as a word
 abbrev pub minus : ℕ → ℕ
@@ -43,6 +49,10 @@ pub record Served : Type 0 where
   pub input : List ℕ
   pub output : List ℕ
   pub error : List ℕ
+
+-- what it does with the devices
+abbrev pub exchange_of_call : Served → Exchange
+exchange_of_call s = record { input = s.input; output = s.output; error = s.error }
 
 -- an answer alone
 abbrev pub answers : ℕ → List AreaData → List ℕ → Served
@@ -82,6 +92,13 @@ write_served descriptor buffer count bus input =
     else answers bad_address bus input)
     else answers bad_descriptor bus input
 
+-- the answer of a write with a good descriptor, and the bytes that it writes
+abbrev pub write_answer : ℕ → ℕ → List AreaData → ℕ
+write_answer buffer count bus = if holds bus Read buffer count then count else bad_address
+
+abbrev pub written : ℕ → ℕ → List AreaData → List ℕ
+written buffer count bus = if holds bus Read buffer count then bytes_at bus buffer count else []
+
 -- brk(a): the break becomes a where that lies in the heap, its end included
 abbrev pub brk_heap : ℕ → Heap → Heap
 brk_heap a heap = if nat_le heap.base a && nat_le a heap.limit then record heap { now = a } else heap
@@ -90,35 +107,52 @@ brk_heap a heap = if nat_le heap.base a && nat_le a heap.limit then record heap 
 abbrev pub ends_run : ℕ → Bool
 ends_run number = number == 93 || number == 94
 
--- the call of this number and these arguments; the answer of brk is the break
-abbrev pub served_by : ℕ → ℕ → ℕ → ℕ → List AreaData → Heap → List ℕ → Served
-served_by number a0 a1 a2 bus heap input =
-    if number == 63 then read_served a0 a1 a2 bus input
-    else if number == 64 then write_served a0 a1 a2 bus input
-    else if ends_run number then record { answer = None; bus = bus; input = input; output = []; error = [] }
-    else if number == 214 then answers (brk_heap a0 heap).now bus input
+-- the call that is asked for; the answer of brk is the break
+abbrev pub served_by : Request → List AreaData → Heap → List ℕ → Served
+served_by r bus heap input =
+    if r.number == 63 then read_served r.first r.second r.third bus input
+    else if r.number == 64 then write_served r.first r.second r.third bus input
+    else if ends_run r.number then record { answer = None; bus = bus; input = input; output = []; error = [] }
+    else if r.number == 214 then answers (brk_heap r.first heap).now bus input
     else answers unknown_call bus input
 
 abbrev pub served : Registers → List AreaData → Heap → List ℕ → Served
-served regs bus heap input = served_by (number_of regs) (first_argument regs) (second_argument regs) (third_argument regs) bus heap input
+served regs bus heap input = served_by (request_of regs) bus heap input
 
 -- the most bytes of the input that a call takes
-abbrev pub room_of_call : Registers → List AreaData → ℕ
-room_of_call regs bus = if number_of regs == 63 then read_room (first_argument regs) (second_argument regs) (third_argument regs) bus else 0
+abbrev pub room_by : Request → List AreaData → ℕ
+room_by r bus = if r.number == 63 then read_room r.first r.second r.third bus else 0
 
--- a call was served so: what it answered, memory after it, and the input that is left
-pub record IsServed (s : Served) (answer : Option ℕ) (bus : List AreaData) (left : Option (List ℕ)) : Type 0 where
-  pub answered : answer ≡ s.answer
+abbrev pub room_of_call : Registers → List AreaData → ℕ
+room_of_call regs bus = room_by (request_of regs) bus
+
+-- how a call with this answer goes on; one without ends the run with code a0
+abbrev pub called_of : Request → Option ℕ → Called
+called_of r None = Exited r.first
+called_of r (Some v) = Returned v
+
+abbrev pub answer_of : Called → Option ℕ
+answer_of (Returned v) = Some v
+answer_of (Exited code) = None
+
+-- a call was served so: how it goes on, and memory after it
+pub record IsServed (r : Request) (s : Served) (called : Called) (bus : List AreaData) : Type 0 where
+  pub answered : called ≡ called_of r s.answer
   pub memory : bus ≡ s.bus
-  pub left_is : left ≡ Some s.input
 
 -- the break after the call
+abbrev pub heap_by : Request → Heap → Heap
+heap_by r heap = if r.number == 214 then brk_heap r.first heap else heap
+
 abbrev pub heap_after : Registers → Heap → Heap
-heap_after regs heap = if number_of regs == 214 then brk_heap (first_argument regs) heap else heap
+heap_after regs heap = heap_by (request_of regs) heap
 
 -- the line of the call, where calls are told
+abbrev pub told_by : Bool → Request → Option ℕ → List ℕ
+told_by log r answer = if log then call_line r.number r.first r.second r.third answer else []
+
 abbrev pub told : Bool → Registers → Option ℕ → List ℕ
-told log regs answer = if log then call_line (number_of regs) (first_argument regs) (second_argument regs) (third_argument regs) answer else []
+told log regs answer = told_by log (request_of regs) answer
 
 -- the answer goes to a0; a call that ends the run has none
 abbrev pub with_answer : Registers → Option ℕ → Registers
@@ -153,8 +187,3 @@ effect_of log regs heap s = record {
 
 unfoldable pub called : Bool → Registers → List AreaData → Heap → List ℕ → CallEffect
 called log regs bus heap input = effect_of log regs heap (served regs bus heap input)
-
--- the answer to the run
-abbrev pub called_of : Option ℕ → Called
-called_of None = Returned
-called_of (Some code) = Exited code

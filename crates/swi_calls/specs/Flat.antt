@@ -15,6 +15,7 @@ use Rattle.swi_program.specs.Program.{ProgramData}
 use Rattle.swi_calls.specs.declared.end.End.{End}
 use Rattle.swi_calls.specs.declared.end.End.TheVariants.{Exited, Faulted}
 use Rattle.swi_calls.specs.Call.{CallEffect, called}
+use Rattle.swi_calls.specs.Exchange.{Exchange}
 use Rattle.swi_calls.specs.declared.machine.Machine.{Machine}
 use Rattle.swi_calls.specs.State.{FlatState}
 
@@ -24,6 +25,10 @@ pub record Made : Type 0 where
   pub input : List ℕ
   pub output : List ℕ
   pub error : List ℕ
+
+-- what it does with the devices
+abbrev pub exchange_of : Made → Exchange
+exchange_of m = record { input = m.input; output = m.output; error = m.error }
 
 -- a step that takes no input and writes nothing
 abbrev pub quiet : Machine → List ℕ → Made

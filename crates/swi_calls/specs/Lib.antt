@@ -1,5 +1,6 @@
 pub mod Call
 pub mod Causes
+pub mod Exchange
 pub mod FirstStore
 pub mod Flat
 pub mod Held

@@ -1,4 +1,4 @@
-//! How calls and runs end.
+//! How a run ends: in an ending of its own, or broken off by a device.
 
 use swi_exec::FaultKind;
 
@@ -13,15 +13,6 @@ pub enum End {
     /// An instruction would have stored into the text, by an access or a read's buffer that begins at this address.
     /// Only the cached machine ends so.
     StoreText(u32),
-}
-
-/// What a system call that succeeded leaves to do.
-#[derive(Clone, Copy, Debug, PartialEq, Eq)]
-pub enum Called {
-    /// The run goes on behind the call.
-    Returned,
-    /// The run ends with this code.
-    Exited(u32),
 }
 
 /// A device that failed in a system call.

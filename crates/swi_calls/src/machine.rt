@@ -1,19 +1,20 @@
 //! What a run's machine is, whatever fetches its words.
 #![tactic(auto)]
 
-ghost use Rattle.std.specs.Prelude.{◌≡◌, ◌<◌, ◌≤◌, ◌+◌, ◌^◌, ◌%◌, ℕ, List, [], None, Some, OnOk, OnErr, IsErrOf};
+ghost use Rattle.std.specs.Prelude.{◌≡◌, ◌<◌, ◌≤◌, ◌+◌, ◌^◌, ◌%◌, ℕ, None, OnOk, OnErr};
 ghost use Rattle.std.specs.Option.{ForSome};
-ghost use Rattle.std.specs.Io.KnownBytes.{Appends};
-ghost use Rattle.swi_outside.specs.Sink.{AppendsPrefix};
 ghost use Rattle.swi_calls.specs.Call.{room_of_call, second_argument};
-ghost use Rattle.swi_calls.specs.Causes.{HasCauses};
-ghost use Rattle.swi_calls.specs.Flat.{ended, call_made};
+ghost use Rattle.swi_calls.specs.Exchange.{Exchanged};
+ghost use Rattle.swi_calls.specs.Flat.{ended, call_made, exchange_of};
 ghost use Rattle.swi_calls.specs.Moves.{ReadsInto};
 ghost use Rattle.swi_calls.specs.StoresText.{read_into_text};
 ghost use Rattle.swi_memory.specs.Bus.{fetched};
 
-use crate::{CallFault, Called, End, Heap, call};
-use swi_exec::{FaultKind, Regs};
+use crate::request::{Called, Request};
+use crate::system_call::{heap_after, serve, tell};
+use crate::{CallFault, End, Heap};
+use swi_exec::{A0, FaultKind, Regs};
+use swi_isa::Reg;
 use swi_memory::Bus;
 use swi_outside::{Sink, Source};
 
@@ -58,13 +59,24 @@ impl Machine {
         self.end(End::Faulted(kind, address));
     }
 
-    /// The step of a system call: the call, and then the next word, or the run's end. Only where fewer than 2^48
-    /// steps are made.
+    /// The step of a system call: the call, and then the next word, or the run's end. The call's number stands in a7,
+    /// its arguments in a0, a1 and a2, and its answer goes to a0. Only where fewer than 2^48 steps are made.
     ///
-    /// SourceFault or SinkFault: a device failed, and the machine is as it was, its steps included, but that of a read
-    /// a front of the buffer may be filled. Each sink has then gained a prefix of what the call writes there.
+    /// read (63) from descriptor 0 takes bytes until the count or the input's end, and answers their number. write
+    /// (64) to 1, the output, or 2, the errors, answers the count. exit and exit_group (93, 94) end the run with code
+    /// a0 and change no register. brk (214) moves the break to an address from the heap's base to its limit, both
+    /// included, and answers the break. Every other number answers -38. The descriptor is looked at first (-9), then
+    /// the buffer (-14); with a good descriptor a count of 0 answers 0. With `log` a line on `err` tells of each call,
+    /// behind what the call itself writes there. Bytes move in pieces of at most 256.
+    ///
+    /// SourceFault: the input failed; SinkFault: a sink did. The machine is then as it was, its steps included, but
+    /// that of a read a front of the buffer may be filled. Each sink has gained a prefix of what the call writes
+    /// there. A call whose input or output failed is not told.
+    ///
+    /// Source: Linux on RISC-V (numbers, registers, error answers); which calls are there, and the break as a mere
+    /// number: own rule.
     #[inline(never)]
-    #[tactic(auto, using(crate::proofs::CallLemmas::exited_of))]
+    #[tactic(auto, unfolding(crate::specs::Call::called))]
     pub fn call_step<I: Source, O: Sink, E: Sink>(
         &mut self,
         input: &mut I,
@@ -74,12 +86,6 @@ impl Machine {
         requires few { self.old.steps < 2 ^ 48 }
         ensures machine { OnOk result (ForSome (I.left input.old) (λ left.
             self.new ≡ (call_made self.old left).machine)) }
-        ensures input { OnOk result (ForSome (I.left input.old) (λ left.
-            I.left input.new ≡ Some (call_made self.old left).input)) }
-        ensures output { OnOk result (ForSome (I.left input.old) (λ left.
-            Appends (O.held out.old) (O.held out.new) (call_made self.old left).output)) }
-        ensures error { OnOk result (ForSome (I.left input.old) (λ left.
-            Appends (E.held err.old) (E.held err.new) (call_made self.old left).error)) }
         ensures counted { OnOk result (self.new.steps ≡ self.old.steps + 1) }
         ensures goes_on { OnOk result (self.new.ending ≡ None → self.new.pc ≡ (self.old.pc + 4) % 2 ^ 32) }
         ensures aligned { self.old.pc % 4 ≡ 0 → self.new.pc % 4 ≡ 0 }
@@ -89,32 +95,21 @@ impl Machine {
             (second_argument self.old.regs) k }
         ensures text { read_into_text self.old.regs self.old.bus ≡ None → (a : ℕ) →
             fetched self.new.bus a ≡ fetched self.old.bus a }
-        ensures output_prefix { OnErr result (ForSome (I.left input.old) (λ left.
-            AppendsPrefix (O.held out.old) (O.held out.new) (call_made self.old left).output)) }
-        ensures error_prefix { OnErr result (ForSome (I.left input.old) (λ left.
-            AppendsPrefix (E.held err.old) (E.held err.new) (call_made self.old left).error)) }
-        ensures failed_output { OnErr result ((O.faults out.new ≡ O.faults out.old → ⊥) →
-            E.held err.new ≡ E.held err.old) }
-        ensures failed_input { IsErrOf result CallFault.SourceFault → (O.held out.new ≡ O.held out.old)
-            × (E.held err.new ≡ E.held err.old) }
-        ensures unasked_output { (left : List ℕ) → (call_made self.old left).output ≡ [] →
-            (O.held out.new ≡ O.held out.old) × (O.faults out.new ≡ O.faults out.old) }
-        ensures unasked_error { (left : List ℕ) → (call_made self.old left).error ≡ [] →
-            (E.held err.new ≡ E.held err.old) × (E.faults err.new ≡ E.faults err.old) }
-        ensures causes { HasCauses
+        ensures devices { Exchanged (λ left. exchange_of (call_made self.old left))
+            (record { input = I.left input.old; output = O.held out.old; error = E.held err.old })
+            (record { input = I.left input.new; output = O.held out.new; error = E.held err.new })
             (record { input = I.faults input.old; out = O.faults out.old; err = E.faults err.old })
             (record { input = I.faults input.new; out = O.faults out.new; err = E.faults err.new }) result }
     {
-        match call(
-            &mut self.regs,
-            &mut self.bus,
-            &mut self.heap,
-            self.log,
-            input,
-            out,
-            err,
-        )? {
-            Called::Returned => {
+        let request = Request::of(&self.regs);
+        let called = serve(request, &mut self.bus, self.heap, input, out, err)?;
+        if tell(self.log, request, called, err).is_err() {
+            return Err(CallFault::SinkFault);
+        }
+        self.heap = heap_after(request, self.heap);
+        match called {
+            Called::Returned(answer) => {
+                self.regs.set(Reg::of(A0), answer);
                 self.pc = self.pc.wrapping_add(4);
                 self.steps += 1;
             }

@@ -4,7 +4,7 @@
 ghost use Rattle.std.specs.Prelude.{◌≡◌};
 ghost use Rattle.swi_calls.specs.StoresText.{read_into_text, text_store_of};
 
-use crate::arguments::{first_argument, number_of, second_argument, third_argument};
+use crate::request::Request;
 use crate::system_call::READ;
 use swi_exec::{Regs, store_into_text};
 use swi_isa::Instr;
@@ -16,8 +16,9 @@ use swi_memory::Bus;
 fn read_store(regs: &Regs, bus: &Bus) -> Option<u32>
     ensures { result ≡ read_into_text regs.now bus.now }
 {
-    if number_of(regs) == READ && first_argument(regs) == 0 {
-        store_into_text(bus, second_argument(regs), third_argument(regs))
+    let request = Request::of(regs);
+    if request.number == READ && request.first == 0 {
+        store_into_text(bus, request.second, request.third)
     } else {
         None
     }

@@ -1,7 +1,7 @@
 //! System calls on a small memory. The calls' numbers and answers are Linux's on RISC-V.
 #![tactic(auto)]
 
-ghost use Rattle.std.specs.Prelude.{None};
+ghost use Rattle.std.specs.Prelude.{◌≡◌, None, IfOk};
 
 use super::*;
 use std::alloc::Global;
@@ -47,6 +47,22 @@ fn regs_of(number: u32, a0: u32, a1: u32, a2: u32) -> Regs {
     regs
 }
 
+/// A machine over the small memory, at a call.
+fn machine_at(alloc: Global, call: (u32, u32, u32, u32), log: bool) -> Result<Machine, Fail>
+    ensures { IfOk result (λ m. m.steps ≡ 0) }
+{
+    let (number, a0, a1, a2) = call;
+    Ok(Machine {
+        pc: 0x10000,
+        regs: regs_of(number, a0, a1, a2),
+        bus: small_bus(alloc)?,
+        heap: HEAP,
+        log,
+        ending: None,
+        steps: 0,
+    })
+}
+
 /// -9, EBADF.
 const BAD_DESCRIPTOR: u32 = u32::MAX - 8;
 
@@ -89,20 +105,18 @@ fn assert_leaves(
     rt: &impl Abort,
     alloc: Global,
     row: usize,
-    (number, a0, a1, a2): (u32, u32, u32, u32),
+    call: (u32, u32, u32, u32),
     left: &Left,
 ) -> Result<(), Fail> {
-    let (mut regs, mut bus, mut heap) = (regs_of(number, a0, a1, a2), small_bus(alloc)?, HEAP);
+    let mut machine = machine_at(alloc, call, false)?;
     let mut input = MemSource::new(b"abcdef".to_vec(alloc)?, Vec::new(alloc));
     let mut out = MemSink::new(alloc, 64, Vec::new(alloc))?;
     let mut err = MemSink::new(alloc, 64, Vec::new(alloc))?;
-    let called = call(
-        &mut regs, &mut bus, &mut heap, false, &mut input, &mut out, &mut err,
-    );
-    assert_eq!(rt; called, Ok(Called::Returned), "row {row}");
-    assert_eq!(rt; regs.get(Reg::of(10)), left.answer, "row {row}");
-    assert_eq!(rt; heap.now, left.brk, "row {row}");
-    assert_eq!(rt; bus.load(0x20000, 4), Ok(left.word), "row {row}");
+    let made = machine.call_step(&mut input, &mut out, &mut err);
+    assert_eq!(rt; (made, machine.ending), (Ok(()), None), "row {row}");
+    assert_eq!(rt; machine.regs.get(Reg::of(10)), left.answer, "row {row}");
+    assert_eq!(rt; machine.heap.now, left.brk, "row {row}");
+    assert_eq!(rt; machine.bus.load(0x20000, 4), Ok(left.word), "row {row}");
     assert_eq!(rt; out.held(), left.out.as_bytes(), "row {row}");
     assert_eq!(rt; err.held(), left.err.as_bytes(), "row {row}");
     Ok(())
@@ -168,16 +182,13 @@ fn writes_answer_their_count_and_give_it_to_their_sink(rt: HostRuntime) -> Resul
 #[test]
 fn a_read_asks_no_more_after_the_end(rt: HostRuntime) -> Result<(), Fail> {
     let alloc = rt.alloc();
-    let (mut regs, mut bus, mut heap) = (regs_of(63, 0, 0x20000, 8), small_bus(alloc)?, HEAP);
+    let mut machine = machine_at(alloc, (63, 0, 0x20000, 8), false)?;
     // the first call takes all, the second finds the end, and the third would fail
     let mut input = MemSource::new(b"abc".to_vec(alloc)?, [3].to_vec(alloc)?);
     let mut out = MemSink::new(alloc, 0, Vec::new(alloc))?;
     let mut err = MemSink::new(alloc, 0, Vec::new(alloc))?;
-    let called = call(
-        &mut regs, &mut bus, &mut heap, false, &mut input, &mut out, &mut err,
-    );
-    assert_eq!(rt; called, Ok(Called::Returned));
-    assert_eq!(rt; regs.get(Reg::of(10)), 3);
+    assert_eq!(rt; machine.call_step(&mut input, &mut out, &mut err), Ok(()));
+    assert_eq!(rt; machine.regs.get(Reg::of(10)), 3);
     Ok(())
 }
 
@@ -246,16 +257,14 @@ static LINES: [((u32, u32, u32, u32), &str); 5] = [
 #[test]
 fn calls_are_told_after_what_they_write(rt: HostRuntime) -> Result<(), Fail> {
     let alloc = rt.alloc();
-    for (k, ((number, a0, a1, a2), line)) in LINES.into_iter().enumerate() {
-        let (mut regs, mut bus, mut heap) = (regs_of(number, a0, a1, a2), small_bus(alloc)?, HEAP);
+    for (k, (call, line)) in LINES.into_iter().enumerate() {
+        let mut machine = machine_at(alloc, call, true)?;
         let mut input = MemSource::new(b"abc".to_vec(alloc)?, Vec::new(alloc));
         let mut out = MemSink::new(alloc, 64, Vec::new(alloc))?;
         let mut err = MemSink::new(alloc, 64, Vec::new(alloc))?;
-        let called = call(
-            &mut regs, &mut bus, &mut heap, true, &mut input, &mut out, &mut err,
-        );
-        let ended = called == Ok(Called::Exited(a0));
-        assert_eq!(rt; ended, number == 93, "row {k}");
+        let made = machine.call_step(&mut input, &mut out, &mut err);
+        let ending = (call.0 == 93).then_some(End::Exited(call.1));
+        assert_eq!(rt; (made, machine.ending), (Ok(()), ending), "row {k}");
         assert_eq!(rt; err.held(), line.as_bytes(), "row {k}");
     }
     Ok(())
@@ -328,19 +337,16 @@ static FAILURES: [Failure; 5] = [
 fn failed_devices_leave_a_prefix_a0_and_the_break(rt: HostRuntime) -> Result<(), Fail> {
     let alloc = rt.alloc();
     for (k, failure) in FAILURES.iter().enumerate() {
-        let (number, a0, a1, a2) = failure.call;
-        let (mut regs, mut bus, mut heap) = (regs_of(number, a0, a1, a2), small_bus(alloc)?, HEAP);
+        let mut machine = machine_at(alloc, failure.call, true)?;
         let input_fails = [failure.input_fails].to_vec(alloc)?;
         let mut input = MemSource::new(b"abcdef".to_vec(alloc)?, input_fails);
         let mut out = MemSink::new(alloc, 64, [failure.out_fails].to_vec(alloc)?)?;
         let mut err = MemSink::new(alloc, 64, [failure.err_fails].to_vec(alloc)?)?;
-        let called = call(
-            &mut regs, &mut bus, &mut heap, true, &mut input, &mut out, &mut err,
-        );
-        assert_eq!(rt; called, Err(failure.fault), "row {k}");
-        assert_eq!(rt; regs.get(Reg::of(10)), a0, "row {k}");
-        assert_eq!(rt; heap, HEAP, "row {k}");
-        assert_eq!(rt; bus.load(0x20000, 4), Ok(failure.word), "row {k}");
+        let made = machine.call_step(&mut input, &mut out, &mut err);
+        assert_eq!(rt; made, Err(failure.fault), "row {k}");
+        assert_eq!(rt; machine.regs.get(Reg::of(10)), failure.call.1, "row {k}");
+        assert_eq!(rt; machine.heap, HEAP, "row {k}");
+        assert_eq!(rt; machine.bus.load(0x20000, 4), Ok(failure.word), "row {k}");
         assert_eq!(rt; out.held(), failure.out.as_bytes(), "row {k}");
         assert_eq!(rt; err.held(), failure.err.as_bytes(), "row {k}");
     }
@@ -383,11 +389,7 @@ fn reads_go_on_until_the_count_or_the_end(rt: HostRuntime) -> Result<(), Fail> {
         (300, 256, 300),
         (0, 1, 0),
     ] {
-        let (mut regs, mut bus, mut heap) = (
-            regs_of(63, 0, 0x20010, 1000),
-            small_bus(alloc)?,
-            HEAP,
-        );
+        let mut machine = machine_at(alloc, (63, 0, 0x20010, 1000), false)?;
         let whole = bytes.get(..length).unwrap_or(&[]);
         let mut input = Trickle {
             rest: whole,
@@ -396,21 +398,12 @@ fn reads_go_on_until_the_count_or_the_end(rt: HostRuntime) -> Result<(), Fail> {
         };
         let mut out = MemSink::new(alloc, 1000, Vec::new(alloc))?;
         let mut err = MemSink::new(alloc, 0, Vec::new(alloc))?;
-        let read = call(
-            &mut regs, &mut bus, &mut heap, false, &mut input, &mut out, &mut err,
-        );
-        assert_eq!(rt;
-            (read, regs.get(Reg::of(10))),
-            (Ok(Called::Returned), count)
-        );
-        let mut regs = regs_of(64, 1, 0x20010, count);
-        let written = call(
-            &mut regs, &mut bus, &mut heap, false, &mut input, &mut out, &mut err,
-        );
-        assert_eq!(rt;
-            (written, regs.get(Reg::of(10))),
-            (Ok(Called::Returned), count)
-        );
+        let read = machine.call_step(&mut input, &mut out, &mut err);
+        assert_eq!(rt; (read, machine.regs.get(Reg::of(10))), (Ok(()), count));
+        machine.regs = regs_of(64, 1, 0x20010, count);
+        machine.steps = 0;
+        let written = machine.call_step(&mut input, &mut out, &mut err);
+        assert_eq!(rt; (written, machine.regs.get(Reg::of(10))), (Ok(()), count));
         assert_eq!(rt; Some(out.held()), whole.get(..count as usize));
     }
     Ok(())

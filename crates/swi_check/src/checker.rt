@@ -16,6 +16,8 @@ use swi_image::ImageView;
 use swi_program::{Program, TextView};
 use swi_render::{address_of, exit_behind, render_word, sizes_of};
 
+// This and `Difference` are no `Mismatch`, so that a contract speaks only of what its function can find.
+
 /// A text word with a wrong offset.
 #[derive(Clone, Copy)]
 struct Misplaced {

@@ -1,7 +1,7 @@
 -- The code's names of commands and arguments, in the words of the table of commands.
 use Rattle.std.specs.Prelude.{codes}
 use Rattle.clap.specs.Words.{Rule, Text}
-use Rattle.swi_command.specs.CommandLine.{Form, NumberForm, positional, option, flag, rewrite_form, cached_form, plain_form, check_form, upgrade_form, steps_form, cache_form, block_form, heap_form, stack_form}
+use Rattle.swi_command.specs.CommandLine.{Form, NumberForm, positional, option, flag, rewrite_form, cached_form, plain_form, list_form, check_form, upgrade_form, measure_form, steps_form, cache_form, block_form, heap_form, stack_form}
 use Rattle.swi_command.specs.declared.argument.Argument.{Argument}
 use Rattle.swi_command.specs.declared.argument.Argument.TheVariants as argument
 use Rattle.swi_command.specs.declared.argument.Flag.{Flag}
@@ -17,6 +17,8 @@ abbrev pub positional_name : Positional → Text
 positional_name place.File = codes "FILE"
 positional_name place.Input = codes "IN"
 positional_name place.Output = codes "OUT"
+positional_name place.Seed = codes "SEED"
+positional_name place.Count = codes "COUNT"
 
 abbrev pub form_of_number : NumberOption → NumberForm
 form_of_number number.Steps = steps_form
@@ -44,5 +46,7 @@ abbrev pub form_of : CommandName → Form
 form_of name.Rewrite = rewrite_form
 form_of name.Cached = cached_form
 form_of name.Plain = plain_form
+form_of name.Listing = list_form
 form_of name.Check = check_form
 form_of name.Upgrade = upgrade_form
+form_of name.Measure = measure_form

@@ -11,7 +11,7 @@ use Rattle.clap.specs.Kinds.{Kinds}
 use Rattle.clap.specs.declared.builder.action.ArgAction.TheVariants.{Set, SetTrue}
 use Rattle.swi_command.specs.declared.command.CacheOptions.{CacheOptions}
 use Rattle.swi_command.specs.declared.command.Command.{Command}
-use Rattle.swi_command.specs.declared.command.Command.TheVariants.{Rewrite, Cached, Plain, Check, Upgrade}
+use Rattle.swi_command.specs.declared.command.Command.TheVariants.{Rewrite, Cached, Plain, Listing, Check, Upgrade, Measure}
 use Rattle.swi_command.specs.declared.command.Reports.{Reports}
 use Rattle.swi_command.specs.declared.command.RunLimits.{RunLimits}
 use Rattle.swi_command.specs.declared.command.RunOptions.{RunOptions}
@@ -69,6 +69,10 @@ abbrev pub number_of : NumberForm → List Row → Option ℕ
 number_of form rows = option_map_or (number_in form.least form.most form.unit)
     (first_of form.name rows) (Some form.default)
 
+-- the number from `least` to `most` that must be given at a place
+abbrev pub number_at : Text → ℕ → ℕ → List Row → Option ℕ
+number_at name least most rows = option_and_then (number_in least most 1) (first_of name rows)
+
 -- the flag was given
 abbrev pub is_set : Text → List Row → Bool
 is_set name rows = option_map_or (λ t. bytes_eq t (codes "true")) (first_of name rows) false
@@ -100,6 +104,13 @@ cache_of rows = option_and_then (λ c. option_map (λ b. record {
   block_words = b;
 }) (number_of block_form rows)) (number_of cache_form rows)
 
+-- the seed of a program that is made, and how many functions it has
+abbrev pub seed_of : List Row → Option ℕ
+seed_of rows = number_at (codes "SEED") 0 (2 ^ 32 - 1) rows
+
+abbrev pub count_of : List Row → Option ℕ
+count_of rows = number_at (codes "COUNT") 1 4096 rows
+
 -- ---- what words ask for
 
 -- a command with the names of its files and its options
@@ -107,8 +118,10 @@ pub data Request : Type 0 where
   RewriteFile : (input : Text) (output : Text) (block_words : ℕ) → Request
   RunCached : (file : Text) (cache : CacheOptions) (options : RunOptions) → Request
   RunPlain : (file : Text) (options : RunOptions) → Request
+  ListFile : (file : Text) (block_words : ℕ) → Request
   CheckFile : (file : Text) → Request
   UpgradeFile : (input : Text) (output : Text) → Request
+  MeasureMade : (seed : ℕ) (functions : ℕ) (cache : CacheOptions) → Request
 
 abbrev pub rewrite_request : List Row → Option Request
 rewrite_request rows = option_and_then (λ i. option_and_then (λ o.
@@ -124,12 +137,20 @@ abbrev pub plain_request : List Row → Option Request
 plain_request rows = option_and_then (λ f.
     option_map (λ o. RunPlain f o) (options_of rows)) (first_of (codes "FILE") rows)
 
+abbrev pub list_request : List Row → Option Request
+list_request rows = option_and_then (λ f.
+    option_map (λ b. ListFile f b) (number_of block_form rows)) (first_of (codes "FILE") rows)
+
 abbrev pub check_request : List Row → Option Request
 check_request rows = option_map (λ f. CheckFile f) (first_of (codes "FILE") rows)
 
 abbrev pub upgrade_request : List Row → Option Request
 upgrade_request rows = option_and_then (λ i.
     option_map (λ o. UpgradeFile i o) (first_of (codes "OUT") rows)) (first_of (codes "IN") rows)
+
+abbrev pub measure_request : List Row → Option Request
+measure_request rows = option_and_then (λ s. option_and_then (λ n.
+    option_map (λ c. MeasureMade s n c) (cache_of rows)) (count_of rows)) (seed_of rows)
 
 -- ---- the commands as `clap` takes them
 
@@ -189,6 +210,14 @@ plain_form = record {
   request = plain_request;
 }
 
+-- FILE --block n
+abbrev pub list_form : Form
+list_form = record {
+  name = codes "list";
+  rules = positional (codes "FILE") ∷ option (codes "block") ∷ [];
+  request = list_request;
+}
+
 -- FILE
 abbrev pub check_form : Form
 check_form = record {
@@ -205,8 +234,17 @@ upgrade_form = record {
   request = upgrade_request;
 }
 
+-- SEED COUNT --cache n --block n
+abbrev pub measure_form : Form
+measure_form = record {
+  name = codes "measure";
+  rules = positional (codes "SEED") ∷ positional (codes "COUNT") ∷ option (codes "cache")
+      ∷ option (codes "block") ∷ [];
+  request = measure_request;
+}
+
 abbrev pub forms : List Form
-forms = rewrite_form ∷ cached_form ∷ plain_form ∷ check_form ∷ upgrade_form ∷ []
+forms = rewrite_form ∷ cached_form ∷ plain_form ∷ list_form ∷ check_form ∷ upgrade_form ∷ measure_form ∷ []
 
 -- the command of a name
 unfoldable pub form_named : Text → Option Form
@@ -245,8 +283,10 @@ request_of (Rewrite input output block_words) =
     RewriteFile (string_bytes input) (string_bytes output) block_words
 request_of (Cached file cache options) = RunCached (string_bytes file) cache options
 request_of (Plain file options) = RunPlain (string_bytes file) options
+request_of (Listing file block_words) = ListFile (string_bytes file) block_words
 request_of (Check file) = CheckFile (string_bytes file)
 request_of (Upgrade input output) = UpgradeFile (string_bytes input) (string_bytes output)
+request_of (Measure seed functions cache) = MeasureMade seed functions cache
 
 -- ---- ranges
 
@@ -269,10 +309,17 @@ pub record IsInRange (o : RunLimits) : Type 0 where
   pub stack_most : o.stack ≤ 16777216
   pub stack_aligned : o.stack % 16 ≡ 0
 
+-- how many functions a program that is made can have
+pub record IsFunctionCount (functions : ℕ) : Type 0 where
+  pub least : 1 ≤ functions
+  pub most : functions ≤ 4096
+
 -- and so do those of a command
 abbrev pub HasLimitsInRange : Command → Type 0
 HasLimitsInRange (Rewrite input output block_words) = IsBlockSize block_words
 HasLimitsInRange (Cached file cache options) = IsCacheInRange cache × IsInRange options.limits
 HasLimitsInRange (Plain file options) = IsInRange options.limits
+HasLimitsInRange (Listing file block_words) = IsBlockSize block_words
 HasLimitsInRange (Check file) = Unit
 HasLimitsInRange (Upgrade input output) = Unit
+HasLimitsInRange (Measure seed functions cache) = IsFunctionCount functions × IsCacheInRange cache

@@ -11,6 +11,8 @@ pub enum Positional {
     File,
     Input,
     Output,
+    Seed,
+    Count,
 }
 
 /// An option with a number.
@@ -47,6 +49,8 @@ impl Positional {
             Positional::File => "FILE",
             Positional::Input => "IN",
             Positional::Output => "OUT",
+            Positional::Seed => "SEED",
+            Positional::Count => "COUNT",
         }
     }
 }
@@ -69,39 +73,46 @@ impl NumberOption {
         ensures least { result.least ≡ (form_of_number self).least }
         ensures most { result.most ≡ (form_of_number self).most }
         ensures unit { result.unit ≡ (form_of_number self).unit }
-        ensures default { result.default ≡ (form_of_number self).default }
     {
         match self {
             NumberOption::Steps => NumberRule {
                 least: 0,
                 most: 1 << 48,
                 unit: 1,
-                default: 1_000_000_000,
             },
             NumberOption::Cache => NumberRule {
                 least: 8,
                 most: (1 << 32) - 1,
                 unit: 1,
-                default: 4096,
             },
             NumberOption::Block => NumberRule {
                 least: 2,
                 most: 1024,
                 unit: 1,
-                default: 64,
             },
             NumberOption::Heap => NumberRule {
                 least: 0,
                 most: 67_108_864,
                 unit: 1,
-                default: 1_048_576,
             },
             NumberOption::Stack => NumberRule {
                 least: 4096,
                 most: 16_777_216,
                 unit: 16,
-                default: 65_536,
             },
+        }
+    }
+
+    /// What stands where the words do not give it.
+    pub fn default(self) -> u64
+        ensures { result ≡ (form_of_number self).default }
+    {
+        match self {
+            NumberOption::Steps => 1_000_000_000,
+            NumberOption::Cache => 4096,
+            NumberOption::Block => 64,
+            NumberOption::Heap => 1_048_576,
+            NumberOption::Stack => 65_536,
         }
     }
 }

@@ -58,6 +58,12 @@ pub enum Command {
         file: String,
         options: RunOptions,
     },
+    /// The blocks of the file's program are listed: those of its image, or, where it has none, those of the greedy cut into blocks of at most
+    /// so many words (2 to 1024).
+    Listing {
+        file: String,
+        block_words: u32,
+    },
     /// The file's image is checked against its text.
     Check {
         file: String,
@@ -66,6 +72,12 @@ pub enum Command {
     Upgrade {
         input: String,
         output: String,
+    },
+    /// A run on the cached machine of the program that is made of a seed with so many functions (1 to 4096).
+    Measure {
+        seed: u32,
+        functions: u32,
+        cache: CacheOptions,
     },
 }
 

@@ -31,6 +31,7 @@ use syntax::command_matches;
 /// | `plain` | FILE `--steps` `--heap` `--stack` `--state` `--calls` `--stats` |
 /// | `check` | FILE |
 /// | `upgrade` | IN OUT |
+/// | `measure` | SEED COUNT `--cache` `--block` |
 ///
 /// | Option | Range | Where not given |
 /// |---|---|---|
@@ -40,6 +41,7 @@ use syntax::command_matches;
 /// | `--heap` in bytes | 0 to 67108864 | 1048576 |
 /// | `--stack` in bytes | 4096 to 16777216, a multiple of 16 | 65536 |
 ///
+/// SEED is a number from 0 to 2^32 - 1, COUNT one from 1 to 4096; the other words by place are names of files.
 /// `--state`, `--calls` and `--stats` are flags. Options may stand before, between and after the
 /// files, as `--x v` or `--x=v`, each at most once. An option's value that begins with `-` is taken
 /// only as `--x=v`. `--` ends the options; a file that begins with `-` is `-` itself or stands

@@ -11,8 +11,10 @@ pub enum CommandName {
     Rewrite,
     Cached,
     Plain,
+    Listing,
     Check,
     Upgrade,
+    Measure,
 }
 
 impl CommandName {
@@ -24,8 +26,10 @@ impl CommandName {
             "rewrite" => Some(CommandName::Rewrite),
             "cached" => Some(CommandName::Cached),
             "plain" => Some(CommandName::Plain),
+            "list" => Some(CommandName::Listing),
             "check" => Some(CommandName::Check),
             "upgrade" => Some(CommandName::Upgrade),
+            "measure" => Some(CommandName::Measure),
             _ => None,
         }
     }
@@ -38,8 +42,10 @@ impl CommandName {
             CommandName::Rewrite => "rewrite",
             CommandName::Cached => "cached",
             CommandName::Plain => "plain",
+            CommandName::Listing => "list",
             CommandName::Check => "check",
             CommandName::Upgrade => "upgrade",
+            CommandName::Measure => "measure",
         }
     }
 
@@ -73,10 +79,20 @@ impl CommandName {
                 Argument::Flag(Flag::Calls),
                 Argument::Flag(Flag::Stats),
             ],
+            CommandName::Listing => &[
+                Argument::Positional(Positional::File),
+                Argument::Number(NumberOption::Block),
+            ],
             CommandName::Check => &[Argument::Positional(Positional::File)],
             CommandName::Upgrade => &[
                 Argument::Positional(Positional::Input),
                 Argument::Positional(Positional::Output),
+            ],
+            CommandName::Measure => &[
+                Argument::Positional(Positional::Seed),
+                Argument::Positional(Positional::Count),
+                Argument::Number(NumberOption::Cache),
+                Argument::Number(NumberOption::Block),
             ],
         }
     }

@@ -14,14 +14,13 @@ fn read_number(text: &str) -> Option<u64>
     text.parse::<u64>().ok()
 }
 
-/// The numbers that an option takes, and the one that stands where it is not given.
+/// The numbers that an argument takes.
 #[derive(Clone, Copy)]
 pub struct NumberRule {
     pub least: u64,
     pub most: u64,
     /// The number of which each is a multiple.
     pub unit: u64,
-    pub default: u64,
 }
 
 /// The number that the text writes, where the rule takes it.

@@ -3,11 +3,11 @@
 ghost use Rattle.std.specs.Prelude.{◌≡◌, ◌≤◌, ◌%◌, IfSome, IfOk, Some, None, option_map, string_bytes};
 ghost use Rattle.clap.specs.Words.{rows_of, found_of, first_of};
 ghost use Rattle.swi_command.specs.Arguments.{positional_name, form_of_number, flag_name, form_of};
-ghost use Rattle.swi_command.specs.CommandLine.{number_of, is_set, limits_of, reports_of, options_of, cache_of, request_of, IsBlockSize, IsCacheInRange, IsInRange, HasLimitsInRange};
+ghost use Rattle.swi_command.specs.CommandLine.{number_of, number_at, seed_of, count_of, is_set, limits_of, reports_of, options_of, cache_of, request_of, IsBlockSize, IsFunctionCount, IsCacheInRange, IsInRange, HasLimitsInRange};
 
 use crate::argument::{Flag, NumberOption, Positional};
 use crate::name::CommandName;
-use crate::number::read_number_in;
+use crate::number::{NumberRule, read_number_in};
 use crate::{CacheOptions, Command, CommandError, Reports, RunLimits, RunOptions};
 use clap::ArgMatches;
 use std::alloc::Global;
@@ -49,8 +49,25 @@ fn number(matches: &ArgMatches<'_>, option: NumberOption) -> Option<u64>
     let rule = option.rule();
     match value_of(matches, option.name()) {
         Some(text) => read_number_in(text, rule),
-        None => Some(rule.default),
+        None => Some(option.default()),
     }
+}
+
+/// The number from `least` to `most` that stands at a place.
+fn number_at(matches: &ArgMatches<'_>, place: Positional, least: u64, most: u64) -> Option<u64>
+    ensures value { result ≡ number_at (positional_name place) least most (rows_of (found_of matches.now)) }
+    ensures least { IfSome result (λ n. least ≤ n) }
+    ensures most { IfSome result (λ n. n ≤ most) }
+{
+    let text = value_of(matches, place.name())?;
+    read_number_in(
+        text,
+        NumberRule {
+            least,
+            most,
+            unit: 1,
+        },
+    )
 }
 
 /// Whether the flag was given.
@@ -109,6 +126,21 @@ fn cache_options(matches: &ArgMatches<'_>) -> Option<CacheOptions>
     })
 }
 
+fn seed(matches: &ArgMatches<'_>) -> Option<u32>
+    ensures { result ≡ seed_of (rows_of (found_of matches.now)) }
+{
+    let number = number_at(matches, Positional::Seed, 0, (1 << 32) - 1)?;
+    Some(number as u32)
+}
+
+fn function_count(matches: &ArgMatches<'_>) -> Option<u32>
+    ensures value { result ≡ count_of (rows_of (found_of matches.now)) }
+    ensures ranges { IfSome result IsFunctionCount }
+{
+    let number = number_at(matches, Positional::Count, 1, 4096)?;
+    Some(number as u32)
+}
+
 /// The command of that name with what the matches give its arguments.
 pub fn command_from(
     alloc: Global,
@@ -137,12 +169,21 @@ pub fn command_from(
             file: file_name(alloc, matches, Positional::File)?,
             options: run_options(matches).ok_or(usage)?,
         }),
+        CommandName::Listing => Ok(Command::Listing {
+            file: file_name(alloc, matches, Positional::File)?,
+            block_words: block_words(matches).ok_or(usage)?,
+        }),
         CommandName::Check => Ok(Command::Check {
             file: file_name(alloc, matches, Positional::File)?,
         }),
         CommandName::Upgrade => Ok(Command::Upgrade {
             input: file_name(alloc, matches, Positional::Input)?,
             output: file_name(alloc, matches, Positional::Output)?,
+        }),
+        CommandName::Measure => Ok(Command::Measure {
+            seed: seed(matches).ok_or(usage)?,
+            functions: function_count(matches).ok_or(usage)?,
+            cache: cache_options(matches).ok_or(usage)?,
         }),
     }
 }

@@ -1,5 +1,6 @@
 use crate::{CacheOptions, Command, Reports, RunLimits, RunOptions, parse_command};
 use std::alloc::Global;
+use std::process::Abort;
 use std::test::Fail;
 
 const USAGE: &str = "Usage";
@@ -52,9 +53,23 @@ fn command_text(alloc: Global, command: &Command) -> Result<String, Fail> {
             let run = run_text(alloc, *options)?;
             Ok(format!(in alloc; "plain [{file}] {run}")?)
         }
+        Command::Listing { file, block_words } => {
+            Ok(format!(in alloc; "list [{file}] {block_words}")?)
+        }
         Command::Check { file } => Ok(format!(in alloc; "check [{file}]")?),
         Command::Upgrade { input, output } => {
             Ok(format!(in alloc; "upgrade [{input}] [{output}]")?)
+        }
+        Command::Measure {
+            seed,
+            functions,
+            cache,
+        } => {
+            let CacheOptions {
+                cache_bytes,
+                block_words,
+            } = cache;
+            Ok(format!(in alloc; "measure {seed} {functions} {cache_bytes} {block_words}")?)
         }
     }
 }
@@ -67,8 +82,17 @@ fn answer_to(alloc: Global, line: &str) -> Result<String, Fail> {
     }
 }
 
+/// That each line is read as the text beside it says.
+fn lines_are_read(rt: &impl Abort, alloc: Global, cases: &[(&str, &str)]) -> Result<(), Fail> {
+    for (line, wanted) in cases {
+        let answer = answer_to(alloc, line)?;
+        assert_eq!(rt; answer.as_str(), *wanted, "{line}");
+    }
+    Ok(())
+}
+
 #[test]
-fn reads_command_lines(rt: HostRuntime) -> Result<(), Fail> {
+fn options_of_a_run_stand_before_and_after_the_file_and_once(rt: HostRuntime) -> Result<(), Fail> {
     let cases = [
         // Options stand before and after the file, in both forms.
         (
@@ -123,6 +147,13 @@ fn reads_command_lines(rt: HostRuntime) -> Result<(), Fail> {
             "cached [A] 4096 64 1000000000 1048576 16777216",
         ),
         ("cached A --stack 16777232", USAGE),
+    ];
+    lines_are_read(&rt, rt.alloc(), &cases)
+}
+
+#[test]
+fn cache_and_blocks_have_their_ranges(rt: HostRuntime) -> Result<(), Fail> {
+    let cases = [
         // The cache and its blocks.
         (
             "cached A --cache 8 --block=2 --stats",
@@ -145,6 +176,13 @@ fn reads_command_lines(rt: HostRuntime) -> Result<(), Fail> {
         ),
         ("plain A --cache 4096", USAGE),
         ("plain A --block 64", USAGE),
+    ];
+    lines_are_read(&rt, rt.alloc(), &cases)
+}
+
+#[test]
+fn commands_take_their_files_and_numbers(rt: HostRuntime) -> Result<(), Fail> {
+    let cases = [
         // Two files stand in their order.
         ("rewrite A B", "rewrite [A] [B] 64"),
         ("rewrite --block 8 A B", "rewrite [A] [B] 8"),
@@ -160,6 +198,35 @@ fn reads_command_lines(rt: HostRuntime) -> Result<(), Fail> {
         ("upgrade -- -A EMPTY", "upgrade [-A] []"),
         ("upgrade A", USAGE),
         ("upgrade A B --block 64", USAGE),
+        // Two numbers stand in their order, each in its range.
+        ("measure 1 2", "measure 1 2 4096 64"),
+        ("measure 7 2048 --cache 2048", "measure 7 2048 2048 64"),
+        ("measure --block=5 0 0001", "measure 0 1 4096 5"),
+        ("measure 4294967295 4096", "measure 4294967295 4096 4096 64"),
+        ("measure -- 1 2", "measure 1 2 4096 64"),
+        ("measure 4294967296 1", USAGE),
+        ("measure 1 0", USAGE),
+        ("measure 1 4097", USAGE),
+        ("measure 1", USAGE),
+        ("measure", USAGE),
+        ("measure 1 2 3", USAGE),
+        ("measure +1 2", USAGE),
+        ("measure -1 2", USAGE),
+        ("measure -- -1 2", USAGE),
+        ("measure 0x1 2", USAGE),
+        ("measure 1 A", USAGE),
+        ("measure 1 EMPTY", USAGE),
+        ("measure 1 2 --cache 7", USAGE),
+        ("measure 1 2 --block 1", USAGE),
+        ("measure 1 2 --steps 4", USAGE),
+        ("measure 1 2 --stats", USAGE),
+    ];
+    lines_are_read(&rt, rt.alloc(), &cases)
+}
+
+#[test]
+fn commands_without_a_run_take_few_options(rt: HostRuntime) -> Result<(), Fail> {
+    let cases = [
         // A command may take no option.
         ("check A", "check [A]"),
         ("check -- -A", "check [-A]"),
@@ -167,6 +234,18 @@ fn reads_command_lines(rt: HostRuntime) -> Result<(), Fail> {
         ("check", USAGE),
         ("check A --steps 4", USAGE),
         ("check A --stats", USAGE),
+        ("list A", "list [A] 64"),
+        ("list --block 8 A", "list [A] 8"),
+        ("list A --block 1025", USAGE),
+        ("list A --cache 64", USAGE),
+        ("list", USAGE),
+    ];
+    lines_are_read(&rt, rt.alloc(), &cases)
+}
+
+#[test]
+fn values_and_files_may_begin_with_a_dash(rt: HostRuntime) -> Result<(), Fail> {
+    let cases = [
         // A value that begins with `-` is taken only behind `=`, and then is no number.
         ("cached A --steps -4", USAGE),
         ("cached A --steps=-4", USAGE),
@@ -189,6 +268,13 @@ fn reads_command_lines(rt: HostRuntime) -> Result<(), Fail> {
         ("cached EMPTY", "cached [] 4096 64 1000000000 1048576 65536"),
         ("cached -A", USAGE),
         ("cached A -1", USAGE),
+    ];
+    lines_are_read(&rt, rt.alloc(), &cases)
+}
+
+#[test]
+fn names_are_written_whole(rt: HostRuntime) -> Result<(), Fail> {
+    let cases = [
         // An option's name is written whole.
         ("cached A --step 4", USAGE),
         ("cached A --stat", USAGE),
@@ -214,9 +300,5 @@ fn reads_command_lines(rt: HostRuntime) -> Result<(), Fail> {
         ("cached", USAGE),
         ("plain --state", USAGE),
     ];
-    for (line, wanted) in cases {
-        let answer = answer_to(rt.alloc(), line)?;
-        assert_eq!(rt; answer.as_str(), wanted, "{line}");
-    }
-    Ok(())
+    lines_are_read(&rt, rt.alloc(), &cases)
 }

@@ -1,6 +1,8 @@
 //! What is read off an accepted file.
 #![tactic(auto)]
 
+// Apart from the calls `kind` and `loaded`: names that differ only in case are refused in one module.
+
 /// What a file is: a program alone, or one with a cache image.
 #[derive(Clone, Copy, PartialEq, Eq, Debug)]
 pub enum Kind {

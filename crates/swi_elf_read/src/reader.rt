@@ -30,6 +30,7 @@ impl<'a> Model for Elf<'a> {
 
     ghost view = { λ e. e.bytes.now };
 
+    // Hidden from callers: so what holds of every accepted file stands as clauses of its readers.
     ghost invariant = { λ e. IsRead e.bytes.now e.headers.items };
 }
 

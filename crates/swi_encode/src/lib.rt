@@ -73,6 +73,7 @@ fn registers(opcode: u32, funct3: u32, funct7: u32, rd: Reg, rs1: Reg, rs2: Reg)
 }
 
 /// The word of each instruction, by its format.
+// Longer than other functions, so that each row of the table is a line and all stand in one walk.
 fn word(i: &Instr) -> u32
     requires { IsValid i.now }
     ensures word { result ≡ word_of i.now }

@@ -212,7 +212,7 @@ executed instr.Fence pc regs bus = goes_on pc regs bus
 executed instr.Ecall pc regs bus = record { done = done.Call; regs = regs; bus = bus }
 executed instr.Ebreak pc regs bus = record { done = done.Break; regs = regs; bus = bus }
 
--- where the run goes on, it is at a multiple of 4
+-- where the run goes on, it is at a multiple of 4; by cases, which a caller's `match` computes
 abbrev pub IsAligned : Done → Type 0
 IsAligned (done.Next pc) = pc % 4 ≡ 0
 IsAligned done.Call = Unit

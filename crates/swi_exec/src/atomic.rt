@@ -87,6 +87,7 @@ fn update(op: AtomicOp, rd: Reg, a: u32, v: u32, pc: u32, regs: &mut Regs, bus: 
 }
 
 /// The atomic instruction `op` on the word at `a`, the value of rs1, with `v`, the value of rs2.
+// Not inlined, so that atomic instructions cost the others nothing.
 #[inline(never)]
 pub fn atomic(
     op: AtomicOp,

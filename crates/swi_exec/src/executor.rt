@@ -11,7 +11,7 @@ ghost use Rattle.swi_exec.specs.StoresText.{text_store_of};
 use crate::atomic::atomic;
 use crate::done::{Done, FaultKind};
 use crate::registers::Regs;
-use crate::values::{size_of_load, size_of_store, takes, value_of_imm, value_of_load, value_of_op};
+use crate::values::{load, store, takes, value_of_imm, value_of_op};
 use swi_isa::Instr;
 use swi_memory::Bus;
 
@@ -35,6 +35,7 @@ pub fn exec(instr: &Instr, pc: u32, regs: &mut Regs, bus: &mut Bus) -> Done
     ensures text { text_store_of instr.now regs.old bus.old ≡ None → (a : ℕ) → fetched bus.new a ≡ fetched bus.old a }
 {
     let next = pc.wrapping_add(4);
+    // Not cut into functions: one arm for each form of instruction, as in the definition.
     match *instr {
         Instr::Lui { rd, imm } => {
             regs.set(rd, imm);
@@ -72,15 +73,15 @@ pub fn exec(instr: &Instr, pc: u32, regs: &mut Regs, bus: &mut Bus) -> Done
         }
         Instr::Load { op, rd, rs1, imm } => {
             let a = regs.get(rs1).wrapping_add(imm);
-            let Ok(v) = bus.load(a, size_of_load(op)) else {
+            let Ok(v) = load(op, a, bus) else {
                 return Done::Fault(FaultKind::LoadAccess, a);
             };
-            regs.set(rd, value_of_load(op, v));
+            regs.set(rd, v);
             Done::Next(next)
         }
         Instr::Store { op, rs1, rs2, imm } => {
             let a = regs.get(rs1).wrapping_add(imm);
-            if bus.store(a, size_of_store(op), regs.get(rs2)).is_err() {
+            if store(op, a, regs.get(rs2), bus).is_err() {
                 return Done::Fault(FaultKind::StoreAccess, a);
             }
             Done::Next(next)

@@ -11,7 +11,7 @@ mod values;
 
 pub use done::{Done, FaultKind};
 pub use executor::exec;
-pub use registers::Regs;
+pub use registers::{A0, A1, A2, A7, Regs, SP};
 pub use stores_text::{store_into_text, text_store};
 
 #[cfg(test)]

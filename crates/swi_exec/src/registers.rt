@@ -7,6 +7,22 @@ ghost use Rattle.swi_exec.specs.Registers.{reg, with_reg, with_reservation, new_
 use std::marker::Model;
 use swi_isa::Reg;
 
+/// The number of sp, the stack pointer. Source of this name and those below: RISC-V ELF psABI, section "Integer Register
+/// Convention".
+pub const SP: u32 = 2;
+
+/// The number of a0, the first argument of a call and its answer.
+pub const A0: u32 = 10;
+
+/// The number of a1, the second argument of a call.
+pub const A1: u32 = 11;
+
+/// The number of a2, the third argument of a call.
+pub const A2: u32 = 12;
+
+/// The number of a7, in which a system call's number stands.
+pub const A7: u32 = 17;
+
 /// The integer registers x0 to x31, each a word, of which x0 reads 0 always, and the address that
 /// LR.W reserved last, if it is still reserved.
 ///

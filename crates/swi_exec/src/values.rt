@@ -1,9 +1,10 @@
 //! What the operations of instructions give.
 #![tactic(auto)]
 
-ghost use Rattle.std.specs.Prelude.{◌≡◌, ◌<◌, ◌*◌, ◌^◌};
+ghost use Rattle.std.specs.Prelude.{◌≡◌, ℕ, true, false, MatchResult, OnOk, OnErr};
 ghost use Rattle.swi_exec.specs.Execute.{op_value, imm_value, is_taken, load_value, load_size, store_size, atomic_word};
-ghost use Rattle.swi_memory.specs.Bus.{IsSize};
+ghost use Rattle.swi_memory.specs.declared.right.Right.TheVariants.{Read, Write};
+ghost use Rattle.swi_memory.specs.Bus.{IsSize, fetched, holds, number_at, stored, touches_text};
 
 use crate::arithmetic::{
     greatest, high_product, high_product_mixed, high_product_unsigned, least, less, quotient,
@@ -11,6 +12,7 @@ use crate::arithmetic::{
 };
 use swi_field::sign;
 use swi_isa::{AtomicOp, BranchOp, ImmOp, LoadOp, RegOp, StoreOp};
+use swi_memory::{Access, Bus};
 
 /// What an operation gives of rs1 and rs2.
 #[inline(always)]
@@ -72,16 +74,27 @@ pub fn takes(op: BranchOp, a: u32, b: u32) -> bool
     }
 }
 
-/// How many bytes a load reads.
+/// The word that a load makes of the bytes at the address. Each size is a constant, so that the access of that size
+/// alone is compiled for it.
 #[inline(always)]
-pub fn size_of_load(op: LoadOp) -> u8
-    ensures value { result ≡ load_size op }
-    ensures size { IsSize result }
+pub fn load(op: LoadOp, a: u32, bus: &Bus) -> Result<u32, Access>
+    ensures { MatchResult result
+        (λ v. (holds bus.now Read a (load_size op) ≡ true)
+        × (v ≡ load_value op (number_at bus.now a (load_size op))))
+        (λ _. holds bus.now Read a (load_size op) ≡ false) }
 {
     match op {
-        LoadOp::Lb | LoadOp::Lbu => 1,
-        LoadOp::Lh | LoadOp::Lhu => 2,
-        LoadOp::Lw => 4,
+        LoadOp::Lb => match bus.load(a, 1) {
+            Ok(v) => Ok(sign::<8>(v)),
+            Err(refused) => Err(refused),
+        },
+        LoadOp::Lh => match bus.load(a, 2) {
+            Ok(v) => Ok(sign::<16>(v)),
+            Err(refused) => Err(refused),
+        },
+        LoadOp::Lw => bus.load(a, 4),
+        LoadOp::Lbu => bus.load(a, 1),
+        LoadOp::Lhu => bus.load(a, 2),
     }
 }
 
@@ -98,16 +111,20 @@ pub fn size_of_store(op: StoreOp) -> u8
     }
 }
 
-/// The word that a load makes of the number that it reads.
+/// Does what a store does. A refusal changes nothing.
 #[inline(always)]
-pub fn value_of_load(op: LoadOp, v: u32) -> u32
-    requires { v < 2 ^ (8 * load_size op) }
-    ensures { result ≡ load_value op v }
+pub fn store(op: StoreOp, a: u32, v: u32, bus: &mut Bus) -> Result<(), Access>
+    ensures ok { OnOk result (holds bus.old Write a (store_size op) ≡ true) }
+    ensures bytes { OnOk result (bus.new ≡ stored bus.old a (store_size op) v) }
+    ensures refused { OnErr result (holds bus.old Write a (store_size op) ≡ false) }
+    ensures unchanged { OnErr result (bus.new ≡ bus.old) }
+    ensures text { touches_text bus.old a (store_size op) ≡ false →
+        (x : ℕ) → fetched bus.new x ≡ fetched bus.old x }
 {
     match op {
-        LoadOp::Lb => sign::<8>(v),
-        LoadOp::Lh => sign::<16>(v),
-        LoadOp::Lw | LoadOp::Lbu | LoadOp::Lhu => v,
+        StoreOp::Sb => bus.store(a, 1, v),
+        StoreOp::Sh => bus.store(a, 2, v),
+        StoreOp::Sw => bus.store(a, 4, v),
     }
 }
 

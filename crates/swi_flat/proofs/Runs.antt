@@ -1,110 +1,209 @@
 -- Runs of the flat machine, step by step.
-use Rattle.std.proofs.Common.{◌≡◌, ℕ, ◌+◌, ◌-◌, ◌≤◌, true, false, refl, sym, ap, subst, ◌∙◌, is_some, Option, Some, List, [], ◌++◌, take}
+use Rattle.std.proofs.Common.{◌≡◌, ℕ, ◌+◌, ◌-◌, ◌<◌, ◌≤◌, true, false, refl, sym, ap, subst, ◌∙◌, is_some, Some, None, List, [], ◌++◌, take, Ok, Err, arith, rules}
+use Rattle.std.specs.Option.{ForSome}
 use Rattle.std.specs.Io.KnownBytes.{Appends}
-use Rattle.swi_outside.specs.Sink.{AppendsPrefix, AppendsThenPrefix}
+use Rattle.swi_outside.specs.Sink.{AppendsThenPrefix}
+use Rattle.swi_outside.specs.Laws.{Appends-none, Appends-append}
 use Rattle.swi_calls.specs.Call.{room_of_call, second_argument}
+use Rattle.swi_calls.specs.declared.end.CallFault.{CallFault}
 use Rattle.swi_calls.specs.declared.machine.Machine.{Machine}
+use Rattle.swi_calls.specs.Causes.{Faults, HasCauses}
+use Rattle.swi_calls.specs.Exchange.{Devices, Exchanged}
 use Rattle.swi_calls.specs.State.{FlatState}
-use Rattle.swi_calls.specs.Flat.{made, flat_step, flat_run, started}
+use Rattle.swi_calls.specs.Flat.{made, exchange_of, flat_step, flat_run, started}
 use Rattle.swi_calls.specs.Moves.{ReadsInto}
 use Rattle.swi_calls.specs.Laws.{flat_run_none, flat_run_over, flat_run_more}
 use Rattle.swi_flat.specs.Laws.{flat_run_sum}
 use Rattle.swi_flat.specs.FlatData.{FlatData, unfailed, stopped, state_at, next_made, FillsFront}
-use Rattle.swi_outside.specs.Laws.{Appends-none, Appends-append}
+use Rattle.swi_flat.specs.Advanced.{Advances}
+use Rattle.swi_flat.specs.Ran.{Ran}
 
--- A run from its start that has made so many steps: what was taken and written so far, and that the definition's run of as many
--- steps comes to the machine now, with just that.
-pub record SoFar (steps : ℕ) (first now : Machine) (left : List ℕ) (left_now out_first out_now err_first err_now : Option (List ℕ)) : Type 0 where
+-- what was taken and written so far, and that the definition's run of as many steps comes to the machine now, with just that
+pub record SoFar (first now : Machine) (left : List ℕ) (d e : Devices) : Type 0 where
   pub input : List ℕ
   pub output : List ℕ
   pub error : List ℕ
-  pub left_is : left_now ≡ Some input
-  pub out : Appends out_first out_now output
-  pub err : Appends err_first err_now error
-  pub run : flat_run steps (started first left) ≡ record { machine = now; input = input; output = output; error = error }
+  pub left_is : e.input ≡ Some input
+  pub out : Appends d.output e.output output
+  pub err : Appends d.error e.error error
+  pub run : state_at now.steps first left ≡ record { machine = now; input = input; output = output; error = error }
 
-pub so_far_none : {steps : ℕ} {m : Machine} {left : List ℕ} {left_now out err : Option (List ℕ)} → steps ≡ 0 → left_now ≡ Some left →
-    SoFar steps m m left left_now out out err err
-so_far_none {steps} {m} {left} {left_now} {out} {err} none told = record {
-  input = left;
-  output = [];
-  error = [];
-  left_is = told;
-  out = Appends-none out;
-  err = Appends-none err;
-  run = rw none (flat_run_none (started m left));
+-- a run that goes on
+pub record Going (first : Machine) (limit : ℕ) (f : FlatData) (d e : Devices) (p q : Faults) : Type 0 where
+  pub so_far : ForSome d.input (λ left. SoFar first f.machine left d e)
+  pub no_fewer : first.steps ≤ f.machine.steps
+  pub within : f.machine.steps ≤ limit
+  pub unfailed_is : f.failed ≡ false
+  pub still : q ≡ p
+
+pub going_first : (f : FlatData) (limit : ℕ) (d : Devices) (p : Faults) → f.machine.steps ≤ limit → f.failed ≡ false → Going f.machine limit f d d p p
+going_first f limit d p within none_failed = record {
+  so_far = λ left told. record {
+    input = left;
+    output = [];
+    error = [];
+    left_is = told;
+    out = Appends-none d.output;
+    err = Appends-none d.error;
+    run = let none : f.machine.steps - f.machine.steps ≡ 0 = omega arith in ap (λ k. flat_run k (started f.machine left)) none ∙ flat_run_none (started f.machine left);
+  };
+  no_fewer = omega arith;
+  within = within;
+  unfailed_is = none_failed;
+  still = refl;
 }
 
--- the run's end, where no step is to come or there is an ending
-pub record Complete (all : ℕ) (first now : Machine) (left : List ℕ) (left_now out_first out_now err_first err_now : Option (List ℕ)) : Type 0 where
-  pub machine : now ≡ (flat_run all (started first left)).machine
-  pub left_is : left_now ≡ Some (flat_run all (started first left)).input
-  pub out : Appends out_first out_now (flat_run all (started first left)).output
-  pub err : Appends err_first err_now (flat_run all (started first left)).error
+module _ {first : Machine} {limit : ℕ} {f : FlatData} {d e : Devices} {p q : Faults} (h : Going first limit f d e p q) where
+  -- the state that the run has come to, and how it goes on
+  module _ {left : List ℕ} (s : SoFar first f.machine left d e) where
+    abbrev reached : FlatState
+    reached = record { machine = f.machine; input = s.input; output = s.output; error = s.error }
 
--- a run whose next step failed: where it stands, and what the sinks hold
-pub record Broken (first : Machine) (next : FlatData) (left : List ℕ) (left_next out_first out_next err_first err_next : Option (List ℕ)) : Type 0 where
-  pub stays : next ≡ stopped (state_at next.machine.steps first left).machine next.machine.bus
-  pub front : FillsFront (state_at next.machine.steps first left) next.machine.bus left_next
-  pub out : AppendsThenPrefix out_first out_next (state_at next.machine.steps first left).output (next_made (state_at next.machine.steps first left)).output
-  pub err : AppendsThenPrefix err_first err_next (state_at next.machine.steps first left).error (next_made (state_at next.machine.steps first left)).error
+    further : (count more : ℕ) → count ≡ f.machine.steps + more → state_at count first left ≡ flat_run more reached
+    further count more is =
+        let no_fewer = h.no_fewer in
+        let split : count - first.steps ≡ (f.machine.steps - first.steps) + more = omega arith in
+        ap (λ k. flat_run k (started first left)) split ∙ flat_run_sum (f.machine.steps - first.steps) more (started first left) ∙ ap (flat_run more) s.run
 
-module _ {steps : ℕ} {first now : Machine} {left : List ℕ} {left_now out_first out_now err_first err_now : Option (List ℕ)}
-    (h : SoFar steps first now left left_now out_first out_now err_first err_now) where
-  -- the state that the run has come to
-  abbrev reached : FlatState
-  reached = record { machine = now; input = h.input; output = h.output; error = h.error }
-
-  further : (more : ℕ) → flat_run (steps + more) (started first left) ≡ flat_run more reached
-  further more = flat_run_sum steps more (started first left) ∙ ap (flat_run more) h.run
-
-  -- a step that succeeded
-  pub so_far_more : {count : ℕ} {next : Machine} {left_next out_next err_next : Option (List ℕ)} → count ≡ steps + 1 → is_some now.ending ≡ false →
-      next ≡ (made now h.input).machine → left_next ≡ Some (made now h.input).input →
-      Appends out_now out_next (made now h.input).output → Appends err_now err_next (made now h.input).error →
-      SoFar count first next left left_next out_first out_next err_first err_next
-  so_far_more {count} {next} {left_next} {out_next} {err_next} counted going is taken writes tells = record {
-    input = (made now h.input).input;
-    output = h.output ++ (made now h.input).output;
-    error = h.error ++ (made now h.input).error;
-    left_is = taken;
-    out = Appends-append out_first out_now out_next h.output (made now h.input).output h.out writes;
-    err = Appends-append err_first err_now err_next h.error (made now h.input).error h.err tells;
-    run = rw (counted, is) (further 1 ∙ flat_run_more 0 reached going ∙ flat_run_none (flat_step reached));
+  -- a step that was made
+  pub going_on : (new : FlatData) (n : Devices) (r : Faults) → f.machine.steps < limit → is_some f.machine.ending ≡ false →
+      ForSome e.input (λ left. new ≡ unfailed (made f.machine left).machine) → new.machine.steps ≡ f.machine.steps + 1 → new.failed ≡ false →
+      Exchanged {T = Unit {0}} (λ left. exchange_of (made f.machine left)) e n q r (Ok tt) → Going first limit new d n p r
+  going_on new n r fewer open_end machine counted none_failed x = record {
+    so_far = λ left told.
+        let s = h.so_far left told in
+        let step = made f.machine s.input in
+        let is : new.machine ≡ step.machine = ap (λ (q : FlatData). q.machine) (machine s.input s.left_is) in
+        let after : Machine → FlatState = λ (q : Machine). record { machine = q; input = step.input; output = s.output ++ step.output; error = s.error ++ step.error } in
+        record {
+          input = step.input;
+          output = s.output ++ step.output;
+          error = s.error ++ step.error;
+          left_is = x.input s.input s.left_is;
+          out = Appends-append d.output e.output n.output s.output step.output s.out (x.output s.input s.left_is);
+          err = Appends-append d.error e.error n.error s.error step.error s.err (x.error s.input s.left_is);
+          run = further s new.machine.steps 1 counted ∙ flat_run_more 0 (reached s) open_end ∙ flat_run_none (flat_step (reached s)) ∙ ap after (sym is);
+        };
+    no_fewer = let no_fewer = h.no_fewer in omega arith;
+    within = omega arith;
+    unfailed_is = none_failed;
+    still = x.causes.quiet ∙ h.still;
   }
 
-  complete : {all : ℕ} (more : ℕ) → all ≡ steps + more → flat_run more reached ≡ reached → Complete all first now left left_now out_first out_now err_first err_now
-  complete {all} more whole over =
-      let is : flat_run all (started first left) ≡ reached = ap (λ k. flat_run k (started first left)) whole ∙ further more ∙ over in
-      record { machine = rw is refl; left_is = rw is h.left_is; out = rw is h.out; err = rw is h.err }
-
-  pub so_far_over : {all : ℕ} (more : ℕ) → all ≡ steps + more → is_some now.ending ≡ true → Complete all first now left left_now out_first out_now err_first err_now
-  so_far_over {all} more whole over = complete more whole (flat_run_over more reached over)
-
-  pub so_far_all : {all : ℕ} → all ≡ steps + 0 → Complete all first now left left_now out_first out_now err_first err_now
-  so_far_all {all} whole = complete 0 whole (flat_run_none reached)
-
-  -- the state that is reached after as many steps
-  pub state_is : (count : ℕ) → count - first.steps ≡ steps → state_at count first left ≡ reached
-  state_is count counted = ap (λ k. flat_run k (started first left)) counted ∙ h.run
-
-  -- a step that failed
-  pub so_far_broken : {next : FlatData} {left_next out_next err_next : Option (List ℕ)} → next.machine.steps - first.steps ≡ steps →
-      next ≡ stopped now next.machine.bus →
-      (k : ℕ) × (k ≤ room_of_call now.regs now.bus) × ReadsInto now.bus next.machine.bus left_now left_next (second_argument now.regs) k →
-      AppendsPrefix out_now out_next (made now h.input).output → AppendsPrefix err_now err_next (made now h.input).error →
-      Broken first next left left_next out_first out_next err_first err_next
-  so_far_broken {next} {left_next} {out_next} {err_next} counted is fills writes tells =
-      let here : state_at next.machine.steps first left ≡ reached = state_is next.machine.steps counted in
+  -- steps that asked for no device
+  pub going_ahead : (old : FlatData) (new : Machine) → old ≡ f → Advances old.machine new → old.machine.steps ≤ new.steps → new.steps ≤ limit →
+      Going first limit (record old { machine = new }) d e p q
+  going_ahead old new same advanced no_fewer within =
+      let moved : Advances f.machine new = subst (λ (q : FlatData). Advances q.machine new) same advanced in
+      let later : f.machine.steps ≤ new.steps = subst (λ (q : FlatData). q.machine.steps ≤ new.steps) same no_fewer in
       record {
-        stays = subst (λ (s : FlatState). next ≡ stopped s.machine next.machine.bus) (sym here) is;
-        front = subst (λ (s : FlatState). FillsFront s next.machine.bus left_next) (sym here)
-            (subst (λ l. (k : ℕ) × (k ≤ room_of_call now.regs now.bus) × ReadsInto now.bus next.machine.bus l left_next (second_argument now.regs) k) h.left_is fills);
-        out = subst (λ (s : FlatState). AppendsThenPrefix out_first out_next s.output (next_made s).output) (sym here)
-            (writes.0, Appends-append out_first out_now out_next h.output (take writes.0 (made now h.input).output) h.out writes.1);
-        err = subst (λ (s : FlatState). AppendsThenPrefix err_first err_next s.error (next_made s).error) (sym here)
-            (tells.0, Appends-append err_first err_now err_next h.error (take tells.0 (made now h.input).error) h.err tells.1);
+        so_far = λ left told.
+            let s = h.so_far left told in
+            record {
+              input = s.input;
+              output = s.output;
+              error = s.error;
+              left_is = s.left_is;
+              out = s.out;
+              err = s.err;
+              run = further s new.steps (new.steps - f.machine.steps) (omega (arith, later)) ∙ moved s.input s.output s.error;
+            };
+        no_fewer = let before = h.no_fewer in omega (arith, before, later);
+        within = within;
+        unfailed_is = ap (λ (q : FlatData). q.failed) same ∙ h.unfailed_is;
+        still = h.still;
       }
 
-pub data_is : (f : FlatData) (m : Machine) → f.machine ≡ m → f.failed ≡ false → f ≡ unfailed m
-data_is f m e none_failed = rw (← e, ← none_failed) refl
+  -- the run's end, after so many steps more of which none was made
+  ended : (more : ℕ) → limit ≡ f.machine.steps + more → ((s : FlatState) → s.machine ≡ f.machine → flat_run more s ≡ s) →
+      (f.machine.ending ≡ None → f.machine.steps ≡ limit) → Ran first limit f d e p q (Ok tt)
+  ended more whole over stops = record {
+    machine = λ left told. rw (at left told) (data_is (h.unfailed_is));
+    input = λ left told. rw (at left told) (h.so_far left told).left_is;
+    output = λ left told. rw (at left told) (h.so_far left told).out;
+    error = λ left told. rw (at left told) (h.so_far left told).err;
+    stops = stops;
+    failed = h.unfailed_is;
+    going = tt;
+    uncounted = tt;
+    no_fewer = tt;
+    stays = tt;
+    front = tt;
+    output_part = tt;
+    error_part = tt;
+    failed_input = λ other. let never : ⊥ = cc in absurd never;
+    failed_output = tt;
+    failed_error = tt;
+    unasked_output = tt;
+    unasked_error = tt;
+    causes = search (rules, h.still);
+  }
+    where
+      at : (left : List ℕ) (told : d.input ≡ Some left) → state_at limit first left ≡ reached (h.so_far left told)
+      at left told = further (h.so_far left told) limit more whole ∙ over (reached (h.so_far left told)) refl
+
+      data_is : f.failed ≡ false → f ≡ unfailed f.machine
+      data_is none_failed = rw (← none_failed) refl
+
+  pub ran_over : is_some f.machine.ending ≡ true → Ran first limit f d e p q (Ok tt)
+  ran_over over =
+      let within = h.within in
+      ended (limit - f.machine.steps) (omega arith) (λ s same. flat_run_over (limit - f.machine.steps) s (ap (λ (m : Machine). is_some m.ending) same ∙ over))
+      (λ none. absurd (let no_way : false ≡ true = ap (λ o. is_some o) (sym none) ∙ over in cc))
+
+  pub ran_all : limit ≤ f.machine.steps → Ran first limit f d e p q (Ok tt)
+  ran_all reached_it =
+      let within = h.within in
+      ended 0 (omega arith) (λ s same. flat_run_none s) (λ none. omega arith)
+
+  -- a step that failed
+  pub ran_broken : (new : FlatData) (n : Devices) (r : Faults) (fault : CallFault) → f.machine.steps < limit → f.machine.ending ≡ None → new ≡ stopped f.machine new.machine.bus →
+      (k : ℕ) × (k ≤ room_of_call f.machine.regs f.machine.bus) × ReadsInto f.machine.bus new.machine.bus e.input n.input (second_argument f.machine.regs) k →
+      Exchanged {T = Unit {0}} (λ left. exchange_of (made f.machine left)) e n q r (Err fault) → Ran first limit new d n p r (Err fault)
+  ran_broken new n r fault fewer open_end is moved x = record {
+    machine = tt;
+    input = tt;
+    output = tt;
+    error = tt;
+    stops = tt;
+    failed = ap (λ (q : FlatData). q.failed) is;
+    going = ap (λ (q : FlatData). q.machine.ending) is ∙ open_end;
+    uncounted = omega (arith, steps);
+    no_fewer = let no_fewer = h.no_fewer in omega (arith, steps);
+    stays = λ left told. at left told (λ s. new ≡ stopped s.machine new.machine.bus) is;
+    front = λ left told. at left told (λ s. FillsFront s new.machine.bus n.input)
+        (subst (λ l. (k : ℕ) × (k ≤ room_of_call f.machine.regs f.machine.bus) × ReadsInto f.machine.bus new.machine.bus l n.input (second_argument f.machine.regs) k) (h.so_far left told).left_is moved);
+    output_part = λ left told.
+        let s = h.so_far left told in
+        let part = x.output_prefix s.input s.left_is in
+        at left told (λ s. AppendsThenPrefix d.output n.output s.output (next_made s).output)
+        (part.0, Appends-append d.output e.output n.output s.output (take part.0 (made f.machine s.input).output) s.out part.1);
+    error_part = λ left told.
+        let s = h.so_far left told in
+        let part = x.error_prefix s.input s.left_is in
+        at left told (λ s. AppendsThenPrefix d.error n.error s.error (next_made s).error)
+        (part.0, Appends-append d.error e.error n.error s.error (take part.0 (made f.machine s.input).error) s.err part.1);
+    failed_input = λ named left told. (
+      at left told (λ s. Appends d.output n.output s.output) (subst (λ o. Appends d.output o (h.so_far left told).output) (sym (x.failed_input named).0) (h.so_far left told).out),
+      at left told (λ s. Appends d.error n.error s.error) (subst (λ o. Appends d.error o (h.so_far left told).error) (sym (x.failed_input named).1) (h.so_far left told).err),
+    );
+    failed_output = λ rose left told. at left told (λ s. Appends d.error n.error s.error)
+        (subst (λ o. Appends d.error o (h.so_far left told).error) (sym (x.failed_output (λ same. rose (same ∙ ap (λ (x : Faults). x.out) h.still)))) (h.so_far left told).err);
+    failed_error = λ rose left told.
+        let s = h.so_far left told in
+        at left told (λ s. Appends d.output n.output (s.output ++ (next_made s).output))
+        (Appends-append d.output e.output n.output s.output (made f.machine s.input).output s.out (x.failed_error (λ same. rose (same ∙ ap (λ (x : Faults). x.err) h.still)) s.input s.left_is));
+    unasked_output = λ left told. at left told (λ s. (next_made s).output ≡ [] → r.out ≡ p.out)
+        (λ none. (x.unasked_output (h.so_far left told).input none).1 ∙ ap (λ (x : Faults). x.out) h.still);
+    unasked_error = λ left told. at left told (λ s. (next_made s).error ≡ [] → r.err ≡ p.err)
+        (λ none. (x.unasked_error (h.so_far left told).input none).1 ∙ ap (λ (x : Faults). x.err) h.still);
+    causes = subst (λ (y : Faults). HasCauses {T = Unit {0}} y r (Err fault)) h.still x.causes;
+  }
+    where
+      steps : new.machine.steps ≡ f.machine.steps
+      steps = ap (λ (q : FlatData). q.machine.steps) is
+
+      at : (left : List ℕ) (told : d.input ≡ Some left) (P : FlatState → Type 0) → P (reached (h.so_far left told)) → P (state_at new.machine.steps first left)
+      at left told P p =
+          let zero_more : new.machine.steps ≡ f.machine.steps + 0 = omega (arith, steps) in
+          subst P (sym (further (h.so_far left told) new.machine.steps 0 zero_more ∙ flat_run_none (reached (h.so_far left told)))) p

@@ -1,2 +1,4 @@
+pub mod Advanced
 pub mod FlatData
 pub mod Laws
+pub mod Ran

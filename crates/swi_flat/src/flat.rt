@@ -1,23 +1,23 @@
 //! One step, and many.
 #![tactic(auto)]
 
-ghost use Rattle.std.specs.Prelude.{◌≡◌, ◌<◌, ◌≤◌, ◌+◌, ◌-◌, ◌^◌, ℕ, List, [], None, Some, true, false, IfOk, OnOk, OnErr, IsErrOf};
+ghost use Rattle.std.specs.Prelude.{◌≡◌, ◌<◌, ◌≤◌, ◌+◌, ◌^◌, ℕ, None, false, is_err, IfOk, OnOk, OnErr};
 ghost use Rattle.std.specs.Option.{ForSome};
-ghost use Rattle.std.specs.Io.KnownBytes.{Appends};
-ghost use Rattle.swi_outside.specs.Sink.{AppendsPrefix, AppendsThenPrefix};
 ghost use Rattle.swi_calls.specs.Call.{room_of_call, second_argument};
-ghost use Rattle.swi_calls.specs.Causes.{HasCauses};
-ghost use Rattle.swi_calls.specs.Flat.{made, flat_run, started, machine_of};
+ghost use Rattle.swi_calls.specs.Exchange.{Exchanged};
+ghost use Rattle.swi_calls.specs.Flat.{made, exchange_of, machine_of};
 ghost use Rattle.swi_calls.specs.Moves.{ReadsInto};
-ghost use Rattle.swi_flat.specs.FlatData.{unfailed, stopped, state_at, next_made, FillsFront};
+ghost use Rattle.swi_flat.specs.FlatData.{unfailed, stopped};
+ghost use Rattle.swi_flat.specs.Ran.{Ran};
 ghost use Rattle.swi_memory.specs.Bus.{fetched};
 ghost use Rattle.swi_program.specs.Layout.{IsLayoutOf};
 ghost use Rattle.swi_program.specs.Text.{text_of, word_of};
 
+use crate::advance::advance;
 use std::alloc::Global;
 use std::marker::Model;
 use swi_calls::{CallFault, End, Heap, Machine};
-use swi_exec::{Done, FaultKind, Regs, exec};
+use swi_exec::{Done, FaultKind, Regs, SP, exec};
 use swi_isa::{Reg, decode};
 use swi_memory::{Bus, Layout};
 use swi_outside::{Memory, Sink, Source};
@@ -54,7 +54,7 @@ impl Flat {
     {
         let bus = Bus::new(alloc, p.segments(), l)?;
         let mut regs = Regs::new();
-        regs.set(Reg::of(2), l.sp);
+        regs.set(Reg::of(SP), l.sp);
         Ok(Flat {
             machine: Machine {
                 pc: p.entry(),
@@ -127,7 +127,6 @@ impl Flat {
     ///
     /// Afterwards the machine is one step further, or a device has failed in a system call. Then `failed` is true,
     /// and the machine is as it was, its steps included, but that of a read a front of the buffer may be filled.
-    #[inline(always)]
     #[tactic(auto, unfolding(swi_calls::specs::Flat::made))]
     pub fn step<I: Source, O: Sink, E: Sink>(
         &mut self,
@@ -140,31 +139,15 @@ impl Flat {
         requires unfailed { self.old.failed ≡ false }
         ensures machine { OnOk result (ForSome (I.left input.old) (λ left.
             self.new ≡ unfailed (made self.old.machine left).machine)) }
-        ensures input { OnOk result (ForSome (I.left input.old) (λ left.
-            I.left input.new ≡ Some (made self.old.machine left).input)) }
-        ensures output { OnOk result (ForSome (I.left input.old) (λ left.
-            Appends (O.held out.old) (O.held out.new) (made self.old.machine left).output)) }
-        ensures error { OnOk result (ForSome (I.left input.old) (λ left.
-            Appends (E.held err.old) (E.held err.new) (made self.old.machine left).error)) }
         ensures counted { OnOk result (self.new.machine.steps ≡ self.old.machine.steps + 1) }
-        ensures unfailed { OnOk result (self.new.failed ≡ false) }
+        ensures failed { self.new.failed ≡ is_err result }
         ensures stays { OnErr result (self.new ≡ stopped self.old.machine self.new.machine.bus) }
-        ensures front { OnErr result ((k : ℕ) × (k ≤ room_of_call self.old.machine.regs self.old.machine.bus) ×
+        ensures moved { OnErr result ((k : ℕ) × (k ≤ room_of_call self.old.machine.regs self.old.machine.bus) ×
             ReadsInto self.old.machine.bus self.new.machine.bus (I.left input.old) (I.left input.new)
             (second_argument self.old.machine.regs) k) }
-        ensures output_prefix { OnErr result (ForSome (I.left input.old) (λ left.
-            AppendsPrefix (O.held out.old) (O.held out.new) (made self.old.machine left).output)) }
-        ensures error_prefix { OnErr result (ForSome (I.left input.old) (λ left.
-            AppendsPrefix (E.held err.old) (E.held err.new) (made self.old.machine left).error)) }
-        ensures failed_output { OnErr result ((O.faults out.new ≡ O.faults out.old → ⊥) →
-            E.held err.new ≡ E.held err.old) }
-        ensures failed_input { IsErrOf result CallFault.SourceFault → (O.held out.new ≡ O.held out.old)
-            × (E.held err.new ≡ E.held err.old) }
-        ensures unasked_output { (left : List ℕ) → (made self.old.machine left).output ≡ [] →
-            (O.held out.new ≡ O.held out.old) × (O.faults out.new ≡ O.faults out.old) }
-        ensures unasked_error { (left : List ℕ) → (made self.old.machine left).error ≡ [] →
-            (E.held err.new ≡ E.held err.old) × (E.faults err.new ≡ E.faults err.old) }
-        ensures causes { HasCauses
+        ensures devices { Exchanged (λ left. exchange_of (made self.old.machine left))
+            (record { input = I.left input.old; output = O.held out.old; error = E.held err.old })
+            (record { input = I.left input.new; output = O.held out.new; error = E.held err.new })
             (record { input = I.faults input.old; out = O.faults out.old; err = E.faults err.old })
             (record { input = I.faults input.new; out = O.faults out.new; err = E.faults err.new }) result }
     {
@@ -222,52 +205,17 @@ impl Flat {
         requires within { self.old.machine.steps ≤ limit }
         requires few { limit ≤ 2 ^ 48 }
         requires unfailed { self.old.failed ≡ false }
-        ensures machine { OnOk result (ForSome (I.left input.old) (λ left.
-            self.new ≡ unfailed (flat_run (limit - self.old.machine.steps) (started self.old.machine left)).machine)) }
-        ensures input { OnOk result (ForSome (I.left input.old) (λ left.
-            I.left input.new ≡ Some (flat_run (limit - self.old.machine.steps)
-            (started self.old.machine left)).input)) }
-        ensures output { OnOk result (ForSome (I.left input.old) (λ left. Appends (O.held out.old) (O.held out.new)
-            (flat_run (limit - self.old.machine.steps) (started self.old.machine left)).output)) }
-        ensures error { OnOk result (ForSome (I.left input.old) (λ left. Appends (E.held err.old) (E.held err.new)
-            (flat_run (limit - self.old.machine.steps) (started self.old.machine left)).error)) }
-        ensures stops { OnOk result ((self.new.machine.ending ≡ None) → self.new.machine.steps ≡ limit) }
-        ensures unfailed { OnOk result (self.new.failed ≡ false) }
-        ensures failed { OnErr result (self.new.failed ≡ true) }
-        ensures going { OnErr result (self.new.machine.ending ≡ None) }
-        ensures uncounted { OnErr result (self.new.machine.steps < limit) }
-        ensures no_fewer { OnErr result (self.old.machine.steps ≤ self.new.machine.steps) }
-        ensures stays { OnErr result (ForSome (I.left input.old) (λ left.
-            self.new ≡ stopped (state_at self.new.machine.steps self.old.machine left).machine self.new.machine.bus)) }
-        ensures front { OnErr result (ForSome (I.left input.old) (λ left.
-            FillsFront (state_at self.new.machine.steps self.old.machine left) self.new.machine.bus
-            (I.left input.new))) }
-        ensures output_part { OnErr result (ForSome (I.left input.old) (λ left.
-            AppendsThenPrefix (O.held out.old) (O.held out.new)
-            (state_at self.new.machine.steps self.old.machine left).output
-            (next_made (state_at self.new.machine.steps self.old.machine left)).output)) }
-        ensures error_part { OnErr result (ForSome (I.left input.old) (λ left.
-            AppendsThenPrefix (E.held err.old) (E.held err.new)
-            (state_at self.new.machine.steps self.old.machine left).error
-            (next_made (state_at self.new.machine.steps self.old.machine left)).error)) }
-        ensures failed_output { OnErr result ((O.faults out.new ≡ O.faults out.old → ⊥) →
-            ForSome (I.left input.old) (λ left.
-            Appends (E.held err.old) (E.held err.new) (state_at self.new.machine.steps self.old.machine left).error)) }
-        ensures failed_input { IsErrOf result CallFault.SourceFault → ForSome (I.left input.old) (λ left.
-            Appends (O.held out.old) (O.held out.new) (state_at self.new.machine.steps self.old.machine left).output
-            × Appends (E.held err.old) (E.held err.new) (state_at self.new.machine.steps self.old.machine left).error) }
-        ensures unasked_output { OnErr result (ForSome (I.left input.old) (λ left.
-            (next_made (state_at self.new.machine.steps self.old.machine left)).output ≡ [] →
-            O.faults out.new ≡ O.faults out.old)) }
-        ensures unasked_error { OnErr result (ForSome (I.left input.old) (λ left.
-            (next_made (state_at self.new.machine.steps self.old.machine left)).error ≡ [] →
-            E.faults err.new ≡ E.faults err.old)) }
-        ensures causes { HasCauses
+        ensures { Ran self.old.machine limit self.new
+            (record { input = I.left input.old; output = O.held out.old; error = E.held err.old })
+            (record { input = I.left input.new; output = O.held out.new; error = E.held err.new })
             (record { input = I.faults input.old; out = O.faults out.old; err = E.faults err.old })
             (record { input = I.faults input.new; out = O.faults out.new; err = E.faults err.new }) result }
     {
         while self.machine.steps < limit && self.machine.ending.is_none() {
-            self.step(input, out, err)?;
+            advance(&mut self.machine, limit);
+            if self.machine.steps < limit {
+                self.step(input, out, err)?;
+            }
         }
         Ok(())
     }

@@ -1,6 +1,7 @@
 //! The flat machine: it runs the words of a program where they stand.
 #![tactic(auto)]
 
+mod advance;
 mod flat;
 
 pub use flat::Flat;

@@ -53,6 +53,7 @@ fn number_at(bytes: &[u8], at: usize) -> u32
 }
 
 /// The i-th word; 0 where it is not there.
+// Each check of the header refuses 0, so none of them needs a case for a missing word.
 #[inline]
 #[tactic(auto, using(crate::proofs::Reading::reading))]
 pub(crate) fn word_at(bytes: &[u8], i: usize) -> u32

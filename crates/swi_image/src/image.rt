@@ -34,6 +34,7 @@ impl<'a> Model for ImageView<'a> {
 
     ghost view = { λ v. image_of v.bytes.now };
 
+    // Hidden from other crates: so what holds of every image is a clause, `sound`, of readers as `blocks`.
     ghost invariant = { λ v. IsView v.bytes.now v.header };
 }
 

@@ -1,4 +1,5 @@
--- Laws of the table, for every word: where jumps go, and which words JALR and EBREAK are.
+-- Laws of the table, for every word: where jumps go, and which words JALR and EBREAK are. They stand among the
+-- definitions, where specifications and proofs of the crates above may cite them.
 use Rattle.std.proofs.Common.{inl, inr, ◌≡◌, ℕ, ◌-◌, ◌%◌, ◌^◌, ◌<◌, Bool, true, bit_and, eqb, ◌&&◌, List, [], ◌∷◌, Some, arith, refl, sym, ap, subst, ◌∙◌}
 use Rattle.std.proofs.lemmas.Bool.{and_parts, eqb-true, eq-eqb, ne_eqb, cases_eq, cond-true, cond-false}
 use Rattle.std.proofs.lemmas.Bool.Decides.{nat_tests}

@@ -1,10 +1,12 @@
 //! Banks of bytes, and the one that an address is in.
 #![tactic(auto)]
 
-ghost use Rattle.std.specs.Prelude.{◌≡◌, ◌+◌, ◌≤◌, ◌^◌, length, MatchOption};
-ghost use Rattle.swi_memory.specs.Bus.{AreInOrder, is_in};
-ghost use Rattle.swi_memory.specs.Found.{HasNone, IsFound};
+ghost use Rattle.std.specs.Prelude.{◌≡◌, ◌&&◌, ◌+◌, ◌≤◌, ◌^◌, nat_le, length, IfSome, MatchOption};
+ghost use Rattle.swi_memory.specs.Bus.{AreInOrder, IsSize, is_in};
+ghost use Rattle.swi_memory.specs.Found.{HasAll, HasNone, IsFound};
 ghost use Rattle.swi_memory.specs.Views.{area, areas};
+
+use crate::right::Right;
 
 /// Bytes from a base on, with rights: 4 read, 2 write, 1 execute. The first `file_size` of them came
 /// from a file.
@@ -36,6 +38,33 @@ pub fn find(banks: &[Bank], a: u32) -> Option<usize>
 {
     for i in (0..banks.len()).rev() {
         if is_here(&banks[i], a) {
+            return Some(i);
+        }
+    }
+    None
+}
+
+/// Whether the bank has all `n` bytes from the address on.
+#[inline(always)]
+fn has_all(bank: &Bank, a: u32, n: u8) -> bool
+    requires size { IsSize n }
+    requires end { bank.now.base + length bank.now.bytes.items ≤ 2 ^ 32 }
+    ensures { result ≡ (nat_le bank.now.base a && nat_le (a + n) (bank.now.base + length bank.now.bytes.items)) }
+{
+    a.wrapping_sub(bank.base) as usize + usize::from(n) <= bank.bytes.len()
+}
+
+/// The place of the bank that has all `n` bytes from the address on and grants the right; None also where
+/// several banks have them. So an access asks for one bank alone, and what is rare is left to the caller.
+#[inline(always)]
+pub fn find_all(banks: &[Bank], right: Right, a: u32, n: u8) -> Option<usize>
+    requires order { AreInOrder (areas banks.now) }
+    requires size { IsSize n }
+    ensures { IfSome result (λ i. HasAll banks.now right a n i) }
+{
+    for i in (0..banks.len()).rev() {
+        let bank = &banks[i];
+        if has_all(bank, a, n) && right.grants(bank.flags) {
             return Some(i);
         }
     }

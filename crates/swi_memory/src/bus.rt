@@ -131,6 +131,8 @@ impl Bus {
         ensures value { result.now ≡ front_of self.now a n }
         ensures some { 0 < length result.now }
         ensures short { length result.now ≤ n }
+
+        // Said beside `value`, so that a caller that writes in pieces needs no fact about areas.
         ensures bytes { result.now ≡ bytes_at self.now a (length result.now) }
     {
         ranges::front(&self.banks, a, n)

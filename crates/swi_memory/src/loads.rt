@@ -6,7 +6,7 @@ ghost use Rattle.swi_memory.specs.Bus.{AreInOrder, IsSize, Read, byte_at, holds_
 ghost use Rattle.swi_memory.specs.Views.{areas};
 
 use crate::access::Access;
-use crate::bank::{Bank, find};
+use crate::bank::{Bank, find, find_all};
 use crate::right::Right;
 
 /// The word that four bytes from a place on make, the lowest first. Not marked to be inlined: so it is simplified
@@ -67,7 +67,7 @@ fn read_behind(banks: &[Bank], a: u32, by: u32) -> Result<u8, Access>
     Ok(byte)
 }
 
-/// A load byte by byte, for an access that reaches past the end of its bank.
+/// A load byte by byte, for an access that no bank has whole, or that is refused.
 #[cold]
 #[inline(never)]
 fn load_across(banks: &[Bank], a: u32, k: u8) -> Result<u32, Access>
@@ -97,16 +97,9 @@ pub fn load(banks: &[Bank], a: u32, k: u8) -> Result<u32, Access>
     ensures value { result ≡ loaded (areas banks.now) a k }
     ensures small { IfOk result (λ v. v < 2 ^ (8 * k)) }
 {
-    let Some(i) = find(banks, a) else {
-        return Err(Access);
+    let Some(i) = find_all(banks, Right::Read, a, k) else {
+        return load_across(banks, a, k);
     };
     let bank = &banks[i];
-    let at = (a - bank.base) as usize;
-    if bank.bytes.len() - at < usize::from(k) {
-        return load_across(banks, a, k);
-    }
-    if !Right::Read.grants(bank.flags) {
-        return Err(Access);
-    }
-    Ok(number(&bank.bytes, at, k))
+    Ok(number(&bank.bytes, (a - bank.base) as usize, k))
 }

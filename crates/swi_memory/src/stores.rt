@@ -8,7 +8,7 @@ ghost use Rattle.swi_memory.specs.Views.{areas};
 ghost use Rattle.swi_memory.specs.Writes.{Writes};
 
 use crate::access::Access;
-use crate::bank::{Bank, find};
+use crate::bank::{Bank, find, find_all};
 use crate::ranges::are_held;
 use crate::right::Right;
 
@@ -44,7 +44,7 @@ pub fn write_byte(banks: &mut [Bank], a: u32, b: u8)
     }
 }
 
-/// A store byte by byte, for an access that reaches past the end of its bank.
+/// A store byte by byte, for an access that no bank has whole, or that is refused.
 #[cold]
 #[inline(never)]
 fn store_across(banks: &mut [Bank], a: u32, k: u8, v: u32) -> Result<(), Access>
@@ -78,17 +78,10 @@ pub fn store(banks: &mut [Bank], a: u32, k: u8, v: u32) -> Result<(), Access>
     ensures { Writes (holds (areas banks.old) Write a k)
         (areas banks.old) (stored (areas banks.old) a k v) (areas banks.new) result }
 {
-    let Some(i) = find(banks, a) else {
-        return Err(Access);
+    let Some(i) = find_all(banks, Right::Write, a, k) else {
+        return store_across(banks, a, k, v);
     };
     let bank = &mut banks[i];
-    let at = (a - bank.base) as usize;
-    if bank.bytes.len() - at < usize::from(k) {
-        return store_across(banks, a, k, v);
-    }
-    if !Right::Write.grants(bank.flags) {
-        return Err(Access);
-    }
-    put(&mut bank.bytes, at, k, v);
+    put(&mut bank.bytes, (a - bank.base) as usize, k, v);
     Ok(())
 }

@@ -8,7 +8,7 @@ pub record RamState : Type 0 where
   -- how many fetches and how many sets answered `Ok`
   pub fetches : ℕ
   pub sets : ℕ
-  -- a count that rises with each call that answered `Failed`, and with no other
+  -- a count that rises with each call that answered `Failed`, up to 2^64 - 1, and with no other
   pub faults : ℕ
   -- the least number above every index that was given to a fetch or a set
   pub reach : ℕ

@@ -1,5 +1,5 @@
 -- Contents under names, and the last call that failed. Own rule.
-use Rattle.std.specs.Prelude.{◌≡◌, ◌≢◌, ℕ, ◌<◌, ◌≤◌, List, [], ◌∷◌, length, Option, Some, None, ⊤, Result, Err, if◌then◌else◌, Bool, true, ◌&&◌, is_none, String, string_bytes, Vec}
+use Rattle.std.specs.Prelude.{◌≡◌, ◌≢◌, ℕ, ◌<◌, ◌≤◌, List, [], ◌∷◌, length, Option, Some, None, ⊤, Result, Err, if◌then◌else◌, String, string_bytes, Vec}
 use Rattle.std.specs.declared.alloc.Global.{Global}
 use Rattle.std.specs.Str.{bytes_eq}
 use Rattle.swi_outside.specs.Causes.{Rose}
@@ -41,6 +41,23 @@ abbrev pub IsLonger : Option Contents → List ℕ → ℕ → Type 0
 IsLonger None name limit = ⊤
 IsLonger (Some m) name limit = (bytes : List ℕ) × (m name ≡ Some bytes) × (limit < length bytes)
 
+-- a file that is open for reading gives what stands under its name, as far as is told
+abbrev pub Gives : Option Contents → List ℕ → Option (List ℕ) → Type 0
+Gives None name left = ⊤
+Gives (Some m) name None = ⊥
+Gives (Some m) name (Some bytes) = m name ≡ Some bytes
+
+-- a file that is to be written has no byte yet, as far as is told
+abbrev pub IsNew : Option Contents → Option (List ℕ) → Type 0
+IsNew None written = ⊤
+IsNew (Some m) written = written ≡ Some []
+
+-- what was written stands under a name, as far as is told, before and after
+abbrev pub Keeps : Option Contents → Option Contents → List ℕ → Option (List ℕ) → Type 0
+Keeps None new name written = new ≡ None
+Keeps (Some m) new name None = ⊤
+Keeps (Some m) new name (Some bytes) = Stands new name bytes
+
 -- the count never falls, `Failed` comes only where it rose, and only `Failed` raises it and changes
 -- what is told of the last failed call, to this call
 pub record ShelfCause {T : Type 0} (before now : ℕ) (last_before last_now : Option Asked) (asked : Asked) (result : Result T ShelfError) : Type 0 where
@@ -70,11 +87,6 @@ pub record ShelfState : Type 0 where
 abbrev pub lookup : List (List ℕ × List ℕ) → List ℕ → Option (List ℕ)
 lookup [] name = None
 lookup (e ∷ es) name = if bytes_eq e.0 name then Some e.1 else lookup es name
-
--- no name stands in two entries
-abbrev pub names_differ : List (List ℕ × List ℕ) → Bool
-names_differ [] = true
-names_differ (e ∷ es) = is_none (lookup es e.0) && names_differ es
 
 abbrev pub entry_of : String Global × Vec ℕ Global → List ℕ × List ℕ
 entry_of e = (string_bytes e.0, e.1.items)

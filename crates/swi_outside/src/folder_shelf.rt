@@ -1,43 +1,44 @@
-ghost use Rattle.std.specs.Prelude.{◌≡◌, ◌≤◌, None, IfOk, length};
+ghost use Rattle.std.specs.Prelude.{◌≡◌, ◌≤◌, None, IfOk, OnOk, length};
+ghost use Rattle.swi_outside.specs.Shelf.{Same, SameElsewhere, Stands, IsLonger};
 ghost use Rattle.swi_outside.specs.Source.{TakesAll, TakesMore};
 
 use crate::real::write_whole;
 use crate::shelf_call::{ShelfCall, key_of};
-use crate::{Failed, Shelf, ShelfError};
+use crate::{Failed, Folder, Shelf, ShelfError};
 use std::alloc::Global;
-use std::fs;
 use std::io::Read;
-use std::rt::Files;
 
-/// Files by their paths. It tells no contents.
+/// The files of a folder, by their names. It tells the contents that the folder tells; the system's
+/// folder tells none.
 ///
-/// Each `Err` of a file is a fault, and is answered at once; so is a file that takes nothing of bytes
-/// that are to be written.
+/// Each failure of the folder or of a file is a fault, and is answered at once; so is a file that
+/// takes nothing of bytes that are to be written.
 #[derive(Drop)]
-pub struct FolderShelf<R> {
-    files: R,
+pub struct FolderShelf<D> {
+    folder: D,
     faults: u64,
     last: Option<(ShelfCall, String)>,
 }
 
-impl<R: Files> FolderShelf<R> {
-    /// A shelf over the files that a runtime reaches, as `&rt`, without a fault.
-    pub fn new(files: R) -> FolderShelf<R>
-        ensures faults { ⟦<FolderShelf<R> as Shelf>⟧.faults result ≡ 0 }
-        ensures last_failed { ⟦<FolderShelf<R> as Shelf>⟧.last_failed result ≡ None }
+impl<D: Folder> FolderShelf<D> {
+    /// A shelf over a folder, as `SystemFolder::new(rt)`, without a fault.
+    pub fn new(folder: D) -> FolderShelf<D>
+        ensures contents { ⟦<FolderShelf<D> as Shelf>⟧.contents result ≡ D.contents folder }
+        ensures faults { ⟦<FolderShelf<D> as Shelf>⟧.faults result ≡ 0 }
+        ensures last_failed { ⟦<FolderShelf<D> as Shelf>⟧.last_failed result ≡ None }
     {
         FolderShelf {
-            files,
+            folder,
             faults: 0,
             last: None,
         }
     }
 }
 
-impl<R: Files> Shelf for FolderShelf<R> {
+impl<D: Folder> Shelf for FolderShelf<D> {
     ghost use Rattle.swi_outside.specs.Shelf.{last_asked};
 
-    ghost contents = { λ _. None };
+    ghost contents = { λ s. D.contents s.folder };
 
     ghost faults = { λ s. s.faults };
 
@@ -45,7 +46,7 @@ impl<R: Files> Shelf for FolderShelf<R> {
 
     fn get(&mut self, alloc: Global, name: &str, limit: u32) -> Result<Vec<u8>, ShelfError> {
         let key = key_of(alloc, name)?;
-        match read_file(&self.files, alloc, name, limit) {
+        match read_file(&mut self.folder, alloc, name, limit) {
             Err(ShelfError::Failed) => {
                 self.faults = self.faults.saturating_add(1);
                 self.last = Some((ShelfCall::Get, key));
@@ -57,7 +58,7 @@ impl<R: Files> Shelf for FolderShelf<R> {
 
     fn put(&mut self, alloc: Global, name: &str, bytes: &[u8]) -> Result<(), ShelfError> {
         let key = key_of(alloc, name)?;
-        match write_file(&self.files, name, bytes) {
+        match write_file(&mut self.folder, name, bytes) {
             Ok(()) => Ok(()),
             Err(_) => {
                 self.faults = self.faults.saturating_add(1);
@@ -68,15 +69,18 @@ impl<R: Files> Shelf for FolderShelf<R> {
     }
 }
 
-fn read_file<R: Files>(
-    files: &R,
+fn read_file<D: Folder>(
+    folder: &mut D,
     alloc: Global,
     name: &str,
     limit: u32,
 ) -> Result<Vec<u8>, ShelfError>
+    ensures same { Same (D.contents folder.old) (D.contents folder.new) }
+    ensures content { IfOk result (λ bytes. Stands (D.contents folder.old) name.now bytes.items) }
     ensures within { IfOk result (λ bytes. length bytes.items ≤ limit) }
+    ensures long { result ≡ Err ShelfError.Long → IsLonger (D.contents folder.old) name.now limit }
 {
-    match fs::open(files, name) {
+    match folder.open(name) {
         Ok(mut file) => read_within(alloc, &mut file, limit),
         Err(_) => Err(ShelfError::Failed),
     }
@@ -105,9 +109,11 @@ fn read_within<F: Read>(alloc: Global, file: &mut F, limit: u32) -> Result<Vec<u
     Err(ShelfError::Long)
 }
 
-fn write_file<R: Files>(files: &R, name: &str, bytes: &[u8]) -> Result<(), Failed> {
-    match fs::create(files, name) {
-        Ok(mut file) => write_whole(&mut file, bytes),
-        Err(_) => Err(Failed),
-    }
+fn write_file<D: Folder>(folder: &mut D, name: &str, bytes: &[u8]) -> Result<(), Failed>
+    ensures others { SameElsewhere (D.contents folder.old) (D.contents folder.new) name.now }
+    ensures stands { OnOk result (Stands (D.contents folder.new) name.now bytes.now) }
+{
+    let mut file = folder.create(name)?;
+    write_whole(&mut file, bytes)?;
+    folder.close(name, file)
 }

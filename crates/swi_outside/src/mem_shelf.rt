@@ -1,7 +1,7 @@
-ghost use Rattle.std.specs.Prelude.{◌≡◌, ◌≤◌, ◌<◌, ◌⊎◌, ℕ, length, Option, None, Some, IfOk, IsTrue, OnOk, OnErr, Contains, MatchOption, map, position, string_bytes};
+ghost use Rattle.std.specs.Prelude.{◌≡◌, ◌≤◌, ◌<◌, ◌⊎◌, ℕ, length, Option, None, Some, IfOk, OnOk, OnErr, Contains, MatchOption, map, position, string_bytes};
 ghost use Rattle.std.specs.Str.{bytes_eq};
 ghost use Rattle.swi_outside.specs.Causes.{counted};
-ghost use Rattle.swi_outside.specs.Shelf.{get_of, put_of, Same, SameElsewhere, Stands, IsLonger, ShelfCause, lookup, names_differ, entry_of};
+ghost use Rattle.swi_outside.specs.Shelf.{get_of, put_of, Same, SameElsewhere, Stands, IsLonger, ShelfCause, lookup, entry_of};
 
 use crate::fault_plan::FaultPlan;
 use crate::shelf_call::{ShelfCall, key_of};
@@ -33,10 +33,10 @@ impl Model for MemShelf {
 }
 
 impl MemShelf {
-    /// A shelf of these names and contents; no name may stand there twice. The calls with the numbers
-    /// in `failing`, from 1, fail, and each `get` of a name that is not there, and no other.
+    /// A shelf of these names and contents; of a name that stands there twice the first content counts.
+    /// The calls with the numbers in `failing`, from 1, fail, and each `get` of a name that is not there,
+    /// and no other.
     pub fn new(contents: Vec<(String, Vec<u8>)>, failing: Vec<u32>) -> MemShelf
-        requires { IsTrue (names_differ (map entry_of contents.items)) }
         ensures { result ≡ record {
           entries = map entry_of contents.items;
           failing = failing.items;

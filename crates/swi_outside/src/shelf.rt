@@ -19,8 +19,8 @@ pub trait Shelf {
     /// What stands under each name, where the shelf tells it.
     ghost contents: { Self → Option Contents };
 
-    /// A count that rises with each call that failed, and with no other. It never falls, and stands
-    /// still at 2^64 - 1.
+    /// A count of failed calls. It never falls, and a call that answers no failure leaves it; one that
+    /// does raises it by one or more, unless it stands at 2^64 - 1 or above.
     ghost faults: { Self → ℕ };
 
     /// The last call that answered `Failed`, none before the first.

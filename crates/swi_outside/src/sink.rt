@@ -9,8 +9,8 @@ pub trait Sink {
     /// The bytes that it holds, where the sink tells them.
     ghost held: { Self → Option (List ℕ) };
 
-    /// A count that rises with each call that failed, and with no other. It never falls, and stands
-    /// still at 2^64 - 1.
+    /// A count of failed calls. It never falls, and a call that answers no failure leaves it; one that
+    /// does raises it by one or more, unless it stands at 2^64 - 1 or above.
     ghost faults: { Self → ℕ };
 
     /// Appends the whole piece. `Failed` appends a prefix of it.

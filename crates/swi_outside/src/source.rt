@@ -10,8 +10,8 @@ pub trait Source {
     /// The bytes that are left, where the source tells them.
     ghost left: { Self → Option (List ℕ) };
 
-    /// A count that rises with each call that failed, and with no other. It never falls, and stands
-    /// still at 2^64 - 1.
+    /// A count of failed calls. It never falls, and a call that answers no failure leaves it; one that
+    /// does raises it by one or more, unless it stands at 2^64 - 1 or above.
     ghost faults: { Self → ℕ };
 
     /// Puts the next bytes at the front of a buffer that is not empty, and answers how many: at most

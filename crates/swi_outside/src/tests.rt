@@ -189,7 +189,7 @@ fn sink_over_a_writer_writes_whole_pieces(rt: HostRuntime) -> Result<(), Fail> {
 fn shelf_over_files_puts_and_gets(rt: HostRuntime) -> Result<(), Fail> {
     let alloc = rt.alloc();
     let name = "swi_outside-shelf-test";
-    let mut shelf = FolderShelf::new(&rt);
+    let mut shelf = FolderShelf::new(SystemFolder::new(&rt));
     assert_eq!(rt;
         put_to(&mut shelf, alloc, name, b"longer than it was"),
         Ok(())
@@ -219,16 +219,31 @@ fn source_over_a_reader_ends_where_it_ends(rt: HostRuntime) -> Result<(), Fail> 
 }
 
 #[test]
-fn shelf_over_files_gets_more_than_a_piece(rt: HostRuntime) -> Result<(), Fail> {
+fn shelf_over_files_keeps_two_files_apart_and_gets_more_than_a_mebibyte(
+    rt: HostRuntime,
+) -> Result<(), Fail> {
     let alloc = rt.alloc();
-    let name = "swi_outside-shelf-long";
-    let mut shelf = FolderShelf::new(&rt);
-    let long = vec![in alloc; 7u8; 9000]?;
-    assert_eq!(rt; put_to(&mut shelf, alloc, name, long.as_slice()), Ok(()));
+    let (short_name, long_name) = ("swi_outside-shelf-short", "swi_outside-shelf-long");
+    let mut shelf = FolderShelf::new(SystemFolder::new(&rt));
+    let mut long = vec![in alloc; 7u8; (1 << 20) + 1]?;
+    long[9000] = 8;
+    assert_eq!(rt; put_to(&mut shelf, alloc, short_name, b"12"), Ok(()));
     assert_eq!(rt;
-        get_from(&mut shelf, alloc, name, 9000)?.as_slice(),
+        put_to(&mut shelf, alloc, long_name, long.as_slice()),
+        Ok(())
+    );
+    assert_eq!(rt;
+        get_from(&mut shelf, alloc, short_name, 1 << 21)?.as_slice(),
+        b"12".as_slice()
+    );
+    assert_eq!(rt;
+        get_from(&mut shelf, alloc, long_name, 1 << 21)?.as_slice(),
         long.as_slice()
     );
-    fs::remove_file(&rt, name)?;
+    assert!(rt;
+        get_from(&mut shelf, alloc, long_name, 1 << 20).is_err_and(|e| e == ShelfError::Long)
+    );
+    fs::remove_file(&rt, short_name)?;
+    fs::remove_file(&rt, long_name)?;
     Ok(())
 }

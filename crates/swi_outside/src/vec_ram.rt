@@ -89,7 +89,9 @@ impl CacheRam for VecRam {
         ensures never_fails { IsOk result }
     {
         self.fetches = self.fetches.saturating_add(1);
-        self.reach = self.reach.max(i + 1);
+        if i >= self.reach {
+            self.reach = i + 1;
+        }
         self.last = i;
         Ok(self.words[i as usize])
     }

@@ -34,7 +34,8 @@ abbrev pub AreSegments : List SegmentData → Type 0
 AreSegments [] = Unit {0}
 AreSegments (s ∷ rest) = IsSegment s × AreSegments rest
 
--- what every program keeps
+-- what every program keeps; in the words of the memory's crate, so that a bus's conditions follow without a lemma
+-- about that crate
 pub record IsProgram (p : ProgramData) : Type 0 where
   pub plain : p.flags % 16 ≡ 0
   pub each : AreSegments p.segments

@@ -94,6 +94,8 @@ impl Program {
     #[tactic(auto, unfolding(crate::specs::Text::text_of))]
     pub fn text(&self) -> TextView<'_>
         ensures value { result ≡ text_of self.now.segments }
+
+        // One word at least, since the entry is a text word's address.
         ensures sized { IsSized (text_of self.now.segments) }
 
         // At each address stands the word that the segments hold there.

@@ -180,7 +180,7 @@ fn instr_falls(i: &Instr) -> bool
 }
 
 /// Whether control can go on behind the text word `w`, so that a block that ends with it has an exit.
-/// Its address plays no part.
+/// Its address plays no part: it is there so that all calls on a text word are called alike.
 #[tactic(auto, unfolding(crate::specs::Rendering::falls))]
 pub fn falls(w: u32, _a: u32) -> bool
     ensures { result ≡ falls w }

@@ -1,3 +1,4 @@
 pub mod Laws
 pub mod State
 pub mod Stats
+pub mod Summary

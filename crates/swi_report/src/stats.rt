@@ -1,6 +1,7 @@
 //! The counts of a run.
 
-ghost use Rattle.std.specs.Prelude.{◌≡◌, ◌≤◌, length};
+ghost use Rattle.std.specs.Prelude.{◌≡◌, ◌≤◌, All, length};
+ghost use Rattle.std.specs.List.{flat_map};
 ghost use Rattle.std.specs.Option.{option_copied};
 ghost use Rattle.swi_outside.specs.Causes.{HasCause};
 ghost use Rattle.swi_outside.specs.Sink.{WritesPiece};
@@ -35,7 +36,21 @@ fn count_line(name: &str, count: u64) -> Line
     line
 }
 
+/// Writes counts with their names, a line each.
+pub(crate) fn write_counts<S: Sink>(counts: &[(&str, u64)], sink: &mut S) -> Result<(), Failed>
+    requires { All (λ c. length c.0.now ≤ 16) counts.now }
+    ensures bytes { WritesPiece (S.held sink.old) (S.held sink.new) result
+        (flat_map (λ c. count_line c.0.now c.1) counts.now) }
+    ensures cause { HasCause (S.faults sink.old) (S.faults sink.new) result }
+{
+    for (name, count) in counts {
+        sink.write(count_line(name, *count).as_bytes())?;
+    }
+    Ok(())
+}
+
 /// Writes what the cached machine has done.
+#[tactic(auto, unfolding(crate::specs::Stats::work_counts))]
 fn write_work<S: Sink>(work: &Work, sink: &mut S) -> Result<(), Failed>
     ensures bytes { WritesPiece (S.held sink.old) (S.held sink.new) result (work_text work.now) }
     ensures cause { HasCause (S.faults sink.old) (S.faults sink.new) result }
@@ -51,10 +66,7 @@ fn write_work<S: Sink>(work: &Work, sink: &mut S) -> Result<(), Failed>
         ("fetches", work.fetches),
         ("writes", work.writes),
     ];
-    for (name, count) in lines {
-        sink.write(count_line(name, count).as_bytes())?;
-    }
-    Ok(())
+    write_counts(&lines, sink)
 }
 
 /// Writes the counts of a run to the sink, a line each: the steps, and of a run on the cached machine

@@ -166,6 +166,55 @@ fn the_counts_are_nine_lines_of_which_the_flat_machine_has_the_first(
     Ok(())
 }
 
+/// One function of four additions, which eight rounds call out of a cache of one block.
+const MEASURED: Measured = Measured {
+    functions: 1,
+    text: 16,
+    blocks: 1,
+    exit: 32,
+};
+
+const MEASURED_WORK: Work = Work {
+    machine: 124,
+    fetches: 123,
+    writes: 27,
+    counts: Counts {
+        services: 11,
+        misses: 1,
+        evictions: 0,
+        links: 3,
+        unlinks: 0,
+        copied: 24,
+    },
+};
+
+#[test]
+fn the_summary_is_four_lines_of_the_program_and_the_nine_counts(
+    rt: HostRuntime,
+) -> Result<(), Fail> {
+    let alloc = rt.alloc();
+    let program = "functions 1\ntext 16\nblocks 1\nexit 32\n";
+    let counts =
+        "steps 106\ninstructions 124\nservices 11\nmisses 1\nevictions 0\nlinks 3\nunlinks 0\nfetches 123\n";
+    let front = format!(in alloc; "{program}{counts}")?;
+    let all = format!(in alloc; "{program}{counts}writes 27\n")?;
+    let cases = [
+        (0, true, all.as_str()),
+        (1, false, ""),
+        (2, false, "functions 1\n"),
+        (5, false, program),
+        (13, false, front.as_str()),
+        (14, true, all.as_str()),
+    ];
+    for (failing, is_ok, held) in cases {
+        let mut out = sink(alloc, failing)?;
+        let result = summary_text(&MEASURED, 106, &MEASURED_WORK, &mut out);
+        assert_eq!(rt; result.is_ok(), is_ok, "{failing}");
+        assert_eq!(rt; out.held(), held.as_bytes(), "{failing}");
+    }
+    Ok(())
+}
+
 #[test]
 fn a_full_sink_holds_a_front_of_the_counts(rt: HostRuntime) -> Result<(), Fail> {
     let mut out = MemSink::new(rt.alloc(), 7, Vec::new(rt.alloc()))?;

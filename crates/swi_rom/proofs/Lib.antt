@@ -11,3 +11,4 @@ pub mod Crossing
 pub mod Empty
 pub mod Calls
 pub mod Rows
+pub mod Unused

@@ -1,10 +1,11 @@
 -- First in, first out: which blocks stand in the ram, and which exits are linked.
-use Rattle.std.specs.Prelude.{◌≡◌, ◌≤◌, ℕ, ◌+◌, ◌*◌, ◌%◌, ◌==◌, ◌&&◌, ◌||◌, Bool, true, false, not, List, [], ◌∷◌, ◌++◌, length, filter, Option, Some, None, if◌then◌else◌, slice_index, nat_lt}
+use Rattle.std.specs.Prelude.{◌≡◌, ◌≤◌, ℕ, ◌+◌, ◌*◌, ◌%◌, ◌==◌, ◌&&◌, ◌||◌, Bool, true, false, not, List, [], ◌∷◌, ◌++◌, length, filter, min, Option, Some, None, if◌then◌else◌, slice_index, nat_lt}
 use Rattle.std.specs.List.{list_any}
 use Rattle.swi_image.specs.Format.{ImageData}
 use Rattle.swi_image.specs.Place.{place_of, word_at, length_at}
 use Rattle.swi_rom.specs.Record.{Record, Placement, Link, Transfer, direct, indirect, target_of, is_linked, reaches, writes}
 use Rattle.std.proofs.Common.{arith, refl}
+use Rattle.std.proofs.lemmas.Nat.{mul-le}
 
 abbrev pub is_block : ℕ → Option (ℕ × ℕ) → Bool
 is_block b None = false
@@ -103,6 +104,10 @@ fifo setting r v t =
     if is_over_link r t then r
     else went (slice_index setting 0) (slice_index setting 1) v r t (place_of v (target_of t))
 
+-- the words of the slots that were ever filled, the lowest first and one for each miss
+abbrev pub extent_of : List ℕ → Record → ℕ
+extent_of setting r = min r.counts.misses (slice_index setting 0) * slice_index setting 1
+
 -- over a link nothing changes
 pub fifo_first : (setting : List ℕ) (r : Record) (v : ImageData) (b o t : ℕ) → is_linked r b o ≡ true →
     fifo setting r v (direct b o t) ≡ r
@@ -163,3 +168,34 @@ went_writes slots size v r t (Some p) =
 pub fifo_third : (setting : List ℕ) (r : Record) (v : ImageData) (t : Transfer) → writes r ≤ writes (fifo setting r v t)
 unfolding fifo
 fifo_third setting r v t = grind (arith, went_writes)
+
+evicted_misses : (v : ImageData) (r : Record) (es : List Placement) → (evicted v r es).counts.misses ≡ r.counts.misses
+unfolding evicted
+evicted_misses v r [] = refl
+evicted_misses v r (e ∷ es) = refl
+
+arrived_misses : (slots size : ℕ) (v : ImageData) (r : Record) (c : ℕ) → r.counts.misses ≤ (arrived slots size v r c).counts.misses
+unfolding arrived appended
+arrived_misses slots size v r c = grind (arith, evicted_misses)
+
+linked_misses : (r : Record) (t : Transfer) (p : ℕ × ℕ) → (linked_over r t p).counts.misses ≡ r.counts.misses
+unfolding linked
+linked_misses r (direct b o t) p = grind arith
+linked_misses r (indirect t) p = refl
+
+went_misses : (slots size : ℕ) (v : ImageData) (r : Record) (t : Transfer) (p : Option (ℕ × ℕ)) → r.counts.misses ≤ (went slots size v r t p).counts.misses
+unfolding went counted
+went_misses slots size v r t None = omega arith
+went_misses slots size v r t (Some p) =
+    omega (arith, linked_misses (arrived slots size v (counted r) p.0) t p, arrived_misses slots size v (counted r) p.0)
+
+fifo_misses : (setting : List ℕ) (r : Record) (v : ImageData) (t : Transfer) → r.counts.misses ≤ (fifo setting r v t).counts.misses
+unfolding fifo
+fifo_misses setting r v t = grind (arith, went_misses)
+
+-- no transfer takes back the words that were used
+pub fifo_grows : (setting : List ℕ) (r : Record) (v : ImageData) (t : Transfer) → extent_of setting r ≤ extent_of setting (fifo setting r v t)
+fifo_grows setting r v t = mul-le _ _ _ _ (fewer _ _ (slice_index setting 0) (fifo_misses setting r v t)) (omega arith)
+  where
+    fewer : (m n k : ℕ) → m ≤ n → min m k ≤ min n k
+    fewer m n k le = grind arith

@@ -1,7 +1,10 @@
 -- The laws of a service with slots.
-use Rattle.std.specs.Prelude.{ℕ, List, ◌≤◌, ◌^◌}
+use Rattle.std.proofs.Common.{ℕ, List, ◌≤◌, ◌^◌, min, slice_index, arith}
+use Rattle.std.proofs.lemmas.Nat.{mul-le}
 use Rattle.swi_image.specs.Format.{ImageData}
 use Rattle.swi_image.specs.Sound.{IsImage}
+use Rattle.swi_rom.specs.Record.{Record}
+use Rattle.swi_rom.specs.Fifo.{extent_of}
 use Rattle.swi_rom.specs.Coherent.{Coherent, StandsAt}
 use Rattle.swi_rom.specs.Slots.{Slots, kept_by, span_of, setting_of, shown_by}
 use Rattle.swi_rom.specs.Sound.{SlotsSound}
@@ -19,3 +22,9 @@ slots_image = image_is
 
 pub slots_shown : (s : Slots) (v : ImageData) (words : List ℕ) → SlotsSound s v words → (i : ℕ) → StandsAt v (kept_by s) i (shown_by s i)
 slots_shown = shown_stands
+
+pub slots_within : (setting : List ℕ) (r : Record) → extent_of setting r ≤ span_of setting
+slots_within setting r = mul-le _ _ _ _ (least r.counts.misses (slice_index setting 0)) (omega arith)
+  where
+    least : (m k : ℕ) → min m k ≤ k
+    least m k = grind arith

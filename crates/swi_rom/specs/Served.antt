@@ -1,5 +1,5 @@
 -- What one call of a service does.
-use Rattle.std.specs.Prelude.{◌≡◌, ◌⊎◌, ℕ, ◌+◌, ◌-◌, ◌<◌, ◌≤◌, max, ⊤, true, false, length, slice_index, None, Result, Ok, Err, IfOk, IsErrOf}
+use Rattle.std.specs.Prelude.{◌≡◌, ◌⊎◌, ℕ, ◌+◌, ◌-◌, ◌<◌, ◌≤◌, max, ⊤, true, false, List, length, slice_index, None, Result, Ok, Err, IfOk, IsErrOf}
 use Rattle.swi_image.specs.Format.{ImageData}
 use Rattle.swi_image.specs.Place.{place_of, length_at}
 use Rattle.swi_outside.specs.Causes.{Rose, risen}
@@ -40,6 +40,10 @@ pub record WordsMove (v : ImageData) (old new : Record) (before after : RamState
   pub restored : (k : Link) (f : ℕ) → has_link old.links k ≡ true → has_link new.links k ≡ false →
       Has old.placed (record { program = k.program; block = k.block; first = f }) → Has new.placed (record { program = k.program; block = k.block; first = f }) →
       slice_index after.words (f + k.offset) ≡ ebreak
+
+-- the words from an index on are as before
+abbrev pub SameFrom : ℕ → List ℕ → List ℕ → Type 0
+SameFrom n before after = (i : ℕ) → n ≤ i → slice_index after i ≡ slice_index before i
 
 -- what sets below an index, failed or not, leave alone
 pub record Spared (span : ℕ) (before after : RamState) : Type 0 where

@@ -4,7 +4,7 @@ ghost use Rattle.swi_image.specs.Place.{length_at};
 ghost use Rattle.swi_image.specs.Sound.{IsImage};
 ghost use Rattle.swi_rom.specs.Record.{Record, Transfer, direct, indirect, is_linked, writes, Placed};
 ghost use Rattle.swi_rom.specs.Coherent.{Coherent, StandsAt, ExitAt, resident_of};
-ghost use Rattle.swi_rom.specs.Served.{Served, OnServed};
+ghost use Rattle.swi_rom.specs.Served.{Served, OnServed, SameFrom};
 
 use swi_image::ImageView;
 use swi_outside::CacheRam;
@@ -46,6 +46,9 @@ pub trait CacheRom: Drop {
     /// How many words of the ram it uses, by its setting.
     ghost span: { List ℕ → ℕ };
 
+    /// So many words of the ram, from the first one on, can have been written until a record stands, by the setting.
+    ghost extent: { List ℕ → Record → ℕ };
+
     /// The next record.
     ghost policy: { List ℕ → Record → ImageData → Transfer → Record };
 
@@ -57,7 +60,7 @@ pub trait CacheRom: Drop {
 
     /// Serves a jump to an address: the index in the ram of the target's first word, whose block is copied
     /// there if it isn't placed. While nothing is placed this is the boot. `Outside` comes exactly where no
-    /// text word stands at the address.
+    /// text word stands at the address. The words from the extent on are as before.
     fn enter<M: CacheRam>(
         &mut self,
         image: &ImageView<'_>,
@@ -70,6 +73,8 @@ pub trait CacheRom: Drop {
             (policy (setting self.old) (kept self.old) image.now (indirect target)) (kept self.new)
             (M.state ram.old) (M.state ram.new) result }
         ensures setting { setting self.new ≡ setting self.old }
+        ensures unused { OnServed result (SameFrom (extent (setting self.old) (kept self.new))
+            (M.state ram.old).words (M.state ram.new).words) }
         ensures stays { OnServed result (sound self.new image.now (M.state ram.new).words) };
 
     /// Serves the direct exit at index `at`, which isn't linked, to the address in its descriptor, as `enter`
@@ -90,6 +95,8 @@ pub trait CacheRom: Drop {
             (policy (setting self.old) (kept self.old) image.now (direct b o target)) (kept self.new)
             (M.state ram.old) (M.state ram.new) result }
         ensures setting { setting self.new ≡ setting self.old }
+        ensures unused { OnServed result (SameFrom (extent (setting self.old) (kept self.new))
+            (M.state ram.old).words (M.state ram.new).words) }
         ensures stays { OnServed result (sound self.new image.now (M.state ram.new).words) };
 
     /// Block and offset of the placed word at an index; None exactly where no block is placed.
@@ -126,4 +133,11 @@ pub trait CacheRom: Drop {
     /// No transfer takes back what was written.
     ghost third: { (setting : List ℕ) (r : Record) (v : ImageData) (t : Transfer) →
         writes r ≤ writes (policy setting r v t) };
+
+    /// The extent lies within the span.
+    ghost within: { (setting : List ℕ) (r : Record) → extent setting r ≤ span setting };
+
+    /// No transfer takes back a part of the extent.
+    ghost grows: { (setting : List ℕ) (r : Record) (v : ImageData) (t : Transfer) →
+        extent setting r ≤ extent setting (policy setting r v t) };
 }

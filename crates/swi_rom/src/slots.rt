@@ -308,7 +308,7 @@ impl<T: LinkTable> SlotRom<T> {
 }
 
 impl<T: LinkTable> CacheRom for SlotRom<T> {
-    ghost use Rattle.swi_rom.specs.Fifo.{fifo, fifo_first, fifo_second, fifo_third};
+    ghost use Rattle.swi_rom.specs.Fifo.{fifo, extent_of, fifo_first, fifo_second, fifo_third, fifo_grows};
     ghost use Rattle.swi_rom.specs.Slots.{kept_by, setting_of, span_of, shown_by};
     ghost use Rattle.swi_rom.specs.Sound.{SlotsSound};
 
@@ -317,6 +317,8 @@ impl<T: LinkTable> CacheRom for SlotRom<T> {
     ghost setting = { setting_of };
 
     ghost span = { span_of };
+
+    ghost extent = { extent_of };
 
     ghost policy = { fifo };
 
@@ -393,7 +395,7 @@ impl<T: LinkTable> CacheRom for SlotRom<T> {
         self.counts
     }
 
-    ghost use Rattle.swi_rom.specs.Laws.{slots_coherent, slots_small, slots_image, slots_shown};
+    ghost use Rattle.swi_rom.specs.Laws.{slots_coherent, slots_small, slots_image, slots_shown, slots_within};
 
     ghost coherent = { slots_coherent };
 
@@ -408,4 +410,8 @@ impl<T: LinkTable> CacheRom for SlotRom<T> {
     ghost second = { fifo_second };
 
     ghost third = { fifo_third };
+
+    ghost within = { slots_within };
+
+    ghost grows = { fifo_grows };
 }

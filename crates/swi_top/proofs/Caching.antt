@@ -1,9 +1,9 @@
 -- A run on the cached machine, from what its parts say.
-use Rattle.std.proofs.Common.{◌≡◌, ◌⊎◌, inl, inr, ℕ, ◌+◌, ◌*◌, ◌/◌, ◌<◌, ◌≤◌, List, [], ◌∷◌, ◌++◌, length, take, Option, None, Some, Result, Ok, Err, IsErrOf, refl, sym, ◌∙◌, subst, ap, arith}
+use Rattle.std.proofs.Common.{◌≡◌, ◌⊎◌, inl, inr, ℕ, ◌+◌, ◌-◌, ◌*◌, ◌/◌, ◌^◌, ◌<◌, ◌≤◌, min, List, [], ◌∷◌, ◌++◌, length, take, Option, None, Some, Result, Ok, Err, IsErrOf, refl, sym, ◌∙◌, subst, ap, arith}
 use Rattle.std.proofs.Math.Nat.{div-mul-le_self}
 use Rattle.std.proofs.lemmas.List.{append-nil}
 use Rattle.std.specs.Io.KnownBytes.{Appends}
-use Rattle.swi_outside.specs.Causes.{DeviceCause, Rose}
+use Rattle.swi_outside.specs.Causes.{DeviceCause, Rose, risen}
 use Rattle.swi_outside.specs.CacheRam.{KeepsBeyond, RamState}
 use Rattle.swi_outside.specs.Laws.{Appends-append, Appends-none}
 use Rattle.swi_outside.specs.Shelf.{Asked, Contents, Same, Stands}
@@ -21,17 +21,19 @@ use Rattle.swi_command.specs.declared.command.RunOptions.{RunOptions}
 use Rattle.swi_calls.specs.declared.machine.Machine.{Machine}
 use Rattle.swi_calls.specs.Flat.{flat_start}
 use Rattle.swi_calls.specs.State.{FlatState}
-use Rattle.swi_rom.specs.Record.{Record}
+use Rattle.swi_rom.specs.Record.{Record, writes}
+use Rattle.swi_report.specs.declared.stats.Work.{Work}
 use Rattle.swi_board.specs.Hart.{HartData}
 use Rattle.swi_cached.specs.declared.run.CachedStop.{CachedStop}
 use Rattle.swi_cached.specs.declared.run.CachedStop.TheVariants as stop
 use Rattle.swi_cached.specs.Answers as run
-use Rattle.swi_cached.specs.Cached.{CachedRun, slots_of, end_of, program_after, instructions_after, record_after}
+use Rattle.swi_cached.specs.Cached.{CachedRun, IsCounted, slots_of, end_of, program_after, instructions_after, fetches_after, record_after, unfetched}
+use Rattle.swi_cached.proofs.Failed.{is_flat_run, stops_before_store}
 use Rattle.swi_answer.specs.declared.answer.Ending.{Ending}
 use Rattle.swi_answer.specs.declared.answer.Refusal.{Refusal}
 use Rattle.swi_answer.specs.declared.answer.Refusal.TheVariants as refusal
-use Rattle.swi_top.specs.Answers.{Answers, CachedFailed, Does, IsChecked, IsImageFor, IsRunFault, IsSizeRefusal, Leaves, RunsCached, cached_report, cached_run, held_next, work_of}
-use Rattle.swi_top.specs.Caching.{AnswersFile, IsCachedErr, IsFileErr, RunsOnCache}
+use Rattle.swi_top.specs.Answers.{Answers, BrokeIn, CachedFailed, Does, IsCachedRun, IsChecked, IsImageFor, IsRunFault, IsSizeRefusal, Leaves, RamCounted, RunsCached, cached_report, cached_run, held_next, work_of}
+use Rattle.swi_top.specs.Caching.{AnswersFile, IsCachedErr, IsFileErr, RunsOnCache, board_work}
 use Rattle.swi_top.specs.Causes.{HasCauses}
 use Rattle.swi_top.specs.Checks.{Check, FitsUnlessImage, HoldsBlock, Fails, ImageFails, ImagePasses, IsAccepted, IsLong, IsRefusedBy, IsRefusedOr, Passes, block_words, cache_refusal, checks_of, file_limit, room_in, size_refusal, text_in}
 use Rattle.swi_top.specs.Devices.{Devices}
@@ -143,6 +145,10 @@ sink_causes d ram source out err h = record {
   quiet = tt;
 }
 
+-- the run so far is the flat machine's
+failed_so : (o : RunOptions) (c : CachedRun) (d m : Devices) (r : Refusal) (last : List ℕ) → BrokeIn o c d m r last → CachedFailed o c d m r last
+failed_so o c d m r last broke = record { broke = broke; flat = is_flat_run c; stops = stops_before_store c }
+
 to_nil : (a b : Option (List ℕ)) (x : List ℕ) → Appends a b x → Appends a b (x ++ [])
 to_nil a b x h = subst (λ (y : List ℕ). Appends a b y) (sym (append-nil x)) h
 
@@ -157,18 +163,21 @@ ram_failed o cache v p l d i out e ram fi fo fe held kept broke h = record {
   quiet = λ never. absurd (never tt);
   failed = λ _. (
     held,
-    λ left told. let b = broke left told in inl (record {
-      fault = refl;
-      fetched = b.fetched;
-      fetches = b.fetches;
-      steps = b.steps;
-      within = b.within;
-      enough = b.enough;
-      longest = b.longest;
-      output = b.output;
-      error = to_nil d.error e (program_after (run_with o cache v p l left) b.steps).error b.error;
-      input = b.input;
-    }),
+    λ left told.
+        let b = broke left told in
+        let c = run_with o cache v p l left in
+        failed_so o c d (ran_all d i out e ram fi fo fe) refusal.RamFault [] (inl (record {
+          fault = refl;
+          fetched = b.fetched;
+          fetches = b.fetches;
+          steps = b.steps;
+          within = b.within;
+          enough = b.enough;
+          longest = b.longest;
+          output = b.output;
+          error = to_nil d.error e (program_after c b.steps).error b.error;
+          input = b.input;
+        })),
   );
   beyond = kept;
   causes = ram_causes d ram.faults fi fo fe h;
@@ -194,7 +203,7 @@ source_failed o cache v p l d i out e ram fi fo fe held kept broke h = record {
         let b = broke left told in
         let c = run_with o cache v p l left in
         let none = b.unwritten refl in
-        inr (inl (record {
+        failed_so o c d (ran_all d i out e ram fi fo fe) refusal.SourceFault [] (inr (inl (record {
           steps = b.steps;
           fewer = b.fewer;
           failed = record {
@@ -208,7 +217,7 @@ source_failed o cache v p l d i out e ram fi fo fe held kept broke h = record {
             no_more = let few : length b.taken + length (held_next (program_after c b.steps)).input ≤ length (program_after c b.steps).input = b.few in omega arith;
             input = b.input;
           };
-        })),
+        }))),
   );
   beyond = kept;
   causes = source_causes d ram.faults fi fo fe h;
@@ -228,7 +237,7 @@ sink_failed o cache v p l d i out e ram fi fo fe held kept broke h = record {
     λ left told.
         let b = broke left told in
         let c = run_with o cache v p l left in
-        inr (inl (record {
+        failed_so o c d (ran_all d i out e ram fi fo fe) refusal.SinkFault [] (inr (inl (record {
           steps = b.steps;
           fewer = b.fewer;
           failed = record {
@@ -242,7 +251,7 @@ sink_failed o cache v p l d i out e ram fi fo fe held kept broke h = record {
             no_more = let few : length b.taken + length (held_next (program_after c b.steps)).input ≤ length (program_after c b.steps).input = b.few in omega arith;
             input = b.input;
           };
-        })),
+        }))),
   );
   beyond = kept;
   causes = sink_causes d ram.faults fi fo fe h;
@@ -269,24 +278,56 @@ sink_by {T} o cache v p l d i out e ram fi fo fe f is held kept broke h =
 
 -- the report of a board that came to its end
 abbrev pub board_report : RunOptions → HartData → Record → List ℕ
-board_report o h r = report o.reports h.machine (Some (work_of h.count h.machine.ending r))
+board_report o h r = report o.reports h.machine (Some (board_work h.count h.machine.ending r))
+
+fetches_are : (instructions fetches none : ℕ) → instructions ≡ 1 + fetches + none → instructions - 1 - none ≡ fetches
+fetches_are instructions fetches none e = omega (arith, e)
+
+-- at the end its counts are those of the run
+pub work_is : (c : CachedRun) → IsCounted c → board_work (instructions_after c c.limit) (end_of c).machine.ending (record_after c c.limit) ≡ work_of c
+work_is c counted =
+    ap (λ (n : ℕ). record (work_of c) { fetches = n })
+    (fetches_are (instructions_after c c.limit) (fetches_after c c.limit) (unfetched (end_of c).machine.ending) (counted c.limit))
 
 report_is : (o : RunOptions) (c : CachedRun) (h : HartData) (r : Record) → h.machine ≡ (end_of c).machine → h.count ≡ instructions_after c c.limit →
-    r ≡ record_after c c.limit → board_report o h r ≡ cached_report o c
-report_is o c h r machine count kept =
-    ap (λ (m : Machine). report o.reports m (Some (work_of h.count m.ending r))) machine
-    ∙ ap (λ (n : ℕ). report o.reports (end_of c).machine (Some (work_of n (end_of c).machine.ending r))) count
-    ∙ ap (λ (k : Record). report o.reports (end_of c).machine (Some (work_of (instructions_after c c.limit) (end_of c).machine.ending k))) kept
+    r ≡ record_after c c.limit → IsCounted c → board_report o h r ≡ cached_report o c
+report_is o c h r machine count kept counted =
+    ap (λ (m : Machine). report o.reports m (Some (board_work h.count m.ending r))) machine
+    ∙ ap (λ (n : ℕ). report o.reports (end_of c).machine (Some (board_work n (end_of c).machine.ending r))) count
+    ∙ ap (λ (k : Record). report o.reports (end_of c).machine (Some (board_work (instructions_after c c.limit) (end_of c).machine.ending k))) kept
+    ∙ ap (λ (w : Work). report o.reports (end_of c).machine (Some w)) (work_is c counted)
+
+-- a count that rises by a number of 64 bits
+risen_min : (n more : ℕ) → risen n more ≡ risen n (min more (2 ^ 64 - 1))
+risen_min n more = grind arith
+
+ram_counted : (c : CachedRun) (before after : RamState) → run.RamAfter c before after → RamCounted (work_of c) before after
+ram_counted c before after h = record { fetches = h.fetches; sets = h.sets ∙ risen_min before.sets (writes (record_after c c.limit)) }
+
+-- what a run is that came to its end
+pub cached_run_is : (c : CachedRun) (h : HartData) (r : Record) (i o p e f : Option (List ℕ)) (before after : RamState) → run.Ended c h r i o p e f → run.IsShort h →
+    run.RamAfter c before after → IsCounted c → IsCachedRun c before after
+cached_run_is c h r i o p e f before after b s ram counted = record {
+  flat = is_flat_run c;
+  stops = stops_before_store c;
+  ram = ram;
+  counted = ram_counted c before after ram;
+  most = subst (λ (n : ℕ). n ≤ 3 * (end_of c).machine.steps + 2) b.count (subst (λ (m : Machine). h.count ≤ 3 * m.steps + 2) b.machine s.most);
+  fewer = λ never. subst (λ (n : ℕ). n ≤ 3 * (end_of c).machine.steps + 1) b.count
+      (subst (λ (m : Machine). h.count ≤ 3 * m.steps + 1) b.machine (s.fewer (λ a is. never a (ap (λ (m : Machine). m.ending) (sym b.machine) ∙ is))));
+  each = counted;
+}
 
 -- the run came to its end, and the report was written
 pub run_ended : (o : RunOptions) (cache : CacheOptions) (v : ImageData) (p : ProgramData) (l : Layout) (d : Devices) (h : HartData) (r : Record) (i mid out e : Option (List ℕ)) (ram : RamState) (fi fo fe : ℕ) (x : Ending) →
     4 * v.block_words ≤ cache.cache_bytes → KeepsBeyond (slots_of cache.cache_bytes v * v.block_words) d.ram ram →
     ((left : List ℕ) → d.input ≡ Some left → run.Ended (run_with o cache v p l left) h r i d.output mid d.error e) →
     ((left : List ℕ) → d.input ≡ Some left → run.IsShort h) → ((left : List ℕ) → d.input ≡ Some left → run.RamAfter (run_with o cache v p l left) d.ram ram) →
+    ((left : List ℕ) → IsCounted (run_with o cache v p l left)) →
     x ≡ ending_by h.machine.ending h.machine.pc h.machine.steps → Appends mid out (board_report o h r) →
     fi ≡ d.faults.input → fo ≡ d.faults.out → fe ≡ d.faults.err → ram.faults ≡ d.faults.ram →
     RunsOnCache o cache v p l d (ran_all d i out e ram fi fo fe) (Ok x)
-run_ended o cache v p l d h r i mid out e ram fi fo fe x held kept ended short after ending written fi_is fo_is fe_is ram_is = record {
+run_ended o cache v p l d h r i mid out e ram fi fo fe x held kept ended short after counted ending written fi_is fo_is fe_is ram_is = record {
   done = λ left told.
       let c = run_with o cache v p l left in
       let b = ended left told in
@@ -295,14 +336,10 @@ run_ended o cache v p l d h r i mid out e ram fi fo fe x held kept ended short a
           ending = ending ∙ ap (λ (m : Machine). ending_by m.ending m.pc m.steps) b.machine;
           input = b.input;
           output = Appends-append d.output mid out (end_of c).output (cached_report o c) b.output
-              (subst (λ (y : List ℕ). Appends mid out y) (report_is o c h r b.machine b.count b.record_is) written);
+              (subst (λ (y : List ℕ). Appends mid out y) (report_is o c h r b.machine b.count b.record_is (counted left)) written);
           error = to_nil d.error e (end_of c).error b.error;
         };
-        ram = after left told;
-        most = subst (λ (n : ℕ). n ≤ 3 * (end_of c).machine.steps + 2) b.count (subst (λ (m : Machine). h.count ≤ 3 * m.steps + 2) b.machine s.most);
-        fewer = λ never. subst (λ (n : ℕ). n ≤ 3 * (end_of c).machine.steps + 1) b.count
-            (subst (λ (m : Machine). h.count ≤ 3 * m.steps + 1) b.machine
-            (s.fewer (λ a is. never a (ap (λ (m : Machine). m.ending) (sym b.machine) ∙ is))));
+        cached = cached_run_is c h r i d.output mid d.error e d.ram ram b s (after left told) (counted left);
       };
   holds = held;
   refused = tt;
@@ -319,10 +356,11 @@ run_ended o cache v p l d h r i mid out e ram fi fo fe x held kept ended short a
 pub report_broke : (o : RunOptions) (cache : CacheOptions) (v : ImageData) (p : ProgramData) (l : Layout) (d : Devices) (h : HartData) (r : Record) (i mid out e : Option (List ℕ)) (ram : RamState) (fi fo fe : ℕ) →
     4 * v.block_words ≤ cache.cache_bytes → KeepsBeyond (slots_of cache.cache_bytes v * v.block_words) d.ram ram →
     ((left : List ℕ) → d.input ≡ Some left → run.Ended (run_with o cache v p l left) h r i d.output mid d.error e) →
-    ((left : List ℕ) → d.input ≡ Some left → run.RamAfter (run_with o cache v p l left) d.ram ram) → AppendsPrefix mid out (board_report o h r) →
+    ((left : List ℕ) → d.input ≡ Some left → run.RamAfter (run_with o cache v p l left) d.ram ram) →
+    ((left : List ℕ) → IsCounted (run_with o cache v p l left)) → AppendsPrefix mid out (board_report o h r) →
     fi ≡ d.faults.input → d.faults.out ≤ fo → Rose d.faults.out fo → fe ≡ d.faults.err → ram.faults ≡ d.faults.ram →
     RunsOnCache o cache v p l d (ran_all d i out e ram fi fo fe) (Err refusal.SinkFault)
-report_broke o cache v p l d h r i mid out e ram fi fo fe held kept ended after part fi_is later rose fe_is ram_is = record {
+report_broke o cache v p l d h r i mid out e ram fi fo fe held kept ended after counted part fi_is later rose fe_is ram_is = record {
   done = tt;
   holds = tt;
   refused = tt;
@@ -332,18 +370,19 @@ report_broke o cache v p l d h r i mid out e ram fi fo fe held kept ended after 
     λ left told.
         let c = run_with o cache v p l left in
         let b = ended left told in
-        inr (inr (
+        failed_so o c d (ran_all d i out e ram fi fo fe) refusal.SinkFault [] (inr (inr (
           record {
             output_front = part.0;
             output = Appends-append d.output mid out (end_of c).output (take part.0 (cached_report o c)) b.output
-                (subst (λ (y : List ℕ). Appends mid out (take part.0 y)) (report_is o c h r b.machine b.count b.record_is) part.1);
+                (subst (λ (y : List ℕ). Appends mid out (take part.0 y)) (report_is o c h r b.machine b.count b.record_is (counted left)) part.1);
             error_front = 0;
             error = to_nil d.error e ((end_of c).error ++ []) (to_nil d.error e (end_of c).error b.error);
+            behind = inl refl;
             input = b.input;
             fault = refl;
           },
           after left told,
-        )),
+        ))),
   );
   beyond = kept;
   causes = subst (λ (n : ℕ). HasCauses {T = Ending} d.faults (record d.faults { input = n; out = fo; err = fe; ram = ram.faults }) (Err refusal.SinkFault)) (sym fi_is)
@@ -425,7 +464,7 @@ cached_kind cache v refusal.Memory h = tt
 cached_kind cache v (refusal.CacheSmall bytes least) h = tt
 cached_kind cache v _ h = absurd h
 
-keeps_run : (cache : CacheOptions) (v : ImageData) (r s : RamState) → KeepsBeyond (slots_of cache.cache_bytes v * v.block_words) r s → KeepsBeyond (cache.cache_bytes / 4) r s
+pub keeps_run : (cache : CacheOptions) (v : ImageData) (r s : RamState) → KeepsBeyond (slots_of cache.cache_bytes v * v.block_words) r s → KeepsBeyond (cache.cache_bytes / 4) r s
 keeps_run cache v r s k = keeps_less _ _ r s (span_within cache.cache_bytes v.block_words) k
 
 pub file_answer : (cache : CacheOptions) (o : RunOptions) (file : List ℕ) (v : ImageData) (l : Layout) (d m : Devices) (r : Result Ending Refusal) →
@@ -492,13 +531,11 @@ cached_to d c i out e ram source o err = ran_all (record d { contents = c }) i o
 done_again : (o : RunOptions) (r : CachedRun) (d m : Devices) (c : Option Contents) (e : Ending) → RunsCached o r (record d { contents = c }) m e [] → RunsCached o r d m e []
 done_again o r d m c e h = record {
   ran = let a = h.ran in record { ending = a.ending; input = a.input; output = a.output; error = a.error };
-  ram = h.ram;
-  most = h.most;
-  fewer = h.fewer;
+  cached = h.cached;
 }
 
 left_again : (o : RunOptions) (k : CachedRun) (d m : Devices) (c : Option Contents) (r : Refusal) → CachedFailed o k (record d { contents = c }) m r [] → CachedFailed o k d m r []
-left_again o k d m c r h = elim h [
+left_again o k d m c r h = failed_so o k d m r [] (elim h.broke [
   | inl a ↦ inl (record {
     fault = a.fault;
     fetched = a.fetched;
@@ -527,16 +564,16 @@ left_again o k d m c r h = elim h [
         input = f.input;
       };
     })
-    | inr p ↦ let a = p.0 in inr (record { output_front = a.output_front; output = a.output; error_front = a.error_front; error = a.error; input = a.input; fault = a.fault }, p.1)
+    | inr p ↦ let a = p.0 in inr (record { output_front = a.output_front; output = a.output; error_front = a.error_front; error = a.error; behind = a.behind; input = a.input; fault = a.fault }, p.1)
   ])
-]
+])
 
-file_size : (r : Refusal) → IsFileErr r → IsSizeRefusal r → ⊥
+pub file_size : (r : Refusal) → IsFileErr r → IsSizeRefusal r → ⊥
 file_size (refusal.CacheLarge bytes) h f = h
 file_size (refusal.RamSmall bytes held) h f = h
 file_size _ h f = f
 
-file_not : (r s : Refusal) → IsFileErr r → (IsFileErr s → ⊥) → IsErrOf {T = Ending} (Err r) s → ⊥
+pub file_not : (r s : Refusal) → IsFileErr r → (IsFileErr s → ⊥) → IsErrOf {T = Ending} (Err r) s → ⊥
 file_not r s h never e = never (let p : r ≡ s = cc in subst IsFileErr p h)
 
 cached_ok : (name : List ℕ) (cache : CacheOptions) (o : RunOptions) (d : Devices) (c : Option Contents) (i out e : Option (List ℕ)) (ram : RamState) (fi fo fe : ℕ) (bytes : List ℕ) (x : Ending) →

@@ -115,7 +115,7 @@ failed_again o s d m c r h = elim h [
       input = f.input;
     };
   })
-  | inr a ↦ inr (record { output_front = a.output_front; output = a.output; error_front = a.error_front; error = a.error; input = a.input; fault = a.fault })
+  | inr a ↦ inr (record { output_front = a.output_front; output = a.output; error_front = a.error_front; error = a.error; behind = a.behind; input = a.input; fault = a.fault })
 ]
 
 pub plain_refused : (name : List ℕ) (o : RunOptions) (d : Devices) (c : Option Contents) (i out e : Option (List ℕ)) (fi fo fe : ℕ) (bytes : List ℕ) (l : Layout) (r : Refusal) →

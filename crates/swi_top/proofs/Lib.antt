@@ -6,3 +6,6 @@ pub mod Lines
 pub mod Running
 pub mod Flats
 pub mod Caching
+pub mod Listings
+pub mod Measuring
+pub mod Alike

@@ -5,20 +5,20 @@ use Rattle.std.specs.Io.KnownBytes.{Appends}
 use Rattle.swi_outside.specs.Causes.{DeviceCause, HasCause, Rose}
 use Rattle.swi_outside.specs.Laws.{Appends-append}
 use Rattle.swi_outside.specs.Sink.{AppendsPrefix, WritesPiece}
-use Rattle.swi_command.specs.CommandLine.{Request, RewriteFile, RunCached, RunPlain, CheckFile, UpgradeFile}
+use Rattle.swi_command.specs.CommandLine.{Request, RewriteFile, RunCached, RunPlain, ListFile, CheckFile, UpgradeFile, MeasureMade}
 use Rattle.swi_answer.specs.declared.answer.Ending.{Ending}
 use Rattle.swi_answer.specs.declared.answer.Ending.TheVariants as ending
 use Rattle.swi_answer.specs.declared.answer.Refusal.{Refusal}
 use Rattle.swi_answer.specs.declared.answer.Refusal.TheVariants as refusal
 use Rattle.swi_answer.specs.Lines.{ending_line, refusal_line}
-use Rattle.swi_cached.specs.Cached.{CachedRun, program_after}
+use Rattle.swi_cached.specs.Cached.{CachedRun, end_of, program_after}
 use Rattle.swi_calls.specs.State.{FlatState}
 use Rattle.swi_calls.specs.Flat.{Made}
 use Rattle.swi_top.specs.Devices.{Devices, Faults, ShowsLine}
 use Rattle.swi_top.specs.Causes.{HasCauses}
 use Rattle.swi_top.specs.Checks.{cache_refusal}
 use Rattle.swi_top.specs.Runs.{Ran, StepFailed, FailedAtStep, FailedAfterRun, ending_of, start_of}
-use Rattle.swi_top.specs.Answers.{Answers, AnswersWithLine, Does, IsRefusedAtOnce, IsEndingOf, IsSized, Leaves, RamBroke, cached_run, output_name, plain_report, plain_run}
+use Rattle.swi_top.specs.Answers.{Answers, AnswersWithLine, Does, IsRefusedAtOnce, IsEndingOf, IsSized, Leaves, RamBroke, cached_run, made_ending, made_run, made_summary, output_name, plain_report, plain_run}
 use Rattle.swi_top.proofs.Refusals.{contents_stay, quiet_cause}
 
 pub appends_as : (a b : Option (List ℕ)) (x y : List ℕ) → x ≡ y → Appends a b x → Appends a b y
@@ -79,6 +79,7 @@ after_run_line s report d m r error err line h p = record {
   output = h.output;
   error_front = h.error_front;
   error = appends_last d.error m.error error (s.error ++ take h.error_front (ending_line (ending_of s))) line h.error p;
+  behind = h.behind;
   input = h.input;
   fault = h.fault;
 }
@@ -102,6 +103,8 @@ leaves_line : (q : Request) (file : List ℕ) (d m : Devices) (r : Refusal) (err
     Leaves q file d m r [] → Appends m.error error line → Leaves q file d (told_to m error err) r line
 leaves_line (RewriteFile input output block) file d m r error err line h p = h
 leaves_line (UpgradeFile input output) file d m r error err line h p = h
+leaves_line (ListFile name block) file d m r error err line h p =
+    record { image = h.image; own = h.own; output = h.output; error = Appends-append d.error m.error error [] line h.error p; fault = h.fault }
 leaves_line (CheckFile name) file d m r error err line h p =
     record { held = h.held; has = h.has; output = h.output; error = Appends-append d.error m.error error [] line h.error p; fault = h.fault }
 leaves_line (RunPlain name o) file d m r error err line h p = λ input is. elim (h input is) [
@@ -112,14 +115,44 @@ leaves_line (RunCached name cache o) file d m r error err line h p = (
   h.0,
   h.1,
   h.2,
-  λ input is. elim (h.3 input is) [
-    | inl a ↦ inl (ram_line (cached_run cache o h.0 (start_of o file input)) d m r error err line a p)
-    | inr b ↦ inr (elim b [
-      | inl a ↦ inl (at_step_line (program_after (cached_run cache o h.0 (start_of o file input))) _ _ o.limits.steps d m r error err line a p)
-      | inr a ↦ inr (after_run_line _ _ d m r error err line a.0 p, a.1)
-    ])
-  ],
+  λ input is. let f = h.3 input is in record {
+    broke = elim f.broke [
+      | inl a ↦ inl (ram_line (cached_run cache o h.0 (start_of o file input)) d m r error err line a p)
+      | inr b ↦ inr (elim b [
+        | inl a ↦ inl (at_step_line (program_after (cached_run cache o h.0 (start_of o file input))) _ _ o.limits.steps d m r error err line a p)
+        | inr a ↦ inr (after_run_line _ _ d m r error err line a.0 p, a.1)
+      ])
+    ];
+    flat = f.flat;
+    stops = f.stops;
+  },
 )
+leaves_line (MeasureMade seed functions cache) file d m r error err line h p = record {
+  program = h.program;
+  layout = h.layout;
+  image = h.image;
+  is = h.is;
+  broke = elim h.broke [
+    | inl a ↦ inl (record {
+      fault = a.fault;
+      output = a.output;
+      error = Appends-append d.error m.error error [] line a.error p;
+    })
+    | inr a ↦ inr (
+      record {
+        fault = a.0.fault;
+        output_front = a.0.output_front;
+        output = a.0.output;
+        error_front = a.0.error_front;
+        error = appends_last d.error m.error error _ line a.0.error p;
+        behind = a.0.behind;
+      },
+      a.1,
+    )
+  ];
+  input = h.input;
+  beyond = h.beyond;
+}
 
 -- the line of a refusal
 pub refused_line : (q : Request) (d m : Devices) (r : Refusal) (error : Option (List ℕ)) (err : ℕ) → Answers q d m (Err r) [] →
@@ -144,7 +177,7 @@ refused_line q d m r error err a line later = record {
   };
 }
 
-take_all : (xs : List ℕ) → xs ≡ take (length xs) xs
+pub take_all : (xs : List ℕ) → xs ≡ take (length xs) xs
 take_all [] = refl
 take_all (x ∷ xs) = ap (λ (ys : List ℕ). x ∷ ys) (take_all xs)
 
@@ -163,6 +196,8 @@ done_line (RewriteFile input output block) file d m e error is h p same =
     subst (λ (x : Option (List ℕ)). Does (RewriteFile input output block) file d (record m { error = x }) e (ending_line e)) (sym (same (no_line e is))) h
 done_line (UpgradeFile input output) file d m e error is h p same =
     subst (λ (x : Option (List ℕ)). Does (UpgradeFile input output) file d (record m { error = x }) e (ending_line e)) (sym (same (no_line e is))) h
+done_line (ListFile name block) file d m e error is h p same =
+    subst (λ (x : Option (List ℕ)). Does (ListFile name block) file d (record m { error = x }) e (ending_line e)) (sym (same (no_line e is))) h
 done_line (CheckFile name) file d m e error is h p same =
     subst (λ (x : Option (List ℕ)). Does (CheckFile name) file d (record m { error = x }) e (ending_line e)) (sym (same (no_line e is))) h
 done_line (RunPlain name o) file d m e error is h p same = λ input left. ran_line _ _ d m e error (ending_line e) (h input left) p
@@ -172,8 +207,23 @@ done_line (RunCached name cache o) file d m e error is h p same = (
   h.2,
   λ input left.
       let r = h.3 input left in
-      record { ran = ran_line _ _ d m e error (ending_line e) r.ran p; ram = r.ram; most = r.most; fewer = r.fewer },
+      record {
+        ran = ran_line _ _ d m e error (ending_line e) r.ran p;
+        cached = r.cached;
+      },
 )
+done_line (MeasureMade seed functions cache) file d m e error is h p same = record {
+  program = h.program;
+  layout = h.layout;
+  image = h.image;
+  is = h.is;
+  ending = h.ending;
+  output = h.output;
+  error = Appends-append d.error m.error error [] (ending_line e) h.error p;
+  input = h.input;
+  ran = h.ran;
+  beyond = h.beyond;
+}
 
 -- the line of an ending
 pub ended_line : (q : Request) (d m : Devices) (e : Ending) (error : Option (List ℕ)) → Answers q d m (Ok e) [] →
@@ -206,6 +256,7 @@ after_line s report d m e error err h p = record {
   error = appends_as d.error error (s.error ++ take p.0 (ending_line (ending_of s))) ((s.error ++ take p.0 (ending_line (ending_of s))) ++ []) (sym (append-nil _))
       (appends_last d.error m.error error s.error (take p.0 (ending_line (ending_of s))) h.error
       (subst (λ (x : Ending). Appends m.error error (take p.0 (ending_line x))) h.ending p.1));
+  behind = inr refl;
   input = h.input;
   fault = refl;
 }
@@ -217,6 +268,7 @@ leaves_ending : (q : Request) (file : List ℕ) (d m : Devices) (e : Ending) (er
     AppendsPrefix m.error error (ending_line e) → (ending_line e ≡ [] → ⊥) → Leaves q file d (told_to m error err) refusal.SinkFault []
 leaves_ending (RewriteFile input output block) file d m e error err is h p never = no_done e is never
 leaves_ending (UpgradeFile input output) file d m e error err is h p never = no_done e is never
+leaves_ending (ListFile name block) file d m e error err is h p never = absurd (no_done e is never)
 leaves_ending (CheckFile name) file d m e error err is h p never = absurd (no_done e is never)
 leaves_ending (RunPlain name o) file d m e error err is h p never = λ input left. inr (after_line _ _ d m e error err (h input left) p)
 leaves_ending (RunCached name cache o) file d m e error err is h p never = (
@@ -224,15 +276,40 @@ leaves_ending (RunCached name cache o) file d m e error err is h p never = (
   h.1,
   h.2,
   λ input left.
-      let r = h.3 input left in inr (inr (after_line _ _ d m e error err r.ran p, r.ram)),
+      let r = h.3 input left in record { broke = inr (inr (after_line _ _ d m e error err r.ran p, r.cached.ram)); flat = r.cached.flat; stops = r.cached.stops },
 )
+leaves_ending (MeasureMade seed functions cache) file d m e error err is h p never =
+    let c = made_run cache h.program h.layout h.image in
+    let summary : List ℕ = made_summary functions h.program h.image c in record {
+      program = h.program;
+      layout = h.layout;
+      image = h.image;
+      is = h.is;
+      broke = inr (
+        record {
+          fault = refl;
+          output_front = length summary;
+          output = appends_as d.output m.output summary (take (length summary) summary) (take_all summary) h.output;
+          error_front = p.0;
+          error = appends_as d.error error (take p.0 (ending_line (made_ending (end_of c)))) (take p.0 (ending_line (made_ending (end_of c))) ++ []) (sym (append-nil _))
+              (Appends-append d.error m.error error [] (take p.0 (ending_line (made_ending (end_of c)))) h.error
+              (subst (λ (x : Ending). Appends m.error error (take p.0 (ending_line x))) h.ending p.1));
+          behind = inr refl;
+        },
+        h.ran,
+      );
+      input = h.input;
+      beyond = h.beyond;
+    }
 
 none_named : (q : Request) (e : Ending) (name : List ℕ) → IsEndingOf q e → (ending_line e ≡ [] → ⊥) → output_name q ≡ Some name → ⊥
 none_named (RewriteFile input output block) e name is never named = no_done e is never
 none_named (UpgradeFile input output) e name is never named = no_done e is never
+none_named (ListFile name block) e out is never named = no_done e is never
 none_named (CheckFile name) e out is never named = no_done e is never
 none_named (RunPlain name o) e out is never named = let bad : ⊥ = cc in bad
 none_named (RunCached name cache o) e out is never named = let bad : ⊥ = cc in bad
+none_named (MeasureMade seed functions cache) e out is never named = let bad : ⊥ = cc in bad
 
 err_causes : (f m : Faults) (n : ℕ) (e : Ending) → HasCauses f m (Ok e) → m.err ≤ n → Rose m.err n → HasCauses {T = Ending} f (record m { err = n }) (Err refusal.SinkFault)
 err_causes f m n e h later rose = let same : m ≡ f = h.quiet in record {

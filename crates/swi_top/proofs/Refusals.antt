@@ -1,11 +1,11 @@
 -- What stands after a refusal that changes nothing but the errors, for any command.
-use Rattle.std.proofs.Common.{◌≡◌, ◌⊎◌, inl, inr, ℕ, ◌≤◌, ◌<◌, List, [], ◌∷◌, length, Option, Some, None, Result, Ok, Err, IsErrOf, refl, sym, subst, ap, arith}
+use Rattle.std.proofs.Common.{◌≡◌, ◌⊎◌, inl, inr, ℕ, ◌≤◌, ◌<◌, List, [], ◌∷◌, length, Option, Some, None, Result, Ok, Err, IsErrOf, refl, sym, ◌∙◌, subst, ap, arith}
 use Rattle.std.specs.Prelude.{option_map}
 use Rattle.swi_outside.specs.CacheRam.{RamState}
 use Rattle.swi_outside.specs.Causes.{DeviceCause, Rose}
 use Rattle.swi_outside.specs.Laws.{Appends-none}
 use Rattle.swi_outside.specs.Shelf.{Asked, Contents, Same, Stands, IsLonger, get_of}
-use Rattle.swi_command.specs.CommandLine.{Request, RewriteFile, RunCached, RunPlain, CheckFile, UpgradeFile}
+use Rattle.swi_command.specs.CommandLine.{Request, RewriteFile, RunCached, RunPlain, ListFile, CheckFile, UpgradeFile, MeasureMade}
 use Rattle.swi_elf_read.specs.declared.refusal.ElfRefusal.{ElfRefusal}
 use Rattle.swi_elf_read.specs.Elf as elf
 use Rattle.swi_image.specs.declared.refusal.ImageRefusal.{ImageRefusal}
@@ -15,8 +15,8 @@ use Rattle.swi_answer.specs.declared.answer.Refusal.{Refusal}
 use Rattle.swi_answer.specs.declared.answer.Refusal.TheVariants as refusal
 use Rattle.swi_top.specs.Devices.{Devices, Faults, IsUntouched}
 use Rattle.swi_top.specs.Causes.{HasCauses, ShelfCause}
-use Rattle.swi_top.specs.Checks.{Check, IsShort, IsAcceptedElf, HasRoom, HasImage, IsAcceptedImage, IsOwnImage, FitsBlocks, FitsUnlessImage, HoldsBlock, Fails, IsRefusedBy, IsRefusedOr, cache_refusal, checks_of, file_limit}
-use Rattle.swi_top.specs.Answers.{Answers, IsChecked, IsSized, IsSizeRefusal, IsRunFault, IsTold, KeepsRam, input_name}
+use Rattle.swi_top.specs.Checks.{Check, IsShort, IsAcceptedElf, HasRoom, HasImage, IsAcceptedImage, IsOwnImage, FitsBlocks, FitsUnlessImage, HoldsBlock, FitsMade, HoldsWords, Fails, IsRefusedBy, IsRefusedOr, cache_refusal, checks_of, file_limit}
+use Rattle.swi_top.specs.Answers.{Answers, IsChecked, IsSized, IsSizeRefusal, IsRunFault, IsTold, KeepsRam, Tells, input_name}
 
 -- a refusal by a check of the file, or want of memory
 abbrev pub IsLate : Refusal → Type 0
@@ -52,6 +52,8 @@ fails_late file IsOwnImage r h = late_along h.2.2 tt
 fails_late file (FitsBlocks most) r h = late_along h.2 tt
 fails_late file (FitsUnlessImage most) r h = late_along h.1.2 tt
 fails_late file (HoldsBlock cache) r h = late_along h.1 tt
+fails_late file (FitsMade seed functions most) r h = late_along h.2.2 tt
+fails_late file (HoldsWords cache) r h = late_along h.1 tt
 
 pub refused_late : (file : List ℕ) (cs : List Check) (r : Refusal) → IsRefusedBy file cs r → IsLate r
 refused_late file [] r h = absurd h
@@ -154,12 +156,23 @@ pub keeps_ram : (q : Request) (r : RamState) → KeepsRam q r r
 keeps_ram (RunCached name cache o) r = record { beyond = λ i h. refl; same_length = refl; reached = omega arith }
 keeps_ram (RewriteFile input output block) r = refl
 keeps_ram (RunPlain name o) r = refl
+keeps_ram (ListFile name block) r = refl
 keeps_ram (CheckFile name) r = refl
 keeps_ram (UpgradeFile input output) r = refl
+keeps_ram (MeasureMade seed functions cache) r = record { beyond = λ i h. refl; same_length = refl; reached = omega arith }
 
-pub told_is : (c : Option Contents) (name file bytes : List ℕ) → IsTold c name file → Stands c name bytes → bytes ≡ file
+pub told_is : (c : Option Contents) (name file bytes : List ℕ) → Tells c name file → Stands c name bytes → bytes ≡ file
 told_is None name file bytes told stands = absurd told
 told_is (Some m) name file bytes told stands = cc
+
+-- the same of the file that a command reads
+abbrev pub StandsAs : Option Contents → Option (List ℕ) → List ℕ → Type 0
+StandsAs c None bytes = bytes ≡ []
+StandsAs c (Some name) bytes = Stands c name bytes
+
+pub told_as : (c : Option Contents) (name : Option (List ℕ)) (file bytes : List ℕ) → IsTold c name file → StandsAs c name bytes → bytes ≡ file
+told_as c None file bytes told stands = stands ∙ sym told
+told_as c (Some name) file bytes told stands = told_is c name file bytes told stands
 
 -- ---- a refusal that is none by a device
 
@@ -189,51 +202,53 @@ late q d c r h size same checked =
 
 -- by a check of the file that was read, or for want of memory
 pub check_refused : (q : Request) (d : Devices) (c : Option Contents) (bytes : List ℕ) (r : Refusal) → cache_refusal q (length d.ram.words) ≡ None →
-    Same d.contents c → Stands d.contents (input_name q) bytes → IsRefusedOr bytes (checks_of q) r → Answers q d (record d { contents = c }) (Err r) []
+    Same d.contents c → StandsAs d.contents (input_name q) bytes → IsRefusedOr bytes (checks_of q) r → Answers q d (record d { contents = c }) (Err r) []
 check_refused q d c bytes r size same stands why = elim why [
   | inl e ↦ subst (λ (s : Refusal). Answers q d (record d { contents = c }) (Err s) []) (sym e) (late q d c refusal.Memory tt size same (λ _ _. tt))
   | inr by ↦ late q d c r (refused_late bytes (checks_of q) r by) size same (λ file told.
-      subst (λ (f : List ℕ). IsChecked f (checks_of q) d.last_failed (Err r)) (told_is d.contents (input_name q) file bytes told stands)
+      subst (λ (f : List ℕ). IsChecked f (checks_of q) d.last_failed (Err r)) (told_as d.contents (input_name q) file bytes told stands)
       (checked_by bytes (checks_of q) d.last_failed r by))
 ]
 
 -- ---- the shelf failed in reading
 
-pub read_failed : (q : Request) (d : Devices) (c : Option Contents) (s : ℕ) → cache_refusal q (length d.ram.words) ≡ None → Same d.contents c →
+pub read_failed : (q : Request) (name : List ℕ) (d : Devices) (c : Option Contents) (s : ℕ) → input_name q ≡ Some name → cache_refusal q (length d.ram.words) ≡ None → Same d.contents c →
     d.faults.shelf ≤ s → Rose d.faults.shelf s →
-    Answers q d (record d { contents = c; last_failed = Some (get_of (input_name q)); faults = record d.faults { shelf = s } }) (Err refusal.ShelfFault) []
-read_failed q d c s size same later rose = record {
+    Answers q d (record d { contents = c; last_failed = Some (get_of name); faults = record d.faults { shelf = s } }) (Err refusal.ShelfFault) []
+read_failed q name d c s is size same later rose = record {
   asked = λ e. let bad : ⊥ = cc in bad;
   sized = sized_along _ _ size (sized_err refusal.ShelfFault (λ x. x));
   checked = λ _ _ put. absurd put;
   ended = tt;
   done = tt;
   failed = λ f. absurd f;
-  refused = λ _. (untouched d c (Some (get_of (input_name q))) (record d.faults { shelf = s }), Appends-none d.error);
-  shelf = record { others = λ name _. same name; refused = λ never. absurd (never refl); quiet = λ never. absurd (never refl); failed = λ _. inl (refl, same) };
+  refused = λ _. (untouched d c (Some (get_of name)) (record d.faults { shelf = s }), Appends-none d.error);
+  shelf = record { others = λ x _. same x; refused = λ never. absurd (never refl); quiet = λ never. absurd (never refl); failed = λ _. inl (name, is, refl, same) };
   ram = keeps_ram q d.ram;
   causes = shelf_causes d.faults s later rose;
 }
 
-long_refused : (q : Request) (file : List ℕ) → file_limit < length file → IsRefusedBy file (checks_of q) (refusal.FileLong file_limit)
-long_refused (RewriteFile input output block) file h = inl (h, refl)
-long_refused (RunCached name cache o) file h = inl (h, refl)
-long_refused (RunPlain name o) file h = inl (h, refl)
-long_refused (CheckFile name) file h = inl (h, refl)
-long_refused (UpgradeFile input output) file h = inl (h, refl)
+long_refused : (q : Request) (name file : List ℕ) → input_name q ≡ Some name → file_limit < length file → IsRefusedBy file (checks_of q) (refusal.FileLong file_limit)
+long_refused (RewriteFile input output block) x file is h = inl (h, refl)
+long_refused (RunCached name cache o) x file is h = inl (h, refl)
+long_refused (RunPlain name o) x file is h = inl (h, refl)
+long_refused (ListFile name block) x file is h = inl (h, refl)
+long_refused (CheckFile name) x file is h = inl (h, refl)
+long_refused (UpgradeFile input output) x file is h = inl (h, refl)
+long_refused (MeasureMade seed functions cache) x file is h = absurd (let bad : ⊥ = cc in bad)
 
-longer_is : (c : Option Contents) (name file : List ℕ) (limit : ℕ) → IsTold c name file → IsLonger c name limit → limit < length file
+longer_is : (c : Option Contents) (name file : List ℕ) (limit : ℕ) → Tells c name file → IsLonger c name limit → limit < length file
 longer_is None name file limit told longer = absurd told
 longer_is (Some m) name file limit told longer =
     let same : longer.0 ≡ file = cc in subst (λ (f : List ℕ). limit < length f) same longer.2
 
 -- the file could not be read, was too long, or there was no memory for it
-pub read_refused : {T : Type 0} (q : Request) (d : Devices) (c : Option Contents) (l : Option Asked) (s : ℕ) (r : Refusal) →
-    cache_refusal q (length d.ram.words) ≡ None → Same d.contents c →
-    (r ≡ refusal.ShelfFault) ⊎ ((r ≡ refusal.Memory) ⊎ ((r ≡ refusal.FileLong file_limit) × IsLonger d.contents (input_name q) file_limit)) →
-    ShelfCause {T = T} d.faults.shelf s d.last_failed l (get_of (input_name q)) (Err r) →
+pub read_refused : {T : Type 0} (q : Request) (name : List ℕ) (d : Devices) (c : Option Contents) (l : Option Asked) (s : ℕ) (r : Refusal) →
+    input_name q ≡ Some name → cache_refusal q (length d.ram.words) ≡ None → Same d.contents c →
+    (r ≡ refusal.ShelfFault) ⊎ ((r ≡ refusal.Memory) ⊎ ((r ≡ refusal.FileLong file_limit) × IsLonger d.contents name file_limit)) →
+    ShelfCause {T = T} d.faults.shelf s d.last_failed l (get_of name) (Err r) →
     Answers q d (record d { contents = c; last_failed = l; faults = record d.faults { shelf = s } }) (Err r) []
-read_refused {T} q d c l s r size same why cause =
+read_refused {T} q name d c l s r is size same why cause =
     let Goal : Refusal → Type 0 = λ x. Answers q d (record d { contents = c; last_failed = l; faults = record d.faults { shelf = s } }) (Err x) [] in
     let quiet : IsLate r → Answers q d (record d { contents = c }) (Err r) [] → Goal r = λ h a.
     let calm = cause.quiet (λ e. late_shelf r h (let p : r ≡ refusal.ShelfFault = cc in ap (λ (x : Refusal). Err x) p)) in
@@ -242,13 +257,13 @@ read_refused {T} q d c l s r size same why cause =
     elim why [
       | inl e ↦ let failed = cause.failed (ap (λ (x : Refusal). Err x) e) in
           subst Goal (sym e) (subst (λ (k : Option Asked). Answers q d (record d { contents = c; last_failed = k; faults = record d.faults { shelf = s } }) (Err refusal.ShelfFault) [])
-          (sym failed.1) (read_failed q d c s size same cause.later failed.0))
+          (sym failed.1) (read_failed q name d c s is size same cause.later failed.0))
       | inr w ↦ elim w [
         | inl e ↦ quiet (late_along e tt) (late q d c r (late_along e tt) size same (λ file told.
             subst (λ (x : Refusal). IsChecked file (checks_of q) d.last_failed (Err x)) (sym e) tt))
         | inr p ↦ quiet (late_along p.0 tt) (late q d c r (late_along p.0 tt) size same (λ file told.
             subst (λ (x : Refusal). IsChecked file (checks_of q) d.last_failed (Err x)) (sym p.0)
-            (long_refused q file (longer_is d.contents (input_name q) file file_limit told p.1))))
+            (long_refused q name file is (longer_is d.contents name file file_limit (subst (λ (n : Option (List ℕ)). IsTold d.contents n file) is told) p.1))))
       ]
     ]
 

@@ -189,6 +189,7 @@ report_failed o p l first new d i mid out e fi fo fe first_is machine input outp
         error_front = 0;
         error = subst (λ (y : List ℕ). Appends d.error e y) (sym (append-nil (state.error ++ [])))
             (subst (λ (y : List ℕ). Appends d.error e y) (sym (append-nil state.error)) (error left told));
+        behind = inl refl;
         input = input left told;
         fault = refl;
       }));

@@ -1,5 +1,5 @@
 -- What a command does, and what stands where it is refused or a device fails. Own rule.
-use Rattle.std.specs.Prelude.{◌≡◌, ◌⊎◌, ℕ, ◌+◌, ◌-◌, ◌*◌, ◌/◌, ◌^◌, ◌<◌, ◌≤◌, min, List, ◌++◌, length, take, Option, Some, None, Result, Ok, Err, IfOk, IfErr, OnErr, IsErrOf, ⊤}
+use Rattle.std.specs.Prelude.{◌≡◌, ◌⊎◌, ℕ, ◌+◌, ◌-◌, ◌*◌, ◌/◌, ◌^◌, ◌<◌, ◌≤◌, min, List, [], ◌++◌, length, take, false, Option, Some, None, Result, Ok, Err, IfOk, IfErr, OnErr, IsErrOf, ⊤}
 use Rattle.std.specs.Io.KnownBytes.{Appends}
 use Rattle.swi_outside.specs.CacheRam.{KeepsBeyond, RamState}
 use Rattle.swi_outside.specs.Causes.{Rose}
@@ -8,26 +8,29 @@ use Rattle.swi_outside.specs.Sink.{AppendsPrefix}
 use Rattle.swi_elf_read.specs.Loaded.{image_of as image_in}
 use Rattle.swi_image.specs.Checks.{first_refusal}
 use Rattle.swi_image.specs.Format.{ImageData, image_of}
+use Rattle.swi_memory.specs.declared.layout.Layout.{Layout}
+use Rattle.swi_program.specs.Layout.{laid_out}
+use Rattle.swi_program.specs.Program.{ProgramData}
 use Rattle.swi_program.specs.ProgramOf.{program_of_file}
+use Rattle.swi_program.specs.Text.{text_of}
+use Rattle.swi_make.specs.Made.{IsMade}
 use Rattle.swi_render.specs.Cut.{IsCut}
 use Rattle.swi_cut.specs.Upgrades.{IsUpgrade}
 use Rattle.swi_elf_write.specs.Rewritten.{rewritten_file}
 use Rattle.swi_command.specs.declared.command.CacheOptions.{CacheOptions}
 use Rattle.swi_command.specs.declared.command.RunOptions.{RunOptions}
-use Rattle.swi_command.specs.CommandLine.{Request, RewriteFile, RunCached, RunPlain, CheckFile, UpgradeFile}
+use Rattle.swi_command.specs.CommandLine.{Request, RewriteFile, RunCached, RunPlain, ListFile, CheckFile, UpgradeFile, MeasureMade}
 use Rattle.swi_calls.specs.declared.end.End.TheVariants as end
 use Rattle.swi_calls.specs.State.{FlatState}
 use Rattle.swi_calls.specs.Call.{room_of_call}
 use Rattle.swi_calls.specs.Flat.{flat_run}
 use Rattle.swi_flat.specs.FlatData.{next_made}
 use Rattle.swi_outside.specs.Causes.{risen}
-use Rattle.swi_calls.specs.declared.end.End.{End}
-use Rattle.swi_exec.specs.declared.done.FaultKind.TheVariants as kind
 use Rattle.swi_calls.specs.Held.{held_made}
 use Rattle.swi_calls.specs.Flat.{Made}
-use Rattle.swi_rom.specs.Record.{Record, writes}
+use Rattle.swi_rom.specs.Record.{writes}
 use Rattle.swi_cached.specs.Answers.{RamAfter}
-use Rattle.swi_cached.specs.Cached.{CachedRun, slots_of, end_of, program_after, instructions_after, fetches_after, record_after}
+use Rattle.swi_cached.specs.Cached.{CachedRun, IsCounted, IsFlatRun, StopsBeforeStore, run_of, slots_of, end_of, program_after, instructions_after, fetches_after, record_after}
 use Rattle.swi_report.specs.declared.stats.Work.{Work}
 use Rattle.swi_answer.specs.declared.answer.Ending.{Ending}
 use Rattle.swi_answer.specs.declared.answer.Ending.TheVariants as ending
@@ -37,30 +40,41 @@ use Rattle.swi_answer.specs.Lines.{image_line, ending_line, refusal_line}
 use Rattle.swi_top.specs.Devices.{Devices, IsUntouched}
 use Rattle.swi_top.specs.Checks.{Check, IsAccepted, IsRefusedBy, cache_refusal, checks_of, text_in}
 use Rattle.swi_top.specs.Causes.{HasCauses}
+use Rattle.swi_top.specs.Listing.{listing}
+use Rattle.swi_top.specs.Measuring.{made_ending_by, summary_by}
 use Rattle.swi_top.specs.Runs.{Ran, FailedAtStep, FailedAfterRun, start_of, report}
 
 -- ---- what a request names
 
 -- the name of the file that is read
-abbrev pub input_name : Request → List ℕ
-input_name (RewriteFile input output block) = input
-input_name (RunCached name cache o) = name
-input_name (RunPlain name o) = name
-input_name (CheckFile name) = name
-input_name (UpgradeFile input output) = input
+abbrev pub input_name : Request → Option (List ℕ)
+input_name (RewriteFile input output block) = Some input
+input_name (RunCached name cache o) = Some name
+input_name (RunPlain name o) = Some name
+input_name (ListFile name block) = Some name
+input_name (CheckFile name) = Some name
+input_name (UpgradeFile input output) = Some input
+input_name (MeasureMade seed functions cache) = None
 
 -- the name of the file that is written
 abbrev pub output_name : Request → Option (List ℕ)
 output_name (RewriteFile input output block) = Some output
 output_name (RunCached name cache o) = None
 output_name (RunPlain name o) = None
+output_name (ListFile name block) = None
 output_name (CheckFile name) = None
 output_name (UpgradeFile input output) = Some output
+output_name (MeasureMade seed functions cache) = None
 
 -- the shelf tells that this stands under the name
-abbrev pub IsTold : Option Contents → List ℕ → List ℕ → Type 0
-IsTold None name file = ⊥
-IsTold (Some contents) name file = contents name ≡ Some file
+abbrev pub Tells : Option Contents → List ℕ → List ℕ → Type 0
+Tells None name file = ⊥
+Tells (Some contents) name file = contents name ≡ Some file
+
+-- the same of the file that is read; of a command that reads none, all is said with an empty file
+abbrev pub IsTold : Option Contents → Option (List ℕ) → List ℕ → Type 0
+IsTold contents None file = file ≡ []
+IsTold contents (Some name) file = Tells contents name file
 
 -- ---- what a command does where it isn't refused and no device fails
 
@@ -116,44 +130,94 @@ Runs o file input before after e last =
 abbrev pub cached_run : CacheOptions → RunOptions → ImageData → FlatState → CachedRun
 cached_run cache o v s = record { image = v; slots = slots_of cache.cache_bytes v; start = s; limit = o.limits.steps }
 
--- a step at an address without a text word is a machine instruction that fetches nothing
-abbrev pub unfetched : Option End → ℕ
-unfetched (Some (end.Faulted kind.FetchAccess a)) = 1
-unfetched _ = 0
-
--- what it did besides its steps, as numbers of 64 bits: the fetches are one for each machine instruction but the boot
-abbrev pub work_of : ℕ → Option End → Record → Work
-work_of instructions ending r = record {
-  machine = instructions;
-  fetches = instructions - 1 - unfetched ending;
-  writes = min (writes r) (2 ^ 64 - 1);
-  counts = r.counts;
+-- what the counts of a run tell: its machine instructions, and the words that were fetched and written for it, as numbers of 64 bits
+abbrev pub work_of : CachedRun → Work
+work_of c = record {
+  machine = instructions_after c c.limit;
+  fetches = fetches_after c c.limit;
+  writes = min (writes (record_after c c.limit)) (2 ^ 64 - 1);
+  counts = (record_after c c.limit).counts;
 }
 
-abbrev pub cached_report : RunOptions → CachedRun → List ℕ
-cached_report o c = report o.reports (end_of c).machine (Some (work_of (instructions_after c c.limit) (end_of c).machine.ending (record_after c c.limit)))
+-- the ram has counted just as many
+pub record RamCounted (w : Work) (before after : RamState) : Type 0 where
+  pub fetches : after.fetches ≡ risen before.fetches w.fetches
+  pub sets : after.sets ≡ risen before.sets w.writes
 
-pub record RunsCached (o : RunOptions) (c : CachedRun) (before after : Devices) (e : Ending) (last : List ℕ) : Type 0 where
-  pub ran : Ran (end_of c) (cached_report o c) before after e last
-  pub ram : RamAfter c before.ram after.ram
+abbrev pub cached_report : RunOptions → CachedRun → List ℕ
+cached_report o c = report o.reports (end_of c).machine (Some (work_of c))
+
+-- what a cached run is, and what it leaves of the ram, however it was asked for
+pub record IsCachedRun (c : CachedRun) (before after : RamState) : Type 0 where
+  -- it is the flat machine's run, up to the first step that would store into the text, before which it ends
+  pub flat : IsFlatRun c
+  pub stops : StopsBeforeStore c
+  -- the ram holds what is placed at the end, and the run's counts are those that it has counted
+  pub ram : RamAfter c before after
+  pub counted : RamCounted (work_of c) before after
   -- at most three machine instructions for each step, and one for the boot; one more where the run stopped before a store into the text
   pub most : instructions_after c c.limit ≤ 3 * (end_of c).machine.steps + 2
   pub fewer : ((a : ℕ) → (end_of c).machine.ending ≡ Some (end.StoreText a) → ⊥) → instructions_after c c.limit ≤ 3 * (end_of c).machine.steps + 1
+  -- each of them but the boot has fetched a word, but for one at an address without a text word
+  pub each : IsCounted c
 
--- the image that a run uses: that of the file, or, where it has none, the greedy cut of its text
+pub record RunsCached (o : RunOptions) (c : CachedRun) (before after : Devices) (e : Ending) (last : List ℕ) : Type 0 where
+  -- the ending, the input and the bytes are those of the program's run, in which the text is fixed
+  pub ran : Ran (end_of c) (cached_report o c) before after e last
+  pub cached : IsCachedRun c before.ram after.ram
+
+-- `measure`: the run, with no input, of the program that is made of the seed, in the blocks of its greedy cut
+abbrev pub made_run : CacheOptions → ProgramData → Layout → ImageData → CachedRun
+made_run cache p l v = run_of v cache.cache_bytes p l false (2 ^ 48) []
+
+pub record IsMadeRun (seed functions : ℕ) (cache : CacheOptions) (p : ProgramData) (l : Layout) (v : ImageData) : Type 0 where
+  pub made : IsMade seed functions p
+  pub layout : laid_out p.segments 1048576 65536 ≡ Ok l
+  pub cut : IsCut (text_of p.segments) cache.block_words v
+
+-- where it exited, the command is done, and writes the summary; else it ends as the run did, and writes nothing
+abbrev pub made_ending : FlatState → Ending
+made_ending s = made_ending_by s.machine.ending s.machine.pc s.machine.steps
+
+abbrev pub made_summary : ℕ → ProgramData → ImageData → CachedRun → List ℕ
+made_summary functions p v c = summary_by functions p v (work_of c) (end_of c).machine.ending (end_of c).machine.steps
+
+pub record Measures (seed functions : ℕ) (cache : CacheOptions) (before after : Devices) (e : Ending) (last : List ℕ) : Type 0 where
+  pub program : ProgramData
+  pub layout : Layout
+  pub image : ImageData
+  pub is : IsMadeRun seed functions cache program layout image
+  pub ending : e ≡ made_ending (end_of (made_run cache program layout image))
+  pub output : Appends before.output after.output (made_summary functions program image (made_run cache program layout image))
+  pub error : Appends before.error after.error last
+  pub input : after.input ≡ before.input
+  pub ran : IsCachedRun (made_run cache program layout image) before.ram after.ram
+  pub beyond : KeepsBeyond (slots_of cache.cache_bytes image * image.block_words) before.ram after.ram
+
+-- the image that a command uses: that of the file, or, where it has none, the greedy cut of its text
 abbrev pub IsImageFor : List ℕ → ℕ → Option (List ℕ) → ImageData → Type 0
 IsImageFor file most None v = IsCut (text_in file) most v
 IsImageFor file most (Some bytes) v = v ≡ image_of bytes
+
+-- `list`: the lines of all blocks of that image
+pub record Lists (file : List ℕ) (most : ℕ) (before after : Devices) (e : Ending) : Type 0 where
+  pub ending : e ≡ ending.Done
+  pub image : ImageData
+  pub own : IsImageFor file most (image_in file) image
+  pub output : Appends before.output after.output (listing (text_in file) image)
+  pub others : after ≡ record before { contents = after.contents; output = after.output }
 
 -- what a command does; `last` is what the errors gain behind all else
 abbrev pub Does : Request → List ℕ → Devices → Devices → Ending → List ℕ → Type 0
 Does (RewriteFile input output block) file before after e last = Puts (IsRewritten file block) output before after e
 Does (UpgradeFile input output) file before after e last = Puts (IsUpgraded file) output before after e
+Does (ListFile name block) file before after e last = Lists file block before after e
 Does (CheckFile name) file before after e last = Confirms file before after e
 Does (RunPlain name o) file before after e last = (input : List ℕ) → before.input ≡ Some input → Runs o file input before after e last
 Does (RunCached name cache o) file before after e last = (v : ImageData) × IsImageFor file cache.block_words (image_in file) v
     × KeepsBeyond (slots_of cache.cache_bytes v * v.block_words) before.ram after.ram
     × ((input : List ℕ) → before.input ≡ Some input → RunsCached o (cached_run cache o v (start_of o file input)) before after e last)
+Does (MeasureMade seed functions cache) file before after e last = Measures seed functions cache before after e last
 
 -- ---- what stands where a device failed in a command that isn't refused
 
@@ -161,6 +225,13 @@ pub record ConfirmFailed (file : List ℕ) (before after : Devices) (r : Refusal
   pub held : List ℕ
   pub has : image_in file ≡ Some held
   pub output : AppendsPrefix before.output after.output (checked_line (image_of held))
+  pub error : Appends before.error after.error last
+  pub fault : r ≡ refusal.SinkFault
+
+pub record ListFailed (file : List ℕ) (most : ℕ) (before after : Devices) (r : Refusal) (last : List ℕ) : Type 0 where
+  pub image : ImageData
+  pub own : IsImageFor file most (image_in file) image
+  pub output : AppendsPrefix before.output after.output (listing (text_in file) image)
   pub error : Appends before.error after.error last
   pub fault : r ≡ refusal.SinkFault
 
@@ -193,20 +264,55 @@ held_next s = held_made s.machine s.input
 abbrev pub held_taken : FlatState → ℕ
 held_taken s = length s.input - length (held_next s).input
 
-abbrev pub CachedFailed : RunOptions → CachedRun → Devices → Devices → Refusal → List ℕ → Type 0
-CachedFailed o c before after r last =
+-- a device failed in the run, or behind it
+abbrev pub BrokeIn : RunOptions → CachedRun → Devices → Devices → Refusal → List ℕ → Type 0
+BrokeIn o c before after r last =
     RamBroke c before after r last
     ⊎ (FailedAtStep (program_after c) held_next held_taken c.limit before after r last
     ⊎ (FailedAfterRun (end_of c) (cached_report o c) before after r last × RamAfter c before.ram after.ram))
 
+pub record CachedFailed (o : RunOptions) (c : CachedRun) (before after : Devices) (r : Refusal) (last : List ℕ) : Type 0 where
+  pub broke : BrokeIn o c before after r last
+  -- the run so far is the flat machine's, as above
+  pub flat : IsFlatRun c
+  pub stops : StopsBeforeStore c
+
+-- `measure`: the ram failed in the run, and nothing was written
+pub record MadeRunBroke (before after : Devices) (r : Refusal) (last : List ℕ) : Type 0 where
+  pub fault : r ≡ refusal.RamFault
+  pub output : after.output ≡ before.output
+  pub error : Appends before.error after.error last
+
+-- or a sink failed behind the run: the output at the summary, or the errors at the ending's line
+pub record SummaryBroke (e : Ending) (summary : List ℕ) (before after : Devices) (r : Refusal) (last : List ℕ) : Type 0 where
+  pub fault : r ≡ refusal.SinkFault
+  pub output_front : ℕ
+  pub output : Appends before.output after.output (take output_front summary)
+  pub error_front : ℕ
+  pub error : Appends before.error after.error (take error_front (ending_line e) ++ last)
+  pub behind : (error_front ≡ 0) ⊎ (output_front ≡ length summary)
+
+pub record MeasureFailed (seed functions : ℕ) (cache : CacheOptions) (before after : Devices) (r : Refusal) (last : List ℕ) : Type 0 where
+  pub program : ProgramData
+  pub layout : Layout
+  pub image : ImageData
+  pub is : IsMadeRun seed functions cache program layout image
+  pub broke : MadeRunBroke before after r last
+      ⊎ (SummaryBroke (made_ending (end_of (made_run cache program layout image))) (made_summary functions program image (made_run cache program layout image)) before after r last
+      × IsCachedRun (made_run cache program layout image) before.ram after.ram)
+  pub input : after.input ≡ before.input
+  pub beyond : KeepsBeyond (slots_of cache.cache_bytes image * image.block_words) before.ram after.ram
+
 abbrev pub Leaves : Request → List ℕ → Devices → Devices → Refusal → List ℕ → Type 0
 Leaves (RewriteFile input output block) file before after r last = ⊥
 Leaves (UpgradeFile input output) file before after r last = ⊥
+Leaves (ListFile name block) file before after r last = ListFailed file block before after r last
 Leaves (CheckFile name) file before after r last = ConfirmFailed file before after r last
 Leaves (RunPlain name o) file before after r last = (input : List ℕ) → before.input ≡ Some input → RunFailed o file input before after r last
 Leaves (RunCached name cache o) file before after r last = (v : ImageData) × IsImageFor file cache.block_words (image_in file) v
     × KeepsBeyond (slots_of cache.cache_bytes v * v.block_words) before.ram after.ram
     × ((input : List ℕ) → before.input ≡ Some input → CachedFailed o (cached_run cache o v (start_of o file input)) before after r last)
+Leaves (MeasureMade seed functions cache) file before after r last = MeasureFailed seed functions cache before after r last
 
 -- ---- which answer comes
 
@@ -259,9 +365,11 @@ IsRunFault _ = ⊥
 abbrev pub IsEndingOf : Request → Ending → Type 0
 IsEndingOf (RewriteFile input output block) e = e ≡ ending.Done
 IsEndingOf (UpgradeFile input output) e = e ≡ ending.Done
+IsEndingOf (ListFile name block) e = e ≡ ending.Done
 IsEndingOf (CheckFile name) e = e ≡ ending.Done
 IsEndingOf (RunPlain name o) e = ⊤
 IsEndingOf (RunCached name cache o) e = ⊤
+IsEndingOf (MeasureMade seed functions cache) e = ⊤
 
 -- ---- what stays, whatever the devices tell
 
@@ -274,16 +382,18 @@ pub record KeepsShelf (q : Request) (before after : Devices) (result : Result En
   -- the last failed call is as it was, unless the shelf failed: in reading the file, or in writing OUT
   pub quiet : (IsErrOf result refusal.ShelfFault → ⊥) → after.last_failed ≡ before.last_failed
   pub failed : IsErrOf result refusal.ShelfFault →
-      ((after.last_failed ≡ Some (get_of (input_name q))) × Same before.contents after.contents)
+      ((input : List ℕ) × (input_name q ≡ Some input) × (after.last_failed ≡ Some (get_of input)) × Same before.contents after.contents)
       ⊎ ((output : List ℕ) × (output_name q ≡ Some output) × (after.last_failed ≡ Some (put_of output)))
 
--- a command other than `cached` leaves the ram alone
+-- a command other than `cached` and `measure` leaves the ram alone
 abbrev pub KeepsRam : Request → RamState → RamState → Type 0
 KeepsRam (RunCached name cache o) before after = KeepsBeyond (cache.cache_bytes / 4) before after
 KeepsRam (RewriteFile input output block) before after = after ≡ before
 KeepsRam (RunPlain name o) before after = after ≡ before
+KeepsRam (ListFile name block) before after = after ≡ before
 KeepsRam (CheckFile name) before after = after ≡ before
 KeepsRam (UpgradeFile input output) before after = after ≡ before
+KeepsRam (MeasureMade seed functions cache) before after = KeepsBeyond (cache.cache_bytes / 4) before after
 
 -- ---- the whole answer
 

@@ -1,22 +1,48 @@
 -- A run on the cached machine, as its functions say it. Own rule.
-use Rattle.std.specs.Prelude.{◌≡◌, ℕ, ◌*◌, ◌<◌, ◌≤◌, List, [], Option, Some, Result, IfOk, IfErr, OnOk, ⊤}
-use Rattle.swi_outside.specs.CacheRam.{KeepsBeyond}
+use Rattle.std.specs.Prelude.{◌≡◌, ℕ, ◌-◌, ◌*◌, ◌^◌, ◌<◌, ◌≤◌, min, List, [], Option, Some, Result, IfOk, IfErr, OnOk, ⊤}
+use Rattle.swi_outside.specs.CacheRam.{KeepsBeyond, RamState}
 use Rattle.swi_memory.specs.declared.layout.Layout.{Layout}
 use Rattle.swi_program.specs.Program.{ProgramData}
 use Rattle.swi_image.specs.Format.{ImageData}
 use Rattle.swi_command.specs.declared.command.CacheOptions.{CacheOptions}
 use Rattle.swi_command.specs.declared.command.RunOptions.{RunOptions}
 use Rattle.swi_calls.specs.Flat.{flat_start}
+use Rattle.swi_calls.specs.declared.end.End.{End}
+use Rattle.swi_rom.specs.Record.{Record, writes}
+use Rattle.swi_board.specs.Hart.{HartData}
+use Rattle.swi_report.specs.declared.stats.Work.{Work}
 use Rattle.swi_answer.specs.declared.answer.Ending.{Ending}
 use Rattle.swi_answer.specs.declared.answer.Refusal.{Refusal}
 use Rattle.swi_answer.specs.declared.answer.Refusal.TheVariants as refusal
-use Rattle.swi_cached.specs.Cached.{slots_of}
-use Rattle.swi_top.specs.Answers.{CachedFailed, Does, IsChecked, IsRunFault, KeepsRam, Leaves, RunsCached, cached_run}
+use Rattle.swi_cached.specs.Cached.{CachedRun, end_of, instructions_after, record_after, slots_of, unfetched}
+use Rattle.swi_top.specs.Answers.{CachedFailed, Does, IsChecked, IsRunFault, KeepsRam, Leaves, IsCachedRun, RunsCached, cached_run}
 use Rattle.swi_top.specs.Checks.{checks_of}
+use Rattle.swi_top.specs.Measuring.{summary_by}
 use Rattle.swi_command.specs.CommandLine.{Request}
 use Rattle.swi_outside.specs.Shelf.{Asked}
 use Rattle.swi_top.specs.Causes.{HasCauses}
 use Rattle.swi_top.specs.Devices.{Devices}
+
+-- what a board tells that came to its end. It counts no fetches: there is one for each machine instruction but the boot, and none for one
+-- at an address without a text word
+abbrev pub board_work : ℕ → Option End → Record → Work
+board_work instructions ending r = record {
+  machine = instructions;
+  fetches = instructions - 1 - unfetched ending;
+  writes = min (writes r) (2 ^ 64 - 1);
+  counts = r.counts;
+}
+
+-- a made program came to its end, on a board with this hart and this record of its service
+pub record MadeRan (c : CachedRun) (h : HartData) (r : Record) (before after : RamState) : Type 0 where
+  pub machine : h.machine ≡ (end_of c).machine
+  pub count : h.count ≡ instructions_after c c.limit
+  pub kept : r ≡ record_after c c.limit
+  pub ran : IsCachedRun c before after
+
+-- what is written of it
+abbrev pub board_summary : ℕ → ProgramData → ImageData → HartData → Record → List ℕ
+board_summary functions p v h r = summary_by functions p v (board_work h.count h.machine.ending r) h.machine.ending h.machine.steps
 
 -- why it is refused
 abbrev pub IsCachedErr : CacheOptions → ImageData → Refusal → Type 0

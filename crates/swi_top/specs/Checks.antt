@@ -2,7 +2,7 @@
 use Rattle.std.specs.Prelude.{◌≡◌, ◌⊎◌, ℕ, ◌+◌, ◌*◌, ◌^◌, ◌<◌, ◌≤◌, nat_lt, List, [], ◌∷◌, length, Option, Some, None, option_map, Result, Ok, Err, ⊤, if◌then◌else◌}
 use Rattle.swi_command.specs.declared.command.CacheOptions.{CacheOptions}
 use Rattle.swi_command.specs.declared.command.RunLimits.{RunLimits}
-use Rattle.swi_command.specs.CommandLine.{Request, RewriteFile, RunCached, RunPlain, CheckFile, UpgradeFile}
+use Rattle.swi_command.specs.CommandLine.{Request, RewriteFile, RunCached, RunPlain, ListFile, CheckFile, UpgradeFile, MeasureMade}
 use Rattle.swi_elf_read.specs.Elf as elf
 use Rattle.swi_elf_read.specs.Loaded.{image_of as image_in}
 use Rattle.swi_image.specs.Checks as image
@@ -10,10 +10,12 @@ use Rattle.swi_image.specs.Format.{image_of}
 use Rattle.swi_memory.specs.declared.layout.Layout.{Layout}
 use Rattle.swi_program.specs.declared.placement.Room.{Room}
 use Rattle.swi_program.specs.Layout.{laid_out}
+use Rattle.swi_program.specs.Program.{ProgramData}
 use Rattle.swi_program.specs.ProgramOf.{program_of_file}
 use Rattle.swi_program.specs.Text.{TextData, text_of}
 use Rattle.swi_render.specs.Cut.{Fits, IsFirstLong, needs_of}
 use Rattle.swi_render.specs.ImageOf.{IsImageOf}
+use Rattle.swi_make.specs.Made.{IsMade}
 use Rattle.swi_check.specs.declared.mismatch.Mismatch.{Mismatch}
 use Rattle.swi_check.specs.Mismatches.{IsMismatch}
 use Rattle.swi_answer.specs.declared.answer.Refusal.{Refusal}
@@ -36,8 +38,10 @@ abbrev pub cache_refusal : Request → ℕ → Option Refusal
 cache_refusal (RunCached name cache o) words = size_refusal cache.cache_bytes words
 cache_refusal (RewriteFile input output block) words = None
 cache_refusal (RunPlain name o) words = None
+cache_refusal (ListFile name block) words = None
 cache_refusal (CheckFile name) words = None
 cache_refusal (UpgradeFile input output) words = None
+cache_refusal (MeasureMade seed functions cache) words = size_refusal cache.cache_bytes words
 
 -- ---- the checks of a file
 
@@ -60,6 +64,10 @@ pub data Check : Type 0 where
   FitsUnlessImage : ℕ → Check
   -- the cache holds a block, of the file's image or of so many words
   HoldsBlock : CacheOptions → Check
+  -- each instruction of the program that is made of the seed, with so many functions, fits into a block of so many words
+  FitsMade : ℕ → ℕ → ℕ → Check
+  -- the cache holds a block of so many words
+  HoldsWords : CacheOptions → Check
 
 -- the checks of each command, in their order
 abbrev pub checks_of : Request → List Check
@@ -67,8 +75,10 @@ checks_of (RewriteFile input output block) = IsShort ∷ IsAcceptedElf ∷ FitsB
 checks_of (RunCached name cache o) =
     IsShort ∷ IsAcceptedElf ∷ HasRoom o.limits ∷ IsAcceptedImage ∷ IsOwnImage ∷ FitsUnlessImage cache.block_words ∷ HoldsBlock cache ∷ []
 checks_of (RunPlain name o) = IsShort ∷ IsAcceptedElf ∷ HasRoom o.limits ∷ IsAcceptedImage ∷ IsOwnImage ∷ []
+checks_of (ListFile name block) = IsShort ∷ IsAcceptedElf ∷ IsAcceptedImage ∷ IsOwnImage ∷ FitsUnlessImage block ∷ []
 checks_of (CheckFile name) = IsShort ∷ IsAcceptedElf ∷ HasImage ∷ IsAcceptedImage ∷ IsOwnImage ∷ []
 checks_of (UpgradeFile input output) = IsShort ∷ IsAcceptedElf ∷ HasImage ∷ IsAcceptedImage ∷ IsOwnImage ∷ []
+checks_of (MeasureMade seed functions cache) = FitsMade seed functions cache.block_words ∷ HoldsWords cache ∷ []
 
 -- the most bytes that a file may have
 abbrev pub file_limit : ℕ
@@ -123,6 +133,9 @@ Fails file (FitsBlocks most) r = IsLong (text_in file) most r
 Fails file (FitsUnlessImage most) r = (image_in file ≡ None) × IsLong (text_in file) most r
 Fails file (HoldsBlock cache) r =
     (cache.cache_bytes < least_cache file cache) × (r ≡ refusal.CacheSmall cache.cache_bytes (least_cache file cache))
+Fails file (FitsMade seed functions most) r = (p : ProgramData) × IsMade seed functions p × IsLong (text_of p.segments) most r
+Fails file (HoldsWords cache) r =
+    (cache.cache_bytes < 4 * cache.block_words) × (r ≡ refusal.CacheSmall cache.cache_bytes (4 * cache.block_words))
 
 -- it passes the check
 abbrev pub Passes : List ℕ → Check → Type 0
@@ -135,6 +148,8 @@ Passes file IsOwnImage = OfImage (image_in file) (λ bytes. IsImageOf (text_in f
 Passes file (FitsBlocks most) = Fits (text_in file) most
 Passes file (FitsUnlessImage most) = image_in file ≡ None → Fits (text_in file) most
 Passes file (HoldsBlock cache) = least_cache file cache ≤ cache.cache_bytes
+Passes file (FitsMade seed functions most) = (p : ProgramData) → IsMade seed functions p → Fits (text_of p.segments) most
+Passes file (HoldsWords cache) = 4 * cache.block_words ≤ cache.cache_bytes
 
 -- it is refused by the first check that it fails
 abbrev pub IsRefusedBy : List ℕ → List Check → Refusal → Type 0

@@ -2,6 +2,9 @@ pub mod Devices
 pub mod Causes
 pub mod Checks
 pub mod Runs
+pub mod Listing
+pub mod Measuring
 pub mod Answers
 pub mod Plain
 pub mod Caching
+pub mod Alike

@@ -82,11 +82,12 @@ pub record FailedAtStep (run : ℕ → FlatState) (next : FlatState → Made) (m
   pub fewer : steps < limit
   pub failed : StepFailed (run steps) (next (run steps)) (most (run steps)) before after r last
 
--- A sink failed behind the run: at the report, or at the ending's line.
+-- A sink failed behind the run: at the report, or, where that is whole, at the ending's line.
 pub record FailedAfterRun (s : FlatState) (report : List ℕ) (before after : Devices) (r : Refusal) (last : List ℕ) : Type 0 where
   pub output_front : ℕ
   pub output : Appends before.output after.output (s.output ++ take output_front report)
   pub error_front : ℕ
   pub error : Appends before.error after.error ((s.error ++ take error_front (ending_line (ending_of s))) ++ last)
+  pub behind : (error_front ≡ 0) ⊎ (output_front ≡ length report)
   pub input : after.input ≡ Some s.input
   pub fault : r ≡ refusal.SinkFault

@@ -9,8 +9,8 @@ ghost use Rattle.swi_program.specs.Layout.{IsLayoutOf};
 ghost use Rattle.swi_program.specs.Text.{text_of};
 ghost use Rattle.swi_render.specs.ImageOf.{IsImageOf};
 ghost use Rattle.swi_rom.specs.Slots.{kept_by};
-ghost use Rattle.swi_top.specs.Answers.{Answers, work_of};
-ghost use Rattle.swi_top.specs.Caching.{AnswersFile, RunsOnCache};
+ghost use Rattle.swi_top.specs.Answers.{Answers};
+ghost use Rattle.swi_top.specs.Caching.{AnswersFile, RunsOnCache, board_work};
 ghost use Rattle.swi_top.specs.Checks.{file_limit};
 ghost use Rattle.swi_top.specs.Devices.{Devices};
 ghost use Rattle.swi_top.specs.Runs.{report};
@@ -35,8 +35,8 @@ use swi_report::Work;
 use swi_rom::CacheRom;
 
 /// What a board has done besides the steps of its program.
-fn work_of(board: &Board<FifoRom>) -> Work
-    ensures { result ≡ work_of board.now.hart.count board.now.hart.machine.ending (kept_by board.now.rom) }
+pub(crate) fn work_of(board: &Board<FifoRom>) -> Work
+    ensures { result ≡ board_work board.now.hart.count board.now.hart.machine.ending (kept_by board.now.rom) }
 {
     let counts = board.rom().counts();
     let unfetched = match board.ending() {
@@ -64,7 +64,7 @@ fn report_board<O: Sink>(
     out: &mut O,
 ) -> Result<(), Failed>
     ensures bytes { WritesPiece (O.held out.old) (O.held out.new) result (report reports.now board.now.hart.machine
-        (Some (work_of board.now.hart.count board.now.hart.machine.ending (kept_by board.now.rom)))) }
+        (Some (board_work board.now.hart.count board.now.hart.machine.ending (kept_by board.now.rom)))) }
     ensures cause { HasCause (O.faults out.old) (O.faults out.new) result }
 {
     let work = work_of(board);

@@ -8,6 +8,8 @@ ghost use Rattle.swi_top.specs.Devices.{seen};
 
 use crate::cached::cached;
 use crate::check::check;
+use crate::list::list;
+use crate::measure::measure;
 use crate::plain::plain;
 use crate::rewrite::{rewrite, upgrade};
 use std::alloc::Global;
@@ -58,10 +60,18 @@ pub(crate) fn perform<F: Shelf, I: Source, O: Sink, E: Sink, R: CacheRam>(
         Command::Plain { file, options } => {
             plain(alloc, file.as_str(), options, shelf, input, out, err)
         }
+        Command::Listing { file, block_words } => {
+            list(alloc, file.as_str(), *block_words, shelf, out)
+        }
         Command::Check { file } => check(alloc, file.as_str(), shelf, out),
         Command::Upgrade {
             input: from,
             output: to,
         } => upgrade(alloc, from.as_str(), to.as_str(), shelf),
+        Command::Measure {
+            seed,
+            functions,
+            cache,
+        } => measure(alloc, *seed, *functions, cache, out, ram),
     }
 }

@@ -7,6 +7,10 @@ mod check;
 mod commands;
 mod file;
 mod image;
+mod laws;
+mod list;
+mod measure;
+mod nowhere;
 mod plain;
 mod report;
 mod rewrite;
@@ -15,4 +19,5 @@ mod sizes;
 mod tests;
 
 pub use call::top;
+pub use laws::laws_of_top;
 pub use swi_answer::{Ending, Refusal, status_of};

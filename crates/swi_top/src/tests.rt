@@ -12,6 +12,10 @@ use swi_exec::FaultKind::*;
 use swi_image::ImageRefusal;
 use swi_outside::{CacheRam, FaultRam, MemShelf, MemSink, MemSource};
 
+mod limits;
+mod list;
+mod measure;
+
 /// A file with `SEVEN` in one segment at 0x10000, by hand from the ELF document.
 const PLAIN: [u32; 24] = [
     0x464C457F, 0x00010101, 0, 0, 0x00F30002, 1, 0x00010000, 52, 0, 0, 0x00200034, 1, 0, 1, 0x54,
@@ -121,8 +125,8 @@ fn file_of(alloc: Global, text: &[u32], rights: u32, base: u32) -> Result<Vec<u8
     bytes_of(alloc, &words)
 }
 
-/// A command and all that is handed in: its words, the file's text and rights, the input, the words of the ram, and the failing calls of
-/// the devices: the number of one, 0 for none; and what then comes: the answer, the output and the errors.
+/// A command and all that is handed in: its words, the file's text and rights, the input, the words of the ram, the room of the output in
+/// bytes, and the failing calls of the devices: the number of one, 0 for none; and what then comes: the answer, the output and the errors.
 #[derive(Drop)]
 struct Row {
     words: &'static str,
@@ -130,6 +134,7 @@ struct Row {
     rights: u32,
     input: &'static str,
     ram: u32,
+    room: u32,
     shelf_fails: u32,
     input_fails: u32,
     out_fails: u32,
@@ -147,6 +152,7 @@ const QUIET: Row = Row {
     rights: 5,
     input: "",
     ram: 1024,
+    room: 4096,
     shelf_fails: 0,
     input_fails: 0,
     out_fails: 0,
@@ -187,7 +193,7 @@ fn run_words(alloc: Global, text: &str, row: &Row, file: Vec<u8>) -> Result<Stan
     let mut shelf = MemShelf::new(files, [row.shelf_fails].to_vec(alloc)?);
     let bytes = row.input.as_bytes().to_vec(alloc)?;
     let mut input = MemSource::new(bytes, [row.input_fails].to_vec(alloc)?);
-    let mut out = MemSink::new(alloc, 4096, [row.out_fails].to_vec(alloc)?)?;
+    let mut out = MemSink::new(alloc, row.room, [row.out_fails].to_vec(alloc)?)?;
     let mut err = MemSink::new(alloc, 4096, [row.err_fails].to_vec(alloc)?)?;
     let mut ram = FaultRam::new(alloc, row.ram, [row.ram_fails].to_vec(alloc)?)?;
     let answer = top(
@@ -210,7 +216,7 @@ fn holds(alloc: Global, row: &Row, file: Vec<u8>) -> Result<bool, Fail> {
 }
 
 /// Options and texts with known answers, on both machines: worked by hand from the specification of the instructions and of this program's texts.
-static ROWS: [Row; 19] = [
+static ROWS: [Row; 20] = [
     row!(words: "--steps 10"),
     row!(words: "--calls", err: "call 93 00000007 00000000 00000000\n"),
     // a loop: whole, in its midst and not begun
@@ -237,6 +243,7 @@ static ROWS: [Row; 19] = [
             call 64 00000001 00121fc0 00000003 = 00000003\n\
             call 93 00000000 00121fc0 00000003\n"),
     row!(words: "--heap 0", text: ECHO, input: "abcdefghijklmnopqrst", answer: Ok(Exited(0, 12)), out: "abcdefghijklmnop"),
+    row!(words: "--heap 0", text: ECHO, answer: Ok(Exited(0, 12))),
     row!(words: "--calls", text: ECHO, input: "abc", err_fails: 1, answer: Err(SinkFault), err: "sink fault\n"),
     // brk(0), and call 80
     row!(words: "--stack 4096", text: &[0x0D600893, 0x00000073, 0x05D00893, 0x00000073], answer: Ok(Exited(65552, 4))),
@@ -266,7 +273,7 @@ fn runs_answer_and_write_on_both_machines(rt: HostRuntime) -> Result<(), Fail> {
 }
 
 /// Commands that are refused, that fail, or that only one machine has.
-static SINGLE_ROWS: [Row; 16] = [
+static SINGLE_ROWS: [Row; 19] = [
     // a store into a text that can be written: the cached machine stops before it
     row!(text: STORE, rights: 7, answer: Ok(Exited(0, 4))),
     row!(words: "cached A", text: STORE, rights: 7, answer: Ok(StoreText(0x10004, 0x10000, 1)),
@@ -282,8 +289,12 @@ static SINGLE_ROWS: [Row; 16] = [
         err: "cache small: 255 256\n"),
     row!(words: "cached B --cache 8388609", answer: Err(CacheLarge { bytes: 8388609 }), err: "cache large: 8388609\n"),
     row!(words: "cached B --cache 20", ram: 4, answer: Err(RamSmall { bytes: 20, held: 16 }), err: "ram small: 20 16\n"),
+    row!(words: "cached B --cache 1048577", ram: 262_144, answer: Err(RamSmall { bytes: 1_048_577, held: 1_048_576 }),
+        err: "ram small: 1048577 1048576\n"),
     // words that are no command, a file that isn't there, and one without an image
     row!(words: "cashed A", answer: Err(Usage), err: USAGE),
+    row!(words: "cached A --steps x", answer: Err(Usage), err: USAGE),
+    row!(words: "cached", answer: Err(Usage), err: USAGE),
     row!(words: "", answer: Err(Usage), err: USAGE),
     row!(words: "plain B", answer: Err(ShelfFault), err: "shelf fault\n"),
     row!(words: "plain B", err_fails: 1, answer: Err(ShelfFault)),
@@ -439,21 +450,58 @@ fn cached_runs_have_their_counts(rt: HostRuntime) -> Result<(), Fail> {
     Ok(())
 }
 
-/// The ram after two runs: a link undone, whose word is an exit again, and links that stand.
-const LINKED: [u32; 10] = [
-    0x05D00893, 0x00000073, 0x00100073, 0x00010014, 0, 0x00028663, 0x00100073, 0x00010004,
-    0xFE1FF06F, 0x0001000C,
+/// Options of a cached run, its text and the failing call of its ram; and the words that then stand in the ram, with zeros behind.
+static RAMS: [(&str, &[u32], u32, &[u32]); 4] = [
+    (
+        "--block 8 --cache 64",
+        SEVEN,
+        0,
+        &[0x05D00893, 0x00700513, 0x00000073, 0x00100073, 0x0001000C],
+    ),
+    // the block is linked to itself; and its link can't be written
+    (
+        "--block 16 --cache 64",
+        COUNT,
+        0,
+        &[
+            0x00300293, 0xFFF28293, 0x00028663, 0xFF9FF06F, 0x00010004, 0x05D00893, 0x00000073,
+            0x00100073, 0x00010014,
+        ],
+    ),
+    (
+        "--block 16 --cache 64",
+        COUNT,
+        14,
+        &[
+            0x00300293, 0xFFF28293, 0x00028663, 0x00100073, 0x00010004, 0x05D00893, 0x00000073,
+            0x00100073, 0x00010014,
+        ],
+    ),
+    // a link undone, whose word is an exit again, and links that stand
+    (
+        "--block 5 --cache 40",
+        COUNT,
+        0,
+        &[
+            0x05D00893, 0x00000073, 0x00100073, 0x00010014, 0, 0x00028663, 0x00100073, 0x00010004,
+            0xFE1FF06F, 0x0001000C,
+        ],
+    ),
 ];
 
 #[test]
-fn links_stand_in_the_ram(rt: HostRuntime) -> Result<(), Fail> {
+fn blocks_and_links_stand_in_the_ram(rt: HostRuntime) -> Result<(), Fail> {
     let alloc = rt.alloc();
-    let row = row!(words: "cached A --block 5 --cache 40", text: COUNT);
-    let done = run(alloc, &row, file_of(alloc, COUNT, 5, 0x10000)?)?;
-    for (i, word) in LINKED.into_iter().enumerate() {
-        let at = i as u32;
-        assert!(rt; at < done.ram.words(), "word {i}");
-        assert_eq!(rt; done.ram.word(at), word, "word {i}");
+    for (options, text, fails, words) in RAMS.into_iter() {
+        let row = row!(ram: 16, ram_fails: fails);
+        let command = ["cached A ", options].concat(alloc)?;
+        let done = run_words(alloc, &command, &row, file_of(alloc, text, 5, 0x10000)?)?;
+        assert_eq!(rt; done.answer.is_err(), fails != 0, "{options}: {fails}");
+        for i in 0..16u32 {
+            let word = words.get(i as usize).copied().unwrap_or(0);
+            assert!(rt; i < done.ram.words(), "{options}: {i}");
+            assert_eq!(rt; done.ram.word(i), word, "{options}: {fails}, word {i}");
+        }
     }
     Ok(())
 }
@@ -578,13 +626,30 @@ static IMAGES: [(usize, u32, Refusal, &str); 12] = [
 fn a_changed_image_is_refused_by_each_command_that_reads_it(rt: HostRuntime) -> Result<(), Fail> {
     let alloc = rt.alloc();
     for (at, word, refusal, line) in IMAGES.into_iter() {
-        for words in ["cached A", "plain A", "check A", "upgrade A B"] {
+        for words in ["cached A", "plain A", "list A", "check A", "upgrade A B"] {
             let row = row!(words: words, answer: Err(refusal), err: line);
             assert!(rt;
                 holds(alloc, &row, bytes_with(alloc, &FIRST, at, word)?)?,
                 "{words}: {word} at {at}"
             );
         }
+    }
+    Ok(())
+}
+
+#[test]
+fn an_image_of_fewer_words_is_none_of_the_text(rt: HostRuntime) -> Result<(), Fail> {
+    let alloc = rt.alloc();
+    let mut words = [&FIRST[..41], &FIRST[42..]].concat(alloc)?;
+    for (at, word) in [(25, 68), (26, 68), (36, 2), (39, 0), (40, 1)] {
+        if let Some(place) = words.get_mut(at) {
+            *place = word;
+        }
+    }
+    let refusal = Mismatch(Difference::Cover { address: 0x10008 });
+    for command in ["cached A", "plain A", "list A", "check A", "upgrade A B"] {
+        let row = row!(words: command, answer: Err(refusal), err: "mismatch: cover 00010008\n");
+        assert!(rt; holds(alloc, &row, bytes_of(alloc, &words)?)?, "{command}");
     }
     Ok(())
 }
@@ -743,6 +808,19 @@ fn a_source_or_a_sink_that_fails_is_answered(rt: HostRuntime) -> Result<(), Fail
 }
 
 #[test]
+fn an_output_without_room_holds_what_came_first(rt: HostRuntime) -> Result<(), Fail> {
+    for words in ["plain A --stats", "cached A --stats"] {
+        let row =
+            row!(words: words, room: 10, answer: Err(SinkFault), out: "hi\nsteps 1", err: "sink fault\n");
+        assert!(rt;
+            holds(rt.alloc(), &row, bytes_of(rt.alloc(), &TABLE)?)?,
+            "{words}"
+        );
+    }
+    Ok(())
+}
+
+#[test]
 fn a_shelf_that_fails_changes_no_other_name(rt: HostRuntime) -> Result<(), Fail> {
     let alloc = rt.alloc();
     for call in 1..=3u32 {
@@ -779,10 +857,12 @@ static CHANGED: [(usize, u32, ElfRefusal, &str); 18] = [
 ];
 
 /// The same of the words of `DOUBLE`.
-static DOUBLE_CHANGED: [(usize, u32, ElfRefusal, &str); 3] = [
+static DOUBLE_CHANGED: [(usize, u32, ElfRefusal, &str); 5] = [
     (26, 0, Extent(1), "elf 13 Extent 1\n"),
     (23, 0x0001000B, Overlap(1), "elf 14 Overlap 1\n"),
     (23, 0x0001000C, TwoTexts(1), "elf 16 TwoTexts 1\n"),
+    (23, 0x00010000, Overlap(1), "elf 14 Overlap 1\n"),
+    (23, 0x00020000, TwoTexts(1), "elf 16 TwoTexts 1\n"),
 ];
 
 #[test]

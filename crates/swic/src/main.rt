@@ -6,7 +6,7 @@ ghost use Rattle.std.specs.Prelude.{◌^◌, ◌≤◌, IfOk, length};
 use std::alloc::{AllocError, Global};
 use std::env;
 use std::process::ExitCode;
-use swi_outside::{FolderShelf, Memory, RealSink, RealSource, VecRam};
+use swi_outside::{FolderShelf, Memory, RealSink, RealSource, SystemFolder, VecRam};
 use swi_top::{Refusal, status_of, top};
 
 /// The words of cache RAM: those of the largest cache, of 2^23 bytes.
@@ -33,7 +33,7 @@ fn run(rt: &HostRuntime, words: &[String]) -> u8 {
     let Ok(mut ram) = cache_ram(rt.alloc(), RAM_WORDS) else {
         return status_of(&Err(Refusal::Memory));
     };
-    let mut shelf = FolderShelf::new(rt);
+    let mut shelf = FolderShelf::new(SystemFolder::new(rt));
     let mut input = RealSource::new(rt.stdin());
     let mut out = RealSink::new(rt.stdout());
     let mut err = RealSink::new(rt.stderr());

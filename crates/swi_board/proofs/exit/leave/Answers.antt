@@ -12,7 +12,7 @@ returns-then-got-ne-EBREAK-clause-control g c =
     let small = g.met.R.CacheRom.small _ _ _ s in
     let l = link_at _ _ _ _ c.args.got c.args.at.0 c.args.at.1 c.args.at.2 coherent (g.met.R.CacheRom.image _ _ _ s) c.requires.exit c.if-got-ne-EBREAK.true in
     let low = index_small _ _ _ _ c.args.got c.args.at.0 c.args.at.1 c.args.at.2 coherent c.requires.exit in
-    let index : c.jump_index.result ≡ l.to = c.jump_index.ensures l.to l.jumps (omega (arith, l.small, small)) (omega (arith, low, small)) in
+    let index : c.jump_index.result ≡ l.to = c.jump_index.ensures l.to c.args.got l.jumps c.requires.offset (omega (arith, l.small, small)) (omega (arith, low, small)) in
     let target = subst (λ n. TargetAt v r n l.to) (sym c.requires.target) l.target in
     c.control_at.ensures v _ c.args.target s (subst (λ n. TargetAt v r c.args.target n) (sym index) target)
 

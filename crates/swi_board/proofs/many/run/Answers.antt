@@ -1,10 +1,11 @@
 use Rattle.std.proofs.Common.{◌≡◌, ◌-◌, ◌<◌, ◌≤◌, ℕ, List, None, is_some, true, sym, ◌∙◌, refl, subst, ap, inl, inr, arith, rules}
 use Rattle.swi_outside.specs.CacheRam.{KeepsBeyond}
 use Rattle.swi_rom.specs.Record.{writes}
+use Rattle.swi_rom.specs.Served.{SameFrom}
 use Rattle.swi_board.specs.Hart.{HartData}
 use Rattle.swi_board.specs.Leaving.{moved, transfer_at, RamStepped, RamBroken}
 use Rattle.swi_board.proofs.Running.{started_run, runs_on, goes_out, falls, kept_both}
-use Rattle.swi_board.proofs.Grown.{moved_writes}
+use Rattle.swi_board.proofs.Grown.{moved_rises}
 use Rattle.swi_board.proofs.Breaking.{device_run, ram_run}
 use Rattle.swi_board.proofs.Settling.{settles_on, stays_between, true≢false}
 use Rattle.swi_board.proofs.Causing.{causes_none, causes_from}
@@ -17,6 +18,7 @@ loop-hart-init g c = record {
   settles = λ left told between going. inr between;
   setting = refl;
   sound = c.requires.sound;
+  unused = λ i le. refl;
   quiet = refl;
 }
 
@@ -27,7 +29,9 @@ loop-hart-preserved g c =
     let more : c.loop-hart.hart.machine.steps < c.args.n = omega (arith, c.loop-hart-test.true, seen) in
     let moves = subst (λ (k : List ℕ). g.R.CacheRom.kept c.quick_step.new.rom ≡ moved (g.R.CacheRom.policy k) (g.R.CacheRom.kept c.loop-hart.rom) c.args.image.now (transfer_at c.args.image.now c.loop-hart.hart.machine c.loop-hart.hart.control)) c.loop-hart.invariant.setting s.policy in
     let stepped = subst (λ (k : List ℕ). RamStepped (g.R.CacheRom.span k) (writes (g.R.CacheRom.kept c.quick_step.new.rom) - writes (g.R.CacheRom.kept c.loop-hart.rom)) c.loop-hart.hart.control (g.M.CacheRam.state c.loop-hart.ram) (g.M.CacheRam.state c.quick_step.new.ram)) c.loop-hart.invariant.setting s.ram in
-    let rises = moved_writes (g.R.CacheRom.policy (g.R.CacheRom.setting c.args.rom.now)) (λ r v t. g.met.R.CacheRom.third (g.R.CacheRom.setting c.args.rom.now) r v t) (g.R.CacheRom.kept c.loop-hart.rom) (g.R.CacheRom.kept c.quick_step.new.rom) c.args.image.now (transfer_at c.args.image.now c.loop-hart.hart.machine c.loop-hart.hart.control) moves in
+    let rises = moved_rises (λ k. writes k) (g.R.CacheRom.policy (g.R.CacheRom.setting c.args.rom.now)) (λ r v t. g.met.R.CacheRom.third (g.R.CacheRom.setting c.args.rom.now) r v t) (g.R.CacheRom.kept c.loop-hart.rom) (g.R.CacheRom.kept c.quick_step.new.rom) c.args.image.now (transfer_at c.args.image.now c.loop-hart.hart.machine c.loop-hart.hart.control) moves in
+    let grows = moved_rises (λ k. g.R.CacheRom.extent (g.R.CacheRom.setting c.args.rom.now) k) (g.R.CacheRom.policy (g.R.CacheRom.setting c.args.rom.now)) (λ r v t. g.met.R.CacheRom.grows (g.R.CacheRom.setting c.args.rom.now) r v t) (g.R.CacheRom.kept c.loop-hart.rom) (g.R.CacheRom.kept c.quick_step.new.rom) c.args.image.now (transfer_at c.args.image.now c.loop-hart.hart.machine c.loop-hart.hart.control) moves in
+    let unused = subst (λ (k : List ℕ). SameFrom (g.R.CacheRom.extent k (g.R.CacheRom.kept c.quick_step.new.rom)) (g.M.CacheRam.state c.loop-hart.ram).words (g.M.CacheRam.state c.quick_step.new.ram).words) c.loop-hart.invariant.setting s.unused in
     let running : c.loop-hart.hart.machine.ending ≡ None = search rules in
     record {
       running = runs_on (g.R.CacheRom.policy (g.R.CacheRom.setting c.args.rom.now)) c.args.image.now c.args.n (g.R.CacheRom.span (g.R.CacheRom.setting c.args.rom.now)) c.args.hart.now (g.R.CacheRom.kept c.args.rom.now) (g.M.CacheRam.state c.args.ram.now) (g.I.Source.left c.args.input.now) (g.O.Sink.held c.args.out.now) (g.E.Sink.held c.args.err.now)
@@ -40,6 +44,7 @@ loop-hart-preserved g c =
           settles_on c.args.image.now (g.R.CacheRom.kept c.quick_step.new.rom) c.args.n c.loop-hart.hart c.quick_step.new.hart now.now.input _ _ _ _ _ more (s.made now.now.input now.left_is) going;
       setting = s.setting ∙ c.loop-hart.invariant.setting;
       sound = s.sound;
+      unused = λ i le. unused i le ∙ c.loop-hart.invariant.unused i (omega (arith, le, grows));
       quiet = s.causes.quiet ∙ c.loop-hart.invariant.quiet;
     }
 

@@ -1,4 +1,5 @@
 use Rattle.std.proofs.Common.{◌≡◌, ◌⊎◌, ◌<◌, ◌*◌, ◌+◌, ◌-◌, ℕ, List, Some, None, true}
+use Rattle.swi_rom.specs.Served.{SameFrom}
 use Rattle.swi_board.specs.Hart.{is_between}
 use Rattle.swi_board.specs.Faults.{Faults}
 use Rattle.swi_board.specs.Runs.{most}
@@ -14,6 +15,7 @@ invariant-loop-hart g l = record {
       (l.hart.machine.steps < l.n) ⊎ (is_between l.hart.control ≡ true);
   setting : g.R.CacheRom.setting l.rom ≡ g.R.CacheRom.setting l.fn.rom;
   sound : g.R.CacheRom.sound l.rom l.image (g.M.CacheRam.state l.ram).words;
+  unused : SameFrom (g.R.CacheRom.extent (g.R.CacheRom.setting l.fn.rom) (g.R.CacheRom.kept l.rom)) (g.M.CacheRam.state l.fn.ram).words (g.M.CacheRam.state l.ram).words;
   quiet : ◌≡◌ {A = Faults} (record { ram = (g.M.CacheRam.state l.ram).faults; input = g.I.Source.faults l.input; out = g.O.Sink.faults l.out; err = g.E.Sink.faults l.err })
       (record { ram = (g.M.CacheRam.state l.fn.ram).faults; input = g.I.Source.faults l.fn.input; out = g.O.Sink.faults l.fn.out; err = g.E.Sink.faults l.fn.err });
 }

@@ -4,8 +4,8 @@ use Rattle.std.proofs.Common.{Option, ap, subst, ◌+◌, ℕ, List, sym, ◌∙
 use Rattle.swi_board.proofs.Fetching.{got_some, exit_home, word_home, exit_moves, word_moves}
 use Rattle.swi_board.proofs.Steps.{made_exit, fits_exit, made_word, fits_word, exit_placed, broken_word}
 use Rattle.swi_image.specs.Place.{word_at}
-use Rattle.swi_board.specs.Hart.{exit_kind}
-use Rattle.swi_board.specs.Leaving.{exit_transfer}
+use Rattle.swi_board.specs.Hart.{exit_kind, original}
+use Rattle.swi_board.specs.Leaving.{exit_transfer, quick_role}
 use Rattle.swi_board.proofs.Grown.{grown_exit, grown_word, moved_services}
 use Rattle.swi_board.proofs.quick.at_word.Goals as goal
 
@@ -40,22 +40,22 @@ returns-in-Ok-clause-policy g c =
     rw c.requires.control (exit_moves c.args.image.now (g.R.CacheRom.kept c.exit_step.new.rom) c.args.hart.now.machine c.args.at.0 c.args.at.1 c.args.at.2 c.args.at.3
     (g.R.CacheRom.policy (g.R.CacheRom.setting c.args.rom.now)) (g.R.CacheRom.kept c.args.rom.now) e c.in-Ok.ensures.policy)
 
-pub returns-in-Ok-word_step-clause-made : goal.returns-in-Ok-word_step-clause-made
-returns-in-Ok-word_step-clause-made g c = λ left told.
+pub returns-in-Ok-role_step-clause-made : goal.returns-in-Ok-role_step-clause-made
+returns-in-Ok-role_step-clause-made g c = λ left told.
     let w = word_home c.args.image.now (g.R.CacheRom.kept c.args.rom.now) c.args.hart.now.machine _ _ c.args.at.0 c.args.at.1 c.args.at.2 c.args.at.3
     (g.met.R.CacheRom.coherent _ _ _ c.requires.sound) c.requires.home c.args.got c.in-Some.x c.requires.got (sym c.in-Some.is ∙ c.decode.ensures) (sym c.leaves.ensures ∙ c.if-leaves.false) in
-    made_word c.args.image.now (g.R.CacheRom.kept c.args.rom.now) (g.R.CacheRom.kept c.args.rom.now) c.args.hart.now c.word_step.new.hart c.args.at.0 c.args.at.1 c.args.at.2 c.args.at.3 c.requires.control
-    c.in-Some.x c.role-role.result left _ _ _ _ _ w c.role-role.ensures (c.in-Ok-word_step.ensures.did left told)
+    made_word c.args.image.now (g.R.CacheRom.kept c.args.rom.now) (g.R.CacheRom.kept c.args.rom.now) c.args.hart.now c.role_step.new.hart c.args.at.0 c.args.at.1 c.args.at.2 c.args.at.3 c.requires.control
+    c.in-Some.x (quick_role c.args.at.3 c.in-Some.x (original c.args.hart.now.machine)) left _ _ _ _ _ w refl (c.in-Ok-role_step.ensures.did left told)
 
-pub returns-in-Ok-word_step-clause-fits : goal.returns-in-Ok-word_step-clause-fits
-returns-in-Ok-word_step-clause-fits g c =
+pub returns-in-Ok-role_step-clause-fits : goal.returns-in-Ok-role_step-clause-fits
+returns-in-Ok-role_step-clause-fits g c =
     let w = word_home c.args.image.now (g.R.CacheRom.kept c.args.rom.now) c.args.hart.now.machine _ _ c.args.at.0 c.args.at.1 c.args.at.2 c.args.at.3
     (g.met.R.CacheRom.coherent _ _ _ c.requires.sound) c.requires.home c.args.got c.in-Some.x c.requires.got (sym c.in-Some.is ∙ c.decode.ensures) (sym c.leaves.ensures ∙ c.if-leaves.false) in
-    fits_word c.args.image.now (g.R.CacheRom.kept c.args.rom.now) (g.R.CacheRom.kept c.args.rom.now) c.args.hart.now c.word_step.new.hart c.args.at.0 c.args.at.1 c.args.at.2 c.args.at.3 c.requires.control
-    c.in-Some.x c.role-role.result _ _ refl c.requires.fits (sym c.requires.running) c.requires.word w c.role-role.ensures c.in-Ok-word_step.ensures.went
+    fits_word c.args.image.now (g.R.CacheRom.kept c.args.rom.now) (g.R.CacheRom.kept c.args.rom.now) c.args.hart.now c.role_step.new.hart c.args.at.0 c.args.at.1 c.args.at.2 c.args.at.3 c.requires.control
+    c.in-Some.x (quick_role c.args.at.3 c.in-Some.x (original c.args.hart.now.machine)) _ _ refl c.requires.fits (sym c.requires.running) c.requires.word w refl c.in-Ok-role_step.ensures.went
 
-pub returns-in-Ok-word_step-clause-policy : goal.returns-in-Ok-word_step-clause-policy
-returns-in-Ok-word_step-clause-policy g c =
+pub returns-in-Ok-role_step-clause-policy : goal.returns-in-Ok-role_step-clause-policy
+returns-in-Ok-role_step-clause-policy g c =
     let w = word_home c.args.image.now (g.R.CacheRom.kept c.args.rom.now) c.args.hart.now.machine _ _ c.args.at.0 c.args.at.1 c.args.at.2 c.args.at.3
     (g.met.R.CacheRom.coherent _ _ _ c.requires.sound) c.requires.home c.args.got c.in-Some.x c.requires.got (sym c.in-Some.is ∙ c.decode.ensures) (sym c.leaves.ensures ∙ c.if-leaves.false) in
     rw c.requires.control (word_moves c.args.image.now (g.R.CacheRom.kept c.args.rom.now) c.args.hart.now.machine c.args.at.0 c.args.at.1 c.args.at.2 c.args.at.3
@@ -71,12 +71,12 @@ returns-in-Ok-clause-grown g c =
     (g.R.CacheRom.kept c.args.rom.now) (g.R.CacheRom.kept c.exit_step.new.rom) c.args.image.now
     (exit_transfer (exit_kind (word_at c.args.image.now c.args.at.1 (c.args.at.2 + 1))) c.args.image.now c.args.hart.now.machine c.args.at.1 c.args.at.2) c.in-Ok.ensures.policy)
 
-pub returns-in-Ok-word_step-clause-grown : goal.returns-in-Ok-word_step-clause-grown
-returns-in-Ok-word_step-clause-grown g c =
+pub returns-in-Ok-role_step-clause-grown : goal.returns-in-Ok-role_step-clause-grown
+returns-in-Ok-role_step-clause-grown g c =
     let w = word_home c.args.image.now (g.R.CacheRom.kept c.args.rom.now) c.args.hart.now.machine _ _ c.args.at.0 c.args.at.1 c.args.at.2 c.args.at.3
     (g.met.R.CacheRom.coherent _ _ _ c.requires.sound) c.requires.home c.args.got c.in-Some.x c.requires.got (sym c.in-Some.is ∙ c.decode.ensures) (sym c.leaves.ensures ∙ c.if-leaves.false) in
-    grown_word c.args.image.now (g.R.CacheRom.kept c.args.rom.now) (g.R.CacheRom.kept c.args.rom.now) c.args.hart.now c.word_step.new.hart c.args.at.0 c.args.at.1 c.args.at.2 c.args.at.3 c.requires.control
-    (sym c.requires.running) c.in-Some.x c.role-role.result _ _ refl w c.role-role.ensures c.in-Ok-word_step.ensures.went
+    grown_word c.args.image.now (g.R.CacheRom.kept c.args.rom.now) (g.R.CacheRom.kept c.args.rom.now) c.args.hart.now c.role_step.new.hart c.args.at.0 c.args.at.1 c.args.at.2 c.args.at.3 c.requires.control
+    (sym c.requires.running) c.in-Some.x (quick_role c.args.at.3 c.in-Some.x (original c.args.hart.now.machine)) _ _ refl w refl c.in-Ok-role_step.ensures.went
 
 pub returns-in-Ok-clause-causes : goal.returns-in-Ok-clause-causes
 returns-in-Ok-clause-causes g c =
@@ -88,16 +88,16 @@ returns-in-Err-clause-placed g c = λ is.
     (g.met.R.CacheRom.coherent _ _ _ c.requires.sound) c.requires.home c.args.got c.in-Some.x c.requires.got (sym c.in-Some.is ∙ c.decode.ensures) (sym c.leaves.ensures ∙ c.if-leaves.true) in
     exit_placed c.args.image.now c.args.hart.now.machine c.args.hart.now.control c.args.at.0 c.args.at.1 c.args.at.2 c.args.at.3 c.requires.control e c.in-Err.ensures.placed
 
-pub returns-in-Err-word_step-clause-broke : goal.returns-in-Err-word_step-clause-broke
-returns-in-Err-word_step-clause-broke g c =
-    on_device Unit _ c.in-Err-word_step.fault c.fault_of.result c.fault_of.ensures (λ left told.
+pub returns-in-Err-role_step-clause-broke : goal.returns-in-Err-role_step-clause-broke
+returns-in-Err-role_step-clause-broke g c =
+    on_device Unit _ c.in-Err-role_step.fault c.fault_of.result c.fault_of.ensures (λ left told.
     let w = word_home c.args.image.now (g.R.CacheRom.kept c.args.rom.now) c.args.hart.now.machine _ _ c.args.at.0 c.args.at.1 c.args.at.2 c.args.at.3
     (g.met.R.CacheRom.coherent _ _ _ c.requires.sound) c.requires.home c.args.got c.in-Some.x c.requires.got (sym c.in-Some.is ∙ c.decode.ensures) (sym c.leaves.ensures ∙ c.if-leaves.false) in
-    broken_word c.args.image.now (g.R.CacheRom.kept c.args.rom.now) c.args.hart.now c.word_step.new.hart.machine.bus c.args.at.0 c.args.at.1 c.args.at.2 c.args.at.3 c.requires.control
-    c.in-Some.x c.role-role.result left _ _ _ _ _ w c.role-role.ensures c.in-Err-word_step.ensures.asked
-    (subst (λ (k : Option (List ℕ)). Moved c.args.hart.now.machine c.word_step.new.hart.machine.bus k (g.I.Source.left c.word_step.new.input)) told c.in-Err-word_step.ensures.moved)
-    (c.in-Err-word_step.ensures.output_prefix left told) (c.in-Err-word_step.ensures.error_prefix left told))
+    broken_word c.args.image.now (g.R.CacheRom.kept c.args.rom.now) c.args.hart.now c.role_step.new.hart.machine.bus c.args.at.0 c.args.at.1 c.args.at.2 c.args.at.3 c.requires.control
+    c.in-Some.x (quick_role c.args.at.3 c.in-Some.x (original c.args.hart.now.machine)) left _ _ _ _ _ w refl c.in-Err-role_step.ensures.asked
+    (subst (λ (k : Option (List ℕ)). Moved c.args.hart.now.machine c.role_step.new.hart.machine.bus k (g.I.Source.left c.role_step.new.input)) told c.in-Err-role_step.ensures.moved)
+    (c.in-Err-role_step.ensures.output_prefix left told) (c.in-Err-role_step.ensures.error_prefix left told))
 
-pub returns-in-Err-word_step-clause-causes : goal.returns-in-Err-word_step-clause-causes
-returns-in-Err-word_step-clause-causes g c =
-    causes_answer _ _ _ c.in-Err-word_step.fault c.fault_of.result c.fault_of.ensures c.in-Err-word_step.ensures.causes
+pub returns-in-Err-role_step-clause-causes : goal.returns-in-Err-role_step-clause-causes
+returns-in-Err-role_step-clause-causes g c =
+    causes_answer _ _ _ c.in-Err-role_step.fault c.fault_of.result c.fault_of.ensures c.in-Err-role_step.ensures.causes

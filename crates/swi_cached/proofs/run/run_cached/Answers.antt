@@ -7,6 +7,7 @@ use Rattle.swi_cached.specs.declared.run.CachedStop.TheVariants as stop
 use Rattle.swi_cached.specs.Cached.{run_of}
 use Rattle.swi_cached.proofs.Boot.{carries_booted, services_booted}
 use Rattle.swi_cached.proofs.Ended.{has_ended, is_short, ram_after, ran_on, kept_on}
+use Rattle.swi_cached.proofs.Fetched.{is_counted}
 use Rattle.swi_cached.proofs.Failed.{all_steps, ram_failed, boot_failed, step_failed, is_flat_run, stops_before_store}
 use Rattle.swi_cached.proofs.Causing.{causes_quiet, causes_run, as_stop, as_stops, is_ram, is_source, on_device}
 use Rattle.swi_cached.proofs.run.run_cached.Goals as goal
@@ -72,7 +73,14 @@ returns-in-Ok-run-clause-ram g c = λ x told.
     let carries = carries_booted c.args.image.now (kept_by c.in-Ok.board.rom) c.in-Ok.board.hart (machine_of c.args.program.now c.args.layout.now c.args.log) booted.machine booted.between booted.fits in
     let ran = ran_on (run_of c.args.image.now c.args.cache_bytes c.args.program.now c.args.layout.now c.args.log c.args.limit x) c.in-Ok.board.hart c.run.new.self.hart c.in-Ok.board.rom (kept_by c.run.new.self.rom) (g.R.CacheRam.state c.args.ram.now) (g.R.CacheRam.state c.boot.new.ram) (g.I.Source.left c.run.new.input) (g.O.Sink.held c.args.out.now) (g.O.Sink.held c.run.new.out) (g.E.Sink.held c.args.err.now) (g.E.Sink.held c.run.new.err) booted refl (c.in-Ok-run.ensures.ran x told (machine_of c.args.program.now c.args.layout.now c.args.log) carries booted.matches) in
     ram_after (run_of c.args.image.now c.args.cache_bytes c.args.program.now c.args.layout.now c.args.log c.args.limit x) c.in-Ok.board.hart c.run.new.self.hart c.in-Ok.board.rom (kept_by c.run.new.self.rom) (g.R.CacheRam.state c.args.ram.now) (g.R.CacheRam.state c.boot.new.ram) (g.R.CacheRam.state c.run.new.ram) (g.I.Source.left c.run.new.input) (g.O.Sink.held c.args.out.now) (g.O.Sink.held c.run.new.out) (g.E.Sink.held c.args.err.now) (g.E.Sink.held c.run.new.err) booted ran (c.in-Ok-run.ensures.settled x told booted.between)
-    c.run.new.self.rom refl c.in-Ok-run.ensures.setting c.in-Ok-run.ensures.sound c.in-Ok-run.ensures.ram
+    c.run.new.self.rom refl c.in-Ok-run.ensures.setting c.in-Ok-run.ensures.sound c.in-Ok-run.ensures.ram c.in-Ok-run.ensures.unused
+
+pub returns-in-Ok-run-clause-counted : goal.returns-in-Ok-run-clause-counted
+returns-in-Ok-run-clause-counted g c = λ left.
+    let booted = c.in-Ok.ensures.booted c.args.limit left in
+    is_counted (run_of c.args.image.now c.args.cache_bytes c.args.program.now c.args.layout.now c.args.log c.args.limit left)
+    (carries_booted c.args.image.now (kept_by c.in-Ok.board.rom) c.in-Ok.board.hart (machine_of c.args.program.now c.args.layout.now c.args.log) booted.machine booted.between booted.fits)
+    c.in-Ok.ensures.word refl
 
 pub returns-in-Ok-run-clause-kept : goal.returns-in-Ok-run-clause-kept
 returns-in-Ok-run-clause-kept g c = kept_on (run_of c.args.image.now c.args.cache_bytes c.args.program.now c.args.layout.now c.args.log c.args.limit []) c.in-Ok.board.hart c.in-Ok.board.rom _ _ _ (c.in-Ok.ensures.booted c.args.limit []) c.in-Ok-run.ensures.kept

@@ -1,4 +1,4 @@
-use Rattle.std.proofs.Common.{rules, ◌≡◌, true, None}
+use Rattle.std.proofs.Common.{rules, ◌≡◌, true}
 use Rattle.swi_exec.specs.Execute.{lets_update}
 use Rattle.swi_exec.proofs.Texts.{apart}
 use Rattle.swi_exec.proofs.atomic.update.Goals as goal

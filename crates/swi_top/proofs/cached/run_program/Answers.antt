@@ -76,7 +76,7 @@ returns-in-Ok-report_board g c = λ d.
     let quiet = e.causes.quiet in
     run_ended c.args.options.now c.args.cache.now c.args.image.now c.args.prepared.now.program c.args.prepared.now.layout before h _
     (g.I.Source.left c.run_cached.new.input) (g.O.Sink.held c.run_cached.new.out) (g.O.Sink.held c.report_board.new.out) (g.E.Sink.held c.run_cached.new.err) (g.R.CacheRam.state c.run_cached.new.ram)
-    (g.I.Source.faults c.run_cached.new.input) (g.O.Sink.faults c.report_board.new.out) (g.E.Sink.faults c.run_cached.new.err) _ holds e.kept e.ended e.short e.ram ends c.in-Ok-report_board.ensures.bytes
+    (g.I.Source.faults c.run_cached.new.input) (g.O.Sink.faults c.report_board.new.out) (g.E.Sink.faults c.run_cached.new.err) _ holds e.kept e.ended e.short e.ram e.counted ends c.in-Ok-report_board.ensures.bytes
     (ap (λ (x : Faults). x.input) quiet) (c.in-Ok-report_board.ensures.cause.quiet ∙ ap (λ (x : Faults). x.out) quiet) (ap (λ (x : Faults). x.err) quiet) (ap (λ (x : Faults). x.ram) quiet)
 
 pub returns : goal.returns
@@ -94,7 +94,7 @@ returns g c = λ d.
     let quiet = e.causes.quiet in
     report_broke c.args.options.now c.args.cache.now c.args.image.now c.args.prepared.now.program c.args.prepared.now.layout before h _
     (g.I.Source.left c.run_cached.new.input) (g.O.Sink.held c.run_cached.new.out) (g.O.Sink.held c.report_board.new.out) (g.E.Sink.held c.run_cached.new.err) (g.R.CacheRam.state c.run_cached.new.ram)
-    (g.I.Source.faults c.run_cached.new.input) (g.O.Sink.faults c.report_board.new.out) (g.E.Sink.faults c.run_cached.new.err) holds e.kept e.ended e.ram c.in-Err.ensures.bytes
+    (g.I.Source.faults c.run_cached.new.input) (g.O.Sink.faults c.report_board.new.out) (g.E.Sink.faults c.run_cached.new.err) holds e.kept e.ended e.ram e.counted c.in-Err.ensures.bytes
     (ap (λ (x : Faults). x.input) quiet)
     (subst (λ (n : ℕ). n ≤ g.O.Sink.faults c.report_board.new.out) (ap (λ (x : Faults). x.out) quiet) c.in-Err.ensures.cause.later)
     (subst (λ (n : ℕ). Rose n (g.O.Sink.faults c.report_board.new.out)) (ap (λ (x : Faults). x.out) quiet) c.in-Err.ensures.cause.failed)

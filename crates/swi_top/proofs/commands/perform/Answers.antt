@@ -17,6 +17,14 @@ returns-in-Plain g c =
     let answers = rw c.as_str-in-Plain.ensures.value at (c.plain.ensures before) in
     rw c.in-Plain.is answers
 
+pub returns-in-Listing : goal.returns-in-Listing
+returns-in-Listing g c =
+    let before : Devices = seen (g.F.Shelf.contents c.args.shelf.now) (g.F.Shelf.last_failed c.args.shelf.now) (g.F.Shelf.faults c.args.shelf.now)
+    (g.I.Source.left c.args.input.now) (g.I.Source.faults c.args.input.now) (g.O.Sink.held c.args.out.now) (g.O.Sink.faults c.args.out.now)
+    (g.E.Sink.held c.args.err.now) (g.E.Sink.faults c.args.err.now) (g.R.CacheRam.state c.args.ram.now) in
+    let answers = rw c.as_str-in-Listing.ensures.value at (c.list.ensures before) in
+    rw c.in-Listing.is answers
+
 pub returns-in-Check : goal.returns-in-Check
 returns-in-Check g c =
     let before : Devices = seen (g.F.Shelf.contents c.args.shelf.now) (g.F.Shelf.last_failed c.args.shelf.now) (g.F.Shelf.faults c.args.shelf.now)
@@ -40,3 +48,10 @@ returns-in-Cached g c =
     (g.E.Sink.held c.args.err.now) (g.E.Sink.faults c.args.err.now) (g.R.CacheRam.state c.args.ram.now) in
     let answers = rw c.as_str-in-Cached.ensures.value at (c.cached.ensures before) in
     rw c.in-Cached.is answers
+
+pub returns-in-Measure : goal.returns-in-Measure
+returns-in-Measure g c =
+    let before : Devices = seen (g.F.Shelf.contents c.args.shelf.now) (g.F.Shelf.last_failed c.args.shelf.now) (g.F.Shelf.faults c.args.shelf.now)
+    (g.I.Source.left c.args.input.now) (g.I.Source.faults c.args.input.now) (g.O.Sink.held c.args.out.now) (g.O.Sink.faults c.args.out.now)
+    (g.E.Sink.held c.args.err.now) (g.E.Sink.faults c.args.err.now) (g.R.CacheRam.state c.args.ram.now) in
+    rw c.in-Measure.is (c.measure.ensures before)

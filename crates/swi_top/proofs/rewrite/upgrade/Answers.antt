@@ -9,7 +9,7 @@ use Rattle.swi_top.proofs.rewrite.upgrade.Goals as goal
 pub returns-in_err-file : goal.returns-in_err-file
 returns-in_err-file g c =
     let p = err_from_is_err_and c.from_residual.result c.from_residual.ensures.1 in
-    rw (p.1, p.2) (λ d. read_refused _ _ _ _ _ _ refl c.in_err-file.ensures.same c.in_err-file.ensures.refused c.in_err-file.ensures.cause)
+    rw (p.1, p.2) (λ d. read_refused _ _ _ _ _ _ _ refl refl c.in_err-file.ensures.same c.in_err-file.ensures.refused c.in_err-file.ensures.cause)
 
 pub returns-in_err-bytes : goal.returns-in_err-bytes
 returns-in_err-bytes g c =

@@ -1,5 +1,5 @@
 use Rattle.std.proofs.Common.{◌≡◌, List, ℕ, Some, sym, subst, refl}
-use Rattle.swi_command.specs.CommandLine.{form_named, rewrite_form, cached_form, plain_form, check_form, upgrade_form}
+use Rattle.swi_command.specs.CommandLine.{form_named, rewrite_form, cached_form, plain_form, list_form, check_form, upgrade_form, measure_form}
 use Rattle.swi_command.proofs.Naming.{form_named-none}
 use Rattle.swi_command.proofs.name.CommandName.named.Goals as goal
 
@@ -15,6 +15,10 @@ pub returns-in-plain : goal.returns-in-plain
 unfolding form_named
 returns-in-plain c = subst (λ (w : List ℕ). Some plain_form ≡ form_named w) (sym c.in-plain.is) refl
 
+pub returns-in-list : goal.returns-in-list
+unfolding form_named
+returns-in-list c = subst (λ (w : List ℕ). Some list_form ≡ form_named w) (sym c.in-list.is) refl
+
 pub returns-in-check : goal.returns-in-check
 unfolding form_named
 returns-in-check c = subst (λ (w : List ℕ). Some check_form ≡ form_named w) (sym c.in-check.is) refl
@@ -23,7 +27,11 @@ pub returns-in-upgrade : goal.returns-in-upgrade
 unfolding form_named
 returns-in-upgrade c = subst (λ (w : List ℕ). Some upgrade_form ≡ form_named w) (sym c.in-upgrade.is) refl
 
+pub returns-in-measure : goal.returns-in-measure
+unfolding form_named
+returns-in-measure c = subst (λ (w : List ℕ). Some measure_form ≡ form_named w) (sym c.in-measure.is) refl
+
 pub returns-in_default : goal.returns-in_default
 returns-in_default c =
     sym (form_named-none c.args.word.now c.in_default.not-rewrite c.in_default.not-cached c.in_default.not-plain
-    c.in_default.not-check c.in_default.not-upgrade)
+    c.in_default.not-list c.in_default.not-check c.in_default.not-upgrade c.in_default.not-measure)

@@ -1,21 +1,18 @@
-use Rattle.std.proofs.Common.{◌≡◌, ℕ, List, ap, rules}
+use Rattle.std.proofs.Common.{◌≡◌, List, ℕ, Result, ap, subst, rules}
+use Rattle.swi_calls.specs.declared.end.CallFault.{CallFault}
 use Rattle.swi_calls.specs.declared.machine.Machine.{Machine}
-use Rattle.swi_calls.specs.Flat.{made, call_made}
-use Rattle.swi_flat.proofs.Steps.{prefix_as}
+use Rattle.swi_calls.specs.Causes.{Faults}
+use Rattle.swi_calls.specs.Exchange.{Devices, Exchange, Exchanged}
+use Rattle.swi_calls.specs.Flat.{made, call_made, exchange_of}
 use Rattle.swi_flat.proofs.flat.Flat.step.Goals as goal
 
-pub returns-in-Call-clause-output_prefix : goal.returns-in-Call-clause-output_prefix
-unfolding made
-returns-in-Call-clause-output_prefix g c =
-    let after : Machine = record c.self.inside.machine { regs = c.exec.new.regs; bus = c.exec.new.bus } in
-    let is : (left : List ℕ) → made c.args.self.now.machine left ≡ call_made after left = λ left. search rules in
-    prefix_as c.call_step-result.result (g.I.Source.left c.args.input.now) (g.O.Sink.held c.args.out.now) (g.O.Sink.held c.call_step-result.new.out)
-    (λ left. (call_made after left).output) (λ left. (made c.args.self.now.machine left).output) (λ left. ap (λ m. m.output) (is left)) c.call_step-result.ensures.output_prefix
+-- the same step, spelled in another way
+spelled : {T : Type 0} {does other : List ℕ → Exchange} {d e : Devices} {p q : Faults} {r : Result T CallFault} → ((left : List ℕ) → does left ≡ other left) → Exchanged does d e p q r → Exchanged other d e p q r
+spelled {d = d} {e = e} {p = p} {q = q} {r = r} same x = subst (λ (f : List ℕ → Exchange). Exchanged f d e p q r) (λ i left. same left i) x
 
-pub returns-in-Call-clause-error_prefix : goal.returns-in-Call-clause-error_prefix
+pub returns-in-Call-clause-devices : goal.returns-in-Call-clause-devices
 unfolding made
-returns-in-Call-clause-error_prefix g c =
+returns-in-Call-clause-devices g c =
     let after : Machine = record c.self.inside.machine { regs = c.exec.new.regs; bus = c.exec.new.bus } in
-    let is : (left : List ℕ) → made c.args.self.now.machine left ≡ call_made after left = λ left. search rules in
-    prefix_as c.call_step-result.result (g.I.Source.left c.args.input.now) (g.E.Sink.held c.args.err.now) (g.E.Sink.held c.call_step-result.new.err)
-    (λ left. (call_made after left).error) (λ left. (made c.args.self.now.machine left).error) (λ left. ap (λ m. m.error) (is left)) c.call_step-result.ensures.error_prefix
+    let is : (left : List ℕ) → call_made after left ≡ made c.args.self.now.machine left = λ left. search rules in
+    spelled (λ left. ap exchange_of (is left)) c.call_step-result.ensures.devices

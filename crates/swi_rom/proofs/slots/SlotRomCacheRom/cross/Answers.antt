@@ -3,6 +3,7 @@ use Rattle.swi_rom.specs.Record.{direct}
 use Rattle.swi_rom.specs.Slots.{Slots}
 use Rattle.swi_rom.proofs.Crossing.{outside_served}
 use Rattle.swi_rom.proofs.Calls.{place_block, index_fits, exit_not_linked, home_within, home_read, exit_after, index_after, links_after, free_after, crossed_call, crossed_fault}
+use Rattle.swi_rom.proofs.Unused.{setting_same, unused_stays}
 use Rattle.swi_rom.proofs.slots.SlotRomCacheRom.cross.Goals as goal
 
 pub returns-in-None-clause-served : goal.returns-in-None-clause-served
@@ -52,3 +53,14 @@ returns-in-Ok-link_exit-clause-stays g c =
 pub returns-in-Err-link_exit-clause-served : goal.returns-in-Err-link_exit-clause-served
 returns-in-Err-link_exit-clause-served g c = λ b o f h lt at.
     crossed_fault _ _ _ _ _ _ _ _ _ _ _ _ (sym c.in-Some.ensures.place) c.in-Ok.ensures.arrived c.in-Err-link_exit.ensures.failed
+
+pub returns-in-Ok-link_exit-clause-unused : goal.returns-in-Ok-link_exit-clause-unused
+returns-in-Ok-link_exit-clause-unused g c =
+    let x = c.requires.exit in
+    let call = crossed_call _ _ _ _ _ _ c.in-Ok.slot _ _ _ _ _ _ _ c.requires.sound x (sym c.in-Some.ensures.place) c.in-Ok.ensures.arrived
+    (home_read _ _ _ _ _ _ _ c.self.view_is c.requires.sound x c.index-home.ensures)
+    (ap (λ (n : ℕ). c.in-Ok.slot * n + c.in-Some.place.1) (ap (λ (s : Slots). s.size) c.self-2.view_is ∙ c.in-Ok.ensures.size))
+    c.in-Ok-link_exit.ensures.linked in
+    let served = call.0 x.block x.offset x.first x.is_placed (omega (arith, x.is_exit.inside)) x.index in
+    unused_stays c.args.self.now c.link_exit.new.self c.args.image.now (direct x.block x.offset c.args.target) _ _ c.requires.sound call.1
+    (setting_same c.args.self.now c.link_exit.new.self (c.in-Ok-link_exit.ensures.slots ∙ c.in-Ok.ensures.slots) (c.in-Ok-link_exit.ensures.size ∙ c.in-Ok.ensures.size)) served.moves served.words

@@ -3,6 +3,7 @@ use Rattle.swi_rom.specs.Record.{indirect}
 use Rattle.swi_rom.specs.Slots.{Slots}
 use Rattle.swi_rom.proofs.Crossing.{outside_served, fault_served}
 use Rattle.swi_rom.proofs.Calls.{place_block, index_fits, entered_call}
+use Rattle.swi_rom.proofs.Unused.{setting_same, unused_stays}
 use Rattle.swi_rom.proofs.slots.SlotRomCacheRom.enter.Goals as goal
 
 pub returns-in-None-clause-served : goal.returns-in-None-clause-served
@@ -19,3 +20,8 @@ returns-in-Err-clause-served g c = fault_served _ _ _ _ _ _ _ _ _ (sym c.in-Some
 pub returns-clause-served : goal.returns-clause-served
 returns-clause-served g c =
     entered_call _ _ _ _ _ c.in-Ok.slot c.self.inside.size _ _ _ c.in-Ok.ensures.arrived (sym c.in-Some.ensures.place) (ap (λ (s : Slots). s.size) c.self.view_is ∙ c.in-Ok.ensures.size)
+
+pub returns-clause-unused : goal.returns-clause-unused
+returns-clause-unused g c =
+    let served = entered_call _ _ _ _ _ c.in-Ok.slot c.self.inside.size _ _ _ c.in-Ok.ensures.arrived (sym c.in-Some.ensures.place) (ap (λ (s : Slots). s.size) c.self.view_is ∙ c.in-Ok.ensures.size) in
+    unused_stays c.args.self.now c.arrive.new.self c.args.image.now (indirect c.args.target) _ _ c.requires.sound c.in-Ok.ensures.arrived.sound (setting_same c.args.self.now c.arrive.new.self c.in-Ok.ensures.slots c.in-Ok.ensures.size) served.moves served.words

@@ -1,0 +1,157 @@
+//! A step over a plain word, which need not be the image's.
+#![tactic(auto)]
+
+ghost use Rattle.std.specs.Prelude.{◌≡◌, ◌⊎◌, ◌-◌, ◌^◌, ◌<◌, ℕ, OnOk, OnErr, IsErrOf, MatchOption, Some, None, true, false};
+ghost use Rattle.std.specs.Option.{ForSome};
+ghost use Rattle.swi_isa.specs.Decode.{decoded};
+ghost use Rattle.swi_memory.specs.Bus.{fetched};
+ghost use Rattle.swi_calls.specs.declared.machine.Machine.{Machine};
+ghost use Rattle.swi_image.specs.Place.{word_at};
+ghost use Rattle.swi_render.specs.Carried.{Carries};
+ghost use Rattle.swi_outside.specs.CacheRam.{KeepsBeyond};
+ghost use Rattle.swi_rom.specs.Record.{Record, writes};
+ghost use Rattle.swi_rom.specs.Served.{SameFrom};
+ghost use Rattle.swi_board.specs.Board.{Fits, Matches};
+ghost use Rattle.swi_board.specs.Hart.{next_made, role_of, original};
+ghost use Rattle.swi_board.specs.Ran.{Followed};
+ghost use Rattle.swi_board.specs.Calling.{Made, BrokenStep, OnDevice, with_memory};
+ghost use Rattle.swi_board.specs.Exchanged.{Exchanged, PlainAt, ExecutesHeld, is_plain};
+ghost use Rattle.swi_board.specs.Faults.{HasCauses};
+ghost use Rattle.swi_board.specs.Leaving.{Home, RamStepped, RamBroken, broken, moved, transfer_at};
+ghost use Rattle.swi_board.specs.Runs.{Grown};
+
+use crate::fault::BoardFault;
+use crate::hart::{Control, Hart, Role, Stage};
+use crate::step::role;
+use crate::word::run_word;
+use swi_image::ImageView;
+use swi_isa::{Instr, decode};
+use swi_outside::{CacheRam, Sink, Source};
+use swi_rom::CacheRom;
+
+/// Whether a word is plain: LUI, or arithmetic.
+fn is_plain(word: u32) -> bool
+    ensures { result ≡ is_plain (decoded word) }
+{
+    matches!(
+        decode(word),
+        Some(Instr::Lui { .. } | Instr::Alu { .. } | Instr::Op { .. })
+    )
+}
+
+/// The place under control and the image's word there, where that is plain.
+pub(crate) fn plain_place(
+    hart: &Hart,
+    image: &ImageView<'_>,
+) -> Option<((u32, u32, u32, Stage), u32)>
+    requires running { hart.now.machine.ending ≡ None }
+    requires fits { (r : Record) × Fits image.now r hart.now }
+    ensures word { hart.now.machine.pc < 2 ^ 32 }
+    ensures place { MatchOption result ((i b o : ℕ) (stage : Stage) → hart.now.control ≡ Control.At i b o stage →
+        is_plain (decoded (word_at image.now b o)) ≡ false)
+        (λ p. (hart.now.control ≡ Control.At p.0.0 p.0.1 p.0.2 p.0.3) × (p.1 ≡ word_at image.now p.0.1 p.0.2)
+        × (is_plain (decoded p.1) ≡ true)) }
+{
+    let _pc = hart.origin_pc();
+    match hart.control.control() {
+        Control::At(i, b, o, stage) => {
+            let own = image.word(b, o);
+            if is_plain(own) {
+                Some(((i, b, o, stage), own))
+            } else {
+                None
+            }
+        }
+        Control::Outside => None,
+    }
+}
+
+/// A step at a word of the ram where the image has a plain word: the word that is fetched is executed, by the role of
+/// the image's.
+#[inline(never)]
+pub(crate) fn plain_step<R: CacheRom, M: CacheRam, I: Source, O: Sink, E: Sink>(
+    hart: &mut Hart,
+    rom: &mut R,
+    image: &ImageView<'_>,
+    ram: &mut M,
+    input: &mut I,
+    out: &mut O,
+    err: &mut E,
+    at: (u32, u32, u32, Stage),
+    own: u32,
+) -> Result<(), BoardFault>
+    requires running { hart.old.machine.ending ≡ None }
+    requires unfailed { hart.old.failed ≡ false }
+    requires word { hart.old.machine.pc < 2 ^ 32 }
+    requires control { hart.old.control ≡ Control.At at.0 at.1 at.2 at.3 }
+    requires home { Home image.now (R.kept rom.old) hart.old.machine at.0 at.1 at.2 at.3 }
+    requires own { own ≡ word_at image.now at.1 at.2 }
+    requires plain { is_plain (decoded own) ≡ true }
+    requires few { hart.old.machine.steps < 2 ^ 48 }
+    requires count { hart.old.count < 2 ^ 56 }
+    requires services { (R.kept rom.old).counts.services < 2 ^ 50 }
+    requires fits { Fits image.now (R.kept rom.old) hart.old }
+    requires sound { R.sound rom.old image.now (M.state ram.old).words
+        ⊎ Exchanged (λ words. R.sound rom.old image.now words) image.now (M.state ram.old).words hart.old.control }
+    ensures follows { R.sound rom.old image.now (M.state ram.old).words →
+        OnOk result (ForSome (I.left input.old) (λ left. (f : Machine) → Carries (fetched f.bus) image.now →
+        Matches image.now (R.kept rom.old) f hart.old.machine hart.old.control →
+        Followed image.now (R.kept rom.new) hart.new (next_made image.now hart.old.machine hart.old.control f left)
+        (I.left input.new) (O.held out.old) (O.held out.new) (E.held err.old) (E.held err.new))) }
+    ensures made { R.sound rom.old image.now (M.state ram.old).words →
+        OnOk result (ForSome (I.left input.old) (λ left. Made image.now (R.kept rom.new) hart.old hart.new left
+        (I.left input.new) (O.held out.old) (O.held out.new) (E.held err.old) (E.held err.new))) }
+    ensures executes { OnOk result ((i b o : ℕ) (stage : Stage) →
+        PlainAt image.now (M.state ram.old).words hart.old.control i b o stage →
+        ExecutesHeld hart.old hart.new rom.old rom.new i b o stage (M.state ram.old).words (M.state ram.new).words
+        (I.left input.old) (I.left input.new) (O.held out.old) (O.held out.new) (E.held err.old) (E.held err.new)) }
+    ensures whole { OnOk result ((i b o : ℕ) (stage : Stage) →
+        PlainAt image.now (M.state ram.old).words hart.old.control i b o stage →
+        role_of stage (original hart.old.machine) ≡ Role.Whole → Fits image.now (R.kept rom.new) hart.new) }
+    ensures unfailed { OnOk result (hart.new.failed ≡ false) }
+    ensures booted { OnOk result (hart.new.booted ≡ hart.old.booted) }
+    ensures fits { R.sound rom.old image.now (M.state ram.old).words →
+        OnOk result (Fits image.now (R.kept rom.new) hart.new) }
+    ensures policy { OnOk result (R.kept rom.new ≡ moved (R.policy (R.setting rom.old)) (R.kept rom.old) image.now
+        (transfer_at image.now hart.old.machine hart.old.control)) }
+    ensures setting { R.setting rom.new ≡ R.setting rom.old }
+    ensures sound { R.sound rom.old image.now (M.state ram.old).words →
+        OnOk result (R.sound rom.new image.now (M.state ram.new).words) }
+    ensures unused { OnOk result (SameFrom (R.extent (R.setting rom.old) (R.kept rom.new))
+        (M.state ram.old).words (M.state ram.new).words) }
+    ensures ram { OnOk result (RamStepped (R.span (R.setting rom.old))
+        (writes (R.kept rom.new) - writes (R.kept rom.old)) hart.old.control
+        (M.state ram.old) (M.state ram.new)) }
+    ensures grown { R.sound rom.old image.now (M.state ram.old).words →
+        OnOk result (Grown image.now (R.kept rom.old) (R.kept rom.new) hart.old hart.new) }
+    ensures stopped { OnErr result (hart.new ≡ broken (with_memory hart.old hart.new.machine.bus)) }
+    ensures broke { R.sound rom.old image.now (M.state ram.old).words →
+        OnDevice result (ForSome (I.left input.old) (λ left. BrokenStep image.now (R.kept rom.old) hart.old left
+        (I.left input.new) (O.held out.old) (O.held out.new) (E.held err.old) (E.held err.new))) }
+    ensures unwritten { IsErrOf result BoardFault.SourceFault → (O.held out.new ≡ O.held out.old) × (E.held err.new
+        ≡ E.held err.old) }
+    ensures others_stay { IsErrOf result BoardFault.RamFault →
+        (I.left input.new ≡ I.left input.old) × ((O.held out.new ≡ O.held out.old) × (E.held err.new
+        ≡ E.held err.old)) }
+    ensures ram_failed { IsErrOf result BoardFault.RamFault → RamBroken image.now hart.old.machine hart.old.control
+        (R.span (R.setting rom.old)) (M.state ram.old) (M.state ram.new) }
+    ensures kept { KeepsBeyond (R.span (R.setting rom.old)) (M.state ram.old) (M.state ram.new) }
+    ensures causes { HasCauses
+        (record { ram = (M.state ram.old).faults; input = I.faults input.old; out = O.faults out.old; err = E.faults err.old })
+        (record { ram = (M.state ram.new).faults; input = I.faults input.new; out = O.faults out.new; err = E.faults err.new }) result }
+{
+    let (i, _, _, stage) = at;
+    let got = match ram.fetch(i) {
+        Ok(got) => got,
+        Err(_) => {
+            hart.failed = true;
+            return Err(BoardFault::RamFault);
+        }
+    };
+    let (Some(image_word), Some(x)) = (decode(own), decode(got)) else {
+        unreachable!()
+    };
+    let role = role(hart, stage, &image_word);
+    run_word(hart, at, &x, role);
+    Ok(())
+}

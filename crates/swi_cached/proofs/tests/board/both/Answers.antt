@@ -1,0 +1,8 @@
+use Rattle.std.proofs.Common.{◌≤◌, length, subst, ◌∙◌}
+use Rattle.swi_rom.specs.Slots.{Slots, setting_of, span_of}
+use Rattle.swi_cached.proofs.tests.board.both.Goals as goal
+
+pub run_on-requires-2-clause-new : goal.run_on-requires-2-clause-new
+run_on-requires-2-clause-new c = λ v words image same fits.
+    c.in_ok-fifo.ensures.sound v words image (c.block_words-3.ensures.value ∙ same)
+    (subst (λ (s : Slots). span_of (setting_of s) ≤ length words) c.in_ok-fifo.ensures.empty fits)

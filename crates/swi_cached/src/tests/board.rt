@@ -1,0 +1,230 @@
+//! The same runs by the calls of a board, over each of the two services.
+
+ghost use Rattle.std.specs.Prelude.{◌≡◌, ◌≤◌, List, ℕ, length};
+ghost use Rattle.swi_image.specs.Format.{ImageData};
+ghost use Rattle.swi_image.specs.Sound.{IsImage};
+ghost use Rattle.swi_program.specs.Layout.{IsLayoutOf};
+ghost use Rattle.swi_program.specs.Text.{text_of};
+ghost use Rattle.swi_render.specs.ImageOf.{IsImageOf};
+
+use super::*;
+use swi_board::{BoardFault, BootStop};
+use swi_image::ImageView;
+use swi_memory::Layout;
+use swi_rom::ScanRom;
+
+/// Adds 2 to the stack pointer, and loads from there with a reservation.
+const ODD: &[u32] = &[0x00210293, 0x1002A52F];
+
+/// Stores with a reservation that isn't held, and exits with what that gives.
+const UNHELD: &[u32] = &[0x00000297, 0x18A2A52F, 0x05D00893, 0x00000073];
+
+/// Further runs with known answers.
+static MORE: [Row; 5] = [
+    // a branch to an address that is no multiple of 4, not taken
+    Row {
+        run: Run {
+            text: &[0x00001363, 0x05D00893, 0x00000073],
+            ..PLAIN
+        },
+        ending: Some(Exited(0)),
+        pc: 0x10008,
+        counts: [3, 4, 0, 1, 0, 0, 0, 3, 7],
+    },
+    // a store into a text that isn't writable, and a swap
+    Row {
+        run: Run {
+            text: STORE,
+            ..PLAIN
+        },
+        ending: Some(Faulted(StoreAccess, 0x10000)),
+        pc: 0x10004,
+        counts: [2, 4, 0, 1, 0, 0, 0, 3, 7],
+    },
+    Row {
+        run: Run {
+            text: SWAP,
+            ..PLAIN
+        },
+        ending: Some(Faulted(StoreAccess, 0x10000)),
+        pc: 0x10004,
+        counts: [2, 4, 0, 1, 0, 0, 0, 3, 5],
+    },
+    // sc.w without a reservation stores nothing, also into a text
+    Row {
+        run: Run {
+            text: UNHELD,
+            rights: 7,
+            ..PLAIN
+        },
+        ending: Some(Exited(1)),
+        pc: 0x1000C,
+        counts: [4, 6, 0, 1, 0, 0, 0, 5, 7],
+    },
+    // lr.w at an address that is no multiple of 4
+    Row {
+        run: Run { text: ODD, ..PLAIN },
+        ending: Some(Faulted(LoadAccess, 0x121FC2)),
+        pc: 0x10004,
+        counts: [2, 3, 0, 1, 0, 0, 0, 2, 4],
+    },
+];
+
+/// What stands after a run by the calls of a board: whether the ram failed, the ending, the address and the counts, and the output.
+#[derive(Drop)]
+struct Came {
+    failed: bool,
+    ending: Option<End>,
+    pc: u32,
+    counts: [u64; 9],
+    out: MemSink,
+    ram: FaultRam,
+}
+
+/// Boots a board over a new service, and runs it over the input `abc`.
+fn run_on<R: CacheRom>(
+    alloc: Global,
+    rom: R,
+    run: &Run,
+    image: &ImageView<'_>,
+    program: &Program,
+    layout: &Layout,
+) -> Result<Came, Fail>
+    requires laid_out { IsLayoutOf program.now.segments layout.now }
+    requires own { IsImageOf (text_of program.now.segments) image.now }
+    requires small { R.span (R.setting rom) ≤ 2048 }
+    requires new { (v : ImageData) (words : List ℕ) → IsImage v → image.now.block_words ≡ v.block_words →
+        R.span (R.setting rom) ≤ length words → R.sound rom v words }
+{
+    crate::run::carry(image, program);
+    let _blocks = image.blocks();
+    let mut input = MemSource::new(b"abc".to_vec(alloc)?, [run.input_fails].to_vec(alloc)?);
+    let mut out = MemSink::new(alloc, 4096, [run.out_fails].to_vec(alloc)?)?;
+    let mut err = MemSink::new(alloc, 4096, Vec::new(alloc))?;
+    let mut ram = FaultRam::new(alloc, 2048, [run.ram_fails].to_vec(alloc)?)?;
+    let none = Came {
+        failed: true,
+        ending: None,
+        pc: 0,
+        counts: [0; 9],
+        out: MemSink::new(alloc, 0, Vec::new(alloc))?,
+        ram: FaultRam::new(alloc, 1, Vec::new(alloc))?,
+    };
+    if rom.counts().services > 0 {
+        return Err(Fail::from("no new service"));
+    }
+    let mut board = match Board::boot(alloc, image, program, layout, false, rom, &mut ram) {
+        Ok(board) => board,
+        Err(BootStop::RamFault) => return Ok(none),
+        Err(BootStop::Memory) => return Err(Fail::from("no memory")),
+    };
+    if board.steps() > run.limit || run.limit > 1000 || board.rom().counts().services > 1 {
+        return Err(Fail::from("no start"));
+    }
+    let failed = match board.run(image, &mut ram, &mut input, &mut out, &mut err, run.limit) {
+        Ok(()) => false,
+        Err(BoardFault::RamFault) => true,
+        Err(_) => return Err(Fail::from("another device failed")),
+    };
+    let counts = board.rom().counts();
+    Ok(Came {
+        failed,
+        ending: board.ending(),
+        pc: board.origin_pc(),
+        counts: [
+            board.steps(),
+            board.machine_steps(),
+            counts.services,
+            counts.misses,
+            counts.evictions,
+            counts.links,
+            counts.unlinks,
+            ram.fetches(),
+            ram.sets(),
+        ],
+        out,
+        ram,
+    })
+}
+
+/// What stands after a run over the service that scans, and over that with chains.
+fn both(alloc: Global, run: &Run) -> Result<[Came; 2], Fail> {
+    let program = program_with(alloc, run.text, run.rights)?;
+    let Ok(layout) = lay_out(&program, 1 << 20, 1 << 16) else {
+        return Err(Fail::from("no room"));
+    };
+    if run.block_words < 2 || run.block_words > 1024 {
+        return Err(Fail::from("no block"));
+    }
+    let Ok(image) = cut(alloc, &program, run.block_words) else {
+        return Err(Fail::from("no image"));
+    };
+    let view = image.view();
+    let _blocks = view.blocks();
+    if run.cache_bytes < 4 * view.block_words() || run.cache_bytes > 4096 {
+        return Err(Fail::from("no cache"));
+    }
+    let scan = ScanRom::new(alloc, run.cache_bytes, view.block_words())?;
+    let fifo = FifoRom::new(alloc, run.cache_bytes, view.block_words())?;
+    Ok([
+        run_on(alloc, scan, run, &view, &program, &layout)?,
+        run_on(alloc, fifo, run, &view, &program, &layout)?,
+    ])
+}
+
+#[test]
+fn both_services_run_alike(rt: HostRuntime) -> Result<(), Fail> {
+    for (k, row) in ROWS.iter().chain(MORE.iter()).enumerate() {
+        for done in both(rt.alloc(), &row.run)?.iter() {
+            assert!(rt; !done.failed, "row {k}");
+            assert_eq!(rt; done.ending, row.ending, "row {k}");
+            assert_eq!(rt; done.pc, row.pc, "row {k}");
+            assert_eq!(rt; done.counts, row.counts, "row {k}");
+        }
+    }
+    Ok(())
+}
+
+#[test]
+fn both_services_place_alike(rt: HostRuntime) -> Result<(), Fail> {
+    for (cache_bytes, words) in WORDS {
+        let run = Run {
+            text: COUNT,
+            block_words: 5,
+            cache_bytes,
+            ..PLAIN
+        };
+        for done in both(rt.alloc(), &run)?.iter() {
+            for (i, word) in words.iter().enumerate() {
+                if i < 2048 && done.ram.words() == 2048 {
+                    assert_eq!(rt;
+                        done.ram.word(i as u32),
+                        *word,
+                        "{cache_bytes} bytes, word {i}"
+                    );
+                }
+            }
+        }
+    }
+    Ok(())
+}
+
+#[test]
+fn each_call_of_the_ram_fails_in_both(rt: HostRuntime) -> Result<(), Fail> {
+    for (text, whole, calls, bytes) in FAILING {
+        for ram_fails in 1..=calls {
+            let run = Run {
+                text,
+                cache_bytes: 64,
+                ram_fails,
+                ..PLAIN
+            };
+            for done in both(rt.alloc(), &run)?.iter() {
+                assert_eq!(rt; done.failed, ram_fails < calls, "call {ram_fails}");
+                let held: &[u8] = if ram_fails < whole { b"" } else { bytes };
+                assert_eq!(rt; done.out.held(), held, "call {ram_fails}");
+            }
+        }
+    }
+    Ok(())
+}

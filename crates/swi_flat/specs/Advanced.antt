@@ -1,0 +1,17 @@
+-- Runs that ask for no device. Own rule.
+use Rattle.std.specs.Prelude.{◌≡◌, ◌+◌, ◌-◌, ℕ, List}
+use Rattle.swi_memory.specs.Bus.{AreaData}
+use Rattle.swi_exec.specs.Registers.{Registers}
+use Rattle.swi_calls.specs.Flat.{made, quiet, flat_run}
+use Rattle.swi_calls.specs.declared.machine.Machine.{Machine}
+
+-- a step of every machine with this pc, these registers and this memory goes on at the next address, takes no input and writes nothing
+abbrev pub GoesOnAt : ℕ → Registers → List AreaData → ℕ → Registers → List AreaData → Type 0
+GoesOnAt pc regs bus next regs' bus' = (m : Machine) (input : List ℕ) →
+    made (record m { pc = pc; regs = regs; bus = bus }) input ≡ quiet (record m { pc = next; regs = regs'; bus = bus'; steps = m.steps + 1 }) input
+
+-- the run from the first machine comes to the other, and has taken no input and written nothing
+abbrev pub Advances : Machine → Machine → Type 0
+Advances first now = (input output error : List ℕ) →
+    flat_run (now.steps - first.steps) (record { machine = first; input = input; output = output; error = error })
+    ≡ record { machine = now; input = input; output = output; error = error }

@@ -1,0 +1,4 @@
+mod Drawn
+mod Encoded
+mod Functions
+mod Making

@@ -1,0 +1,61 @@
+//! Programs that are made from a number, as large inputs for the machines.
+#![tactic(auto)]
+
+ghost use Rattle.std.specs.Prelude.{◌≡◌, ◌≤◌, ◌+◌, ◌*◌, ◌^◌, length, sum, IfOk};
+ghost use Rattle.std.specs.List.{AllZip};
+ghost use Rattle.swi_program.specs.Text.{text_of};
+ghost use Rattle.swi_make.specs.Listing.{instructions_of};
+ghost use Rattle.swi_make.specs.Made.{IsMade, IsWordOf};
+ghost use Rattle.swi_make.specs.Numbers.{all_additions};
+
+mod listing;
+mod numbers;
+mod words;
+
+use crate::listing::listing;
+use crate::numbers::all_additions;
+use crate::words::words_of;
+use std::alloc::{AllocError, Global};
+use swi_outside::Memory;
+use swi_program::{Program, one_text};
+
+/// The address at which the text begins, and the run.
+const BASE: u32 = 0x10000;
+
+/// The words of the program's text.
+#[tactic(auto, using(crate::proofs::Functions::text_facts))]
+fn text(alloc: Global, seed: u32, functions: u32) -> Result<Vec<u32>, AllocError>
+    requires some { 1 ≤ functions }
+    requires few { functions ≤ 4096 }
+    ensures each { IfOk result (λ ws.
+        AllZip IsWordOf (instructions_of (all_additions seed functions)) ws.items) }
+    ensures most { IfOk result (λ ws. length ws.items ≤ 2 ^ 19) }
+{
+    let additions = all_additions(alloc, seed, functions)?;
+    let instructions = listing(alloc, &additions)?;
+    words_of(alloc, &instructions)
+}
+
+/// The program of a seed with so many functions, 1 to 4096, as a large input for a machine. Eight times over it calls
+/// all functions in order; each adds 1 to a register 1 to 16 times, as the seed's numbers say. Then it exits with the
+/// register's value: 8 times the sum of all additions. It is one text that begins at 0x10000, and so does its run; it
+/// has 6 words, 6 for each function, and 1 for each addition. The same seed and number give the same program (own
+/// rule).
+///
+/// The only error is want of memory.
+#[tactic(auto, using(crate::proofs::Making::made))]
+pub fn make(alloc: Global, seed: u32, functions: u32) -> Result<Program, Memory>
+    requires some { 1 ≤ functions }
+    requires few { functions ≤ 4096 }
+    ensures made { IfOk result (IsMade seed functions) }
+    ensures size { IfOk result (λ p. length (text_of p.segments).words
+        ≡ 6 + 6 * functions + sum (all_additions seed functions)) }
+{
+    match text(alloc, seed, functions) {
+        Ok(words) => one_text(alloc, BASE, &words),
+        Err(_) => Err(Memory),
+    }
+}
+
+#[cfg(test)]
+mod tests;

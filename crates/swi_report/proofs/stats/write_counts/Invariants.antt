@@ -1,0 +1,11 @@
+use Rattle.std.proofs.Common.{◌≡◌, take}
+use Rattle.std.specs.Io.KnownBytes.{Appends}
+use Rattle.std.specs.List.{flat_map}
+use Rattle.swi_report.proofs.Counts.{line_of}
+use Rattle.swi_report.proofs.stats.write_counts.Given as goal
+
+abbrev pub invariant-loop-name : goal.invariant-loop-name
+invariant-loop-name g l = record {
+  written : Appends (g.S.Sink.held l.fn.sink) (g.S.Sink.held l.sink) (flat_map line_of (take l.name-index l.counts));
+  still : g.S.Sink.faults l.sink ≡ g.S.Sink.faults l.fn.sink;
+}

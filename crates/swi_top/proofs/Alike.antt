@@ -1,0 +1,147 @@
+-- A command in whose way nothing stands ends, and a program ends alike on both machines.
+use Rattle.std.proofs.Common.{◌≡◌, inl, inr, ℕ, ◌<◌, Bool, true, false, List, [], ◌∷◌, ◌++◌, length, take, Option, Some, None, Result, Ok, Err, if◌then◌else◌, refl, sym, ◌∙◌, subst, ap, arith}
+use Rattle.std.proofs.lemmas.List.{append-nil, append_assoc}
+use Rattle.std.specs.Io.KnownBytes.{Appends}
+use Rattle.swi_calls.specs.FirstStore.{StoresAt}
+use Rattle.swi_calls.specs.declared.machine.Machine.{Machine}
+use Rattle.swi_calls.specs.State.{FlatState}
+use Rattle.swi_check.proofs.Never.{err_not}
+use Rattle.swi_elf_read.specs.Loaded.{image_of as image_in}
+use Rattle.swi_image.specs.Checks as image
+use Rattle.swi_image.specs.Format.{image_of}
+use Rattle.swi_render.specs.ImageOf.{IsImageOf}
+use Rattle.swi_command.specs.declared.command.CacheOptions.{CacheOptions}
+use Rattle.swi_command.specs.declared.command.RunOptions.{RunOptions}
+use Rattle.swi_command.specs.declared.command.Reports.{Reports}
+use Rattle.swi_command.specs.CommandLine.{Request, RunCached, RunPlain}
+use Rattle.swi_report.specs.declared.stats.Work.{Work}
+use Rattle.swi_report.specs.State.{state_text_of}
+use Rattle.swi_report.specs.Stats.{stats_text_of, work_text}
+use Rattle.swi_cached.specs.Cached.{end_of}
+use Rattle.swi_answer.specs.declared.answer.Ending.{Ending}
+use Rattle.swi_answer.specs.declared.answer.Refusal.{Refusal}
+use Rattle.swi_answer.specs.declared.answer.Refusal.TheVariants as refusal
+use Rattle.swi_answer.specs.Lines.{ending_line}
+use Rattle.swi_top.specs.Devices.{Devices}
+use Rattle.swi_top.specs.Checks.{Check, OfImage, IsShort, IsAcceptedElf, HasRoom, HasImage, IsAcceptedImage, IsOwnImage, FitsBlocks, FitsUnlessImage, HoldsBlock, FitsMade, HoldsWords, Fails, Passes, IsAccepted, IsRefusedBy, cache_refusal, checks_of, text_in}
+use Rattle.swi_top.specs.Runs.{Ran, report, start_of}
+use Rattle.swi_top.specs.Answers.{Answers, AnswersWithLine, cached_run, plain_report, plain_run, work_of}
+use Rattle.swi_top.specs.Alike.{IsFree, LeavesAlike}
+use Rattle.swi_top.proofs.Lines.{take_all}
+
+-- ---- a file does not both pass a check and fail it
+
+image_fact : (x : Option (List ℕ)) (P : List ℕ → Type 0) (bytes : List ℕ) → x ≡ Some bytes → OfImage x P → P bytes
+image_fact x P bytes e h = subst (λ (y : Option (List ℕ)). OfImage y P) e h
+
+fails_not : (file : List ℕ) (c : Check) (r : Refusal) → Passes file c → Fails file c r → ⊥
+fails_not file IsShort r p f = let long = f.0 in omega (arith, p, long)
+fails_not file IsAcceptedElf r p f = let bad : ⊥ = cc in bad
+fails_not file (HasRoom limits) r p f = let ok = p.1 in let err = f.1 in let bad : ⊥ = cc in bad
+fails_not file HasImage r p f = let some = p.1 in let none = f.0 in let bad : ⊥ = cc in bad
+fails_not file IsAcceptedImage r p f =
+    let none = image_fact (image_in file) (λ bytes. image.first_refusal bytes ≡ None) f.0 f.1 p in let some = f.2 in let bad : ⊥ = cc in bad
+fails_not file IsOwnImage r p f =
+    err_not (text_in file) (image_of f.0) (Err f.2.0) f.2.1 (image_fact (image_in file) (λ bytes. IsImageOf (text_in file) (image_of bytes)) f.0 f.1 p)
+fails_not file (FitsBlocks most) r p f = let few = p f.0 f.1.within in let long = f.1.long in omega (arith, few, long)
+fails_not file (FitsUnlessImage most) r p f = let few = p f.0 f.1.0 f.1.1.within in let long = f.1.1.long in omega (arith, few, long)
+fails_not file (HoldsBlock cache) r p f = let less = f.0 in omega (arith, p, less)
+fails_not file (FitsMade seed functions most) r p f = let few = p f.0 f.1 f.2.0 f.2.1.within in let long = f.2.1.long in omega (arith, few, long)
+fails_not file (HoldsWords cache) r p f = let less = f.0 in omega (arith, p, less)
+
+not_both : (file : List ℕ) (cs : List Check) (r : Refusal) → IsAccepted file cs → IsRefusedBy file cs r → ⊥
+not_both file [] r passed h = h
+not_both file (c ∷ cs) r passed h = elim h [ inl f ↦ fails_not file c r passed.0 f | inr rest ↦ not_both file cs r passed.1 rest.1 ]
+
+-- ---- a command ends
+
+size_not : (x : Option Refusal) (r : Refusal) → x ≡ None → x ≡ Some r → ⊥
+size_not x r none some = cc
+
+not_refused : (q : Request) (file : List ℕ) (before after : Devices) (r : Refusal) (last : List ℕ) → Answers q before after (Err r) last → IsFree q file before after (Err r) → ⊥
+not_refused q file before after refusal.Usage last a free = a.asked refl
+not_refused q file before after refusal.Memory last a free = free.memory refl
+not_refused q file before after refusal.ShelfFault last a free = free.quiet.shelf (a.causes.shelf.cause refl)
+not_refused q file before after refusal.SourceFault last a free = free.quiet.input (a.causes.source.cause refl)
+not_refused q file before after refusal.SinkFault last a free = elim (a.causes.sink refl) [ inl out ↦ free.quiet.out out | inr err ↦ free.quiet.err err ]
+not_refused q file before after refusal.RamFault last a free = free.quiet.ram (a.causes.ram.cause refl)
+not_refused q file before after (refusal.CacheLarge bytes) last a free = size_not (cache_refusal q (length before.ram.words)) (refusal.CacheLarge bytes) free.sized (a.sized.only tt)
+not_refused q file before after (refusal.RamSmall bytes held) last a free = size_not (cache_refusal q (length before.ram.words)) (refusal.RamSmall bytes held) free.sized (a.sized.only tt)
+not_refused q file before after (refusal.FileLong limit) last a free = not_both file (checks_of q) (refusal.FileLong limit) free.accepted (a.checked file free.told)
+not_refused q file before after (refusal.Elf r) last a free = not_both file (checks_of q) (refusal.Elf r) free.accepted (a.checked file free.told)
+not_refused q file before after (refusal.Room end) last a free = not_both file (checks_of q) (refusal.Room end) free.accepted (a.checked file free.told)
+not_refused q file before after refusal.NoImage last a free = not_both file (checks_of q) refusal.NoImage free.accepted (a.checked file free.told)
+not_refused q file before after (refusal.Image r) last a free = not_both file (checks_of q) (refusal.Image r) free.accepted (a.checked file free.told)
+not_refused q file before after (refusal.Mismatch m) last a free = not_both file (checks_of q) (refusal.Mismatch m) free.accepted (a.checked file free.told)
+not_refused q file before after (refusal.Long address needs) last a free = not_both file (checks_of q) (refusal.Long address needs) free.accepted (a.checked file free.told)
+not_refused q file before after (refusal.CacheSmall bytes least) last a free = not_both file (checks_of q) (refusal.CacheSmall bytes least) free.accepted (a.checked file free.told)
+
+pub completes : (q : Request) (file : List ℕ) (before after : Devices) (result : Result Ending Refusal) →
+    AnswersWithLine q before after result → IsFree q file before after result → (e : Ending) × (result ≡ Ok e)
+completes q file before after (Ok e) a free = (e, refl)
+completes q file before after (Err r) a free = absurd (not_refused q file before after r _ a.answers free)
+
+-- ---- both machines
+
+-- behind the state and the steps stand the counts of the cached machine
+report_more : (r : Reports) (m : Machine) (w : Work) → report r m (Some w) ≡ report r m None ++ (if r.stats then work_text w else [])
+report_more r m w = by r.stats (if r.state then state_text_of m.pc m.regs m.bus m.heap.now else [])
+  where
+    by : (t : Bool) (state : List ℕ) →
+        ◌≡◌ {A = List ℕ} (state ++ (if t then stats_text_of m.steps (Some w) else [])) ((state ++ (if t then stats_text_of m.steps None else [])) ++ (if t then work_text w else []))
+    by true state = sym (append_assoc state (stats_text_of m.steps None) (work_text w))
+    by false state = sym (append-nil (state ++ []))
+
+no_counts : (t : Bool) (l : List ℕ) → t ≡ false → (if t then l else []) ≡ []
+no_counts true l e = absurd (let bad : ⊥ = cc in bad)
+no_counts false l e = refl
+
+whole_line : (old new : Option (List ℕ)) (error line : List ℕ) (n : ℕ) → n ≡ length line → Appends old new (error ++ take n line) → Appends old new (error ++ line)
+whole_line old new error line n all h =
+    subst (λ (l : List ℕ). Appends old new (error ++ l)) (ap (λ (k : ℕ). take k line) all ∙ sym (take_all line)) h
+
+both_ran : (o : RunOptions) (s t : FlatState) (w : Work) (before plain cached : Devices) (e f : Ending) (n k : ℕ) → t ≡ s →
+    Ran s (plain_report o s) before plain e (take n (ending_line e)) → n ≡ length (ending_line e) →
+    Ran t (report o.reports t.machine (Some w)) before cached f (take k (ending_line f)) → k ≡ length (ending_line f) → (f ≡ e) × LeavesAlike o before plain cached
+both_ran o s t w before plain cached e f n k same one whole other whole' =
+    let ran : Ran s (report o.reports s.machine (Some w)) before cached f (take k (ending_line f)) =
+    subst (λ (u : FlatState). Ran u (report o.reports u.machine (Some w)) before cached f (take k (ending_line f))) same other in
+    let ends : f ≡ e = ran.ending ∙ sym one.ending in
+    let counts : List ℕ = if o.reports.stats then work_text w else [] in (
+      ends,
+      record {
+        input = ran.input ∙ sym one.input;
+        bytes = s.output ++ plain_report o s;
+        counts = counts;
+        plain_output = one.output;
+        cached_output = subst (λ (l : List ℕ). Appends before.output cached.output l)
+            (ap (λ (l : List ℕ). s.output ++ l) (report_more o.reports s.machine w) ∙ sym (append_assoc s.output (plain_report o s) counts)) ran.output;
+        uncounted = no_counts o.reports.stats (work_text w);
+        lines = s.error ++ ending_line e;
+        plain_error = whole_line before.error plain.error s.error (ending_line e) n whole one.error;
+        cached_error = subst (λ (x : Ending). Appends before.error cached.error (s.error ++ ending_line x)) ends
+            (whole_line before.error cached.error s.error (ending_line f) k whole' ran.error);
+      },
+    )
+
+ended_alike : (name : List ℕ) (cache : CacheOptions) (o : RunOptions) (file input : List ℕ) (before plain cached : Devices) (e f : Ending) →
+    AnswersWithLine (RunPlain name o) before plain (Ok e) → IsFree (RunPlain name o) file before plain (Ok e) →
+    AnswersWithLine (RunCached name cache o) before cached (Ok f) → IsFree (RunCached name cache o) file before cached (Ok f) →
+    before.input ≡ Some input → ((j : ℕ) → j < o.limits.steps → StoresAt (start_of o file input) j → ⊥) → (f ≡ e) × LeavesAlike o before plain cached
+ended_alike name cache o file input before plain cached e f one free other free' told never =
+    let ran = one.answers.done file free.told input told in
+    let does = other.answers.done file free'.told in
+    let runs = does.3 input told in
+    let c = cached_run cache o does.0 (start_of o file input) in
+    both_ran o (plain_run o file input o.limits.steps) (end_of c) (work_of c) before plain cached e f one.shown other.shown (runs.cached.flat o.limits.steps never)
+    ran (one.whole free.quiet.err) runs.ran (other.whole free'.quiet.err)
+
+pub ends_alike : (name : List ℕ) (cache : CacheOptions) (o : RunOptions) (file input : List ℕ) (before plain cached : Devices) (one other : Result Ending Refusal) →
+    AnswersWithLine (RunPlain name o) before plain one → IsFree (RunPlain name o) file before plain one →
+    AnswersWithLine (RunCached name cache o) before cached other → IsFree (RunCached name cache o) file before cached other →
+    before.input ≡ Some input → ((j : ℕ) → j < o.limits.steps → StoresAt (start_of o file input) j → ⊥) →
+    (e : Ending) × (one ≡ Ok e) × (other ≡ Ok e) × LeavesAlike o before plain cached
+ends_alike name cache o file input before plain cached (Ok e) (Ok f) a free b free' told never =
+    let both = ended_alike name cache o file input before plain cached e f a free b free' told never in (e, refl, ap (λ (x : Ending). Ok x) both.0, both.1)
+ends_alike name cache o file input before plain cached (Err r) other a free b free' told never = absurd (not_refused (RunPlain name o) file before plain r _ a.answers free)
+ends_alike name cache o file input before plain cached (Ok e) (Err r) a free b free' told never = absurd (not_refused (RunCached name cache o) file before cached r _ b.answers free')

@@ -1,0 +1,244 @@
+-- The run of a made program, and what a command answers that measures it.
+use Rattle.std.proofs.Common.{◌≡◌, ◌⊎◌, inl, inr, ℕ, ◌*◌, ◌^◌, ◌<◌, ◌≤◌, List, [], ◌∷◌, length, take, Option, None, Result, Ok, Err, IfOk, IfErr, IsErrOf, refl, sym, ◌∙◌, subst, ap, arith, nat_lt, false}
+use Rattle.std.proofs.lemmas.Bool.Decides.{nat_tests}
+use Rattle.std.specs.List.{AllZip}
+use Rattle.std.specs.Io.KnownBytes.{Appends}
+use Rattle.swi_outside.specs.Causes.{DeviceCause, HasCause, Rose}
+use Rattle.swi_outside.specs.CacheRam.{KeepsBeyond, RamState}
+use Rattle.swi_outside.specs.Laws.{Appends-none}
+use Rattle.swi_outside.specs.Sink.{AppendsPrefix}
+use Rattle.swi_isa.specs.declared.instr.Instr.{Instr}
+use Rattle.swi_memory.specs.declared.layout.Layout.{Layout}
+use Rattle.swi_program.specs.declared.placement.Room.{Room}
+use Rattle.swi_program.specs.Layout.{highest_end, laid_out, stack_end}
+use Rattle.swi_program.specs.Program.{ProgramData}
+use Rattle.swi_program.specs.ProgramOf.{program_of_words}
+use Rattle.swi_program.specs.Text.{text_of}
+use Rattle.swi_make.specs.Listing.{instructions_of}
+use Rattle.swi_make.specs.Made.{IsMade, IsWordOf}
+use Rattle.swi_make.specs.Numbers.{all_additions}
+use Rattle.swi_image.specs.Format.{ImageData}
+use Rattle.swi_render.specs.Cut.{Fits}
+use Rattle.swi_command.specs.CommandLine.{Request, MeasureMade}
+use Rattle.swi_command.specs.declared.command.CacheOptions.{CacheOptions}
+use Rattle.swi_calls.specs.declared.machine.Machine.{Machine}
+use Rattle.swi_rom.specs.Record.{Record}
+use Rattle.swi_board.specs.Hart.{HartData}
+use Rattle.swi_report.specs.declared.stats.Work.{Work}
+use Rattle.swi_cached.specs.Cached.{CachedRun, IsCounted, end_of, instructions_after, slots_of}
+use Rattle.swi_cached.specs.Answers as run
+use Rattle.swi_answer.specs.declared.answer.Ending.{Ending}
+use Rattle.swi_answer.specs.declared.answer.Refusal.{Refusal}
+use Rattle.swi_answer.specs.declared.answer.Refusal.TheVariants as refusal
+use Rattle.swi_top.specs.Answers.{Answers, IsMadeRun, made_run, made_summary}
+use Rattle.swi_top.specs.Caching.{MadeRan, board_summary, board_work}
+use Rattle.swi_top.specs.Causes.{HasCauses}
+use Rattle.swi_top.specs.Checks.{size_refusal}
+use Rattle.swi_top.specs.Devices.{Devices, Faults}
+use Rattle.swi_top.specs.Measuring.{made_ending_by, summary_by}
+use Rattle.swi_top.proofs.Refusals.{check_refused, contents_stay, late, ok_causes, quiet_cause, rose_cause, sized_along, sized_err, sized_ok}
+use Rattle.swi_top.proofs.Confirming.{out_causes}
+use Rattle.swi_top.proofs.Caching.{cached_run_is, keeps_run, work_is}
+
+-- ---- a seed and a number make one program
+
+same_words : (is : List Instr) (xs ys : List ℕ) → AllZip IsWordOf is xs → AllZip IsWordOf is ys → xs ≡ ys
+same_words [] [] [] a b = refl
+same_words [] [] (y ∷ ys) a b = absurd b
+same_words [] (x ∷ xs) ys a b = absurd a
+same_words (i ∷ is) [] ys a b = absurd a
+same_words (i ∷ is) (x ∷ xs) [] a b = absurd b
+same_words (i ∷ is) (x ∷ xs) (y ∷ ys) a b =
+    ap (λ (w : ℕ). w ∷ xs) (sym (a.0.only y b.0.bits b.0.decodes)) ∙ ap (λ (l : List ℕ). y ∷ l) (same_words is xs ys a.1 b.1)
+
+only_made : (seed functions : ℕ) (p q : ProgramData) → IsMade seed functions p → IsMade seed functions q → p ≡ q
+only_made seed functions p q a b =
+    a.alone ∙ ap (λ (l : List ℕ). program_of_words 0x10000 l) (same_words (instructions_of (all_additions seed functions)) (text_of p.segments).words (text_of q.segments).words a.text b.text)
+    ∙ sym b.alone
+
+pub fits_made : (seed functions most : ℕ) (p : ProgramData) → IsMade seed functions p → Fits (text_of p.segments) most →
+    (q : ProgramData) → IsMade seed functions q → Fits (text_of q.segments) most
+fits_made seed functions most p made fits q other =
+    subst (λ (x : ProgramData). Fits (text_of x.segments) most) (only_made seed functions p q made other) fits
+
+-- ---- heap and stack find room behind it
+
+no_room : (words : List ℕ) (room : Room) → length words ≤ 2 ^ 19 → Err room ≡ laid_out (program_of_words 0x10000 words).segments 1048576 65536 → ⊥
+unfolding laid_out highest_end
+no_room words room few e =
+    let end : stack_end (program_of_words 0x10000 words).segments 1048576 65536 ≤ 2 ^ 32 = omega (arith, few) in
+    let test : nat_lt (2 ^ 32) (stack_end (program_of_words 0x10000 words).segments 1048576 65536) ≡ false = grind (arith, nat_tests) in
+    let bad : ⊥ = cc in bad
+
+pub made_room : (seed functions : ℕ) (p : ProgramData) (room : Room) → IsMade seed functions p → length (text_of p.segments).words ≤ 2 ^ 19 →
+    Err room ≡ laid_out p.segments 1048576 65536 → ⊥
+made_room seed functions p room made few e =
+    no_room (text_of p.segments).words room few (e ∙ ap (λ (x : ProgramData). laid_out x.segments 1048576 65536) made.alone)
+
+-- ---- the run and its summary
+
+pub made_ran : (c : CachedRun) (h : HartData) (r : Record) (i o p e f : Option (List ℕ)) (before after : RamState) → run.Ended c h r i o p e f → run.IsShort h →
+    run.RamAfter c before after → IsCounted c → MadeRan c h r before after
+made_ran c h r i o p e f before after b s ram counted =
+    record { machine = b.machine; count = b.count; kept = b.record_is; ran = cached_run_is c h r i o p e f before after b s ram counted }
+
+summary_is : (functions : ℕ) (p : ProgramData) (v : ImageData) (c : CachedRun) (h : HartData) (r : Record) (before after : RamState) → MadeRan c h r before after →
+    board_summary functions p v h r ≡ made_summary functions p v c
+summary_is functions p v c h r before after a =
+    ap (λ (m : Machine). summary_by functions p v (board_work h.count m.ending r) m.ending m.steps) a.machine
+    ∙ ap (λ (n : ℕ). summary_by functions p v (board_work n (end_of c).machine.ending r) (end_of c).machine.ending (end_of c).machine.steps) a.count
+    ∙ ap (λ (k : Record). summary_by functions p v (board_work (instructions_after c c.limit) (end_of c).machine.ending k) (end_of c).machine.ending (end_of c).machine.steps) a.kept
+    ∙ ap (λ (w : Work). summary_by functions p v w (end_of c).machine.ending (end_of c).machine.steps) (work_is c a.ran.each)
+
+-- the devices after the command
+abbrev pub measured_to : Devices → Option (List ℕ) → RamState → ℕ → Devices
+measured_to d out ram fo = record d { output = out; ram = ram; faults = record d.faults { out = fo; ram = ram.faults } }
+
+pub made_done : (seed functions : ℕ) (cache : CacheOptions) (p : ProgramData) (l : Layout) (v : ImageData) (d : Devices) (out : Option (List ℕ)) (ram : RamState) (fo : ℕ) (h : HartData) (r : Record) (e : Ending) →
+    size_refusal cache.cache_bytes (length d.ram.words) ≡ None → IsMadeRun seed functions cache p l v → Fits (text_of p.segments) cache.block_words →
+    4 * cache.block_words ≤ cache.cache_bytes → MadeRan (made_run cache p l v) h r d.ram ram → KeepsBeyond (slots_of cache.cache_bytes v * v.block_words) d.ram ram →
+    ram.faults ≡ d.faults.ram → e ≡ made_ending_by h.machine.ending h.machine.pc h.machine.steps → Appends d.output out (board_summary functions p v h r) → fo ≡ d.faults.out →
+    Answers (MeasureMade seed functions cache) d (measured_to d out ram fo) (Ok e) []
+made_done seed functions cache p l v d out ram fo h r e size is fits held ran beyond ram_is ending written fo_is =
+    let c = made_run cache p l v in record {
+      asked = λ x. let bad : ⊥ = cc in bad;
+      sized = sized_along _ _ size (sized_ok e);
+      checked = λ _ _. (fits_made seed functions cache.block_words p is.made fits, (held, tt));
+      ended = tt;
+      done = λ _ _. record {
+        program = p;
+        layout = l;
+        image = v;
+        is = is;
+        ending = ending ∙ ap (λ (m : Machine). made_ending_by m.ending m.pc m.steps) ran.machine;
+        output = subst (λ (x : List ℕ). Appends d.output out x) (summary_is functions p v c h r d.ram ram ran) written;
+        error = Appends-none d.error;
+        input = refl;
+        ran = ran.ran;
+        beyond = beyond;
+      };
+      failed = tt;
+      refused = tt;
+      shelf = record { others = λ x _. contents_stay d x; refused = tt; quiet = λ _. refl; failed = λ x. absurd (let never : ⊥ = cc in never) };
+      ram = keeps_run cache v d.ram ram beyond;
+      causes = subst (λ (n : ℕ). HasCauses d.faults (record d.faults { out = n; ram = ram.faults }) (Ok e)) (sym fo_is)
+          (subst (λ (n : ℕ). HasCauses d.faults (record d.faults { ram = n }) (Ok e)) (sym ram_is) (ok_causes d.faults e));
+    }
+
+-- the summary was not written whole
+pub summary_broke : (seed functions : ℕ) (cache : CacheOptions) (p : ProgramData) (l : Layout) (v : ImageData) (d : Devices) (out : Option (List ℕ)) (ram : RamState) (fo : ℕ) (h : HartData) (r : Record) →
+    size_refusal cache.cache_bytes (length d.ram.words) ≡ None → IsMadeRun seed functions cache p l v → Fits (text_of p.segments) cache.block_words →
+    4 * cache.block_words ≤ cache.cache_bytes → MadeRan (made_run cache p l v) h r d.ram ram → KeepsBeyond (slots_of cache.cache_bytes v * v.block_words) d.ram ram →
+    ram.faults ≡ d.faults.ram → AppendsPrefix d.output out (board_summary functions p v h r) → d.faults.out ≤ fo → Rose d.faults.out fo →
+    Answers (MeasureMade seed functions cache) d (measured_to d out ram fo) (Err refusal.SinkFault) []
+summary_broke seed functions cache p l v d out ram fo h r size is fits held ran beyond ram_is part later rose =
+    let c = made_run cache p l v in record {
+      asked = λ x. let bad : ⊥ = cc in bad;
+      sized = sized_along _ _ size (sized_err refusal.SinkFault (λ x. x));
+      checked = λ _ _. (fits_made seed functions cache.block_words p is.made fits, (held, tt));
+      ended = tt;
+      done = tt;
+      failed = λ _ _ _. record {
+        program = p;
+        layout = l;
+        image = v;
+        is = is;
+        broke = inr (
+          record {
+            fault = refl;
+            output_front = part.0;
+            output = subst (λ (x : List ℕ). Appends d.output out (take part.0 x)) (summary_is functions p v c h r d.ram ram ran) part.1;
+            error_front = 0;
+            error = Appends-none d.error;
+            behind = inl refl;
+          },
+          ran.ran,
+        );
+        input = refl;
+        beyond = beyond;
+      };
+      refused = λ never. absurd (never tt);
+      shelf = record { others = λ x _. contents_stay d x; refused = λ _. contents_stay d; quiet = λ _. refl; failed = λ x. absurd (let never : ⊥ = cc in never) };
+      ram = keeps_run cache v d.ram ram beyond;
+      causes = subst (λ (n : ℕ). HasCauses {T = Ending} d.faults (record d.faults { out = fo; ram = n }) (Err refusal.SinkFault)) (sym ram_is) (out_causes d.faults fo later rose);
+    }
+
+ram_causes : (f : Faults) (n : ℕ) → f.ram ≤ n → Rose f.ram n → HasCauses {T = Ending} f (record f { ram = n }) (Err refusal.RamFault)
+ram_causes f n later rose = record {
+  shelf = quiet_cause f.shelf _ (λ x. let never : ⊥ = cc in never);
+  source = quiet_cause f.input _ (λ x. let never : ⊥ = cc in never);
+  ram = rose_cause f.ram n _ refl later rose;
+  out_later = omega arith;
+  err_later = omega arith;
+  sink = λ x. absurd (let never : ⊥ = cc in never);
+  out_told = inl refl;
+  quiet = tt;
+}
+
+-- the ram failed in the run
+pub made_run_broke : (seed functions : ℕ) (cache : CacheOptions) (p : ProgramData) (l : Layout) (v : ImageData) (d : Devices) (ram : RamState) →
+    size_refusal cache.cache_bytes (length d.ram.words) ≡ None → IsMadeRun seed functions cache p l v → Fits (text_of p.segments) cache.block_words →
+    4 * cache.block_words ≤ cache.cache_bytes → KeepsBeyond (slots_of cache.cache_bytes v * v.block_words) d.ram ram →
+    d.faults.ram ≤ ram.faults → Rose d.faults.ram ram.faults →
+    Answers (MeasureMade seed functions cache) d (record d { ram = ram; faults = record d.faults { ram = ram.faults } }) (Err refusal.RamFault) []
+made_run_broke seed functions cache p l v d ram size is fits held beyond later rose = record {
+  asked = λ x. let bad : ⊥ = cc in bad;
+  sized = sized_along _ _ size (sized_err refusal.RamFault (λ x. x));
+  checked = λ _ _. (fits_made seed functions cache.block_words p is.made fits, (held, tt));
+  ended = tt;
+  done = tt;
+  failed = λ _ _ _. record {
+    program = p;
+    layout = l;
+    image = v;
+    is = is;
+    broke = inl (record { fault = refl; output = refl; error = Appends-none d.error });
+    input = refl;
+    beyond = beyond;
+  };
+  refused = λ never. absurd (never tt);
+  shelf = record { others = λ x _. contents_stay d x; refused = λ _. contents_stay d; quiet = λ _. refl; failed = λ x. absurd (let never : ⊥ = cc in never) };
+  ram = keeps_run cache v d.ram ram beyond;
+  causes = ram_causes d.faults ram.faults later rose;
+}
+
+-- the cache holds no block
+pub small_refused : (seed functions : ℕ) (cache : CacheOptions) (p : ProgramData) (d : Devices) → size_refusal cache.cache_bytes (length d.ram.words) ≡ None →
+    IsMade seed functions p → Fits (text_of p.segments) cache.block_words → cache.cache_bytes < 4 * cache.block_words →
+    Answers (MeasureMade seed functions cache) d d (Err (refusal.CacheSmall cache.cache_bytes (4 * cache.block_words))) []
+small_refused seed functions cache p d size made fits less =
+    check_refused (MeasureMade seed functions cache) d d.contents [] (refusal.CacheSmall cache.cache_bytes (4 * cache.block_words)) size (contents_stay d) refl
+    (inr (inr (fits_made seed functions cache.block_words p made fits, inl (less, refl))))
+
+-- the run was refused, or the ram failed in it
+pub run_refused : {T : Type 0} (seed functions : ℕ) (cache : CacheOptions) (p : ProgramData) (l : Layout) (v : ImageData) (d : Devices) (ram : RamState) (r : Refusal) →
+    size_refusal cache.cache_bytes (length d.ram.words) ≡ None → IsMadeRun seed functions cache p l v → Fits (text_of p.segments) cache.block_words →
+    4 * cache.block_words ≤ cache.cache_bytes → KeepsBeyond (slots_of cache.cache_bytes v * v.block_words) d.ram ram → d.ram.faults ≡ d.faults.ram →
+    ((r ≡ refusal.Memory) × (ram ≡ d.ram)) ⊎ (r ≡ refusal.RamFault) → DeviceCause d.faults.ram ram.faults (IsErrOf {T = T} (Err r) refusal.RamFault) →
+    Answers (MeasureMade seed functions cache) d (record d { ram = ram; faults = record d.faults { ram = ram.faults } }) (Err r) []
+run_refused {T} seed functions cache p l v d ram r size is fits held beyond same why cause =
+    let q : Request = MeasureMade seed functions cache in
+    elim why [
+      | inl m ↦ subst (λ (x : Refusal). Answers q d (record d { ram = ram; faults = record d.faults { ram = ram.faults } }) (Err x) []) (sym m.0)
+          (subst (λ (x : RamState). Answers q d (record d { ram = x; faults = record d.faults { ram = x.faults } }) (Err refusal.Memory) []) (sym m.1)
+          (subst (λ (n : ℕ). Answers q d (record d { faults = record d.faults { ram = n } }) (Err refusal.Memory) []) (sym same)
+          (late q d d.contents refusal.Memory tt size (contents_stay d) (λ _ _. tt))))
+      | inr e ↦ subst (λ (x : Refusal). Answers q d (record d { ram = ram; faults = record d.faults { ram = ram.faults } }) (Err x) []) (sym e)
+          (made_run_broke seed functions cache p l v d ram size is fits held beyond cause.later (cause.cause (ap (λ (x : Refusal). Err x) e)))
+    ]
+
+-- the run came to its end, and the summary was written, or not
+pub summarized : (seed functions : ℕ) (cache : CacheOptions) (p : ProgramData) (l : Layout) (v : ImageData) (d : Devices) (out : Option (List ℕ)) (ram : RamState) (fo : ℕ) (h : HartData) (k : Record) (r : Result Ending Refusal) →
+    size_refusal cache.cache_bytes (length d.ram.words) ≡ None → IsMadeRun seed functions cache p l v → Fits (text_of p.segments) cache.block_words →
+    4 * cache.block_words ≤ cache.cache_bytes → MadeRan (made_run cache p l v) h k d.ram ram → KeepsBeyond (slots_of cache.cache_bytes v * v.block_words) d.ram ram →
+    ram.faults ≡ d.faults.ram → IfOk r (λ e. (e ≡ made_ending_by h.machine.ending h.machine.pc h.machine.steps) × Appends d.output out (board_summary functions p v h k)) →
+    IfErr r (λ e. (e ≡ refusal.SinkFault) × AppendsPrefix d.output out (board_summary functions p v h k)) → HasCause d.faults.out fo r →
+    Answers (MeasureMade seed functions cache) d (measured_to d out ram fo) r []
+summarized seed functions cache p l v d out ram fo h k (Ok e) size is fits held ran beyond ram_is done failed cause =
+    made_done seed functions cache p l v d out ram fo h k e size is fits held ran beyond ram_is done.0 done.1 cause.quiet
+summarized seed functions cache p l v d out ram fo h k (Err r) size is fits held ran beyond ram_is done failed cause =
+    subst (λ (x : Refusal). Answers (MeasureMade seed functions cache) d (measured_to d out ram fo) (Err x) []) (sym failed.0)
+    (summary_broke seed functions cache p l v d out ram fo h k size is fits held ran beyond ram_is failed.1 cause.later cause.failed)
+
+pub unfailed : {T : Type 0} (n m : ℕ) (x : T) → DeviceCause n m (IsErrOf {T = T} (Ok x) refusal.RamFault) → m ≡ n
+unfailed n m x cause = elim cause.told [ inl e ↦ e | inr never ↦ absurd (let bad : ⊥ = cc in bad) ]

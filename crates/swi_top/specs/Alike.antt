@@ -1,0 +1,61 @@
+-- When a command ends, and how a program ends alike on both machines. Own rule.
+use Rattle.std.specs.Prelude.{◌≡◌, ℕ, ◌<◌, List, [], ◌++◌, length, false, Some, None, Result, Ok, IsErrOf}
+use Rattle.std.specs.Io.KnownBytes.{Appends}
+use Rattle.swi_outside.specs.Causes.{Rose}
+use Rattle.swi_calls.specs.FirstStore.{StoresAt}
+use Rattle.swi_command.specs.declared.command.CacheOptions.{CacheOptions}
+use Rattle.swi_command.specs.declared.command.RunOptions.{RunOptions}
+use Rattle.swi_command.specs.CommandLine.{Request, RunCached, RunPlain}
+use Rattle.swi_answer.specs.declared.answer.Ending.{Ending}
+use Rattle.swi_answer.specs.declared.answer.Refusal.{Refusal}
+use Rattle.swi_answer.specs.declared.answer.Refusal.TheVariants as refusal
+use Rattle.swi_top.specs.Devices.{Devices, Faults}
+use Rattle.swi_top.specs.Checks.{IsAccepted, cache_refusal, checks_of}
+use Rattle.swi_top.specs.Runs.{start_of}
+use Rattle.swi_top.specs.Answers.{AnswersWithLine, IsTold, input_name}
+
+-- no device's count of faults rose
+pub record NoneRose (before after : Faults) : Type 0 where
+  pub shelf : Rose before.shelf after.shelf → ⊥
+  pub input : Rose before.input after.input → ⊥
+  pub out : Rose before.out after.out → ⊥
+  pub err : Rose before.err after.err → ⊥
+  pub ram : Rose before.ram after.ram → ⊥
+
+-- nothing stood in a command's way: the shelf tells the file, which passes every check; the cache, where there is one, is neither too large
+-- nor larger than the ram; no device failed, and there was memory
+pub record IsFree (q : Request) (file : List ℕ) (before after : Devices) (result : Result Ending Refusal) : Type 0 where
+  pub told : IsTold before.contents (input_name q) file
+  pub accepted : IsAccepted file (checks_of q)
+  pub sized : cache_refusal q (length before.ram.words) ≡ None
+  pub quiet : NoneRose before.faults after.faults
+  pub memory : IsErrOf result refusal.Memory → ⊥
+
+-- then it ends
+abbrev pub Completes : Type 0
+Completes = (q : Request) (file : List ℕ) (before after : Devices) (result : Result Ending Refusal) →
+    AnswersWithLine q before after result → IsFree q file before after result → (e : Ending) × (result ≡ Ok e)
+
+-- what two runs leave that began over the same devices
+pub record LeavesAlike (o : RunOptions) (before plain cached : Devices) : Type 0 where
+  -- the same input
+  pub input : cached.input ≡ plain.input
+  -- the same bytes of the output, the state included; behind them, where counts are asked for, those that only the cached machine has
+  pub bytes : List ℕ
+  pub counts : List ℕ
+  pub plain_output : Appends before.output plain.output bytes
+  pub cached_output : Appends before.output cached.output (bytes ++ counts)
+  pub uncounted : o.reports.stats ≡ false → counts ≡ []
+  -- the same errors, the lines of calls and of the ending included
+  pub lines : List ℕ
+  pub plain_error : Appends before.error plain.error lines
+  pub cached_error : Appends before.error cached.error lines
+
+-- A program that would not store into its text ends alike by `plain` and by `cached`, whatever cache and blocks it is given, with the same
+-- limits, reports and input.
+abbrev pub EndsAlike : Type 0
+EndsAlike = (name : List ℕ) (cache : CacheOptions) (o : RunOptions) (file input : List ℕ) (before plain cached : Devices) (one other : Result Ending Refusal) →
+    AnswersWithLine (RunPlain name o) before plain one → IsFree (RunPlain name o) file before plain one →
+    AnswersWithLine (RunCached name cache o) before cached other → IsFree (RunCached name cache o) file before cached other →
+    before.input ≡ Some input → ((j : ℕ) → j < o.limits.steps → StoresAt (start_of o file input) j → ⊥) →
+    (e : Ending) × (one ≡ Ok e) × (other ≡ Ok e) × LeavesAlike o before plain cached

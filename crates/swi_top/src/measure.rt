@@ -1,0 +1,172 @@
+//! The command `measure`: the run of a program that is made from a number.
+#![tactic(auto)]
+
+ghost use Rattle.std.specs.Prelude.{◌≡◌, ◌⊎◌, ◌*◌, ◌^◌, ◌≤◌, Ok, Err, IfOk, IfErr, OnErr, IsErrOf, [], length};
+ghost use Rattle.std.specs.Io.KnownBytes.{Appends};
+ghost use Rattle.swi_outside.specs.CacheRam.{KeepsBeyond};
+ghost use Rattle.swi_outside.specs.Causes.{DeviceCause, HasCause};
+ghost use Rattle.swi_outside.specs.Sink.{AppendsPrefix};
+ghost use Rattle.swi_cached.specs.Cached.{slots_of};
+ghost use Rattle.swi_command.specs.CommandLine.{IsCacheInRange, IsFunctionCount, MeasureMade};
+ghost use Rattle.swi_make.specs.Made.{IsMade};
+ghost use Rattle.swi_program.specs.Layout.{IsLayoutOf, laid_out};
+ghost use Rattle.swi_program.specs.Text.{text_of};
+ghost use Rattle.swi_render.specs.ImageOf.{IsImageOf};
+ghost use Rattle.swi_rom.specs.Slots.{kept_by};
+ghost use Rattle.swi_top.specs.Answers.{Answers, made_run};
+ghost use Rattle.swi_top.specs.Caching.{MadeRan, board_summary};
+ghost use Rattle.swi_top.specs.Devices.{Devices};
+ghost use Rattle.swi_top.specs.Measuring.{made_ending_by};
+
+use crate::cached::work_of;
+use crate::image::Prepared;
+use crate::nowhere::Nowhere;
+use crate::report::ending_of;
+use crate::rewrite::cut_image;
+use crate::sizes::check_sizes;
+use std::alloc::Global;
+use swi_answer::{Ending, Refusal};
+use swi_board::Board;
+use swi_cached::{CachedStop, run_cached};
+use swi_calls::End;
+use swi_command::CacheOptions;
+use swi_fifo::FifoRom;
+use swi_image::ImageView;
+use swi_make::make;
+use swi_outside::{CacheRam, Sink};
+use swi_program::{Program, lay_out};
+use swi_report::{Measured, summary_text};
+
+/// The bytes of the heap and of the stack.
+const HEAP: u32 = 1 << 20;
+
+const STACK: u32 = 1 << 16;
+
+/// The most steps of a run.
+const STEPS: u64 = 1 << 48;
+
+/// The program that is made of a seed, with its layout.
+fn prepare_made(alloc: Global, seed: u32, functions: u32) -> Result<Prepared, Refusal>
+    requires count { IsFunctionCount functions }
+    ensures made { IfOk result (λ p. IsMade seed functions p.program) }
+    ensures layout { IfOk result (λ p. laid_out p.program.segments 1048576 65536 ≡ Ok p.layout) }
+    ensures own { IfOk result (λ p. IsLayoutOf p.program.segments p.layout) }
+    ensures memory { OnErr result (result ≡ Err Refusal.Memory) }
+{
+    let Ok(program) = make(alloc, seed, functions) else {
+        return Err(Refusal::Memory);
+    };
+    // Its text has 2^19 words at most, so that heap and stack find room behind it.
+    prove!(program.text().len() <= 1 << 19);
+    match lay_out(&program, HEAP, STACK) {
+        Ok(layout) => Ok(Prepared { program, layout }),
+        Err(_) => unreachable!(),
+    }
+}
+
+/// Runs a made program on the cached machine. It has no input, and nobody sees what it writes.
+fn run_made<R: CacheRam>(
+    alloc: Global,
+    image: &ImageView<'_>,
+    prepared: &Prepared,
+    cache: &CacheOptions,
+    ram: &mut R,
+) -> Result<Board<FifoRom>, Refusal>
+    requires laid_out { IsLayoutOf prepared.now.program.segments prepared.now.layout }
+    requires own { IsImageOf (text_of prepared.now.program.segments) image.now }
+    requires least { 4 * image.now.block_words ≤ cache.now.cache_bytes }
+    requires most { cache.now.cache_bytes ≤ 2 ^ 23 }
+    requires held { cache.now.cache_bytes ≤ 4 * length (R.state ram.old).words }
+    ensures ran { IfOk result (λ b. MadeRan (made_run cache.now prepared.now.program prepared.now.layout image.now) b.hart (kept_by b.rom)
+        (R.state ram.old) (R.state ram.new)) }
+    ensures refused { IfErr result (λ r. ((r ≡ Refusal.Memory) × (R.state ram.new ≡ R.state ram.old)) ⊎ (r ≡ Refusal.RamFault)) }
+    ensures kept { KeepsBeyond (slots_of cache.now.cache_bytes image.now * image.now.block_words) (R.state ram.old) (R.state ram.new) }
+    ensures cause { DeviceCause (R.state ram.old).faults (R.state ram.new).faults (IsErrOf result Refusal.RamFault) }
+{
+    let (program, layout) = (&prepared.program, &prepared.layout);
+    let (mut input, mut out, mut err) = (Nowhere, Nowhere, Nowhere);
+    match run_cached(
+        alloc,
+        image,
+        program,
+        layout,
+        cache.cache_bytes,
+        false,
+        STEPS,
+        &mut input,
+        &mut out,
+        &mut err,
+        ram,
+    ) {
+        Ok(board) => Ok(board),
+        Err(CachedStop::Memory) => Err(Refusal::Memory),
+        // No other device fails.
+        Err(CachedStop::RamFault | CachedStop::SourceFault | CachedStop::SinkFault) => Err(
+            Refusal::RamFault,
+        ),
+    }
+}
+
+/// Writes the summary of a made program that exited, or answers how else it ended.
+fn summarize<O: Sink>(
+    functions: u32,
+    program: &Program,
+    image: &ImageView<'_>,
+    board: &Board<FifoRom>,
+    out: &mut O,
+) -> Result<Ending, Refusal>
+    ensures done { IfOk result (λ e. (e ≡ made_ending_by board.now.hart.machine.ending board.now.hart.machine.pc board.now.hart.machine.steps)
+        × Appends (O.held out.old) (O.held out.new) (board_summary functions program.now image.now board.now.hart (kept_by board.now.rom))) }
+    ensures failed { IfErr result (λ r. (r ≡ Refusal.SinkFault)
+        × AppendsPrefix (O.held out.old) (O.held out.new) (board_summary functions program.now image.now board.now.hart (kept_by board.now.rom))) }
+    ensures cause { HasCause (O.faults out.old) (O.faults out.new) result }
+{
+    let Some(End::Exited(exit)) = board.ending() else {
+        return Ok(ending_of(board.ending(), board.origin_pc(), board.steps()));
+    };
+    let measured = Measured {
+        functions,
+        text: program.text().len(),
+        blocks: image.blocks(),
+        exit,
+    };
+    match summary_text(&measured, board.steps(), &work_of(board), out) {
+        Ok(()) => Ok(Ending::Done),
+        Err(_) => Err(Refusal::SinkFault),
+    }
+}
+
+/// Makes a program of a seed with so many functions (1 to 4096), runs it on the cached machine to its end, and writes the summary where it exits.
+pub(crate) fn measure<O: Sink, R: CacheRam>(
+    alloc: Global,
+    seed: u32,
+    functions: u32,
+    cache: &CacheOptions,
+    out: &mut O,
+    ram: &mut R,
+) -> Result<Ending, Refusal>
+    requires count { IsFunctionCount functions }
+    requires sizes { IsCacheInRange cache.now }
+    ensures { (d : Devices) → Answers (MeasureMade seed functions cache.now)
+        (record d {
+          output = O.held out.old;
+          ram = R.state ram.old;
+          faults = record d.faults { out = O.faults out.old; ram = (R.state ram.old).faults };
+        })
+        (record d {
+          output = O.held out.new;
+          ram = R.state ram.new;
+          faults = record d.faults { out = O.faults out.new; ram = (R.state ram.new).faults };
+        }) result [] }
+{
+    check_sizes(cache.cache_bytes, ram)?;
+    let prepared = prepare_made(alloc, seed, functions)?;
+    let image = cut_image(alloc, &prepared.program, cache.block_words)?;
+    let (bytes, least) = (cache.cache_bytes, 4 * cache.block_words);
+    if bytes < least {
+        return Err(Refusal::CacheSmall { bytes, least });
+    }
+    let view = image.view();
+    let board = run_made(alloc, &view, &prepared, cache, ram)?;
+    summarize(functions, &prepared.program, &view, &board, out)
+}

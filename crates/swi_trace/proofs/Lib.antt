@@ -1,0 +1,4 @@
+mod HexDigits
+mod Lines
+mod Origins
+mod TextWords

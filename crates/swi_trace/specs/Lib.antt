@@ -1,0 +1,4 @@
+pub mod Block
+pub mod History
+pub mod Mnemonics
+pub mod Text
