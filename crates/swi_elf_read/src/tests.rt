@@ -118,6 +118,8 @@ fn second_segment_overlaps_or_is_a_second_text(rt: HostRuntime) -> Result<(), Fa
         (23, 0x0000FFF4, Some(ElfRefusal::TwoTexts(1))),
         (21, 4, None),
         (26, 0, Some(ElfRefusal::Extent(1))),
+        // a wrong extent comes before an overlap
+        (25, 13, Some(ElfRefusal::Extent(1))),
     ];
     for (at, word, want) in table {
         assert_eq!(rt;
@@ -125,6 +127,57 @@ fn second_segment_overlaps_or_is_a_second_text(rt: HostRuntime) -> Result<(), Fa
             want,
             "{word} at {at}"
         );
+    }
+    Ok(())
+}
+
+#[test]
+fn segment_without_bytes_in_the_file_may_begin_behind_its_end(rt: HostRuntime) -> Result<(), Fail> {
+    // bytes in the file, bytes in memory
+    let table = [
+        (0, 64, None),
+        (0, 0, None),
+        (1, 64, Some(ElfRefusal::Extent(1))),
+        (1, 0, Some(ElfRefusal::Extent(1))),
+    ];
+    for offset in [0x81, 0x7FFFFFFF, u32::MAX] {
+        for (filesz, memsz, want) in table {
+            let mut words = DOUBLE;
+            words[22] = offset;
+            words[23] = 0x00020000;
+            words[25] = filesz;
+            words[27] = 6;
+            assert_eq!(rt;
+                refusal_with(rt.alloc(), &mut words, 26, memsz)?,
+                want,
+                "{filesz} and {memsz} bytes at {offset}"
+            );
+        }
+    }
+    Ok(())
+}
+
+/// The refusal of a file of one segment with a text of so many bytes, all 0.
+fn refusal_of_text(alloc: Global, size: u32) -> Result<Option<ElfRefusal>, Fail> {
+    let mut words = PLAIN;
+    words[17] = size;
+    words[18] = size;
+    let mut bytes = file_of(alloc, &words[..21])?;
+    let text = vec![in alloc; 0u8; size as usize]?;
+    bytes.extend_from_slice(&text)?;
+    Ok(refusal_of(&bytes, bytes.len()))
+}
+
+#[test]
+fn text_has_at_most_two_mebibytes(rt: HostRuntime) -> Result<(), Fail> {
+    let table = [
+        ((1 << 20) + 4, None),
+        (1 << 21, None),
+        ((1 << 21) + 1, Some(ElfRefusal::Large(0))),
+        ((1 << 21) + 4, Some(ElfRefusal::Large(0))),
+    ];
+    for (size, want) in table {
+        assert_eq!(rt; refusal_of_text(rt.alloc(), size)?, want, "{size} bytes");
     }
     Ok(())
 }

@@ -83,6 +83,44 @@ fn program_of_a_file_has_its_segments_and_text(rt: HostRuntime) -> Result<(), Fa
     Ok(())
 }
 
+/// The number of words of a text of so many bytes, and its last word, which alone is not 0.
+fn long_text_said(alloc: Global, size: u32) -> Result<Option<(u32, u32)>, Fail> {
+    let mut words = PLAIN;
+    words[17] = size;
+    words[18] = size;
+    let mut bytes = file_of(alloc, &words[..21])?;
+    let text = vec![in alloc; 0u8; size as usize]?;
+    bytes.extend_from_slice(&text)?;
+    if let Some(last) = bytes.last_mut() {
+        *last = 0x80;
+    }
+    let Ok(e) = read_elf(&bytes[..bytes.len().min(1 << 26)]) else {
+        return Ok(None)
+    };
+    let Ok(p) = program_of(alloc, &e) else {
+        return Ok(None)
+    };
+    let text = p.text();
+    let count = text.len();
+    if count == 0 {
+        return Ok(None);
+    }
+    Ok(Some((count, text.word(count - 1))))
+}
+
+#[test]
+fn longest_text_is_read_to_its_last_word(rt: HostRuntime) -> Result<(), Fail> {
+    let table = [
+        ((1 << 20) + 4, Some(((1 << 18) + 1, 0x80000000))),
+        (1 << 21, Some((1 << 19, 0x80000000))),
+        ((1 << 21) + 4, None),
+    ];
+    for (size, want) in table {
+        assert_eq!(rt; long_text_said(rt.alloc(), size)?, want, "{size} bytes");
+    }
+    Ok(())
+}
+
 #[test]
 fn words_give_the_program_of_their_file(rt: HostRuntime) -> Result<(), Fail> {
     let alloc = rt.alloc();
