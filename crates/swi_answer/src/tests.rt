@@ -154,3 +154,68 @@ fn endings_have_their_lines_and_statuses(rt: HostRuntime) -> Result<(), Fail> {
     assert!(rt; image_line(1, 8).as_bytes() == "ok: 1 blocks of 8 words\n".as_bytes());
     Ok(())
 }
+
+/// Refusals, and what they say as errors of Rust, which the program itself does not write.
+static TEXTS: [(Refusal, &str); 16] = [
+    (Refusal::Usage, "the words are no command"),
+    (
+        Refusal::CacheLarge { bytes: 8388609 },
+        "a cache of 8388609 bytes is larger than 8 MiB",
+    ),
+    (
+        Refusal::RamSmall {
+            bytes: 20,
+            held: 16,
+        },
+        "a cache of 20 bytes is larger than the ram of 16 bytes",
+    ),
+    (Refusal::ShelfFault, "the file could not be read or written"),
+    (
+        Refusal::FileLong { limit: 67108864 },
+        "the file has more than 67108864 bytes",
+    ),
+    (
+        Refusal::Elf(ElfRefusal::Short(51)),
+        "the file is not accepted: Short(51)",
+    ),
+    (
+        Refusal::Room { end: 4296024064 },
+        "the stack would end at 4296024064, past the last address",
+    ),
+    (Refusal::NoImage, "the file has no cache image"),
+    (
+        Refusal::Image(ImageRefusal::Length(17)),
+        "the file's cache image is not accepted: Length(17)",
+    ),
+    (
+        Refusal::Mismatch(Mismatch::Cover { address: 65544 }),
+        "the file's cache image is not one of its text: Cover { address: 65544 }",
+    ),
+    (
+        Refusal::Long {
+            address: 65544,
+            needs: 5,
+        },
+        "the instruction at 65544 needs 5 words of a block",
+    ),
+    (
+        Refusal::CacheSmall {
+            bytes: 255,
+            least: 256,
+        },
+        "a cache of 255 bytes holds no block, which takes 256",
+    ),
+    (Refusal::SourceFault, "the input failed"),
+    (Refusal::SinkFault, "the output or the error stream failed"),
+    (Refusal::RamFault, "the cache ram failed"),
+    (Refusal::Memory, "there is no memory"),
+];
+
+#[test]
+fn refusals_have_their_texts(rt: HostRuntime) -> Result<(), Fail> {
+    for (refusal, text) in TEXTS.into_iter() {
+        let said = format!(in rt.alloc(); "{refusal}")?;
+        assert_eq!(rt; said.as_str(), text);
+    }
+    Ok(())
+}
