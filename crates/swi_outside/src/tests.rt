@@ -1,4 +1,5 @@
-ghost use Rattle.std.specs.Prelude.{◌≡◌, ◌<◌, length};
+ghost use Rattle.std.specs.Prelude.{◌≡◌, ◌<◌, length, Some};
+ghost use Rattle.swi_outside.specs.Shelf.{lookup};
 
 use super::*;
 use std::alloc::Global;
@@ -245,5 +246,79 @@ fn shelf_over_files_keeps_two_files_apart_and_gets_more_than_a_mebibyte(
     );
     fs::remove_file(&rt, short_name)?;
     fs::remove_file(&rt, long_name)?;
+    Ok(())
+}
+
+/// Files in memory, which tells them: a shelf's contents. It takes what a file's name is from `create` and `close` alone.
+#[derive(Drop)]
+struct MemFolder<'a> {
+    alloc: Global,
+    files: &'a mut MemShelf,
+}
+
+impl<'a> Folder for MemFolder<'a> {
+    ghost contents = { λ f. Some (lookup f.files.now.entries) };
+
+    type Reader = io::Cursor<Vec<u8>>;
+
+    type Writer = Vec<u8>;
+
+    fn open(&mut self, name: &str) -> Result<io::Cursor<Vec<u8>>, Failed> {
+        let Some(bytes) = self.files.held(name) else {
+            return Err(Failed);
+        };
+        match Vec::from_slice(self.alloc, bytes) {
+            Ok(copy) => Ok(io::Cursor::new(copy)),
+            Err(_) => Err(Failed),
+        }
+    }
+
+    fn create(&mut self, _name: &str) -> Result<Vec<u8>, Failed> {
+        Ok(Vec::new(self.alloc))
+    }
+
+    fn close(&mut self, name: &str, file: Vec<u8>) -> Result<(), Failed> {
+        match self.files.put(self.alloc, name, file.as_slice()) {
+            Ok(()) => Ok(()),
+            Err(_) => Err(Failed),
+        }
+    }
+}
+
+#[test]
+fn shelf_over_a_folder_in_memory_changes_the_one_file(rt: HostRuntime) -> Result<(), Fail> {
+    let alloc = rt.alloc();
+    let kept = (
+        String::from_str(alloc, "kept")?,
+        b"as it was".to_vec(alloc)?,
+    );
+    let changed = (String::from_str(alloc, "changed")?, b"old".to_vec(alloc)?);
+    // the third file that is closed fails
+    let mut files = MemShelf::new(vec![in alloc; kept, changed]?, [3].to_vec(alloc)?);
+    let mut long = vec![in alloc; 7u8; 10_000]?;
+    long[9000] = 8;
+    let mut shelf = FolderShelf::new(MemFolder {
+        alloc,
+        files: &mut files,
+    });
+    assert_eq!(rt; put_to(&mut shelf, alloc, "changed", &long), Ok(()));
+    assert_eq!(rt; put_to(&mut shelf, alloc, "new", b""), Ok(()));
+    assert_eq!(rt;
+        put_to(&mut shelf, alloc, "third", b"1"),
+        Err(ShelfError::Failed)
+    );
+    assert_eq!(rt;
+        get_from(&mut shelf, alloc, "changed", 10_000)?.as_slice(),
+        long.as_slice()
+    );
+    assert!(rt;
+        get_from(&mut shelf, alloc, "changed", 9_999).is_err_and(|e| e == ShelfError::Long)
+    );
+    assert!(rt; get_from(&mut shelf, alloc, "third", 9).is_err_and(|e| e == ShelfError::Failed));
+    drop(shelf);
+    assert_eq!(rt; files.held("kept"), Some(b"as it was".as_slice()));
+    assert_eq!(rt; files.held("changed"), Some(long.as_slice()));
+    assert_eq!(rt; files.held("new"), Some(b"".as_slice()));
+    assert_eq!(rt; files.held("third"), None);
     Ok(())
 }
