@@ -5,7 +5,7 @@ use Rattle.swi_board.specs.declared.hart.Control.{Control}
 use Rattle.swi_board.specs.declared.hart.Control.TheVariants.{At, Outside}
 use Rattle.swi_board.specs.Position.{control_of}
 
-pub advanced : (s : Option Stage) (i f b n i' b' o' : ℕ) (s' t : Stage) → control_of s i f b ≡ At i' b' o' s' → f < 2 ^ 32 → o' < 2 ^ 22 → n ≤ 3 → control_of (Some t) (i' + n) f b ≡ At (i' + n) b' (o' + n) t
+pub advanced : (s : Option Stage) (i f b n i' b' o' : ℕ) (s' t : Stage) → control_of s i f b ≡ At i' b' o' s' → f < 2 ^ 32 → o' < 2 ^ 22 → n < 2 ^ 23 → control_of (Some t) (i' + n) f b ≡ At (i' + n) b' (o' + n) t
 advanced None i f b n i' b' o' s' t e wide low few = absurd (cc)
 advanced (Some s) i f b n i' b' o' s' t e wide low few =
     let index : i ≡ i' = cc in

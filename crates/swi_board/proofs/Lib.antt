@@ -28,3 +28,5 @@ pub mod Entering
 pub mod Following
 pub mod Settling
 pub mod Exchanging
+pub mod Walking
+pub mod Blocks

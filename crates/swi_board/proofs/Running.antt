@@ -368,7 +368,7 @@ started_run policy v n span h r ram left out err fits le = record {
   goes = λ l told f image same. record { now = started f l; image = image; matches = same; left_is = told; wrote = Appends-none out; told = Appends-none err; run_left = refl; records_left = refl; from = omega arith; now_is = λ on. sym (ap (λ k. held_run k (started f l)) (less_self h.machine.steps) ∙ held_run_none (started f l)); later = omega arith; fetch_left = λ n' ahead. none_yet _ _ _ (fetched_none h); enough = λ on. none_enough v f l h r on same; cost_left = refl };
 }
 
-most_running : (v : ImageData) (m : Machine) (c : Control) → m.ending ≡ None → most v m c ≡ 3 * m.steps + depth v m c
+pub most_running : (v : ImageData) (m : Machine) (c : Control) → m.ending ≡ None → most v m c ≡ 3 * m.steps + depth v m c
 most_running v m c e = ap (λ (k : Option End). most_by k v m c) e
 
 -- the loop's measure falls

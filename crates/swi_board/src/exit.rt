@@ -21,6 +21,7 @@ use swi_rom::{CacheRom, RomStop};
 const EBREAK: u32 = 0x0010_0073;
 
 /// What an exit is for.
+#[inline(always)]
 pub(crate) fn exit_kind(d: u32) -> ExitKind
     ensures { result ≡ exit_kind d }
 {
@@ -33,6 +34,7 @@ pub(crate) fn exit_kind(d: u32) -> ExitKind
 }
 
 /// Whether an exit at the block's offset that was left for the target is one behind the block's last text word.
+#[inline(always)]
 pub(crate) fn fell(stage: Stage, pc: u32, target: u32, control: Control, b: u32, o: u32) -> bool
     ensures { result ≡ fell stage pc target control b o }
 {
@@ -46,6 +48,7 @@ pub(crate) fn fell(stage: Stage, pc: u32, target: u32, control: Control, b: u32,
 }
 
 /// The index to which the jump at an index goes, by its offset.
+#[inline(always)]
 fn jump_index(off: u32, i: u32) -> u32
     ensures { (j w : ℕ) → IsJump i j w → off ≡ offset_of (decoded w) → j < 2 ^ 30 → i < 2 ^ 30 → result ≡ j }
 {
@@ -53,6 +56,7 @@ fn jump_index(off: u32, i: u32) -> u32
 }
 
 /// Control at the word of the ram where a target stands.
+#[inline(always)]
 pub(crate) fn control_at<R: CacheRom>(rom: &R, index: u32) -> Control
     ensures { (v : ImageData) (words : List ℕ) (t : ℕ) → R.sound rom.now v words →
         TargetAt v (R.kept rom.now) t index → Arrives v (R.kept rom.now) t result }
@@ -64,7 +68,7 @@ pub(crate) fn control_at<R: CacheRom>(rom: &R, index: u32) -> Control
 }
 
 /// Leaves a block by an exit, over its link or by a service.
-#[inline(never)]
+#[inline(always)]
 pub(crate) fn leave<R: CacheRom, M: CacheRam>(
     rom: &mut R,
     image: &ImageView<'_>,

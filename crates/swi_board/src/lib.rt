@@ -1,6 +1,7 @@
 //! The machine that runs out of a cache ram.
 #![tactic(auto)]
 
+mod block;
 mod board;
 mod exit;
 mod fault;

@@ -20,9 +20,10 @@ ghost use Rattle.swi_rom.specs.Record.{writes};
 ghost use Rattle.swi_board.specs.Runs.{most, fetched_by, Grown};
 
 use crate::fault::BoardFault;
-use crate::hart::{Hart, Role, Stage};
+use crate::block::{block_place, run_block};
+use crate::hart::{Control, Hart, Role, Stage};
 use crate::plain::{plain_place, plain_step};
-use crate::quick::quick_step;
+use crate::quick::{at_word, quick_step};
 use swi_image::ImageView;
 use swi_outside::{CacheRam, Sink, Source};
 use swi_rom::CacheRom;
@@ -156,7 +157,26 @@ pub(crate) fn run<R: CacheRom, M: CacheRam, I: Source, O: Sink, E: Sink>(
         (record { ram = (M.state ram.new).faults; input = I.faults input.new; out = O.faults out.new; err = E.faults err.new }) result }
 {
     while hart.machine.steps < n && hart.machine.ending.is_none() {
-        match quick_step(hart, rom, image, ram, input, out, err) {
+        // Read for the proof alone: that it has 32 bits.
+        let _pc = hart.origin_pc();
+        let Some(at) = block_place(hart) else {
+            match quick_step(hart, rom, image, ram, input, out, err) {
+                Ok(_) => continue,
+                Err(fault) => return Err(fault),
+            }
+        };
+        let got = match run_block(hart, ram, n, at) {
+            Ok(Some(got)) => got,
+            Ok(None) => continue,
+            Err(_) => {
+                hart.failed = true;
+                return Err(BoardFault::RamFault);
+            }
+        };
+        let Control::At(i, b, o, stage) = hart.control.control() else {
+            unreachable!()
+        };
+        match at_word(hart, rom, image, ram, input, out, err, got, (i, b, o, stage)) {
             Ok(_) => {}
             Err(fault) => return Err(fault),
         }

@@ -75,7 +75,7 @@ impl Position {
         requires control { self.old ≡ Control.At at.0 at.1 at.2 at.3 }
         requires small { at.0 < 2 ^ 22 }
         requires inside { at.2 < 2 ^ 22 }
-        requires few { words ≤ 3 }
+        requires few { words < 2 ^ 23 }
         ensures { self.new ≡ Control.At (at.0 + words) at.1 (at.2 + words) stage }
     {
         // Read for the proof alone: that it has 32 bits.

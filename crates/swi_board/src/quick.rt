@@ -44,7 +44,7 @@ fn offset_of(x: &Instr) -> u32
 
 /// A step at a word of the ram that was fetched.
 #[inline(always)]
-fn at_word<R: CacheRom, M: CacheRam, I: Source, O: Sink, E: Sink>(
+pub(crate) fn at_word<R: CacheRom, M: CacheRam, I: Source, O: Sink, E: Sink>(
     hart: &mut Hart,
     rom: &mut R,
     image: &ImageView<'_>,
@@ -180,7 +180,7 @@ fn at_step<R: CacheRom, M: CacheRam, I: Source, O: Sink, E: Sink>(
 }
 
 /// One machine step.
-#[inline(always)]
+#[inline(never)]
 pub(crate) fn quick_step<R: CacheRom, M: CacheRam, I: Source, O: Sink, E: Sink>(
     hart: &mut Hart,
     rom: &mut R,

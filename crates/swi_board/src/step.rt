@@ -81,6 +81,7 @@ fn trap(hart: &Hart) -> FaultKind
 }
 
 /// A step at a direct exit.
+#[inline(always)]
 fn direct_step<R: CacheRom, M: CacheRam>(
     hart: &mut Hart,
     rom: &mut R,
@@ -232,7 +233,7 @@ fn jalr_step<R: CacheRom, M: CacheRam>(
 }
 
 /// A step at an exit.
-#[inline(never)]
+#[inline(always)]
 pub(crate) fn exit_step<R: CacheRom, M: CacheRam>(
     hart: &mut Hart,
     rom: &mut R,
