@@ -3,3 +3,4 @@ mod Ended
 pub mod Failed
 mod Causing
 mod Fetched
+mod Foreign

@@ -14,6 +14,7 @@ use swi_program::{Program, lay_out, program_of};
 use swi_rom::CacheRom;
 
 mod board;
+mod foreign;
 
 /// The words of an ELF file in front of its one segment's text, by hand from the ELF document.
 const FRONT: [u32; 15] = [

@@ -1,0 +1,209 @@
+//! A plain word of another hand in the ram: it is executed, and the run goes on as over the image's.
+
+ghost use Rattle.std.specs.Prelude.{◌≡◌, ◌<◌, ◌≤◌, Some, None, IfSome, IsOk, List, ℕ, length, slice_index, slice_set, true, false};
+ghost use Rattle.swi_board.specs.Board.{Fits};
+ghost use Rattle.swi_board.specs.Hart.{index_of, place_under, is_between};
+ghost use Rattle.swi_image.specs.Format.{ImageData};
+ghost use Rattle.swi_image.specs.Place.{word_at};
+ghost use Rattle.swi_image.specs.Sound.{IsImage};
+ghost use Rattle.swi_memory.specs.Bus.{fetched};
+ghost use Rattle.swi_program.specs.Layout.{IsLayoutOf};
+ghost use Rattle.swi_program.specs.Text.{text_of};
+ghost use Rattle.swi_render.specs.ImageOf.{IsImageOf};
+
+use super::*;
+use swi_board::Hart;
+use swi_image::ImageView;
+use swi_isa::Reg;
+use swi_memory::Layout;
+use swi_outside::{Failed, VecRam};
+use swi_rom::ScanRom;
+
+/// Sets a0 to 7, as the text has it, and to 8.
+const OWN: u32 = 0x00700513;
+
+const OTHER: u32 = 0x00800513;
+
+/// What stands behind the second step, steps and a0; and behind the third, the ending and the counts of steps,
+/// instructions and fetches.
+type Steps = ((u64, u32), (Option<End>, u64, u64, u64));
+
+/// Whether a board may make a step.
+fn goes_on<R: CacheRom>(board: &Board<R>) -> bool
+    ensures running { result ≡ true → board.now.hart.machine.ending ≡ None }
+    ensures unfailed { result ≡ true → board.now.hart.failed ≡ false }
+    ensures few { result ≡ true → board.now.hart.machine.steps < 10 }
+    ensures count { result ≡ true → board.now.hart.count < 10 }
+    ensures services { result ≡ true → (R.kept board.now.rom).counts.services < 10 }
+{
+    board.ending().is_none()
+        && !board.failed()
+        && board.steps() < 10
+        && board.machine_steps() < 10
+        && board.rom().counts().services < 10
+}
+
+/// The index of the word under control, its block and its offset there, where the service shows the same.
+fn under<R: CacheRom>(hart: &Hart, rom: &R) -> Option<(u32, (u32, u32))>
+    ensures at { IfSome result (λ p. index_of hart.now.machine.ending hart.now.control ≡ Some p.0) }
+    ensures place { IfSome result (λ p. place_under hart.now.machine.ending hart.now.control ≡ Some p.1) }
+    ensures shown { IfSome result (λ p. R.shown rom.now p.0 ≡ Some p.1) }
+{
+    let i = hart.at()?;
+    let place = hart.place()?;
+    if rom.at(i) != Some(place) {
+        return None;
+    }
+    Some((i, place))
+}
+
+/// Whether the instruction under control is the text's second.
+fn is_own(hart: &Hart) -> bool
+    ensures { result ≡ true → fetched hart.now.machine.bus hart.now.machine.pc ≡ Some 0x00700513 }
+{
+    match hart.bus().fetch(hart.origin_pc()) {
+        Some(word) => word == OWN,
+        None => false,
+    }
+}
+
+/// Sets a word of a ram.
+fn put(ram: &mut VecRam, i: u32, word: u32) -> Result<(), Failed>
+    requires { i < length ram.old.words }
+    ensures words { ram.new.words ≡ slice_set ram.old.words i word }
+    ensures never_fails { IsOk result }
+{
+    ram.set(i, word)
+}
+
+/// Sets the word under control to another, makes a step, sets it back, and makes a step.
+fn steps_over<R: CacheRom>(
+    alloc: Global,
+    board: &mut Board<R>,
+    image: &ImageView<'_>,
+    ram: &mut VecRam,
+    i: u32,
+    place: (u32, u32),
+) -> Result<Steps, Fail>
+    requires at { index_of board.old.hart.machine.ending board.old.hart.control ≡ Some i }
+    requires place { place_under board.old.hart.machine.ending board.old.hart.control ≡ Some place }
+    requires between { is_between board.old.hart.control ≡ true }
+    requires fits { Fits image.now (R.kept board.old.rom) board.old.hart }
+    requires sound { R.sound board.old.rom image.now ram.old.words }
+    requires inside { i < length ram.old.words }
+    requires own { word_at image.now place.0 place.1 ≡ 0x00700513 }
+    requires held { slice_index ram.old.words i ≡ 0x00700513 }
+    requires original { fetched board.old.hart.machine.bus board.old.hart.machine.pc ≡ Some 0x00700513 }
+{
+    let mut input = MemSource::new(Vec::new(alloc), Vec::new(alloc));
+    let mut out = MemSink::new(alloc, 16, Vec::new(alloc))?;
+    let mut err = MemSink::new(alloc, 16, Vec::new(alloc))?;
+    if !goes_on(board) || put(ram, i, OTHER).is_err() {
+        return Err(Fail::from("no second step"));
+    }
+    if board
+        .step(image, ram, &mut input, &mut out, &mut err)
+        .is_err()
+    {
+        return Err(Fail::from("no second step"));
+    }
+    let second = (board.steps(), board.regs().get(Reg::of(10)));
+    if !goes_on(board) || put(ram, i, OWN).is_err() {
+        return Err(Fail::from("no third step"));
+    }
+    if board
+        .step(image, ram, &mut input, &mut out, &mut err)
+        .is_err()
+    {
+        return Err(Fail::from("no third step"));
+    }
+    Ok((
+        second,
+        (
+            board.ending(),
+            board.steps(),
+            board.machine_steps(),
+            ram.fetches(),
+        ),
+    ))
+}
+
+/// Boots a board over a new service and makes a step, and then the steps above.
+fn stepped<R: CacheRom>(
+    alloc: Global,
+    rom: R,
+    image: &ImageView<'_>,
+    program: &Program,
+    layout: &Layout,
+) -> Result<Steps, Fail>
+    requires laid_out { IsLayoutOf program.now.segments layout.now }
+    requires own { IsImageOf (text_of program.now.segments) image.now }
+    requires small { R.span (R.setting rom) ≤ 8 }
+    requires new { (v : ImageData) (words : List ℕ) → IsImage v → image.now.block_words ≡ v.block_words →
+        R.span (R.setting rom) ≤ length words → R.sound rom v words }
+{
+    crate::run::carry(image, program);
+    let _blocks = image.blocks();
+    let mut input = MemSource::new(Vec::new(alloc), Vec::new(alloc));
+    let mut out = MemSink::new(alloc, 16, Vec::new(alloc))?;
+    let mut err = MemSink::new(alloc, 16, Vec::new(alloc))?;
+    let mut ram = VecRam::new(alloc, 8)?;
+    if rom.counts().services > 0 {
+        return Err(Fail::from("no new service"));
+    }
+    let Ok(mut board) = Board::boot(alloc, image, program, layout, false, rom, &mut ram) else {
+        return Err(Fail::from("no board"));
+    };
+    if board.steps() > 1 || board.rom().counts().services > 1 {
+        return Err(Fail::from("no first step"));
+    }
+    if board
+        .run(image, &mut ram, &mut input, &mut out, &mut err, 1)
+        .is_err()
+        || board.failed()
+    {
+        return Err(Fail::from("no first step"));
+    }
+    if board.ending().is_some() {
+        return Err(Fail::from("no second step"));
+    }
+    let (hart, rom) = board.part();
+    let Some((i, place)) = under(&hart, &rom) else {
+        return Err(Fail::from("another place"));
+    };
+    if i != 1
+        || place.0 >= image.blocks()
+        || place.1 >= image.length(place.0)
+        || image.word(place.0, place.1) != OWN
+        || !is_own(&hart)
+        || ram.words() != 8
+        || ram.word(i) != OWN
+    {
+        return Err(Fail::from("another word"));
+    }
+    let mut board = Board::join(hart, rom);
+    steps_over(alloc, &mut board, image, &mut ram, i, place)
+}
+
+#[test]
+fn foreign_word_is_executed_by_both(rt: HostRuntime) -> Result<(), Fail> {
+    let alloc = rt.alloc();
+    let program = program_with(alloc, SEVEN, 5)?;
+    let Ok(layout) = lay_out(&program, 1 << 20, 1 << 16) else {
+        return Err(Fail::from("no room"));
+    };
+    let Ok(image) = cut(alloc, &program, 8) else {
+        return Err(Fail::from("no image"));
+    };
+    let view = image.view();
+    let _blocks = view.blocks();
+    if view.block_words() > 8 {
+        return Err(Fail::from("long blocks"));
+    }
+    let want = ((2, 8), (Some(Exited(8)), 3, 4, 3));
+    let scan = ScanRom::new(alloc, 32, view.block_words())?;
+    assert_eq!(rt; stepped(alloc, scan, &view, &program, &layout)?, want);
+    let fifo = FifoRom::new(alloc, 32, view.block_words())?;
+    assert_eq!(rt; stepped(alloc, fifo, &view, &program, &layout)?, want);
+    Ok(())
+}
