@@ -1,8 +1,7 @@
 -- Control that goes on in its block.
-use Rattle.std.proofs.Common.{◌≡◌, ℕ, ◌+◌, ◌-◌, ◌%◌, ◌^◌, ◌<◌, ◌≤◌, Option, Some, None, refl, ap, ◌∙◌, arith}
+use Rattle.std.proofs.Common.{◌≡◌, ℕ, ◌+◌, ◌-◌, ◌%◌, ◌^◌, ◌<◌, Option, Some, None, ap, ◌∙◌, arith}
 use Rattle.swi_board.specs.declared.hart.Stage.{Stage}
-use Rattle.swi_board.specs.declared.hart.Control.{Control}
-use Rattle.swi_board.specs.declared.hart.Control.TheVariants.{At, Outside}
+use Rattle.swi_board.specs.declared.hart.Control.TheVariants.{At}
 use Rattle.swi_board.specs.Position.{control_of}
 
 pub advanced : (s : Option Stage) (i f b n i' b' o' : ℕ) (s' t : Stage) → control_of s i f b ≡ At i' b' o' s' → f < 2 ^ 32 → o' < 2 ^ 22 → n < 2 ^ 23 → control_of (Some t) (i' + n) f b ≡ At (i' + n) b' (o' + n) t

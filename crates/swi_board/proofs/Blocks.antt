@@ -1,5 +1,5 @@
 -- A run over steps within a block: what holds all along it holds behind each of them.
-use Rattle.std.proofs.Common.{◌≡◌, ◌⊎◌, ℕ, ◌+◌, ◌-◌, ◌*◌, ◌^◌, ◌<◌, ◌≤◌, max, true, List, length, slice_index, Option, Some, None, Result, Ok, Err, refl, sym, ap, subst, ◌∙◌, inl, inr, arith}
+use Rattle.std.proofs.Common.{◌≡◌, ◌⊎◌, ℕ, ◌+◌, ◌-◌, ◌*◌, ◌^◌, ◌<◌, ◌≤◌, true, List, slice_index, Option, Some, None, Result, Ok, Err, refl, sym, ap, subst, ◌∙◌, inl, inr, arith}
 use Rattle.swi_outside.specs.CacheRam.{RamState}
 use Rattle.swi_outside.specs.Causes.{risen}
 use Rattle.swi_image.specs.Format.{ImageData}
@@ -13,8 +13,8 @@ use Rattle.swi_board.specs.declared.hart.Role.{Role}
 use Rattle.swi_board.specs.Hart.{HartData, Stepped, hart_after, word_stepped, original, is_between}
 use Rattle.swi_board.specs.Board.{Matches, Fits}
 use Rattle.swi_board.specs.Calling.{Did, Made}
-use Rattle.swi_board.specs.Leaving.{Home, WordHome, quick_role, transfer_at, moved, RamServed, RamStepped}
-use Rattle.swi_board.specs.Runs.{most, depth, Grown}
+use Rattle.swi_board.specs.Leaving.{Home, WordHome, quick_role, transfer_at, moved, RamServed}
+use Rattle.swi_board.specs.Runs.{most, depth}
 use Rattle.swi_board.specs.Walked.{WalkedOn, Walked, StandsInside, StoppedAt, BlockRan}
 use Rattle.swi_board.proofs.Homes.{home}
 use Rattle.swi_board.proofs.Fetching.{got_some, index_below, index_fits, offset_small, word_home, word_moves, counted_hart, did_quiet}

@@ -1,5 +1,5 @@
 -- One step more within a block.
-use Rattle.std.proofs.Common.{◌≡◌, ℕ, ◌+◌, ◌-◌, ◌*◌, ◌^◌, ◌<◌, ◌≤◌, max, true, false, List, slice_index, Option, Some, None, refl, sym, ap, ◌∙◌, arith}
+use Rattle.std.proofs.Common.{◌≡◌, ℕ, ◌+◌, ◌-◌, ◌^◌, ◌<◌, ◌≤◌, max, false, List, slice_index, Option, Some, None, refl, ap, ◌∙◌, arith}
 use Rattle.swi_isa.specs.declared.instr.Instr.{Instr}
 use Rattle.swi_isa.specs.Decode.{decoded}
 use Rattle.swi_exec.specs.Arithmetic.{sum_of}
@@ -16,7 +16,7 @@ use Rattle.swi_board.specs.declared.hart.Control.TheVariants.{At}
 use Rattle.swi_board.specs.declared.block.Next.{Next}
 use Rattle.swi_board.specs.declared.block.Next.TheVariants as next
 use Rattle.swi_board.specs.Hart.{HartData, stepped, word_stepped, original}
-use Rattle.swi_board.specs.Leaving.{Counted, leaves, quick_role, step_to}
+use Rattle.swi_board.specs.Leaving.{leaves, quick_role}
 use Rattle.swi_board.specs.Walked.{is_return, is_stop, role_by, went, WalkedOn, Walked}
 
 -- index, stage, pc and steps behind a word, by where control goes

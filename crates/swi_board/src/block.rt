@@ -120,7 +120,9 @@ pub(crate) fn run_block<M: CacheRam>(
                 break;
             }
         };
-        let Some(x) = decode(word) else { unreachable!() };
+        let Some(x) = decode(word) else {
+            unreachable!()
+        };
         match execute(index, &x, &mut hart.machine.regs, &mut hart.machine.bus) {
             Next::On => {
                 index += 1;

@@ -19,8 +19,8 @@ ghost use Rattle.swi_outside.specs.CacheRam.{KeepsBeyond};
 ghost use Rattle.swi_rom.specs.Record.{writes};
 ghost use Rattle.swi_board.specs.Runs.{most, fetched_by, Grown};
 
-use crate::fault::BoardFault;
 use crate::block::{block_place, run_block};
+use crate::fault::BoardFault;
 use crate::hart::{Control, Hart, Role, Stage};
 use crate::plain::{plain_place, plain_step};
 use crate::quick::{at_word, quick_step};
@@ -176,7 +176,17 @@ pub(crate) fn run<R: CacheRom, M: CacheRam, I: Source, O: Sink, E: Sink>(
         let Control::At(i, b, o, stage) = hart.control.control() else {
             unreachable!()
         };
-        match at_word(hart, rom, image, ram, input, out, err, got, (i, b, o, stage)) {
+        match at_word(
+            hart,
+            rom,
+            image,
+            ram,
+            input,
+            out,
+            err,
+            got,
+            (i, b, o, stage),
+        ) {
             Ok(_) => {}
             Err(fault) => return Err(fault),
         }

@@ -1,9 +1,8 @@
-use Rattle.std.proofs.Common.{rules, ◌≡◌, ◌+◌, ◌-◌, ◌*◌, ◌^◌, ◌<◌, ◌≤◌, ℕ, None, Some, false, refl, sym, ap, subst, ◌∙◌, arith}
+use Rattle.std.proofs.Common.{rules, ◌≡◌, ◌+◌, ◌-◌, ◌^◌, ◌<◌, refl, sym, ap, subst, ◌∙◌, arith}
 use Rattle.swi_board.specs.declared.block.Next.{Next}
 use Rattle.swi_board.specs.declared.hart.Control.TheVariants.{At}
 use Rattle.swi_isa.specs.Decode.{decoded}
 use Rattle.swi_board.specs.Hart.{HartData}
-use Rattle.swi_board.specs.Walked.{Walked}
 use Rattle.swi_board.proofs.Walking.{Moves, moves_plain, moves_ahead, moves_short, walks, started}
 use Rattle.swi_board.proofs.block.run_block.Goals.{in-On, in-Over, in-Exit}
 use Rattle.swi_board.proofs.block.run_block.Goals as goal
@@ -49,11 +48,11 @@ loop-steps-preserved g c =
     let below : c.loop-steps.steps < c.args.limit = omega (arith, c.loop-steps-test.true) in
     let inside = c.requires.inside _ _ c.loop-steps.invariant.walked below _ _ _ _ refl in
     let moves : Moves c.execute.result c.loop-steps.index c.loop-steps.pc c.loop-steps.steps c.match-execute.index c.match-execute.stage c.match-execute.pc c.match-execute.steps =
-      elim c.match-execute.branch [
-        | in-On w ↦ subst (λ (k : Next). Moves k c.loop-steps.index c.loop-steps.pc c.loop-steps.steps c.match-execute.index c.match-execute.stage c.match-execute.pc c.match-execute.steps) (sym w.in-On.is) (w.index-is, w.stage-is, w.pc-is, w.steps-is)
-        | in-Over w ↦ subst (λ (k : Next). Moves k c.loop-steps.index c.loop-steps.pc c.loop-steps.steps c.match-execute.index c.match-execute.stage c.match-execute.pc c.match-execute.steps) (sym w.in-Over.is) (w.index-is, w.stage-is, w.pc-is, w.steps-is)
-        | in-Exit w ↦ subst (λ (k : Next). Moves k c.loop-steps.index c.loop-steps.pc c.loop-steps.steps c.match-execute.index c.match-execute.stage c.match-execute.pc c.match-execute.steps) (sym w.in-Exit.is) (w.index-is, w.stage-is, w.pc-is, w.steps-is)
-      ] in
+    elim c.match-execute.branch [
+      | in-On w ↦ subst (λ (k : Next). Moves k c.loop-steps.index c.loop-steps.pc c.loop-steps.steps c.match-execute.index c.match-execute.stage c.match-execute.pc c.match-execute.steps) (sym w.in-On.is) (w.index-is, w.stage-is, w.pc-is, w.steps-is)
+      | in-Over w ↦ subst (λ (k : Next). Moves k c.loop-steps.index c.loop-steps.pc c.loop-steps.steps c.match-execute.index c.match-execute.stage c.match-execute.pc c.match-execute.steps) (sym w.in-Over.is) (w.index-is, w.stage-is, w.pc-is, w.steps-is)
+      | in-Exit w ↦ subst (λ (k : Next). Moves k c.loop-steps.index c.loop-steps.pc c.loop-steps.steps c.match-execute.index c.match-execute.stage c.match-execute.pc c.match-execute.steps) (sym w.in-Exit.is) (w.index-is, w.stage-is, w.pc-is, w.steps-is)
+    ] in
     let short : c.loop-steps.pc < 2 ^ 32 = search rules in
     let on = moves_ahead _ _ _ _ _ _ _ _ moves in
     let from = c.loop-steps.invariant.ahead in

@@ -1,7 +1,5 @@
-use Rattle.std.proofs.Common.{◌≡◌, ◌+◌, ◌-◌, ◌*◌, ◌^◌, ◌<◌, ◌≤◌, Result, Option, Ok, None, false}
-use Rattle.swi_outside.specs.declared.failure.Failed.{Failed}
+use Rattle.std.proofs.Common.{◌≡◌, ◌+◌, ◌-◌, ◌*◌, ◌^◌, ◌≤◌, Ok, None, false}
 use Rattle.swi_board.specs.declared.hart.Control.TheVariants.{At}
-use Rattle.swi_board.specs.Hart.{HartData}
 use Rattle.swi_board.specs.Walked.{is_return, Walked}
 use Rattle.swi_board.proofs.block.run_block.Given as goal
 

@@ -7,7 +7,7 @@ use Rattle.swi_board.specs.Leaving.{moved, transfer_at, RamStepped, RamBroken, R
 use Rattle.swi_board.proofs.Running.{started_run, count_small, runs_on, goes_out, falls, kept_both}
 use Rattle.swi_board.proofs.Grown.{moved_rises}
 use Rattle.swi_board.proofs.Breaking.{device_run, ram_run}
-use Rattle.swi_board.proofs.Settling.{settles_on, stays_between, true≢false}
+use Rattle.swi_board.proofs.Settling.{settles_on}
 use Rattle.swi_board.proofs.Causing.{causes_ram, causes_from}
 use Rattle.swi_rom.specs.Coherent.{Coherent}
 use Rattle.swi_board.proofs.Blocks.{stands, walk, begins, no_higher, lower, at_limit, before_word, before_fault, home_at, coherent_at, same_index}
