@@ -3,3 +3,5 @@ mod Ended
 pub mod Failed
 mod Causing
 mod Fetched
+pub mod Telling
+pub mod Stopping
