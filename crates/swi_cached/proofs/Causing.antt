@@ -110,3 +110,13 @@ on_device S T P board.RamFault (inl e) p = cc
 on_device S T P board.RamFault (inr e) p = cc
 on_device S T P board.SourceFault e p = p
 on_device S T P board.SinkFault e p = p
+
+-- and none as want of memory
+pub never_memory : {T : Type 0} (fault : BoardFault) → IsErrOf {T = T} (Err (stop_of fault)) stop.Memory → ⊥
+never_memory {T} board.RamFault e = cc
+never_memory {T} board.SourceFault e = cc
+never_memory {T} board.SinkFault e = cc
+
+-- an error that is handed on
+pub err_as : {S T : Type 0} (s k : CachedStop) → IsErrOf {T = S} (Err s) k → IsErrOf {T = T} (Err s) k
+err_as {S} {T} s k e = let same : s ≡ k = cc in ap (λ (x : CachedStop). Err x) same

@@ -24,7 +24,8 @@ use Rattle.swi_board.specs.Leaving.{RamRan}
 use Rattle.swi_board.specs.Ran.{Ran}
 use Rattle.swi_board.specs.Runs.{depth, most, most_by, fetched_by}
 use Rattle.swi_board.specs.Transfers.{transfers, cost, fetches, here_of, spent_by, spent_run, after_all}
-use Rattle.swi_cached.specs.Cached.{CachedRun, span_of, end_of, fetches_after, policy_of, record_after, record_at_boot}
+use Rattle.std.specs.Io.KnownBytes.{Appends}
+use Rattle.swi_cached.specs.Cached.{CachedRun, span_of, end_of, told_after, fetches_after, policy_of, record_after, record_at_boot}
 use Rattle.swi_cached.specs.Answers.{Ended, IsShort, RamAfter}
 use Rattle.swi_cached.specs.Booted.{Booted}
 use Rattle.swi_board.proofs.Running.{kept_both}
@@ -45,8 +46,8 @@ spent_settled f c = by f.ending c
 none_left : (a b x y : ℕ) → x ≡ 0 → y ≡ 0 → a + x ≡ b + y → a ≡ b
 none_left a b x y p q e = omega (arith, p, q, e)
 
-module _ (c : CachedRun) (h0 h : HartData) (s0 : Slots) (r : Record) (before mid after : RamState) (left' out out' err err' : Option (List ℕ))
-    (booted : Booted c h0 s0 before mid) (ran : Ran (policy_of c) c.image c.limit c.start h0 (kept_by s0) h r left' out out' err err')
+module _ (c : CachedRun) (h0 h : HartData) (s0 : Slots) (r : Record) (before mid after : RamState) (left' out out' e e' : Option (List ℕ))
+    (booted : Booted c h0 s0 before mid) (ran : Ran (policy_of c) c.image c.limit c.start h0 (kept_by s0) h r left' out out' e e')
     (settled : h.machine.ending ≡ None → is_between h.control ≡ true) where
   same : h.machine ≡ (end_of c).machine
   same = same_between c.image r (end_of c).machine h.machine h.control settled ran.matches
@@ -63,15 +64,15 @@ module _ (c : CachedRun) (h0 h : HartData) (s0 : Slots) (r : Record) (before mid
       ∙ ap (λ (k : Option (ℕ × ℕ)). after_all (policy_of c) c.image (kept_by s0) (transfers c.image c.limit c.start k)) booted.here
       ∙ ap (λ (k : Record). after_all (policy_of c) c.image k (transfers c.image c.limit c.start (place_of c.image c.start.machine.pc))) booted.kept
 
-  pub has_ended : Ended c h r left' out out' err err'
-  has_ended = record {
+  pub has_ended : (err err' : Option (List ℕ)) → Appends err err' (told_after c c.limit).error → Ended c h r left' out out' err err'
+  has_ended err err' told = record {
     machine = same;
     count = subst (λ (k : Option (ℕ × ℕ)). h.count ≡ 1 + cost c.image c.limit c.start k) booted.here
         (counts h.count (cost c.image c.limit c.start (here_of c.image c.start.machine h0.control)) (spent_run c.start.machine h0.control) (spent_run (end_of c).machine h.control) booted.spent rest booted.count ran.cost_is);
     record_is = record_is;
     input = ran.input;
     output = ran.output;
-    error = ran.error;
+    error = told;
   }
 
   fetched : fetched_by h0 h ≡ fetches_after c c.limit
@@ -165,3 +166,9 @@ is_short c h0 h s0 before mid booted going none settled rise =
     let one = booted.count in
     let most_last = last.0 in
     record { most = omega (arith, start, one, rise, most_last); fewer = λ never. let fewer = last.1 never in omega (arith, start, one, rise, fewer) }
+
+-- the same of a run that is told from its first step on
+pub ran_told : (c : CachedRun) (h0 h : HartData) (s0 : Slots) (r : Record) (before mid : RamState) (left' out out' err err' : Option (List ℕ)) → Booted c h0 s0 before mid →
+    Ran (fifo (setting_of s0)) c.image c.limit c.start h0 (kept_by s0) h r left' out out' err err' → Ran (policy_of c) c.image c.limit c.start h0 (kept_by s0) h r left' out out' err err'
+ran_told c h0 h s0 r before mid left' out out' err err' booted ran =
+    subst (λ (k : List ℕ). Ran (fifo k) c.image c.limit c.start h0 (kept_by s0) h r left' out out' err err') booted.setting ran

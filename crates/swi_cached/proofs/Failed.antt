@@ -1,5 +1,5 @@
 -- A run that a device broke off, and the two laws of its program.
-use Rattle.std.proofs.Common.{◌≡◌, ℕ, suc, ◌+◌, ◌-◌, ◌<◌, ◌≤◌, Bool, true, false, List, [], Option, Some, None, is_some, Result, IsErrOf, if◌then◌else◌, refl, sym, ap, subst, ◌∙◌, arith}
+use Rattle.std.proofs.Common.{◌≡◌, ℕ, suc, ◌+◌, ◌-◌, ◌<◌, ◌≤◌, Bool, true, false, List, [], ◌++◌, length, take, Option, Some, None, is_some, Result, IsErrOf, if◌then◌else◌, refl, sym, ap, subst, ◌∙◌, arith}
 use Rattle.std.proofs.lemmas.Bool.{false≢true}
 use Rattle.std.specs.Io.KnownBytes.{Appends}
 use Rattle.swi_outside.specs.Causes.{risen}
@@ -19,8 +19,9 @@ use Rattle.swi_board.specs.Ran.{RamBrokeOff, BrokeOff}
 use Rattle.swi_board.specs.Transfers.{size, fetches, spent_run, at_fall, settled, step_size, here_after}
 use Rattle.swi_cached.specs.declared.run.CachedStop.{CachedStop}
 use Rattle.swi_cached.specs.declared.run.CachedStop.TheVariants.{SourceFault}
-use Rattle.swi_cached.specs.Cached.{CachedRun, fetches_after, IsFlatRun, StopsBeforeStore}
-use Rattle.swi_cached.specs.Answers.{RamFailed, StepFailed}
+use Rattle.swi_cached.specs.Cached.{CachedRun, fetches_after, told_after, program_after, IsFlatRun, StopsBeforeStore}
+use Rattle.swi_cached.specs.Told.{error_by, of_steps, told_line}
+use Rattle.swi_cached.specs.Answers.{RamFailed, StepFailed, step_after}
 use Rattle.swi_cached.specs.Booted.{Booted}
 
 -- what a run of the board is broken off at, in the words of its boot
@@ -30,9 +31,10 @@ all_steps c h0 s0 before mid booted none =
     omega (arith, steps, none)
 
 -- the ram failed in the run
-pub ram_failed : (c : CachedRun) (h0 h' : HartData) (s0 : Slots) (before mid after : RamState) (left' out out' err err' : Option (List ℕ)) → Booted c h0 s0 before mid →
-    RamBrokeOff c.image c.limit c.start h0 h' mid after left' out out' err err' → RamFailed c before after left' out out' err err'
-ram_failed c h0 h' s0 before mid after left' out out' err err' booted broke =
+pub ram_failed : (c : CachedRun) (h0 h' : HartData) (s0 : Slots) (before mid after : RamState) (left' out out' err err' e e' : Option (List ℕ)) → Booted c h0 s0 before mid →
+    (broke : RamBrokeOff c.image c.limit c.start h0 h' mid after left' out out' e e') → (begun : Bool) →
+    Appends err err' ((told_after c broke.steps).error ++ (if begun then told_line c.trace (program_after c broke.steps).machine else [])) → RamFailed c before after left' out out' err err'
+ram_failed c h0 h' s0 before mid after left' out out' err err' e e' booted broke begun told =
     let fetched : ℕ = broke.fetched in
     let no_rest = booted.spent in
     let least : fetches_after c broke.steps ≤ broke.fetched + spent_run c.start.machine h0.control =
@@ -48,7 +50,8 @@ ram_failed c h0 h' s0 before mid after left' out out' err err' booted broke =
           subst (λ (k : Option (ℕ × ℕ)). broke.fetched + spent_run c.start.machine h0.control < fetches c.image (broke.steps + 1) c.start k) booted.here (broke.longest more) in
           omega (arith, next, no_rest);
       output = broke.output;
-      error = broke.error;
+      begun = begun;
+      error = told;
       input = broke.input;
     }
 
@@ -66,6 +69,12 @@ none_made : (v : ImageData) (s : FlatState) (p : Option (ℕ × ℕ)) → size 0
 unfolding size
 none_made v s p = omega arith
 
+-- nothing is told of no step
+pub told_none : (t : Bool) (s : FlatState) → s.error ≡ [] → error_by t 0 s ≡ []
+unfolding of_steps
+told_none false s none = ap (λ (q : FlatState). q.error) (held_run_none s) ∙ none
+told_none true s none = ap (λ (l : List ℕ). l ++ []) none
+
 -- or before the first step
 pub boot_failed : (c : CachedRun) (before after : RamState) (left out err : Option (List ℕ)) → c.start.machine.ending ≡ None → c.start.output ≡ [] → c.start.error ≡ [] →
     left ≡ Some c.start.input → is_some (place_of c.image c.start.machine.pc) ≡ true → after.fetches ≡ before.fetches → RamFailed c before after left out out err err
@@ -79,7 +88,8 @@ boot_failed c before after left out err going no_output no_error told placed sam
       enough = none_made c.image c.start (place_of c.image c.start.machine.pc);
       longest = λ more. first_fetch c.image c.start (place_of c.image c.start.machine.pc) going placed refl;
       output = subst (λ (piece : List ℕ). Appends out out piece) (sym (ap (λ (s : FlatState). s.output) first ∙ no_output)) (Appends-none out);
-      error = subst (λ (piece : List ℕ). Appends err err piece) (sym (ap (λ (s : FlatState). s.error) first ∙ no_error)) (Appends-none err);
+      begun = false;
+      error = subst (λ (piece : List ℕ). Appends err err piece) (sym (ap (λ (l : List ℕ). l ++ []) (told_none c.trace c.start no_error))) (Appends-none err);
       input = told ∙ ap (λ (s : FlatState). Some s.input) (sym first);
     }
   where
@@ -87,17 +97,19 @@ boot_failed c before after left out err going no_output no_error told placed sam
     risen_none n = grind arith
 
 -- the input or a sink failed
-pub step_failed : {S T : Type 0} (c : CachedRun) (h0 h' : HartData) (r : Result S BoardFault) (result : Result T CachedStop) (left' out out' err err' : Option (List ℕ)) →
-    (IsErrOf result SourceFault → IsErrOf r board_source) → BrokeOff r c.limit c.start h0 h' left' out out' err err' → StepFailed c result left' out out' err err'
-step_failed c h0 h' r result left' out out' err err' same broke = record {
+pub step_failed : {S T : Type 0} (c : CachedRun) (h0 h' : HartData) (r : Result S BoardFault) (result : Result T CachedStop) (left' out out' err err' e e' : Option (List ℕ)) →
+    (IsErrOf result SourceFault → IsErrOf r board_source) → (broke : BrokeOff r c.limit c.start h0 h' left' out out' e e') → (front : ℕ) →
+    Appends err err' ((told_after c broke.steps).error ++ take front (step_after c broke.steps).error) →
+    (IsErrOf r board_source → front ≡ length (told_line c.trace (program_after c broke.steps).machine)) → StepFailed c result left' out out' err err'
+step_failed c h0 h' r result left' out out' err err' e e' same broke front told unwritten = record {
   steps = broke.steps;
   fewer = broke.fewer;
   going = broke.going;
   output_front = broke.output_front;
   output = broke.output;
-  error_front = broke.error_front;
-  error = broke.error;
-  unwritten = λ e. broke.unwritten (same e);
+  error_front = front;
+  error = told;
+  unwritten = λ e. ((broke.unwritten (same e)).0, unwritten (same e));
   taken = broke.taken;
   input = broke.input;
   few = broke.few;

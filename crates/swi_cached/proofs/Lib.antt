@@ -4,3 +4,5 @@ pub mod Failed
 mod Causing
 mod Fetched
 mod Foreign
+pub mod Telling
+pub mod Stopping

@@ -1,5 +1,5 @@
 -- What a run on the cached machine leaves: where it came to its end, and where a device failed. Own rule.
-use Rattle.std.specs.Prelude.{◌≡◌, ℕ, ◌+◌, ◌*◌, ◌<◌, ◌≤◌, List, ◌++◌, length, slice_index, take, Option, Some, None, Result, OnOk, IsErrOf}
+use Rattle.std.specs.Prelude.{◌≡◌, ℕ, ◌+◌, ◌*◌, ◌<◌, ◌≤◌, Bool, List, [], ◌++◌, length, slice_index, take, Option, Some, None, Result, OnOk, IsErrOf, if◌then◌else◌}
 use Rattle.std.specs.Io.KnownBytes.{Appends, Consumes}
 use Rattle.swi_outside.specs.Causes.{DeviceCause, PairCause, risen}
 use Rattle.swi_outside.specs.CacheRam.{RamState}
@@ -14,7 +14,8 @@ use Rattle.swi_board.specs.Faults.{Faults}
 use Rattle.swi_board.specs.Hart.{HartData}
 use Rattle.swi_cached.specs.declared.run.CachedStop.{CachedStop}
 use Rattle.swi_cached.specs.declared.run.CachedStop.TheVariants.{RamFault, SourceFault, SinkFault}
-use Rattle.swi_cached.specs.Cached.{CachedRun, span_of, program_after, end_of, instructions_after, fetches_after, record_after, used_after}
+use Rattle.swi_cached.specs.Cached.{CachedRun, span_of, program_after, told_after, end_of, instructions_after, fetches_after, record_after, used_after}
+use Rattle.swi_cached.specs.Told.{next_error, told_line}
 
 -- A run that came to its end: as the program did, with so many machine instructions, and the service as its policy
 -- leads. Of the input just what the program took is gone, and the sinks gained what it wrote.
@@ -25,7 +26,7 @@ pub record Ended (c : CachedRun) (h : HartData) (kept : Record)
   pub record_is : kept ≡ record_after c c.limit
   pub input : left' ≡ Some (end_of c).input
   pub output : Appends out out' (end_of c).output
-  pub error : Appends err err' (end_of c).error
+  pub error : Appends err err' (told_after c c.limit).error
 
 -- at most three machine instructions for each step, and one for the boot; one more where the run stopped before a store
 -- into the text
@@ -44,7 +45,7 @@ pub record RamAfter (c : CachedRun) (before after : RamState) : Type 0 where
   pub unused : (i : ℕ) → used_after c c.limit ≤ i → slice_index after.words i ≡ slice_index before.words i
 
 -- The ram failed: both sinks hold just what the most steps wrote, and of the input is gone just what they took, whose
--- fetches were made.
+-- fetches were made. Where steps are told, the line of the next one may stand behind it.
 pub record RamFailed (c : CachedRun) (before after : RamState)
     (left' out out' err err' : Option (List ℕ)) : Type 0 where
   pub fetched : ℕ
@@ -54,15 +55,16 @@ pub record RamFailed (c : CachedRun) (before after : RamState)
   pub enough : fetches_after c steps ≤ fetched
   pub longest : steps < c.limit → fetched < fetches_after c (steps + 1)
   pub output : Appends out out' (program_after c steps).output
-  pub error : Appends err err' (program_after c steps).error
+  pub begun : Bool
+  pub error : Appends err err' ((told_after c steps).error ++ (if begun then told_line c.trace (program_after c steps).machine else []))
   pub input : left' ≡ Some (program_after c steps).input
 
--- the step that comes after so many
+-- the step that comes after so many, which writes its line first where steps are told
 abbrev pub step_after : CachedRun → ℕ → Made
-step_after c n = held_made (program_after c n).machine (program_after c n).input
+step_after c n = record (held_made (program_after c n).machine (program_after c n).input) { error = next_error c.trace (program_after c n) }
 
 -- The input or a sink failed at a step: so many were made before it; each sink gained what they wrote, and then a front
--- of what the next one writes: none where the input failed. Of the input no more is gone than what they took, and a
+-- of what the next one writes: where the input failed, nothing but its line. Of the input no more is gone than what they took, and a
 -- front of what the next one takes.
 pub record StepFailed {T : Type 0} (c : CachedRun) (result : Result T CachedStop)
     (left' out out' err err' : Option (List ℕ)) : Type 0 where
@@ -72,8 +74,8 @@ pub record StepFailed {T : Type 0} (c : CachedRun) (result : Result T CachedStop
   pub output_front : ℕ
   pub output : Appends out out' ((program_after c steps).output ++ take output_front (step_after c steps).output)
   pub error_front : ℕ
-  pub error : Appends err err' ((program_after c steps).error ++ take error_front (step_after c steps).error)
-  pub unwritten : IsErrOf result SourceFault → (output_front ≡ 0) × (error_front ≡ 0)
+  pub error : Appends err err' ((told_after c steps).error ++ take error_front (step_after c steps).error)
+  pub unwritten : IsErrOf result SourceFault → (output_front ≡ 0) × (error_front ≡ length (told_line c.trace (program_after c steps).machine))
   pub taken : List ℕ
   pub input : Consumes (Some (program_after c steps).input) left' taken
   pub few : length taken + length (step_after c steps).input ≤ length (program_after c steps).input

@@ -1,5 +1,5 @@
 -- A run on the cached machine, as data: what it does besides what its program does. Own rule.
-use Rattle.std.specs.Prelude.{◌≡◌, ℕ, ◌+◌, ◌*◌, ◌/◌, ◌<◌, min, Bool, List, [], ◌∷◌, Option, Some}
+use Rattle.std.specs.Prelude.{◌≡◌, ℕ, ◌+◌, ◌*◌, ◌/◌, ◌<◌, min, Bool, false, List, [], ◌∷◌, Option, Some}
 use Rattle.swi_exec.specs.declared.done.FaultKind.TheVariants.{FetchAccess}
 use Rattle.swi_calls.specs.declared.end.End.{End}
 use Rattle.swi_calls.specs.declared.end.End.TheVariants.{Faulted}
@@ -15,13 +15,15 @@ use Rattle.swi_program.specs.Program.{ProgramData}
 use Rattle.swi_rom.specs.Fifo.{fifo}
 use Rattle.swi_rom.specs.Record.{Record, Transfer, indirect}
 use Rattle.swi_board.specs.Transfers.{transfers, cost, fetches, after_all}
+use Rattle.swi_cached.specs.Told.{error_by}
 
--- a run: its image, the slots of the cache, the program before its first step, and the most steps
+-- a run: its image, the slots of the cache, the program before its first step, the most steps, and whether the errors have a line of each
 pub record CachedRun : Type 0 where
   pub image : ImageData
   pub slots : ℕ
   pub start : FlatState
   pub limit : ℕ
+  pub trace : Bool
 
 -- as many slots as a cache of so many bytes has room for blocks
 abbrev pub slots_of : ℕ → ImageData → ℕ
@@ -34,7 +36,12 @@ run_of v bytes p l log limit input = record {
   slots = slots_of bytes v;
   start = flat_start p l log input;
   limit = limit;
+  trace = false;
 }
+
+-- the same run, with lines of its steps or without them
+abbrev pub traced_of : Bool → CachedRun → CachedRun
+traced_of trace c = record c { trace = trace }
 
 -- the words of the ram that the slots take
 abbrev pub span_of : CachedRun → ℕ
@@ -44,6 +51,10 @@ span_of c = c.slots * c.image.block_words
 -- but that it ends before a step that would store into the text.
 abbrev pub program_after : CachedRun → ℕ → FlatState
 program_after c n = held_run n c.start
+
+-- the same with what the errors have gained by then: lines of the steps too, where they are told
+abbrev pub told_after : CachedRun → ℕ → FlatState
+told_after c n = record (program_after c n) { error = error_by c.trace n c.start }
 
 abbrev pub end_of : CachedRun → FlatState
 end_of c = program_after c c.limit

@@ -1,3 +1,5 @@
 pub mod Cached
+pub mod Told
+pub mod Traced
 pub mod Booted
 pub mod Answers

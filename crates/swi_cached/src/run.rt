@@ -39,7 +39,7 @@ pub enum CachedStop {
 }
 
 /// How a fault in a step stops the run.
-fn stop_of(fault: BoardFault) -> CachedStop
+pub(crate) fn stop_of(fault: BoardFault) -> CachedStop
     ensures { result ≡ stop_of fault }
 {
     match fault {
@@ -75,7 +75,7 @@ fn service(alloc: Global, image: &ImageView<'_>, cache_bytes: u32) -> Result<Fif
 }
 
 /// The board of the program before its first step.
-fn boot<R: CacheRam>(
+pub(crate) fn boot<R: CacheRam>(
     alloc: Global,
     image: &ImageView<'_>,
     program: &Program,

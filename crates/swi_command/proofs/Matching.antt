@@ -6,13 +6,14 @@ use Rattle.clap.proofs.OnLiterals.{clap_on_literals}
 use Rattle.swi_command.specs.Arguments.{form_of}
 use Rattle.swi_command.specs.CommandLine.{matches_on, without_fault, app_by}
 use Rattle.swi_command.specs.declared.name.CommandName.{CommandName}
-use Rattle.swi_command.specs.declared.name.CommandName.TheVariants.{Rewrite, Cached, Plain, Listing, Check, Upgrade, Measure}
+use Rattle.swi_command.specs.declared.name.CommandName.TheVariants.{Rewrite, Cached, Plain, Trace, Listing, Check, Upgrade, Measure}
 
 pub app_is_simple : (name : CommandName) → is_simple_and_free (app_by (form_of name)) ≡ true
 unfolding clap_on_literals
 app_is_simple Rewrite = refl
 app_is_simple Cached = refl
 app_is_simple Plain = refl
+app_is_simple Trace = refl
 app_is_simple Listing = refl
 app_is_simple Check = refl
 app_is_simple Upgrade = refl

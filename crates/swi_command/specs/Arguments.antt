@@ -1,7 +1,7 @@
 -- The code's names of commands and arguments, in the words of the table of commands.
 use Rattle.std.specs.Prelude.{codes}
 use Rattle.clap.specs.Words.{Rule, Text}
-use Rattle.swi_command.specs.CommandLine.{Form, NumberForm, positional, option, flag, rewrite_form, cached_form, plain_form, list_form, check_form, upgrade_form, measure_form, steps_form, cache_form, block_form, heap_form, stack_form}
+use Rattle.swi_command.specs.CommandLine.{Form, NumberForm, positional, option, flag, rewrite_form, cached_form, plain_form, trace_form, list_form, check_form, upgrade_form, measure_form, steps_form, cache_form, block_form, heap_form, stack_form}
 use Rattle.swi_command.specs.declared.argument.Argument.{Argument}
 use Rattle.swi_command.specs.declared.argument.Argument.TheVariants as argument
 use Rattle.swi_command.specs.declared.argument.Flag.{Flag}
@@ -31,6 +31,7 @@ abbrev pub flag_name : Flag → Text
 flag_name flag_named.State = codes "state"
 flag_name flag_named.Calls = codes "calls"
 flag_name flag_named.Stats = codes "stats"
+flag_name flag_named.Last = codes "last"
 
 abbrev pub argument_name : Argument → Text
 argument_name (argument.Positional p) = positional_name p
@@ -46,6 +47,7 @@ abbrev pub form_of : CommandName → Form
 form_of name.Rewrite = rewrite_form
 form_of name.Cached = cached_form
 form_of name.Plain = plain_form
+form_of name.Trace = trace_form
 form_of name.Listing = list_form
 form_of name.Check = check_form
 form_of name.Upgrade = upgrade_form

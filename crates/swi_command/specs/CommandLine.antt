@@ -15,6 +15,8 @@ use Rattle.swi_command.specs.declared.command.Command.TheVariants.{Rewrite, Cach
 use Rattle.swi_command.specs.declared.command.Reports.{Reports}
 use Rattle.swi_command.specs.declared.command.RunLimits.{RunLimits}
 use Rattle.swi_command.specs.declared.command.RunOptions.{RunOptions}
+use Rattle.swi_command.specs.declared.command.Trace.{Trace}
+use Rattle.swi_command.specs.declared.command.Trace.TheVariants.{Off, Each, Last}
 
 -- ---- numbers
 
@@ -91,11 +93,22 @@ reports_of rows = record {
   state = is_set (codes "state") rows;
   calls = is_set (codes "calls") rows;
   stats = is_set (codes "stats") rows;
+  trace = Off;
 }
 
 abbrev pub options_of : List Row → Option RunOptions
 options_of rows =
     option_map (λ l. record { limits = l; reports = reports_of rows }) (limits_of rows)
+
+-- of a run whose steps are told nothing else is written: each step has its line, or only the last ones have
+abbrev pub trace_of : List Row → Trace
+trace_of rows = if is_set (codes "last") rows then Last else Each
+
+abbrev pub trace_options_of : List Row → Option RunOptions
+trace_options_of rows = option_map (λ l. record {
+  limits = l;
+  reports = record { state = false; calls = false; stats = false; trace = trace_of rows };
+}) (limits_of rows)
 
 -- the sizes of the cache and of its blocks
 abbrev pub cache_of : List Row → Option CacheOptions
@@ -131,6 +144,12 @@ rewrite_request rows = option_and_then (λ i. option_and_then (λ o.
 abbrev pub cached_request : List Row → Option Request
 cached_request rows = option_and_then (λ f. option_and_then (λ c.
     option_map (λ o. RunCached f c o) (options_of rows))
+    (cache_of rows)) (first_of (codes "FILE") rows)
+
+-- `trace` asks for the run that `cached` makes, with lines of its steps
+abbrev pub trace_request : List Row → Option Request
+trace_request rows = option_and_then (λ f. option_and_then (λ c.
+    option_map (λ o. RunCached f c o) (trace_options_of rows))
     (cache_of rows)) (first_of (codes "FILE") rows)
 
 abbrev pub plain_request : List Row → Option Request
@@ -210,6 +229,16 @@ plain_form = record {
   request = plain_request;
 }
 
+-- FILE --steps n --cache n --block n --heap n --stack n --last
+abbrev pub trace_form : Form
+trace_form = record {
+  name = codes "trace";
+  rules = positional (codes "FILE") ∷ option (codes "steps") ∷ option (codes "cache")
+      ∷ option (codes "block") ∷ option (codes "heap") ∷ option (codes "stack")
+      ∷ flag (codes "last") ∷ [];
+  request = trace_request;
+}
+
 -- FILE --block n
 abbrev pub list_form : Form
 list_form = record {
@@ -244,7 +273,7 @@ measure_form = record {
 }
 
 abbrev pub forms : List Form
-forms = rewrite_form ∷ cached_form ∷ plain_form ∷ list_form ∷ check_form ∷ upgrade_form ∷ measure_form ∷ []
+forms = rewrite_form ∷ cached_form ∷ plain_form ∷ trace_form ∷ list_form ∷ check_form ∷ upgrade_form ∷ measure_form ∷ []
 
 -- the command of a name
 unfoldable pub form_named : Text → Option Form

@@ -31,6 +31,7 @@ pub enum Flag {
     State,
     Calls,
     Stats,
+    Last,
 }
 
 /// What a command takes behind its name.
@@ -125,6 +126,7 @@ impl Flag {
             Flag::State => "state",
             Flag::Calls => "calls",
             Flag::Stats => "stats",
+            Flag::Last => "last",
         }
     }
 }

@@ -11,6 +11,17 @@ pub struct RunLimits {
     pub stack: u32,
 }
 
+/// Which steps of a run are told, each in a line.
+#[derive(Clone, Copy, Debug, PartialEq, Eq)]
+pub enum Trace {
+    /// None.
+    Off,
+    /// Each one, before it is made.
+    Each,
+    /// The last 32, behind the run.
+    Last,
+}
+
 /// What is written of a run.
 #[derive(Clone, Copy, Debug, PartialEq, Eq)]
 pub struct Reports {
@@ -20,6 +31,8 @@ pub struct Reports {
     pub calls: bool,
     /// The counts after the run.
     pub stats: bool,
+    /// Lines of steps.
+    pub trace: Trace,
 }
 
 /// What a run needs besides the file.
@@ -47,7 +60,7 @@ pub enum Command {
         output: String,
         block_words: u32,
     },
-    /// A run of the file's program on the cached machine.
+    /// A run of the file's program on the cached machine, with a trace or without one.
     Cached {
         file: String,
         cache: CacheOptions,

@@ -15,7 +15,7 @@ mod number;
 mod read;
 mod syntax;
 
-pub use command::{CacheOptions, Command, CommandError, Reports, RunLimits, RunOptions};
+pub use command::{CacheOptions, Command, CommandError, Reports, RunLimits, RunOptions, Trace};
 use name::CommandName;
 use read::command_from;
 use std::alloc::Global;
@@ -29,6 +29,8 @@ use syntax::command_matches;
 /// | `rewrite` | IN OUT `--block` |
 /// | `cached` | FILE `--steps` `--cache` `--block` `--heap` `--stack` `--state` `--calls` `--stats` |
 /// | `plain` | FILE `--steps` `--heap` `--stack` `--state` `--calls` `--stats` |
+/// | `trace` | FILE `--steps` `--cache` `--block` `--heap` `--stack` `--last` |
+/// | `list` | FILE `--block` |
 /// | `check` | FILE |
 /// | `upgrade` | IN OUT |
 /// | `measure` | SEED COUNT `--cache` `--block` |
@@ -42,7 +44,7 @@ use syntax::command_matches;
 /// | `--stack` in bytes | 4096 to 16777216, a multiple of 16 | 65536 |
 ///
 /// SEED is a number from 0 to 2^32 - 1, COUNT one from 1 to 4096; the other words by place are names of files.
-/// `--state`, `--calls` and `--stats` are flags. Options may stand before, between and after the
+/// `--state`, `--calls`, `--stats` and `--last` are flags. Options may stand before, between and after the
 /// files, as `--x v` or `--x=v`, each at most once. An option's value that begins with `-` is taken
 /// only as `--x=v`. `--` ends the options; a file that begins with `-` is `-` itself or stands
 /// behind it. A number is 1 to 19 decimal digits.

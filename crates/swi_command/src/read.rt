@@ -3,12 +3,12 @@
 ghost use Rattle.std.specs.Prelude.{◌≡◌, ◌≤◌, ◌%◌, IfSome, IfOk, Some, None, option_map, string_bytes};
 ghost use Rattle.clap.specs.Words.{rows_of, found_of, first_of};
 ghost use Rattle.swi_command.specs.Arguments.{positional_name, form_of_number, flag_name, form_of};
-ghost use Rattle.swi_command.specs.CommandLine.{number_of, number_at, seed_of, count_of, is_set, limits_of, reports_of, options_of, cache_of, request_of, IsBlockSize, IsFunctionCount, IsCacheInRange, IsInRange, HasLimitsInRange};
+ghost use Rattle.swi_command.specs.CommandLine.{number_of, number_at, seed_of, count_of, is_set, limits_of, reports_of, options_of, trace_options_of, cache_of, request_of, IsBlockSize, IsFunctionCount, IsCacheInRange, IsInRange, HasLimitsInRange};
 
 use crate::argument::{Flag, NumberOption, Positional};
 use crate::name::CommandName;
 use crate::number::{NumberRule, read_number_in};
-use crate::{CacheOptions, Command, CommandError, Reports, RunLimits, RunOptions};
+use crate::{CacheOptions, Command, CommandError, Reports, RunLimits, RunOptions, Trace};
 use clap::ArgMatches;
 use std::alloc::Global;
 
@@ -103,6 +103,27 @@ fn run_options(matches: &ArgMatches<'_>) -> Option<RunOptions>
         state: is_given(matches, Flag::State),
         calls: is_given(matches, Flag::Calls),
         stats: is_given(matches, Flag::Stats),
+        trace: Trace::Off,
+    };
+    Some(RunOptions { limits, reports })
+}
+
+/// The options of a run whose steps are told.
+fn trace_options(matches: &ArgMatches<'_>) -> Option<RunOptions>
+    ensures value { result ≡ trace_options_of (rows_of (found_of matches.now)) }
+    ensures ranges { IfSome result (λ o. IsInRange o.limits) }
+{
+    let limits = run_limits(matches)?;
+    let trace = if is_given(matches, Flag::Last) {
+        Trace::Last
+    } else {
+        Trace::Each
+    };
+    let reports = Reports {
+        state: false,
+        calls: false,
+        stats: false,
+        trace,
     };
     Some(RunOptions { limits, reports })
 }
@@ -168,6 +189,11 @@ pub fn command_from(
         CommandName::Plain => Ok(Command::Plain {
             file: file_name(alloc, matches, Positional::File)?,
             options: run_options(matches).ok_or(usage)?,
+        }),
+        CommandName::Trace => Ok(Command::Cached {
+            file: file_name(alloc, matches, Positional::File)?,
+            cache: cache_options(matches).ok_or(usage)?,
+            options: trace_options(matches).ok_or(usage)?,
         }),
         CommandName::Listing => Ok(Command::Listing {
             file: file_name(alloc, matches, Positional::File)?,

@@ -1,4 +1,4 @@
-use crate::{CacheOptions, Command, Reports, RunLimits, RunOptions, parse_command};
+use crate::{CacheOptions, Command, Reports, RunLimits, RunOptions, Trace, parse_command};
 use std::alloc::Global;
 use std::process::Abort;
 use std::test::Fail;
@@ -22,11 +22,17 @@ fn run_text(alloc: Global, options: RunOptions) -> Result<String, Fail> {
         state,
         calls,
         stats,
+        trace,
     } = options.reports;
     let state = if state { " state" } else { "" };
     let calls = if calls { " calls" } else { "" };
     let stats = if stats { " stats" } else { "" };
-    Ok(format!(in alloc; "{steps} {heap} {stack}{state}{calls}{stats}")?)
+    let trace = match trace {
+        Trace::Off => "",
+        Trace::Each => " each step",
+        Trace::Last => " last steps",
+    };
+    Ok(format!(in alloc; "{steps} {heap} {stack}{state}{calls}{stats}{trace}")?)
 }
 
 /// A command as its name, its files in brackets and its options.
@@ -239,6 +245,35 @@ fn commands_without_a_run_take_few_options(rt: HostRuntime) -> Result<(), Fail> 
         ("list A --block 1025", USAGE),
         ("list A --cache 64", USAGE),
         ("list", USAGE),
+    ];
+    lines_are_read(&rt, rt.alloc(), &cases)
+}
+
+#[test]
+fn a_trace_takes_the_limits_and_its_flag(rt: HostRuntime) -> Result<(), Fail> {
+    let cases = [
+        (
+            "trace A",
+            "cached [A] 4096 64 1000000000 1048576 65536 each step",
+        ),
+        (
+            "trace --last A --steps 2 --block=16",
+            "cached [A] 4096 16 2 1048576 65536 last steps",
+        ),
+        (
+            "trace A --cache 8 --heap 0 --stack 4096",
+            "cached [A] 8 64 1000000000 0 4096 each step",
+        ),
+        ("trace", USAGE),
+        ("trace A B", USAGE),
+        ("trace A --last --last", USAGE),
+        ("trace A --last=1", USAGE),
+        ("trace A --steps +1", USAGE),
+        ("trace A --state", USAGE),
+        ("trace A --calls", USAGE),
+        ("trace A --stats", USAGE),
+        ("cached A --last", USAGE),
+        ("plain A --last", USAGE),
     ];
     lines_are_read(&rt, rt.alloc(), &cases)
 }

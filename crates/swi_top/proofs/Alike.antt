@@ -17,7 +17,9 @@ use Rattle.swi_command.specs.CommandLine.{Request, RunCached, RunPlain}
 use Rattle.swi_report.specs.declared.stats.Work.{Work}
 use Rattle.swi_report.specs.State.{state_text_of}
 use Rattle.swi_report.specs.Stats.{stats_text_of, work_text}
-use Rattle.swi_cached.specs.Cached.{end_of}
+use Rattle.swi_cached.specs.Cached.{CachedRun, end_of, program_after, traced_of}
+use Rattle.swi_command.specs.declared.command.Trace.{Trace}
+use Rattle.swi_command.specs.declared.command.Trace.TheVariants as trace
 use Rattle.swi_answer.specs.declared.answer.Ending.{Ending}
 use Rattle.swi_answer.specs.declared.answer.Refusal.{Refusal}
 use Rattle.swi_answer.specs.declared.answer.Refusal.TheVariants as refusal
@@ -25,7 +27,7 @@ use Rattle.swi_answer.specs.Lines.{ending_line}
 use Rattle.swi_top.specs.Devices.{Devices}
 use Rattle.swi_top.specs.Checks.{Check, OfImage, IsShort, IsAcceptedElf, HasRoom, HasImage, IsAcceptedImage, IsOwnImage, FitsBlocks, FitsUnlessImage, HoldsBlock, FitsMade, HoldsWords, Fails, Passes, IsAccepted, IsRefusedBy, cache_refusal, checks_of, text_in}
 use Rattle.swi_top.specs.Runs.{Ran, report, start_of}
-use Rattle.swi_top.specs.Answers.{Answers, AnswersWithLine, cached_run, plain_report, plain_run, work_of}
+use Rattle.swi_top.specs.Answers.{Answers, AnswersWithLine, cached_run, is_each, shown_end, shown_error, plain_report, plain_run, work_of}
 use Rattle.swi_top.specs.Alike.{IsFree, LeavesAlike}
 use Rattle.swi_top.proofs.Lines.{take_all}
 
@@ -124,24 +126,30 @@ both_ran o s t w before plain cached e f n k same one whole other whole' =
       },
     )
 
+-- without lines of steps the errors are the program's own
+shown_is : (t : Trace) (c : CachedRun) → t ≡ trace.Off → record (program_after c c.limit) { error = shown_error t (traced_of (is_each t) c) } ≡ end_of c
+shown_is trace.Off c off = refl
+shown_is trace.Each c off = cc
+shown_is trace.Last c off = cc
+
 ended_alike : (name : List ℕ) (cache : CacheOptions) (o : RunOptions) (file input : List ℕ) (before plain cached : Devices) (e f : Ending) →
     AnswersWithLine (RunPlain name o) before plain (Ok e) → IsFree (RunPlain name o) file before plain (Ok e) →
     AnswersWithLine (RunCached name cache o) before cached (Ok f) → IsFree (RunCached name cache o) file before cached (Ok f) →
-    before.input ≡ Some input → ((j : ℕ) → j < o.limits.steps → StoresAt (start_of o file input) j → ⊥) → (f ≡ e) × LeavesAlike o before plain cached
-ended_alike name cache o file input before plain cached e f one free other free' told never =
+    before.input ≡ Some input → o.reports.trace ≡ trace.Off → ((j : ℕ) → j < o.limits.steps → StoresAt (start_of o file input) j → ⊥) → (f ≡ e) × LeavesAlike o before plain cached
+ended_alike name cache o file input before plain cached e f one free other free' told off never =
     let ran = one.answers.done file free.told input told in
     let does = other.answers.done file free'.told in
     let runs = does.3 input told in
     let c = cached_run cache o does.0 (start_of o file input) in
-    both_ran o (plain_run o file input o.limits.steps) (end_of c) (work_of c) before plain cached e f one.shown other.shown (runs.cached.flat o.limits.steps never)
+    both_ran o (plain_run o file input o.limits.steps) (shown_end o c) (work_of c) before plain cached e f one.shown other.shown (shown_is o.reports.trace c off ∙ runs.cached.flat o.limits.steps never)
     ran (one.whole free.quiet.err) runs.ran (other.whole free'.quiet.err)
 
 pub ends_alike : (name : List ℕ) (cache : CacheOptions) (o : RunOptions) (file input : List ℕ) (before plain cached : Devices) (one other : Result Ending Refusal) →
     AnswersWithLine (RunPlain name o) before plain one → IsFree (RunPlain name o) file before plain one →
     AnswersWithLine (RunCached name cache o) before cached other → IsFree (RunCached name cache o) file before cached other →
-    before.input ≡ Some input → ((j : ℕ) → j < o.limits.steps → StoresAt (start_of o file input) j → ⊥) →
+    before.input ≡ Some input → o.reports.trace ≡ trace.Off → ((j : ℕ) → j < o.limits.steps → StoresAt (start_of o file input) j → ⊥) →
     (e : Ending) × (one ≡ Ok e) × (other ≡ Ok e) × LeavesAlike o before plain cached
-ends_alike name cache o file input before plain cached (Ok e) (Ok f) a free b free' told never =
-    let both = ended_alike name cache o file input before plain cached e f a free b free' told never in (e, refl, ap (λ (x : Ending). Ok x) both.0, both.1)
-ends_alike name cache o file input before plain cached (Err r) other a free b free' told never = absurd (not_refused (RunPlain name o) file before plain r _ a.answers free)
-ends_alike name cache o file input before plain cached (Ok e) (Err r) a free b free' told never = absurd (not_refused (RunCached name cache o) file before cached r _ b.answers free')
+ends_alike name cache o file input before plain cached (Ok e) (Ok f) a free b free' told off never =
+    let both = ended_alike name cache o file input before plain cached e f a free b free' told off never in (e, refl, ap (λ (x : Ending). Ok x) both.0, both.1)
+ends_alike name cache o file input before plain cached (Err r) other a free b free' told off never = absurd (not_refused (RunPlain name o) file before plain r _ a.answers free)
+ends_alike name cache o file input before plain cached (Ok e) (Err r) a free b free' told off never = absurd (not_refused (RunCached name cache o) file before cached r _ b.answers free')

@@ -1,5 +1,5 @@
 -- A run on the cached machine, from what its parts say.
-use Rattle.std.proofs.Common.{◌≡◌, ◌⊎◌, inl, inr, ℕ, ◌+◌, ◌-◌, ◌*◌, ◌/◌, ◌^◌, ◌<◌, ◌≤◌, min, List, [], ◌∷◌, ◌++◌, length, take, Option, None, Some, Result, Ok, Err, IsErrOf, refl, sym, ◌∙◌, subst, ap, arith}
+use Rattle.std.proofs.Common.{◌≡◌, ◌⊎◌, inl, inr, ℕ, ◌+◌, ◌-◌, ◌*◌, ◌/◌, ◌^◌, ◌<◌, ◌≤◌, min, List, [], ◌∷◌, ◌++◌, length, take, drop, append_assoc, Bool, false, if◌then◌else◌, Option, None, Some, Result, Ok, Err, IsErrOf, refl, sym, ◌∙◌, subst, ap, arith}
 use Rattle.std.proofs.Math.Nat.{div-mul-le_self}
 use Rattle.std.proofs.lemmas.List.{append-nil}
 use Rattle.std.specs.Io.KnownBytes.{Appends}
@@ -18,6 +18,8 @@ use Rattle.swi_render.specs.Cut.{Fits, IsCut}
 use Rattle.swi_command.specs.CommandLine.{Request, RunCached}
 use Rattle.swi_command.specs.declared.command.CacheOptions.{CacheOptions}
 use Rattle.swi_command.specs.declared.command.RunOptions.{RunOptions}
+use Rattle.swi_command.specs.declared.command.Trace.{Trace}
+use Rattle.swi_command.specs.declared.command.Trace.TheVariants as trace
 use Rattle.swi_calls.specs.declared.machine.Machine.{Machine}
 use Rattle.swi_calls.specs.Flat.{flat_start}
 use Rattle.swi_calls.specs.State.{FlatState}
@@ -27,16 +29,19 @@ use Rattle.swi_board.specs.Hart.{HartData}
 use Rattle.swi_cached.specs.declared.run.CachedStop.{CachedStop}
 use Rattle.swi_cached.specs.declared.run.CachedStop.TheVariants as stop
 use Rattle.swi_cached.specs.Answers as run
-use Rattle.swi_cached.specs.Cached.{CachedRun, IsCounted, slots_of, end_of, program_after, instructions_after, fetches_after, record_after, unfetched}
+use Rattle.swi_cached.specs.Told.{next_error, told_line}
+use Rattle.std.proofs.Math.Seq.{take-append_seam, take-length}
+use Rattle.std.proofs.lemmas.List.{take-append-drop}
+use Rattle.swi_cached.specs.Cached.{CachedRun, IsCounted, IsFlatRun, run_of, traced_of, slots_of, end_of, program_after, told_after, instructions_after, fetches_after, record_after, unfetched}
 use Rattle.swi_cached.proofs.Failed.{is_flat_run, stops_before_store}
 use Rattle.swi_answer.specs.declared.answer.Ending.{Ending}
 use Rattle.swi_answer.specs.declared.answer.Refusal.{Refusal}
 use Rattle.swi_answer.specs.declared.answer.Refusal.TheVariants as refusal
-use Rattle.swi_top.specs.Answers.{Answers, BrokeIn, CachedFailed, Does, IsCachedRun, IsChecked, IsImageFor, IsRunFault, IsSizeRefusal, Leaves, RamCounted, RunsCached, cached_report, cached_run, held_next, work_of}
+use Rattle.swi_top.specs.Answers.{Answers, BrokeIn, CachedFailed, Does, IsCachedRun, IsChecked, IsImageFor, IsRunFault, IsSizeRefusal, Leaves, RamCounted, RunsCached, cached_report, cached_run, held_next, is_each, last_lines, shown_error, work_of}
 use Rattle.swi_top.specs.Caching.{AnswersFile, IsCachedErr, IsFileErr, RunsOnCache, board_work}
 use Rattle.swi_top.specs.Causes.{HasCauses}
 use Rattle.swi_top.specs.Checks.{Check, FitsUnlessImage, HoldsBlock, Fails, ImageFails, ImagePasses, IsAccepted, IsLong, IsRefusedBy, IsRefusedOr, Passes, block_words, cache_refusal, checks_of, file_limit, room_in, size_refusal, text_in}
-use Rattle.swi_top.specs.Devices.{Devices}
+use Rattle.swi_top.specs.Devices.{Devices, Faults}
 use Rattle.swi_top.specs.Runs.{ending_by, report}
 use Rattle.swi_top.proofs.Refusals.{IsLate, checked_by, keeps_ram, late_causes, late_run, ok_causes, quiet_cause, refused_late, sized_along, sized_err, sized_ok, told_is}
 use Rattle.swi_top.proofs.Confirming.{out_causes}
@@ -175,7 +180,8 @@ ram_failed o cache v p l d i out e ram fi fo fe held kept broke h = record {
           enough = b.enough;
           longest = b.longest;
           output = b.output;
-          error = to_nil d.error e (program_after c b.steps).error b.error;
+          begun = b.begun;
+          error = to_nil d.error e ((told_after c b.steps).error ++ (if b.begun then told_line c.trace (program_after c b.steps).machine else [])) b.error;
           input = b.input;
         })),
   );
@@ -212,7 +218,12 @@ source_failed o cache v p l d i out e ram fi fo fe held kept broke h = record {
             output = (b.output_front, b.output);
             error_front = b.error_front;
             error = to_nil d.error e _ b.error;
-            source = λ _. (front_none d.output out _ _ b.output_front none.0 b.output, to_nil d.error e _ (front_none d.error e _ _ b.error_front none.1 b.error));
+            source = λ _. (
+              front_none d.output out _ _ b.output_front none.0 b.output,
+              to_nil d.error e _ (subst (λ (x : List ℕ). Appends d.error e ((told_after c b.steps).error ++ x))
+                  (ap (λ (k : ℕ). take k (next_error c.trace (program_after c b.steps))) none.1
+                  ∙ take-append_seam (told_line c.trace (program_after c b.steps).machine) (held_next (program_after c b.steps)).error) b.error),
+            );
             taken = b.taken;
             no_more = let few : length b.taken + length (held_next (program_after c b.steps)).input ≤ length (program_after c b.steps).input = b.few in omega arith;
             input = b.input;
@@ -319,15 +330,16 @@ cached_run_is c h r i o p e f before after b s ram counted = record {
 }
 
 -- the run came to its end, and the report was written
-pub run_ended : (o : RunOptions) (cache : CacheOptions) (v : ImageData) (p : ProgramData) (l : Layout) (d : Devices) (h : HartData) (r : Record) (i mid out e : Option (List ℕ)) (ram : RamState) (fi fo fe : ℕ) (x : Ending) →
+pub run_ended : (o : RunOptions) (cache : CacheOptions) (v : ImageData) (p : ProgramData) (l : Layout) (d : Devices) (h : HartData) (r : Record) (i mid out em e : Option (List ℕ)) (ram : RamState) (fi fo fe : ℕ) (x : Ending) →
     4 * v.block_words ≤ cache.cache_bytes → KeepsBeyond (slots_of cache.cache_bytes v * v.block_words) d.ram ram →
-    ((left : List ℕ) → d.input ≡ Some left → run.Ended (run_with o cache v p l left) h r i d.output mid d.error e) →
+    ((left : List ℕ) → d.input ≡ Some left → run.Ended (run_with o cache v p l left) h r i d.output mid d.error em) →
+    ((left : List ℕ) → d.input ≡ Some left → Appends d.error e (shown_error o.reports.trace (run_with o cache v p l left))) →
     ((left : List ℕ) → d.input ≡ Some left → run.IsShort h) → ((left : List ℕ) → d.input ≡ Some left → run.RamAfter (run_with o cache v p l left) d.ram ram) →
     ((left : List ℕ) → IsCounted (run_with o cache v p l left)) →
     x ≡ ending_by h.machine.ending h.machine.pc h.machine.steps → Appends mid out (board_report o h r) →
     fi ≡ d.faults.input → fo ≡ d.faults.out → fe ≡ d.faults.err → ram.faults ≡ d.faults.ram →
     RunsOnCache o cache v p l d (ran_all d i out e ram fi fo fe) (Ok x)
-run_ended o cache v p l d h r i mid out e ram fi fo fe x held kept ended short after counted ending written fi_is fo_is fe_is ram_is = record {
+run_ended o cache v p l d h r i mid out em e ram fi fo fe x held kept ended shown short after counted ending written fi_is fo_is fe_is ram_is = record {
   done = λ left told.
       let c = run_with o cache v p l left in
       let b = ended left told in
@@ -337,9 +349,9 @@ run_ended o cache v p l d h r i mid out e ram fi fo fe x held kept ended short a
           input = b.input;
           output = Appends-append d.output mid out (end_of c).output (cached_report o c) b.output
               (subst (λ (y : List ℕ). Appends mid out y) (report_is o c h r b.machine b.count b.record_is (counted left)) written);
-          error = to_nil d.error e (end_of c).error b.error;
+          error = to_nil d.error e (shown_error o.reports.trace c) (shown left told);
         };
-        cached = cached_run_is c h r i d.output mid d.error e d.ram ram b s (after left told) (counted left);
+        cached = cached_run_is c h r i d.output mid d.error em d.ram ram b s (after left told) (counted left);
       };
   holds = held;
   refused = tt;
@@ -376,7 +388,7 @@ report_broke o cache v p l d h r i mid out e ram fi fo fe held kept ended after 
             output = Appends-append d.output mid out (end_of c).output (take part.0 (cached_report o c)) b.output
                 (subst (λ (y : List ℕ). Appends mid out (take part.0 y)) (report_is o c h r b.machine b.count b.record_is (counted left)) part.1);
             error_front = 0;
-            error = to_nil d.error e ((end_of c).error ++ []) (to_nil d.error e (end_of c).error b.error);
+            error = to_nil d.error e ((told_after c c.limit).error ++ []) (to_nil d.error e (told_after c c.limit).error b.error);
             behind = inl refl;
             input = b.input;
             fault = refl;
@@ -389,6 +401,85 @@ report_broke o cache v p l d h r i mid out e ram fi fo fe held kept ended after 
       (subst (λ (n : ℕ). HasCauses {T = Ending} d.faults (record d.faults { out = fo; err = n; ram = ram.faults }) (Err refusal.SinkFault)) (sym fe_is)
       (subst (λ (n : ℕ). HasCauses {T = Ending} d.faults (record d.faults { out = fo; ram = n }) (Err refusal.SinkFault)) (sym ram_is) (out_causes d.faults fo later rose)));
 }
+
+-- or the last lines were not written whole
+pub lines_broke : (o : RunOptions) (cache : CacheOptions) (v : ImageData) (p : ProgramData) (l : Layout) (d : Devices) (h : HartData) (r : Record) (i mid out em e : Option (List ℕ)) (ram : RamState) (fi fo fe : ℕ) →
+    4 * v.block_words ≤ cache.cache_bytes → KeepsBeyond (slots_of cache.cache_bytes v * v.block_words) d.ram ram →
+    ((left : List ℕ) → d.input ≡ Some left → run.Ended (run_with o cache v p l left) h r i d.output mid d.error em) →
+    ((left : List ℕ) → d.input ≡ Some left → AppendsPrefix em e (last_lines o.reports.trace (run_with o cache v p l left))) →
+    ((left : List ℕ) → d.input ≡ Some left → run.RamAfter (run_with o cache v p l left) d.ram ram) →
+    ((left : List ℕ) → IsCounted (run_with o cache v p l left)) → Appends mid out (board_report o h r) →
+    fi ≡ d.faults.input → fo ≡ d.faults.out → d.faults.err ≤ fe → Rose d.faults.err fe → ram.faults ≡ d.faults.ram →
+    RunsOnCache o cache v p l d (ran_all d i out e ram fi fo fe) (Err refusal.SinkFault)
+lines_broke o cache v p l d h r i mid out em e ram fi fo fe held kept ended part after counted written fi_is fo_is later rose ram_is = record {
+  done = tt;
+  holds = tt;
+  refused = tt;
+  quiet = λ never. absurd (never tt);
+  failed = λ _. (
+    held,
+    λ left told.
+        let c = run_with o cache v p l left in
+        let b = ended left told in
+        let q = part left told in
+        failed_so o c d (ran_all d i out e ram fi fo fe) refusal.SinkFault [] (inr (inr (
+          record {
+            output_front = length (cached_report o c);
+            output = Appends-append d.output mid out (end_of c).output (take (length (cached_report o c)) (cached_report o c)) b.output
+                (subst (λ (y : List ℕ). Appends mid out y) (report_is o c h r b.machine b.count b.record_is (counted left) ∙ sym (take-length (cached_report o c))) written);
+            error_front = length (take q.0 (last_lines o.reports.trace c));
+            error = to_nil d.error e _ (subst (λ (y : List ℕ). Appends d.error e ((told_after c c.limit).error ++ y)) (sym (seam q.0 (last_lines o.reports.trace c) _))
+                (Appends-append d.error em e (told_after c c.limit).error (take q.0 (last_lines o.reports.trace c)) b.error q.1));
+            behind = inr refl;
+            input = b.input;
+            fault = refl;
+          },
+          after left told,
+        ))),
+  );
+  beyond = kept;
+  causes = subst (λ (n : ℕ). HasCauses {T = Ending} d.faults (record d.faults { input = n; out = fo; err = fe; ram = ram.faults }) (Err refusal.SinkFault)) (sym fi_is)
+      (subst (λ (n : ℕ). HasCauses {T = Ending} d.faults (record d.faults { out = n; err = fe; ram = ram.faults }) (Err refusal.SinkFault)) (sym fo_is)
+      (subst (λ (n : ℕ). HasCauses {T = Ending} d.faults (record d.faults { err = fe; ram = n }) (Err refusal.SinkFault)) (sym ram_is) (err_causes d.faults fe later rose)));
+}
+  where
+    seam : (j : ℕ) (xs ys : List ℕ) → take (length (take j xs)) (xs ++ ys) ≡ take j xs
+    seam j xs ys =
+        ap (λ (l : List ℕ). take (length (take j xs)) (l ++ ys)) (sym (take-append-drop j xs))
+        ∙ ap (λ (l : List ℕ). take (length (take j xs)) l) (append_assoc (take j xs) (drop j xs) ys) ∙ take-append_seam (take j xs) (drop j xs ++ ys)
+
+    err_causes : (f : Faults) (n : ℕ) → f.err ≤ n → Rose f.err n → HasCauses {T = Ending} f (record f { err = n }) (Err refusal.SinkFault)
+    err_causes f n later rose = record {
+      shelf = quiet_cause f.shelf _ (λ x. let bad : ⊥ = cc in bad);
+      source = quiet_cause f.input _ (λ x. let bad : ⊥ = cc in bad);
+      ram = quiet_cause f.ram _ (λ x. let bad : ⊥ = cc in bad);
+      out_later = omega arith;
+      err_later = later;
+      sink = λ _. inr rose;
+      out_told = inl refl;
+      quiet = tt;
+    }
+
+-- the run as the options name it
+pub run_is : (each : Bool) (o : RunOptions) (cache : CacheOptions) (v : ImageData) (p : ProgramData) (l : Layout) (left : List ℕ) → is_each o.reports.trace ≡ each →
+    traced_of each (run_of v cache.cache_bytes p l o.reports.calls o.limits.steps left) ≡ run_with o cache v p l left
+run_is each o cache v p l left is = ap (λ (t : Bool). traced_of t (run_of v cache.cache_bytes p l o.reports.calls o.limits.steps left)) (sym is)
+
+pub as_run : (P : CachedRun → Type 0) (each : Bool) (o : RunOptions) (cache : CacheOptions) (v : ImageData) (p : ProgramData) (l : Layout) (left : List ℕ) → is_each o.reports.trace ≡ each →
+    P (traced_of each (run_of v cache.cache_bytes p l o.reports.calls o.limits.steps left)) → P (run_with o cache v p l left)
+as_run P each o cache v p l left is h = subst P (run_is each o cache v p l left is) h
+
+pub as_step : {T : Type 0} (r : Result T CachedStop) (each : Bool) (o : RunOptions) (cache : CacheOptions) (v : ImageData) (p : ProgramData) (l : Layout) (left : List ℕ) → is_each o.reports.trace ≡ each →
+    (i out out' err err' : Option (List ℕ)) → run.StepFailed {T = T} (traced_of each (run_of v cache.cache_bytes p l o.reports.calls o.limits.steps left)) r i out out' err err' →
+    run.StepFailed {T = T} (run_with o cache v p l left) r i out out' err err'
+as_step {T} r each o cache v p l left is i out out' err err' h =
+    subst (λ (k : CachedRun). run.StepFailed {T = T} k r i out out' err err') (run_is each o cache v p l left is) h
+
+pub off_each : (o : RunOptions) → o.reports.trace ≡ trace.Off → is_each o.reports.trace ≡ false
+off_each o off = ap is_each off
+
+pub quiet_shown : (a b : Option (List ℕ)) (t : Trace) (c : CachedRun) → t ≡ trace.Off → Appends a b (told_after c c.limit).error → Appends a b (shown_error t c)
+quiet_shown a b t c off h = subst (λ (x : Trace). Appends a b (shown_error x c)) (sym off) h
 
 -- ---- from the run of a file's program to what is said of its file
 
@@ -545,6 +636,7 @@ left_again o k d m c r h = failed_so o k d m r [] (elim h.broke [
     enough = a.enough;
     longest = a.longest;
     output = a.output;
+    begun = a.begun;
     error = a.error;
     input = a.input;
   })

@@ -32,8 +32,8 @@ RanFrom o s before after e = Ran (flat_run o.limits.steps s) (plain_report o (fl
 
 abbrev pub FailedFrom : RunOptions → FlatState → Devices → Devices → Refusal → Type 0
 FailedFrom o s before after r =
-    FailedAtStep (λ n. flat_run n s) next_made read_room_of o.limits.steps before after r []
-    ⊎ FailedAfterRun (flat_run o.limits.steps s) (plain_report o (flat_run o.limits.steps s)) before after r []
+    FailedAtStep (λ n. flat_run n s) (λ q. q.error) next_made read_room_of o.limits.steps before after r []
+    ⊎ FailedAfterRun (flat_run o.limits.steps s) (plain_report o (flat_run o.limits.steps s)) [] before after r []
 
 -- the devices after a run: all but what it isn't handed
 abbrev pub ran_to : Devices → Option Contents → Option (List ℕ) → Option (List ℕ) → Option (List ℕ) → ℕ → ℕ → ℕ → Devices

@@ -9,3 +9,4 @@ pub mod Caching
 pub mod Listings
 pub mod Measuring
 pub mod Alike
+pub mod Tracing

@@ -1,5 +1,5 @@
 -- The last line, behind what a command answered before it.
-use Rattle.std.proofs.Common.{◌≡◌, inl, inr, ℕ, ◌≤◌, List, [], ◌∷◌, ◌++◌, length, take, Option, Some, Result, Ok, Err, IsErrOf, refl, sym, ◌∙◌, subst, ap, arith}
+use Rattle.std.proofs.Common.{◌≡◌, inl, inr, ℕ, ◌+◌, ◌≤◌, if◌then◌else◌, append_assoc, List, [], ◌∷◌, ◌++◌, length, take, Option, Some, Result, Ok, Err, IsErrOf, refl, sym, ◌∙◌, subst, ap, arith}
 use Rattle.std.proofs.lemmas.List.{append-nil}
 use Rattle.std.specs.Io.KnownBytes.{Appends}
 use Rattle.swi_outside.specs.Causes.{DeviceCause, HasCause, Rose}
@@ -11,14 +11,18 @@ use Rattle.swi_answer.specs.declared.answer.Ending.TheVariants as ending
 use Rattle.swi_answer.specs.declared.answer.Refusal.{Refusal}
 use Rattle.swi_answer.specs.declared.answer.Refusal.TheVariants as refusal
 use Rattle.swi_answer.specs.Lines.{ending_line, refusal_line}
-use Rattle.swi_cached.specs.Cached.{CachedRun, end_of, program_after}
+use Rattle.swi_cached.specs.Cached.{CachedRun, end_of, program_after, told_after}
+use Rattle.swi_cached.specs.Told.{told_line}
+use Rattle.swi_command.specs.declared.command.Trace.{Trace}
+use Rattle.swi_command.specs.declared.command.Trace.TheVariants as trace
+use Rattle.std.proofs.Math.Seq.{take-append-add}
 use Rattle.swi_calls.specs.State.{FlatState}
 use Rattle.swi_calls.specs.Flat.{Made}
 use Rattle.swi_top.specs.Devices.{Devices, Faults, ShowsLine}
 use Rattle.swi_top.specs.Causes.{HasCauses}
 use Rattle.swi_top.specs.Checks.{cache_refusal}
 use Rattle.swi_top.specs.Runs.{Ran, StepFailed, FailedAtStep, FailedAfterRun, ending_of, start_of}
-use Rattle.swi_top.specs.Answers.{Answers, AnswersWithLine, Does, IsRefusedAtOnce, IsEndingOf, IsSized, Leaves, RamBroke, cached_run, made_ending, made_run, made_summary, output_name, plain_report, plain_run}
+use Rattle.swi_top.specs.Answers.{Answers, AnswersWithLine, Does, IsRefusedAtOnce, IsEndingOf, IsSized, Leaves, RamBroke, cached_run, last_lines, shown_error, made_ending, made_run, made_summary, output_name, plain_report, plain_run}
 use Rattle.swi_top.proofs.Refusals.{contents_stay, quiet_cause}
 
 pub appends_as : (a b : Option (List ℕ)) (x y : List ℕ) → x ≡ y → Appends a b x → Appends a b y
@@ -50,35 +54,35 @@ line_causes f m n r h later = record {
   quiet = tt;
 }
 
-step_line : (s : FlatState) (next : Made) (most : ℕ) (d m : Devices) (r : Refusal) (error : Option (List ℕ)) (err : ℕ) (line : List ℕ) →
-    StepFailed s next most d m r [] → Appends m.error error line → StepFailed s next most d (told_to m error err) r line
-step_line s next most d m r error err line h p = record {
+step_line : (s : FlatState) (begun : List ℕ) (next : Made) (most : ℕ) (d m : Devices) (r : Refusal) (error : Option (List ℕ)) (err : ℕ) (line : List ℕ) →
+    StepFailed s begun next most d m r [] → Appends m.error error line → StepFailed s begun next most d (told_to m error err) r line
+step_line s begun next most d m r error err line h p = record {
   fault = h.fault;
   going = h.going;
   output = h.output;
   error_front = h.error_front;
   error = appends_last d.error m.error error (s.error ++ take h.error_front next.error) line h.error p;
-  source = λ e. let both = h.source e in (both.0, appends_last d.error m.error error s.error line both.1 p);
+  source = λ e. let both = h.source e in (both.0, appends_last d.error m.error error begun line both.1 p);
   taken = h.taken;
   no_more = h.no_more;
   input = h.input;
 }
 
-at_step_line : (run : ℕ → FlatState) (next : FlatState → Made) (most : FlatState → ℕ) (limit : ℕ) (d m : Devices) (r : Refusal) (error : Option (List ℕ)) (err : ℕ) (line : List ℕ) →
-    FailedAtStep run next most limit d m r [] → Appends m.error error line → FailedAtStep run next most limit d (told_to m error err) r line
-at_step_line run next most limit d m r error err line h p = record {
+at_step_line : (run : ℕ → FlatState) (begun : FlatState → List ℕ) (next : FlatState → Made) (most : FlatState → ℕ) (limit : ℕ) (d m : Devices) (r : Refusal) (error : Option (List ℕ)) (err : ℕ) (line : List ℕ) →
+    FailedAtStep run begun next most limit d m r [] → Appends m.error error line → FailedAtStep run begun next most limit d (told_to m error err) r line
+at_step_line run begun next most limit d m r error err line h p = record {
   steps = h.steps;
   fewer = h.fewer;
-  failed = step_line (run h.steps) (next (run h.steps)) (most (run h.steps)) d m r error err line h.failed p;
+  failed = step_line (run h.steps) (begun (run h.steps)) (next (run h.steps)) (most (run h.steps)) d m r error err line h.failed p;
 }
 
-after_run_line : (s : FlatState) (report : List ℕ) (d m : Devices) (r : Refusal) (error : Option (List ℕ)) (err : ℕ) (line : List ℕ) →
-    FailedAfterRun s report d m r [] → Appends m.error error line → FailedAfterRun s report d (told_to m error err) r line
-after_run_line s report d m r error err line h p = record {
+after_run_line : (s : FlatState) (report tail : List ℕ) (d m : Devices) (r : Refusal) (error : Option (List ℕ)) (err : ℕ) (line : List ℕ) →
+    FailedAfterRun s report tail d m r [] → Appends m.error error line → FailedAfterRun s report tail d (told_to m error err) r line
+after_run_line s report tail d m r error err line h p = record {
   output_front = h.output_front;
   output = h.output;
   error_front = h.error_front;
-  error = appends_last d.error m.error error (s.error ++ take h.error_front (ending_line (ending_of s))) line h.error p;
+  error = appends_last d.error m.error error (s.error ++ take h.error_front (tail ++ ending_line (ending_of s))) line h.error p;
   behind = h.behind;
   input = h.input;
   fault = h.fault;
@@ -95,7 +99,8 @@ ram_line c d m r error err line h p = record {
   enough = h.enough;
   longest = h.longest;
   output = h.output;
-  error = appends_last d.error m.error error (program_after c h.steps).error line h.error p;
+  begun = h.begun;
+  error = appends_last d.error m.error error ((told_after c h.steps).error ++ (if h.begun then told_line c.trace (program_after c h.steps).machine else [])) line h.error p;
   input = h.input;
 }
 
@@ -108,8 +113,8 @@ leaves_line (ListFile name block) file d m r error err line h p =
 leaves_line (CheckFile name) file d m r error err line h p =
     record { held = h.held; has = h.has; output = h.output; error = Appends-append d.error m.error error [] line h.error p; fault = h.fault }
 leaves_line (RunPlain name o) file d m r error err line h p = λ input is. elim (h input is) [
-  | inl a ↦ inl (at_step_line (plain_run o file input) _ _ o.limits.steps d m r error err line a p)
-  | inr a ↦ inr (after_run_line (plain_run o file input o.limits.steps) (plain_report o (plain_run o file input o.limits.steps)) d m r error err line a p)
+  | inl a ↦ inl (at_step_line (plain_run o file input) _ _ _ o.limits.steps d m r error err line a p)
+  | inr a ↦ inr (after_run_line (plain_run o file input o.limits.steps) (plain_report o (plain_run o file input o.limits.steps)) [] d m r error err line a p)
 ]
 leaves_line (RunCached name cache o) file d m r error err line h p = (
   h.0,
@@ -119,8 +124,8 @@ leaves_line (RunCached name cache o) file d m r error err line h p = (
     broke = elim f.broke [
       | inl a ↦ inl (ram_line (cached_run cache o h.0 (start_of o file input)) d m r error err line a p)
       | inr b ↦ inr (elim b [
-        | inl a ↦ inl (at_step_line (program_after (cached_run cache o h.0 (start_of o file input))) _ _ o.limits.steps d m r error err line a p)
-        | inr a ↦ inr (after_run_line _ _ d m r error err line a.0 p, a.1)
+        | inl a ↦ inl (at_step_line (told_after (cached_run cache o h.0 (start_of o file input))) _ _ _ o.limits.steps d m r error err line a p)
+        | inr a ↦ inr (after_run_line _ _ _ d m r error err line a.0 p, a.1)
       ])
     ];
     flat = f.flat;
@@ -246,15 +251,23 @@ ended_line q d m e error a p same = record {
   };
 }
 
+-- all that the errors have gained, with the last lines behind the rest
+pub shown_split : (t : Trace) (c : CachedRun) → shown_error t c ≡ (told_after c c.limit).error ++ last_lines t c
+shown_split trace.Off c = sym (append-nil (told_after c c.limit).error)
+shown_split trace.Each c = sym (append-nil (told_after c c.limit).error)
+shown_split trace.Last c = refl
+
 -- the line of an ending could not be written
-after_line : (s : FlatState) (report : List ℕ) (d m : Devices) (e : Ending) (error : Option (List ℕ)) (err : ℕ) →
-    Ran s report d m e [] → AppendsPrefix m.error error (ending_line e) → FailedAfterRun s report d (told_to m error err) refusal.SinkFault []
-after_line s report d m e error err h p = record {
+after_line : (s : FlatState) (all report tail : List ℕ) (d m : Devices) (e : Ending) (error : Option (List ℕ)) (err : ℕ) → all ≡ s.error ++ tail →
+    Ran (record s { error = all }) report d m e [] → AppendsPrefix m.error error (ending_line e) → FailedAfterRun s report tail d (told_to m error err) refusal.SinkFault []
+after_line s all report tail d m e error err split h p = record {
   output_front = length report;
   output = appends_as d.output m.output (s.output ++ report) (s.output ++ take (length report) report) (ap (λ (x : List ℕ). s.output ++ x) (take_all report)) h.output;
-  error_front = p.0;
-  error = appends_as d.error error (s.error ++ take p.0 (ending_line (ending_of s))) ((s.error ++ take p.0 (ending_line (ending_of s))) ++ []) (sym (append-nil _))
-      (appends_last d.error m.error error s.error (take p.0 (ending_line (ending_of s))) h.error
+  error_front = length tail + p.0;
+  error = appends_as d.error error (all ++ take p.0 (ending_line (ending_of s))) ((s.error ++ take (length tail + p.0) (tail ++ ending_line (ending_of s))) ++ [])
+      (ap (λ (x : List ℕ). x ++ take p.0 (ending_line (ending_of s))) split ∙ append_assoc s.error tail (take p.0 (ending_line (ending_of s)))
+      ∙ ap (λ (x : List ℕ). s.error ++ x) (sym (take-append-add tail (ending_line (ending_of s)) p.0)) ∙ sym (append-nil _))
+      (appends_last d.error m.error error all (take p.0 (ending_line (ending_of s))) h.error
       (subst (λ (x : Ending). Appends m.error error (take p.0 (ending_line x))) h.ending p.1));
   behind = inr refl;
   input = h.input;
@@ -270,13 +283,14 @@ leaves_ending (RewriteFile input output block) file d m e error err is h p never
 leaves_ending (UpgradeFile input output) file d m e error err is h p never = no_done e is never
 leaves_ending (ListFile name block) file d m e error err is h p never = absurd (no_done e is never)
 leaves_ending (CheckFile name) file d m e error err is h p never = absurd (no_done e is never)
-leaves_ending (RunPlain name o) file d m e error err is h p never = λ input left. inr (after_line _ _ d m e error err (h input left) p)
+leaves_ending (RunPlain name o) file d m e error err is h p never = λ input left. inr (after_line (plain_run o file input o.limits.steps) (plain_run o file input o.limits.steps).error _ [] d m e error err (sym (append-nil _)) (h input left) p)
 leaves_ending (RunCached name cache o) file d m e error err is h p never = (
   h.0,
   h.1,
   h.2,
   λ input left.
-      let r = h.3 input left in record { broke = inr (inr (after_line _ _ d m e error err r.ran p, r.cached.ram)); flat = r.cached.flat; stops = r.cached.stops },
+      let r = h.3 input left in
+      let c = cached_run cache o h.0 (start_of o file input) in record { broke = inr (inr (after_line (told_after c c.limit) (shown_error o.reports.trace c) _ (last_lines o.reports.trace c) d m e error err (shown_split o.reports.trace c) r.ran p, r.cached.ram)); flat = r.cached.flat; stops = r.cached.stops },
 )
 leaves_ending (MeasureMade seed functions cache) file d m e error err is h p never =
     let c = made_run cache h.program h.layout h.image in

@@ -50,7 +50,7 @@ pub step_failed : {T : Type 0} (f : CallFault) (s : FlatState) (bus : List AreaD
     s.machine.ending ≡ None → AppendsThenPrefix before.output after.output s.output (next_made s).output →
     AppendsThenPrefix before.error after.error s.error (next_made s).error →
     (IsErrOf {T = T} (Err f) call.SourceFault → Appends before.output after.output s.output × Appends before.error after.error s.error) →
-    FillsFront s bus after.input → StepFailed s (next_made s) (read_room_of s) before after (refusal_of f) []
+    FillsFront s bus after.input → StepFailed s s.error (next_made s) (read_room_of s) before after (refusal_of f) []
 step_failed {T} f s bus before after going output error source front = record {
   fault = named f;
   going = going;
@@ -131,7 +131,7 @@ run_failed {T} f o p l first new d i out e fi fo fe first_is going fewer stays f
     failed =
         let state = state_at new.machine.steps first.machine input in
         let ended : state.machine.ending ≡ None = sym (ap (λ (x : FlatData). x.machine.ending) (stays input left)) ∙ going in
-        subst (λ (s : FlatState). StepFailed s (next_made s) (read_room_of s) d (run_to d i out e fi fo fe) (refusal_of f) [])
+        subst (λ (s : FlatState). StepFailed s s.error (next_made s) (read_room_of s) d (run_to d i out e fi fo fe) (refusal_of f) [])
         (start_same o p l first new.machine.steps input first_is)
         (step_failed {T = T} f state new.machine.bus d (run_to d i out e fi fo fe) ended (output input left) (error input left) (λ x. source x input left) (front input left));
   });
@@ -182,7 +182,7 @@ report_failed o p l first new d i mid out e fi fo fe first_is machine input outp
   failed = λ _ left told. inr (
       let state = state_at o.limits.steps first.machine left in
       let same : new.machine ≡ state.machine = ap (λ (y : FlatData). y.machine) (machine left told) in
-      subst (λ (s : FlatState). FailedAfterRun s (plain_report o s) d (run_to d i out e fi fo fe) refusal.SinkFault []) (start_same o p l first o.limits.steps left first_is) (record {
+      subst (λ (s : FlatState). FailedAfterRun s (plain_report o s) [] d (run_to d i out e fi fo fe) refusal.SinkFault []) (start_same o p l first o.limits.steps left first_is) (record {
         output_front = part.0;
         output = Appends-append d.output mid out state.output (take part.0 (plain_report o state)) (output left told)
             (subst (λ (m : Machine). Appends mid out (take part.0 (report o.reports m None))) same part.1);

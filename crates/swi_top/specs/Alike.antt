@@ -5,6 +5,7 @@ use Rattle.swi_outside.specs.Causes.{Rose}
 use Rattle.swi_calls.specs.FirstStore.{StoresAt}
 use Rattle.swi_command.specs.declared.command.CacheOptions.{CacheOptions}
 use Rattle.swi_command.specs.declared.command.RunOptions.{RunOptions}
+use Rattle.swi_command.specs.declared.command.Trace.TheVariants.{Off}
 use Rattle.swi_command.specs.CommandLine.{Request, RunCached, RunPlain}
 use Rattle.swi_answer.specs.declared.answer.Ending.{Ending}
 use Rattle.swi_answer.specs.declared.answer.Refusal.{Refusal}
@@ -52,10 +53,10 @@ pub record LeavesAlike (o : RunOptions) (before plain cached : Devices) : Type 0
   pub cached_error : Appends before.error cached.error lines
 
 -- A program that would not store into its text ends alike by `plain` and by `cached`, whatever cache and blocks it is given, with the same
--- limits, reports and input.
+-- limits, reports and input, and no lines of its steps.
 abbrev pub EndsAlike : Type 0
 EndsAlike = (name : List ℕ) (cache : CacheOptions) (o : RunOptions) (file input : List ℕ) (before plain cached : Devices) (one other : Result Ending Refusal) →
     AnswersWithLine (RunPlain name o) before plain one → IsFree (RunPlain name o) file before plain one →
     AnswersWithLine (RunCached name cache o) before cached other → IsFree (RunCached name cache o) file before cached other →
-    before.input ≡ Some input → ((j : ℕ) → j < o.limits.steps → StoresAt (start_of o file input) j → ⊥) →
+    before.input ≡ Some input → o.reports.trace ≡ Off → ((j : ℕ) → j < o.limits.steps → StoresAt (start_of o file input) j → ⊥) →
     (e : Ending) × (one ≡ Ok e) × (other ≡ Ok e) × LeavesAlike o before plain cached

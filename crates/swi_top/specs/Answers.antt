@@ -1,5 +1,5 @@
 -- What a command does, and what stands where it is refused or a device fails. Own rule.
-use Rattle.std.specs.Prelude.{◌≡◌, ◌⊎◌, ℕ, ◌+◌, ◌-◌, ◌*◌, ◌/◌, ◌^◌, ◌<◌, ◌≤◌, min, List, [], ◌++◌, length, take, false, Option, Some, None, Result, Ok, Err, IfOk, IfErr, OnErr, IsErrOf, ⊤}
+use Rattle.std.specs.Prelude.{◌≡◌, ◌⊎◌, ℕ, ◌+◌, ◌-◌, ◌*◌, ◌/◌, ◌^◌, ◌<◌, ◌≤◌, min, List, [], ◌++◌, length, take, Bool, true, false, if◌then◌else◌, Option, Some, None, Result, Ok, Err, IfOk, IfErr, OnErr, IsErrOf, ⊤}
 use Rattle.std.specs.Io.KnownBytes.{Appends}
 use Rattle.swi_outside.specs.CacheRam.{KeepsBeyond, RamState}
 use Rattle.swi_outside.specs.Causes.{Rose}
@@ -8,6 +8,7 @@ use Rattle.swi_outside.specs.Sink.{AppendsPrefix}
 use Rattle.swi_elf_read.specs.Loaded.{image_of as image_in}
 use Rattle.swi_image.specs.Checks.{first_refusal}
 use Rattle.swi_image.specs.Format.{ImageData, image_of}
+use Rattle.swi_memory.specs.Bus.{AreaData}
 use Rattle.swi_memory.specs.declared.layout.Layout.{Layout}
 use Rattle.swi_program.specs.Layout.{laid_out}
 use Rattle.swi_program.specs.Program.{ProgramData}
@@ -30,7 +31,11 @@ use Rattle.swi_calls.specs.Held.{held_made}
 use Rattle.swi_calls.specs.Flat.{Made}
 use Rattle.swi_rom.specs.Record.{writes}
 use Rattle.swi_cached.specs.Answers.{RamAfter}
-use Rattle.swi_cached.specs.Cached.{CachedRun, IsCounted, IsFlatRun, StopsBeforeStore, run_of, slots_of, end_of, program_after, instructions_after, fetches_after, record_after}
+use Rattle.swi_cached.specs.Cached.{CachedRun, IsCounted, IsFlatRun, StopsBeforeStore, run_of, slots_of, end_of, program_after, told_after, instructions_after, fetches_after, record_after}
+use Rattle.swi_cached.specs.Told.{addresses, lines_at, next_error, told_line}
+use Rattle.swi_trace.specs.History.{last_of}
+use Rattle.swi_command.specs.declared.command.Trace.{Trace}
+use Rattle.swi_command.specs.declared.command.Trace.TheVariants as trace
 use Rattle.swi_report.specs.declared.stats.Work.{Work}
 use Rattle.swi_answer.specs.declared.answer.Ending.{Ending}
 use Rattle.swi_answer.specs.declared.answer.Ending.TheVariants as ending
@@ -126,9 +131,14 @@ abbrev pub Runs : RunOptions → List ℕ → List ℕ → Devices → Devices �
 Runs o file input before after e last =
     Ran (plain_run o file input o.limits.steps) (plain_report o (plain_run o file input o.limits.steps)) before after e last
 
--- `cached`: the same program's run, through the cache ram
+-- whether each step is told before it is made
+abbrev pub is_each : Trace → Bool
+is_each trace.Each = true
+is_each _ = false
+
+-- `cached`: the same program's run, through the cache ram; and `trace`, with lines of its steps
 abbrev pub cached_run : CacheOptions → RunOptions → ImageData → FlatState → CachedRun
-cached_run cache o v s = record { image = v; slots = slots_of cache.cache_bytes v; start = s; limit = o.limits.steps }
+cached_run cache o v s = record { image = v; slots = slots_of cache.cache_bytes v; start = s; limit = o.limits.steps; trace = is_each o.reports.trace }
 
 -- what the counts of a run tell: its machine instructions, and the words that were fetched and written for it, as numbers of 64 bits
 abbrev pub work_of : CachedRun → Work
@@ -147,6 +157,22 @@ pub record RamCounted (w : Work) (before after : RamState) : Type 0 where
 abbrev pub cached_report : RunOptions → CachedRun → List ℕ
 cached_report o c = report o.reports (end_of c).machine (Some (work_of c))
 
+-- the lines of the last 32 steps, where these are told behind the run
+abbrev pub last_told : Trace → List AreaData → List ℕ → List ℕ
+last_told trace.Last bus history = lines_at bus history
+last_told _ bus history = []
+
+abbrev pub last_lines : Trace → CachedRun → List ℕ
+last_lines t c = last_told t (end_of c).machine.bus (last_of 32 (addresses c.limit c.start))
+
+abbrev pub shown_error : Trace → CachedRun → List ℕ
+shown_error trace.Last c = (told_after c c.limit).error ++ last_lines trace.Last c
+shown_error _ c = (told_after c c.limit).error
+
+-- the run's end, with all that the errors have gained but for the ending's line
+abbrev pub shown_end : RunOptions → CachedRun → FlatState
+shown_end o c = record (told_after c c.limit) { error = shown_error o.reports.trace c }
+
 -- what a cached run is, and what it leaves of the ram, however it was asked for
 pub record IsCachedRun (c : CachedRun) (before after : RamState) : Type 0 where
   -- it is the flat machine's run, up to the first step that would store into the text, before which it ends
@@ -162,8 +188,9 @@ pub record IsCachedRun (c : CachedRun) (before after : RamState) : Type 0 where
   pub each : IsCounted c
 
 pub record RunsCached (o : RunOptions) (c : CachedRun) (before after : Devices) (e : Ending) (last : List ℕ) : Type 0 where
-  -- the ending, the input and the bytes are those of the program's run, in which the text is fixed
-  pub ran : Ran (end_of c) (cached_report o c) before after e last
+  -- the ending, the input and the bytes are those of the program's run, in which the text is fixed; where steps are told, the errors have
+  -- their lines too
+  pub ran : Ran (shown_end o c) (cached_report o c) before after e last
   pub cached : IsCachedRun c before.ram after.ram
 
 -- `measure`: the run, with no input, of the program that is made of the seed, in the blocks of its greedy cut
@@ -241,10 +268,11 @@ read_room_of s = room_of_call s.machine.regs s.machine.bus
 
 abbrev pub RunFailed : RunOptions → List ℕ → List ℕ → Devices → Devices → Refusal → List ℕ → Type 0
 RunFailed o file input before after r last =
-    FailedAtStep (plain_run o file input) next_made read_room_of o.limits.steps before after r last
-    ⊎ FailedAfterRun (plain_run o file input o.limits.steps) (plain_report o (plain_run o file input o.limits.steps)) before after r last
+    FailedAtStep (plain_run o file input) (λ s. s.error) next_made read_room_of o.limits.steps before after r last
+    ⊎ FailedAfterRun (plain_run o file input o.limits.steps) (plain_report o (plain_run o file input o.limits.steps)) [] before after r last
 
--- The ram failed: both sinks hold what the longest run wrote whose fetches were made, and of the input is gone what that took.
+-- The ram failed: both sinks hold what the longest run wrote whose fetches were made, and of the input is gone what that took. Where each
+-- step is told, the line of the next one may stand behind it.
 pub record RamBroke (c : CachedRun) (before after : Devices) (r : Refusal) (last : List ℕ) : Type 0 where
   pub fault : r ≡ refusal.RamFault
   pub fetched : ℕ
@@ -254,12 +282,17 @@ pub record RamBroke (c : CachedRun) (before after : Devices) (r : Refusal) (last
   pub enough : fetches_after c steps ≤ fetched
   pub longest : steps < c.limit → fetched < fetches_after c (steps + 1)
   pub output : Appends before.output after.output (program_after c steps).output
-  pub error : Appends before.error after.error ((program_after c steps).error ++ last)
+  pub begun : Bool
+  pub error : Appends before.error after.error (((told_after c steps).error ++ (if begun then told_line c.trace (program_after c steps).machine else [])) ++ last)
   pub input : after.input ≡ Some (program_after c steps).input
 
 -- the next step over the fixed text, and the most bytes that it takes
 abbrev pub held_next : FlatState → Made
 held_next s = held_made s.machine s.input
+
+-- with its line first, where it is told
+abbrev pub told_next : Bool → FlatState → Made
+told_next each s = record (held_next s) { error = next_error each s }
 
 abbrev pub held_taken : FlatState → ℕ
 held_taken s = length s.input - length (held_next s).input
@@ -268,8 +301,8 @@ held_taken s = length s.input - length (held_next s).input
 abbrev pub BrokeIn : RunOptions → CachedRun → Devices → Devices → Refusal → List ℕ → Type 0
 BrokeIn o c before after r last =
     RamBroke c before after r last
-    ⊎ (FailedAtStep (program_after c) held_next held_taken c.limit before after r last
-    ⊎ (FailedAfterRun (end_of c) (cached_report o c) before after r last × RamAfter c before.ram after.ram))
+    ⊎ (FailedAtStep (told_after c) (λ s. s.error ++ told_line c.trace s.machine) (told_next c.trace) held_taken c.limit before after r last
+    ⊎ (FailedAfterRun (told_after c c.limit) (cached_report o c) (last_lines o.reports.trace c) before after r last × RamAfter c before.ram after.ram))
 
 pub record CachedFailed (o : RunOptions) (c : CachedRun) (before after : Devices) (r : Refusal) (last : List ℕ) : Type 0 where
   pub broke : BrokeIn o c before after r last

@@ -8,3 +8,4 @@ pub mod Answers
 pub mod Plain
 pub mod Caching
 pub mod Alike
+pub mod Tracing

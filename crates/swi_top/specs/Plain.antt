@@ -35,6 +35,6 @@ pub record RunsPlain (o : RunOptions) (p : ProgramData) (l : Layout) (before aft
   pub refused : IfErr result (λ r. (r ≡ refusal.SourceFault) ⊎ ((r ≡ refusal.SinkFault) ⊎ (r ≡ refusal.Memory)))
   pub memory : IsErrOf result refusal.Memory → after ≡ before
   pub failed : IfErr result (λ r. (r ≡ refusal.Memory → ⊥) → (input : List ℕ) → before.input ≡ Some input →
-      FailedAtStep (run_from o p l input) next_made read_room_of o.limits.steps before after r []
-      ⊎ FailedAfterRun (run_from o p l input o.limits.steps) (plain_report o (run_from o p l input o.limits.steps)) before after r [])
+      FailedAtStep (run_from o p l input) (λ s. s.error) next_made read_room_of o.limits.steps before after r []
+      ⊎ FailedAfterRun (run_from o p l input o.limits.steps) (plain_report o (run_from o p l input o.limits.steps)) [] before after r [])
   pub causes : HasCauses before.faults after.faults result

@@ -61,33 +61,34 @@ pub record Ran (s : FlatState) (report : List ℕ) (before after : Devices) (e :
   pub output : Appends before.output after.output (s.output ++ report)
   pub error : Appends before.error after.error (s.error ++ last)
 
--- A source or a sink failed in a state, at the step that would come next, which takes so many bytes of the input at most.
-pub record StepFailed (s : FlatState) (next : Made) (most : ℕ) (before after : Devices) (r : Refusal) (last : List ℕ) : Type 0 where
+-- A source or a sink failed in a state, at the step that would come next, which takes so many bytes of the input at most. Where the source
+-- fails, the errors hold `begun`.
+pub record StepFailed (s : FlatState) (begun : List ℕ) (next : Made) (most : ℕ) (before after : Devices) (r : Refusal) (last : List ℕ) : Type 0 where
   pub fault : (r ≡ refusal.SourceFault) ⊎ (r ≡ refusal.SinkFault)
   pub going : s.machine.ending ≡ None
   -- the sinks gained what the steps so far wrote, and then a front of what the next one writes
   pub output : AppendsThenPrefix before.output after.output s.output next.output
   pub error_front : ℕ
   pub error : Appends before.error after.error ((s.error ++ take error_front next.error) ++ last)
-  -- and nothing of that, where the source failed
-  pub source : r ≡ refusal.SourceFault → Appends before.output after.output s.output × Appends before.error after.error (s.error ++ last)
+  -- and nothing of that but what was told of it before, where the source failed
+  pub source : r ≡ refusal.SourceFault → Appends before.output after.output s.output × Appends before.error after.error (begun ++ last)
   -- of the input what those steps took is gone, and a front of what the next one reads
   pub taken : List ℕ
   pub no_more : length taken ≤ most
   pub input : Consumes (Some s.input) after.input taken
 
 -- A source or a sink failed in a run: after so many steps, fewer than its limit.
-pub record FailedAtStep (run : ℕ → FlatState) (next : FlatState → Made) (most : FlatState → ℕ) (limit : ℕ) (before after : Devices) (r : Refusal) (last : List ℕ) : Type 0 where
+pub record FailedAtStep (run : ℕ → FlatState) (begun : FlatState → List ℕ) (next : FlatState → Made) (most : FlatState → ℕ) (limit : ℕ) (before after : Devices) (r : Refusal) (last : List ℕ) : Type 0 where
   pub steps : ℕ
   pub fewer : steps < limit
-  pub failed : StepFailed (run steps) (next (run steps)) (most (run steps)) before after r last
+  pub failed : StepFailed (run steps) (begun (run steps)) (next (run steps)) (most (run steps)) before after r last
 
--- A sink failed behind the run: at the report, or, where that is whole, at the ending's line.
-pub record FailedAfterRun (s : FlatState) (report : List ℕ) (before after : Devices) (r : Refusal) (last : List ℕ) : Type 0 where
+-- A sink failed behind the run: at the report, or, where that is whole, at what is told of the last steps and the ending's line.
+pub record FailedAfterRun (s : FlatState) (report tail : List ℕ) (before after : Devices) (r : Refusal) (last : List ℕ) : Type 0 where
   pub output_front : ℕ
   pub output : Appends before.output after.output (s.output ++ take output_front report)
   pub error_front : ℕ
-  pub error : Appends before.error after.error ((s.error ++ take error_front (ending_line (ending_of s))) ++ last)
+  pub error : Appends before.error after.error ((s.error ++ take error_front (tail ++ ending_line (ending_of s))) ++ last)
   pub behind : (error_front ≡ 0) ⊎ (output_front ≡ length report)
   pub input : after.input ≡ Some s.input
   pub fault : r ≡ refusal.SinkFault

@@ -20,12 +20,13 @@ use crate::image::{Prepared, own_image, prepare};
 use crate::report::{ending_of, write_report};
 use crate::rewrite::cut_image;
 use crate::sizes::check_sizes;
+use crate::trace::trace_program;
 use std::alloc::Global;
 use swi_answer::{Ending, Refusal};
 use swi_board::Board;
 use swi_cached::{CachedStop, run_cached};
 use swi_calls::End;
-use swi_command::{CacheOptions, Reports, RunOptions};
+use swi_command::{CacheOptions, Reports, RunOptions, Trace};
 use swi_elf_read::{image_bytes, read_elf};
 use swi_exec::FaultKind;
 use swi_fifo::FifoRom;
@@ -58,7 +59,7 @@ pub(crate) fn work_of(board: &Board<FifoRom>) -> Work
 }
 
 /// Writes what is asked for of a board's end.
-fn report_board<O: Sink>(
+pub(crate) fn report_board<O: Sink>(
     reports: &Reports,
     board: &Board<FifoRom>,
     out: &mut O,
@@ -85,6 +86,7 @@ fn run_program<I: Source, O: Sink, E: Sink, R: CacheRam>(
     err: &mut E,
     ram: &mut R,
 ) -> Result<Ending, Refusal>
+    requires quiet { options.now.reports.trace ≡ Trace.Off }
     requires ranges { IsInRange options.now.limits }
     requires most { cache.now.cache_bytes ≤ 2 ^ 23 }
     requires held { cache.now.cache_bytes ≤ 4 * length (R.state ram.old).words }
@@ -124,6 +126,45 @@ fn run_program<I: Source, O: Sink, E: Sink, R: CacheRam>(
     match report_board(&options.reports, &board, out) {
         Ok(()) => Ok(ending_of(board.ending(), board.origin_pc(), board.steps())),
         Err(_) => Err(Refusal::SinkFault),
+    }
+}
+
+/// The same with a trace or without one, as the options say.
+fn run_image<I: Source, O: Sink, E: Sink, R: CacheRam>(
+    alloc: Global,
+    image: &ImageView<'_>,
+    prepared: &Prepared,
+    cache: &CacheOptions,
+    options: &RunOptions,
+    input: &mut I,
+    out: &mut O,
+    err: &mut E,
+    ram: &mut R,
+) -> Result<Ending, Refusal>
+    requires ranges { IsInRange options.now.limits }
+    requires most { cache.now.cache_bytes ≤ 2 ^ 23 }
+    requires held { cache.now.cache_bytes ≤ 4 * length (R.state ram.old).words }
+    requires laid_out { IsLayoutOf prepared.now.program.segments prepared.now.layout }
+    requires own { IsImageOf (text_of prepared.now.program.segments) image.now }
+    ensures { (d : Devices) → RunsOnCache options.now cache.now image.now prepared.now.program prepared.now.layout
+        (record d {
+          input = I.left input.old;
+          output = O.held out.old;
+          error = E.held err.old;
+          ram = R.state ram.old;
+          faults = record d.faults { input = I.faults input.old; out = O.faults out.old; err = E.faults err.old; ram = (R.state ram.old).faults };
+        })
+        (record d {
+          input = I.left input.new;
+          output = O.held out.new;
+          error = E.held err.new;
+          ram = R.state ram.new;
+          faults = record d.faults { input = I.faults input.new; out = O.faults out.new; err = E.faults err.new; ram = (R.state ram.new).faults };
+        }) result }
+{
+    match options.reports.trace {
+        Trace::Off => { run_program(alloc, image, prepared, cache, options, input, out, err, ram) }
+        _ => { trace_program(alloc, image, prepared, cache, options, input, out, err, ram) }
     }
 }
 
@@ -167,7 +208,7 @@ fn run_file<I: Source, O: Sink, E: Sink, R: CacheRam>(
     let Some(bytes) = image_bytes(&elf) else {
         let image = cut_image(alloc, &prepared.program, cache.block_words)?;
         let view = image.view();
-        return run_program(
+        return run_image(
             alloc, &view, &prepared, cache, options, input, out, err, ram,
         );
     };
@@ -175,7 +216,7 @@ fn run_file<I: Source, O: Sink, E: Sink, R: CacheRam>(
         Ok(view) => view,
         Err(refusal) => return Err(refusal),
     };
-    run_program(
+    run_image(
         alloc, &view, &prepared, cache, options, input, out, err, ram,
     )
 }

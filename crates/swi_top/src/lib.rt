@@ -17,6 +17,7 @@ mod rewrite;
 mod sizes;
 #[cfg(test)]
 mod tests;
+mod trace;
 
 pub use call::top;
 pub use laws::laws_of_top;

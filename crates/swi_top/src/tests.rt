@@ -15,6 +15,7 @@ use swi_outside::{CacheRam, FaultRam, MemShelf, MemSink, MemSource};
 mod limits;
 mod list;
 mod measure;
+mod trace;
 
 /// A file with `SEVEN` in one segment at 0x10000, by hand from the ELF document.
 const PLAIN: [u32; 24] = [

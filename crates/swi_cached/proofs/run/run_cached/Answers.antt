@@ -1,4 +1,5 @@
-use Rattle.std.proofs.Common.{ℕ, [], Err, refl, ap, subst, arith}
+use Rattle.std.proofs.Common.{ℕ, List, [], ◌++◌, Option, false, Err, refl, sym, ap, subst, arith, append-nil}
+use Rattle.std.specs.Io.KnownBytes.{Appends}
 use Rattle.swi_calls.specs.Flat.{machine_of, flat_start}
 use Rattle.swi_calls.specs.declared.machine.Machine.{Machine}
 use Rattle.swi_rom.specs.Slots.{kept_by}
@@ -11,6 +12,9 @@ use Rattle.swi_cached.proofs.Fetched.{is_counted}
 use Rattle.swi_cached.proofs.Failed.{all_steps, ram_failed, boot_failed, step_failed, is_flat_run, stops_before_store}
 use Rattle.swi_cached.proofs.Causing.{causes_quiet, causes_run, as_stop, as_stops, is_ram, is_source, on_device}
 use Rattle.swi_cached.proofs.run.run_cached.Goals as goal
+
+to_nil : (a b : Option (List ℕ)) (x : List ℕ) → Appends a b x → Appends a b (x ++ [])
+to_nil a b x h = subst (λ (y : List ℕ). Appends a b y) (sym (append-nil x)) h
 
 pub returns-in-Err-clause-ram_failed : goal.returns-in-Err-clause-ram_failed
 returns-in-Err-clause-ram_failed g c = λ e x told.
@@ -60,7 +64,7 @@ returns-in-Ok-run-clause-ended g c = λ x told.
     let booted = c.in-Ok.ensures.booted c.args.limit x in
     let carries = carries_booted c.args.image.now (kept_by c.in-Ok.board.rom) c.in-Ok.board.hart (machine_of c.args.program.now c.args.layout.now c.args.log) booted.machine booted.between booted.fits in
     let ran = ran_on (run_of c.args.image.now c.args.cache_bytes c.args.program.now c.args.layout.now c.args.log c.args.limit x) c.in-Ok.board.hart c.run.new.self.hart c.in-Ok.board.rom (kept_by c.run.new.self.rom) (g.R.CacheRam.state c.args.ram.now) (g.R.CacheRam.state c.boot.new.ram) (g.I.Source.left c.run.new.input) (g.O.Sink.held c.args.out.now) (g.O.Sink.held c.run.new.out) (g.E.Sink.held c.args.err.now) (g.E.Sink.held c.run.new.err) booted refl (c.in-Ok-run.ensures.ran x told (machine_of c.args.program.now c.args.layout.now c.args.log) carries booted.matches) in
-    has_ended (run_of c.args.image.now c.args.cache_bytes c.args.program.now c.args.layout.now c.args.log c.args.limit x) c.in-Ok.board.hart c.run.new.self.hart c.in-Ok.board.rom (kept_by c.run.new.self.rom) (g.R.CacheRam.state c.args.ram.now) (g.R.CacheRam.state c.boot.new.ram) (g.R.CacheRam.state c.run.new.ram) (g.I.Source.left c.run.new.input) (g.O.Sink.held c.args.out.now) (g.O.Sink.held c.run.new.out) (g.E.Sink.held c.args.err.now) (g.E.Sink.held c.run.new.err) booted ran (c.in-Ok-run.ensures.settled x told booted.between)
+    has_ended (run_of c.args.image.now c.args.cache_bytes c.args.program.now c.args.layout.now c.args.log c.args.limit x) c.in-Ok.board.hart c.run.new.self.hart c.in-Ok.board.rom (kept_by c.run.new.self.rom) (g.R.CacheRam.state c.args.ram.now) (g.R.CacheRam.state c.boot.new.ram) (g.R.CacheRam.state c.run.new.ram) (g.I.Source.left c.run.new.input) (g.O.Sink.held c.args.out.now) (g.O.Sink.held c.run.new.out) (g.E.Sink.held c.args.err.now) (g.E.Sink.held c.run.new.err) booted ran (c.in-Ok-run.ensures.settled x told booted.between) (g.E.Sink.held c.args.err.now) (g.E.Sink.held c.run.new.err) ran.error
 
 pub returns-in-Ok-run-clause-short : goal.returns-in-Ok-run-clause-short
 returns-in-Ok-run-clause-short g c = λ x told.
@@ -103,9 +107,9 @@ returns-in-Err-run-clause-ram_failed g c = λ e x told.
     let booted = c.in-Ok.ensures.booted c.args.limit x in
     let carries = carries_booted c.args.image.now (kept_by c.in-Ok.board.rom) c.in-Ok.board.hart (machine_of c.args.program.now c.args.layout.now c.args.log) booted.machine booted.between booted.fits in
     let all = all_steps (run_of c.args.image.now c.args.cache_bytes c.args.program.now c.args.layout.now c.args.log c.args.limit x) c.in-Ok.board.hart c.in-Ok.board.rom _ _ booted refl in
-    ram_failed (run_of c.args.image.now c.args.cache_bytes c.args.program.now c.args.layout.now c.args.log c.args.limit x) c.in-Ok.board.hart c.run.new.self.hart c.in-Ok.board.rom (g.R.CacheRam.state c.args.ram.now) (g.R.CacheRam.state c.boot.new.ram) (g.R.CacheRam.state c.run.new.ram) (g.I.Source.left c.run.new.input) (g.O.Sink.held c.args.out.now) (g.O.Sink.held c.run.new.out) (g.E.Sink.held c.args.err.now) (g.E.Sink.held c.run.new.err) booted
-    (subst (λ (n : ℕ). RamBrokeOff c.args.image.now n (flat_start c.args.program.now c.args.layout.now c.args.log x) c.in-Ok.board.hart c.run.new.self.hart (g.R.CacheRam.state c.boot.new.ram) (g.R.CacheRam.state c.run.new.ram) (g.I.Source.left c.run.new.input) (g.O.Sink.held c.args.out.now) (g.O.Sink.held c.run.new.out) (g.E.Sink.held c.args.err.now) (g.E.Sink.held c.run.new.err)) all
-    (c.in-Err-run.ensures.ram_broke (is_ram c.in-Err-run.fault (as_stop c.in-Err-run.fault c.stop_of.result stop.RamFault c.stop_of.ensures e)) x told (machine_of c.args.program.now c.args.layout.now c.args.log) carries booted.matches))
+    let broke = (subst (λ (n : ℕ). RamBrokeOff c.args.image.now n (flat_start c.args.program.now c.args.layout.now c.args.log x) c.in-Ok.board.hart c.run.new.self.hart (g.R.CacheRam.state c.boot.new.ram) (g.R.CacheRam.state c.run.new.ram) (g.I.Source.left c.run.new.input) (g.O.Sink.held c.args.out.now) (g.O.Sink.held c.run.new.out) (g.E.Sink.held c.args.err.now) (g.E.Sink.held c.run.new.err)) all
+    (c.in-Err-run.ensures.ram_broke (is_ram c.in-Err-run.fault (as_stop c.in-Err-run.fault c.stop_of.result stop.RamFault c.stop_of.ensures e)) x told (machine_of c.args.program.now c.args.layout.now c.args.log) carries booted.matches)) in
+    ram_failed (run_of c.args.image.now c.args.cache_bytes c.args.program.now c.args.layout.now c.args.log c.args.limit x) c.in-Ok.board.hart c.run.new.self.hart c.in-Ok.board.rom (g.R.CacheRam.state c.args.ram.now) (g.R.CacheRam.state c.boot.new.ram) (g.R.CacheRam.state c.run.new.ram) (g.I.Source.left c.run.new.input) (g.O.Sink.held c.args.out.now) (g.O.Sink.held c.run.new.out) (g.E.Sink.held c.args.err.now) (g.E.Sink.held c.run.new.err) (g.E.Sink.held c.args.err.now) (g.E.Sink.held c.run.new.err) booted broke false (to_nil _ _ _ broke.error)
 
 pub returns-in-Err-run-clause-step_failed : goal.returns-in-Err-run-clause-step_failed
 returns-in-Err-run-clause-step_failed g c = λ e x told.
@@ -113,7 +117,8 @@ returns-in-Err-run-clause-step_failed g c = λ e x told.
     let carries = carries_booted c.args.image.now (kept_by c.in-Ok.board.rom) c.in-Ok.board.hart (machine_of c.args.program.now c.args.layout.now c.args.log) booted.machine booted.between booted.fits in
     let all = all_steps (run_of c.args.image.now c.args.cache_bytes c.args.program.now c.args.layout.now c.args.log c.args.limit x) c.in-Ok.board.hart c.in-Ok.board.rom _ _ booted refl in
     let broke = on_device Unit _ _ c.in-Err-run.fault (as_stops c.in-Err-run.fault c.stop_of.result stop.SourceFault stop.SinkFault c.stop_of.ensures e) c.in-Err-run.ensures.broke in
-    step_failed (run_of c.args.image.now c.args.cache_bytes c.args.program.now c.args.layout.now c.args.log c.args.limit x) c.in-Ok.board.hart c.run.new.self.hart (Err c.in-Err-run.fault) (Err c.stop_of.result) (g.I.Source.left c.run.new.input) (g.O.Sink.held c.args.out.now) (g.O.Sink.held c.run.new.out) (g.E.Sink.held c.args.err.now) (g.E.Sink.held c.run.new.err)
+    let broken = (subst (λ (n : ℕ). BrokeOff {T = Unit} (Err c.in-Err-run.fault) n (flat_start c.args.program.now c.args.layout.now c.args.log x) c.in-Ok.board.hart c.run.new.self.hart (g.I.Source.left c.run.new.input) (g.O.Sink.held c.args.out.now) (g.O.Sink.held c.run.new.out) (g.E.Sink.held c.args.err.now) (g.E.Sink.held c.run.new.err)) all
+    (broke x told (machine_of c.args.program.now c.args.layout.now c.args.log) carries booted.matches)) in
+    step_failed (run_of c.args.image.now c.args.cache_bytes c.args.program.now c.args.layout.now c.args.log c.args.limit x) c.in-Ok.board.hart c.run.new.self.hart (Err c.in-Err-run.fault) (Err c.stop_of.result) (g.I.Source.left c.run.new.input) (g.O.Sink.held c.args.out.now) (g.O.Sink.held c.run.new.out) (g.E.Sink.held c.args.err.now) (g.E.Sink.held c.run.new.err) (g.E.Sink.held c.args.err.now) (g.E.Sink.held c.run.new.err)
     (λ s. is_source c.in-Err-run.fault (as_stop c.in-Err-run.fault c.stop_of.result stop.SourceFault c.stop_of.ensures s))
-    (subst (λ (n : ℕ). BrokeOff {T = Unit} (Err c.in-Err-run.fault) n (flat_start c.args.program.now c.args.layout.now c.args.log x) c.in-Ok.board.hart c.run.new.self.hart (g.I.Source.left c.run.new.input) (g.O.Sink.held c.args.out.now) (g.O.Sink.held c.run.new.out) (g.E.Sink.held c.args.err.now) (g.E.Sink.held c.run.new.err)) all
-    (broke x told (machine_of c.args.program.now c.args.layout.now c.args.log) carries booted.matches))
+    broken broken.error_front broken.error (λ s. (broken.unwritten s).1)

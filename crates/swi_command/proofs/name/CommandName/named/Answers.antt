@@ -1,5 +1,5 @@
 use Rattle.std.proofs.Common.{◌≡◌, List, ℕ, Some, sym, subst, refl}
-use Rattle.swi_command.specs.CommandLine.{form_named, rewrite_form, cached_form, plain_form, list_form, check_form, upgrade_form, measure_form}
+use Rattle.swi_command.specs.CommandLine.{form_named, rewrite_form, cached_form, plain_form, trace_form, list_form, check_form, upgrade_form, measure_form}
 use Rattle.swi_command.proofs.Naming.{form_named-none}
 use Rattle.swi_command.proofs.name.CommandName.named.Goals as goal
 
@@ -14,6 +14,10 @@ returns-in-cached c = subst (λ (w : List ℕ). Some cached_form ≡ form_named 
 pub returns-in-plain : goal.returns-in-plain
 unfolding form_named
 returns-in-plain c = subst (λ (w : List ℕ). Some plain_form ≡ form_named w) (sym c.in-plain.is) refl
+
+pub returns-in-trace : goal.returns-in-trace
+unfolding form_named
+returns-in-trace c = subst (λ (w : List ℕ). Some trace_form ≡ form_named w) (sym c.in-trace.is) refl
 
 pub returns-in-list : goal.returns-in-list
 unfolding form_named
@@ -34,4 +38,4 @@ returns-in-measure c = subst (λ (w : List ℕ). Some measure_form ≡ form_name
 pub returns-in_default : goal.returns-in_default
 returns-in_default c =
     sym (form_named-none c.args.word.now c.in_default.not-rewrite c.in_default.not-cached c.in_default.not-plain
-    c.in_default.not-list c.in_default.not-check c.in_default.not-upgrade c.in_default.not-measure)
+    c.in_default.not-trace c.in_default.not-list c.in_default.not-check c.in_default.not-upgrade c.in_default.not-measure)

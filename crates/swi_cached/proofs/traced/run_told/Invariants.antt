@@ -1,0 +1,36 @@
+use Rattle.std.proofs.Common.{◌≡◌, ◌⊎◌, ◌<◌, ◌*◌, ◌+◌, ◌-◌, ℕ, List, Some, None, true, is_some}
+use Rattle.swi_memory.specs.Bus.{fetched}
+use Rattle.swi_calls.specs.declared.machine.Machine.{Machine}
+use Rattle.swi_calls.specs.Flat.{started}
+use Rattle.swi_render.specs.Carried.{Carries}
+use Rattle.swi_rom.specs.Fifo.{fifo, extent_of}
+use Rattle.swi_rom.specs.Served.{SameFrom}
+use Rattle.swi_rom.specs.Slots.{kept_by, setting_of, span_of}
+use Rattle.swi_rom.specs.Sound.{SlotsSound}
+use Rattle.swi_board.specs.Board.{Matches}
+use Rattle.swi_board.specs.Hart.{is_between}
+use Rattle.swi_board.specs.Faults.{Faults}
+use Rattle.swi_board.specs.Runs.{most}
+use Rattle.swi_board.proofs.Running.{Running}
+use Rattle.swi_cached.proofs.Telling.{Tells}
+use Rattle.swi_cached.proofs.traced.run_told.Given as goal
+
+abbrev pub invariant-loop-board : goal.invariant-loop-board
+invariant-loop-board g l = record {
+  running : Running (fifo (setting_of l.fn.board.rom)) l.image l.limit (span_of (setting_of l.fn.board.rom))
+      l.fn.board.hart (kept_by l.fn.board.rom) (g.R.CacheRam.state l.fn.ram) (g.I.Source.left l.fn.input) (g.O.Sink.held l.fn.out) None
+      l.board.hart (kept_by l.board.rom) (g.R.CacheRam.state l.ram) (g.I.Source.left l.input) (g.O.Sink.held l.out) None;
+  settles : (left : List ℕ) → g.I.Source.left l.fn.input ≡ Some left → is_between l.fn.board.hart.control ≡ true → l.board.hart.machine.ending ≡ None →
+      (l.board.hart.machine.steps < l.limit) ⊎ (is_between l.board.hart.control ≡ true);
+  setting : setting_of l.board.rom ≡ setting_of l.fn.board.rom;
+  sound : SlotsSound l.board.rom l.image (g.R.CacheRam.state l.ram).words;
+  unused : SameFrom (extent_of (setting_of l.fn.board.rom) (kept_by l.board.rom)) (g.R.CacheRam.state l.fn.ram).words (g.R.CacheRam.state l.ram).words;
+  quiet : ◌≡◌ {A = Faults} (record { ram = (g.R.CacheRam.state l.ram).faults; input = g.I.Source.faults l.input; out = g.O.Sink.faults l.out; err = g.E.Sink.faults l.err })
+      (record { ram = (g.R.CacheRam.state l.fn.ram).faults; input = g.I.Source.faults l.fn.input; out = g.O.Sink.faults l.fn.out; err = g.E.Sink.faults l.fn.err });
+  lines : (l.lines ≡ l.board.hart.machine.steps) ⊎ ((l.lines ≡ l.board.hart.machine.steps + 1) × ((l.board.hart.machine.steps < l.limit) ⊎ (is_some l.board.hart.machine.ending ≡ true)));
+  tells : (left : List ℕ) → g.I.Source.left l.fn.input ≡ Some left → (f : Machine) → Carries (fetched f.bus) l.image → Matches l.image (kept_by l.fn.board.rom) f l.fn.board.hart.machine l.fn.board.hart.control →
+      Tells l.board.hart.machine.ending l.each l.limit (started f left) l.board.hart.machine.steps l.lines (g.E.Sink.held l.fn.err) (g.E.Sink.held l.err) l.history;
+}
+
+abbrev pub decreases-loop-board : goal.decreases-loop-board
+decreases-loop-board g l = 3 * l.limit + 5 - most l.image l.board.hart.machine l.board.hart.control
