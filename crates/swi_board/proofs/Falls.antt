@@ -1,9 +1,12 @@
 -- Which exits are behind a block's last text word.
-use Rattle.std.proofs.Common.{◌≡◌, ◌==◌, ℕ, ◌+◌, ◌-◌, ◌*◌, ◌/◌, ◌%◌, ◌<◌, Bool, true, false, not, ◌&&◌, Option, Some, List, length, slice_index, refl, sym, ap, subst, ◌∙◌, inl, inr, arith}
+use Rattle.std.proofs.Common.{◌≡◌, ◌==◌, ℕ, ◌+◌, ◌-◌, ◌*◌, ◌/◌, ◌%◌, ◌^◌, ◌<◌, ◌≤◌, Bool, true, false, not, ◌&&◌, Option, Some, List, length, slice_index, refl, sym, ap, subst, ◌∙◌, inl, inr, arith}
 use Rattle.std.proofs.lemmas.Bool.{false≢true, cases_Bool, eqb-true}
 use Rattle.swi_image.specs.Format.{ImageData}
 use Rattle.swi_image.specs.Place.{place_of, word_at}
+use Rattle.swi_image.specs.Sound.{IsImage}
+use Rattle.swi_image.specs.Laws.{place_inside}
 use Rattle.swi_outside.specs.CacheRam.{RamState}
+use Rattle.swi_rom.specs.Coherent.{Coherent}
 use Rattle.swi_rom.specs.Record.{Record, writes}
 use Rattle.swi_calls.specs.declared.machine.Machine.{Machine}
 use Rattle.swi_board.specs.declared.hart.Stage.{Stage}
@@ -13,7 +16,10 @@ use Rattle.swi_board.specs.declared.hart.Control.TheVariants.{At, Outside}
 use Rattle.swi_isa.specs.declared.instr.Instr.{Instr}
 use Rattle.swi_isa.specs.declared.instr.Instr.TheVariants as instr
 use Rattle.swi_exec.specs.Execute.{address_of}
-use Rattle.swi_board.specs.Hart.{Stepped, is_fall, is_place}
+use Rattle.swi_calls.specs.Flat.{quiet}
+use Rattle.swi_board.specs.declared.block.Walk.{Walk}
+use Rattle.swi_board.specs.Walked.{walk_machine}
+use Rattle.swi_board.specs.Hart.{Stepped, is_fall, is_place, left_made}
 use Rattle.swi_board.specs.Board.{Arrives, Jumps, JumpsBy}
 use Rattle.swi_board.specs.Leaving.{ExitHome, PlacedAt, LeaveAt, RamServed, fell, is_back}
 
@@ -23,6 +29,31 @@ back_is v r t (At i b' o' Low) b o at = absurd at
 back_is v r t (At i b' o' Return) b o at = absurd at
 back_is v r t (At i b' o' Leave) b o at = absurd at
 back_is v r t Outside b o at = ap (λ (p : Option (ℕ × ℕ)). is_place p b o) at
+
+-- at a target's place control is at a first word
+pub at_start : (v : ImageData) (r : Record) (t : ℕ) (c : Control) (i b o : ℕ) (stage : Stage) → c ≡ At i b o stage → Arrives v r t c → Arrives v r t (At i b o Start)
+at_start v r t c i b o stage is at = by stage (subst (λ (k : Control). Arrives v r t k) is at)
+  where
+    by : (s : Stage) → Arrives v r t (At i b o s) → Arrives v r t (At i b o Start)
+    by Start a = a
+    by Low a = absurd a
+    by Return a = absurd a
+    by Leave a = absurd a
+
+-- and at an offset within the ram
+pub landed_small : (v : ImageData) (r : Record) (span : ℕ) (words : List ℕ) (t : ℕ) (i b o : ℕ) (stage : Stage) → Coherent v r span words → IsImage v → span ≤ 2 ^ 21 → Arrives v r t (At i b o stage) → o < 2 ^ 22
+landed_small v r span words t i b o stage coherent image low at =
+    let start = at_start v r t (At i b o stage) i b o stage refl at in
+    let end = coherent.inside b start.0.0 start.0.1 in
+    let inside = place_inside v image t b o start.1 in
+    omega (arith, end, inside.1, low)
+
+-- what a link that is gone over leaves of a machine
+pub over_link : (fall : Bool) (m : Machine) (w : Walk) (t : ℕ) (input : List ℕ) → fall ≡ false → quiet (record m { pc = t; steps = w.steps + 1 }) input ≡ left_made fall (walk_machine w m) t input
+over_link fall m w t input is = rw is refl
+
+pub over_fall : (fall : Bool) (m : Machine) (w : Walk) (t : ℕ) (input : List ℕ) → fall ≡ true → quiet (walk_machine w m) input ≡ left_made fall (walk_machine w m) t input
+over_fall fall m w t input is = rw is refl
 
 pub fell_is : (v : ImageData) (new : Record) (m : Machine) (b o : ℕ) (stage : Stage) (t : ℕ) (c : Control) → t ≡ word_at v b (o + 1) → ExitHome v m b o stage → Arrives v new t c → fell stage m.pc t c b o ≡ is_fall v m b o stage
 fell_is v new m b o Low t c is home at = refl

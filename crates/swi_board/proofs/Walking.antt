@@ -1,97 +1,122 @@
--- One step more within a block.
-use Rattle.std.proofs.Common.{◌≡◌, ℕ, ◌+◌, ◌-◌, ◌^◌, ◌<◌, ◌≤◌, max, false, List, slice_index, Option, Some, None, refl, ap, ◌∙◌, arith}
+-- One step more of a walk.
+use Rattle.std.proofs.Common.{◌≡◌, ◌⊎◌, ℕ, ◌+◌, ◌-◌, ◌%◌, ◌^◌, ◌<◌, ◌≤◌, max, true, false, List, slice_index, Option, Some, None, refl, sym, ap, subst, ◌∙◌, inl, inr, arith}
 use Rattle.swi_isa.specs.declared.instr.Instr.{Instr}
+use Rattle.swi_isa.specs.declared.instr.Instr.TheVariants as instr
 use Rattle.swi_isa.specs.Decode.{decoded}
+use Rattle.swi_isa.specs.Laws.{ebreak_decodes}
 use Rattle.swi_exec.specs.Arithmetic.{sum_of}
 use Rattle.swi_exec.specs.Registers.{Registers}
-use Rattle.swi_memory.specs.Bus.{AreaData}
+use Rattle.swi_memory.specs.Bus.{AreaData, fetched}
 use Rattle.swi_outside.specs.Causes.{counted}
 use Rattle.swi_outside.specs.CacheRam.{RamState}
 use Rattle.swi_calls.specs.declared.machine.Machine.{Machine}
 use Rattle.swi_calls.specs.Flat.{quiet}
+use Rattle.swi_image.specs.Format.{ImageData}
+use Rattle.swi_image.specs.Place.{place_of, word_at}
+use Rattle.swi_render.specs.Rendering.{ebreak}
+use Rattle.swi_rom.specs.Record.{Record}
 use Rattle.swi_board.specs.declared.hart.Stage.{Stage}
-use Rattle.swi_board.specs.declared.hart.Stage.TheVariants.{Start, Leave}
+use Rattle.swi_board.specs.declared.hart.Stage.TheVariants.{Start, Low, Return, Leave}
 use Rattle.swi_board.specs.declared.hart.Control.{Control}
 use Rattle.swi_board.specs.declared.hart.Control.TheVariants.{At}
 use Rattle.swi_board.specs.declared.block.Next.{Next}
 use Rattle.swi_board.specs.declared.block.Next.TheVariants as next
-use Rattle.swi_board.specs.Hart.{HartData, stepped, word_stepped, original}
-use Rattle.swi_board.specs.Leaving.{leaves, quick_role}
-use Rattle.swi_board.specs.Walked.{is_return, is_stop, role_by, went, WalkedOn, Walked}
+use Rattle.swi_board.specs.declared.block.Walk.{Walk}
+use Rattle.swi_board.specs.Hart.{HartData, stepped, word_stepped, original, instruction, is_fall, is_place}
+use Rattle.swi_board.specs.Leaving.{ExitHome, leaves, quick_role}
+use Rattle.swi_board.specs.Walked.{is_stop, role_by, went, gone, walk_offset, walk_control, walk_machine, WordOn, StepOn, WalkedOn, Walked}
 
--- index, stage, pc and steps behind a word, by where control goes
-abbrev pub Moves : Next → ℕ → ℕ → ℕ → ℕ → Stage → ℕ → ℕ → Type 0
-Moves next.On i pc steps i' stage' pc' steps' = (i' ≡ i + 1) × (stage' ≡ Start) × (pc' ≡ sum_of pc 4) × (steps' ≡ steps + 1)
-Moves next.Over i pc steps i' stage' pc' steps' = (i' ≡ i + 3) × (stage' ≡ Start) × (pc' ≡ sum_of pc 4) × (steps' ≡ steps + 1)
-Moves next.Exit i pc steps i' stage' pc' steps' = (i' ≡ i + 1) × (stage' ≡ Leave) × (pc' ≡ pc) × (steps' ≡ steps)
-Moves next.Stop i pc steps i' stage' pc' steps' = ⊥
+moves_to : (n : Next) (w : Walk) (m : Machine) (input : List ℕ) → is_stop n ≡ false → w.from ≤ w.index →
+    went n w.index w.block (walk_offset w) (walk_machine w m) input ≡ stepped (walk_control (gone n w)) (quiet (walk_machine (gone n w) m) input)
+moves_to next.On w m input goes le =
+    let off : walk_offset w + 1 ≡ w.offset + (w.index + 1 - w.from) = omega arith in
+    ap (λ k. stepped (At (w.index + 1) w.block k Start) (quiet (record m { pc = sum_of w.pc 4; steps = w.steps + 1 }) input)) off
+moves_to next.Over w m input goes le =
+    let off : walk_offset w + 3 ≡ w.offset + (w.index + 3 - w.from) = omega arith in
+    ap (λ k. stepped (At (w.index + 3) w.block k Start) (quiet (record m { pc = sum_of w.pc 4; steps = w.steps + 1 }) input)) off
+moves_to (next.Lead stage) w m input goes le =
+    let off : walk_offset w + 1 ≡ w.offset + (w.index + 1 - w.from) = omega arith in
+    ap (λ k. stepped (At (w.index + 1) w.block k stage) (quiet (walk_machine w m) input)) off
+moves_to next.Exit w m input goes le =
+    let off : walk_offset w + 1 ≡ w.offset + (w.index + 1 - w.from) = omega arith in
+    ap (λ k. stepped (At (w.index + 1) w.block k Leave) (quiet (walk_machine w m) input)) off
+moves_to next.Stop w m input goes le = absurd (cc)
 
-moves_to : (n : Next) (m : Machine) (b i0 o0 i pc steps i' : ℕ) (stage' : Stage) (pc' steps' : ℕ) (input : List ℕ) → Moves n i pc steps i' stage' pc' steps' → i0 ≤ i →
-    went n i b (o0 + (i - i0)) (record m { pc = pc; steps = steps }) input ≡ stepped (At i' b (o0 + (i' - i0)) stage') (quiet (record m { pc = pc'; steps = steps' }) input)
-moves_to next.On m b i0 o0 i pc steps i' stage' pc' steps' input (e, s, p, t) le =
-    let off : o0 + (i - i0) + 1 ≡ o0 + (i + 1 - i0) = omega arith in
-    rw (e, s, p, t, off) refl
-moves_to next.Over m b i0 o0 i pc steps i' stage' pc' steps' input (e, s, p, t) le =
-    let off : o0 + (i - i0) + 3 ≡ o0 + (i + 3 - i0) = omega arith in
-    rw (e, s, p, t, off) refl
-moves_to next.Exit m b i0 o0 i pc steps i' stage' pc' steps' input (e, s, p, t) le =
-    let off : o0 + (i - i0) + 1 ≡ o0 + (i + 1 - i0) = omega arith in
-    rw (e, s, p, t, off) refl
-moves_to next.Stop m b i0 o0 i pc steps i' stage' pc' steps' input none le = absurd none
+pub gone_ahead : (n : Next) (w : Walk) → w.from ≤ w.index → (gone n w).from ≤ (gone n w).index
+gone_ahead next.On w le = omega arith
+gone_ahead next.Over w le = omega arith
+gone_ahead (next.Lead stage) w le = omega arith
+gone_ahead next.Exit w le = omega arith
+gone_ahead next.Stop w le = le
 
-pub moves_going : (n : Next) (i pc steps i' : ℕ) (stage' : Stage) (pc' steps' : ℕ) → Moves n i pc steps i' stage' pc' steps' → is_stop n ≡ false
-moves_going next.On i pc steps i' stage' pc' steps' m = refl
-moves_going next.Over i pc steps i' stage' pc' steps' m = refl
-moves_going next.Exit i pc steps i' stage' pc' steps' m = refl
-moves_going next.Stop i pc steps i' stage' pc' steps' m = absurd m
+pub gone_near : (n : Next) (w : Walk) → w.from ≤ w.index → walk_offset (gone n w) ≤ walk_offset w + 3
+gone_near next.On w le = omega arith
+gone_near next.Over w le = omega arith
+gone_near (next.Lead stage) w le = omega arith
+gone_near next.Exit w le = omega arith
+gone_near next.Stop w le = omega arith
 
-pub moves_plain : (n : Next) (i pc steps i' : ℕ) (stage' : Stage) (pc' steps' : ℕ) → Moves n i pc steps i' stage' pc' steps' → is_return stage' ≡ false
-moves_plain next.On i pc steps i' stage' pc' steps' m = ap is_return m.1
-moves_plain next.Over i pc steps i' stage' pc' steps' m = ap is_return m.1
-moves_plain next.Exit i pc steps i' stage' pc' steps' m = ap is_return m.1
-moves_plain next.Stop i pc steps i' stage' pc' steps' m = absurd m
+pub gone_short : (n : Next) (w : Walk) → w.pc < 2 ^ 32 → (gone n w).pc < 2 ^ 32
+gone_short next.On w low = omega arith
+gone_short next.Over w low = omega arith
+gone_short (next.Lead stage) w low = low
+gone_short next.Exit w low = low
+gone_short next.Stop w low = low
 
-pub moves_ahead : (n : Next) (i pc steps i' : ℕ) (stage' : Stage) (pc' steps' : ℕ) → Moves n i pc steps i' stage' pc' steps' → (i < i') × (i' ≤ i + 3) × (steps ≤ steps')
-moves_ahead next.On i pc steps i' stage' pc' steps' m = let e = m.0 in let t = m.3 in (omega arith, omega arith, omega arith)
-moves_ahead next.Over i pc steps i' stage' pc' steps' m = let e = m.0 in let t = m.3 in (omega arith, omega arith, omega arith)
-moves_ahead next.Exit i pc steps i' stage' pc' steps' m = let e = m.0 in let t = m.3 in (omega arith, omega arith, omega arith)
-moves_ahead next.Stop i pc steps i' stage' pc' steps' m = absurd m
+-- a word that was executed
+pub word_on : (n : Next) (w : Walk) (m : Machine) (regs : Registers) (bus : List AreaData) (x : Instr) → is_stop n ≡ false → w.from ≤ w.index → m.ending ≡ None → leaves x ≡ false →
+    quick_role w.stage x (instruction (fetched m.bus w.pc)) ≡ role_by n →
+    ((k : Machine) (b o : ℕ) (input : List ℕ) → k.ending ≡ None → word_stepped (role_by n) w.index b o w.stage (record k { regs = m.regs; bus = m.bus }) x input ≡ went n w.index b o (record k { regs = regs; bus = bus }) input) →
+    WordOn (walk_machine w m) (walk_machine (gone n w) (record m { regs = regs; bus = bus })) (walk_control (gone n w)) x w.index w.block (walk_offset w) w.stage
+word_on n w m regs bus x goes ahead going stays role steps = record {
+  stays = stays;
+  step = λ input. ap (λ k. word_stepped k w.index w.block (walk_offset w) w.stage (walk_machine w m) x input) role ∙ steps (walk_machine w m) w.block (walk_offset w) input going
+      ∙ moves_to n w (record m { regs = regs; bus = bus }) input goes ahead;
+}
 
-pub moves_short : (n : Next) (i pc steps i' : ℕ) (stage' : Stage) (pc' steps' : ℕ) → Moves n i pc steps i' stage' pc' steps' → pc < 2 ^ 32 → pc' < 2 ^ 32
-moves_short next.On i pc steps i' stage' pc' steps' m low = let e = m.2 in omega arith
-moves_short next.Over i pc steps i' stage' pc' steps' m low = let e = m.2 in omega arith
-moves_short next.Exit i pc steps i' stage' pc' steps' m low = let e = m.2 in omega arith
-moves_short next.Stop i pc steps i' stage' pc' steps' m low = absurd m
+-- a JAL is no EBREAK
+pub jal_links : (got rd off : ℕ) (x : Instr) → Some x ≡ decoded got → x ≡ instr.Jal rd off → got ≡ ebreak → ⊥
+jal_links got rd off x decodes jal is =
+    let two : Some (instr.Jal rd off) ≡ Some instr.Ebreak = ap (λ k. Some k) (sym jal) ∙ decodes ∙ ap decoded is ∙ ebreak_decodes in
+    cc
 
--- the step is one more of those within the block
-pub walks : (limit : ℕ) (h0 h : HartData) (ram0 ram ram' : RamState) (b i0 o0 i : ℕ) (stage : Stage) (x : Instr) (got : ℕ) (n : Next) (regs : Registers) (bus : List AreaData) (i' : ℕ) (stage' : Stage) (pc' steps' : ℕ) →
-    Walked limit h0 ram0 (record h { control = At i b (o0 + (i - i0)) stage }) ram → h.machine.steps < limit → is_return stage ≡ false → h.machine.ending ≡ None → i0 ≤ i → pc' < 2 ^ 32 →
-    (got ≡ slice_index ram.words i) × (ram' ≡ record ram { fetches = counted ram.fetches; reach = max ram.reach (i + 1); last = i }) → Some x ≡ decoded got → Moves n i h.machine.pc h.machine.steps i' stage' pc' steps' →
-    (is_stop n ≡ false → leaves x ≡ false) → (is_stop n ≡ false → (s : Stage) (y : Option Instr) → is_return s ≡ false → quick_role s x y ≡ role_by n) →
-    (is_stop n ≡ false → (m : Machine) (b' o' : ℕ) (s : Stage) (input : List ℕ) → m.ending ≡ None → word_stepped (role_by n) i b' o' s (record m { regs = h.machine.regs; bus = h.machine.bus }) x input ≡ went n i b' o' (record m { regs = regs; bus = bus }) input) →
-    Walked limit h0 ram0 (record h { control = At i' b (o0 + (i' - i0)) stage'; machine = record h.machine { pc = pc'; regs = regs; bus = bus; steps = steps' }; count = h.count + 1 }) ram'
-walks limit h0 h ram0 ram ram' b i0 o0 i stage x got n regs bus i' stage' pc' steps' walked below plain going ahead short fetched decodes moves stays role steps =
-    let h1 : HartData = record h { control = At i b (o0 + (i - i0)) stage } in
-    let h2 : HartData = record h { control = At i' b (o0 + (i' - i0)) stage'; machine = record h.machine { pc = pc'; regs = regs; bus = bus; steps = steps' }; count = h.count + 1 } in
-    let goes = moves_going n i h.machine.pc h.machine.steps i' stage' pc' steps' moves in
-    let one : WalkedOn ram ram' h1 h2 = record {
-      index = i;
-      block = b;
-      offset = o0 + (i - i0);
-      stage = stage;
-      control = refl;
-      fetched = fetched.1;
-      instruction = x;
-      is = decodes ∙ ap decoded fetched.0;
-      stays = stays goes;
-      step = λ input. ap (λ k. word_stepped k i b (o0 + (i - i0)) stage h.machine x input) (role goes stage (original h.machine) plain) ∙ steps goes h.machine b (o0 + (i - i0)) stage input going
-          ∙ moves_to n (record h.machine { regs = regs; bus = bus }) b i0 o0 i h.machine.pc h.machine.steps i' stage' pc' steps' input moves ahead;
-      is_counted = record { count = refl; failed = refl; booted = refl };
-      going = going;
-      short = short;
-    } in
-    Walked.on h1 h2 ram ram' walked below one
+-- what an exit is depends on the machine's pc alone
+pub exit_by_pc : (v : ImageData) (m m' : Machine) (b o : ℕ) (stage : Stage) → m'.pc ≡ m.pc → ExitHome v m b o stage → ExitHome v m' b o stage
+exit_by_pc v m m' b o stage is e = record {
+  is_exit = e.is_exit;
+  inside = e.inside;
+  jalr = e.jalr;
+  falls = λ falls. e.falls (sym (same stage) ∙ falls) ∙ sym is;
+}
+  where
+    same : (s : Stage) → is_fall v m' b o s ≡ is_fall v m b o s
+    same Start = ap (λ k. is_fall v (record m { pc = k }) b o Start) is
+    same Low = refl
+    same Return = refl
+    same Leave = refl
+
+-- a step of the loop is one more
+pub steps_on : (v : ImageData) (r : Record) (h h' : HartData) (ram ram' : RamState) (w w' : Walk) (x : Instr) (got : ℕ) →
+    h.control ≡ walk_control w → h'.control ≡ walk_control w' → h.machine ≡ walk_machine w h.machine → h'.machine ≡ walk_machine w' h'.machine → h'.count ≡ h.count + 1 → h'.failed ≡ h.failed → h'.booted ≡ h.booted →
+    h'.machine.ending ≡ None → w'.pc < 2 ^ 32 → (got ≡ slice_index ram.words w.index) × (ram' ≡ record ram { fetches = counted ram.fetches; reach = max ram.reach (w.index + 1); last = w.index }) → Some x ≡ decoded got →
+    StepOn v r h.machine h'.machine (walk_control w') x got w.index w.block (walk_offset w) w.stage → WalkedOn v r ram ram' h h'
+steps_on v r h h' ram ram' w w' x got at to seen seen' count failed booted going short fetch decodes step = record {
+  index = w.index;
+  block = w.block;
+  offset = walk_offset w;
+  stage = w.stage;
+  control = at;
+  fetched = fetch.1;
+  instruction = x;
+  is = decodes ∙ ap decoded fetch.0;
+  step = subst (λ k. StepOn v r h.machine h'.machine h'.control x k w.index w.block (walk_offset w) w.stage) fetch.0
+      (subst (λ (k : Control). StepOn v r h.machine h'.machine k x got w.index w.block (walk_offset w) w.stage) (sym to) step);
+  is_counted = record { count = count; failed = failed; booted = booted };
+  going = going;
+  short = subst (λ (k : Machine). k.pc < 2 ^ 32) (sym seen') short;
+}
 
 -- before the first
-pub started : (limit : ℕ) (h h' : HartData) (c : Control) (ram : RamState) → c ≡ h.control → h' ≡ h → Walked limit h ram (record h { control = c; machine = h'.machine; count = h'.count }) ram
-started limit h h' c ram place same = rw (place, same) Walked.here
+pub started : (v : ImageData) (r : Record) (limit : ℕ) (h : HartData) (c : Control) (pc steps count : ℕ) (ram : RamState) → c ≡ h.control → pc ≡ h.machine.pc → steps ≡ h.machine.steps → count ≡ h.count →
+    Walked v r limit h ram (record h { control = c; machine = record h.machine { pc = pc; steps = steps }; count = count }) ram
+started v r limit h c pc steps count ram place from made number = rw (place, from, made, number) Walked.here

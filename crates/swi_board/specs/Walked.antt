@@ -1,32 +1,34 @@
--- Steps that stay in their block: words that are no exit, ask for no device and don't end the run. Own rule.
-use Rattle.std.specs.Prelude.{◌≡◌, ℕ, ◌+◌, ◌^◌, ◌<◌, ◌≤◌, max, Bool, true, false, List, length, slice_index, Option, Some, None, Result, Ok, Err}
+-- Steps that ask neither the service nor a device and don't end the run: words that stay in their block, and links. Own rule.
+use Rattle.std.specs.Prelude.{◌≡◌, ◌⊎◌, ℕ, ◌+◌, ◌-◌, ◌%◌, ◌^◌, ◌<◌, ◌≤◌, max, Bool, true, false, List, length, slice_index, Option, Some, None, Result, Ok, Err}
 use Rattle.swi_isa.specs.declared.instr.Instr.{Instr}
 use Rattle.swi_isa.specs.Decode.{decoded}
 use Rattle.swi_exec.specs.Arithmetic.{sum_of}
+use Rattle.swi_image.specs.Format.{ImageData}
+use Rattle.swi_image.specs.Place.{word_at}
+use Rattle.swi_render.specs.Rendering.{ebreak}
+use Rattle.swi_rom.specs.Record.{Record}
 use Rattle.swi_outside.specs.Causes.{Rose, counted}
 use Rattle.swi_outside.specs.CacheRam.{RamState}
 use Rattle.swi_calls.specs.declared.machine.Machine.{Machine}
 use Rattle.swi_calls.specs.Flat.{quiet}
 use Rattle.swi_board.specs.declared.hart.Stage.{Stage}
-use Rattle.swi_board.specs.declared.hart.Stage.TheVariants.{Start, Low, Return, Leave}
+use Rattle.swi_board.specs.declared.hart.Stage.TheVariants.{Start, Leave}
+use Rattle.swi_board.specs.declared.hart.Control.{Control}
 use Rattle.swi_board.specs.declared.hart.Control.TheVariants.{At}
 use Rattle.swi_board.specs.declared.hart.Role.{Role}
-use Rattle.swi_board.specs.declared.hart.Role.TheVariants.{Whole, Over}
+use Rattle.swi_board.specs.declared.hart.Role.TheVariants.{Lead, Whole, Over}
+use Rattle.swi_board.specs.declared.hart.ExitKind.TheVariants.{Direct}
+use Rattle.swi_board.specs.declared.block.Walk.{Walk}
 use Rattle.swi_board.specs.declared.block.Next.{Next}
 use Rattle.swi_board.specs.declared.block.Next.TheVariants as next
 use Rattle.swi_board.specs.Hart.{HartData, Stepped, stepped, word_stepped, original}
-use Rattle.swi_board.specs.Leaving.{Counted, leaves, quick_role, step_to}
-
--- the ADDI of a return address leads to an exit, and else no ADDI does
-abbrev pub is_return : Stage → Bool
-is_return Start = false
-is_return Low = false
-is_return Return = true
-is_return Leave = false
+use Rattle.swi_board.specs.Board.{ExitStep}
+use Rattle.swi_board.specs.Leaving.{Home, Counted, leaves, quick_role}
 
 abbrev pub is_stop : Next → Bool
 is_stop next.On = false
 is_stop next.Over = false
+is_stop (next.Lead stage) = false
 is_stop next.Exit = false
 is_stop next.Stop = true
 
@@ -34,6 +36,7 @@ is_stop next.Stop = true
 abbrev pub role_by : Next → Role
 role_by next.On = Whole
 role_by next.Over = Over
+role_by (next.Lead stage) = Lead stage
 role_by next.Exit = Over
 role_by next.Stop = Whole
 
@@ -41,11 +44,44 @@ role_by next.Stop = Whole
 abbrev pub went : Next → ℕ → ℕ → ℕ → Machine → List ℕ → Stepped
 went next.On i b o m input = stepped (At (i + 1) b (o + 1) Start) (quiet (record m { pc = sum_of m.pc 4; steps = m.steps + 1 }) input)
 went next.Over i b o m input = stepped (At (i + 3) b (o + 3) Start) (quiet (record m { pc = sum_of m.pc 4; steps = m.steps + 1 }) input)
+went (next.Lead stage) i b o m input = stepped (At (i + 1) b (o + 1) stage) (quiet m input)
 went next.Exit i b o m input = stepped (At (i + 1) b (o + 1) Leave) (quiet m input)
 went next.Stop i b o m input = stepped (At i b o Start) (quiet m input)
 
+-- control where a walk has come, and the machine there, of which the walk has pc and steps
+abbrev pub walk_offset : Walk → ℕ
+walk_offset w = w.offset + (w.index - w.from)
+
+abbrev pub walk_control : Walk → Control
+walk_control w = At w.index w.block (walk_offset w) w.stage
+
+abbrev pub walk_machine : Walk → Machine → Machine
+walk_machine w m = record m { pc = w.pc; steps = w.steps }
+
+-- the walk behind a word
+abbrev pub gone : Next → Walk → Walk
+gone next.On w = record w { index = w.index + 1; stage = Start; pc = sum_of w.pc 4; steps = w.steps + 1 }
+gone next.Over w = record w { index = w.index + 3; stage = Start; pc = sum_of w.pc 4; steps = w.steps + 1 }
+gone (next.Lead stage) w = record w { index = w.index + 1; stage = stage }
+gone next.Exit w = record w { index = w.index + 1; stage = Leave }
+gone next.Stop w = w
+
+-- a step at a word that stays in its block, and one over a link, which the service doesn't see
+pub record WordOn (m m' : Machine) (c : Control) (x : Instr) (index block offset : ℕ) (stage : Stage) : Type 0 where
+  pub stays : leaves x ≡ false
+  pub step : (input : List ℕ) → word_stepped (quick_role stage x (original m)) index block offset stage m x input ≡ stepped c (quiet m' input)
+
+pub record LinkOn (v : ImageData) (r : Record) (m m' : Machine) (c : Control) (x : Instr) (w index block offset : ℕ) (stage : Stage) : Type 0 where
+  pub leaving : leaves x ≡ true
+  pub linked : w ≡ ebreak → ⊥
+  pub is_direct : word_at v block (offset + 1) % 4 ≡ 0
+  pub step : (input : List ℕ) → ExitStep Direct v r m (stepped c (quiet m' input)) input index block offset stage
+
+abbrev pub StepOn : ImageData → Record → Machine → Machine → Control → Instr → ℕ → ℕ → ℕ → ℕ → Stage → Type 0
+StepOn v r m m' c x w index block offset stage = WordOn m m' c x index block offset stage ⊎ LinkOn v r m m' c x w index block offset stage
+
 -- one such step
-pub record WalkedOn (before after : RamState) (h h' : HartData) : Type 0 where
+pub record WalkedOn (v : ImageData) (r : Record) (before after : RamState) (h h' : HartData) : Type 0 where
   pub index : ℕ
   pub block : ℕ
   pub offset : ℕ
@@ -54,19 +90,19 @@ pub record WalkedOn (before after : RamState) (h h' : HartData) : Type 0 where
   pub fetched : after ≡ record before { fetches = counted before.fetches; reach = max before.reach (index + 1); last = index }
   pub instruction : Instr
   pub is : Some instruction ≡ decoded (slice_index before.words index)
-  pub stays : leaves instruction ≡ false
-  pub step : (input : List ℕ) → word_stepped (quick_role stage instruction (original h.machine)) index block offset stage h.machine instruction input ≡ step_to h' input
+  pub step : StepOn v r h.machine h'.machine h'.control instruction (slice_index before.words index) index block offset stage
   pub is_counted : Counted h h'
   pub going : h'.machine.ending ≡ None
   pub short : h'.machine.pc < 2 ^ 32
 
 -- and any number of them, each from below the limit of steps
-pub data Walked (limit : ℕ) (h : HartData) (ram : RamState) : HartData → RamState → Type 0 where
-  here : Walked limit h ram h ram
-  on : (h1 h2 : HartData) (ram1 ram2 : RamState) → Walked limit h ram h1 ram1 → h1.machine.steps < limit → WalkedOn ram1 ram2 h1 h2 → Walked limit h ram h2 ram2
+pub data Walked (v : ImageData) (r : Record) (limit : ℕ) (h : HartData) (ram : RamState) : HartData → RamState → Type 0 where
+  here : Walked v r limit h ram h ram
+  on : (h1 h2 : HartData) (ram1 ram2 : RamState) → Walked v r limit h ram h1 ram1 → h1.machine.steps < limit → WalkedOn v r ram1 ram2 h1 h2 → Walked v r limit h ram h2 ram2
 
 -- what is known of each word that they come to
-pub record StandsInside (ram : RamState) (h : HartData) (i o : ℕ) : Type 0 where
+pub record StandsInside (v : ImageData) (r : Record) (ram : RamState) (h : HartData) (i b o : ℕ) (stage : Stage) : Type 0 where
+  pub home : Home v r h.machine i b o stage
   pub in_ram : i < length ram.words
   pub decodes : None ≡ decoded (slice_index ram.words i) → ⊥
   pub index : i < 2 ^ 22
@@ -81,9 +117,9 @@ Answered None old i new = Rose old.faults new.faults × (old.faults ≤ new.faul
     × (new ≡ record old { faults = new.faults; reach = max old.reach (i + 1) })
 
 -- the steps ended before a word, whose fetch answered so
-pub record StoppedAt (got : Option ℕ) (limit : ℕ) (h : HartData) (ram : RamState) (h' : HartData) (ram' : RamState) : Type 0 where
+pub record StoppedAt (v : ImageData) (r : Record) (got : Option ℕ) (limit : ℕ) (h : HartData) (ram : RamState) (h' : HartData) (ram' : RamState) : Type 0 where
   pub before : RamState
-  pub walked : Walked limit h ram h' before
+  pub walked : Walked v r limit h ram h' before
   pub below : h'.machine.steps < limit
   pub index : ℕ
   pub block : ℕ
@@ -93,7 +129,7 @@ pub record StoppedAt (got : Option ℕ) (limit : ℕ) (h : HartData) (ram : RamS
   pub answered : Answered got before index ram'
 
 -- how they ended: at the limit, or before a word
-abbrev pub BlockRan : {E : Type 0} → Result (Option ℕ) E → ℕ → HartData → RamState → HartData → RamState → Type 0
-BlockRan (Ok None) limit h ram h' ram' = Walked limit h ram h' ram' × (limit ≤ h'.machine.steps)
-BlockRan (Ok (Some w)) limit h ram h' ram' = StoppedAt (Some w) limit h ram h' ram'
-BlockRan (Err e) limit h ram h' ram' = StoppedAt None limit h ram h' ram'
+abbrev pub BlockRan : {E : Type 0} → ImageData → Record → Result (Option ℕ) E → ℕ → HartData → RamState → HartData → RamState → Type 0
+BlockRan v r (Ok None) limit h ram h' ram' = Walked v r limit h ram h' ram' × (limit ≤ h'.machine.steps)
+BlockRan v r (Ok (Some w)) limit h ram h' ram' = StoppedAt v r (Some w) limit h ram h' ram'
+BlockRan v r (Err e) limit h ram h' ram' = StoppedAt v r None limit h ram h' ram'

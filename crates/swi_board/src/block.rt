@@ -1,20 +1,30 @@
-//! Steps that stay in their block.
+//! Steps that ask neither the service nor a device.
 #![tactic(auto)]
 
-ghost use Rattle.std.specs.Prelude.{◌≡◌, ◌+◌, ◌^◌, ◌<◌, ◌≤◌, ℕ, List, Option, IfSome, None, Some, false, true};
+ghost use Rattle.std.specs.Prelude.{◌≡◌, ◌+◌, ◌-◌, ◌*◌, ◌%◌, ◌^◌, ◌<◌, ◌≤◌, ℕ, List, Option, IfSome, length, slice_index, if◌then◌else◌, None, Some, false, true};
 ghost use Rattle.swi_outside.specs.CacheRam.{RamState};
+ghost use Rattle.swi_memory.specs.Bus.{fetched};
 ghost use Rattle.swi_calls.specs.declared.machine.Machine.{Machine};
-ghost use Rattle.swi_isa.specs.declared.instr.Instr.{Instr as AnyInstr};
-ghost use Rattle.swi_board.specs.Hart.{HartData, word_stepped};
-ghost use Rattle.swi_board.specs.Leaving.{leaves, quick_role};
-ghost use Rattle.swi_board.specs.Walked.{is_return, is_stop, role_by, went, Walked, StandsInside, BlockRan};
+ghost use Rattle.swi_calls.specs.Flat.{quiet};
+ghost use Rattle.swi_isa.specs.Decode.{decoded};
+ghost use Rattle.swi_image.specs.Place.{length_at, word_at};
+ghost use Rattle.swi_render.specs.Rendering.{ebreak};
+ghost use Rattle.swi_board.specs.Hart.{HartData, instruction, stepped, word_stepped};
+ghost use Rattle.swi_board.specs.Board.{ExitStep};
+ghost use Rattle.swi_board.specs.Leaving.{Home, ExitHome, PlacedAt, immediate_quick, leaves, offset_of, quick_role};
+ghost use Rattle.swi_board.specs.Runs.{most};
+ghost use Rattle.swi_board.specs.Walked.{is_stop, role_by, went, gone, walk_offset, walk_control, walk_machine, StepOn, Walked, WalkedOn, StandsInside, BlockRan};
 
-use crate::hart::{Control, Hart, Stage};
+use crate::exit::{control_at, fell, jump_index};
+use crate::hart::{Control, ExitKind, Hart, Role, Stage};
+use crate::step::upper_role;
 use swi_calls::text_store;
 use swi_exec::{Done, Regs, exec};
-use swi_isa::{Instr, decode};
+use swi_image::ImageView;
+use swi_isa::{ImmOp, Instr, decode};
 use swi_memory::Bus;
 use swi_outside::{CacheRam, Failed};
+use swi_rom::CacheRom;
 
 /// Where control goes from a word.
 #[derive(Clone, Copy, Debug, PartialEq, Eq)]
@@ -23,23 +33,96 @@ pub enum Next {
     On,
     /// Over the exit behind the word.
     Over,
+    /// To the next word, of the same instruction.
+    Lead(Stage),
     /// To the exit behind the word.
     Exit,
     /// Nowhere: the word was not executed.
     Stop,
 }
 
+/// Where steps have come: the word under control with its stage, pc and steps, and the place in a block from which they
+/// came there word by word, with its index.
+#[derive(Clone, Copy, Debug, PartialEq, Eq)]
+pub struct Walk {
+    pub index: u32,
+    pub stage: Stage,
+    pub pc: u32,
+    pub steps: u64,
+    pub from: u32,
+    pub block: u32,
+    pub offset: u32,
+}
+
+impl Walk {
+    /// Goes on behind a word.
+    #[inline(always)]
+    fn go(&mut self, next: Next)
+        requires small { self.old.index < 2 ^ 22 }
+        requires few { self.old.steps < 2 ^ 48 }
+        ensures { self.new ≡ gone next self.old }
+    {
+        match next {
+            Next::On => {
+                self.index += 1;
+                self.stage = Stage::Start;
+                self.pc = self.pc.wrapping_add(4);
+                self.steps += 1;
+            }
+            Next::Over => {
+                self.index += 3;
+                self.stage = Stage::Start;
+                self.pc = self.pc.wrapping_add(4);
+                self.steps += 1;
+            }
+            Next::Lead(stage) => {
+                self.index += 1;
+                self.stage = stage;
+            }
+            Next::Exit => {
+                self.index += 1;
+                self.stage = Stage::Leave;
+            }
+            Next::Stop => {}
+        }
+    }
+}
+
+/// Whether an immediate operation leads to the exit of its JAL.
+#[inline(always)]
+fn leads(stage: Stage, op: ImmOp) -> bool
+    ensures { immediate_quick stage op ≡ (if result then Role.Lead Stage.Leave else Role.Whole) }
+{
+    match stage {
+        Stage::Return => match op {
+            ImmOp::Addi => true,
+            _ => false,
+        },
+        Stage::Start | Stage::Low | Stage::Leave => false,
+    }
+}
+
+/// Whether control goes nowhere.
+#[inline(always)]
+fn is_stop(next: Next) -> bool
+    ensures { result ≡ is_stop next }
+{
+    match next {
+        Next::Stop => true,
+        Next::On | Next::Over | Next::Lead(_) | Next::Exit => false,
+    }
+}
+
 /// Executes a branch, or a word that only changes a register or stores outside the text. Each has its own `exec` right
 /// behind the decoder. Any other word, and one that faults, changes nothing.
 #[inline(always)]
-fn execute(index: u32, x: &Instr, regs: &mut Regs, bus: &mut Bus) -> Next
+fn execute(index: u32, stage: Stage, pc: u32, x: &Instr, regs: &mut Regs, bus: &mut Bus) -> Next
     requires small { index < 2 ^ 22 }
-    ensures step { is_stop result ≡ false → (m : Machine) (b o : ℕ) (stage : Stage) (input : List ℕ) →
+    ensures step { is_stop result ≡ false → (m : Machine) (b o : ℕ) (input : List ℕ) →
         m.ending ≡ None → word_stepped (role_by result) index b o stage
         (record m { regs = regs.old; bus = bus.old }) x.now input
         ≡ went result index b o (record m { regs = regs.new; bus = bus.new }) input }
-    ensures role { is_stop result ≡ false → (stage : Stage) (original : Option AnyInstr) → is_return stage ≡ false →
-        quick_role stage x.now original ≡ role_by result }
+    ensures role { is_stop result ≡ false → quick_role stage x.now (instruction (fetched bus.old pc)) ≡ role_by result }
     ensures stays { is_stop result ≡ false → leaves x.now ≡ false }
     ensures same_regs { is_stop result ≡ true → regs.new ≡ regs.old }
     ensures same_bus { is_stop result ≡ true → bus.new ≡ bus.old }
@@ -52,12 +135,31 @@ fn execute(index: u32, x: &Instr, regs: &mut Regs, bus: &mut Bus) -> Next
                 Next::Exit
             }
         }
-        Instr::Alu { .. } | Instr::Op { .. } | Instr::Load { .. } => {
-            match exec(x, 4 * index, regs, bus) {
+        Instr::Alu { op, .. } => match exec(x, 4 * index, regs, bus) {
+            Done::Next(_) => {
+                if leads(stage, op) {
+                    Next::Lead(Stage::Leave)
+                } else {
+                    Next::On
+                }
+            }
+            Done::Call | Done::Break | Done::Fault(_, _) => Next::Stop,
+        },
+        Instr::Op { .. } | Instr::Load { .. } => match exec(x, 4 * index, regs, bus) {
+            Done::Next(_) => Next::On,
+            Done::Call | Done::Break | Done::Fault(_, _) => Next::Stop,
+        },
+        Instr::Lui { .. } => match upper_role(bus, pc, stage) {
+            Role::Whole => match exec(x, 4 * index, regs, bus) {
                 Done::Next(_) => Next::On,
                 Done::Call | Done::Break | Done::Fault(_, _) => Next::Stop,
-            }
-        }
+            },
+            Role::Lead(next) => match exec(x, 4 * index, regs, bus) {
+                Done::Next(_) => Next::Lead(next),
+                Done::Call | Done::Break | Done::Fault(_, _) => Next::Stop,
+            },
+            Role::Over => Next::Stop,
+        },
         Instr::Store { .. } => {
             if text_store(x, regs, bus).is_some() {
                 return Next::Stop;
@@ -71,49 +173,163 @@ fn execute(index: u32, x: &Instr, regs: &mut Regs, bus: &mut Bus) -> Next
     }
 }
 
-/// Where steps within a block can begin: at a word of the ram that is not the ADDI of a return address.
+/// Goes over a link, to the place of its exit's target. A target whose place the service doesn't show is not gone to.
+#[inline(always)]
+fn follow<R: CacheRom, M: CacheRam>(
+    rom: &R,
+    image: &ImageView<'_>,
+    ram: &M,
+    got: u32,
+    off: u32,
+    walk: &mut Walk,
+) -> bool
+    requires sound { R.sound rom.now image.now (M.state ram.now).words }
+    requires got { got ≡ slice_index (M.state ram.now).words walk.old.index }
+    requires offset { off ≡ offset_of (decoded got) }
+    requires linked { got ≡ ebreak → ⊥ }
+    requires exit { (m : Machine) → m.pc ≡ walk.old.pc →
+        ExitHome image.now m walk.old.block (walk_offset walk.old) walk.old.stage }
+    requires placed { PlacedAt (R.kept rom.now) walk.old.index walk.old.block (walk_offset walk.old) }
+    requires block { walk.old.block < length image.now.starts }
+    requires inside { walk_offset walk.old + 1 < length_at image.now walk.old.block }
+    requires ahead { walk.old.from ≤ walk.old.index }
+    requires small { walk_offset walk.old < 2 ^ 22 }
+    requires few { walk.old.steps < 2 ^ 48 }
+    requires short { walk.old.pc < 2 ^ 32 }
+    ensures step { result ≡ true → (m : Machine) (input : List ℕ) →
+        ExitStep ExitKind.Direct image.now (R.kept rom.now) (walk_machine walk.old m)
+        (stepped (walk_control walk.new) (quiet (walk_machine walk.new m) input)) input
+        walk.old.index walk.old.block (walk_offset walk.old) walk.old.stage }
+    ensures direct { result ≡ true → word_at image.now walk.old.block (walk_offset walk.old + 1) % 4 ≡ 0 }
+    ensures ahead { walk.new.from ≤ walk.new.index }
+    ensures short { walk.new.pc < 2 ^ 32 }
+    ensures same { result ≡ false → walk.new ≡ walk.old }
+{
+    let offset = walk.offset + (walk.index - walk.from);
+    let target = image.word(walk.block, offset + 1);
+    if target % 4 != 0 {
+        return false;
+    }
+    let control = control_at(rom, jump_index(off, walk.index));
+    let Control::At(index, block, place, _) = control else {
+        return false;
+    };
+    if !fell(walk.stage, walk.pc, target, control, walk.block, offset) {
+        walk.pc = target;
+        walk.steps += 1;
+    }
+    walk.index = index;
+    walk.from = index;
+    walk.block = block;
+    walk.offset = place;
+    walk.stage = Stage::Start;
+    true
+}
+
+/// A step at a fetched word that asks neither the service nor a device. At any other word nothing changes.
+#[inline(always)]
+fn one<R: CacheRom, M: CacheRam>(
+    hart: &mut Hart,
+    rom: &R,
+    image: &ImageView<'_>,
+    ram: &M,
+    got: u32,
+    x: &Instr,
+    walk: &mut Walk,
+) -> bool
+    requires going { hart.old.machine.ending ≡ None }
+    requires sound { R.sound rom.now image.now (M.state ram.now).words }
+    requires got { got ≡ slice_index (M.state ram.now).words walk.old.index }
+    requires is { Some x.now ≡ decoded got }
+    requires home { Home image.now (R.kept rom.now) (walk_machine walk.old hart.old.machine) walk.old.index
+        walk.old.block (walk_offset walk.old) walk.old.stage }
+    requires ahead { walk.old.from ≤ walk.old.index }
+    requires index { walk.old.index < 2 ^ 22 }
+    requires small { walk_offset walk.old < 2 ^ 22 }
+    requires few { walk.old.steps < 2 ^ 48 }
+    requires short { walk.old.pc < 2 ^ 32 }
+    ensures on { result ≡ true → StepOn image.now (R.kept rom.now) (walk_machine walk.old hart.old.machine)
+        (walk_machine walk.new hart.new.machine) (walk_control walk.new) x.now got
+        walk.old.index walk.old.block (walk_offset walk.old) walk.old.stage }
+    ensures ahead { walk.new.from ≤ walk.new.index }
+    ensures short { walk.new.pc < 2 ^ 32 }
+    ensures near { walk_offset walk.new ≤ 2 ^ 22 + 2 }
+    ensures same { result ≡ false → (walk.new ≡ walk.old) × (hart.new ≡ hart.old) }
+    ensures rest { hart.new ≡ record hart.old {
+      machine = record hart.old.machine
+          { regs = hart.new.machine.regs; bus = hart.new.machine.bus };
+    } }
+{
+    match *x {
+        Instr::Jal { off, .. } => follow(rom, image, ram, got, off, walk),
+        _ => {
+            let next = execute(
+                walk.index,
+                walk.stage,
+                walk.pc,
+                x,
+                &mut hart.machine.regs,
+                &mut hart.machine.bus,
+            );
+            if is_stop(next) {
+                return false;
+            }
+            walk.go(next);
+            true
+        }
+    }
+}
+
+/// Where control is in the ram.
 #[inline(always)]
 pub(crate) fn block_place(hart: &Hart) -> Option<(u32, u32, u32, Stage)>
     ensures control { IfSome result (λ at. hart.now.control ≡ Control.At at.0 at.1 at.2 at.3) }
-    ensures plain { IfSome result (λ at. is_return at.3 ≡ false) }
 {
     match hart.control.control() {
-        Control::At(i, b, o, stage) => match stage {
-            Stage::Start | Stage::Low | Stage::Leave => Some((i, b, o, stage)),
-            Stage::Return => None,
-        },
+        Control::At(i, b, o, stage) => Some((i, b, o, stage)),
         Control::Outside => None,
     }
 }
 
-/// Steps up to `limit`, or to the first word that is not executed here, which is then fetched. Nothing but the words
-/// stands in this loop, so index, pc and counts stay in registers.
+/// Steps up to `limit`, or to the first word that is not executed here, which is then fetched. Nothing but words and
+/// links stands in this loop, so index, pc and counts stay in registers.
 #[inline(never)]
-pub(crate) fn run_block<M: CacheRam>(
+pub(crate) fn run_block<R: CacheRom, M: CacheRam>(
     hart: &mut Hart,
+    rom: &R,
+    image: &ImageView<'_>,
     ram: &mut M,
     limit: u64,
     at: (u32, u32, u32, Stage),
 ) -> Result<Option<u32>, Failed>
     requires going { hart.old.machine.ending ≡ None }
     requires control { hart.old.control ≡ Control.At at.0 at.1 at.2 at.3 }
-    requires stage { is_return at.3 ≡ false }
+    requires sound { R.sound rom.now image.now (M.state ram.old).words }
     requires few { limit ≤ 2 ^ 48 }
-    requires small { at.0 < 2 ^ 22 }
     requires offset { at.2 < 2 ^ 22 }
-    requires inside { (h : HartData) (r : RamState) → Walked limit hart.old (M.state ram.old) h r →
-        h.machine.steps < limit → (i b o : ℕ) (stage : Stage) → h.control ≡ Control.At i b o stage →
-        StandsInside r h i o }
-    ensures { BlockRan result limit hart.old (M.state ram.old) hart.new (M.state ram.new) }
+    requires short { hart.old.machine.pc < 2 ^ 32 }
+    requires inside { (h : HartData) (r : RamState) → Walked image.now (R.kept rom.now) limit hart.old
+        (M.state ram.old) h r → h.machine.steps < limit → (i b o : ℕ) (stage : Stage) → h.control ≡ Control.At i b o stage →
+        StandsInside image.now (R.kept rom.now) r h i b o stage }
+    requires rises { (h h' : HartData) (r r' : RamState) → Walked image.now (R.kept rom.now) limit hart.old
+        (M.state ram.old) h r → h.machine.steps < limit → WalkedOn image.now (R.kept rom.now) r r' h h' →
+        3 * limit + 5 - most image.now h'.machine h'.control < 3 * limit + 5 - most image.now h.machine h.control }
+    ensures { BlockRan image.now (R.kept rom.now) result limit hart.old (M.state ram.old)
+        hart.new (M.state ram.new) }
 {
-    let mut index = at.0;
-    let mut stage = at.3;
-    let mut pc = hart.machine.pc;
-    let mut steps = hart.machine.steps;
+    let mut walk = Walk {
+        index: at.0,
+        stage: at.3,
+        pc: hart.machine.pc,
+        steps: hart.machine.steps,
+        from: at.0,
+        block: at.1,
+        offset: at.2,
+    };
     let mut count = hart.count;
     let mut left = Ok(None);
-    while steps < limit {
-        let word = match ram.fetch(index) {
+    while walk.steps < limit {
+        let word = match ram.fetch(walk.index) {
             Ok(word) => word,
             Err(_) => {
                 left = Err(Failed);
@@ -123,33 +339,20 @@ pub(crate) fn run_block<M: CacheRam>(
         let Some(x) = decode(word) else {
             unreachable!()
         };
-        match execute(index, &x, &mut hart.machine.regs, &mut hart.machine.bus) {
-            Next::On => {
-                index += 1;
-                stage = Stage::Start;
-                pc = pc.wrapping_add(4);
-                steps += 1;
-            }
-            Next::Over => {
-                index += 3;
-                stage = Stage::Start;
-                pc = pc.wrapping_add(4);
-                steps += 1;
-            }
-            Next::Exit => {
-                index += 1;
-                stage = Stage::Leave;
-            }
-            Next::Stop => {
-                left = Ok(Some(word));
-                break;
-            }
+        if !one(hart, rom, image, ram, word, &x, &mut walk) {
+            left = Ok(Some(word));
+            break;
         }
         count += 1;
     }
-    hart.control.advance(at, index - at.0, stage);
-    hart.machine.pc = pc;
-    hart.machine.steps = steps;
+    hart.control.go(Control::At(
+        walk.index,
+        walk.block,
+        walk.offset + (walk.index - walk.from),
+        walk.stage,
+    ));
+    hart.machine.pc = walk.pc;
+    hart.machine.steps = walk.steps;
     hart.count = count;
     left
 }

@@ -49,7 +49,7 @@ pub(crate) fn fell(stage: Stage, pc: u32, target: u32, control: Control, b: u32,
 
 /// The index to which the jump at an index goes, by its offset.
 #[inline(always)]
-fn jump_index(off: u32, i: u32) -> u32
+pub(crate) fn jump_index(off: u32, i: u32) -> u32
     ensures { (j w : ℕ) → IsJump i j w → off ≡ offset_of (decoded w) → j < 2 ^ 30 → i < 2 ^ 30 → result ≡ j }
 {
     i.wrapping_mul(4).wrapping_add(off) / 4

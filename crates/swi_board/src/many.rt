@@ -165,7 +165,7 @@ pub(crate) fn run<R: CacheRom, M: CacheRam, I: Source, O: Sink, E: Sink>(
                 Err(fault) => return Err(fault),
             }
         };
-        let got = match run_block(hart, ram, n, at) {
+        let got = match run_block(hart, rom, image, ram, n, at) {
             Ok(Some(got)) => got,
             Ok(None) => continue,
             Err(_) => {

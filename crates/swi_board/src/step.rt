@@ -12,7 +12,7 @@ ghost use Rattle.swi_rom.specs.Served.{SameFrom};
 ghost use Rattle.swi_rom.specs.Coherent.{TargetAt};
 ghost use Rattle.swi_board.specs.Board.{Arrives, ExitStep, Jumps, JumpsBy};
 ghost use Rattle.swi_board.specs.Leaving.{offset_of, HasPlace, LeaveAt, RamServed, RamFailed, fell, quick_role, upper_quick, ExitHome, PlacedAt, Counted, step_to, moved, exit_transfer, broken, is_jalr, jump_transfer};
-ghost use Rattle.swi_board.specs.Hart.{exit_kind, original, trap_kind};
+ghost use Rattle.swi_board.specs.Hart.{exit_kind, instruction, original, trap_kind};
 
 use crate::exit::{exit_kind, fell, jump, leave};
 use crate::hart::{Control, ExitKind, Hart, Role, Stage};
@@ -21,14 +21,15 @@ use swi_calls::End;
 use swi_exec::FaultKind;
 use swi_image::ImageView;
 use swi_isa::{ImmOp, Instr, Reg, decode};
+use swi_memory::Bus;
 use swi_outside::{CacheRam, Failed};
 use swi_rom::CacheRom;
 
-/// The instruction that stands at the hart's pc.
-fn original(hart: &Hart) -> Option<Instr>
-    ensures { result ≡ original hart.now.machine }
+/// The instruction that stands at an original address.
+fn original(bus: &Bus, pc: u32) -> Option<Instr>
+    ensures { result ≡ instruction (fetched bus.now pc) }
 {
-    match hart.machine.bus.fetch(hart.machine.pc) {
+    match bus.fetch(pc) {
         Some(word) => decode(word),
         None => None,
     }
@@ -36,13 +37,13 @@ fn original(hart: &Hart) -> Option<Instr>
 
 /// The role of a LUI.
 #[inline(never)]
-fn upper_role(hart: &Hart, stage: Stage) -> Role
-    ensures { result ≡ upper_quick stage (original hart.now.machine) }
+pub(crate) fn upper_role(bus: &Bus, pc: u32, stage: Stage) -> Role
+    ensures { result ≡ upper_quick stage (instruction (fetched bus.now pc)) }
 {
     if stage != Stage::Start {
         return Role::Whole;
     }
-    match original(hart) {
+    match original(bus, pc) {
         Some(Instr::Auipc { .. }) => Role::Lead(Stage::Low),
         Some(Instr::Jal { .. }) => Role::Lead(Stage::Return),
         Some(Instr::Branch { .. }) => Role::Over,
@@ -57,7 +58,7 @@ pub(crate) fn role(hart: &Hart, stage: Stage, x: &Instr) -> Role
     ensures { result ≡ quick_role stage x.now (original hart.now.machine) }
 {
     match *x {
-        Instr::Lui { .. } => upper_role(hart, stage),
+        Instr::Lui { .. } => upper_role(&hart.machine.bus, hart.machine.pc, stage),
         Instr::Branch { .. } => Role::Over,
         Instr::Alu {
             op: ImmOp::Addi,
@@ -74,7 +75,7 @@ pub(crate) fn role(hart: &Hart, stage: Stage, x: &Instr) -> Role
 fn trap(hart: &Hart) -> FaultKind
     ensures { result ≡ trap_kind (original hart.now.machine) }
 {
-    match original(hart) {
+    match original(&hart.machine.bus, hart.machine.pc) {
         Some(Instr::Ebreak) => FaultKind::Break,
         _ => FaultKind::Illegal,
     }

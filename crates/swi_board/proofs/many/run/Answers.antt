@@ -10,7 +10,7 @@ use Rattle.swi_board.proofs.Breaking.{device_run, ram_run}
 use Rattle.swi_board.proofs.Settling.{settles_on}
 use Rattle.swi_board.proofs.Causing.{causes_ram, causes_from}
 use Rattle.swi_rom.specs.Coherent.{Coherent}
-use Rattle.swi_board.proofs.Blocks.{stands, walk, begins, no_higher, lower, at_limit, before_word, before_fault, home_at, coherent_at, same_index}
+use Rattle.swi_board.proofs.Blocks.{stands, walk, word_falls, begins, no_higher, lower, at_limit, before_word, before_fault, home_at, coherent_at, same_index}
 use Rattle.swi_board.proofs.Fetching.{index_below}
 use Rattle.swi_board.proofs.Steps.{ram_exit, ram_unfetched, ram_unserved, kept_after}
 use Rattle.swi_outside.specs.CacheRam.{RamState}
@@ -92,24 +92,13 @@ returns-after-loop-hart-clause-ran g c = λ left told f image same.
     let done : c.args.n ≤ c.loop-hart.hart.machine.steps = omega (arith, c.loop-hart-test.false, seen) in
     goes_out _ c.args.image.now _ c.args.n _ c.args.hart.now c.loop-hart.hart _ _ _ _ _ _ (c.loop-hart.invariant.running.goes left told f image same) (inl done)
 
-pub run_block-requires-clause-small : goal.run_block-requires-clause-small
-run_block-requires-clause-small g c =
-    let seen : c.loop-hart.hart.machine.steps ≡ c.hart.inside.machine.steps = sym (ap (λ (h : HartData). h.machine.steps) c.hart.view_is) in
-    let more : c.loop-hart.hart.machine.steps < c.args.n = omega (arith, c.loop-hart-test.true, seen) in
-    let running : c.loop-hart.hart.machine.ending ≡ None = search rules in
-    let coherent = subst (λ (k : List ℕ). Coherent c.args.image.now (g.R.CacheRom.kept c.loop-hart.rom) (g.R.CacheRom.span k) (g.M.CacheRam.state c.loop-hart.ram).words) c.loop-hart.invariant.setting (g.met.R.CacheRom.coherent _ _ _ c.loop-hart.invariant.sound) in
-    let begin = begins (g.R.CacheRom.policy (g.R.CacheRom.setting c.args.rom.now)) c.args.image.now c.args.n (g.R.CacheRom.span (g.R.CacheRom.setting c.args.rom.now)) c.args.hart.now (g.R.CacheRom.kept c.args.rom.now) (g.M.CacheRam.state c.args.ram.now) (g.I.Source.left c.args.input.now) (g.O.Sink.held c.args.out.now) (g.E.Sink.held c.args.err.now) c.requires.fits c.requires.limit (g.R.CacheRom.kept c.loop-hart.rom) (g.I.Source.left c.loop-hart.input) (g.O.Sink.held c.loop-hart.out) (g.E.Sink.held c.loop-hart.err) c.loop-hart.hart (g.M.CacheRam.state c.loop-hart.ram) coherent c.loop-hart.invariant.running c.loop-hart.invariant.settles running c.origin_pc-pc.ensures.word in
-    let low = subst (λ (k : List ℕ). g.R.CacheRom.span k ≤ 2 ^ 21) c.loop-hart.invariant.setting (g.met.R.CacheRom.small _ _ _ c.loop-hart.invariant.sound) in
-    let image = g.met.R.CacheRom.image _ _ _ c.loop-hart.invariant.sound in
-    (stands (g.R.CacheRom.policy (g.R.CacheRom.setting c.args.rom.now)) c.args.image.now c.args.n (g.R.CacheRom.span (g.R.CacheRom.setting c.args.rom.now)) c.args.hart.now (g.R.CacheRom.kept c.args.rom.now) (g.M.CacheRam.state c.args.ram.now) (g.I.Source.left c.args.input.now) (g.O.Sink.held c.args.out.now) (g.E.Sink.held c.args.err.now) c.requires.fits c.requires.limit (g.R.CacheRom.kept c.loop-hart.rom) (g.I.Source.left c.loop-hart.input) (g.O.Sink.held c.loop-hart.out) (g.E.Sink.held c.loop-hart.err) c.loop-hart.hart (g.M.CacheRam.state c.loop-hart.ram) coherent c.requires.count low image c.loop-hart.hart (g.M.CacheRam.state c.loop-hart.ram) begin more c.in-Some.at.0 c.in-Some.at.1 c.in-Some.at.2 c.in-Some.at.3 c.in-Some.ensures.control).index
-
 pub run_block-requires-clause-offset : goal.run_block-requires-clause-offset
 run_block-requires-clause-offset g c =
     let seen : c.loop-hart.hart.machine.steps ≡ c.hart.inside.machine.steps = sym (ap (λ (h : HartData). h.machine.steps) c.hart.view_is) in
     let more : c.loop-hart.hart.machine.steps < c.args.n = omega (arith, c.loop-hart-test.true, seen) in
     let running : c.loop-hart.hart.machine.ending ≡ None = search rules in
     let coherent = subst (λ (k : List ℕ). Coherent c.args.image.now (g.R.CacheRom.kept c.loop-hart.rom) (g.R.CacheRom.span k) (g.M.CacheRam.state c.loop-hart.ram).words) c.loop-hart.invariant.setting (g.met.R.CacheRom.coherent _ _ _ c.loop-hart.invariant.sound) in
-    let begin = begins (g.R.CacheRom.policy (g.R.CacheRom.setting c.args.rom.now)) c.args.image.now c.args.n (g.R.CacheRom.span (g.R.CacheRom.setting c.args.rom.now)) c.args.hart.now (g.R.CacheRom.kept c.args.rom.now) (g.M.CacheRam.state c.args.ram.now) (g.I.Source.left c.args.input.now) (g.O.Sink.held c.args.out.now) (g.E.Sink.held c.args.err.now) c.requires.fits c.requires.limit (g.R.CacheRom.kept c.loop-hart.rom) (g.I.Source.left c.loop-hart.input) (g.O.Sink.held c.loop-hart.out) (g.E.Sink.held c.loop-hart.err) c.loop-hart.hart (g.M.CacheRam.state c.loop-hart.ram) coherent c.loop-hart.invariant.running c.loop-hart.invariant.settles running c.origin_pc-pc.ensures.word in
+    let begin = begins (g.R.CacheRom.policy (g.R.CacheRom.setting c.args.rom.now)) c.args.image.now c.args.n (g.R.CacheRom.span (g.R.CacheRom.setting c.args.rom.now)) c.args.hart.now (g.R.CacheRom.kept c.args.rom.now) (g.M.CacheRam.state c.args.ram.now) (g.I.Source.left c.args.input.now) (g.O.Sink.held c.args.out.now) (g.E.Sink.held c.args.err.now) c.requires.fits c.requires.limit (g.R.CacheRom.kept c.loop-hart.rom) (g.I.Source.left c.loop-hart.input) (g.O.Sink.held c.loop-hart.out) (g.E.Sink.held c.loop-hart.err) c.loop-hart.hart (g.M.CacheRam.state c.loop-hart.ram) coherent (λ b o t is. g.met.R.CacheRom.first (g.R.CacheRom.setting c.args.rom.now) (g.R.CacheRom.kept c.loop-hart.rom) c.args.image.now b o t is) c.loop-hart.invariant.running c.loop-hart.invariant.settles running c.origin_pc-pc.ensures.word in
     let low = subst (λ (k : List ℕ). g.R.CacheRom.span k ≤ 2 ^ 21) c.loop-hart.invariant.setting (g.met.R.CacheRom.small _ _ _ c.loop-hart.invariant.sound) in
     let image = g.met.R.CacheRom.image _ _ _ c.loop-hart.invariant.sound in
     (stands (g.R.CacheRom.policy (g.R.CacheRom.setting c.args.rom.now)) c.args.image.now c.args.n (g.R.CacheRom.span (g.R.CacheRom.setting c.args.rom.now)) c.args.hart.now (g.R.CacheRom.kept c.args.rom.now) (g.M.CacheRam.state c.args.ram.now) (g.I.Source.left c.args.input.now) (g.O.Sink.held c.args.out.now) (g.E.Sink.held c.args.err.now) c.requires.fits c.requires.limit (g.R.CacheRom.kept c.loop-hart.rom) (g.I.Source.left c.loop-hart.input) (g.O.Sink.held c.loop-hart.out) (g.E.Sink.held c.loop-hart.err) c.loop-hart.hart (g.M.CacheRam.state c.loop-hart.ram) coherent c.requires.count low image c.loop-hart.hart (g.M.CacheRam.state c.loop-hart.ram) begin more c.in-Some.at.0 c.in-Some.at.1 c.in-Some.at.2 c.in-Some.at.3 c.in-Some.ensures.control).offset
@@ -120,10 +109,19 @@ run_block-requires-clause-inside g c =
     let more : c.loop-hart.hart.machine.steps < c.args.n = omega (arith, c.loop-hart-test.true, seen) in
     let running : c.loop-hart.hart.machine.ending ≡ None = search rules in
     let coherent = subst (λ (k : List ℕ). Coherent c.args.image.now (g.R.CacheRom.kept c.loop-hart.rom) (g.R.CacheRom.span k) (g.M.CacheRam.state c.loop-hart.ram).words) c.loop-hart.invariant.setting (g.met.R.CacheRom.coherent _ _ _ c.loop-hart.invariant.sound) in
-    let begin = begins (g.R.CacheRom.policy (g.R.CacheRom.setting c.args.rom.now)) c.args.image.now c.args.n (g.R.CacheRom.span (g.R.CacheRom.setting c.args.rom.now)) c.args.hart.now (g.R.CacheRom.kept c.args.rom.now) (g.M.CacheRam.state c.args.ram.now) (g.I.Source.left c.args.input.now) (g.O.Sink.held c.args.out.now) (g.E.Sink.held c.args.err.now) c.requires.fits c.requires.limit (g.R.CacheRom.kept c.loop-hart.rom) (g.I.Source.left c.loop-hart.input) (g.O.Sink.held c.loop-hart.out) (g.E.Sink.held c.loop-hart.err) c.loop-hart.hart (g.M.CacheRam.state c.loop-hart.ram) coherent c.loop-hart.invariant.running c.loop-hart.invariant.settles running c.origin_pc-pc.ensures.word in
+    let begin = begins (g.R.CacheRom.policy (g.R.CacheRom.setting c.args.rom.now)) c.args.image.now c.args.n (g.R.CacheRom.span (g.R.CacheRom.setting c.args.rom.now)) c.args.hart.now (g.R.CacheRom.kept c.args.rom.now) (g.M.CacheRam.state c.args.ram.now) (g.I.Source.left c.args.input.now) (g.O.Sink.held c.args.out.now) (g.E.Sink.held c.args.err.now) c.requires.fits c.requires.limit (g.R.CacheRom.kept c.loop-hart.rom) (g.I.Source.left c.loop-hart.input) (g.O.Sink.held c.loop-hart.out) (g.E.Sink.held c.loop-hart.err) c.loop-hart.hart (g.M.CacheRam.state c.loop-hart.ram) coherent (λ b o t is. g.met.R.CacheRom.first (g.R.CacheRom.setting c.args.rom.now) (g.R.CacheRom.kept c.loop-hart.rom) c.args.image.now b o t is) c.loop-hart.invariant.running c.loop-hart.invariant.settles running c.origin_pc-pc.ensures.word in
     let low = subst (λ (k : List ℕ). g.R.CacheRom.span k ≤ 2 ^ 21) c.loop-hart.invariant.setting (g.met.R.CacheRom.small _ _ _ c.loop-hart.invariant.sound) in
     let image = g.met.R.CacheRom.image _ _ _ c.loop-hart.invariant.sound in
     λ h ram walked below i b o stage control. stands (g.R.CacheRom.policy (g.R.CacheRom.setting c.args.rom.now)) c.args.image.now c.args.n (g.R.CacheRom.span (g.R.CacheRom.setting c.args.rom.now)) c.args.hart.now (g.R.CacheRom.kept c.args.rom.now) (g.M.CacheRam.state c.args.ram.now) (g.I.Source.left c.args.input.now) (g.O.Sink.held c.args.out.now) (g.E.Sink.held c.args.err.now) c.requires.fits c.requires.limit (g.R.CacheRom.kept c.loop-hart.rom) (g.I.Source.left c.loop-hart.input) (g.O.Sink.held c.loop-hart.out) (g.E.Sink.held c.loop-hart.err) c.loop-hart.hart (g.M.CacheRam.state c.loop-hart.ram) coherent c.requires.count low image h ram (walk (g.R.CacheRom.policy (g.R.CacheRom.setting c.args.rom.now)) c.args.image.now c.args.n (g.R.CacheRom.span (g.R.CacheRom.setting c.args.rom.now)) c.args.hart.now (g.R.CacheRom.kept c.args.rom.now) (g.M.CacheRam.state c.args.ram.now) (g.I.Source.left c.args.input.now) (g.O.Sink.held c.args.out.now) (g.E.Sink.held c.args.err.now) c.requires.fits c.requires.limit (g.R.CacheRom.kept c.loop-hart.rom) (g.I.Source.left c.loop-hart.input) (g.O.Sink.held c.loop-hart.out) (g.E.Sink.held c.loop-hart.err) c.loop-hart.hart (g.M.CacheRam.state c.loop-hart.ram) coherent begin h ram walked) below i b o stage control
+
+pub run_block-requires-clause-rises : goal.run_block-requires-clause-rises
+run_block-requires-clause-rises g c =
+    let seen : c.loop-hart.hart.machine.steps ≡ c.hart.inside.machine.steps = sym (ap (λ (h : HartData). h.machine.steps) c.hart.view_is) in
+    let more : c.loop-hart.hart.machine.steps < c.args.n = omega (arith, c.loop-hart-test.true, seen) in
+    let running : c.loop-hart.hart.machine.ending ≡ None = search rules in
+    let coherent = subst (λ (k : List ℕ). Coherent c.args.image.now (g.R.CacheRom.kept c.loop-hart.rom) (g.R.CacheRom.span k) (g.M.CacheRam.state c.loop-hart.ram).words) c.loop-hart.invariant.setting (g.met.R.CacheRom.coherent _ _ _ c.loop-hart.invariant.sound) in
+    let begin = begins (g.R.CacheRom.policy (g.R.CacheRom.setting c.args.rom.now)) c.args.image.now c.args.n (g.R.CacheRom.span (g.R.CacheRom.setting c.args.rom.now)) c.args.hart.now (g.R.CacheRom.kept c.args.rom.now) (g.M.CacheRam.state c.args.ram.now) (g.I.Source.left c.args.input.now) (g.O.Sink.held c.args.out.now) (g.E.Sink.held c.args.err.now) c.requires.fits c.requires.limit (g.R.CacheRom.kept c.loop-hart.rom) (g.I.Source.left c.loop-hart.input) (g.O.Sink.held c.loop-hart.out) (g.E.Sink.held c.loop-hart.err) c.loop-hart.hart (g.M.CacheRam.state c.loop-hart.ram) coherent (λ b o t is. g.met.R.CacheRom.first (g.R.CacheRom.setting c.args.rom.now) (g.R.CacheRom.kept c.loop-hart.rom) c.args.image.now b o t is) c.loop-hart.invariant.running c.loop-hart.invariant.settles running c.origin_pc-pc.ensures.word in
+    λ h h' ram ram' walked below k. word_falls (g.R.CacheRom.policy (g.R.CacheRom.setting c.args.rom.now)) c.args.image.now c.args.n (g.R.CacheRom.span (g.R.CacheRom.setting c.args.rom.now)) c.args.hart.now (g.R.CacheRom.kept c.args.rom.now) (g.M.CacheRam.state c.args.ram.now) (g.I.Source.left c.args.input.now) (g.O.Sink.held c.args.out.now) (g.E.Sink.held c.args.err.now) c.requires.fits c.requires.limit (g.R.CacheRom.kept c.loop-hart.rom) (g.I.Source.left c.loop-hart.input) (g.O.Sink.held c.loop-hart.out) (g.E.Sink.held c.loop-hart.err) c.loop-hart.hart (g.M.CacheRam.state c.loop-hart.ram) coherent h h' ram ram' (walk (g.R.CacheRom.policy (g.R.CacheRom.setting c.args.rom.now)) c.args.image.now c.args.n (g.R.CacheRom.span (g.R.CacheRom.setting c.args.rom.now)) c.args.hart.now (g.R.CacheRom.kept c.args.rom.now) (g.M.CacheRam.state c.args.ram.now) (g.I.Source.left c.args.input.now) (g.O.Sink.held c.args.out.now) (g.E.Sink.held c.args.err.now) c.requires.fits c.requires.limit (g.R.CacheRom.kept c.loop-hart.rom) (g.I.Source.left c.loop-hart.input) (g.O.Sink.held c.loop-hart.out) (g.E.Sink.held c.loop-hart.err) c.loop-hart.hart (g.M.CacheRam.state c.loop-hart.ram) coherent begin h ram walked) below k
 
 pub loop-hart-smaller-in-Ok-None : goal.loop-hart-smaller-in-Ok-None
 loop-hart-smaller-in-Ok-None g c =
@@ -131,8 +129,8 @@ loop-hart-smaller-in-Ok-None g c =
     let more : c.loop-hart.hart.machine.steps < c.args.n = omega (arith, c.loop-hart-test.true, seen) in
     let running : c.loop-hart.hart.machine.ending ≡ None = search rules in
     let coherent = subst (λ (k : List ℕ). Coherent c.args.image.now (g.R.CacheRom.kept c.loop-hart.rom) (g.R.CacheRom.span k) (g.M.CacheRam.state c.loop-hart.ram).words) c.loop-hart.invariant.setting (g.met.R.CacheRom.coherent _ _ _ c.loop-hart.invariant.sound) in
-    let begin = begins (g.R.CacheRom.policy (g.R.CacheRom.setting c.args.rom.now)) c.args.image.now c.args.n (g.R.CacheRom.span (g.R.CacheRom.setting c.args.rom.now)) c.args.hart.now (g.R.CacheRom.kept c.args.rom.now) (g.M.CacheRam.state c.args.ram.now) (g.I.Source.left c.args.input.now) (g.O.Sink.held c.args.out.now) (g.E.Sink.held c.args.err.now) c.requires.fits c.requires.limit (g.R.CacheRom.kept c.loop-hart.rom) (g.I.Source.left c.loop-hart.input) (g.O.Sink.held c.loop-hart.out) (g.E.Sink.held c.loop-hart.err) c.loop-hart.hart (g.M.CacheRam.state c.loop-hart.ram) coherent c.loop-hart.invariant.running c.loop-hart.invariant.settles running c.origin_pc-pc.ensures.word in
-    let ended = at_limit c.run_block.result c.in-Ok-None.field-0 c.args.n c.loop-hart.hart c.run_block.new.hart (g.M.CacheRam.state c.loop-hart.ram) (g.M.CacheRam.state c.run_block.new.ram) c.in-Ok-None.is c.in-Ok-None.field-0-is c.run_block.ensures in
+    let begin = begins (g.R.CacheRom.policy (g.R.CacheRom.setting c.args.rom.now)) c.args.image.now c.args.n (g.R.CacheRom.span (g.R.CacheRom.setting c.args.rom.now)) c.args.hart.now (g.R.CacheRom.kept c.args.rom.now) (g.M.CacheRam.state c.args.ram.now) (g.I.Source.left c.args.input.now) (g.O.Sink.held c.args.out.now) (g.E.Sink.held c.args.err.now) c.requires.fits c.requires.limit (g.R.CacheRom.kept c.loop-hart.rom) (g.I.Source.left c.loop-hart.input) (g.O.Sink.held c.loop-hart.out) (g.E.Sink.held c.loop-hart.err) c.loop-hart.hart (g.M.CacheRam.state c.loop-hart.ram) coherent (λ b o t is. g.met.R.CacheRom.first (g.R.CacheRom.setting c.args.rom.now) (g.R.CacheRom.kept c.loop-hart.rom) c.args.image.now b o t is) c.loop-hart.invariant.running c.loop-hart.invariant.settles running c.origin_pc-pc.ensures.word in
+    let ended = at_limit c.args.image.now (g.R.CacheRom.kept c.loop-hart.rom) c.run_block.result c.in-Ok-None.field-0 c.args.n c.loop-hart.hart c.run_block.new.hart (g.M.CacheRam.state c.loop-hart.ram) (g.M.CacheRam.state c.run_block.new.ram) c.in-Ok-None.is c.in-Ok-None.field-0-is c.run_block.ensures in
     let s = walk (g.R.CacheRom.policy (g.R.CacheRom.setting c.args.rom.now)) c.args.image.now c.args.n (g.R.CacheRom.span (g.R.CacheRom.setting c.args.rom.now)) c.args.hart.now (g.R.CacheRom.kept c.args.rom.now) (g.M.CacheRam.state c.args.ram.now) (g.I.Source.left c.args.input.now) (g.O.Sink.held c.args.out.now) (g.E.Sink.held c.args.err.now) c.requires.fits c.requires.limit (g.R.CacheRom.kept c.loop-hart.rom) (g.I.Source.left c.loop-hart.input) (g.O.Sink.held c.loop-hart.out) (g.E.Sink.held c.loop-hart.err) c.loop-hart.hart (g.M.CacheRam.state c.loop-hart.ram) coherent begin c.run_block.new.hart (g.M.CacheRam.state c.run_block.new.ram) ended.0 in
     lower (g.R.CacheRom.policy (g.R.CacheRom.setting c.args.rom.now)) c.args.image.now c.args.n (g.R.CacheRom.span (g.R.CacheRom.setting c.args.rom.now)) c.args.hart.now (g.R.CacheRom.kept c.args.rom.now) (g.M.CacheRam.state c.args.ram.now) (g.I.Source.left c.args.input.now) (g.O.Sink.held c.args.out.now) (g.E.Sink.held c.args.err.now) c.requires.fits c.requires.limit (g.R.CacheRom.kept c.loop-hart.rom) (g.I.Source.left c.loop-hart.input) (g.O.Sink.held c.loop-hart.out) (g.E.Sink.held c.loop-hart.err) c.loop-hart.hart (g.M.CacheRam.state c.loop-hart.ram) coherent c.run_block.new.hart (g.M.CacheRam.state c.run_block.new.ram) s running more ended.1
 
@@ -142,8 +140,8 @@ loop-hart-preserved-in-Ok-None g c =
     let more : c.loop-hart.hart.machine.steps < c.args.n = omega (arith, c.loop-hart-test.true, seen) in
     let running : c.loop-hart.hart.machine.ending ≡ None = search rules in
     let coherent = subst (λ (k : List ℕ). Coherent c.args.image.now (g.R.CacheRom.kept c.loop-hart.rom) (g.R.CacheRom.span k) (g.M.CacheRam.state c.loop-hart.ram).words) c.loop-hart.invariant.setting (g.met.R.CacheRom.coherent _ _ _ c.loop-hart.invariant.sound) in
-    let begin = begins (g.R.CacheRom.policy (g.R.CacheRom.setting c.args.rom.now)) c.args.image.now c.args.n (g.R.CacheRom.span (g.R.CacheRom.setting c.args.rom.now)) c.args.hart.now (g.R.CacheRom.kept c.args.rom.now) (g.M.CacheRam.state c.args.ram.now) (g.I.Source.left c.args.input.now) (g.O.Sink.held c.args.out.now) (g.E.Sink.held c.args.err.now) c.requires.fits c.requires.limit (g.R.CacheRom.kept c.loop-hart.rom) (g.I.Source.left c.loop-hart.input) (g.O.Sink.held c.loop-hart.out) (g.E.Sink.held c.loop-hart.err) c.loop-hart.hart (g.M.CacheRam.state c.loop-hart.ram) coherent c.loop-hart.invariant.running c.loop-hart.invariant.settles running c.origin_pc-pc.ensures.word in
-    let ended = at_limit c.run_block.result c.in-Ok-None.field-0 c.args.n c.loop-hart.hart c.run_block.new.hart (g.M.CacheRam.state c.loop-hart.ram) (g.M.CacheRam.state c.run_block.new.ram) c.in-Ok-None.is c.in-Ok-None.field-0-is c.run_block.ensures in
+    let begin = begins (g.R.CacheRom.policy (g.R.CacheRom.setting c.args.rom.now)) c.args.image.now c.args.n (g.R.CacheRom.span (g.R.CacheRom.setting c.args.rom.now)) c.args.hart.now (g.R.CacheRom.kept c.args.rom.now) (g.M.CacheRam.state c.args.ram.now) (g.I.Source.left c.args.input.now) (g.O.Sink.held c.args.out.now) (g.E.Sink.held c.args.err.now) c.requires.fits c.requires.limit (g.R.CacheRom.kept c.loop-hart.rom) (g.I.Source.left c.loop-hart.input) (g.O.Sink.held c.loop-hart.out) (g.E.Sink.held c.loop-hart.err) c.loop-hart.hart (g.M.CacheRam.state c.loop-hart.ram) coherent (λ b o t is. g.met.R.CacheRom.first (g.R.CacheRom.setting c.args.rom.now) (g.R.CacheRom.kept c.loop-hart.rom) c.args.image.now b o t is) c.loop-hart.invariant.running c.loop-hart.invariant.settles running c.origin_pc-pc.ensures.word in
+    let ended = at_limit c.args.image.now (g.R.CacheRom.kept c.loop-hart.rom) c.run_block.result c.in-Ok-None.field-0 c.args.n c.loop-hart.hart c.run_block.new.hart (g.M.CacheRam.state c.loop-hart.ram) (g.M.CacheRam.state c.run_block.new.ram) c.in-Ok-None.is c.in-Ok-None.field-0-is c.run_block.ensures in
     let s = walk (g.R.CacheRom.policy (g.R.CacheRom.setting c.args.rom.now)) c.args.image.now c.args.n (g.R.CacheRom.span (g.R.CacheRom.setting c.args.rom.now)) c.args.hart.now (g.R.CacheRom.kept c.args.rom.now) (g.M.CacheRam.state c.args.ram.now) (g.I.Source.left c.args.input.now) (g.O.Sink.held c.args.out.now) (g.E.Sink.held c.args.err.now) c.requires.fits c.requires.limit (g.R.CacheRom.kept c.loop-hart.rom) (g.I.Source.left c.loop-hart.input) (g.O.Sink.held c.loop-hart.out) (g.E.Sink.held c.loop-hart.err) c.loop-hart.hart (g.M.CacheRam.state c.loop-hart.ram) coherent begin c.run_block.new.hart (g.M.CacheRam.state c.run_block.new.ram) ended.0 in
     record {
       running = s.running;
@@ -160,8 +158,8 @@ returns-in-Err-run_block-clause-kept g c =
     let more : c.loop-hart.hart.machine.steps < c.args.n = omega (arith, c.loop-hart-test.true, seen) in
     let running : c.loop-hart.hart.machine.ending ≡ None = search rules in
     let coherent = subst (λ (k : List ℕ). Coherent c.args.image.now (g.R.CacheRom.kept c.loop-hart.rom) (g.R.CacheRom.span k) (g.M.CacheRam.state c.loop-hart.ram).words) c.loop-hart.invariant.setting (g.met.R.CacheRom.coherent _ _ _ c.loop-hart.invariant.sound) in
-    let begin = begins (g.R.CacheRom.policy (g.R.CacheRom.setting c.args.rom.now)) c.args.image.now c.args.n (g.R.CacheRom.span (g.R.CacheRom.setting c.args.rom.now)) c.args.hart.now (g.R.CacheRom.kept c.args.rom.now) (g.M.CacheRam.state c.args.ram.now) (g.I.Source.left c.args.input.now) (g.O.Sink.held c.args.out.now) (g.E.Sink.held c.args.err.now) c.requires.fits c.requires.limit (g.R.CacheRom.kept c.loop-hart.rom) (g.I.Source.left c.loop-hart.input) (g.O.Sink.held c.loop-hart.out) (g.E.Sink.held c.loop-hart.err) c.loop-hart.hart (g.M.CacheRam.state c.loop-hart.ram) coherent c.loop-hart.invariant.running c.loop-hart.invariant.settles running c.origin_pc-pc.ensures.word in
-    let ended = before_fault c.run_block.result c.in-Err-run_block.field-0 c.args.n c.loop-hart.hart c.run_block.new.hart (g.M.CacheRam.state c.loop-hart.ram) (g.M.CacheRam.state c.run_block.new.ram) c.in-Err-run_block.is c.run_block.ensures in
+    let begin = begins (g.R.CacheRom.policy (g.R.CacheRom.setting c.args.rom.now)) c.args.image.now c.args.n (g.R.CacheRom.span (g.R.CacheRom.setting c.args.rom.now)) c.args.hart.now (g.R.CacheRom.kept c.args.rom.now) (g.M.CacheRam.state c.args.ram.now) (g.I.Source.left c.args.input.now) (g.O.Sink.held c.args.out.now) (g.E.Sink.held c.args.err.now) c.requires.fits c.requires.limit (g.R.CacheRom.kept c.loop-hart.rom) (g.I.Source.left c.loop-hart.input) (g.O.Sink.held c.loop-hart.out) (g.E.Sink.held c.loop-hart.err) c.loop-hart.hart (g.M.CacheRam.state c.loop-hart.ram) coherent (λ b o t is. g.met.R.CacheRom.first (g.R.CacheRom.setting c.args.rom.now) (g.R.CacheRom.kept c.loop-hart.rom) c.args.image.now b o t is) c.loop-hart.invariant.running c.loop-hart.invariant.settles running c.origin_pc-pc.ensures.word in
+    let ended = before_fault c.args.image.now (g.R.CacheRom.kept c.loop-hart.rom) c.run_block.result c.in-Err-run_block.field-0 c.args.n c.loop-hart.hart c.run_block.new.hart (g.M.CacheRam.state c.loop-hart.ram) (g.M.CacheRam.state c.run_block.new.ram) c.in-Err-run_block.is c.run_block.ensures in
     let s = walk (g.R.CacheRom.policy (g.R.CacheRom.setting c.args.rom.now)) c.args.image.now c.args.n (g.R.CacheRom.span (g.R.CacheRom.setting c.args.rom.now)) c.args.hart.now (g.R.CacheRom.kept c.args.rom.now) (g.M.CacheRam.state c.args.ram.now) (g.I.Source.left c.args.input.now) (g.O.Sink.held c.args.out.now) (g.E.Sink.held c.args.err.now) c.requires.fits c.requires.limit (g.R.CacheRom.kept c.loop-hart.rom) (g.I.Source.left c.loop-hart.input) (g.O.Sink.held c.loop-hart.out) (g.E.Sink.held c.loop-hart.err) c.loop-hart.hart (g.M.CacheRam.state c.loop-hart.ram) coherent begin c.run_block.new.hart ended.before ended.walked in
     let at = home_at (g.R.CacheRom.policy (g.R.CacheRom.setting c.args.rom.now)) c.args.image.now c.args.n (g.R.CacheRom.span (g.R.CacheRom.setting c.args.rom.now)) c.args.hart.now (g.R.CacheRom.kept c.args.rom.now) (g.M.CacheRam.state c.args.ram.now) (g.I.Source.left c.args.input.now) (g.O.Sink.held c.args.out.now) (g.E.Sink.held c.args.err.now) c.requires.fits c.requires.limit (g.R.CacheRom.kept c.loop-hart.rom) (g.I.Source.left c.loop-hart.input) (g.O.Sink.held c.loop-hart.out) (g.E.Sink.held c.loop-hart.err) c.loop-hart.hart (g.M.CacheRam.state c.loop-hart.ram) coherent c.run_block.new.hart ended.before ended.index ended.block ended.offset ended.stage s ended.control in
     let low = index_below c.args.image.now (g.R.CacheRom.kept c.loop-hart.rom) c.run_block.new.hart.machine (g.R.CacheRom.span (g.R.CacheRom.setting c.args.rom.now)) ended.before.words ended.index ended.block ended.offset ended.stage (coherent_at (g.R.CacheRom.policy (g.R.CacheRom.setting c.args.rom.now)) c.args.image.now c.args.n (g.R.CacheRom.span (g.R.CacheRom.setting c.args.rom.now)) c.args.hart.now (g.R.CacheRom.kept c.args.rom.now) (g.M.CacheRam.state c.args.ram.now) (g.I.Source.left c.args.input.now) (g.O.Sink.held c.args.out.now) (g.E.Sink.held c.args.err.now) c.requires.fits c.requires.limit (g.R.CacheRom.kept c.loop-hart.rom) (g.I.Source.left c.loop-hart.input) (g.O.Sink.held c.loop-hart.out) (g.E.Sink.held c.loop-hart.err) c.loop-hart.hart (g.M.CacheRam.state c.loop-hart.ram) coherent c.run_block.new.hart ended.before s) at in
@@ -174,8 +172,8 @@ returns-in-Err-run_block-clause-going g c =
     let more : c.loop-hart.hart.machine.steps < c.args.n = omega (arith, c.loop-hart-test.true, seen) in
     let running : c.loop-hart.hart.machine.ending ≡ None = search rules in
     let coherent = subst (λ (k : List ℕ). Coherent c.args.image.now (g.R.CacheRom.kept c.loop-hart.rom) (g.R.CacheRom.span k) (g.M.CacheRam.state c.loop-hart.ram).words) c.loop-hart.invariant.setting (g.met.R.CacheRom.coherent _ _ _ c.loop-hart.invariant.sound) in
-    let begin = begins (g.R.CacheRom.policy (g.R.CacheRom.setting c.args.rom.now)) c.args.image.now c.args.n (g.R.CacheRom.span (g.R.CacheRom.setting c.args.rom.now)) c.args.hart.now (g.R.CacheRom.kept c.args.rom.now) (g.M.CacheRam.state c.args.ram.now) (g.I.Source.left c.args.input.now) (g.O.Sink.held c.args.out.now) (g.E.Sink.held c.args.err.now) c.requires.fits c.requires.limit (g.R.CacheRom.kept c.loop-hart.rom) (g.I.Source.left c.loop-hart.input) (g.O.Sink.held c.loop-hart.out) (g.E.Sink.held c.loop-hart.err) c.loop-hart.hart (g.M.CacheRam.state c.loop-hart.ram) coherent c.loop-hart.invariant.running c.loop-hart.invariant.settles running c.origin_pc-pc.ensures.word in
-    let ended = before_fault c.run_block.result c.in-Err-run_block.field-0 c.args.n c.loop-hart.hart c.run_block.new.hart (g.M.CacheRam.state c.loop-hart.ram) (g.M.CacheRam.state c.run_block.new.ram) c.in-Err-run_block.is c.run_block.ensures in
+    let begin = begins (g.R.CacheRom.policy (g.R.CacheRom.setting c.args.rom.now)) c.args.image.now c.args.n (g.R.CacheRom.span (g.R.CacheRom.setting c.args.rom.now)) c.args.hart.now (g.R.CacheRom.kept c.args.rom.now) (g.M.CacheRam.state c.args.ram.now) (g.I.Source.left c.args.input.now) (g.O.Sink.held c.args.out.now) (g.E.Sink.held c.args.err.now) c.requires.fits c.requires.limit (g.R.CacheRom.kept c.loop-hart.rom) (g.I.Source.left c.loop-hart.input) (g.O.Sink.held c.loop-hart.out) (g.E.Sink.held c.loop-hart.err) c.loop-hart.hart (g.M.CacheRam.state c.loop-hart.ram) coherent (λ b o t is. g.met.R.CacheRom.first (g.R.CacheRom.setting c.args.rom.now) (g.R.CacheRom.kept c.loop-hart.rom) c.args.image.now b o t is) c.loop-hart.invariant.running c.loop-hart.invariant.settles running c.origin_pc-pc.ensures.word in
+    let ended = before_fault c.args.image.now (g.R.CacheRom.kept c.loop-hart.rom) c.run_block.result c.in-Err-run_block.field-0 c.args.n c.loop-hart.hart c.run_block.new.hart (g.M.CacheRam.state c.loop-hart.ram) (g.M.CacheRam.state c.run_block.new.ram) c.in-Err-run_block.is c.run_block.ensures in
     let s = walk (g.R.CacheRom.policy (g.R.CacheRom.setting c.args.rom.now)) c.args.image.now c.args.n (g.R.CacheRom.span (g.R.CacheRom.setting c.args.rom.now)) c.args.hart.now (g.R.CacheRom.kept c.args.rom.now) (g.M.CacheRam.state c.args.ram.now) (g.I.Source.left c.args.input.now) (g.O.Sink.held c.args.out.now) (g.E.Sink.held c.args.err.now) c.requires.fits c.requires.limit (g.R.CacheRom.kept c.loop-hart.rom) (g.I.Source.left c.loop-hart.input) (g.O.Sink.held c.loop-hart.out) (g.E.Sink.held c.loop-hart.err) c.loop-hart.hart (g.M.CacheRam.state c.loop-hart.ram) coherent begin c.run_block.new.hart ended.before ended.walked in
     ap (λ (h : HartData). h.machine.ending) c.hart-in-loop-hart.view_is ∙ s.going
 
@@ -185,8 +183,8 @@ returns-in-Err-run_block-clause-ram_broke g c =
     let more : c.loop-hart.hart.machine.steps < c.args.n = omega (arith, c.loop-hart-test.true, seen) in
     let running : c.loop-hart.hart.machine.ending ≡ None = search rules in
     let coherent = subst (λ (k : List ℕ). Coherent c.args.image.now (g.R.CacheRom.kept c.loop-hart.rom) (g.R.CacheRom.span k) (g.M.CacheRam.state c.loop-hart.ram).words) c.loop-hart.invariant.setting (g.met.R.CacheRom.coherent _ _ _ c.loop-hart.invariant.sound) in
-    let begin = begins (g.R.CacheRom.policy (g.R.CacheRom.setting c.args.rom.now)) c.args.image.now c.args.n (g.R.CacheRom.span (g.R.CacheRom.setting c.args.rom.now)) c.args.hart.now (g.R.CacheRom.kept c.args.rom.now) (g.M.CacheRam.state c.args.ram.now) (g.I.Source.left c.args.input.now) (g.O.Sink.held c.args.out.now) (g.E.Sink.held c.args.err.now) c.requires.fits c.requires.limit (g.R.CacheRom.kept c.loop-hart.rom) (g.I.Source.left c.loop-hart.input) (g.O.Sink.held c.loop-hart.out) (g.E.Sink.held c.loop-hart.err) c.loop-hart.hart (g.M.CacheRam.state c.loop-hart.ram) coherent c.loop-hart.invariant.running c.loop-hart.invariant.settles running c.origin_pc-pc.ensures.word in
-    let ended = before_fault c.run_block.result c.in-Err-run_block.field-0 c.args.n c.loop-hart.hart c.run_block.new.hart (g.M.CacheRam.state c.loop-hart.ram) (g.M.CacheRam.state c.run_block.new.ram) c.in-Err-run_block.is c.run_block.ensures in
+    let begin = begins (g.R.CacheRom.policy (g.R.CacheRom.setting c.args.rom.now)) c.args.image.now c.args.n (g.R.CacheRom.span (g.R.CacheRom.setting c.args.rom.now)) c.args.hart.now (g.R.CacheRom.kept c.args.rom.now) (g.M.CacheRam.state c.args.ram.now) (g.I.Source.left c.args.input.now) (g.O.Sink.held c.args.out.now) (g.E.Sink.held c.args.err.now) c.requires.fits c.requires.limit (g.R.CacheRom.kept c.loop-hart.rom) (g.I.Source.left c.loop-hart.input) (g.O.Sink.held c.loop-hart.out) (g.E.Sink.held c.loop-hart.err) c.loop-hart.hart (g.M.CacheRam.state c.loop-hart.ram) coherent (λ b o t is. g.met.R.CacheRom.first (g.R.CacheRom.setting c.args.rom.now) (g.R.CacheRom.kept c.loop-hart.rom) c.args.image.now b o t is) c.loop-hart.invariant.running c.loop-hart.invariant.settles running c.origin_pc-pc.ensures.word in
+    let ended = before_fault c.args.image.now (g.R.CacheRom.kept c.loop-hart.rom) c.run_block.result c.in-Err-run_block.field-0 c.args.n c.loop-hart.hart c.run_block.new.hart (g.M.CacheRam.state c.loop-hart.ram) (g.M.CacheRam.state c.run_block.new.ram) c.in-Err-run_block.is c.run_block.ensures in
     let s = walk (g.R.CacheRom.policy (g.R.CacheRom.setting c.args.rom.now)) c.args.image.now c.args.n (g.R.CacheRom.span (g.R.CacheRom.setting c.args.rom.now)) c.args.hart.now (g.R.CacheRom.kept c.args.rom.now) (g.M.CacheRam.state c.args.ram.now) (g.I.Source.left c.args.input.now) (g.O.Sink.held c.args.out.now) (g.E.Sink.held c.args.err.now) c.requires.fits c.requires.limit (g.R.CacheRom.kept c.loop-hart.rom) (g.I.Source.left c.loop-hart.input) (g.O.Sink.held c.loop-hart.out) (g.E.Sink.held c.loop-hart.err) c.loop-hart.hart (g.M.CacheRam.state c.loop-hart.ram) coherent begin c.run_block.new.hart ended.before ended.walked in
     let at = home_at (g.R.CacheRom.policy (g.R.CacheRom.setting c.args.rom.now)) c.args.image.now c.args.n (g.R.CacheRom.span (g.R.CacheRom.setting c.args.rom.now)) c.args.hart.now (g.R.CacheRom.kept c.args.rom.now) (g.M.CacheRam.state c.args.ram.now) (g.I.Source.left c.args.input.now) (g.O.Sink.held c.args.out.now) (g.E.Sink.held c.args.err.now) c.requires.fits c.requires.limit (g.R.CacheRom.kept c.loop-hart.rom) (g.I.Source.left c.loop-hart.input) (g.O.Sink.held c.loop-hart.out) (g.E.Sink.held c.loop-hart.err) c.loop-hart.hart (g.M.CacheRam.state c.loop-hart.ram) coherent c.run_block.new.hart ended.before ended.index ended.block ended.offset ended.stage s ended.control in
     let low = index_below c.args.image.now (g.R.CacheRom.kept c.loop-hart.rom) c.run_block.new.hart.machine (g.R.CacheRom.span (g.R.CacheRom.setting c.args.rom.now)) ended.before.words ended.index ended.block ended.offset ended.stage (coherent_at (g.R.CacheRom.policy (g.R.CacheRom.setting c.args.rom.now)) c.args.image.now c.args.n (g.R.CacheRom.span (g.R.CacheRom.setting c.args.rom.now)) c.args.hart.now (g.R.CacheRom.kept c.args.rom.now) (g.M.CacheRam.state c.args.ram.now) (g.I.Source.left c.args.input.now) (g.O.Sink.held c.args.out.now) (g.E.Sink.held c.args.err.now) c.requires.fits c.requires.limit (g.R.CacheRom.kept c.loop-hart.rom) (g.I.Source.left c.loop-hart.input) (g.O.Sink.held c.loop-hart.out) (g.E.Sink.held c.loop-hart.err) c.loop-hart.hart (g.M.CacheRam.state c.loop-hart.ram) coherent c.run_block.new.hart ended.before s) at in
@@ -199,8 +197,8 @@ returns-in-Err-run_block-clause-causes g c =
     let more : c.loop-hart.hart.machine.steps < c.args.n = omega (arith, c.loop-hart-test.true, seen) in
     let running : c.loop-hart.hart.machine.ending ≡ None = search rules in
     let coherent = subst (λ (k : List ℕ). Coherent c.args.image.now (g.R.CacheRom.kept c.loop-hart.rom) (g.R.CacheRom.span k) (g.M.CacheRam.state c.loop-hart.ram).words) c.loop-hart.invariant.setting (g.met.R.CacheRom.coherent _ _ _ c.loop-hart.invariant.sound) in
-    let begin = begins (g.R.CacheRom.policy (g.R.CacheRom.setting c.args.rom.now)) c.args.image.now c.args.n (g.R.CacheRom.span (g.R.CacheRom.setting c.args.rom.now)) c.args.hart.now (g.R.CacheRom.kept c.args.rom.now) (g.M.CacheRam.state c.args.ram.now) (g.I.Source.left c.args.input.now) (g.O.Sink.held c.args.out.now) (g.E.Sink.held c.args.err.now) c.requires.fits c.requires.limit (g.R.CacheRom.kept c.loop-hart.rom) (g.I.Source.left c.loop-hart.input) (g.O.Sink.held c.loop-hart.out) (g.E.Sink.held c.loop-hart.err) c.loop-hart.hart (g.M.CacheRam.state c.loop-hart.ram) coherent c.loop-hart.invariant.running c.loop-hart.invariant.settles running c.origin_pc-pc.ensures.word in
-    let ended = before_fault c.run_block.result c.in-Err-run_block.field-0 c.args.n c.loop-hart.hart c.run_block.new.hart (g.M.CacheRam.state c.loop-hart.ram) (g.M.CacheRam.state c.run_block.new.ram) c.in-Err-run_block.is c.run_block.ensures in
+    let begin = begins (g.R.CacheRom.policy (g.R.CacheRom.setting c.args.rom.now)) c.args.image.now c.args.n (g.R.CacheRom.span (g.R.CacheRom.setting c.args.rom.now)) c.args.hart.now (g.R.CacheRom.kept c.args.rom.now) (g.M.CacheRam.state c.args.ram.now) (g.I.Source.left c.args.input.now) (g.O.Sink.held c.args.out.now) (g.E.Sink.held c.args.err.now) c.requires.fits c.requires.limit (g.R.CacheRom.kept c.loop-hart.rom) (g.I.Source.left c.loop-hart.input) (g.O.Sink.held c.loop-hart.out) (g.E.Sink.held c.loop-hart.err) c.loop-hart.hart (g.M.CacheRam.state c.loop-hart.ram) coherent (λ b o t is. g.met.R.CacheRom.first (g.R.CacheRom.setting c.args.rom.now) (g.R.CacheRom.kept c.loop-hart.rom) c.args.image.now b o t is) c.loop-hart.invariant.running c.loop-hart.invariant.settles running c.origin_pc-pc.ensures.word in
+    let ended = before_fault c.args.image.now (g.R.CacheRom.kept c.loop-hart.rom) c.run_block.result c.in-Err-run_block.field-0 c.args.n c.loop-hart.hart c.run_block.new.hart (g.M.CacheRam.state c.loop-hart.ram) (g.M.CacheRam.state c.run_block.new.ram) c.in-Err-run_block.is c.run_block.ensures in
     let s = walk (g.R.CacheRom.policy (g.R.CacheRom.setting c.args.rom.now)) c.args.image.now c.args.n (g.R.CacheRom.span (g.R.CacheRom.setting c.args.rom.now)) c.args.hart.now (g.R.CacheRom.kept c.args.rom.now) (g.M.CacheRam.state c.args.ram.now) (g.I.Source.left c.args.input.now) (g.O.Sink.held c.args.out.now) (g.E.Sink.held c.args.err.now) c.requires.fits c.requires.limit (g.R.CacheRom.kept c.loop-hart.rom) (g.I.Source.left c.loop-hart.input) (g.O.Sink.held c.loop-hart.out) (g.E.Sink.held c.loop-hart.err) c.loop-hart.hart (g.M.CacheRam.state c.loop-hart.ram) coherent begin c.run_block.new.hart ended.before ended.walked in
     let quiet = ap (λ (k : ℕ). record { ram = k; input = g.I.Source.faults c.loop-hart.input; out = g.O.Sink.faults c.loop-hart.out; err = g.E.Sink.faults c.loop-hart.err }) s.quiet ∙ c.loop-hart.invariant.quiet in
     causes_from _ _ _ _ quiet (causes_ram ended.before.faults (g.M.CacheRam.state c.run_block.new.ram).faults (g.I.Source.faults c.loop-hart.input) (g.O.Sink.faults c.loop-hart.out) (g.E.Sink.faults c.loop-hart.err) ended.answered.1 ended.answered.0)
@@ -211,8 +209,8 @@ at_word-requires-clause-running g c =
     let more : c.loop-hart.hart.machine.steps < c.args.n = omega (arith, c.loop-hart-test.true, seen) in
     let running : c.loop-hart.hart.machine.ending ≡ None = search rules in
     let coherent = subst (λ (k : List ℕ). Coherent c.args.image.now (g.R.CacheRom.kept c.loop-hart.rom) (g.R.CacheRom.span k) (g.M.CacheRam.state c.loop-hart.ram).words) c.loop-hart.invariant.setting (g.met.R.CacheRom.coherent _ _ _ c.loop-hart.invariant.sound) in
-    let begin = begins (g.R.CacheRom.policy (g.R.CacheRom.setting c.args.rom.now)) c.args.image.now c.args.n (g.R.CacheRom.span (g.R.CacheRom.setting c.args.rom.now)) c.args.hart.now (g.R.CacheRom.kept c.args.rom.now) (g.M.CacheRam.state c.args.ram.now) (g.I.Source.left c.args.input.now) (g.O.Sink.held c.args.out.now) (g.E.Sink.held c.args.err.now) c.requires.fits c.requires.limit (g.R.CacheRom.kept c.loop-hart.rom) (g.I.Source.left c.loop-hart.input) (g.O.Sink.held c.loop-hart.out) (g.E.Sink.held c.loop-hart.err) c.loop-hart.hart (g.M.CacheRam.state c.loop-hart.ram) coherent c.loop-hart.invariant.running c.loop-hart.invariant.settles running c.origin_pc-pc.ensures.word in
-    let ended = before_word c.run_block.result c.in-Ok-Some.field-0 c.in-Ok-Some.got c.args.n c.loop-hart.hart c.run_block.new.hart (g.M.CacheRam.state c.loop-hart.ram) (g.M.CacheRam.state c.run_block.new.ram) c.in-Ok-Some.is c.in-Ok-Some.field-0-is c.run_block.ensures in
+    let begin = begins (g.R.CacheRom.policy (g.R.CacheRom.setting c.args.rom.now)) c.args.image.now c.args.n (g.R.CacheRom.span (g.R.CacheRom.setting c.args.rom.now)) c.args.hart.now (g.R.CacheRom.kept c.args.rom.now) (g.M.CacheRam.state c.args.ram.now) (g.I.Source.left c.args.input.now) (g.O.Sink.held c.args.out.now) (g.E.Sink.held c.args.err.now) c.requires.fits c.requires.limit (g.R.CacheRom.kept c.loop-hart.rom) (g.I.Source.left c.loop-hart.input) (g.O.Sink.held c.loop-hart.out) (g.E.Sink.held c.loop-hart.err) c.loop-hart.hart (g.M.CacheRam.state c.loop-hart.ram) coherent (λ b o t is. g.met.R.CacheRom.first (g.R.CacheRom.setting c.args.rom.now) (g.R.CacheRom.kept c.loop-hart.rom) c.args.image.now b o t is) c.loop-hart.invariant.running c.loop-hart.invariant.settles running c.origin_pc-pc.ensures.word in
+    let ended = before_word c.args.image.now (g.R.CacheRom.kept c.loop-hart.rom) c.run_block.result c.in-Ok-Some.field-0 c.in-Ok-Some.got c.args.n c.loop-hart.hart c.run_block.new.hart (g.M.CacheRam.state c.loop-hart.ram) (g.M.CacheRam.state c.run_block.new.ram) c.in-Ok-Some.is c.in-Ok-Some.field-0-is c.run_block.ensures in
     let s = walk (g.R.CacheRom.policy (g.R.CacheRom.setting c.args.rom.now)) c.args.image.now c.args.n (g.R.CacheRom.span (g.R.CacheRom.setting c.args.rom.now)) c.args.hart.now (g.R.CacheRom.kept c.args.rom.now) (g.M.CacheRam.state c.args.ram.now) (g.I.Source.left c.args.input.now) (g.O.Sink.held c.args.out.now) (g.E.Sink.held c.args.err.now) c.requires.fits c.requires.limit (g.R.CacheRom.kept c.loop-hart.rom) (g.I.Source.left c.loop-hart.input) (g.O.Sink.held c.loop-hart.out) (g.E.Sink.held c.loop-hart.err) c.loop-hart.hart (g.M.CacheRam.state c.loop-hart.ram) coherent begin c.run_block.new.hart ended.before ended.walked in
     s.going
 
@@ -222,8 +220,8 @@ at_word-requires-clause-word g c =
     let more : c.loop-hart.hart.machine.steps < c.args.n = omega (arith, c.loop-hart-test.true, seen) in
     let running : c.loop-hart.hart.machine.ending ≡ None = search rules in
     let coherent = subst (λ (k : List ℕ). Coherent c.args.image.now (g.R.CacheRom.kept c.loop-hart.rom) (g.R.CacheRom.span k) (g.M.CacheRam.state c.loop-hart.ram).words) c.loop-hart.invariant.setting (g.met.R.CacheRom.coherent _ _ _ c.loop-hart.invariant.sound) in
-    let begin = begins (g.R.CacheRom.policy (g.R.CacheRom.setting c.args.rom.now)) c.args.image.now c.args.n (g.R.CacheRom.span (g.R.CacheRom.setting c.args.rom.now)) c.args.hart.now (g.R.CacheRom.kept c.args.rom.now) (g.M.CacheRam.state c.args.ram.now) (g.I.Source.left c.args.input.now) (g.O.Sink.held c.args.out.now) (g.E.Sink.held c.args.err.now) c.requires.fits c.requires.limit (g.R.CacheRom.kept c.loop-hart.rom) (g.I.Source.left c.loop-hart.input) (g.O.Sink.held c.loop-hart.out) (g.E.Sink.held c.loop-hart.err) c.loop-hart.hart (g.M.CacheRam.state c.loop-hart.ram) coherent c.loop-hart.invariant.running c.loop-hart.invariant.settles running c.origin_pc-pc.ensures.word in
-    let ended = before_word c.run_block.result c.in-Ok-Some.field-0 c.in-Ok-Some.got c.args.n c.loop-hart.hart c.run_block.new.hart (g.M.CacheRam.state c.loop-hart.ram) (g.M.CacheRam.state c.run_block.new.ram) c.in-Ok-Some.is c.in-Ok-Some.field-0-is c.run_block.ensures in
+    let begin = begins (g.R.CacheRom.policy (g.R.CacheRom.setting c.args.rom.now)) c.args.image.now c.args.n (g.R.CacheRom.span (g.R.CacheRom.setting c.args.rom.now)) c.args.hart.now (g.R.CacheRom.kept c.args.rom.now) (g.M.CacheRam.state c.args.ram.now) (g.I.Source.left c.args.input.now) (g.O.Sink.held c.args.out.now) (g.E.Sink.held c.args.err.now) c.requires.fits c.requires.limit (g.R.CacheRom.kept c.loop-hart.rom) (g.I.Source.left c.loop-hart.input) (g.O.Sink.held c.loop-hart.out) (g.E.Sink.held c.loop-hart.err) c.loop-hart.hart (g.M.CacheRam.state c.loop-hart.ram) coherent (λ b o t is. g.met.R.CacheRom.first (g.R.CacheRom.setting c.args.rom.now) (g.R.CacheRom.kept c.loop-hart.rom) c.args.image.now b o t is) c.loop-hart.invariant.running c.loop-hart.invariant.settles running c.origin_pc-pc.ensures.word in
+    let ended = before_word c.args.image.now (g.R.CacheRom.kept c.loop-hart.rom) c.run_block.result c.in-Ok-Some.field-0 c.in-Ok-Some.got c.args.n c.loop-hart.hart c.run_block.new.hart (g.M.CacheRam.state c.loop-hart.ram) (g.M.CacheRam.state c.run_block.new.ram) c.in-Ok-Some.is c.in-Ok-Some.field-0-is c.run_block.ensures in
     let s = walk (g.R.CacheRom.policy (g.R.CacheRom.setting c.args.rom.now)) c.args.image.now c.args.n (g.R.CacheRom.span (g.R.CacheRom.setting c.args.rom.now)) c.args.hart.now (g.R.CacheRom.kept c.args.rom.now) (g.M.CacheRam.state c.args.ram.now) (g.I.Source.left c.args.input.now) (g.O.Sink.held c.args.out.now) (g.E.Sink.held c.args.err.now) c.requires.fits c.requires.limit (g.R.CacheRom.kept c.loop-hart.rom) (g.I.Source.left c.loop-hart.input) (g.O.Sink.held c.loop-hart.out) (g.E.Sink.held c.loop-hart.err) c.loop-hart.hart (g.M.CacheRam.state c.loop-hart.ram) coherent begin c.run_block.new.hart ended.before ended.walked in
     s.short
 
@@ -233,8 +231,8 @@ at_word-requires-clause-count g c =
     let more : c.loop-hart.hart.machine.steps < c.args.n = omega (arith, c.loop-hart-test.true, seen) in
     let running : c.loop-hart.hart.machine.ending ≡ None = search rules in
     let coherent = subst (λ (k : List ℕ). Coherent c.args.image.now (g.R.CacheRom.kept c.loop-hart.rom) (g.R.CacheRom.span k) (g.M.CacheRam.state c.loop-hart.ram).words) c.loop-hart.invariant.setting (g.met.R.CacheRom.coherent _ _ _ c.loop-hart.invariant.sound) in
-    let begin = begins (g.R.CacheRom.policy (g.R.CacheRom.setting c.args.rom.now)) c.args.image.now c.args.n (g.R.CacheRom.span (g.R.CacheRom.setting c.args.rom.now)) c.args.hart.now (g.R.CacheRom.kept c.args.rom.now) (g.M.CacheRam.state c.args.ram.now) (g.I.Source.left c.args.input.now) (g.O.Sink.held c.args.out.now) (g.E.Sink.held c.args.err.now) c.requires.fits c.requires.limit (g.R.CacheRom.kept c.loop-hart.rom) (g.I.Source.left c.loop-hart.input) (g.O.Sink.held c.loop-hart.out) (g.E.Sink.held c.loop-hart.err) c.loop-hart.hart (g.M.CacheRam.state c.loop-hart.ram) coherent c.loop-hart.invariant.running c.loop-hart.invariant.settles running c.origin_pc-pc.ensures.word in
-    let ended = before_word c.run_block.result c.in-Ok-Some.field-0 c.in-Ok-Some.got c.args.n c.loop-hart.hart c.run_block.new.hart (g.M.CacheRam.state c.loop-hart.ram) (g.M.CacheRam.state c.run_block.new.ram) c.in-Ok-Some.is c.in-Ok-Some.field-0-is c.run_block.ensures in
+    let begin = begins (g.R.CacheRom.policy (g.R.CacheRom.setting c.args.rom.now)) c.args.image.now c.args.n (g.R.CacheRom.span (g.R.CacheRom.setting c.args.rom.now)) c.args.hart.now (g.R.CacheRom.kept c.args.rom.now) (g.M.CacheRam.state c.args.ram.now) (g.I.Source.left c.args.input.now) (g.O.Sink.held c.args.out.now) (g.E.Sink.held c.args.err.now) c.requires.fits c.requires.limit (g.R.CacheRom.kept c.loop-hart.rom) (g.I.Source.left c.loop-hart.input) (g.O.Sink.held c.loop-hart.out) (g.E.Sink.held c.loop-hart.err) c.loop-hart.hart (g.M.CacheRam.state c.loop-hart.ram) coherent (λ b o t is. g.met.R.CacheRom.first (g.R.CacheRom.setting c.args.rom.now) (g.R.CacheRom.kept c.loop-hart.rom) c.args.image.now b o t is) c.loop-hart.invariant.running c.loop-hart.invariant.settles running c.origin_pc-pc.ensures.word in
+    let ended = before_word c.args.image.now (g.R.CacheRom.kept c.loop-hart.rom) c.run_block.result c.in-Ok-Some.field-0 c.in-Ok-Some.got c.args.n c.loop-hart.hart c.run_block.new.hart (g.M.CacheRam.state c.loop-hart.ram) (g.M.CacheRam.state c.run_block.new.ram) c.in-Ok-Some.is c.in-Ok-Some.field-0-is c.run_block.ensures in
     let s = walk (g.R.CacheRom.policy (g.R.CacheRom.setting c.args.rom.now)) c.args.image.now c.args.n (g.R.CacheRom.span (g.R.CacheRom.setting c.args.rom.now)) c.args.hart.now (g.R.CacheRom.kept c.args.rom.now) (g.M.CacheRam.state c.args.ram.now) (g.I.Source.left c.args.input.now) (g.O.Sink.held c.args.out.now) (g.E.Sink.held c.args.err.now) c.requires.fits c.requires.limit (g.R.CacheRom.kept c.loop-hart.rom) (g.I.Source.left c.loop-hart.input) (g.O.Sink.held c.loop-hart.out) (g.E.Sink.held c.loop-hart.err) c.loop-hart.hart (g.M.CacheRam.state c.loop-hart.ram) coherent begin c.run_block.new.hart ended.before ended.walked in
     count_small (g.R.CacheRom.policy (g.R.CacheRom.setting c.args.rom.now)) c.args.image.now c.args.n (g.R.CacheRom.span (g.R.CacheRom.setting c.args.rom.now)) c.args.hart.now (g.R.CacheRom.kept c.args.rom.now) (g.M.CacheRam.state c.args.ram.now) (g.I.Source.left c.args.input.now) (g.O.Sink.held c.args.out.now) (g.E.Sink.held c.args.err.now) c.run_block.new.hart (g.R.CacheRom.kept c.loop-hart.rom) ended.before (g.I.Source.left c.loop-hart.input) (g.O.Sink.held c.loop-hart.out) (g.E.Sink.held c.loop-hart.err) s.running ended.below s.going s.short c.requires.limit c.requires.count
 
@@ -244,8 +242,8 @@ at_word-requires-clause-fits g c =
     let more : c.loop-hart.hart.machine.steps < c.args.n = omega (arith, c.loop-hart-test.true, seen) in
     let running : c.loop-hart.hart.machine.ending ≡ None = search rules in
     let coherent = subst (λ (k : List ℕ). Coherent c.args.image.now (g.R.CacheRom.kept c.loop-hart.rom) (g.R.CacheRom.span k) (g.M.CacheRam.state c.loop-hart.ram).words) c.loop-hart.invariant.setting (g.met.R.CacheRom.coherent _ _ _ c.loop-hart.invariant.sound) in
-    let begin = begins (g.R.CacheRom.policy (g.R.CacheRom.setting c.args.rom.now)) c.args.image.now c.args.n (g.R.CacheRom.span (g.R.CacheRom.setting c.args.rom.now)) c.args.hart.now (g.R.CacheRom.kept c.args.rom.now) (g.M.CacheRam.state c.args.ram.now) (g.I.Source.left c.args.input.now) (g.O.Sink.held c.args.out.now) (g.E.Sink.held c.args.err.now) c.requires.fits c.requires.limit (g.R.CacheRom.kept c.loop-hart.rom) (g.I.Source.left c.loop-hart.input) (g.O.Sink.held c.loop-hart.out) (g.E.Sink.held c.loop-hart.err) c.loop-hart.hart (g.M.CacheRam.state c.loop-hart.ram) coherent c.loop-hart.invariant.running c.loop-hart.invariant.settles running c.origin_pc-pc.ensures.word in
-    let ended = before_word c.run_block.result c.in-Ok-Some.field-0 c.in-Ok-Some.got c.args.n c.loop-hart.hart c.run_block.new.hart (g.M.CacheRam.state c.loop-hart.ram) (g.M.CacheRam.state c.run_block.new.ram) c.in-Ok-Some.is c.in-Ok-Some.field-0-is c.run_block.ensures in
+    let begin = begins (g.R.CacheRom.policy (g.R.CacheRom.setting c.args.rom.now)) c.args.image.now c.args.n (g.R.CacheRom.span (g.R.CacheRom.setting c.args.rom.now)) c.args.hart.now (g.R.CacheRom.kept c.args.rom.now) (g.M.CacheRam.state c.args.ram.now) (g.I.Source.left c.args.input.now) (g.O.Sink.held c.args.out.now) (g.E.Sink.held c.args.err.now) c.requires.fits c.requires.limit (g.R.CacheRom.kept c.loop-hart.rom) (g.I.Source.left c.loop-hart.input) (g.O.Sink.held c.loop-hart.out) (g.E.Sink.held c.loop-hart.err) c.loop-hart.hart (g.M.CacheRam.state c.loop-hart.ram) coherent (λ b o t is. g.met.R.CacheRom.first (g.R.CacheRom.setting c.args.rom.now) (g.R.CacheRom.kept c.loop-hart.rom) c.args.image.now b o t is) c.loop-hart.invariant.running c.loop-hart.invariant.settles running c.origin_pc-pc.ensures.word in
+    let ended = before_word c.args.image.now (g.R.CacheRom.kept c.loop-hart.rom) c.run_block.result c.in-Ok-Some.field-0 c.in-Ok-Some.got c.args.n c.loop-hart.hart c.run_block.new.hart (g.M.CacheRam.state c.loop-hart.ram) (g.M.CacheRam.state c.run_block.new.ram) c.in-Ok-Some.is c.in-Ok-Some.field-0-is c.run_block.ensures in
     let s = walk (g.R.CacheRom.policy (g.R.CacheRom.setting c.args.rom.now)) c.args.image.now c.args.n (g.R.CacheRom.span (g.R.CacheRom.setting c.args.rom.now)) c.args.hart.now (g.R.CacheRom.kept c.args.rom.now) (g.M.CacheRam.state c.args.ram.now) (g.I.Source.left c.args.input.now) (g.O.Sink.held c.args.out.now) (g.E.Sink.held c.args.err.now) c.requires.fits c.requires.limit (g.R.CacheRom.kept c.loop-hart.rom) (g.I.Source.left c.loop-hart.input) (g.O.Sink.held c.loop-hart.out) (g.E.Sink.held c.loop-hart.err) c.loop-hart.hart (g.M.CacheRam.state c.loop-hart.ram) coherent begin c.run_block.new.hart ended.before ended.walked in
     s.running.fits
 
@@ -255,8 +253,8 @@ at_word-requires-clause-home g c =
     let more : c.loop-hart.hart.machine.steps < c.args.n = omega (arith, c.loop-hart-test.true, seen) in
     let running : c.loop-hart.hart.machine.ending ≡ None = search rules in
     let coherent = subst (λ (k : List ℕ). Coherent c.args.image.now (g.R.CacheRom.kept c.loop-hart.rom) (g.R.CacheRom.span k) (g.M.CacheRam.state c.loop-hart.ram).words) c.loop-hart.invariant.setting (g.met.R.CacheRom.coherent _ _ _ c.loop-hart.invariant.sound) in
-    let begin = begins (g.R.CacheRom.policy (g.R.CacheRom.setting c.args.rom.now)) c.args.image.now c.args.n (g.R.CacheRom.span (g.R.CacheRom.setting c.args.rom.now)) c.args.hart.now (g.R.CacheRom.kept c.args.rom.now) (g.M.CacheRam.state c.args.ram.now) (g.I.Source.left c.args.input.now) (g.O.Sink.held c.args.out.now) (g.E.Sink.held c.args.err.now) c.requires.fits c.requires.limit (g.R.CacheRom.kept c.loop-hart.rom) (g.I.Source.left c.loop-hart.input) (g.O.Sink.held c.loop-hart.out) (g.E.Sink.held c.loop-hart.err) c.loop-hart.hart (g.M.CacheRam.state c.loop-hart.ram) coherent c.loop-hart.invariant.running c.loop-hart.invariant.settles running c.origin_pc-pc.ensures.word in
-    let ended = before_word c.run_block.result c.in-Ok-Some.field-0 c.in-Ok-Some.got c.args.n c.loop-hart.hart c.run_block.new.hart (g.M.CacheRam.state c.loop-hart.ram) (g.M.CacheRam.state c.run_block.new.ram) c.in-Ok-Some.is c.in-Ok-Some.field-0-is c.run_block.ensures in
+    let begin = begins (g.R.CacheRom.policy (g.R.CacheRom.setting c.args.rom.now)) c.args.image.now c.args.n (g.R.CacheRom.span (g.R.CacheRom.setting c.args.rom.now)) c.args.hart.now (g.R.CacheRom.kept c.args.rom.now) (g.M.CacheRam.state c.args.ram.now) (g.I.Source.left c.args.input.now) (g.O.Sink.held c.args.out.now) (g.E.Sink.held c.args.err.now) c.requires.fits c.requires.limit (g.R.CacheRom.kept c.loop-hart.rom) (g.I.Source.left c.loop-hart.input) (g.O.Sink.held c.loop-hart.out) (g.E.Sink.held c.loop-hart.err) c.loop-hart.hart (g.M.CacheRam.state c.loop-hart.ram) coherent (λ b o t is. g.met.R.CacheRom.first (g.R.CacheRom.setting c.args.rom.now) (g.R.CacheRom.kept c.loop-hart.rom) c.args.image.now b o t is) c.loop-hart.invariant.running c.loop-hart.invariant.settles running c.origin_pc-pc.ensures.word in
+    let ended = before_word c.args.image.now (g.R.CacheRom.kept c.loop-hart.rom) c.run_block.result c.in-Ok-Some.field-0 c.in-Ok-Some.got c.args.n c.loop-hart.hart c.run_block.new.hart (g.M.CacheRam.state c.loop-hart.ram) (g.M.CacheRam.state c.run_block.new.ram) c.in-Ok-Some.is c.in-Ok-Some.field-0-is c.run_block.ensures in
     let s = walk (g.R.CacheRom.policy (g.R.CacheRom.setting c.args.rom.now)) c.args.image.now c.args.n (g.R.CacheRom.span (g.R.CacheRom.setting c.args.rom.now)) c.args.hart.now (g.R.CacheRom.kept c.args.rom.now) (g.M.CacheRam.state c.args.ram.now) (g.I.Source.left c.args.input.now) (g.O.Sink.held c.args.out.now) (g.E.Sink.held c.args.err.now) c.requires.fits c.requires.limit (g.R.CacheRom.kept c.loop-hart.rom) (g.I.Source.left c.loop-hart.input) (g.O.Sink.held c.loop-hart.out) (g.E.Sink.held c.loop-hart.err) c.loop-hart.hart (g.M.CacheRam.state c.loop-hart.ram) coherent begin c.run_block.new.hart ended.before ended.walked in
     let control = sym (ap (λ (h : HartData). h.control) c.hart-in-loop-hart.view_is) ∙ sym c.control.ensures ∙ c.in-At.is in
     home_at (g.R.CacheRom.policy (g.R.CacheRom.setting c.args.rom.now)) c.args.image.now c.args.n (g.R.CacheRom.span (g.R.CacheRom.setting c.args.rom.now)) c.args.hart.now (g.R.CacheRom.kept c.args.rom.now) (g.M.CacheRam.state c.args.ram.now) (g.I.Source.left c.args.input.now) (g.O.Sink.held c.args.out.now) (g.E.Sink.held c.args.err.now) c.requires.fits c.requires.limit (g.R.CacheRom.kept c.loop-hart.rom) (g.I.Source.left c.loop-hart.input) (g.O.Sink.held c.loop-hart.out) (g.E.Sink.held c.loop-hart.err) c.loop-hart.hart (g.M.CacheRam.state c.loop-hart.ram) coherent c.run_block.new.hart ended.before c.in-At.i c.in-At.b c.in-At.o c.in-At.stage s control
@@ -267,8 +265,8 @@ at_word-requires-clause-sound g c =
     let more : c.loop-hart.hart.machine.steps < c.args.n = omega (arith, c.loop-hart-test.true, seen) in
     let running : c.loop-hart.hart.machine.ending ≡ None = search rules in
     let coherent = subst (λ (k : List ℕ). Coherent c.args.image.now (g.R.CacheRom.kept c.loop-hart.rom) (g.R.CacheRom.span k) (g.M.CacheRam.state c.loop-hart.ram).words) c.loop-hart.invariant.setting (g.met.R.CacheRom.coherent _ _ _ c.loop-hart.invariant.sound) in
-    let begin = begins (g.R.CacheRom.policy (g.R.CacheRom.setting c.args.rom.now)) c.args.image.now c.args.n (g.R.CacheRom.span (g.R.CacheRom.setting c.args.rom.now)) c.args.hart.now (g.R.CacheRom.kept c.args.rom.now) (g.M.CacheRam.state c.args.ram.now) (g.I.Source.left c.args.input.now) (g.O.Sink.held c.args.out.now) (g.E.Sink.held c.args.err.now) c.requires.fits c.requires.limit (g.R.CacheRom.kept c.loop-hart.rom) (g.I.Source.left c.loop-hart.input) (g.O.Sink.held c.loop-hart.out) (g.E.Sink.held c.loop-hart.err) c.loop-hart.hart (g.M.CacheRam.state c.loop-hart.ram) coherent c.loop-hart.invariant.running c.loop-hart.invariant.settles running c.origin_pc-pc.ensures.word in
-    let ended = before_word c.run_block.result c.in-Ok-Some.field-0 c.in-Ok-Some.got c.args.n c.loop-hart.hart c.run_block.new.hart (g.M.CacheRam.state c.loop-hart.ram) (g.M.CacheRam.state c.run_block.new.ram) c.in-Ok-Some.is c.in-Ok-Some.field-0-is c.run_block.ensures in
+    let begin = begins (g.R.CacheRom.policy (g.R.CacheRom.setting c.args.rom.now)) c.args.image.now c.args.n (g.R.CacheRom.span (g.R.CacheRom.setting c.args.rom.now)) c.args.hart.now (g.R.CacheRom.kept c.args.rom.now) (g.M.CacheRam.state c.args.ram.now) (g.I.Source.left c.args.input.now) (g.O.Sink.held c.args.out.now) (g.E.Sink.held c.args.err.now) c.requires.fits c.requires.limit (g.R.CacheRom.kept c.loop-hart.rom) (g.I.Source.left c.loop-hart.input) (g.O.Sink.held c.loop-hart.out) (g.E.Sink.held c.loop-hart.err) c.loop-hart.hart (g.M.CacheRam.state c.loop-hart.ram) coherent (λ b o t is. g.met.R.CacheRom.first (g.R.CacheRom.setting c.args.rom.now) (g.R.CacheRom.kept c.loop-hart.rom) c.args.image.now b o t is) c.loop-hart.invariant.running c.loop-hart.invariant.settles running c.origin_pc-pc.ensures.word in
+    let ended = before_word c.args.image.now (g.R.CacheRom.kept c.loop-hart.rom) c.run_block.result c.in-Ok-Some.field-0 c.in-Ok-Some.got c.args.n c.loop-hart.hart c.run_block.new.hart (g.M.CacheRam.state c.loop-hart.ram) (g.M.CacheRam.state c.run_block.new.ram) c.in-Ok-Some.is c.in-Ok-Some.field-0-is c.run_block.ensures in
     let s = walk (g.R.CacheRom.policy (g.R.CacheRom.setting c.args.rom.now)) c.args.image.now c.args.n (g.R.CacheRom.span (g.R.CacheRom.setting c.args.rom.now)) c.args.hart.now (g.R.CacheRom.kept c.args.rom.now) (g.M.CacheRam.state c.args.ram.now) (g.I.Source.left c.args.input.now) (g.O.Sink.held c.args.out.now) (g.E.Sink.held c.args.err.now) c.requires.fits c.requires.limit (g.R.CacheRom.kept c.loop-hart.rom) (g.I.Source.left c.loop-hart.input) (g.O.Sink.held c.loop-hart.out) (g.E.Sink.held c.loop-hart.err) c.loop-hart.hart (g.M.CacheRam.state c.loop-hart.ram) coherent begin c.run_block.new.hart ended.before ended.walked in
     let words = ap (λ (k : RamState). k.words) ended.answered.1 ∙ s.words in
     subst (λ (k : List ℕ). g.R.CacheRom.sound c.loop-hart.rom c.args.image.now k) (sym words) c.loop-hart.invariant.sound
@@ -279,8 +277,8 @@ loop-hart-smaller g c =
     let more : c.loop-hart.hart.machine.steps < c.args.n = omega (arith, c.loop-hart-test.true, seen) in
     let running : c.loop-hart.hart.machine.ending ≡ None = search rules in
     let coherent = subst (λ (k : List ℕ). Coherent c.args.image.now (g.R.CacheRom.kept c.loop-hart.rom) (g.R.CacheRom.span k) (g.M.CacheRam.state c.loop-hart.ram).words) c.loop-hart.invariant.setting (g.met.R.CacheRom.coherent _ _ _ c.loop-hart.invariant.sound) in
-    let begin = begins (g.R.CacheRom.policy (g.R.CacheRom.setting c.args.rom.now)) c.args.image.now c.args.n (g.R.CacheRom.span (g.R.CacheRom.setting c.args.rom.now)) c.args.hart.now (g.R.CacheRom.kept c.args.rom.now) (g.M.CacheRam.state c.args.ram.now) (g.I.Source.left c.args.input.now) (g.O.Sink.held c.args.out.now) (g.E.Sink.held c.args.err.now) c.requires.fits c.requires.limit (g.R.CacheRom.kept c.loop-hart.rom) (g.I.Source.left c.loop-hart.input) (g.O.Sink.held c.loop-hart.out) (g.E.Sink.held c.loop-hart.err) c.loop-hart.hart (g.M.CacheRam.state c.loop-hart.ram) coherent c.loop-hart.invariant.running c.loop-hart.invariant.settles running c.origin_pc-pc.ensures.word in
-    let ended = before_word c.run_block.result c.in-Ok-Some.field-0 c.in-Ok-Some.got c.args.n c.loop-hart.hart c.run_block.new.hart (g.M.CacheRam.state c.loop-hart.ram) (g.M.CacheRam.state c.run_block.new.ram) c.in-Ok-Some.is c.in-Ok-Some.field-0-is c.run_block.ensures in
+    let begin = begins (g.R.CacheRom.policy (g.R.CacheRom.setting c.args.rom.now)) c.args.image.now c.args.n (g.R.CacheRom.span (g.R.CacheRom.setting c.args.rom.now)) c.args.hart.now (g.R.CacheRom.kept c.args.rom.now) (g.M.CacheRam.state c.args.ram.now) (g.I.Source.left c.args.input.now) (g.O.Sink.held c.args.out.now) (g.E.Sink.held c.args.err.now) c.requires.fits c.requires.limit (g.R.CacheRom.kept c.loop-hart.rom) (g.I.Source.left c.loop-hart.input) (g.O.Sink.held c.loop-hart.out) (g.E.Sink.held c.loop-hart.err) c.loop-hart.hart (g.M.CacheRam.state c.loop-hart.ram) coherent (λ b o t is. g.met.R.CacheRom.first (g.R.CacheRom.setting c.args.rom.now) (g.R.CacheRom.kept c.loop-hart.rom) c.args.image.now b o t is) c.loop-hart.invariant.running c.loop-hart.invariant.settles running c.origin_pc-pc.ensures.word in
+    let ended = before_word c.args.image.now (g.R.CacheRom.kept c.loop-hart.rom) c.run_block.result c.in-Ok-Some.field-0 c.in-Ok-Some.got c.args.n c.loop-hart.hart c.run_block.new.hart (g.M.CacheRam.state c.loop-hart.ram) (g.M.CacheRam.state c.run_block.new.ram) c.in-Ok-Some.is c.in-Ok-Some.field-0-is c.run_block.ensures in
     let s = walk (g.R.CacheRom.policy (g.R.CacheRom.setting c.args.rom.now)) c.args.image.now c.args.n (g.R.CacheRom.span (g.R.CacheRom.setting c.args.rom.now)) c.args.hart.now (g.R.CacheRom.kept c.args.rom.now) (g.M.CacheRam.state c.args.ram.now) (g.I.Source.left c.args.input.now) (g.O.Sink.held c.args.out.now) (g.E.Sink.held c.args.err.now) c.requires.fits c.requires.limit (g.R.CacheRom.kept c.loop-hart.rom) (g.I.Source.left c.loop-hart.input) (g.O.Sink.held c.loop-hart.out) (g.E.Sink.held c.loop-hart.err) c.loop-hart.hart (g.M.CacheRam.state c.loop-hart.ram) coherent begin c.run_block.new.hart ended.before ended.walked in
     let less = falls c.args.image.now c.args.n _ _ c.run_block.new.hart c.at_word.new.hart ended.below s.going c.in-Ok-at_word.ensures.grown in
     let most = no_higher (g.R.CacheRom.policy (g.R.CacheRom.setting c.args.rom.now)) c.args.image.now c.args.n (g.R.CacheRom.span (g.R.CacheRom.setting c.args.rom.now)) c.args.hart.now (g.R.CacheRom.kept c.args.rom.now) (g.M.CacheRam.state c.args.ram.now) (g.I.Source.left c.args.input.now) (g.O.Sink.held c.args.out.now) (g.E.Sink.held c.args.err.now) c.requires.fits c.requires.limit (g.R.CacheRom.kept c.loop-hart.rom) (g.I.Source.left c.loop-hart.input) (g.O.Sink.held c.loop-hart.out) (g.E.Sink.held c.loop-hart.err) c.loop-hart.hart (g.M.CacheRam.state c.loop-hart.ram) coherent c.run_block.new.hart ended.before s in
@@ -292,8 +290,8 @@ loop-hart-preserved g c =
     let more : c.loop-hart.hart.machine.steps < c.args.n = omega (arith, c.loop-hart-test.true, seen) in
     let running : c.loop-hart.hart.machine.ending ≡ None = search rules in
     let coherent = subst (λ (k : List ℕ). Coherent c.args.image.now (g.R.CacheRom.kept c.loop-hart.rom) (g.R.CacheRom.span k) (g.M.CacheRam.state c.loop-hart.ram).words) c.loop-hart.invariant.setting (g.met.R.CacheRom.coherent _ _ _ c.loop-hart.invariant.sound) in
-    let begin = begins (g.R.CacheRom.policy (g.R.CacheRom.setting c.args.rom.now)) c.args.image.now c.args.n (g.R.CacheRom.span (g.R.CacheRom.setting c.args.rom.now)) c.args.hart.now (g.R.CacheRom.kept c.args.rom.now) (g.M.CacheRam.state c.args.ram.now) (g.I.Source.left c.args.input.now) (g.O.Sink.held c.args.out.now) (g.E.Sink.held c.args.err.now) c.requires.fits c.requires.limit (g.R.CacheRom.kept c.loop-hart.rom) (g.I.Source.left c.loop-hart.input) (g.O.Sink.held c.loop-hart.out) (g.E.Sink.held c.loop-hart.err) c.loop-hart.hart (g.M.CacheRam.state c.loop-hart.ram) coherent c.loop-hart.invariant.running c.loop-hart.invariant.settles running c.origin_pc-pc.ensures.word in
-    let ended = before_word c.run_block.result c.in-Ok-Some.field-0 c.in-Ok-Some.got c.args.n c.loop-hart.hart c.run_block.new.hart (g.M.CacheRam.state c.loop-hart.ram) (g.M.CacheRam.state c.run_block.new.ram) c.in-Ok-Some.is c.in-Ok-Some.field-0-is c.run_block.ensures in
+    let begin = begins (g.R.CacheRom.policy (g.R.CacheRom.setting c.args.rom.now)) c.args.image.now c.args.n (g.R.CacheRom.span (g.R.CacheRom.setting c.args.rom.now)) c.args.hart.now (g.R.CacheRom.kept c.args.rom.now) (g.M.CacheRam.state c.args.ram.now) (g.I.Source.left c.args.input.now) (g.O.Sink.held c.args.out.now) (g.E.Sink.held c.args.err.now) c.requires.fits c.requires.limit (g.R.CacheRom.kept c.loop-hart.rom) (g.I.Source.left c.loop-hart.input) (g.O.Sink.held c.loop-hart.out) (g.E.Sink.held c.loop-hart.err) c.loop-hart.hart (g.M.CacheRam.state c.loop-hart.ram) coherent (λ b o t is. g.met.R.CacheRom.first (g.R.CacheRom.setting c.args.rom.now) (g.R.CacheRom.kept c.loop-hart.rom) c.args.image.now b o t is) c.loop-hart.invariant.running c.loop-hart.invariant.settles running c.origin_pc-pc.ensures.word in
+    let ended = before_word c.args.image.now (g.R.CacheRom.kept c.loop-hart.rom) c.run_block.result c.in-Ok-Some.field-0 c.in-Ok-Some.got c.args.n c.loop-hart.hart c.run_block.new.hart (g.M.CacheRam.state c.loop-hart.ram) (g.M.CacheRam.state c.run_block.new.ram) c.in-Ok-Some.is c.in-Ok-Some.field-0-is c.run_block.ensures in
     let s = walk (g.R.CacheRom.policy (g.R.CacheRom.setting c.args.rom.now)) c.args.image.now c.args.n (g.R.CacheRom.span (g.R.CacheRom.setting c.args.rom.now)) c.args.hart.now (g.R.CacheRom.kept c.args.rom.now) (g.M.CacheRam.state c.args.ram.now) (g.I.Source.left c.args.input.now) (g.O.Sink.held c.args.out.now) (g.E.Sink.held c.args.err.now) c.requires.fits c.requires.limit (g.R.CacheRom.kept c.loop-hart.rom) (g.I.Source.left c.loop-hart.input) (g.O.Sink.held c.loop-hart.out) (g.E.Sink.held c.loop-hart.err) c.loop-hart.hart (g.M.CacheRam.state c.loop-hart.ram) coherent begin c.run_block.new.hart ended.before ended.walked in
     let control = sym (ap (λ (h : HartData). h.control) c.hart-in-loop-hart.view_is) ∙ sym c.control.ensures ∙ c.in-At.is in
     let at = home_at (g.R.CacheRom.policy (g.R.CacheRom.setting c.args.rom.now)) c.args.image.now c.args.n (g.R.CacheRom.span (g.R.CacheRom.setting c.args.rom.now)) c.args.hart.now (g.R.CacheRom.kept c.args.rom.now) (g.M.CacheRam.state c.args.ram.now) (g.I.Source.left c.args.input.now) (g.O.Sink.held c.args.out.now) (g.E.Sink.held c.args.err.now) c.requires.fits c.requires.limit (g.R.CacheRom.kept c.loop-hart.rom) (g.I.Source.left c.loop-hart.input) (g.O.Sink.held c.loop-hart.out) (g.E.Sink.held c.loop-hart.err) c.loop-hart.hart (g.M.CacheRam.state c.loop-hart.ram) coherent c.run_block.new.hart ended.before c.in-At.i c.in-At.b c.in-At.o c.in-At.stage s control in
@@ -325,8 +323,8 @@ returns-in-Err-at_word-clause-kept g c =
     let more : c.loop-hart.hart.machine.steps < c.args.n = omega (arith, c.loop-hart-test.true, seen) in
     let running : c.loop-hart.hart.machine.ending ≡ None = search rules in
     let coherent = subst (λ (k : List ℕ). Coherent c.args.image.now (g.R.CacheRom.kept c.loop-hart.rom) (g.R.CacheRom.span k) (g.M.CacheRam.state c.loop-hart.ram).words) c.loop-hart.invariant.setting (g.met.R.CacheRom.coherent _ _ _ c.loop-hart.invariant.sound) in
-    let begin = begins (g.R.CacheRom.policy (g.R.CacheRom.setting c.args.rom.now)) c.args.image.now c.args.n (g.R.CacheRom.span (g.R.CacheRom.setting c.args.rom.now)) c.args.hart.now (g.R.CacheRom.kept c.args.rom.now) (g.M.CacheRam.state c.args.ram.now) (g.I.Source.left c.args.input.now) (g.O.Sink.held c.args.out.now) (g.E.Sink.held c.args.err.now) c.requires.fits c.requires.limit (g.R.CacheRom.kept c.loop-hart.rom) (g.I.Source.left c.loop-hart.input) (g.O.Sink.held c.loop-hart.out) (g.E.Sink.held c.loop-hart.err) c.loop-hart.hart (g.M.CacheRam.state c.loop-hart.ram) coherent c.loop-hart.invariant.running c.loop-hart.invariant.settles running c.origin_pc-pc.ensures.word in
-    let ended = before_word c.run_block.result c.in-Ok-Some.field-0 c.in-Ok-Some.got c.args.n c.loop-hart.hart c.run_block.new.hart (g.M.CacheRam.state c.loop-hart.ram) (g.M.CacheRam.state c.run_block.new.ram) c.in-Ok-Some.is c.in-Ok-Some.field-0-is c.run_block.ensures in
+    let begin = begins (g.R.CacheRom.policy (g.R.CacheRom.setting c.args.rom.now)) c.args.image.now c.args.n (g.R.CacheRom.span (g.R.CacheRom.setting c.args.rom.now)) c.args.hart.now (g.R.CacheRom.kept c.args.rom.now) (g.M.CacheRam.state c.args.ram.now) (g.I.Source.left c.args.input.now) (g.O.Sink.held c.args.out.now) (g.E.Sink.held c.args.err.now) c.requires.fits c.requires.limit (g.R.CacheRom.kept c.loop-hart.rom) (g.I.Source.left c.loop-hart.input) (g.O.Sink.held c.loop-hart.out) (g.E.Sink.held c.loop-hart.err) c.loop-hart.hart (g.M.CacheRam.state c.loop-hart.ram) coherent (λ b o t is. g.met.R.CacheRom.first (g.R.CacheRom.setting c.args.rom.now) (g.R.CacheRom.kept c.loop-hart.rom) c.args.image.now b o t is) c.loop-hart.invariant.running c.loop-hart.invariant.settles running c.origin_pc-pc.ensures.word in
+    let ended = before_word c.args.image.now (g.R.CacheRom.kept c.loop-hart.rom) c.run_block.result c.in-Ok-Some.field-0 c.in-Ok-Some.got c.args.n c.loop-hart.hart c.run_block.new.hart (g.M.CacheRam.state c.loop-hart.ram) (g.M.CacheRam.state c.run_block.new.ram) c.in-Ok-Some.is c.in-Ok-Some.field-0-is c.run_block.ensures in
     let s = walk (g.R.CacheRom.policy (g.R.CacheRom.setting c.args.rom.now)) c.args.image.now c.args.n (g.R.CacheRom.span (g.R.CacheRom.setting c.args.rom.now)) c.args.hart.now (g.R.CacheRom.kept c.args.rom.now) (g.M.CacheRam.state c.args.ram.now) (g.I.Source.left c.args.input.now) (g.O.Sink.held c.args.out.now) (g.E.Sink.held c.args.err.now) c.requires.fits c.requires.limit (g.R.CacheRom.kept c.loop-hart.rom) (g.I.Source.left c.loop-hart.input) (g.O.Sink.held c.loop-hart.out) (g.E.Sink.held c.loop-hart.err) c.loop-hart.hart (g.M.CacheRam.state c.loop-hart.ram) coherent begin c.run_block.new.hart ended.before ended.walked in
     let control = sym (ap (λ (h : HartData). h.control) c.hart-in-loop-hart.view_is) ∙ sym c.control.ensures ∙ c.in-At.is in
     let at = home_at (g.R.CacheRom.policy (g.R.CacheRom.setting c.args.rom.now)) c.args.image.now c.args.n (g.R.CacheRom.span (g.R.CacheRom.setting c.args.rom.now)) c.args.hart.now (g.R.CacheRom.kept c.args.rom.now) (g.M.CacheRam.state c.args.ram.now) (g.I.Source.left c.args.input.now) (g.O.Sink.held c.args.out.now) (g.E.Sink.held c.args.err.now) c.requires.fits c.requires.limit (g.R.CacheRom.kept c.loop-hart.rom) (g.I.Source.left c.loop-hart.input) (g.O.Sink.held c.loop-hart.out) (g.E.Sink.held c.loop-hart.err) c.loop-hart.hart (g.M.CacheRam.state c.loop-hart.ram) coherent c.run_block.new.hart ended.before c.in-At.i c.in-At.b c.in-At.o c.in-At.stage s control in
@@ -342,8 +340,8 @@ returns-in-Err-at_word-clause-going g c =
     let more : c.loop-hart.hart.machine.steps < c.args.n = omega (arith, c.loop-hart-test.true, seen) in
     let running : c.loop-hart.hart.machine.ending ≡ None = search rules in
     let coherent = subst (λ (k : List ℕ). Coherent c.args.image.now (g.R.CacheRom.kept c.loop-hart.rom) (g.R.CacheRom.span k) (g.M.CacheRam.state c.loop-hart.ram).words) c.loop-hart.invariant.setting (g.met.R.CacheRom.coherent _ _ _ c.loop-hart.invariant.sound) in
-    let begin = begins (g.R.CacheRom.policy (g.R.CacheRom.setting c.args.rom.now)) c.args.image.now c.args.n (g.R.CacheRom.span (g.R.CacheRom.setting c.args.rom.now)) c.args.hart.now (g.R.CacheRom.kept c.args.rom.now) (g.M.CacheRam.state c.args.ram.now) (g.I.Source.left c.args.input.now) (g.O.Sink.held c.args.out.now) (g.E.Sink.held c.args.err.now) c.requires.fits c.requires.limit (g.R.CacheRom.kept c.loop-hart.rom) (g.I.Source.left c.loop-hart.input) (g.O.Sink.held c.loop-hart.out) (g.E.Sink.held c.loop-hart.err) c.loop-hart.hart (g.M.CacheRam.state c.loop-hart.ram) coherent c.loop-hart.invariant.running c.loop-hart.invariant.settles running c.origin_pc-pc.ensures.word in
-    let ended = before_word c.run_block.result c.in-Ok-Some.field-0 c.in-Ok-Some.got c.args.n c.loop-hart.hart c.run_block.new.hart (g.M.CacheRam.state c.loop-hart.ram) (g.M.CacheRam.state c.run_block.new.ram) c.in-Ok-Some.is c.in-Ok-Some.field-0-is c.run_block.ensures in
+    let begin = begins (g.R.CacheRom.policy (g.R.CacheRom.setting c.args.rom.now)) c.args.image.now c.args.n (g.R.CacheRom.span (g.R.CacheRom.setting c.args.rom.now)) c.args.hart.now (g.R.CacheRom.kept c.args.rom.now) (g.M.CacheRam.state c.args.ram.now) (g.I.Source.left c.args.input.now) (g.O.Sink.held c.args.out.now) (g.E.Sink.held c.args.err.now) c.requires.fits c.requires.limit (g.R.CacheRom.kept c.loop-hart.rom) (g.I.Source.left c.loop-hart.input) (g.O.Sink.held c.loop-hart.out) (g.E.Sink.held c.loop-hart.err) c.loop-hart.hart (g.M.CacheRam.state c.loop-hart.ram) coherent (λ b o t is. g.met.R.CacheRom.first (g.R.CacheRom.setting c.args.rom.now) (g.R.CacheRom.kept c.loop-hart.rom) c.args.image.now b o t is) c.loop-hart.invariant.running c.loop-hart.invariant.settles running c.origin_pc-pc.ensures.word in
+    let ended = before_word c.args.image.now (g.R.CacheRom.kept c.loop-hart.rom) c.run_block.result c.in-Ok-Some.field-0 c.in-Ok-Some.got c.args.n c.loop-hart.hart c.run_block.new.hart (g.M.CacheRam.state c.loop-hart.ram) (g.M.CacheRam.state c.run_block.new.ram) c.in-Ok-Some.is c.in-Ok-Some.field-0-is c.run_block.ensures in
     let s = walk (g.R.CacheRom.policy (g.R.CacheRom.setting c.args.rom.now)) c.args.image.now c.args.n (g.R.CacheRom.span (g.R.CacheRom.setting c.args.rom.now)) c.args.hart.now (g.R.CacheRom.kept c.args.rom.now) (g.M.CacheRam.state c.args.ram.now) (g.I.Source.left c.args.input.now) (g.O.Sink.held c.args.out.now) (g.E.Sink.held c.args.err.now) c.requires.fits c.requires.limit (g.R.CacheRom.kept c.loop-hart.rom) (g.I.Source.left c.loop-hart.input) (g.O.Sink.held c.loop-hart.out) (g.E.Sink.held c.loop-hart.err) c.loop-hart.hart (g.M.CacheRam.state c.loop-hart.ram) coherent begin c.run_block.new.hart ended.before ended.walked in
     ap (λ (h : HartData). h.machine.ending) c.in-Err-at_word.ensures.stopped ∙ s.going
 
@@ -353,8 +351,8 @@ returns-in-Err-at_word-clause-broke g c =
     let more : c.loop-hart.hart.machine.steps < c.args.n = omega (arith, c.loop-hart-test.true, seen) in
     let running : c.loop-hart.hart.machine.ending ≡ None = search rules in
     let coherent = subst (λ (k : List ℕ). Coherent c.args.image.now (g.R.CacheRom.kept c.loop-hart.rom) (g.R.CacheRom.span k) (g.M.CacheRam.state c.loop-hart.ram).words) c.loop-hart.invariant.setting (g.met.R.CacheRom.coherent _ _ _ c.loop-hart.invariant.sound) in
-    let begin = begins (g.R.CacheRom.policy (g.R.CacheRom.setting c.args.rom.now)) c.args.image.now c.args.n (g.R.CacheRom.span (g.R.CacheRom.setting c.args.rom.now)) c.args.hart.now (g.R.CacheRom.kept c.args.rom.now) (g.M.CacheRam.state c.args.ram.now) (g.I.Source.left c.args.input.now) (g.O.Sink.held c.args.out.now) (g.E.Sink.held c.args.err.now) c.requires.fits c.requires.limit (g.R.CacheRom.kept c.loop-hart.rom) (g.I.Source.left c.loop-hart.input) (g.O.Sink.held c.loop-hart.out) (g.E.Sink.held c.loop-hart.err) c.loop-hart.hart (g.M.CacheRam.state c.loop-hart.ram) coherent c.loop-hart.invariant.running c.loop-hart.invariant.settles running c.origin_pc-pc.ensures.word in
-    let ended = before_word c.run_block.result c.in-Ok-Some.field-0 c.in-Ok-Some.got c.args.n c.loop-hart.hart c.run_block.new.hart (g.M.CacheRam.state c.loop-hart.ram) (g.M.CacheRam.state c.run_block.new.ram) c.in-Ok-Some.is c.in-Ok-Some.field-0-is c.run_block.ensures in
+    let begin = begins (g.R.CacheRom.policy (g.R.CacheRom.setting c.args.rom.now)) c.args.image.now c.args.n (g.R.CacheRom.span (g.R.CacheRom.setting c.args.rom.now)) c.args.hart.now (g.R.CacheRom.kept c.args.rom.now) (g.M.CacheRam.state c.args.ram.now) (g.I.Source.left c.args.input.now) (g.O.Sink.held c.args.out.now) (g.E.Sink.held c.args.err.now) c.requires.fits c.requires.limit (g.R.CacheRom.kept c.loop-hart.rom) (g.I.Source.left c.loop-hart.input) (g.O.Sink.held c.loop-hart.out) (g.E.Sink.held c.loop-hart.err) c.loop-hart.hart (g.M.CacheRam.state c.loop-hart.ram) coherent (λ b o t is. g.met.R.CacheRom.first (g.R.CacheRom.setting c.args.rom.now) (g.R.CacheRom.kept c.loop-hart.rom) c.args.image.now b o t is) c.loop-hart.invariant.running c.loop-hart.invariant.settles running c.origin_pc-pc.ensures.word in
+    let ended = before_word c.args.image.now (g.R.CacheRom.kept c.loop-hart.rom) c.run_block.result c.in-Ok-Some.field-0 c.in-Ok-Some.got c.args.n c.loop-hart.hart c.run_block.new.hart (g.M.CacheRam.state c.loop-hart.ram) (g.M.CacheRam.state c.run_block.new.ram) c.in-Ok-Some.is c.in-Ok-Some.field-0-is c.run_block.ensures in
     let s = walk (g.R.CacheRom.policy (g.R.CacheRom.setting c.args.rom.now)) c.args.image.now c.args.n (g.R.CacheRom.span (g.R.CacheRom.setting c.args.rom.now)) c.args.hart.now (g.R.CacheRom.kept c.args.rom.now) (g.M.CacheRam.state c.args.ram.now) (g.I.Source.left c.args.input.now) (g.O.Sink.held c.args.out.now) (g.E.Sink.held c.args.err.now) c.requires.fits c.requires.limit (g.R.CacheRom.kept c.loop-hart.rom) (g.I.Source.left c.loop-hart.input) (g.O.Sink.held c.loop-hart.out) (g.E.Sink.held c.loop-hart.err) c.loop-hart.hart (g.M.CacheRam.state c.loop-hart.ram) coherent begin c.run_block.new.hart ended.before ended.walked in
     let a = c.in-Err-at_word.ensures in
     device_run (g.R.CacheRom.policy (g.R.CacheRom.setting c.args.rom.now)) c.args.image.now c.args.n (g.R.CacheRom.span (g.R.CacheRom.setting c.args.rom.now)) c.args.hart.now (g.R.CacheRom.kept c.args.rom.now) (g.M.CacheRam.state c.args.ram.now) (g.I.Source.left c.args.input.now) (g.O.Sink.held c.args.out.now) (g.E.Sink.held c.args.err.now) c.run_block.new.hart (g.R.CacheRom.kept c.loop-hart.rom) ended.before (g.I.Source.left c.loop-hart.input) (g.O.Sink.held c.loop-hart.out) (g.E.Sink.held c.loop-hart.err) s.running ended.below s.going s.short c.at_word.new.hart c.at_word.new.hart.machine.bus (g.I.Source.left c.at_word.new.input) (g.O.Sink.held c.at_word.new.out) (g.E.Sink.held c.at_word.new.err) a.stopped _ a.broke a.unwritten
@@ -365,8 +363,8 @@ returns-in-Err-at_word-clause-ram_broke g c =
     let more : c.loop-hart.hart.machine.steps < c.args.n = omega (arith, c.loop-hart-test.true, seen) in
     let running : c.loop-hart.hart.machine.ending ≡ None = search rules in
     let coherent = subst (λ (k : List ℕ). Coherent c.args.image.now (g.R.CacheRom.kept c.loop-hart.rom) (g.R.CacheRom.span k) (g.M.CacheRam.state c.loop-hart.ram).words) c.loop-hart.invariant.setting (g.met.R.CacheRom.coherent _ _ _ c.loop-hart.invariant.sound) in
-    let begin = begins (g.R.CacheRom.policy (g.R.CacheRom.setting c.args.rom.now)) c.args.image.now c.args.n (g.R.CacheRom.span (g.R.CacheRom.setting c.args.rom.now)) c.args.hart.now (g.R.CacheRom.kept c.args.rom.now) (g.M.CacheRam.state c.args.ram.now) (g.I.Source.left c.args.input.now) (g.O.Sink.held c.args.out.now) (g.E.Sink.held c.args.err.now) c.requires.fits c.requires.limit (g.R.CacheRom.kept c.loop-hart.rom) (g.I.Source.left c.loop-hart.input) (g.O.Sink.held c.loop-hart.out) (g.E.Sink.held c.loop-hart.err) c.loop-hart.hart (g.M.CacheRam.state c.loop-hart.ram) coherent c.loop-hart.invariant.running c.loop-hart.invariant.settles running c.origin_pc-pc.ensures.word in
-    let ended = before_word c.run_block.result c.in-Ok-Some.field-0 c.in-Ok-Some.got c.args.n c.loop-hart.hart c.run_block.new.hart (g.M.CacheRam.state c.loop-hart.ram) (g.M.CacheRam.state c.run_block.new.ram) c.in-Ok-Some.is c.in-Ok-Some.field-0-is c.run_block.ensures in
+    let begin = begins (g.R.CacheRom.policy (g.R.CacheRom.setting c.args.rom.now)) c.args.image.now c.args.n (g.R.CacheRom.span (g.R.CacheRom.setting c.args.rom.now)) c.args.hart.now (g.R.CacheRom.kept c.args.rom.now) (g.M.CacheRam.state c.args.ram.now) (g.I.Source.left c.args.input.now) (g.O.Sink.held c.args.out.now) (g.E.Sink.held c.args.err.now) c.requires.fits c.requires.limit (g.R.CacheRom.kept c.loop-hart.rom) (g.I.Source.left c.loop-hart.input) (g.O.Sink.held c.loop-hart.out) (g.E.Sink.held c.loop-hart.err) c.loop-hart.hart (g.M.CacheRam.state c.loop-hart.ram) coherent (λ b o t is. g.met.R.CacheRom.first (g.R.CacheRom.setting c.args.rom.now) (g.R.CacheRom.kept c.loop-hart.rom) c.args.image.now b o t is) c.loop-hart.invariant.running c.loop-hart.invariant.settles running c.origin_pc-pc.ensures.word in
+    let ended = before_word c.args.image.now (g.R.CacheRom.kept c.loop-hart.rom) c.run_block.result c.in-Ok-Some.field-0 c.in-Ok-Some.got c.args.n c.loop-hart.hart c.run_block.new.hart (g.M.CacheRam.state c.loop-hart.ram) (g.M.CacheRam.state c.run_block.new.ram) c.in-Ok-Some.is c.in-Ok-Some.field-0-is c.run_block.ensures in
     let s = walk (g.R.CacheRom.policy (g.R.CacheRom.setting c.args.rom.now)) c.args.image.now c.args.n (g.R.CacheRom.span (g.R.CacheRom.setting c.args.rom.now)) c.args.hart.now (g.R.CacheRom.kept c.args.rom.now) (g.M.CacheRam.state c.args.ram.now) (g.I.Source.left c.args.input.now) (g.O.Sink.held c.args.out.now) (g.E.Sink.held c.args.err.now) c.requires.fits c.requires.limit (g.R.CacheRom.kept c.loop-hart.rom) (g.I.Source.left c.loop-hart.input) (g.O.Sink.held c.loop-hart.out) (g.E.Sink.held c.loop-hart.err) c.loop-hart.hart (g.M.CacheRam.state c.loop-hart.ram) coherent begin c.run_block.new.hart ended.before ended.walked in
     let control = sym (ap (λ (h : HartData). h.control) c.hart-in-loop-hart.view_is) ∙ sym c.control.ensures ∙ c.in-At.is in
     let at = home_at (g.R.CacheRom.policy (g.R.CacheRom.setting c.args.rom.now)) c.args.image.now c.args.n (g.R.CacheRom.span (g.R.CacheRom.setting c.args.rom.now)) c.args.hart.now (g.R.CacheRom.kept c.args.rom.now) (g.M.CacheRam.state c.args.ram.now) (g.I.Source.left c.args.input.now) (g.O.Sink.held c.args.out.now) (g.E.Sink.held c.args.err.now) c.requires.fits c.requires.limit (g.R.CacheRom.kept c.loop-hart.rom) (g.I.Source.left c.loop-hart.input) (g.O.Sink.held c.loop-hart.out) (g.E.Sink.held c.loop-hart.err) c.loop-hart.hart (g.M.CacheRam.state c.loop-hart.ram) coherent c.run_block.new.hart ended.before c.in-At.i c.in-At.b c.in-At.o c.in-At.stage s control in
@@ -385,8 +383,8 @@ returns-in-Err-at_word-clause-causes g c =
     let more : c.loop-hart.hart.machine.steps < c.args.n = omega (arith, c.loop-hart-test.true, seen) in
     let running : c.loop-hart.hart.machine.ending ≡ None = search rules in
     let coherent = subst (λ (k : List ℕ). Coherent c.args.image.now (g.R.CacheRom.kept c.loop-hart.rom) (g.R.CacheRom.span k) (g.M.CacheRam.state c.loop-hart.ram).words) c.loop-hart.invariant.setting (g.met.R.CacheRom.coherent _ _ _ c.loop-hart.invariant.sound) in
-    let begin = begins (g.R.CacheRom.policy (g.R.CacheRom.setting c.args.rom.now)) c.args.image.now c.args.n (g.R.CacheRom.span (g.R.CacheRom.setting c.args.rom.now)) c.args.hart.now (g.R.CacheRom.kept c.args.rom.now) (g.M.CacheRam.state c.args.ram.now) (g.I.Source.left c.args.input.now) (g.O.Sink.held c.args.out.now) (g.E.Sink.held c.args.err.now) c.requires.fits c.requires.limit (g.R.CacheRom.kept c.loop-hart.rom) (g.I.Source.left c.loop-hart.input) (g.O.Sink.held c.loop-hart.out) (g.E.Sink.held c.loop-hart.err) c.loop-hart.hart (g.M.CacheRam.state c.loop-hart.ram) coherent c.loop-hart.invariant.running c.loop-hart.invariant.settles running c.origin_pc-pc.ensures.word in
-    let ended = before_word c.run_block.result c.in-Ok-Some.field-0 c.in-Ok-Some.got c.args.n c.loop-hart.hart c.run_block.new.hart (g.M.CacheRam.state c.loop-hart.ram) (g.M.CacheRam.state c.run_block.new.ram) c.in-Ok-Some.is c.in-Ok-Some.field-0-is c.run_block.ensures in
+    let begin = begins (g.R.CacheRom.policy (g.R.CacheRom.setting c.args.rom.now)) c.args.image.now c.args.n (g.R.CacheRom.span (g.R.CacheRom.setting c.args.rom.now)) c.args.hart.now (g.R.CacheRom.kept c.args.rom.now) (g.M.CacheRam.state c.args.ram.now) (g.I.Source.left c.args.input.now) (g.O.Sink.held c.args.out.now) (g.E.Sink.held c.args.err.now) c.requires.fits c.requires.limit (g.R.CacheRom.kept c.loop-hart.rom) (g.I.Source.left c.loop-hart.input) (g.O.Sink.held c.loop-hart.out) (g.E.Sink.held c.loop-hart.err) c.loop-hart.hart (g.M.CacheRam.state c.loop-hart.ram) coherent (λ b o t is. g.met.R.CacheRom.first (g.R.CacheRom.setting c.args.rom.now) (g.R.CacheRom.kept c.loop-hart.rom) c.args.image.now b o t is) c.loop-hart.invariant.running c.loop-hart.invariant.settles running c.origin_pc-pc.ensures.word in
+    let ended = before_word c.args.image.now (g.R.CacheRom.kept c.loop-hart.rom) c.run_block.result c.in-Ok-Some.field-0 c.in-Ok-Some.got c.args.n c.loop-hart.hart c.run_block.new.hart (g.M.CacheRam.state c.loop-hart.ram) (g.M.CacheRam.state c.run_block.new.ram) c.in-Ok-Some.is c.in-Ok-Some.field-0-is c.run_block.ensures in
     let s = walk (g.R.CacheRom.policy (g.R.CacheRom.setting c.args.rom.now)) c.args.image.now c.args.n (g.R.CacheRom.span (g.R.CacheRom.setting c.args.rom.now)) c.args.hart.now (g.R.CacheRom.kept c.args.rom.now) (g.M.CacheRam.state c.args.ram.now) (g.I.Source.left c.args.input.now) (g.O.Sink.held c.args.out.now) (g.E.Sink.held c.args.err.now) c.requires.fits c.requires.limit (g.R.CacheRom.kept c.loop-hart.rom) (g.I.Source.left c.loop-hart.input) (g.O.Sink.held c.loop-hart.out) (g.E.Sink.held c.loop-hart.err) c.loop-hart.hart (g.M.CacheRam.state c.loop-hart.ram) coherent begin c.run_block.new.hart ended.before ended.walked in
     let quiet = ap (λ (k : ℕ). record { ram = k; input = g.I.Source.faults c.loop-hart.input; out = g.O.Sink.faults c.loop-hart.out; err = g.E.Sink.faults c.loop-hart.err }) (ap (λ (k : RamState). k.faults) ended.answered.1 ∙ s.quiet) ∙ c.loop-hart.invariant.quiet in
     causes_from _ _ _ _ quiet c.in-Err-at_word.ensures.causes
