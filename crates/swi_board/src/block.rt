@@ -114,8 +114,8 @@ fn is_stop(next: Next) -> bool
     }
 }
 
-/// Executes a word that only changes a register by others, by a load or not, or stores outside the text. Any other word,
-/// and one that faults, changes nothing.
+/// Executes an operation on two registers, a load, or a store outside the text. Any other word, and one that faults,
+/// changes nothing.
 #[inline(always)]
 fn execute_plain(index: u32, stage: Stage, x: &Instr, regs: &mut Regs, bus: &mut Bus) -> Next
     requires small { index < 2 ^ 22 }
@@ -147,8 +147,8 @@ fn execute_plain(index: u32, stage: Stage, x: &Instr, regs: &mut Regs, bus: &mut
     }
 }
 
-/// Executes a branch, or a word that only changes a register or stores outside the text. Each has its own `exec` right
-/// behind the decoder. Any other word, and one that faults, changes nothing.
+/// Executes a branch, or a word that only changes a register or stores outside the text. Each kind has its own `exec`
+/// right behind the decoder. Any other word, one that faults, and a LUI that stands for a branch change nothing.
 #[inline(always)]
 fn execute(index: u32, stage: Stage, pc: u32, x: &Instr, regs: &mut Regs, bus: &mut Bus) -> Next
     requires small { index < 2 ^ 22 }
@@ -330,7 +330,8 @@ pub(crate) fn run_block<R: CacheRom, M: CacheRam>(
     requires offset { at.2 < 2 ^ 22 }
     requires short { hart.old.machine.pc < 2 ^ 32 }
     requires inside { (h : HartData) (r : RamState) → Walked image.now (R.kept rom.now) limit hart.old
-        (M.state ram.old) h r → h.machine.steps < limit → (i b o : ℕ) (stage : Stage) → h.control ≡ Control.At i b o stage →
+        (M.state ram.old) h r → h.machine.steps < limit →
+        (i b o : ℕ) (stage : Stage) → h.control ≡ Control.At i b o stage →
         StandsInside image.now (R.kept rom.now) r h i b o stage }
     requires rises { (h h' : HartData) (r r' : RamState) → Walked image.now (R.kept rom.now) limit hart.old
         (M.state ram.old) h r → h.machine.steps < limit → WalkedOn image.now (R.kept rom.now) r r' h h' →

@@ -78,21 +78,6 @@ fn turned(slot: u32, filled: u32) -> u32
     if slot < filled { slot } else { slot - filled }
 }
 
-// Quotient and remainder. By a power of two a shift finds them, which is then checked, without a division.
-#[inline(always)]
-fn split(i: u32, size: u32) -> (u32, u32)
-    requires { 0 < size }
-    ensures quotient { result.0 ≡ i / size }
-    ensures rest { result.1 ≡ i % size }
-{
-    let guess = i >> (size.trailing_zeros() % 32);
-    let below = guess as u64 * size as u64;
-    if below <= i as u64 && i as u64 - below < size as u64 {
-        return (guess, (i as u64 - below) as u32);
-    }
-    (i / size, i % size)
-}
-
 impl<T: LinkTable> SlotRom<T> {
     /// An empty cache of up to `cache_bytes` bytes, in as many slots of `block_words` words as they hold: for every
     /// image with blocks of so many words, and every ram that holds the slots.
@@ -381,9 +366,9 @@ impl<T: LinkTable> CacheRom for SlotRom<T> {
         }
     }
 
-    #[inline(always)]
     fn at(&self, i: u32) -> Option<(u32, u32)> {
-        let (slot, offset) = split(i, self.size);
+        let slot = i / self.size;
+        let offset = i % self.size;
         if slot >= self.filled {
             return None;
         }
