@@ -1,5 +1,5 @@
 -- One step more of a walk.
-use Rattle.std.proofs.Common.{◌≡◌, ◌⊎◌, ℕ, ◌+◌, ◌-◌, ◌%◌, ◌^◌, ◌<◌, ◌≤◌, max, true, false, List, slice_index, Option, Some, None, refl, sym, ap, subst, ◌∙◌, inl, inr, arith}
+use Rattle.std.proofs.Common.{◌≡◌, ℕ, ◌+◌, ◌-◌, ◌^◌, ◌<◌, ◌≤◌, max, false, List, slice_index, Some, None, refl, sym, ap, subst, ◌∙◌, arith}
 use Rattle.swi_isa.specs.declared.instr.Instr.{Instr}
 use Rattle.swi_isa.specs.declared.instr.Instr.TheVariants as instr
 use Rattle.swi_isa.specs.Decode.{decoded}
@@ -12,7 +12,6 @@ use Rattle.swi_outside.specs.CacheRam.{RamState}
 use Rattle.swi_calls.specs.declared.machine.Machine.{Machine}
 use Rattle.swi_calls.specs.Flat.{quiet}
 use Rattle.swi_image.specs.Format.{ImageData}
-use Rattle.swi_image.specs.Place.{place_of, word_at}
 use Rattle.swi_render.specs.Rendering.{ebreak}
 use Rattle.swi_rom.specs.Record.{Record}
 use Rattle.swi_board.specs.declared.hart.Stage.{Stage}
@@ -22,7 +21,7 @@ use Rattle.swi_board.specs.declared.hart.Control.TheVariants.{At}
 use Rattle.swi_board.specs.declared.block.Next.{Next}
 use Rattle.swi_board.specs.declared.block.Next.TheVariants as next
 use Rattle.swi_board.specs.declared.block.Walk.{Walk}
-use Rattle.swi_board.specs.Hart.{HartData, stepped, word_stepped, original, instruction, is_fall, is_place}
+use Rattle.swi_board.specs.Hart.{HartData, stepped, word_stepped, instruction, is_fall}
 use Rattle.swi_board.specs.Leaving.{ExitHome, leaves, quick_role}
 use Rattle.swi_board.specs.Walked.{is_stop, role_by, went, gone, walk_offset, walk_control, walk_machine, WordOn, StepOn, WalkedOn, Walked}
 

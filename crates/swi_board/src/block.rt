@@ -6,6 +6,7 @@ ghost use Rattle.swi_outside.specs.CacheRam.{RamState};
 ghost use Rattle.swi_memory.specs.Bus.{fetched};
 ghost use Rattle.swi_calls.specs.declared.machine.Machine.{Machine};
 ghost use Rattle.swi_calls.specs.Flat.{quiet};
+ghost use Rattle.swi_isa.specs.declared.instr.Instr.{Instr as AnyInstr};
 ghost use Rattle.swi_isa.specs.Decode.{decoded};
 ghost use Rattle.swi_image.specs.Place.{length_at, word_at};
 ghost use Rattle.swi_render.specs.Rendering.{ebreak};
@@ -113,8 +114,41 @@ fn is_stop(next: Next) -> bool
     }
 }
 
-/// Executes a branch, or a word that only changes a register or stores outside the text. Each has its own `exec` right
-/// behind the decoder. Any other word, and one that faults, changes nothing.
+/// Executes an operation on two registers, a load, or a store outside the text. Any other word, and one that faults,
+/// changes nothing.
+#[inline(always)]
+fn execute_plain(index: u32, stage: Stage, x: &Instr, regs: &mut Regs, bus: &mut Bus) -> Next
+    requires small { index < 2 ^ 22 }
+    ensures step { is_stop result ≡ false → (m : Machine) (b o : ℕ) (input : List ℕ) →
+        m.ending ≡ None → word_stepped (role_by result) index b o stage
+        (record m { regs = regs.old; bus = bus.old }) x.now input
+        ≡ went result index b o (record m { regs = regs.new; bus = bus.new }) input }
+    ensures role { is_stop result ≡ false → (original : Option AnyInstr) →
+        quick_role stage x.now original ≡ role_by result }
+    ensures stays { is_stop result ≡ false → leaves x.now ≡ false }
+    ensures same_regs { is_stop result ≡ true → regs.new ≡ regs.old }
+    ensures same_bus { is_stop result ≡ true → bus.new ≡ bus.old }
+{
+    match *x {
+        Instr::Op { .. } | Instr::Load { .. } => match exec(x, 4 * index, regs, bus) {
+            Done::Next(_) => Next::On,
+            Done::Call | Done::Break | Done::Fault(_, _) => Next::Stop,
+        },
+        Instr::Store { .. } => {
+            if text_store(x, regs, bus).is_some() {
+                return Next::Stop;
+            }
+            match exec(x, 4 * index, regs, bus) {
+                Done::Next(_) => Next::On,
+                Done::Call | Done::Break | Done::Fault(_, _) => Next::Stop,
+            }
+        }
+        _ => Next::Stop,
+    }
+}
+
+/// Executes a branch, or a word that only changes a register or stores outside the text. Each kind has its own `exec`
+/// right behind the decoder. Any other word, one that faults, and a LUI that stands for a branch change nothing.
 #[inline(always)]
 fn execute(index: u32, stage: Stage, pc: u32, x: &Instr, regs: &mut Regs, bus: &mut Bus) -> Next
     requires small { index < 2 ^ 22 }
@@ -145,10 +179,6 @@ fn execute(index: u32, stage: Stage, pc: u32, x: &Instr, regs: &mut Regs, bus: &
             }
             Done::Call | Done::Break | Done::Fault(_, _) => Next::Stop,
         },
-        Instr::Op { .. } | Instr::Load { .. } => match exec(x, 4 * index, regs, bus) {
-            Done::Next(_) => Next::On,
-            Done::Call | Done::Break | Done::Fault(_, _) => Next::Stop,
-        },
         Instr::Lui { .. } => match upper_role(bus, pc, stage) {
             Role::Whole => match exec(x, 4 * index, regs, bus) {
                 Done::Next(_) => Next::On,
@@ -160,16 +190,7 @@ fn execute(index: u32, stage: Stage, pc: u32, x: &Instr, regs: &mut Regs, bus: &
             },
             Role::Over => Next::Stop,
         },
-        Instr::Store { .. } => {
-            if text_store(x, regs, bus).is_some() {
-                return Next::Stop;
-            }
-            match exec(x, 4 * index, regs, bus) {
-                Done::Next(_) => Next::On,
-                Done::Call | Done::Break | Done::Fault(_, _) => Next::Stop,
-            }
-        }
-        _ => Next::Stop,
+        _ => execute_plain(index, stage, x, regs, bus),
     }
 }
 
@@ -309,7 +330,8 @@ pub(crate) fn run_block<R: CacheRom, M: CacheRam>(
     requires offset { at.2 < 2 ^ 22 }
     requires short { hart.old.machine.pc < 2 ^ 32 }
     requires inside { (h : HartData) (r : RamState) → Walked image.now (R.kept rom.now) limit hart.old
-        (M.state ram.old) h r → h.machine.steps < limit → (i b o : ℕ) (stage : Stage) → h.control ≡ Control.At i b o stage →
+        (M.state ram.old) h r → h.machine.steps < limit →
+        (i b o : ℕ) (stage : Stage) → h.control ≡ Control.At i b o stage →
         StandsInside image.now (R.kept rom.now) r h i b o stage }
     requires rises { (h h' : HartData) (r r' : RamState) → Walked image.now (R.kept rom.now) limit hart.old
         (M.state ram.old) h r → h.machine.steps < limit → WalkedOn image.now (R.kept rom.now) r r' h h' →

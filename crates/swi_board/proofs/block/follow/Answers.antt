@@ -1,4 +1,4 @@
-use Rattle.std.proofs.Common.{rules, ◌≡◌, ◌+◌, ◌-◌, ◌%◌, ◌^◌, ◌<◌, true, false, Bool, ℕ, sym, refl, ap, subst, ◌∙◌, arith}
+use Rattle.std.proofs.Common.{rules, ◌≡◌, ◌+◌, ◌-◌, ◌%◌, sym, refl, ap, subst, ◌∙◌, arith}
 use Rattle.swi_rom.specs.Coherent.{TargetAt}
 use Rattle.swi_image.specs.Place.{word_at}
 use Rattle.swi_board.specs.declared.hart.Control.{Control}
