@@ -47,10 +47,7 @@ impl FaultRam {
         ensures { IfOk result (λ r. r ≡
             record { ram = new_ram (replicate words 0); failing = failing.items; calls = 0 }) }
     {
-        let words = match vec![in alloc; 0u32; words as usize] {
-            Ok(words) => words,
-            Err(_) => return Err(Memory),
-        };
+        let words = vec![in alloc; 0u32; words as usize].map_err(|_| Memory)?;
         Ok(FaultRam {
             words,
             fetches: 0,

@@ -80,10 +80,8 @@ fn read_file<D: Folder>(
     ensures within { IfOk result (λ bytes. length bytes.items ≤ limit) }
     ensures long { result ≡ Err ShelfError.Long → IsLonger (D.contents folder.old) name.now limit }
 {
-    match folder.open(name) {
-        Ok(mut file) => read_within(alloc, &mut file, limit),
-        Err(_) => Err(ShelfError::Failed),
-    }
+    let mut file = folder.open(name).map_err(|_| ShelfError::Failed)?;
+    read_within(alloc, &mut file, limit)
 }
 
 // Reads until the end, or one byte past the limit, at least one byte a turn.
@@ -97,14 +95,15 @@ fn read_within<F: Read>(alloc: Global, file: &mut F, limit: u32) -> Result<Vec<u
     let mut piece = [0u8; 4096];
     while bytes.len() <= limit {
         let wanted = piece.len().min(limit + 1 - bytes.len());
-        let count = match file.read(&mut piece[..wanted]) {
-            Ok(0) => return Ok(bytes),
-            Ok(count) => count,
-            Err(_) => return Err(ShelfError::Failed),
-        };
-        if bytes.extend_from_slice(&piece[..count]).is_err() {
-            return Err(ShelfError::Memory);
+        let count = file
+            .read(&mut piece[..wanted])
+            .map_err(|_| ShelfError::Failed)?;
+        if count == 0 {
+            return Ok(bytes);
         }
+        bytes
+            .extend_from_slice(&piece[..count])
+            .map_err(|_| ShelfError::Memory)?;
     }
     Err(ShelfError::Long)
 }

@@ -167,10 +167,7 @@ impl Shelf for MemShelf {
             self.last = Some((ShelfCall::Put, key));
             return Err(ShelfError::Failed);
         }
-        let copy = match Vec::from_slice(alloc, bytes) {
-            Ok(copy) => copy,
-            Err(_) => return Err(ShelfError::Memory),
-        };
+        let copy = Vec::from_slice(alloc, bytes).map_err(|_| ShelfError::Memory)?;
         put_entry(&mut self.entries, key, copy)
     }
 }
@@ -185,8 +182,5 @@ fn copy_within(alloc: Global, bytes: &[u8], limit: u32) -> Result<Vec<u8>, Shelf
     if bytes.len() > limit as usize {
         return Err(ShelfError::Long);
     }
-    match Vec::from_slice(alloc, bytes) {
-        Ok(copy) => Ok(copy),
-        Err(_) => Err(ShelfError::Memory),
-    }
+    Vec::from_slice(alloc, bytes).map_err(|_| ShelfError::Memory)
 }

@@ -41,10 +41,7 @@ impl MemSink {
         ensures { IfOk result (λ s. s ≡
             record { held = []; room = room; failing = failing.items; calls = 0; faults = 0 }) }
     {
-        let bytes = match vec![in alloc; 0u8; room as usize] {
-            Ok(bytes) => bytes,
-            Err(_) => return Err(Memory),
-        };
+        let bytes = vec![in alloc; 0u8; room as usize].map_err(|_| Memory)?;
         Ok(MemSink {
             bytes,
             len: 0,

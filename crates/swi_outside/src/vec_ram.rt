@@ -38,10 +38,7 @@ impl VecRam {
     pub fn new(alloc: Global, words: u32) -> Result<VecRam, Memory>
         ensures { IfOk result (λ r. r ≡ new_ram (replicate words 0)) }
     {
-        let words = match vec![in alloc; 0u32; words as usize] {
-            Ok(words) => words,
-            Err(_) => return Err(Memory),
-        };
+        let words = vec![in alloc; 0u32; words as usize].map_err(|_| Memory)?;
         Ok(VecRam {
             words,
             fetches: 0,
