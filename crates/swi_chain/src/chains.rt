@@ -56,22 +56,10 @@ impl Chains {
         requires words { words ≤ 2 ^ 21 }
         ensures { IfOk result (λ c. c ≡ record { words = words; lists = replicate slots [] }) }
     {
-        let heads = match vec![in alloc; words; slots as usize] {
-            Ok(heads) => heads,
-            Err(_) => return Err(Memory),
-        };
-        let nexts = match vec![in alloc; words; words as usize] {
-            Ok(nexts) => nexts,
-            Err(_) => return Err(Memory),
-        };
-        let prevs = match vec![in alloc; words; words as usize] {
-            Ok(prevs) => prevs,
-            Err(_) => return Err(Memory),
-        };
-        let owners = match vec![in alloc; slots; words as usize] {
-            Ok(owners) => owners,
-            Err(_) => return Err(Memory),
-        };
+        let heads = vec![in alloc; words; slots as usize].map_err(|_| Memory)?;
+        let nexts = vec![in alloc; words; words as usize].map_err(|_| Memory)?;
+        let prevs = vec![in alloc; words; words as usize].map_err(|_| Memory)?;
+        let owners = vec![in alloc; slots; words as usize].map_err(|_| Memory)?;
         Ok(Chains {
             words,
             heads,

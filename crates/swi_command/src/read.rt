@@ -33,10 +33,7 @@ fn file_name(
     let Some(text) = value_of(matches, place.name()) else {
         return Err(CommandError::Usage);
     };
-    match text.to_string(alloc) {
-        Ok(name) => Ok(name),
-        Err(_) => Err(CommandError::Memory),
-    }
+    text.to_string(alloc).map_err(|_| CommandError::Memory)
 }
 
 /// The number of an option, or its default.

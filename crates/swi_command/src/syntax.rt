@@ -80,8 +80,8 @@ pub fn command_matches<'a>(
     ensures usage { result ≡ Err CommandError.Usage → matches_on (app_by (form_of name))
         (map (λ w. string_bytes w) words.entry.now) ≡ None }
 {
-    match built(alloc, name) {
-        Ok(command) => matches_by(command, words),
-        Err(_) => Err(CommandError::Memory),
-    }
+    let Ok(command) = built(alloc, name) else {
+        return Err(CommandError::Memory);
+    };
+    matches_by(command, words)
 }

@@ -75,10 +75,7 @@ impl LinkTable for ScanTable {
     ghost knows = { λ t filled blocks. ⊤ };
 
     fn new(alloc: Global, slots: u32, size: u32) -> Result<ScanTable, Memory> {
-        let targets = match vec![in alloc; slots; (slots * size) as usize] {
-            Ok(targets) => targets,
-            Err(_) => return Err(Memory),
-        };
+        let targets = vec![in alloc; slots; (slots * size) as usize].map_err(|_| Memory)?;
         Ok(ScanTable {
             slots,
             size,

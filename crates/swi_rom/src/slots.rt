@@ -101,14 +101,8 @@ impl<T: LinkTable> SlotRom<T> {
             SlotsSound s v words) }
     {
         let slots = cache_bytes / 4 / block_words;
-        let blocks = match vec![in alloc; 0u32; slots as usize] {
-            Ok(blocks) => blocks,
-            Err(_) => return Err(Memory),
-        };
-        let lengths = match vec![in alloc; 0u32; slots as usize] {
-            Ok(lengths) => lengths,
-            Err(_) => return Err(Memory),
-        };
+        let blocks = vec![in alloc; 0u32; slots as usize].map_err(|_| Memory)?;
+        let lengths = vec![in alloc; 0u32; slots as usize].map_err(|_| Memory)?;
         let table = T::new(alloc, slots, block_words)?;
         Ok(SlotRom {
             slots,
@@ -332,13 +326,11 @@ impl<T: LinkTable> CacheRom for SlotRom<T> {
         ram: &mut M,
         target: u32,
     ) -> Result<u32, RomStop> {
-        let (block, offset) = match image.place(target) {
-            Some(place) => place,
-            None => return Err(RomStop::Outside),
+        let Some((block, offset)) = image.place(target) else {
+            return Err(RomStop::Outside);
         };
-        let slot = match self.arrive(image, ram, block) {
-            Ok(slot) => slot,
-            Err(_) => return Err(RomStop::RamFault),
+        let Ok(slot) = self.arrive(image, ram, block) else {
+            return Err(RomStop::RamFault);
         };
         Ok(slot * self.size + offset)
     }
@@ -350,20 +342,18 @@ impl<T: LinkTable> CacheRom for SlotRom<T> {
         at: u32,
         target: u32,
     ) -> Result<u32, RomStop> {
-        let (block, offset) = match image.place(target) {
-            Some(place) => place,
-            None => return Err(RomStop::Outside),
+        let Some((block, offset)) = image.place(target) else {
+            return Err(RomStop::Outside);
         };
         let home = self.blocks[(at / self.size) as usize];
-        let slot = match self.arrive(image, ram, block) {
-            Ok(slot) => slot,
-            Err(_) => return Err(RomStop::RamFault),
+        let Ok(slot) = self.arrive(image, ram, block) else {
+            return Err(RomStop::RamFault);
         };
         let index = slot * self.size + offset;
-        match self.link_exit(ram, at, home, slot, index) {
-            Ok(()) => Ok(index),
-            Err(_) => Err(RomStop::RamFault),
-        }
+        let Ok(()) = self.link_exit(ram, at, home, slot, index) else {
+            return Err(RomStop::RamFault);
+        };
+        Ok(index)
     }
 
     fn at(&self, i: u32) -> Option<(u32, u32)> {

@@ -6,9 +6,9 @@ use Rattle.swi_rom.proofs.Calls.{place_block, index_fits, exit_not_linked, home_
 use Rattle.swi_rom.proofs.Unused.{setting_same, unused_stays}
 use Rattle.swi_rom.proofs.slots.SlotRomCacheRom.cross.Goals as goal
 
-pub returns-in-None-clause-served : goal.returns-in-None-clause-served
-returns-in-None-clause-served g c = λ b o f h lt at.
-    outside_served _ _ (direct b o c.args.target) _ (exit_not_linked _ _ _ _ _ b o f c.requires.sound c.requires.exit h lt at) (sym c.in-None.ensures.place)
+pub returns-in_default-clause-served : goal.returns-in_default-clause-served
+returns-in_default-clause-served g c = λ b o f h lt at.
+    outside_served _ _ (direct b o c.args.target) _ (exit_not_linked _ _ _ _ _ b o f c.requires.sound c.requires.exit h lt at) (sym c.in_default.ensures.place)
 
 pub index-home-requires : goal.index-home-requires
 index-home-requires g c =
@@ -36,30 +36,30 @@ link_exit-requires-clause-slot g c = omega (arith, c.in-Ok.ensures.arrived.fille
 pub link_exit-requires-clause-links : goal.link_exit-requires-clause-links
 link_exit-requires-clause-links g c = links_after _ _ _ _ _ _ _ _ _ c.requires.sound c.requires.exit c.in-Ok.ensures.arrived c.requires.services
 
-pub returns-in-Ok-link_exit-clause-served : goal.returns-in-Ok-link_exit-clause-served
-returns-in-Ok-link_exit-clause-served g c =
+pub returns-clause-served : goal.returns-clause-served
+returns-clause-served g c =
     (crossed_call _ _ _ _ _ _ c.in-Ok.slot _ _ _ _ _ _ _ c.requires.sound c.requires.exit (sym c.in-Some.ensures.place) c.in-Ok.ensures.arrived
     (home_read _ _ _ _ _ _ _ c.self.view_is c.requires.sound c.requires.exit c.index-home.ensures)
-    (ap (λ (n : ℕ). c.in-Ok.slot * n + c.in-Some.place.1) (ap (λ (s : Slots). s.size) c.self-2.view_is ∙ c.in-Ok.ensures.size))
+    (ap (λ (n : ℕ). c.in-Ok.slot * n + c.in-Some.offset) (ap (λ (s : Slots). s.size) c.self-2.view_is ∙ c.in-Ok.ensures.size))
     c.in-Ok-link_exit.ensures.linked).0
 
-pub returns-in-Ok-link_exit-clause-stays : goal.returns-in-Ok-link_exit-clause-stays
-returns-in-Ok-link_exit-clause-stays g c =
+pub returns-clause-stays : goal.returns-clause-stays
+returns-clause-stays g c =
     (crossed_call _ _ _ _ _ _ c.in-Ok.slot _ _ _ _ _ _ _ c.requires.sound c.requires.exit (sym c.in-Some.ensures.place) c.in-Ok.ensures.arrived
     (home_read _ _ _ _ _ _ _ c.self.view_is c.requires.sound c.requires.exit c.index-home.ensures)
-    (ap (λ (n : ℕ). c.in-Ok.slot * n + c.in-Some.place.1) (ap (λ (s : Slots). s.size) c.self-2.view_is ∙ c.in-Ok.ensures.size))
+    (ap (λ (n : ℕ). c.in-Ok.slot * n + c.in-Some.offset) (ap (λ (s : Slots). s.size) c.self-2.view_is ∙ c.in-Ok.ensures.size))
     c.in-Ok-link_exit.ensures.linked).1
 
-pub returns-in-Err-link_exit-clause-served : goal.returns-in-Err-link_exit-clause-served
-returns-in-Err-link_exit-clause-served g c = λ b o f h lt at.
-    crossed_fault _ _ _ _ _ _ _ _ _ _ _ _ (sym c.in-Some.ensures.place) c.in-Ok.ensures.arrived c.in-Err-link_exit.ensures.failed
+pub returns-in_default-link_exit-clause-served : goal.returns-in_default-link_exit-clause-served
+returns-in_default-link_exit-clause-served g c = λ b o f h lt at.
+    crossed_fault _ _ _ _ _ _ _ _ _ _ _ _ (sym c.in-Some.ensures.place) c.in-Ok.ensures.arrived c.in_default-link_exit.ensures.failed
 
-pub returns-in-Ok-link_exit-clause-unused : goal.returns-in-Ok-link_exit-clause-unused
-returns-in-Ok-link_exit-clause-unused g c =
+pub returns-clause-unused : goal.returns-clause-unused
+returns-clause-unused g c =
     let x = c.requires.exit in
     let call = crossed_call _ _ _ _ _ _ c.in-Ok.slot _ _ _ _ _ _ _ c.requires.sound x (sym c.in-Some.ensures.place) c.in-Ok.ensures.arrived
     (home_read _ _ _ _ _ _ _ c.self.view_is c.requires.sound x c.index-home.ensures)
-    (ap (λ (n : ℕ). c.in-Ok.slot * n + c.in-Some.place.1) (ap (λ (s : Slots). s.size) c.self-2.view_is ∙ c.in-Ok.ensures.size))
+    (ap (λ (n : ℕ). c.in-Ok.slot * n + c.in-Some.offset) (ap (λ (s : Slots). s.size) c.self-2.view_is ∙ c.in-Ok.ensures.size))
     c.in-Ok-link_exit.ensures.linked in
     let served = call.0 x.block x.offset x.first x.is_placed (omega (arith, x.is_exit.inside)) x.index in
     unused_stays c.args.self.now c.link_exit.new.self c.args.image.now (direct x.block x.offset c.args.target) _ _ c.requires.sound call.1

@@ -1,21 +1,18 @@
 use Rattle.std.proofs.Common.{ap, arith, refl, sym, ◌∙◌}
 use Rattle.swi_rom.specs.Record.{indirect}
 use Rattle.swi_rom.specs.Slots.{Slots}
-use Rattle.swi_rom.proofs.Crossing.{outside_served, fault_served}
+use Rattle.swi_rom.proofs.Crossing.{outside_served}
 use Rattle.swi_rom.proofs.Calls.{place_block, index_fits, entered_call}
 use Rattle.swi_rom.proofs.Unused.{setting_same, unused_stays}
 use Rattle.swi_rom.proofs.slots.SlotRomCacheRom.enter.Goals as goal
 
-pub returns-in-None-clause-served : goal.returns-in-None-clause-served
-returns-in-None-clause-served g c = outside_served _ _ (indirect c.args.target) _ refl (sym c.in-None.ensures.place)
+pub returns-in_default-clause-served : goal.returns-in_default-clause-served
+returns-in_default-clause-served g c = outside_served _ _ (indirect c.args.target) _ refl (sym c.in_default.ensures.place)
 
 pub overflow_add-result : goal.overflow_add-result
 overflow_add-result g c =
     let q = (place_block _ _ _ _ _ c.requires.sound c.in-Some.ensures.place).1 in
     omega (arith, index_fits _ _ _ _ _ c.in-Ok.slot c.self.inside.size _ _ c.requires.sound c.in-Ok.ensures.arrived q (ap (λ (s : Slots). s.size) c.self.view_is ∙ c.in-Ok.ensures.size))
-
-pub returns-in-Err-clause-served : goal.returns-in-Err-clause-served
-returns-in-Err-clause-served g c = fault_served _ _ _ _ _ _ _ _ _ (sym c.in-Some.ensures.place) c.in-Err.ensures.failed
 
 pub returns-clause-served : goal.returns-clause-served
 returns-clause-served g c =
