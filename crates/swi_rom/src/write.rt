@@ -14,6 +14,12 @@ use swi_outside::{CacheRam, Failed};
 /// The word of EBREAK.
 pub(crate) const EBREAK: u32 = 0x0010_0073;
 
+/// The number of x0, for a jump that keeps no return address.
+const X0: u32 = 0;
+
+/// How far back a JAL reaches, in bytes; ahead it is a word less.
+const JAL_REACH: u32 = 1 << 20;
+
 /// Copies a block's words to the ram's words from `first` on.
 pub(crate) fn copy<M: CacheRam>(
     image: &ImageView<'_>,
@@ -41,7 +47,7 @@ pub(crate) fn reach(from: u32, to: u32) -> bool
     requires to { to < 2 ^ 30 }
     ensures { result ≡ reaches from to }
 {
-    4 * to.saturating_sub(from) <= (1 << 20) - 4 && 4 * from.saturating_sub(to) <= 1 << 20
+    4 * to.saturating_sub(from) <= JAL_REACH - 4 && 4 * from.saturating_sub(to) <= JAL_REACH
 }
 
 /// The word that jumps from one word to another and writes no register.
@@ -52,7 +58,7 @@ pub(crate) fn jump(from: u32, to: u32) -> u32
     ensures { IsJump from to result }
 {
     encode(&Instr::Jal {
-        rd: Reg::of(0),
+        rd: Reg::of(X0),
         off: (4 * to).wrapping_sub(4 * from),
     })
 }
