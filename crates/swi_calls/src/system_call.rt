@@ -56,10 +56,7 @@ fn read<I: Source>(request: Request, bus: &mut Bus, input: &mut I) -> Result<u32
     if !bus.writable(request.second, request.third) {
         return Ok(BAD_ADDRESS);
     }
-    match read_into(bus, request.second, request.third, input) {
-        Ok(count) => Ok(count),
-        Err(_) => Err(CallFault::SourceFault),
-    }
+    read_into(bus, request.second, request.third, input).map_err(|_| CallFault::SourceFault)
 }
 
 /// write(descriptor, buffer, count) to the sink of a good descriptor.
@@ -76,10 +73,8 @@ fn write<S: Sink>(request: Request, bus: &Bus, sink: &mut S) -> Result<u32, Call
     if !bus.readable(request.second, request.third) {
         return Ok(BAD_ADDRESS);
     }
-    match write_from(bus, request.second, request.third, sink) {
-        Ok(()) => Ok(request.third),
-        Err(_) => Err(CallFault::SinkFault),
-    }
+    write_from(bus, request.second, request.third, sink).map_err(|_| CallFault::SinkFault)?;
+    Ok(request.third)
 }
 
 /// The heap after brk(a).

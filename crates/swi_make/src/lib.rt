@@ -51,10 +51,8 @@ pub fn make(alloc: Global, seed: u32, functions: u32) -> Result<Program, Memory>
     ensures size { IfOk result (λ p. length (text_of p.segments).words
         ≡ 6 + 6 * functions + sum (all_additions seed functions)) }
 {
-    match text(alloc, seed, functions) {
-        Ok(words) => one_text(alloc, BASE, &words),
-        Err(_) => Err(Memory),
-    }
+    let words = text(alloc, seed, functions).map_err(|_| Memory)?;
+    one_text(alloc, BASE, &words)
 }
 
 #[cfg(test)]
