@@ -71,8 +71,8 @@ pub enum Command {
         file: String,
         options: RunOptions,
     },
-    /// The blocks of the file's program are listed: those of its image, or, where it has none, those of the greedy cut into blocks of at most
-    /// so many words (2 to 1024).
+    /// The blocks of the file's program are listed: those of its image, or, where it has none, those of
+    /// the greedy cut into blocks of at most so many words (2 to 1024).
     Listing {
         file: String,
         block_words: u32,

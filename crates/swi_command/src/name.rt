@@ -6,6 +6,64 @@ ghost use Rattle.swi_command.specs.CommandLine.{form_named};
 
 use crate::argument::{Argument, Flag, NumberOption, Positional};
 
+// The arguments that each command takes.
+const REWRITE: &[Argument] = &[
+    Argument::Positional(Positional::Input),
+    Argument::Positional(Positional::Output),
+    Argument::Number(NumberOption::Block),
+];
+
+const CACHED: &[Argument] = &[
+    Argument::Positional(Positional::File),
+    Argument::Number(NumberOption::Steps),
+    Argument::Number(NumberOption::Cache),
+    Argument::Number(NumberOption::Block),
+    Argument::Number(NumberOption::Heap),
+    Argument::Number(NumberOption::Stack),
+    Argument::Flag(Flag::State),
+    Argument::Flag(Flag::Calls),
+    Argument::Flag(Flag::Stats),
+];
+
+const PLAIN: &[Argument] = &[
+    Argument::Positional(Positional::File),
+    Argument::Number(NumberOption::Steps),
+    Argument::Number(NumberOption::Heap),
+    Argument::Number(NumberOption::Stack),
+    Argument::Flag(Flag::State),
+    Argument::Flag(Flag::Calls),
+    Argument::Flag(Flag::Stats),
+];
+
+const TRACE: &[Argument] = &[
+    Argument::Positional(Positional::File),
+    Argument::Number(NumberOption::Steps),
+    Argument::Number(NumberOption::Cache),
+    Argument::Number(NumberOption::Block),
+    Argument::Number(NumberOption::Heap),
+    Argument::Number(NumberOption::Stack),
+    Argument::Flag(Flag::Last),
+];
+
+const LISTING: &[Argument] = &[
+    Argument::Positional(Positional::File),
+    Argument::Number(NumberOption::Block),
+];
+
+const CHECK: &[Argument] = &[Argument::Positional(Positional::File)];
+
+const UPGRADE: &[Argument] = &[
+    Argument::Positional(Positional::Input),
+    Argument::Positional(Positional::Output),
+];
+
+const MEASURE: &[Argument] = &[
+    Argument::Positional(Positional::Seed),
+    Argument::Positional(Positional::Count),
+    Argument::Number(NumberOption::Cache),
+    Argument::Number(NumberOption::Block),
+];
+
 #[derive(Clone, Copy)]
 pub enum CommandName {
     Rewrite,
@@ -57,55 +115,14 @@ impl CommandName {
         ensures { map rule_of_argument result.now ≡ (form_of self).rules }
     {
         match self {
-            CommandName::Rewrite => &[
-                Argument::Positional(Positional::Input),
-                Argument::Positional(Positional::Output),
-                Argument::Number(NumberOption::Block),
-            ],
-            CommandName::Cached => &[
-                Argument::Positional(Positional::File),
-                Argument::Number(NumberOption::Steps),
-                Argument::Number(NumberOption::Cache),
-                Argument::Number(NumberOption::Block),
-                Argument::Number(NumberOption::Heap),
-                Argument::Number(NumberOption::Stack),
-                Argument::Flag(Flag::State),
-                Argument::Flag(Flag::Calls),
-                Argument::Flag(Flag::Stats),
-            ],
-            CommandName::Plain => &[
-                Argument::Positional(Positional::File),
-                Argument::Number(NumberOption::Steps),
-                Argument::Number(NumberOption::Heap),
-                Argument::Number(NumberOption::Stack),
-                Argument::Flag(Flag::State),
-                Argument::Flag(Flag::Calls),
-                Argument::Flag(Flag::Stats),
-            ],
-            CommandName::Trace => &[
-                Argument::Positional(Positional::File),
-                Argument::Number(NumberOption::Steps),
-                Argument::Number(NumberOption::Cache),
-                Argument::Number(NumberOption::Block),
-                Argument::Number(NumberOption::Heap),
-                Argument::Number(NumberOption::Stack),
-                Argument::Flag(Flag::Last),
-            ],
-            CommandName::Listing => &[
-                Argument::Positional(Positional::File),
-                Argument::Number(NumberOption::Block),
-            ],
-            CommandName::Check => &[Argument::Positional(Positional::File)],
-            CommandName::Upgrade => &[
-                Argument::Positional(Positional::Input),
-                Argument::Positional(Positional::Output),
-            ],
-            CommandName::Measure => &[
-                Argument::Positional(Positional::Seed),
-                Argument::Positional(Positional::Count),
-                Argument::Number(NumberOption::Cache),
-                Argument::Number(NumberOption::Block),
-            ],
+            CommandName::Rewrite => REWRITE,
+            CommandName::Cached => CACHED,
+            CommandName::Plain => PLAIN,
+            CommandName::Trace => TRACE,
+            CommandName::Listing => LISTING,
+            CommandName::Check => CHECK,
+            CommandName::Upgrade => UPGRADE,
+            CommandName::Measure => MEASURE,
         }
     }
 }
