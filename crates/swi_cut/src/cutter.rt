@@ -54,15 +54,14 @@ fn cut_text(alloc: Global, text: &TextView<'_>, most: u32) -> Result<Image, CutR
                 return Err(CutRefusal::Long { address, needs });
             }
         };
-        match draft.add_block(text, done, end, most) {
-            Ok(()) => done = end,
-            Err(_) => return Err(CutRefusal::Memory),
-        }
+        let Ok(()) = draft.add_block(text, done, end, most) else {
+            return Err(CutRefusal::Memory);
+        };
+        done = end;
     }
-    match draft.image(alloc, text, most) {
-        Ok(image) => Ok(image),
-        Err(_) => Err(CutRefusal::Memory),
-    }
+    draft
+        .image(alloc, text, most)
+        .map_err(|_| CutRefusal::Memory)
 }
 
 /// Cuts a program's text into a version 2 image whose blocks have at most `block_words` words, 2 to
@@ -76,7 +75,8 @@ pub fn cut(alloc: Global, p: &Program, block_words: u32) -> Result<Image, CutRef
     ensures cut { IfOk result (λ i. IsCut (text_of p.now.segments) block_words (image_of i)) }
     ensures fits { OnOk result (Fits (text_of p.now.segments) block_words) }
     ensures refused { IfErr result (IsCutCause (text_of p.now.segments) block_words) }
-    ensures unfit { (address needs : ℕ) → result ≡ Err (Long address needs) → Fits (text_of p.now.segments) block_words → ⊥ }
+    ensures unfit { (address needs : ℕ) → result ≡ Err (Long address needs) →
+        Fits (text_of p.now.segments) block_words → ⊥ }
 {
     cut_text(alloc, &p.text(), block_words)
 }

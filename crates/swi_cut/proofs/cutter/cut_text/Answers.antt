@@ -1,5 +1,4 @@
 use Rattle.std.proofs.Common.{◌≡◌, length, arith, subst, ℕ}
-use Rattle.swi_image.specs.Format.{image_of}
 use Rattle.swi_cut.specs.Drafts.{IsDraft, AreGreedy}
 use Rattle.swi_cut.proofs.Drafted.{greedy_more, greedy_none}
 use Rattle.swi_cut.proofs.Finished.{cut_of_made}
@@ -24,10 +23,9 @@ image-requires-clause-draft c =
     let all : c.loop-done.done ≡ length c.args.text.now.words = omega (arith, c.loop-done.invariant.1) in
     subst (λ (n : ℕ). IsDraft c.args.text.now c.args.most n c.loop-done.draft) all c.loop-done.invariant.0
 
-pub returns-in-Ok-image-clause-cut : goal.returns-in-Ok-image-clause-cut
-returns-in-Ok-image-clause-cut c =
+pub returns-clause-cut : goal.returns-clause-cut
+returns-clause-cut c =
     let all : c.loop-done.done ≡ length c.args.text.now.words = omega (arith, c.loop-done.invariant.1) in
-    cut_of_made c.args.text.now c.args.most c.loop-done.draft.starts.items c.loop-done.draft.ends.items c.loop-done.draft.offsets.items c.loop-done.draft.words.items (image_of c.in-Ok-image.image)
-    (subst (λ (n : ℕ). IsDraft c.args.text.now c.args.most n c.loop-done.draft) all c.loop-done.invariant.0)
-    (subst (λ (n : ℕ). AreGreedy c.args.text.now c.args.most c.loop-done.draft.starts.items n) all c.loop-done.invariant.2)
-    (c.in-Ok-image.ensures {u = tt})
+    let made : IsDraft c.args.text.now c.args.most (length c.args.text.now.words) c.loop-done.draft = subst (λ (n : ℕ). IsDraft c.args.text.now c.args.most n c.loop-done.draft) all c.loop-done.invariant.0 in
+    let greedy : AreGreedy c.args.text.now c.args.most c.loop-done.draft.starts.items (length c.args.text.now.words) = subst (λ (n : ℕ). AreGreedy c.args.text.now c.args.most c.loop-done.draft.starts.items n) all c.loop-done.invariant.2 in
+    grind (arith, cut_of_made c.args.text.now c.args.most c.loop-done.draft.starts.items c.loop-done.draft.ends.items c.loop-done.draft.offsets.items c.loop-done.draft.words.items, made, greedy, c.image.ensures, c.map_err.ensures.cases)
