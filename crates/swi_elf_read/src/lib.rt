@@ -4,10 +4,10 @@
 #![tactic(auto)]
 
 mod checks;
-pub mod parts;
-pub mod program_header;
-pub mod reader;
-pub mod refusal;
+mod parts;
+mod program_header;
+mod reader;
+mod refusal;
 
 pub use parts::{Kind, Loaded};
 pub use program_header::ProgramHeader;

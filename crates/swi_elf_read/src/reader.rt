@@ -184,7 +184,12 @@ pub fn loaded(e: &Elf) -> u32
 #[tactic(auto, unfolding(crate::specs::Loaded::loaded_segments))]
 pub fn loaded_at<'a>(e: &Elf<'a>, k: u32) -> Loaded<'a>
     requires { k < length (loaded_segments e.now) }
-    ensures { slice_get (loaded_segments e.now) k ≡ Some (record { base = result.base; flags = result.flags; size = result.size; bytes = result.bytes.now }) }
+    ensures { slice_get (loaded_segments e.now) k ≡ Some (record {
+      base = result.base;
+      flags = result.flags;
+      size = result.size;
+      bytes = result.bytes.now;
+    }) }
 {
     match nth_loaded(&e.headers, k as usize) {
         Some(header) => Loaded {

@@ -7,8 +7,8 @@ ghost use Rattle.swi_exec.specs.Registers.{reg, with_reg, with_reservation, new_
 use std::marker::Model;
 use swi_isa::Reg;
 
-/// The number of sp, the stack pointer. Source of this name and those below: RISC-V ELF psABI, section "Integer Register
-/// Convention".
+/// The number of sp, the stack pointer. Source of this name and those below: RISC-V ELF psABI, section
+/// "Integer Register Convention".
 pub const SP: u32 = 2;
 
 /// The number of a0, the first argument of a call and its answer.

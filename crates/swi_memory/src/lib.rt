@@ -1,17 +1,17 @@
 //! The memory of a program: its segments, its layout, and the bus that loads and stores.
 #![tactic(auto)]
 
-pub mod access;
-pub mod area;
+mod access;
+mod area;
 mod bank;
-pub mod bus;
+mod bus;
 mod copies;
 mod gather;
-pub mod layout;
+mod layout;
 mod loads;
 mod ranges;
-pub mod right;
-pub mod segment;
+mod right;
+mod segment;
 mod stores;
 mod text;
 

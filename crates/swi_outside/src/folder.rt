@@ -31,7 +31,8 @@ pub trait Folder {
     /// another name.
     fn close(&mut self, name: &str, file: Self::Writer) -> Result<(), Failed>
         ensures others { SameElsewhere (contents self.old) (contents self.new) name.now }
-        ensures stands { OnOk result (Keeps (contents self.old) (contents self.new) name.now (Self.Writer.contents file)) };
+        ensures stands { OnOk result
+            (Keeps (contents self.old) (contents self.new) name.now (Self.Writer.contents file)) };
 }
 
 /// The files that a runtime reaches, by their paths. It tells no contents.

@@ -1,10 +1,10 @@
 //! A program: its segments, its text, and where its heap and its stack lie.
 #![tactic(auto)]
 
-pub mod placement;
-pub mod programs;
-pub mod text_view;
-pub mod word_bytes;
+mod placement;
+mod programs;
+mod text_view;
+mod word_bytes;
 
 pub use placement::{Room, lay_out};
 pub use programs::{Program, one_text, program_of};
