@@ -3,6 +3,7 @@
 
 ghost use Rattle.std.specs.Prelude.{IsTrue, ◌↔◌, ◌≡◌, ◌<◌, ◌≤◌, ◌^◌, ℕ, Some};
 ghost use Rattle.swi_isa.specs.Decode.{decoded};
+ghost use Rattle.swi_isa.specs.declared.instr.Instr.TheVariants.{Branch, Load, Store, Alu, Op, Atomic};
 ghost use Rattle.swi_encode.specs.Canonical.{canonical};
 ghost use Rattle.swi_encode.specs.Valid.{IsValid, IsExtended, ImmFits, AtomicFits};
 ghost use Rattle.swi_encode.specs.Words.{InRange, word_of, u_word, j_word, i_word, s_word, b_word, r_word};
@@ -72,8 +73,133 @@ fn registers(opcode: u32, funct3: u32, funct7: u32, rd: Reg, rs1: Reg, rs2: Reg)
     high + (funct3 << 12) + (rd.num() << 7) + opcode
 }
 
+/// The word of a branch.
+fn branch_word(op: BranchOp, rs1: Reg, rs2: Reg, off: u32) -> u32
+    ensures word { result ≡ word_of (Branch op rs1 rs2 off) }
+    ensures sized { InRange (Branch op rs1 rs2 off) }
+{
+    macro_rules! row {
+        ($funct3:literal) => { branch($funct3, rs1, rs2, off) };
+    }
+    match op {
+        BranchOp::Beq => row!(0),
+        BranchOp::Bne => row!(1),
+        BranchOp::Blt => row!(4),
+        BranchOp::Bge => row!(5),
+        BranchOp::Bltu => row!(6),
+        BranchOp::Bgeu => row!(7),
+    }
+}
+
+/// The word of a load.
+fn load_word(op: LoadOp, rd: Reg, rs1: Reg, imm: u32) -> u32
+    ensures word { result ≡ word_of (Load op rd rs1 imm) }
+    ensures sized { InRange (Load op rd rs1 imm) }
+{
+    macro_rules! row {
+        ($funct3:literal) => { immediate(0x03, $funct3, rd, rs1, imm) };
+    }
+    match op {
+        LoadOp::Lb => row!(0),
+        LoadOp::Lh => row!(1),
+        LoadOp::Lw => row!(2),
+        LoadOp::Lbu => row!(4),
+        LoadOp::Lhu => row!(5),
+    }
+}
+
+/// The word of a store.
+fn store_word(op: StoreOp, rs1: Reg, rs2: Reg, imm: u32) -> u32
+    ensures word { result ≡ word_of (Store op rs1 rs2 imm) }
+    ensures sized { InRange (Store op rs1 rs2 imm) }
+{
+    macro_rules! row {
+        ($funct3:literal) => { store($funct3, rs1, rs2, imm) };
+    }
+    match op {
+        StoreOp::Sb => row!(0),
+        StoreOp::Sh => row!(1),
+        StoreOp::Sw => row!(2),
+    }
+}
+
+/// The word of an operation on a register and an immediate.
+fn immediate_word(op: ImmOp, rd: Reg, rs1: Reg, imm: u32) -> u32
+    requires { IsValid (Alu op rd rs1 imm) }
+    ensures word { result ≡ word_of (Alu op rd rs1 imm) }
+    ensures sized { InRange (Alu op rd rs1 imm) }
+{
+    macro_rules! row {
+        ($funct3:literal) => { immediate(0x13, $funct3, rd, rs1, imm) };
+        ($funct3:literal, $funct7:literal) => { registers(0x13, $funct3, $funct7, rd, rs1, Reg::of(imm)) };
+    }
+    match op {
+        ImmOp::Addi => row!(0),
+        ImmOp::Slti => row!(2),
+        ImmOp::Sltiu => row!(3),
+        ImmOp::Xori => row!(4),
+        ImmOp::Ori => row!(6),
+        ImmOp::Andi => row!(7),
+        ImmOp::Slli => row!(1, 0),
+        ImmOp::Srli => row!(5, 0),
+        ImmOp::Srai => row!(5, 32),
+    }
+}
+
+/// The word of an operation on two registers.
+fn register_word(op: RegOp, rd: Reg, rs1: Reg, rs2: Reg) -> u32
+    ensures word { result ≡ word_of (Op op rd rs1 rs2) }
+    ensures sized { InRange (Op op rd rs1 rs2) }
+{
+    macro_rules! row {
+        ($funct3:literal, $funct7:literal) => { registers(0x33, $funct3, $funct7, rd, rs1, rs2) };
+    }
+    match op {
+        RegOp::Add => row!(0, 0),
+        RegOp::Sub => row!(0, 32),
+        RegOp::Sll => row!(1, 0),
+        RegOp::Slt => row!(2, 0),
+        RegOp::Sltu => row!(3, 0),
+        RegOp::Xor => row!(4, 0),
+        RegOp::Srl => row!(5, 0),
+        RegOp::Sra => row!(5, 32),
+        RegOp::Or => row!(6, 0),
+        RegOp::And => row!(7, 0),
+        RegOp::Mul => row!(0, 1),
+        RegOp::Mulh => row!(1, 1),
+        RegOp::Mulhsu => row!(2, 1),
+        RegOp::Mulhu => row!(3, 1),
+        RegOp::Div => row!(4, 1),
+        RegOp::Divu => row!(5, 1),
+        RegOp::Rem => row!(6, 1),
+        RegOp::Remu => row!(7, 1),
+    }
+}
+
+/// The word of an atomic operation.
+fn atomic_word(op: AtomicOp, rd: Reg, rs1: Reg, rs2: Reg) -> u32
+    ensures word { result ≡ word_of (Atomic op rd rs1 rs2) }
+    ensures sized { InRange (Atomic op rd rs1 rs2) }
+{
+    macro_rules! row {
+        ($funct5:literal) => { registers(0x2F, 2, $funct5 * 4, rd, rs1, rs2) };
+    }
+    match op {
+        AtomicOp::LrW => row!(2),
+        AtomicOp::ScW => row!(3),
+        AtomicOp::SwapW => row!(1),
+        AtomicOp::AddW => row!(0),
+        AtomicOp::XorW => row!(4),
+        AtomicOp::AndW => row!(12),
+        AtomicOp::OrW => row!(8),
+        AtomicOp::MinW => row!(16),
+        AtomicOp::MaxW => row!(20),
+        AtomicOp::MinuW => row!(24),
+        AtomicOp::MaxuW => row!(28),
+    }
+}
+
 /// The word of each instruction, by its format.
-// Longer than other functions, so that each row of the table is a line and all stand in one walk.
 fn word(i: &Instr) -> u32
     requires { IsValid i.now }
     ensures word { result ≡ word_of i.now }
@@ -84,101 +210,12 @@ fn word(i: &Instr) -> u32
         Instr::Auipc { rd, imm } => upper(0x17, rd, imm),
         Instr::Jal { rd, off } => jump(rd, off),
         Instr::Jalr { rd, rs1, imm } => immediate(0x67, 0, rd, rs1, imm),
-        Instr::Branch { op, rs1, rs2, off } => {
-            macro_rules! row {
-                ($funct3:literal) => { branch($funct3, rs1, rs2, off) };
-            }
-            match op {
-                BranchOp::Beq => row!(0),
-                BranchOp::Bne => row!(1),
-                BranchOp::Blt => row!(4),
-                BranchOp::Bge => row!(5),
-                BranchOp::Bltu => row!(6),
-                BranchOp::Bgeu => row!(7),
-            }
-        }
-        Instr::Load { op, rd, rs1, imm } => {
-            macro_rules! row {
-                ($funct3:literal) => { immediate(0x03, $funct3, rd, rs1, imm) };
-            }
-            match op {
-                LoadOp::Lb => row!(0),
-                LoadOp::Lh => row!(1),
-                LoadOp::Lw => row!(2),
-                LoadOp::Lbu => row!(4),
-                LoadOp::Lhu => row!(5),
-            }
-        }
-        Instr::Store { op, rs1, rs2, imm } => {
-            macro_rules! row {
-                ($funct3:literal) => { store($funct3, rs1, rs2, imm) };
-            }
-            match op {
-                StoreOp::Sb => row!(0),
-                StoreOp::Sh => row!(1),
-                StoreOp::Sw => row!(2),
-            }
-        }
-        Instr::Alu { op, rd, rs1, imm } => {
-            macro_rules! row {
-                ($funct3:literal) => { immediate(0x13, $funct3, rd, rs1, imm) };
-                ($funct3:literal, $funct7:literal) => { registers(0x13, $funct3, $funct7, rd, rs1, Reg::of(imm)) };
-            }
-            match op {
-                ImmOp::Addi => row!(0),
-                ImmOp::Slti => row!(2),
-                ImmOp::Sltiu => row!(3),
-                ImmOp::Xori => row!(4),
-                ImmOp::Ori => row!(6),
-                ImmOp::Andi => row!(7),
-                ImmOp::Slli => row!(1, 0),
-                ImmOp::Srli => row!(5, 0),
-                ImmOp::Srai => row!(5, 32),
-            }
-        }
-        Instr::Op { op, rd, rs1, rs2 } => {
-            macro_rules! row {
-                ($funct3:literal, $funct7:literal) => { registers(0x33, $funct3, $funct7, rd, rs1, rs2) };
-            }
-            match op {
-                RegOp::Add => row!(0, 0),
-                RegOp::Sub => row!(0, 32),
-                RegOp::Sll => row!(1, 0),
-                RegOp::Slt => row!(2, 0),
-                RegOp::Sltu => row!(3, 0),
-                RegOp::Xor => row!(4, 0),
-                RegOp::Srl => row!(5, 0),
-                RegOp::Sra => row!(5, 32),
-                RegOp::Or => row!(6, 0),
-                RegOp::And => row!(7, 0),
-                RegOp::Mul => row!(0, 1),
-                RegOp::Mulh => row!(1, 1),
-                RegOp::Mulhsu => row!(2, 1),
-                RegOp::Mulhu => row!(3, 1),
-                RegOp::Div => row!(4, 1),
-                RegOp::Divu => row!(5, 1),
-                RegOp::Rem => row!(6, 1),
-                RegOp::Remu => row!(7, 1),
-            }
-        }
-        Instr::Atomic { op, rd, rs1, rs2 } => {
-            macro_rules! row {
-                ($funct5:literal) => { registers(0x2F, 2, $funct5 * 4, rd, rs1, rs2) };
-            }
-            match op {
-                AtomicOp::LrW => row!(2),
-                AtomicOp::ScW => row!(3),
-                AtomicOp::SwapW => row!(1),
-                AtomicOp::AddW => row!(0),
-                AtomicOp::XorW => row!(4),
-                AtomicOp::AndW => row!(12),
-                AtomicOp::OrW => row!(8),
-                AtomicOp::MinW => row!(16),
-                AtomicOp::MaxW => row!(20),
-                AtomicOp::MinuW => row!(24),
-                AtomicOp::MaxuW => row!(28),
-            }
-        }
+        Instr::Branch { op, rs1, rs2, off } => branch_word(op, rs1, rs2, off),
+        Instr::Load { op, rd, rs1, imm } => load_word(op, rd, rs1, imm),
+        Instr::Store { op, rs1, rs2, imm } => store_word(op, rs1, rs2, imm),
+        Instr::Alu { op, rd, rs1, imm } => immediate_word(op, rd, rs1, imm),
+        Instr::Op { op, rd, rs1, rs2 } => register_word(op, rd, rs1, rs2),
+        Instr::Atomic { op, rd, rs1, rs2 } => atomic_word(op, rd, rs1, rs2),
         Instr::Fence => 0x0FF0_000F,
         Instr::Ecall => 0x73,
         Instr::Ebreak => 0x0010_0073,

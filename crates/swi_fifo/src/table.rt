@@ -47,10 +47,7 @@ impl Model for ChainTable {
 fn no_homes(alloc: Global, blocks: usize) -> Result<Vec<u32>, Memory>
     ensures { IfOk result (λ h. h.items ≡ replicate blocks nowhere) }
 {
-    match vec![in alloc; NOWHERE; blocks] {
-        Ok(homes) => Ok(homes),
-        Err(_) => Err(Memory),
-    }
+    vec![in alloc; NOWHERE; blocks].map_err(|_| Memory)
 }
 
 // The block of a filled slot has no slot from now on.

@@ -42,10 +42,8 @@ impl History {
     pub fn new(alloc: Global) -> Result<History, Memory>
         ensures { IfOk result (λ h. h ≡ []) }
     {
-        match HeapCircularBuffer::with_capacity(alloc, KEPT) {
-            Ok(addresses) => Ok(History { addresses }),
-            Err(_) => Err(Memory),
-        }
+        let addresses = HeapCircularBuffer::with_capacity(alloc, KEPT).map_err(|_| Memory)?;
+        Ok(History { addresses })
     }
 
     /// Adds an address behind the others. Where there are 32, the oldest leaves.
