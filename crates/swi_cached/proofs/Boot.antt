@@ -1,5 +1,5 @@
 -- The empty service, and the board before its first step.
-use Rattle.std.proofs.Common.{◌≡◌, ℕ, zero, suc, ◌-◌, ◌*◌, ◌/◌, ◌<◌, ◌≤◌, Bool, true, List, [], ◌∷◌, replicate, slice_index, Option, Some, None, Result, Ok, Err, IfOk, refl, sym, ap, subst, ◌∙◌, arith}
+use Rattle.std.proofs.Common.{◌≡◌, ℕ, zero, suc, ◌-◌, ◌*◌, ◌/◌, ◌<◌, ◌≤◌, true, List, [], ◌∷◌, replicate, slice_index, Option, Some, None, Result, Ok, Err, IfOk, refl, sym, ap, subst, ◌∙◌, arith}
 use Rattle.std.proofs.lemmas.List.{get_or-replicate}
 use Rattle.std.proofs.lemmas.Bool.{false≢true, le-ltb}
 use Rattle.std.proofs.Math.Nat.{div-div-eq-div-mul, div-mul-le_self}
@@ -17,7 +17,7 @@ use Rattle.swi_board.specs.declared.hart.Control.TheVariants.{At, Outside}
 use Rattle.swi_board.specs.Hart.{HartData, is_between}
 use Rattle.swi_board.specs.Board.{Agrees, Matches, Fits}
 use Rattle.swi_rom.specs.Fifo.{fifo_second}
-use Rattle.swi_cached.specs.Cached.{CachedRun, slots_of, empty_record, record_at_boot, traced_of}
+use Rattle.swi_cached.specs.Cached.{CachedRun, slots_of, empty_record, record_at_boot}
 use Rattle.swi_cached.specs.Booted.{Booted}
 
 none_collected : (s : Slots) (n : ℕ) → ((i : ℕ) → i < n → s.slots ≤ slice_index s.targets i) → collected (link_at s) n ≡ []
@@ -87,21 +87,3 @@ if_ok (Err e) f p = tt
 -- the writes of the boot are the first
 pub wrote_at_boot : (old new next : Record) → old ≡ empty_record → new ≡ next → writes new - writes old ≡ writes next
 wrote_at_boot old new next none is = rw (none, is) (omega arith)
-
--- lines of steps change nothing of the boot
-pub booted_traced : (each : Bool) (c : CachedRun) (h : HartData) (s : Slots) (before after : RamState) → Booted c h s before after → Booted (traced_of each c) h s before after
-booted_traced each c h s before after b = record {
-  machine = b.machine;
-  count = b.count;
-  unfailed = b.unfailed;
-  between = b.between;
-  matches = b.matches;
-  fits = b.fits;
-  here = b.here;
-  spent = b.spent;
-  kept = b.kept;
-  setting = b.setting;
-  sound = b.sound;
-  unused = b.unused;
-  ram = b.ram;
-}

@@ -120,3 +120,15 @@ never_memory {T} board.SinkFault e = cc
 -- an error that is handed on
 pub err_as : {S T : Type 0} (s k : CachedStop) → IsErrOf {T = S} (Err s) k → IsErrOf {T = T} (Err s) k
 err_as {S} {T} s k e = let same : s ≡ k = cc in ap (λ (x : CachedStop). Err x) same
+
+-- the same fault of another call
+pub fault_as : {S T : Type 0} (f k : BoardFault) → IsErrOf {T = S} (Err f) k → IsErrOf {T = T} (Err f) k
+fault_as {S} {T} f k e = let same : f ≡ k = cc in ap (λ (x : BoardFault). Err x) same
+
+pub causes_as : {S T : Type 0} (f : BoardFault) (before after : Faults) → board_faults.HasCauses {T = S} before after (Err f) → board_faults.HasCauses {T = T} before after (Err f)
+causes_as {S} {T} f before after c = record {
+  ram = device_as before.ram after.ram (fault_as {S = S} {T = T} f board.RamFault) (fault_as {S = T} {T = S} f board.RamFault) c.ram;
+  source = device_as before.input after.input (fault_as {S = S} {T = T} f board.SourceFault) (fault_as {S = T} {T = S} f board.SourceFault) c.source;
+  sinks = pair_as before.out after.out before.err after.err (fault_as {S = S} {T = T} f board.SinkFault) (fault_as {S = T} {T = S} f board.SinkFault) c.sinks;
+  quiet = tt;
+}

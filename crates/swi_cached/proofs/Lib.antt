@@ -4,5 +4,6 @@ pub mod Failed
 mod Causing
 mod Fetched
 mod Foreign
-pub mod Telling
+pub mod Quiet
+pub mod Tells
 pub mod Stopping

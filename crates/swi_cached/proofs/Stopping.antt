@@ -24,9 +24,9 @@ use Rattle.swi_board.specs.Leaving.{broken, RamBroken}
 use Rattle.swi_board.specs.Runs.{fetched_by}
 use Rattle.swi_board.specs.declared.hart.Control.TheVariants.{At, Outside}
 use Rattle.swi_outside.specs.Causes.{risen}
-use Rattle.swi_board.specs.Ran.{Ran, BrokeOff, RamBrokeOff, next_of}
+use Rattle.swi_board.specs.Ran.{Ran, BrokeOff, RamBrokeOff}
 use Rattle.swi_board.specs.Faults.{Faults, HasCauses}
-use Rattle.swi_board.specs.Runs.{Grown, depth, most, most_by}
+use Rattle.swi_board.specs.Runs.{Grown, most, most_by}
 use Rattle.swi_outside.specs.Causes.{Rose}
 use Rattle.swi_calls.specs.declared.end.End.TheVariants as end
 use Rattle.swi_board.specs.declared.hart.Control.{Control}
@@ -36,10 +36,11 @@ use Rattle.swi_board.proofs.Held.{same_steps, run_snoc}
 use Rattle.swi_board.proofs.Midway.{step_follows}
 use Rattle.swi_board.proofs.Running.{Goes, goes_out}
 use Rattle.swi_board.proofs.Taking.{input_shrinks}
-use Rattle.swi_trace.specs.History.{IsLastOf}
-use Rattle.swi_cached.specs.Told.{addresses, error_by, next_error, of_steps, told_line}
+use Rattle.swi_cached.specs.declared.told.Telling.{Telling}
+use Rattle.swi_cached.specs.Told.{addresses, error_by, history_of, is_each, next_error, of_steps, told_line}
 use Rattle.swi_cached.specs.Traced.{ToldRun, ToldBroke, ToldRamBroke}
-use Rattle.swi_cached.proofs.Telling.{Before, Begun, Tells, tells_as, error_is, of_next}
+use Rattle.swi_cached.proofs.Quiet.{history_is}
+use Rattle.swi_cached.proofs.Tells.{Before, Begun, Tells, tells_as, error_is, of_next}
 
 -- the same run with errors that hold just what the program wrote
 pub virtual : (policy : Record → ImageData → Transfer → Record) (v : ImageData) (r0 : Record) (n : ℕ) (s0 : FlatState) (h0 h : HartData) (r : Record) (left out0 out : Option (List ℕ)) →
@@ -306,24 +307,24 @@ all_told None each n k lines s err0 err history (inl done) (inl same) (inr (is, 
 all_told None each n k lines s err0 err history (inl done) (inr (same, inl more)) (inr (is, begun)) = absurd (omega (arith, done, more))
 all_told None each n k lines s err0 err history (inl done) (inr (same, inr over)) (inr (is, begun)) = cc
 
-pub told_run : (each : Bool) (policy : Record → ImageData → Transfer → Record) (v : ImageData) (r0 : Record) (n : ℕ) (s0 : FlatState) (h0 h : HartData) (r : Record) (left out0 out err0 err : Option (List ℕ)) (history : List ℕ) →
-    Goes policy v r0 n s0 h0 h r left out0 out None None → h0.machine.steps ≡ 0 → s0.error ≡ [] → (n ≤ h.machine.steps) ⊎ (is_some h.machine.ending ≡ true) → Before each n s0 err0 err history →
-    ToldRun each policy v n s0 h0 r0 h r left out0 out err0 err history
-told_run each policy v r0 n s0 h0 h r left out0 out err0 err history goes steps_none none over before =
+pub told_run : (t : Telling) (first : List ℕ) → Some first ≡ history_of t [] → (policy : Record → ImageData → Transfer → Record) (v : ImageData) (r0 : Record) (n : ℕ) (s0 : FlatState) (h0 h : HartData) (r : Record) (left out0 out err0 err : Option (List ℕ)) (history : List ℕ) →
+    Goes policy v r0 n s0 h0 h r left out0 out None None → h0.machine.steps ≡ 0 → s0.error ≡ [] → (n ≤ h.machine.steps) ⊎ (is_some h.machine.ending ≡ true) → Before (is_each t) n s0 err0 err history →
+    ToldRun t policy v n s0 h0 r0 h r left out0 out err0 err (Some history)
+told_run t first kept policy v r0 n s0 h0 h r left out0 out err0 err history goes steps_none none over before =
     let all : n - h0.machine.steps ≡ n = omega (arith, steps_none) in
     record {
       ran = subst (λ (k : ℕ). Ran policy v k s0 h0 r0 h r left out0 out None None) all (goes_out policy v r0 n s0 h0 h r left out0 out None None goes over);
-      error = subst (λ (l : List ℕ). Appends err0 err l) (error_is each n s0 none) before.0;
-      last = before.1;
+      error = subst (λ (l : List ℕ). Appends err0 err l) (error_is (is_each t) n s0 none) before.0;
+      kept = history_is t first (addresses n s0) history kept before.1;
     }
 
 -- ---- faults of devices, and of the ram
 
-pub with_device : {T : Type 0} (r : Result T BoardFault) (S P : Type 0) → OnDevice r S → (S → ((Q : Type 0) → OnDevice r Q → Q) → P) → OnDevice r P
-with_device {T} (Ok x) S P s f = tt
-with_device {T} (Err RamFault) S P s f = tt
-with_device {T} (Err SourceFault) S P s f = f s (λ Q q. q)
-with_device {T} (Err SinkFault) S P s f = f s (λ Q q. q)
+-- from the fault of a step to that of the run
+pub with_device : (S T : Type 0) (f : BoardFault) (A P : Type 0) → OnDevice {T = S} (Err f) A → (A → ((Q : Type 0) → OnDevice {T = T} (Err f) Q → Q) → P) → OnDevice {T = T} (Err f) P
+with_device S T RamFault A P a f = tt
+with_device S T SourceFault A P a f = f a (λ Q q. q)
+with_device S T SinkFault A P a f = f a (λ Q q. q)
 
 pub to_device : {T : Type 0} (r : Result T BoardFault) (Q : Type 0) → Q → OnDevice r Q
 to_device {T} (Ok x) Q q = tt

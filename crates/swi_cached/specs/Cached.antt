@@ -1,5 +1,5 @@
 -- A run on the cached machine, as data: what it does besides what its program does. Own rule.
-use Rattle.std.specs.Prelude.{◌≡◌, ℕ, ◌+◌, ◌*◌, ◌/◌, ◌<◌, min, Bool, false, List, [], ◌∷◌, Option, Some}
+use Rattle.std.specs.Prelude.{◌≡◌, ℕ, ◌+◌, ◌*◌, ◌/◌, ◌<◌, min, Bool, List, [], ◌∷◌, Option, Some}
 use Rattle.swi_exec.specs.declared.done.FaultKind.TheVariants.{FetchAccess}
 use Rattle.swi_calls.specs.declared.end.End.{End}
 use Rattle.swi_calls.specs.declared.end.End.TheVariants.{Faulted}
@@ -15,7 +15,8 @@ use Rattle.swi_program.specs.Program.{ProgramData}
 use Rattle.swi_rom.specs.Fifo.{fifo}
 use Rattle.swi_rom.specs.Record.{Record, Transfer, indirect}
 use Rattle.swi_board.specs.Transfers.{transfers, cost, fetches, after_all}
-use Rattle.swi_cached.specs.Told.{error_by}
+use Rattle.swi_cached.specs.declared.told.Telling.{Telling}
+use Rattle.swi_cached.specs.Told.{error_by, is_each}
 
 -- a run: its image, the slots of the cache, the program before its first step, the most steps, and whether the errors have a line of each
 pub record CachedRun : Type 0 where
@@ -29,19 +30,15 @@ pub record CachedRun : Type 0 where
 abbrev pub slots_of : ℕ → ImageData → ℕ
 slots_of bytes v = bytes / (4 * v.block_words)
 
--- the run of a program in such a cache, with this input
-abbrev pub run_of : ImageData → ℕ → ProgramData → Layout → Bool → ℕ → List ℕ → CachedRun
-run_of v bytes p l log limit input = record {
+-- the run of a program in such a cache, with this input, and with lines of its steps or without them
+abbrev pub run_of : ImageData → ℕ → ProgramData → Layout → Bool → Telling → ℕ → List ℕ → CachedRun
+run_of v bytes p l log telling limit input = record {
   image = v;
   slots = slots_of bytes v;
   start = flat_start p l log input;
   limit = limit;
-  trace = false;
+  trace = is_each telling;
 }
-
--- the same run, with lines of its steps or without them
-abbrev pub traced_of : Bool → CachedRun → CachedRun
-traced_of trace c = record c { trace = trace }
 
 -- the words of the ram that the slots take
 abbrev pub span_of : CachedRun → ℕ

@@ -1,10 +1,23 @@
 -- What is told of the steps of a run: a line of each, before it is made, or the addresses of the last ones. Own rule.
-use Rattle.std.specs.Prelude.{ℕ, zero, suc, Bool, true, false, List, [], ◌∷◌, ◌++◌, is_some, if◌then◌else◌}
+use Rattle.std.specs.Prelude.{ℕ, zero, suc, Bool, true, false, List, [], ◌∷◌, ◌++◌, Option, Some, None, is_some, if◌then◌else◌}
 use Rattle.swi_memory.specs.Bus.{AreaData, fetched}
 use Rattle.swi_calls.specs.declared.machine.Machine.{Machine}
 use Rattle.swi_calls.specs.State.{FlatState}
 use Rattle.swi_calls.specs.Held.{held_made, held_run}
+use Rattle.swi_trace.specs.History.{last_of}
 use Rattle.swi_trace.specs.Text.{trace_line_of}
+use Rattle.swi_cached.specs.declared.told.Telling.{Telling}
+use Rattle.swi_cached.specs.declared.told.Telling.TheVariants as telling
+
+-- whether each step has its line
+abbrev pub is_each : Telling → Bool
+is_each telling.Each = true
+is_each _ = false
+
+-- the history that is kept of these addresses: none where nothing is told, else the last 32
+abbrev pub history_of : Telling → List ℕ → Option (List ℕ)
+history_of telling.Nothing pushed = None
+history_of _ pushed = Some (last_of 32 pushed)
 
 -- the line of the step that a machine makes next: its address, and the original text word that stands there
 abbrev pub step_line : Machine → List ℕ

@@ -1,4 +1,4 @@
--- What the loop of a told run leaves, from any state where a flat machine stands: as a run of the board, and what was told. Own rule.
+-- What the steps of a run leave, from any state where a flat machine stands: as a run of the board, and what was told. Own rule.
 use Rattle.std.specs.Prelude.{◌≡◌, ℕ, Bool, List, [], ◌++◌, length, take, Option, None, Result, IsErrOf, if◌then◌else◌}
 use Rattle.std.specs.Io.KnownBytes.{Appends}
 use Rattle.swi_outside.specs.CacheRam.{RamState}
@@ -10,15 +10,15 @@ use Rattle.swi_board.specs.declared.fault.BoardFault.{BoardFault}
 use Rattle.swi_board.specs.declared.fault.BoardFault.TheVariants.{SourceFault}
 use Rattle.swi_board.specs.Hart.{HartData}
 use Rattle.swi_board.specs.Ran.{Ran, BrokeOff, RamBrokeOff}
-use Rattle.swi_trace.specs.History.{IsLastOf}
-use Rattle.swi_cached.specs.Told.{addresses, error_by, next_error, told_line}
+use Rattle.swi_cached.specs.declared.told.Telling.{Telling}
+use Rattle.swi_cached.specs.Told.{addresses, error_by, history_of, is_each, next_error, told_line}
 
 -- a whole run: what the board did besides its errors, and these with the lines of the steps
-pub record ToldRun (trace : Bool) (policy : Record → ImageData → Transfer → Record) (v : ImageData) (n : ℕ) (s : FlatState) (h0 : HartData) (r0 : Record) (h : HartData) (r : Record)
-    (left' out out' err err' : Option (List ℕ)) (history : List ℕ) : Type 0 where
+pub record ToldRun (telling : Telling) (policy : Record → ImageData → Transfer → Record) (v : ImageData) (n : ℕ) (s : FlatState) (h0 : HartData) (r0 : Record) (h : HartData) (r : Record)
+    (left' out out' err err' history : Option (List ℕ)) : Type 0 where
   pub ran : Ran policy v n s h0 r0 h r left' out out' None None
-  pub error : Appends err err' (error_by trace n s)
-  pub last : IsLastOf (addresses n s) history
+  pub error : Appends err err' (error_by (is_each telling) n s)
+  pub kept : history ≡ history_of telling (addresses n s)
 
 -- the input or a sink failed, a sink perhaps at a line
 pub record ToldBroke {T : Type 0} (trace : Bool) (result : Result T BoardFault) (n : ℕ) (s : FlatState) (h0 h : HartData)

@@ -1,11 +1,11 @@
-//! A run of a program on the cached machine, and the same with its steps told.
+//! A run of a program on the cached machine, with its steps told or not.
 #![tactic(auto)]
 
 mod run;
-mod traced;
+mod told;
 
 pub use run::{CachedStop, run_cached};
-pub use traced::run_traced;
+pub use told::Telling;
 
 #[cfg(test)]
 mod tests;

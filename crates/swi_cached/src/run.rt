@@ -11,12 +11,14 @@ ghost use Rattle.swi_render.specs.Carried.{Carries};
 ghost use Rattle.swi_render.specs.ImageOf.{IsImageOf};
 ghost use Rattle.swi_rom.specs.Slots.{Slots, kept_by, setting_of};
 ghost use Rattle.swi_rom.specs.Sound.{SlotsSound};
-ghost use Rattle.swi_calls.specs.Flat.{machine_of, flat_start};
+ghost use Rattle.swi_calls.specs.Flat.{flat_start};
 ghost use Rattle.swi_board.specs.Leaving.{RamFailed as ServiceFailed};
-ghost use Rattle.swi_cached.specs.Cached.{run_of, slots_of, span_of, empty_record, IsCounted, IsFlatRun, StopsBeforeStore};
+ghost use Rattle.swi_cached.specs.Cached.{run_of, slots_of, empty_record, IsCounted, IsFlatRun, StopsBeforeStore};
+ghost use Rattle.swi_cached.specs.Told.{addresses, history_of};
 ghost use Rattle.swi_cached.specs.Answers.{Ended, IsShort, RamAfter, RamFailed, StepFailed, HasCauses, stop_of};
 ghost use Rattle.swi_cached.specs.Booted.{Booted};
 
+use crate::told::{Telling, first_history, run_steps};
 use std::alloc::Global;
 use swi_board::{Board, BoardFault, BootStop};
 use swi_fifo::FifoRom;
@@ -24,6 +26,7 @@ use swi_image::ImageView;
 use swi_memory::Layout;
 use swi_outside::{CacheRam, Memory, Sink, Source};
 use swi_program::Program;
+use swi_trace::History;
 
 /// What stops a run on the cached machine.
 #[derive(Clone, Copy, Debug, PartialEq, Eq)]
@@ -39,7 +42,7 @@ pub enum CachedStop {
 }
 
 /// How a fault in a step stops the run.
-pub(crate) fn stop_of(fault: BoardFault) -> CachedStop
+fn stop_of(fault: BoardFault) -> CachedStop
     ensures { result ≡ stop_of fault }
 {
     match fault {
@@ -75,7 +78,7 @@ fn service(alloc: Global, image: &ImageView<'_>, cache_bytes: u32) -> Result<Fif
 }
 
 /// The board of the program before its first step.
-pub(crate) fn boot<R: CacheRam>(
+fn boot<R: CacheRam>(
     alloc: Global,
     image: &ImageView<'_>,
     program: &Program,
@@ -89,8 +92,8 @@ pub(crate) fn boot<R: CacheRam>(
     requires least { 4 * image.now.block_words ≤ cache_bytes }
     requires most { cache_bytes ≤ 2 ^ 23 }
     requires held { cache_bytes ≤ 4 * length (R.state ram.old).words }
-    ensures booted { IfOk result (λ b. (limit : ℕ) (left : List ℕ) →
-        Booted (run_of image.now cache_bytes program.now layout.now log limit left) b.hart b.rom
+    ensures booted { IfOk result (λ b. (telling : Telling) (limit : ℕ) (left : List ℕ) →
+        Booted (run_of image.now cache_bytes program.now layout.now log telling limit left) b.hart b.rom
         (R.state ram.old) (R.state ram.new)) }
     ensures placed { is_some (place_of image.now program.now.entry) ≡ true }
     ensures word { program.now.entry < 2 ^ 32 }
@@ -117,14 +120,17 @@ pub(crate) fn boot<R: CacheRam>(
 ///
 /// The image is one of the program's text, and the layout is the program's. The cache holds a block of the image, and
 /// has at most 8 MiB and no more bytes than the ram; `limit` is at most 2^48. With `log` each system call is told in a
-/// line on the error sink.
+/// line on the error sink. `telling` says what is told of the steps: the history, where there is one, has the addresses
+/// of the last 32, and with `Each` a step has its line before its first word is fetched, also one that ends the run by a
+/// fault, and one that would store into the text, which isn't made.
 ///
 /// The program's steps, its registers and memory and the bytes that it reads and writes are those of the flat machine,
 /// up to a step that would store into the text: the run ends before it.
 ///
 /// After `Memory` nothing has changed. After `RamFault` the sinks hold just what the steps wrote whose fetches were
-/// made; after `SourceFault` what the steps made have written; after `SinkFault` that, and a front of what the next
-/// step writes. The words of the ram behind the slots never change. Own rule.
+/// made; after `SourceFault` what the steps made have written; with `Each` the error sink then holds the line of the
+/// step that was broken off too. After `SinkFault` they hold what the steps made have written, and a front of what the
+/// next step writes, its line first. The words of the ram behind the slots never change. Own rule.
 pub fn run_cached<I: Source, O: Sink, E: Sink, R: CacheRam>(
     alloc: Global,
     image: &ImageView<'_>,
@@ -132,41 +138,44 @@ pub fn run_cached<I: Source, O: Sink, E: Sink, R: CacheRam>(
     layout: &Layout,
     cache_bytes: u32,
     log: bool,
+    telling: Telling,
     limit: u64,
     input: &mut I,
     out: &mut O,
     err: &mut E,
     ram: &mut R,
-) -> Result<Board<FifoRom>, CachedStop>
+) -> Result<(Board<FifoRom>, Option<History>), CachedStop>
     requires laid_out { IsLayoutOf program.now.segments layout.now }
     requires own { IsImageOf (text_of program.now.segments) image.now }
     requires least { 4 * image.now.block_words ≤ cache_bytes }
     requires most { cache_bytes ≤ 2 ^ 23 }
     requires held { cache_bytes ≤ 4 * length (R.state ram.old).words }
     requires limit { limit ≤ 2 ^ 48 }
-    ensures ended { IfOk result (λ b. ForSome (I.left input.old) (λ left.
-        Ended (run_of image.now cache_bytes program.now layout.now log limit left) b.hart (kept_by b.rom)
+    ensures ended { IfOk result (λ p. ForSome (I.left input.old) (λ left.
+        Ended (run_of image.now cache_bytes program.now layout.now log telling limit left) p.0.hart (kept_by p.0.rom)
         (I.left input.new) (O.held out.old) (O.held out.new) (E.held err.old) (E.held err.new))) }
-    ensures unfailed { IfOk result (λ b. b.hart.failed ≡ false) }
-    ensures short { IfOk result (λ b. ForSome (I.left input.old) (λ left. IsShort b.hart)) }
-    ensures done { IfOk result (λ b. (b.hart.machine.steps ≡ limit) ⊎ (is_some b.hart.machine.ending ≡ true)) }
+    ensures told { IfOk result (λ p. ForSome (I.left input.old) (λ left.
+        p.1 ≡ history_of telling (addresses limit (flat_start program.now layout.now log left)))) }
+    ensures unfailed { IfOk result (λ p. p.0.hart.failed ≡ false) }
+    ensures short { IfOk result (λ p. ForSome (I.left input.old) (λ left. IsShort p.0.hart)) }
+    ensures done { IfOk result (λ p. (p.0.hart.machine.steps ≡ limit) ⊎ (is_some p.0.hart.machine.ending ≡ true)) }
     ensures ram { OnOk result (ForSome (I.left input.old) (λ left.
-        RamAfter (run_of image.now cache_bytes program.now layout.now log limit left)
+        RamAfter (run_of image.now cache_bytes program.now layout.now log telling limit left)
         (R.state ram.old) (R.state ram.new))) }
     ensures counted { OnOk result ((left : List ℕ) →
-        IsCounted (run_of image.now cache_bytes program.now layout.now log limit left)) }
+        IsCounted (run_of image.now cache_bytes program.now layout.now log telling limit left)) }
     ensures kept { KeepsBeyond (slots_of cache_bytes image.now * image.now.block_words)
         (R.state ram.old) (R.state ram.new) }
     ensures memory { IsErrOf result CachedStop.Memory →
         (R.state ram.new ≡ R.state ram.old) × (I.left input.new ≡ I.left input.old)
         × (O.held out.new ≡ O.held out.old) × (E.held err.new ≡ E.held err.old) }
     ensures ram_failed { IsErrOf result CachedStop.RamFault → ForSome (I.left input.old) (λ left.
-        RamFailed (run_of image.now cache_bytes program.now layout.now log limit left)
+        RamFailed (run_of image.now cache_bytes program.now layout.now log telling limit left)
         (R.state ram.old) (R.state ram.new)
         (I.left input.new) (O.held out.old) (O.held out.new) (E.held err.old) (E.held err.new)) }
     ensures step_failed { IsErrOf result CachedStop.SourceFault ⊎ IsErrOf result CachedStop.SinkFault →
         ForSome (I.left input.old) (λ left.
-        StepFailed (run_of image.now cache_bytes program.now layout.now log limit left) result
+        StepFailed (run_of image.now cache_bytes program.now layout.now log telling limit left) result
         (I.left input.new) (O.held out.old) (O.held out.new) (E.held err.old) (E.held err.new)) }
     ensures causes { HasCauses
         (record {
@@ -182,16 +191,21 @@ pub fn run_cached<I: Source, O: Sink, E: Sink, R: CacheRam>(
           err = E.faults err.new;
         }) result }
     // The program's run is the flat machine's, up to the first store into the text.
-    ensures flat { (left : List ℕ) → IsFlatRun (run_of image.now cache_bytes program.now layout.now log limit left) }
+    ensures flat { (left : List ℕ) → IsFlatRun (run_of image.now cache_bytes program.now layout.now log telling limit left) }
     ensures stops { (left : List ℕ) →
-        StopsBeforeStore (run_of image.now cache_bytes program.now layout.now log limit left) }
+        StopsBeforeStore (run_of image.now cache_bytes program.now layout.now log telling limit left) }
 {
+    let Ok(history) = first_history(alloc, telling) else {
+        return Err(CachedStop::Memory);
+    };
     let mut board = match boot(alloc, image, program, layout, cache_bytes, log, ram) {
         Ok(board) => board,
         Err(stop) => return Err(stop),
     };
-    match board.run(image, ram, input, out, err, limit) {
-        Ok(()) => Ok(board),
+    match run_steps(
+        &mut board, image, limit, telling, history, input, out, err, ram,
+    ) {
+        Ok(told) => Ok((board, told)),
         Err(fault) => Err(stop_of(fault)),
     }
 }

@@ -12,6 +12,7 @@ use swi_fifo::FifoRom;
 use swi_outside::{CacheRam, FaultRam, MemSink, MemSource};
 use swi_program::{Program, lay_out, program_of};
 use swi_rom::CacheRom;
+use swi_trace::History;
 
 mod board;
 mod foreign;
@@ -50,14 +51,15 @@ const ECHO: &[u32] = &[
     0x00000073, 0x00000513, 0x05D00893, 0x00000073,
 ];
 
-/// A run: its text and the rights of its segment, the words of a block, the bytes of the cache, the most steps, and the
-/// failing calls of the ram, the input and the output: the number of one, 0 for none.
+/// A run: its text and the rights of its segment, the words of a block, the bytes of the cache, what is told of its
+/// steps, the most steps, and the failing calls of the ram, the input and the output: the number of one, 0 for none.
 #[derive(Clone, Copy)]
 struct Run {
     text: &'static [u32],
     rights: u32,
     block_words: u32,
     cache_bytes: u32,
+    telling: Telling,
     limit: u64,
     ram_fails: u32,
     input_fails: u32,
@@ -70,17 +72,19 @@ const PLAIN: Run = Run {
     rights: 5,
     block_words: 16,
     cache_bytes: 4096,
+    telling: Telling::Nothing,
     limit: 1000,
     ram_fails: 0,
     input_fails: 0,
     out_fails: 0,
 };
 
-/// What stands after a run: the answer, the output and the ram.
+/// What stands after a run: the answer, the output, the errors and the ram.
 #[derive(Drop)]
 struct Stands {
-    answer: Result<Board<FifoRom>, CachedStop>,
+    answer: Result<(Board<FifoRom>, Option<History>), CachedStop>,
     out: MemSink,
+    err: MemSink,
     ram: FaultRam,
 }
 
@@ -135,13 +139,19 @@ fn stands_after(alloc: Global, run: &Run, words: u32) -> Result<Stands, Fail> {
         &layout,
         run.cache_bytes,
         false,
+        run.telling,
         run.limit,
         &mut input,
         &mut out,
         &mut err,
         &mut ram,
     );
-    Ok(Stands { answer, out, ram })
+    Ok(Stands {
+        answer,
+        out,
+        err,
+        ram,
+    })
 }
 
 /// The ending and the address of a run, and its counts: steps, instructions, services, misses, evictions, links,
@@ -342,12 +352,44 @@ static ROWS: [Row; 15] = [
 fn runs_end_and_count(rt: HostRuntime) -> Result<(), Fail> {
     for (k, row) in ROWS.iter().enumerate() {
         let done = stands_after(rt.alloc(), &row.run, 2048)?;
-        let Ok(board) = &done.answer else {
+        let Ok(ended) = &done.answer else {
             return Err(Fail::from("no run"));
         };
+        let board = &ended.0;
         assert_eq!(rt; board.ending(), row.ending, "row {k}");
         assert_eq!(rt; board.origin_pc(), row.pc, "row {k}");
         assert_eq!(rt; counts_of(board, &done.ram), row.counts, "row {k}");
+    }
+    Ok(())
+}
+
+/// What is told of the run of `SEVEN`: nothing; the addresses of its steps; these, and their lines.
+static TOLD: [(Telling, &[u32], &[u8]); 3] = [
+    (Telling::Nothing, &[], b""),
+    (Telling::Last, &[0x10000, 0x10004, 0x10008], b""),
+    (
+        Telling::Each,
+        &[0x10000, 0x10004, 0x10008],
+        b"00010000 05d00893 addi a7, zero, 93\n00010004 00700513 addi a0, zero, 7\n00010008 00000073 ecall\n",
+    ),
+];
+
+#[test]
+fn steps_are_told_as_is_asked(rt: HostRuntime) -> Result<(), Fail> {
+    for (telling, addresses, lines) in TOLD {
+        let done = stands_after(rt.alloc(), &Run { telling, ..PLAIN }, 2048)?;
+        let Ok(ended) = &done.answer else {
+            return Err(Fail::from("no run"));
+        };
+        assert_eq!(rt; ended.1.is_some(), telling != Telling::Nothing);
+        if let Some(history) = &ended.1 {
+            assert_eq!(rt; history.len() as usize, addresses.len());
+            for (k, a) in addresses.iter().enumerate() {
+                assert_eq!(rt; history.get(k as u32), Some(*a), "step {k}");
+            }
+        }
+        assert_eq!(rt; ended.0.steps(), 3);
+        assert_eq!(rt; done.err.held(), lines);
     }
     Ok(())
 }

@@ -17,7 +17,8 @@ use Rattle.swi_command.specs.CommandLine.{Request, RunCached, RunPlain}
 use Rattle.swi_report.specs.declared.stats.Work.{Work}
 use Rattle.swi_report.specs.State.{state_text_of}
 use Rattle.swi_report.specs.Stats.{stats_text_of, work_text}
-use Rattle.swi_cached.specs.Cached.{CachedRun, end_of, program_after, traced_of}
+use Rattle.swi_cached.specs.Cached.{CachedRun, end_of, program_after}
+use Rattle.swi_cached.specs.Told.{is_each}
 use Rattle.swi_command.specs.declared.command.Trace.{Trace}
 use Rattle.swi_command.specs.declared.command.Trace.TheVariants as trace
 use Rattle.swi_answer.specs.declared.answer.Ending.{Ending}
@@ -27,7 +28,7 @@ use Rattle.swi_answer.specs.Lines.{ending_line}
 use Rattle.swi_top.specs.Devices.{Devices}
 use Rattle.swi_top.specs.Checks.{Check, OfImage, IsShort, IsAcceptedElf, HasRoom, HasImage, IsAcceptedImage, IsOwnImage, FitsBlocks, FitsUnlessImage, HoldsBlock, FitsMade, HoldsWords, Fails, Passes, IsAccepted, IsRefusedBy, cache_refusal, checks_of, text_in}
 use Rattle.swi_top.specs.Runs.{Ran, report, start_of}
-use Rattle.swi_top.specs.Answers.{Answers, AnswersWithLine, cached_run, is_each, shown_end, shown_error, plain_report, plain_run, work_of}
+use Rattle.swi_top.specs.Answers.{Answers, AnswersWithLine, cached_run, shown_end, shown_error, plain_report, plain_run, telling_of, work_of}
 use Rattle.swi_top.specs.Alike.{IsFree, LeavesAlike}
 use Rattle.swi_top.proofs.Lines.{take_all}
 
@@ -127,7 +128,7 @@ both_ran o s t w before plain cached e f n k same one whole other whole' =
     )
 
 -- without lines of steps the errors are the program's own
-shown_is : (t : Trace) (c : CachedRun) → t ≡ trace.Off → record (program_after c c.limit) { error = shown_error t (traced_of (is_each t) c) } ≡ end_of c
+shown_is : (t : Trace) (c : CachedRun) → t ≡ trace.Off → record (program_after c c.limit) { error = shown_error t (record c { trace = is_each (telling_of t) }) } ≡ end_of c
 shown_is trace.Off c off = refl
 shown_is trace.Each c off = cc
 shown_is trace.Last c off = cc

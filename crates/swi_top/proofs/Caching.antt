@@ -1,5 +1,5 @@
 -- A run on the cached machine, from what its parts say.
-use Rattle.std.proofs.Common.{◌≡◌, ◌⊎◌, inl, inr, ℕ, ◌+◌, ◌-◌, ◌*◌, ◌/◌, ◌^◌, ◌<◌, ◌≤◌, min, List, [], ◌∷◌, ◌++◌, length, take, drop, append_assoc, Bool, false, if◌then◌else◌, Option, None, Some, Result, Ok, Err, IsErrOf, refl, sym, ◌∙◌, subst, ap, arith}
+use Rattle.std.proofs.Common.{◌≡◌, ◌⊎◌, inl, inr, ℕ, ◌+◌, ◌-◌, ◌*◌, ◌/◌, ◌^◌, ◌<◌, ◌≤◌, min, List, [], ◌∷◌, ◌++◌, length, take, drop, append_assoc, if◌then◌else◌, Option, None, Some, Result, Ok, Err, IsErrOf, refl, sym, ◌∙◌, subst, ap, arith}
 use Rattle.std.proofs.Math.Nat.{div-mul-le_self}
 use Rattle.std.proofs.lemmas.List.{append-nil}
 use Rattle.std.specs.Io.KnownBytes.{Appends}
@@ -18,8 +18,7 @@ use Rattle.swi_render.specs.Cut.{Fits, IsCut}
 use Rattle.swi_command.specs.CommandLine.{Request, RunCached}
 use Rattle.swi_command.specs.declared.command.CacheOptions.{CacheOptions}
 use Rattle.swi_command.specs.declared.command.RunOptions.{RunOptions}
-use Rattle.swi_command.specs.declared.command.Trace.{Trace}
-use Rattle.swi_command.specs.declared.command.Trace.TheVariants as trace
+use Rattle.swi_calls.specs.declared.end.End.{End}
 use Rattle.swi_calls.specs.declared.machine.Machine.{Machine}
 use Rattle.swi_calls.specs.Flat.{flat_start}
 use Rattle.swi_calls.specs.State.{FlatState}
@@ -29,20 +28,25 @@ use Rattle.swi_board.specs.Hart.{HartData}
 use Rattle.swi_cached.specs.declared.run.CachedStop.{CachedStop}
 use Rattle.swi_cached.specs.declared.run.CachedStop.TheVariants as stop
 use Rattle.swi_cached.specs.Answers as run
-use Rattle.swi_cached.specs.Told.{next_error, told_line}
+use Rattle.swi_cached.specs.declared.told.Telling.{Telling}
+use Rattle.swi_cached.specs.Told.{addresses, history_of, next_error, told_line}
+use Rattle.swi_board.specs.Faults as board
+use Rattle.swi_memory.specs.Bus.{AreaData}
 use Rattle.std.proofs.Math.Seq.{take-append_seam, take-length}
 use Rattle.std.proofs.lemmas.List.{take-append-drop}
-use Rattle.swi_cached.specs.Cached.{CachedRun, IsCounted, IsFlatRun, run_of, traced_of, slots_of, end_of, program_after, told_after, instructions_after, fetches_after, record_after, unfetched}
+use Rattle.swi_cached.specs.Cached.{CachedRun, IsCounted, IsFlatRun, run_of, slots_of, end_of, program_after, told_after, instructions_after, fetches_after, record_after, unfetched}
 use Rattle.swi_cached.proofs.Failed.{is_flat_run, stops_before_store}
 use Rattle.swi_answer.specs.declared.answer.Ending.{Ending}
 use Rattle.swi_answer.specs.declared.answer.Refusal.{Refusal}
 use Rattle.swi_answer.specs.declared.answer.Refusal.TheVariants as refusal
-use Rattle.swi_top.specs.Answers.{Answers, BrokeIn, CachedFailed, Does, IsCachedRun, IsChecked, IsImageFor, IsRunFault, IsSizeRefusal, Leaves, RamCounted, RunsCached, cached_report, cached_run, held_next, is_each, last_lines, shown_error, work_of}
-use Rattle.swi_top.specs.Caching.{AnswersFile, IsCachedErr, IsFileErr, RunsOnCache, board_work}
+use Rattle.swi_top.specs.Answers.{Answers, BrokeIn, CachedFailed, Does, IsCachedRun, IsChecked, IsImageFor, IsRunFault, IsSizeRefusal, Leaves, RamCounted, RunsCached, cached_report, cached_run, held_next, last_lines, last_told, shown_error, telling_of, work_of}
+use Rattle.swi_top.specs.Caching.{AnswersFile, IsCachedErr, IsFileErr, RunsOnCache, board_work, refusal_of}
 use Rattle.swi_top.specs.Causes.{HasCauses}
 use Rattle.swi_top.specs.Checks.{Check, FitsUnlessImage, HoldsBlock, Fails, ImageFails, ImagePasses, IsAccepted, IsLong, IsRefusedBy, IsRefusedOr, Passes, block_words, cache_refusal, checks_of, file_limit, room_in, size_refusal, text_in}
 use Rattle.swi_top.specs.Devices.{Devices, Faults}
-use Rattle.swi_top.specs.Runs.{ending_by, report}
+use Rattle.swi_top.specs.Runs.{FailedAfterRun, ending_by, report}
+use Rattle.swi_top.specs.Tracing.{addresses_in}
+use Rattle.swi_top.proofs.Tracing.{all_shown, some_shown}
 use Rattle.swi_top.proofs.Refusals.{IsLate, checked_by, keeps_ram, late_causes, late_run, ok_causes, quiet_cause, refused_late, sized_along, sized_err, sized_ok, told_is}
 use Rattle.swi_top.proofs.Confirming.{out_causes}
 use Rattle.swi_top.proofs.Images.{fails_some, of_none, passes_none, passes_some, run_checks}
@@ -157,7 +161,7 @@ failed_so o c d m r last broke = record { broke = broke; flat = is_flat_run c; s
 to_nil : (a b : Option (List ℕ)) (x : List ℕ) → Appends a b x → Appends a b (x ++ [])
 to_nil a b x h = subst (λ (y : List ℕ). Appends a b y) (sym (append-nil x)) h
 
-pub ram_failed : {T : Type 0} (o : RunOptions) (cache : CacheOptions) (v : ImageData) (p : ProgramData) (l : Layout) (d : Devices) (i out e : Option (List ℕ)) (ram : RamState) (fi fo fe : ℕ) →
+ram_failed : {T : Type 0} (o : RunOptions) (cache : CacheOptions) (v : ImageData) (p : ProgramData) (l : Layout) (d : Devices) (i out e : Option (List ℕ)) (ram : RamState) (fi fo fe : ℕ) →
     4 * v.block_words ≤ cache.cache_bytes → KeepsBeyond (slots_of cache.cache_bytes v * v.block_words) d.ram ram →
     ((left : List ℕ) → d.input ≡ Some left → run.RamFailed (run_with o cache v p l left) d.ram ram i d.output out d.error e) →
     BoardCauses {T = T} d ram.faults fi fo fe (Err stop.RamFault) → RunsOnCache o cache v p l d (ran_all d i out e ram fi fo fe) (Err refusal.RamFault)
@@ -268,24 +272,40 @@ sink_failed o cache v p l d i out e ram fi fo fe held kept broke h = record {
   causes = sink_causes d ram.faults fi fo fe h;
 }
 
--- as the run's answer names the fault
-pub source_by : {T : Type 0} (o : RunOptions) (cache : CacheOptions) (v : ImageData) (p : ProgramData) (l : Layout) (d : Devices) (i out e : Option (List ℕ)) (ram : RamState) (fi fo fe : ℕ) (f : CachedStop) →
-    f ≡ stop.SourceFault → 4 * v.block_words ≤ cache.cache_bytes → KeepsBeyond (slots_of cache.cache_bytes v * v.block_words) d.ram ram →
-    ((left : List ℕ) → d.input ≡ Some left → run.StepFailed {T = T} (run_with o cache v p l left) (Err f) i d.output out d.error e) →
-    BoardCauses {T = T} d ram.faults fi fo fe (Err f) → RunsOnCache o cache v p l d (ran_all d i out e ram fi fo fe) (Err refusal.SourceFault)
-source_by {T} o cache v p l d i out e ram fi fo fe f is held kept broke h =
-    source_failed {T = T} o cache v p l d i out e ram fi fo fe held kept
-    (subst (λ (s : CachedStop). (left : List ℕ) → d.input ≡ Some left → run.StepFailed {T = T} (run_with o cache v p l left) (Err s) i d.output out d.error e) is broke)
-    (subst (λ (s : CachedStop). BoardCauses {T = T} d ram.faults fi fo fe (Err s)) is h)
+-- the run as its caller names it
+abbrev pub asked : RunOptions → CacheOptions → ImageData → ProgramData → Layout → Telling → List ℕ → CachedRun
+asked o cache v p l t left = run_of v cache.cache_bytes p l o.reports.calls t o.limits.steps left
 
-pub sink_by : {T : Type 0} (o : RunOptions) (cache : CacheOptions) (v : ImageData) (p : ProgramData) (l : Layout) (d : Devices) (i out e : Option (List ℕ)) (ram : RamState) (fi fo fe : ℕ) (f : CachedStop) →
-    f ≡ stop.SinkFault → 4 * v.block_words ≤ cache.cache_bytes → KeepsBeyond (slots_of cache.cache_bytes v * v.block_words) d.ram ram →
-    ((left : List ℕ) → d.input ≡ Some left → run.StepFailed {T = T} (run_with o cache v p l left) (Err f) i d.output out d.error e) →
-    BoardCauses {T = T} d ram.faults fi fo fe (Err f) → RunsOnCache o cache v p l d (ran_all d i out e ram fi fo fe) (Err refusal.SinkFault)
-sink_by {T} o cache v p l d i out e ram fi fo fe f is held kept broke h =
-    sink_failed {T = T} o cache v p l d i out e ram fi fo fe held kept
-    (subst (λ (s : CachedStop). (left : List ℕ) → d.input ≡ Some left → run.StepFailed {T = T} (run_with o cache v p l left) (Err s) i d.output out d.error e) is broke)
-    (subst (λ (s : CachedStop). BoardCauses {T = T} d ram.faults fi fo fe (Err s)) is h)
+as_run : (P : CachedRun → Type 0) (t : Telling) (o : RunOptions) (cache : CacheOptions) (v : ImageData) (p : ProgramData) (l : Layout) (left : List ℕ) → t ≡ telling_of o.reports.trace →
+    P (asked o cache v p l t left) → P (run_with o cache v p l left)
+as_run P t o cache v p l left is h = subst (λ (x : Telling). P (asked o cache v p l x left)) is h
+
+-- it stopped before its end
+pub run_stopped : {T : Type 0} {o : RunOptions} {cache : CacheOptions} {v : ImageData} {p : ProgramData} {l : Layout} {d : Devices} {t : Telling} {i out e : Option (List ℕ)} {ram : RamState} {fi fo fe : ℕ}
+    (f : CachedStop) (r : Refusal) → r ≡ refusal_of f → t ≡ telling_of o.reports.trace → 4 * v.block_words ≤ cache.cache_bytes → d.ram.faults ≡ d.faults.ram → KeepsBeyond (slots_of cache.cache_bytes v * v.block_words) d.ram ram →
+    (IsErrOf {T = T} (Err f) stop.Memory → (ram ≡ d.ram) × (i ≡ d.input) × (out ≡ d.output) × (e ≡ d.error)) →
+    (IsErrOf {T = T} (Err f) stop.RamFault → (left : List ℕ) → d.input ≡ Some left → run.RamFailed (asked o cache v p l t left) d.ram ram i d.output out d.error e) →
+    (IsErrOf {T = T} (Err f) stop.SourceFault ⊎ IsErrOf {T = T} (Err f) stop.SinkFault → (left : List ℕ) → d.input ≡ Some left →
+    run.StepFailed {T = T} (asked o cache v p l t left) (Err f) i d.output out d.error e) →
+    BoardCauses {T = T} d ram.faults fi fo fe (Err f) → RunsOnCache o cache v p l d (ran_all d i out e ram fi fo fe) (Err r)
+run_stopped {T} {o} {cache} {v} {p} {l} {d} {t} {i} {out} {e} {ram} {fi} {fo} {fe} f r is t_is held tied kept memory ram_broke broke causes =
+    subst (λ (x : Refusal). RunsOnCache o cache v p l d (ran_all d i out e ram fi fo fe) (Err x)) (sym is) (by f memory ram_broke broke causes)
+  where
+    by : (f : CachedStop) → (IsErrOf {T = T} (Err f) stop.Memory → (ram ≡ d.ram) × (i ≡ d.input) × (out ≡ d.output) × (e ≡ d.error)) →
+        (IsErrOf {T = T} (Err f) stop.RamFault → (left : List ℕ) → d.input ≡ Some left → run.RamFailed (asked o cache v p l t left) d.ram ram i d.output out d.error e) →
+        (IsErrOf {T = T} (Err f) stop.SourceFault ⊎ IsErrOf {T = T} (Err f) stop.SinkFault → (left : List ℕ) → d.input ≡ Some left →
+        run.StepFailed {T = T} (asked o cache v p l t left) (Err f) i d.output out d.error e) →
+        BoardCauses {T = T} d ram.faults fi fo fe (Err f) → RunsOnCache o cache v p l d (ran_all d i out e ram fi fo fe) (Err (refusal_of f))
+    by stop.Memory memory ram_broke broke causes = memory_after {T = T} o cache v p l d i out e ram fi fo fe tied (memory refl) causes
+    by stop.RamFault memory ram_broke broke causes =
+        ram_failed {T = T} o cache v p l d i out e ram fi fo fe held kept
+        (λ left told. as_run (λ (k : CachedRun). run.RamFailed k d.ram ram i d.output out d.error e) t o cache v p l left t_is (ram_broke refl left told)) causes
+    by stop.SourceFault memory ram_broke broke causes =
+        source_failed {T = T} o cache v p l d i out e ram fi fo fe held kept
+        (λ left told. as_run (λ (k : CachedRun). run.StepFailed {T = T} k (Err stop.SourceFault) i d.output out d.error e) t o cache v p l left t_is (broke (inl refl) left told)) causes
+    by stop.SinkFault memory ram_broke broke causes =
+        sink_failed {T = T} o cache v p l d i out e ram fi fo fe held kept
+        (λ left told. as_run (λ (k : CachedRun). run.StepFailed {T = T} k (Err stop.SinkFault) i d.output out d.error e) t o cache v p l left t_is (broke (inr refl) left told)) causes
 
 -- the report of a board that came to its end
 abbrev pub board_report : RunOptions → HartData → Record → List ℕ
@@ -329,157 +349,141 @@ cached_run_is c h r i o p e f before after b s ram counted = record {
   each = counted;
 }
 
--- the run came to its end, and the report was written
-pub run_ended : (o : RunOptions) (cache : CacheOptions) (v : ImageData) (p : ProgramData) (l : Layout) (d : Devices) (h : HartData) (r : Record) (i mid out em e : Option (List ℕ)) (ram : RamState) (fi fo fe : ℕ) (x : Ending) →
-    4 * v.block_words ≤ cache.cache_bytes → KeepsBeyond (slots_of cache.cache_bytes v * v.block_words) d.ram ram →
-    ((left : List ℕ) → d.input ≡ Some left → run.Ended (run_with o cache v p l left) h r i d.output mid d.error em) →
-    ((left : List ℕ) → d.input ≡ Some left → Appends d.error e (shown_error o.reports.trace (run_with o cache v p l left))) →
-    ((left : List ℕ) → d.input ≡ Some left → run.IsShort h) → ((left : List ℕ) → d.input ≡ Some left → run.RamAfter (run_with o cache v p l left) d.ram ram) →
-    ((left : List ℕ) → IsCounted (run_with o cache v p l left)) →
-    x ≡ ending_by h.machine.ending h.machine.pc h.machine.steps → Appends mid out (board_report o h r) →
-    fi ≡ d.faults.input → fo ≡ d.faults.out → fe ≡ d.faults.err → ram.faults ≡ d.faults.ram →
-    RunsOnCache o cache v p l d (ran_all d i out e ram fi fo fe) (Ok x)
-run_ended o cache v p l d h r i mid out em e ram fi fo fe x held kept ended shown short after counted ending written fi_is fo_is fe_is ram_is = record {
-  done = λ left told.
+-- the counts of the board's devices, where none rose
+abbrev pub IsQuiet : Devices → ℕ → ℕ → ℕ → ℕ → Type 0
+IsQuiet d ram source out err =
+    ◌≡◌ {A = board.Faults} (record { ram = ram; input = source; out = out; err = err }) (record { ram = d.faults.ram; input = d.faults.input; out = d.faults.out; err = d.faults.err })
+
+-- how it ended, as its board says it
+pub ending_is : {x : Ending} {e f : Option End} {a b n m : ℕ} → x ≡ ending_by e a n → e ≡ f → a ≡ b → n ≡ m → x ≡ ending_by f b m
+ending_is {x} {e} {f} {a} {b} {n} {m} is ends pc steps =
+    is ∙ ap (λ (k : Option End). ending_by k a n) ends ∙ ap (λ (k : ℕ). ending_by f k n) pc ∙ ap (λ (k : ℕ). ending_by f b k) steps
+
+-- The run came to its end. Then the output gains the report, from `mid` on, and the errors the last lines, from `em` on.
+module _ {o : RunOptions} {cache : CacheOptions} {v : ImageData} {p : ProgramData} {l : Layout} {d : Devices} {t : Telling} {h : HartData} {r : Record} {i mid out em : Option (List ℕ)} {ram : RamState} {fi mo fo me : ℕ}
+    (t_is : t ≡ telling_of o.reports.trace) (held : 4 * v.block_words ≤ cache.cache_bytes) (kept : KeepsBeyond (slots_of cache.cache_bytes v * v.block_words) d.ram ram)
+    (as_ended : (left : List ℕ) → d.input ≡ Some left → run.Ended (asked o cache v p l t left) h r i d.output mid d.error em)
+    (as_after : (left : List ℕ) → d.input ≡ Some left → run.RamAfter (asked o cache v p l t left) d.ram ram)
+    (as_counted : (left : List ℕ) → IsCounted (asked o cache v p l t left)) (quiet : IsQuiet d ram.faults fi mo me) where
+  ended : (left : List ℕ) → d.input ≡ Some left → run.Ended (run_with o cache v p l left) h r i d.output mid d.error em
+  ended left told = as_run (λ (k : CachedRun). run.Ended k h r i d.output mid d.error em) t o cache v p l left t_is (as_ended left told)
+
+  after : (left : List ℕ) → d.input ≡ Some left → run.RamAfter (run_with o cache v p l left) d.ram ram
+  after left told = as_run (λ (k : CachedRun). run.RamAfter k d.ram ram) t o cache v p l left t_is (as_after left told)
+
+  counted : (left : List ℕ) → IsCounted (run_with o cache v p l left)
+  counted left = as_run IsCounted t o cache v p l left t_is (as_counted left)
+
+  -- a sink failed behind it
+  behind : (e : Option (List ℕ)) (fe : ℕ) → HasCauses {T = Ending} d.faults (record d.faults { out = fo; err = fe }) (Err refusal.SinkFault) →
+      ((left : List ℕ) → d.input ≡ Some left → FailedAfterRun (told_after (run_with o cache v p l left) (run_with o cache v p l left).limit) (cached_report o (run_with o cache v p l left))
+      (last_lines o.reports.trace (run_with o cache v p l left)) d (ran_all d i out e ram fi fo fe) refusal.SinkFault []) →
+      RunsOnCache o cache v p l d (ran_all d i out e ram fi fo fe) (Err refusal.SinkFault)
+  behind e fe causes broke = record {
+    done = tt;
+    holds = tt;
+    refused = tt;
+    quiet = λ never. absurd (never tt);
+    failed = λ _. (held, λ left told. failed_so o (run_with o cache v p l left) d (ran_all d i out e ram fi fo fe) refusal.SinkFault [] (inr (inr (broke left told, after left told))));
+    beyond = kept;
+    causes = subst (λ (n : ℕ). HasCauses {T = Ending} d.faults (record d.faults { input = n; out = fo; err = fe; ram = ram.faults }) (Err refusal.SinkFault)) (sym (ap (λ (x : board.Faults). x.input) quiet))
+        (subst (λ (n : ℕ). HasCauses {T = Ending} d.faults (record d.faults { out = fo; err = fe; ram = n }) (Err refusal.SinkFault)) (sym (ap (λ (x : board.Faults). x.ram) quiet)) causes);
+  }
+
+  wrote : (left : List ℕ) → d.input ≡ Some left → board_report o h r ≡ cached_report o (run_with o cache v p l left)
+  wrote left told = let b = ended left told in report_is o (run_with o cache v p l left) h r b.machine b.count b.record_is (counted left)
+
+  pub report_broke : AppendsPrefix mid out (board_report o h r) → mo ≤ fo → Rose mo fo → RunsOnCache o cache v p l d (ran_all d i out em ram fi fo me) (Err refusal.SinkFault)
+  report_broke part later rose =
+      let first : mo ≡ d.faults.out = ap (λ (x : board.Faults). x.out) quiet in
+      behind em me
+      (subst (λ (n : ℕ). HasCauses {T = Ending} d.faults (record d.faults { out = fo; err = n }) (Err refusal.SinkFault)) (sym (ap (λ (x : board.Faults). x.err) quiet))
+      (out_causes d.faults fo (subst (λ (n : ℕ). n ≤ fo) first later) (subst (λ (n : ℕ). Rose n fo) first rose)))
+      (λ left told.
       let c = run_with o cache v p l left in
-      let b = ended left told in
-      let s = short left told in record {
-        ran = record {
-          ending = ending ∙ ap (λ (m : Machine). ending_by m.ending m.pc m.steps) b.machine;
+      let b = ended left told in record {
+        output_front = part.0;
+        output = Appends-append d.output mid out (end_of c).output (take part.0 (cached_report o c)) b.output
+            (subst (λ (y : List ℕ). Appends mid out (take part.0 y)) (wrote left told) part.1);
+        error_front = 0;
+        error = to_nil d.error em ((told_after c c.limit).error ++ []) (to_nil d.error em (told_after c c.limit).error b.error);
+        behind = inl refl;
+        input = b.input;
+        fault = refl;
+      })
+
+  -- the report was written, and of the last lines what could be
+  module _ {e : Option (List ℕ)} {fe : ℕ} {history : Option (List ℕ)} {bus : List AreaData}
+      (told_is : (left : List ℕ) → d.input ≡ Some left → history ≡ history_of t (addresses o.limits.steps (flat_start p l o.reports.calls left)))
+      (bus_is : bus ≡ h.machine.bus) (written : Appends mid out (board_report o h r)) (same_out : fo ≡ mo) where
+    history_now : (left : List ℕ) → d.input ≡ Some left → history ≡ history_of (telling_of o.reports.trace) (addresses o.limits.steps (flat_start p l o.reports.calls left))
+    history_now left told = told_is left told ∙ ap (λ (k : Telling). history_of k (addresses o.limits.steps (flat_start p l o.reports.calls left))) t_is
+
+    out_is : fo ≡ d.faults.out
+    out_is = same_out ∙ ap (λ (x : board.Faults). x.out) quiet
+
+    pub lines_broke : AppendsPrefix em e (last_told o.reports.trace bus (addresses_in history)) → me ≤ fe → Rose me fe → RunsOnCache o cache v p l d (ran_all d i out e ram fi fo fe) (Err refusal.SinkFault)
+    lines_broke part later rose =
+        let first : me ≡ d.faults.err = ap (λ (x : board.Faults). x.err) quiet in
+        behind e fe
+        (subst (λ (n : ℕ). HasCauses {T = Ending} d.faults (record d.faults { out = n; err = fe }) (Err refusal.SinkFault)) (sym out_is)
+        (err_causes d.faults fe (subst (λ (n : ℕ). n ≤ fe) first later) (subst (λ (n : ℕ). Rose n fe) first rose)))
+        (λ left told.
+        let c = run_with o cache v p l left in
+        let b = ended left told in
+        let q = some_shown o.reports.trace c em e h.machine bus history bus_is b.machine (history_now left told) part in record {
+          output_front = length (cached_report o c);
+          output = Appends-append d.output mid out (end_of c).output (take (length (cached_report o c)) (cached_report o c)) b.output
+              (subst (λ (y : List ℕ). Appends mid out y) (wrote left told ∙ sym (take-length (cached_report o c))) written);
+          error_front = length (take q.0 (last_lines o.reports.trace c));
+          error = to_nil d.error e _ (subst (λ (y : List ℕ). Appends d.error e ((told_after c c.limit).error ++ y)) (sym (seam q.0 (last_lines o.reports.trace c) _))
+              (Appends-append d.error em e (told_after c c.limit).error (take q.0 (last_lines o.reports.trace c)) b.error q.1));
+          behind = inr refl;
           input = b.input;
-          output = Appends-append d.output mid out (end_of c).output (cached_report o c) b.output
-              (subst (λ (y : List ℕ). Appends mid out y) (report_is o c h r b.machine b.count b.record_is (counted left)) written);
-          error = to_nil d.error e (shown_error o.reports.trace c) (shown left told);
-        };
-        cached = cached_run_is c h r i d.output mid d.error em d.ram ram b s (after left told) (counted left);
-      };
-  holds = held;
-  refused = tt;
-  quiet = tt;
-  failed = tt;
-  beyond = kept;
-  causes = subst (λ (n : ℕ). HasCauses d.faults (record d.faults { input = n; out = fo; err = fe; ram = ram.faults }) (Ok x)) (sym fi_is)
-      (subst (λ (n : ℕ). HasCauses d.faults (record d.faults { out = n; err = fe; ram = ram.faults }) (Ok x)) (sym fo_is)
-      (subst (λ (n : ℕ). HasCauses d.faults (record d.faults { err = n; ram = ram.faults }) (Ok x)) (sym fe_is)
-      (subst (λ (n : ℕ). HasCauses d.faults (record d.faults { ram = n }) (Ok x)) (sym ram_is) (ok_causes d.faults x))));
-}
+          fault = refl;
+        })
+      where
+        seam : (j : ℕ) (xs ys : List ℕ) → take (length (take j xs)) (xs ++ ys) ≡ take j xs
+        seam j xs ys =
+            ap (λ (l : List ℕ). take (length (take j xs)) (l ++ ys)) (sym (take-append-drop j xs))
+            ∙ ap (λ (l : List ℕ). take (length (take j xs)) l) (append_assoc (take j xs) (drop j xs) ys) ∙ take-append_seam (take j xs) (drop j xs ++ ys)
 
--- or not to its end
-pub report_broke : (o : RunOptions) (cache : CacheOptions) (v : ImageData) (p : ProgramData) (l : Layout) (d : Devices) (h : HartData) (r : Record) (i mid out e : Option (List ℕ)) (ram : RamState) (fi fo fe : ℕ) →
-    4 * v.block_words ≤ cache.cache_bytes → KeepsBeyond (slots_of cache.cache_bytes v * v.block_words) d.ram ram →
-    ((left : List ℕ) → d.input ≡ Some left → run.Ended (run_with o cache v p l left) h r i d.output mid d.error e) →
-    ((left : List ℕ) → d.input ≡ Some left → run.RamAfter (run_with o cache v p l left) d.ram ram) →
-    ((left : List ℕ) → IsCounted (run_with o cache v p l left)) → AppendsPrefix mid out (board_report o h r) →
-    fi ≡ d.faults.input → d.faults.out ≤ fo → Rose d.faults.out fo → fe ≡ d.faults.err → ram.faults ≡ d.faults.ram →
-    RunsOnCache o cache v p l d (ran_all d i out e ram fi fo fe) (Err refusal.SinkFault)
-report_broke o cache v p l d h r i mid out e ram fi fo fe held kept ended after counted part fi_is later rose fe_is ram_is = record {
-  done = tt;
-  holds = tt;
-  refused = tt;
-  quiet = λ never. absurd (never tt);
-  failed = λ _. (
-    held,
-    λ left told.
-        let c = run_with o cache v p l left in
-        let b = ended left told in
-        failed_so o c d (ran_all d i out e ram fi fo fe) refusal.SinkFault [] (inr (inr (
-          record {
-            output_front = part.0;
-            output = Appends-append d.output mid out (end_of c).output (take part.0 (cached_report o c)) b.output
-                (subst (λ (y : List ℕ). Appends mid out (take part.0 y)) (report_is o c h r b.machine b.count b.record_is (counted left)) part.1);
-            error_front = 0;
-            error = to_nil d.error e ((told_after c c.limit).error ++ []) (to_nil d.error e (told_after c c.limit).error b.error);
-            behind = inl refl;
-            input = b.input;
-            fault = refl;
-          },
-          after left told,
-        ))),
-  );
-  beyond = kept;
-  causes = subst (λ (n : ℕ). HasCauses {T = Ending} d.faults (record d.faults { input = n; out = fo; err = fe; ram = ram.faults }) (Err refusal.SinkFault)) (sym fi_is)
-      (subst (λ (n : ℕ). HasCauses {T = Ending} d.faults (record d.faults { out = fo; err = n; ram = ram.faults }) (Err refusal.SinkFault)) (sym fe_is)
-      (subst (λ (n : ℕ). HasCauses {T = Ending} d.faults (record d.faults { out = fo; ram = n }) (Err refusal.SinkFault)) (sym ram_is) (out_causes d.faults fo later rose)));
-}
+        err_causes : (f : Faults) (n : ℕ) → f.err ≤ n → Rose f.err n → HasCauses {T = Ending} f (record f { err = n }) (Err refusal.SinkFault)
+        err_causes f n later rose = record {
+          shelf = quiet_cause f.shelf _ (λ x. let bad : ⊥ = cc in bad);
+          source = quiet_cause f.input _ (λ x. let bad : ⊥ = cc in bad);
+          ram = quiet_cause f.ram _ (λ x. let bad : ⊥ = cc in bad);
+          out_later = omega arith;
+          err_later = later;
+          sink = λ _. inr rose;
+          out_told = inl refl;
+          quiet = tt;
+        }
 
--- or the last lines were not written whole
-pub lines_broke : (o : RunOptions) (cache : CacheOptions) (v : ImageData) (p : ProgramData) (l : Layout) (d : Devices) (h : HartData) (r : Record) (i mid out em e : Option (List ℕ)) (ram : RamState) (fi fo fe : ℕ) →
-    4 * v.block_words ≤ cache.cache_bytes → KeepsBeyond (slots_of cache.cache_bytes v * v.block_words) d.ram ram →
-    ((left : List ℕ) → d.input ≡ Some left → run.Ended (run_with o cache v p l left) h r i d.output mid d.error em) →
-    ((left : List ℕ) → d.input ≡ Some left → AppendsPrefix em e (last_lines o.reports.trace (run_with o cache v p l left))) →
-    ((left : List ℕ) → d.input ≡ Some left → run.RamAfter (run_with o cache v p l left) d.ram ram) →
-    ((left : List ℕ) → IsCounted (run_with o cache v p l left)) → Appends mid out (board_report o h r) →
-    fi ≡ d.faults.input → fo ≡ d.faults.out → d.faults.err ≤ fe → Rose d.faults.err fe → ram.faults ≡ d.faults.ram →
-    RunsOnCache o cache v p l d (ran_all d i out e ram fi fo fe) (Err refusal.SinkFault)
-lines_broke o cache v p l d h r i mid out em e ram fi fo fe held kept ended part after counted written fi_is fo_is later rose ram_is = record {
-  done = tt;
-  holds = tt;
-  refused = tt;
-  quiet = λ never. absurd (never tt);
-  failed = λ _. (
-    held,
-    λ left told.
-        let c = run_with o cache v p l left in
-        let b = ended left told in
-        let q = part left told in
-        failed_so o c d (ran_all d i out e ram fi fo fe) refusal.SinkFault [] (inr (inr (
-          record {
-            output_front = length (cached_report o c);
-            output = Appends-append d.output mid out (end_of c).output (take (length (cached_report o c)) (cached_report o c)) b.output
-                (subst (λ (y : List ℕ). Appends mid out y) (report_is o c h r b.machine b.count b.record_is (counted left) ∙ sym (take-length (cached_report o c))) written);
-            error_front = length (take q.0 (last_lines o.reports.trace c));
-            error = to_nil d.error e _ (subst (λ (y : List ℕ). Appends d.error e ((told_after c c.limit).error ++ y)) (sym (seam q.0 (last_lines o.reports.trace c) _))
-                (Appends-append d.error em e (told_after c c.limit).error (take q.0 (last_lines o.reports.trace c)) b.error q.1));
-            behind = inr refl;
-            input = b.input;
-            fault = refl;
-          },
-          after left told,
-        ))),
-  );
-  beyond = kept;
-  causes = subst (λ (n : ℕ). HasCauses {T = Ending} d.faults (record d.faults { input = n; out = fo; err = fe; ram = ram.faults }) (Err refusal.SinkFault)) (sym fi_is)
-      (subst (λ (n : ℕ). HasCauses {T = Ending} d.faults (record d.faults { out = n; err = fe; ram = ram.faults }) (Err refusal.SinkFault)) (sym fo_is)
-      (subst (λ (n : ℕ). HasCauses {T = Ending} d.faults (record d.faults { err = fe; ram = n }) (Err refusal.SinkFault)) (sym ram_is) (err_causes d.faults fe later rose)));
-}
-  where
-    seam : (j : ℕ) (xs ys : List ℕ) → take (length (take j xs)) (xs ++ ys) ≡ take j xs
-    seam j xs ys =
-        ap (λ (l : List ℕ). take (length (take j xs)) (l ++ ys)) (sym (take-append-drop j xs))
-        ∙ ap (λ (l : List ℕ). take (length (take j xs)) l) (append_assoc (take j xs) (drop j xs) ys) ∙ take-append_seam (take j xs) (drop j xs ++ ys)
-
-    err_causes : (f : Faults) (n : ℕ) → f.err ≤ n → Rose f.err n → HasCauses {T = Ending} f (record f { err = n }) (Err refusal.SinkFault)
-    err_causes f n later rose = record {
-      shelf = quiet_cause f.shelf _ (λ x. let bad : ⊥ = cc in bad);
-      source = quiet_cause f.input _ (λ x. let bad : ⊥ = cc in bad);
-      ram = quiet_cause f.ram _ (λ x. let bad : ⊥ = cc in bad);
-      out_later = omega arith;
-      err_later = later;
-      sink = λ _. inr rose;
-      out_told = inl refl;
+    pub run_ended : {x : Ending} → Appends em e (last_told o.reports.trace bus (addresses_in history)) → fe ≡ me → ((left : List ℕ) → d.input ≡ Some left → run.IsShort h) →
+        x ≡ ending_by h.machine.ending h.machine.pc h.machine.steps → RunsOnCache o cache v p l d (ran_all d i out e ram fi fo fe) (Ok x)
+    run_ended {x} shown same_err short ending = record {
+      done = λ left told.
+          let c = run_with o cache v p l left in
+          let b = ended left told in record {
+            ran = record {
+              ending = ending ∙ ap (λ (m : Machine). ending_by m.ending m.pc m.steps) b.machine;
+              input = b.input;
+              output = Appends-append d.output mid out (end_of c).output (cached_report o c) b.output (subst (λ (y : List ℕ). Appends mid out y) (wrote left told) written);
+              error = to_nil d.error e (shown_error o.reports.trace c) (all_shown o.reports.trace c d.error em e h.machine bus history bus_is b.machine (history_now left told) b.error shown);
+            };
+            cached = cached_run_is c h r i d.output mid d.error em d.ram ram b (short left told) (after left told) (counted left);
+          };
+      holds = held;
+      refused = tt;
       quiet = tt;
+      failed = tt;
+      beyond = kept;
+      causes = subst (λ (n : ℕ). HasCauses d.faults (record d.faults { input = n; out = fo; err = fe; ram = ram.faults }) (Ok x)) (sym (ap (λ (x : board.Faults). x.input) quiet))
+          (subst (λ (n : ℕ). HasCauses d.faults (record d.faults { out = n; err = fe; ram = ram.faults }) (Ok x)) (sym out_is)
+          (subst (λ (n : ℕ). HasCauses d.faults (record d.faults { err = n; ram = ram.faults }) (Ok x)) (sym (same_err ∙ ap (λ (x : board.Faults). x.err) quiet))
+          (subst (λ (n : ℕ). HasCauses d.faults (record d.faults { ram = n }) (Ok x)) (sym (ap (λ (x : board.Faults). x.ram) quiet)) (ok_causes d.faults x))));
     }
-
--- the run as the options name it
-pub run_is : (each : Bool) (o : RunOptions) (cache : CacheOptions) (v : ImageData) (p : ProgramData) (l : Layout) (left : List ℕ) → is_each o.reports.trace ≡ each →
-    traced_of each (run_of v cache.cache_bytes p l o.reports.calls o.limits.steps left) ≡ run_with o cache v p l left
-run_is each o cache v p l left is = ap (λ (t : Bool). traced_of t (run_of v cache.cache_bytes p l o.reports.calls o.limits.steps left)) (sym is)
-
-pub as_run : (P : CachedRun → Type 0) (each : Bool) (o : RunOptions) (cache : CacheOptions) (v : ImageData) (p : ProgramData) (l : Layout) (left : List ℕ) → is_each o.reports.trace ≡ each →
-    P (traced_of each (run_of v cache.cache_bytes p l o.reports.calls o.limits.steps left)) → P (run_with o cache v p l left)
-as_run P each o cache v p l left is h = subst P (run_is each o cache v p l left is) h
-
-pub as_step : {T : Type 0} (r : Result T CachedStop) (each : Bool) (o : RunOptions) (cache : CacheOptions) (v : ImageData) (p : ProgramData) (l : Layout) (left : List ℕ) → is_each o.reports.trace ≡ each →
-    (i out out' err err' : Option (List ℕ)) → run.StepFailed {T = T} (traced_of each (run_of v cache.cache_bytes p l o.reports.calls o.limits.steps left)) r i out out' err err' →
-    run.StepFailed {T = T} (run_with o cache v p l left) r i out out' err err'
-as_step {T} r each o cache v p l left is i out out' err err' h =
-    subst (λ (k : CachedRun). run.StepFailed {T = T} k r i out out' err err') (run_is each o cache v p l left is) h
-
-pub off_each : (o : RunOptions) → o.reports.trace ≡ trace.Off → is_each o.reports.trace ≡ false
-off_each o off = ap is_each off
-
-pub quiet_shown : (a b : Option (List ℕ)) (t : Trace) (c : CachedRun) → t ≡ trace.Off → Appends a b (told_after c c.limit).error → Appends a b (shown_error t c)
-quiet_shown a b t c off h = subst (λ (x : Trace). Appends a b (shown_error x c)) (sym off) h
 
 -- ---- from the run of a file's program to what is said of its file
 

@@ -32,7 +32,9 @@ use Rattle.swi_calls.specs.Flat.{Made}
 use Rattle.swi_rom.specs.Record.{writes}
 use Rattle.swi_cached.specs.Answers.{RamAfter}
 use Rattle.swi_cached.specs.Cached.{CachedRun, IsCounted, IsFlatRun, StopsBeforeStore, run_of, slots_of, end_of, program_after, told_after, instructions_after, fetches_after, record_after}
-use Rattle.swi_cached.specs.Told.{addresses, lines_at, next_error, told_line}
+use Rattle.swi_cached.specs.declared.told.Telling.{Telling}
+use Rattle.swi_cached.specs.declared.told.Telling.TheVariants as telling
+use Rattle.swi_cached.specs.Told.{addresses, is_each, lines_at, next_error, told_line}
 use Rattle.swi_trace.specs.History.{last_of}
 use Rattle.swi_command.specs.declared.command.Trace.{Trace}
 use Rattle.swi_command.specs.declared.command.Trace.TheVariants as trace
@@ -131,14 +133,15 @@ abbrev pub Runs : RunOptions → List ℕ → List ℕ → Devices → Devices �
 Runs o file input before after e last =
     Ran (plain_run o file input o.limits.steps) (plain_report o (plain_run o file input o.limits.steps)) before after e last
 
--- whether each step is told before it is made
-abbrev pub is_each : Trace → Bool
-is_each trace.Each = true
-is_each _ = false
+-- what is told of the steps
+abbrev pub telling_of : Trace → Telling
+telling_of trace.Off = telling.Nothing
+telling_of trace.Last = telling.Last
+telling_of trace.Each = telling.Each
 
 -- `cached`: the same program's run, through the cache ram; and `trace`, with lines of its steps
 abbrev pub cached_run : CacheOptions → RunOptions → ImageData → FlatState → CachedRun
-cached_run cache o v s = record { image = v; slots = slots_of cache.cache_bytes v; start = s; limit = o.limits.steps; trace = is_each o.reports.trace }
+cached_run cache o v s = record { image = v; slots = slots_of cache.cache_bytes v; start = s; limit = o.limits.steps; trace = is_each (telling_of o.reports.trace) }
 
 -- what the counts of a run tell: its machine instructions, and the words that were fetched and written for it, as numbers of 64 bits
 abbrev pub work_of : CachedRun → Work
@@ -195,7 +198,7 @@ pub record RunsCached (o : RunOptions) (c : CachedRun) (before after : Devices) 
 
 -- `measure`: the run, with no input, of the program that is made of the seed, in the blocks of its greedy cut
 abbrev pub made_run : CacheOptions → ProgramData → Layout → ImageData → CachedRun
-made_run cache p l v = run_of v cache.cache_bytes p l false (2 ^ 48) []
+made_run cache p l v = run_of v cache.cache_bytes p l false telling.Nothing (2 ^ 48) []
 
 pub record IsMadeRun (seed functions : ℕ) (cache : CacheOptions) (p : ProgramData) (l : Layout) (v : ImageData) : Type 0 where
   pub made : IsMade seed functions p

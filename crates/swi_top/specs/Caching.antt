@@ -14,6 +14,8 @@ use Rattle.swi_report.specs.declared.stats.Work.{Work}
 use Rattle.swi_answer.specs.declared.answer.Ending.{Ending}
 use Rattle.swi_answer.specs.declared.answer.Refusal.{Refusal}
 use Rattle.swi_answer.specs.declared.answer.Refusal.TheVariants as refusal
+use Rattle.swi_cached.specs.declared.run.CachedStop.{CachedStop}
+use Rattle.swi_cached.specs.declared.run.CachedStop.TheVariants as stop
 use Rattle.swi_cached.specs.Cached.{CachedRun, end_of, instructions_after, record_after, slots_of, unfetched}
 use Rattle.swi_top.specs.Answers.{CachedFailed, Does, IsChecked, IsRunFault, KeepsRam, Leaves, IsCachedRun, RunsCached, cached_run}
 use Rattle.swi_top.specs.Checks.{checks_of}
@@ -43,6 +45,13 @@ pub record MadeRan (c : CachedRun) (h : HartData) (r : Record) (before after : R
 -- what is written of it
 abbrev pub board_summary : ℕ → ProgramData → ImageData → HartData → Record → List ℕ
 board_summary functions p v h r = summary_by functions p v (board_work h.count h.machine.ending r) h.machine.ending h.machine.steps
+
+-- what a run is refused with that stopped so
+abbrev pub refusal_of : CachedStop → Refusal
+refusal_of stop.Memory = refusal.Memory
+refusal_of stop.RamFault = refusal.RamFault
+refusal_of stop.SourceFault = refusal.SourceFault
+refusal_of stop.SinkFault = refusal.SinkFault
 
 -- why it is refused
 abbrev pub IsCachedErr : CacheOptions → ImageData → Refusal → Type 0

@@ -1,7 +1,7 @@
-//! The command `cached`: a run on the cached machine.
+//! The commands `cached` and `trace`: a run on the cached machine.
 #![tactic(auto)]
 
-ghost use Rattle.std.specs.Prelude.{◌≡◌, ◌*◌, ◌^◌, ◌≤◌, IfOk, Some, [], length};
+ghost use Rattle.std.specs.Prelude.{◌≡◌, ◌*◌, ◌^◌, ◌≤◌, Some, [], length};
 ghost use Rattle.swi_outside.specs.Causes.{HasCause};
 ghost use Rattle.swi_outside.specs.Sink.{WritesPiece};
 ghost use Rattle.swi_command.specs.CommandLine.{IsCacheInRange, IsInRange, RunCached};
@@ -10,7 +10,7 @@ ghost use Rattle.swi_program.specs.Text.{text_of};
 ghost use Rattle.swi_render.specs.ImageOf.{IsImageOf};
 ghost use Rattle.swi_rom.specs.Slots.{kept_by};
 ghost use Rattle.swi_top.specs.Answers.{Answers};
-ghost use Rattle.swi_top.specs.Caching.{AnswersFile, RunsOnCache, board_work};
+ghost use Rattle.swi_top.specs.Caching.{AnswersFile, RunsOnCache, board_work, refusal_of};
 ghost use Rattle.swi_top.specs.Checks.{file_limit};
 ghost use Rattle.swi_top.specs.Devices.{Devices};
 ghost use Rattle.swi_top.specs.Runs.{report};
@@ -20,13 +20,13 @@ use crate::image::{Prepared, own_image, prepare};
 use crate::report::{ending_of, write_report};
 use crate::rewrite::cut_image;
 use crate::sizes::check_sizes;
-use crate::trace::trace_program;
+use crate::trace::{telling_of, write_last};
 use std::alloc::Global;
 use swi_answer::{Ending, Refusal};
 use swi_board::Board;
 use swi_cached::{CachedStop, run_cached};
 use swi_calls::End;
-use swi_command::{CacheOptions, Reports, RunOptions, Trace};
+use swi_command::{CacheOptions, Reports, RunOptions};
 use swi_elf_read::{image_bytes, read_elf};
 use swi_exec::FaultKind;
 use swi_fifo::FifoRom;
@@ -74,7 +74,19 @@ pub(crate) fn report_board<O: Sink>(
     write_report(reports, pc, regs, bus, &heap, steps, Some(&work), out)
 }
 
-/// Runs a program on the cached machine, and writes what is asked for of its end.
+/// What a run is refused with that stopped so.
+fn refusal_of(stop: CachedStop) -> Refusal
+    ensures { result ≡ refusal_of stop }
+{
+    match stop {
+        CachedStop::Memory => Refusal::Memory,
+        CachedStop::RamFault => Refusal::RamFault,
+        CachedStop::SourceFault => Refusal::SourceFault,
+        CachedStop::SinkFault => Refusal::SinkFault,
+    }
+}
+
+/// Runs a program on the cached machine, and writes what is asked for of its steps and of its end.
 fn run_program<I: Source, O: Sink, E: Sink, R: CacheRam>(
     alloc: Global,
     image: &ImageView<'_>,
@@ -86,7 +98,6 @@ fn run_program<I: Source, O: Sink, E: Sink, R: CacheRam>(
     err: &mut E,
     ram: &mut R,
 ) -> Result<Ending, Refusal>
-    requires quiet { options.now.reports.trace ≡ Trace.Off }
     requires ranges { IsInRange options.now.limits }
     requires most { cache.now.cache_bytes ≤ 2 ^ 23 }
     requires held { cache.now.cache_bytes ≤ 4 * length (R.state ram.old).words }
@@ -113,58 +124,21 @@ fn run_program<I: Source, O: Sink, E: Sink, R: CacheRam>(
         return Err(Refusal::CacheSmall { bytes, least });
     }
     let (program, layout) = (&prepared.program, &prepared.layout);
-    let (calls, steps) = (options.reports.calls, options.limits.steps);
-    let board = match run_cached(
-        alloc, image, program, layout, bytes, calls, steps, input, out, err, ram,
+    let (reports, steps) = (&options.reports, options.limits.steps);
+    let (calls, telling) = (reports.calls, telling_of(reports.trace));
+    let ended = match run_cached(
+        alloc, image, program, layout, bytes, calls, telling, steps, input, out, err, ram,
     ) {
-        Ok(board) => board,
-        Err(CachedStop::Memory) => return Err(Refusal::Memory),
-        Err(CachedStop::RamFault) => return Err(Refusal::RamFault),
-        Err(CachedStop::SourceFault) => return Err(Refusal::SourceFault),
-        Err(CachedStop::SinkFault) => return Err(Refusal::SinkFault),
+        Ok(ended) => ended,
+        Err(stop) => return Err(refusal_of(stop)),
     };
-    match report_board(&options.reports, &board, out) {
+    let (board, history) = (&ended.0, &ended.1);
+    let Ok(()) = report_board(reports, board, out) else {
+        return Err(Refusal::SinkFault);
+    };
+    match write_last(reports.trace, history, board.bus(), err) {
         Ok(()) => Ok(ending_of(board.ending(), board.origin_pc(), board.steps())),
         Err(_) => Err(Refusal::SinkFault),
-    }
-}
-
-/// The same with a trace or without one, as the options say.
-fn run_image<I: Source, O: Sink, E: Sink, R: CacheRam>(
-    alloc: Global,
-    image: &ImageView<'_>,
-    prepared: &Prepared,
-    cache: &CacheOptions,
-    options: &RunOptions,
-    input: &mut I,
-    out: &mut O,
-    err: &mut E,
-    ram: &mut R,
-) -> Result<Ending, Refusal>
-    requires ranges { IsInRange options.now.limits }
-    requires most { cache.now.cache_bytes ≤ 2 ^ 23 }
-    requires held { cache.now.cache_bytes ≤ 4 * length (R.state ram.old).words }
-    requires laid_out { IsLayoutOf prepared.now.program.segments prepared.now.layout }
-    requires own { IsImageOf (text_of prepared.now.program.segments) image.now }
-    ensures { (d : Devices) → RunsOnCache options.now cache.now image.now prepared.now.program prepared.now.layout
-        (record d {
-          input = I.left input.old;
-          output = O.held out.old;
-          error = E.held err.old;
-          ram = R.state ram.old;
-          faults = record d.faults { input = I.faults input.old; out = O.faults out.old; err = E.faults err.old; ram = (R.state ram.old).faults };
-        })
-        (record d {
-          input = I.left input.new;
-          output = O.held out.new;
-          error = E.held err.new;
-          ram = R.state ram.new;
-          faults = record d.faults { input = I.faults input.new; out = O.faults out.new; err = E.faults err.new; ram = (R.state ram.new).faults };
-        }) result }
-{
-    match options.reports.trace {
-        Trace::Off => { run_program(alloc, image, prepared, cache, options, input, out, err, ram) }
-        _ => { trace_program(alloc, image, prepared, cache, options, input, out, err, ram) }
     }
 }
 
@@ -208,7 +182,7 @@ fn run_file<I: Source, O: Sink, E: Sink, R: CacheRam>(
     let Some(bytes) = image_bytes(&elf) else {
         let image = cut_image(alloc, &prepared.program, cache.block_words)?;
         let view = image.view();
-        return run_image(
+        return run_program(
             alloc, &view, &prepared, cache, options, input, out, err, ram,
         );
     };
@@ -216,7 +190,7 @@ fn run_file<I: Source, O: Sink, E: Sink, R: CacheRam>(
         Ok(view) => view,
         Err(refusal) => return Err(refusal),
     };
-    run_image(
+    run_program(
         alloc, &view, &prepared, cache, options, input, out, err, ram,
     )
 }

@@ -27,7 +27,7 @@ use crate::sizes::check_sizes;
 use std::alloc::Global;
 use swi_answer::{Ending, Refusal};
 use swi_board::Board;
-use swi_cached::{CachedStop, run_cached};
+use swi_cached::{CachedStop, Telling, run_cached};
 use swi_calls::End;
 use swi_command::CacheOptions;
 use swi_fifo::FifoRom;
@@ -92,13 +92,14 @@ fn run_made<R: CacheRam>(
         layout,
         cache.cache_bytes,
         false,
+        Telling::Nothing,
         STEPS,
         &mut input,
         &mut out,
         &mut err,
         ram,
     ) {
-        Ok(board) => Ok(board),
+        Ok((board, _history)) => Ok(board),
         Err(CachedStop::Memory) => Err(Refusal::Memory),
         // No other device fails.
         Err(CachedStop::RamFault | CachedStop::SourceFault | CachedStop::SinkFault) => Err(

@@ -9,7 +9,7 @@ use Rattle.swi_cached.proofs.Boot.{wrote_at_boot}
 use Rattle.swi_cached.proofs.run.boot.Goals as goal
 
 pub returns-in-Ok-boot-clause-booted : goal.returns-in-Ok-boot-clause-booted
-returns-in-Ok-boot-clause-booted g c = λ limit left.
+returns-in-Ok-boot-clause-booted g c = λ telling limit left.
     let b = c.in-Ok-boot.ensures in
     let slots : List ℕ = slots_of c.args.cache_bytes c.args.image.now ∷ c.args.image.now.block_words ∷ [] in
     let kept = b.policy ∙ ap (λ (k : List ℕ). fifo k (kept_by c.in-Ok.rom) c.args.image.now (indirect c.args.program.now.entry)) c.in-Ok.ensures.setting ∙ ap (λ (r : Record). fifo slots r c.args.image.now (indirect c.args.program.now.entry)) c.in-Ok.ensures.empty in

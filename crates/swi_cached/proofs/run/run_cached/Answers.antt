@@ -1,124 +1,140 @@
-use Rattle.std.proofs.Common.{ℕ, List, [], ◌++◌, Option, false, Err, refl, sym, ap, subst, arith, append-nil}
-use Rattle.std.specs.Io.KnownBytes.{Appends}
-use Rattle.swi_calls.specs.Flat.{machine_of, flat_start}
+use Rattle.std.proofs.Common.{ℕ, List, [], Option, None, Err, refl, ap, arith}
+use Rattle.swi_calls.specs.Flat.{machine_of}
 use Rattle.swi_calls.specs.declared.machine.Machine.{Machine}
 use Rattle.swi_rom.specs.Slots.{kept_by}
-use Rattle.swi_board.specs.Ran.{RamBrokeOff, BrokeOff}
 use Rattle.swi_cached.specs.declared.run.CachedStop.TheVariants as stop
 use Rattle.swi_cached.specs.Cached.{run_of}
 use Rattle.swi_cached.proofs.Boot.{carries_booted, services_booted}
-use Rattle.swi_cached.proofs.Ended.{has_ended, is_short, ram_after, ran_on, kept_on}
+use Rattle.swi_cached.proofs.Ended.{has_ended, is_short, ram_after, ran_told, kept_on}
 use Rattle.swi_cached.proofs.Fetched.{is_counted}
-use Rattle.swi_cached.proofs.Failed.{all_steps, ram_failed, boot_failed, step_failed, is_flat_run, stops_before_store}
-use Rattle.swi_cached.proofs.Causing.{causes_quiet, causes_run, as_stop, as_stops, is_ram, is_source, on_device}
+use Rattle.swi_cached.proofs.Failed.{ram_failed, boot_failed, step_failed, is_flat_run, stops_before_store}
+use Rattle.swi_cached.proofs.Causing.{causes_quiet, causes_run, as_stop, as_stops, is_ram, is_source, on_device, never_memory, err_as}
 use Rattle.swi_cached.proofs.run.run_cached.Goals as goal
 
-to_nil : (a b : Option (List ℕ)) (x : List ℕ) → Appends a b x → Appends a b (x ++ [])
-to_nil a b x h = subst (λ (y : List ℕ). Appends a b y) (sym (append-nil x)) h
+pub returns-in_default-clause-flat : goal.returns-in_default-clause-flat
+returns-in_default-clause-flat g c = λ left. is_flat_run (run_of c.args.image.now c.args.cache_bytes c.args.program.now c.args.layout.now c.args.log c.args.telling c.args.limit left)
+
+pub returns-in_default-clause-stops : goal.returns-in_default-clause-stops
+returns-in_default-clause-stops g c = λ left. stops_before_store (run_of c.args.image.now c.args.cache_bytes c.args.program.now c.args.layout.now c.args.log c.args.telling c.args.limit left)
+
+pub returns-in-Err-clause-flat : goal.returns-in-Err-clause-flat
+returns-in-Err-clause-flat g c = λ left. is_flat_run (run_of c.args.image.now c.args.cache_bytes c.args.program.now c.args.layout.now c.args.log c.args.telling c.args.limit left)
+
+pub returns-in-Err-clause-stops : goal.returns-in-Err-clause-stops
+returns-in-Err-clause-stops g c = λ left. stops_before_store (run_of c.args.image.now c.args.cache_bytes c.args.program.now c.args.layout.now c.args.log c.args.telling c.args.limit left)
+
+pub returns-in-Ok-run_steps-clause-flat : goal.returns-in-Ok-run_steps-clause-flat
+returns-in-Ok-run_steps-clause-flat g c = λ left. is_flat_run (run_of c.args.image.now c.args.cache_bytes c.args.program.now c.args.layout.now c.args.log c.args.telling c.args.limit left)
+
+pub returns-in-Ok-run_steps-clause-stops : goal.returns-in-Ok-run_steps-clause-stops
+returns-in-Ok-run_steps-clause-stops g c = λ left. stops_before_store (run_of c.args.image.now c.args.cache_bytes c.args.program.now c.args.layout.now c.args.log c.args.telling c.args.limit left)
+
+pub returns-in-Err-run_steps-clause-flat : goal.returns-in-Err-run_steps-clause-flat
+returns-in-Err-run_steps-clause-flat g c = λ left. is_flat_run (run_of c.args.image.now c.args.cache_bytes c.args.program.now c.args.layout.now c.args.log c.args.telling c.args.limit left)
+
+pub returns-in-Err-run_steps-clause-stops : goal.returns-in-Err-run_steps-clause-stops
+returns-in-Err-run_steps-clause-stops g c = λ left. stops_before_store (run_of c.args.image.now c.args.cache_bytes c.args.program.now c.args.layout.now c.args.log c.args.telling c.args.limit left)
 
 pub returns-in-Err-clause-ram_failed : goal.returns-in-Err-clause-ram_failed
 returns-in-Err-clause-ram_failed g c = λ e x told.
-    boot_failed (run_of c.args.image.now c.args.cache_bytes c.args.program.now c.args.layout.now c.args.log c.args.limit x) (g.R.CacheRam.state c.args.ram.now) (g.R.CacheRam.state c.boot.new.ram) (g.I.Source.left c.args.input.now) (g.O.Sink.held c.args.out.now) (g.E.Sink.held c.args.err.now)
-    refl refl refl told c.in-Err.ensures.placed (c.in-Err.ensures.failed e).fetches_stay
+    boot_failed (run_of c.args.image.now c.args.cache_bytes c.args.program.now c.args.layout.now c.args.log c.args.telling c.args.limit x) (g.R.CacheRam.state c.args.ram.now) (g.R.CacheRam.state c.boot.new.ram) (g.I.Source.left c.args.input.now) (g.O.Sink.held c.args.out.now) (g.E.Sink.held c.args.err.now)
+    refl refl refl told c.in-Err.ensures.placed (c.in-Err.ensures.failed (err_as c.in-Err.stop stop.RamFault e)).fetches_stay
 
-pub returns-in-Err-clause-flat : goal.returns-in-Err-clause-flat
-returns-in-Err-clause-flat g c = λ left. is_flat_run (run_of c.args.image.now c.args.cache_bytes c.args.program.now c.args.layout.now c.args.log c.args.limit left)
+pub run_steps-requires-clause-fits : goal.run_steps-requires-clause-fits
+run_steps-requires-clause-fits g c = (c.in-Ok-boot.ensures.booted c.args.telling c.args.limit []).fits
 
-pub returns-in-Err-clause-stops : goal.returns-in-Err-clause-stops
-returns-in-Err-clause-stops g c = λ left. stops_before_store (run_of c.args.image.now c.args.cache_bytes c.args.program.now c.args.layout.now c.args.log c.args.limit left)
+pub run_steps-requires-clause-sound : goal.run_steps-requires-clause-sound
+run_steps-requires-clause-sound g c = (c.in-Ok-boot.ensures.booted c.args.telling c.args.limit []).sound
 
-pub returns-in-Ok-run-clause-flat : goal.returns-in-Ok-run-clause-flat
-returns-in-Ok-run-clause-flat g c = λ left. is_flat_run (run_of c.args.image.now c.args.cache_bytes c.args.program.now c.args.layout.now c.args.log c.args.limit left)
+pub run_steps-requires-clause-first : goal.run_steps-requires-clause-first
+run_steps-requires-clause-first g c = ap (λ (m : Machine). m.steps) (c.in-Ok-boot.ensures.booted c.args.telling c.args.limit []).machine
 
-pub returns-in-Ok-run-clause-stops : goal.returns-in-Ok-run-clause-stops
-returns-in-Ok-run-clause-stops g c = λ left. stops_before_store (run_of c.args.image.now c.args.cache_bytes c.args.program.now c.args.layout.now c.args.log c.args.limit left)
+pub run_steps-requires-clause-running : goal.run_steps-requires-clause-running
+run_steps-requires-clause-running g c = ap (λ (m : Machine). m.ending) (c.in-Ok-boot.ensures.booted c.args.telling c.args.limit []).machine
 
-pub returns-in-Err-run-clause-flat : goal.returns-in-Err-run-clause-flat
-returns-in-Err-run-clause-flat g c = λ left. is_flat_run (run_of c.args.image.now c.args.cache_bytes c.args.program.now c.args.layout.now c.args.log c.args.limit left)
+pub run_steps-requires-clause-unfailed : goal.run_steps-requires-clause-unfailed
+run_steps-requires-clause-unfailed g c = (c.in-Ok-boot.ensures.booted c.args.telling c.args.limit []).unfailed
 
-pub returns-in-Err-run-clause-stops : goal.returns-in-Err-run-clause-stops
-returns-in-Err-run-clause-stops g c = λ left. stops_before_store (run_of c.args.image.now c.args.cache_bytes c.args.program.now c.args.layout.now c.args.log c.args.limit left)
+pub run_steps-requires-clause-count : goal.run_steps-requires-clause-count
+run_steps-requires-clause-count g c = let one = (c.in-Ok-boot.ensures.booted c.args.telling c.args.limit []).count in omega (arith, one)
 
-pub run-requires-clause-fits : goal.run-requires-clause-fits
-run-requires-clause-fits g c = (c.in-Ok.ensures.booted c.args.limit []).fits
-
-pub run-requires-clause-sound : goal.run-requires-clause-sound
-run-requires-clause-sound g c = (c.in-Ok.ensures.booted c.args.limit []).sound
-
-pub run-requires-clause-steps : goal.run-requires-clause-steps
-run-requires-clause-steps g c = let none = ap (λ (m : Machine). m.steps) (c.in-Ok.ensures.booted c.args.limit []).machine in omega (arith, none)
-
-pub run-requires-clause-unfailed : goal.run-requires-clause-unfailed
-run-requires-clause-unfailed g c = (c.in-Ok.ensures.booted c.args.limit []).unfailed
-
-pub run-requires-clause-count : goal.run-requires-clause-count
-run-requires-clause-count g c = let one = (c.in-Ok.ensures.booted c.args.limit []).count in omega (arith, one)
-
-pub run-requires-clause-services : goal.run-requires-clause-services
-run-requires-clause-services g c =
-    let one = services_booted (run_of c.args.image.now c.args.cache_bytes c.args.program.now c.args.layout.now c.args.log c.args.limit []) c.in-Ok.board.hart c.in-Ok.board.rom _ _ (c.in-Ok.ensures.booted c.args.limit []) in
+pub run_steps-requires-clause-services : goal.run_steps-requires-clause-services
+run_steps-requires-clause-services g c =
+    let one = services_booted (run_of c.args.image.now c.args.cache_bytes c.args.program.now c.args.layout.now c.args.log c.args.telling c.args.limit []) c.in-Ok-boot.board.hart c.in-Ok-boot.board.rom _ _ (c.in-Ok-boot.ensures.booted c.args.telling c.args.limit []) in
     omega (arith, one)
 
-pub returns-in-Ok-run-clause-ended : goal.returns-in-Ok-run-clause-ended
-returns-in-Ok-run-clause-ended g c = λ x told.
-    let booted = c.in-Ok.ensures.booted c.args.limit x in
-    let carries = carries_booted c.args.image.now (kept_by c.in-Ok.board.rom) c.in-Ok.board.hart (machine_of c.args.program.now c.args.layout.now c.args.log) booted.machine booted.between booted.fits in
-    let ran = ran_on (run_of c.args.image.now c.args.cache_bytes c.args.program.now c.args.layout.now c.args.log c.args.limit x) c.in-Ok.board.hart c.run.new.self.hart c.in-Ok.board.rom (kept_by c.run.new.self.rom) (g.R.CacheRam.state c.args.ram.now) (g.R.CacheRam.state c.boot.new.ram) (g.I.Source.left c.run.new.input) (g.O.Sink.held c.args.out.now) (g.O.Sink.held c.run.new.out) (g.E.Sink.held c.args.err.now) (g.E.Sink.held c.run.new.err) booted refl (c.in-Ok-run.ensures.ran x told (machine_of c.args.program.now c.args.layout.now c.args.log) carries booted.matches) in
-    has_ended (run_of c.args.image.now c.args.cache_bytes c.args.program.now c.args.layout.now c.args.log c.args.limit x) c.in-Ok.board.hart c.run.new.self.hart c.in-Ok.board.rom (kept_by c.run.new.self.rom) (g.R.CacheRam.state c.args.ram.now) (g.R.CacheRam.state c.boot.new.ram) (g.R.CacheRam.state c.run.new.ram) (g.I.Source.left c.run.new.input) (g.O.Sink.held c.args.out.now) (g.O.Sink.held c.run.new.out) (g.E.Sink.held c.args.err.now) (g.E.Sink.held c.run.new.err) booted ran (c.in-Ok-run.ensures.settled x told booted.between) (g.E.Sink.held c.args.err.now) (g.E.Sink.held c.run.new.err) ran.error
+pub returns-in-Ok-run_steps-clause-ended : goal.returns-in-Ok-run_steps-clause-ended
+returns-in-Ok-run_steps-clause-ended g c = λ x told.
+    let k = run_of c.args.image.now c.args.cache_bytes c.args.program.now c.args.layout.now c.args.log c.args.telling c.args.limit x in
+    let booted = c.in-Ok-boot.ensures.booted c.args.telling c.args.limit x in
+    let carries = carries_booted c.args.image.now (kept_by c.in-Ok-boot.board.rom) c.in-Ok-boot.board.hart (machine_of c.args.program.now c.args.layout.now c.args.log) booted.machine booted.between booted.fits in
+    let whole = c.in-Ok-run_steps.ensures.ran x told (machine_of c.args.program.now c.args.layout.now c.args.log) carries booted.matches in
+    let ran = ran_told k c.in-Ok-boot.board.hart c.run_steps.new.board.hart c.in-Ok-boot.board.rom (kept_by c.run_steps.new.board.rom) (g.R.CacheRam.state c.args.ram.now) (g.R.CacheRam.state c.boot.new.ram) (g.I.Source.left c.run_steps.new.input) (g.O.Sink.held c.args.out.now) (g.O.Sink.held c.run_steps.new.out) None None booted whole.ran in
+    has_ended k c.in-Ok-boot.board.hart c.run_steps.new.board.hart c.in-Ok-boot.board.rom (kept_by c.run_steps.new.board.rom) (g.R.CacheRam.state c.args.ram.now) (g.R.CacheRam.state c.boot.new.ram) (g.R.CacheRam.state c.run_steps.new.ram) (g.I.Source.left c.run_steps.new.input) (g.O.Sink.held c.args.out.now) (g.O.Sink.held c.run_steps.new.out) None None booted ran (c.in-Ok-run_steps.ensures.settled x told booted.between) (g.E.Sink.held c.args.err.now) (g.E.Sink.held c.run_steps.new.err) whole.error
 
-pub returns-in-Ok-run-clause-short : goal.returns-in-Ok-run-clause-short
-returns-in-Ok-run-clause-short g c = λ x told.
-    let booted = c.in-Ok.ensures.booted c.args.limit x in
-    is_short (run_of c.args.image.now c.args.cache_bytes c.args.program.now c.args.layout.now c.args.log c.args.limit x) c.in-Ok.board.hart c.run.new.self.hart c.in-Ok.board.rom _ _ booted refl refl (c.in-Ok-run.ensures.settled x told booted.between) c.in-Ok-run.ensures.count
+pub returns-in-Ok-run_steps-clause-told : goal.returns-in-Ok-run_steps-clause-told
+returns-in-Ok-run_steps-clause-told g c = λ x told.
+    let k = run_of c.args.image.now c.args.cache_bytes c.args.program.now c.args.layout.now c.args.log c.args.telling c.args.limit x in
+    let booted = c.in-Ok-boot.ensures.booted c.args.telling c.args.limit x in
+    let carries = carries_booted c.args.image.now (kept_by c.in-Ok-boot.board.rom) c.in-Ok-boot.board.hart (machine_of c.args.program.now c.args.layout.now c.args.log) booted.machine booted.between booted.fits in
+    (c.in-Ok-run_steps.ensures.ran x told (machine_of c.args.program.now c.args.layout.now c.args.log) carries booted.matches).kept
 
-pub returns-in-Ok-run-clause-ram : goal.returns-in-Ok-run-clause-ram
-returns-in-Ok-run-clause-ram g c = λ x told.
-    let booted = c.in-Ok.ensures.booted c.args.limit x in
-    let carries = carries_booted c.args.image.now (kept_by c.in-Ok.board.rom) c.in-Ok.board.hart (machine_of c.args.program.now c.args.layout.now c.args.log) booted.machine booted.between booted.fits in
-    let ran = ran_on (run_of c.args.image.now c.args.cache_bytes c.args.program.now c.args.layout.now c.args.log c.args.limit x) c.in-Ok.board.hart c.run.new.self.hart c.in-Ok.board.rom (kept_by c.run.new.self.rom) (g.R.CacheRam.state c.args.ram.now) (g.R.CacheRam.state c.boot.new.ram) (g.I.Source.left c.run.new.input) (g.O.Sink.held c.args.out.now) (g.O.Sink.held c.run.new.out) (g.E.Sink.held c.args.err.now) (g.E.Sink.held c.run.new.err) booted refl (c.in-Ok-run.ensures.ran x told (machine_of c.args.program.now c.args.layout.now c.args.log) carries booted.matches) in
-    ram_after (run_of c.args.image.now c.args.cache_bytes c.args.program.now c.args.layout.now c.args.log c.args.limit x) c.in-Ok.board.hart c.run.new.self.hart c.in-Ok.board.rom (kept_by c.run.new.self.rom) (g.R.CacheRam.state c.args.ram.now) (g.R.CacheRam.state c.boot.new.ram) (g.R.CacheRam.state c.run.new.ram) (g.I.Source.left c.run.new.input) (g.O.Sink.held c.args.out.now) (g.O.Sink.held c.run.new.out) (g.E.Sink.held c.args.err.now) (g.E.Sink.held c.run.new.err) booted ran (c.in-Ok-run.ensures.settled x told booted.between)
-    c.run.new.self.rom refl c.in-Ok-run.ensures.setting c.in-Ok-run.ensures.sound c.in-Ok-run.ensures.ram c.in-Ok-run.ensures.unused
+pub returns-in-Ok-run_steps-clause-short : goal.returns-in-Ok-run_steps-clause-short
+returns-in-Ok-run_steps-clause-short g c = λ x told.
+    let k = run_of c.args.image.now c.args.cache_bytes c.args.program.now c.args.layout.now c.args.log c.args.telling c.args.limit x in
+    let booted = c.in-Ok-boot.ensures.booted c.args.telling c.args.limit x in
+    let carries = carries_booted c.args.image.now (kept_by c.in-Ok-boot.board.rom) c.in-Ok-boot.board.hart (machine_of c.args.program.now c.args.layout.now c.args.log) booted.machine booted.between booted.fits in
+    is_short k c.in-Ok-boot.board.hart c.run_steps.new.board.hart c.in-Ok-boot.board.rom _ _ booted refl refl (c.in-Ok-run_steps.ensures.settled x told booted.between) c.in-Ok-run_steps.ensures.count
 
-pub returns-in-Ok-run-clause-counted : goal.returns-in-Ok-run-clause-counted
-returns-in-Ok-run-clause-counted g c = λ left.
-    let booted = c.in-Ok.ensures.booted c.args.limit left in
-    is_counted (run_of c.args.image.now c.args.cache_bytes c.args.program.now c.args.layout.now c.args.log c.args.limit left)
-    (carries_booted c.args.image.now (kept_by c.in-Ok.board.rom) c.in-Ok.board.hart (machine_of c.args.program.now c.args.layout.now c.args.log) booted.machine booted.between booted.fits)
-    c.in-Ok.ensures.word refl
+pub returns-in-Ok-run_steps-clause-ram : goal.returns-in-Ok-run_steps-clause-ram
+returns-in-Ok-run_steps-clause-ram g c = λ x told.
+    let k = run_of c.args.image.now c.args.cache_bytes c.args.program.now c.args.layout.now c.args.log c.args.telling c.args.limit x in
+    let booted = c.in-Ok-boot.ensures.booted c.args.telling c.args.limit x in
+    let carries = carries_booted c.args.image.now (kept_by c.in-Ok-boot.board.rom) c.in-Ok-boot.board.hart (machine_of c.args.program.now c.args.layout.now c.args.log) booted.machine booted.between booted.fits in
+    let whole = c.in-Ok-run_steps.ensures.ran x told (machine_of c.args.program.now c.args.layout.now c.args.log) carries booted.matches in
+    let ran = ran_told k c.in-Ok-boot.board.hart c.run_steps.new.board.hart c.in-Ok-boot.board.rom (kept_by c.run_steps.new.board.rom) (g.R.CacheRam.state c.args.ram.now) (g.R.CacheRam.state c.boot.new.ram) (g.I.Source.left c.run_steps.new.input) (g.O.Sink.held c.args.out.now) (g.O.Sink.held c.run_steps.new.out) None None booted whole.ran in
+    ram_after k c.in-Ok-boot.board.hart c.run_steps.new.board.hart c.in-Ok-boot.board.rom (kept_by c.run_steps.new.board.rom) (g.R.CacheRam.state c.args.ram.now) (g.R.CacheRam.state c.boot.new.ram) (g.R.CacheRam.state c.run_steps.new.ram) (g.I.Source.left c.run_steps.new.input) (g.O.Sink.held c.args.out.now) (g.O.Sink.held c.run_steps.new.out) None None booted ran (c.in-Ok-run_steps.ensures.settled x told booted.between)
+    c.run_steps.new.board.rom refl c.in-Ok-run_steps.ensures.setting c.in-Ok-run_steps.ensures.sound c.in-Ok-run_steps.ensures.ram c.in-Ok-run_steps.ensures.unused
 
-pub returns-in-Ok-run-clause-kept : goal.returns-in-Ok-run-clause-kept
-returns-in-Ok-run-clause-kept g c = kept_on (run_of c.args.image.now c.args.cache_bytes c.args.program.now c.args.layout.now c.args.log c.args.limit []) c.in-Ok.board.hart c.in-Ok.board.rom _ _ _ (c.in-Ok.ensures.booted c.args.limit []) c.in-Ok-run.ensures.kept
+pub returns-in-Ok-run_steps-clause-counted : goal.returns-in-Ok-run_steps-clause-counted
+returns-in-Ok-run_steps-clause-counted g c = λ x.
+    let k = run_of c.args.image.now c.args.cache_bytes c.args.program.now c.args.layout.now c.args.log c.args.telling c.args.limit x in
+    let booted = c.in-Ok-boot.ensures.booted c.args.telling c.args.limit x in
+    is_counted k
+    (carries_booted c.args.image.now (kept_by c.in-Ok-boot.board.rom) c.in-Ok-boot.board.hart (machine_of c.args.program.now c.args.layout.now c.args.log) booted.machine booted.between booted.fits) c.in-Ok-boot.ensures.word refl
 
-pub returns-in-Err-run-clause-kept : goal.returns-in-Err-run-clause-kept
-returns-in-Err-run-clause-kept g c = kept_on (run_of c.args.image.now c.args.cache_bytes c.args.program.now c.args.layout.now c.args.log c.args.limit []) c.in-Ok.board.hart c.in-Ok.board.rom _ _ _ (c.in-Ok.ensures.booted c.args.limit []) c.in-Err-run.ensures.kept
+pub returns-in-Ok-run_steps-clause-kept : goal.returns-in-Ok-run_steps-clause-kept
+returns-in-Ok-run_steps-clause-kept g c = kept_on (run_of c.args.image.now c.args.cache_bytes c.args.program.now c.args.layout.now c.args.log c.args.telling c.args.limit []) c.in-Ok-boot.board.hart c.in-Ok-boot.board.rom _ _ _ (c.in-Ok-boot.ensures.booted c.args.telling c.args.limit []) c.in-Ok-run_steps.ensures.kept
 
-pub returns-in-Ok-run-clause-causes : goal.returns-in-Ok-run-clause-causes
-returns-in-Ok-run-clause-causes g c =
-    causes_quiet c.run.new.self (g.R.CacheRam.state c.args.ram.now).faults (g.R.CacheRam.state c.boot.new.ram).faults (g.I.Source.faults c.args.input.now) (g.O.Sink.faults c.args.out.now) (g.E.Sink.faults c.args.err.now)
-    _ c.in-Ok-run.ensures.causes.quiet (c.in-Ok.ensures.booted c.args.limit []).ram.quiet
+pub returns-in-Err-run_steps-clause-kept : goal.returns-in-Err-run_steps-clause-kept
+returns-in-Err-run_steps-clause-kept g c = kept_on (run_of c.args.image.now c.args.cache_bytes c.args.program.now c.args.layout.now c.args.log c.args.telling c.args.limit []) c.in-Ok-boot.board.hart c.in-Ok-boot.board.rom _ _ _ (c.in-Ok-boot.ensures.booted c.args.telling c.args.limit []) c.in-Err-run_steps.ensures.kept
 
-pub returns-in-Err-run-clause-causes : goal.returns-in-Err-run-clause-causes
-returns-in-Err-run-clause-causes g c =
-    causes_run c.in-Err-run.fault c.stop_of.result (g.R.CacheRam.state c.args.ram.now).faults (g.R.CacheRam.state c.boot.new.ram).faults (g.I.Source.faults c.args.input.now) (g.O.Sink.faults c.args.out.now) (g.E.Sink.faults c.args.err.now)
-    _ c.stop_of.ensures (c.in-Ok.ensures.booted c.args.limit []).ram.quiet c.in-Err-run.ensures.causes
+pub returns-in-Ok-run_steps-clause-causes : goal.returns-in-Ok-run_steps-clause-causes
+returns-in-Ok-run_steps-clause-causes g c =
+    causes_quiet _ (g.R.CacheRam.state c.args.ram.now).faults (g.R.CacheRam.state c.boot.new.ram).faults (g.I.Source.faults c.args.input.now) (g.O.Sink.faults c.args.out.now) (g.E.Sink.faults c.args.err.now)
+    _ c.in-Ok-run_steps.ensures.causes.quiet (c.in-Ok-boot.ensures.booted c.args.telling c.args.limit []).ram.quiet
 
-pub returns-in-Err-run-clause-ram_failed : goal.returns-in-Err-run-clause-ram_failed
-returns-in-Err-run-clause-ram_failed g c = λ e x told.
-    let booted = c.in-Ok.ensures.booted c.args.limit x in
-    let carries = carries_booted c.args.image.now (kept_by c.in-Ok.board.rom) c.in-Ok.board.hart (machine_of c.args.program.now c.args.layout.now c.args.log) booted.machine booted.between booted.fits in
-    let all = all_steps (run_of c.args.image.now c.args.cache_bytes c.args.program.now c.args.layout.now c.args.log c.args.limit x) c.in-Ok.board.hart c.in-Ok.board.rom _ _ booted refl in
-    let broke = (subst (λ (n : ℕ). RamBrokeOff c.args.image.now n (flat_start c.args.program.now c.args.layout.now c.args.log x) c.in-Ok.board.hart c.run.new.self.hart (g.R.CacheRam.state c.boot.new.ram) (g.R.CacheRam.state c.run.new.ram) (g.I.Source.left c.run.new.input) (g.O.Sink.held c.args.out.now) (g.O.Sink.held c.run.new.out) (g.E.Sink.held c.args.err.now) (g.E.Sink.held c.run.new.err)) all
-    (c.in-Err-run.ensures.ram_broke (is_ram c.in-Err-run.fault (as_stop c.in-Err-run.fault c.stop_of.result stop.RamFault c.stop_of.ensures e)) x told (machine_of c.args.program.now c.args.layout.now c.args.log) carries booted.matches)) in
-    ram_failed (run_of c.args.image.now c.args.cache_bytes c.args.program.now c.args.layout.now c.args.log c.args.limit x) c.in-Ok.board.hart c.run.new.self.hart c.in-Ok.board.rom (g.R.CacheRam.state c.args.ram.now) (g.R.CacheRam.state c.boot.new.ram) (g.R.CacheRam.state c.run.new.ram) (g.I.Source.left c.run.new.input) (g.O.Sink.held c.args.out.now) (g.O.Sink.held c.run.new.out) (g.E.Sink.held c.args.err.now) (g.E.Sink.held c.run.new.err) (g.E.Sink.held c.args.err.now) (g.E.Sink.held c.run.new.err) booted broke false (to_nil _ _ _ broke.error)
+pub returns-in-Err-run_steps-clause-causes : goal.returns-in-Err-run_steps-clause-causes
+returns-in-Err-run_steps-clause-causes g c =
+    causes_run c.in-Err-run_steps.fault c.stop_of.result (g.R.CacheRam.state c.args.ram.now).faults (g.R.CacheRam.state c.boot.new.ram).faults (g.I.Source.faults c.args.input.now) (g.O.Sink.faults c.args.out.now) (g.E.Sink.faults c.args.err.now)
+    _ c.stop_of.ensures (c.in-Ok-boot.ensures.booted c.args.telling c.args.limit []).ram.quiet c.in-Err-run_steps.ensures.causes
 
-pub returns-in-Err-run-clause-step_failed : goal.returns-in-Err-run-clause-step_failed
-returns-in-Err-run-clause-step_failed g c = λ e x told.
-    let booted = c.in-Ok.ensures.booted c.args.limit x in
-    let carries = carries_booted c.args.image.now (kept_by c.in-Ok.board.rom) c.in-Ok.board.hart (machine_of c.args.program.now c.args.layout.now c.args.log) booted.machine booted.between booted.fits in
-    let all = all_steps (run_of c.args.image.now c.args.cache_bytes c.args.program.now c.args.layout.now c.args.log c.args.limit x) c.in-Ok.board.hart c.in-Ok.board.rom _ _ booted refl in
-    let broke = on_device Unit _ _ c.in-Err-run.fault (as_stops c.in-Err-run.fault c.stop_of.result stop.SourceFault stop.SinkFault c.stop_of.ensures e) c.in-Err-run.ensures.broke in
-    let broken = (subst (λ (n : ℕ). BrokeOff {T = Unit} (Err c.in-Err-run.fault) n (flat_start c.args.program.now c.args.layout.now c.args.log x) c.in-Ok.board.hart c.run.new.self.hart (g.I.Source.left c.run.new.input) (g.O.Sink.held c.args.out.now) (g.O.Sink.held c.run.new.out) (g.E.Sink.held c.args.err.now) (g.E.Sink.held c.run.new.err)) all
-    (broke x told (machine_of c.args.program.now c.args.layout.now c.args.log) carries booted.matches)) in
-    step_failed (run_of c.args.image.now c.args.cache_bytes c.args.program.now c.args.layout.now c.args.log c.args.limit x) c.in-Ok.board.hart c.run.new.self.hart (Err c.in-Err-run.fault) (Err c.stop_of.result) (g.I.Source.left c.run.new.input) (g.O.Sink.held c.args.out.now) (g.O.Sink.held c.run.new.out) (g.E.Sink.held c.args.err.now) (g.E.Sink.held c.run.new.err) (g.E.Sink.held c.args.err.now) (g.E.Sink.held c.run.new.err)
-    (λ s. is_source c.in-Err-run.fault (as_stop c.in-Err-run.fault c.stop_of.result stop.SourceFault c.stop_of.ensures s))
-    broken broken.error_front broken.error (λ s. (broken.unwritten s).1)
+pub returns-in-Err-run_steps-clause-memory : goal.returns-in-Err-run_steps-clause-memory
+returns-in-Err-run_steps-clause-memory g c = λ e. absurd (never_memory c.in-Err-run_steps.fault (as_stop c.in-Err-run_steps.fault c.stop_of.result stop.Memory c.stop_of.ensures e))
+
+pub returns-in-Err-run_steps-clause-ram_failed : goal.returns-in-Err-run_steps-clause-ram_failed
+returns-in-Err-run_steps-clause-ram_failed g c = λ e x told.
+    let k = run_of c.args.image.now c.args.cache_bytes c.args.program.now c.args.layout.now c.args.log c.args.telling c.args.limit x in
+    let booted = c.in-Ok-boot.ensures.booted c.args.telling c.args.limit x in
+    let carries = carries_booted c.args.image.now (kept_by c.in-Ok-boot.board.rom) c.in-Ok-boot.board.hart (machine_of c.args.program.now c.args.layout.now c.args.log) booted.machine booted.between booted.fits in
+    let broke = c.in-Err-run_steps.ensures.ram_broke (is_ram c.in-Err-run_steps.fault (as_stop c.in-Err-run_steps.fault c.stop_of.result stop.RamFault c.stop_of.ensures e)) x told (machine_of c.args.program.now c.args.layout.now c.args.log) carries booted.matches in
+    ram_failed k c.in-Ok-boot.board.hart c.run_steps.new.board.hart c.in-Ok-boot.board.rom (g.R.CacheRam.state c.args.ram.now) (g.R.CacheRam.state c.boot.new.ram) (g.R.CacheRam.state c.run_steps.new.ram) (g.I.Source.left c.run_steps.new.input) (g.O.Sink.held c.args.out.now) (g.O.Sink.held c.run_steps.new.out) (g.E.Sink.held c.args.err.now) (g.E.Sink.held c.run_steps.new.err) None None booted broke.broke broke.begun broke.error
+
+pub returns-in-Err-run_steps-clause-step_failed : goal.returns-in-Err-run_steps-clause-step_failed
+returns-in-Err-run_steps-clause-step_failed g c = λ e x told.
+    let k = run_of c.args.image.now c.args.cache_bytes c.args.program.now c.args.layout.now c.args.log c.args.telling c.args.limit x in
+    let booted = c.in-Ok-boot.ensures.booted c.args.telling c.args.limit x in
+    let carries = carries_booted c.args.image.now (kept_by c.in-Ok-boot.board.rom) c.in-Ok-boot.board.hart (machine_of c.args.program.now c.args.layout.now c.args.log) booted.machine booted.between booted.fits in
+    let broken = on_device (Option (List ℕ)) _ _ c.in-Err-run_steps.fault (as_stops c.in-Err-run_steps.fault c.stop_of.result stop.SourceFault stop.SinkFault c.stop_of.ensures e) c.in-Err-run_steps.ensures.broke x told (machine_of c.args.program.now c.args.layout.now c.args.log) carries booted.matches in
+    step_failed k c.in-Ok-boot.board.hart c.run_steps.new.board.hart (Err c.in-Err-run_steps.fault) (Err c.stop_of.result) (g.I.Source.left c.run_steps.new.input) (g.O.Sink.held c.args.out.now) (g.O.Sink.held c.run_steps.new.out) (g.E.Sink.held c.args.err.now) (g.E.Sink.held c.run_steps.new.err) None None
+    (λ s. is_source c.in-Err-run_steps.fault (as_stop c.in-Err-run_steps.fault c.stop_of.result stop.SourceFault c.stop_of.ensures s)) broken.broke broken.front broken.error broken.unwritten

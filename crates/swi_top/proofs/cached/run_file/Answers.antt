@@ -35,10 +35,10 @@ returns-in_default g c =
       ram = g.R.CacheRam.state c.args.ram.now;
       faults = record d.faults { input = g.I.Source.faults c.args.input.now; out = g.O.Sink.faults c.args.out.now; err = g.E.Sink.faults c.args.err.now; ram = (g.R.CacheRam.state c.args.ram.now).faults };
     } in
-    let after : Devices = ran_all before (g.I.Source.left c.run_image.new.input) (g.O.Sink.held c.run_image.new.out) (g.E.Sink.held c.run_image.new.err) (g.R.CacheRam.state c.run_image.new.ram)
-    (g.I.Source.faults c.run_image.new.input) (g.O.Sink.faults c.run_image.new.out) (g.E.Sink.faults c.run_image.new.err) in
-    by_cut c.args.cache.now c.args.options.now c.args.file.now v c.in_ok-prepared.prepared.layout before after c.run_image.result c.requires.within c.in-Ok.ensures.ok prepared.layout none fits cut
-    (subst (λ (p : ProgramData). RunsOnCache c.args.options.now c.args.cache.now v p c.in_ok-prepared.prepared.layout before after c.run_image.result) prepared.program (c.run_image.ensures before))
+    let after : Devices = ran_all before (g.I.Source.left c.run_program.new.input) (g.O.Sink.held c.run_program.new.out) (g.E.Sink.held c.run_program.new.err) (g.R.CacheRam.state c.run_program.new.ram)
+    (g.I.Source.faults c.run_program.new.input) (g.O.Sink.faults c.run_program.new.out) (g.E.Sink.faults c.run_program.new.err) in
+    by_cut c.args.cache.now c.args.options.now c.args.file.now v c.in_ok-prepared.prepared.layout before after c.run_program.result c.requires.within c.in-Ok.ensures.ok prepared.layout none fits cut
+    (subst (λ (p : ProgramData). RunsOnCache c.args.options.now c.args.cache.now v p c.in_ok-prepared.prepared.layout before after c.run_program.result) prepared.program (c.run_program.ensures before))
 
 pub own_image-requires : goal.own_image-requires
 own_image-requires g c =
@@ -67,8 +67,8 @@ returns g c =
       ram = g.R.CacheRam.state c.args.ram.now;
       faults = record d.faults { input = g.I.Source.faults c.args.input.now; out = g.O.Sink.faults c.args.out.now; err = g.E.Sink.faults c.args.err.now; ram = (g.R.CacheRam.state c.args.ram.now).faults };
     } in
-    let after : Devices = ran_all before (g.I.Source.left c.run_image-2.new.input) (g.O.Sink.held c.run_image-2.new.out) (g.E.Sink.held c.run_image-2.new.err) (g.R.CacheRam.state c.run_image-2.new.ram)
-    (g.I.Source.faults c.run_image-2.new.input) (g.O.Sink.faults c.run_image-2.new.out) (g.E.Sink.faults c.run_image-2.new.err) in
-    by_image c.args.cache.now c.args.options.now c.args.file.now c.in-Some.bytes.now v c.in_ok-prepared.prepared.layout before after c.run_image-2.result c.requires.within c.in-Ok.ensures.ok prepared.layout has passes
+    let after : Devices = ran_all before (g.I.Source.left c.run_program-2.new.input) (g.O.Sink.held c.run_program-2.new.out) (g.E.Sink.held c.run_program-2.new.err) (g.R.CacheRam.state c.run_program-2.new.ram)
+    (g.I.Source.faults c.run_program-2.new.input) (g.O.Sink.faults c.run_program-2.new.out) (g.E.Sink.faults c.run_program-2.new.err) in
+    by_image c.args.cache.now c.args.options.now c.args.file.now c.in-Some.bytes.now v c.in_ok-prepared.prepared.layout before after c.run_program-2.result c.requires.within c.in-Ok.ensures.ok prepared.layout has passes
     c.in-Ok-own_image.ensures.view
-    (subst (λ (p : ProgramData). RunsOnCache c.args.options.now c.args.cache.now v p c.in_ok-prepared.prepared.layout before after c.run_image-2.result) prepared.program (c.run_image-2.ensures before))
+    (subst (λ (p : ProgramData). RunsOnCache c.args.options.now c.args.cache.now v p c.in_ok-prepared.prepared.layout before after c.run_program-2.result) prepared.program (c.run_program-2.ensures before))

@@ -12,11 +12,12 @@ use Rattle.swi_board.specs.Hart.{is_between}
 use Rattle.swi_board.specs.Faults.{Faults}
 use Rattle.swi_board.specs.Runs.{most}
 use Rattle.swi_board.proofs.Running.{Running}
-use Rattle.swi_cached.proofs.Telling.{Tells}
-use Rattle.swi_cached.proofs.traced.run_told.Given as goal
+use Rattle.swi_cached.specs.Told.{is_each}
+use Rattle.swi_cached.proofs.Tells.{Tells}
+use Rattle.swi_cached.proofs.told.run_steps.Given as goal
 
-abbrev pub invariant-loop-board : goal.invariant-loop-board
-invariant-loop-board g l = record {
+abbrev pub invariant-loop-telling : goal.invariant-loop-telling
+invariant-loop-telling g l = record {
   running : Running (fifo (setting_of l.fn.board.rom)) l.image l.limit (span_of (setting_of l.fn.board.rom))
       l.fn.board.hart (kept_by l.fn.board.rom) (g.R.CacheRam.state l.fn.ram) (g.I.Source.left l.fn.input) (g.O.Sink.held l.fn.out) None
       l.board.hart (kept_by l.board.rom) (g.R.CacheRam.state l.ram) (g.I.Source.left l.input) (g.O.Sink.held l.out) None;
@@ -29,8 +30,8 @@ invariant-loop-board g l = record {
       (record { ram = (g.R.CacheRam.state l.fn.ram).faults; input = g.I.Source.faults l.fn.input; out = g.O.Sink.faults l.fn.out; err = g.E.Sink.faults l.fn.err });
   lines : (l.lines ≡ l.board.hart.machine.steps) ⊎ ((l.lines ≡ l.board.hart.machine.steps + 1) × ((l.board.hart.machine.steps < l.limit) ⊎ (is_some l.board.hart.machine.ending ≡ true)));
   tells : (left : List ℕ) → g.I.Source.left l.fn.input ≡ Some left → (f : Machine) → Carries (fetched f.bus) l.image → Matches l.image (kept_by l.fn.board.rom) f l.fn.board.hart.machine l.fn.board.hart.control →
-      Tells l.board.hart.machine.ending l.each l.limit (started f left) l.board.hart.machine.steps l.lines (g.E.Sink.held l.fn.err) (g.E.Sink.held l.err) l.history;
+      Tells l.board.hart.machine.ending (is_each l.telling) l.limit (started f left) l.board.hart.machine.steps l.lines (g.E.Sink.held l.fn.err) (g.E.Sink.held l.err) l.last;
 }
 
-abbrev pub decreases-loop-board : goal.decreases-loop-board
-decreases-loop-board g l = 3 * l.limit + 5 - most l.image l.board.hart.machine l.board.hart.control
+abbrev pub decreases-loop-telling : goal.decreases-loop-telling
+decreases-loop-telling g l = 3 * l.limit + 5 - most l.image l.board.hart.machine l.board.hart.control

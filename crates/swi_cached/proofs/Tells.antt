@@ -1,13 +1,13 @@
 -- What is told of a run, step by step.
-use Rattle.std.proofs.Common.{◌≡◌, ◌⊎◌, ℕ, zero, suc, ◌+◌, ◌-◌, ◌<◌, ◌≤◌, ◌^◌, Bool, true, false, List, [], ◌∷◌, ◌++◌, length, take, Option, Some, None, is_some, if◌then◌else◌, refl, sym, ap, subst, ◌∙◌, inl, inr, arith, append-nil, append_assoc}
+use Rattle.std.proofs.Common.{◌≡◌, ◌⊎◌, ℕ, zero, suc, ◌+◌, ◌-◌, ◌<◌, ◌≤◌, Bool, true, false, List, [], ◌∷◌, ◌++◌, Option, Some, None, is_some, if◌then◌else◌, refl, sym, ap, subst, ◌∙◌, inl, inr, arith, append-nil, append_assoc}
 use Rattle.std.proofs.lemmas.Bool.{false≢true, cases_Bool}
 use Rattle.std.specs.Io.KnownBytes.{Appends}
 use Rattle.swi_memory.specs.Bus.{AreaData, fetched}
-use Rattle.swi_outside.specs.Laws.{Appends-append, Appends-none}
+use Rattle.swi_outside.specs.Laws.{Appends-append}
 use Rattle.swi_calls.specs.declared.end.End.{End}
 use Rattle.swi_calls.specs.declared.machine.Machine.{Machine}
 use Rattle.swi_calls.specs.State.{FlatState}
-use Rattle.swi_calls.specs.Flat.{Made, quiet}
+use Rattle.swi_calls.specs.Flat.{quiet}
 use Rattle.swi_calls.specs.Held.{held_made, held_step, held_run}
 use Rattle.swi_calls.specs.Laws.{held_run_none, held_run_over, held_run_more}
 use Rattle.swi_image.specs.Format.{ImageData}
@@ -21,7 +21,7 @@ use Rattle.swi_board.specs.Ran.{Followed}
 use Rattle.swi_board.proofs.Held.{same_steps, held_steps, run_snoc}
 use Rattle.swi_trace.specs.History.{IsLastOf}
 use Rattle.swi_trace.specs.Text.{trace_line_of}
-use Rattle.swi_cached.specs.Told.{addresses, error_by, next_error, of_step, of_steps, step_line, told_line}
+use Rattle.swi_cached.specs.Told.{addresses, error_by, next_error, of_step, of_steps, told_line}
 
 -- ---- what is listed of steps
 

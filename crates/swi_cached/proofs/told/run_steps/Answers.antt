@@ -1,0 +1,205 @@
+use Rattle.std.proofs.Common.{◌≡◌, ◌-◌, ◌<◌, ◌≤◌, ℕ, List, Option, None, Err, is_some, true, sym, ◌∙◌, refl, subst, ap, inl, inr, arith}
+use Rattle.swi_outside.specs.CacheRam.{KeepsBeyond}
+use Rattle.swi_calls.specs.Flat.{started}
+use Rattle.swi_calls.specs.State.{FlatState}
+use Rattle.swi_calls.specs.declared.end.End.{End}
+use Rattle.swi_rom.specs.Fifo.{fifo, extent_of, fifo_third, fifo_grows}
+use Rattle.swi_rom.specs.Record.{writes}
+use Rattle.swi_rom.specs.Served.{SameFrom}
+use Rattle.swi_rom.specs.Slots.{kept_by, setting_of, span_of}
+use Rattle.swi_board.specs.Hart.{HartData, next_made}
+use Rattle.swi_board.specs.Leaving.{moved, transfer_at, RamStepped}
+use Rattle.swi_board.specs.Ran.{Followed}
+use Rattle.swi_cached.specs.Traced.{ToldRamBroke}
+use Rattle.swi_board.proofs.Held.{same_steps}
+use Rattle.swi_board.proofs.Running.{started_run, runs_on, falls, kept_both, count_small, calls_small}
+use Rattle.swi_board.proofs.Grown.{moved_rises}
+use Rattle.swi_board.proofs.Settling.{settles_on}
+use Rattle.swi_board.specs.declared.fault.BoardFault.TheVariants.{RamFault, SourceFault}
+use Rattle.swi_board.proofs.Causing.{causes_none, causes_from}
+use Rattle.swi_cached.proofs.Causing.{causes_as, fault_as}
+use Rattle.swi_cached.proofs.Quiet.{first_empty, nothing_told, quiet_broke, quiet_ram, quiet_run}
+use Rattle.swi_cached.specs.Told.{is_each, told_line}
+use Rattle.swi_cached.proofs.Tells.{Tells, same_at, line_is, begins, goes_on, tells_as}
+use Rattle.swi_cached.proofs.Stopping.{told_device, told_line_broke, told_ram, told_run, with_device, to_device, ram_off, all_told, unknown_made, causes_line, quiet_on, lines_on, tells_first, now_at}
+use Rattle.swi_cached.proofs.told.run_steps.Goals as goal
+
+pub loop-telling-init : goal.loop-telling-init
+loop-telling-init g c = record {
+  running = started_run (fifo (setting_of c.args.board.now.rom)) c.args.image.now c.args.limit (span_of (setting_of c.args.board.now.rom)) c.args.board.now.hart (kept_by c.args.board.now.rom) (g.R.CacheRam.state c.args.ram.now) (g.I.Source.left c.args.input.now) (g.O.Sink.held c.args.out.now) None c.requires.fits (omega (arith, c.requires.first));
+  settles = λ left told between going. inr between;
+  setting = refl;
+  sound = c.requires.sound;
+  unused = λ i le. refl;
+  quiet = refl;
+  lines = inl (sym c.requires.first);
+  tells = λ left told f image same. tells_first (is_each c.args.telling) c.args.limit (started f left) c.args.board.now.hart (g.E.Sink.held c.args.err.now) c.in-Some.last c.requires.running c.requires.first (first_empty c.args.telling c.in-Some.last (sym c.in-Some.is ∙ c.requires.empty));
+}
+
+pub step-requires-clause-running : goal.step-requires-clause-running
+step-requires-clause-running g c = sym c.ending.ensures ∙ c.in-None.is
+
+pub step-requires-clause-count : goal.step-requires-clause-count
+step-requires-clause-count g c =
+    let more : c.loop-telling.board.hart.machine.steps < c.args.limit = omega (arith, c.loop-telling-test.true, c.steps.ensures) in
+    let running : c.loop-telling.board.hart.machine.ending ≡ None = sym c.ending.ensures ∙ c.in-None.is in
+    count_small (fifo (setting_of c.args.board.now.rom)) c.args.image.now c.args.limit (span_of (setting_of c.args.board.now.rom)) c.args.board.now.hart (kept_by c.args.board.now.rom) (g.R.CacheRam.state c.args.ram.now) (g.I.Source.left c.args.input.now) (g.O.Sink.held c.args.out.now) None c.loop-telling.board.hart (kept_by c.loop-telling.board.rom) (g.R.CacheRam.state c.loop-telling.ram) (g.I.Source.left c.loop-telling.input) (g.O.Sink.held c.loop-telling.out) None c.loop-telling.invariant.running more running c.in-Ok-tell.ensures.word c.requires.limit c.requires.count
+
+pub step-requires-clause-services : goal.step-requires-clause-services
+step-requires-clause-services g c =
+    let more : c.loop-telling.board.hart.machine.steps < c.args.limit = omega (arith, c.loop-telling-test.true, c.steps.ensures) in
+    let running : c.loop-telling.board.hart.machine.ending ≡ None = sym c.ending.ensures ∙ c.in-None.is in
+    calls_small (fifo (setting_of c.args.board.now.rom)) c.args.image.now c.args.limit (span_of (setting_of c.args.board.now.rom)) c.args.board.now.hart (kept_by c.args.board.now.rom) (g.R.CacheRam.state c.args.ram.now) (g.I.Source.left c.args.input.now) (g.O.Sink.held c.args.out.now) None c.loop-telling.board.hart (kept_by c.loop-telling.board.rom) (g.R.CacheRam.state c.loop-telling.ram) (g.I.Source.left c.loop-telling.input) (g.O.Sink.held c.loop-telling.out) None c.loop-telling.invariant.running more running c.in-Ok-tell.ensures.word c.requires.limit c.requires.services
+
+pub loop-telling-preserved : goal.loop-telling-preserved
+loop-telling-preserved g c =
+    let s = c.in-Ok-step.ensures in
+    let more : c.loop-telling.board.hart.machine.steps < c.args.limit = omega (arith, c.loop-telling-test.true, c.steps.ensures) in
+    let running : c.loop-telling.board.hart.machine.ending ≡ None = sym c.ending.ensures ∙ c.in-None.is in
+    let moves = subst (λ (k : List ℕ). kept_by c.step.new.self.rom ≡ moved (fifo k) (kept_by c.loop-telling.board.rom) c.args.image.now (transfer_at c.args.image.now c.loop-telling.board.hart.machine c.loop-telling.board.hart.control)) c.loop-telling.invariant.setting s.policy in
+    let stepped = subst (λ (k : List ℕ). RamStepped (span_of k) (writes (kept_by c.step.new.self.rom) - writes (kept_by c.loop-telling.board.rom)) c.loop-telling.board.hart.control (g.R.CacheRam.state c.loop-telling.ram) (g.R.CacheRam.state c.step.new.ram)) c.loop-telling.invariant.setting s.ram in
+    let rises = moved_rises (λ k. writes k) (fifo (setting_of c.args.board.now.rom)) (λ r v t. fifo_third (setting_of c.args.board.now.rom) r v t) (kept_by c.loop-telling.board.rom) (kept_by c.step.new.self.rom) c.args.image.now (transfer_at c.args.image.now c.loop-telling.board.hart.machine c.loop-telling.board.hart.control) moves in
+    let grows = moved_rises (λ k. extent_of (setting_of c.args.board.now.rom) k) (fifo (setting_of c.args.board.now.rom)) (λ r v t. fifo_grows (setting_of c.args.board.now.rom) r v t) (kept_by c.loop-telling.board.rom) (kept_by c.step.new.self.rom) c.args.image.now (transfer_at c.args.image.now c.loop-telling.board.hart.machine c.loop-telling.board.hart.control) moves in
+    let unused = subst (λ (k : List ℕ). SameFrom (extent_of k (kept_by c.step.new.self.rom)) (g.R.CacheRam.state c.loop-telling.ram).words (g.R.CacheRam.state c.step.new.ram).words) c.loop-telling.invariant.setting s.unused in
+    let made = s.made c.loop-telling.invariant.sound in
+    let grown = s.grown c.loop-telling.invariant.sound in
+    record {
+      running = runs_on (fifo (setting_of c.args.board.now.rom)) c.args.image.now c.args.limit (span_of (setting_of c.args.board.now.rom)) c.args.board.now.hart (kept_by c.args.board.now.rom) (g.R.CacheRam.state c.args.ram.now) (g.I.Source.left c.args.input.now) (g.O.Sink.held c.args.out.now) None
+          c.loop-telling.board.hart (kept_by c.loop-telling.board.rom) (g.R.CacheRam.state c.loop-telling.ram) (g.I.Source.left c.loop-telling.input) (g.O.Sink.held c.loop-telling.out) None c.loop-telling.invariant.running more running c.in-Ok-tell.ensures.word c.requires.limit
+          c.step.new.self.hart (kept_by c.step.new.self.rom) (g.R.CacheRam.state c.step.new.ram) (g.I.Source.left c.step.new.input) (g.O.Sink.held c.step.new.out) None stepped rises (s.fits c.loop-telling.invariant.sound) grown moves
+          (λ l told. unknown_made c.args.image.now (kept_by c.step.new.self.rom) c.loop-telling.board.hart c.step.new.self.hart l _ _ _ _ _ (made l told));
+      settles = λ left told between going.
+          let goes = c.loop-telling.invariant.running.goes left told c.requires.fits.flat c.requires.fits.image c.requires.fits.matches in
+          settles_on c.args.image.now (kept_by c.step.new.self.rom) c.args.limit c.loop-telling.board.hart c.step.new.self.hart goes.now.input _ _ _ _ _ more (made goes.now.input goes.left_is) going;
+      setting = s.setting ∙ c.loop-telling.invariant.setting;
+      sound = s.sound c.loop-telling.invariant.sound;
+      unused = λ i le. unused i le ∙ c.loop-telling.invariant.unused i (omega (arith, le, grows));
+      quiet = quiet_on _ _ _ _ _ _ _ s.causes.quiet c.in-Ok-tell.ensures.cause.quiet c.loop-telling.invariant.quiet;
+      lines = lines_on c.args.image.now (kept_by c.loop-telling.board.rom) (kept_by c.step.new.self.rom) c.loop-telling.board.hart c.step.new.self.hart c.args.limit c.in-Ok-tell.told more c.in-Ok-tell.ensures.count grown;
+      tells = λ left told f image same.
+          let goes = c.loop-telling.invariant.running.goes left told f image same in
+          let at = same_at c.args.image.now (kept_by c.loop-telling.board.rom) goes.now.machine c.loop-telling.board.hart.machine c.loop-telling.board.hart.control running goes.matches in
+          let here = now_at c.args.board.now.hart c.loop-telling.board.hart goes.now (started f left) (goes.now_is running) c.requires.first in
+          let line = line_is (is_each c.args.telling) c.loop-telling.board.hart.machine goes.now.machine at.0 at.1 ∙ ap (λ (q : FlatState). told_line (is_each c.args.telling) q.machine) here in
+          let tells = tells_as c.loop-telling.board.hart.machine.ending None (is_each c.args.telling) c.args.limit (started f left) c.loop-telling.board.hart.machine.steps c.loop-telling.lines (g.E.Sink.held c.args.err.now) (g.E.Sink.held c.loop-telling.err) c.loop-telling.last running (c.loop-telling.invariant.tells left told f image same) in
+          let begun = begins (is_each c.args.telling) c.args.limit (started f left) c.loop-telling.board.hart.machine.steps c.loop-telling.lines c.loop-telling.board.hart.machine (g.E.Sink.held c.args.err.now) (g.E.Sink.held c.loop-telling.err) (g.E.Sink.held c.tell.new.err) c.loop-telling.last c.tell.new.history
+          line (at.0 ∙ ap (λ (q : FlatState). q.machine.pc) here) tells c.in-Ok-tell.ensures.line c.in-Ok-tell.ensures.noted c.in-Ok-tell.ensures.told in
+          let steps = same_steps c.args.image.now (kept_by c.loop-telling.board.rom) goes.now.machine c.loop-telling.board.hart.machine c.loop-telling.board.hart.control goes.matches in
+          let followed = subst (λ (q : FlatState). Followed c.args.image.now (kept_by c.step.new.self.rom) c.step.new.self.hart (next_made c.args.image.now c.loop-telling.board.hart.machine c.loop-telling.board.hart.control q.machine q.input)
+          (g.I.Source.left c.step.new.input) (g.O.Sink.held c.loop-telling.out) (g.O.Sink.held c.step.new.out) (g.E.Sink.held c.tell.new.err) (g.E.Sink.held c.step.new.err)) here
+          (s.follows c.loop-telling.invariant.sound goes.now.input goes.left_is goes.now.machine goes.image goes.matches) in
+          subst (λ (n : ℕ). Tells c.step.new.self.hart.machine.ending (is_each c.args.telling) c.args.limit (started f left) c.step.new.self.hart.machine.steps n (g.E.Sink.held c.args.err.now) (g.E.Sink.held c.step.new.err) c.tell.new.history) (sym c.in-Ok-tell.ensures.count)
+          (goes_on (is_each c.args.telling) c.args.limit (started f left) c.loop-telling.board.hart.machine.steps (g.E.Sink.held c.args.err.now) (g.E.Sink.held c.tell.new.err) (g.E.Sink.held c.step.new.err) c.tell.new.history begun more
+          (ap (λ (q : FlatState). q.machine.ending) (sym here) ∙ sym steps.1 ∙ running) c.args.image.now (kept_by c.step.new.self.rom) c.loop-telling.board.hart c.step.new.self.hart _ _ _
+          (ap (λ (q : FlatState). q.machine.steps) (sym here) ∙ sym steps.0) followed);
+    }
+
+pub loop-telling-smaller : goal.loop-telling-smaller
+loop-telling-smaller g c =
+    let more : c.loop-telling.board.hart.machine.steps < c.args.limit = omega (arith, c.loop-telling-test.true, c.steps.ensures) in
+    let running : c.loop-telling.board.hart.machine.ending ≡ None = sym c.ending.ensures ∙ c.in-None.is in
+    falls c.args.image.now c.args.limit _ _ c.loop-telling.board.hart c.step.new.self.hart more running (c.in-Ok-step.ensures.grown c.loop-telling.invariant.sound)
+
+pub returns-in-Err-tell-clause-broke : goal.returns-in-Err-tell-clause-broke
+returns-in-Err-tell-clause-broke g c = λ left told f image same.
+    let more : c.loop-telling.board.hart.machine.steps < c.args.limit = omega (arith, c.loop-telling-test.true, c.steps.ensures) in
+    let running : c.loop-telling.board.hart.machine.ending ≡ None = sym c.ending.ensures ∙ c.in-None.is in
+    let goes = c.loop-telling.invariant.running.goes left told f image same in
+    let at = same_at c.args.image.now (kept_by c.loop-telling.board.rom) goes.now.machine c.loop-telling.board.hart.machine c.loop-telling.board.hart.control running goes.matches in
+    let here = now_at c.args.board.now.hart c.loop-telling.board.hart goes.now (started f left) (goes.now_is running) c.requires.first in
+    let line = line_is (is_each c.args.telling) c.loop-telling.board.hart.machine goes.now.machine at.0 at.1 ∙ ap (λ (q : FlatState). told_line (is_each c.args.telling) q.machine) here in
+    let tells = tells_as c.loop-telling.board.hart.machine.ending None (is_each c.args.telling) c.args.limit (started f left) c.loop-telling.board.hart.machine.steps c.loop-telling.lines (g.E.Sink.held c.args.err.now) (g.E.Sink.held c.loop-telling.err) c.loop-telling.last running (c.loop-telling.invariant.tells left told f image same) in
+    told_line_broke (is_each c.args.telling) (fifo (setting_of c.args.board.now.rom)) c.args.image.now c.args.limit (started f left) c.args.board.now.hart c.loop-telling.board.hart (kept_by c.args.board.now.rom) (kept_by c.loop-telling.board.rom) _ _ _ (g.E.Sink.held c.args.err.now) (g.E.Sink.held c.loop-telling.err) c.loop-telling.last goes more running c.requires.first refl
+    c.loop-telling.lines (g.E.Sink.held c.tell.new.err) c.in-Err-tell.ensures.first tells line c.in-Err-tell.ensures.front
+
+pub returns-in-Err-tell-clause-causes : goal.returns-in-Err-tell-clause-causes
+returns-in-Err-tell-clause-causes g c = causes_line _ _ _ _ _ _ c.loop-telling.invariant.quiet c.in-Err-tell.ensures.cause.later c.in-Err-tell.ensures.cause.failed
+
+pub returns-in-Err-step-clause-kept : goal.returns-in-Err-step-clause-kept
+returns-in-Err-step-clause-kept g c =
+    kept_both _ _ _ _ c.loop-telling.invariant.running.ram_ran.kept
+    (subst (λ (k : List ℕ). KeepsBeyond (span_of k) (g.R.CacheRam.state c.loop-telling.ram) (g.R.CacheRam.state c.step.new.ram)) c.loop-telling.invariant.setting c.in-Err-step.ensures.kept)
+
+pub returns-in-Err-step-clause-causes : goal.returns-in-Err-step-clause-causes
+returns-in-Err-step-clause-causes g c =
+    causes_as {S = Unit} {T = Option (List ℕ)} c.in-Err-step.fault _ _ (causes_from _ _ _ _ (quiet_on _ _ _ _ _ _ _ refl c.in-Ok-tell.ensures.cause.quiet c.loop-telling.invariant.quiet) c.in-Err-step.ensures.causes)
+
+pub returns-in-Some-ending-clause-ran : goal.returns-in-Some-ending-clause-ran
+returns-in-Some-ending-clause-ran g c = λ left told f image same.
+    let ended : is_some c.loop-telling.board.hart.machine.ending ≡ true = ap (λ (e : Option End). is_some e) (sym c.ending.ensures ∙ c.in-Some-ending.is) in
+    told_run c.args.telling c.in-Some.last (sym c.in-Some.is ∙ c.requires.empty) (fifo (setting_of c.args.board.now.rom)) c.args.image.now (kept_by c.args.board.now.rom) c.args.limit (started f left) c.args.board.now.hart c.loop-telling.board.hart (kept_by c.loop-telling.board.rom) _ _ _ (g.E.Sink.held c.args.err.now) (g.E.Sink.held c.loop-telling.err) c.loop-telling.last
+    (c.loop-telling.invariant.running.goes left told f image same) c.requires.first refl (inr ended)
+    (all_told c.loop-telling.board.hart.machine.ending (is_each c.args.telling) c.args.limit c.loop-telling.board.hart.machine.steps c.loop-telling.lines (started f left) (g.E.Sink.held c.args.err.now) (g.E.Sink.held c.loop-telling.err) c.loop-telling.last (inr ended) c.loop-telling.invariant.lines (c.loop-telling.invariant.tells left told f image same))
+
+pub returns-clause-ran : goal.returns-clause-ran
+returns-clause-ran g c = λ left told f image same.
+    let least : c.args.limit ≤ c.loop-telling.board.hart.machine.steps = omega (arith, c.loop-telling-test.false, c.steps.ensures) in
+    let most = c.loop-telling.invariant.running.steps in
+    told_run c.args.telling c.in-Some.last (sym c.in-Some.is ∙ c.requires.empty) (fifo (setting_of c.args.board.now.rom)) c.args.image.now (kept_by c.args.board.now.rom) c.args.limit (started f left) c.args.board.now.hart c.loop-telling.board.hart (kept_by c.loop-telling.board.rom) _ _ _ (g.E.Sink.held c.args.err.now) (g.E.Sink.held c.loop-telling.err) c.loop-telling.last
+    (c.loop-telling.invariant.running.goes left told f image same) c.requires.first refl (inl least)
+    (all_told c.loop-telling.board.hart.machine.ending (is_each c.args.telling) c.args.limit c.loop-telling.board.hart.machine.steps c.loop-telling.lines (started f left) (g.E.Sink.held c.args.err.now) (g.E.Sink.held c.loop-telling.err) c.loop-telling.last (inl (omega (arith, least, most))) c.loop-telling.invariant.lines (c.loop-telling.invariant.tells left told f image same))
+
+pub returns-in-Err-step-clause-broke : goal.returns-in-Err-step-clause-broke
+returns-in-Err-step-clause-broke g c =
+    let s = c.in-Err-step.ensures in
+    let more : c.loop-telling.board.hart.machine.steps < c.args.limit = omega (arith, c.loop-telling-test.true, c.steps.ensures) in
+    let running : c.loop-telling.board.hart.machine.ending ≡ None = sym c.ending.ensures ∙ c.in-None.is in
+    with_device Unit (Option (List ℕ)) c.in-Err-step.fault _ _ (s.broke c.loop-telling.invariant.sound) (λ step out. λ left told f image same.
+    let goes = c.loop-telling.invariant.running.goes left told f image same in
+    let at = same_at c.args.image.now (kept_by c.loop-telling.board.rom) goes.now.machine c.loop-telling.board.hart.machine c.loop-telling.board.hart.control running goes.matches in
+    let here = now_at c.args.board.now.hart c.loop-telling.board.hart goes.now (started f left) (goes.now_is running) c.requires.first in
+    let line = line_is (is_each c.args.telling) c.loop-telling.board.hart.machine goes.now.machine at.0 at.1 ∙ ap (λ (q : FlatState). told_line (is_each c.args.telling) q.machine) here in
+    let tells = tells_as c.loop-telling.board.hart.machine.ending None (is_each c.args.telling) c.args.limit (started f left) c.loop-telling.board.hart.machine.steps c.loop-telling.lines (g.E.Sink.held c.args.err.now) (g.E.Sink.held c.loop-telling.err) c.loop-telling.last running (c.loop-telling.invariant.tells left told f image same) in
+    let begun = begins (is_each c.args.telling) c.args.limit (started f left) c.loop-telling.board.hart.machine.steps c.loop-telling.lines c.loop-telling.board.hart.machine (g.E.Sink.held c.args.err.now) (g.E.Sink.held c.loop-telling.err) (g.E.Sink.held c.tell.new.err) c.loop-telling.last c.tell.new.history
+    line (at.0 ∙ ap (λ (q : FlatState). q.machine.pc) here) tells c.in-Ok-tell.ensures.line c.in-Ok-tell.ensures.noted c.in-Ok-tell.ensures.told in
+    let steps = same_steps c.args.image.now (kept_by c.loop-telling.board.rom) goes.now.machine c.loop-telling.board.hart.machine c.loop-telling.board.hart.control goes.matches in
+    out _ (told_device (is_each c.args.telling) (fifo (setting_of c.args.board.now.rom)) c.args.image.now c.args.limit (started f left) c.args.board.now.hart c.loop-telling.board.hart (kept_by c.args.board.now.rom) (kept_by c.loop-telling.board.rom) _ _ _ (g.E.Sink.held c.args.err.now) (g.E.Sink.held c.tell.new.err) c.tell.new.history goes more running c.requires.first refl
+    c.in-Ok-tell.ensures.word begun c.step.new.self.hart c.step.new.self.hart.machine.bus _ _ _ s.stopped {T = Option (List ℕ)} (Err c.in-Err-step.fault) (to_device {T = Option (List ℕ)} (Err c.in-Err-step.fault) _ (step goes.now.input goes.left_is)) (λ e. s.unwritten (fault_as {S = Option (List ℕ)} {T = Unit} c.in-Err-step.fault SourceFault e))))
+
+pub returns-in-Err-step-clause-ram_broke : goal.returns-in-Err-step-clause-ram_broke
+returns-in-Err-step-clause-ram_broke g c = λ fault left told f image same.
+    let s = c.in-Err-step.ensures in
+    let e = fault_as {S = Option (List ℕ)} {T = Unit} c.in-Err-step.fault RamFault fault in
+    let more : c.loop-telling.board.hart.machine.steps < c.args.limit = omega (arith, c.loop-telling-test.true, c.steps.ensures) in
+    let running : c.loop-telling.board.hart.machine.ending ≡ None = sym c.ending.ensures ∙ c.in-None.is in
+    let goes = c.loop-telling.invariant.running.goes left told f image same in
+    let at = same_at c.args.image.now (kept_by c.loop-telling.board.rom) goes.now.machine c.loop-telling.board.hart.machine c.loop-telling.board.hart.control running goes.matches in
+    let here = now_at c.args.board.now.hart c.loop-telling.board.hart goes.now (started f left) (goes.now_is running) c.requires.first in
+    let line = line_is (is_each c.args.telling) c.loop-telling.board.hart.machine goes.now.machine at.0 at.1 ∙ ap (λ (q : FlatState). told_line (is_each c.args.telling) q.machine) here in
+    let tells = tells_as c.loop-telling.board.hart.machine.ending None (is_each c.args.telling) c.args.limit (started f left) c.loop-telling.board.hart.machine.steps c.loop-telling.lines (g.E.Sink.held c.args.err.now) (g.E.Sink.held c.loop-telling.err) c.loop-telling.last running (c.loop-telling.invariant.tells left told f image same) in
+    let begun = begins (is_each c.args.telling) c.args.limit (started f left) c.loop-telling.board.hart.machine.steps c.loop-telling.lines c.loop-telling.board.hart.machine (g.E.Sink.held c.args.err.now) (g.E.Sink.held c.loop-telling.err) (g.E.Sink.held c.tell.new.err) c.loop-telling.last c.tell.new.history
+    line (at.0 ∙ ap (λ (q : FlatState). q.machine.pc) here) tells c.in-Ok-tell.ensures.line c.in-Ok-tell.ensures.noted c.in-Ok-tell.ensures.told in
+    let steps = same_steps c.args.image.now (kept_by c.loop-telling.board.rom) goes.now.machine c.loop-telling.board.hart.machine c.loop-telling.board.hart.control goes.matches in
+    let still = s.others_stay e in
+    let counted : c.step.new.self.hart.machine.steps ≡ c.loop-telling.board.hart.machine.steps = ap (λ (k : HartData). k.machine.steps) s.stopped in
+    let off = ram_off (fifo (setting_of c.args.board.now.rom)) c.args.image.now c.args.limit _ (started f left) c.args.board.now.hart c.loop-telling.board.hart c.step.new.self.hart (kept_by c.args.board.now.rom) (kept_by c.loop-telling.board.rom) (g.I.Source.left c.loop-telling.input) (g.O.Sink.held c.args.out.now) (g.O.Sink.held c.loop-telling.out)
+    (g.R.CacheRam.state c.args.ram.now) (g.R.CacheRam.state c.loop-telling.ram) (g.R.CacheRam.state c.step.new.ram) goes more running c.in-Ok-tell.ensures.word counted c.loop-telling.invariant.running.ram_ran.fetches (s.ram_failed e) c.requires.first in
+    let whole = told_ram (is_each c.args.telling) c.args.image.now c.args.limit (started f left) c.args.board.now.hart c.step.new.self.hart (g.R.CacheRam.state c.args.ram.now) (g.R.CacheRam.state c.step.new.ram) (g.I.Source.left c.loop-telling.input) (g.O.Sink.held c.args.out.now) (g.O.Sink.held c.loop-telling.out)
+    (g.E.Sink.held c.args.err.now) (g.E.Sink.held c.tell.new.err) goes.now c.loop-telling.board.hart.machine.steps c.tell.new.history off c.requires.first counted here (ap (λ (q : FlatState). q.machine.ending) (sym here) ∙ sym steps.1 ∙ running) refl begun in
+    subst (λ (x : Option (List ℕ)). ToldRamBroke (is_each c.args.telling) c.args.image.now c.args.limit (started f left) c.args.board.now.hart c.step.new.self.hart (g.R.CacheRam.state c.args.ram.now) (g.R.CacheRam.state c.step.new.ram) x (g.O.Sink.held c.args.out.now) (g.O.Sink.held c.step.new.out) (g.E.Sink.held c.args.err.now) (g.E.Sink.held c.step.new.err)) (sym still.0)
+    (subst (λ (x : Option (List ℕ)). ToldRamBroke (is_each c.args.telling) c.args.image.now c.args.limit (started f left) c.args.board.now.hart c.step.new.self.hart (g.R.CacheRam.state c.args.ram.now) (g.R.CacheRam.state c.step.new.ram) (g.I.Source.left c.loop-telling.input) (g.O.Sink.held c.args.out.now) x (g.E.Sink.held c.args.err.now) (g.E.Sink.held c.step.new.err)) (sym still.1.0)
+    (subst (λ (x : Option (List ℕ)). ToldRamBroke (is_each c.args.telling) c.args.image.now c.args.limit (started f left) c.args.board.now.hart c.step.new.self.hart (g.R.CacheRam.state c.args.ram.now) (g.R.CacheRam.state c.step.new.ram) (g.I.Source.left c.loop-telling.input) (g.O.Sink.held c.args.out.now) (g.O.Sink.held c.loop-telling.out) (g.E.Sink.held c.args.err.now) x) (sym still.1.1) whole))
+
+-- ---- nothing is told
+
+pub returns-in-Ok-clause-ran : goal.returns-in-Ok-clause-ran
+returns-in-Ok-clause-ran g c = λ left told f image same.
+    quiet_run c.args.telling (nothing_told c.args.telling (sym c.in_default.is ∙ c.requires.empty)) c.args.image.now c.args.limit (started f left) c.args.board.now.hart c.run.new.self.hart (g.I.Source.left c.run.new.input) (g.O.Sink.held c.args.out.now) (g.O.Sink.held c.run.new.out) (g.E.Sink.held c.args.err.now) (g.E.Sink.held c.run.new.err) c.requires.first
+    (fifo (setting_of c.args.board.now.rom)) (kept_by c.args.board.now.rom) (kept_by c.run.new.self.rom) (c.in-Ok.ensures.ran left told f image same)
+
+pub returns-in-Ok-clause-causes : goal.returns-in-Ok-clause-causes
+returns-in-Ok-clause-causes g c = causes_none _ _ _ c.in-Ok.ensures.causes.quiet
+
+pub returns-in-Err-clause-broke : goal.returns-in-Err-clause-broke
+returns-in-Err-clause-broke g c =
+    with_device Unit (Option (List ℕ)) c.in-Err.fault _ _ c.in-Err.ensures.broke (λ broke out. λ left told f image same.
+    quiet_broke c.args.telling (nothing_told c.args.telling (sym c.in_default.is ∙ c.requires.empty)) c.args.image.now c.args.limit (started f left) c.args.board.now.hart c.run.new.self.hart (g.I.Source.left c.run.new.input) (g.O.Sink.held c.args.out.now) (g.O.Sink.held c.run.new.out) (g.E.Sink.held c.args.err.now) (g.E.Sink.held c.run.new.err) c.requires.first
+    {S = Unit} {T = Option (List ℕ)} c.in-Err.fault (broke left told f image same))
+
+pub returns-in-Err-clause-ram_broke : goal.returns-in-Err-clause-ram_broke
+returns-in-Err-clause-ram_broke g c = λ fault left told f image same.
+    quiet_ram c.args.telling (nothing_told c.args.telling (sym c.in_default.is ∙ c.requires.empty)) c.args.image.now c.args.limit (started f left) c.args.board.now.hart c.run.new.self.hart (g.I.Source.left c.run.new.input) (g.O.Sink.held c.args.out.now) (g.O.Sink.held c.run.new.out) (g.E.Sink.held c.args.err.now) (g.E.Sink.held c.run.new.err) c.requires.first
+    (g.R.CacheRam.state c.args.ram.now) (g.R.CacheRam.state c.run.new.ram) (c.in-Err.ensures.ram_broke (fault_as {S = Option (List ℕ)} {T = Unit} c.in-Err.fault RamFault fault) left told f image same)
+
+pub returns-in-Err-clause-causes : goal.returns-in-Err-clause-causes
+returns-in-Err-clause-causes g c = causes_as {S = Unit} {T = Option (List ℕ)} c.in-Err.fault _ _ c.in-Err.ensures.causes

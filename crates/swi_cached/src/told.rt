@@ -1,0 +1,173 @@
+//! The steps of a run, told or not.
+#![tactic(auto)]
+
+ghost use Rattle.std.specs.Prelude.{◌≡◌, ◌⊎◌, ◌+◌, ◌-◌, ◌^◌, ◌<◌, ◌≤◌, ◌++◌, ◌∷◌, [], List, ℕ, IfOk, OnOk, OnErr, IsErrOf, Some, None, true, false, is_some};
+ghost use Rattle.std.specs.Io.KnownBytes.{Appends};
+ghost use Rattle.std.specs.Option.{ForSome};
+ghost use Rattle.swi_outside.specs.CacheRam.{KeepsBeyond};
+ghost use Rattle.swi_outside.specs.Causes.{HasCause};
+ghost use Rattle.swi_outside.specs.Sink.{AppendsPrefix};
+ghost use Rattle.swi_trace.specs.History.{IsLastOf};
+ghost use Rattle.swi_calls.specs.declared.machine.Machine.{Machine};
+ghost use Rattle.swi_calls.specs.Flat.{started};
+ghost use Rattle.swi_memory.specs.Bus.{fetched};
+ghost use Rattle.swi_render.specs.Carried.{Carries};
+ghost use Rattle.swi_rom.specs.Fifo.{fifo, extent_of};
+ghost use Rattle.swi_rom.specs.Record.{writes};
+ghost use Rattle.swi_rom.specs.Served.{SameFrom};
+ghost use Rattle.swi_rom.specs.Slots.{kept_by, setting_of, span_of};
+ghost use Rattle.swi_rom.specs.Sound.{SlotsSound};
+ghost use Rattle.swi_board.specs.Board.{Fits, Matches};
+ghost use Rattle.swi_board.specs.Calling.{OnDevice};
+ghost use Rattle.swi_board.specs.Faults.{HasCauses};
+ghost use Rattle.swi_board.specs.Hart.{is_between};
+ghost use Rattle.swi_board.specs.Leaving.{RamRan};
+ghost use Rattle.swi_board.specs.Runs.{most, fetched_by};
+ghost use Rattle.swi_cached.specs.Told.{history_of, is_each, told_line};
+ghost use Rattle.swi_cached.specs.Traced.{ToldRun, ToldBroke, ToldRamBroke};
+
+use std::alloc::Global;
+use swi_board::{Board, BoardFault};
+use swi_fifo::FifoRom;
+use swi_image::ImageView;
+use swi_outside::{CacheRam, Failed, Memory, Sink, Source};
+use swi_trace::{History, trace_line};
+
+/// What is told of a run's steps.
+#[derive(Clone, Copy, Debug, PartialEq, Eq)]
+pub enum Telling {
+    /// Nothing.
+    Nothing,
+    /// The addresses of the last 32.
+    Last,
+    /// These, and of each step a line on the error sink, before it is made.
+    Each,
+}
+
+/// A history of no steps, where any are told.
+pub(crate) fn first_history(alloc: Global, telling: Telling) -> Result<Option<History>, Memory>
+    ensures { IfOk result (λ history. history ≡ history_of telling []) }
+{
+    match telling {
+        Telling::Nothing => Ok(None),
+        Telling::Last | Telling::Each => match History::new(alloc) {
+            Ok(history) => Ok(Some(history)),
+            Err(memory) => Err(memory),
+        },
+    }
+}
+
+/// Tells of the step that comes next, unless so many lines say that it was told: its address into the history, and with `Each` its line on the
+/// error sink. Answers how many steps are told then.
+fn tell<E: Sink>(
+    board: &Board<FifoRom>,
+    lines: u64,
+    telling: Telling,
+    history: &mut History,
+    err: &mut E,
+) -> Result<u64, Failed>
+    requires lines { (lines ≡ board.now.hart.machine.steps) ⊎ (lines ≡ board.now.hart.machine.steps + 1) }
+    requires few { board.now.hart.machine.steps < 2 ^ 48 }
+    ensures word { board.now.hart.machine.pc < 2 ^ 32 }
+    ensures count { IfOk result (λ n. n ≡ board.now.hart.machine.steps + 1) }
+    ensures line { lines ≡ board.now.hart.machine.steps →
+        OnOk result (Appends (E.held err.old) (E.held err.new) (told_line (is_each telling) board.now.hart.machine)) }
+    ensures front { OnErr result (AppendsPrefix (E.held err.old) (E.held err.new) (told_line (is_each telling) board.now.hart.machine)) }
+    ensures noted { lines ≡ board.now.hart.machine.steps → (pushed : List ℕ) → IsLastOf pushed history.old →
+        IsLastOf (pushed ++ board.now.hart.machine.pc ∷ []) history.new }
+    ensures told { lines ≡ board.now.hart.machine.steps + 1 →
+        (E.held err.new ≡ E.held err.old) × (history.new ≡ history.old) }
+    ensures first { OnErr result (lines ≡ board.now.hart.machine.steps) }
+    ensures cause { HasCause (E.faults err.old) (E.faults err.new) result }
+{
+    let (steps, a) = (board.steps(), board.origin_pc());
+    if lines != steps {
+        return Ok(lines);
+    }
+    history.push(a);
+    match telling {
+        Telling::Each => err.write(trace_line(a, board.bus().fetch(a)).as_bytes())?,
+        Telling::Nothing | Telling::Last => {}
+    }
+    Ok(steps + 1)
+}
+
+/// Makes steps until `limit` are made or the run has ended, each told before it is made where steps are told. Answers the history.
+pub(crate) fn run_steps<I: Source, O: Sink, E: Sink, R: CacheRam>(
+    board: &mut Board<FifoRom>,
+    image: &ImageView<'_>,
+    limit: u64,
+    telling: Telling,
+    history: Option<History>,
+    input: &mut I,
+    out: &mut O,
+    err: &mut E,
+    ram: &mut R,
+) -> Result<Option<History>, BoardFault>
+    requires fits { Fits image.now (kept_by board.old.rom) board.old.hart }
+    requires sound { SlotsSound board.old.rom image.now (R.state ram.old).words }
+    requires first { board.old.hart.machine.steps ≡ 0 }
+    requires running { board.old.hart.machine.ending ≡ None }
+    requires unfailed { board.old.hart.failed ≡ false }
+    requires limit { limit ≤ 2 ^ 48 }
+    requires count { board.old.hart.count ≤ 2 ^ 55 }
+    requires services { (kept_by board.old.rom).counts.services ≤ 2 ^ 49 }
+    requires empty { history ≡ history_of telling [] }
+    ensures ran { IfOk result (λ told. ForSome (I.left input.old) (λ left. (f : Machine) →
+        Carries (fetched f.bus) image.now →
+        Matches image.now (kept_by board.old.rom) f board.old.hart.machine board.old.hart.control →
+        ToldRun telling (fifo (setting_of board.old.rom)) image.now limit
+        (started f left) board.old.hart (kept_by board.old.rom) board.new.hart (kept_by board.new.rom) (I.left input.new)
+        (O.held out.old) (O.held out.new) (E.held err.old) (E.held err.new) told)) }
+    ensures count { OnOk result (board.new.hart.count + most image.now board.old.hart.machine board.old.hart.control
+        ≤ board.old.hart.count + most image.now board.new.hart.machine board.new.hart.control) }
+    ensures setting { setting_of board.new.rom ≡ setting_of board.old.rom }
+    ensures sound { OnOk result (SlotsSound board.new.rom image.now (R.state ram.new).words) }
+    ensures unused { OnOk result (SameFrom (extent_of (setting_of board.old.rom) (kept_by board.new.rom))
+        (R.state ram.old).words (R.state ram.new).words) }
+    ensures unfailed { OnOk result (board.new.hart.failed ≡ false) }
+    ensures done { OnOk result ((board.new.hart.machine.steps ≡ limit) ⊎ (is_some board.new.hart.machine.ending ≡ true)) }
+    ensures settled { OnOk result (ForSome (I.left input.old) (λ left. is_between board.old.hart.control ≡ true →
+        board.new.hart.machine.ending ≡ None → is_between board.new.hart.control ≡ true)) }
+    ensures ram { OnOk result (RamRan (span_of (setting_of board.old.rom)) (fetched_by board.old.hart board.new.hart)
+        (writes (kept_by board.new.rom) - writes (kept_by board.old.rom))
+        (R.state ram.old) (R.state ram.new)) }
+    ensures kept { KeepsBeyond (span_of (setting_of board.old.rom)) (R.state ram.old) (R.state ram.new) }
+    ensures broke { OnDevice result (ForSome (I.left input.old) (λ left. (f : Machine) →
+        Carries (fetched f.bus) image.now →
+        Matches image.now (kept_by board.old.rom) f board.old.hart.machine board.old.hart.control →
+        ToldBroke (is_each telling) result limit (started f left) board.old.hart board.new.hart (I.left input.new)
+        (O.held out.old) (O.held out.new) (E.held err.old) (E.held err.new))) }
+    ensures ram_broke { IsErrOf result BoardFault.RamFault → ForSome (I.left input.old) (λ left. (f : Machine) →
+        Carries (fetched f.bus) image.now →
+        Matches image.now (kept_by board.old.rom) f board.old.hart.machine board.old.hart.control →
+        ToldRamBroke (is_each telling) image.now limit (started f left) board.old.hart board.new.hart (R.state ram.old)
+        (R.state ram.new) (I.left input.new)
+        (O.held out.old) (O.held out.new) (E.held err.old) (E.held err.new)) }
+    ensures causes { HasCauses
+        (record { ram = (R.state ram.old).faults; input = I.faults input.old; out = O.faults out.old; err = E.faults err.old })
+        (record { ram = (R.state ram.new).faults; input = I.faults input.new; out = O.faults out.new; err = E.faults err.new }) result }
+{
+    let Some(mut last) = history else {
+        return match board.run(image, ram, input, out, err, limit) {
+            Ok(()) => Ok(None),
+            Err(fault) => Err(fault),
+        };
+    };
+    let mut lines = 0;
+    while board.steps() < limit {
+        match board.ending() {
+            None => {}
+            Some(_) => return Ok(Some(last)),
+        }
+        match tell(board, lines, telling, &mut last, err) {
+            Ok(told) => lines = told,
+            Err(_) => return Err(BoardFault::SinkFault),
+        }
+        match board.step(image, ram, input, out, err) {
+            Ok(()) => {}
+            Err(fault) => return Err(fault),
+        }
+    }
+    Ok(Some(last))
+}
