@@ -157,7 +157,7 @@ pub(crate) fn run_told<I: Source, O: Sink, E: Sink, R: CacheRam>(
 pub fn run_traced<I: Source, O: Sink, E: Sink, R: CacheRam>(
     alloc: Global,
     image: &ImageView<'_>,
-    program: &Program,
+    program: &Program<'_>,
     layout: &Layout,
     cache_bytes: u32,
     log: bool,
