@@ -155,7 +155,7 @@ impl<R: CacheRom> Board<R> {
     pub fn boot<M: CacheRam>(
         alloc: Global,
         image: &ImageView<'_>,
-        p: &Program,
+        p: &Program<'_>,
         l: &Layout,
         log: bool,
         rom: R,

@@ -84,7 +84,7 @@ impl Hart {
     /// with the lengths that `l` holds.
     ///
     /// The only error is want of memory. All the memory of a run is taken here, but for the service's.
-    pub fn start(alloc: Global, p: &Program, l: &Layout, log: bool) -> Result<Hart, Memory>
+    pub fn start(alloc: Global, p: &Program<'_>, l: &Layout, log: bool) -> Result<Hart, Memory>
         requires laid_out { IsLayoutOf p.now.segments l.now }
         ensures hart { IfOk result (λ h. h ≡ unbooted (machine_of p.now l.now log)) }
         ensures text { IfOk result (λ h. (a : ℕ) → fetched h.machine.bus a ≡ word_of (text_of p.now.segments) a) }

@@ -53,7 +53,7 @@ fn stop_of(fault: BoardFault) -> CachedStop
 }
 
 /// The image carries the program's text, which it is one of.
-pub(crate) fn carry(image: &ImageView<'_>, program: &Program)
+pub(crate) fn carry(image: &ImageView<'_>, program: &Program<'_>)
     requires own { IsImageOf (text_of program.now.segments) image.now }
     ensures carries { Carries (word_of (text_of program.now.segments)) image.now }
     ensures placed { is_some (place_of image.now program.now.entry) ≡ true }
@@ -81,7 +81,7 @@ fn service(alloc: Global, image: &ImageView<'_>, cache_bytes: u32) -> Result<Fif
 fn boot<R: CacheRam>(
     alloc: Global,
     image: &ImageView<'_>,
-    program: &Program,
+    program: &Program<'_>,
     layout: &Layout,
     cache_bytes: u32,
     log: bool,
@@ -134,7 +134,7 @@ fn boot<R: CacheRam>(
 pub fn run_cached<I: Source, O: Sink, E: Sink, R: CacheRam>(
     alloc: Global,
     image: &ImageView<'_>,
-    program: &Program,
+    program: &Program<'_>,
     layout: &Layout,
     cache_bytes: u32,
     log: bool,

@@ -88,8 +88,8 @@ struct Stands {
     ram: FaultRam,
 }
 
-/// The program of a file of one segment at 0x10000 with this text.
-fn program_with(alloc: Global, text: &[u32], rights: u32) -> Result<Program, Fail> {
+/// A file of one segment at 0x10000 with this text.
+fn file_with(alloc: Global, text: &[u32], rights: u32) -> Result<Vec<u8>, Fail> {
     if text.len() > 60 {
         return Err(Fail::from("too many words for a test"));
     }
@@ -99,10 +99,15 @@ fn program_with(alloc: Global, text: &[u32], rights: u32) -> Result<Program, Fai
     for word in [&FRONT[..], &segment, text].concat(alloc)? {
         bytes.extend_from_slice(word.to_le_bytes().as_slice())?;
     }
-    if bytes.len() > 1024 {
+    Ok(bytes)
+}
+
+/// The program of a file.
+fn program_in<'a>(alloc: Global, file: &'a [u8]) -> Result<Program<'a>, Fail> {
+    if file.len() > 1024 {
         return Err(Fail::from("too many bytes for a test"));
     }
-    let Ok(elf) = read_elf(&bytes) else {
+    let Ok(elf) = read_elf(file) else {
         return Err(Fail::from("no program"));
     };
     Ok(program_of(alloc, &elf)?)
@@ -110,7 +115,8 @@ fn program_with(alloc: Global, text: &[u32], rights: u32) -> Result<Program, Fai
 
 /// Runs a text over the input `abc`, with a ram of so many words.
 fn stands_after(alloc: Global, run: &Run, words: u32) -> Result<Stands, Fail> {
-    let program = program_with(alloc, run.text, run.rights)?;
+    let file = file_with(alloc, run.text, run.rights)?;
+    let program = program_in(alloc, &file)?;
     let Ok(layout) = lay_out(&program, 1 << 20, 1 << 16) else {
         return Err(Fail::from("no room"));
     };

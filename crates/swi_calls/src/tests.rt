@@ -16,10 +16,10 @@ use swi_outside::{Failed, MemSink, MemSource, Source};
 /// that can be read and four that can be written.
 fn small_bus(alloc: Global) -> Result<Bus, Fail> {
     let segments = [
-        Segment::of(0x10000, 7, 8, [0; 8].to_vec(alloc)?),
-        Segment::of(0x20000, 6, 8, b"wxyz".to_vec(alloc)?),
-        Segment::of(0x30000, 4, 4, Vec::new(alloc)),
-        Segment::of(0x40000, 2, 4, Vec::new(alloc)),
+        Segment::of(0x10000, 7, 8, &[0; 8]),
+        Segment::of(0x20000, 6, 8, b"wxyz"),
+        Segment::of(0x30000, 4, 4, &[]),
+        Segment::of(0x40000, 2, 4, &[]),
     ];
     let layout = Layout {
         heap: 0x20008,

@@ -262,7 +262,7 @@ fn check_text(text: &TextView<'_>, view: &ImageView<'_>) -> Result<(), Mismatch>
 ///
 /// Each word of the text and of the image is read a fixed number of times, so the time is linear in
 /// their lengths. No memory is taken.
-pub fn check(p: &Program, view: &ImageView<'_>) -> Result<(), Mismatch>
+pub fn check(p: &Program<'_>, view: &ImageView<'_>) -> Result<(), Mismatch>
     ensures right { OnOk result (IsImageOf (text_of p.now.segments) view.now) }
     ensures wrong { IfErr result (IsMismatch (text_of p.now.segments) view.now) }
     ensures not { OnErr result (IsImageOf (text_of p.now.segments) view.now → ⊥) }

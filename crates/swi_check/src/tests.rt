@@ -1,11 +1,11 @@
 //! Rows of images, and what is wrong with them.
-ghost use Rattle.std.specs.Prelude.{◌<◌, ◌≤◌, length};
+ghost use Rattle.std.specs.Prelude.{◌≡◌, ◌*◌, ◌<◌, ◌≤◌, IfOk, length};
 
 use super::*;
 use std::alloc::Global;
 use std::test::Fail;
 use swi_image::{ImageRefusal, read_image};
-use swi_program::one_text;
+use swi_program::{append_words, one_text};
 
 /// Exits with 7.
 const SEVEN: [u32; 3] = [0x05D00893, 0x00700513, 0x00000073];
@@ -51,6 +51,16 @@ enum Answer {
     Fits,
 }
 
+/// The bytes of these words.
+#[tactic(auto, using(swi_program::proofs::FromWords::length_bytes))]
+fn bytes_of(alloc: Global, words: &[u32]) -> Result<Vec<u8>, Fail>
+    ensures { IfOk result (λ b. length b.items ≡ 4 * length words.now) }
+{
+    let mut bytes = Vec::new(alloc);
+    append_words(&mut bytes, words)?;
+    Ok(bytes)
+}
+
 /// What the checks say of these image words, some of them changed, over the program of these text words.
 fn checked(
     alloc: Global,
@@ -62,7 +72,8 @@ fn checked(
     requires few { length text.now ≤ 8 }
     requires short { length image.now ≤ 32 }
 {
-    let program = one_text(alloc, 0x10000, text)?;
+    let text = bytes_of(alloc, text)?;
+    let program = one_text(alloc, 0x10000, &text)?;
     let mut bytes = Vec::new(alloc);
     for (i, word) in image.iter().enumerate() {
         let mut word = *word;

@@ -69,7 +69,7 @@ fn cut_text(alloc: Global, text: &TextView<'_>, most: u32) -> Result<Image, CutR
 ///
 /// Long comes exactly where some text word needs more words than that, at the first such word, unless
 /// memory runs out before. The only other error is want of memory. The time is linear in the text.
-pub fn cut(alloc: Global, p: &Program, block_words: u32) -> Result<Image, CutRefusal>
+pub fn cut(alloc: Global, p: &Program<'_>, block_words: u32) -> Result<Image, CutRefusal>
     requires least { 2 ≤ block_words }
     requires most { block_words ≤ 1024 }
     ensures cut { IfOk result (λ i. IsCut (text_of p.now.segments) block_words (image_of i)) }

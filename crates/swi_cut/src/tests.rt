@@ -1,11 +1,11 @@
 //! Rows of texts and their images.
-ghost use Rattle.std.specs.Prelude.{◌<◌, ◌≤◌, length};
+ghost use Rattle.std.specs.Prelude.{◌≡◌, ◌*◌, ◌<◌, ◌≤◌, IfOk, length};
 
 use super::*;
 use std::alloc::Global;
 use std::test::Fail;
 use swi_image::Image;
-use swi_program::one_text;
+use swi_program::{append_words, one_text};
 
 /// Exits with 7.
 const SEVEN: [u32; 3] = [0x05D00893, 0x00700513, 0x00000073];
@@ -27,6 +27,16 @@ fn words_of(alloc: Global, image: &Image) -> Result<Vec<u32>, Fail> {
     Ok(words)
 }
 
+/// The bytes of these words.
+#[tactic(auto, using(swi_program::proofs::FromWords::length_bytes))]
+fn bytes_of(alloc: Global, words: &[u32]) -> Result<Vec<u8>, Fail>
+    ensures { IfOk result (λ b. length b.items ≡ 4 * length words.now) }
+{
+    let mut bytes = Vec::new(alloc);
+    append_words(&mut bytes, words)?;
+    Ok(bytes)
+}
+
 /// What the program of these words is cut into.
 fn cut_words(alloc: Global, text: &[u32], most: u32) -> Result<Result<Vec<u32>, CutRefusal>, Fail>
     requires some { 0 < length text.now }
@@ -34,7 +44,8 @@ fn cut_words(alloc: Global, text: &[u32], most: u32) -> Result<Result<Vec<u32>, 
     requires least { 2 ≤ most }
     requires most { most ≤ 1024 }
 {
-    let program = one_text(alloc, 0x10000, text)?;
+    let text = bytes_of(alloc, text)?;
+    let program = one_text(alloc, 0x10000, &text)?;
     match cut(alloc, &program, most) {
         Ok(image) => Ok(Ok(words_of(alloc, &image)?)),
         Err(refusal) => Ok(Err(refusal)),
@@ -82,7 +93,8 @@ fn word_that_does_not_fit_is_refused(rt: HostRuntime) -> Result<(), Fail> {
 
 #[test]
 fn version_2_is_upgraded_to_itself(rt: HostRuntime) -> Result<(), Fail> {
-    let program = one_text(rt.alloc(), 0x10000, &CALLS)?;
+    let text = bytes_of(rt.alloc(), &CALLS)?;
+    let program = one_text(rt.alloc(), 0x10000, &text)?;
     let Ok(image) = cut(rt.alloc(), &program, 5) else {
         return Err(Fail::from("no image"));
     };

@@ -41,7 +41,7 @@ fn upgrade_text(alloc: Global, text: &TextView<'_>, view: &ImageView<'_>) -> Res
 /// a version 2 image itself, copied byte for byte.
 ///
 /// The only error is want of memory. The time is linear in the text and the image.
-pub fn upgrade(alloc: Global, p: &Program, view: &ImageView<'_>) -> Result<Image, Memory>
+pub fn upgrade(alloc: Global, p: &Program<'_>, view: &ImageView<'_>) -> Result<Image, Memory>
     requires { IsImageOf (text_of p.now.segments) view.now }
     ensures upgraded { IfOk result (λ i. IsUpgrade (text_of p.now.segments) view.now (image_of i)) }
     ensures same { view.now.version ≡ 2 → IfOk result (λ i. image_of i ≡ view.now) }

@@ -31,7 +31,7 @@ pub(crate) struct ProgramHeader {
 }
 
 /// The header of a segment whose bytes stand at an offset of the file.
-pub(crate) fn segment_header(segment: &Segment, offset: u32) -> ProgramHeader
+pub(crate) fn segment_header(segment: &Segment<'_>, offset: u32) -> ProgramHeader
     ensures { result ≡ segment_header offset segment.now }
 {
     let p_memsz = segment.size();

@@ -1,3 +1,5 @@
+ghost use Rattle.std.specs.Prelude.{◌≡◌, ◌*◌, IfOk, length};
+
 use super::*;
 use std::alloc::Global;
 use std::test::Fail;
@@ -28,7 +30,10 @@ const FRONT: [u32; 32] = [
     0x00700513, 0x00000073,
 ];
 
-fn bytes_of(alloc: Global, words: &[u32]) -> Result<Vec<u8>, Fail> {
+#[tactic(auto, using(swi_program::proofs::FromWords::length_bytes))]
+fn bytes_of(alloc: Global, words: &[u32]) -> Result<Vec<u8>, Fail>
+    ensures { IfOk result (λ b. length b.items ≡ 4 * length words.now) }
+{
     let mut bytes = Vec::new(alloc);
     append_words(&mut bytes, words).ok().ok_or("memory")?;
     Ok(bytes)
@@ -43,10 +48,9 @@ fn image_of(alloc: Global, words: &[u32]) -> Result<Image, Fail> {
     Err(Fail::from("no image"))
 }
 
-/// The program of the file of these words.
-fn program_of_words(alloc: Global, words: &[u32]) -> Result<Program, Fail> {
-    let bytes = bytes_of(alloc, words)?;
-    let e = read_elf(&bytes[..bytes.len().min(1 << 20)])
+/// The program of a file.
+fn program_in<'a>(alloc: Global, file: &'a [u8]) -> Result<Program<'a>, Fail> {
+    let e = read_elf(&file[..file.len().min(1 << 20)])
         .ok()
         .ok_or("refused")?;
     Ok(program_of(alloc, &e).ok().ok_or("memory")?)
@@ -55,7 +59,8 @@ fn program_of_words(alloc: Global, words: &[u32]) -> Result<Program, Fail> {
 #[test]
 fn a_text_and_its_image_give_the_file_of_the_document(rt: HostRuntime) -> Result<(), Fail> {
     let alloc = rt.alloc();
-    let program = one_text(alloc, 0x00010000, &TEXT).ok().ok_or("memory")?;
+    let text = bytes_of(alloc, &TEXT)?;
+    let program = one_text(alloc, 0x00010000, &text).ok().ok_or("memory")?;
     for words in [WHOLE.as_slice(), EXACT.as_slice()] {
         let image = image_of(alloc, words)?;
         let mut want = FRONT;
@@ -80,7 +85,8 @@ const DATA_FILE: [u32; 34] = [
 #[test]
 fn segments_keep_their_order_and_the_image_is_aligned(rt: HostRuntime) -> Result<(), Fail> {
     let alloc = rt.alloc();
-    let program = program_of_words(alloc, &DATA_FILE)?;
+    let original = bytes_of(alloc, &DATA_FILE)?;
+    let program = program_in(alloc, &original)?;
     let image = image_of(alloc, &EXACT)?;
     let front = [
         0x464C457F, 0x00010101, 0, 0, 0x00F30002, 1, 0x00010000, 52, 0, 16, 0x00200034, 3, 0, 1,
@@ -115,8 +121,8 @@ fn the_file_of_64_segments_has_too_many_headers(rt: HostRuntime) -> Result<(), F
     let alloc = rt.alloc();
     let image = image_of(alloc, &EXACT)?;
     for (segments, want) in [(63, None), (64, Some(ElfRefusal::Many(44)))] {
-        let words = file_with(alloc, segments)?;
-        let program = program_of_words(alloc, &words)?;
+        let original = bytes_of(alloc, &file_with(alloc, segments)?)?;
+        let program = program_in(alloc, &original)?;
         let file = write_elf(alloc, &program, &image).ok().ok_or("memory")?;
         let read = read_elf(&file[..file.len().min(1 << 20)]);
         assert_eq!(rt; read.err(), want, "{segments}");

@@ -71,7 +71,7 @@ fn append_file_header(file: &mut Vec<u8>, entry: u32, flags: u32, count: u32) ->
 #[tactic(auto, using(crate::proofs::Headers::segment_steps))]
 fn append_segment_headers(
     file: &mut Vec<u8>,
-    segments: &[Segment],
+    segments: &[Segment<'_>],
     first: u32,
 ) -> Result<(), Memory>
     requires { first + length (contents segments.now) < 2 ^ 32 }
@@ -87,7 +87,7 @@ fn append_segment_headers(
 
 /// How many bytes of the file the segments have together.
 #[tactic(auto, using(crate::proofs::Headers::size_steps))]
-fn contents_size(segments: &[Segment]) -> u32
+fn contents_size(segments: &[Segment<'_>]) -> u32
     requires { length (contents segments.now) ≤ 2 ^ 25 }
     ensures { result ≡ length (contents segments.now) }
 {
@@ -100,7 +100,7 @@ fn contents_size(segments: &[Segment]) -> u32
 
 /// Appends the bytes of the segments.
 #[tactic(auto, using(crate::proofs::Headers::content_steps))]
-fn append_contents(file: &mut Vec<u8>, segments: &[Segment]) -> Result<(), Memory>
+fn append_contents(file: &mut Vec<u8>, segments: &[Segment<'_>]) -> Result<(), Memory>
     ensures { OnOk result (file.new.items ≡ file.old.items ++ contents segments.now) }
 {
     for segment in segments {
@@ -118,7 +118,7 @@ fn append_contents(file: &mut Vec<u8>, segments: &[Segment]) -> Result<(), Memor
 /// The only error is want of memory. Source: System V ABI, "ELF Header" and "Program Header"; the
 /// order of the parts and the image's header: own rule.
 #[tactic(auto, using(crate::proofs::Headers::sizes))]
-pub fn write_elf(alloc: Global, p: &Program, image: &Image) -> Result<Vec<u8>, Memory>
+pub fn write_elf(alloc: Global, p: &Program<'_>, image: &Image) -> Result<Vec<u8>, Memory>
     ensures bytes { IfOk result (λ file. file.items ≡ rewritten_file p.now image.now) }
     ensures read_back { length p.now.segments ≤ 63 → IfOk result (λ file. ReadsAs file.items p.now image.now) }
 {

@@ -13,8 +13,8 @@ use swi_memory::{Bus, Layout, Segment};
 /// from 0x40000 on that can be written.
 fn bus_of_rows(alloc: Global) -> Option<Bus> {
     let segments = [
-        Segment::of(0x30000, 4, 4, Vec::new(alloc)),
-        Segment::of(0x40000, 2, 4, Vec::new(alloc)),
+        Segment::of(0x30000, 4, 4, &[]),
+        Segment::of(0x40000, 2, 4, &[]),
     ];
     let layout = Layout {
         heap: 0x20000,

@@ -47,7 +47,7 @@ impl Flat {
     /// lengths that `l` holds.
     ///
     /// The only error is want of memory. All the memory of a run is taken here.
-    pub fn start(alloc: Global, p: &Program, l: &Layout, log: bool) -> Result<Flat, Memory>
+    pub fn start(alloc: Global, p: &Program<'_>, l: &Layout, log: bool) -> Result<Flat, Memory>
         requires laid_out { IsLayoutOf p.now.segments l.now }
         ensures machine { IfOk result (λ f. f ≡ unfailed (machine_of p.now l.now log)) }
         ensures text { IfOk result (λ f. (a : ℕ) → fetched f.machine.bus a ≡ word_of (text_of p.now.segments) a) }

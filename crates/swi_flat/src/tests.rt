@@ -1,7 +1,7 @@
 //! Small programs on the flat machine.
 #![tactic(auto)]
 
-ghost use Rattle.std.specs.Prelude.{◌≡◌, ◌<◌, ◌≤◌, false, length, IfOk};
+ghost use Rattle.std.specs.Prelude.{◌≡◌, ◌*◌, ◌<◌, ◌≤◌, false, length, IfOk};
 
 use super::*;
 use std::alloc::Global;
@@ -10,7 +10,17 @@ use swi_calls::CallFault;
 use swi_calls::End::{self, *};
 use swi_exec::FaultKind::*;
 use swi_outside::{MemSink, MemSource};
-use swi_program::{lay_out, one_text};
+use swi_program::{append_words, lay_out, one_text};
+
+/// The bytes of these words.
+#[tactic(auto, using(swi_program::proofs::FromWords::length_bytes))]
+fn bytes_of(alloc: Global, words: &[u32]) -> Result<Vec<u8>, Fail>
+    ensures { IfOk result (λ b. length b.items ≡ 4 * length words.now) }
+{
+    let mut bytes = Vec::new(alloc);
+    append_words(&mut bytes, words)?;
+    Ok(bytes)
+}
 
 /// The machine of these words at 0x10000, with a heap of 2^20 bytes and a stack of 2^16.
 #[tactic(auto, unfolding(swi_program::specs::Layout::laid_out))]
@@ -19,7 +29,8 @@ fn started(alloc: Global, words: &[u32], log: bool) -> Result<Flat, Fail>
     requires few { length words.now ≤ 64 }
     ensures { IfOk result (λ f. (f.machine.steps ≡ 0) × (f.failed ≡ false)) }
 {
-    let program = one_text(alloc, 0x10000, words)?;
+    let text = bytes_of(alloc, words)?;
+    let program = one_text(alloc, 0x10000, &text)?;
     let Ok(layout) = lay_out(&program, 1 << 20, 1 << 16) else {
         return Err(Fail::from("no room"));
     };

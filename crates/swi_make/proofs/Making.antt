@@ -1,13 +1,12 @@
--- The words of a program's text are those that it was made of.
-use Rattle.std.proofs.Common.{◌≡◌, ◌∙◌, ◌+◌, ◌-◌, ◌*◌, ◌/◌, ℕ, List, [], ◌∷◌, ◌++◌, length, sum, drop, arith, refl, sym, ap, subst, append_assoc}
+-- The words of a made text are those that it was made of.
+use Rattle.std.proofs.Common.{◌≡◌, ◌∙◌, ◌+◌, ◌-◌, ◌*◌, ◌/◌, ◌^◌, ◌≤◌, ℕ, List, [], ◌∷◌, ◌++◌, length, sum, drop, arith, refl, sym, ap, subst, append_assoc}
 use Rattle.std.proofs.lemmas.List.{length-append}
 use Rattle.std.proofs.Math.Seq.{drop-append_seam}
 use Rattle.std.specs.List.{AllZip}
 use Rattle.byteorder.specs.Endian.{little_bytes, little_number}
 use Rattle.byteorder.specs.Numbers.{little_number-reads_back}
 use Rattle.swi_isa.specs.declared.instr.Instr.{Instr}
-use Rattle.swi_program.specs.Program.{ProgramData}
-use Rattle.swi_program.specs.ProgramOf.{bytes_of_words, program_of_words}
+use Rattle.swi_program.specs.ProgramOf.{bytes_of_words, program_of_text}
 use Rattle.swi_program.specs.Text.{text_of, words_from}
 use Rattle.swi_program.proofs.FromWords.{length_bytes}
 use Rattle.swi_make.specs.Listing.{instructions_of}
@@ -32,27 +31,30 @@ words_back (i ∷ is) (w ∷ ws) front all =
     rw drop-append_seam (little_number-reads_back 4 w (bytes_of_words ws) all.0.bits) in
     rw (here, behind) refl
 
-text_back : (is : List Instr) (ws : List ℕ) → AllZip IsWordOf is ws → (text_of (program_of_words 0x10000 ws).segments).words ≡ ws
+text_back : (is : List Instr) (ws : List ℕ) → AllZip IsWordOf is ws → (text_of (program_of_text 0x10000 (bytes_of_words ws)).segments).words ≡ ws
 unfolding text_of
 text_back is ws all =
     let count : (0x10000 + length (bytes_of_words ws) - 0x10000) / 4 ≡ length ws = omega (arith, length_bytes ws) in
     rw count (words_back is ws [] all)
 
-pub is_made : (seed count : ℕ) (ws : List ℕ) (p : ProgramData) → AllZip IsWordOf (instructions_of (all_additions seed count)) ws
-    → p ≡ program_of_words 0x10000 ws → IsMade seed count p
-is_made seed count ws p all is =
-    subst (λ q. IsMade seed count q) (sym is)
-    (let back : (text_of (program_of_words 0x10000 ws).segments).words ≡ ws = text_back (instructions_of (all_additions seed count)) ws all in
-    record { text = rw back all; alone = ap (program_of_words 0x10000) (sym back) })
+pub is_made : (seed count : ℕ) (ws text : List ℕ) → AllZip IsWordOf (instructions_of (all_additions seed count)) ws
+    → text ≡ bytes_of_words ws → IsMade seed count (program_of_text 0x10000 text)
+is_made seed count ws text all is =
+    subst (λ (bytes : List ℕ). IsMade seed count (program_of_text 0x10000 bytes)) (sym is)
+    (let back : (text_of (program_of_text 0x10000 (bytes_of_words ws)).segments).words ≡ ws = text_back (instructions_of (all_additions seed count)) ws all in
+    record { text = rw back all; alone = ap (λ (l : List ℕ). program_of_text 0x10000 (bytes_of_words l)) (sym back) })
 
 -- how long the text is
-pub made_size : (seed count : ℕ) (ws : List ℕ) (p : ProgramData) → AllZip IsWordOf (instructions_of (all_additions seed count)) ws
-    → p ≡ program_of_words 0x10000 ws → length (text_of p.segments).words ≡ 6 + 6 * count + sum (all_additions seed count)
-made_size seed count ws p all is =
-    let same : (text_of p.segments).words ≡ ws =
-    ap (λ q. (text_of q.segments).words) is ∙ text_back (instructions_of (all_additions seed count)) ws all in
+pub made_size : (seed count : ℕ) (ws text : List ℕ) → AllZip IsWordOf (instructions_of (all_additions seed count)) ws
+    → text ≡ bytes_of_words ws → length text ≡ 4 * (6 + 6 * count + sum (all_additions seed count))
+made_size seed count ws text all is =
     let functions : length (all_additions seed count) ≡ count = length-additions seed count (all_additions seed count) refl in
-    ap length same ∙ length-words (instructions_of (all_additions seed count)) ws all
-    ∙ instructions_length (all_additions seed count) ∙ ap (λ n. 6 + 6 * n + sum (all_additions seed count)) functions
+    let words : length ws ≡ 6 + 6 * count + sum (all_additions seed count) =
+    length-words (instructions_of (all_additions seed count)) ws all
+    ∙ instructions_length (all_additions seed count) ∙ ap (λ n. 6 + 6 * n + sum (all_additions seed count)) functions in
+    ap length is ∙ length_bytes ws ∙ ap (λ n. 4 * n) words
 
-pub ruleset made = (is_made, made_size)
+pub made_most : (ws text : List ℕ) → text ≡ bytes_of_words ws → length ws ≤ 2 ^ 19 → length text ≤ 2 ^ 21
+made_most ws text is few = rw is (omega (arith, length_bytes ws, few))
+
+pub ruleset made = (is_made, made_size, made_most)

@@ -6,7 +6,7 @@ use Rattle.swi_encode.specs.Valid.{IsValid}
 use Rattle.swi_isa.specs.declared.instr.Instr.{Instr}
 use Rattle.swi_isa.specs.Decode.{decoded}
 use Rattle.swi_program.specs.Program.{ProgramData}
-use Rattle.swi_program.specs.ProgramOf.{program_of_words}
+use Rattle.swi_program.specs.ProgramOf.{bytes_of_words, program_of_text}
 use Rattle.swi_program.specs.Text.{text_of}
 use Rattle.swi_make.specs.Listing.{instructions_of}
 use Rattle.swi_make.specs.Numbers.{all_additions}
@@ -26,4 +26,4 @@ pub record HasOneWord (i : Instr) : Type 0 where
 -- it is nothing but this text, which begins at 0x10000, where the run begins too.
 pub record IsMade (seed count : ℕ) (p : ProgramData) : Type 0 where
   pub text : AllZip IsWordOf (instructions_of (all_additions seed count)) (text_of p.segments).words
-  pub alone : p ≡ program_of_words 0x10000 (text_of p.segments).words
+  pub alone : p ≡ program_of_text 0x10000 (bytes_of_words (text_of p.segments).words)

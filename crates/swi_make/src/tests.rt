@@ -4,9 +4,10 @@
 use super::*;
 use std::alloc::Global;
 use std::test::Fail;
+use swi_program::{Program, one_text};
 
 /// Where the text of a program begins, and its words.
-fn text_said(alloc: Global, program: &Program) -> Result<(u32, Vec<u32>), Fail> {
+fn text_said(alloc: Global, program: &Program<'_>) -> Result<(u32, Vec<u32>), Fail> {
     let text = program.text();
     let mut words = Vec::new(alloc);
     for k in 0..text.len() {
@@ -18,7 +19,8 @@ fn text_said(alloc: Global, program: &Program) -> Result<(u32, Vec<u32>), Fail> 
 #[test]
 fn small_programs_have_the_words_of_the_script(rt: HostRuntime) -> Result<(), Fail> {
     let alloc = rt.alloc();
-    let one = make(alloc, 1, 1).expect(&rt, "memory");
+    let text = make(alloc, 1, 1).expect(&rt, "memory");
+    let one = one_text(alloc, BASE, &text).expect(&rt, "memory");
     assert_eq!(rt;
         (one.entry(), one.flags(), one.segments().len()),
         (0x10000, 0, 1)
@@ -34,7 +36,8 @@ fn small_programs_have_the_words_of_the_script(rt: HostRuntime) -> Result<(), Fa
         ]
         .as_slice()
     );
-    let three = make(alloc, 2, 3).expect(&rt, "memory");
+    let text = make(alloc, 2, 3).expect(&rt, "memory");
+    let three = one_text(alloc, BASE, &text).expect(&rt, "memory");
     let (_, words) = text_said(alloc, &three)?;
     assert_eq!(rt;
         words.as_slice(),
@@ -72,7 +75,8 @@ fn programs_of_many_functions_have_the_words_of_the_script(rt: HostRuntime) -> R
     ];
     for (seed, functions, len, sum) in table {
         assert!(rt; functions >= 1 && functions <= 4096);
-        let program = make(alloc, seed, functions).expect(&rt, "memory");
+        let text = make(alloc, seed, functions).expect(&rt, "memory");
+        let program = one_text(alloc, BASE, &text).expect(&rt, "memory");
         let (_, words) = text_said(alloc, &program)?;
         assert_eq!(rt; words.len(), len, "{seed} {functions}");
         assert_eq!(rt; folded(&words), sum, "{seed} {functions}");

@@ -48,7 +48,7 @@ impl Bus {
     /// stack. No two of the segments and regions share an address, none ends past 2^32, and one segment
     /// at most can be executed. Memory where there is not enough memory, or where more areas than
     /// 2^32 - 1 are asked for.
-    pub fn new(alloc: Global, segments: &[Segment], l: &Layout) -> Result<Bus, Memory>
+    pub fn new(alloc: Global, segments: &[Segment<'_>], l: &Layout) -> Result<Bus, Memory>
         requires apart { AreApart (ranges segments.now l.now) }
         requires heap_end { l.now.heap + l.now.heap_len ≤ 2 ^ 32 }
         requires stack_end { l.now.stack + l.now.stack_len ≤ 2 ^ 32 }

@@ -69,7 +69,7 @@ fn zeros(alloc: Global, base: u32, size: u32) -> Result<Bank, Memory>
 }
 
 /// The segments, the heap and the stack, in ascending order of base.
-pub fn gather(alloc: Global, segments: &[Segment], l: &Layout) -> Result<Vec<Bank>, Memory>
+pub fn gather(alloc: Global, segments: &[Segment<'_>], l: &Layout) -> Result<Vec<Bank>, Memory>
     ensures value { IfOk result (λ v. areas v.items ≡ bus_of segments.now l.now) }
     ensures whole { OnOk result (AreWhole segments.now) }
 {

@@ -1,23 +1,24 @@
 //! A segment of a program.
 #![tactic(auto)]
 
-ghost use Rattle.std.specs.Prelude.{◌≡◌, ◌<◌, ◌≤◌, ◌+◌, ◌^◌, length, vec_len};
+ghost use Rattle.std.specs.Prelude.{◌≡◌, ◌<◌, ◌≤◌, ◌+◌, ◌^◌, length};
 
 use std::marker::Model;
 
 /// A range of memory as a file gives it: a base address, rights, a size in bytes, and the bytes at
-/// its front that the file has. The bytes past these are zero at the start of a run.
+/// its front that the file has, which stay in the file. The bytes past these are zero at the start
+/// of a run.
 ///
 /// Source: System V ABI, "Program Header", a segment of type PT_LOAD.
 #[derive(Drop)]
-pub struct Segment {
+pub struct Segment<'a> {
     base: u32,
     flags: u32,
     size: u32,
-    bytes: Vec<u8>,
+    bytes: &'a [u8],
 }
 
-impl Model for Segment {
+impl<'a> Model for Segment<'a> {
     ghost use Rattle.swi_memory.specs.Segment.{SegmentData};
 
     ghost Value = { SegmentData };
@@ -29,15 +30,15 @@ impl Model for Segment {
     ghost invariant = { Fits };
 }
 
-impl Segment {
+impl<'a> Segment<'a> {
     /// The segment with these rights (4 read, 2 write, 1 execute), of `size` bytes, of which the
     /// file has the first. The rights are below 8, there are at most `size` bytes, and `base + size`
     /// is at most 2^32.
-    pub fn of(base: u32, flags: u32, size: u32, bytes: Vec<u8>) -> Segment
+    pub fn of(base: u32, flags: u32, size: u32, bytes: &'a [u8]) -> Segment<'a>
         requires rights { flags < 8 }
-        requires front { vec_len bytes ≤ size }
+        requires front { length bytes.now ≤ size }
         requires end { base + size ≤ 2 ^ 32 }
-        ensures { result ≡ record { base = base; flags = flags; size = size; bytes = bytes.items } }
+        ensures { result ≡ record { base = base; flags = flags; size = size; bytes = bytes.now } }
     {
         Segment {
             base,
@@ -72,10 +73,10 @@ impl Segment {
     }
 
     /// The bytes that the file has, at most `size` of them.
-    pub fn bytes(&self) -> &[u8]
+    pub fn bytes(&self) -> &'a [u8]
         ensures value { result.now ≡ self.now.bytes }
         ensures front { length result.now ≤ self.now.size }
     {
-        &self.bytes
+        self.bytes
     }
 }

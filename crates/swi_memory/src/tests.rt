@@ -6,14 +6,12 @@ use std::test::Fail;
 // data adjoins it at 0x1012; bytes that can only be written stand at 0x2000, bytes that can only be
 // read at 0; the heap is empty, and the stack ends with the last address.
 fn memory(alloc: Global) -> Result<Bus, Fail> {
-    let text = [1, 2, 3, 4, 5, 6, 7, 8, 9, 10, 11, 12, 13, 14, 15].to_vec(alloc)?;
-    let data = [0xA0, 0xA1].to_vec(alloc)?;
-    let low = [0x71, 0x72, 0x73, 0x74].to_vec(alloc)?;
+    let text = [1, 2, 3, 4, 5, 6, 7, 8, 9, 10, 11, 12, 13, 14, 15];
     let segments = [
-        Segment::of(0x1012, 6, 4, data),
-        Segment::of(0x1002, 5, 16, text),
-        Segment::of(0x2000, 2, 4, Vec::new(alloc)),
-        Segment::of(0, 4, 4, low),
+        Segment::of(0x1012, 6, 4, &[0xA0, 0xA1]),
+        Segment::of(0x1002, 5, 16, &text),
+        Segment::of(0x2000, 2, 4, &[]),
+        Segment::of(0, 4, 4, &[0x71, 0x72, 0x73, 0x74]),
     ];
     let layout = Layout {
         heap: 0x3000,
@@ -125,7 +123,6 @@ fn whole_words_of_the_file_are_fetched_and_nothing_else(rt: HostRuntime) -> Resu
 // a text of 12 bytes, of which the file has seven
 #[test]
 fn no_word_is_fetched_beside_the_bytes_of_the_file(rt: HostRuntime) -> Result<(), Fail> {
-    let text = [1, 2, 3, 4, 5, 6, 7].to_vec(rt.alloc())?;
     let layout = Layout {
         heap: 0x3000,
         heap_len: 0,
@@ -133,7 +130,7 @@ fn no_word_is_fetched_beside_the_bytes_of_the_file(rt: HostRuntime) -> Result<()
         stack_len: 16,
         sp: 0x4000,
     };
-    let segments = [Segment::of(0x1000, 5, 12, text)];
+    let segments = [Segment::of(0x1000, 5, 12, &[1, 2, 3, 4, 5, 6, 7])];
     let bus = Bus::new(rt.alloc(), &segments, &layout)?;
     for (a, want) in [(0x1000, Some(0x04030201)), (0x1004, None), (0x1008, None)] {
         assert_eq!(rt; bus.fetch(a), want, "at {a:x}");

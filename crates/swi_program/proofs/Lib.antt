@@ -2,5 +2,6 @@ pub mod Ends
 pub mod Words
 pub mod Texts
 pub mod FromFile
+pub mod FromText
 pub mod FromWords
 pub mod Held

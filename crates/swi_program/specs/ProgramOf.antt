@@ -1,7 +1,7 @@
--- The program of a file, and that of a list of words.
+-- The program of a file, that of a text alone, and words as bytes.
 -- Source: System V ABI, "Program Loading": each PT_LOAD entry gives a segment, in the order of the table.
--- The program of a list of words: own rule.
-use Rattle.std.specs.Prelude.{ℕ, ◌*◌, List, [], ◌∷◌, ◌++◌, length, map}
+-- The program of a text alone: own rule.
+use Rattle.std.specs.Prelude.{ℕ, List, [], ◌∷◌, ◌++◌, length, map}
 use Rattle.byteorder.specs.Endian.{little_bytes}
 use Rattle.swi_elf_read.specs.Elf.{e_entry, e_flags}
 use Rattle.swi_elf_read.specs.Loaded.{LoadedData, loaded_segments}
@@ -20,9 +20,9 @@ bytes_of_words [] = []
 bytes_of_words (w ∷ rest) = little_bytes 4 w ++ bytes_of_words rest
 
 -- one segment that can be read and executed, at which a run begins
-abbrev pub program_of_words : ℕ → List ℕ → ProgramData
-program_of_words base words = record {
+abbrev pub program_of_text : ℕ → List ℕ → ProgramData
+program_of_text base text = record {
   entry = base;
   flags = 0;
-  segments = record { base = base; flags = 5; size = 4 * length words; bytes = bytes_of_words words } ∷ [];
+  segments = record { base = base; flags = 5; size = length text; bytes = text } ∷ [];
 }

@@ -16,7 +16,7 @@ pub struct Room {
 
 /// The highest address past a segment.
 #[tactic(auto, using(crate::proofs::Ends::end_steps))]
-fn highest_end(segments: &[Segment]) -> u64
+fn highest_end(segments: &[Segment<'_>]) -> u64
     ensures highest { result ≡ highest_end segments.now }
     ensures small { result ≤ 2 ^ 32 }
 {
@@ -30,7 +30,7 @@ fn highest_end(segments: &[Segment]) -> u64
 
 /// The layout above these segments.
 #[tactic(auto, unfolding(crate::specs::Layout::laid_out))]
-fn place(segments: &[Segment], heap: u32, stack: u32) -> Result<Layout, Room>
+fn place(segments: &[Segment<'_>], heap: u32, stack: u32) -> Result<Layout, Room>
     requires heap_range { heap ≤ 2 ^ 26 }
     requires stack_least { 4096 ≤ stack }
     requires stack_most { stack ≤ 2 ^ 24 }
@@ -59,7 +59,7 @@ fn place(segments: &[Segment], heap: u32, stack: u32) -> Result<Layout, Room>
 /// 16. The refusal comes exactly where the stack's end passes 2^32.
 ///
 /// Own rule, but for the stack pointer's 16 (RISC-V ELF psABI, "Integer Calling Convention").
-pub fn lay_out(p: &Program, heap: u32, stack: u32) -> Result<Layout, Room>
+pub fn lay_out(p: &Program<'_>, heap: u32, stack: u32) -> Result<Layout, Room>
     requires heap_range { heap ≤ 2 ^ 26 }
     requires stack_least { 4096 ≤ stack }
     requires stack_most { stack ≤ 2 ^ 24 }

@@ -8,25 +8,25 @@ ghost use Rattle.swi_program.specs.Program.{can_execute, AreSegments};
 ghost use Rattle.swi_program.specs.Text.{text_of, word_of, IsTextAddress, HasText, IsSized};
 ghost use Rattle.swi_memory.specs.declared.layout.Layout.{Layout};
 ghost use Rattle.swi_program.specs.Layout.{IsLayoutOf, IsRoomy};
-ghost use Rattle.swi_program.specs.ProgramOf.{program_of_file, program_of_words, segment_of};
+ghost use Rattle.swi_program.specs.ProgramOf.{program_of_file, program_of_text, segment_of};
 
 use crate::text_view::{self, TextView};
-use crate::word_bytes::append_words;
 use std::alloc::Global;
 use std::marker::Model;
 use swi_elf_read::{Elf, elf_entry, elf_flags, loaded, loaded_at};
 use swi_memory::Segment;
 use swi_outside::Memory;
 
-/// A program. Contracts see it as its entry address, the flags of its ELF header and its segments.
+/// A program, as a view of a file: the bytes of its segments stay in the file. Contracts see it as its
+/// entry address, the flags of its ELF header and its segments.
 #[derive(Drop)]
-pub struct Program {
+pub struct Program<'a> {
     entry: u32,
     flags: u32,
-    segments: Vec<Segment>,
+    segments: Vec<Segment<'a>>,
 }
 
-impl Model for Program {
+impl<'a> Model for Program<'a> {
     ghost use Rattle.swi_program.specs.Program.{ProgramData, IsProgram};
 
     ghost Value = { ProgramData };
@@ -37,13 +37,13 @@ impl Model for Program {
 }
 
 /// The first executable segment.
-fn first_executable(segments: &[Segment]) -> Option<&Segment>
+fn first_executable<'s, 'a>(segments: &'s [Segment<'a>]) -> Option<&'s Segment<'a>>
     ensures { option_copied result ≡ find can_execute segments.now }
 {
     segments.iter().find(|s| s.flags() % 2 == 1)
 }
 
-impl Program {
+impl<'a> Program<'a> {
     /// The address at which a run begins: that of an instruction word.
     #[tactic(auto, using(crate::proofs::Texts::entry_word))]
     pub fn entry(&self) -> u32
@@ -64,7 +64,7 @@ impl Program {
     /// The segments, in the order of the file's program headers. Each layout of the program leaves
     /// them their room.
     #[tactic(auto, using(crate::proofs::Ends::room_law, crate::proofs::Texts::texts_counted))]
-    pub fn segments(&self) -> &[Segment]
+    pub fn segments(&self) -> &[Segment<'a>]
         ensures value { result.now ≡ self.now.segments }
         ensures each { AreSegments self.now.segments }
         ensures apart { AreApart (map range_of self.now.segments) }
@@ -79,7 +79,7 @@ impl Program {
     }
 
     /// The executable segment.
-    fn executable(&self) -> &Segment
+    fn executable(&self) -> &Segment<'a>
         ensures found { find can_execute self.now.segments ≡ Some result.now }
         ensures whole { HasText result.now }
         ensures held { (a : ℕ) → word_in self.now.segments a ≡ word_of (text_of self.now.segments) a }
@@ -92,7 +92,7 @@ impl Program {
 
     /// The text: the instruction words of the executable segment, 1 to 2^19 of them.
     #[tactic(auto, unfolding(crate::specs::Text::text_of))]
-    pub fn text(&self) -> TextView<'_>
+    pub fn text(&self) -> TextView<'a>
         ensures value { result ≡ text_of self.now.segments }
 
         // One word at least, since the entry is a text word's address.
@@ -105,32 +105,29 @@ impl Program {
     }
 }
 
-/// A copy of the k-th segment that a file loads.
-fn segment_at(alloc: Global, e: &Elf, k: u32) -> Result<Segment, Memory>
+/// The k-th segment that a file loads.
+fn segment_at<'a>(e: &Elf<'a>, k: u32) -> Segment<'a>
     requires within { k < length (loaded_segments e.now) }
     requires each { AreLoadable (loaded_segments e.now) }
-    ensures { IfOk result (λ s. option_map segment_of (slice_get (loaded_segments e.now) k) ≡ Some s) }
+    ensures { option_map segment_of (slice_get (loaded_segments e.now) k) ≡ Some result }
 {
     let segment = loaded_at(e, k);
-    let Ok(bytes) = Vec::from_slice(alloc, segment.bytes) else {
-        return Err(Memory)
-    };
-    Ok(Segment::of(segment.base, segment.flags, segment.size, bytes))
+    Segment::of(segment.base, segment.flags, segment.size, segment.bytes)
 }
 
-/// The program of an accepted file: its entry, its flags and the segments that it loads.
+/// The program of an accepted file: its entry, its flags and the segments that it loads, whose bytes
+/// stay in the file.
 ///
-/// The only error is want of memory.
+/// The only error is want of memory for the list of segments.
 #[tactic(auto, using(crate::proofs::FromFile::file_steps, crate::proofs::FromFile::file_program))]
-pub fn program_of(alloc: Global, e: &Elf) -> Result<Program, Memory>
+pub fn program_of<'a>(alloc: Global, e: &Elf<'a>) -> Result<Program<'a>, Memory>
     ensures { IfOk result (λ p. p ≡ program_of_file e.now) }
 {
     let count = loaded(e);
     let (entry, flags) = (elf_entry(e), elf_flags(e));
     let mut segments = Vec::new(alloc);
     for k in 0..count {
-        let segment = segment_at(alloc, e, k)?;
-        if segments.push(segment).is_err() {
+        if segments.push(segment_at(e, k)).is_err() {
             return Err(Memory);
         }
     }
@@ -141,37 +138,28 @@ pub fn program_of(alloc: Global, e: &Elf) -> Result<Program, Memory>
     })
 }
 
-/// The program of these instruction words at a base address, at which a run begins: one segment
-/// that can be read and executed. The base is a multiple of 4; there are 1 to 2^19 words, which end
-/// at 2^32 at most. The ELF flags are 0.
+/// The program of the bytes of a text at a base address, at which a run begins: one segment that can
+/// be read and executed. The bytes make 1 to 2^19 whole words, which end at 2^32 at most; the base
+/// is a multiple of 4. The ELF flags are 0.
 ///
-/// The only error is want of memory.
-#[tactic(auto, using(crate::proofs::FromWords::length_bytes, crate::proofs::FromWords::words_program))]
-pub fn one_text(alloc: Global, base: u32, words: &[u32]) -> Result<Program, Memory>
+/// The only error is want of memory for the list of one segment.
+#[tactic(auto, using(crate::proofs::FromText::text_program))]
+pub fn one_text<'a>(alloc: Global, base: u32, text: &'a [u8]) -> Result<Program<'a>, Memory>
     requires aligned { base % 4 ≡ 0 }
-    requires some { 0 < length words.now }
-    requires few { length words.now ≤ 2 ^ 19 }
-    requires end { base + 4 * length words.now ≤ 2 ^ 32 }
-    ensures { IfOk result (λ p. p ≡ program_of_words base words.now) }
+    requires whole { length text.now % 4 ≡ 0 }
+    requires some { 0 < length text.now }
+    requires few { length text.now ≤ 2 ^ 21 }
+    requires end { base + length text.now ≤ 2 ^ 32 }
+    ensures { IfOk result (λ p. p ≡ program_of_text base text.now) }
 {
-    let mut bytes = Vec::new(alloc);
-    append_words(&mut bytes, words)?;
-    let size = 4 * words.len() as u32;
-    let segments = one(alloc, Segment::of(base, 5, size, bytes))?;
+    let segment = Segment::of(base, 5, text.len() as u32, text);
+    let mut segments = Vec::new(alloc);
+    if segments.push(segment).is_err() {
+        return Err(Memory);
+    }
     Ok(Program {
         entry: base,
         flags: 0,
         segments,
     })
-}
-
-/// A list of one segment.
-fn one(alloc: Global, segment: Segment) -> Result<Vec<Segment>, Memory>
-    ensures { IfOk result (λ list. list.items ≡ segment ∷ []) }
-{
-    let mut segments = Vec::new(alloc);
-    if segments.push(segment).is_err() {
-        return Err(Memory);
-    }
-    Ok(segments)
 }

@@ -1,3 +1,5 @@
+ghost use Rattle.std.specs.Prelude.{◌≡◌, ◌*◌, IfOk, length};
+
 use super::*;
 use std::alloc::Global;
 use std::test::Fail;
@@ -21,36 +23,32 @@ const MIXED: [u32; 65] = [
     0x000100D4, 0x000A6968, 1,
 ];
 
-fn file_of(alloc: Global, words: &[u32]) -> Result<Vec<u8>, Fail> {
+/// The bytes of these words.
+#[tactic(auto, using(crate::proofs::FromWords::length_bytes))]
+fn bytes_of(alloc: Global, words: &[u32]) -> Result<Vec<u8>, Fail>
+    ensures { IfOk result (λ b. length b.items ≡ 4 * length words.now) }
+{
     let mut bytes = Vec::new(alloc);
-    for word in words {
-        bytes.extend_from_slice(&word.to_le_bytes())?;
-    }
+    append_words(&mut bytes, words)?;
     Ok(bytes)
 }
 
-/// The program of a file of these words, which is accepted.
-fn program(alloc: Global, words: &[u32]) -> Result<Option<Program>, Fail> {
-    let bytes = file_of(alloc, words)?;
-    let Ok(e) = read_elf(&bytes[..bytes.len().min(1 << 26)]) else {
-        return Ok(None)
-    };
-    match program_of(alloc, &e) {
-        Ok(program) => Ok(Some(program)),
-        Err(_) => Ok(None),
-    }
+/// The program of a file, where it is accepted.
+fn program<'a>(alloc: Global, file: &'a [u8]) -> Option<Program<'a>> {
+    let e = read_elf(&file[..file.len().min(1 << 26)]).ok()?;
+    program_of(alloc, &e).ok()
 }
 
-/// The program of a plain file whose segment and entry are at another address.
-fn moved(alloc: Global, base: u32) -> Result<Option<Program>, Fail> {
+/// A plain file whose segment and entry are at another address.
+fn moved(alloc: Global, base: u32) -> Result<Vec<u8>, Fail> {
     let mut words = PLAIN;
     words[6] = base;
     words[15] = base;
-    program(alloc, &words)
+    bytes_of(alloc, &words)
 }
 
 /// Each segment as base, rights and size, and the bytes of the file that they have.
-fn segments_said(alloc: Global, p: &Program) -> Result<Vec<(u32, u32, u32, usize)>, Fail> {
+fn segments_said(alloc: Global, p: &Program<'_>) -> Result<Vec<(u32, u32, u32, usize)>, Fail> {
     let mut said = Vec::new(alloc);
     for s in p.segments() {
         said.push((s.base(), s.flags(), s.size(), s.bytes().len()))?;
@@ -59,7 +57,7 @@ fn segments_said(alloc: Global, p: &Program) -> Result<Vec<(u32, u32, u32, usize
 }
 
 /// Where the text begins, and its words.
-fn text_said(alloc: Global, p: &Program) -> Result<(u32, Vec<u32>), Fail> {
+fn text_said(alloc: Global, p: &Program<'_>) -> Result<(u32, Vec<u32>), Fail> {
     let text = p.text();
     let mut words = Vec::new(alloc);
     for k in 0..text.len() {
@@ -71,7 +69,8 @@ fn text_said(alloc: Global, p: &Program) -> Result<(u32, Vec<u32>), Fail> {
 #[test]
 fn program_of_a_file_has_its_segments_and_text(rt: HostRuntime) -> Result<(), Fail> {
     let alloc = rt.alloc();
-    let p = program(alloc, &MIXED)?.expect(&rt, "accepted");
+    let file = bytes_of(alloc, &MIXED)?;
+    let p = program(alloc, &file).expect(&rt, "accepted");
     assert_eq!(rt; (p.entry(), p.flags()), (0x000100B4, 0));
     assert_eq!(rt;
         segments_said(alloc, &p)?.as_slice(),
@@ -88,16 +87,13 @@ fn long_text_said(alloc: Global, size: u32) -> Result<Option<(u32, u32)>, Fail> 
     let mut words = PLAIN;
     words[17] = size;
     words[18] = size;
-    let mut bytes = file_of(alloc, &words[..21])?;
+    let mut bytes = bytes_of(alloc, &words[..21])?;
     let text = vec![in alloc; 0u8; size as usize]?;
     bytes.extend_from_slice(&text)?;
     if let Some(last) = bytes.last_mut() {
         *last = 0x80;
     }
-    let Ok(e) = read_elf(&bytes[..bytes.len().min(1 << 26)]) else {
-        return Ok(None)
-    };
-    let Ok(p) = program_of(alloc, &e) else {
+    let Some(p) = program(alloc, &bytes) else {
         return Ok(None)
     };
     let text = p.text();
@@ -122,12 +118,12 @@ fn longest_text_is_read_to_its_last_word(rt: HostRuntime) -> Result<(), Fail> {
 }
 
 #[test]
-fn words_give_the_program_of_their_file(rt: HostRuntime) -> Result<(), Fail> {
+fn text_gives_the_program_of_its_file(rt: HostRuntime) -> Result<(), Fail> {
     let alloc = rt.alloc();
-    let filed = program(alloc, &PLAIN)?.expect(&rt, "accepted");
-    let made = one_text(alloc, 0x00010000, &[0x05D00893, 0x00700513, 0x00000073]).expect(
-        &rt, "memory",
-    );
+    let file = bytes_of(alloc, &PLAIN)?;
+    let filed = program(alloc, &file).expect(&rt, "accepted");
+    let text = bytes_of(alloc, &[0x05D00893, 0x00700513, 0x00000073])?;
+    let made = one_text(alloc, 0x00010000, &text).expect(&rt, "memory");
     assert_eq!(rt;
         (made.entry(), made.flags()),
         (filed.entry(), filed.flags())
@@ -208,7 +204,8 @@ fn layout_leaves_room_or_says_where_it_ends(rt: HostRuntime) -> Result<(), Fail>
         ),
     ];
     for (base, heap, stack, want) in table {
-        let p = moved(rt.alloc(), base)?.expect(&rt, "accepted");
+        let file = moved(rt.alloc(), base)?;
+        let p = program(rt.alloc(), &file).expect(&rt, "accepted");
         assert!(rt; heap <= 67_108_864 && stack >= 4096 && stack <= 16_777_216 && stack % 16 == 0);
         assert_eq!(rt; lay_out(&p, heap, stack), want, "{base}, {heap}, {stack}");
     }

@@ -78,7 +78,7 @@ fn whole_words(bytes: &[u8], skipped: usize) -> &[u8]
 }
 
 /// The text of an executable segment.
-pub(crate) fn text_of(segment: &Segment) -> TextView<'_>
+pub(crate) fn text_of<'a>(segment: &Segment<'a>) -> TextView<'a>
     requires { HasText segment.now }
     ensures value { result ≡ text_in (Some segment.now) }
     ensures sized { IsSized (text_in (Some segment.now)) }

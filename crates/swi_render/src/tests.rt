@@ -1,6 +1,20 @@
+ghost use Rattle.std.specs.Prelude.{◌≡◌, ◌*◌, IfOk, length};
+
 use super::Part::*;
 use super::*;
+use std::alloc::Global;
 use std::test::Fail;
+use swi_program::{append_words, one_text};
+
+/// The bytes of these words.
+#[tactic(auto, using(swi_program::proofs::FromWords::length_bytes))]
+fn bytes_of(alloc: Global, words: &[u32]) -> Result<Vec<u8>, Fail>
+    ensures { IfOk result (λ b. length b.items ≡ 4 * length words.now) }
+{
+    let mut bytes = Vec::new(alloc);
+    append_words(&mut bytes, words)?;
+    Ok(bytes)
+}
 
 /// ECALL, an illegal word, EBREAK.
 const ECALL: u32 = 0x0000_0073;
@@ -78,7 +92,8 @@ fn each_case_has_its_parts(rt: HostRuntime) -> Result<(), Fail> {
 #[test]
 fn words_of_a_text_are_found_by_number(rt: HostRuntime) -> Result<(), Fail> {
     let words = [0x05D00893, 0x00700513, ECALL, ILLEGAL];
-    let Ok(program) = swi_program::one_text(rt.alloc(), 0x10000, &words) else {
+    let bytes = bytes_of(rt.alloc(), &words)?;
+    let Ok(program) = one_text(rt.alloc(), 0x10000, &bytes) else {
         return Ok(())
     };
     let text = program.text();

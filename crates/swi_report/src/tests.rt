@@ -38,10 +38,9 @@ fn regs() -> Regs {
 
 /// No byte that can be written isn't zero.
 fn zeros(alloc: Global) -> Result<Bus, Fail> {
-    let text = [0x93, 0x02, 0x30].to_vec(alloc)?;
     let segments = [
-        Segment::of(0x10000, 5, 3, text),
-        Segment::of(0x20000, 6, 40, Vec::new(alloc)),
+        Segment::of(0x10000, 5, 3, &[0x93, 0x02, 0x30]),
+        Segment::of(0x20000, 6, 40, &[]),
     ];
     let layout = Layout {
         heap: 0x30000,
@@ -56,13 +55,13 @@ fn zeros(alloc: Global) -> Result<Bus, Fail> {
 /// Two segments that adjoin inside a row, one with zero rows before and behind another, which can't be
 /// read, one that can't be written, and a stack that ends with the last address.
 fn data(alloc: Global) -> Result<Bus, Fail> {
-    let mut late = [0; 17].to_vec(alloc)?;
+    let mut late = [0; 17];
     late[16] = 0x5A;
     let segments = [
-        Segment::of(0x3010, 2, 48, late),
-        Segment::of(0x200C, 6, 8, [0, 0, 0, 0x33].to_vec(alloc)?),
-        Segment::of(0x2006, 6, 6, [0x11, 0, 0, 0x22, 0, 0xFF].to_vec(alloc)?),
-        Segment::of(0x1000, 5, 4, [0x13, 0, 0, 0].to_vec(alloc)?),
+        Segment::of(0x3010, 2, 48, &late),
+        Segment::of(0x200C, 6, 8, &[0, 0, 0, 0x33]),
+        Segment::of(0x2006, 6, 6, &[0x11, 0, 0, 0x22, 0, 0xFF]),
+        Segment::of(0x1000, 5, 4, &[0x13, 0, 0, 0]),
     ];
     let layout = Layout {
         heap: 0x4000,

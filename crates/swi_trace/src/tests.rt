@@ -3,7 +3,7 @@
 //! rows made by hand behind them. Listings of hand-made images.
 #![tactic(auto)]
 
-ghost use Rattle.std.specs.Prelude.{◌<◌, ◌≤◌, length};
+ghost use Rattle.std.specs.Prelude.{◌≡◌, ◌*◌, ◌<◌, ◌≤◌, IfOk, length};
 
 use super::*;
 use std::alloc::Global;
@@ -11,7 +11,7 @@ use std::test::Fail;
 use swi_check::check;
 use swi_image::read_image;
 use swi_outside::MemSink;
-use swi_program::one_text;
+use swi_program::{append_words, one_text};
 
 const UPPER_AND_JUMPS: [(u32, u32, &str); 17] = [
     (0x00000037, 0x00010000, "lui zero, 0x0"),
@@ -287,6 +287,16 @@ const THREE_LINES: [&str; 3] = [
     2 3 00010018 00010014 .\n",
 ];
 
+/// The bytes of these words.
+#[tactic(auto, using(swi_program::proofs::FromWords::length_bytes))]
+fn bytes_of(alloc: Global, words: &[u32]) -> Result<Vec<u8>, Fail>
+    ensures { IfOk result (λ b. length b.items ≡ 4 * length words.now) }
+{
+    let mut bytes = Vec::new(alloc);
+    append_words(&mut bytes, words)?;
+    Ok(bytes)
+}
+
 /// The listing of a block of this image over the program of this text, on a sink of which one call fails.
 fn listed(
     alloc: Global,
@@ -299,11 +309,9 @@ fn listed(
     requires few { length text.now ≤ 8 }
     requires short { length image.now ≤ 32 }
 {
-    let program = one_text(alloc, 0x10000, text)?;
-    let mut bytes = Vec::new(alloc);
-    for word in image {
-        bytes.extend_from_slice(&word.to_le_bytes())?;
-    }
+    let text = bytes_of(alloc, text)?;
+    let program = one_text(alloc, 0x10000, &text)?;
+    let bytes = bytes_of(alloc, image)?;
     if bytes.len() > 128 {
         return Err(Fail::from("too long"));
     }

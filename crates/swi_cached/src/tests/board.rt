@@ -87,7 +87,7 @@ fn run_on<R: CacheRom>(
     rom: R,
     run: &Run,
     image: &ImageView<'_>,
-    program: &Program,
+    program: &Program<'_>,
     layout: &Layout,
 ) -> Result<Came, Fail>
     requires laid_out { IsLayoutOf program.now.segments layout.now }
@@ -149,7 +149,8 @@ fn run_on<R: CacheRom>(
 
 /// What stands after a run over the service that scans, and over that with chains.
 fn both(alloc: Global, run: &Run) -> Result<[Came; 2], Fail> {
-    let program = program_with(alloc, run.text, run.rights)?;
+    let file = file_with(alloc, run.text, run.rights)?;
+    let program = program_in(alloc, &file)?;
     let Ok(layout) = lay_out(&program, 1 << 20, 1 << 16) else {
         return Err(Fail::from("no room"));
     };

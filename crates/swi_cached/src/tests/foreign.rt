@@ -133,7 +133,7 @@ fn stepped<R: CacheRom>(
     alloc: Global,
     rom: R,
     image: &ImageView<'_>,
-    program: &Program,
+    program: &Program<'_>,
     layout: &Layout,
 ) -> Result<Steps, Fail>
     requires laid_out { IsLayoutOf program.now.segments layout.now }
@@ -188,7 +188,8 @@ fn stepped<R: CacheRom>(
 #[test]
 fn foreign_word_is_executed_by_both(rt: HostRuntime) -> Result<(), Fail> {
     let alloc = rt.alloc();
-    let program = program_with(alloc, SEVEN, 5)?;
+    let file = file_with(alloc, SEVEN, 5)?;
+    let program = program_in(alloc, &file)?;
     let Ok(layout) = lay_out(&program, 1 << 20, 1 << 16) else {
         return Err(Fail::from("no room"));
     };
