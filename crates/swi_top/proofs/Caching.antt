@@ -34,7 +34,7 @@ use Rattle.swi_board.specs.Faults as board
 use Rattle.swi_memory.specs.Bus.{AreaData}
 use Rattle.std.proofs.Math.Seq.{take-append_seam, take-length}
 use Rattle.std.proofs.lemmas.List.{take-append-drop}
-use Rattle.swi_cached.specs.Cached.{CachedRun, IsCounted, IsFlatRun, run_of, slots_of, end_of, program_after, told_after, instructions_after, fetches_after, record_after, unfetched}
+use Rattle.swi_cached.specs.Cached.{CachedRun, IsCounted, run_of, slots_of, end_of, program_after, told_after, instructions_after, fetches_after, record_after, unfetched}
 use Rattle.swi_cached.proofs.Failed.{is_flat_run, stops_before_store}
 use Rattle.swi_answer.specs.declared.answer.Ending.{Ending}
 use Rattle.swi_answer.specs.declared.answer.Refusal.{Refusal}
@@ -359,131 +359,137 @@ pub ending_is : {x : Ending} {e f : Option End} {a b n m : ℕ} → x ≡ ending
 ending_is {x} {e} {f} {a} {b} {n} {m} is ends pc steps =
     is ∙ ap (λ (k : Option End). ending_by k a n) ends ∙ ap (λ (k : ℕ). ending_by f k n) pc ∙ ap (λ (k : ℕ). ending_by f b k) steps
 
--- The run came to its end. Then the output gains the report, from `mid` on, and the errors the last lines, from `em` on.
-module _ {o : RunOptions} {cache : CacheOptions} {v : ImageData} {p : ProgramData} {l : Layout} {d : Devices} {t : Telling} {h : HartData} {r : Record} {i mid out em : Option (List ℕ)} {ram : RamState} {fi mo fo me : ℕ}
-    (t_is : t ≡ telling_of o.reports.trace) (held : 4 * v.block_words ≤ cache.cache_bytes) (kept : KeepsBeyond (slots_of cache.cache_bytes v * v.block_words) d.ram ram)
-    (as_ended : (left : List ℕ) → d.input ≡ Some left → run.Ended (asked o cache v p l t left) h r i d.output mid d.error em)
-    (as_after : (left : List ℕ) → d.input ≡ Some left → run.RamAfter (asked o cache v p l t left) d.ram ram)
-    (as_counted : (left : List ℕ) → IsCounted (asked o cache v p l t left)) (quiet : IsQuiet d ram.faults fi mo me) where
-  ended : (left : List ℕ) → d.input ≡ Some left → run.Ended (run_with o cache v p l left) h r i d.output mid d.error em
-  ended left told = as_run (λ (k : CachedRun). run.Ended k h r i d.output mid d.error em) t o cache v p l left t_is (as_ended left told)
+-- a run that came to its end, on a board with this hart and this record of its service, and with this history
+pub record IsEnded (o : RunOptions) (cache : CacheOptions) (v : ImageData) (p : ProgramData) (l : Layout) (d : Devices) (h : HartData) (r : Record) (i mid em : Option (List ℕ)) (ram : RamState) (history : Option (List ℕ)) : Type 0 where
+  pub ended : (left : List ℕ) → d.input ≡ Some left → run.Ended (run_with o cache v p l left) h r i d.output mid d.error em
+  pub told : (left : List ℕ) → d.input ≡ Some left → history ≡ history_of (telling_of o.reports.trace) (addresses o.limits.steps (flat_start p l o.reports.calls left))
+  pub short : (left : List ℕ) → d.input ≡ Some left → run.IsShort h
+  pub after : (left : List ℕ) → d.input ≡ Some left → run.RamAfter (run_with o cache v p l left) d.ram ram
+  pub counted : (left : List ℕ) → IsCounted (run_with o cache v p l left)
 
-  after : (left : List ℕ) → d.input ≡ Some left → run.RamAfter (run_with o cache v p l left) d.ram ram
-  after left told = as_run (λ (k : CachedRun). run.RamAfter k d.ram ram) t o cache v p l left t_is (as_after left told)
+pub is_ended : {o : RunOptions} {cache : CacheOptions} {v : ImageData} {p : ProgramData} {l : Layout} {d : Devices} {h : HartData} {r : Record} {i mid em : Option (List ℕ)} {ram : RamState} {history : Option (List ℕ)} {t : Telling} →
+    t ≡ telling_of o.reports.trace →
+    ((left : List ℕ) → d.input ≡ Some left → run.Ended (asked o cache v p l t left) h r i d.output mid d.error em) →
+    ((left : List ℕ) → d.input ≡ Some left → history ≡ history_of t (addresses o.limits.steps (flat_start p l o.reports.calls left))) →
+    ((left : List ℕ) → d.input ≡ Some left → run.IsShort h) → ((left : List ℕ) → d.input ≡ Some left → run.RamAfter (asked o cache v p l t left) d.ram ram) →
+    ((left : List ℕ) → IsCounted (asked o cache v p l t left)) → IsEnded o cache v p l d h r i mid em ram history
+is_ended {o} {cache} {v} {p} {l} {d} {h} {r} {i} {mid} {em} {ram} {history} {t} is ended told short after counted = record {
+  ended = λ left x. as_run (λ (k : CachedRun). run.Ended k h r i d.output mid d.error em) t o cache v p l left is (ended left x);
+  told = λ left x. told left x ∙ ap (λ (k : Telling). history_of k (addresses o.limits.steps (flat_start p l o.reports.calls left))) is;
+  short = short;
+  after = λ left x. as_run (λ (k : CachedRun). run.RamAfter k d.ram ram) t o cache v p l left is (after left x);
+  counted = λ left. as_run IsCounted t o cache v p l left is (counted left);
+}
 
-  counted : (left : List ℕ) → IsCounted (run_with o cache v p l left)
-  counted left = as_run IsCounted t o cache v p l left t_is (as_counted left)
+-- Behind it the output gains the report, from `mid` on, and the errors the last lines, from `em` on.
+module _ {o : RunOptions} {cache : CacheOptions} {v : ImageData} {p : ProgramData} {l : Layout} {d : Devices} {h : HartData} {r : Record} {i mid em : Option (List ℕ)} {ram : RamState} {history : Option (List ℕ)} {fi mo me : ℕ}
+    (a : IsEnded o cache v p l d h r i mid em ram history) (held : 4 * v.block_words ≤ cache.cache_bytes) (kept : KeepsBeyond (slots_of cache.cache_bytes v * v.block_words) d.ram ram)
+    (quiet : IsQuiet d ram.faults fi mo me) where
+  abbrev of : List ℕ → CachedRun
+  of left = run_with o cache v p l left
 
-  -- a sink failed behind it
-  behind : (e : Option (List ℕ)) (fe : ℕ) → HasCauses {T = Ending} d.faults (record d.faults { out = fo; err = fe }) (Err refusal.SinkFault) →
-      ((left : List ℕ) → d.input ≡ Some left → FailedAfterRun (told_after (run_with o cache v p l left) (run_with o cache v p l left).limit) (cached_report o (run_with o cache v p l left))
-      (last_lines o.reports.trace (run_with o cache v p l left)) d (ran_all d i out e ram fi fo fe) refusal.SinkFault []) →
+  -- a sink failed
+  behind : (out e : Option (List ℕ)) (fo fe : ℕ) → HasCauses {T = Ending} d.faults (record d.faults { out = fo; err = fe }) (Err refusal.SinkFault) →
+      ((left : List ℕ) → d.input ≡ Some left →
+      FailedAfterRun (told_after (of left) (of left).limit) (cached_report o (of left)) (last_lines o.reports.trace (of left)) d (ran_all d i out e ram fi fo fe) refusal.SinkFault []) →
       RunsOnCache o cache v p l d (ran_all d i out e ram fi fo fe) (Err refusal.SinkFault)
-  behind e fe causes broke = record {
+  behind out e fo fe causes broke = record {
     done = tt;
     holds = tt;
     refused = tt;
     quiet = λ never. absurd (never tt);
-    failed = λ _. (held, λ left told. failed_so o (run_with o cache v p l left) d (ran_all d i out e ram fi fo fe) refusal.SinkFault [] (inr (inr (broke left told, after left told))));
+    failed = λ _. (held, λ left told. failed_so o (of left) d (ran_all d i out e ram fi fo fe) refusal.SinkFault [] (inr (inr (broke left told, a.after left told))));
     beyond = kept;
     causes = subst (λ (n : ℕ). HasCauses {T = Ending} d.faults (record d.faults { input = n; out = fo; err = fe; ram = ram.faults }) (Err refusal.SinkFault)) (sym (ap (λ (x : board.Faults). x.input) quiet))
         (subst (λ (n : ℕ). HasCauses {T = Ending} d.faults (record d.faults { out = fo; err = fe; ram = n }) (Err refusal.SinkFault)) (sym (ap (λ (x : board.Faults). x.ram) quiet)) causes);
   }
 
-  wrote : (left : List ℕ) → d.input ≡ Some left → board_report o h r ≡ cached_report o (run_with o cache v p l left)
-  wrote left told = let b = ended left told in report_is o (run_with o cache v p l left) h r b.machine b.count b.record_is (counted left)
+  wrote : (left : List ℕ) → d.input ≡ Some left → board_report o h r ≡ cached_report o (of left)
+  wrote left told = let b = a.ended left told in report_is o (of left) h r b.machine b.count b.record_is (a.counted left)
 
-  pub report_broke : AppendsPrefix mid out (board_report o h r) → mo ≤ fo → Rose mo fo → RunsOnCache o cache v p l d (ran_all d i out em ram fi fo me) (Err refusal.SinkFault)
-  report_broke part later rose =
+  pub report_broke : {out : Option (List ℕ)} {fo : ℕ} → AppendsPrefix mid out (board_report o h r) → mo ≤ fo → Rose mo fo → RunsOnCache o cache v p l d (ran_all d i out em ram fi fo me) (Err refusal.SinkFault)
+  report_broke {out} {fo} part later rose =
       let first : mo ≡ d.faults.out = ap (λ (x : board.Faults). x.out) quiet in
-      behind em me
+      behind out em fo me
       (subst (λ (n : ℕ). HasCauses {T = Ending} d.faults (record d.faults { out = fo; err = n }) (Err refusal.SinkFault)) (sym (ap (λ (x : board.Faults). x.err) quiet))
       (out_causes d.faults fo (subst (λ (n : ℕ). n ≤ fo) first later) (subst (λ (n : ℕ). Rose n fo) first rose)))
       (λ left told.
-      let c = run_with o cache v p l left in
-      let b = ended left told in record {
+      let b = a.ended left told in record {
         output_front = part.0;
-        output = Appends-append d.output mid out (end_of c).output (take part.0 (cached_report o c)) b.output
+        output = Appends-append d.output mid out (end_of (of left)).output (take part.0 (cached_report o (of left))) b.output
             (subst (λ (y : List ℕ). Appends mid out (take part.0 y)) (wrote left told) part.1);
         error_front = 0;
-        error = to_nil d.error em ((told_after c c.limit).error ++ []) (to_nil d.error em (told_after c c.limit).error b.error);
+        error = to_nil d.error em ((told_after (of left) (of left).limit).error ++ []) (to_nil d.error em (told_after (of left) (of left).limit).error b.error);
         behind = inl refl;
         input = b.input;
         fault = refl;
       })
 
-  -- the report was written, and of the last lines what could be
-  module _ {e : Option (List ℕ)} {fe : ℕ} {history : Option (List ℕ)} {bus : List AreaData}
-      (told_is : (left : List ℕ) → d.input ≡ Some left → history ≡ history_of t (addresses o.limits.steps (flat_start p l o.reports.calls left)))
-      (bus_is : bus ≡ h.machine.bus) (written : Appends mid out (board_report o h r)) (same_out : fo ≡ mo) where
-    history_now : (left : List ℕ) → d.input ≡ Some left → history ≡ history_of (telling_of o.reports.trace) (addresses o.limits.steps (flat_start p l o.reports.calls left))
-    history_now left told = told_is left told ∙ ap (λ (k : Telling). history_of k (addresses o.limits.steps (flat_start p l o.reports.calls left))) t_is
+  -- the report was written, and of the last lines a front
+  pub lines_broke : {out e : Option (List ℕ)} {fo fe : ℕ} {bus : List AreaData} → Appends mid out (board_report o h r) → fo ≡ mo → bus ≡ h.machine.bus →
+      AppendsPrefix em e (last_told o.reports.trace bus (addresses_in history)) → me ≤ fe → Rose me fe → RunsOnCache o cache v p l d (ran_all d i out e ram fi fo fe) (Err refusal.SinkFault)
+  lines_broke {out} {e} {fo} {fe} {bus} written same_out bus_is part later rose =
+      let first : me ≡ d.faults.err = ap (λ (x : board.Faults). x.err) quiet in
+      behind out e fo fe
+      (subst (λ (n : ℕ). HasCauses {T = Ending} d.faults (record d.faults { out = n; err = fe }) (Err refusal.SinkFault)) (sym (same_out ∙ ap (λ (x : board.Faults). x.out) quiet))
+      (err_causes d.faults fe (subst (λ (n : ℕ). n ≤ fe) first later) (subst (λ (n : ℕ). Rose n fe) first rose)))
+      (λ left told.
+      let b = a.ended left told in
+      let lines = last_lines o.reports.trace (of left) in
+      let q = some_shown o.reports.trace (of left) em e h.machine bus history bus_is b.machine (a.told left told) part in record {
+        output_front = length (cached_report o (of left));
+        output = Appends-append d.output mid out (end_of (of left)).output (take (length (cached_report o (of left))) (cached_report o (of left))) b.output
+            (subst (λ (y : List ℕ). Appends mid out y) (wrote left told ∙ sym (take-length (cached_report o (of left)))) written);
+        error_front = length (take q.0 lines);
+        error = to_nil d.error e _ (subst (λ (y : List ℕ). Appends d.error e ((told_after (of left) (of left).limit).error ++ y)) (sym (seam q.0 lines _))
+            (Appends-append d.error em e (told_after (of left) (of left).limit).error (take q.0 lines) b.error q.1));
+        behind = inr refl;
+        input = b.input;
+        fault = refl;
+      })
+    where
+      seam : (j : ℕ) (xs ys : List ℕ) → take (length (take j xs)) (xs ++ ys) ≡ take j xs
+      seam j xs ys =
+          ap (λ (l : List ℕ). take (length (take j xs)) (l ++ ys)) (sym (take-append-drop j xs))
+          ∙ ap (λ (l : List ℕ). take (length (take j xs)) l) (append_assoc (take j xs) (drop j xs) ys) ∙ take-append_seam (take j xs) (drop j xs ++ ys)
 
-    out_is : fo ≡ d.faults.out
-    out_is = same_out ∙ ap (λ (x : board.Faults). x.out) quiet
+      err_causes : (f : Faults) (n : ℕ) → f.err ≤ n → Rose f.err n → HasCauses {T = Ending} f (record f { err = n }) (Err refusal.SinkFault)
+      err_causes f n later rose = record {
+        shelf = quiet_cause f.shelf _ (λ x. let bad : ⊥ = cc in bad);
+        source = quiet_cause f.input _ (λ x. let bad : ⊥ = cc in bad);
+        ram = quiet_cause f.ram _ (λ x. let bad : ⊥ = cc in bad);
+        out_later = omega arith;
+        err_later = later;
+        sink = λ _. inr rose;
+        out_told = inl refl;
+        quiet = tt;
+      }
 
-    pub lines_broke : AppendsPrefix em e (last_told o.reports.trace bus (addresses_in history)) → me ≤ fe → Rose me fe → RunsOnCache o cache v p l d (ran_all d i out e ram fi fo fe) (Err refusal.SinkFault)
-    lines_broke part later rose =
-        let first : me ≡ d.faults.err = ap (λ (x : board.Faults). x.err) quiet in
-        behind e fe
-        (subst (λ (n : ℕ). HasCauses {T = Ending} d.faults (record d.faults { out = n; err = fe }) (Err refusal.SinkFault)) (sym out_is)
-        (err_causes d.faults fe (subst (λ (n : ℕ). n ≤ fe) first later) (subst (λ (n : ℕ). Rose n fe) first rose)))
-        (λ left told.
-        let c = run_with o cache v p l left in
-        let b = ended left told in
-        let q = some_shown o.reports.trace c em e h.machine bus history bus_is b.machine (history_now left told) part in record {
-          output_front = length (cached_report o c);
-          output = Appends-append d.output mid out (end_of c).output (take (length (cached_report o c)) (cached_report o c)) b.output
-              (subst (λ (y : List ℕ). Appends mid out y) (wrote left told ∙ sym (take-length (cached_report o c))) written);
-          error_front = length (take q.0 (last_lines o.reports.trace c));
-          error = to_nil d.error e _ (subst (λ (y : List ℕ). Appends d.error e ((told_after c c.limit).error ++ y)) (sym (seam q.0 (last_lines o.reports.trace c) _))
-              (Appends-append d.error em e (told_after c c.limit).error (take q.0 (last_lines o.reports.trace c)) b.error q.1));
-          behind = inr refl;
-          input = b.input;
-          fault = refl;
-        })
-      where
-        seam : (j : ℕ) (xs ys : List ℕ) → take (length (take j xs)) (xs ++ ys) ≡ take j xs
-        seam j xs ys =
-            ap (λ (l : List ℕ). take (length (take j xs)) (l ++ ys)) (sym (take-append-drop j xs))
-            ∙ ap (λ (l : List ℕ). take (length (take j xs)) l) (append_assoc (take j xs) (drop j xs) ys) ∙ take-append_seam (take j xs) (drop j xs ++ ys)
-
-        err_causes : (f : Faults) (n : ℕ) → f.err ≤ n → Rose f.err n → HasCauses {T = Ending} f (record f { err = n }) (Err refusal.SinkFault)
-        err_causes f n later rose = record {
-          shelf = quiet_cause f.shelf _ (λ x. let bad : ⊥ = cc in bad);
-          source = quiet_cause f.input _ (λ x. let bad : ⊥ = cc in bad);
-          ram = quiet_cause f.ram _ (λ x. let bad : ⊥ = cc in bad);
-          out_later = omega arith;
-          err_later = later;
-          sink = λ _. inr rose;
-          out_told = inl refl;
-          quiet = tt;
-        }
-
-    pub run_ended : {x : Ending} → Appends em e (last_told o.reports.trace bus (addresses_in history)) → fe ≡ me → ((left : List ℕ) → d.input ≡ Some left → run.IsShort h) →
-        x ≡ ending_by h.machine.ending h.machine.pc h.machine.steps → RunsOnCache o cache v p l d (ran_all d i out e ram fi fo fe) (Ok x)
-    run_ended {x} shown same_err short ending = record {
-      done = λ left told.
-          let c = run_with o cache v p l left in
-          let b = ended left told in record {
-            ran = record {
-              ending = ending ∙ ap (λ (m : Machine). ending_by m.ending m.pc m.steps) b.machine;
-              input = b.input;
-              output = Appends-append d.output mid out (end_of c).output (cached_report o c) b.output (subst (λ (y : List ℕ). Appends mid out y) (wrote left told) written);
-              error = to_nil d.error e (shown_error o.reports.trace c) (all_shown o.reports.trace c d.error em e h.machine bus history bus_is b.machine (history_now left told) b.error shown);
-            };
-            cached = cached_run_is c h r i d.output mid d.error em d.ram ram b (short left told) (after left told) (counted left);
+  -- both were written
+  pub run_ended : {out e : Option (List ℕ)} {fo fe : ℕ} {bus : List AreaData} {x : Ending} → Appends mid out (board_report o h r) → fo ≡ mo → bus ≡ h.machine.bus →
+      Appends em e (last_told o.reports.trace bus (addresses_in history)) → fe ≡ me → x ≡ ending_by h.machine.ending h.machine.pc h.machine.steps →
+      RunsOnCache o cache v p l d (ran_all d i out e ram fi fo fe) (Ok x)
+  run_ended {out} {e} {fo} {fe} {bus} {x} written same_out bus_is shown same_err ending = record {
+    done = λ left told.
+        let b = a.ended left told in record {
+          ran = record {
+            ending = ending ∙ ap (λ (m : Machine). ending_by m.ending m.pc m.steps) b.machine;
+            input = b.input;
+            output = Appends-append d.output mid out (end_of (of left)).output (cached_report o (of left)) b.output (subst (λ (y : List ℕ). Appends mid out y) (wrote left told) written);
+            error = to_nil d.error e (shown_error o.reports.trace (of left)) (all_shown o.reports.trace (of left) d.error em e h.machine bus history bus_is b.machine (a.told left told) b.error shown);
           };
-      holds = held;
-      refused = tt;
-      quiet = tt;
-      failed = tt;
-      beyond = kept;
-      causes = subst (λ (n : ℕ). HasCauses d.faults (record d.faults { input = n; out = fo; err = fe; ram = ram.faults }) (Ok x)) (sym (ap (λ (x : board.Faults). x.input) quiet))
-          (subst (λ (n : ℕ). HasCauses d.faults (record d.faults { out = n; err = fe; ram = ram.faults }) (Ok x)) (sym out_is)
-          (subst (λ (n : ℕ). HasCauses d.faults (record d.faults { err = n; ram = ram.faults }) (Ok x)) (sym (same_err ∙ ap (λ (x : board.Faults). x.err) quiet))
-          (subst (λ (n : ℕ). HasCauses d.faults (record d.faults { ram = n }) (Ok x)) (sym (ap (λ (x : board.Faults). x.ram) quiet)) (ok_causes d.faults x))));
-    }
+          cached = cached_run_is (of left) h r i d.output mid d.error em d.ram ram b (a.short left told) (a.after left told) (a.counted left);
+        };
+    holds = held;
+    refused = tt;
+    quiet = tt;
+    failed = tt;
+    beyond = kept;
+    causes = subst (λ (n : ℕ). HasCauses d.faults (record d.faults { input = n; out = fo; err = fe; ram = ram.faults }) (Ok x)) (sym (ap (λ (x : board.Faults). x.input) quiet))
+        (subst (λ (n : ℕ). HasCauses d.faults (record d.faults { out = n; err = fe; ram = ram.faults }) (Ok x)) (sym (same_out ∙ ap (λ (x : board.Faults). x.out) quiet))
+        (subst (λ (n : ℕ). HasCauses d.faults (record d.faults { err = n; ram = ram.faults }) (Ok x)) (sym (same_err ∙ ap (λ (x : board.Faults). x.err) quiet))
+        (subst (λ (n : ℕ). HasCauses d.faults (record d.faults { ram = n }) (Ok x)) (sym (ap (λ (x : board.Faults). x.ram) quiet)) (ok_causes d.faults x))));
+  }
 
 -- ---- from the run of a file's program to what is said of its file
 

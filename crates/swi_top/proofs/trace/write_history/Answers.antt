@@ -3,7 +3,7 @@ use Rattle.swi_outside.specs.Laws.{Appends-none}
 use Rattle.swi_outside.proofs.SinkLemmas.{write_failed, write_done}
 use Rattle.swi_cached.specs.Told.{lines_at}
 use Rattle.swi_top.specs.Tracing.{one_of}
-use Rattle.swi_top.proofs.Tracing.{all_lines, line_broken, line_more}
+use Rattle.swi_top.proofs.Tracing.{line_broken, line_more}
 use Rattle.swi_top.proofs.trace.write_history.Goals as goal
 
 pub loop-k-init : goal.loop-k-init
