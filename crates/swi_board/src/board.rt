@@ -22,6 +22,8 @@ ghost use Rattle.swi_board.specs.Ran.{Ran, BrokeOff, RamBrokeOff, Followed};
 ghost use Rattle.swi_board.specs.Calling.{Made, BrokenStep, OnDevice, with_memory};
 ghost use Rattle.swi_board.specs.Faults.{HasCauses};
 ghost use Rattle.swi_outside.specs.CacheRam.{KeepsBeyond};
+ghost use Rattle.swi_board.specs.Service.{Transferred};
+ghost use Rattle.swi_board.specs.MachineStep.{MachineStepped};
 ghost use Rattle.swi_board.specs.Runs.{most, fetched_by, Grown};
 
 use crate::block::{block_place, run_block};
@@ -77,16 +79,10 @@ fn enter<R: CacheRom, M: CacheRam>(
     ensures hart { OnOk result (hart.new
         ≡ record hart.old { control = hart.new.control; count = hart.old.count + entries image.now hart.old.machine.pc; booted = true }) }
     ensures control { OnOk result (Arrives image.now (R.kept rom.new) hart.old.machine.pc hart.new.control) }
-    ensures policy { OnOk result (R.kept rom.new ≡ moved (R.policy (R.setting rom.old))
-        (R.kept rom.old) image.now (entry_transfer image.now hart.old.machine.pc)) }
-    ensures setting { R.setting rom.new ≡ R.setting rom.old }
-    ensures sound { OnOk result (R.sound rom.new image.now (M.state ram.new).words) }
-    ensures unused { OnOk result (SameFrom (R.extent (R.setting rom.old) (R.kept rom.new))
-        (M.state ram.old).words (M.state ram.new).words) }
-    ensures ram { OnOk result (RamServed (R.span (R.setting rom.old))
-        (writes (R.kept rom.new) - writes (R.kept rom.old))
-        (M.state ram.old) (M.state ram.new)) }
-    ensures failed { OnErr result (RamFailed (R.span (R.setting rom.old)) (M.state ram.old) (M.state ram.new)) }
+    ensures served { Transferred R.policy R.extent R.span image.now (entry_transfer image.now hart.old.machine.pc)
+        (R.sound rom.new image.now (M.state ram.new).words)
+        (record { kept = R.kept rom.old; setting = R.setting rom.old; ram = M.state ram.old })
+        (record { kept = R.kept rom.new; setting = R.setting rom.new; ram = M.state ram.new }) result }
 {
     let pc = hart.origin_pc();
     if image.place(pc).is_some() {
