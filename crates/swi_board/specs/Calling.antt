@@ -23,7 +23,7 @@ use Rattle.swi_board.specs.declared.hart.Control.TheVariants.{At}
 use Rattle.swi_image.specs.Format.{ImageData}
 use Rattle.swi_rom.specs.Record.{Record}
 use Rattle.swi_board.specs.Board.{BoardStep}
-use Rattle.swi_board.specs.Hart.{HartData, Stepped, hart_after, behind}
+use Rattle.swi_board.specs.Hart.{HartData, Stepped, hart_after, behind, call_stepped}
 
 -- where control is after a call, whatever was read
 pub record Called (i b o : ℕ) (stage : Stage) (h h' : HartData) : Type 0 where
@@ -78,6 +78,15 @@ WordWent x word call i b o stage h h' left left' =
     ((input : List ℕ) → h' ≡ hart_after h (word input))
     ⊎ ((x ≡ instr.Ecall) × (text_store_of x h.machine.regs h.machine.bus ≡ None) × ((input : List ℕ) → word input ≡ call input)
     × Called i b o stage h h' × Moved h.machine h'.machine.bus left left')
+
+-- a word at this place that leads to this step, by the answer: how control went on from it; and a device breaks off only a system call,
+-- of which a front of the buffer may be filled
+pub record WordStepped {T : Type 0} (x : Instr) (i b o : ℕ) (stage : Stage) (word : List ℕ → Stepped) (h h' : HartData)
+    (before after : Devices) (faults faults_after : Faults) (result : Result T CallFault) : Type 0 where
+  pub executed : WordExecuted word h h' before after faults faults_after result
+  pub went : OnOk result (WordWent x word (λ left. call_stepped i b o stage h.machine left) i b o stage h h' before.input after.input)
+  pub asked : OnErr result ((input : List ℕ) → word input ≡ call_stepped i b o stage h.machine input)
+  pub moved : OnErr result (Moved h.machine h'.machine.bus before.input after.input)
 
 -- a step of the board that was made so over this input
 pub record Made (v : ImageData) (new : Record) (h h' : HartData) (left : List ℕ) (left' out out' err err' : Option (List ℕ)) : Type 0 where

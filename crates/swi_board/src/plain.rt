@@ -18,7 +18,7 @@ ghost use Rattle.swi_board.specs.Calling.{Made, BrokenStep, OnDevice, with_memor
 ghost use Rattle.swi_board.specs.Exchanged.{Exchanged, PlainAt, ExecutesHeld, is_plain};
 ghost use Rattle.swi_board.specs.Faults.{HasCauses};
 ghost use Rattle.swi_board.specs.Leaving.{Home, RamStepped, RamBroken, broken, moved, transfer_at};
-ghost use Rattle.swi_board.specs.MachineStep.{MachineStepped};
+ghost use Rattle.swi_board.specs.MachineStep.{MachineStepped, ReadyToStep};
 
 use crate::fault::BoardFault;
 use crate::hart::{Control, Hart, Role, Stage};
@@ -80,41 +80,23 @@ pub(crate) fn plain_step<R: CacheRom, M: CacheRam, I: Source, O: Sink, E: Sink>(
     at: (u32, u32, u32, Stage),
     own: u32,
 ) -> Result<(), BoardFault>
-    requires running { hart.old.machine.ending ≡ None }
+    requires ready { ReadyToStep image.now (R.kept rom.old) hart.old }
     requires unfailed { hart.old.failed ≡ false }
     requires word { hart.old.machine.pc < 2 ^ 32 }
     requires control { hart.old.control ≡ Control.At at.0 at.1 at.2 at.3 }
     requires home { Home image.now (R.kept rom.old) hart.old.machine at.0 at.1 at.2 at.3 }
     requires own { own ≡ word_at image.now at.1 at.2 }
     requires plain { is_plain (decoded own) ≡ true }
-    requires few { hart.old.machine.steps < 2 ^ 48 }
-    requires count { hart.old.count < 2 ^ 56 }
-    requires services { (R.kept rom.old).counts.services < 2 ^ 50 }
-    requires fits { Fits image.now (R.kept rom.old) hart.old }
     requires sound { R.sound rom.old image.now (M.state ram.old).words
         ⊎ Exchanged (λ words. R.sound rom.old image.now words) image.now (M.state ram.old).words hart.old.control }
     ensures stepped { MachineStepped R.policy R.extent R.span image.now
         (R.sound rom.old image.now (M.state ram.old).words) (R.sound rom.new image.now (M.state ram.new).words)
-        (record {
-          hart = hart.old;
-          kept = R.kept rom.old;
-          setting = R.setting rom.old;
-          ram = M.state ram.old;
-          input = I.left input.old;
-          output = O.held out.old;
-          error = E.held err.old;
-          faults = record { input = I.faults input.old; out = O.faults out.old; err = E.faults err.old };
-        })
-        (record {
-          hart = hart.new;
-          kept = R.kept rom.new;
-          setting = R.setting rom.new;
-          ram = M.state ram.new;
-          input = I.left input.new;
-          output = O.held out.new;
-          error = E.held err.new;
-          faults = record { input = I.faults input.new; out = O.faults out.new; err = E.faults err.new };
-        }) result }
+        (record { hart = hart.old; kept = R.kept rom.old; setting = R.setting rom.old; ram = M.state ram.old })
+        (record { hart = hart.new; kept = R.kept rom.new; setting = R.setting rom.new; ram = M.state ram.new })
+        (record { input = I.left input.old; output = O.held out.old; error = E.held err.old })
+        (record { input = I.left input.new; output = O.held out.new; error = E.held err.new })
+        (record { input = I.faults input.old; out = O.faults out.old; err = E.faults err.old })
+        (record { input = I.faults input.new; out = O.faults out.new; err = E.faults err.new }) result }
     ensures executes { OnOk result ((i b o : ℕ) (stage : Stage) →
         PlainAt image.now (M.state ram.old).words hart.old.control i b o stage →
         ExecutesHeld hart.old hart.new rom.old rom.new i b o stage (M.state ram.old).words (M.state ram.new).words

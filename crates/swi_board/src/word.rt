@@ -13,7 +13,7 @@ ghost use Rattle.swi_calls.specs.Flat.{ended, call_made};
 ghost use Rattle.swi_board.specs.declared.hart.Control.{Control};
 ghost use Rattle.swi_board.specs.Hart.{hart_after, word_stepped, call_stepped, original};
 ghost use Rattle.swi_board.specs.Leaving.{quick_role, changes_register};
-ghost use Rattle.swi_board.specs.Calling.{Called as CalledAt, Moved, QuietWord, ReadyAt, WordExecuted, WordWent};
+ghost use Rattle.swi_board.specs.Calling.{Called as CalledAt, Moved, QuietWord, ReadyAt, WordExecuted, WordStepped};
 
 use crate::hart::{Hart, Role, Stage};
 use crate::step::role;
@@ -197,18 +197,12 @@ pub(crate) fn word_step<I: Source, O: Sink, E: Sink>(
     err: &mut E,
 ) -> Result<(), CallFault>
     requires { ReadyAt hart.old at.0 at.1 at.2 at.3 }
-    ensures word { WordExecuted (λ left. word_stepped role at.0 at.1 at.2 at.3 hart.old.machine x.now left) hart.old hart.new
+    ensures { WordStepped x.now at.0 at.1 at.2 at.3
+        (λ left. word_stepped role at.0 at.1 at.2 at.3 hart.old.machine x.now left) hart.old hart.new
         (record { input = I.left input.old; output = O.held out.old; error = E.held err.old })
         (record { input = I.left input.new; output = O.held out.new; error = E.held err.new })
         (record { input = I.faults input.old; out = O.faults out.old; err = E.faults err.old })
         (record { input = I.faults input.new; out = O.faults out.new; err = E.faults err.new }) result }
-    ensures went { OnOk result (WordWent x.now
-        (λ left. word_stepped role at.0 at.1 at.2 at.3 hart.old.machine x.now left)
-        (λ left. call_stepped at.0 at.1 at.2 at.3 hart.old.machine left) at.0 at.1 at.2 at.3 hart.old hart.new
-        (I.left input.old) (I.left input.new)) }
-    ensures asked { OnErr result ((input : List ℕ) → word_stepped role at.0 at.1 at.2 at.3 hart.old.machine x.now input
-        ≡ call_stepped at.0 at.1 at.2 at.3 hart.old.machine input) }
-    ensures moved { OnErr result (Moved hart.old.machine hart.new.machine.bus (I.left input.old) (I.left input.new)) }
 {
     if run_word(hart, at, x, role) {
         call_word(hart, (at.0, at.1, at.2, at.3), input, out, err)
@@ -230,21 +224,12 @@ pub(crate) fn role_step<I: Source, O: Sink, E: Sink>(
     err: &mut E,
 ) -> Result<(), CallFault>
     requires { ReadyAt hart.old at.0 at.1 at.2 at.3 }
-    ensures word { WordExecuted (λ left. word_stepped (quick_role at.3 x.now (original hart.old.machine)) at.0 at.1 at.2 at.3 hart.old.machine x.now left)
-        hart.old hart.new
+    ensures { WordStepped x.now at.0 at.1 at.2 at.3
+        (λ left. word_stepped (quick_role at.3 x.now (original hart.old.machine)) at.0 at.1 at.2 at.3 hart.old.machine x.now left) hart.old hart.new
         (record { input = I.left input.old; output = O.held out.old; error = E.held err.old })
         (record { input = I.left input.new; output = O.held out.new; error = E.held err.new })
         (record { input = I.faults input.old; out = O.faults out.old; err = E.faults err.old })
         (record { input = I.faults input.new; out = O.faults out.new; err = E.faults err.new }) result }
-    ensures went { OnOk result (WordWent x.now (λ left. word_stepped (quick_role at.3 x.now
-        (original hart.old.machine)) at.0 at.1 at.2 at.3 hart.old.machine x.now left)
-        (λ left. call_stepped at.0 at.1 at.2 at.3 hart.old.machine left) at.0 at.1 at.2 at.3 hart.old hart.new
-        (I.left input.old) (I.left input.new)) }
-    ensures asked { OnErr result ((input : List ℕ) →
-        word_stepped (quick_role at.3 x.now
-        (original hart.old.machine)) at.0 at.1 at.2 at.3 hart.old.machine x.now input
-        ≡ call_stepped at.0 at.1 at.2 at.3 hart.old.machine input) }
-    ensures moved { OnErr result (Moved hart.old.machine hart.new.machine.bus (I.left input.old) (I.left input.new)) }
 {
     let (_, _, _, stage) = at;
     if let Instr::Branch { .. } = *x {

@@ -24,7 +24,7 @@ returns-in-Err g c =
     let plain = ap (λ (w : ℕ). is_plain (decoded w)) (sym c.requires.own) ∙ c.requires.plain in
     let below = plain_below v r h.machine span ram.words c.args.at.0 c.args.at.1 c.args.at.2 c.args.at.3 sound coherent c.requires.home h.control c.requires.control plain c.requires.sound in
     let failed = ram_unfetched v h.machine h.control _ c.args.at.0 c.args.at.1 c.args.at.2 c.args.at.3 _ _ c.requires.control below c.in-Err.ensures.fetched in
-    record { stepped = ram_stopped _ _ _ _ _ (ap broken c.hart.view_is) refl failed; executes = tt; whole = tt }
+    record { stepped = ram_stopped _ _ _ _ _ _ _ (ap broken c.hart.view_is) refl failed; executes = tt; whole = tt }
 
 pub run_word-requires : goal.run_word-requires
 run_word-requires g c =
@@ -40,9 +40,9 @@ run_word-requires g c =
     let put = put_back v r h.machine span ram.words c.args.at.0 c.args.at.1 c.args.at.2 c.args.at.3 sound coherent c.requires.home h.control c.requires.control plain c.requires.sound in
     let small = g.met.R.CacheRom.small _ _ _ put in
     record {
-      running = c.requires.running;
-      few = c.requires.few;
-      count = c.requires.count;
+      running = c.requires.ready.running;
+      few = c.requires.ready.few;
+      count = c.requires.ready.count;
       control = c.requires.control;
       small = omega (arith, below, small);
       inside = offset_small v r h.machine _ _ c.args.at.0 c.args.at.1 c.args.at.2 c.args.at.3 (coherent _ put) c.requires.home (g.met.R.CacheRom.image _ _ _ put);
@@ -71,14 +71,14 @@ returns g c =
     record {
       stepped = record {
         made = λ s left told. made_plain v r h c.run_word.new.hart ram.words c.args.at.0 c.args.at.1 c.args.at.2 c.args.at.3 c.requires.home c.requires.control plain c.in-Some-Some.image_word c.in-Some-Some.x c.role-role.result own_is held_is c.role-role.ensures ((c.run_word.ensures.ran runs).ran) (own_word v r h.machine span ram.words c.args.at.0 c.args.at.1 c.args.at.2 c.args.at.3 sound coherent c.requires.home h.control c.requires.control plain s) (c.run_word.ensures.ran runs).took (c.run_word.ensures.ran runs).output (c.run_word.ensures.ran runs).error left _ _ _ told;
-        fits = λ s. fits_plain v r h c.run_word.new.hart ram.words c.args.at.0 c.args.at.1 c.args.at.2 c.args.at.3 c.requires.home c.requires.control plain c.in-Some-Some.image_word c.in-Some-Some.x c.role-role.result own_is held_is c.role-role.ensures ((c.run_word.ensures.ran runs).ran) (own_word v r h.machine span ram.words c.args.at.0 c.args.at.1 c.args.at.2 c.args.at.3 sound coherent c.requires.home h.control c.requires.control plain s) c.requires.fits (sym c.requires.running) c.requires.word;
+        fits = λ s. fits_plain v r h c.run_word.new.hart ram.words c.args.at.0 c.args.at.1 c.args.at.2 c.args.at.3 c.requires.home c.requires.control plain c.in-Some-Some.image_word c.in-Some-Some.x c.role-role.result own_is held_is c.role-role.ensures ((c.run_word.ensures.ran runs).ran) (own_word v r h.machine span ram.words c.args.at.0 c.args.at.1 c.args.at.2 c.args.at.3 sound coherent c.requires.home h.control c.requires.control plain s) c.requires.ready.fits (sym c.requires.ready.running) c.requires.word;
         counted = record { count = ap (λ (k : HartData). k.count) ran; failed = ap (λ (k : HartData). k.failed) ran; booted = ap (λ (k : HartData). k.booted) ran };
         policy = rw c.requires.control (word_moves v r h.machine c.args.at.0 c.args.at.1 c.args.at.2 c.args.at.3 policy r w);
         setting = refl;
         sound = λ s. rw fetched s;
         unused = λ i le. ap (λ (k : RamState). slice_index k.words i) fetched;
         ram = ram_exit _ _ c.args.at.0 c.args.at.1 c.args.at.2 c.args.at.3 h.control _ _ _ c.requires.control below fetched same;
-        grown = λ s. grown_plain v r h c.run_word.new.hart ram.words c.args.at.0 c.args.at.1 c.args.at.2 c.args.at.3 c.requires.home c.requires.control plain c.in-Some-Some.image_word c.in-Some-Some.x c.role-role.result own_is held_is c.role-role.ensures ((c.run_word.ensures.ran runs).ran) (own_word v r h.machine span ram.words c.args.at.0 c.args.at.1 c.args.at.2 c.args.at.3 sound coherent c.requires.home h.control c.requires.control plain s) (sym c.requires.running);
+        grown = λ s. grown_plain v r h c.run_word.new.hart ram.words c.args.at.0 c.args.at.1 c.args.at.2 c.args.at.3 c.requires.home c.requires.control plain c.in-Some-Some.image_word c.in-Some-Some.x c.role-role.result own_is held_is c.role-role.ensures ((c.run_word.ensures.ran runs).ran) (own_word v r h.machine span ram.words c.args.at.0 c.args.at.1 c.args.at.2 c.args.at.3 sound coherent c.requires.home h.control c.requires.control plain s) (sym c.requires.ready.running);
         stopped = tt;
         broke = λ s. tt;
         unwritten = λ e. absurd (cc);
@@ -91,5 +91,5 @@ returns g c =
           (λ y is. executes_plain v r h c.run_word.new.hart ram.words c.args.at.0 c.args.at.1 c.args.at.2 c.args.at.3 c.requires.home c.requires.control plain c.in-Some-Some.image_word c.in-Some-Some.x c.role-role.result own_is held_is c.role-role.ensures (c.run_word.ensures.ran runs).ran y is);
       whole = λ i b o stage p whole.
           let stage_is = stage_same c.args.at.0 c.args.at.1 c.args.at.2 c.args.at.3 i b o stage (sym c.requires.control ∙ p.control) in
-          whole_plain v r h c.run_word.new.hart ram.words c.args.at.0 c.args.at.1 c.args.at.2 c.args.at.3 c.requires.home c.requires.control plain c.in-Some-Some.image_word c.in-Some-Some.x c.role-role.result own_is held_is c.role-role.ensures (c.run_word.ensures.ran runs).ran (ap is_plain held_is ∙ held) (ap (λ k. role_of k (original h.machine)) stage_is ∙ whole) c.requires.fits c.requires.running c.requires.word;
+          whole_plain v r h c.run_word.new.hart ram.words c.args.at.0 c.args.at.1 c.args.at.2 c.args.at.3 c.requires.home c.requires.control plain c.in-Some-Some.image_word c.in-Some-Some.x c.role-role.result own_is held_is c.role-role.ensures (c.run_word.ensures.ran runs).ran (ap is_plain held_is ∙ held) (ap (λ k. role_of k (original h.machine)) stage_is ∙ whole) c.requires.ready.fits c.requires.ready.running c.requires.word;
     }

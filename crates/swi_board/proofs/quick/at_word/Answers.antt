@@ -30,9 +30,9 @@ role_step-requires g c =
     let below = index_below c.args.image.now (g.R.CacheRom.kept c.args.rom.now) c.args.hart.now.machine _ _ c.args.at.0 c.args.at.1 c.args.at.2 c.args.at.3 coherent c.requires.home in
     let small = g.met.R.CacheRom.small _ _ _ c.requires.sound in
     record {
-      running = c.requires.running;
-      few = c.requires.few;
-      count = c.requires.count;
+      running = c.requires.ready.running;
+      few = c.requires.ready.few;
+      count = c.requires.ready.count;
       control = c.requires.control;
       small = omega (arith, below, small);
       inside = offset_small c.args.image.now (g.R.CacheRom.kept c.args.rom.now) c.args.hart.now.machine _ _ c.args.at.0 c.args.at.1 c.args.at.2 c.args.at.3 coherent c.requires.home (g.met.R.CacheRom.image _ _ _ c.requires.sound);
@@ -54,14 +54,14 @@ returns-in-Ok g c = λ before fetched.
     (exit_transfer (exit_kind (word_at v c.args.at.1 (c.args.at.2 + 1))) v h.machine c.args.at.1 c.args.at.2) s.served.policy in
     record {
       made = λ sound left told. made_exit v r new h c.exit_step.new.hart c.args.at.0 c.args.at.1 c.args.at.2 c.args.at.3 c.requires.control left _ _ _ e s.step s.counted told;
-      fits = λ sound. fits_exit v r new h c.exit_step.new.hart c.args.at.0 c.args.at.1 c.args.at.2 c.args.at.3 c.requires.control c.requires.fits (sym c.requires.running) c.requires.word e s.step s.counted;
+      fits = λ sound. fits_exit v r new h c.exit_step.new.hart c.args.at.0 c.args.at.1 c.args.at.2 c.args.at.3 c.requires.control c.requires.ready.fits (sym c.requires.ready.running) c.requires.word e s.step s.counted;
       counted = s.counted;
       policy = rw c.requires.control (exit_moves v new h.machine c.args.at.0 c.args.at.1 c.args.at.2 c.args.at.3 policy r e s.served.policy);
       setting = s.served.setting;
       sound = λ sound. s.served.sound;
       unused = λ j le. s.served.unused j le ∙ ap (λ (k : RamState). slice_index k.words j) fetched.1;
       ram = ram_exit _ _ c.args.at.0 c.args.at.1 c.args.at.2 c.args.at.3 h.control before _ _ c.requires.control below fetched.1 s.served.ram;
-      grown = λ sound. grown_exit v r new h c.exit_step.new.hart c.args.at.0 c.args.at.1 c.args.at.2 c.args.at.3 c.requires.control (sym c.requires.running) e s.step s.counted more;
+      grown = λ sound. grown_exit v r new h c.exit_step.new.hart c.args.at.0 c.args.at.1 c.args.at.2 c.args.at.3 c.requires.control (sym c.requires.ready.running) e s.step s.counted more;
       stopped = tt;
       broke = λ sound. tt;
       unwritten = λ is. absurd (cc);
@@ -81,7 +81,7 @@ returns-in-Err g c = λ before fetched.
     coherent c.requires.home c.args.got c.in-Some.x c.requires.got (sym c.in-Some.is ∙ c.decode.ensures) (sym c.leaves.ensures ∙ c.if-leaves.true) in
     let below = index_below v r h.machine _ _ c.args.at.0 c.args.at.1 c.args.at.2 c.args.at.3 coherent c.requires.home in
     let s = c.in-Err.ensures in
-    ram_stopped _ _ _ _ _ (ap broken (c.hart.view_is ∙ s.stays)) s.served.setting
+    ram_stopped _ _ _ _ _ _ _ (ap broken (c.hart.view_is ∙ s.stays)) s.served.setting
     (ram_unserved v h.machine h.control _ c.args.at.0 c.args.at.1 c.args.at.2 c.args.at.3 before _ _ c.requires.control below fetched.1 s.served.failed
     (exit_placed v h.machine h.control c.args.at.0 c.args.at.1 c.args.at.2 c.args.at.3 c.requires.control e s.served.placed))
 
@@ -97,13 +97,13 @@ returns-in-Ok-role_step g c = λ before fetched.
     let same = ram_same (g.R.CacheRom.span (g.R.CacheRom.setting c.args.rom.now)) r (g.M.CacheRam.state c.args.ram.now) in
     let s = c.in-Ok-role_step.ensures in
     let grows = grown_word v r r h c.role_step.new.hart c.args.at.0 c.args.at.1 c.args.at.2 c.args.at.3 c.requires.control
-    (sym c.requires.running) c.in-Some.x (quick_role c.args.at.3 c.in-Some.x (original h.machine)) _ _ refl w refl s.went in
+    (sym c.requires.ready.running) c.in-Some.x (quick_role c.args.at.3 c.in-Some.x (original h.machine)) _ _ refl w refl s.went in
     record {
       made = λ sound left told. made_word v r r h c.role_step.new.hart c.args.at.0 c.args.at.1 c.args.at.2 c.args.at.3 c.requires.control
           c.in-Some.x (quick_role c.args.at.3 c.in-Some.x (original h.machine)) left _ _ _ _ _ w refl
-          (record { hart = s.word.hart left told; input = s.word.devices.input left told; output = s.word.devices.output left told; error = s.word.devices.error left told });
+          (record { hart = s.executed.hart left told; input = s.executed.devices.input left told; output = s.executed.devices.output left told; error = s.executed.devices.error left told });
       fits = λ sound. fits_word v r r h c.role_step.new.hart c.args.at.0 c.args.at.1 c.args.at.2 c.args.at.3 c.requires.control
-          c.in-Some.x (quick_role c.args.at.3 c.in-Some.x (original h.machine)) _ _ refl c.requires.fits (sym c.requires.running) c.requires.word w refl s.went;
+          c.in-Some.x (quick_role c.args.at.3 c.in-Some.x (original h.machine)) _ _ refl c.requires.ready.fits (sym c.requires.ready.running) c.requires.word w refl s.went;
       counted = record { count = grows.count; failed = grows.failed; booted = grows.booted };
       policy = rw c.requires.control (word_moves v r h.machine c.args.at.0 c.args.at.1 c.args.at.2 c.args.at.3 (g.R.CacheRom.policy (g.R.CacheRom.setting c.args.rom.now)) r w.0);
       setting = refl;
@@ -118,7 +118,7 @@ returns-in-Ok-role_step g c = λ before fetched.
       ram_failed = λ is. absurd (cc);
       kept = kept_after _ c.args.at.0 before _ _ below fetched.1 same.kept;
       causes = causes_none _ _ _ (ap (λ (n : ℕ). record { ram = n; input = g.I.Source.faults c.role_step.new.input; out = g.O.Sink.faults c.role_step.new.out; err = g.E.Sink.faults c.role_step.new.err }) (ap (λ (k : RamState). k.faults) fetched.1)
-          ∙ ap (λ (f : calls.Faults). record { ram = before.faults; input = f.input; out = f.out; err = f.err }) s.word.devices.causes.quiet);
+          ∙ ap (λ (f : calls.Faults). record { ram = before.faults; input = f.input; out = f.out; err = f.err }) s.executed.devices.causes.quiet);
     }
 
 pub returns-in-Err-role_step : goal.returns-in-Err-role_step
@@ -142,15 +142,15 @@ returns-in-Err-role_step g c = λ before fetched.
       unused = tt;
       ram = tt;
       grown = λ sound. tt;
-      stopped = ap broken (c.hart-2.view_is ∙ s.word.stays) ∙ ap (λ (bus : List AreaData). broken (with_memory h bus)) (sym (ap (λ (k : HartData). k.machine.bus) c.hart-2.view_is));
+      stopped = ap broken (c.hart-2.view_is ∙ s.executed.stays) ∙ ap (λ (bus : List AreaData). broken (with_memory h bus)) (sym (ap (λ (k : HartData). k.machine.bus) c.hart-2.view_is));
       broke = λ sound. on_device Unit _ c.in-Err-role_step.fault c.fault_of.result c.fault_of.ensures (λ left told.
           broken_word v r h c.role_step.new.hart.machine.bus c.args.at.0 c.args.at.1 c.args.at.2 c.args.at.3 c.requires.control
           c.in-Some.x (quick_role c.args.at.3 c.in-Some.x (original h.machine)) left _ _ _ _ _ w refl s.asked
           (subst (λ (k : Option (List ℕ)). Moved h.machine c.role_step.new.hart.machine.bus k (g.I.Source.left c.role_step.new.input)) told s.moved)
-          (s.word.devices.output_prefix left told) (s.word.devices.error_prefix left told));
-      unwritten = λ is. s.word.devices.failed_input (source_failed c.in-Err-role_step.fault c.fault_of.result c.fault_of.ensures is);
+          (s.executed.devices.output_prefix left told) (s.executed.devices.error_prefix left told));
+      unwritten = λ is. s.executed.devices.failed_input (source_failed c.in-Err-role_step.fault c.fault_of.result c.fault_of.ensures is);
       others_stay = λ is. absurd (ram_unfailed c.in-Err-role_step.fault c.fault_of.result c.fault_of.ensures is);
       ram_failed = λ is. absurd (ram_unfailed c.in-Err-role_step.fault c.fault_of.result c.fault_of.ensures is);
       kept = kept_after _ c.args.at.0 before _ _ below fetched.1 (ram_same (g.R.CacheRom.span (g.R.CacheRom.setting c.args.rom.now)) r (g.M.CacheRam.state c.args.ram.now)).kept;
-      causes = rw same (causes_answer before.faults _ _ c.in-Err-role_step.fault c.fault_of.result c.fault_of.ensures s.word.devices.causes);
+      causes = rw same (causes_answer before.faults _ _ c.in-Err-role_step.fault c.fault_of.result c.fault_of.ensures s.executed.devices.causes);
     }

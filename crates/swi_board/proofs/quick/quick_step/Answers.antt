@@ -16,9 +16,9 @@ use Rattle.swi_board.proofs.quick.quick_step.Goals as goal
 
 pub at_step-requires-clause-home : goal.at_step-requires-clause-home
 at_step-requires-clause-home g c =
-    let f = c.requires.fits in
+    let f = c.requires.ready.fits in
     home c.args.image.now (g.R.CacheRom.kept c.args.rom.now) f.flat c.args.hart.now.machine c.in-At.i c.in-At.b c.in-At.o c.in-At.stage f.image
-    (subst (λ (k : Control). Matches c.args.image.now (g.R.CacheRom.kept c.args.rom.now) f.flat c.args.hart.now.machine k) (sym (ap (λ (h : HartData). h.control) c.hart.view_is) ∙ sym c.control.ensures ∙ c.in-At.is) f.matches) c.requires.running c.origin_pc-pc.ensures.word
+    (subst (λ (k : Control). Matches c.args.image.now (g.R.CacheRom.kept c.args.rom.now) f.flat c.args.hart.now.machine k) (sym (ap (λ (h : HartData). h.control) c.hart.view_is) ∙ sym c.control.ensures ∙ c.in-At.is) f.matches) c.requires.ready.running c.origin_pc-pc.ensures.word
 
 pub returns-in-Outside-clause-stepped : goal.returns-in-Outside-clause-stepped
 returns-in-Outside-clause-stepped g c =
@@ -32,7 +32,7 @@ returns-in-Outside-clause-stepped g c =
     let grows = grown_outside v r r h c.end.new.hart kind.FetchAccess h.machine.pc outside refl is in
     record {
       made = λ sound left told. made_outside v r h c.end.new.hart left _ _ _ outside is told;
-      fits = λ sound. fits_outside v r h c.end.new.hart c.requires.fits (sym c.requires.running) c.origin_pc-pc.ensures.word outside is;
+      fits = λ sound. fits_outside v r h c.end.new.hart c.requires.ready.fits (sym c.requires.ready.running) c.origin_pc-pc.ensures.word outside is;
       counted = record { count = grows.count; failed = grows.failed; booted = grows.booted };
       policy = sym (ap (λ (k : Control). moved policy r v (transfer_at v h.machine k)) outside);
       setting = refl;

@@ -33,6 +33,19 @@ loop-hart-init g c =
       quiet = refl;
     })
 
+pub quick_step-requires-clause-ready : goal.quick_step-requires-clause-ready
+quick_step-requires-clause-ready g c =
+    let seen : c.loop-hart.hart.machine.steps ≡ c.hart.inside.machine.steps = sym (ap (λ (h : HartData). h.machine.steps) c.hart.view_is) in
+    let more : c.loop-hart.hart.machine.steps < c.args.n = omega (arith, c.loop-hart-test.true, seen) in
+    let running : c.loop-hart.hart.machine.ending ≡ None = search rules in
+    record {
+      running = running;
+      few = omega (arith, more, c.requires.limit);
+      count = count_small (g.R.CacheRom.policy (g.R.CacheRom.setting c.args.self.now.rom)) c.args.image.now c.args.n (g.R.CacheRom.span (g.R.CacheRom.setting c.args.self.now.rom)) c.args.self.now.hart (g.R.CacheRom.kept c.args.self.now.rom) (g.M.CacheRam.state c.args.ram.now) (g.I.Source.left c.args.input.now) (g.O.Sink.held c.args.out.now) (g.E.Sink.held c.args.err.now) c.loop-hart.hart (g.R.CacheRom.kept c.loop-hart.rom) (g.M.CacheRam.state c.loop-hart.ram) (g.I.Source.left c.loop-hart.input) (g.O.Sink.held c.loop-hart.out) (g.E.Sink.held c.loop-hart.err) c.loop-hart.invariant.running more running c.origin_pc-pc.ensures.word c.requires.limit c.requires.count;
+      services = calls_small (g.R.CacheRom.policy (g.R.CacheRom.setting c.args.self.now.rom)) c.args.image.now c.args.n (g.R.CacheRom.span (g.R.CacheRom.setting c.args.self.now.rom)) c.args.self.now.hart (g.R.CacheRom.kept c.args.self.now.rom) (g.M.CacheRam.state c.args.ram.now) (g.I.Source.left c.args.input.now) (g.O.Sink.held c.args.out.now) (g.E.Sink.held c.args.err.now) c.loop-hart.hart (g.R.CacheRom.kept c.loop-hart.rom) (g.M.CacheRam.state c.loop-hart.ram) (g.I.Source.left c.loop-hart.input) (g.O.Sink.held c.loop-hart.out) (g.E.Sink.held c.loop-hart.err) c.loop-hart.invariant.running more running c.origin_pc-pc.ensures.word c.requires.limit c.requires.services;
+      fits = c.loop-hart.invariant.running.fits;
+    }
+
 pub loop-hart-preserved-in-Ok : goal.loop-hart-preserved-in-Ok
 loop-hart-preserved-in-Ok g c =
     let word = c.in-Ok.ensures.word in
@@ -194,13 +207,15 @@ at_word-requires g c =
     let control = sym (ap (λ (h : HartData). h.control) c.hart-in-loop-hart.view_is) ∙ sym c.control.ensures ∙ c.in-At.is in
     let words = ap (λ (k : RamState). k.words) ended.answered.1 ∙ s.words in
     record {
-      running = s.going;
+      ready = record {
+        running = s.going;
+        few = omega (arith, ended.below, c.requires.limit);
+        count = count_small (g.R.CacheRom.policy (g.R.CacheRom.setting c.args.self.now.rom)) c.args.image.now c.args.n (g.R.CacheRom.span (g.R.CacheRom.setting c.args.self.now.rom)) c.args.self.now.hart (g.R.CacheRom.kept c.args.self.now.rom) (g.M.CacheRam.state c.args.ram.now) (g.I.Source.left c.args.input.now) (g.O.Sink.held c.args.out.now) (g.E.Sink.held c.args.err.now) c.run_block.new.hart (g.R.CacheRom.kept c.loop-hart.rom) ended.before (g.I.Source.left c.loop-hart.input) (g.O.Sink.held c.loop-hart.out) (g.E.Sink.held c.loop-hart.err) s.running ended.below s.going s.short c.requires.limit c.requires.count;
+        services = calls_small (g.R.CacheRom.policy (g.R.CacheRom.setting c.args.self.now.rom)) c.args.image.now c.args.n (g.R.CacheRom.span (g.R.CacheRom.setting c.args.self.now.rom)) c.args.self.now.hart (g.R.CacheRom.kept c.args.self.now.rom) (g.M.CacheRam.state c.args.ram.now) (g.I.Source.left c.args.input.now) (g.O.Sink.held c.args.out.now) (g.E.Sink.held c.args.err.now) c.run_block.new.hart (g.R.CacheRom.kept c.loop-hart.rom) ended.before (g.I.Source.left c.loop-hart.input) (g.O.Sink.held c.loop-hart.out) (g.E.Sink.held c.loop-hart.err) s.running ended.below s.going s.short c.requires.limit c.requires.services;
+        fits = s.running.fits;
+      };
       word = s.short;
-      few = omega (arith, ended.below, c.requires.limit);
-      count = count_small (g.R.CacheRom.policy (g.R.CacheRom.setting c.args.self.now.rom)) c.args.image.now c.args.n (g.R.CacheRom.span (g.R.CacheRom.setting c.args.self.now.rom)) c.args.self.now.hart (g.R.CacheRom.kept c.args.self.now.rom) (g.M.CacheRam.state c.args.ram.now) (g.I.Source.left c.args.input.now) (g.O.Sink.held c.args.out.now) (g.E.Sink.held c.args.err.now) c.run_block.new.hart (g.R.CacheRom.kept c.loop-hart.rom) ended.before (g.I.Source.left c.loop-hart.input) (g.O.Sink.held c.loop-hart.out) (g.E.Sink.held c.loop-hart.err) s.running ended.below s.going s.short c.requires.limit c.requires.count;
-      services = calls_small (g.R.CacheRom.policy (g.R.CacheRom.setting c.args.self.now.rom)) c.args.image.now c.args.n (g.R.CacheRom.span (g.R.CacheRom.setting c.args.self.now.rom)) c.args.self.now.hart (g.R.CacheRom.kept c.args.self.now.rom) (g.M.CacheRam.state c.args.ram.now) (g.I.Source.left c.args.input.now) (g.O.Sink.held c.args.out.now) (g.E.Sink.held c.args.err.now) c.run_block.new.hart (g.R.CacheRom.kept c.loop-hart.rom) ended.before (g.I.Source.left c.loop-hart.input) (g.O.Sink.held c.loop-hart.out) (g.E.Sink.held c.loop-hart.err) s.running ended.below s.going s.short c.requires.limit c.requires.services;
       control = control;
-      fits = s.running.fits;
       home = home_at (g.R.CacheRom.policy (g.R.CacheRom.setting c.args.self.now.rom)) c.args.image.now c.args.n (g.R.CacheRom.span (g.R.CacheRom.setting c.args.self.now.rom)) c.args.self.now.hart (g.R.CacheRom.kept c.args.self.now.rom) (g.M.CacheRam.state c.args.ram.now) (g.I.Source.left c.args.input.now) (g.O.Sink.held c.args.out.now) (g.E.Sink.held c.args.err.now) c.requires.fits c.requires.limit (g.R.CacheRom.kept c.loop-hart.rom) (g.I.Source.left c.loop-hart.input) (g.O.Sink.held c.loop-hart.out) (g.E.Sink.held c.loop-hart.err) c.loop-hart.hart (g.M.CacheRam.state c.loop-hart.ram) coherent c.run_block.new.hart ended.before c.in-At.i c.in-At.b c.in-At.o c.in-At.stage s control;
       sound = subst (λ (k : List ℕ). g.R.CacheRom.sound c.loop-hart.rom c.args.image.now k) (sym words) c.loop-hart.invariant.sound;
       got = ended.answered.0 ∙ ap (λ (k : RamState). slice_index k.words ended.index) (sym ended.answered.1) ∙ ap (λ (i : ℕ). slice_index (g.M.CacheRam.state c.run_block.new.ram).words i) (same_index c.run_block.new.hart.control ended.index ended.block ended.offset ended.stage c.in-At.i c.in-At.b c.in-At.o c.in-At.stage ended.control control);
