@@ -1,11 +1,11 @@
 -- Which faults a step answers.
-use Rattle.std.proofs.Common.{◌≡◌, ℕ, ◌≤◌, Result, Ok, Err, refl, sym, ap, subst, inl, inr, arith}
+use Rattle.std.proofs.Common.{◌≡◌, ℕ, ◌≤◌, Result, Ok, Err, IsErrOf, refl, sym, ap, subst, inl, inr, arith}
 use Rattle.swi_outside.specs.Causes.{Rose, DeviceCause, PairCause}
 use Rattle.swi_calls.specs.Causes as calls
 use Rattle.swi_calls.specs.declared.end.CallFault.{CallFault}
 use Rattle.swi_calls.specs.declared.end.CallFault.TheVariants as call
 use Rattle.swi_board.specs.declared.fault.BoardFault.{BoardFault}
-use Rattle.swi_board.specs.declared.fault.BoardFault.TheVariants.{RamFault}
+use Rattle.swi_board.specs.declared.fault.BoardFault.TheVariants.{RamFault, SourceFault}
 use Rattle.swi_board.specs.Calling.{OnDevice}
 use Rattle.swi_board.specs.Faults.{Faults, HasCauses, fault_of}
 
@@ -68,6 +68,15 @@ causes_call {T} {U} ram before after call.SinkFault c = record {
   };
   quiet = tt;
 }
+
+-- which call failed, by the answer
+pub source_failed : {T U : Type 0} (fault : CallFault) (answer : BoardFault) → answer ≡ fault_of fault → IsErrOf {T = T} (Err answer) SourceFault → IsErrOf {T = U} (Err fault) call.SourceFault
+source_failed call.SourceFault answer is e = refl
+source_failed call.SinkFault answer is e = absurd (cc)
+
+pub ram_unfailed : {T : Type 0} (fault : CallFault) (answer : BoardFault) → answer ≡ fault_of fault → IsErrOf {T = T} (Err answer) RamFault → ⊥
+ram_unfailed call.SourceFault answer is e = cc
+ram_unfailed call.SinkFault answer is e = cc
 
 -- a fault of a system call is one of the input or of a sink
 pub on_device : (T : Type 0) (P : Type 0) (fault : CallFault) (answer : BoardFault) → answer ≡ fault_of fault → P → OnDevice {T = T} (Err answer) P

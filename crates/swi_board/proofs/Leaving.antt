@@ -7,17 +7,18 @@ use Rattle.swi_image.specs.Sound.{IsImage}
 use Rattle.swi_image.specs.Laws.{place_inside}
 use Rattle.swi_isa.specs.declared.instr.Instr.TheVariants as instr
 use Rattle.swi_isa.specs.Decode.{decoded}
-use Rattle.swi_outside.specs.CacheRam.{RamState}
+use Rattle.swi_outside.specs.CacheRam.{RamState, KeepsBeyond}
 use Rattle.swi_render.specs.Rendering.{ebreak}
-use Rattle.swi_rom.specs.Record.{Record, IsJump, jump_offset, is_linked, writes}
+use Rattle.swi_rom.specs.Record.{Record, Transfer, target_of, IsJump, jump_offset, is_linked}
 use Rattle.swi_rom.specs.Coherent.{Coherent, TargetAt, StandsAt}
-use Rattle.swi_rom.specs.Served.{Served}
+use Rattle.swi_rom.specs.Served.{Served, Spared, SameFrom}
 use Rattle.swi_rom.specs.declared.rom.RomStop.{RomStop}
 use Rattle.swi_rom.specs.declared.rom.RomStop.TheVariants.{Outside, RamFault}
 use Rattle.swi_board.specs.declared.hart.Stage.TheVariants.{Start}
 use Rattle.swi_board.specs.declared.hart.Control.TheVariants.{At}
 use Rattle.swi_board.specs.Board.{Arrives}
-use Rattle.swi_board.specs.Leaving.{LeaveAt, RamServed, RamFailed}
+use Rattle.swi_board.specs.Leaving.{LeaveAt}
+use Rattle.swi_board.specs.Service.{ServiceState, Transferred}
 use Rattle.swi_isa.specs.Laws.{ebreak_decodes}
 
 -- what the service shows at the target's index is the target's place
@@ -33,30 +34,46 @@ none_shown v r t i image none at =
     let past = none at.block at.first at.is_placed (omega (arith, at.index)) in
     omega (arith, at.index, inside.1, past)
 
-module _ (v : ImageData) (span t : ℕ) (old next new : Record) (before after : RamState) where
-  pub ram_placed : (i : ℕ) → Served v span t old next new before after (Ok i) → RamServed span (writes new - writes old) before after
-  ram_placed i s = record {
-    quiet = s.quiet;
-    fetches_stay = s.spared.fetches_stay;
-    last_stays = s.spared.last_stays;
-    sets_rise = s.sets_rise;
-    kept = record { same_length = s.spared.length_stays; beyond = s.spared.beyond; reached = s.spared.reached };
+pub by_error : {v : ImageData} {span t : ℕ} {old next new : Record} {before after : RamState} {e d : RomStop} → e ≡ d → Served v span t old next new before after (Err e) → Served v span t old next new before after (Err d)
+by_error {v = v} {span = span} {t = t} {old = old} {next = next} {new = new} {before = before} {after = after} is s = subst (λ (k : RomStop). Served v span t old next new before after (Err k)) is s
+
+beyond : {span : ℕ} {before after : RamState} → Spared span before after → KeepsBeyond span before after
+beyond d = record { same_length = d.length_stays; beyond = d.beyond; reached = d.reached }
+
+-- the transfer, by the service's answer
+module _ {policy : List ℕ → Record → ImageData → Transfer → Record} {extent : List ℕ → Record → ℕ} {span : List ℕ → ℕ} {v : ImageData} {t : Transfer} {IsSound : Type 0} {s s' : ServiceState} (stays : s'.setting ≡ s.setting) where
+  pub served_at : {T E : Type 0} (x : T) (i : ℕ) → Served v (span s.setting) (target_of t) s.kept (policy s.setting s.kept v t) s'.kept s.ram s'.ram (Ok i) → SameFrom (extent s.setting s'.kept) s.ram.words s'.ram.words → IsSound → Transferred {T = T} {E = E} policy extent span v (Some t) IsSound s s' (Ok x)
+  served_at x i d unused sound = record {
+    policy = d.moves;
+    setting = stays;
+    sound = sound;
+    unused = unused;
+    ram = record { quiet = d.quiet; fetches_stay = d.spared.fetches_stay; last_stays = d.spared.last_stays; sets_rise = d.sets_rise; kept = beyond d.spared };
+    failed = tt;
+    placed = tt;
   }
 
-  pub by_error : {e d : RomStop} → e ≡ d → Served v span t old next new before after (Err e) → Served v span t old next new before after (Err d)
-  by_error {e} {d} is s = subst (λ (k : RomStop). Served v span t old next new before after (Err k)) is s
-
-  pub ram_outside : Served v span t old next new before after (Err Outside) → RamServed span (writes new - writes old) before after
-  ram_outside s = record {
-    quiet = s.quiet;
-    fetches_stay = s.spared.fetches_stay;
-    last_stays = s.spared.last_stays;
-    sets_rise = s.sets_rise;
-    kept = record { same_length = s.spared.length_stays; beyond = s.spared.beyond; reached = s.spared.reached };
+  pub served_outside : {T E : Type 0} (x : T) → Served v (span s.setting) (target_of t) s.kept (policy s.setting s.kept v t) s'.kept s.ram s'.ram (Err Outside) → SameFrom (extent s.setting s'.kept) s.ram.words s'.ram.words → IsSound → Transferred {T = T} {E = E} policy extent span v (Some t) IsSound s s' (Ok x)
+  served_outside x d unused sound = record {
+    policy = d.moves;
+    setting = stays;
+    sound = sound;
+    unused = unused;
+    ram = record { quiet = d.quiet; fetches_stay = d.spared.fetches_stay; last_stays = d.spared.last_stays; sets_rise = d.sets_rise; kept = beyond d.spared };
+    failed = tt;
+    placed = tt;
   }
 
-  pub ram_failed : Served v span t old next new before after (Err RamFault) → RamFailed span before after
-  ram_failed s = record { rose = s.failed refl; later = s.spared.later; fetches_stay = s.spared.fetches_stay; kept = record { same_length = s.spared.length_stays; beyond = s.spared.beyond; reached = s.spared.reached } }
+  pub served_not : {T E : Type 0} (e : E) → Served v (span s.setting) (target_of t) s.kept (policy s.setting s.kept v t) s'.kept s.ram s'.ram (Err RamFault) → Transferred {T = T} {E = E} policy extent span v (Some t) IsSound s s' (Err e)
+  served_not e d = record {
+    policy = tt;
+    setting = stays;
+    sound = tt;
+    unused = tt;
+    ram = tt;
+    failed = record { rose = d.failed refl; later = d.spared.later; fetches_stay = d.spared.fetches_stay; kept = beyond d.spared };
+    placed = λ none. let e : ◌≡◌ {A = Result ℕ RomStop} (Err RamFault) (Err Outside) = d.only_outside none in cc;
+  }
 
 -- a fetched exit is not linked
 pub exit_unlinked : (v : ImageData) (r : Record) (span : ℕ) (words : List ℕ) (w i b o : ℕ) → Coherent v r span words → LeaveAt v r words w i b o → w ≡ ebreak → is_linked r b o ≡ false
@@ -104,7 +121,3 @@ pub index_small : (v : ImageData) (r : Record) (span : ℕ) (words : List ℕ) (
 index_small v r span words w i b o coherent at =
     let end = coherent.inside b at.first at.is_placed in
     omega (arith, at.index, at.inside, end)
-
--- the service fails only where the target has a place
-pub failed_place : (v : ImageData) (span t : ℕ) (old next new : Record) (before after : RamState) → Served v span t old next new before after (Err RamFault) → place_of v t ≡ None → ⊥
-failed_place v span t old next new before after s none = let e : ◌≡◌ {A = Result ℕ RomStop} (Err RamFault) (Err Outside) = s.only_outside none in cc

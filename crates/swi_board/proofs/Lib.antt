@@ -30,3 +30,4 @@ pub mod Settling
 pub mod Exchanging
 pub mod Walking
 pub mod Blocks
+pub mod Answered

@@ -22,12 +22,16 @@ ghost use Rattle.swi_board.specs.Ran.{Ran, BrokeOff, RamBrokeOff, Followed};
 ghost use Rattle.swi_board.specs.Calling.{Made, BrokenStep, OnDevice, with_memory};
 ghost use Rattle.swi_board.specs.Faults.{HasCauses};
 ghost use Rattle.swi_outside.specs.CacheRam.{KeepsBeyond};
+ghost use Rattle.swi_board.specs.Service.{Transferred};
+ghost use Rattle.swi_board.specs.MachineStep.{MachineStepped};
 ghost use Rattle.swi_board.specs.Runs.{most, fetched_by, Grown};
 
+use crate::block::{block_place, run_block};
 use crate::exit::jump;
 use crate::fault::BoardFault;
 use crate::hart::{Control, Hart, Role, Stage};
-use crate::many::{run, step};
+use crate::plain::{plain_place, plain_step};
+use crate::quick::{at_word, quick_step};
 use std::alloc::Global;
 use std::marker::Model;
 use swi_calls::{End, Heap};
@@ -75,16 +79,10 @@ fn enter<R: CacheRom, M: CacheRam>(
     ensures hart { OnOk result (hart.new
         ≡ record hart.old { control = hart.new.control; count = hart.old.count + entries image.now hart.old.machine.pc; booted = true }) }
     ensures control { OnOk result (Arrives image.now (R.kept rom.new) hart.old.machine.pc hart.new.control) }
-    ensures policy { OnOk result (R.kept rom.new ≡ moved (R.policy (R.setting rom.old))
-        (R.kept rom.old) image.now (entry_transfer image.now hart.old.machine.pc)) }
-    ensures setting { R.setting rom.new ≡ R.setting rom.old }
-    ensures sound { OnOk result (R.sound rom.new image.now (M.state ram.new).words) }
-    ensures unused { OnOk result (SameFrom (R.extent (R.setting rom.old) (R.kept rom.new))
-        (M.state ram.old).words (M.state ram.new).words) }
-    ensures ram { OnOk result (RamServed (R.span (R.setting rom.old))
-        (writes (R.kept rom.new) - writes (R.kept rom.old))
-        (M.state ram.old) (M.state ram.new)) }
-    ensures failed { OnErr result (RamFailed (R.span (R.setting rom.old)) (M.state ram.old) (M.state ram.new)) }
+    ensures served { Transferred R.policy R.extent R.span image.now (entry_transfer image.now hart.old.machine.pc)
+        (R.sound rom.new image.now (M.state ram.new).words)
+        (record { kept = R.kept rom.old; setting = R.setting rom.old; ram = M.state ram.old })
+        (record { kept = R.kept rom.new; setting = R.setting rom.new; ram = M.state ram.new }) result }
 {
     let pc = hart.origin_pc();
     if image.place(pc).is_some() {
@@ -301,7 +299,11 @@ impl<R: CacheRom> Board<R> {
             (record { ram = (M.state ram.old).faults; input = I.faults input.old; out = O.faults out.old; err = E.faults err.old })
             (record { ram = (M.state ram.new).faults; input = I.faults input.new; out = O.faults out.new; err = E.faults err.new }) result }
     {
-        step(&mut self.hart, &mut self.rom, image, ram, input, out, err)
+        let Board { hart, rom } = self;
+        if let Some((at, own)) = plain_place(hart, image) {
+            return plain_step(hart, rom, image, ram, input, out, err, at, own);
+        }
+        quick_step(hart, rom, image, ram, input, out, err)
     }
 
     /// Steps until `n` original steps are made, or the run has ended.
@@ -365,16 +367,43 @@ impl<R: CacheRom> Board<R> {
             (record { ram = (M.state ram.old).faults; input = I.faults input.old; out = O.faults out.old; err = E.faults err.old })
             (record { ram = (M.state ram.new).faults; input = I.faults input.new; out = O.faults out.new; err = E.faults err.new }) result }
     {
-        run(
-            &mut self.hart,
-            &mut self.rom,
-            image,
-            ram,
-            input,
-            out,
-            err,
-            n,
-        )
+        let Board { hart, rom } = self;
+        while hart.machine.steps < n && hart.machine.ending.is_none() {
+            // Read for the proof alone: that it has 32 bits.
+            let _pc = hart.origin_pc();
+            let Some(at) = block_place(hart) else {
+                match quick_step(hart, rom, image, ram, input, out, err) {
+                    Ok(_) => continue,
+                    Err(fault) => return Err(fault),
+                }
+            };
+            let got = match run_block(hart, rom, image, ram, n, at) {
+                Ok(Some(got)) => got,
+                Ok(None) => continue,
+                Err(_) => {
+                    hart.failed = true;
+                    return Err(BoardFault::RamFault);
+                }
+            };
+            let Control::At(i, b, o, stage) = hart.control.control() else {
+                unreachable!()
+            };
+            match at_word(
+                hart,
+                rom,
+                image,
+                ram,
+                input,
+                out,
+                err,
+                got,
+                (i, b, o, stage),
+            ) {
+                Ok(_) => {}
+                Err(fault) => return Err(fault),
+            }
+        }
+        Ok(())
     }
 
     /// How the run has ended; None while it goes on.

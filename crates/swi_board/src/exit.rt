@@ -11,6 +11,7 @@ ghost use Rattle.swi_board.specs.Board.{Arrives};
 ghost use Rattle.swi_board.specs.Leaving.{LeaveAt, RamServed, RamFailed, fell, offset_of};
 ghost use Rattle.swi_isa.specs.Decode.{decoded};
 ghost use Rattle.swi_board.specs.Hart.{exit_kind};
+ghost use Rattle.swi_board.specs.Service.{Transferred};
 
 use crate::hart::{Control, ExitKind, Stage};
 use swi_image::ImageView;
@@ -84,17 +85,10 @@ pub(crate) fn leave<R: CacheRom, M: CacheRam>(
     requires exit { LeaveAt image.now (R.kept rom.old) (M.state ram.old).words got at.0 at.1 at.2 }
     requires target { target ≡ word_at image.now at.1 (at.2 + 1) }
     ensures control { IfOk result (λ c. Arrives image.now (R.kept rom.new) target c) }
-    ensures policy { OnOk result (R.kept rom.new ≡ R.policy (R.setting rom.old)
-        (R.kept rom.old) image.now (direct at.1 at.2 target)) }
-    ensures setting { R.setting rom.new ≡ R.setting rom.old }
-    ensures sound { OnOk result (R.sound rom.new image.now (M.state ram.new).words) }
-    ensures unused { OnOk result (SameFrom (R.extent (R.setting rom.old) (R.kept rom.new))
-        (M.state ram.old).words (M.state ram.new).words) }
-    ensures ram { OnOk result (RamServed (R.span (R.setting rom.old))
-        (writes (R.kept rom.new) - writes (R.kept rom.old))
-        (M.state ram.old) (M.state ram.new)) }
-    ensures failed { OnErr result (RamFailed (R.span (R.setting rom.old)) (M.state ram.old) (M.state ram.new)) }
-    ensures placed { OnErr result (place_of image.now target ≡ None → ⊥) }
+    ensures served { Transferred R.policy R.extent R.span image.now (Some (direct at.1 at.2 target))
+        (R.sound rom.new image.now (M.state ram.new).words)
+        (record { kept = R.kept rom.old; setting = R.setting rom.old; ram = M.state ram.old })
+        (record { kept = R.kept rom.new; setting = R.setting rom.new; ram = M.state ram.new }) result }
 {
     let (i, _, _) = at;
     if got != EBREAK {
@@ -118,17 +112,10 @@ pub(crate) fn jump<R: CacheRom, M: CacheRam>(
     requires sound { R.sound rom.old image.now (M.state ram.old).words }
     requires services { (R.kept rom.old).counts.services < 2 ^ 50 }
     ensures control { IfOk result (λ c. Arrives image.now (R.kept rom.new) target c) }
-    ensures policy { OnOk result (R.kept rom.new ≡ R.policy (R.setting rom.old)
-        (R.kept rom.old) image.now (indirect target)) }
-    ensures setting { R.setting rom.new ≡ R.setting rom.old }
-    ensures sound { OnOk result (R.sound rom.new image.now (M.state ram.new).words) }
-    ensures unused { OnOk result (SameFrom (R.extent (R.setting rom.old) (R.kept rom.new))
-        (M.state ram.old).words (M.state ram.new).words) }
-    ensures ram { OnOk result (RamServed (R.span (R.setting rom.old))
-        (writes (R.kept rom.new) - writes (R.kept rom.old))
-        (M.state ram.old) (M.state ram.new)) }
-    ensures failed { OnErr result (RamFailed (R.span (R.setting rom.old)) (M.state ram.old) (M.state ram.new)) }
-    ensures placed { OnErr result (place_of image.now target ≡ None → ⊥) }
+    ensures served { Transferred R.policy R.extent R.span image.now (Some (indirect target))
+        (R.sound rom.new image.now (M.state ram.new).words)
+        (record { kept = R.kept rom.old; setting = R.setting rom.old; ram = M.state ram.old })
+        (record { kept = R.kept rom.new; setting = R.setting rom.new; ram = M.state ram.new }) result }
 {
     match rom.enter(image, ram, target) {
         Ok(index) => Ok(control_at(rom, index)),

@@ -6,7 +6,6 @@ mod board;
 mod exit;
 mod fault;
 mod hart;
-mod many;
 mod plain;
 mod position;
 mod quick;

@@ -18,7 +18,7 @@ ghost use Rattle.swi_board.specs.Calling.{Made, BrokenStep, OnDevice, with_memor
 ghost use Rattle.swi_board.specs.Exchanged.{Exchanged, PlainAt, ExecutesHeld, is_plain};
 ghost use Rattle.swi_board.specs.Faults.{HasCauses};
 ghost use Rattle.swi_board.specs.Leaving.{Home, RamStepped, RamBroken, broken, moved, transfer_at};
-ghost use Rattle.swi_board.specs.Runs.{Grown};
+ghost use Rattle.swi_board.specs.MachineStep.{MachineStepped, ReadyToStep};
 
 use crate::fault::BoardFault;
 use crate::hart::{Control, Hart, Role, Stage};
@@ -80,27 +80,23 @@ pub(crate) fn plain_step<R: CacheRom, M: CacheRam, I: Source, O: Sink, E: Sink>(
     at: (u32, u32, u32, Stage),
     own: u32,
 ) -> Result<(), BoardFault>
-    requires running { hart.old.machine.ending ≡ None }
+    requires ready { ReadyToStep image.now (R.kept rom.old) hart.old }
     requires unfailed { hart.old.failed ≡ false }
     requires word { hart.old.machine.pc < 2 ^ 32 }
     requires control { hart.old.control ≡ Control.At at.0 at.1 at.2 at.3 }
     requires home { Home image.now (R.kept rom.old) hart.old.machine at.0 at.1 at.2 at.3 }
     requires own { own ≡ word_at image.now at.1 at.2 }
     requires plain { is_plain (decoded own) ≡ true }
-    requires few { hart.old.machine.steps < 2 ^ 48 }
-    requires count { hart.old.count < 2 ^ 56 }
-    requires services { (R.kept rom.old).counts.services < 2 ^ 50 }
-    requires fits { Fits image.now (R.kept rom.old) hart.old }
     requires sound { R.sound rom.old image.now (M.state ram.old).words
         ⊎ Exchanged (λ words. R.sound rom.old image.now words) image.now (M.state ram.old).words hart.old.control }
-    ensures follows { R.sound rom.old image.now (M.state ram.old).words →
-        OnOk result (ForSome (I.left input.old) (λ left. (f : Machine) → Carries (fetched f.bus) image.now →
-        Matches image.now (R.kept rom.old) f hart.old.machine hart.old.control →
-        Followed image.now (R.kept rom.new) hart.new (next_made image.now hart.old.machine hart.old.control f left)
-        (I.left input.new) (O.held out.old) (O.held out.new) (E.held err.old) (E.held err.new))) }
-    ensures made { R.sound rom.old image.now (M.state ram.old).words →
-        OnOk result (ForSome (I.left input.old) (λ left. Made image.now (R.kept rom.new) hart.old hart.new left
-        (I.left input.new) (O.held out.old) (O.held out.new) (E.held err.old) (E.held err.new))) }
+    ensures stepped { MachineStepped R.policy R.extent R.span image.now
+        (R.sound rom.old image.now (M.state ram.old).words) (R.sound rom.new image.now (M.state ram.new).words)
+        (record { hart = hart.old; kept = R.kept rom.old; setting = R.setting rom.old; ram = M.state ram.old })
+        (record { hart = hart.new; kept = R.kept rom.new; setting = R.setting rom.new; ram = M.state ram.new })
+        (record { input = I.left input.old; output = O.held out.old; error = E.held err.old })
+        (record { input = I.left input.new; output = O.held out.new; error = E.held err.new })
+        (record { input = I.faults input.old; out = O.faults out.old; err = E.faults err.old })
+        (record { input = I.faults input.new; out = O.faults out.new; err = E.faults err.new }) result }
     ensures executes { OnOk result ((i b o : ℕ) (stage : Stage) →
         PlainAt image.now (M.state ram.old).words hart.old.control i b o stage →
         ExecutesHeld hart.old hart.new rom.old rom.new i b o stage (M.state ram.old).words (M.state ram.new).words
@@ -108,37 +104,6 @@ pub(crate) fn plain_step<R: CacheRom, M: CacheRam, I: Source, O: Sink, E: Sink>(
     ensures whole { OnOk result ((i b o : ℕ) (stage : Stage) →
         PlainAt image.now (M.state ram.old).words hart.old.control i b o stage →
         role_of stage (original hart.old.machine) ≡ Role.Whole → Fits image.now (R.kept rom.new) hart.new) }
-    ensures unfailed { OnOk result (hart.new.failed ≡ false) }
-    ensures booted { OnOk result (hart.new.booted ≡ hart.old.booted) }
-    ensures fits { R.sound rom.old image.now (M.state ram.old).words →
-        OnOk result (Fits image.now (R.kept rom.new) hart.new) }
-    ensures policy { OnOk result (R.kept rom.new ≡ moved (R.policy (R.setting rom.old)) (R.kept rom.old) image.now
-        (transfer_at image.now hart.old.machine hart.old.control)) }
-    ensures setting { R.setting rom.new ≡ R.setting rom.old }
-    ensures sound { R.sound rom.old image.now (M.state ram.old).words →
-        OnOk result (R.sound rom.new image.now (M.state ram.new).words) }
-    ensures unused { OnOk result (SameFrom (R.extent (R.setting rom.old) (R.kept rom.new))
-        (M.state ram.old).words (M.state ram.new).words) }
-    ensures ram { OnOk result (RamStepped (R.span (R.setting rom.old))
-        (writes (R.kept rom.new) - writes (R.kept rom.old)) hart.old.control
-        (M.state ram.old) (M.state ram.new)) }
-    ensures grown { R.sound rom.old image.now (M.state ram.old).words →
-        OnOk result (Grown image.now (R.kept rom.old) (R.kept rom.new) hart.old hart.new) }
-    ensures stopped { OnErr result (hart.new ≡ broken (with_memory hart.old hart.new.machine.bus)) }
-    ensures broke { R.sound rom.old image.now (M.state ram.old).words →
-        OnDevice result (ForSome (I.left input.old) (λ left. BrokenStep image.now (R.kept rom.old) hart.old left
-        (I.left input.new) (O.held out.old) (O.held out.new) (E.held err.old) (E.held err.new))) }
-    ensures unwritten { IsErrOf result BoardFault.SourceFault → (O.held out.new ≡ O.held out.old) × (E.held err.new
-        ≡ E.held err.old) }
-    ensures others_stay { IsErrOf result BoardFault.RamFault →
-        (I.left input.new ≡ I.left input.old) × ((O.held out.new ≡ O.held out.old) × (E.held err.new
-        ≡ E.held err.old)) }
-    ensures ram_failed { IsErrOf result BoardFault.RamFault → RamBroken image.now hart.old.machine hart.old.control
-        (R.span (R.setting rom.old)) (M.state ram.old) (M.state ram.new) }
-    ensures kept { KeepsBeyond (R.span (R.setting rom.old)) (M.state ram.old) (M.state ram.new) }
-    ensures causes { HasCauses
-        (record { ram = (M.state ram.old).faults; input = I.faults input.old; out = O.faults out.old; err = E.faults err.old })
-        (record { ram = (M.state ram.new).faults; input = I.faults input.new; out = O.faults out.new; err = E.faults err.new }) result }
 {
     let (i, _, _, stage) = at;
     let got = match ram.fetch(i) {

@@ -3,12 +3,13 @@
 
 ghost use Rattle.std.specs.Prelude.{◌≡◌, ◌⊎◌, ◌+◌, ◌-◌, ◌*◌, ◌^◌, ◌%◌, ◌<◌, ◌≤◌, ℕ, List, [], length, slice_index, IfOk, OnOk, OnErr, IsErrOf, Some, None, true, false};
 ghost use Rattle.std.specs.Option.{ForSome};
-ghost use Rattle.swi_outside.specs.CacheRam.{KeepsBeyond};
+ghost use Rattle.swi_outside.specs.CacheRam.{RamState};
 ghost use Rattle.swi_rom.specs.Record.{writes};
 ghost use Rattle.swi_board.specs.Board.{Fits};
 ghost use Rattle.swi_board.specs.Calling.{Made, BrokenStep, OnDevice, with_memory};
 ghost use Rattle.swi_board.specs.Faults.{HasCauses};
-ghost use Rattle.swi_board.specs.Runs.{Grown};
+ghost use Rattle.swi_board.specs.MachineStep.{MachineStepped, ReadyToStep};
+ghost use Rattle.swi_board.specs.Walked.{Answered};
 ghost use Rattle.swi_rom.specs.Served.{SameFrom};
 ghost use Rattle.swi_board.specs.Leaving.{Home, leaves, offset_of, moved, transfer_at, HasPlace, broken, RamServed, RamFailed, RamStepped, RamBroken};
 
@@ -55,47 +56,21 @@ pub(crate) fn at_word<R: CacheRom, M: CacheRam, I: Source, O: Sink, E: Sink>(
     got: u32,
     at: (u32, u32, u32, Stage),
 ) -> Result<(), BoardFault>
-    requires running { hart.old.machine.ending ≡ None }
+    requires ready { ReadyToStep image.now (R.kept rom.old) hart.old }
     requires word { hart.old.machine.pc < 2 ^ 32 }
-    requires few { hart.old.machine.steps < 2 ^ 48 }
-    requires count { hart.old.count < 2 ^ 56 }
-    requires services { (R.kept rom.old).counts.services < 2 ^ 50 }
     requires control { hart.old.control ≡ Control.At at.0 at.1 at.2 at.3 }
-    requires fits { Fits image.now (R.kept rom.old) hart.old }
     requires home { Home image.now (R.kept rom.old) hart.old.machine at.0 at.1 at.2 at.3 }
     requires sound { R.sound rom.old image.now (M.state ram.old).words }
     requires got { got ≡ slice_index (M.state ram.old).words at.0 }
-    ensures made { OnOk result (ForSome (I.left input.old)
-        (λ left. Made image.now (R.kept rom.new) hart.old hart.new left
-        (I.left input.new) (O.held out.old) (O.held out.new) (E.held err.old) (E.held err.new))) }
-    ensures fits { OnOk result (Fits image.now (R.kept rom.new) hart.new) }
-    ensures policy { OnOk result (R.kept rom.new ≡ moved (R.policy (R.setting rom.old)) (R.kept rom.old) image.now
-        (transfer_at image.now hart.old.machine hart.old.control)) }
-    ensures setting { R.setting rom.new ≡ R.setting rom.old }
-    ensures sound { OnOk result (R.sound rom.new image.now (M.state ram.new).words) }
-    ensures unused { OnOk result (SameFrom (R.extent (R.setting rom.old) (R.kept rom.new))
-        (M.state ram.old).words (M.state ram.new).words) }
-    ensures ram { OnOk result (RamServed (R.span (R.setting rom.old))
-        (writes (R.kept rom.new) - writes (R.kept rom.old))
-        (M.state ram.old) (M.state ram.new)) }
-    ensures grown { OnOk result (Grown image.now (R.kept rom.old) (R.kept rom.new) hart.old hart.new) }
-    ensures stopped { OnErr result (hart.new ≡ broken (with_memory hart.old hart.new.machine.bus)) }
-    ensures broke { OnDevice result (ForSome (I.left input.old)
-        (λ left. BrokenStep image.now (R.kept rom.old) hart.old left
-        (I.left input.new) (O.held out.old) (O.held out.new) (E.held err.old) (E.held err.new))) }
-    ensures unwritten { IsErrOf result BoardFault.SourceFault → (O.held out.new ≡ O.held out.old) × (E.held err.new
-        ≡ E.held err.old) }
-    ensures others_stay { IsErrOf result BoardFault.RamFault →
-        (I.left input.new ≡ I.left input.old) × ((O.held out.new ≡ O.held out.old) × (E.held err.new
-        ≡ E.held err.old)) }
-    ensures ram_failed { IsErrOf result BoardFault.RamFault →
-        RamFailed (R.span (R.setting rom.old)) (M.state ram.old) (M.state ram.new) }
-    ensures placed { IsErrOf result BoardFault.RamFault →
-        HasPlace image.now (transfer_at image.now hart.old.machine hart.old.control) }
-    ensures kept { KeepsBeyond (R.span (R.setting rom.old)) (M.state ram.old) (M.state ram.new) }
-    ensures causes { HasCauses
-        (record { ram = (M.state ram.old).faults; input = I.faults input.old; out = O.faults out.old; err = E.faults err.old })
-        (record { ram = (M.state ram.new).faults; input = I.faults input.new; out = O.faults out.new; err = E.faults err.new }) result }
+    ensures { (before : RamState) → Answered (Some got) before at.0 (M.state ram.old) →
+        MachineStepped R.policy R.extent R.span image.now
+        (R.sound rom.old image.now before.words) (R.sound rom.new image.now (M.state ram.new).words)
+        (record { hart = hart.old; kept = R.kept rom.old; setting = R.setting rom.old; ram = before })
+        (record { hart = hart.new; kept = R.kept rom.new; setting = R.setting rom.new; ram = M.state ram.new })
+        (record { input = I.left input.old; output = O.held out.old; error = E.held err.old })
+        (record { input = I.left input.new; output = O.held out.new; error = E.held err.new })
+        (record { input = I.faults input.old; out = O.faults out.old; err = E.faults err.old })
+        (record { input = I.faults input.new; out = O.faults out.new; err = E.faults err.new }) result }
 {
     let Some(x) = decode(got) else { unreachable!() };
     if leaves(&x) {
@@ -130,44 +105,19 @@ fn at_step<R: CacheRom, M: CacheRam, I: Source, O: Sink, E: Sink>(
     err: &mut E,
     at: (u32, u32, u32, Stage),
 ) -> Result<(), BoardFault>
-    requires running { hart.old.machine.ending ≡ None }
+    requires ready { ReadyToStep image.now (R.kept rom.old) hart.old }
     requires word { hart.old.machine.pc < 2 ^ 32 }
-    requires few { hart.old.machine.steps < 2 ^ 48 }
-    requires count { hart.old.count < 2 ^ 56 }
-    requires services { (R.kept rom.old).counts.services < 2 ^ 50 }
     requires control { hart.old.control ≡ Control.At at.0 at.1 at.2 at.3 }
-    requires fits { Fits image.now (R.kept rom.old) hart.old }
     requires home { Home image.now (R.kept rom.old) hart.old.machine at.0 at.1 at.2 at.3 }
     requires sound { R.sound rom.old image.now (M.state ram.old).words }
-    ensures made { OnOk result (ForSome (I.left input.old)
-        (λ left. Made image.now (R.kept rom.new) hart.old hart.new left
-        (I.left input.new) (O.held out.old) (O.held out.new) (E.held err.old) (E.held err.new))) }
-    ensures fits { OnOk result (Fits image.now (R.kept rom.new) hart.new) }
-    ensures policy { OnOk result (R.kept rom.new ≡ moved (R.policy (R.setting rom.old)) (R.kept rom.old) image.now
-        (transfer_at image.now hart.old.machine hart.old.control)) }
-    ensures setting { R.setting rom.new ≡ R.setting rom.old }
-    ensures sound { OnOk result (R.sound rom.new image.now (M.state ram.new).words) }
-    ensures unused { OnOk result (SameFrom (R.extent (R.setting rom.old) (R.kept rom.new))
-        (M.state ram.old).words (M.state ram.new).words) }
-    ensures ram { OnOk result (RamStepped (R.span (R.setting rom.old))
-        (writes (R.kept rom.new) - writes (R.kept rom.old)) hart.old.control
-        (M.state ram.old) (M.state ram.new)) }
-    ensures grown { OnOk result (Grown image.now (R.kept rom.old) (R.kept rom.new) hart.old hart.new) }
-    ensures stopped { OnErr result (hart.new ≡ broken (with_memory hart.old hart.new.machine.bus)) }
-    ensures broke { OnDevice result (ForSome (I.left input.old)
-        (λ left. BrokenStep image.now (R.kept rom.old) hart.old left
-        (I.left input.new) (O.held out.old) (O.held out.new) (E.held err.old) (E.held err.new))) }
-    ensures unwritten { IsErrOf result BoardFault.SourceFault → (O.held out.new ≡ O.held out.old) × (E.held err.new
-        ≡ E.held err.old) }
-    ensures others_stay { IsErrOf result BoardFault.RamFault →
-        (I.left input.new ≡ I.left input.old) × ((O.held out.new ≡ O.held out.old) × (E.held err.new
-        ≡ E.held err.old)) }
-    ensures ram_failed { IsErrOf result BoardFault.RamFault → RamBroken image.now hart.old.machine hart.old.control
-        (R.span (R.setting rom.old)) (M.state ram.old) (M.state ram.new) }
-    ensures kept { KeepsBeyond (R.span (R.setting rom.old)) (M.state ram.old) (M.state ram.new) }
-    ensures causes { HasCauses
-        (record { ram = (M.state ram.old).faults; input = I.faults input.old; out = O.faults out.old; err = E.faults err.old })
-        (record { ram = (M.state ram.new).faults; input = I.faults input.new; out = O.faults out.new; err = E.faults err.new }) result }
+    ensures { MachineStepped R.policy R.extent R.span image.now
+        (R.sound rom.old image.now (M.state ram.old).words) (R.sound rom.new image.now (M.state ram.new).words)
+        (record { hart = hart.old; kept = R.kept rom.old; setting = R.setting rom.old; ram = M.state ram.old })
+        (record { hart = hart.new; kept = R.kept rom.new; setting = R.setting rom.new; ram = M.state ram.new })
+        (record { input = I.left input.old; output = O.held out.old; error = E.held err.old })
+        (record { input = I.left input.new; output = O.held out.new; error = E.held err.new })
+        (record { input = I.faults input.old; out = O.faults out.old; err = E.faults err.old })
+        (record { input = I.faults input.new; out = O.faults out.new; err = E.faults err.new }) result }
 {
     let got = match ram.fetch(at.0) {
         Ok(got) => got,
@@ -190,42 +140,17 @@ pub(crate) fn quick_step<R: CacheRom, M: CacheRam, I: Source, O: Sink, E: Sink>(
     out: &mut O,
     err: &mut E,
 ) -> Result<(), BoardFault>
-    requires running { hart.old.machine.ending ≡ None }
-    requires few { hart.old.machine.steps < 2 ^ 48 }
-    requires count { hart.old.count < 2 ^ 56 }
-    requires services { (R.kept rom.old).counts.services < 2 ^ 50 }
-    requires fits { Fits image.now (R.kept rom.old) hart.old }
+    requires ready { ReadyToStep image.now (R.kept rom.old) hart.old }
     requires sound { R.sound rom.old image.now (M.state ram.old).words }
     ensures word { hart.old.machine.pc < 2 ^ 32 }
-    ensures made { OnOk result (ForSome (I.left input.old)
-        (λ left. Made image.now (R.kept rom.new) hart.old hart.new left
-        (I.left input.new) (O.held out.old) (O.held out.new) (E.held err.old) (E.held err.new))) }
-    ensures fits { OnOk result (Fits image.now (R.kept rom.new) hart.new) }
-    ensures policy { OnOk result (R.kept rom.new ≡ moved (R.policy (R.setting rom.old)) (R.kept rom.old) image.now
-        (transfer_at image.now hart.old.machine hart.old.control)) }
-    ensures setting { R.setting rom.new ≡ R.setting rom.old }
-    ensures sound { OnOk result (R.sound rom.new image.now (M.state ram.new).words) }
-    ensures unused { OnOk result (SameFrom (R.extent (R.setting rom.old) (R.kept rom.new))
-        (M.state ram.old).words (M.state ram.new).words) }
-    ensures ram { OnOk result (RamStepped (R.span (R.setting rom.old))
-        (writes (R.kept rom.new) - writes (R.kept rom.old)) hart.old.control
-        (M.state ram.old) (M.state ram.new)) }
-    ensures grown { OnOk result (Grown image.now (R.kept rom.old) (R.kept rom.new) hart.old hart.new) }
-    ensures stopped { OnErr result (hart.new ≡ broken (with_memory hart.old hart.new.machine.bus)) }
-    ensures broke { OnDevice result (ForSome (I.left input.old)
-        (λ left. BrokenStep image.now (R.kept rom.old) hart.old left
-        (I.left input.new) (O.held out.old) (O.held out.new) (E.held err.old) (E.held err.new))) }
-    ensures unwritten { IsErrOf result BoardFault.SourceFault → (O.held out.new ≡ O.held out.old) × (E.held err.new
-        ≡ E.held err.old) }
-    ensures others_stay { IsErrOf result BoardFault.RamFault →
-        (I.left input.new ≡ I.left input.old) × ((O.held out.new ≡ O.held out.old) × (E.held err.new
-        ≡ E.held err.old)) }
-    ensures ram_failed { IsErrOf result BoardFault.RamFault → RamBroken image.now hart.old.machine hart.old.control
-        (R.span (R.setting rom.old)) (M.state ram.old) (M.state ram.new) }
-    ensures kept { KeepsBeyond (R.span (R.setting rom.old)) (M.state ram.old) (M.state ram.new) }
-    ensures causes { HasCauses
-        (record { ram = (M.state ram.old).faults; input = I.faults input.old; out = O.faults out.old; err = E.faults err.old })
-        (record { ram = (M.state ram.new).faults; input = I.faults input.new; out = O.faults out.new; err = E.faults err.new }) result }
+    ensures stepped { MachineStepped R.policy R.extent R.span image.now
+        (R.sound rom.old image.now (M.state ram.old).words) (R.sound rom.new image.now (M.state ram.new).words)
+        (record { hart = hart.old; kept = R.kept rom.old; setting = R.setting rom.old; ram = M.state ram.old })
+        (record { hart = hart.new; kept = R.kept rom.new; setting = R.setting rom.new; ram = M.state ram.new })
+        (record { input = I.left input.old; output = O.held out.old; error = E.held err.old })
+        (record { input = I.left input.new; output = O.held out.new; error = E.held err.new })
+        (record { input = I.faults input.old; out = O.faults out.old; err = E.faults err.old })
+        (record { input = I.faults input.new; out = O.faults out.new; err = E.faults err.new }) result }
 {
     let pc = hart.origin_pc();
     match hart.control.control() {

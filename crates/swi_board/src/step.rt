@@ -12,6 +12,7 @@ ghost use Rattle.swi_rom.specs.Served.{SameFrom};
 ghost use Rattle.swi_rom.specs.Coherent.{TargetAt};
 ghost use Rattle.swi_board.specs.Board.{Arrives, ExitStep, Jumps, JumpsBy};
 ghost use Rattle.swi_board.specs.Leaving.{offset_of, HasPlace, LeaveAt, RamServed, RamFailed, fell, quick_role, upper_quick, ExitHome, PlacedAt, Counted, step_to, moved, exit_transfer, broken, is_jalr, jump_transfer};
+ghost use Rattle.swi_board.specs.Service.{Transferred};
 ghost use Rattle.swi_board.specs.Hart.{exit_kind, instruction, original, trap_kind};
 
 use crate::exit::{exit_kind, fell, jump, leave};
@@ -108,17 +109,10 @@ fn direct_step<R: CacheRom, M: CacheRam>(
         ExitStep ExitKind.Direct image.now (R.kept rom.new) hart.old.machine
         (step_to hart.new input) input at.0 at.1 at.2 at.3) }
     ensures counted { OnOk result (Counted hart.old hart.new) }
-    ensures policy { OnOk result (R.kept rom.new ≡ R.policy (R.setting rom.old)
-        (R.kept rom.old) image.now (direct at.1 at.2 target)) }
-    ensures setting { R.setting rom.new ≡ R.setting rom.old }
-    ensures sound { OnOk result (R.sound rom.new image.now (M.state ram.new).words) }
-    ensures unused { OnOk result (SameFrom (R.extent (R.setting rom.old) (R.kept rom.new))
-        (M.state ram.old).words (M.state ram.new).words) }
-    ensures ram { OnOk result (RamServed (R.span (R.setting rom.old))
-        (writes (R.kept rom.new) - writes (R.kept rom.old))
-        (M.state ram.old) (M.state ram.new)) }
-    ensures failed { OnErr result (RamFailed (R.span (R.setting rom.old)) (M.state ram.old) (M.state ram.new)) }
-    ensures placed { OnErr result (HasPlace image.now (Some (direct at.1 at.2 target))) }
+    ensures served { Transferred R.policy R.extent R.span image.now (Some (direct at.1 at.2 target))
+        (R.sound rom.new image.now (M.state ram.new).words)
+        (record { kept = R.kept rom.old; setting = R.setting rom.old; ram = M.state ram.old })
+        (record { kept = R.kept rom.new; setting = R.setting rom.new; ram = M.state ram.new }) result }
     ensures stays { OnErr result (hart.new ≡ hart.old) }
 {
     let (i, b, o, stage) = at;
@@ -155,17 +149,10 @@ fn jump_step<R: CacheRom, M: CacheRam>(
         (step_to hart.new input) input
         (Control.At at.0 at.1 at.2 at.3) hart.old.machine rd link target) }
     ensures counted { OnOk result (Counted hart.old hart.new) }
-    ensures policy { OnOk result (R.kept rom.new ≡ moved (R.policy (R.setting rom.old))
-        (R.kept rom.old) image.now (if target % 4 == 0 then Some (indirect target) else None)) }
-    ensures setting { R.setting rom.new ≡ R.setting rom.old }
-    ensures sound { OnOk result (R.sound rom.new image.now (M.state ram.new).words) }
-    ensures unused { OnOk result (SameFrom (R.extent (R.setting rom.old) (R.kept rom.new))
-        (M.state ram.old).words (M.state ram.new).words) }
-    ensures ram { OnOk result (RamServed (R.span (R.setting rom.old))
-        (writes (R.kept rom.new) - writes (R.kept rom.old))
-        (M.state ram.old) (M.state ram.new)) }
-    ensures failed { OnErr result (RamFailed (R.span (R.setting rom.old)) (M.state ram.old) (M.state ram.new)) }
-    ensures placed { OnErr result (HasPlace image.now (if target % 4 == 0 then Some (indirect target) else None)) }
+    ensures served { Transferred R.policy R.extent R.span image.now (if target % 4 == 0 then Some (indirect target) else None)
+        (R.sound rom.new image.now (M.state ram.new).words)
+        (record { kept = R.kept rom.old; setting = R.setting rom.old; ram = M.state ram.old })
+        (record { kept = R.kept rom.new; setting = R.setting rom.new; ram = M.state ram.new }) result }
     ensures stays { OnErr result (hart.new ≡ hart.old) }
 {
     if target % 4 != 0 {
@@ -211,17 +198,10 @@ fn jalr_step<R: CacheRom, M: CacheRam>(
         (step_to hart.new input) input
         (Control.At at.0 at.1 at.2 at.3) hart.old.machine link) }
     ensures counted { OnOk result (Counted hart.old hart.new) }
-    ensures policy { OnOk result (R.kept rom.new ≡ moved (R.policy (R.setting rom.old))
-        (R.kept rom.old) image.now (jump_transfer (Some x.now) hart.old.machine)) }
-    ensures setting { R.setting rom.new ≡ R.setting rom.old }
-    ensures sound { OnOk result (R.sound rom.new image.now (M.state ram.new).words) }
-    ensures unused { OnOk result (SameFrom (R.extent (R.setting rom.old) (R.kept rom.new))
-        (M.state ram.old).words (M.state ram.new).words) }
-    ensures ram { OnOk result (RamServed (R.span (R.setting rom.old))
-        (writes (R.kept rom.new) - writes (R.kept rom.old))
-        (M.state ram.old) (M.state ram.new)) }
-    ensures failed { OnErr result (RamFailed (R.span (R.setting rom.old)) (M.state ram.old) (M.state ram.new)) }
-    ensures placed { OnErr result (HasPlace image.now (jump_transfer (Some x.now) hart.old.machine)) }
+    ensures served { Transferred R.policy R.extent R.span image.now (jump_transfer (Some x.now) hart.old.machine)
+        (R.sound rom.new image.now (M.state ram.new).words)
+        (record { kept = R.kept rom.old; setting = R.setting rom.old; ram = M.state ram.old })
+        (record { kept = R.kept rom.new; setting = R.setting rom.new; ram = M.state ram.new }) result }
     ensures stays { OnErr result (hart.new ≡ hart.old) }
 {
     match *x {
@@ -259,18 +239,10 @@ pub(crate) fn exit_step<R: CacheRom, M: CacheRam>(
         ExitStep (exit_kind (word_at image.now at.1 (at.2 + 1))) image.now (R.kept rom.new) hart.old.machine
         (step_to hart.new input) input at.0 at.1 at.2 at.3) }
     ensures counted { OnOk result (Counted hart.old hart.new) }
-    ensures policy { OnOk result (R.kept rom.new ≡ moved (R.policy (R.setting rom.old)) (R.kept rom.old) image.now
-        (exit_transfer (exit_kind (word_at image.now at.1 (at.2 + 1))) image.now hart.old.machine at.1 at.2)) }
-    ensures setting { R.setting rom.new ≡ R.setting rom.old }
-    ensures sound { OnOk result (R.sound rom.new image.now (M.state ram.new).words) }
-    ensures unused { OnOk result (SameFrom (R.extent (R.setting rom.old) (R.kept rom.new))
-        (M.state ram.old).words (M.state ram.new).words) }
-    ensures ram { OnOk result (RamServed (R.span (R.setting rom.old))
-        (writes (R.kept rom.new) - writes (R.kept rom.old))
-        (M.state ram.old) (M.state ram.new)) }
-    ensures failed { OnErr result (RamFailed (R.span (R.setting rom.old)) (M.state ram.old) (M.state ram.new)) }
-    ensures placed { OnErr result (HasPlace image.now (exit_transfer (exit_kind (word_at image.now at.1
-        (at.2 + 1))) image.now hart.old.machine at.1 at.2)) }
+    ensures served { Transferred R.policy R.extent R.span image.now (exit_transfer (exit_kind (word_at image.now at.1 (at.2 + 1))) image.now hart.old.machine at.1 at.2)
+        (R.sound rom.new image.now (M.state ram.new).words)
+        (record { kept = R.kept rom.old; setting = R.setting rom.old; ram = M.state ram.old })
+        (record { kept = R.kept rom.new; setting = R.setting rom.new; ram = M.state ram.new }) result }
     ensures stays { OnErr result (hart.new ≡ hart.old) }
 {
     let (_, b, o, _) = at;

@@ -13,7 +13,7 @@ ghost use Rattle.swi_calls.specs.Flat.{ended, call_made};
 ghost use Rattle.swi_board.specs.declared.hart.Control.{Control};
 ghost use Rattle.swi_board.specs.Hart.{hart_after, word_stepped, call_stepped, original};
 ghost use Rattle.swi_board.specs.Leaving.{quick_role, changes_register};
-ghost use Rattle.swi_board.specs.Calling.{Called as CalledAt, Did, Moved, WordWent, with_memory};
+ghost use Rattle.swi_board.specs.Calling.{Called as CalledAt, Moved, QuietWord, ReadyAt, WordExecuted, WordStepped};
 
 use crate::hart::{Hart, Role, Stage};
 use crate::step::role;
@@ -56,25 +56,14 @@ fn stop(hart: &mut Hart, address: u32)
 #[inline(always)]
 #[tactic(auto, using(crate::proofs::Calls::call_is))]
 pub(crate) fn run_word(hart: &mut Hart, at: (u32, u32, u32, Stage), x: &Instr, role: Role) -> bool
-    requires running { hart.old.machine.ending ≡ None }
-    requires few { hart.old.machine.steps < 2 ^ 48 }
-    requires count { hart.old.count < 2 ^ 56 }
-    requires control { hart.old.control ≡ Control.At at.0 at.1 at.2 at.3 }
-    requires small { at.0 < 2 ^ 22 }
-    requires inside { at.2 < 2 ^ 22 }
+    requires { ReadyAt hart.old at.0 at.1 at.2 at.3 }
     ensures asks { result ≡ true → (x.now ≡ Instr.Ecall)
         × (text_store_of x.now hart.old.machine.regs hart.old.machine.bus ≡ None) }
     ensures called { result ≡ true → (hart.new ≡ hart.old) × ((input : List ℕ) →
         word_stepped role at.0 at.1 at.2 at.3 hart.old.machine x.now input
         ≡ call_stepped at.0 at.1 at.2 at.3 hart.old.machine input) }
-    ensures ran { result ≡ false → (input : List ℕ) → hart.new
-        ≡ hart_after hart.old (word_stepped role at.0 at.1 at.2 at.3 hart.old.machine x.now input) }
-    ensures took { result ≡ false → (input : List ℕ) →
-        (word_stepped role at.0 at.1 at.2 at.3 hart.old.machine x.now input).made.input ≡ input }
-    ensures output { result ≡ false → (input : List ℕ) →
-        (word_stepped role at.0 at.1 at.2 at.3 hart.old.machine x.now input).made.output ≡ [] }
-    ensures error { result ≡ false → (input : List ℕ) →
-        (word_stepped role at.0 at.1 at.2 at.3 hart.old.machine x.now input).made.error ≡ [] }
+    ensures ran { result ≡ false → QuietWord (λ input. word_stepped role at.0 at.1 at.2 at.3 hart.old.machine x.now input)
+        hart.old hart.new }
 {
     let i = at.0;
     match role {
@@ -130,14 +119,9 @@ fn changes_register(x: &Instr) -> bool
 /// Executes a branch, which stands over an exit.
 #[inline(always)]
 fn over_word(hart: &mut Hart, at: (u32, u32, u32, Stage), x: &Instr)
-    requires running { hart.old.machine.ending ≡ None }
-    requires few { hart.old.machine.steps < 2 ^ 48 }
-    requires count { hart.old.count < 2 ^ 56 }
-    requires control { hart.old.control ≡ Control.At at.0 at.1 at.2 at.3 }
-    requires small { at.0 < 2 ^ 22 }
-    requires inside { at.2 < 2 ^ 22 }
-    ensures ran { (input : List ℕ) → hart.new
-        ≡ hart_after hart.old (word_stepped Role.Over at.0 at.1 at.2 at.3 hart.old.machine x.now input) }
+    requires { ReadyAt hart.old at.0 at.1 at.2 at.3 }
+    ensures { QuietWord (λ input. word_stepped Role.Over at.0 at.1 at.2 at.3 hart.old.machine x.now input)
+        hart.old hart.new }
 {
     let i = at.0;
     let done = exec(x, 4 * i, &mut hart.machine.regs, &mut hart.machine.bus);
@@ -154,21 +138,10 @@ fn over_word(hart: &mut Hart, at: (u32, u32, u32, Stage), x: &Instr)
 /// Executes a word that completes its instruction, and that only changes a register.
 #[inline(always)]
 fn register_word(hart: &mut Hart, at: (u32, u32, u32, Stage), x: &Instr)
-    requires running { hart.old.machine.ending ≡ None }
-    requires few { hart.old.machine.steps < 2 ^ 48 }
-    requires count { hart.old.count < 2 ^ 56 }
-    requires control { hart.old.control ≡ Control.At at.0 at.1 at.2 at.3 }
-    requires small { at.0 < 2 ^ 22 }
-    requires inside { at.2 < 2 ^ 22 }
+    requires ready { ReadyAt hart.old at.0 at.1 at.2 at.3 }
     requires register { changes_register x.now ≡ true }
-    ensures ran { (input : List ℕ) → hart.new
-        ≡ hart_after hart.old (word_stepped Role.Whole at.0 at.1 at.2 at.3 hart.old.machine x.now input) }
-    ensures took { (input : List ℕ) →
-        (word_stepped Role.Whole at.0 at.1 at.2 at.3 hart.old.machine x.now input).made.input ≡ input }
-    ensures output { (input : List ℕ) →
-        (word_stepped Role.Whole at.0 at.1 at.2 at.3 hart.old.machine x.now input).made.output ≡ [] }
-    ensures error { (input : List ℕ) →
-        (word_stepped Role.Whole at.0 at.1 at.2 at.3 hart.old.machine x.now input).made.error ≡ [] }
+    ensures { QuietWord (λ input. word_stepped Role.Whole at.0 at.1 at.2 at.3 hart.old.machine x.now input)
+        hart.old hart.new }
 {
     match exec(x, 4 * at.0, &mut hart.machine.regs, &mut hart.machine.bus) {
         Done::Next(_) => {
@@ -191,32 +164,14 @@ pub(crate) fn call_word<I: Source, O: Sink, E: Sink>(
     out: &mut O,
     err: &mut E,
 ) -> Result<(), CallFault>
-    requires running { hart.old.machine.ending ≡ None }
-    requires few { hart.old.machine.steps < 2 ^ 48 }
-    requires count { hart.old.count < 2 ^ 56 }
-    requires control { hart.old.control ≡ Control.At at.0 at.1 at.2 at.3 }
-    requires small { at.0 < 2 ^ 22 }
-    requires inside { at.2 < 2 ^ 22 }
-    ensures hart { OnOk result (ForSome (I.left input.old) (λ left.
-        hart.new ≡ hart_after hart.old (call_stepped at.0 at.1 at.2 at.3 hart.old.machine left))) }
-    ensures input { OnOk result (ForSome (I.left input.old) (λ left. I.left input.new
-        ≡ Some (call_made hart.old.machine left).input)) }
-    ensures output { OnOk result (ForSome (I.left input.old) (λ left.
-        Appends (O.held out.old) (O.held out.new) (call_made hart.old.machine left).output)) }
-    ensures error { OnOk result (ForSome (I.left input.old) (λ left.
-        Appends (E.held err.old) (E.held err.new) (call_made hart.old.machine left).error)) }
-    ensures goes { OnOk result (CalledAt at.0 at.1 at.2 at.3 hart.old hart.new) }
-    ensures stays { OnErr result (hart.new ≡ with_memory hart.old hart.new.machine.bus) }
-    ensures moved { Moved hart.old.machine hart.new.machine.bus (I.left input.old) (I.left input.new) }
-    ensures output_prefix { OnErr result (ForSome (I.left input.old) (λ left.
-        AppendsPrefix (O.held out.old) (O.held out.new) (call_made hart.old.machine left).output)) }
-    ensures error_prefix { OnErr result (ForSome (I.left input.old) (λ left.
-        AppendsPrefix (E.held err.old) (E.held err.new) (call_made hart.old.machine left).error)) }
-    ensures unwritten { IsErrOf result CallFault.SourceFault → (O.held out.new ≡ O.held out.old) × (E.held err.new
-        ≡ E.held err.old) }
-    ensures causes { HasCauses
+    requires { ReadyAt hart.old at.0 at.1 at.2 at.3 }
+    ensures word { WordExecuted (λ left. call_stepped at.0 at.1 at.2 at.3 hart.old.machine left) hart.old hart.new
+        (record { input = I.left input.old; output = O.held out.old; error = E.held err.old })
+        (record { input = I.left input.new; output = O.held out.new; error = E.held err.new })
         (record { input = I.faults input.old; out = O.faults out.old; err = E.faults err.old })
         (record { input = I.faults input.new; out = O.faults out.new; err = E.faults err.new }) result }
+    ensures goes { OnOk result (CalledAt at.0 at.1 at.2 at.3 hart.old hart.new) }
+    ensures moved { Moved hart.old.machine hart.new.machine.bus (I.left input.old) (I.left input.new) }
 {
     match hart.machine.call_step(input, out, err) {
         Ok(_) => {
@@ -241,32 +196,11 @@ pub(crate) fn word_step<I: Source, O: Sink, E: Sink>(
     out: &mut O,
     err: &mut E,
 ) -> Result<(), CallFault>
-    requires running { hart.old.machine.ending ≡ None }
-    requires few { hart.old.machine.steps < 2 ^ 48 }
-    requires count { hart.old.count < 2 ^ 56 }
-    requires control { hart.old.control ≡ Control.At at.0 at.1 at.2 at.3 }
-    requires small { at.0 < 2 ^ 22 }
-    requires inside { at.2 < 2 ^ 22 }
-    ensures did { OnOk result (ForSome (I.left input.old) (λ left. Did hart.old hart.new
-        (word_stepped role at.0 at.1 at.2 at.3 hart.old.machine x.now left) (I.left input.new) (O.held out.old)
-        (O.held out.new) (E.held err.old) (E.held err.new))) }
-    ensures went { OnOk result (WordWent x.now
-        (λ left. word_stepped role at.0 at.1 at.2 at.3 hart.old.machine x.now left)
-        (λ left. call_stepped at.0 at.1 at.2 at.3 hart.old.machine left) at.0 at.1 at.2 at.3 hart.old hart.new
-        (I.left input.old) (I.left input.new)) }
-    ensures stays { OnErr result (hart.new ≡ with_memory hart.old hart.new.machine.bus) }
-    ensures asked { OnErr result ((input : List ℕ) → word_stepped role at.0 at.1 at.2 at.3 hart.old.machine x.now input
-        ≡ call_stepped at.0 at.1 at.2 at.3 hart.old.machine input) }
-    ensures moved { OnErr result (Moved hart.old.machine hart.new.machine.bus (I.left input.old) (I.left input.new)) }
-    ensures output_prefix { OnErr result (ForSome (I.left input.old) (λ left.
-        AppendsPrefix (O.held out.old) (O.held out.new)
-        (word_stepped role at.0 at.1 at.2 at.3 hart.old.machine x.now left).made.output)) }
-    ensures error_prefix { OnErr result (ForSome (I.left input.old) (λ left.
-        AppendsPrefix (E.held err.old) (E.held err.new)
-        (word_stepped role at.0 at.1 at.2 at.3 hart.old.machine x.now left).made.error)) }
-    ensures unwritten { IsErrOf result CallFault.SourceFault → (O.held out.new ≡ O.held out.old) × (E.held err.new
-        ≡ E.held err.old) }
-    ensures causes { HasCauses
+    requires { ReadyAt hart.old at.0 at.1 at.2 at.3 }
+    ensures { WordStepped x.now at.0 at.1 at.2 at.3
+        (λ left. word_stepped role at.0 at.1 at.2 at.3 hart.old.machine x.now left) hart.old hart.new
+        (record { input = I.left input.old; output = O.held out.old; error = E.held err.old })
+        (record { input = I.left input.new; output = O.held out.new; error = E.held err.new })
         (record { input = I.faults input.old; out = O.faults out.old; err = E.faults err.old })
         (record { input = I.faults input.new; out = O.faults out.new; err = E.faults err.new }) result }
 {
@@ -289,37 +223,11 @@ pub(crate) fn role_step<I: Source, O: Sink, E: Sink>(
     out: &mut O,
     err: &mut E,
 ) -> Result<(), CallFault>
-    requires running { hart.old.machine.ending ≡ None }
-    requires few { hart.old.machine.steps < 2 ^ 48 }
-    requires count { hart.old.count < 2 ^ 56 }
-    requires control { hart.old.control ≡ Control.At at.0 at.1 at.2 at.3 }
-    requires small { at.0 < 2 ^ 22 }
-    requires inside { at.2 < 2 ^ 22 }
-    ensures did { OnOk result (ForSome (I.left input.old) (λ left. Did hart.old hart.new
-        (word_stepped (quick_role at.3 x.now
-        (original hart.old.machine)) at.0 at.1 at.2 at.3 hart.old.machine x.now left) (I.left input.new)
-        (O.held out.old) (O.held out.new) (E.held err.old) (E.held err.new))) }
-    ensures went { OnOk result (WordWent x.now (λ left. word_stepped (quick_role at.3 x.now
-        (original hart.old.machine)) at.0 at.1 at.2 at.3 hart.old.machine x.now left)
-        (λ left. call_stepped at.0 at.1 at.2 at.3 hart.old.machine left) at.0 at.1 at.2 at.3 hart.old hart.new
-        (I.left input.old) (I.left input.new)) }
-    ensures stays { OnErr result (hart.new ≡ with_memory hart.old hart.new.machine.bus) }
-    ensures asked { OnErr result ((input : List ℕ) →
-        word_stepped (quick_role at.3 x.now
-        (original hart.old.machine)) at.0 at.1 at.2 at.3 hart.old.machine x.now input
-        ≡ call_stepped at.0 at.1 at.2 at.3 hart.old.machine input) }
-    ensures moved { OnErr result (Moved hart.old.machine hart.new.machine.bus (I.left input.old) (I.left input.new)) }
-    ensures output_prefix { OnErr result (ForSome (I.left input.old) (λ left.
-        AppendsPrefix (O.held out.old) (O.held out.new)
-        (word_stepped (quick_role at.3 x.now
-        (original hart.old.machine)) at.0 at.1 at.2 at.3 hart.old.machine x.now left).made.output)) }
-    ensures error_prefix { OnErr result (ForSome (I.left input.old) (λ left.
-        AppendsPrefix (E.held err.old) (E.held err.new)
-        (word_stepped (quick_role at.3 x.now
-        (original hart.old.machine)) at.0 at.1 at.2 at.3 hart.old.machine x.now left).made.error)) }
-    ensures unwritten { IsErrOf result CallFault.SourceFault → (O.held out.new ≡ O.held out.old) × (E.held err.new
-        ≡ E.held err.old) }
-    ensures causes { HasCauses
+    requires { ReadyAt hart.old at.0 at.1 at.2 at.3 }
+    ensures { WordStepped x.now at.0 at.1 at.2 at.3
+        (λ left. word_stepped (quick_role at.3 x.now (original hart.old.machine)) at.0 at.1 at.2 at.3 hart.old.machine x.now left) hart.old hart.new
+        (record { input = I.left input.old; output = O.held out.old; error = E.held err.old })
+        (record { input = I.left input.new; output = O.held out.new; error = E.held err.new })
         (record { input = I.faults input.old; out = O.faults out.old; err = E.faults err.old })
         (record { input = I.faults input.new; out = O.faults out.new; err = E.faults err.new }) result }
 {

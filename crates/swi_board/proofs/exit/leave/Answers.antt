@@ -1,6 +1,7 @@
 use Rattle.std.proofs.Common.{◌≡◌, arith, refl, sym, subst}
 use Rattle.swi_rom.specs.Coherent.{TargetAt}
-use Rattle.swi_board.proofs.Leaving.{by_error, ram_placed, ram_outside, ram_failed, failed_place, exit_unlinked, jump_linked, link_at, index_small}
+use Rattle.swi_board.proofs.Falls.{ram_same}
+use Rattle.swi_board.proofs.Leaving.{by_error, served_at, served_outside, served_not, exit_unlinked, jump_linked, link_at, index_small}
 use Rattle.swi_board.proofs.exit.leave.Goals as goal
 
 pub returns-then-got-ne-EBREAK-clause-control : goal.returns-then-got-ne-EBREAK-clause-control
@@ -16,11 +17,19 @@ returns-then-got-ne-EBREAK-clause-control g c =
     let target = subst (λ n. TargetAt v r n l.to) (sym c.requires.target) l.target in
     c.control_at.ensures v _ c.args.target s (subst (λ n. TargetAt v r c.args.target n) (sym index) target)
 
-pub returns-then-got-ne-EBREAK-clause-policy : goal.returns-then-got-ne-EBREAK-clause-policy
-returns-then-got-ne-EBREAK-clause-policy g c =
+pub returns-then-got-ne-EBREAK-clause-served : goal.returns-then-got-ne-EBREAK-clause-served
+returns-then-got-ne-EBREAK-clause-served g c =
     let s = c.requires.sound in
     let linked = jump_linked _ _ _ _ c.args.got c.args.at.0 c.args.at.1 c.args.at.2 (g.met.R.CacheRom.coherent _ _ _ s) c.requires.exit c.if-got-ne-EBREAK.true in
-    sym (g.met.R.CacheRom.first _ _ _ _ _ _ linked)
+    record {
+      policy = sym (g.met.R.CacheRom.first _ _ _ _ _ _ linked);
+      setting = refl;
+      sound = s;
+      unused = λ i le. refl;
+      ram = ram_same _ (g.R.CacheRom.kept c.args.rom.now) _;
+      failed = tt;
+      placed = tt;
+    }
 
 pub cross-requires-clause-exit : goal.cross-requires-clause-exit
 cross-requires-clause-exit g c =
@@ -42,34 +51,23 @@ returns-in-Ok-clause-control g c =
     let s = c.in-Ok.ensures.served c.args.at.1 c.args.at.2 e.first e.is_placed (omega (arith, e.inside)) e.index in
     c.control_at-in-Ok.ensures _ _ c.args.target c.in-Ok.ensures.stays s.answer
 
-pub returns-in-Ok-clause-ram : goal.returns-in-Ok-clause-ram
-returns-in-Ok-clause-ram g c =
+pub returns-in-Ok-clause-served : goal.returns-in-Ok-clause-served
+returns-in-Ok-clause-served g c =
     let e = c.requires.exit in
-    ram_placed _ _ _ _ _ _ _ _ _ (c.in-Ok.ensures.served c.args.at.1 c.args.at.2 e.first e.is_placed (omega (arith, e.inside)) e.index)
+    let q = c.in-Ok.ensures in
+    served_at q.setting _ _ (q.served c.args.at.1 c.args.at.2 e.first e.is_placed (omega (arith, e.inside)) e.index) q.unused q.stays
 
-pub returns-in-Err-Outside-clause-control : goal.returns-in-Err-Outside-clause-control
-returns-in-Err-Outside-clause-control g c =
+pub returns-in-Err-Outside : goal.returns-in-Err-Outside
+returns-in-Err-Outside g c =
     let e = c.requires.exit in
-    let s = by_error _ _ _ _ _ _ _ _ c.in-Err-Outside.field-0-is (c.in-Err-Outside.ensures.served c.args.at.1 c.args.at.2 e.first e.is_placed (omega (arith, e.inside)) e.index) in
-    s.outside refl
+    let q = c.in-Err-Outside.ensures in
+    let s = by_error c.in-Err-Outside.field-0-is (q.served c.args.at.1 c.args.at.2 e.first e.is_placed (omega (arith, e.inside)) e.index) in
+    let unused = rw c.in-Err-Outside.field-0-is at q.unused in
+    let stays = rw c.in-Err-Outside.field-0-is at q.stays in
+    record { control = s.outside refl; served = served_outside q.setting _ s unused stays }
 
-pub returns-in-Err-Outside-clause-policy : goal.returns-in-Err-Outside-clause-policy
-returns-in-Err-Outside-clause-policy g c =
+pub returns-in-Err-RamFault-clause-served : goal.returns-in-Err-RamFault-clause-served
+returns-in-Err-RamFault-clause-served g c =
     let e = c.requires.exit in
-    let s = by_error _ _ _ _ _ _ _ _ c.in-Err-Outside.field-0-is (c.in-Err-Outside.ensures.served c.args.at.1 c.args.at.2 e.first e.is_placed (omega (arith, e.inside)) e.index) in
-    s.moves
-
-pub returns-in-Err-Outside-clause-ram : goal.returns-in-Err-Outside-clause-ram
-returns-in-Err-Outside-clause-ram g c =
-    let e = c.requires.exit in
-    ram_outside _ _ _ _ _ _ _ _ (by_error _ _ _ _ _ _ _ _ c.in-Err-Outside.field-0-is (c.in-Err-Outside.ensures.served c.args.at.1 c.args.at.2 e.first e.is_placed (omega (arith, e.inside)) e.index))
-
-pub returns-in-Err-RamFault-clause-failed : goal.returns-in-Err-RamFault-clause-failed
-returns-in-Err-RamFault-clause-failed g c =
-    let e = c.requires.exit in
-    ram_failed _ _ _ _ _ _ _ _ (by_error _ _ _ _ _ _ _ _ c.in-Err-RamFault.field-0-is (c.in-Err-RamFault.ensures.served c.args.at.1 c.args.at.2 e.first e.is_placed (omega (arith, e.inside)) e.index))
-
-pub returns-in-Err-RamFault-clause-placed : goal.returns-in-Err-RamFault-clause-placed
-returns-in-Err-RamFault-clause-placed g c =
-    let e = c.requires.exit in
-    failed_place _ _ _ _ _ _ _ _ (by_error _ _ _ _ _ _ _ _ c.in-Err-RamFault.field-0-is (c.in-Err-RamFault.ensures.served c.args.at.1 c.args.at.2 e.first e.is_placed (omega (arith, e.inside)) e.index))
+    let q = c.in-Err-RamFault.ensures in
+    served_not q.setting _ (by_error c.in-Err-RamFault.field-0-is (q.served c.args.at.1 c.args.at.2 e.first e.is_placed (omega (arith, e.inside)) e.index))

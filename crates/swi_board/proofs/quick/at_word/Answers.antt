@@ -1,12 +1,17 @@
-use Rattle.swi_board.proofs.Causing.{causes_none, causes_answer, on_device}
-use Rattle.swi_board.specs.Calling.{Moved}
-use Rattle.std.proofs.Common.{Option, ap, subst, ◌+◌, ℕ, List, sym, ◌∙◌, refl}
-use Rattle.swi_board.proofs.Fetching.{got_some, exit_home, word_home, exit_moves, word_moves}
-use Rattle.swi_board.proofs.Steps.{made_exit, fits_exit, made_word, fits_word, exit_placed, broken_word}
+use Rattle.std.proofs.Common.{◌≡◌, Option, ap, subst, ◌+◌, ℕ, List, slice_index, sym, ◌∙◌, arith, refl}
+use Rattle.swi_outside.specs.CacheRam.{RamState}
 use Rattle.swi_image.specs.Place.{word_at}
-use Rattle.swi_board.specs.Hart.{exit_kind, original}
-use Rattle.swi_board.specs.Leaving.{exit_transfer, quick_role}
+use Rattle.swi_memory.specs.Bus.{AreaData}
+use Rattle.swi_calls.specs.Causes as calls
+use Rattle.swi_board.specs.Calling.{Moved, with_memory}
+use Rattle.swi_board.specs.Hart.{HartData, exit_kind, original}
+use Rattle.swi_board.specs.Leaving.{exit_transfer, quick_role, broken}
+use Rattle.swi_board.proofs.Answered.{ram_stopped}
+use Rattle.swi_board.proofs.Causing.{causes_none, causes_answer, on_device, source_failed, ram_unfailed}
+use Rattle.swi_board.proofs.Falls.{ram_same}
+use Rattle.swi_board.proofs.Fetching.{got_some, index_below, offset_small, exit_home, word_home, exit_moves, word_moves}
 use Rattle.swi_board.proofs.Grown.{grown_exit, grown_word, moved_services}
+use Rattle.swi_board.proofs.Steps.{made_exit, fits_exit, made_word, fits_word, exit_placed, broken_word, ram_exit, ram_unserved, kept_after}
 use Rattle.swi_board.proofs.quick.at_word.Goals as goal
 
 pub unreachable-requires : goal.unreachable-requires
@@ -19,85 +24,133 @@ exit_step-requires-clause-home g c =
     exit_home c.args.image.now (g.R.CacheRom.kept c.args.rom.now) c.args.hart.now.machine _ _ c.args.at.0 c.args.at.1 c.args.at.2 c.args.at.3
     (g.met.R.CacheRom.coherent _ _ _ c.requires.sound) c.requires.home c.args.got c.in-Some.x c.requires.got (sym c.in-Some.is ∙ c.decode.ensures) (sym c.leaves.ensures ∙ c.if-leaves.true)
 
-pub returns-in-Ok-clause-made : goal.returns-in-Ok-clause-made
-returns-in-Ok-clause-made g c = λ left told.
-    let e = exit_home c.args.image.now (g.R.CacheRom.kept c.args.rom.now) c.args.hart.now.machine _ _ c.args.at.0 c.args.at.1 c.args.at.2 c.args.at.3
-    (g.met.R.CacheRom.coherent _ _ _ c.requires.sound) c.requires.home c.args.got c.in-Some.x c.requires.got (sym c.in-Some.is ∙ c.decode.ensures) (sym c.leaves.ensures ∙ c.if-leaves.true) in
-    made_exit c.args.image.now (g.R.CacheRom.kept c.args.rom.now) (g.R.CacheRom.kept c.exit_step.new.rom) c.args.hart.now c.exit_step.new.hart c.args.at.0 c.args.at.1 c.args.at.2 c.args.at.3 c.requires.control
-    left _ _ _ e c.in-Ok.ensures.step c.in-Ok.ensures.counted told
+pub role_step-requires : goal.role_step-requires
+role_step-requires g c =
+    let coherent = g.met.R.CacheRom.coherent _ _ _ c.requires.sound in
+    let below = index_below c.args.image.now (g.R.CacheRom.kept c.args.rom.now) c.args.hart.now.machine _ _ c.args.at.0 c.args.at.1 c.args.at.2 c.args.at.3 coherent c.requires.home in
+    let small = g.met.R.CacheRom.small _ _ _ c.requires.sound in
+    record {
+      running = c.requires.ready.running;
+      few = c.requires.ready.few;
+      count = c.requires.ready.count;
+      control = c.requires.control;
+      small = omega (arith, below, small);
+      inside = offset_small c.args.image.now (g.R.CacheRom.kept c.args.rom.now) c.args.hart.now.machine _ _ c.args.at.0 c.args.at.1 c.args.at.2 c.args.at.3 coherent c.requires.home (g.met.R.CacheRom.image _ _ _ c.requires.sound);
+    }
 
-pub returns-in-Ok-clause-fits : goal.returns-in-Ok-clause-fits
-returns-in-Ok-clause-fits g c =
-    let e = exit_home c.args.image.now (g.R.CacheRom.kept c.args.rom.now) c.args.hart.now.machine _ _ c.args.at.0 c.args.at.1 c.args.at.2 c.args.at.3
-    (g.met.R.CacheRom.coherent _ _ _ c.requires.sound) c.requires.home c.args.got c.in-Some.x c.requires.got (sym c.in-Some.is ∙ c.decode.ensures) (sym c.leaves.ensures ∙ c.if-leaves.true) in
-    fits_exit c.args.image.now (g.R.CacheRom.kept c.args.rom.now) (g.R.CacheRom.kept c.exit_step.new.rom) c.args.hart.now c.exit_step.new.hart c.args.at.0 c.args.at.1 c.args.at.2 c.args.at.3 c.requires.control
-    c.requires.fits (sym c.requires.running) c.requires.word e c.in-Ok.ensures.step c.in-Ok.ensures.counted
+pub returns-in-Ok : goal.returns-in-Ok
+returns-in-Ok g c = λ before fetched.
+    let v = c.args.image.now in
+    let r = g.R.CacheRom.kept c.args.rom.now in
+    let new = g.R.CacheRom.kept c.exit_step.new.rom in
+    let h = c.args.hart.now in
+    let policy = g.R.CacheRom.policy (g.R.CacheRom.setting c.args.rom.now) in
+    let coherent = g.met.R.CacheRom.coherent _ _ _ c.requires.sound in
+    let e = exit_home v r h.machine _ _ c.args.at.0 c.args.at.1 c.args.at.2 c.args.at.3
+    coherent c.requires.home c.args.got c.in-Some.x c.requires.got (sym c.in-Some.is ∙ c.decode.ensures) (sym c.leaves.ensures ∙ c.if-leaves.true) in
+    let below = index_below v r h.machine _ _ c.args.at.0 c.args.at.1 c.args.at.2 c.args.at.3 coherent c.requires.home in
+    let s = c.in-Ok.ensures in
+    let more = moved_services policy (λ r v t. g.met.R.CacheRom.second (g.R.CacheRom.setting c.args.rom.now) r v t) r new v
+    (exit_transfer (exit_kind (word_at v c.args.at.1 (c.args.at.2 + 1))) v h.machine c.args.at.1 c.args.at.2) s.served.policy in
+    record {
+      made = λ sound left told. made_exit v r new h c.exit_step.new.hart c.args.at.0 c.args.at.1 c.args.at.2 c.args.at.3 c.requires.control left _ _ _ e s.step s.counted told;
+      fits = λ sound. fits_exit v r new h c.exit_step.new.hart c.args.at.0 c.args.at.1 c.args.at.2 c.args.at.3 c.requires.control c.requires.ready.fits (sym c.requires.ready.running) c.requires.word e s.step s.counted;
+      counted = s.counted;
+      policy = rw c.requires.control (exit_moves v new h.machine c.args.at.0 c.args.at.1 c.args.at.2 c.args.at.3 policy r e s.served.policy);
+      setting = s.served.setting;
+      sound = λ sound. s.served.sound;
+      unused = λ j le. s.served.unused j le ∙ ap (λ (k : RamState). slice_index k.words j) fetched.1;
+      ram = ram_exit _ _ c.args.at.0 c.args.at.1 c.args.at.2 c.args.at.3 h.control before _ _ c.requires.control below fetched.1 s.served.ram;
+      grown = λ sound. grown_exit v r new h c.exit_step.new.hart c.args.at.0 c.args.at.1 c.args.at.2 c.args.at.3 c.requires.control (sym c.requires.ready.running) e s.step s.counted more;
+      stopped = tt;
+      broke = λ sound. tt;
+      unwritten = λ is. absurd (cc);
+      others_stay = λ is. absurd (cc);
+      ram_failed = λ is. absurd (cc);
+      kept = kept_after _ c.args.at.0 before _ _ below fetched.1 s.served.ram.kept;
+      causes = causes_none _ _ _ (ap (λ (n : ℕ). record { ram = n; input = g.I.Source.faults c.args.input.now; out = g.O.Sink.faults c.args.out.now; err = g.E.Sink.faults c.args.err.now }) (s.served.ram.quiet ∙ ap (λ (k : RamState). k.faults) fetched.1));
+    }
 
-pub returns-in-Ok-clause-policy : goal.returns-in-Ok-clause-policy
-returns-in-Ok-clause-policy g c =
-    let e = exit_home c.args.image.now (g.R.CacheRom.kept c.args.rom.now) c.args.hart.now.machine _ _ c.args.at.0 c.args.at.1 c.args.at.2 c.args.at.3
-    (g.met.R.CacheRom.coherent _ _ _ c.requires.sound) c.requires.home c.args.got c.in-Some.x c.requires.got (sym c.in-Some.is ∙ c.decode.ensures) (sym c.leaves.ensures ∙ c.if-leaves.true) in
-    rw c.requires.control (exit_moves c.args.image.now (g.R.CacheRom.kept c.exit_step.new.rom) c.args.hart.now.machine c.args.at.0 c.args.at.1 c.args.at.2 c.args.at.3
-    (g.R.CacheRom.policy (g.R.CacheRom.setting c.args.rom.now)) (g.R.CacheRom.kept c.args.rom.now) e c.in-Ok.ensures.policy)
+pub returns-in-Err : goal.returns-in-Err
+returns-in-Err g c = λ before fetched.
+    let v = c.args.image.now in
+    let r = g.R.CacheRom.kept c.args.rom.now in
+    let h = c.args.hart.now in
+    let coherent = g.met.R.CacheRom.coherent _ _ _ c.requires.sound in
+    let e = exit_home v r h.machine _ _ c.args.at.0 c.args.at.1 c.args.at.2 c.args.at.3
+    coherent c.requires.home c.args.got c.in-Some.x c.requires.got (sym c.in-Some.is ∙ c.decode.ensures) (sym c.leaves.ensures ∙ c.if-leaves.true) in
+    let below = index_below v r h.machine _ _ c.args.at.0 c.args.at.1 c.args.at.2 c.args.at.3 coherent c.requires.home in
+    let s = c.in-Err.ensures in
+    ram_stopped _ _ _ _ _ _ _ (ap broken (c.hart.view_is ∙ s.stays)) s.served.setting
+    (ram_unserved v h.machine h.control _ c.args.at.0 c.args.at.1 c.args.at.2 c.args.at.3 before _ _ c.requires.control below fetched.1 s.served.failed
+    (exit_placed v h.machine h.control c.args.at.0 c.args.at.1 c.args.at.2 c.args.at.3 c.requires.control e s.served.placed))
 
-pub returns-in-Ok-role_step-clause-made : goal.returns-in-Ok-role_step-clause-made
-returns-in-Ok-role_step-clause-made g c = λ left told.
-    let w = word_home c.args.image.now (g.R.CacheRom.kept c.args.rom.now) c.args.hart.now.machine _ _ c.args.at.0 c.args.at.1 c.args.at.2 c.args.at.3
-    (g.met.R.CacheRom.coherent _ _ _ c.requires.sound) c.requires.home c.args.got c.in-Some.x c.requires.got (sym c.in-Some.is ∙ c.decode.ensures) (sym c.leaves.ensures ∙ c.if-leaves.false) in
-    made_word c.args.image.now (g.R.CacheRom.kept c.args.rom.now) (g.R.CacheRom.kept c.args.rom.now) c.args.hart.now c.role_step.new.hart c.args.at.0 c.args.at.1 c.args.at.2 c.args.at.3 c.requires.control
-    c.in-Some.x (quick_role c.args.at.3 c.in-Some.x (original c.args.hart.now.machine)) left _ _ _ _ _ w refl (c.in-Ok-role_step.ensures.did left told)
+pub returns-in-Ok-role_step : goal.returns-in-Ok-role_step
+returns-in-Ok-role_step g c = λ before fetched.
+    let v = c.args.image.now in
+    let r = g.R.CacheRom.kept c.args.rom.now in
+    let h = c.args.hart.now in
+    let coherent = g.met.R.CacheRom.coherent _ _ _ c.requires.sound in
+    let w = word_home v r h.machine _ _ c.args.at.0 c.args.at.1 c.args.at.2 c.args.at.3
+    coherent c.requires.home c.args.got c.in-Some.x c.requires.got (sym c.in-Some.is ∙ c.decode.ensures) (sym c.leaves.ensures ∙ c.if-leaves.false) in
+    let below = index_below v r h.machine _ _ c.args.at.0 c.args.at.1 c.args.at.2 c.args.at.3 coherent c.requires.home in
+    let same = ram_same (g.R.CacheRom.span (g.R.CacheRom.setting c.args.rom.now)) r (g.M.CacheRam.state c.args.ram.now) in
+    let s = c.in-Ok-role_step.ensures in
+    let grows = grown_word v r r h c.role_step.new.hart c.args.at.0 c.args.at.1 c.args.at.2 c.args.at.3 c.requires.control
+    (sym c.requires.ready.running) c.in-Some.x (quick_role c.args.at.3 c.in-Some.x (original h.machine)) _ _ refl w refl s.went in
+    record {
+      made = λ sound left told. made_word v r r h c.role_step.new.hart c.args.at.0 c.args.at.1 c.args.at.2 c.args.at.3 c.requires.control
+          c.in-Some.x (quick_role c.args.at.3 c.in-Some.x (original h.machine)) left _ _ _ _ _ w refl
+          (record { hart = s.executed.hart left told; input = s.executed.devices.input left told; output = s.executed.devices.output left told; error = s.executed.devices.error left told });
+      fits = λ sound. fits_word v r r h c.role_step.new.hart c.args.at.0 c.args.at.1 c.args.at.2 c.args.at.3 c.requires.control
+          c.in-Some.x (quick_role c.args.at.3 c.in-Some.x (original h.machine)) _ _ refl c.requires.ready.fits (sym c.requires.ready.running) c.requires.word w refl s.went;
+      counted = record { count = grows.count; failed = grows.failed; booted = grows.booted };
+      policy = rw c.requires.control (word_moves v r h.machine c.args.at.0 c.args.at.1 c.args.at.2 c.args.at.3 (g.R.CacheRom.policy (g.R.CacheRom.setting c.args.rom.now)) r w.0);
+      setting = refl;
+      sound = λ sound. c.requires.sound;
+      unused = λ j le. ap (λ (k : RamState). slice_index k.words j) fetched.1;
+      ram = ram_exit _ _ c.args.at.0 c.args.at.1 c.args.at.2 c.args.at.3 h.control before _ _ c.requires.control below fetched.1 same;
+      grown = λ sound. grows;
+      stopped = tt;
+      broke = λ sound. tt;
+      unwritten = λ is. absurd (cc);
+      others_stay = λ is. absurd (cc);
+      ram_failed = λ is. absurd (cc);
+      kept = kept_after _ c.args.at.0 before _ _ below fetched.1 same.kept;
+      causes = causes_none _ _ _ (ap (λ (n : ℕ). record { ram = n; input = g.I.Source.faults c.role_step.new.input; out = g.O.Sink.faults c.role_step.new.out; err = g.E.Sink.faults c.role_step.new.err }) (ap (λ (k : RamState). k.faults) fetched.1)
+          ∙ ap (λ (f : calls.Faults). record { ram = before.faults; input = f.input; out = f.out; err = f.err }) s.executed.devices.causes.quiet);
+    }
 
-pub returns-in-Ok-role_step-clause-fits : goal.returns-in-Ok-role_step-clause-fits
-returns-in-Ok-role_step-clause-fits g c =
-    let w = word_home c.args.image.now (g.R.CacheRom.kept c.args.rom.now) c.args.hart.now.machine _ _ c.args.at.0 c.args.at.1 c.args.at.2 c.args.at.3
-    (g.met.R.CacheRom.coherent _ _ _ c.requires.sound) c.requires.home c.args.got c.in-Some.x c.requires.got (sym c.in-Some.is ∙ c.decode.ensures) (sym c.leaves.ensures ∙ c.if-leaves.false) in
-    fits_word c.args.image.now (g.R.CacheRom.kept c.args.rom.now) (g.R.CacheRom.kept c.args.rom.now) c.args.hart.now c.role_step.new.hart c.args.at.0 c.args.at.1 c.args.at.2 c.args.at.3 c.requires.control
-    c.in-Some.x (quick_role c.args.at.3 c.in-Some.x (original c.args.hart.now.machine)) _ _ refl c.requires.fits (sym c.requires.running) c.requires.word w refl c.in-Ok-role_step.ensures.went
-
-pub returns-in-Ok-role_step-clause-policy : goal.returns-in-Ok-role_step-clause-policy
-returns-in-Ok-role_step-clause-policy g c =
-    let w = word_home c.args.image.now (g.R.CacheRom.kept c.args.rom.now) c.args.hart.now.machine _ _ c.args.at.0 c.args.at.1 c.args.at.2 c.args.at.3
-    (g.met.R.CacheRom.coherent _ _ _ c.requires.sound) c.requires.home c.args.got c.in-Some.x c.requires.got (sym c.in-Some.is ∙ c.decode.ensures) (sym c.leaves.ensures ∙ c.if-leaves.false) in
-    rw c.requires.control (word_moves c.args.image.now (g.R.CacheRom.kept c.args.rom.now) c.args.hart.now.machine c.args.at.0 c.args.at.1 c.args.at.2 c.args.at.3
-    (g.R.CacheRom.policy (g.R.CacheRom.setting c.args.rom.now)) (g.R.CacheRom.kept c.args.rom.now) w.0)
-
-pub returns-in-Ok-clause-grown : goal.returns-in-Ok-clause-grown
-returns-in-Ok-clause-grown g c =
-    let e = exit_home c.args.image.now (g.R.CacheRom.kept c.args.rom.now) c.args.hart.now.machine _ _ c.args.at.0 c.args.at.1 c.args.at.2 c.args.at.3
-    (g.met.R.CacheRom.coherent _ _ _ c.requires.sound) c.requires.home c.args.got c.in-Some.x c.requires.got (sym c.in-Some.is ∙ c.decode.ensures) (sym c.leaves.ensures ∙ c.if-leaves.true) in
-    grown_exit c.args.image.now (g.R.CacheRom.kept c.args.rom.now) (g.R.CacheRom.kept c.exit_step.new.rom) c.args.hart.now c.exit_step.new.hart c.args.at.0 c.args.at.1 c.args.at.2 c.args.at.3 c.requires.control
-    (sym c.requires.running) e c.in-Ok.ensures.step c.in-Ok.ensures.counted
-    (moved_services (g.R.CacheRom.policy (g.R.CacheRom.setting c.args.rom.now)) (λ r v t. g.met.R.CacheRom.second (g.R.CacheRom.setting c.args.rom.now) r v t)
-    (g.R.CacheRom.kept c.args.rom.now) (g.R.CacheRom.kept c.exit_step.new.rom) c.args.image.now
-    (exit_transfer (exit_kind (word_at c.args.image.now c.args.at.1 (c.args.at.2 + 1))) c.args.image.now c.args.hart.now.machine c.args.at.1 c.args.at.2) c.in-Ok.ensures.policy)
-
-pub returns-in-Ok-role_step-clause-grown : goal.returns-in-Ok-role_step-clause-grown
-returns-in-Ok-role_step-clause-grown g c =
-    let w = word_home c.args.image.now (g.R.CacheRom.kept c.args.rom.now) c.args.hart.now.machine _ _ c.args.at.0 c.args.at.1 c.args.at.2 c.args.at.3
-    (g.met.R.CacheRom.coherent _ _ _ c.requires.sound) c.requires.home c.args.got c.in-Some.x c.requires.got (sym c.in-Some.is ∙ c.decode.ensures) (sym c.leaves.ensures ∙ c.if-leaves.false) in
-    grown_word c.args.image.now (g.R.CacheRom.kept c.args.rom.now) (g.R.CacheRom.kept c.args.rom.now) c.args.hart.now c.role_step.new.hart c.args.at.0 c.args.at.1 c.args.at.2 c.args.at.3 c.requires.control
-    (sym c.requires.running) c.in-Some.x (quick_role c.args.at.3 c.in-Some.x (original c.args.hart.now.machine)) _ _ refl w refl c.in-Ok-role_step.ensures.went
-
-pub returns-in-Ok-clause-causes : goal.returns-in-Ok-clause-causes
-returns-in-Ok-clause-causes g c =
-    causes_none _ _ _ (ap (λ (n : ℕ). record { ram = n; input = g.I.Source.faults c.args.input.now; out = g.O.Sink.faults c.args.out.now; err = g.E.Sink.faults c.args.err.now }) c.in-Ok.ensures.ram.quiet)
-
-pub returns-in-Err-clause-placed : goal.returns-in-Err-clause-placed
-returns-in-Err-clause-placed g c = λ is.
-    let e = exit_home c.args.image.now (g.R.CacheRom.kept c.args.rom.now) c.args.hart.now.machine _ _ c.args.at.0 c.args.at.1 c.args.at.2 c.args.at.3
-    (g.met.R.CacheRom.coherent _ _ _ c.requires.sound) c.requires.home c.args.got c.in-Some.x c.requires.got (sym c.in-Some.is ∙ c.decode.ensures) (sym c.leaves.ensures ∙ c.if-leaves.true) in
-    exit_placed c.args.image.now c.args.hart.now.machine c.args.hart.now.control c.args.at.0 c.args.at.1 c.args.at.2 c.args.at.3 c.requires.control e c.in-Err.ensures.placed
-
-pub returns-in-Err-role_step-clause-broke : goal.returns-in-Err-role_step-clause-broke
-returns-in-Err-role_step-clause-broke g c =
-    on_device Unit _ c.in-Err-role_step.fault c.fault_of.result c.fault_of.ensures (λ left told.
-    let w = word_home c.args.image.now (g.R.CacheRom.kept c.args.rom.now) c.args.hart.now.machine _ _ c.args.at.0 c.args.at.1 c.args.at.2 c.args.at.3
-    (g.met.R.CacheRom.coherent _ _ _ c.requires.sound) c.requires.home c.args.got c.in-Some.x c.requires.got (sym c.in-Some.is ∙ c.decode.ensures) (sym c.leaves.ensures ∙ c.if-leaves.false) in
-    broken_word c.args.image.now (g.R.CacheRom.kept c.args.rom.now) c.args.hart.now c.role_step.new.hart.machine.bus c.args.at.0 c.args.at.1 c.args.at.2 c.args.at.3 c.requires.control
-    c.in-Some.x (quick_role c.args.at.3 c.in-Some.x (original c.args.hart.now.machine)) left _ _ _ _ _ w refl c.in-Err-role_step.ensures.asked
-    (subst (λ (k : Option (List ℕ)). Moved c.args.hart.now.machine c.role_step.new.hart.machine.bus k (g.I.Source.left c.role_step.new.input)) told c.in-Err-role_step.ensures.moved)
-    (c.in-Err-role_step.ensures.output_prefix left told) (c.in-Err-role_step.ensures.error_prefix left told))
-
-pub returns-in-Err-role_step-clause-causes : goal.returns-in-Err-role_step-clause-causes
-returns-in-Err-role_step-clause-causes g c =
-    causes_answer _ _ _ c.in-Err-role_step.fault c.fault_of.result c.fault_of.ensures c.in-Err-role_step.ensures.causes
+pub returns-in-Err-role_step : goal.returns-in-Err-role_step
+returns-in-Err-role_step g c = λ before fetched.
+    let v = c.args.image.now in
+    let r = g.R.CacheRom.kept c.args.rom.now in
+    let h = c.args.hart.now in
+    let coherent = g.met.R.CacheRom.coherent _ _ _ c.requires.sound in
+    let below = index_below v r h.machine _ _ c.args.at.0 c.args.at.1 c.args.at.2 c.args.at.3 coherent c.requires.home in
+    let w = word_home v r h.machine _ _ c.args.at.0 c.args.at.1 c.args.at.2 c.args.at.3
+    coherent c.requires.home c.args.got c.in-Some.x c.requires.got (sym c.in-Some.is ∙ c.decode.ensures) (sym c.leaves.ensures ∙ c.if-leaves.false) in
+    let s = c.in-Err-role_step.ensures in
+    let same : (g.M.CacheRam.state c.args.ram.now).faults ≡ before.faults = ap (λ (k : RamState). k.faults) fetched.1 in
+    record {
+      made = λ sound. tt;
+      fits = λ sound. tt;
+      counted = tt;
+      policy = tt;
+      setting = refl;
+      sound = λ sound. tt;
+      unused = tt;
+      ram = tt;
+      grown = λ sound. tt;
+      stopped = ap broken (c.hart-2.view_is ∙ s.executed.stays) ∙ ap (λ (bus : List AreaData). broken (with_memory h bus)) (sym (ap (λ (k : HartData). k.machine.bus) c.hart-2.view_is));
+      broke = λ sound. on_device Unit _ c.in-Err-role_step.fault c.fault_of.result c.fault_of.ensures (λ left told.
+          broken_word v r h c.role_step.new.hart.machine.bus c.args.at.0 c.args.at.1 c.args.at.2 c.args.at.3 c.requires.control
+          c.in-Some.x (quick_role c.args.at.3 c.in-Some.x (original h.machine)) left _ _ _ _ _ w refl s.asked
+          (subst (λ (k : Option (List ℕ)). Moved h.machine c.role_step.new.hart.machine.bus k (g.I.Source.left c.role_step.new.input)) told s.moved)
+          (s.executed.devices.output_prefix left told) (s.executed.devices.error_prefix left told));
+      unwritten = λ is. s.executed.devices.failed_input (source_failed c.in-Err-role_step.fault c.fault_of.result c.fault_of.ensures is);
+      others_stay = λ is. absurd (ram_unfailed c.in-Err-role_step.fault c.fault_of.result c.fault_of.ensures is);
+      ram_failed = λ is. absurd (ram_unfailed c.in-Err-role_step.fault c.fault_of.result c.fault_of.ensures is);
+      kept = kept_after _ c.args.at.0 before _ _ below fetched.1 (ram_same (g.R.CacheRom.span (g.R.CacheRom.setting c.args.rom.now)) r (g.M.CacheRam.state c.args.ram.now)).kept;
+      causes = rw same (causes_answer before.faults _ _ c.in-Err-role_step.fault c.fault_of.result c.fault_of.ensures s.executed.devices.causes);
+    }

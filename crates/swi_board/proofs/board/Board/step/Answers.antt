@@ -1,18 +1,79 @@
-use Rattle.std.proofs.Common.{◌≡◌, ℕ, OnOk, subst}
-use Rattle.swi_board.specs.declared.hart.Stage.{Stage}
-use Rattle.swi_board.specs.declared.hart.Role.TheVariants.{Whole}
-use Rattle.swi_board.specs.Board.{BoardOf, Fits}
-use Rattle.swi_board.specs.Exchanged.{PlainAt, ExecutesHeld}
-use Rattle.swi_board.specs.Hart.{role_of, original}
+use Rattle.std.proofs.Common.{◌≡◌, sym, ◌∙◌, ap, subst, None, inl, inr}
+use Rattle.std.proofs.lemmas.Bool.{false≢true}
+use Rattle.swi_board.specs.declared.hart.Control.{Control}
+use Rattle.swi_board.specs.Board.{BoardOf, Fits, Matches}
+use Rattle.swi_board.proofs.Following.{followed}
+use Rattle.swi_board.proofs.Homes.{home}
+use Rattle.swi_board.proofs.Results.{ok_map, ok_map_2}
 use Rattle.swi_board.proofs.board.Board.step.Goals as goal
+
+pub plain_step-requires-clause-home : goal.plain_step-requires-clause-home
+plain_step-requires-clause-home g c =
+    let f = subst (λ (b : BoardOf g.row.R.Denot). Fits c.args.image.now (g.R.CacheRom.kept b.rom) b.hart) (sym c.self.view_is) c.requires.fits in
+    let running : c.self.inside.hart.machine.ending ≡ None = ap (λ (b : BoardOf g.row.R.Denot). b.hart.machine.ending) c.self.view_is ∙ c.requires.running in
+    home c.args.image.now (g.R.CacheRom.kept c.self.inside.rom) f.flat c.self.inside.hart.machine c.in-Some.at.0 c.in-Some.at.1 c.in-Some.at.2 c.in-Some.at.3 f.image
+    (subst (λ (k : Control). Matches c.args.image.now (g.R.CacheRom.kept c.self.inside.rom) f.flat c.self.inside.hart.machine k) c.in-Some.ensures.place.0 f.matches) running c.plain_place.ensures.word
+
+pub returns-clause-follows : goal.returns-clause-follows
+returns-clause-follows g c =
+    let hart : c.self.inside.hart ≡ c.args.self.now.hart = ap (λ (b : BoardOf g.row.R.Denot). b.hart) c.self.view_is in
+    let rom : c.self.inside.rom ≡ c.args.self.now.rom = ap (λ (b : BoardOf g.row.R.Denot). b.rom) c.self.view_is in
+    let running : c.self.inside.hart.machine.ending ≡ None = ap (λ (b : BoardOf g.row.R.Denot). b.hart.machine.ending) c.self.view_is ∙ c.requires.running in
+    rw (← hart, ← rom) (λ sound.
+    ok_map_2 c.quick_step.result
+    (λ made moves. λ left told f image same. followed (g.R.CacheRom.policy (g.R.CacheRom.setting c.self.inside.rom)) c.args.image.now (g.R.CacheRom.kept c.self.inside.rom) (g.R.CacheRom.kept c.quick_step.new.rom) c.self.inside.hart c.quick_step.new.hart f left _ _ _ _ _
+    running c.quick_step.ensures.word image same moves (made left told))
+    (c.quick_step.ensures.stepped.made sound) c.quick_step.ensures.stepped.policy)
 
 pub returns-clause-executes : goal.returns-clause-executes
 returns-clause-executes g c =
-    subst (λ (k : BoardOf g.row.R.Denot). OnOk c.step.result ((i b o : ℕ) (stage : Stage) → PlainAt c.args.image.now (g.M.CacheRam.state c.args.ram.now).words k.hart.control i b o stage →
-    ExecutesHeld k.hart c.step.new.hart k.rom c.step.new.rom i b o stage (g.M.CacheRam.state c.args.ram.now).words (g.M.CacheRam.state c.step.new.ram).words
-    (g.I.Source.left c.args.input.now) (g.I.Source.left c.step.new.input) (g.O.Sink.held c.args.out.now) (g.O.Sink.held c.step.new.out) (g.E.Sink.held c.args.err.now) (g.E.Sink.held c.step.new.err))) c.self.view_is c.step.ensures.executes
+    let hart : c.self.inside.hart ≡ c.args.self.now.hart = ap (λ (b : BoardOf g.row.R.Denot). b.hart) c.self.view_is in
+    rw (← hart) (ok_map c.quick_step.result (λ made. λ i b o stage p. absurd (false≢true (sym (c.in_default.ensures.place i b o stage p.control) ∙ p.own))) c.quick_step.ensures.stepped.policy)
 
 pub returns-clause-whole : goal.returns-clause-whole
 returns-clause-whole g c =
-    subst (λ (k : BoardOf g.row.R.Denot). OnOk c.step.result ((i b o : ℕ) (stage : Stage) → PlainAt c.args.image.now (g.M.CacheRam.state c.args.ram.now).words k.hart.control i b o stage →
-    role_of stage (original k.hart.machine) ≡ Whole → Fits c.args.image.now (g.R.CacheRom.kept c.step.new.rom) c.step.new.hart)) c.self.view_is c.step.ensures.whole
+    let hart : c.self.inside.hart ≡ c.args.self.now.hart = ap (λ (b : BoardOf g.row.R.Denot). b.hart) c.self.view_is in
+    rw (← hart) (ok_map c.quick_step.result (λ policy. λ i b o stage p whole. absurd (false≢true (sym (c.in_default.ensures.place i b o stage p.control) ∙ p.own))) c.quick_step.ensures.stepped.policy)
+
+pub quick_step-requires-clause-sound : goal.quick_step-requires-clause-sound
+quick_step-requires-clause-sound g c =
+    let hart : c.self.inside.hart ≡ c.args.self.now.hart = ap (λ (b : BoardOf g.row.R.Denot). b.hart) c.self.view_is in
+    let rom : c.self.inside.rom ≡ c.args.self.now.rom = ap (λ (b : BoardOf g.row.R.Denot). b.rom) c.self.view_is in
+    elim c.requires.sound [
+      | inl s ↦ rw rom s
+      | inr x ↦ absurd (false≢true (sym (c.in_default.ensures.place x.index x.block x.offset x.stage (ap (λ (b : BoardOf g.row.R.Denot). b.hart.control) c.self.view_is ∙ x.plain.control)) ∙ x.plain.own))
+    ]
+
+pub returns-in-Some-clause-executes : goal.returns-in-Some-clause-executes
+returns-in-Some-clause-executes g c =
+    let hart : c.self.inside.hart ≡ c.args.self.now.hart = ap (λ (b : BoardOf g.row.R.Denot). b.hart) c.self.view_is in
+    let rom : c.self.inside.rom ≡ c.args.self.now.rom = ap (λ (b : BoardOf g.row.R.Denot). b.rom) c.self.view_is in
+    rw (← hart, ← rom) c.plain_step.ensures.executes
+
+pub returns-in-Some-clause-whole : goal.returns-in-Some-clause-whole
+returns-in-Some-clause-whole g c =
+    let hart : c.self.inside.hart ≡ c.args.self.now.hart = ap (λ (b : BoardOf g.row.R.Denot). b.hart) c.self.view_is in
+    rw (← hart) c.plain_step.ensures.whole
+
+pub returns-in-Some-clause-follows : goal.returns-in-Some-clause-follows
+returns-in-Some-clause-follows g c =
+    let hart : c.self.inside.hart ≡ c.args.self.now.hart = ap (λ (b : BoardOf g.row.R.Denot). b.hart) c.self.view_is in
+    let rom : c.self.inside.rom ≡ c.args.self.now.rom = ap (λ (b : BoardOf g.row.R.Denot). b.rom) c.self.view_is in
+    let running : c.self.inside.hart.machine.ending ≡ None = ap (λ (b : BoardOf g.row.R.Denot). b.hart.machine.ending) c.self.view_is ∙ c.requires.running in
+    rw (← hart, ← rom) (λ sound.
+    ok_map_2 c.plain_step.result
+    (λ made moves. λ left told f image same. followed (g.R.CacheRom.policy (g.R.CacheRom.setting c.self.inside.rom)) c.args.image.now (g.R.CacheRom.kept c.self.inside.rom) (g.R.CacheRom.kept c.plain_step.new.rom) c.self.inside.hart c.plain_step.new.hart f left _ _ _ _ _
+    running c.plain_place.ensures.word image same moves (made left told))
+    (c.plain_step.ensures.stepped.made sound) c.plain_step.ensures.stepped.policy)
+
+pub plain_step-requires-clause-ready : goal.plain_step-requires-clause-ready
+plain_step-requires-clause-ready g c =
+    let hart : c.self.inside.hart ≡ c.args.self.now.hart = ap (λ (b : BoardOf g.row.R.Denot). b.hart) c.self.view_is in
+    let rom : c.self.inside.rom ≡ c.args.self.now.rom = ap (λ (b : BoardOf g.row.R.Denot). b.rom) c.self.view_is in
+    rw (hart, rom) (record { running = c.requires.running; few = c.requires.few; count = c.requires.count; services = c.requires.services; fits = c.requires.fits })
+
+pub quick_step-requires-clause-ready : goal.quick_step-requires-clause-ready
+quick_step-requires-clause-ready g c =
+    let hart : c.self.inside.hart ≡ c.args.self.now.hart = ap (λ (b : BoardOf g.row.R.Denot). b.hart) c.self.view_is in
+    let rom : c.self.inside.rom ≡ c.args.self.now.rom = ap (λ (b : BoardOf g.row.R.Denot). b.rom) c.self.view_is in
+    rw (hart, rom) (record { running = c.requires.running; few = c.requires.few; count = c.requires.count; services = c.requires.services; fits = c.requires.fits })
