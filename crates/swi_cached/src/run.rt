@@ -186,10 +186,7 @@ pub fn run_cached<I: Source, O: Sink, E: Sink, R: CacheRam>(
     ensures stops { (left : List ℕ) →
         StopsBeforeStore (run_of image.now cache_bytes program.now layout.now log limit left) }
 {
-    let mut board = match boot(alloc, image, program, layout, cache_bytes, log, ram) {
-        Ok(board) => board,
-        Err(stop) => return Err(stop),
-    };
+    let mut board = boot(alloc, image, program, layout, cache_bytes, log, ram)?;
     match board.run(image, ram, input, out, err, limit) {
         Ok(()) => Ok(board),
         Err(fault) => Err(stop_of(fault)),

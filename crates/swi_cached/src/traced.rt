@@ -41,8 +41,8 @@ use swi_outside::{CacheRam, Failed, Sink, Source};
 use swi_program::Program;
 use swi_trace::{History, trace_line};
 
-/// Tells of the step that comes next, unless so many lines say that it was told: its address into the history, and with `each` its line on the
-/// error sink. Answers how many steps are told then.
+/// Tells of the step that comes next, unless so many lines say that it was told: its address into the
+/// history, and with `each` its line on the error sink. Answers how many steps are told then.
 fn tell<E: Sink>(
     board: &Board<FifoRom>,
     lines: u64,
@@ -56,7 +56,8 @@ fn tell<E: Sink>(
     ensures count { IfOk result (λ n. n ≡ board.now.hart.machine.steps + 1) }
     ensures line { lines ≡ board.now.hart.machine.steps →
         OnOk result (Appends (E.held err.old) (E.held err.new) (told_line each board.now.hart.machine)) }
-    ensures front { OnErr result (AppendsPrefix (E.held err.old) (E.held err.new) (told_line each board.now.hart.machine)) }
+    ensures front { OnErr result
+        (AppendsPrefix (E.held err.old) (E.held err.new) (told_line each board.now.hart.machine)) }
     ensures noted { lines ≡ board.now.hart.machine.steps → (pushed : List ℕ) → IsLastOf pushed history.old →
         IsLastOf (pushed ++ board.now.hart.machine.pc ∷ []) history.new }
     ensures told { lines ≡ board.now.hart.machine.steps + 1 →
@@ -99,8 +100,8 @@ pub(crate) fn run_told<I: Source, O: Sink, E: Sink, R: CacheRam>(
     ensures ran { OnOk result (ForSome (I.left input.old) (λ left. (f : Machine) →
         Carries (fetched f.bus) image.now →
         Matches image.now (kept_by board.old.rom) f board.old.hart.machine board.old.hart.control →
-        ToldRun each (fifo (setting_of board.old.rom)) image.now limit
-        (started f left) board.old.hart (kept_by board.old.rom) board.new.hart (kept_by board.new.rom) (I.left input.new)
+        ToldRun each (fifo (setting_of board.old.rom)) image.now limit (started f left)
+        board.old.hart (kept_by board.old.rom) board.new.hart (kept_by board.new.rom) (I.left input.new)
         (O.held out.old) (O.held out.new) (E.held err.old) (E.held err.new) history.new)) }
     ensures count { OnOk result (board.new.hart.count + most image.now board.old.hart.machine board.old.hart.control
         ≤ board.old.hart.count + most image.now board.new.hart.machine board.new.hart.control) }
@@ -109,7 +110,8 @@ pub(crate) fn run_told<I: Source, O: Sink, E: Sink, R: CacheRam>(
     ensures unused { OnOk result (SameFrom (extent_of (setting_of board.old.rom) (kept_by board.new.rom))
         (R.state ram.old).words (R.state ram.new).words) }
     ensures unfailed { OnOk result (board.new.hart.failed ≡ false) }
-    ensures done { OnOk result ((board.new.hart.machine.steps ≡ limit) ⊎ (is_some board.new.hart.machine.ending ≡ true)) }
+    ensures done { OnOk result
+        ((board.new.hart.machine.steps ≡ limit) ⊎ (is_some board.new.hart.machine.ending ≡ true)) }
     ensures settled { OnOk result (ForSome (I.left input.old) (λ left. is_between board.old.hart.control ≡ true →
         board.new.hart.machine.ending ≡ None → is_between board.new.hart.control ≡ true)) }
     ensures ram { OnOk result (RamRan (span_of (setting_of board.old.rom)) (fetched_by board.old.hart board.new.hart)
@@ -128,8 +130,18 @@ pub(crate) fn run_told<I: Source, O: Sink, E: Sink, R: CacheRam>(
         (R.state ram.new) (I.left input.new)
         (O.held out.old) (O.held out.new) (E.held err.old) (E.held err.new)) }
     ensures causes { BoardCauses
-        (record { ram = (R.state ram.old).faults; input = I.faults input.old; out = O.faults out.old; err = E.faults err.old })
-        (record { ram = (R.state ram.new).faults; input = I.faults input.new; out = O.faults out.new; err = E.faults err.new }) result }
+        (record {
+          ram = (R.state ram.old).faults;
+          input = I.faults input.old;
+          out = O.faults out.old;
+          err = E.faults err.old;
+        })
+        (record {
+          ram = (R.state ram.new).faults;
+          input = I.faults input.new;
+          out = O.faults out.new;
+          err = E.faults err.new;
+        }) result }
 {
     let mut lines = 0;
     while board.steps() < limit {
@@ -137,23 +149,21 @@ pub(crate) fn run_told<I: Source, O: Sink, E: Sink, R: CacheRam>(
             None => {}
             Some(_) => return Ok(()),
         }
-        match tell(board, lines, each, history, err) {
-            Ok(told) => lines = told,
-            Err(_) => return Err(BoardFault::SinkFault),
-        }
-        match board.step(image, ram, input, out, err) {
-            Ok(()) => {}
-            Err(fault) => return Err(fault),
-        }
+        let Ok(told) = tell(board, lines, each, history, err) else {
+            return Err(BoardFault::SinkFault);
+        };
+        lines = told;
+        board.step(image, ram, input, out, err)?;
     }
     Ok(())
 }
 
-/// As `run_cached`, and each step is told before it is made: with `each` the error sink gains its line. The history that is answered has
-/// the addresses of the last 32.
+/// As `run_cached`, and each step is told before it is made: with `each` the error sink gains its line.
+/// The history that is answered has the addresses of the last 32.
 ///
-/// A step has its line before its first word is fetched, also one that ends the run by a fault, and one that would store into the text,
-/// which isn't made. After a `RamFault` or a `SourceFault` the error sink holds the line of the step that was broken off. Own rule.
+/// A step has its line before its first word is fetched, also one that ends the run by a fault, and one
+/// that would store into the text, which isn't made. After a `RamFault` or a `SourceFault` the error sink
+/// holds the line of the step that was broken off. Own rule.
 pub fn run_traced<I: Source, O: Sink, E: Sink, R: CacheRam>(
     alloc: Global,
     image: &ImageView<'_>,
@@ -175,8 +185,9 @@ pub fn run_traced<I: Source, O: Sink, E: Sink, R: CacheRam>(
     requires held { cache_bytes ≤ 4 * length (R.state ram.old).words }
     requires limit { limit ≤ 2 ^ 48 }
     ensures ended { IfOk result (λ p. ForSome (I.left input.old) (λ left.
-        Ended (traced_of each (run_of image.now cache_bytes program.now layout.now log limit left)) p.0.hart (kept_by p.0.rom)
-        (I.left input.new) (O.held out.old) (O.held out.new) (E.held err.old) (E.held err.new))) }
+        Ended (traced_of each (run_of image.now cache_bytes program.now layout.now log limit left))
+        p.0.hart (kept_by p.0.rom) (I.left input.new)
+        (O.held out.old) (O.held out.new) (E.held err.old) (E.held err.new))) }
     ensures told { IfOk result (λ p. ForSome (I.left input.old) (λ left.
         IsLastOf (addresses limit (flat_start program.now layout.now log left)) p.1)) }
     ensures unfailed { IfOk result (λ p. p.0.hart.failed ≡ false) }
@@ -214,17 +225,15 @@ pub fn run_traced<I: Source, O: Sink, E: Sink, R: CacheRam>(
           err = E.faults err.new;
         }) result }
     // The program's run is the flat machine's, up to the first store into the text.
-    ensures flat { (left : List ℕ) → IsFlatRun (traced_of each (run_of image.now cache_bytes program.now layout.now log limit left)) }
+    ensures flat { (left : List ℕ) →
+        IsFlatRun (traced_of each (run_of image.now cache_bytes program.now layout.now log limit left)) }
     ensures stops { (left : List ℕ) →
         StopsBeforeStore (traced_of each (run_of image.now cache_bytes program.now layout.now log limit left)) }
 {
     let Ok(mut history) = History::new(alloc) else {
         return Err(CachedStop::Memory);
     };
-    let mut board = match boot(alloc, image, program, layout, cache_bytes, log, ram) {
-        Ok(board) => board,
-        Err(stop) => return Err(stop),
-    };
+    let mut board = boot(alloc, image, program, layout, cache_bytes, log, ram)?;
     let told = run_told(
         &mut board,
         image,

@@ -1,4 +1,5 @@
 use Rattle.std.proofs.Common.{◌≡◌, ◌⊎◌, ◌-◌, ◌+◌, ◌<◌, ◌≤◌, ℕ, List, [], Option, Some, None, Err, is_some, true, sym, ◌∙◌, refl, subst, ap, inl, inr, arith, rules}
+use Rattle.std.proofs.lemmas.Result.{err_from_is_err_and}
 use Rattle.swi_outside.specs.CacheRam.{KeepsBeyond}
 use Rattle.swi_calls.specs.Flat.{started}
 use Rattle.swi_calls.specs.State.{FlatState}
@@ -51,7 +52,7 @@ step-requires-clause-services g c =
 
 pub loop-board-preserved : goal.loop-board-preserved
 loop-board-preserved g c =
-    let s = c.in-Ok-step.ensures in
+    let s = c.in_ok-step.ensures in
     let more : c.loop-board.board.hart.machine.steps < c.args.limit = omega (arith, c.loop-board-test.true, c.steps.ensures) in
     let running : c.loop-board.board.hart.machine.ending ≡ None = sym c.ending.ensures ∙ c.in-None.is in
     let moves = subst (λ (k : List ℕ). kept_by c.step.new.self.rom ≡ moved (fifo k) (kept_by c.loop-board.board.rom) c.args.image.now (transfer_at c.args.image.now c.loop-board.board.hart.machine c.loop-board.board.hart.control)) c.loop-board.invariant.setting s.policy in
@@ -96,10 +97,10 @@ pub loop-board-smaller : goal.loop-board-smaller
 loop-board-smaller g c =
     let more : c.loop-board.board.hart.machine.steps < c.args.limit = omega (arith, c.loop-board-test.true, c.steps.ensures) in
     let running : c.loop-board.board.hart.machine.ending ≡ None = sym c.ending.ensures ∙ c.in-None.is in
-    falls c.args.image.now c.args.limit _ _ c.loop-board.board.hart c.step.new.self.hart more running (c.in-Ok-step.ensures.grown c.loop-board.invariant.sound)
+    falls c.args.image.now c.args.limit _ _ c.loop-board.board.hart c.step.new.self.hart more running (c.in_ok-step.ensures.grown c.loop-board.invariant.sound)
 
-pub returns-in-Err-clause-broke : goal.returns-in-Err-clause-broke
-returns-in-Err-clause-broke g c = λ left told f image same.
+pub returns-in_default-clause-broke : goal.returns-in_default-clause-broke
+returns-in_default-clause-broke g c = λ left told f image same.
     let more : c.loop-board.board.hart.machine.steps < c.args.limit = omega (arith, c.loop-board-test.true, c.steps.ensures) in
     let running : c.loop-board.board.hart.machine.ending ≡ None = sym c.ending.ensures ∙ c.in-None.is in
     let goes = c.loop-board.invariant.running.goes left told f image same in
@@ -108,19 +109,20 @@ returns-in-Err-clause-broke g c = λ left told f image same.
     let line = line_is c.args.each c.loop-board.board.hart.machine goes.now.machine at.0 at.1 ∙ ap (λ (q : FlatState). told_line c.args.each q.machine) here in
     let tells = tells_as c.loop-board.board.hart.machine.ending None c.args.each c.args.limit (started f left) c.loop-board.board.hart.machine.steps c.loop-board.lines (g.E.Sink.held c.args.err.now) (g.E.Sink.held c.loop-board.err) c.loop-board.history running (c.loop-board.invariant.tells left told f image same) in
     told_line_broke c.args.each (fifo (setting_of c.args.board.now.rom)) c.args.image.now c.args.limit (started f left) c.args.board.now.hart c.loop-board.board.hart (kept_by c.args.board.now.rom) (kept_by c.loop-board.board.rom) _ _ _ (g.E.Sink.held c.args.err.now) (g.E.Sink.held c.loop-board.err) c.loop-board.history goes more running c.requires.first refl
-    c.loop-board.lines (g.E.Sink.held c.tell.new.err) c.in-Err.ensures.first tells line c.in-Err.ensures.front
+    c.loop-board.lines (g.E.Sink.held c.tell.new.err) c.in_default.ensures.first tells line c.in_default.ensures.front
 
-pub returns-in-Err-clause-causes : goal.returns-in-Err-clause-causes
-returns-in-Err-clause-causes g c = causes_line _ _ _ _ _ _ c.loop-board.invariant.quiet c.in-Err.ensures.cause.later c.in-Err.ensures.cause.failed
+pub returns-in_default-clause-causes : goal.returns-in_default-clause-causes
+returns-in_default-clause-causes g c = causes_line _ _ _ _ _ _ c.loop-board.invariant.quiet c.in_default.ensures.cause.later c.in_default.ensures.cause.failed
 
-pub returns-in-Err-step-clause-kept : goal.returns-in-Err-step-clause-kept
-returns-in-Err-step-clause-kept g c =
+pub returns-in_err-step-clause-kept : goal.returns-in_err-step-clause-kept
+returns-in_err-step-clause-kept g c =
     kept_both _ _ _ _ c.loop-board.invariant.running.ram_ran.kept
-    (subst (λ (k : List ℕ). KeepsBeyond (span_of k) (g.R.CacheRam.state c.loop-board.ram) (g.R.CacheRam.state c.step.new.ram)) c.loop-board.invariant.setting c.in-Err-step.ensures.kept)
+    (subst (λ (k : List ℕ). KeepsBeyond (span_of k) (g.R.CacheRam.state c.loop-board.ram) (g.R.CacheRam.state c.step.new.ram)) c.loop-board.invariant.setting c.in_err-step.ensures.kept)
 
-pub returns-in-Err-step-clause-causes : goal.returns-in-Err-step-clause-causes
-returns-in-Err-step-clause-causes g c =
-    causes_from _ _ _ _ (quiet_on _ _ _ _ _ _ _ refl c.in-Ok.ensures.cause.quiet c.loop-board.invariant.quiet) c.in-Err-step.ensures.causes
+pub returns-in_err-step-clause-causes : goal.returns-in_err-step-clause-causes
+returns-in_err-step-clause-causes g c =
+    let p = err_from_is_err_and c.from_residual.result c.from_residual.ensures.1 in
+    rw (p.1, p.2) (causes_from _ _ _ _ (quiet_on _ _ _ _ _ _ _ refl c.in-Ok.ensures.cause.quiet c.loop-board.invariant.quiet) c.in_err-step.ensures.causes)
 
 pub returns-in-Some-clause-ran : goal.returns-in-Some-clause-ran
 returns-in-Some-clause-ran g c = λ left told f image same.
@@ -137,12 +139,13 @@ returns-clause-ran g c = λ left told f image same.
     (c.loop-board.invariant.running.goes left told f image same) c.requires.first refl (inl least)
     (all_told c.loop-board.board.hart.machine.ending c.args.each c.args.limit c.loop-board.board.hart.machine.steps c.loop-board.lines (started f left) (g.E.Sink.held c.args.err.now) (g.E.Sink.held c.loop-board.err) c.loop-board.history (inl (omega (arith, least, most))) c.loop-board.invariant.lines (c.loop-board.invariant.tells left told f image same))
 
-pub returns-in-Err-step-clause-broke : goal.returns-in-Err-step-clause-broke
-returns-in-Err-step-clause-broke g c =
-    let s = c.in-Err-step.ensures in
+pub returns-in_err-step-clause-broke : goal.returns-in_err-step-clause-broke
+returns-in_err-step-clause-broke g c =
+    let p = err_from_is_err_and c.from_residual.result c.from_residual.ensures.1 in
+    rw (p.1, p.2) (let s = c.in_err-step.ensures in
     let more : c.loop-board.board.hart.machine.steps < c.args.limit = omega (arith, c.loop-board-test.true, c.steps.ensures) in
     let running : c.loop-board.board.hart.machine.ending ≡ None = sym c.ending.ensures ∙ c.in-None.is in
-    with_device {T = Unit} (Err c.in-Err-step.fault) _ _ (s.broke c.loop-board.invariant.sound) (λ step out. λ left told f image same.
+    with_device {T = Unit} (Err c.in_err-step.field-0.0) _ _ (s.broke c.loop-board.invariant.sound) (λ step out. λ left told f image same.
     let goes = c.loop-board.invariant.running.goes left told f image same in
     let at = same_at c.args.image.now (kept_by c.loop-board.board.rom) goes.now.machine c.loop-board.board.hart.machine c.loop-board.board.hart.control running goes.matches in
     let here = now_at c.args.board.now.hart c.loop-board.board.hart goes.now (started f left) (goes.now_is running) c.requires.first in
@@ -152,11 +155,13 @@ returns-in-Err-step-clause-broke g c =
     line (at.0 ∙ ap (λ (q : FlatState). q.machine.pc) here) tells c.in-Ok.ensures.line c.in-Ok.ensures.noted c.in-Ok.ensures.told in
     let steps = same_steps c.args.image.now (kept_by c.loop-board.board.rom) goes.now.machine c.loop-board.board.hart.machine c.loop-board.board.hart.control goes.matches in
     out _ (told_device c.args.each (fifo (setting_of c.args.board.now.rom)) c.args.image.now c.args.limit (started f left) c.args.board.now.hart c.loop-board.board.hart (kept_by c.args.board.now.rom) (kept_by c.loop-board.board.rom) _ _ _ (g.E.Sink.held c.args.err.now) (g.E.Sink.held c.tell.new.err) c.tell.new.history goes more running c.requires.first refl
-    c.in-Ok.ensures.word begun c.step.new.self.hart c.step.new.self.hart.machine.bus _ _ _ s.stopped {T = Unit} (Err c.in-Err-step.fault) (to_device {T = Unit} (Err c.in-Err-step.fault) _ (step goes.now.input goes.left_is)) s.unwritten))
+    c.in-Ok.ensures.word begun c.step.new.self.hart c.step.new.self.hart.machine.bus _ _ _ s.stopped {T = Unit} (Err c.in_err-step.field-0.0) (to_device {T = Unit} (Err c.in_err-step.field-0.0) _ (step goes.now.input goes.left_is)) s.unwritten)))
 
-pub returns-in-Err-step-clause-ram_broke : goal.returns-in-Err-step-clause-ram_broke
-returns-in-Err-step-clause-ram_broke g c = λ e left told f image same.
-    let s = c.in-Err-step.ensures in
+pub returns-in_err-step-clause-ram_broke : goal.returns-in_err-step-clause-ram_broke
+returns-in_err-step-clause-ram_broke g c =
+    let p = err_from_is_err_and c.from_residual.result c.from_residual.ensures.1 in
+    rw (p.1, p.2) (λ e left told f image same.
+    let s = c.in_err-step.ensures in
     let more : c.loop-board.board.hart.machine.steps < c.args.limit = omega (arith, c.loop-board-test.true, c.steps.ensures) in
     let running : c.loop-board.board.hart.machine.ending ≡ None = sym c.ending.ensures ∙ c.in-None.is in
     let goes = c.loop-board.invariant.running.goes left told f image same in
@@ -175,4 +180,4 @@ returns-in-Err-step-clause-ram_broke g c = λ e left told f image same.
     (g.E.Sink.held c.args.err.now) (g.E.Sink.held c.tell.new.err) goes.now c.loop-board.board.hart.machine.steps c.tell.new.history off c.requires.first counted here (ap (λ (q : FlatState). q.machine.ending) (sym here) ∙ sym steps.1 ∙ running) refl begun in
     subst (λ (x : Option (List ℕ)). ToldRamBroke c.args.each c.args.image.now c.args.limit (started f left) c.args.board.now.hart c.step.new.self.hart (g.R.CacheRam.state c.args.ram.now) (g.R.CacheRam.state c.step.new.ram) x (g.O.Sink.held c.args.out.now) (g.O.Sink.held c.step.new.out) (g.E.Sink.held c.args.err.now) (g.E.Sink.held c.step.new.err)) (sym still.0)
     (subst (λ (x : Option (List ℕ)). ToldRamBroke c.args.each c.args.image.now c.args.limit (started f left) c.args.board.now.hart c.step.new.self.hart (g.R.CacheRam.state c.args.ram.now) (g.R.CacheRam.state c.step.new.ram) (g.I.Source.left c.loop-board.input) (g.O.Sink.held c.args.out.now) x (g.E.Sink.held c.args.err.now) (g.E.Sink.held c.step.new.err)) (sym still.1.0)
-    (subst (λ (x : Option (List ℕ)). ToldRamBroke c.args.each c.args.image.now c.args.limit (started f left) c.args.board.now.hart c.step.new.self.hart (g.R.CacheRam.state c.args.ram.now) (g.R.CacheRam.state c.step.new.ram) (g.I.Source.left c.loop-board.input) (g.O.Sink.held c.args.out.now) (g.O.Sink.held c.loop-board.out) (g.E.Sink.held c.args.err.now) x) (sym still.1.1) whole))
+    (subst (λ (x : Option (List ℕ)). ToldRamBroke c.args.each c.args.image.now c.args.limit (started f left) c.args.board.now.hart c.step.new.self.hart (g.R.CacheRam.state c.args.ram.now) (g.R.CacheRam.state c.step.new.ram) (g.I.Source.left c.loop-board.input) (g.O.Sink.held c.args.out.now) (g.O.Sink.held c.loop-board.out) (g.E.Sink.held c.args.err.now) x) (sym still.1.1) whole)))
