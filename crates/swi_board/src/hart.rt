@@ -12,7 +12,7 @@ use crate::position::Position;
 use std::alloc::Global;
 use std::marker::Model;
 use swi_calls::{End, Heap, Machine};
-use swi_exec::Regs;
+use swi_exec::{Regs, SP};
 use swi_isa::Reg;
 use swi_memory::{Bus, Layout};
 use swi_outside::Memory;
@@ -93,7 +93,7 @@ impl Hart {
         let pc = p.entry();
         let bus = Bus::new(alloc, p.segments(), l)?;
         let mut regs = Regs::new();
-        regs.set(Reg::of(2), l.sp);
+        regs.set(Reg::of(SP), l.sp);
         Ok(Hart {
             control: Position::outside(),
             machine: Machine {
