@@ -78,7 +78,7 @@ pub(crate) fn report_board<O: Sink>(
 fn run_program<I: Source, O: Sink, E: Sink, R: CacheRam>(
     alloc: Global,
     image: &ImageView<'_>,
-    prepared: &Prepared,
+    prepared: &Prepared<'_>,
     cache: &CacheOptions,
     options: &RunOptions,
     input: &mut I,
@@ -133,7 +133,7 @@ fn run_program<I: Source, O: Sink, E: Sink, R: CacheRam>(
 fn run_image<I: Source, O: Sink, E: Sink, R: CacheRam>(
     alloc: Global,
     image: &ImageView<'_>,
-    prepared: &Prepared,
+    prepared: &Prepared<'_>,
     cache: &CacheOptions,
     options: &RunOptions,
     input: &mut I,

@@ -80,7 +80,7 @@ fn write_last<E: Sink>(
 pub(crate) fn trace_program<I: Source, O: Sink, E: Sink, R: CacheRam>(
     alloc: Global,
     image: &ImageView<'_>,
-    prepared: &Prepared,
+    prepared: &Prepared<'_>,
     cache: &CacheOptions,
     options: &RunOptions,
     input: &mut I,
