@@ -12,7 +12,7 @@ use Rattle.swi_memory.specs.declared.layout.Layout.{Layout}
 use Rattle.swi_program.specs.declared.placement.Room.{Room}
 use Rattle.swi_program.specs.Layout.{highest_end, laid_out, stack_end}
 use Rattle.swi_program.specs.Program.{ProgramData}
-use Rattle.swi_program.specs.ProgramOf.{program_of_words}
+use Rattle.swi_program.specs.ProgramOf.{bytes_of_words, program_of_text}
 use Rattle.swi_program.specs.Text.{text_of}
 use Rattle.swi_make.specs.Listing.{instructions_of}
 use Rattle.swi_make.specs.Made.{IsMade, IsWordOf}
@@ -53,7 +53,7 @@ same_words (i ∷ is) (x ∷ xs) (y ∷ ys) a b =
 
 only_made : (seed functions : ℕ) (p q : ProgramData) → IsMade seed functions p → IsMade seed functions q → p ≡ q
 only_made seed functions p q a b =
-    a.alone ∙ ap (λ (l : List ℕ). program_of_words 0x10000 l) (same_words (instructions_of (all_additions seed functions)) (text_of p.segments).words (text_of q.segments).words a.text b.text)
+    a.alone ∙ ap (λ (l : List ℕ). program_of_text 0x10000 (bytes_of_words l)) (same_words (instructions_of (all_additions seed functions)) (text_of p.segments).words (text_of q.segments).words a.text b.text)
     ∙ sym b.alone
 
 pub fits_made : (seed functions most : ℕ) (p : ProgramData) → IsMade seed functions p → Fits (text_of p.segments) most →
@@ -61,19 +61,24 @@ pub fits_made : (seed functions most : ℕ) (p : ProgramData) → IsMade seed fu
 fits_made seed functions most p made fits q other =
     subst (λ (x : ProgramData). Fits (text_of x.segments) most) (only_made seed functions p q made other) fits
 
+pub made_of : (seed functions : ℕ) (text bytes : List ℕ) (p : ProgramData) → p ≡ program_of_text 0x10000 bytes → bytes ≡ text →
+    IsMade seed functions (program_of_text 0x10000 text) → IsMade seed functions p
+made_of seed functions text bytes p is same made =
+    subst (λ (x : ProgramData). IsMade seed functions x) (sym (is ∙ ap (program_of_text 0x10000) same)) made
+
 -- ---- heap and stack find room behind it
 
-no_room : (words : List ℕ) (room : Room) → length words ≤ 2 ^ 19 → Err room ≡ laid_out (program_of_words 0x10000 words).segments 1048576 65536 → ⊥
+no_room : (text : List ℕ) (room : Room) → length text ≤ 2 ^ 21 → Err room ≡ laid_out (program_of_text 0x10000 text).segments 1048576 65536 → ⊥
 unfolding laid_out highest_end
-no_room words room few e =
-    let end : stack_end (program_of_words 0x10000 words).segments 1048576 65536 ≤ 2 ^ 32 = omega (arith, few) in
-    let test : nat_lt (2 ^ 32) (stack_end (program_of_words 0x10000 words).segments 1048576 65536) ≡ false = grind (arith, nat_tests) in
+no_room text room few e =
+    let end : stack_end (program_of_text 0x10000 text).segments 1048576 65536 ≤ 2 ^ 32 = omega (arith, few) in
+    let test : nat_lt (2 ^ 32) (stack_end (program_of_text 0x10000 text).segments 1048576 65536) ≡ false = grind (arith, nat_tests) in
     let bad : ⊥ = cc in bad
 
-pub made_room : (seed functions : ℕ) (p : ProgramData) (room : Room) → IsMade seed functions p → length (text_of p.segments).words ≤ 2 ^ 19 →
+pub text_room : (text : List ℕ) (p : ProgramData) (room : Room) → p ≡ program_of_text 0x10000 text → length text ≤ 2 ^ 21 →
     Err room ≡ laid_out p.segments 1048576 65536 → ⊥
-made_room seed functions p room made few e =
-    no_room (text_of p.segments).words room few (e ∙ ap (λ (x : ProgramData). laid_out x.segments 1048576 65536) made.alone)
+text_room text p room is few e =
+    no_room text room few (e ∙ ap (λ (x : ProgramData). laid_out x.segments 1048576 65536) is)
 
 -- ---- the run and its summary
 

@@ -90,7 +90,7 @@ fn refusal_of(stop: CachedStop) -> Refusal
 fn run_program<I: Source, O: Sink, E: Sink, R: CacheRam>(
     alloc: Global,
     image: &ImageView<'_>,
-    prepared: &Prepared,
+    prepared: &Prepared<'_>,
     cache: &CacheOptions,
     options: &RunOptions,
     input: &mut I,

@@ -19,8 +19,8 @@ use swi_image::{ImageView, read_image};
 use swi_memory::Layout;
 use swi_program::{Program, Room, lay_out, program_of};
 
-/// The program of an accepted file.
-pub(crate) fn load(alloc: Global, elf: &Elf<'_>) -> Result<Program, Refusal>
+/// The program of an accepted file, whose bytes stay in the file.
+pub(crate) fn load<'a>(alloc: Global, elf: &Elf<'a>) -> Result<Program<'a>, Refusal>
     ensures program { IfOk result (λ p. p ≡ program_of_file elf.now) }
     ensures memory { OnErr result (result ≡ Err Refusal.Memory) }
 {
@@ -31,7 +31,10 @@ pub(crate) fn load(alloc: Global, elf: &Elf<'_>) -> Result<Program, Refusal>
 }
 
 /// The image that these bytes are, which is one of the program's text.
-pub(crate) fn own_image<'a>(program: &Program, bytes: &'a [u8]) -> Result<ImageView<'a>, Refusal>
+pub(crate) fn own_image<'a>(
+    program: &Program<'_>,
+    bytes: &'a [u8],
+) -> Result<ImageView<'a>, Refusal>
     requires within { length bytes.now ≤ file_limit }
     ensures view { IfOk result (λ v. v ≡ image_of bytes.now) }
     ensures passes { OnOk result (ImagePasses (text_of program.now.segments) bytes.now) }
@@ -49,13 +52,17 @@ pub(crate) fn own_image<'a>(program: &Program, bytes: &'a [u8]) -> Result<ImageV
 
 /// A program with its layout.
 #[derive(Drop)]
-pub(crate) struct Prepared {
-    pub program: Program,
+pub(crate) struct Prepared<'a> {
+    pub program: Program<'a>,
     pub layout: Layout,
 }
 
 /// The program of an accepted file, with the layout that these limits give it.
-pub(crate) fn prepare(alloc: Global, elf: &Elf<'_>, limits: &RunLimits) -> Result<Prepared, Refusal>
+pub(crate) fn prepare<'a>(
+    alloc: Global,
+    elf: &Elf<'a>,
+    limits: &RunLimits,
+) -> Result<Prepared<'a>, Refusal>
     requires ranges { IsInRange limits.now }
     ensures prepared { IfOk result (IsPrepared elf.now limits.now) }
     ensures refused { IfErr result (λ r. (r ≡ Refusal.Memory) ⊎ ((room : RoomData) × (room_in elf.now limits.now ≡ Err room) × (r ≡ Refusal.Room room.end))) }

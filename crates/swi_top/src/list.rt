@@ -27,7 +27,7 @@ use swi_trace::list_block;
 
 /// Lists the blocks of an image of the program, in their order.
 fn list_blocks<O: Sink>(
-    program: &Program,
+    program: &Program<'_>,
     image: &ImageView<'_>,
     out: &mut O,
 ) -> Result<Ending, Refusal>

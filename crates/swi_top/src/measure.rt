@@ -1,7 +1,7 @@
 //! The command `measure`: the run of a program that is made from a number.
 #![tactic(auto)]
 
-ghost use Rattle.std.specs.Prelude.{◌≡◌, ◌⊎◌, ◌*◌, ◌^◌, ◌≤◌, Ok, Err, IfOk, IfErr, OnErr, IsErrOf, [], length};
+ghost use Rattle.std.specs.Prelude.{◌≡◌, ◌⊎◌, ◌*◌, ◌%◌, ◌^◌, ◌<◌, ◌≤◌, Ok, Err, IfOk, IfErr, OnErr, IsErrOf, [], length};
 ghost use Rattle.std.specs.Io.KnownBytes.{Appends};
 ghost use Rattle.swi_outside.specs.CacheRam.{KeepsBeyond};
 ghost use Rattle.swi_outside.specs.Causes.{DeviceCause, HasCause};
@@ -10,6 +10,7 @@ ghost use Rattle.swi_cached.specs.Cached.{slots_of};
 ghost use Rattle.swi_command.specs.CommandLine.{IsCacheInRange, IsFunctionCount, MeasureMade};
 ghost use Rattle.swi_make.specs.Made.{IsMade};
 ghost use Rattle.swi_program.specs.Layout.{IsLayoutOf, laid_out};
+ghost use Rattle.swi_program.specs.ProgramOf.{program_of_text};
 ghost use Rattle.swi_program.specs.Text.{text_of};
 ghost use Rattle.swi_render.specs.ImageOf.{IsImageOf};
 ghost use Rattle.swi_rom.specs.Slots.{kept_by};
@@ -32,9 +33,9 @@ use swi_calls::End;
 use swi_command::CacheOptions;
 use swi_fifo::FifoRom;
 use swi_image::ImageView;
-use swi_make::make;
+use swi_make::{BASE, make};
 use swi_outside::{CacheRam, Sink};
-use swi_program::{Program, lay_out};
+use swi_program::{Program, lay_out, one_text};
 use swi_report::{Measured, summary_text};
 
 /// The bytes of the heap and of the stack.
@@ -45,21 +46,34 @@ const STACK: u32 = 1 << 16;
 /// The most steps of a run.
 const STEPS: u64 = 1 << 48;
 
-/// The program that is made of a seed, with its layout.
-fn prepare_made(alloc: Global, seed: u32, functions: u32) -> Result<Prepared, Refusal>
+/// The text of the program that is made of a seed.
+fn made_text(alloc: Global, seed: u32, functions: u32) -> Result<Vec<u8>, Refusal>
     requires count { IsFunctionCount functions }
-    ensures made { IfOk result (λ p. IsMade seed functions p.program) }
+    ensures made { IfOk result (λ text. IsMade seed functions (program_of_text 0x10000 text.items)) }
+    ensures whole { IfOk result (λ text. length text.items % 4 ≡ 0) }
+    ensures some { IfOk result (λ text. 0 < length text.items) }
+    ensures most { IfOk result (λ text. length text.items ≤ 2 ^ 21) }
+    ensures memory { OnErr result (result ≡ Err Refusal.Memory) }
+{
+    make(alloc, seed, functions).map_err(|_| Refusal::Memory)
+}
+
+/// The program of a made text, with its layout.
+fn prepare_text<'a>(alloc: Global, text: &'a [u8]) -> Result<Prepared<'a>, Refusal>
+    requires whole { length text.now % 4 ≡ 0 }
+    requires some { 0 < length text.now }
+    requires most { length text.now ≤ 2 ^ 21 }
+    ensures program { IfOk result (λ p. p.program ≡ program_of_text 0x10000 text.now) }
     ensures layout { IfOk result (λ p. laid_out p.program.segments 1048576 65536 ≡ Ok p.layout) }
     ensures own { IfOk result (λ p. IsLayoutOf p.program.segments p.layout) }
     ensures memory { OnErr result (result ≡ Err Refusal.Memory) }
 {
-    let Ok(program) = make(alloc, seed, functions) else {
+    let Ok(program) = one_text(alloc, BASE, text) else {
         return Err(Refusal::Memory);
     };
-    // Its text has 2^19 words at most, so that heap and stack find room behind it.
-    prove!(program.text().len() <= 1 << 19);
     match lay_out(&program, HEAP, STACK) {
         Ok(layout) => Ok(Prepared { program, layout }),
+        // The text has 2^21 bytes at most, so that heap and stack find room behind it.
         Err(_) => unreachable!(),
     }
 }
@@ -68,7 +82,7 @@ fn prepare_made(alloc: Global, seed: u32, functions: u32) -> Result<Prepared, Re
 fn run_made<R: CacheRam>(
     alloc: Global,
     image: &ImageView<'_>,
-    prepared: &Prepared,
+    prepared: &Prepared<'_>,
     cache: &CacheOptions,
     ram: &mut R,
 ) -> Result<Board<FifoRom>, Refusal>
@@ -111,7 +125,7 @@ fn run_made<R: CacheRam>(
 /// Writes the summary of a made program that exited, or answers how else it ended.
 fn summarize<O: Sink>(
     functions: u32,
-    program: &Program,
+    program: &Program<'_>,
     image: &ImageView<'_>,
     board: &Board<FifoRom>,
     out: &mut O,
@@ -161,7 +175,8 @@ pub(crate) fn measure<O: Sink, R: CacheRam>(
         }) result [] }
 {
     check_sizes(cache.cache_bytes, ram)?;
-    let prepared = prepare_made(alloc, seed, functions)?;
+    let text = made_text(alloc, seed, functions)?;
+    let prepared = prepare_text(alloc, &text)?;
     let image = cut_image(alloc, &prepared.program, cache.block_words)?;
     let (bytes, least) = (cache.cache_bytes, 4 * cache.block_words);
     if bytes < least {

@@ -23,7 +23,7 @@ use swi_outside::{Shelf, Sink, Source};
 /// Runs a program on the flat machine, and writes what is asked for of its end.
 fn run_plain<I: Source, O: Sink, E: Sink>(
     alloc: Global,
-    prepared: &Prepared,
+    prepared: &Prepared<'_>,
     options: &RunOptions,
     input: &mut I,
     out: &mut O,
@@ -67,7 +67,11 @@ fn run_plain<I: Source, O: Sink, E: Sink>(
 }
 
 /// The program of a file with its layout: the file passes every check of a run on the flat machine.
-fn accepted(alloc: Global, file: &[u8], options: &RunOptions) -> Result<Prepared, Refusal>
+fn accepted<'a>(
+    alloc: Global,
+    file: &'a [u8],
+    options: &RunOptions,
+) -> Result<Prepared<'a>, Refusal>
     requires within { length file.now ≤ file_limit }
     requires ranges { IsInRange options.now.limits }
     ensures prepared { IfOk result (IsPrepared file.now options.now.limits) }

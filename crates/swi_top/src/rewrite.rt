@@ -25,7 +25,7 @@ use swi_program::Program;
 /// The greedy cut of a program into blocks of at most so many words.
 pub(crate) fn cut_image(
     alloc: Global,
-    program: &Program,
+    program: &Program<'_>,
     block_words: u32,
 ) -> Result<Image, Refusal>
     requires size { IsBlockSize block_words }
@@ -41,7 +41,7 @@ pub(crate) fn cut_image(
 }
 
 /// The file of a program with an image.
-fn file_with(alloc: Global, program: &Program, image: &Image) -> Result<Vec<u8>, Refusal>
+fn file_with(alloc: Global, program: &Program<'_>, image: &Image) -> Result<Vec<u8>, Refusal>
     ensures file { IfOk result (λ v. v.items ≡ rewritten_file program.now image.now) }
     ensures memory { OnErr result (result ≡ Err Refusal.Memory) }
 {

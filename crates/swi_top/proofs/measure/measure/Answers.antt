@@ -1,12 +1,14 @@
 use Rattle.std.proofs.Common.{◌≤◌, ◌<◌, ◌*◌, refl, arith}
 use Rattle.std.proofs.lemmas.Result.{err_from_is_err_and}
+use Rattle.swi_make.specs.Made.{IsMade}
 use Rattle.swi_top.specs.Answers.{IsMadeRun}
 use Rattle.swi_top.specs.Devices.{Devices}
-use Rattle.swi_top.proofs.Measuring.{run_refused, small_refused, summarized, unfailed}
+use Rattle.swi_top.proofs.Measuring.{made_of, run_refused, small_refused, summarized, unfailed}
 use Rattle.swi_top.proofs.measure.measure.Goals as goal
 
 pub returns-then-bytes-least : goal.returns-then-bytes-least
 returns-then-bytes-least g c =
+    let made : IsMade c.args.seed c.args.functions c.in_ok-prepared.prepared.program = made_of _ _ _ _ _ c.in_ok-prepared.ensures.program c.deref.ensures.value c.in_ok-text.ensures.made in
     let less : c.args.cache.now.cache_bytes < 4 * c.args.cache.now.block_words = omega (arith, c.if-bytes-least.true) in
     λ d.
     let before : Devices = record d {
@@ -14,16 +16,17 @@ returns-then-bytes-least g c =
       ram = g.R.CacheRam.state c.args.ram.now;
       faults = record d.faults { out = g.O.Sink.faults c.args.out.now; ram = (g.R.CacheRam.state c.args.ram.now).faults };
     } in
-    small_refused c.args.seed c.args.functions c.args.cache.now c.in_ok-prepared.prepared.program before c.in_ok-check_sizes.ensures.ok c.in_ok-prepared.ensures.made
+    small_refused c.args.seed c.args.functions c.args.cache.now c.in_ok-prepared.prepared.program before c.in_ok-check_sizes.ensures.ok made
     c.in_ok-image.ensures.fits less
 
 pub returns-in_err-board : goal.returns-in_err-board
 returns-in_err-board g c =
     let p = err_from_is_err_and c.from_residual-in_err-board.result c.from_residual-in_err-board.ensures.1 in
-    let made = c.in_ok-prepared.ensures in
+    let layout = c.in_ok-prepared.ensures.layout in
+    let made : IsMade c.args.seed c.args.functions c.in_ok-prepared.prepared.program = made_of _ _ _ _ _ c.in_ok-prepared.ensures.program c.deref.ensures.value c.in_ok-text.ensures.made in
     let held : 4 * c.args.cache.now.block_words ≤ c.args.cache.now.cache_bytes = omega (arith, c.if-bytes-least.false) in
     let is : IsMadeRun c.args.seed c.args.functions c.args.cache.now c.in_ok-prepared.prepared.program c.in_ok-prepared.prepared.layout c.view-view.result =
-    record { made = made.made; layout = made.layout; cut = rw c.view-view.ensures.value c.in_ok-image.ensures.cut } in
+    record { made = made; layout = layout; cut = rw c.view-view.ensures.value c.in_ok-image.ensures.cut } in
     rw (p.1, p.2) (λ d.
     let before : Devices = record d {
       output = g.O.Sink.held c.args.out.now;
@@ -36,10 +39,11 @@ returns-in_err-board g c =
 
 pub returns : goal.returns
 returns g c =
-    let made = c.in_ok-prepared.ensures in
+    let layout = c.in_ok-prepared.ensures.layout in
+    let made : IsMade c.args.seed c.args.functions c.in_ok-prepared.prepared.program = made_of _ _ _ _ _ c.in_ok-prepared.ensures.program c.deref.ensures.value c.in_ok-text.ensures.made in
     let held : 4 * c.args.cache.now.block_words ≤ c.args.cache.now.cache_bytes = omega (arith, c.if-bytes-least.false) in
     let is : IsMadeRun c.args.seed c.args.functions c.args.cache.now c.in_ok-prepared.prepared.program c.in_ok-prepared.prepared.layout c.view-view.result =
-    record { made = made.made; layout = made.layout; cut = rw c.view-view.ensures.value c.in_ok-image.ensures.cut } in
+    record { made = made; layout = layout; cut = rw c.view-view.ensures.value c.in_ok-image.ensures.cut } in
     λ d.
     let before : Devices = record d {
       output = g.O.Sink.held c.args.out.now;

@@ -1,6 +1,5 @@
-use Rattle.swi_top.proofs.Measuring.{made_room}
-use Rattle.swi_top.proofs.measure.prepare_made.Goals as goal
+use Rattle.swi_top.proofs.Measuring.{text_room}
+use Rattle.swi_top.proofs.measure.prepare_text.Goals as goal
 
 pub unreachable-requires : goal.unreachable-requires
-unreachable-requires c =
-    made_room c.args.seed c.args.functions c.in-Ok.program _ c.in-Ok.ensures.made c.text.ensures.sized.few c.in-Err.ensures.layout
+unreachable-requires c = text_room c.args.text.now c.in-Ok.program _ c.in-Ok.ensures c.requires.most c.in-Err.ensures.layout

@@ -25,8 +25,8 @@ returns-in-Ok-own_image-clause-accepted c =
     passes_some c.args.file.now c.args.options.now.limits c.in_ok-prepared.prepared.layout [] c.in-Some.bytes.now c.requires.within c.in-Ok.ensures.ok prepared.layout has
     (subst (λ (p : ProgramData). ImagePasses (text_of p.segments) c.in-Some.bytes.now) prepared.program c.in-Ok-own_image.ensures.passes) tt
 
-pub returns-in-Err-own_image-clause-refused : goal.returns-in-Err-own_image-clause-refused
-returns-in-Err-own_image-clause-refused c =
+pub returns-clause-refused : goal.returns-clause-refused
+returns-clause-refused c =
     let prepared = rw c.in-Ok.ensures.accepted at c.in_ok-prepared.ensures.prepared in
     let has = sym (c.in-Some.ensures.value ∙ ap (λ (x : List ℕ). image_of x) c.in-Ok.ensures.accepted) in
     inr (fails_some c.args.file.now c.args.options.now.limits c.in_ok-prepared.prepared.layout [] c.in-Some.bytes.now c.in-Err-own_image.refusal c.requires.within c.in-Ok.ensures.ok prepared.layout has
