@@ -1,11 +1,11 @@
-use Rattle.std.proofs.Common.{◌+◌, ◌≡◌, ◌-◌, ◌<◌, ◌≤◌, ◌^◌, slice_index, max, ℕ, List, Some, None, is_some, true, sym, ◌∙◌, refl, subst, ap, inl, inr, arith, rules}
+use Rattle.std.proofs.Common.{◌≡◌, ◌-◌, ◌<◌, ◌≤◌, ◌^◌, slice_index, ℕ, List, Some, None, is_some, true, sym, ◌∙◌, refl, subst, ap, inl, inr, arith, rules}
 use Rattle.swi_outside.specs.CacheRam.{KeepsBeyond}
 use Rattle.swi_rom.specs.Record.{writes}
 use Rattle.swi_rom.specs.Served.{SameFrom}
 use Rattle.swi_board.specs.Hart.{HartData}
 use Rattle.swi_board.specs.Board.{BoardOf}
 use Rattle.swi_board.specs.Walked.{Answered}
-use Rattle.swi_board.specs.Leaving.{moved, transfer_at, RamStepped, RamBroken, RamServed, RamFailed}
+use Rattle.swi_board.specs.Leaving.{moved, transfer_at, RamStepped, RamBroken}
 use Rattle.swi_board.proofs.Running.{started_run, count_small, calls_small, runs_on, goes_out, falls, kept_both}
 use Rattle.swi_board.proofs.Grown.{moved_rises}
 use Rattle.swi_board.proofs.Breaking.{device_run, ram_run}
@@ -14,9 +14,8 @@ use Rattle.swi_board.proofs.Causing.{causes_ram, causes_from}
 use Rattle.swi_rom.specs.Coherent.{Coherent}
 use Rattle.swi_board.proofs.Blocks.{stands, walk, word_falls, begins, no_higher, lower, at_limit, before_word, before_fault, home_at, coherent_at, same_index}
 use Rattle.swi_board.proofs.Fetching.{index_below}
-use Rattle.swi_board.proofs.Steps.{ram_exit, ram_unfetched, ram_unserved, kept_after}
+use Rattle.swi_board.proofs.Steps.{ram_unfetched}
 use Rattle.swi_outside.specs.CacheRam.{RamState}
-use Rattle.swi_outside.specs.Causes.{counted}
 use Rattle.swi_board.proofs.board.Board.run.Goals as goal
 
 pub loop-hart-init : goal.loop-hart-init
