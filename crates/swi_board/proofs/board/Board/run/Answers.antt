@@ -32,19 +32,6 @@ loop-hart-init g c =
       quiet = refl;
     })
 
-pub quick_step-requires-clause-ready : goal.quick_step-requires-clause-ready
-quick_step-requires-clause-ready g c =
-    let seen : c.loop-hart.hart.machine.steps ≡ c.hart.inside.machine.steps = sym (ap (λ (h : HartData). h.machine.steps) c.hart.view_is) in
-    let more : c.loop-hart.hart.machine.steps < c.args.n = omega (arith, c.loop-hart-test.true, seen) in
-    let running : c.loop-hart.hart.machine.ending ≡ None = search rules in
-    record {
-      running = running;
-      few = omega (arith, more, c.requires.limit);
-      count = count_small (g.R.CacheRom.policy (g.R.CacheRom.setting c.args.self.now.rom)) c.args.image.now c.args.n (g.R.CacheRom.span (g.R.CacheRom.setting c.args.self.now.rom)) c.args.self.now.hart (g.R.CacheRom.kept c.args.self.now.rom) (g.M.CacheRam.state c.args.ram.now) (g.I.Source.left c.args.input.now) (g.O.Sink.held c.args.out.now) (g.E.Sink.held c.args.err.now) c.loop-hart.hart (g.R.CacheRom.kept c.loop-hart.rom) (g.M.CacheRam.state c.loop-hart.ram) (g.I.Source.left c.loop-hart.input) (g.O.Sink.held c.loop-hart.out) (g.E.Sink.held c.loop-hart.err) c.loop-hart.invariant.running more running c.origin_pc-pc.ensures.word c.requires.limit c.requires.count;
-      services = calls_small (g.R.CacheRom.policy (g.R.CacheRom.setting c.args.self.now.rom)) c.args.image.now c.args.n (g.R.CacheRom.span (g.R.CacheRom.setting c.args.self.now.rom)) c.args.self.now.hart (g.R.CacheRom.kept c.args.self.now.rom) (g.M.CacheRam.state c.args.ram.now) (g.I.Source.left c.args.input.now) (g.O.Sink.held c.args.out.now) (g.E.Sink.held c.args.err.now) c.loop-hart.hart (g.R.CacheRom.kept c.loop-hart.rom) (g.M.CacheRam.state c.loop-hart.ram) (g.I.Source.left c.loop-hart.input) (g.O.Sink.held c.loop-hart.out) (g.E.Sink.held c.loop-hart.err) c.loop-hart.invariant.running more running c.origin_pc-pc.ensures.word c.requires.limit c.requires.services;
-      fits = c.loop-hart.invariant.running.fits;
-    }
-
 pub loop-hart-preserved-in-Ok : goal.loop-hart-preserved-in-Ok
 loop-hart-preserved-in-Ok g c =
     let word = c.in-Ok.ensures.word in
