@@ -1,8 +1,8 @@
 -- From a service's answer to what the board says of it.
-use Rattle.std.proofs.Common.{◌≡◌, ℕ, ◌+◌, ◌-◌, ◌<◌, true, false, List, Some, None, Ok, Err, Result, slice_index, refl, sym, ap, subst, ◌∙◌, inl, inr, arith}
+use Rattle.std.proofs.Common.{◌≡◌, ℕ, ◌+◌, ◌<◌, true, false, List, Some, None, Ok, Err, Result, slice_index, refl, sym, ap, subst, ◌∙◌, inl, inr, arith}
 use Rattle.std.proofs.lemmas.Bool.{cases_Bool}
 use Rattle.swi_image.specs.Format.{ImageData}
-use Rattle.swi_image.specs.Place.{place_of, word_at}
+use Rattle.swi_image.specs.Place.{word_at}
 use Rattle.swi_image.specs.Sound.{IsImage}
 use Rattle.swi_image.specs.Laws.{place_inside}
 use Rattle.swi_isa.specs.declared.instr.Instr.TheVariants as instr

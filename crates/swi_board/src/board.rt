@@ -1,8 +1,7 @@
 //! A hart with its service.
 #![tactic(auto)]
 
-ghost use Rattle.std.specs.Prelude.{◌≡◌, ◌⊎◌, ◌+◌, ◌-◌, ◌*◌, ◌^◌, ◌<◌, ◌≤◌, ℕ, IfOk, OnOk, OnErr, IsErrOf, Some, None, is_some, true, false};
-ghost use Rattle.swi_outside.specs.Causes.{Rose};
+ghost use Rattle.std.specs.Prelude.{◌≡◌, ◌⊎◌, ◌+◌, ◌-◌, ◌^◌, ◌<◌, ◌≤◌, ℕ, IfOk, OnOk, OnErr, IsErrOf, Some, None, is_some, true, false};
 ghost use Rattle.swi_memory.specs.Bus.{fetched};
 ghost use Rattle.swi_calls.specs.Flat.{machine_of, started};
 ghost use Rattle.swi_program.specs.Layout.{IsLayoutOf};
@@ -23,7 +22,6 @@ ghost use Rattle.swi_board.specs.Calling.{Made, BrokenStep, OnDevice, with_memor
 ghost use Rattle.swi_board.specs.Faults.{HasCauses};
 ghost use Rattle.swi_outside.specs.CacheRam.{KeepsBeyond};
 ghost use Rattle.swi_board.specs.Service.{Transferred};
-ghost use Rattle.swi_board.specs.MachineStep.{MachineStepped};
 ghost use Rattle.swi_board.specs.Runs.{most, fetched_by, Grown};
 
 use crate::block::{block_place, run_block};

@@ -1,14 +1,13 @@
 //! Exits of blocks.
 #![tactic(auto)]
 
-ghost use Rattle.std.specs.Prelude.{◌≡◌, ◌⊎◌, ◌+◌, ◌-◌, ◌*◌, ◌^◌, ◌%◌, ◌<◌, ◌≤◌, ℕ, List, length, IfOk, OnOk, OnErr, Some, None};
+ghost use Rattle.std.specs.Prelude.{◌≡◌, ◌+◌, ◌^◌, ◌%◌, ◌<◌, ℕ, List, IfOk, Some, None};
 ghost use Rattle.swi_image.specs.Format.{ImageData};
-ghost use Rattle.swi_image.specs.Place.{place_of, word_at, length_at};
-ghost use Rattle.swi_rom.specs.Record.{direct, indirect, writes, IsJump};
-ghost use Rattle.swi_rom.specs.Served.{SameFrom};
+ghost use Rattle.swi_image.specs.Place.{word_at};
+ghost use Rattle.swi_rom.specs.Record.{direct, indirect, IsJump};
 ghost use Rattle.swi_rom.specs.Coherent.{TargetAt};
 ghost use Rattle.swi_board.specs.Board.{Arrives};
-ghost use Rattle.swi_board.specs.Leaving.{LeaveAt, RamServed, RamFailed, fell, offset_of};
+ghost use Rattle.swi_board.specs.Leaving.{LeaveAt, fell, offset_of};
 ghost use Rattle.swi_isa.specs.Decode.{decoded};
 ghost use Rattle.swi_board.specs.Hart.{exit_kind};
 ghost use Rattle.swi_board.specs.Service.{Transferred};

@@ -1,23 +1,15 @@
 //! A step over a plain word, which need not be the image's.
 #![tactic(auto)]
 
-ghost use Rattle.std.specs.Prelude.{◌≡◌, ◌⊎◌, ◌-◌, ◌^◌, ◌<◌, ℕ, OnOk, OnErr, IsErrOf, MatchOption, Some, None, true, false};
-ghost use Rattle.std.specs.Option.{ForSome};
+ghost use Rattle.std.specs.Prelude.{◌≡◌, ◌⊎◌, ◌^◌, ◌<◌, ℕ, OnOk, MatchOption, Some, None, true, false};
 ghost use Rattle.swi_isa.specs.Decode.{decoded};
 ghost use Rattle.swi_memory.specs.Bus.{fetched};
-ghost use Rattle.swi_calls.specs.declared.machine.Machine.{Machine};
 ghost use Rattle.swi_image.specs.Place.{word_at};
-ghost use Rattle.swi_render.specs.Carried.{Carries};
-ghost use Rattle.swi_outside.specs.CacheRam.{KeepsBeyond};
-ghost use Rattle.swi_rom.specs.Record.{Record, writes};
-ghost use Rattle.swi_rom.specs.Served.{SameFrom};
-ghost use Rattle.swi_board.specs.Board.{Fits, Matches};
-ghost use Rattle.swi_board.specs.Hart.{next_made, role_of, original};
-ghost use Rattle.swi_board.specs.Ran.{Followed};
-ghost use Rattle.swi_board.specs.Calling.{Made, BrokenStep, OnDevice, with_memory};
+ghost use Rattle.swi_rom.specs.Record.{Record};
+ghost use Rattle.swi_board.specs.Board.{Fits};
+ghost use Rattle.swi_board.specs.Hart.{role_of, original};
 ghost use Rattle.swi_board.specs.Exchanged.{Exchanged, PlainAt, ExecutesHeld, is_plain};
-ghost use Rattle.swi_board.specs.Faults.{HasCauses};
-ghost use Rattle.swi_board.specs.Leaving.{Home, RamStepped, RamBroken, broken, moved, transfer_at};
+ghost use Rattle.swi_board.specs.Leaving.{Home};
 ghost use Rattle.swi_board.specs.MachineStep.{MachineStepped, ReadyToStep};
 
 use crate::fault::BoardFault;

@@ -1,17 +1,11 @@
 //! A step whose fetched word is the image's, or a link.
 #![tactic(auto)]
 
-ghost use Rattle.std.specs.Prelude.{◌≡◌, ◌⊎◌, ◌+◌, ◌-◌, ◌*◌, ◌^◌, ◌%◌, ◌<◌, ◌≤◌, ℕ, List, [], length, slice_index, IfOk, OnOk, OnErr, IsErrOf, Some, None, true, false};
-ghost use Rattle.std.specs.Option.{ForSome};
+ghost use Rattle.std.specs.Prelude.{◌≡◌, ◌^◌, ◌<◌, slice_index, Some, true};
 ghost use Rattle.swi_outside.specs.CacheRam.{RamState};
-ghost use Rattle.swi_rom.specs.Record.{writes};
-ghost use Rattle.swi_board.specs.Board.{Fits};
-ghost use Rattle.swi_board.specs.Calling.{Made, BrokenStep, OnDevice, with_memory};
-ghost use Rattle.swi_board.specs.Faults.{HasCauses};
 ghost use Rattle.swi_board.specs.MachineStep.{MachineStepped, ReadyToStep};
 ghost use Rattle.swi_board.specs.Walked.{Answered};
-ghost use Rattle.swi_rom.specs.Served.{SameFrom};
-ghost use Rattle.swi_board.specs.Leaving.{Home, leaves, offset_of, moved, transfer_at, HasPlace, broken, RamServed, RamFailed, RamStepped, RamBroken};
+ghost use Rattle.swi_board.specs.Leaving.{Home, leaves, offset_of};
 
 use crate::fault::{BoardFault, fault_of};
 use crate::hart::{Control, Hart, Stage};

@@ -1,17 +1,14 @@
 //! One step of a hart out of the ram.
 #![tactic(auto)]
 
-ghost use Rattle.std.specs.Prelude.{◌≡◌, ◌⊎◌, ◌+◌, ◌-◌, ◌*◌, ◌/◌, ◌^◌, ◌%◌, ◌<◌, ◌≤◌, ℕ, List, [], length, slice_index, ◌==◌, if◌then◌else◌, IfOk, OnOk, OnErr, Some, None, true, false};
+ghost use Rattle.std.specs.Prelude.{◌≡◌, ◌+◌, ◌*◌, ◌/◌, ◌^◌, ◌%◌, ◌<◌, ℕ, List, length, slice_index, ◌==◌, if◌then◌else◌, OnOk, OnErr, Some, None, true};
 ghost use Rattle.swi_isa.specs.Decode.{decoded};
 ghost use Rattle.swi_exec.specs.Arithmetic.{sum_of};
 ghost use Rattle.swi_memory.specs.Bus.{fetched};
-ghost use Rattle.swi_image.specs.Format.{ImageData};
-ghost use Rattle.swi_image.specs.Place.{place_of, word_at, length_at};
-ghost use Rattle.swi_rom.specs.Record.{direct, indirect, writes, IsJump};
-ghost use Rattle.swi_rom.specs.Served.{SameFrom};
-ghost use Rattle.swi_rom.specs.Coherent.{TargetAt};
-ghost use Rattle.swi_board.specs.Board.{Arrives, ExitStep, Jumps, JumpsBy};
-ghost use Rattle.swi_board.specs.Leaving.{offset_of, HasPlace, LeaveAt, RamServed, RamFailed, fell, quick_role, upper_quick, ExitHome, PlacedAt, Counted, step_to, moved, exit_transfer, broken, is_jalr, jump_transfer};
+ghost use Rattle.swi_image.specs.Place.{word_at};
+ghost use Rattle.swi_rom.specs.Record.{direct, indirect};
+ghost use Rattle.swi_board.specs.Board.{ExitStep, Jumps, JumpsBy};
+ghost use Rattle.swi_board.specs.Leaving.{offset_of, fell, quick_role, upper_quick, ExitHome, PlacedAt, Counted, step_to, exit_transfer, is_jalr, jump_transfer};
 ghost use Rattle.swi_board.specs.Service.{Transferred};
 ghost use Rattle.swi_board.specs.Hart.{exit_kind, instruction, original, trap_kind};
 

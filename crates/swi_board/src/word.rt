@@ -1,17 +1,10 @@
 //! Words that are executed at their place in the ram.
 #![tactic(auto)]
 
-ghost use Rattle.std.specs.Prelude.{◌≡◌, ◌+◌, ◌^◌, ◌<◌, ◌≤◌, ℕ, List, [], None, Some, true, false, OnOk, OnErr, IsErrOf};
-ghost use Rattle.std.specs.Option.{ForSome};
-ghost use Rattle.std.specs.Io.KnownBytes.{Appends};
-ghost use Rattle.swi_outside.specs.Sink.{AppendsPrefix};
-ghost use Rattle.swi_calls.specs.Causes.{HasCauses};
-ghost use Rattle.swi_calls.specs.Call.{room_of_call, second_argument};
-ghost use Rattle.swi_calls.specs.Moves.{ReadsInto};
+ghost use Rattle.std.specs.Prelude.{◌≡◌, ◌+◌, ◌^◌, ◌<◌, ℕ, List, None, Some, true, false, OnOk};
 ghost use Rattle.swi_calls.specs.StoresText.{text_store_of};
-ghost use Rattle.swi_calls.specs.Flat.{ended, call_made};
-ghost use Rattle.swi_board.specs.declared.hart.Control.{Control};
-ghost use Rattle.swi_board.specs.Hart.{hart_after, word_stepped, call_stepped, original};
+ghost use Rattle.swi_calls.specs.Flat.{ended};
+ghost use Rattle.swi_board.specs.Hart.{word_stepped, call_stepped, original};
 ghost use Rattle.swi_board.specs.Leaving.{quick_role, changes_register};
 ghost use Rattle.swi_board.specs.Calling.{Called as CalledAt, Moved, QuietWord, ReadyAt, WordExecuted, WordStepped};
 

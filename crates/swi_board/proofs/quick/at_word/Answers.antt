@@ -1,4 +1,4 @@
-use Rattle.std.proofs.Common.{◌≡◌, Option, ap, subst, ◌+◌, ℕ, List, slice_index, sym, ◌∙◌, arith, refl}
+use Rattle.std.proofs.Common.{◌≡◌, Option, ap, subst, ◌+◌, ℕ, List, slice_index, sym, ◌∙◌, refl}
 use Rattle.swi_outside.specs.CacheRam.{RamState}
 use Rattle.swi_image.specs.Place.{word_at}
 use Rattle.swi_memory.specs.Bus.{AreaData}
@@ -9,7 +9,7 @@ use Rattle.swi_board.specs.Leaving.{exit_transfer, quick_role, broken}
 use Rattle.swi_board.proofs.Answered.{ram_stopped}
 use Rattle.swi_board.proofs.Causing.{causes_none, causes_answer, on_device, source_failed, ram_unfailed}
 use Rattle.swi_board.proofs.Falls.{ram_same}
-use Rattle.swi_board.proofs.Fetching.{got_some, index_below, offset_small, exit_home, word_home, exit_moves, word_moves}
+use Rattle.swi_board.proofs.Fetching.{got_some, index_below, exit_home, word_home, exit_moves, word_moves}
 use Rattle.swi_board.proofs.Grown.{grown_exit, grown_word, moved_services}
 use Rattle.swi_board.proofs.Steps.{made_exit, fits_exit, made_word, fits_word, exit_placed, broken_word, ram_exit, ram_unserved, kept_after}
 use Rattle.swi_board.proofs.quick.at_word.Goals as goal
@@ -23,20 +23,6 @@ pub exit_step-requires-clause-home : goal.exit_step-requires-clause-home
 exit_step-requires-clause-home g c =
     exit_home c.args.image.now (g.R.CacheRom.kept c.args.rom.now) c.args.hart.now.machine _ _ c.args.at.0 c.args.at.1 c.args.at.2 c.args.at.3
     (g.met.R.CacheRom.coherent _ _ _ c.requires.sound) c.requires.home c.args.got c.in-Some.x c.requires.got (sym c.in-Some.is ∙ c.decode.ensures) (sym c.leaves.ensures ∙ c.if-leaves.true)
-
-pub role_step-requires : goal.role_step-requires
-role_step-requires g c =
-    let coherent = g.met.R.CacheRom.coherent _ _ _ c.requires.sound in
-    let below = index_below c.args.image.now (g.R.CacheRom.kept c.args.rom.now) c.args.hart.now.machine _ _ c.args.at.0 c.args.at.1 c.args.at.2 c.args.at.3 coherent c.requires.home in
-    let small = g.met.R.CacheRom.small _ _ _ c.requires.sound in
-    record {
-      running = c.requires.ready.running;
-      few = c.requires.ready.few;
-      count = c.requires.ready.count;
-      control = c.requires.control;
-      small = omega (arith, below, small);
-      inside = offset_small c.args.image.now (g.R.CacheRom.kept c.args.rom.now) c.args.hart.now.machine _ _ c.args.at.0 c.args.at.1 c.args.at.2 c.args.at.3 coherent c.requires.home (g.met.R.CacheRom.image _ _ _ c.requires.sound);
-    }
 
 pub returns-in-Ok : goal.returns-in-Ok
 returns-in-Ok g c = λ before fetched.

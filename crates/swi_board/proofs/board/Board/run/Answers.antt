@@ -1,11 +1,11 @@
-use Rattle.std.proofs.Common.{◌+◌, ◌≡◌, ◌-◌, ◌<◌, ◌≤◌, ◌^◌, slice_index, max, ℕ, List, Some, None, is_some, true, sym, ◌∙◌, refl, subst, ap, inl, inr, arith, rules}
+use Rattle.std.proofs.Common.{◌≡◌, ◌-◌, ◌<◌, ◌≤◌, ◌^◌, slice_index, ℕ, List, Some, None, is_some, true, sym, ◌∙◌, refl, subst, ap, inl, inr, arith, rules}
 use Rattle.swi_outside.specs.CacheRam.{KeepsBeyond}
 use Rattle.swi_rom.specs.Record.{writes}
 use Rattle.swi_rom.specs.Served.{SameFrom}
 use Rattle.swi_board.specs.Hart.{HartData}
 use Rattle.swi_board.specs.Board.{BoardOf}
 use Rattle.swi_board.specs.Walked.{Answered}
-use Rattle.swi_board.specs.Leaving.{moved, transfer_at, RamStepped, RamBroken, RamServed, RamFailed}
+use Rattle.swi_board.specs.Leaving.{moved, transfer_at, RamStepped, RamBroken}
 use Rattle.swi_board.proofs.Running.{started_run, count_small, calls_small, runs_on, goes_out, falls, kept_both}
 use Rattle.swi_board.proofs.Grown.{moved_rises}
 use Rattle.swi_board.proofs.Breaking.{device_run, ram_run}
@@ -14,9 +14,8 @@ use Rattle.swi_board.proofs.Causing.{causes_ram, causes_from}
 use Rattle.swi_rom.specs.Coherent.{Coherent}
 use Rattle.swi_board.proofs.Blocks.{stands, walk, word_falls, begins, no_higher, lower, at_limit, before_word, before_fault, home_at, coherent_at, same_index}
 use Rattle.swi_board.proofs.Fetching.{index_below}
-use Rattle.swi_board.proofs.Steps.{ram_exit, ram_unfetched, ram_unserved, kept_after}
+use Rattle.swi_board.proofs.Steps.{ram_unfetched}
 use Rattle.swi_outside.specs.CacheRam.{RamState}
-use Rattle.swi_outside.specs.Causes.{counted}
 use Rattle.swi_board.proofs.board.Board.run.Goals as goal
 
 pub loop-hart-init : goal.loop-hart-init
@@ -32,19 +31,6 @@ loop-hart-init g c =
       unused = λ i le. refl;
       quiet = refl;
     })
-
-pub quick_step-requires-clause-ready : goal.quick_step-requires-clause-ready
-quick_step-requires-clause-ready g c =
-    let seen : c.loop-hart.hart.machine.steps ≡ c.hart.inside.machine.steps = sym (ap (λ (h : HartData). h.machine.steps) c.hart.view_is) in
-    let more : c.loop-hart.hart.machine.steps < c.args.n = omega (arith, c.loop-hart-test.true, seen) in
-    let running : c.loop-hart.hart.machine.ending ≡ None = search rules in
-    record {
-      running = running;
-      few = omega (arith, more, c.requires.limit);
-      count = count_small (g.R.CacheRom.policy (g.R.CacheRom.setting c.args.self.now.rom)) c.args.image.now c.args.n (g.R.CacheRom.span (g.R.CacheRom.setting c.args.self.now.rom)) c.args.self.now.hart (g.R.CacheRom.kept c.args.self.now.rom) (g.M.CacheRam.state c.args.ram.now) (g.I.Source.left c.args.input.now) (g.O.Sink.held c.args.out.now) (g.E.Sink.held c.args.err.now) c.loop-hart.hart (g.R.CacheRom.kept c.loop-hart.rom) (g.M.CacheRam.state c.loop-hart.ram) (g.I.Source.left c.loop-hart.input) (g.O.Sink.held c.loop-hart.out) (g.E.Sink.held c.loop-hart.err) c.loop-hart.invariant.running more running c.origin_pc-pc.ensures.word c.requires.limit c.requires.count;
-      services = calls_small (g.R.CacheRom.policy (g.R.CacheRom.setting c.args.self.now.rom)) c.args.image.now c.args.n (g.R.CacheRom.span (g.R.CacheRom.setting c.args.self.now.rom)) c.args.self.now.hart (g.R.CacheRom.kept c.args.self.now.rom) (g.M.CacheRam.state c.args.ram.now) (g.I.Source.left c.args.input.now) (g.O.Sink.held c.args.out.now) (g.E.Sink.held c.args.err.now) c.loop-hart.hart (g.R.CacheRom.kept c.loop-hart.rom) (g.M.CacheRam.state c.loop-hart.ram) (g.I.Source.left c.loop-hart.input) (g.O.Sink.held c.loop-hart.out) (g.E.Sink.held c.loop-hart.err) c.loop-hart.invariant.running more running c.origin_pc-pc.ensures.word c.requires.limit c.requires.services;
-      fits = c.loop-hart.invariant.running.fits;
-    }
 
 pub loop-hart-preserved-in-Ok : goal.loop-hart-preserved-in-Ok
 loop-hart-preserved-in-Ok g c =

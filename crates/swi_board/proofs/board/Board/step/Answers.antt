@@ -65,15 +65,3 @@ returns-in-Some-clause-follows g c =
     (λ made moves. λ left told f image same. followed (g.R.CacheRom.policy (g.R.CacheRom.setting c.self.inside.rom)) c.args.image.now (g.R.CacheRom.kept c.self.inside.rom) (g.R.CacheRom.kept c.plain_step.new.rom) c.self.inside.hart c.plain_step.new.hart f left _ _ _ _ _
     running c.plain_place.ensures.word image same moves (made left told))
     (c.plain_step.ensures.stepped.made sound) c.plain_step.ensures.stepped.policy)
-
-pub plain_step-requires-clause-ready : goal.plain_step-requires-clause-ready
-plain_step-requires-clause-ready g c =
-    let hart : c.self.inside.hart ≡ c.args.self.now.hart = ap (λ (b : BoardOf g.row.R.Denot). b.hart) c.self.view_is in
-    let rom : c.self.inside.rom ≡ c.args.self.now.rom = ap (λ (b : BoardOf g.row.R.Denot). b.rom) c.self.view_is in
-    rw (hart, rom) (record { running = c.requires.running; few = c.requires.few; count = c.requires.count; services = c.requires.services; fits = c.requires.fits })
-
-pub quick_step-requires-clause-ready : goal.quick_step-requires-clause-ready
-quick_step-requires-clause-ready g c =
-    let hart : c.self.inside.hart ≡ c.args.self.now.hart = ap (λ (b : BoardOf g.row.R.Denot). b.hart) c.self.view_is in
-    let rom : c.self.inside.rom ≡ c.args.self.now.rom = ap (λ (b : BoardOf g.row.R.Denot). b.rom) c.self.view_is in
-    rw (hart, rom) (record { running = c.requires.running; few = c.requires.few; count = c.requires.count; services = c.requires.services; fits = c.requires.fits })
