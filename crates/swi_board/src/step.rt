@@ -23,7 +23,8 @@ use swi_memory::Bus;
 use swi_outside::{CacheRam, Failed};
 use swi_rom::CacheRom;
 
-/// The instruction that stands at an original address.
+/// The instruction that stands at an original address. Where it is inlined, what nothing asks of it is not computed.
+#[inline(always)]
 fn original(bus: &Bus, pc: u32) -> Option<Instr>
     ensures { result ≡ instruction (fetched bus.now pc) }
 {
@@ -70,6 +71,8 @@ pub(crate) fn role(hart: &Hart, stage: Stage, x: &Instr) -> Role
 }
 
 /// The fault of a word that stops the run.
+#[cold]
+#[inline(never)]
 fn trap(hart: &Hart) -> FaultKind
     ensures { result ≡ trap_kind (original hart.now.machine) }
 {

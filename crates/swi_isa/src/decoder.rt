@@ -79,6 +79,8 @@ pub fn decode(w: u32) -> Option<Instr>
         row!(0xFE00_707F, 0x0000_0033, op!(Add));
         row!(0xFE00_707F, 0x4000_0033, op!(Sub));
         row!(0x0000_007F, 0x0000_0037, upper!(Lui));
+        // in cached code each exit that isn't a jump
+        row!(0xFFFF_FFFF, 0x0010_0073, Some(Instr::Ebreak));
         row!(0xFE00_707F, 0x0000_4033, op!(Xor));
         row!(0xFE00_707F, 0x0000_7033, op!(And));
         row!(0xFE00_707F, 0x0000_6033, op!(Or));
@@ -96,7 +98,6 @@ pub fn decode(w: u32) -> Option<Instr>
         row!(0xFE00_707F, 0x0200_6033, op!(Rem));
         row!(0xFE00_707F, 0x0200_7033, op!(Remu));
         row!(0xFFFF_FFFF, 0x0000_0073, Some(Instr::Ecall));
-        row!(0xFFFF_FFFF, 0x0010_0073, Some(Instr::Ebreak));
         return None;
     }
     if w & 0x40 == 0 {
