@@ -6,7 +6,8 @@ ghost use Rattle.swi_answer.specs.Status.{status};
 
 use crate::{Ending, Refusal};
 
-/// The exit status of an answer. A guest may exit with any of these numbers itself; the line on the error sink tells them apart.
+/// The exit status of an answer. A guest may exit with any of these numbers itself; the line on the error
+/// sink tells them apart.
 pub fn status_of(answer: &Result<Ending, Refusal>) -> u8
     ensures { result ≡ status answer.now }
 {

@@ -1,4 +1,4 @@
-ghost use Rattle.std.specs.Prelude.{◌≡◌, ◌<◌, length, Some};
+ghost use Rattle.std.specs.Prelude.{◌≡◌, ◌<◌, length, None, Some};
 ghost use Rattle.swi_outside.specs.Shelf.{lookup};
 
 use super::*;
@@ -249,7 +249,8 @@ fn shelf_over_files_keeps_two_files_apart_and_gets_more_than_a_mebibyte(
     Ok(())
 }
 
-/// Files in memory, which tells them: a shelf's contents. It takes what a file's name is from `create` and `close` alone.
+/// Files in memory, which tells them: a shelf's contents. It takes what a file's name is from `create`
+/// and `close` alone.
 #[derive(Drop)]
 struct MemFolder<'a> {
     alloc: Global,
@@ -267,10 +268,8 @@ impl<'a> Folder for MemFolder<'a> {
         let Some(bytes) = self.files.held(name) else {
             return Err(Failed);
         };
-        match Vec::from_slice(self.alloc, bytes) {
-            Ok(copy) => Ok(io::Cursor::new(copy)),
-            Err(_) => Err(Failed),
-        }
+        let copy = Vec::from_slice(self.alloc, bytes).map_err(|_| Failed)?;
+        Ok(io::Cursor::new(copy))
     }
 
     fn create(&mut self, _name: &str) -> Result<Vec<u8>, Failed> {
@@ -278,11 +277,45 @@ impl<'a> Folder for MemFolder<'a> {
     }
 
     fn close(&mut self, name: &str, file: Vec<u8>) -> Result<(), Failed> {
-        match self.files.put(self.alloc, name, file.as_slice()) {
-            Ok(()) => Ok(()),
-            Err(_) => Err(Failed),
-        }
+        self.files
+            .put(self.alloc, name, file.as_slice())
+            .map_err(|_| Failed)
     }
+}
+
+/// A folder whose files are read and written as `Faulty` is. It tells no contents.
+#[derive(Drop)]
+struct FaultyFolder {}
+
+impl Folder for FaultyFolder {
+    ghost contents = { λ _. None };
+
+    type Reader = Faulty;
+
+    type Writer = Faulty;
+
+    fn open(&mut self, _name: &str) -> Result<Faulty, Failed> {
+        Ok(Faulty { calls: 0 })
+    }
+
+    fn create(&mut self, _name: &str) -> Result<Faulty, Failed> {
+        Ok(Faulty { calls: 0 })
+    }
+
+    fn close(&mut self, _name: &str, _file: Faulty) -> Result<(), Failed> {
+        Ok(())
+    }
+}
+
+#[test]
+fn shelf_over_files_that_fail_in_their_midst_answers_it(rt: HostRuntime) -> Result<(), Fail> {
+    let alloc = rt.alloc();
+    let mut shelf = FolderShelf::new(FaultyFolder {});
+    let failed = Err(ShelfError::Failed);
+    assert!(rt; get_from(&mut shelf, alloc, "a", 9).is_err_and(|e| e == ShelfError::Failed));
+    assert_eq!(rt; put_to(&mut shelf, alloc, "a", b"abcdef"), Ok(()));
+    assert_eq!(rt; put_to(&mut shelf, alloc, "a", b"abcdefg"), failed);
+    Ok(())
 }
 
 #[test]

@@ -1,4 +1,5 @@
-//! `swic`: the words of the command line, the files and the streams go to the top call, and its answer is the exit status.
+//! `swic`: the words of the command line, the files and the streams go to the top call, and its answer
+//! is the exit status.
 #![tactic(auto)]
 
 ghost use Rattle.std.specs.Prelude.{◌^◌, ◌≤◌, IfOk, length};
