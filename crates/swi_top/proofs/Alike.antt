@@ -103,11 +103,11 @@ whole_line : (old new : Option (List ℕ)) (error line : List ℕ) (n : ℕ) →
 whole_line old new error line n all h =
     subst (λ (l : List ℕ). Appends old new (error ++ l)) (ap (λ (k : ℕ). take k line) all ∙ sym (take_all line)) h
 
-both_ran : (o : RunOptions) (s t : FlatState) (w : Work) (before plain cached : Devices) (e f : Ending) (n k : ℕ) → t ≡ s →
+both_ran : (o : RunOptions) (s t : FlatState) (w : Work) (before plain cached : Devices) (e f : Ending) (n k : ℕ) → t ≡ record s { error = t.error } → (o.reports.trace ≡ trace.Off → t.error ≡ s.error) →
     Ran s (plain_report o s) before plain e (take n (ending_line e)) → n ≡ length (ending_line e) →
     Ran t (report o.reports t.machine (Some w)) before cached f (take k (ending_line f)) → k ≡ length (ending_line f) → (f ≡ e) × LeavesAlike o before plain cached
-both_ran o s t w before plain cached e f n k same one whole other whole' =
-    let ran : Ran s (report o.reports s.machine (Some w)) before cached f (take k (ending_line f)) =
+both_ran o s t w before plain cached e f n k same quiet one whole other whole' =
+    let ran : Ran (record s { error = t.error }) (report o.reports s.machine (Some w)) before cached f (take k (ending_line f)) =
     subst (λ (u : FlatState). Ran u (report o.reports u.machine (Some w)) before cached f (take k (ending_line f))) same other in
     let ends : f ≡ e = ran.ending ∙ sym one.ending in
     let counts : List ℕ = if o.reports.stats then work_text w else [] in (
@@ -122,8 +122,9 @@ both_ran o s t w before plain cached e f n k same one whole other whole' =
         uncounted = no_counts o.reports.stats (work_text w);
         lines = s.error ++ ending_line e;
         plain_error = whole_line before.error plain.error s.error (ending_line e) n whole one.error;
-        cached_error = subst (λ (x : Ending). Appends before.error cached.error (s.error ++ ending_line x)) ends
-            (whole_line before.error cached.error s.error (ending_line f) k whole' ran.error);
+        cached_error = λ off. subst (λ (l : List ℕ). Appends before.error cached.error (l ++ ending_line e)) (quiet off)
+            (subst (λ (x : Ending). Appends before.error cached.error (t.error ++ ending_line x)) ends
+            (whole_line before.error cached.error t.error (ending_line f) k whole' ran.error));
       },
     )
 
@@ -136,21 +137,22 @@ shown_is trace.Last c off = cc
 ended_alike : (name : List ℕ) (cache : CacheOptions) (o : RunOptions) (file input : List ℕ) (before plain cached : Devices) (e f : Ending) →
     AnswersWithLine (RunPlain name o) before plain (Ok e) → IsFree (RunPlain name o) file before plain (Ok e) →
     AnswersWithLine (RunCached name cache o) before cached (Ok f) → IsFree (RunCached name cache o) file before cached (Ok f) →
-    before.input ≡ Some input → o.reports.trace ≡ trace.Off → ((j : ℕ) → j < o.limits.steps → StoresAt (start_of o file input) j → ⊥) → (f ≡ e) × LeavesAlike o before plain cached
-ended_alike name cache o file input before plain cached e f one free other free' told off never =
+    before.input ≡ Some input → ((j : ℕ) → j < o.limits.steps → StoresAt (start_of o file input) j → ⊥) → (f ≡ e) × LeavesAlike o before plain cached
+ended_alike name cache o file input before plain cached e f one free other free' told never =
     let ran = one.answers.done file free.told input told in
     let does = other.answers.done file free'.told in
     let runs = does.3 input told in
     let c = cached_run cache o does.0 (start_of o file input) in
-    both_ran o (plain_run o file input o.limits.steps) (shown_end o c) (work_of c) before plain cached e f one.shown other.shown (shown_is o.reports.trace c off ∙ runs.cached.flat o.limits.steps never)
-    ran (one.whole free.quiet.err) runs.ran (other.whole free'.quiet.err)
+    let flat = runs.cached.flat o.limits.steps never in
+    both_ran o (plain_run o file input o.limits.steps) (shown_end o c) (work_of c) before plain cached e f one.shown other.shown (ap (λ (q : FlatState). record q { error = shown_error o.reports.trace c }) flat)
+    (λ off. ap (λ (q : FlatState). q.error) (shown_is o.reports.trace c off ∙ flat)) ran (one.whole free.quiet.err) runs.ran (other.whole free'.quiet.err)
 
 pub ends_alike : (name : List ℕ) (cache : CacheOptions) (o : RunOptions) (file input : List ℕ) (before plain cached : Devices) (one other : Result Ending Refusal) →
     AnswersWithLine (RunPlain name o) before plain one → IsFree (RunPlain name o) file before plain one →
     AnswersWithLine (RunCached name cache o) before cached other → IsFree (RunCached name cache o) file before cached other →
-    before.input ≡ Some input → o.reports.trace ≡ trace.Off → ((j : ℕ) → j < o.limits.steps → StoresAt (start_of o file input) j → ⊥) →
+    before.input ≡ Some input → ((j : ℕ) → j < o.limits.steps → StoresAt (start_of o file input) j → ⊥) →
     (e : Ending) × (one ≡ Ok e) × (other ≡ Ok e) × LeavesAlike o before plain cached
-ends_alike name cache o file input before plain cached (Ok e) (Ok f) a free b free' told off never =
-    let both = ended_alike name cache o file input before plain cached e f a free b free' told off never in (e, refl, ap (λ (x : Ending). Ok x) both.0, both.1)
-ends_alike name cache o file input before plain cached (Err r) other a free b free' told off never = absurd (not_refused (RunPlain name o) file before plain r _ a.answers free)
-ends_alike name cache o file input before plain cached (Ok e) (Err r) a free b free' told off never = absurd (not_refused (RunCached name cache o) file before cached r _ b.answers free')
+ends_alike name cache o file input before plain cached (Ok e) (Ok f) a free b free' told never =
+    let both = ended_alike name cache o file input before plain cached e f a free b free' told never in (e, refl, ap (λ (x : Ending). Ok x) both.0, both.1)
+ends_alike name cache o file input before plain cached (Err r) other a free b free' told never = absurd (not_refused (RunPlain name o) file before plain r _ a.answers free)
+ends_alike name cache o file input before plain cached (Ok e) (Err r) a free b free' told never = absurd (not_refused (RunCached name cache o) file before cached r _ b.answers free')

@@ -64,19 +64,7 @@ run_with o cache v p l input = cached_run cache o v (flat_start p l o.reports.ca
 keeps_all : (n : ℕ) (r : RamState) → KeepsBeyond n r r
 keeps_all n r = record { same_length = refl; beyond = λ i h. refl; reached = omega arith }
 
-pub small : (o : RunOptions) (cache : CacheOptions) (v : ImageData) (p : ProgramData) (l : Layout) (d : Devices) → cache.cache_bytes < 4 * v.block_words →
-    RunsOnCache o cache v p l d d (Err (refusal.CacheSmall cache.cache_bytes (4 * v.block_words)))
-small o cache v p l d lt = record {
-  done = tt;
-  holds = tt;
-  refused = (refl, refl, lt);
-  quiet = λ _. refl;
-  failed = λ f. absurd f;
-  beyond = keeps_all _ d.ram;
-  causes = late_causes d.faults (refusal.CacheSmall cache.cache_bytes (4 * v.block_words)) tt;
-}
-
-pub no_memory : (o : RunOptions) (cache : CacheOptions) (v : ImageData) (p : ProgramData) (l : Layout) (d : Devices) →
+no_memory : (o : RunOptions) (cache : CacheOptions) (v : ImageData) (p : ProgramData) (l : Layout) (d : Devices) →
     RunsOnCache o cache v p l d d (Err refusal.Memory)
 no_memory o cache v p l d = record {
   done = tt;
@@ -96,7 +84,7 @@ BoardCauses d ram source out err r =
 same_count : {P : Type 0} (n m : ℕ) → DeviceCause n m P → (P → ⊥) → m ≡ n
 same_count n m h never = elim h.told [ inl e ↦ e | inr p ↦ absurd (never p) ]
 
-pub memory_after : {T : Type 0} (o : RunOptions) (cache : CacheOptions) (v : ImageData) (p : ProgramData) (l : Layout) (d : Devices) (i out e : Option (List ℕ)) (ram : RamState) (fi fo fe : ℕ) →
+memory_after : {T : Type 0} (o : RunOptions) (cache : CacheOptions) (v : ImageData) (p : ProgramData) (l : Layout) (d : Devices) (i out e : Option (List ℕ)) (ram : RamState) (fi fo fe : ℕ) →
     d.ram.faults ≡ d.faults.ram → (ram ≡ d.ram) × (i ≡ d.input) × (out ≡ d.output) × (e ≡ d.error) → BoardCauses {T = T} d ram.faults fi fo fe (Err stop.Memory) →
     RunsOnCache o cache v p l d (ran_all d i out e ram fi fo fe) (Err refusal.Memory)
 memory_after o cache v p l d i out e ram fi fo fe tied same h =

@@ -47,16 +47,16 @@ pub record LeavesAlike (o : RunOptions) (before plain cached : Devices) : Type 0
   pub plain_output : Appends before.output plain.output bytes
   pub cached_output : Appends before.output cached.output (bytes ++ counts)
   pub uncounted : o.reports.stats ≡ false → counts ≡ []
-  -- the same errors, the lines of calls and of the ending included
+  -- the same errors, the lines of calls and of the ending included, where no steps are told
   pub lines : List ℕ
   pub plain_error : Appends before.error plain.error lines
-  pub cached_error : Appends before.error cached.error lines
+  pub cached_error : o.reports.trace ≡ Off → Appends before.error cached.error lines
 
--- A program that would not store into its text ends alike by `plain` and by `cached`, whatever cache and blocks it is given, with the same
--- limits, reports and input, and no lines of its steps.
+-- A program that would not store into its text ends alike by `plain` and by `cached`, or `trace`, whatever cache and blocks it is given,
+-- with the same limits, reports and input.
 abbrev pub EndsAlike : Type 0
 EndsAlike = (name : List ℕ) (cache : CacheOptions) (o : RunOptions) (file input : List ℕ) (before plain cached : Devices) (one other : Result Ending Refusal) →
     AnswersWithLine (RunPlain name o) before plain one → IsFree (RunPlain name o) file before plain one →
     AnswersWithLine (RunCached name cache o) before cached other → IsFree (RunCached name cache o) file before cached other →
-    before.input ≡ Some input → o.reports.trace ≡ Off → ((j : ℕ) → j < o.limits.steps → StoresAt (start_of o file input) j → ⊥) →
+    before.input ≡ Some input → ((j : ℕ) → j < o.limits.steps → StoresAt (start_of o file input) j → ⊥) →
     (e : Ending) × (one ≡ Ok e) × (other ≡ Ok e) × LeavesAlike o before plain cached
