@@ -170,7 +170,7 @@ struct Row {
 }
 
 /// The counts of a board and its ram.
-fn counts_of(board: &Board<FifoRom>, ram: &FaultRam) -> [u64; 9] {
+fn counts_of<R: CacheRom>(board: &Board<R>, ram: &FaultRam) -> [u64; 9] {
     let counts = board.rom().counts();
     [
         board.steps(),

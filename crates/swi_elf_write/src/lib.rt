@@ -2,7 +2,7 @@
 #![tactic(auto)]
 
 mod program_header;
-pub mod writer;
+mod writer;
 
 pub use writer::write_elf;
 

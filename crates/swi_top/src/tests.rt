@@ -30,7 +30,8 @@ const DOUBLE: [u32; 32] = [
     0x05D00893, 0x00700513, 0x00000073,
 ];
 
-/// A file that jumps by a table in its text to a routine, which writes `hi` from there. It has a second segment with a zeroed tail.
+/// A file that jumps by a table in its text to a routine, which writes `hi` from there. It has a second
+/// segment with a zeroed tail.
 const TABLE: [u32; 65] = [
     0x464C457F, 0x00010101, 0, 0, 0x00F30002, 1, 0x000100B4, 52, 0, 0, 0x00200034, 4, 0,
     0x70000003, 0, 0, 0, 0, 0, 4, 1, 1, 0, 0x00010000, 0x00010000, 256, 256, 5, 4096, 1, 256,
@@ -126,8 +127,9 @@ fn file_of(alloc: Global, text: &[u32], rights: u32, base: u32) -> Result<Vec<u8
     bytes_of(alloc, &words)
 }
 
-/// A command and all that is handed in: its words, the file's text and rights, the input, the words of the ram, the room of the output in
-/// bytes, and the failing calls of the devices: the number of one, 0 for none; and what then comes: the answer, the output and the errors.
+/// A command and all that is handed in: its words, the file's text and rights, the input, the words of
+/// the ram, the room of the output in bytes, and the failing calls of the devices: the number of one, 0
+/// for none; and what then comes: the answer, the output and the errors.
 #[derive(Drop)]
 struct Row {
     words: &'static str,
@@ -216,7 +218,8 @@ fn holds(alloc: Global, row: &Row, file: Vec<u8>) -> Result<bool, Fail> {
     Ok(same && done.out.held() == row.out.as_bytes() && done.err.held() == row.err.as_bytes())
 }
 
-/// Options and texts with known answers, on both machines: worked by hand from the specification of the instructions and of this program's texts.
+/// Options and texts with known answers, on both machines: worked by hand from the specification of the
+/// instructions and of this program's texts.
 static ROWS: [Row; 20] = [
     row!(words: "--steps 10"),
     row!(words: "--calls", err: "call 93 00000007 00000000 00000000\n"),
@@ -336,7 +339,8 @@ const COUNTS: [&str; 9] = [
     "writes",
 ];
 
-/// A command on the cached machine and its text; and then the answer and the counts, worked by hand from the rules of the cache.
+/// A command on the cached machine and its text; and then the answer and the counts, worked by hand from
+/// the rules of the cache.
 static COUNTED: [(&str, &[u32], Ending, [u64; 9]); 14] = [
     (
         "--block 8",
@@ -451,7 +455,8 @@ fn cached_runs_have_their_counts(rt: HostRuntime) -> Result<(), Fail> {
     Ok(())
 }
 
-/// Options of a cached run, its text and the failing call of its ram; and the words that then stand in the ram, with zeros behind.
+/// Options of a cached run, its text and the failing call of its ram; and the words that then stand in
+/// the ram, with zeros behind.
 static RAMS: [(&str, &[u32], u32, &[u32]); 4] = [
     (
         "--block 8 --cache 64",
@@ -824,13 +829,50 @@ fn an_output_without_room_holds_what_came_first(rt: HostRuntime) -> Result<(), F
 #[test]
 fn a_shelf_that_fails_changes_no_other_name(rt: HostRuntime) -> Result<(), Fail> {
     let alloc = rt.alloc();
-    for call in 1..=3u32 {
-        let row = row!(words: "rewrite A B --block 8", shelf_fails: call);
-        let done = run(alloc, &row, bytes_of(alloc, &PLAIN)?)?;
-        let answer = if call < 3 { Err(ShelfFault) } else { Ok(Done) };
-        assert_eq!(rt; done.answer, answer, "call {call}");
-        let file = bytes_of(alloc, &PLAIN)?;
-        assert_eq!(rt; done.shelf.held("A"), Some(file.as_slice()), "call {call}");
+    for words in ["rewrite A B --block 8", "upgrade A B"] {
+        for call in 1..=3u32 {
+            let row = row!(words: words, shelf_fails: call);
+            let done = run(alloc, &row, bytes_of(alloc, &FIRST)?)?;
+            let answer = if call < 3 { Err(ShelfFault) } else { Ok(Done) };
+            assert_eq!(rt; done.answer, answer, "{words}: call {call}");
+            let file = bytes_of(alloc, &FIRST)?;
+            assert_eq!(rt;
+                done.shelf.held("A"),
+                Some(file.as_slice()),
+                "{words}: call {call}"
+            );
+        }
+    }
+    Ok(())
+}
+
+/// Commands on `SECOND` that ask the shelf for one file: where its first call fails, and where its second
+/// would, which is never made.
+static SHELF_ROWS: [Row; 10] = [
+    row!(words: "plain A", shelf_fails: 1, answer: Err(ShelfFault), err: "shelf fault\n"),
+    row!(words: "cached A", shelf_fails: 1, answer: Err(ShelfFault), err: "shelf fault\n"),
+    row!(words: "trace A", shelf_fails: 1, answer: Err(ShelfFault), err: "shelf fault\n"),
+    row!(words: "list A", shelf_fails: 1, answer: Err(ShelfFault), err: "shelf fault\n"),
+    row!(words: "check A", shelf_fails: 1, answer: Err(ShelfFault), err: "shelf fault\n"),
+    row!(words: "plain A", shelf_fails: 2),
+    row!(words: "cached A", shelf_fails: 2),
+    row!(words: "trace A", shelf_fails: 2,
+        err: "00010000 05d00893 addi a7, zero, 93\n00010004 00700513 addi a0, zero, 7\n\
+            00010008 00000073 ecall\n"),
+    row!(words: "list A", shelf_fails: 2, answer: Ok(Done),
+        out: "0 0 05d00893 00010000 addi a7, zero, 93\n0 1 00700513 00010004 addi a0, zero, 7\n\
+            0 2 00000073 00010008 ecall\n0 3 00100073 00010008 fall\n0 4 0001000c 00010008 .\n"),
+    row!(words: "check A", shelf_fails: 2, answer: Ok(Done), out: "ok: 1 blocks of 8 words\n"),
+];
+
+#[test]
+fn a_command_that_reads_asks_the_shelf_once(rt: HostRuntime) -> Result<(), Fail> {
+    for row in SHELF_ROWS.iter() {
+        let (words, call) = (row.words, row.shelf_fails);
+        assert!(rt;
+            holds(rt.alloc(), row, bytes_of(rt.alloc(), &SECOND)?)?,
+            "{words}: call {call}"
+        );
     }
     Ok(())
 }

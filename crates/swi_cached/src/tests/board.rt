@@ -70,7 +70,8 @@ static MORE: [Row; 5] = [
     },
 ];
 
-/// What stands after a run by the calls of a board: whether the ram failed, the ending, the address and the counts, and the output.
+/// What stands after a run by the calls of a board: whether the ram failed, the ending, the address and
+/// the counts, and the output.
 #[derive(Drop)]
 struct Came {
     failed: bool,
@@ -79,6 +80,18 @@ struct Came {
     counts: [u64; 9],
     out: MemSink,
     ram: FaultRam,
+}
+
+/// What stands after a boot whose ram failed.
+fn not_booted(alloc: Global) -> Result<Came, Fail> {
+    Ok(Came {
+        failed: true,
+        ending: None,
+        pc: 0,
+        counts: [0; 9],
+        out: MemSink::new(alloc, 0, Vec::new(alloc))?,
+        ram: FaultRam::new(alloc, 1, Vec::new(alloc))?,
+    })
 }
 
 /// Boots a board over a new service, and runs it over the input `abc`.
@@ -102,20 +115,12 @@ fn run_on<R: CacheRom>(
     let mut out = MemSink::new(alloc, 4096, [run.out_fails].to_vec(alloc)?)?;
     let mut err = MemSink::new(alloc, 4096, Vec::new(alloc))?;
     let mut ram = FaultRam::new(alloc, 2048, [run.ram_fails].to_vec(alloc)?)?;
-    let none = Came {
-        failed: true,
-        ending: None,
-        pc: 0,
-        counts: [0; 9],
-        out: MemSink::new(alloc, 0, Vec::new(alloc))?,
-        ram: FaultRam::new(alloc, 1, Vec::new(alloc))?,
-    };
     if rom.counts().services > 0 {
         return Err(Fail::from("no new service"));
     }
     let mut board = match Board::boot(alloc, image, program, layout, false, rom, &mut ram) {
         Ok(board) => board,
-        Err(BootStop::RamFault) => return Ok(none),
+        Err(BootStop::RamFault) => return not_booted(alloc),
         Err(BootStop::Memory) => return Err(Fail::from("no memory")),
     };
     if board.steps() > run.limit || run.limit > 1000 || board.rom().counts().services > 1 {
@@ -126,22 +131,11 @@ fn run_on<R: CacheRom>(
         Err(BoardFault::RamFault) => true,
         Err(_) => return Err(Fail::from("another device failed")),
     };
-    let counts = board.rom().counts();
     Ok(Came {
         failed,
         ending: board.ending(),
         pc: board.origin_pc(),
-        counts: [
-            board.steps(),
-            board.machine_steps(),
-            counts.services,
-            counts.misses,
-            counts.evictions,
-            counts.links,
-            counts.unlinks,
-            ram.fetches(),
-            ram.sets(),
-        ],
+        counts: counts_of(&board, &ram),
         out,
         ram,
     })

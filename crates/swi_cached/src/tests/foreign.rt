@@ -161,10 +161,8 @@ fn stepped<R: CacheRom>(
         .run(image, &mut ram, &mut input, &mut out, &mut err, 1)
         .is_err()
         || board.failed()
+        || board.ending().is_some()
     {
-        return Err(Fail::from("no first step"));
-    }
-    if board.ending().is_some() {
         return Err(Fail::from("no second step"));
     }
     let (hart, rom) = board.part();
