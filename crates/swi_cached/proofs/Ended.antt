@@ -109,16 +109,6 @@ module _ (c : CachedRun) (h0 h : HartData) (s0 : Slots) (r : Record) (before mid
         later i le ∙ booted.unused i (omega (arith, le, grew));
   }
 
--- a run of the board, in the words of its boot
-pub ran_on : (c : CachedRun) (h0 h : HartData) (s0 : Slots) (r : Record) (before mid : RamState) (left' out out' err err' : Option (List ℕ)) → Booted c h0 s0 before mid → c.start.machine.steps ≡ 0 →
-    Ran (fifo (setting_of s0)) c.image (c.limit - h0.machine.steps) c.start h0 (kept_by s0) h r left' out out' err err' →
-    Ran (policy_of c) c.image c.limit c.start h0 (kept_by s0) h r left' out out' err err'
-ran_on c h0 h s0 r before mid left' out out' err err' booted none ran =
-    let steps : h0.machine.steps ≡ c.start.machine.steps = ap (λ (m : Machine). m.steps) booted.machine in
-    let all : c.limit - h0.machine.steps ≡ c.limit = omega (arith, steps, none) in
-    subst (λ (k : List ℕ). Ran (fifo k) c.image c.limit c.start h0 (kept_by s0) h r left' out out' err err') booted.setting
-    (subst (λ (n : ℕ). Ran (fifo (setting_of s0)) c.image n c.start h0 (kept_by s0) h r left' out out' err err') all ran)
-
 -- the words behind the slots, over the boot and the run
 pub kept_on : (c : CachedRun) (h0 : HartData) (s0 : Slots) (before mid after : RamState) → Booted c h0 s0 before mid → KeepsBeyond (span_by (setting_of s0)) mid after →
     KeepsBeyond (span_of c) before after
@@ -167,7 +157,7 @@ is_short c h0 h s0 before mid booted going none settled rise =
     let most_last = last.0 in
     record { most = omega (arith, start, one, rise, most_last); fewer = λ never. let fewer = last.1 never in omega (arith, start, one, rise, fewer) }
 
--- the same of a run that is told from its first step on
+-- a run of the board from its first step on, in the words of its boot
 pub ran_told : (c : CachedRun) (h0 h : HartData) (s0 : Slots) (r : Record) (before mid : RamState) (left' out out' err err' : Option (List ℕ)) → Booted c h0 s0 before mid →
     Ran (fifo (setting_of s0)) c.image c.limit c.start h0 (kept_by s0) h r left' out out' err err' → Ran (policy_of c) c.image c.limit c.start h0 (kept_by s0) h r left' out out' err err'
 ran_told c h0 h s0 r before mid left' out out' err err' booted ran =

@@ -24,12 +24,6 @@ use Rattle.swi_cached.specs.Told.{error_by, of_steps, told_line}
 use Rattle.swi_cached.specs.Answers.{RamFailed, StepFailed, step_after}
 use Rattle.swi_cached.specs.Booted.{Booted}
 
--- what a run of the board is broken off at, in the words of its boot
-pub all_steps : (c : CachedRun) (h0 : HartData) (s0 : Slots) (before mid : RamState) → Booted c h0 s0 before mid → c.start.machine.steps ≡ 0 → c.limit - h0.machine.steps ≡ c.limit
-all_steps c h0 s0 before mid booted none =
-    let steps : h0.machine.steps ≡ c.start.machine.steps = ap (λ (m : Machine). m.steps) booted.machine in
-    omega (arith, steps, none)
-
 -- the ram failed in the run
 pub ram_failed : (c : CachedRun) (h0 h' : HartData) (s0 : Slots) (before mid after : RamState) (left' out out' err err' e e' : Option (List ℕ)) → Booted c h0 s0 before mid →
     (broke : RamBrokeOff c.image c.limit c.start h0 h' mid after left' out out' e e') → (begun : Bool) →
