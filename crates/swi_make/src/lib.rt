@@ -60,7 +60,7 @@ pub fn make(alloc: Global, seed: u32, functions: u32) -> Result<Vec<u8>, Memory>
     ensures size { IfOk result (λ text. length text.items ≡ 4 * (6 + 6 * functions + sum (all_additions seed functions))) }
     ensures most { IfOk result (λ text. length text.items ≤ 2 ^ 21) }
 {
-    let words = text_words(alloc, seed, functions)?;
+    let words = text_words(alloc, seed, functions).map_err(|_| Memory)?;
     bytes_of(alloc, &words)
 }
 
