@@ -9,9 +9,9 @@ use super::*;
 use std::alloc::Global;
 use std::test::Fail;
 use swi_check::check;
-use swi_image::read_image;
+use swi_image::{ImageView, read_image};
 use swi_outside::MemSink;
-use swi_program::{append_words, one_text};
+use swi_program::{Program, append_words, one_text};
 
 const UPPER_AND_JUMPS: [(u32, u32, &str); 17] = [
     (0x00000037, 0x00010000, "lui zero, 0x0"),
@@ -297,7 +297,23 @@ fn bytes_of(alloc: Global, words: &[u32]) -> Result<Vec<u8>, Fail>
     Ok(bytes)
 }
 
-/// The listing of a block of this image over the program of this text, on a sink of which one call fails.
+/// The listing of a block of this image of the program, on a sink of which one call fails.
+fn listed_on(
+    alloc: Global,
+    program: &Program<'_>,
+    view: &ImageView<'_>,
+    block: u32,
+    failing: u32,
+) -> Result<(bool, MemSink), Fail> {
+    if check(program, view).is_err() || block >= view.blocks() {
+        return Err(Fail::from("no image of the program"));
+    }
+    let mut sink = MemSink::new(alloc, 1000, [failing].to_vec(alloc)?)?;
+    let is_ok = list_block(program, view, block, &mut sink).is_ok();
+    Ok((is_ok, sink))
+}
+
+/// The same from the words of a text and of its image.
 fn listed(
     alloc: Global,
     text: &[u32],
@@ -316,12 +332,7 @@ fn listed(
         return Err(Fail::from("too long"));
     }
     let view = read_image(&bytes).ok().ok_or("no image")?;
-    if check(&program, &view).is_err() || block >= view.blocks() {
-        return Err(Fail::from("no image of the program"));
-    }
-    let mut sink = MemSink::new(alloc, 1000, [failing].to_vec(alloc)?)?;
-    let is_ok = list_block(&program, &view, block, &mut sink).is_ok();
-    Ok((is_ok, sink))
+    listed_on(alloc, &program, &view, block, failing)
 }
 
 #[test]
