@@ -75,7 +75,11 @@ fn enter<R: CacheRom, M: CacheRam>(
     requires sound { R.sound rom.old image.now (M.state ram.old).words }
     requires services { (R.kept rom.old).counts.services < 2 ^ 50 }
     ensures hart { OnOk result (hart.new
-        ≡ record hart.old { control = hart.new.control; count = hart.old.count + entries image.now hart.old.machine.pc; booted = true }) }
+        ≡ record hart.old {
+          control = hart.new.control;
+          count = hart.old.count + entries image.now hart.old.machine.pc;
+          booted = true;
+        }) }
     ensures control { OnOk result (Arrives image.now (R.kept rom.new) hart.old.machine.pc hart.new.control) }
     ensures served { Transferred R.policy R.extent R.span image.now (entry_transfer image.now hart.old.machine.pc)
         (R.sound rom.new image.now (M.state ram.new).words)
@@ -118,7 +122,11 @@ impl<R: CacheRom> Board<R> {
         requires sound { R.sound rom image.now (M.state ram.old).words }
         requires services { (R.kept rom).counts.services < 2 ^ 50 }
         ensures hart { IfOk result (λ b. b.hart
-            ≡ record hart { control = b.hart.control; count = hart.count + entries image.now hart.machine.pc; booted = true }) }
+            ≡ record hart {
+              control = b.hart.control;
+              count = hart.count + entries image.now hart.machine.pc;
+              booted = true;
+            }) }
         ensures matches { IfOk result (λ b. Matches image.now
             (R.kept b.rom) hart.machine b.hart.machine b.hart.control) }
         ensures fits { IfOk result (λ b. Fits image.now (R.kept b.rom) b.hart) }
@@ -294,8 +302,18 @@ impl<R: CacheRom> Board<R> {
             (R.span (R.setting self.old.rom)) (M.state ram.old) (M.state ram.new) }
         ensures kept { KeepsBeyond (R.span (R.setting self.old.rom)) (M.state ram.old) (M.state ram.new) }
         ensures causes { HasCauses
-            (record { ram = (M.state ram.old).faults; input = I.faults input.old; out = O.faults out.old; err = E.faults err.old })
-            (record { ram = (M.state ram.new).faults; input = I.faults input.new; out = O.faults out.new; err = E.faults err.new }) result }
+            (record {
+              ram = (M.state ram.old).faults;
+              input = I.faults input.old;
+              out = O.faults out.old;
+              err = E.faults err.old;
+            })
+            (record {
+              ram = (M.state ram.new).faults;
+              input = I.faults input.new;
+              out = O.faults out.new;
+              err = E.faults err.new;
+            }) result }
     {
         let Board { hart, rom } = self;
         if let Some((at, own)) = plain_place(hart, image) {
@@ -331,7 +349,8 @@ impl<R: CacheRom> Board<R> {
             (started f left) self.old.hart (R.kept self.old.rom) self.new.hart (R.kept self.new.rom) (I.left input.new)
             (O.held out.old) (O.held out.new) (E.held err.old) (E.held err.new))) }
         ensures count { OnOk result
-            (self.new.hart.count + most image.now self.old.hart.machine self.old.hart.control ≤ self.old.hart.count + most image.now self.new.hart.machine self.new.hart.control) }
+            (self.new.hart.count + most image.now self.old.hart.machine self.old.hart.control
+            ≤ self.old.hart.count + most image.now self.new.hart.machine self.new.hart.control) }
         ensures fits { OnOk result (Fits image.now (R.kept self.new.rom) self.new.hart) }
         ensures setting { R.setting self.new.rom ≡ R.setting self.old.rom }
         ensures sound { OnOk result (R.sound self.new.rom image.now (M.state ram.new).words) }
@@ -362,8 +381,18 @@ impl<R: CacheRom> Board<R> {
             (started f left) self.old.hart self.new.hart (M.state ram.old) (M.state ram.new) (I.left input.new)
             (O.held out.old) (O.held out.new) (E.held err.old) (E.held err.new)) }
         ensures causes { HasCauses
-            (record { ram = (M.state ram.old).faults; input = I.faults input.old; out = O.faults out.old; err = E.faults err.old })
-            (record { ram = (M.state ram.new).faults; input = I.faults input.new; out = O.faults out.new; err = E.faults err.new }) result }
+            (record {
+              ram = (M.state ram.old).faults;
+              input = I.faults input.old;
+              out = O.faults out.old;
+              err = E.faults err.old;
+            })
+            (record {
+              ram = (M.state ram.new).faults;
+              input = I.faults input.new;
+              out = O.faults out.new;
+              err = E.faults err.new;
+            }) result }
     {
         let Board { hart, rom } = self;
         while hart.machine.steps < n && hart.machine.ending.is_none() {

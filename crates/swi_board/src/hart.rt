@@ -75,7 +75,13 @@ impl Model for Hart {
 
     ghost Value = { HartData };
 
-    ghost view = { λ h. record { control = h.control; machine = h.machine; count = h.count; failed = h.failed; booted = h.booted } };
+    ghost view = { λ h. record {
+      control = h.control;
+      machine = h.machine;
+      count = h.count;
+      failed = h.failed;
+      booted = h.booted;
+    } };
 }
 
 impl Hart {

@@ -149,7 +149,8 @@ fn jump_step<R: CacheRom, M: CacheRam>(
         (step_to hart.new input) input
         (Control.At at.0 at.1 at.2 at.3) hart.old.machine rd link target) }
     ensures counted { OnOk result (Counted hart.old hart.new) }
-    ensures served { Transferred R.policy R.extent R.span image.now (if target % 4 == 0 then Some (indirect target) else None)
+    ensures served { Transferred R.policy R.extent R.span image.now
+        (if target % 4 == 0 then Some (indirect target) else None)
         (R.sound rom.new image.now (M.state ram.new).words)
         (record { kept = R.kept rom.old; setting = R.setting rom.old; ram = M.state ram.old })
         (record { kept = R.kept rom.new; setting = R.setting rom.new; ram = M.state ram.new }) result }
@@ -239,7 +240,8 @@ pub(crate) fn exit_step<R: CacheRom, M: CacheRam>(
         ExitStep (exit_kind (word_at image.now at.1 (at.2 + 1))) image.now (R.kept rom.new) hart.old.machine
         (step_to hart.new input) input at.0 at.1 at.2 at.3) }
     ensures counted { OnOk result (Counted hart.old hart.new) }
-    ensures served { Transferred R.policy R.extent R.span image.now (exit_transfer (exit_kind (word_at image.now at.1 (at.2 + 1))) image.now hart.old.machine at.1 at.2)
+    ensures served { Transferred R.policy R.extent R.span image.now
+        (exit_transfer (exit_kind (word_at image.now at.1 (at.2 + 1))) image.now hart.old.machine at.1 at.2)
         (R.sound rom.new image.now (M.state ram.new).words)
         (record { kept = R.kept rom.old; setting = R.setting rom.old; ram = M.state ram.old })
         (record { kept = R.kept rom.new; setting = R.setting rom.new; ram = M.state ram.new }) result }

@@ -55,7 +55,8 @@ pub(crate) fn run_word(hart: &mut Hart, at: (u32, u32, u32, Stage), x: &Instr, r
     ensures called { result ≡ true → (hart.new ≡ hart.old) × ((input : List ℕ) →
         word_stepped role at.0 at.1 at.2 at.3 hart.old.machine x.now input
         ≡ call_stepped at.0 at.1 at.2 at.3 hart.old.machine input) }
-    ensures ran { result ≡ false → QuietWord (λ input. word_stepped role at.0 at.1 at.2 at.3 hart.old.machine x.now input)
+    ensures ran { result ≡ false → QuietWord
+        (λ input. word_stepped role at.0 at.1 at.2 at.3 hart.old.machine x.now input)
         hart.old hart.new }
 {
     let i = at.0;
@@ -218,7 +219,8 @@ pub(crate) fn role_step<I: Source, O: Sink, E: Sink>(
 ) -> Result<(), CallFault>
     requires { ReadyAt hart.old at.0 at.1 at.2 at.3 }
     ensures { WordStepped x.now at.0 at.1 at.2 at.3
-        (λ left. word_stepped (quick_role at.3 x.now (original hart.old.machine)) at.0 at.1 at.2 at.3 hart.old.machine x.now left) hart.old hart.new
+        (λ left. word_stepped (quick_role at.3 x.now (original hart.old.machine))
+        at.0 at.1 at.2 at.3 hart.old.machine x.now left) hart.old hart.new
         (record { input = I.left input.old; output = O.held out.old; error = E.held err.old })
         (record { input = I.left input.new; output = O.held out.new; error = E.held err.new })
         (record { input = I.faults input.old; out = O.faults out.old; err = E.faults err.old })

@@ -121,8 +121,8 @@ fn boot<R: CacheRam>(
 /// The image is one of the program's text, and the layout is the program's. The cache holds a block of the image, and
 /// has at most 8 MiB and no more bytes than the ram; `limit` is at most 2^48. With `log` each system call is told in a
 /// line on the error sink. `telling` says what is told of the steps: the history, where there is one, has the addresses
-/// of the last 32, and with `Each` a step has its line before its first word is fetched, also one that ends the run by a
-/// fault, and one that would store into the text, which isn't made.
+/// of the last 32, and with `Each` a step has its line before its first word is fetched, also one that ends the run
+/// by a fault, and one that would store into the text, which isn't made.
 ///
 /// The program's steps, its registers and memory and the bytes that it reads and writes are those of the flat machine,
 /// up to a step that would store into the text: the run ends before it.
@@ -191,7 +191,8 @@ pub fn run_cached<I: Source, O: Sink, E: Sink, R: CacheRam>(
           err = E.faults err.new;
         }) result }
     // The program's run is the flat machine's, up to the first store into the text.
-    ensures flat { (left : List ℕ) → IsFlatRun (run_of image.now cache_bytes program.now layout.now log telling limit left) }
+    ensures flat { (left : List ℕ) → IsFlatRun
+        (run_of image.now cache_bytes program.now layout.now log telling limit left) }
     ensures stops { (left : List ℕ) →
         StopsBeforeStore (run_of image.now cache_bytes program.now layout.now log telling limit left) }
 {

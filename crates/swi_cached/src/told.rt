@@ -50,15 +50,12 @@ pub(crate) fn first_history(alloc: Global, telling: Telling) -> Result<Option<Hi
 {
     match telling {
         Telling::Nothing => Ok(None),
-        Telling::Last | Telling::Each => match History::new(alloc) {
-            Ok(history) => Ok(Some(history)),
-            Err(memory) => Err(memory),
-        },
+        Telling::Last | Telling::Each => Ok(Some(History::new(alloc)?)),
     }
 }
 
-/// Tells of the step that comes next, unless so many lines say that it was told: its address into the history, and with `Each` its line on the
-/// error sink. Answers how many steps are told then.
+/// Tells of the step that comes next, unless so many lines say that it was told: its address into the history, and
+/// with `Each` its line on the error sink. Answers how many steps are told then.
 fn tell<E: Sink>(
     board: &Board<FifoRom>,
     lines: u64,
@@ -72,7 +69,8 @@ fn tell<E: Sink>(
     ensures count { IfOk result (λ n. n ≡ board.now.hart.machine.steps + 1) }
     ensures line { lines ≡ board.now.hart.machine.steps →
         OnOk result (Appends (E.held err.old) (E.held err.new) (told_line (is_each telling) board.now.hart.machine)) }
-    ensures front { OnErr result (AppendsPrefix (E.held err.old) (E.held err.new) (told_line (is_each telling) board.now.hart.machine)) }
+    ensures front { OnErr result (AppendsPrefix (E.held err.old) (E.held err.new)
+        (told_line (is_each telling) board.now.hart.machine)) }
     ensures noted { lines ≡ board.now.hart.machine.steps → (pushed : List ℕ) → IsLastOf pushed history.old →
         IsLastOf (pushed ++ board.now.hart.machine.pc ∷ []) history.new }
     ensures told { lines ≡ board.now.hart.machine.steps + 1 →
@@ -92,7 +90,8 @@ fn tell<E: Sink>(
     Ok(steps + 1)
 }
 
-/// Makes steps until `limit` are made or the run has ended, each told before it is made where steps are told. Answers the history.
+/// Makes steps until `limit` are made or the run has ended, each told before it is made where steps are told. Answers
+/// the history.
 pub(crate) fn run_steps<I: Source, O: Sink, E: Sink, R: CacheRam>(
     board: &mut Board<FifoRom>,
     image: &ImageView<'_>,
@@ -117,7 +116,8 @@ pub(crate) fn run_steps<I: Source, O: Sink, E: Sink, R: CacheRam>(
         Carries (fetched f.bus) image.now →
         Matches image.now (kept_by board.old.rom) f board.old.hart.machine board.old.hart.control →
         ToldRun telling (fifo (setting_of board.old.rom)) image.now limit
-        (started f left) board.old.hart (kept_by board.old.rom) board.new.hart (kept_by board.new.rom) (I.left input.new)
+        (started f left) board.old.hart (kept_by board.old.rom) board.new.hart (kept_by board.new.rom)
+        (I.left input.new)
         (O.held out.old) (O.held out.new) (E.held err.old) (E.held err.new) told)) }
     ensures count { OnOk result (board.new.hart.count + most image.now board.old.hart.machine board.old.hart.control
         ≤ board.old.hart.count + most image.now board.new.hart.machine board.new.hart.control) }
@@ -126,7 +126,8 @@ pub(crate) fn run_steps<I: Source, O: Sink, E: Sink, R: CacheRam>(
     ensures unused { OnOk result (SameFrom (extent_of (setting_of board.old.rom) (kept_by board.new.rom))
         (R.state ram.old).words (R.state ram.new).words) }
     ensures unfailed { OnOk result (board.new.hart.failed ≡ false) }
-    ensures done { OnOk result ((board.new.hart.machine.steps ≡ limit) ⊎ (is_some board.new.hart.machine.ending ≡ true)) }
+    ensures done { OnOk result ((board.new.hart.machine.steps ≡ limit)
+        ⊎ (is_some board.new.hart.machine.ending ≡ true)) }
     ensures settled { OnOk result (ForSome (I.left input.old) (λ left. is_between board.old.hart.control ≡ true →
         board.new.hart.machine.ending ≡ None → is_between board.new.hart.control ≡ true)) }
     ensures ram { OnOk result (RamRan (span_of (setting_of board.old.rom)) (fetched_by board.old.hart board.new.hart)
@@ -145,8 +146,18 @@ pub(crate) fn run_steps<I: Source, O: Sink, E: Sink, R: CacheRam>(
         (R.state ram.new) (I.left input.new)
         (O.held out.old) (O.held out.new) (E.held err.old) (E.held err.new)) }
     ensures causes { HasCauses
-        (record { ram = (R.state ram.old).faults; input = I.faults input.old; out = O.faults out.old; err = E.faults err.old })
-        (record { ram = (R.state ram.new).faults; input = I.faults input.new; out = O.faults out.new; err = E.faults err.new }) result }
+        (record {
+          ram = (R.state ram.old).faults;
+          input = I.faults input.old;
+          out = O.faults out.old;
+          err = E.faults err.old;
+        })
+        (record {
+          ram = (R.state ram.new).faults;
+          input = I.faults input.new;
+          out = O.faults out.new;
+          err = E.faults err.new;
+        }) result }
 {
     let Some(mut last) = history else {
         return match board.run(image, ram, input, out, err, limit) {

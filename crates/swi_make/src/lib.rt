@@ -57,7 +57,8 @@ pub fn make(alloc: Global, seed: u32, functions: u32) -> Result<Vec<u8>, Memory>
     requires some { 1 ≤ functions }
     requires few { functions ≤ 4096 }
     ensures made { IfOk result (λ text. IsMade seed functions (program_of_text 0x10000 text.items)) }
-    ensures size { IfOk result (λ text. length text.items ≡ 4 * (6 + 6 * functions + sum (all_additions seed functions))) }
+    ensures size { IfOk result (λ text. length text.items ≡ 4
+        * (6 + 6 * functions + sum (all_additions seed functions))) }
     ensures most { IfOk result (λ text. length text.items ≤ 2 ^ 21) }
 {
     let words = text_words(alloc, seed, functions).map_err(|_| Memory)?;

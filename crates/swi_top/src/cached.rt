@@ -109,14 +109,24 @@ fn run_program<I: Source, O: Sink, E: Sink, R: CacheRam>(
           output = O.held out.old;
           error = E.held err.old;
           ram = R.state ram.old;
-          faults = record d.faults { input = I.faults input.old; out = O.faults out.old; err = E.faults err.old; ram = (R.state ram.old).faults };
+          faults = record d.faults {
+            input = I.faults input.old;
+            out = O.faults out.old;
+            err = E.faults err.old;
+            ram = (R.state ram.old).faults;
+          };
         })
         (record d {
           input = I.left input.new;
           output = O.held out.new;
           error = E.held err.new;
           ram = R.state ram.new;
-          faults = record d.faults { input = I.faults input.new; out = O.faults out.new; err = E.faults err.new; ram = (R.state ram.new).faults };
+          faults = record d.faults {
+            input = I.faults input.new;
+            out = O.faults out.new;
+            err = E.faults err.new;
+            ram = (R.state ram.new).faults;
+          };
         }) result }
 {
     let (bytes, least) = (cache.cache_bytes, 4 * image.block_words());
@@ -142,7 +152,8 @@ fn run_program<I: Source, O: Sink, E: Sink, R: CacheRam>(
     }
 }
 
-/// Runs the program of a file on the cached machine: by the image that the file has, or else by the greedy cut of its text.
+/// Runs the program of a file on the cached machine: by the image that the file has, or else by the greedy cut of its
+/// text.
 fn run_file<I: Source, O: Sink, E: Sink, R: CacheRam>(
     alloc: Global,
     file: &[u8],
@@ -164,14 +175,24 @@ fn run_file<I: Source, O: Sink, E: Sink, R: CacheRam>(
           output = O.held out.old;
           error = E.held err.old;
           ram = R.state ram.old;
-          faults = record d.faults { input = I.faults input.old; out = O.faults out.old; err = E.faults err.old; ram = (R.state ram.old).faults };
+          faults = record d.faults {
+            input = I.faults input.old;
+            out = O.faults out.old;
+            err = E.faults err.old;
+            ram = (R.state ram.old).faults;
+          };
         })
         (record d {
           input = I.left input.new;
           output = O.held out.new;
           error = E.held err.new;
           ram = R.state ram.new;
-          faults = record d.faults { input = I.faults input.new; out = O.faults out.new; err = E.faults err.new; ram = (R.state ram.new).faults };
+          faults = record d.faults {
+            input = I.faults input.new;
+            out = O.faults out.new;
+            err = E.faults err.new;
+            ram = (R.state ram.new).faults;
+          };
         }) result }
 {
     let elf = match read_elf(file) {
@@ -217,7 +238,13 @@ pub(crate) fn cached<F: Shelf, I: Source, O: Sink, E: Sink, R: CacheRam>(
           output = O.held out.old;
           error = E.held err.old;
           ram = R.state ram.old;
-          faults = record { shelf = F.faults shelf.old; input = I.faults input.old; out = O.faults out.old; err = E.faults err.old; ram = (R.state ram.old).faults };
+          faults = record {
+            shelf = F.faults shelf.old;
+            input = I.faults input.old;
+            out = O.faults out.old;
+            err = E.faults err.old;
+            ram = (R.state ram.old).faults;
+          };
         })
         (record d {
           contents = F.contents shelf.new;
@@ -226,7 +253,13 @@ pub(crate) fn cached<F: Shelf, I: Source, O: Sink, E: Sink, R: CacheRam>(
           output = O.held out.new;
           error = E.held err.new;
           ram = R.state ram.new;
-          faults = record { shelf = F.faults shelf.new; input = I.faults input.new; out = O.faults out.new; err = E.faults err.new; ram = (R.state ram.new).faults };
+          faults = record {
+            shelf = F.faults shelf.new;
+            input = I.faults input.new;
+            out = O.faults out.new;
+            err = E.faults err.new;
+            ram = (R.state ram.new).faults;
+          };
         }) result [] }
 {
     check_sizes(cache.cache_bytes, ram)?;

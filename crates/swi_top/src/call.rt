@@ -19,7 +19,8 @@ use swi_outside::{CacheRam, Failed, Shelf, Sink, Source};
 fn write_ending<E: Sink>(ending: &Ending, err: &mut E) -> Result<(), Failed>
     ensures bytes { WritesPiece (E.held err.old) (E.held err.new) result (ending_line ending.now) }
     ensures cause { HasCause (E.faults err.old) (E.faults err.new) result }
-    ensures unasked { ending_line ending.now ≡ [] → (E.held err.new ≡ E.held err.old) × (E.faults err.new ≡ E.faults err.old) }
+    ensures unasked { ending_line ending.now ≡ [] → (E.held err.new ≡ E.held err.old)
+        × (E.faults err.new ≡ E.faults err.old) }
     ensures asked { OnErr result (ending_line ending.now ≡ [] → ⊥) }
 {
     let line = line_of_ending(ending);
@@ -32,7 +33,8 @@ fn write_ending<E: Sink>(ending: &Ending, err: &mut E) -> Result<(), Failed>
 /// Writes the line of a refusal, and hands the refusal on. Where the write fails, the refusal stays the answer.
 fn refuse<E: Sink>(refusal: Refusal, err: &mut E) -> Refusal
     ensures same { result ≡ refusal }
-    ensures line { ShowsLine (E.held err.old) (E.held err.new) (E.faults err.old) (E.faults err.new) (refusal_line refusal) }
+    ensures line { ShowsLine (E.held err.old) (E.held err.new) (E.faults err.old) (E.faults err.new)
+        (refusal_line refusal) }
     ensures later { E.faults err.old ≤ E.faults err.new }
 {
     let _ = err.write(line_of_refusal(&refusal).as_bytes());
@@ -51,9 +53,11 @@ fn run_command<F: Shelf, I: Source, O: Sink, E: Sink, R: CacheRam>(
 ) -> Result<Ending, Refusal>
     requires limits { HasLimitsInRange command.now }
     ensures { AnswersWithLine (request_of command.now)
-        (seen (F.contents shelf.old) (F.last_failed shelf.old) (F.faults shelf.old) (I.left input.old) (I.faults input.old)
+        (seen (F.contents shelf.old) (F.last_failed shelf.old) (F.faults shelf.old) (I.left input.old)
+        (I.faults input.old)
         (O.held out.old) (O.faults out.old) (E.held err.old) (E.faults err.old) (R.state ram.old))
-        (seen (F.contents shelf.new) (F.last_failed shelf.new) (F.faults shelf.new) (I.left input.new) (I.faults input.new)
+        (seen (F.contents shelf.new) (F.last_failed shelf.new) (F.faults shelf.new) (I.left input.new)
+        (I.faults input.new)
         (O.held out.new) (O.faults out.new) (E.held err.new) (E.faults err.new) (R.state ram.new)) result }
 {
     match perform(alloc, command, shelf, input, out, err, ram) {
@@ -75,20 +79,27 @@ pub fn top<F: Shelf, I: Source, O: Sink, E: Sink, R: CacheRam>(
     err: &mut E,
     ram: &mut R,
 ) -> Result<Ending, Refusal>
-    // Usage comes exactly where the words mean no command, but for want of memory; and it changes nothing but the errors.
+    // Usage comes exactly where the words mean no command, but for want of memory; and it changes nothing but the
+    // errors.
     ensures usage { IsErrOf result Refusal.Usage → command_of (map (λ w. string_bytes w) words.now) ≡ None }
-    ensures no_command { command_of (map (λ w. string_bytes w) words.now) ≡ None → IsErrOf result Refusal.Usage ⊎ IsErrOf result Refusal.Memory }
+    ensures no_command { command_of (map (λ w. string_bytes w) words.now) ≡ None → IsErrOf result Refusal.Usage
+        ⊎ IsErrOf result Refusal.Memory }
     ensures unasked { command_of (map (λ w. string_bytes w) words.now) ≡ None → IsRefusedAtOnce
-        (seen (F.contents shelf.old) (F.last_failed shelf.old) (F.faults shelf.old) (I.left input.old) (I.faults input.old)
+        (seen (F.contents shelf.old) (F.last_failed shelf.old) (F.faults shelf.old) (I.left input.old)
+        (I.faults input.old)
         (O.held out.old) (O.faults out.old) (E.held err.old) (E.faults err.old) (R.state ram.old))
-        (seen (F.contents shelf.new) (F.last_failed shelf.new) (F.faults shelf.new) (I.left input.new) (I.faults input.new)
+        (seen (F.contents shelf.new) (F.last_failed shelf.new) (F.faults shelf.new) (I.left input.new)
+        (I.faults input.new)
         (O.held out.new) (O.faults out.new) (E.held err.new) (E.faults err.new) (R.state ram.new)) result }
 
     // A command is checked, and then done as it says.
-    ensures answers { (request : Request) → command_of (map (λ w. string_bytes w) words.now) ≡ Some request → AnswersWithLine request
-        (seen (F.contents shelf.old) (F.last_failed shelf.old) (F.faults shelf.old) (I.left input.old) (I.faults input.old)
+    ensures answers { (request : Request) → command_of (map (λ w. string_bytes w) words.now) ≡ Some request →
+        AnswersWithLine request
+        (seen (F.contents shelf.old) (F.last_failed shelf.old) (F.faults shelf.old) (I.left input.old)
+        (I.faults input.old)
         (O.held out.old) (O.faults out.old) (E.held err.old) (E.faults err.old) (R.state ram.old))
-        (seen (F.contents shelf.new) (F.last_failed shelf.new) (F.faults shelf.new) (I.left input.new) (I.faults input.new)
+        (seen (F.contents shelf.new) (F.last_failed shelf.new) (F.faults shelf.new) (I.left input.new)
+        (I.faults input.new)
         (O.held out.new) (O.faults out.new) (E.held err.new) (E.faults err.new) (R.state ram.new)) result }
 {
     match parse_command(alloc, words) {

@@ -29,9 +29,11 @@ pub(crate) fn perform<F: Shelf, I: Source, O: Sink, E: Sink, R: CacheRam>(
 ) -> Result<Ending, Refusal>
     requires limits { HasLimitsInRange command.now }
     ensures { Answers (request_of command.now)
-        (seen (F.contents shelf.old) (F.last_failed shelf.old) (F.faults shelf.old) (I.left input.old) (I.faults input.old)
+        (seen (F.contents shelf.old) (F.last_failed shelf.old) (F.faults shelf.old) (I.left input.old)
+        (I.faults input.old)
         (O.held out.old) (O.faults out.old) (E.held err.old) (E.faults err.old) (R.state ram.old))
-        (seen (F.contents shelf.new) (F.last_failed shelf.new) (F.faults shelf.new) (I.left input.new) (I.faults input.new)
+        (seen (F.contents shelf.new) (F.last_failed shelf.new) (F.faults shelf.new) (I.left input.new)
+        (I.faults input.new)
         (O.held out.new) (O.faults out.new) (E.held err.new) (E.faults err.new) (R.state ram.new)) result [] }
 {
     match command {

@@ -24,7 +24,8 @@ pub(crate) fn read_file<F: Shelf>(
     ensures within { IfOk result (λ bytes. length bytes.items ≤ file_limit) }
     ensures refused { IfErr result (λ r. (r ≡ Refusal.ShelfFault) ⊎ ((r ≡ Refusal.Memory) ⊎
         ((r ≡ Refusal.FileLong file_limit) × IsLonger (F.contents shelf.old) name.now file_limit))) }
-    ensures cause { ShelfCause (F.faults shelf.old) (F.faults shelf.new) (F.last_failed shelf.old) (F.last_failed shelf.new) (get_of name.now) result }
+    ensures cause { ShelfCause (F.faults shelf.old) (F.faults shelf.new) (F.last_failed shelf.old)
+        (F.last_failed shelf.new) (get_of name.now) result }
 {
     match shelf.get(alloc, name, FILE_LIMIT) {
         Ok(bytes) => Ok(bytes),
@@ -45,7 +46,8 @@ pub(crate) fn write_file<F: Shelf>(
     ensures stands { OnOk result (Stands (F.contents shelf.new) name.now bytes.now) }
     ensures refused { IfErr result (λ r. (r ≡ Refusal.ShelfFault) ⊎
         ((r ≡ Refusal.Memory) × Same (F.contents shelf.old) (F.contents shelf.new))) }
-    ensures cause { ShelfCause (F.faults shelf.old) (F.faults shelf.new) (F.last_failed shelf.old) (F.last_failed shelf.new) (put_of name.now) result }
+    ensures cause { ShelfCause (F.faults shelf.old) (F.faults shelf.new) (F.last_failed shelf.old)
+        (F.last_failed shelf.new) (put_of name.now) result }
 {
     match shelf.put(alloc, name, bytes) {
         Ok(()) => Ok(()),

@@ -65,7 +65,9 @@ pub(crate) fn prepare<'a>(
 ) -> Result<Prepared<'a>, Refusal>
     requires ranges { IsInRange limits.now }
     ensures prepared { IfOk result (IsPrepared elf.now limits.now) }
-    ensures refused { IfErr result (λ r. (r ≡ Refusal.Memory) ⊎ ((room : RoomData) × (room_in elf.now limits.now ≡ Err room) × (r ≡ Refusal.Room room.end))) }
+    ensures refused { IfErr result
+        (λ r. (r ≡ Refusal.Memory) ⊎ ((room : RoomData) × (room_in elf.now limits.now ≡ Err room)
+        × (r ≡ Refusal.Room room.end))) }
 {
     let program = load(alloc, elf)?;
     match lay_out(&program, limits.heap, limits.stack) {

@@ -46,7 +46,8 @@ fn list_blocks<O: Sink>(
     Ok(Ending::Done)
 }
 
-/// Lists the blocks of a file's program: those of the image that the file has, or else those of the greedy cut of its text.
+/// Lists the blocks of a file's program: those of the image that the file has, or else those of the greedy cut of its
+/// text.
 fn list_file<O: Sink>(
     alloc: Global,
     file: &[u8],

@@ -91,10 +91,13 @@ fn run_made<R: CacheRam>(
     requires least { 4 * image.now.block_words ≤ cache.now.cache_bytes }
     requires most { cache.now.cache_bytes ≤ 2 ^ 23 }
     requires held { cache.now.cache_bytes ≤ 4 * length (R.state ram.old).words }
-    ensures ran { IfOk result (λ b. MadeRan (made_run cache.now prepared.now.program prepared.now.layout image.now) b.hart (kept_by b.rom)
+    ensures ran { IfOk result (λ b. MadeRan
+        (made_run cache.now prepared.now.program prepared.now.layout image.now) b.hart (kept_by b.rom)
         (R.state ram.old) (R.state ram.new)) }
-    ensures refused { IfErr result (λ r. ((r ≡ Refusal.Memory) × (R.state ram.new ≡ R.state ram.old)) ⊎ (r ≡ Refusal.RamFault)) }
-    ensures kept { KeepsBeyond (slots_of cache.now.cache_bytes image.now * image.now.block_words) (R.state ram.old) (R.state ram.new) }
+    ensures refused { IfErr result
+        (λ r. ((r ≡ Refusal.Memory) × (R.state ram.new ≡ R.state ram.old)) ⊎ (r ≡ Refusal.RamFault)) }
+    ensures kept { KeepsBeyond (slots_of cache.now.cache_bytes image.now * image.now.block_words) (R.state ram.old)
+        (R.state ram.new) }
     ensures cause { DeviceCause (R.state ram.old).faults (R.state ram.new).faults (IsErrOf result Refusal.RamFault) }
 {
     let (program, layout) = (&prepared.program, &prepared.layout);
@@ -130,10 +133,13 @@ fn summarize<O: Sink>(
     board: &Board<FifoRom>,
     out: &mut O,
 ) -> Result<Ending, Refusal>
-    ensures done { IfOk result (λ e. (e ≡ made_ending_by board.now.hart.machine.ending board.now.hart.machine.pc board.now.hart.machine.steps)
-        × Appends (O.held out.old) (O.held out.new) (board_summary functions program.now image.now board.now.hart (kept_by board.now.rom))) }
+    ensures done { IfOk result (λ e.
+        (e ≡ made_ending_by board.now.hart.machine.ending board.now.hart.machine.pc board.now.hart.machine.steps)
+        × Appends (O.held out.old) (O.held out.new)
+        (board_summary functions program.now image.now board.now.hart (kept_by board.now.rom))) }
     ensures failed { IfErr result (λ r. (r ≡ Refusal.SinkFault)
-        × AppendsPrefix (O.held out.old) (O.held out.new) (board_summary functions program.now image.now board.now.hart (kept_by board.now.rom))) }
+        × AppendsPrefix (O.held out.old) (O.held out.new)
+        (board_summary functions program.now image.now board.now.hart (kept_by board.now.rom))) }
     ensures cause { HasCause (O.faults out.old) (O.faults out.new) result }
 {
     let Some(End::Exited(exit)) = board.ending() else {
@@ -151,7 +157,8 @@ fn summarize<O: Sink>(
     }
 }
 
-/// Makes a program of a seed with so many functions (1 to 4096), runs it on the cached machine to its end, and writes the summary where it exits.
+/// Makes a program of a seed with so many functions (1 to 4096), runs it on the cached machine to its end, and writes
+/// the summary where it exits.
 pub(crate) fn measure<O: Sink, R: CacheRam>(
     alloc: Global,
     seed: u32,

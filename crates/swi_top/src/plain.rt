@@ -110,7 +110,12 @@ pub(crate) fn plain<F: Shelf, I: Source, O: Sink, E: Sink>(
           input = I.left input.old;
           output = O.held out.old;
           error = E.held err.old;
-          faults = record d.faults { shelf = F.faults shelf.old; input = I.faults input.old; out = O.faults out.old; err = E.faults err.old };
+          faults = record d.faults {
+            shelf = F.faults shelf.old;
+            input = I.faults input.old;
+            out = O.faults out.old;
+            err = E.faults err.old;
+          };
         })
         (record d {
           contents = F.contents shelf.new;
@@ -118,7 +123,12 @@ pub(crate) fn plain<F: Shelf, I: Source, O: Sink, E: Sink>(
           input = I.left input.new;
           output = O.held out.new;
           error = E.held err.new;
-          faults = record d.faults { shelf = F.faults shelf.new; input = I.faults input.new; out = O.faults out.new; err = E.faults err.new };
+          faults = record d.faults {
+            shelf = F.faults shelf.new;
+            input = I.faults input.new;
+            out = O.faults out.new;
+            err = E.faults err.new;
+          };
         }) result [] }
 {
     let file = read_file(alloc, shelf, name)?;

@@ -93,8 +93,8 @@ fn upgraded(alloc: Global, file: &[u8]) -> Result<Vec<u8>, Refusal>
     }
 }
 
-/// Puts the program of a file under another name, with the image of its greedy cut into blocks of at most so many words. An image that
-/// the file has is dropped, unread.
+/// Puts the program of a file under another name, with the image of its greedy cut into blocks of at most so many
+/// words. An image that the file has is dropped, unread.
 pub(crate) fn rewrite<F: Shelf>(
     alloc: Global,
     input: &str,
@@ -104,8 +104,16 @@ pub(crate) fn rewrite<F: Shelf>(
 ) -> Result<Ending, Refusal>
     requires size { IsBlockSize block_words }
     ensures { (d : Devices) → Answers (RewriteFile input.now output.now block_words)
-        (record d { contents = F.contents shelf.old; last_failed = F.last_failed shelf.old; faults = record d.faults { shelf = F.faults shelf.old } })
-        (record d { contents = F.contents shelf.new; last_failed = F.last_failed shelf.new; faults = record d.faults { shelf = F.faults shelf.new } }) result [] }
+        (record d {
+          contents = F.contents shelf.old;
+          last_failed = F.last_failed shelf.old;
+          faults = record d.faults { shelf = F.faults shelf.old };
+        })
+        (record d {
+          contents = F.contents shelf.new;
+          last_failed = F.last_failed shelf.new;
+          faults = record d.faults { shelf = F.faults shelf.new };
+        }) result [] }
 {
     let file = read_file(alloc, shelf, input)?;
     let bytes = rewritten(alloc, &file, block_words)?;
@@ -121,8 +129,16 @@ pub(crate) fn upgrade<F: Shelf>(
     shelf: &mut F,
 ) -> Result<Ending, Refusal>
     ensures { (d : Devices) → Answers (UpgradeFile input.now output.now)
-        (record d { contents = F.contents shelf.old; last_failed = F.last_failed shelf.old; faults = record d.faults { shelf = F.faults shelf.old } })
-        (record d { contents = F.contents shelf.new; last_failed = F.last_failed shelf.new; faults = record d.faults { shelf = F.faults shelf.new } }) result [] }
+        (record d {
+          contents = F.contents shelf.old;
+          last_failed = F.last_failed shelf.old;
+          faults = record d.faults { shelf = F.faults shelf.old };
+        })
+        (record d {
+          contents = F.contents shelf.new;
+          last_failed = F.last_failed shelf.new;
+          faults = record d.faults { shelf = F.faults shelf.new };
+        }) result [] }
 {
     let file = read_file(alloc, shelf, input)?;
     let bytes = upgraded(alloc, &file)?;

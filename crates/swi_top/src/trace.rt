@@ -27,7 +27,8 @@ pub(crate) fn telling_of(trace: Trace) -> Telling
 
 /// Writes the line of the step at one of a history's addresses.
 fn write_step<E: Sink>(history: &History, k: u32, bus: &Bus, err: &mut E) -> Result<(), Failed>
-    ensures bytes { WritesPiece (E.held err.old) (E.held err.new) result (lines_at bus.now (one_of (slice_get history.now k))) }
+    ensures bytes { WritesPiece (E.held err.old) (E.held err.new) result
+        (lines_at bus.now (one_of (slice_get history.now k))) }
     ensures cause { HasCause (E.faults err.old) (E.faults err.new) result }
 {
     match history.get(k) {
@@ -56,7 +57,8 @@ pub(crate) fn write_last<E: Sink>(
     bus: &Bus,
     err: &mut E,
 ) -> Result<(), Failed>
-    ensures bytes { WritesPiece (E.held err.old) (E.held err.new) result (last_told trace bus.now (addresses_in history.now)) }
+    ensures bytes { WritesPiece (E.held err.old) (E.held err.new) result
+        (last_told trace bus.now (addresses_in history.now)) }
     ensures cause { HasCause (E.faults err.old) (E.faults err.new) result }
 {
     match trace {
