@@ -1,6 +1,6 @@
 -- Which exits are behind a block's last text word.
-use Rattle.std.proofs.Common.{◌≡◌, ◌==◌, ℕ, ◌+◌, ◌-◌, ◌*◌, ◌/◌, ◌%◌, ◌^◌, ◌<◌, ◌≤◌, Bool, true, false, not, ◌&&◌, Option, Some, List, length, slice_index, refl, sym, ap, subst, ◌∙◌, inl, inr, arith}
-use Rattle.std.proofs.lemmas.Bool.{false≢true, cases_Bool, eqb-true}
+use Rattle.std.proofs.Common.{◌≡◌, ◌==◌, if◌then◌else◌, ℕ, ◌+◌, ◌-◌, ◌*◌, ◌/◌, ◌%◌, ◌^◌, ◌<◌, ◌≤◌, Bool, true, false, not, ◌&&◌, Option, Some, List, length, slice_index, refl, sym, ap, subst, ◌∙◌, inl, inr, arith}
+use Rattle.std.proofs.lemmas.Bool.{false≢true, cases_Bool, and_parts, eqb-true}
 use Rattle.swi_image.specs.Format.{ImageData}
 use Rattle.swi_image.specs.Place.{place_of, word_at}
 use Rattle.swi_image.specs.Sound.{IsImage}
@@ -15,10 +15,11 @@ use Rattle.swi_board.specs.declared.hart.Control.{Control}
 use Rattle.swi_board.specs.declared.hart.Control.TheVariants.{At, Outside}
 use Rattle.swi_isa.specs.declared.instr.Instr.{Instr}
 use Rattle.swi_isa.specs.declared.instr.Instr.TheVariants as instr
+use Rattle.swi_exec.specs.Arithmetic.{sum_of}
 use Rattle.swi_exec.specs.Execute.{address_of}
 use Rattle.swi_calls.specs.Flat.{quiet}
 use Rattle.swi_board.specs.declared.block.Walk.{Walk}
-use Rattle.swi_board.specs.Walked.{walk_machine}
+use Rattle.swi_board.specs.Walked.{walk_machine, walk_pc, walk_steps, landed}
 use Rattle.swi_board.specs.Hart.{Stepped, is_fall, is_place, left_made}
 use Rattle.swi_board.specs.Board.{Arrives, Jumps, JumpsBy}
 use Rattle.swi_board.specs.Leaving.{ExitHome, PlacedAt, LeaveAt, RamServed, fell, is_back}
@@ -48,12 +49,25 @@ landed_small v r span words t i b o stage coherent image low at =
     let inside = place_inside v image t b o start.1 in
     omega (arith, end, inside.1, low)
 
--- what a link that is gone over leaves of a machine
-pub over_link : (fall : Bool) (m : Machine) (w : Walk) (t : ℕ) (input : List ℕ) → fall ≡ false → quiet (record m { pc = t; steps = w.steps + 1 }) input ≡ left_made fall (walk_machine w m) t input
-over_link fall m w t input is = rw is refl
+-- what a link that is gone over leaves of a machine; one that only leads on goes to the pc
+pub over_link : (fall : Bool) (m : Machine) (w : Walk) (index block offset t : ℕ) (input : List ℕ) → (fall ≡ true → t ≡ walk_pc w) → t < 2 ^ 32 →
+    quiet (walk_machine (landed index block offset t (if fall then 0 else 1) w) m) input ≡ left_made fall (walk_machine w m) t input
+over_link true m w index block offset t input here low =
+    let none : index - index ≡ 0 = omega arith in
+    let pc : sum_of t (4 * (index - index)) ≡ walk_pc w = omega (arith, here refl) in
+    let steps : walk_steps w + 0 + (index - index) ≡ walk_steps w = omega arith in
+    ap (λ (k : Machine). quiet k input) (rw (pc, steps) refl)
+over_link false m w index block offset t input here low =
+    let pc : sum_of t (4 * (index - index)) ≡ t = omega arith in
+    let steps : walk_steps w + 1 + (index - index) ≡ walk_steps w + 1 = omega arith in
+    ap (λ (k : Machine). quiet k input) (rw (pc, steps) refl)
 
-pub over_fall : (fall : Bool) (m : Machine) (w : Walk) (t : ℕ) (input : List ℕ) → fall ≡ true → quiet (walk_machine w m) input ≡ left_made fall (walk_machine w m) t input
-over_fall fall m w t input is = rw is refl
+-- an exit that only leads on goes to the pc
+pub fell_here : (stage : Stage) (pc t : ℕ) (c : Control) (b o : ℕ) → fell stage pc t c b o ≡ true → t ≡ pc
+fell_here Start pc t c b o is = eqb-true _ _ (and_parts (t == pc) (not (is_back c b o)) is).0
+fell_here Low pc t c b o is = absurd (cc)
+fell_here Return pc t c b o is = absurd (cc)
+fell_here Leave pc t c b o is = absurd (cc)
 
 pub fell_is : (v : ImageData) (new : Record) (m : Machine) (b o : ℕ) (stage : Stage) (t : ℕ) (c : Control) → t ≡ word_at v b (o + 1) → ExitHome v m b o stage → Arrives v new t c → fell stage m.pc t c b o ≡ is_fall v m b o stage
 fell_is v new m b o Low t c is home at = refl

@@ -1,5 +1,5 @@
 -- One step more of a walk.
-use Rattle.std.proofs.Common.{◌≡◌, ℕ, ◌+◌, ◌-◌, ◌^◌, ◌<◌, ◌≤◌, max, false, List, slice_index, Some, None, refl, sym, ap, subst, ◌∙◌, arith}
+use Rattle.std.proofs.Common.{◌≡◌, ℕ, ◌+◌, ◌-◌, ◌*◌, ◌^◌, ◌<◌, ◌≤◌, max, false, List, slice_index, Some, None, refl, sym, ap, subst, ◌∙◌, arith}
 use Rattle.swi_isa.specs.declared.instr.Instr.{Instr}
 use Rattle.swi_isa.specs.declared.instr.Instr.TheVariants as instr
 use Rattle.swi_isa.specs.Decode.{decoded}
@@ -23,30 +23,49 @@ use Rattle.swi_board.specs.declared.block.Next.TheVariants as next
 use Rattle.swi_board.specs.declared.block.Walk.{Walk}
 use Rattle.swi_board.specs.Hart.{HartData, stepped, word_stepped, instruction, is_fall}
 use Rattle.swi_board.specs.Leaving.{ExitHome, leaves, quick_role}
-use Rattle.swi_board.specs.Walked.{is_stop, role_by, went, gone, walk_offset, walk_control, walk_machine, WordOn, StepOn, WalkedOn, Walked}
+use Rattle.swi_board.specs.Walked.{is_stop, role_by, went, gone, landed, walk_offset, walk_pc, walk_steps, walk_count, walk_control, walk_machine, HasRoom, WalksTo, WordOn, StepOn, WalkedOn, Walked, StandsInside}
+
+next_pc : (w : Walk) → w.from ≤ w.index → sum_of (walk_pc w) 4 ≡ sum_of w.pc (4 * (w.index + 1 - w.from))
+next_pc w le = omega arith
+
+lagging : (w : Walk) (m : Machine) (input : List ℕ) (stage : Stage) → w.from ≤ w.index →
+    stepped (At (w.index + 1) w.block (walk_offset w + 1) stage) (quiet (walk_machine w m) input)
+    ≡ stepped (walk_control (gone (next.Lead stage) w)) (quiet (walk_machine (gone (next.Lead stage) w) m) input)
+lagging w m input stage le =
+    let words : w.index + 1 - (w.from + 1) ≡ w.index - w.from = omega arith in
+    let off : walk_offset w + 1 ≡ walk_offset (gone (next.Lead stage) w) = omega arith in
+    rw (off, words) refl
 
 moves_to : (n : Next) (w : Walk) (m : Machine) (input : List ℕ) → is_stop n ≡ false → w.from ≤ w.index →
     went n w.index w.block (walk_offset w) (walk_machine w m) input ≡ stepped (walk_control (gone n w)) (quiet (walk_machine (gone n w) m) input)
 moves_to next.On w m input goes le =
-    let off : walk_offset w + 1 ≡ w.offset + (w.index + 1 - w.from) = omega arith in
-    ap (λ k. stepped (At (w.index + 1) w.block k Start) (quiet (record m { pc = sum_of w.pc 4; steps = w.steps + 1 }) input)) off
+    let words : w.index + 1 - w.from ≡ w.index - w.from + 1 = omega arith in
+    let off : walk_offset w + 1 ≡ walk_offset (gone next.On w) = omega arith in
+    let steps : walk_steps w + 1 ≡ walk_steps (gone next.On w) = omega arith in
+    rw (next_pc w le, off, steps) refl
 moves_to next.Over w m input goes le =
-    let off : walk_offset w + 3 ≡ w.offset + (w.index + 3 - w.from) = omega arith in
-    ap (λ k. stepped (At (w.index + 3) w.block k Start) (quiet (record m { pc = sum_of w.pc 4; steps = w.steps + 1 }) input)) off
-moves_to (next.Lead stage) w m input goes le =
-    let off : walk_offset w + 1 ≡ w.offset + (w.index + 1 - w.from) = omega arith in
-    ap (λ k. stepped (At (w.index + 1) w.block k stage) (quiet (walk_machine w m) input)) off
-moves_to next.Exit w m input goes le =
-    let off : walk_offset w + 1 ≡ w.offset + (w.index + 1 - w.from) = omega arith in
-    ap (λ k. stepped (At (w.index + 1) w.block k Leave) (quiet (walk_machine w m) input)) off
+    let words : w.index + 3 - (w.from + 2) ≡ w.index + 1 - w.from = omega arith in
+    let off : walk_offset w + 3 ≡ walk_offset (gone next.Over w) = omega arith in
+    let steps : walk_steps w + 1 ≡ walk_steps (gone next.Over w) = omega arith in
+    rw (next_pc w le, off, steps, words) refl
+moves_to (next.Lead stage) w m input goes le = lagging w m input stage le
+moves_to next.Exit w m input goes le = lagging w m input Leave le
 moves_to next.Stop w m input goes le = absurd (cc)
 
-pub gone_ahead : (n : Next) (w : Walk) → w.from ≤ w.index → (gone n w).from ≤ (gone n w).index
-gone_ahead next.On w le = omega arith
-gone_ahead next.Over w le = omega arith
-gone_ahead (next.Lead stage) w le = omega arith
-gone_ahead next.Exit w le = omega arith
-gone_ahead next.Stop w le = le
+-- the walk behind a word is one to the same limit, and has made a machine instruction more
+pub gone_within : (n : Next) (w : Walk) (limit : ℕ) → w.index < w.end → WalksTo limit w → WalksTo limit (gone n w)
+gone_within next.On w limit more t = record { ahead = omega (arith, t.ahead); below = omega arith; limited = t.limited }
+gone_within next.Over w limit more t = record { ahead = omega (arith, t.ahead); below = omega arith; limited = omega (arith, t.limited) }
+gone_within (next.Lead stage) w limit more t = record { ahead = omega (arith, t.ahead); below = omega arith; limited = omega (arith, t.limited) }
+gone_within next.Exit w limit more t = record { ahead = omega (arith, t.ahead); below = omega arith; limited = omega (arith, t.limited) }
+gone_within next.Stop w limit more t = t
+
+pub gone_counted : (n : Next) (w : Walk) → is_stop n ≡ false → w.from ≤ w.index → walk_count (gone n w) ≡ walk_count w + 1
+gone_counted next.On w goes le = omega arith
+gone_counted next.Over w goes le = omega arith
+gone_counted (next.Lead stage) w goes le = omega arith
+gone_counted next.Exit w goes le = omega arith
+gone_counted next.Stop w goes le = absurd (cc)
 
 pub gone_near : (n : Next) (w : Walk) → w.from ≤ w.index → walk_offset (gone n w) ≤ walk_offset w + 3
 gone_near next.On w le = omega arith
@@ -55,16 +74,36 @@ gone_near (next.Lead stage) w le = omega arith
 gone_near next.Exit w le = omega arith
 gone_near next.Stop w le = omega arith
 
-pub gone_short : (n : Next) (w : Walk) → w.pc < 2 ^ 32 → (gone n w).pc < 2 ^ 32
-gone_short next.On w low = omega arith
-gone_short next.Over w low = omega arith
-gone_short (next.Lead stage) w low = low
-gone_short next.Exit w low = low
-gone_short next.Stop w low = low
+-- and so is the walk behind a link
+pub landed_within : (index block offset pc steps : ℕ) (w : Walk) (limit : ℕ) → steps ≤ 1 → w.index < w.end → WalksTo limit w → WalksTo limit (landed index block offset pc steps w)
+landed_within index block offset pc steps w limit few more t = record { ahead = omega arith; below = omega arith; limited = omega (arith, t.limited, t.ahead) }
+
+pub walked_short : (w : Walk) → walk_pc w < 2 ^ 32
+walked_short w = omega arith
+
+-- a walk that has not come to its end
+pub steps_left : (limit : ℕ) (w : Walk) → WalksTo limit w → w.index < w.end → walk_steps w < limit
+steps_left limit w t more = omega (arith, t.limited, t.ahead)
+
+pub has_room : (v : ImageData) (r : Record) (ram : RamState) (h : HartData) (limit : ℕ) (w : Walk) → WalksTo limit w → limit ≤ 2 ^ 48 → w.index < w.end → h.count ≡ walk_count w →
+    StandsInside v r ram h w.index w.block (walk_offset w) w.stage → HasRoom w
+has_room v r ram h limit w t few more count s = record {
+  ahead = t.ahead;
+  below = more;
+  end = omega (arith, t.limited, t.ahead, s.index);
+  index = s.index;
+  offset = s.offset;
+  steps = omega (arith, steps_left limit w t more);
+  count = omega (arith, count, s.count);
+}
+
+-- one that has
+pub steps_made : (limit : ℕ) (w : Walk) → WalksTo limit w → w.end ≤ w.index → walk_steps w ≡ limit
+steps_made limit w t all = omega (arith, t.limited, t.ahead, t.below)
 
 -- a word that was executed
 pub word_on : (n : Next) (w : Walk) (m : Machine) (regs : Registers) (bus : List AreaData) (x : Instr) → is_stop n ≡ false → w.from ≤ w.index → m.ending ≡ None → leaves x ≡ false →
-    quick_role w.stage x (instruction (fetched m.bus w.pc)) ≡ role_by n →
+    quick_role w.stage x (instruction (fetched m.bus (walk_pc w))) ≡ role_by n →
     ((k : Machine) (b o : ℕ) (input : List ℕ) → k.ending ≡ None → word_stepped (role_by n) w.index b o w.stage (record k { regs = m.regs; bus = m.bus }) x input ≡ went n w.index b o (record k { regs = regs; bus = bus }) input) →
     WordOn (walk_machine w m) (walk_machine (gone n w) (record m { regs = regs; bus = bus })) (walk_control (gone n w)) x w.index w.block (walk_offset w) w.stage
 word_on n w m regs bus x goes ahead going stays role steps = record {
@@ -97,9 +136,9 @@ exit_by_pc v m m' b o stage is e = record {
 -- a step of the loop is one more
 pub steps_on : (v : ImageData) (r : Record) (h h' : HartData) (ram ram' : RamState) (w w' : Walk) (x : Instr) (got : ℕ) →
     h.control ≡ walk_control w → h'.control ≡ walk_control w' → h.machine ≡ walk_machine w h.machine → h'.machine ≡ walk_machine w' h'.machine → h'.count ≡ h.count + 1 → h'.failed ≡ h.failed → h'.booted ≡ h.booted →
-    h'.machine.ending ≡ None → w'.pc < 2 ^ 32 → (got ≡ slice_index ram.words w.index) × (ram' ≡ record ram { fetches = counted ram.fetches; reach = max ram.reach (w.index + 1); last = w.index }) → Some x ≡ decoded got →
+    h'.machine.ending ≡ None → (got ≡ slice_index ram.words w.index) × (ram' ≡ record ram { fetches = counted ram.fetches; reach = max ram.reach (w.index + 1); last = w.index }) → Some x ≡ decoded got →
     StepOn v r h.machine h'.machine (walk_control w') x got w.index w.block (walk_offset w) w.stage → WalkedOn v r ram ram' h h'
-steps_on v r h h' ram ram' w w' x got at to seen seen' count failed booted going short fetch decodes step = record {
+steps_on v r h h' ram ram' w w' x got at to seen seen' count failed booted going fetch decodes step = record {
   index = w.index;
   block = w.block;
   offset = walk_offset w;
@@ -112,7 +151,7 @@ steps_on v r h h' ram ram' w w' x got at to seen seen' count failed booted going
       (subst (λ (k : Control). StepOn v r h.machine h'.machine k x got w.index w.block (walk_offset w) w.stage) (sym to) step);
   is_counted = record { count = count; failed = failed; booted = booted };
   going = going;
-  short = subst (λ (k : Machine). k.pc < 2 ^ 32) (sym seen') short;
+  short = subst (λ (k : Machine). k.pc < 2 ^ 32) (sym seen') (walked_short w');
 }
 
 -- before the first

@@ -1,5 +1,5 @@
 -- Steps that ask neither the service nor a device and don't end the run: words that stay in their block, and links. Own rule.
-use Rattle.std.specs.Prelude.{◌≡◌, ◌⊎◌, ℕ, ◌+◌, ◌-◌, ◌%◌, ◌^◌, ◌<◌, ◌≤◌, max, Bool, true, false, List, length, slice_index, Option, Some, None, Result, Ok, Err}
+use Rattle.std.specs.Prelude.{◌≡◌, ◌⊎◌, ℕ, ◌+◌, ◌-◌, ◌*◌, ◌%◌, ◌^◌, ◌<◌, ◌≤◌, max, Bool, true, false, List, length, slice_index, Option, Some, None, Result, Ok, Err}
 use Rattle.swi_isa.specs.declared.instr.Instr.{Instr}
 use Rattle.swi_isa.specs.Decode.{decoded}
 use Rattle.swi_exec.specs.Arithmetic.{sum_of}
@@ -48,23 +48,66 @@ went (next.Lead stage) i b o m input = stepped (At (i + 1) b (o + 1) stage) (qui
 went next.Exit i b o m input = stepped (At (i + 1) b (o + 1) Leave) (quiet m input)
 went next.Stop i b o m input = stepped (At i b o Start) (quiet m input)
 
--- control where a walk has come, and the machine there, of which the walk has pc and steps
+-- where a walk has come: since the index `from` each word was an instruction
 abbrev pub walk_offset : Walk → ℕ
 walk_offset w = w.offset + (w.index - w.from)
 
+abbrev pub walk_pc : Walk → ℕ
+walk_pc w = sum_of w.pc (4 * (w.index - w.from))
+
+abbrev pub walk_steps : Walk → ℕ
+walk_steps w = w.steps + (w.index - w.from)
+
+abbrev pub walk_count : Walk → ℕ
+walk_count w = w.count + (w.index - w.from)
+
+-- control there, and the machine, of which the walk has pc and steps
 abbrev pub walk_control : Walk → Control
 walk_control w = At w.index w.block (walk_offset w) w.stage
 
 abbrev pub walk_machine : Walk → Machine → Machine
-walk_machine w m = record m { pc = w.pc; steps = w.steps }
+walk_machine w m = record m { pc = walk_pc w; steps = walk_steps w }
 
--- the walk behind a word
+-- a walk to at most so many steps, which are made where its index is `end`
+pub record WalksTo (limit : ℕ) (w : Walk) : Type 0 where
+  pub ahead : w.from ≤ w.index
+  pub below : w.index ≤ w.end
+  pub limited : w.end + w.steps ≡ w.from + limit
+
+-- a walk that can go on
+pub record HasRoom (w : Walk) : Type 0 where
+  pub ahead : w.from ≤ w.index
+  pub below : w.index < w.end
+  pub end : w.end < 2 ^ 50
+  pub index : w.index < 2 ^ 22
+  pub offset : walk_offset w < 2 ^ 22
+  pub steps : walk_steps w < 2 ^ 48
+  pub count : walk_count w < 2 ^ 56
+
+-- the walk behind a word; k words more behind it are no instruction
+abbrev pub lagged : ℕ → Walk → Walk
+lagged k w = record w { from = w.from + k; offset = w.offset + k; end = w.end + k }
+
 abbrev pub gone : Next → Walk → Walk
-gone next.On w = record w { index = w.index + 1; stage = Start; pc = sum_of w.pc 4; steps = w.steps + 1 }
-gone next.Over w = record w { index = w.index + 3; stage = Start; pc = sum_of w.pc 4; steps = w.steps + 1 }
-gone (next.Lead stage) w = record w { index = w.index + 1; stage = stage }
-gone next.Exit w = record w { index = w.index + 1; stage = Leave }
+gone next.On w = record w { index = w.index + 1; stage = Start }
+gone next.Over w = lagged 2 (record w { index = w.index + 3; stage = Start })
+gone (next.Lead stage) w = lagged 1 (record w { index = w.index + 1; stage = stage; count = w.count + 1 })
+gone next.Exit w = lagged 1 (record w { index = w.index + 1; stage = Leave; count = w.count + 1 })
 gone next.Stop w = w
+
+-- the walk behind a link to a place, which makes so many steps
+abbrev pub landed : ℕ → ℕ → ℕ → ℕ → ℕ → Walk → Walk
+landed index block offset pc steps w = record {
+  index = index;
+  stage = Start;
+  end = index + (w.end - w.index) - steps;
+  from = index;
+  block = block;
+  offset = offset;
+  pc = pc;
+  steps = walk_steps w + steps;
+  count = walk_count w + 1;
+}
 
 -- a step at a word that stays in its block, and one over a link, which the service doesn't see
 pub record WordOn (m m' : Machine) (c : Control) (x : Instr) (index block offset : ℕ) (stage : Stage) : Type 0 where

@@ -14,7 +14,7 @@ ghost use Rattle.swi_board.specs.Hart.{HartData, instruction, stepped, word_step
 ghost use Rattle.swi_board.specs.Board.{ExitStep};
 ghost use Rattle.swi_board.specs.Leaving.{Home, ExitHome, PlacedAt, immediate_quick, leaves, offset_of, quick_role};
 ghost use Rattle.swi_board.specs.Runs.{most};
-ghost use Rattle.swi_board.specs.Walked.{is_stop, role_by, went, gone, walk_offset, walk_control, walk_machine, StepOn, Walked, WalkedOn, StandsInside, BlockRan};
+ghost use Rattle.swi_board.specs.Walked.{is_stop, role_by, went, gone, lagged, landed, walk_offset, walk_pc, walk_steps, walk_count, walk_control, walk_machine, HasRoom, WalksTo, StepOn, Walked, WalkedOn, StandsInside, BlockRan};
 
 use crate::exit::{control_at, fell, jump_index};
 use crate::hart::{Control, ExitKind, Hart, Role, Stage};
@@ -42,50 +42,124 @@ pub enum Next {
     Stop,
 }
 
-/// Where steps have come: the word under control with its stage, pc and steps, and the place in a block from which they
-/// came there word by word, with its index.
+/// Where steps have come: the word under control with its stage, and what stood at the index `from`, since which each
+/// word was an instruction: so a step to the next word changes the index alone. At `end` the limit of steps is reached.
 #[derive(Clone, Copy, Debug, PartialEq, Eq)]
 pub struct Walk {
     pub index: u32,
     pub stage: Stage,
-    pub pc: u32,
-    pub steps: u64,
+    pub end: u64,
     pub from: u32,
     pub block: u32,
     pub offset: u32,
+    pub pc: u32,
+    pub steps: u64,
+    pub count: u64,
 }
 
 impl Walk {
+    /// How many words lie behind.
+    #[inline(always)]
+    fn words(&self) -> u32
+        requires { self.now.from ≤ self.now.index }
+        ensures { result ≡ self.now.index - self.now.from }
+    {
+        self.index - self.from
+    }
+
+    /// The original address.
+    #[inline(always)]
+    fn pc(&self) -> u32
+        requires { self.now.from ≤ self.now.index }
+        ensures { result ≡ walk_pc self.now }
+    {
+        self.pc.wrapping_add(self.words().wrapping_mul(4))
+    }
+
+    /// The steps made.
+    #[inline(always)]
+    fn steps(&self) -> u64
+        requires ahead { self.now.from ≤ self.now.index }
+        requires few { walk_steps self.now < 2 ^ 64 }
+        ensures { result ≡ walk_steps self.now }
+    {
+        self.steps + u64::from(self.words())
+    }
+
+    /// The machine instructions made.
+    #[inline(always)]
+    fn count(&self) -> u64
+        requires ahead { self.now.from ≤ self.now.index }
+        requires few { walk_count self.now < 2 ^ 64 }
+        ensures { result ≡ walk_count self.now }
+    {
+        self.count + u64::from(self.words())
+    }
+
+    /// So many of the words behind were no instruction.
+    #[inline(always)]
+    fn lag(&mut self, words: u32)
+        requires few { words ≤ 2 }
+        requires index { self.old.from < 2 ^ 23 }
+        requires offset { self.old.offset < 2 ^ 23 }
+        requires end { self.old.end < 2 ^ 50 }
+        ensures { self.new ≡ lagged words self.old }
+    {
+        self.from += words;
+        self.offset += words;
+        self.end += u64::from(words);
+    }
+
     /// Goes on behind a word.
     #[inline(always)]
     fn go(&mut self, next: Next)
-        requires small { self.old.index < 2 ^ 22 }
-        requires few { self.old.steps < 2 ^ 48 }
+        requires { HasRoom self.old }
         ensures { self.new ≡ gone next self.old }
     {
         match next {
             Next::On => {
                 self.index += 1;
                 self.stage = Stage::Start;
-                self.pc = self.pc.wrapping_add(4);
-                self.steps += 1;
             }
             Next::Over => {
                 self.index += 3;
                 self.stage = Stage::Start;
-                self.pc = self.pc.wrapping_add(4);
-                self.steps += 1;
+                self.lag(2);
             }
             Next::Lead(stage) => {
                 self.index += 1;
                 self.stage = stage;
+                self.count += 1;
+                self.lag(1);
             }
             Next::Exit => {
                 self.index += 1;
                 self.stage = Stage::Leave;
+                self.count += 1;
+                self.lag(1);
             }
             Next::Stop => {}
         }
+    }
+
+    /// Goes over a link to a place, which is a step unless the exit only leads on.
+    #[inline(always)]
+    fn land(&mut self, index: u32, block: u32, offset: u32, pc: u32, leads_on: bool)
+        requires { HasRoom self.old }
+        ensures { self.new ≡ landed index block offset pc (if leads_on then 0 else 1) self.old }
+    {
+        let steps = if leads_on { 0 } else { 1 };
+        *self = Walk {
+            index,
+            stage: Stage::Start,
+            end: u64::from(index) + (self.end - u64::from(self.index)) - steps,
+            from: index,
+            block,
+            offset,
+            pc,
+            steps: self.steps() + steps,
+            count: self.count() + 1,
+        };
     }
 }
 
@@ -169,16 +243,18 @@ fn execute(index: u32, stage: Stage, pc: u32, x: &Instr, regs: &mut Regs, bus: &
                 Next::Exit
             }
         }
-        Instr::Alu { op, .. } => match exec(x, 4 * index, regs, bus) {
-            Done::Next(_) => {
-                if leads(stage, op) {
-                    Next::Lead(Stage::Leave)
-                } else {
-                    Next::On
-                }
+        Instr::Alu { op, .. } => {
+            if leads(stage, op) {
+                return match exec(x, 4 * index, regs, bus) {
+                    Done::Next(_) => Next::Lead(Stage::Leave),
+                    Done::Call | Done::Break | Done::Fault(_, _) => Next::Stop,
+                };
             }
-            Done::Call | Done::Break | Done::Fault(_, _) => Next::Stop,
-        },
+            match exec(x, 4 * index, regs, bus) {
+                Done::Next(_) => Next::On,
+                Done::Call | Done::Break | Done::Fault(_, _) => Next::Stop,
+            }
+        }
         Instr::Lui { .. } => match upper_role(bus, pc, stage) {
             Role::Whole => match exec(x, 4 * index, regs, bus) {
                 Done::Next(_) => Next::On,
@@ -208,25 +284,22 @@ fn follow<R: CacheRom, M: CacheRam>(
     requires got { got ≡ slice_index (M.state ram.now).words walk.old.index }
     requires offset { off ≡ offset_of (decoded got) }
     requires linked { got ≡ ebreak → ⊥ }
-    requires exit { (m : Machine) → m.pc ≡ walk.old.pc →
+    requires exit { (m : Machine) → m.pc ≡ walk_pc walk.old →
         ExitHome image.now m walk.old.block (walk_offset walk.old) walk.old.stage }
     requires placed { PlacedAt (R.kept rom.now) walk.old.index walk.old.block (walk_offset walk.old) }
     requires block { walk.old.block < length image.now.starts }
     requires inside { walk_offset walk.old + 1 < length_at image.now walk.old.block }
-    requires ahead { walk.old.from ≤ walk.old.index }
-    requires small { walk_offset walk.old < 2 ^ 22 }
-    requires few { walk.old.steps < 2 ^ 48 }
-    requires short { walk.old.pc < 2 ^ 32 }
+    requires room { HasRoom walk.old }
     ensures step { result ≡ true → (m : Machine) (input : List ℕ) →
         ExitStep ExitKind.Direct image.now (R.kept rom.now) (walk_machine walk.old m)
         (stepped (walk_control walk.new) (quiet (walk_machine walk.new m) input)) input
         walk.old.index walk.old.block (walk_offset walk.old) walk.old.stage }
     ensures direct { result ≡ true → word_at image.now walk.old.block (walk_offset walk.old + 1) % 4 ≡ 0 }
-    ensures ahead { walk.new.from ≤ walk.new.index }
-    ensures short { walk.new.pc < 2 ^ 32 }
+    ensures counted { result ≡ true → walk_count walk.new ≡ walk_count walk.old + 1 }
+    ensures limited { result ≡ true → (n : ℕ) → WalksTo n walk.old → WalksTo n walk.new }
     ensures same { result ≡ false → walk.new ≡ walk.old }
 {
-    let offset = walk.offset + (walk.index - walk.from);
+    let offset = walk.offset + walk.words();
     let target = image.word(walk.block, offset + 1);
     if target % 4 != 0 {
         return false;
@@ -235,15 +308,8 @@ fn follow<R: CacheRom, M: CacheRam>(
     let Control::At(index, block, place, _) = control else {
         return false;
     };
-    if !fell(walk.stage, walk.pc, target, control, walk.block, offset) {
-        walk.pc = target;
-        walk.steps += 1;
-    }
-    walk.index = index;
-    walk.from = index;
-    walk.block = block;
-    walk.offset = place;
-    walk.stage = Stage::Start;
+    let leads_on = fell(walk.stage, walk.pc(), target, control, walk.block, offset);
+    walk.land(index, block, place, target, leads_on);
     true
 }
 
@@ -264,16 +330,12 @@ fn one<R: CacheRom, M: CacheRam>(
     requires is { Some x.now ≡ decoded got }
     requires home { Home image.now (R.kept rom.now) (walk_machine walk.old hart.old.machine) walk.old.index
         walk.old.block (walk_offset walk.old) walk.old.stage }
-    requires ahead { walk.old.from ≤ walk.old.index }
-    requires index { walk.old.index < 2 ^ 22 }
-    requires small { walk_offset walk.old < 2 ^ 22 }
-    requires few { walk.old.steps < 2 ^ 48 }
-    requires short { walk.old.pc < 2 ^ 32 }
+    requires room { HasRoom walk.old }
     ensures on { result ≡ true → StepOn image.now (R.kept rom.now) (walk_machine walk.old hart.old.machine)
         (walk_machine walk.new hart.new.machine) (walk_control walk.new) x.now got
         walk.old.index walk.old.block (walk_offset walk.old) walk.old.stage }
-    ensures ahead { walk.new.from ≤ walk.new.index }
-    ensures short { walk.new.pc < 2 ^ 32 }
+    ensures counted { result ≡ true → walk_count walk.new ≡ walk_count walk.old + 1 }
+    ensures limited { result ≡ true → (n : ℕ) → WalksTo n walk.old → WalksTo n walk.new }
     ensures near { walk_offset walk.new ≤ 2 ^ 22 + 2 }
     ensures same { result ≡ false → (walk.new ≡ walk.old) × (hart.new ≡ hart.old) }
     ensures rest { hart.new ≡ record hart.old {
@@ -287,7 +349,7 @@ fn one<R: CacheRom, M: CacheRam>(
             let next = execute(
                 walk.index,
                 walk.stage,
-                walk.pc,
+                walk.pc(),
                 x,
                 &mut hart.machine.regs,
                 &mut hart.machine.bus,
@@ -327,6 +389,7 @@ pub(crate) fn run_block<R: CacheRom, M: CacheRam>(
     requires control { hart.old.control ≡ Control.At at.0 at.1 at.2 at.3 }
     requires sound { R.sound rom.now image.now (M.state ram.old).words }
     requires few { limit ≤ 2 ^ 48 }
+    requires within { hart.old.machine.steps ≤ limit }
     requires offset { at.2 < 2 ^ 22 }
     requires short { hart.old.machine.pc < 2 ^ 32 }
     requires inside { (h : HartData) (r : RamState) → Walked image.now (R.kept rom.now) limit hart.old
@@ -342,15 +405,16 @@ pub(crate) fn run_block<R: CacheRom, M: CacheRam>(
     let mut walk = Walk {
         index: at.0,
         stage: at.3,
-        pc: hart.machine.pc,
-        steps: hart.machine.steps,
+        end: u64::from(at.0) + (limit - hart.machine.steps),
         from: at.0,
         block: at.1,
         offset: at.2,
+        pc: hart.machine.pc,
+        steps: hart.machine.steps,
+        count: hart.machine_steps(),
     };
-    let mut count = hart.count;
     let mut left = Ok(None);
-    while walk.steps < limit {
+    while u64::from(walk.index) < walk.end {
         let word = match ram.fetch(walk.index) {
             Ok(word) => word,
             Err(_) => {
@@ -365,16 +429,15 @@ pub(crate) fn run_block<R: CacheRom, M: CacheRam>(
             left = Ok(Some(word));
             break;
         }
-        count += 1;
     }
     hart.control.go(Control::At(
         walk.index,
         walk.block,
-        walk.offset + (walk.index - walk.from),
+        walk.offset + walk.words(),
         walk.stage,
     ));
-    hart.machine.pc = walk.pc;
-    hart.machine.steps = walk.steps;
-    hart.count = count;
+    hart.machine.pc = walk.pc();
+    hart.machine.steps = walk.steps();
+    hart.count = walk.count();
     left
 }

@@ -20,16 +20,21 @@ use swi_rom::{CacheRom, RomStop};
 /// The word of EBREAK, which stands for an exit.
 const EBREAK: u32 = 0x0010_0073;
 
-/// What an exit is for.
+/// What an exit is for. Two tests of a bit each: of four cases of one number the compiler makes a jump through a table.
 #[inline(always)]
 pub(crate) fn exit_kind(d: u32) -> ExitKind
     ensures { result ≡ exit_kind d }
 {
-    match d % 4 {
-        0 => ExitKind::Direct,
-        1 => ExitKind::Trap,
-        2 => ExitKind::Misaligned,
-        _ => ExitKind::Indirect,
+    if d % 2 == 0 {
+        if d % 4 == 0 {
+            ExitKind::Direct
+        } else {
+            ExitKind::Misaligned
+        }
+    } else if d % 4 == 1 {
+        ExitKind::Trap
+    } else {
+        ExitKind::Indirect
     }
 }
 

@@ -2,11 +2,12 @@ use Rattle.std.proofs.Common.{◌≡◌, ◌+◌, ◌^◌, ◌<◌, ◌≤◌, [
 use Rattle.swi_isa.specs.declared.instr.Instr.TheVariants as instr
 use Rattle.swi_calls.specs.declared.machine.Machine.{Machine}
 use Rattle.swi_board.specs.declared.block.Walk.{Walk}
-use Rattle.swi_board.specs.Hart.{HartData}
-use Rattle.swi_board.specs.Leaving.{leaves}
-use Rattle.swi_board.specs.Walked.{is_stop, walk_control, walk_machine, walk_offset, WordOn}
+use Rattle.swi_board.specs.Hart.{HartData, instruction}
+use Rattle.swi_memory.specs.Bus.{fetched}
+use Rattle.swi_board.specs.Leaving.{leaves, quick_role}
+use Rattle.swi_board.specs.Walked.{is_stop, role_by, walk_control, walk_count, walk_machine, walk_offset, WalksTo, WordOn}
 use Rattle.swi_board.proofs.Fetching.{exit_home}
-use Rattle.swi_board.proofs.Walking.{jal_links, exit_by_pc, word_on, gone_ahead, gone_near, gone_short}
+use Rattle.swi_board.proofs.Walking.{jal_links, exit_by_pc, word_on, gone_counted, gone_near, gone_within}
 use Rattle.swi_board.proofs.Falls.{landed_small}
 use Rattle.std.proofs.lemmas.Bool.{cases_Bool}
 use Rattle.swi_image.specs.Place.{word_at}
@@ -42,7 +43,7 @@ returns-in-Jal-clause-near g c =
           let low = landed_small c.args.image.now (g.R.CacheRom.kept c.args.rom.now) _ _ (word_at c.args.image.now w.block (walk_offset w + 1)) k.index k.block (walk_offset k) k.stage
           (g.met.R.CacheRom.coherent _ _ _ s) (g.met.R.CacheRom.image _ _ _ s) (g.met.R.CacheRom.small _ _ _ s) (c.follow.ensures.step is c.args.hart.now.machine []).0 in
           omega (arith, low)
-      | inr is ↦ let low = c.requires.small in let e = ap (λ (j : Walk). walk_offset j) (c.follow.ensures.same is) in omega (arith, low, e)
+      | inr is ↦ let low = c.requires.room.offset in let e = ap (λ (j : Walk). walk_offset j) (c.follow.ensures.same is) in omega (arith, low, e)
     ]
 
 pub returns-else-is_stop : goal.returns-else-is_stop
@@ -52,14 +53,15 @@ returns-else-is_stop g c =
     let machine : c.hart.inside.machine ≡ c.args.hart.now.machine = ap (λ (h : HartData). h.machine) seen in
     let goes : is_stop c.execute-next.result ≡ false = sym c.is_stop.ensures ∙ c.if-is_stop.false in
     let left : Machine = record c.hart.inside.machine { regs = c.execute-next.new.regs; bus = c.execute-next.new.bus } in
-    let word = word_on c.execute-next.result w c.hart.inside.machine c.execute-next.new.regs c.execute-next.new.bus c.args.x.now goes c.requires.ahead (ap (λ (k : Machine). k.ending) machine ∙ c.requires.going)
-    (c.execute-next.ensures.stays goes) (c.execute-next.ensures.role goes) (c.execute-next.ensures.step goes) in
+    let role = subst (λ n. quick_role w.stage c.args.x.now (instruction (fetched c.hart.inside.machine.bus n)) ≡ role_by c.execute-next.result) c.pc.ensures (c.execute-next.ensures.role goes) in
+    let word = word_on c.execute-next.result w c.hart.inside.machine c.execute-next.new.regs c.execute-next.new.bus c.args.x.now goes c.requires.room.ahead (ap (λ (k : Machine). k.ending) machine ∙ c.requires.going)
+    (c.execute-next.ensures.stays goes) role (c.execute-next.ensures.step goes) in
     record {
       on = λ is. inl (subst (λ (k : Machine). WordOn (walk_machine w k) (walk_machine c.go.new.self left) (walk_control c.go.new.self) c.args.x.now w.index w.block (walk_offset w) w.stage) machine
           (subst (λ (k : Walk). WordOn (walk_machine w c.hart.inside.machine) (walk_machine k left) (walk_control k) c.args.x.now w.index w.block (walk_offset w) w.stage) (sym c.go.ensures) word));
-      ahead = subst (λ (k : Walk). k.from ≤ k.index) (sym c.go.ensures) (gone_ahead c.execute-next.result w c.requires.ahead);
-      short = subst (λ (k : Walk). k.pc < 2 ^ 32) (sym c.go.ensures) (gone_short c.execute-next.result w c.requires.short);
-      near = let up = subst (λ (k : Walk). walk_offset k ≤ walk_offset w + 3) (sym c.go.ensures) (gone_near c.execute-next.result w c.requires.ahead) in let low = c.requires.small in omega (arith, up, low);
+      counted = λ is. subst (λ (k : Walk). walk_count k ≡ walk_count w + 1) (sym c.go.ensures) (gone_counted c.execute-next.result w goes c.requires.room.ahead);
+      limited = λ is n to. subst (λ (k : Walk). WalksTo n k) (sym c.go.ensures) (gone_within c.execute-next.result w n c.requires.room.below to);
+      near = let up = subst (λ (k : Walk). walk_offset k ≤ walk_offset w + 3) (sym c.go.ensures) (gone_near c.execute-next.result w c.requires.room.ahead) in let low = c.requires.room.offset in omega (arith, up, low);
       same = λ none. absurd (cc);
       rest = ap (λ (h : HartData). record h { machine = record h.machine { regs = c.execute-next.new.regs; bus = c.execute-next.new.bus } }) seen;
     }

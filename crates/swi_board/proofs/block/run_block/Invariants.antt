@@ -1,16 +1,16 @@
 use Rattle.std.proofs.Common.{◌≡◌, ◌+◌, ◌-◌, ◌*◌, ◌≤◌, ◌<◌, ◌^◌, Ok, None}
 use Rattle.swi_board.specs.Runs.{most}
-use Rattle.swi_board.specs.Walked.{walk_control, walk_machine, walk_offset, Walked}
+use Rattle.swi_board.specs.Walked.{walk_control, walk_count, walk_machine, walk_offset, WalksTo, Walked}
 use Rattle.swi_board.proofs.block.run_block.Given as goal
 
 abbrev pub invariant-loop-walk : goal.invariant-loop-walk
 invariant-loop-walk g l = record {
   walked : Walked l.image (g.R.CacheRom.kept l.rom) l.limit l.fn.hart (g.M.CacheRam.state l.fn.ram)
-      (record l.hart { control = walk_control l.walk; machine = walk_machine l.walk l.hart.machine; count = l.count }) (g.M.CacheRam.state l.ram);
+      (record l.hart { control = walk_control l.walk; machine = walk_machine l.walk l.hart.machine; count = walk_count l.walk }) (g.M.CacheRam.state l.ram);
   sound : g.R.CacheRom.sound l.rom l.image (g.M.CacheRam.state l.ram).words;
   going : l.hart.machine.ending ≡ None;
-  ahead : l.walk.from ≤ l.walk.index;
-  short : l.walk.pc < 2 ^ 32;
+  to : WalksTo l.limit l.walk;
+  few : walk_count l.walk < 2 ^ 64;
   near : walk_offset l.walk ≤ 2 ^ 22 + 2;
   left : l.left ≡ Ok None;
 }

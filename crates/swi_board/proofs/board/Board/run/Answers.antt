@@ -112,6 +112,7 @@ run_block-requires g c =
       control = c.in-Some.ensures.control;
       sound = c.loop-hart.invariant.sound;
       few = c.requires.limit;
+      within = omega (arith, more);
       offset = (stands (g.R.CacheRom.policy (g.R.CacheRom.setting c.args.self.now.rom)) c.args.image.now c.args.n (g.R.CacheRom.span (g.R.CacheRom.setting c.args.self.now.rom)) c.args.self.now.hart (g.R.CacheRom.kept c.args.self.now.rom) (g.M.CacheRam.state c.args.ram.now) (g.I.Source.left c.args.input.now) (g.O.Sink.held c.args.out.now) (g.E.Sink.held c.args.err.now) c.requires.fits c.requires.limit (g.R.CacheRom.kept c.loop-hart.rom) (g.I.Source.left c.loop-hart.input) (g.O.Sink.held c.loop-hart.out) (g.E.Sink.held c.loop-hart.err) c.loop-hart.hart (g.M.CacheRam.state c.loop-hart.ram) coherent c.requires.count low image c.loop-hart.hart (g.M.CacheRam.state c.loop-hart.ram) begin more c.in-Some.at.0 c.in-Some.at.1 c.in-Some.at.2 c.in-Some.at.3 c.in-Some.ensures.control).offset;
       short = c.origin_pc-pc.ensures.word;
       inside = λ h ram walked below i b o stage control. stands (g.R.CacheRom.policy (g.R.CacheRom.setting c.args.self.now.rom)) c.args.image.now c.args.n (g.R.CacheRom.span (g.R.CacheRom.setting c.args.self.now.rom)) c.args.self.now.hart (g.R.CacheRom.kept c.args.self.now.rom) (g.M.CacheRam.state c.args.ram.now) (g.I.Source.left c.args.input.now) (g.O.Sink.held c.args.out.now) (g.E.Sink.held c.args.err.now) c.requires.fits c.requires.limit (g.R.CacheRom.kept c.loop-hart.rom) (g.I.Source.left c.loop-hart.input) (g.O.Sink.held c.loop-hart.out) (g.E.Sink.held c.loop-hart.err) c.loop-hart.hart (g.M.CacheRam.state c.loop-hart.ram) coherent c.requires.count low image h ram (walk (g.R.CacheRom.policy (g.R.CacheRom.setting c.args.self.now.rom)) c.args.image.now c.args.n (g.R.CacheRom.span (g.R.CacheRom.setting c.args.self.now.rom)) c.args.self.now.hart (g.R.CacheRom.kept c.args.self.now.rom) (g.M.CacheRam.state c.args.ram.now) (g.I.Source.left c.args.input.now) (g.O.Sink.held c.args.out.now) (g.E.Sink.held c.args.err.now) c.requires.fits c.requires.limit (g.R.CacheRom.kept c.loop-hart.rom) (g.I.Source.left c.loop-hart.input) (g.O.Sink.held c.loop-hart.out) (g.E.Sink.held c.loop-hart.err) c.loop-hart.hart (g.M.CacheRam.state c.loop-hart.ram) coherent begin h ram walked) below i b o stage control;
