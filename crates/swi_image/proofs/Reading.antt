@@ -5,7 +5,9 @@ use Rattle.std.proofs.lemmas.Bool.{cases_Bool, cases_eq}
 use Rattle.byteorder.specs.Endian.{little_number}
 use Rattle.swi_program.proofs.Words as words
 use Rattle.swi_image.specs.Words.{words_of}
-use Rattle.swi_image.specs.Checks.{first_from}
+use Rattle.swi_image.specs.Checks.{first_from, size_of}
+use Rattle.swi_image.specs.Kept.{HasSizes, IsHeader}
+use Rattle.swi_image.specs.declared.checks.Header.{Header}
 use Rattle.swi_image.specs.Format.{multiples, version_of, block_words_of, blocks_of, len_of, starts_of, ends_of, offsets_at, offsets_of}
 
 past : (xs : List ℕ) (i : ℕ) → length xs ≤ i → get_or xs i 0 ≡ 0
@@ -63,6 +65,22 @@ unfolding offsets_of
 offset_read w k within = get_part (offsets_at w) (len_of w) k w within
 
 pub ruleset tables = (start_read, end_read, end_made, offset_read)
+
+-- the tables lie among the words
+
+pub start_inside : (h : Header) (w : List ℕ) (i : ℕ) → IsHeader h w → HasSizes w → i < h.blocks → 6 + i < length w
+unfolding size_of
+start_inside h w i is s within = grind (arith, nat_tests, s.size, s.some, is.blocks)
+
+pub end_inside : (h : Header) (w : List ℕ) (i : ℕ) → IsHeader h w → HasSizes w → h.version ≡ 2 → i < h.blocks → 6 + h.blocks + i < length w
+unfolding size_of
+end_inside h w i is s two within = grind (arith, nat_tests, s.size, is.blocks, is.version)
+
+pub offset_inside : (h : Header) (w : List ℕ) (k : ℕ) → IsHeader h w → HasSizes w → k < h.len → h.offsets + k < length w
+unfolding size_of offsets_at
+offset_inside h w k is s within = grind (arith, nat_tests, s.size, is.blocks, is.version, is.len, is.offsets)
+
+
 
 -- a search for the first number that a test picks
 pub first_found : (test : ℕ → Bool) (i n : ℕ) → i < n → test i ≡ true → first_from test i (n - i) ≡ Some i

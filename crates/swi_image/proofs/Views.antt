@@ -7,7 +7,8 @@ use Rattle.swi_image.proofs.Reading.{or_parts, get_part, length_words}
 use Rattle.swi_image.specs.Words.{words_of, part}
 use Rattle.swi_image.specs.Format.{ImageData, image_of, image_of_words, pieces, version_of, block_words_of, blocks_of, len_of, starts_of, ends_of, offsets_at, offsets_of, body_of}
 use Rattle.swi_image.specs.Checks.{begin_of, length_of, is_end_wrong, size_of, is_offset_wrong, block_of, at_most, header_refusal, tables_refusal, first_refusal}
-use Rattle.swi_image.specs.Kept.{StartsRight, LengthsRight, OffsetsRight, HasSizes, IsAccepted}
+use Rattle.swi_image.specs.declared.checks.Header.{Header}
+use Rattle.swi_image.specs.Kept.{StartsRight, LengthsRight, OffsetsRight, HasSizes, IsAccepted, IsHeader}
 use Rattle.swi_image.specs.Sound.{IsImage}
 use Rattle.swi_image.specs.Place.{block_at, next_of, next_start, word_before, IsWordOf}
 use Rattle.swi_image.specs.Laws.{Ascends, ascends, block_inside}
@@ -273,6 +274,14 @@ seen_word w b o a within inside =
     let deep : get_or (drop (offsets_at w + len_of w) w) (begin + o) 0 ≡ get_or w (offsets_at w + len_of w + (begin + o)) 0 = get_or-drop (offsets_at w + len_of w) w (begin + o) 0 in
     let on : offsets_at w + len_of w + (begin + o) ≡ offsets_at w + len_of w + begin + o = omega arith in
     rw (piece, read, deep, on) refl
+
+-- a block's words lie among the words
+pub body_inside : (h : Header) (w : List ℕ) (b o : ℕ) → IsHeader h w → IsAccepted w → b < blocks_of w →
+    o < length (get_or (pieces 0 (ends_of w) (body_of w)) b []) → h.body + begin_of (ends_of w) b + o < length w
+unfolding body_of
+body_inside h w b o is a within inside =
+    let end = end_inside w a.sizes a.lengths b within in
+    omega (arith, is.body, seen_length w b a within, end, length-drop (offsets_at w + len_of w) w)
 
 pub ruleset views = (seen_blocks, seen_len, seen_inside, seen_length, seen_ordered, seen_word)
 

@@ -1,17 +1,20 @@
 -- What the checks of an image leave, check by check: what a view of accepted bytes keeps.
-use Rattle.std.specs.Prelude.{◌≡◌, ℕ, ◌^◌, ◌<◌, ◌≤◌, ◌⊎◌, false, List, length, None}
+use Rattle.std.specs.Prelude.{◌≡◌, ℕ, ◌+◌, ◌*◌, ◌^◌, ◌<◌, ◌≤◌, ◌⊎◌, false, List, length, None}
 use Rattle.swi_image.specs.declared.checks.Header.{Header}
 use Rattle.swi_image.specs.Words.{words_of}
-use Rattle.swi_image.specs.Format.{version_of, block_words_of, blocks_of, len_of, base_of, starts_of, ends_of, offsets_of}
+use Rattle.swi_image.specs.Format.{version_of, block_words_of, blocks_of, len_of, base_of, starts_of, ends_of, offsets_of, offsets_at}
 use Rattle.swi_image.specs.Checks.{first_refusal, size_of, is_start_wrong, is_end_wrong, is_offset_wrong}
 
--- the numbers of a header
+-- the numbers of a header, and the indexes that follow from them
 pub record IsHeader (h : Header) (w : List ℕ) : Type 0 where
   pub version : h.version ≡ version_of w
   pub block_words : h.block_words ≡ block_words_of w
   pub blocks : h.blocks ≡ blocks_of w
   pub len : h.len ≡ len_of w
   pub base : h.base ≡ base_of w
+  pub offsets : h.offsets ≡ offsets_at w
+  pub body : h.body ≡ offsets_at w + len_of w
+  pub few : h.offsets ≤ 6 + 2 * h.blocks
 
 -- after the checks of the header
 pub record HasSizes (w : List ℕ) : Type 0 where

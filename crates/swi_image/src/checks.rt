@@ -4,7 +4,7 @@
 ghost use Rattle.std.specs.Prelude.{◌⊎◌, IfSome, List, drop, ◌≡◌, ◌≤◌, ◌<◌, ◌+◌, ◌*◌, ◌^◌, ℕ, length, slice_index};
 ghost use Rattle.byteorder.specs.Endian.{little_number};
 ghost use Rattle.swi_image.specs.Words.{words_of};
-ghost use Rattle.swi_image.specs.Format.{block_words_of, len_of, starts_of, ends_of, offsets_of, offsets_at};
+ghost use Rattle.swi_image.specs.Format.{version_of, block_words_of, blocks_of, len_of, starts_of, ends_of, offsets_of, offsets_at};
 ghost use Rattle.swi_image.specs.Checks.{has_length, header_refusal, tables_refusal, size_of, first_wrong_start, first_wrong_end, first_wrong_offset, begin_of, is_start_wrong, is_end_wrong, is_offset_wrong, block_of};
 ghost use Rattle.swi_image.specs.Kept.{IsHeader, HasSizes, StartsRight};
 
@@ -17,7 +17,8 @@ pub(crate) const MAGIC: u32 = 0x3143_4953;
 /// How many text words there may be.
 const TEXT_LIMIT: u32 = 1 << 19;
 
-/// The numbers of an image's header.
+/// The numbers of an image's header, and what follows from them: the indexes of the first offset and of the blocks'
+/// first word, which each read of a table would else add up again.
 #[derive(Clone, Copy)]
 pub(crate) struct Header {
     pub version: u32,
@@ -25,21 +26,20 @@ pub(crate) struct Header {
     pub blocks: u32,
     pub len: u32,
     pub base: u32,
+    pub offsets: usize,
+    pub body: usize,
 }
 
-impl Header {
-    /// Where the offsets begin.
-    #[inline]
-    #[tactic(auto, unfolding(crate::specs::Format::offsets_at))]
-    pub fn offsets_at(&self) -> usize
-        ensures tables { (w : List ℕ) → IsHeader self.now w → result ≡ offsets_at w }
-        ensures small { result ≤ 6 + 2 * self.now.blocks }
-    {
-        if self.version == 2 {
-            6 + 2 * self.blocks as usize
-        } else {
-            6 + self.blocks as usize
-        }
+/// The index of the first offset.
+#[tactic(auto, unfolding(crate::specs::Format::offsets_at))]
+fn offsets_index(version: u32, blocks: u32) -> usize
+    ensures tables { (w : List ℕ) → version ≡ version_of w → blocks ≡ blocks_of w → result ≡ offsets_at w }
+    ensures small { result ≤ 6 + 2 * blocks }
+{
+    if version == 2 {
+        6 + 2 * blocks as usize
+    } else {
+        6 + blocks as usize
     }
 }
 
@@ -66,16 +66,32 @@ pub(crate) fn word_at(bytes: &[u8], i: usize) -> u32
     }
 }
 
+/// The i-th word, which is there.
+#[inline]
+#[tactic(auto, using(crate::proofs::Reading::reading, crate::proofs::Reading::length_words))]
+pub(crate) fn word_inside(bytes: &[u8], i: usize) -> u32
+    requires { i < length (words_of bytes.now) }
+    ensures { result ≡ slice_index (words_of bytes.now) i }
+{
+    number_at(bytes, 4 * i)
+}
+
 /// The header's numbers.
 pub(crate) fn header_of(bytes: &[u8]) -> Header
     ensures { IsHeader result (words_of bytes.now) }
 {
+    let version = word_at(bytes, 1);
+    let blocks = word_at(bytes, 3);
+    let len = word_at(bytes, 4);
+    let offsets = offsets_index(version, blocks);
     Header {
-        version: word_at(bytes, 1),
+        version,
         block_words: word_at(bytes, 2),
-        blocks: word_at(bytes, 3),
-        len: word_at(bytes, 4),
+        blocks,
+        len,
         base: word_at(bytes, 5),
+        offsets,
+        body: offsets + len as usize,
     }
 }
 
@@ -89,11 +105,10 @@ fn size_of(bytes: &[u8], h: &Header) -> usize
     ensures small { result < 2 ^ 40 }
 {
     let blocks = h.blocks as usize;
-    let tables = h.offsets_at() + h.len as usize;
     if h.version == 2 {
-        tables + word_at(bytes, 5 + 2 * blocks) as usize
+        h.body + word_at(bytes, 5 + 2 * blocks) as usize
     } else {
-        tables + blocks * h.block_words as usize
+        h.body + blocks * h.block_words as usize
     }
 }
 
@@ -138,9 +153,10 @@ pub(crate) fn header_refusal(bytes: &[u8], h: &Header) -> Option<ImageRefusal>
 pub(crate) fn start_at(bytes: &[u8], h: &Header, i: u32) -> u32
     requires header { IsHeader h.now (words_of bytes.now) }
     requires within { i < h.now.blocks }
+    requires sizes { HasSizes (words_of bytes.now) }
     ensures { result ≡ slice_index (starts_of (words_of bytes.now)) i }
 {
-    word_at(bytes, 6 + i as usize)
+    word_inside(bytes, 6 + i as usize)
 }
 
 /// The end of a block.
@@ -154,7 +170,7 @@ pub(crate) fn end_at(bytes: &[u8], h: &Header, i: u32) -> usize
     ensures small { result < 2 ^ 32 }
 {
     if h.version == 2 {
-        word_at(bytes, 6 + h.blocks as usize + i as usize) as usize
+        word_inside(bytes, 6 + h.blocks as usize + i as usize) as usize
     } else {
         h.block_words as usize * (i as usize + 1)
     }
@@ -178,9 +194,10 @@ pub(crate) fn begin_at(bytes: &[u8], h: &Header, i: u32) -> usize
 pub(crate) fn offset_at(bytes: &[u8], h: &Header, k: u32) -> u32
     requires header { IsHeader h.now (words_of bytes.now) }
     requires within { k < h.now.len }
+    requires sizes { HasSizes (words_of bytes.now) }
     ensures { result ≡ slice_index (offsets_of (words_of bytes.now)) k }
 {
-    word_at(bytes, h.offsets_at() + k as usize)
+    word_inside(bytes, h.offsets + k as usize)
 }
 
 /// Whether a start is not 0 for the first, not above the one before for another, or past the text.
@@ -188,6 +205,7 @@ pub(crate) fn offset_at(bytes: &[u8], h: &Header, k: u32) -> u32
 fn is_start_wrong(bytes: &[u8], h: &Header, i: u32) -> bool
     requires header { IsHeader h.now (words_of bytes.now) }
     requires within { i < h.now.blocks }
+    requires sizes { HasSizes (words_of bytes.now) }
     ensures { result ≡ is_start_wrong (len_of (words_of bytes.now)) (starts_of (words_of bytes.now)) i }
 {
     let start = start_at(bytes, h, i);
@@ -203,6 +221,7 @@ fn is_start_wrong(bytes: &[u8], h: &Header, i: u32) -> bool
 #[tactic(auto, using(crate::proofs::Reading::first_steps))]
 fn first_wrong_start(bytes: &[u8], h: &Header) -> Option<u32>
     requires header { IsHeader h.now (words_of bytes.now) }
+    requires sizes { HasSizes (words_of bytes.now) }
     ensures first { result ≡ first_wrong_start (words_of bytes.now) }
     ensures within { IfSome result (λ i. i < h.now.blocks) }
 {
@@ -322,7 +341,7 @@ pub(crate) fn tables_refusal(bytes: &[u8], h: &Header) -> Option<ImageRefusal>
         }
     }
     if let Some(k) = first_wrong_offset(bytes, h) {
-        return Some(ImageRefusal::Offsets(h.offsets_at() as u32 + k));
+        return Some(ImageRefusal::Offsets(h.offsets as u32 + k));
     }
     None
 }

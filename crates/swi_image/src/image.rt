@@ -9,7 +9,7 @@ ghost use Rattle.swi_image.specs.Sound.{IsImage};
 
 use crate::checks::{
     Header, begin_at, end_at, header_of, header_refusal, offset_at, start_at, tables_refusal,
-    word_at,
+    word_inside,
 };
 use crate::refusal::ImageRefusal;
 use crate::steps::Steps;
@@ -204,9 +204,8 @@ impl<'a> ImageView<'a> {
         requires offset { offset < length (block_at self.now block) }
         ensures { result ≡ slice_index (block_at self.now block) offset }
     {
-        let body = self.header.offsets_at() + self.header.len as usize;
         let begin = begin_at(self.bytes, &self.header, block);
-        word_at(self.bytes, body + begin + offset as usize)
+        word_inside(self.bytes, self.header.body + begin + offset as usize)
     }
 
     /// The block of a text word, by halving: each step leaves half the blocks at most.
