@@ -21,6 +21,7 @@ pub struct Text {
 
 /// The word that stands at a text word's address.
 #[inline(always)]
+#[tactic(auto, using(crate::proofs::Texts::word))]
 pub fn fetch(banks: &[Bank], text: &Text, a: u32) -> Option<u32>
     requires order { AreInOrder (areas banks.now) }
     requires text { IsText (areas banks.now) text.now }
@@ -35,6 +36,7 @@ pub fn fetch(banks: &[Bank], text: &Text, a: u32) -> Option<u32>
 
 /// Whether one of n bytes from the address on is a text word's.
 #[inline(always)]
+#[tactic(auto, using(crate::proofs::Texts::touches))]
 pub fn is_touched(text: &Text, a: u32, n: u32) -> bool
     ensures { (bus : List AreaData) → IsText bus text.now → result ≡ touches_text bus a n }
 {
@@ -68,6 +70,7 @@ fn text_in(bank: &Bank, place: usize) -> Text
 }
 
 /// Where the text words of the banks lie.
+#[tactic(auto, using(crate::proofs::Looks::bank_end, crate::proofs::Looks::bank_place))]
 pub fn find_text(banks: &[Bank]) -> Text
     requires order { AreInOrder (areas banks.now) }
     requires one { HasOne (areas banks.now) }
