@@ -14,12 +14,13 @@ use swi_memory::Bus;
 #[inline(always)]
 #[tactic(auto, unfolding(swi_calls::specs::Flat::made))]
 fn execute(pc: u32, regs: &mut Regs, bus: &mut Bus) -> Option<u32>
+    requires { pc % 4 ≡ 0 }
     ensures step { IfSome result (λ next. GoesOnAt pc regs.old bus.old next regs.new bus.new) }
     ensures aligned { IfSome result (λ next. next % 4 ≡ 0) }
     ensures same_regs { result ≡ None → regs.new ≡ regs.old }
     ensures same_bus { result ≡ None → bus.new ≡ bus.old }
 {
-    let Some(word) = bus.fetch(pc) else {
+    let Some(word) = bus.fetch_aligned(pc) else {
         return None;
     };
     let Some(instruction) = decode(word) else {

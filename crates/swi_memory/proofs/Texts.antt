@@ -11,13 +11,13 @@ use Rattle.swi_memory.proofs.Accesses.{Within, number_within}
 use Rattle.swi_memory.proofs.Looks.{InPlace, area_at, in_place}
 
 -- a text word, in the bank that the text is in
-pub record Word (bus : List AreaData) (b : Bank) (a : ℕ) : Type 0 where
-  pub from : b.base ≤ a
-  pub end : a + 4 ≤ b.base + length b.bytes.items
-  pub value : Some (number_in b.bytes.items (a - b.base) 4) ≡ fetched bus a
+pub record Word (bus : List AreaData) (b : Bank) (at a : ℕ) : Type 0 where
+  pub end : at + 4 ≤ length b.bytes.items
+  pub value : Some (number_in b.bytes.items at 4) ≡ fetched bus a
 
 -- the address is as far behind the text's start as the code computes it
-pub word_there : (banks : List Bank) (t : Text) (b : Bank) (a : ℕ) → AreInOrder (areas banks) → IsText (areas banks) t → b ≡ get_or banks t.bank b → a < 2 ^ 32 → a % 4 ≡ 0 → (a + (2 ^ 32 - t.from)) % 2 ^ 32 < t.len → Word (areas banks) b a
+pub word_there : (banks : List Bank) (t : Text) (b : Bank) (a : ℕ) → AreInOrder (areas banks) → IsText (areas banks) t → b ≡ get_or banks t.bank b → a < 2 ^ 32 → a % 4 ≡ 0 → (a + (2 ^ 32 - t.from)) % 2 ^ 32 < t.len →
+    Word (areas banks) b (t.skipped + (a + (2 ^ 32 - t.from)) % 2 ^ 32) a
 word_there banks t b a order text is small aligned near =
     let at : area b ≡ get_or (areas banks) t.bank (area b) = area_at banks t.bank b is in
     let lies : InArea (area b) t = subst (λ s. InArea s t) (sym at) (text.area (omega arith) (area b)) in
@@ -26,15 +26,15 @@ word_there banks t b a order text is small aligned near =
     let from : t.from ≤ a = omega (arith, lies.end, place.end) in
     let end : a + 4 ≤ t.from + t.len = omega (arith, text.first, text.whole) in
     let range : Within (areas banks) t.bank (area b) a 4 = record { order = order; bound = bound; is = at; from = omega (arith, lies.from); end = omega (arith, lies.end) } in
-    record { from = range.from; end = range.end; value = grind (arith, nat_tests, text.words a, number_within (areas banks) t.bank (area b) a 4 range) }
+    let behind : t.skipped + (a + (2 ^ 32 - t.from)) % 2 ^ 32 ≡ a - b.base = omega (arith, lies.from) in
+    let value : Some (number_in b.bytes.items (a - b.base) 4) ≡ fetched (areas banks) a = grind (arith, nat_tests, text.words a, number_within (areas banks) t.bank (area b) a 4 range) in
+    record { end = omega (arith, range.from, range.end, behind); value = rw behind value }
 
-pub word_from : (banks : List Bank) (t : Text) (b : Bank) (a : ℕ) → AreInOrder (areas banks) → IsText (areas banks) t → b ≡ get_or banks t.bank b → a < 2 ^ 32 → a % 4 ≡ 0 → (a + (2 ^ 32 - t.from)) % 2 ^ 32 < t.len → b.base ≤ a
-word_from banks t b a order text is small aligned near = (word_there banks t b a order text is small aligned near).from
+pub word_end : (banks : List Bank) (t : Text) (b : Bank) (a : ℕ) → AreInOrder (areas banks) → IsText (areas banks) t → b ≡ get_or banks t.bank b → a < 2 ^ 32 → a % 4 ≡ 0 → (a + (2 ^ 32 - t.from)) % 2 ^ 32 < t.len →
+    t.skipped + (a + (2 ^ 32 - t.from)) % 2 ^ 32 + 4 ≤ length b.bytes.items
+word_end banks t b a order text is small aligned near = (word_there banks t b a order text is small aligned near).end
 
-pub word_end : (banks : List Bank) (t : Text) (b : Bank) (a : ℕ) → AreInOrder (areas banks) → IsText (areas banks) t → b ≡ get_or banks t.bank b → a < 2 ^ 32 → a % 4 ≡ 0 → (a + (2 ^ 32 - t.from)) % 2 ^ 32 < t.len → a - b.base + 4 ≤ length b.bytes.items
-word_end banks t b a order text is small aligned near = let w = word_there banks t b a order text is small aligned near in omega (arith, w.from, w.end)
-
-pub ruleset word = (word_there, word_from, word_end)
+pub ruleset word = (word_there, word_end)
 
 -- a word within the text is one of its words, by any of its bytes
 word_of : (bus : List AreaData) (t : Text) (a : ℕ) → IsText bus t → is_text_word bus (a / 4 * 4) ≡ (nat_le t.from a && nat_lt a (t.from + t.len))

@@ -103,6 +103,16 @@ impl Bus {
         text::fetch(&self.banks, &self.text, a)
     }
 
+    /// The text word that stands now at the address, a multiple of 4, as `fetch` gives it: so who knows that it is one
+    /// need not have it tested. None exactly where no text word stands.
+    #[inline(always)]
+    pub fn fetch_aligned(&self, a: u32) -> Option<u32>
+        requires { a % 4 ≡ 0 }
+        ensures { result ≡ fetched self.now a }
+    {
+        text::fetch_aligned(&self.banks, &self.text, a)
+    }
+
     /// Whether each of the `n` bytes from the address on can be read. Of no byte, true.
     pub fn readable(&self, a: u32, n: u32) -> bool
         ensures { result ≡ holds self.now Read a n }
