@@ -33,7 +33,7 @@ fn execute(pc: u32, regs: &mut Regs, bus: &mut Bus) -> Option<u32>
 }
 
 /// Steps up to `limit`, or to the first that is a call, a break or a fault, which is not made. Nothing but the
-/// instructions stands in this loop, so pc and the count of steps stay in registers.
+/// instructions stands in this loop, so pc and the count of the steps that are left stay in registers.
 #[inline(never)]
 pub fn advance(machine: &mut Machine, limit: u64)
     requires going { machine.old.ending ≡ None }
@@ -47,14 +47,14 @@ pub fn advance(machine: &mut Machine, limit: u64)
     ensures no_fewer { machine.old.steps ≤ machine.new.steps }
 {
     let mut pc = machine.pc;
-    let mut steps = machine.steps;
-    while steps < limit {
+    let mut left = limit - machine.steps;
+    while left > 0 {
         let Some(next) = execute(pc, &mut machine.regs, &mut machine.bus) else {
             break;
         };
         pc = next;
-        steps += 1;
+        left -= 1;
     }
     machine.pc = pc;
-    machine.steps = steps;
+    machine.steps = limit - left;
 }
