@@ -14,12 +14,13 @@ use swi_memory::Bus;
 #[inline(always)]
 #[tactic(auto, unfolding(swi_calls::specs::Flat::made))]
 fn execute(pc: u32, regs: &mut Regs, bus: &mut Bus) -> Option<u32>
+    requires { pc % 4 ≡ 0 }
     ensures step { IfSome result (λ next. GoesOnAt pc regs.old bus.old next regs.new bus.new) }
     ensures aligned { IfSome result (λ next. next % 4 ≡ 0) }
     ensures same_regs { result ≡ None → regs.new ≡ regs.old }
     ensures same_bus { result ≡ None → bus.new ≡ bus.old }
 {
-    let Some(word) = bus.fetch(pc) else {
+    let Some(word) = bus.fetch_aligned(pc) else {
         return None;
     };
     let Some(instruction) = decode(word) else {
@@ -32,7 +33,7 @@ fn execute(pc: u32, regs: &mut Regs, bus: &mut Bus) -> Option<u32>
 }
 
 /// Steps up to `limit`, or to the first that is a call, a break or a fault, which is not made. Nothing but the
-/// instructions stands in this loop, so pc and the count of steps stay in registers.
+/// instructions stands in this loop, so pc and the count of the steps that are left stay in registers.
 #[inline(never)]
 pub fn advance(machine: &mut Machine, limit: u64)
     requires going { machine.old.ending ≡ None }
@@ -46,14 +47,14 @@ pub fn advance(machine: &mut Machine, limit: u64)
     ensures no_fewer { machine.old.steps ≤ machine.new.steps }
 {
     let mut pc = machine.pc;
-    let mut steps = machine.steps;
-    while steps < limit {
+    let mut left = limit - machine.steps;
+    while left > 0 {
         let Some(next) = execute(pc, &mut machine.regs, &mut machine.bus) else {
             break;
         };
         pc = next;
-        steps += 1;
+        left -= 1;
     }
     machine.pc = pc;
-    machine.steps = steps;
+    machine.steps = limit - left;
 }

@@ -1,7 +1,6 @@
 -- The areas of a bus at the start are in order, and one of them at most can be executed.
-use Rattle.std.proofs.Common.{◌≡◌, ℕ, ◌+◌, ◌-◌, ◌<◌, ◌≤◌, ◌^◌, ◌==◌, inl, inr, List, [], ◌∷◌, ◌++◌, length, map, replicate, nat_lt, if◌then◌else◌, arith, refl, ap, length-append}
+use Rattle.std.proofs.Common.{◌≡◌, ℕ, ◌+◌, ◌-◌, ◌<◌, ◌≤◌, ◌^◌, inl, inr, List, [], ◌∷◌, ◌++◌, length, map, replicate, if◌then◌else◌, arith, refl, ap, length-append}
 use Rattle.std.specs.List.{insert}
-use Rattle.std.proofs.lemmas.Bool.{cases_Bool, ltb-true}
 use Rattle.std.proofs.lemmas.Bool.Decides.{nat_tests}
 use Rattle.std.proofs.lemmas.List.{length-replicate}
 use Rattle.swi_memory.specs.declared.bank.Bank.{Bank}
@@ -16,11 +15,7 @@ use Rattle.swi_memory.specs.Views.{area, areas}
 -- a bank put at its place
 pub placed_banks : (banks : List Bank) (b : Bank) → areas (insert banks (place_in (areas banks) b.base) b) ≡ placed (areas banks) (area b)
 placed_banks [] b = refl
-placed_banks (x ∷ rest) b =
-    elim (cases_Bool (nat_lt b.base x.base)) [
-      | inl before ↦ rw before refl
-      | inr behind ↦ rw behind (ap (λ l. area x ∷ l) (placed_banks rest b))
-    ]
+placed_banks (x ∷ rest) b = grind (arith, nat_tests, placed_banks rest b)
 
 abbrev range_at : AreaData → Range
 range_at s = record { base = s.base; size = length s.bytes }
@@ -36,19 +31,6 @@ clear_sym r s (inr (inl h)) = inl h
 clear_sym r s (inr (inr (inl h))) = inr (inr (inr h))
 clear_sym r s (inr (inr (inr h))) = inr (inr (inl h))
 
--- of two ranges with bytes that are clear, the one with the lower base ends before the other
-clear_below : (r s : Range) → IsClear r s → 0 < r.size → 0 < s.size → r.base < s.base → r.base + r.size ≤ s.base
-clear_below r s (inl h) some_r some_s low = absurd (omega arith)
-clear_below r s (inr (inl h)) some_r some_s low = absurd (omega arith)
-clear_below r s (inr (inr (inl h))) some_r some_s low = h
-clear_below r s (inr (inr (inr h))) some_r some_s low = absurd (omega arith)
-
-clear_above : (r s : Range) → IsClear r s → 0 < r.size → 0 < s.size → s.base ≤ r.base → s.base + s.size ≤ r.base
-clear_above r s (inl h) some_r some_s high = absurd (omega arith)
-clear_above r s (inr (inl h)) some_r some_s high = absurd (omega arith)
-clear_above r s (inr (inr (inl h))) some_r some_s high = absurd (omega arith)
-clear_above r s (inr (inr (inr h))) some_r some_s high = h
-
 -- an area with bytes, of which some came from a file, below 2 ^ 32
 pub record IsWhole (s : AreaData) : Type 0 where
   pub file_size : s.file_size ≤ length s.bytes
@@ -57,25 +39,11 @@ pub record IsWhole (s : AreaData) : Type 0 where
 order_placed : (from : ℕ) (made : List AreaData) (s : AreaData) → AreInOrderFrom from made → from ≤ s.base → 0 < length s.bytes → IsWhole s → IsClearOf (range_at s) (map range_at made) → AreInOrderFrom from (placed made s)
 order_placed from [] s order behind some whole clear = (behind, some, whole.file_size, whole.end)
 order_placed from (t ∷ rest) s order behind some whole clear =
-    elim (cases_Bool (nat_lt s.base t.base)) [
-      | inl before ↦
-          let end : s.base + length s.bytes ≤ t.base = clear_below (range_at s) (range_at t) clear.0 some order.1 (ltb-true s.base t.base before) in
-          let now : AreInOrderFrom from (s ∷ (t ∷ rest)) = (behind, some, whole.file_size, (end, order.1, order.2, order.3)) in
-          rw before now
-      | inr after ↦
-          let high : t.base ≤ s.base = grind (arith, nat_tests) in
-          let end : t.base + length t.bytes ≤ s.base = clear_above (range_at s) (range_at t) clear.0 some order.1 high in
-          let now : AreInOrderFrom from (t ∷ placed rest s) = (order.0, order.1, order.2, order_placed (t.base + length t.bytes) rest s order.3 end some whole clear.1) in
-          rw after now
-    ]
+    grind (arith, nat_tests, order.0, order.1, order.2, order.3, clear.0, whole.file_size, λ (end : t.base + length t.bytes ≤ s.base). order_placed (t.base + length t.bytes) rest s order.3 end some whole clear.1)
 
 clear_of_placed : (r : Range) (made : List AreaData) (s : AreaData) → IsClearOf r (map range_at made) → IsClear r (range_at s) → IsClearOf r (map range_at (placed made s))
 clear_of_placed r [] s made_clear clear = (clear, tt)
-clear_of_placed r (t ∷ rest) s made_clear clear =
-    elim (cases_Bool (nat_lt s.base t.base)) [
-      | inl before ↦ let now : IsClearOf r (map range_at (s ∷ (t ∷ rest))) = (clear, made_clear) in rw before now
-      | inr after ↦ let now : IsClearOf r (map range_at (t ∷ placed rest s)) = (made_clear.0, clear_of_placed r rest s made_clear.1 clear) in rw after now
-    ]
+clear_of_placed r (t ∷ rest) s made_clear clear = grind (arith, nat_tests, made_clear.0, made_clear.1, clear_of_placed r rest s made_clear.1 clear)
 
 clear_placed : (made : List AreaData) (s : AreaData) (rest : List Range) → AreClear made rest → IsClearOf (range_at s) rest → AreClear (placed made s) rest
 clear_placed made s [] clear apart = tt
@@ -88,19 +56,10 @@ record Ready (made : List AreaData) (rest : List Range) : Type 0 where
   clear : AreClear made rest
 
 ready_more : (made : List AreaData) (s : AreaData) (rest : List Range) → Ready made (range_at s ∷ rest) → AreApart (range_at s ∷ rest) → IsWhole s → Ready (with_area made s) rest
-ready_more made s rest ready apart whole =
-    elim (cases_Bool (length s.bytes == 0)) [
-      | inl none ↦
-          let now : Ready made rest = record { order = ready.order; clear = ready.clear.1 } in
-          rw none now
-      | inr some ↦
-          let positive : 0 < length s.bytes = grind (arith, nat_tests) in
-          let now : Ready (placed made s) rest = record {
-            order = order_placed 0 made s ready.order (omega arith) positive whole ready.clear.0;
-            clear = clear_placed made s rest ready.clear.1 apart.0;
-          } in
-          rw some now
-    ]
+ready_more made s rest ready apart whole = record {
+  order = grind (arith, nat_tests, ready.order, λ (some : 0 < length s.bytes). order_placed 0 made s ready.order (omega arith) some whole ready.clear.0);
+  clear = grind (arith, nat_tests, ready.clear.1, clear_placed made s rest ready.clear.1 apart.0);
+}
 
 abbrev pub AllWhole : List AreaData → Type 0
 AllWhole [] = Unit {0}
@@ -122,7 +81,7 @@ parts segments l = map area_of segments ++ region l.heap l.heap_len ∷ region l
 length_zeros : (n : ℕ) → length (replicate {A = ℕ} n 0) ≡ n
 length_zeros n = length-replicate {A = ℕ} n 0
 
-pub size_of_segment : (s : SegmentData) → length s.bytes ≤ s.size → length (s.bytes ++ replicate (s.size - length s.bytes) 0) ≡ s.size
+size_of_segment : (s : SegmentData) → length s.bytes ≤ s.size → length (s.bytes ++ replicate (s.size - length s.bytes) 0) ≡ s.size
 size_of_segment s short = omega (arith, length-append s.bytes (replicate (s.size - length s.bytes) 0), length_zeros (s.size - length s.bytes))
 
 ranges_are : (segments : List SegmentData) (l : Layout) → AreWhole segments → map range_at (parts segments l) ≡ ranges segments l
@@ -146,21 +105,10 @@ bus_in_order segments l whole apart heap stack =
 -- how many areas can be executed
 ones_placed : (made : List AreaData) (s : AreaData) → executables (placed made s) ≡ executables (s ∷ made)
 ones_placed [] s = refl
-ones_placed (t ∷ rest) s =
-    elim (cases_Bool (nat_lt s.base t.base)) [
-      | inl before ↦ rw before refl
-      | inr after ↦
-          let later : executables (placed rest s) ≡ executables (s ∷ rest) = ones_placed rest s in
-          let now : executables (t ∷ placed rest s) ≡ executables (s ∷ (t ∷ rest)) = omega (arith, later) in
-          rw after now
-    ]
+ones_placed (t ∷ rest) s = grind (arith, nat_tests, ones_placed rest s)
 
 pub ones_with : (made : List AreaData) (s : AreaData) → executables (with_area made s) ≤ executables (s ∷ made)
-ones_with made s =
-    elim (cases_Bool (length s.bytes == 0)) [
-      | inl none ↦ rw none (omega arith)
-      | inr some ↦ rw some (omega (arith, ones_placed made s))
-    ]
+ones_with made s = grind (arith, nat_tests, ones_placed made s)
 
 ones_all : (made rest : List AreaData) → executables (with_areas made rest) ≤ executables made + executables rest
 ones_all made [] = omega arith

@@ -2,7 +2,6 @@ pub mod Accesses
 pub mod Fronts
 pub mod Gathered
 pub mod Looks
-pub mod Shapes
 pub mod StartText
 pub mod Texts
 pub mod Written

@@ -59,10 +59,14 @@ abbrev pub with_bytes : List AreaData → ℕ → List ℕ → List AreaData
 with_bytes bus a [] = bus
 with_bytes bus a (b ∷ bytes) = with_bytes (with_byte bus a b) (a + 1) bytes
 
+-- the lowest n bytes of a number, the lowest first
+abbrev pub lowest : ℕ → ℕ → List ℕ
+lowest zero v = []
+lowest (suc n) v = v % 256 ∷ lowest n (v / 256)
+
 -- the bus with the lowest n bytes of v from a on, the lowest first
 abbrev pub stored : List AreaData → ℕ → ℕ → ℕ → List AreaData
-stored bus a zero v = bus
-stored bus a (suc n) v = stored (with_byte bus a (v % 256)) (a + 1) n (v / 256)
+stored bus a n v = with_bytes bus a (lowest n v)
 
 -- the numbers of bytes that a load or a store takes
 abbrev pub IsSize : ℕ → Type 0

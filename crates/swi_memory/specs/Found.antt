@@ -1,9 +1,9 @@
 -- Where the areas of a bus are found, and numbers in the bytes of one of them, for the contracts
 -- between the parts of this crate. Own rule.
-use Rattle.std.specs.Prelude.{◌≡◌, ℕ, ◌+◌, ◌-◌, ◌/◌, ◌%◌, ◌<◌, ◌≤◌, zero, suc, true, false, List, [], ◌∷◌, length, slice_set}
+use Rattle.std.specs.Prelude.{◌≡◌, ℕ, ◌-◌, ◌<◌, ◌≤◌, true, false, List, [], ◌∷◌, length}
 use Rattle.std.proofs.Common.{get_or}
 use Rattle.swi_memory.specs.declared.bank.Bank.{Bank}
-use Rattle.swi_memory.specs.Bus.{AreaData, Right, grants, is_in}
+use Rattle.swi_memory.specs.Bus.{AreaData, Right, bytes_at, front_of, grants, is_in}
 use Rattle.swi_memory.specs.Views.{area}
 
 -- no area has a byte at the address
@@ -21,7 +21,9 @@ pub record HasAll (banks : List Bank) (right : Right) (a n i : ℕ) : Type 0 whe
   pub room : (d : Bank) → n ≤ length (get_or banks i d).bytes.items - (a - (get_or banks i d).base)
   pub granted : (d : Bank) → grants right (get_or banks i d).flags ≡ true
 
--- the bytes with the lowest n bytes of v from a place on, the lowest first
-abbrev pub put_in : List ℕ → ℕ → ℕ → ℕ → List ℕ
-put_in bytes at zero v = bytes
-put_in bytes at (suc n) v = put_in (slice_set bytes at (v % 256)) (at + 1) n (v / 256)
+-- the front of a range of bytes that can be read
+pub record Front (bus : List AreaData) (a n : ℕ) (front : List ℕ) : Type 0 where
+  pub value : front ≡ front_of bus a n
+  pub some : 0 < length front
+  pub short : length front ≤ n
+  pub bytes : front ≡ bytes_at bus a (length front)

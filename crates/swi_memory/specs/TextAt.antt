@@ -15,7 +15,7 @@ HasOne bus = executables bus ≤ 1
 
 -- the area that the text is in
 pub record InArea (s : AreaData) (t : Text) : Type 0 where
-  pub from : s.base ≤ t.from
+  pub from : s.base + t.skipped ≡ t.from
   pub end : t.from + t.len ≤ s.base + length s.bytes
 
 -- the text words are those of a range of whole words, which lies in one area

@@ -30,6 +30,7 @@ fn is_here(bank: &Bank, a: u32) -> bool
 /// The place of the bank that has a byte at the address. The last banks, which are the stack and the
 /// heap, are asked for most, and are looked at first.
 #[inline(always)]
+#[tactic(auto, using(crate::proofs::Looks::bank_end))]
 pub fn find(banks: &[Bank], a: u32) -> Option<usize>
     requires { AreInOrder (areas banks.now) }
     ensures { MatchOption result
@@ -57,6 +58,7 @@ fn has_all(bank: &Bank, a: u32, n: u8) -> bool
 /// The place of the bank that has all `n` bytes from the address on and grants the right; None also where
 /// several banks have them. So an access asks for one bank alone, and what is rare is left to the caller.
 #[inline(always)]
+#[tactic(auto, using(crate::proofs::Looks::bank_end))]
 pub fn find_all(banks: &[Bank], right: Right, a: u32, n: u8) -> Option<usize>
     requires order { AreInOrder (areas banks.now) }
     requires size { IsSize n }

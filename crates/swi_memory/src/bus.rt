@@ -48,6 +48,7 @@ impl Bus {
     /// stack. No two of the segments and regions share an address, none ends past 2^32, and one segment
     /// at most can be executed. Memory where there is not enough memory, or where more areas than
     /// 2^32 - 1 are asked for.
+    #[tactic(auto, using(crate::proofs::StartText::start))]
     pub fn new(alloc: Global, segments: &[Segment<'_>], l: &Layout) -> Result<Bus, Memory>
         requires apart { AreApart (ranges segments.now l.now) }
         requires heap_end { l.now.heap + l.now.heap_len ≤ 2 ^ 32 }
@@ -80,6 +81,7 @@ impl Bus {
     /// one of them cannot be written, and then nothing changes. Rights stay, and where none of the bytes is
     /// a text word's, so does what is fetched.
     #[inline(always)]
+    #[tactic(auto, using(crate::proofs::Written::same_rights, crate::proofs::Written::same_text))]
     pub fn store(&mut self, a: u32, k: u8, v: u32) -> Result<(), Access>
         requires { IsSize k }
         ensures ok { OnOk result (holds self.old Write a k ≡ true) }
@@ -99,6 +101,16 @@ impl Bus {
         ensures aligned { IfSome result (λ _. a % 4 ≡ 0) }
     {
         text::fetch(&self.banks, &self.text, a)
+    }
+
+    /// The text word that stands now at the address, a multiple of 4, as `fetch` gives it: so who knows that it is one
+    /// need not have it tested. None exactly where no text word stands.
+    #[inline(always)]
+    pub fn fetch_aligned(&self, a: u32) -> Option<u32>
+        requires { a % 4 ≡ 0 }
+        ensures { result ≡ fetched self.now a }
+    {
+        text::fetch_aligned(&self.banks, &self.text, a)
     }
 
     /// Whether each of the `n` bytes from the address on can be read. Of no byte, true.
@@ -141,6 +153,7 @@ impl Bus {
     /// Puts the bytes of `piece`, at most 2^26 of them, from the address on. Access exactly where one
     /// of them cannot be written, and then nothing changes. Rights stay, and where none of the bytes is a
     /// text word's, so does what is fetched.
+    #[tactic(auto, using(crate::proofs::Written::same_rights, crate::proofs::Written::same_text))]
     pub fn copy_in(&mut self, a: u32, piece: &[u8]) -> Result<(), Access>
         requires { length piece.now ≤ 2 ^ 26 }
         ensures ok { OnOk result (holds self.old Write a (length piece.now) ≡ true) }

@@ -39,6 +39,7 @@ fn copy_across(banks: &mut [Bank], a: u32, piece: &[u8]) -> Result<(), Access>
 }
 
 /// Puts the bytes from the address on. A refusal changes nothing.
+#[tactic(auto, using(crate::proofs::Accesses::holds_none))]
 pub fn copy_in(banks: &mut [Bank], a: u32, piece: &[u8]) -> Result<(), Access>
     requires order { AreInOrder (areas banks.old) }
     requires short { length piece.now ≤ 2 ^ 26 }

@@ -43,6 +43,7 @@ fn place_for(banks: &[Bank], base: u32) -> usize
 }
 
 /// Puts a bank at its place in the order, but leaves one without bytes out.
+#[tactic(auto, using(crate::proofs::Gathered::placed_banks))]
 fn place(banks: &mut Vec<Bank>, bank: Bank) -> Result<(), Memory>
     ensures { OnOk result (areas banks.new.items ≡ with_area (areas banks.old.items) (area bank)) }
 {

@@ -34,6 +34,7 @@ pub fn number(bytes: &[u8], at: usize, k: u8) -> u32
 }
 
 /// The byte at the address, where it may be read.
+#[tactic(auto, using(crate::proofs::Looks::read))]
 fn read_byte(banks: &[Bank], a: u32) -> Option<u8>
     requires { AreInOrder (areas banks.now) }
     ensures { MatchOption result
@@ -91,6 +92,7 @@ fn load_across(banks: &[Bank], a: u32, k: u8) -> Result<u32, Access>
 
 /// The number of k bytes at the address, the lowest first.
 #[inline(always)]
+#[tactic(auto, using(crate::proofs::Accesses::loaded_found))]
 pub fn load(banks: &[Bank], a: u32, k: u8) -> Result<u32, Access>
     requires order { AreInOrder (areas banks.now) }
     requires size { IsSize k }

@@ -1,14 +1,16 @@
 //! Ranges of bytes.
 #![tactic(auto)]
 
-ghost use Rattle.std.specs.Prelude.{◌≡◌};
-ghost use Rattle.swi_memory.specs.Bus.{AreInOrder, front_of, holds};
+ghost use Rattle.std.specs.Prelude.{◌≡◌, ◌<◌, true};
+ghost use Rattle.swi_memory.specs.Bus.{AreInOrder, Read, holds};
+ghost use Rattle.swi_memory.specs.Found.{Front};
 ghost use Rattle.swi_memory.specs.Views.{areas};
 
 use crate::bank::{Bank, find};
 use crate::right::Right;
 
 /// Whether each of n bytes from the address on is in a bank with this right. One step for each bank.
+#[tactic(auto, using(crate::proofs::Accesses::held))]
 pub fn are_held(banks: &[Bank], right: Right, a: u32, n: u32) -> bool
     requires { AreInOrder (areas banks.now) }
     ensures { result ≡ holds (areas banks.now) right a n }
@@ -37,9 +39,12 @@ pub fn are_held(banks: &[Bank], right: Right, a: u32, n: u32) -> bool
 }
 
 /// The bytes from the address on, at most n of them, that stand in one bank.
+#[tactic(auto, using(crate::proofs::Accesses::holds_none))]
 pub fn front(banks: &[Bank], a: u32, n: u32) -> &[u8]
-    requires { AreInOrder (areas banks.now) }
-    ensures { result.now ≡ front_of (areas banks.now) a n }
+    requires order { AreInOrder (areas banks.now) }
+    requires some { 0 < n }
+    requires readable { holds (areas banks.now) Read a n ≡ true }
+    ensures { Front (areas banks.now) a n result.now }
 {
     let Some(i) = find(banks, a) else {
         return &[];

@@ -2,8 +2,8 @@
 #![tactic(auto)]
 
 ghost use Rattle.std.specs.Prelude.{◌≡◌, ◌+◌, ◌≤◌, length};
-ghost use Rattle.swi_memory.specs.Bus.{AreInOrder, IsSize, Write, holds, stored, with_byte};
-ghost use Rattle.swi_memory.specs.Found.{put_in};
+ghost use Rattle.std.proofs.lemmas.List.Edits.{sets};
+ghost use Rattle.swi_memory.specs.Bus.{AreInOrder, IsSize, Write, holds, lowest, stored, with_byte};
 ghost use Rattle.swi_memory.specs.Views.{areas};
 ghost use Rattle.swi_memory.specs.Writes.{Writes};
 
@@ -17,7 +17,7 @@ use crate::right::Right;
 fn put(bytes: &mut [u8], at: usize, k: u8, v: u32)
     requires size { IsSize k }
     requires room { at + k ≤ length bytes.old }
-    ensures { bytes.new ≡ put_in bytes.old at k v }
+    ensures { bytes.new ≡ sets bytes.old at (lowest k v) }
 {
     let [first, second, third, fourth] = v.to_le_bytes();
     bytes[at] = first;
@@ -33,6 +33,7 @@ fn put(bytes: &mut [u8], at: usize, k: u8, v: u32)
 }
 
 /// Changes the byte at the address, where a bank has it.
+#[tactic(auto, using(crate::proofs::Looks::none_put))]
 pub fn write_byte(banks: &mut [Bank], a: u32, b: u8)
     requires { AreInOrder (areas banks.old) }
     ensures value { areas banks.new ≡ with_byte (areas banks.old) a b }

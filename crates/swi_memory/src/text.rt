@@ -1,7 +1,7 @@
 //! Where the text words lie.
 #![tactic(auto)]
 
-ghost use Rattle.std.specs.Prelude.{◌≡◌, ◌+◌, ◌≤◌, ◌^◌, List, length, true};
+ghost use Rattle.std.specs.Prelude.{◌≡◌, ◌+◌, ◌%◌, ◌≤◌, ◌^◌, List, length, true};
 ghost use Rattle.swi_memory.specs.Bus.{AreaData, AreInOrder, Execute, fetched, grants, touches_text};
 ghost use Rattle.swi_memory.specs.TextAt.{HasOne, IsText, IsTextOf};
 ghost use Rattle.swi_memory.specs.Views.{area, areas};
@@ -11,12 +11,30 @@ use crate::loads::number;
 use crate::right::Right;
 
 /// The text words: `len` bytes from the address `from` on, both multiples of 4, in the bank at place
-/// `bank`. Where there are none, `len` is 0.
+/// `bank`, behind so many of its bytes. Where there are none, `len` is 0.
 #[derive(Clone, Copy)]
 pub struct Text {
     pub bank: usize,
+    pub skipped: u32,
     pub from: u32,
     pub len: u32,
+}
+
+/// The word that stands at a text word's address, which is a multiple of 4.
+#[inline(always)]
+#[tactic(auto, using(crate::proofs::Texts::word))]
+pub fn fetch_aligned(banks: &[Bank], text: &Text, a: u32) -> Option<u32>
+    requires order { AreInOrder (areas banks.now) }
+    requires text { IsText (areas banks.now) text.now }
+    requires aligned { a % 4 ≡ 0 }
+    ensures { result ≡ fetched (areas banks.now) a }
+{
+    let distance = a.wrapping_sub(text.from);
+    if distance >= text.len {
+        return None;
+    }
+    let bank = &banks[text.bank];
+    Some(number(&bank.bytes, text.skipped as usize + distance as usize, 4))
 }
 
 /// The word that stands at a text word's address.
@@ -26,15 +44,15 @@ pub fn fetch(banks: &[Bank], text: &Text, a: u32) -> Option<u32>
     requires text { IsText (areas banks.now) text.now }
     ensures { result ≡ fetched (areas banks.now) a }
 {
-    if a % 4 != 0 || a.wrapping_sub(text.from) >= text.len {
+    if a % 4 != 0 {
         return None;
     }
-    let bank = &banks[text.bank];
-    Some(number(&bank.bytes, (a - bank.base) as usize, 4))
+    fetch_aligned(banks, text, a)
 }
 
 /// Whether one of n bytes from the address on is a text word's.
 #[inline(always)]
+#[tactic(auto, using(crate::proofs::Texts::touches))]
 pub fn is_touched(text: &Text, a: u32, n: u32) -> bool
     ensures { (bus : List AreaData) → IsText bus text.now → result ≡ touches_text bus a n }
 {
@@ -56,18 +74,21 @@ fn text_in(bank: &Bank, place: usize) -> Text
     if size < skipped + 4 {
         return Text {
             bank: place,
+            skipped: 0,
             from: 0,
             len: 0,
         };
     }
     Text {
         bank: place,
+        skipped,
         from: bank.base + skipped,
         len: (size - skipped) / 4 * 4,
     }
 }
 
 /// Where the text words of the banks lie.
+#[tactic(auto, using(crate::proofs::Looks::bank_end, crate::proofs::Looks::bank_place))]
 pub fn find_text(banks: &[Bank]) -> Text
     requires order { AreInOrder (areas banks.now) }
     requires one { HasOne (areas banks.now) }
@@ -80,6 +101,7 @@ pub fn find_text(banks: &[Bank]) -> Text
     }
     Text {
         bank: 0,
+        skipped: 0,
         from: 0,
         len: 0,
     }

@@ -1,24 +1,18 @@
 -- What sinks hold after several writes.
-use Rattle.std.proofs.Common.{◌≡◌, ℕ, ◌+◌, ◌≤◌, zero, suc, min, List, [], ◌∷◌, ◌++◌, length, take, arith, rules, refl, sym, ap, ◌∙◌, Option, Result, Ok, Err, is_err, true, false}
+use Rattle.std.proofs.Common.{◌≡◌, ℕ, ◌+◌, min, List, [], ◌++◌, length, take, arith, rules, ap, ◌∙◌, Option, Result, Ok, Err, is_err, true, false}
 use Rattle.std.proofs.lemmas.List.{append-nil, take-append-le, take_min}
+use Rattle.std.proofs.Math.Seq.{take-append-add}
 use Rattle.std.proofs.lemmas.Grind.{common_steps}
 use Rattle.std.specs.Io.KnownBytes.{Appends}
 use Rattle.swi_outside.specs.Laws.{Appends-append}
 use Rattle.swi_outside.specs.Sink.{AppendsPrefix, AppendsThenPrefix, WritesPiece}
 
-take_into : (xs ys : List ℕ) (d m : ℕ) → length xs ≡ d → take (d + m) (xs ++ ys) ≡ xs ++ take m ys
-take_into [] ys d m e = let z : d + m ≡ m = omega arith in rw z refl
-take_into (x ∷ xs) ys zero m e = absurd (omega arith)
-take_into (x ∷ xs) ys (suc d) m e = let s : suc d + m ≡ suc (d + m) = omega arith in rw s (ap (λ bs. x ∷ bs) (take_into xs ys d m (omega arith)))
-
 -- a prefix of what comes behind what was written is a prefix of the whole
 pub then_prefix : (o q : Option (List ℕ)) (x y z : List ℕ) → AppendsThenPrefix o q x y → AppendsPrefix o q (x ++ (y ++ z))
 then_prefix o q x y z h =
     let m : ℕ = min h.0 (length y) in
-    let cut : take h.0 y ≡ take m y = sym (take_min h.0 y) in
-    let within : m ≤ length y = omega arith in
     let front : take (length x + m) (x ++ (y ++ z)) ≡ x ++ take h.0 y =
-    take_into x (y ++ z) (length x) m refl ∙ ap (λ l. x ++ l) (take-append-le m y z within ∙ sym cut) in
+    take-append-add x (y ++ z) m ∙ ap (λ l. x ++ l) (take-append-le m y z (omega arith) ∙ take_min h.0 y) in
     (length x + m, rw front h.1)
 
 pub prefix_behind : (o p q : Option (List ℕ)) (x y z : List ℕ) → Appends o p x → AppendsPrefix p q y → AppendsPrefix o q (x ++ (y ++ z))
@@ -28,8 +22,7 @@ prefix_behind o p q x y z h i = then_prefix o q x y z (i.0, Appends-append o p q
 pub prefix_first : (o p : Option (List ℕ)) (x y : List ℕ) → AppendsPrefix o p x → AppendsPrefix o p (x ++ y)
 prefix_first o p x y h =
     let m : ℕ = min h.0 (length x) in
-    let within : m ≤ length x = omega arith in
-    let front : take m (x ++ y) ≡ take h.0 x = take-append-le m x y within ∙ take_min h.0 x in
+    let front : take m (x ++ y) ≡ take h.0 x = take-append-le m x y (omega arith) ∙ take_min h.0 x in
     (m, rw front h.1)
 
 -- the whole is a prefix of it
@@ -49,6 +42,4 @@ write_done o p (Err e) x h w = cc
 
 -- a prefix of the last part
 pub prefix_last : (o p q : Option (List ℕ)) (x y : List ℕ) → Appends o p x → AppendsPrefix p q y → AppendsPrefix o q (x ++ y)
-prefix_last o p q x y h i =
-    let e : x ++ (y ++ []) ≡ x ++ y = ap (λ l. x ++ l) (append-nil y) in
-    rw e at (prefix_behind o p q x y [] h i)
+prefix_last o p q x y h i = rw append-nil at (prefix_behind o p q x y [] h i)

@@ -69,6 +69,7 @@ fn index_of(entries: &[(String, Vec<u8>)], name: &str) -> Option<usize>
 }
 
 // The content of the first entry of a name.
+#[tactic(auto, using(crate::proofs::Entries::lookups))]
 fn find<'a>(entries: &'a [(String, Vec<u8>)], name: &str) -> Option<&'a [u8]>
     ensures { MatchOption result (lookup (map entry_of entries.now) name.now ≡ None)
         (λ bytes. lookup (map entry_of entries.now) name.now ≡ Some bytes.now) }

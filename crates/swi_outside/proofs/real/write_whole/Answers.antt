@@ -1,14 +1,17 @@
-use Rattle.std.proofs.Common.{◌≡◌, ℕ, ◌-◌, List, ◌++◌, length, take, drop, sym, ap, ◌∙◌, append_assoc, take-append-drop, subst, Option}
+use Rattle.std.proofs.Common.{◌≡◌, ℕ, ◌-◌, List, ◌++◌, length, take, drop, ◌∙◌, append_assoc, take-append-drop, Option}
 use Rattle.std.proofs.lemmas.List.{take_rest}
-use Rattle.std.proofs.Math.Seq.{take-append_seam}
 use Rattle.std.specs.Io.KnownBytes.{Appends}
 use Rattle.swi_outside.specs.Sink.{AppendsPrefix}
 use Rattle.std.proofs.KnownBytes.{Appends-trans, Appends-kept}
+use Rattle.swi_outside.proofs.SinkLemmas.{prefix_first, prefix_whole}
 use Rattle.swi_outside.proofs.real.write_whole.Goals as goal
 
 moves_front : (all done rest : List ℕ) (n : ℕ) → all ≡ done ++ rest → all ≡ (done ++ take n rest) ++ take (length rest - n) (drop n rest)
-moves_front all done rest n e =
-    e ∙ ap (λ l. done ++ l) (sym (take-append-drop n rest)) ∙ sym (append_assoc done (take n rest) (drop n rest)) ∙ ap (λ l. (done ++ take n rest) ++ l) (sym (take_rest rest n))
+moves_front all done rest n e = e ∙ simp (append_assoc, take_rest, take-append-drop)
+
+-- what was appended is a prefix of the whole
+prefix_appended : (before now : Option (List ℕ)) (all front back : List ℕ) → all ≡ front ++ back → Appends before now front → AppendsPrefix before now all
+prefix_appended before now all front back split appended = rw split (prefix_first before now front back (prefix_whole before now front appended))
 
 pub loop-rest-preserved : goal.loop-rest-preserved
 loop-rest-preserved g c =
@@ -16,12 +19,6 @@ loop-rest-preserved g c =
     let rest = c.loop-rest.rest.now in
     let n = c.in-Ok.count in
     (done ++ take n rest, moves_front _ done rest n split, Appends-trans _ _ _ _ _ appended c.in-Ok.ensures.bytes)
-
--- what was appended is a prefix of the whole
-prefix_appended : (before now : Option (List ℕ)) (all front back : List ℕ) → all ≡ front ++ back → Appends before now front → AppendsPrefix before now all
-prefix_appended before now all front back split appended =
-    let whole : take (length front) all ≡ front = ap (take (length front)) split ∙ take-append_seam front back in
-    (length front, subst (Appends before now) (sym whole) appended)
 
 pub returns-in-Ok-eq0 : goal.returns-in-Ok-eq0
 returns-in-Ok-eq0 g c =
