@@ -1,9 +1,6 @@
-use Rattle.std.proofs.Common.{ℕ, List, subst, ◌≡◌, ap, find, Some, None, option_copied}
-use Rattle.swi_program.specs.Program.{SegmentData, can_execute, ProgramData}
-use Rattle.swi_memory.specs.BusOf.{word_in}
-use Rattle.swi_program.specs.Text.{text_of, word_of}
-use Rattle.swi_program.proofs.Held.{program_held}
-use Rattle.swi_program.proofs.Texts.{text_facts, text_there}
+use Rattle.std.proofs.Common.{◌≡◌, ap, find, Some, None, option_copied}
+use Rattle.swi_program.specs.Program.{can_execute, ProgramData}
+use Rattle.swi_program.proofs.Texts.{program_held, text_facts, text_there}
 use Rattle.swi_program.proofs.programs.Program.executable.Goals as goal
 
 pub unreachable-requires : goal.unreachable-requires
@@ -12,7 +9,7 @@ unreachable-requires c =
     text_there _ c.self.invariant missing
 
 pub returns-clause-found : goal.returns-clause-found
-returns-clause-found c = cc (ap option_copied c.in-Some.is, ap (λ (p : ProgramData). p.segments) c.self.view_is)
+returns-clause-found c = cc (ap (λ (p : ProgramData). p.segments) c.self.view_is)
 
 pub returns-clause-whole : goal.returns-clause-whole
 returns-clause-whole c =
@@ -20,5 +17,4 @@ returns-clause-whole c =
     text_facts _ _ c.self.invariant found
 
 pub returns-clause-held : goal.returns-clause-held
-returns-clause-held c =
-    subst (λ (xs : List SegmentData). (a : ℕ) → word_in xs a ≡ word_of (text_of xs) a) (ap (λ (p : ProgramData). p.segments) c.self.view_is) (program_held _ c.self.invariant)
+returns-clause-held c = program_held _ _ c.self.view_is c.self.invariant
