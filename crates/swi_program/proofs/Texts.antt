@@ -127,3 +127,5 @@ texts-filter (s ∷ xs) =
 
 pub texts_counted : (xs : List SegmentData) → length (filter can_execute xs) ≡ 1 → texts xs ≡ 1
 texts_counted xs one = texts-filter xs ∙ one
+
+pub ruleset text_laws = (program_held, texts_counted)
