@@ -4,7 +4,7 @@ use Rattle.std.specs.List.{list_any, position_from}
 use Rattle.std.proofs.lemmas.Bool.{cases_Bool, or_parts, and_parts, or_right, eqb-true}
 use Rattle.std.proofs.lemmas.Bool.Decides.{nat_tests}
 use Rattle.std.proofs.lemmas.Iterator.Adapters.{position_from-zero}
-use Rattle.std.proofs.lemmas.List.Folds.{list_any-append}
+use Rattle.std.proofs.lemmas.List.Folds.{fold-map, list_any-append}
 use Rattle.std.proofs.lemmas.List.Sums.{sum_by-append}
 use Rattle.std.proofs.lemmas.List.Elements.{filter-append}
 use Rattle.swi_elf_read.specs.declared.program_header.ProgramHeader.{ProgramHeader}
@@ -12,6 +12,7 @@ use Rattle.swi_elf_read.specs.declared.refusal.ElfRefusal.{ElfRefusal}
 use Rattle.swi_elf_read.specs.declared.refusal.ElfRefusal.TheVariants.{Flags, Extent, Overlap, NoText, TwoTexts, Large, Entry}
 use Rattle.swi_elf_read.specs.ProgramHeaders.{is_loaded, is_text, is_executable, is_extent_wrong, shares_address, is_overlap, is_second_text, is_too_large, passes_limit, memory_of, memory_taken, is_word_address, is_text_word, has_text_word, first_from, first_among}
 use Rattle.swi_elf_read.specs.Elf.{first_some, refuse_if, table_checks, table_refusal, first_refusal, identification_refusal, header_checks, header_refusal, program_headers, e_entry, e_flags, has_plain_flags}
+use Rattle.swi_elf_read.proofs.Scans.{memory_one}
 use Rattle.swi_elf_read.specs.Loaded.{loaded_of, loaded_from, loaded_segments, bytes_of, can_execute, has_word_at, IsLoadable, AreLoadable, IsClearOf, AreApart}
 
 -- checks that all pass
@@ -25,17 +26,13 @@ all_none [] h = tt
 all_none (None ∷ xs) h = (refl, all_none xs h)
 all_none (Some r ∷ xs) h = cc
 
-refuse_none : (b : Bool) (r : ElfRefusal) → refuse_if b r ≡ None → b ≡ false
-refuse_none true r h = cc
-refuse_none false r h = refl
+refuse_unless : (b : Bool) (r : ElfRefusal) → refuse_if (not b) r ≡ None → b ≡ true
+refuse_unless true r h = refl
+refuse_unless false r h = cc
 
 map_none : (f : ℕ → ElfRefusal) (o : Option ℕ) → option_map f o ≡ None → o ≡ None
 map_none f None h = refl
 map_none f (Some i) h = cc
-
-not_false : (b : Bool) → not b ≡ false → b ≡ true
-not_false true h = refl
-not_false false h = cc
 
 position_from_none : (p : ProgramHeader → Bool) (i : ℕ) (hs : List ProgramHeader) → position_from p i hs ≡ None → list_any p hs ≡ false
 position_from_none p i [] e = refl
@@ -57,26 +54,31 @@ first_from_none test before h rest e =
       | inr missed ↦ (missed, rw missed at e)
     ]
 
--- what the checks of the program headers leave
-record Passes (size entry : ℕ) (hs : List ProgramHeader) : Type 0 where
-  extents : list_any (is_extent_wrong size) hs ≡ false
-  apart : first_from is_overlap [] hs ≡ None
-  some : list_any has_text_word hs ≡ true
-  single : first_from is_second_text [] hs ≡ None
-  sizes : first_from is_too_large [] hs ≡ None
-  entry_word : list_any (is_text_word entry) hs ≡ true
+-- what the checks leave
+record Accepted (file : List ℕ) : Type 0 where
+  flags : e_flags file % 16 ≡ 0
+  extents : list_any (is_extent_wrong (length file)) (program_headers file) ≡ false
+  apart : first_from is_overlap [] (program_headers file) ≡ None
+  some : list_any has_text_word (program_headers file) ≡ true
+  single : first_from is_second_text [] (program_headers file) ≡ None
+  sizes : first_from is_too_large [] (program_headers file) ≡ None
+  entry : list_any (is_text_word (e_entry file)) (program_headers file) ≡ true
 
-passes : (size entry : ℕ) (hs : List ProgramHeader) → table_refusal size entry hs ≡ None → Passes size entry hs
-unfolding table_refusal
-passes size entry hs e =
-    let n : AllNone (table_checks size entry hs) = all_none (table_checks size entry hs) e in
+accepted : (file : List ℕ) → first_refusal file ≡ None → Accepted file
+unfolding first_refusal table_refusal
+accepted file e =
+    let checks : List (Option ElfRefusal) = table_checks (length file) (e_entry file) (program_headers file) in
+    let n : AllNone (identification_refusal file ∷ header_refusal file ∷ first_some checks ∷ []) = all_none (identification_refusal file ∷ header_refusal file ∷ first_some checks ∷ []) e in
+    let h : AllNone (header_checks file) = all_none (header_checks file) n.1.0 in
+    let t : AllNone checks = all_none checks n.1.1.0 in
     record {
-      extents = position_none (is_extent_wrong size) hs (map_none Extent (position (is_extent_wrong size) hs) n.1.0);
-      apart = map_none Overlap (first_among is_overlap hs) n.1.1.0;
-      some = not_false (list_any has_text_word hs) (refuse_none (not (list_any has_text_word hs)) (NoText 0) n.1.1.1.0);
-      single = map_none TwoTexts (first_among is_second_text hs) n.1.1.1.1.0;
-      sizes = map_none Large (first_among is_too_large hs) n.1.1.1.1.1.0;
-      entry_word = not_false (list_any (is_text_word entry) hs) (refuse_none (not (list_any (is_text_word entry) hs)) (Entry 24) n.1.1.1.1.1.1.0);
+      flags = eqb-true _ _ (refuse_unless _ _ h.1.1.1.0);
+      extents = position_none (is_extent_wrong (length file)) (program_headers file) (map_none _ _ t.1.0);
+      apart = map_none _ _ t.1.1.0;
+      some = refuse_unless _ _ t.1.1.1.0;
+      single = map_none _ _ t.1.1.1.1.0;
+      sizes = map_none _ _ t.1.1.1.1.1.0;
+      entry = refuse_unless _ _ t.1.1.1.1.1.1.0;
     }
 
 -- each loaded segment
@@ -84,13 +86,12 @@ passes size entry hs e =
 loadable_one : (file : List ℕ) (h : ProgramHeader) (total : ℕ) → is_loaded h ≡ true → is_extent_wrong (length file) h ≡ false → passes_limit total h ≡ false → IsLoadable (loaded_of file h)
 unfolding is_loaded is_extent_wrong passes_limit
 loadable_one file h total held extent limit =
-    let size : length (take h.p_filesz (drop h.p_offset file)) ≡ min h.p_filesz (length (drop h.p_offset file)) = length-take h.p_filesz (drop h.p_offset file) in
     record {
       rights = omega arith;
       some = grind (arith, nat_tests);
-      front = grind (arith, nat_tests);
+      front = grind (arith, nat_tests, length-take h.p_filesz (drop h.p_offset file));
       end = grind (arith, nat_tests);
-      text = λ e. grind (arith, nat_tests);
+      text = λ e. grind (arith, nat_tests, length-take h.p_filesz (drop h.p_offset file));
     }
 
 each_loadable : (file : List ℕ) (hs before : List ProgramHeader) → list_any (is_extent_wrong (length file)) hs ≡ false → first_from is_too_large before hs ≡ None → AreLoadable (loaded_from file hs)
@@ -194,15 +195,6 @@ within_limit : (total : ℕ) (h : ProgramHeader) → total ≤ 2 ^ 25 → passes
 unfolding passes_limit memory_taken
 within_limit total h fits e = grind (arith, nat_tests)
 
-memory_one : (before : List ProgramHeader) (h : ProgramHeader) → memory_of (before ++ h ∷ []) ≡ memory_of before + memory_taken h
-unfolding memory_of memory_taken
-memory_one before h =
-    let size : ProgramHeader → ℕ = λ x. x.p_memsz in
-    elim (cases_Bool (is_loaded h)) [
-      | inl held ↦ rw (filter-append is_loaded, sum_by-append size, held) (omega arith)
-      | inr missed ↦ rw (filter-append is_loaded, sum_by-append size, missed) refl
-    ]
-
 memory_fits : (hs before : List ProgramHeader) → memory_of before ≤ 2 ^ 25 → first_from is_too_large before hs ≡ None → memory_of (before ++ hs) ≤ 2 ^ 25
 unfolding is_too_large
 memory_fits [] before fits e = rw append-nil fits
@@ -217,9 +209,7 @@ word_kept : (file : List ℕ) (h : ProgramHeader) (a : ℕ) → is_extent_wrong 
     (a % 4 == 0 && (nat_le h.p_vaddr a && nat_le (a + 4) (h.p_vaddr + length (bytes_of file h)))) ≡ true
 unfolding is_word_address is_extent_wrong is_loaded
 word_kept file h a extent loaded e =
-    let size : length (take h.p_filesz (drop h.p_offset file)) ≡ min h.p_filesz (length (drop h.p_offset file)) = length-take h.p_filesz (drop h.p_offset file) in
-    let rest : length (drop h.p_offset file) ≡ length file - h.p_offset = length-drop h.p_offset file in
-    grind (arith, nat_tests)
+    grind (arith, nat_tests, length-take h.p_filesz (drop h.p_offset file), length-drop h.p_offset file)
 
 word_there : (file : List ℕ) (h : ProgramHeader) (a : ℕ) → is_extent_wrong (length file) h ≡ false → is_text_word a h ≡ true →
     (is_loaded h ≡ true) × (has_word_at a (loaded_of file h) ≡ true)
@@ -248,51 +238,27 @@ entry_there file a (h ∷ hs) extents e =
 
 -- what an accepted file keeps
 
-accepted_table : (file : List ℕ) → first_refusal file ≡ None → Passes (length file) (e_entry file) (program_headers file)
-unfolding first_refusal
-accepted_table file e =
-    let n : AllNone (identification_refusal file ∷ header_refusal file ∷ table_refusal (length file) (e_entry file) (program_headers file) ∷ []) = all_none (identification_refusal file ∷ header_refusal file ∷ table_refusal (length file) (e_entry file) (program_headers file) ∷ []) e in
-    passes (length file) (e_entry file) (program_headers file) n.1.1.0
-
 pub accepted_flags : (file : List ℕ) → first_refusal file ≡ None → e_flags file % 16 ≡ 0
-unfolding first_refusal
-accepted_flags file e =
-    let n : AllNone (identification_refusal file ∷ header_refusal file ∷ table_refusal (length file) (e_entry file) (program_headers file) ∷ []) = all_none (identification_refusal file ∷ header_refusal file ∷ table_refusal (length file) (e_entry file) (program_headers file) ∷ []) e in
-    let m : AllNone (header_checks file) = all_none (header_checks file) n.1.0 in
-    eqb-true (e_flags file % 16) 0 (not_false (has_plain_flags (e_flags file)) (refuse_none (not (has_plain_flags (e_flags file))) (Flags 36) m.1.1.1.0))
+accepted_flags file e = (accepted file e).flags
 
 pub accepted_each : (file : List ℕ) → first_refusal file ≡ None → AreLoadable (loaded_segments file)
 unfolding loaded_segments
-accepted_each file e =
-    let p = accepted_table file e in
-    each_loadable file (program_headers file) [] p.extents p.sizes
+accepted_each file e = each_loadable file (program_headers file) [] (accepted file e).extents (accepted file e).sizes
 
 pub accepted_apart : (file : List ℕ) → first_refusal file ≡ None → AreApart (loaded_segments file)
 unfolding loaded_segments
-accepted_apart file e = all_apart file (program_headers file) [] (accepted_table file e).apart
+accepted_apart file e = all_apart file (program_headers file) [] (accepted file e).apart
 
 pub accepted_text : (file : List ℕ) → first_refusal file ≡ None → length (filter can_execute (loaded_segments file)) ≡ 1
 unfolding loaded_segments
-accepted_text file e =
-    let p = accepted_table file e in
-    one_text file (program_headers file) [] refl p.some p.single
-
-sum_mapped : (file : List ℕ) (total : ℕ) (hs : List ProgramHeader) →
-    fold (λ a s. a + s.size) total (map (loaded_of file) hs) ≡ fold (λ a h. a + h.p_memsz) total hs
-sum_mapped file total [] = refl
-sum_mapped file total (h ∷ hs) = sum_mapped file (total + h.p_memsz) hs
+accepted_text file e = one_text file (program_headers file) [] refl (accepted file e).some (accepted file e).single
 
 pub accepted_memory : (file : List ℕ) → first_refusal file ≡ None → sum_by (λ s. s.size) (loaded_segments file) ≤ 2 ^ 25
 unfolding loaded_segments memory_of
-accepted_memory file e =
-    let p = accepted_table file e in
-    let m : memory_of (program_headers file) ≤ 2 ^ 25 = memory_fits (program_headers file) [] (omega arith) p.sizes in
-    rw (sum_mapped file 0 (filter is_loaded (program_headers file))) m
+accepted_memory file e = rw (fold-map) (memory_fits (program_headers file) [] (omega arith) (accepted file e).sizes)
 
 pub accepted_entry : (file : List ℕ) → first_refusal file ≡ None → list_any (has_word_at (e_entry file)) (loaded_segments file) ≡ true
 unfolding loaded_segments
-accepted_entry file e =
-    let p = accepted_table file e in
-    entry_there file (e_entry file) (program_headers file) p.extents p.entry_word
+accepted_entry file e = entry_there file (e_entry file) (program_headers file) (accepted file e).extents (accepted file e).entry
 
 pub ruleset accepted_facts = (accepted_flags, accepted_each, accepted_apart, accepted_text, accepted_memory, accepted_entry)
