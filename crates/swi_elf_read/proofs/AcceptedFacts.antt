@@ -122,9 +122,7 @@ clear_in file g (h ∷ hs) xs ys held e =
     elim (cases_Bool (is_loaded h)) [
       | inl loaded ↦
           let t : list_any (λ x. is_loaded x && shares_address x h) (xs ++ g ∷ ys) ≡ false = rw loaded at s.0 in
-          let u = or_parts _ _ (rw list_any-append at t) in
-          let v = or_parts (is_loaded g && shares_address g h) (list_any (λ x. is_loaded x && shares_address x h) ys) u.1 in
-          let w : shares_address g h ≡ false = rw held at v.0 in
+          let w : shares_address g h ≡ false = grind (arith, nat_tests, rw list_any-append at t) in
           rw loaded (clear_one file g h w, rest)
       | inr missed ↦ rw missed rest
     ]
@@ -155,14 +153,11 @@ none_after file (h ∷ hs) before one e =
     let s = first_from_none is_second_text before h hs e in
     let grown : list_any is_text (before ++ h ∷ []) ≡ true = rw (list_any-append, one) refl in
     let rest = none_after file hs (before ++ h ∷ []) grown s.1 in
-    let no_text : is_text h ≡ false = and_left (is_text h) (list_any is_text before) s.0 one in
+    let no_text : is_text h ≡ false = grind (arith, nat_tests) in
     elim (cases_Bool (is_loaded h)) [
       | inl loaded ↦ rw (loaded, exec_is file h loaded, no_text) rest
       | inr missed ↦ rw missed rest
-    ] where
-      and_left : (x y : Bool) → (x && y) ≡ false → y ≡ true → x ≡ false
-      and_left true y e one = cc
-      and_left false y e one = refl
+    ]
 
 text_is_loaded : (h : ProgramHeader) → is_text h ≡ true → is_loaded h ≡ true
 unfolding is_text
@@ -191,17 +186,16 @@ one_text file (h ∷ hs) before none some e =
 
 -- the memory that they take
 
-within_limit : (total : ℕ) (h : ProgramHeader) → total ≤ 2 ^ 25 → passes_limit total h ≡ false → total + memory_taken h ≤ 2 ^ 25
+memory_more : (before : List ProgramHeader) (h : ProgramHeader) → memory_of before ≤ 2 ^ 25 → passes_limit (memory_of before) h ≡ false → memory_of (before ++ h ∷ []) ≤ 2 ^ 25
 unfolding passes_limit memory_taken
-within_limit total h fits e = grind (arith, nat_tests)
+memory_more before h fits e = rw (memory_one before h) (grind (arith, nat_tests))
 
 memory_fits : (hs before : List ProgramHeader) → memory_of before ≤ 2 ^ 25 → first_from is_too_large before hs ≡ None → memory_of (before ++ hs) ≤ 2 ^ 25
 unfolding is_too_large
 memory_fits [] before fits e = rw append-nil fits
 memory_fits (h ∷ hs) before fits e =
     let s = first_from_none is_too_large before h hs e in
-    let one : memory_of (before ++ h ∷ []) ≤ 2 ^ 25 = rw (memory_one before h) (within_limit (memory_of before) h fits s.0) in
-    rw append_assoc at (memory_fits hs (before ++ h ∷ []) one s.1)
+    rw append_assoc at (memory_fits hs (before ++ h ∷ []) (memory_more before h fits s.0) s.1)
 
 -- the entry
 
