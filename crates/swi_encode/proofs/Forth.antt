@@ -122,20 +122,20 @@ alu Srai w rd rs1 imm p1 p2 p3 fits is = let h : RFields w 0x13 5 32 rd rs1 imm 
 alu op w rd rs1 imm p1 p2 p3 fits is = let h : IFields w 0x13 (imm_funct3 op) rd rs1 imm = i_fields w 0x13 (imm_funct3 op) rd rs1 imm (omega arith) (imm_funct3_lt op) p1 p2 p3 fits is in decoded_at (OpImm op) w refl h.code ∙ cc
 
 -- the word of a valid instruction decodes to it
-pub decoded-word_of : (i : Instr) (w : ℕ) → w ≡ word_of i → InRange i → IsValid i → decoded w ≡ Some i
-decoded-word_of (instr.Lui rd imm) w is r v = let h : UFields w 0x37 rd imm = u_fields w 0x37 rd imm (omega arith) r.0 r.1 v is in decoded_at Lui w refl h.code ∙ cc
-decoded-word_of (instr.Auipc rd imm) w is r v = let h : UFields w 0x17 rd imm = u_fields w 0x17 rd imm (omega arith) r.0 r.1 v is in decoded_at Auipc w refl h.code ∙ cc
-decoded-word_of (instr.Jal rd off) w is r v = let h : JFields w rd off = j_fields w rd off r.0 r.1 v.0 v.1 is in decoded_at Jal w refl h.code ∙ cc
-decoded-word_of (instr.Jalr rd rs1 imm) w is r v = let h : IFields w 0x67 0 rd rs1 imm = i_fields w 0x67 0 rd rs1 imm (omega arith) (omega arith) r.0 r.1 r.2 v is in decoded_at Jalr w refl h.code ∙ cc
-decoded-word_of (instr.Branch op rs1 rs2 off) w is r v = let h : BFields w (branch_funct3 op) rs1 rs2 off = b_fields w (branch_funct3 op) rs1 rs2 off (branch_funct3_lt op) r.0 r.1 r.2 v.0 v.1 is in decoded_at (Branch op) w refl h.code ∙ cc
-decoded-word_of (instr.Load op rd rs1 imm) w is r v = let h : IFields w 3 (load_funct3 op) rd rs1 imm = i_fields w 3 (load_funct3 op) rd rs1 imm (omega arith) (load_funct3_lt op) r.0 r.1 r.2 v is in decoded_at (Load op) w refl h.code ∙ cc
-decoded-word_of (instr.Store op rs1 rs2 imm) w is r v = let h : SFields w (store_funct3 op) rs1 rs2 imm = s_fields w (store_funct3 op) rs1 rs2 imm (store_funct3_lt op) r.0 r.1 r.2 v is in decoded_at (Store op) w refl h.code ∙ cc
-decoded-word_of (instr.Alu op rd rs1 imm) w is r v = alu op w rd rs1 imm r.0 r.1 r.2 v is
-decoded-word_of (instr.Op op rd rs1 rs2) w is r v = let h : RFields w 0x33 (op_funct3 op) (op_funct7 op) rd rs1 rs2 = r_fields w 0x33 (op_funct3 op) (op_funct7 op) rd rs1 rs2 (omega arith) (op_codes_lt op).0 (op_codes_lt op).1 r.0 r.1 r.2 is in decoded_at (Op op) w refl h.code ∙ cc
-decoded-word_of (instr.Atomic op rd rs1 rs2) w is r v =
+pub word_decodes : (i : Instr) (w : ℕ) → w ≡ word_of i → InRange i → IsValid i → decoded w ≡ Some i
+word_decodes (instr.Lui rd imm) w is r v = let h : UFields w 0x37 rd imm = u_fields w 0x37 rd imm (omega arith) r.0 r.1 v is in decoded_at Lui w refl h.code ∙ cc
+word_decodes (instr.Auipc rd imm) w is r v = let h : UFields w 0x17 rd imm = u_fields w 0x17 rd imm (omega arith) r.0 r.1 v is in decoded_at Auipc w refl h.code ∙ cc
+word_decodes (instr.Jal rd off) w is r v = let h : JFields w rd off = j_fields w rd off r.0 r.1 v.0 v.1 is in decoded_at Jal w refl h.code ∙ cc
+word_decodes (instr.Jalr rd rs1 imm) w is r v = let h : IFields w 0x67 0 rd rs1 imm = i_fields w 0x67 0 rd rs1 imm (omega arith) (omega arith) r.0 r.1 r.2 v is in decoded_at Jalr w refl h.code ∙ cc
+word_decodes (instr.Branch op rs1 rs2 off) w is r v = let h : BFields w (branch_funct3 op) rs1 rs2 off = b_fields w (branch_funct3 op) rs1 rs2 off (branch_funct3_lt op) r.0 r.1 r.2 v.0 v.1 is in decoded_at (Branch op) w refl h.code ∙ cc
+word_decodes (instr.Load op rd rs1 imm) w is r v = let h : IFields w 3 (load_funct3 op) rd rs1 imm = i_fields w 3 (load_funct3 op) rd rs1 imm (omega arith) (load_funct3_lt op) r.0 r.1 r.2 v is in decoded_at (Load op) w refl h.code ∙ cc
+word_decodes (instr.Store op rs1 rs2 imm) w is r v = let h : SFields w (store_funct3 op) rs1 rs2 imm = s_fields w (store_funct3 op) rs1 rs2 imm (store_funct3_lt op) r.0 r.1 r.2 v is in decoded_at (Store op) w refl h.code ∙ cc
+word_decodes (instr.Alu op rd rs1 imm) w is r v = alu op w rd rs1 imm r.0 r.1 r.2 v is
+word_decodes (instr.Op op rd rs1 rs2) w is r v = let h : RFields w 0x33 (op_funct3 op) (op_funct7 op) rd rs1 rs2 = r_fields w 0x33 (op_funct3 op) (op_funct7 op) rd rs1 rs2 (omega arith) (op_codes_lt op).0 (op_codes_lt op).1 r.0 r.1 r.2 is in decoded_at (Op op) w refl h.code ∙ cc
+word_decodes (instr.Atomic op rd rs1 rs2) w is r v =
     let small : atomic_funct5 op < 32 = atomic_funct5_lt op in
     let h : RFields w 0x2F 2 (atomic_funct5 op * 4) rd rs1 rs2 = r_fields w 0x2F 2 (atomic_funct5 op * 4) rd rs1 rs2 (omega arith) (omega arith) (omega arith) r.0 r.1 r.2 is in
     decoded_at (Amo op) w refl (atomic_code op w rd rs1 rs2 r.0 r.1 r.2 v is) ∙ cc
-decoded-word_of instr.Fence w is r v = rw is (decoded_at Fence 0x0FF0000F refl refl)
-decoded-word_of instr.Ecall w is r v = rw is (decoded_at Ecall 0x73 refl refl)
-decoded-word_of instr.Ebreak w is r v = rw is (decoded_at Ebreak 0x100073 refl refl)
+word_decodes instr.Fence w is r v = rw is (decoded_at Fence 0x0FF0000F refl refl)
+word_decodes instr.Ecall w is r v = rw is (decoded_at Ecall 0x73 refl refl)
+word_decodes instr.Ebreak w is r v = rw is (decoded_at Ebreak 0x100073 refl refl)
