@@ -50,11 +50,7 @@ the_text (t ∷ xs) each one =
     ]
 
 number_there : (bytes : List ℕ) (p : ℕ) → number_in bytes p 4 ≡ little_number 4 (drop p bytes)
-number_there bytes p =
-    let zero_on : p + 0 ≡ p = omega arith in
-    let two_on : p + 2 ≡ p + 1 + 1 = omega arith in
-    let three_on : p + 3 ≡ p + 1 + 1 + 1 = omega arith in
-    rw (get_or-drop p bytes 0 0, get_or-drop p bytes 1 0, get_or-drop p bytes 2 0, get_or-drop p bytes 3 0, zero_on, two_on, three_on) refl
+number_there bytes p = grind (arith, get_or-drop {A = ℕ})
 
 -- the words of a segment are where they stand
 text_held : (s : SegmentData) (a : ℕ) → can_execute s ≡ true → word_in (s ∷ []) a ≡ word_of (text_in (Some s)) a
@@ -102,22 +98,17 @@ text_facts p s sound found =
     let x = the_text p.segments sound.each sound.one_text in
     let first : find can_execute p.segments ≡ Some x.0 = x.1.found in
     let same : x.0 ≡ s = cc in
-    let word : has_word_at p.entry x.0 ≡ true = has_one p.entry x.0 (any_held (x.0 ∷ []) p.entry ∙ ap is_some (sym (x.1.held p.entry)) ∙ sym (any_held p.segments p.entry) ∙ sound.word) in
-    subst HasText same (record { word = grind (arith, nat_tests); few = x.1.kept.text x.1.runs; end = omega (arith, x.1.kept.front, x.1.kept.end) }) where
-      has_one : (a : ℕ) (s : SegmentData) → list_any (has_word_at a) (s ∷ []) ≡ true → has_word_at a s ≡ true
-      has_one a s e = grind (arith, nat_tests)
+    let some : list_any (has_word_at p.entry) (x.0 ∷ []) ≡ true = any_held (x.0 ∷ []) p.entry ∙ ap is_some (sym (x.1.held p.entry)) ∙ sym (any_held p.segments p.entry) ∙ sound.word in
+    subst HasText same (record { word = grind (arith, nat_tests); few = x.1.kept.text x.1.runs; end = omega (arith, x.1.kept.front, x.1.kept.end) })
 
 -- the size of the text
 pub text_sized : (s : SegmentData) → HasText s → IsSized (text_in (Some s))
 text_sized s h =
     let count : length (words_from s.bytes (text_base s - s.base) ((s.base + length s.bytes - text_base s) / 4)) ≡ (s.base + length s.bytes - text_base s) / 4 = length_words s.bytes (text_base s - s.base) ((s.base + length s.bytes - text_base s) / 4) in
-    let word : text_base s + 4 ≤ s.base + length s.bytes = h.word in
-    let few : length s.bytes ≤ 2 ^ 21 = h.few in
-    let end : s.base + length s.bytes ≤ 2 ^ 32 = h.end in
     record { aligned = omega arith; end = omega arith; some = omega arith; few = omega arith }
 
 -- the executable segments, counted
-texts-filter : (xs : List SegmentData) → texts xs ≡ length (filter can_execute xs)
+pub texts-filter : (xs : List SegmentData) → texts xs ≡ length (filter can_execute xs)
 texts-filter [] = refl
 texts-filter (s ∷ xs) =
     elim (cases_Bool (can_execute s)) [
@@ -125,7 +116,4 @@ texts-filter (s ∷ xs) =
       | inr missed ↦ rw (missed, texts-filter xs) (omega arith)
     ]
 
-pub texts_counted : (xs : List SegmentData) → length (filter can_execute xs) ≡ 1 → texts xs ≡ 1
-texts_counted xs one = texts-filter xs ∙ one
-
-pub ruleset text_laws = (program_held, texts_counted)
+pub ruleset text_laws = (program_held, texts-filter)

@@ -49,15 +49,11 @@ words_cut bytes m j at (suc n) within =
     rw (number_cut bytes m j at (omega arith), rest) refl
 
 -- the text of a segment, seen as the whole words of its bytes from the first multiple of 4 on
-pub seen_text : (s : SegmentData) (first base skipped : ℕ) (all part : List ℕ) → first ≡ s.base → base ≡ round_up_4 first → skipped ≡ base - first →
-    all ≡ s.bytes → part ≡ take ((length all - skipped) / 4 * 4) (drop skipped all) → seen base part ≡ text_in (Some s)
-seen_text s first base skipped all part f b k a p =
+pub seen_text : (s : SegmentData) (base : ℕ) (part : List ℕ) → base ≡ round_up_4 s.base →
+    part ≡ take ((length s.bytes - (base - s.base)) / 4 * 4) (drop (base - s.base) s.bytes) → seen base part ≡ text_in (Some s)
+seen_text s base part is cut =
     let m : ℕ = (length s.bytes - (base - s.base)) / 4 * 4 in
-    let is : base ≡ round_up_4 s.base = b ∙ ap round_up_4 f in
-    let skip : skipped ≡ base - s.base = k ∙ ap (λ (n : ℕ). base - n) f in
-    let cut : part ≡ take m (drop (base - s.base) s.bytes) = rw (p, a, skip) refl in
-    let left : length (drop (base - s.base) s.bytes) ≡ length s.bytes - (base - s.base) = length-drop (base - s.base) s.bytes in
-    let whole : length (take m (drop (base - s.base) s.bytes)) ≡ m = omega (arith, length-take m (drop (base - s.base) s.bytes)) in
+    let whole : length (take m (drop (base - s.base) s.bytes)) ≡ m = omega (arith, length-take m (drop (base - s.base) s.bytes), length-drop (base - s.base) s.bytes) in
     let count : m / 4 ≡ (s.base + length s.bytes - base) / 4 = omega arith in
     let here : base - s.base + 0 ≡ base - s.base = omega arith in
     let words : words_from (take m (drop (base - s.base) s.bytes)) 0 (m / 4) ≡ words_from s.bytes (base - s.base + 0) (m / 4) = words_cut s.bytes m (base - s.base) 0 (m / 4) (omega arith) in
