@@ -36,11 +36,7 @@ map_none f (Some i) h = cc
 
 position_from_none : (p : ProgramHeader → Bool) (i : ℕ) (hs : List ProgramHeader) → position_from p i hs ≡ None → list_any p hs ≡ false
 position_from_none p i [] e = refl
-position_from_none p i (x ∷ hs) e =
-    elim (cases_Bool (p x)) [
-      | inl held ↦ let wrong : Some i ≡ None = rw held at e in cc
-      | inr missed ↦ rw missed (position_from_none p (i + 1) hs (rw missed at e))
-    ]
+position_from_none p i (x ∷ hs) e = grind (arith, nat_tests, position_from_none p (i + 1) hs)
 
 position_none : (p : ProgramHeader → Bool) (hs : List ProgramHeader) → position p hs ≡ None → list_any p hs ≡ false
 position_none p hs e = position_from_none p 0 hs (sym (position_from-zero p hs) ∙ e)
@@ -48,11 +44,7 @@ position_none p hs e = position_from_none p 0 hs (sym (position_from-zero p hs) 
 first_from_none : (test : List ProgramHeader → ProgramHeader → Bool) (before : List ProgramHeader) (h : ProgramHeader) (rest : List ProgramHeader) →
     first_from test before (h ∷ rest) ≡ None → (test before h ≡ false) × (first_from test (before ++ h ∷ []) rest ≡ None)
 unfolding first_from
-first_from_none test before h rest e =
-    elim (cases_Bool (test before h)) [
-      | inl held ↦ let wrong : Some (length before) ≡ None = rw held at e in cc
-      | inr missed ↦ (missed, rw missed at e)
-    ]
+first_from_none test before h rest e = grind (arith, nat_tests)
 
 -- what the checks leave
 record Accepted (file : List ℕ) : Type 0 where
@@ -151,13 +143,8 @@ unfolding is_second_text
 none_after file [] before one e = refl
 none_after file (h ∷ hs) before one e =
     let s = first_from_none is_second_text before h hs e in
-    let grown : list_any is_text (before ++ h ∷ []) ≡ true = rw (list_any-append, one) refl in
-    let rest = none_after file hs (before ++ h ∷ []) grown s.1 in
-    let no_text : is_text h ≡ false = grind (arith, nat_tests) in
-    elim (cases_Bool (is_loaded h)) [
-      | inl loaded ↦ rw (loaded, exec_is file h loaded, no_text) rest
-      | inr missed ↦ rw missed rest
-    ]
+    let rest = none_after file hs (before ++ h ∷ []) (rw (list_any-append, one) refl) s.1 in
+    grind (arith, nat_tests, s.0, rest, exec_is file h)
 
 text_is_loaded : (h : ProgramHeader) → is_text h ≡ true → is_loaded h ≡ true
 unfolding is_text
@@ -172,16 +159,11 @@ one_text file (h ∷ hs) before none some e =
     elim (cases_Bool (is_text h)) [
       | inl text ↦
           let loaded : is_loaded h ≡ true = text_is_loaded h text in
-          let grown : list_any is_text (before ++ h ∷ []) ≡ true = rw (list_any-append, none, text) refl in
-          rw (loaded, exec_is file h loaded, text, none_after file hs (before ++ h ∷ []) grown s.1) refl
+          let rest = none_after file hs (before ++ h ∷ []) (rw (list_any-append, none, text) refl) s.1 in
+          rw (loaded, exec_is file h loaded, text, rest) refl
       | inr plain ↦
-          let grown : list_any is_text (before ++ h ∷ []) ≡ false = rw (list_any-append, none, plain) refl in
-          let more : list_any has_text_word hs ≡ true = rw plain at some in
-          let rest = one_text file hs (before ++ h ∷ []) grown more s.1 in
-          elim (cases_Bool (is_loaded h)) [
-            | inl loaded ↦ rw (loaded, exec_is file h loaded, plain) rest
-            | inr missed ↦ rw missed rest
-          ]
+          let rest = one_text file hs (before ++ h ∷ []) (rw (list_any-append, none, plain) refl) (rw plain at some) s.1 in
+          grind (arith, nat_tests, rest, exec_is file h)
     ]
 
 -- the memory that they take
@@ -224,10 +206,7 @@ entry_there file a (h ∷ hs) extents e =
           rw (w.0, w.1) refl
       | inr later ↦
           let rest = entry_there file a hs x.1 (rw later at e) in
-          elim (cases_Bool (is_loaded h)) [
-            | inl loaded ↦ rw loaded (or_right (has_word_at a (loaded_of file h)) (list_any (has_word_at a) (loaded_from file hs)) rest)
-            | inr missed ↦ rw missed rest
-          ]
+          grind (arith, nat_tests, rest)
     ]
 
 -- what an accepted file keeps

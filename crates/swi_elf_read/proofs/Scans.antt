@@ -1,7 +1,7 @@
 -- One step of a scan that looks for the first header that a test picks.
 use Rattle.std.proofs.Common.{◌≡◌, ℕ, ◌+◌, ◌*◌, ◌-◌, ◌<◌, ◌≤◌, suc, Bool, true, false, List, [], ◌∷◌, ◌++◌, length, get_or, take, drop, arith, refl, length-take, append_assoc, append-nil, Some, None, inl, inr}
 use Rattle.std.proofs.lemmas.List.{drop_more, take_more}
-use Rattle.std.proofs.lemmas.Bool.{cases_Bool}
+use Rattle.std.proofs.lemmas.Bool.Decides.{nat_tests}
 use Rattle.std.proofs.lemmas.List.Sums.{sum_by-append}
 use Rattle.std.proofs.lemmas.List.Elements.{filter-append}
 use Rattle.std.proofs.lemmas.Grind.{common_steps}
@@ -35,12 +35,7 @@ pub ruleset scan_steps = (scan_found, scan_next, scan_end)
 -- the memory of one header more
 pub memory_one : (before : List ProgramHeader) (h : ProgramHeader) → memory_of (before ++ h ∷ []) ≡ memory_of before + memory_taken h
 unfolding memory_of memory_taken
-memory_one before h =
-    let size : ProgramHeader → ℕ = λ x. x.p_memsz in
-    elim (cases_Bool (is_loaded h)) [
-      | inl held ↦ rw (filter-append is_loaded, sum_by-append size, held) (omega arith)
-      | inr missed ↦ rw (filter-append is_loaded, sum_by-append size, missed) refl
-    ]
+memory_one before h = grind (arith, nat_tests, filter-append is_loaded, sum_by-append (λ (x : ProgramHeader). x.p_memsz))
 
 pub memory_step : (hs : List ProgramHeader) (i : ℕ) (d : ProgramHeader) → i < length hs →
     memory_of (take (i + 1) hs) ≡ memory_of (take i hs) + memory_taken (get_or hs i d)

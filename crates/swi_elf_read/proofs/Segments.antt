@@ -3,7 +3,7 @@ use Rattle.std.proofs.Common.{◌≡◌, ℕ, ◌+◌, ◌<◌, ◌≤◌, ◌-�
 use Rattle.std.specs.List.{list_any}
 use Rattle.std.specs.Option.{is_some}
 use Rattle.std.proofs.lemmas.List.{drop_more}
-use Rattle.std.proofs.lemmas.Bool.{cases_Bool}
+use Rattle.std.proofs.lemmas.Bool.Decides.{nat_tests}
 use Rattle.std.proofs.lemmas.Grind.{common_steps}
 use Rattle.std.proofs.lemmas.List.Filters.{length-filter_more}
 use Rattle.swi_elf_read.specs.declared.program_header.ProgramHeader.{ProgramHeader}
@@ -36,8 +36,4 @@ pub ruleset nth_steps = (nth_found, nth_next, nth_same, nth_end)
 -- a first image is there exactly where there is one
 pub image_there : (hs : List ProgramHeader) → list_any is_image hs ≡ is_some (find is_image hs)
 image_there [] = refl
-image_there (x ∷ hs) =
-    elim (cases_Bool (is_image x)) [
-      | inl held ↦ rw held refl
-      | inr missed ↦ rw missed (image_there hs)
-    ]
+image_there (x ∷ hs) = grind (arith, nat_tests, image_there hs)

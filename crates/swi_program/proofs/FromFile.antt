@@ -54,8 +54,7 @@ apart_kept (x ∷ xs) apart = (clear_kept x xs apart.0, apart_kept xs apart.1)
 
 filter_kept : (xs : List LoadedData) → filter can_execute (map segment_of xs) ≡ map segment_of (filter loaded.can_execute xs)
 filter_kept [] = refl
-filter_kept (x ∷ xs) =
-    grind (arith, nat_tests, filter_kept xs)
+filter_kept (x ∷ xs) = grind (arith, nat_tests, filter_kept xs)
 
 any_kept : (xs : List LoadedData) (a : ℕ) → list_any (has_word_at a) (map segment_of xs) ≡ list_any (loaded.has_word_at a) xs
 any_kept [] a = refl

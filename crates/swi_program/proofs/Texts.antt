@@ -13,21 +13,11 @@ use Rattle.swi_program.proofs.Words.{length_words, get_word}
 
 none_held : (xs : List SegmentData) (a : ℕ) → length (filter can_execute xs) ≡ 0 → word_in xs a ≡ None
 none_held [] a e = refl
-none_held (t ∷ xs) a e =
-    elim (cases_Bool (can_execute t)) [
-      | inl held ↦
-          let wrong : suc (length (filter can_execute xs)) ≡ 0 = rw held at e in
-          absurd (omega arith)
-      | inr missed ↦ rw missed (none_held xs a (rw missed at e))
-    ]
+none_held (t ∷ xs) a e = grind (arith, nat_tests, none_held xs a)
 
 any_held : (xs : List SegmentData) (a : ℕ) → list_any (has_word_at a) xs ≡ is_some (word_in xs a)
 any_held [] a = refl
-any_held (t ∷ xs) a =
-    elim (cases_Bool (has_word_at a t)) [
-      | inl held ↦ rw held refl
-      | inr missed ↦ rw missed (any_held xs a)
-    ]
+any_held (t ∷ xs) a = grind (arith, nat_tests, any_held xs a)
 
 -- the executable segment, where there is one
 record IsText (xs : List SegmentData) (s : SegmentData) : Type 0 where
@@ -110,10 +100,6 @@ text_sized s h =
 -- the executable segments, counted
 pub texts-filter : (xs : List SegmentData) → texts xs ≡ length (filter can_execute xs)
 texts-filter [] = refl
-texts-filter (s ∷ xs) =
-    elim (cases_Bool (can_execute s)) [
-      | inl held ↦ rw (held, texts-filter xs) (omega arith)
-      | inr missed ↦ rw (missed, texts-filter xs) (omega arith)
-    ]
+texts-filter (s ∷ xs) = grind (arith, nat_tests, texts-filter xs)
 
 pub ruleset text_laws = (program_held, texts-filter)
