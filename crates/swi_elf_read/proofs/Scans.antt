@@ -53,17 +53,13 @@ large_is before h total is = rw is refl
 pub ruleset size_steps = (scan_found, scan_next, scan_end, large_is, memory_step, memory_start)
 
 -- an entry of the table, and those to come
-table_step : (file : List ℕ) (offset k n : ℕ) → k < n →
-    table_at file (offset + 32 * k) (n - k) ≡ header_at file (offset + 32 * k) ∷ table_at file (offset + 32 * (k + 1)) (n - (k + 1))
-unfolding table_at
-table_step file offset k n more =
-    let step : n - k ≡ suc (n - (k + 1)) = omega arith in
-    let next : offset + 32 * (k + 1) ≡ offset + 32 * k + 32 = omega arith in
-    rw (step, next) refl
-
 pub table_more : (hs grown : List ProgramHeader) (file : List ℕ) (offset k n : ℕ) → k < n → grown ≡ hs ++ (header_at file (offset + 32 * k) ∷ []) →
     grown ++ table_at file (offset + 32 * (k + 1)) (n - (k + 1)) ≡ hs ++ table_at file (offset + 32 * k) (n - k)
-table_more hs grown file offset k n more is = rw (is, append_assoc, table_step file offset k n more) refl
+unfolding table_at
+table_more hs grown file offset k n more is =
+    let step : n - k ≡ suc (n - (k + 1)) = omega arith in
+    let next : offset + 32 * (k + 1) ≡ offset + 32 * k + 32 = omega arith in
+    rw (is, append_assoc, step, next) refl
 
 pub table_end : (hs : List ProgramHeader) (file : List ℕ) (offset n k : ℕ) → n ≤ k → hs ++ table_at file offset (n - k) ≡ hs
 unfolding table_at

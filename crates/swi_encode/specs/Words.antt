@@ -69,16 +69,8 @@ op_funct3 Rem = 6
 op_funct3 Remu = 7
 
 abbrev pub op_funct7 : RegOp → ℕ
-op_funct7 Add = 0
 op_funct7 Sub = 32
-op_funct7 Sll = 0
-op_funct7 Slt = 0
-op_funct7 Sltu = 0
-op_funct7 Xor = 0
-op_funct7 Srl = 0
 op_funct7 Sra = 32
-op_funct7 Or = 0
-op_funct7 And = 0
 op_funct7 Mul = 1
 op_funct7 Mulh = 1
 op_funct7 Mulhsu = 1
@@ -87,6 +79,7 @@ op_funct7 Div = 1
 op_funct7 Divu = 1
 op_funct7 Rem = 1
 op_funct7 Remu = 1
+op_funct7 _ = 0
 
 abbrev pub atomic_funct5 : AtomicOp → ℕ
 atomic_funct5 LrW = 2

@@ -22,9 +22,7 @@ loadable_at (x ∷ xs) (suc k) s each found = loadable_at xs k s each.1 found
 drop_found : (xs : List LoadedData) (k : ℕ) (s : SegmentData) → option_map segment_of (slice_get xs k) ≡ Some s →
     map segment_of (drop k xs) ≡ s ∷ map segment_of (drop (suc k) xs)
 drop_found [] k s found = cc
-drop_found (x ∷ xs) zero s found =
-    let same : segment_of x ≡ s = cc in
-    rw same refl
+drop_found (x ∷ xs) zero s found = cc
 drop_found (x ∷ xs) (suc k) s found = drop_found xs k s found
 
 pub segment_step : (done grown : List SegmentData) (xs : List LoadedData) (k : ℕ) (s : SegmentData) → option_map segment_of (slice_get xs k) ≡ Some s → grown ≡ done ++ s ∷ [] →

@@ -30,15 +30,9 @@ get_word_first bytes n k within =
 
 pub ruleset word_views = (length_words, get_word_first)
 
--- a byte, a number and the words of a part
-byte_cut : (bytes : List ℕ) (m j at i : ℕ) → at + i < m → get_or (drop at (take m (drop j bytes))) i 0 ≡ get_or (drop (j + at) bytes) i 0
-byte_cut bytes m j at i within =
-    let place : j + (at + i) ≡ j + at + i = omega arith in
-    rw (get_or-drop at (take m (drop j bytes)) i 0, get_or-take m (drop j bytes) (at + i) 0 within, get_or-drop j bytes (at + i) 0, get_or-drop (j + at) bytes i 0, place) refl
-
+-- a number and the words of a part
 number_cut : (bytes : List ℕ) (m j at : ℕ) → at + 4 ≤ m → little_number 4 (drop at (take m (drop j bytes))) ≡ little_number 4 (drop (j + at) bytes)
-number_cut bytes m j at within =
-    rw (byte_cut bytes m j at 0 (omega arith), byte_cut bytes m j at 1 (omega arith), byte_cut bytes m j at 2 (omega arith), byte_cut bytes m j at 3 (omega arith)) refl
+number_cut bytes m j at within = grind (arith, get_or-drop {A = ℕ}, get_or-take {A = ℕ})
 
 words_cut : (bytes : List ℕ) (m j at n : ℕ) → at + 4 * n ≤ m → words_from (take m (drop j bytes)) at n ≡ words_from bytes (j + at) n
 unfolding words_from
