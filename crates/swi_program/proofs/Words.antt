@@ -16,17 +16,11 @@ length_words bytes at (suc n) = rw (length_words bytes (at + 4) n) refl
 pub get_word : (bytes : List ℕ) (at n k : ℕ) → k < n → get_or (words_from bytes at n) k 0 ≡ little_number 4 (drop (at + 4 * k) bytes)
 unfolding words_from
 get_word bytes at zero k within = absurd (omega arith)
-get_word bytes at (suc n) zero within =
-    let here : at + 4 * 0 ≡ at = omega arith in
-    rw here refl
-get_word bytes at (suc n) (suc k) within =
-    let on : at + 4 * suc k ≡ at + 4 + 4 * k = omega arith in
-    rw on (get_word bytes (at + 4) n k (omega arith))
+get_word bytes at (suc n) zero within = grind arith
+get_word bytes at (suc n) (suc k) within = grind (arith, get_word bytes (at + 4) n k)
 
 pub get_word_first : (bytes : List ℕ) (n k : ℕ) → k < n → get_or (words_from bytes 0 n) k 0 ≡ little_number 4 (drop (4 * k) bytes)
-get_word_first bytes n k within =
-    let on : 0 + 4 * k ≡ 4 * k = omega arith in
-    rw on at (get_word bytes 0 n k within)
+get_word_first bytes n k within = grind (arith, get_word bytes 0 n k)
 
 pub ruleset word_views = (length_words, get_word_first)
 
@@ -37,10 +31,7 @@ number_cut bytes m j at within = grind (arith, get_or-drop {A = ℕ}, get_or-tak
 words_cut : (bytes : List ℕ) (m j at n : ℕ) → at + 4 * n ≤ m → words_from (take m (drop j bytes)) at n ≡ words_from bytes (j + at) n
 unfolding words_from
 words_cut bytes m j at zero within = refl
-words_cut bytes m j at (suc n) within =
-    let on : j + (at + 4) ≡ j + at + 4 = omega arith in
-    let rest : words_from (take m (drop j bytes)) (at + 4) n ≡ words_from bytes (j + at + 4) n = rw on at (words_cut bytes m j (at + 4) n (omega arith)) in
-    rw (number_cut bytes m j at (omega arith), rest) refl
+words_cut bytes m j at (suc n) within = grind (arith, number_cut bytes m j at, words_cut bytes m j (at + 4) n)
 
 -- the text of a segment, seen as the whole words of its bytes from the first multiple of 4 on
 pub seen_text : (s : SegmentData) (base : ℕ) (part : List ℕ) → base ≡ round_up_4 s.base →
