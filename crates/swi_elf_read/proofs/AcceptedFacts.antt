@@ -113,8 +113,7 @@ clear_in file g (h ∷ hs) xs ys held e =
     let rest = clear_in file g hs xs (ys ++ h ∷ []) held (rw append_assoc at s.1) in
     elim (cases_Bool (is_loaded h)) [
       | inl loaded ↦
-          let t : list_any (λ x. is_loaded x && shares_address x h) (xs ++ g ∷ ys) ≡ false = rw loaded at s.0 in
-          let w : shares_address g h ≡ false = grind (arith, nat_tests, rw list_any-append at t) in
+          let w : shares_address g h ≡ false = grind (arith, nat_tests, rw list_any-append at s.0) in
           rw loaded (clear_one file g h w, rest)
       | inr missed ↦ rw missed rest
     ]
@@ -133,9 +132,7 @@ all_apart file (h ∷ hs) before e =
 
 exec_is : (file : List ℕ) (h : ProgramHeader) → is_loaded h ≡ true → can_execute (loaded_of file h) ≡ is_text h
 unfolding is_text
-exec_is file h held =
-    let low : h.p_flags % 8 % 2 ≡ h.p_flags % 2 = omega arith in
-    rw (held, low) refl
+exec_is file h held = grind (arith, nat_tests)
 
 none_after : (file : List ℕ) (hs before : List ProgramHeader) → list_any is_text before ≡ true → first_from is_second_text before hs ≡ None →
     filter can_execute (loaded_from file hs) ≡ []
@@ -181,19 +178,11 @@ memory_fits (h ∷ hs) before fits e =
 
 -- the entry
 
-word_kept : (file : List ℕ) (h : ProgramHeader) (a : ℕ) → is_extent_wrong (length file) h ≡ false → is_loaded h ≡ true → is_word_address h a ≡ true →
-    (a % 4 == 0 && (nat_le h.p_vaddr a && nat_le (a + 4) (h.p_vaddr + length (bytes_of file h)))) ≡ true
-unfolding is_word_address is_extent_wrong is_loaded
-word_kept file h a extent loaded e =
-    grind (arith, nat_tests, length-take h.p_filesz (drop h.p_offset file), length-drop h.p_offset file)
-
 word_there : (file : List ℕ) (h : ProgramHeader) (a : ℕ) → is_extent_wrong (length file) h ≡ false → is_text_word a h ≡ true →
     (is_loaded h ≡ true) × (has_word_at a (loaded_of file h) ≡ true)
-unfolding is_text_word
+unfolding is_text_word is_text is_word_address is_extent_wrong is_loaded
 word_there file h a extent e =
-    let p = and_parts (is_text h) (is_word_address h a) e in
-    let loaded : is_loaded h ≡ true = text_is_loaded h p.0 in
-    (loaded, rw (exec_is file h loaded, p.0) (word_kept file h a extent loaded p.1))
+    (grind (arith, nat_tests), grind (arith, nat_tests, length-take h.p_filesz (drop h.p_offset file), length-drop h.p_offset file))
 
 entry_there : (file : List ℕ) (a : ℕ) (hs : List ProgramHeader) → list_any (is_extent_wrong (length file)) hs ≡ false → list_any (is_text_word a) hs ≡ true →
     list_any (has_word_at a) (loaded_from file hs) ≡ true

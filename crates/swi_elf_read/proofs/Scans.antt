@@ -12,9 +12,7 @@ use Rattle.swi_elf_read.specs.ProgramHeaders.{first_from, memory_of, memory_take
 pub scan_found : (test : List ProgramHeader → ProgramHeader → Bool) (hs : List ProgramHeader) (i : ℕ) (d : ProgramHeader) → i < length hs →
     test (take i hs) (get_or hs i d) ≡ true → first_from test (take i hs) (drop i hs) ≡ Some i
 unfolding first_from
-scan_found test hs i d within picked =
-    let size : length (take i hs) ≡ i = omega (arith, length-take i hs) in
-    rw (drop_more hs i d within, picked, size) refl
+scan_found test hs i d within picked = grind (arith, common_steps, drop_more hs i d within)
 
 -- a header that is not
 pub scan_next : (test : List ProgramHeader → ProgramHeader → Bool) (hs : List ProgramHeader) (i : ℕ) (d : ProgramHeader) → i < length hs →
@@ -26,9 +24,7 @@ scan_next test hs i d within passed = rw (drop_more hs i d within, passed, take_
 pub scan_end : (test : List ProgramHeader → ProgramHeader → Bool) (hs before : List ProgramHeader) (i : ℕ) → length hs ≤ i →
     first_from test before (drop i hs) ≡ None
 unfolding first_from
-scan_end test hs before i past =
-    let none : drop i hs ≡ [] = grind (arith, common_steps) in
-    rw none refl
+scan_end test hs before i past = grind (arith, common_steps)
 
 pub ruleset scan_steps = (scan_found, scan_next, scan_end)
 

@@ -27,9 +27,7 @@ pub nth_same : (hs : List ProgramHeader) (i k : ℕ) (d : ProgramHeader) → i <
 nth_same hs i k d within missed = rw (drop_more hs i d within, missed) refl
 
 pub nth_end : (hs : List ProgramHeader) (i k : ℕ) → length hs ≤ i → slice_get (filter is_loaded (drop i hs)) k ≡ None
-nth_end hs i k past =
-    let none : drop i hs ≡ [] = grind (arith, common_steps) in
-    rw none refl
+nth_end hs i k past = grind (arith, common_steps)
 
 pub ruleset nth_steps = (nth_found, nth_next, nth_same, nth_end)
 

@@ -16,9 +16,7 @@ end_step xs i highest top s within is e = rw (drop_more xs i s within, ← is, e
 
 pub end_none : (xs : List SegmentData) (i : ℕ) → length xs ≤ i → highest_end (drop i xs) ≡ 0
 unfolding highest_end
-end_none xs i past =
-    let none : drop i xs ≡ [] = grind (arith, common_steps) in
-    rw none refl
+end_none xs i past = grind (arith, common_steps)
 
 pub ruleset end_steps = (end_step, end_none)
 

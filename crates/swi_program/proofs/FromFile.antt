@@ -30,9 +30,7 @@ pub segment_step : (done grown : List SegmentData) (xs : List LoadedData) (k : �
 segment_step done grown xs k s found is = rw (is, append_assoc, add-one, drop_found xs k s found) refl
 
 pub segment_end : (done : List SegmentData) (xs : List LoadedData) (k : ℕ) → length xs ≤ k → done ++ map segment_of (drop k xs) ≡ done
-segment_end done xs k past =
-    let none : drop k xs ≡ [] = grind (arith, common_steps) in
-    rw none (append-nil done)
+segment_end done xs k past = grind (arith, common_steps)
 
 pub ruleset file_steps = (segment_step, segment_end)
 

@@ -12,9 +12,7 @@ byte_step done grown ws i d within is = rw (is, append_assoc, drop_more ws i d w
 
 pub byte_end : (done ws : List ℕ) (i : ℕ) → length ws ≤ i → done ++ bytes_of_words (drop i ws) ≡ done
 unfolding bytes_of_words
-byte_end done ws i past =
-    let none : drop i ws ≡ [] = grind (arith, common_steps) in
-    rw none (append-nil done)
+byte_end done ws i past = grind (arith, common_steps)
 
 pub length_bytes : (ws : List ℕ) → length (bytes_of_words ws) ≡ 4 * length ws
 unfolding bytes_of_words
