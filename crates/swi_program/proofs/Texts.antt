@@ -47,19 +47,7 @@ text_held : (s : SegmentData) (a : ℕ) → can_execute s ≡ true → word_in (
 text_held s a runs =
     let n : ℕ = (s.base + length s.bytes - text_base s) / 4 in
     let count : length (words_from s.bytes (text_base s - s.base) n) ≡ n = length_words s.bytes (text_base s - s.base) n in
-    let test : (a % 4 == 0 && (nat_le s.base a && nat_le (a + 4) (s.base + length s.bytes))) ≡ (a % 4 == 0 && (nat_le (text_base s) a && nat_le (a + 4) (text_base s + 4 * n))) =
-    grind (arith, nat_tests) in
-    elim (cases_Bool (a % 4 == 0 && (nat_le (text_base s) a && nat_le (a + 4) (text_base s + 4 * n)))) [
-      | inl held ↦
-          let x : a % 4 ≡ 0 = grind (arith, nat_tests) in
-          let y : text_base s ≤ a = grind (arith, nat_tests) in
-          let z : a + 4 ≤ text_base s + 4 * n = grind (arith, nat_tests) in
-          let place : text_base s - s.base + 4 * ((a - text_base s) / 4) ≡ a - s.base = omega arith in
-          let here : get_or (words_from s.bytes (text_base s - s.base) n) ((a - text_base s) / 4) 0 ≡ number_in s.bytes (a - s.base) 4 =
-          get_word s.bytes (text_base s - s.base) n ((a - text_base s) / 4) (omega arith) ∙ (rw place (sym (number_there s.bytes (a - s.base)))) in
-          rw (runs, test, count, held, here) refl
-      | inr missed ↦ rw (runs, test, count, missed) refl
-    ]
+    grind (arith, nat_tests, get_word s.bytes (text_base s - s.base) n ((a - text_base s) / 4), number_there s.bytes (a - s.base))
 
 pub program_held : (p q : ProgramData) → p ≡ q → IsProgram p → (a : ℕ) → word_in q.segments a ≡ word_of (text_of q.segments) a
 unfolding text_of
