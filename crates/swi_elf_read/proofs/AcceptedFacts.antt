@@ -1,5 +1,5 @@
 -- What the loaded segments of an accepted file keep.
-use Rattle.std.proofs.Common.{◌≡◌, ℕ, ◌+◌, ◌-◌, ◌≤◌, ◌%◌, ◌^◌, ◌==◌, ◌⊎◌, ◌&&◌, min, not, Bool, true, false, List, [], ◌∷◌, ◌++◌, length, take, drop, map, filter, arith, refl, sym, ◌∙◌, append_assoc, append-nil, length-take, length-drop, Option, Some, None, option_map, nat_le, position, sum_by, fold, inl, inr}
+use Rattle.std.proofs.Common.{◌≡◌, ℕ, ◌+◌, ◌-◌, ◌≤◌, ◌<◌, cond, ◌%◌, ◌^◌, ◌==◌, ◌⊎◌, ◌&&◌, min, not, Bool, true, false, List, [], ◌∷◌, ◌++◌, length, take, drop, map, filter, arith, refl, sym, ◌∙◌, append_assoc, append-nil, length-take, length-drop, Option, Some, None, option_map, nat_le, position, sum_by, fold, inl, inr}
 use Rattle.std.specs.List.{list_any, position_from}
 use Rattle.std.proofs.lemmas.Bool.{cases_Bool, or_parts, and_parts, or_right, eqb-true}
 use Rattle.std.proofs.lemmas.Bool.Decides.{nat_tests}
@@ -38,9 +38,6 @@ position_from_none : (p : ProgramHeader → Bool) (i : ℕ) (hs : List ProgramHe
 position_from_none p i [] e = refl
 position_from_none p i (x ∷ hs) e = grind (arith, nat_tests, position_from_none p (i + 1) hs)
 
-position_none : (p : ProgramHeader → Bool) (hs : List ProgramHeader) → position p hs ≡ None → list_any p hs ≡ false
-position_none p hs e = position_from_none p 0 hs (sym (position_from-zero p hs) ∙ e)
-
 first_from_none : (test : List ProgramHeader → ProgramHeader → Bool) (before : List ProgramHeader) (h : ProgramHeader) (rest : List ProgramHeader) →
     first_from test before (h ∷ rest) ≡ None → (test before h ≡ false) × (first_from test (before ++ h ∷ []) rest ≡ None)
 unfolding first_from
@@ -65,7 +62,7 @@ accepted file e =
     let t : AllNone checks = all_none checks n.1.1.0 in
     record {
       flags = eqb-true _ _ (refuse_unless _ _ h.1.1.1.0);
-      extents = position_none (is_extent_wrong (length file)) (program_headers file) (map_none _ _ t.1.0);
+      extents = position_from_none (is_extent_wrong (length file)) 0 (program_headers file) (sym (position_from-zero (is_extent_wrong (length file)) (program_headers file)) ∙ map_none _ _ t.1.0);
       apart = map_none _ _ t.1.1.0;
       some = refuse_unless _ _ t.1.1.1.0;
       single = map_none _ _ t.1.1.1.1.0;
@@ -99,22 +96,15 @@ each_loadable file (h ∷ hs) before extents sizes =
 
 -- no two share an address
 
-clear_one : (file : List ℕ) (g h : ProgramHeader) → shares_address g h ≡ false →
-    (g.p_vaddr + g.p_memsz ≤ h.p_vaddr) ⊎ (h.p_vaddr + h.p_memsz ≤ g.p_vaddr)
-unfolding shares_address
-clear_one file g h e = grind (arith, nat_tests)
-
 clear_in : (file : List ℕ) (g : ProgramHeader) (hs xs ys : List ProgramHeader) → is_loaded g ≡ true → first_from is_overlap (xs ++ g ∷ ys) hs ≡ None →
     IsClearOf (loaded_of file g) (loaded_from file hs)
-unfolding is_overlap
+unfolding is_overlap shares_address
 clear_in file g [] xs ys held e = tt
 clear_in file g (h ∷ hs) xs ys held e =
     let s = first_from_none is_overlap (xs ++ g ∷ ys) h hs e in
     let rest = clear_in file g hs xs (ys ++ h ∷ []) held (rw append_assoc at s.1) in
     elim (cases_Bool (is_loaded h)) [
-      | inl loaded ↦
-          let w : shares_address g h ≡ false = grind (arith, nat_tests, rw list_any-append at s.0) in
-          rw loaded (clear_one file g h w, rest)
+      | inl loaded ↦ rw loaded (grind (arith, nat_tests, rw list_any-append at s.0), rest)
       | inr missed ↦ rw missed rest
     ]
 
@@ -130,38 +120,23 @@ all_apart file (h ∷ hs) before e =
 
 -- one executable segment
 
-exec_is : (file : List ℕ) (h : ProgramHeader) → is_loaded h ≡ true → can_execute (loaded_of file h) ≡ is_text h
+text_is : (file : List ℕ) (h : ProgramHeader) → is_text h ≡ (is_loaded h && can_execute (loaded_of file h))
 unfolding is_text
-exec_is file h held = grind (arith, nat_tests)
+text_is file h = grind (arith, nat_tests)
 
-none_after : (file : List ℕ) (hs before : List ProgramHeader) → list_any is_text before ≡ true → first_from is_second_text before hs ≡ None →
-    filter can_execute (loaded_from file hs) ≡ []
+one_at_most : (file : List ℕ) (hs before : List ProgramHeader) → first_from is_second_text before hs ≡ None →
+    length (filter can_execute (loaded_from file hs)) + cond (list_any is_text before) 1 0 ≤ 1
 unfolding is_second_text
-none_after file [] before one e = refl
-none_after file (h ∷ hs) before one e =
+one_at_most file [] before e = grind (arith, nat_tests)
+one_at_most file (h ∷ hs) before e =
     let s = first_from_none is_second_text before h hs e in
-    let rest = none_after file hs (before ++ h ∷ []) (rw (list_any-append, one) refl) s.1 in
-    grind (arith, nat_tests, s.0, rest, exec_is file h)
+    let rest = rw list_any-append at (one_at_most file hs (before ++ h ∷ []) s.1) in
+    grind (arith, nat_tests, s.0, rest, text_is file h)
 
-text_is_loaded : (h : ProgramHeader) → is_text h ≡ true → is_loaded h ≡ true
-unfolding is_text
-text_is_loaded h e = (and_parts (is_loaded h) (is_executable h) e).0
-
-one_text : (file : List ℕ) (hs before : List ProgramHeader) → list_any is_text before ≡ false → list_any has_text_word hs ≡ true → first_from is_second_text before hs ≡ None →
-    length (filter can_execute (loaded_from file hs)) ≡ 1
+one_at_least : (file : List ℕ) (hs : List ProgramHeader) → list_any has_text_word hs ≡ true → 0 < length (filter can_execute (loaded_from file hs))
 unfolding has_text_word is_text_word
-one_text file [] before none some e = cc
-one_text file (h ∷ hs) before none some e =
-    let s = first_from_none is_second_text before h hs e in
-    elim (cases_Bool (is_text h)) [
-      | inl text ↦
-          let loaded : is_loaded h ≡ true = text_is_loaded h text in
-          let rest = none_after file hs (before ++ h ∷ []) (rw (list_any-append, none, text) refl) s.1 in
-          rw (loaded, exec_is file h loaded, text, rest) refl
-      | inr plain ↦
-          let rest = one_text file hs (before ++ h ∷ []) (rw (list_any-append, none, plain) refl) (rw plain at some) s.1 in
-          grind (arith, nat_tests, rest, exec_is file h)
-    ]
+one_at_least file [] some = absurd (cc)
+one_at_least file (h ∷ hs) some = grind (arith, nat_tests, one_at_least file hs, text_is file h)
 
 -- the memory that they take
 
@@ -189,14 +164,7 @@ entry_there : (file : List ℕ) (a : ℕ) (hs : List ProgramHeader) → list_any
 entry_there file a [] extents e = cc
 entry_there file a (h ∷ hs) extents e =
     let x = or_parts (is_extent_wrong (length file) h) (list_any (is_extent_wrong (length file)) hs) extents in
-    elim (cases_Bool (is_text_word a h)) [
-      | inl here ↦
-          let w = word_there file h a x.0 here in
-          rw (w.0, w.1) refl
-      | inr later ↦
-          let rest = entry_there file a hs x.1 (rw later at e) in
-          grind (arith, nat_tests, rest)
-    ]
+    grind (arith, nat_tests, entry_there file a hs x.1, word_there file h a x.0)
 
 -- what an accepted file keeps
 
@@ -213,7 +181,7 @@ accepted_apart file e = all_apart file (program_headers file) [] (accepted file 
 
 pub accepted_text : (file : List ℕ) → first_refusal file ≡ None → length (filter can_execute (loaded_segments file)) ≡ 1
 unfolding loaded_segments
-accepted_text file e = one_text file (program_headers file) [] refl (accepted file e).some (accepted file e).single
+accepted_text file e = omega (arith, one_at_least file (program_headers file) (accepted file e).some, one_at_most file (program_headers file) [] (accepted file e).single)
 
 pub accepted_memory : (file : List ℕ) → first_refusal file ≡ None → sum_by (λ s. s.size) (loaded_segments file) ≤ 2 ^ 25
 unfolding loaded_segments memory_of

@@ -59,14 +59,9 @@ table_more hs grown file offset k n more is =
 
 pub table_end : (hs : List ProgramHeader) (file : List ℕ) (offset n k : ℕ) → n ≤ k → hs ++ table_at file offset (n - k) ≡ hs
 unfolding table_at
-table_end hs file offset n k past =
-    let none : n - k ≡ 0 = omega arith in
-    rw none (append-nil hs)
+table_end hs file offset n k past = grind (arith, common_steps)
 
 pub table_start : (file : List ℕ) (offset n : ℕ) → table_at file (offset + 32 * 0) (n - 0) ≡ table_at file offset n
-table_start file offset n =
-    let zero_on : offset + 32 * 0 ≡ offset = omega arith in
-    let all : n - 0 ≡ n = omega arith in
-    rw (zero_on, all) refl
+table_start file offset n = grind arith
 
 pub ruleset table_steps = (table_more, table_end, table_start)
