@@ -1,19 +1,16 @@
 -- What the loaded segments of an accepted file keep.
-use Rattle.std.proofs.Common.{◌≡◌, ℕ, ◌+◌, ◌-◌, ◌≤◌, ◌<◌, cond, ◌%◌, ◌^◌, ◌==◌, ◌⊎◌, ◌&&◌, min, not, Bool, true, false, List, [], ◌∷◌, ◌++◌, length, take, drop, map, filter, arith, refl, sym, ◌∙◌, append_assoc, append-nil, length-take, length-drop, Option, Some, None, option_map, nat_le, position, sum_by, fold, inl, inr}
+use Rattle.std.proofs.Common.{◌≡◌, ℕ, ◌+◌, ◌≤◌, ◌<◌, cond, ◌%◌, ◌^◌, ◌&&◌, not, Bool, true, false, List, [], ◌∷◌, ◌++◌, length, drop, filter, arith, refl, sym, ◌∙◌, append_assoc, append-nil, length-take, length-drop, Option, Some, None, option_map, sum_by, inl, inr}
 use Rattle.std.specs.List.{list_any, position_from}
-use Rattle.std.proofs.lemmas.Bool.{cases_Bool, or_parts, and_parts, or_right, eqb-true}
+use Rattle.std.proofs.lemmas.Bool.{cases_Bool, or_parts, eqb-true}
 use Rattle.std.proofs.lemmas.Bool.Decides.{nat_tests}
 use Rattle.std.proofs.lemmas.Iterator.Adapters.{position_from-zero}
 use Rattle.std.proofs.lemmas.List.Folds.{fold-map, list_any-append}
-use Rattle.std.proofs.lemmas.List.Sums.{sum_by-append}
-use Rattle.std.proofs.lemmas.List.Elements.{filter-append}
 use Rattle.swi_elf_read.specs.declared.program_header.ProgramHeader.{ProgramHeader}
 use Rattle.swi_elf_read.specs.declared.refusal.ElfRefusal.{ElfRefusal}
-use Rattle.swi_elf_read.specs.declared.refusal.ElfRefusal.TheVariants.{Flags, Extent, Overlap, NoText, TwoTexts, Large, Entry}
-use Rattle.swi_elf_read.specs.ProgramHeaders.{is_loaded, is_text, is_executable, is_extent_wrong, shares_address, is_overlap, is_second_text, is_too_large, passes_limit, memory_of, memory_taken, is_word_address, is_text_word, has_text_word, first_from, first_among}
-use Rattle.swi_elf_read.specs.Elf.{first_some, refuse_if, table_checks, table_refusal, first_refusal, identification_refusal, header_checks, header_refusal, program_headers, e_entry, e_flags, has_plain_flags}
+use Rattle.swi_elf_read.specs.ProgramHeaders.{is_loaded, is_text, is_extent_wrong, shares_address, is_overlap, is_second_text, is_too_large, passes_limit, memory_of, memory_taken, is_word_address, is_text_word, has_text_word, first_from}
+use Rattle.swi_elf_read.specs.Elf.{first_some, refuse_if, table_checks, table_refusal, first_refusal, identification_refusal, header_checks, header_refusal, program_headers, e_entry, e_flags}
 use Rattle.swi_elf_read.proofs.Scans.{memory_one}
-use Rattle.swi_elf_read.specs.Loaded.{loaded_of, loaded_from, loaded_segments, bytes_of, can_execute, has_word_at, IsLoadable, AreLoadable, IsClearOf, AreApart}
+use Rattle.swi_elf_read.specs.Loaded.{loaded_of, loaded_from, loaded_segments, can_execute, has_word_at, IsLoadable, AreLoadable, IsClearOf, AreApart}
 
 -- checks that all pass
 

@@ -1,5 +1,5 @@
 -- Loaded headers, one by one.
-use Rattle.std.proofs.Common.{◌≡◌, ℕ, ◌+◌, ◌<◌, ◌≤◌, ◌-◌, ◌≢◌, suc, true, false, List, [], ◌∷◌, length, get_or, drop, arith, refl, filter, find, slice_get, Some, None, sym, subst, inl, inr}
+use Rattle.std.proofs.Common.{◌≡◌, ℕ, ◌+◌, ◌<◌, ◌≤◌, ◌-◌, ◌≢◌, suc, true, false, List, [], ◌∷◌, length, get_or, drop, arith, refl, filter, find, slice_get, Some, None, sym, subst}
 use Rattle.std.specs.List.{list_any}
 use Rattle.std.specs.Option.{is_some}
 use Rattle.std.proofs.lemmas.List.{drop_more}
