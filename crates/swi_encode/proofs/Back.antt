@@ -2,10 +2,8 @@
 use Rattle.std.proofs.Common.{subst, ◌≡◌, ℕ, ◌+◌, ◌*◌, ◌%◌, ◌^◌, ◌<◌, bit_and, arith, refl, true, Some}
 use Rattle.std.proofs.lemmas.Bool.Decides.{nat_tests}
 use Rattle.std.proofs.lemmas.Nat.{and_mask}
-use Rattle.swi_field.specs.Field.{field, extended, with_field}
-use Rattle.swi_isa.specs.declared.instr.ImmOp.{ImmOp}
+use Rattle.swi_field.specs.Field.{field, extended}
 use Rattle.swi_isa.specs.declared.instr.ImmOp.TheVariants.{Slli, Srli, Srai}
-use Rattle.swi_isa.specs.declared.instr.AtomicOp.{AtomicOp}
 use Rattle.swi_isa.specs.declared.instr.AtomicOp.TheVariants.{LrW}
 use Rattle.swi_isa.specs.declared.instr.Instr.{Instr}
 use Rattle.swi_isa.specs.Decode.{decoded}
@@ -59,26 +57,6 @@ r_again w o f g word p q code = omega (arith, under_32 w word)
 whole : (w v : ℕ) → w < 2 ^ 32 → bit_and w 0xFFFFFFFF ≡ v → v ≡ w
 whole w v word code = omega (arith, and_mask w 32)
 
-again_imm : (op : ImmOp) (w : ℕ) → w < 2 ^ 32 → has_row (OpImm op) ≡ true → bit_and w (mask_of (OpImm op)) ≡ value_of (OpImm op) →
-    (word_of (made (OpImm op) w) ≡ w) × IsValid (made (OpImm op) w)
-again_imm Slli w word row hit = cc
-again_imm Srli w word row hit = cc
-again_imm Srai w word row hit = cc
-again_imm op w word row hit = i_again w 0x13 (imm_funct3 op) word (omega arith) (imm_funct3_lt op) hit
-
-again_shift : (op : ImmOp) (w : ℕ) → w < 2 ^ 32 → has_row (ShiftImm op) ≡ true → bit_and w (mask_of (ShiftImm op)) ≡ value_of (ShiftImm op) →
-    (word_of (made (ShiftImm op) w) ≡ w) × IsValid (made (ShiftImm op) w)
-again_shift Slli w word row hit = (r_again w 0x13 1 0 word (omega arith) (omega arith) hit, omega arith)
-again_shift Srli w word row hit = (r_again w 0x13 5 0 word (omega arith) (omega arith) hit, omega arith)
-again_shift Srai w word row hit = (r_again w 0x13 5 32 word (omega arith) (omega arith) hit, omega arith)
-again_shift _ w word row hit = cc
-
--- an atomic's word with aq and rl cleared
-again_atomic : (op : AtomicOp) (w : ℕ) → w < 2 ^ 32 → bit_and w (mask_of (Amo op)) ≡ value_of (Amo op) →
-    (word_of (made (Amo op) w) ≡ with_field 26 25 w 0) × IsValid (made (Amo op) w)
-again_atomic LrW w word hit = (omega (arith, under_reserve w word), omega (arith, under_reserve w word))
-again_atomic _ w word hit = (omega (arith, under_atomic w word), tt)
-
 again : (f : Form) (w : ℕ) → w < 2 ^ 32 → has_row f ≡ true → bit_and w (mask_of f) ≡ value_of f → (word_of (made f w) ≡ canonical (made f w) w) × IsValid (made f w)
 again Lui w word row hit = u_again w 0x37 word hit
 again Auipc w word row hit = u_again w 0x17 word hit
@@ -87,10 +65,17 @@ again Jalr w word row hit = i_again w 0x67 0 word (omega arith) (omega arith) hi
 again (Branch op) w word row hit = b_again w (branch_funct3 op) word (branch_funct3_lt op) hit
 again (Load op) w word row hit = i_again w 3 (load_funct3 op) word (omega arith) (load_funct3_lt op) hit
 again (Store op) w word row hit = s_again w (store_funct3 op) word (store_funct3_lt op) hit
-again (OpImm op) w word row hit = again_imm op w word row hit
-again (ShiftImm op) w word row hit = again_shift op w word row hit
+again (OpImm Slli) w word row hit = cc
+again (OpImm Srli) w word row hit = cc
+again (OpImm Srai) w word row hit = cc
+again (OpImm op) w word row hit = i_again w 0x13 (imm_funct3 op) word (omega arith) (imm_funct3_lt op) hit
+again (ShiftImm Slli) w word row hit = (r_again w 0x13 1 0 word (omega arith) (omega arith) hit, omega arith)
+again (ShiftImm Srli) w word row hit = (r_again w 0x13 5 0 word (omega arith) (omega arith) hit, omega arith)
+again (ShiftImm Srai) w word row hit = (r_again w 0x13 5 32 word (omega arith) (omega arith) hit, omega arith)
+again (ShiftImm _) w word row hit = cc
 again (Op op) w word row hit = (r_again w 0x33 (op_funct3 op) (op_funct7 op) word (omega arith) (op_codes_lt op).0 hit, tt)
-again (Amo op) w word row hit = again_atomic op w word hit
+again (Amo LrW) w word row hit = (omega (arith, under_reserve w word), omega (arith, under_reserve w word))
+again (Amo _) w word row hit = (omega (arith, under_atomic w word), tt)
 again Fence w word row hit = (refl, tt)
 again Ecall w word row hit = (whole w 0x73 word hit, tt)
 again Ebreak w word row hit = (whole w 0x100073 word hit, tt)

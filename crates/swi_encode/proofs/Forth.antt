@@ -2,7 +2,6 @@
 use Rattle.std.proofs.Common.{◌≡◌, ℕ, ◌+◌, ◌*◌, ◌/◌, ◌%◌, ◌^◌, ◌<◌, bit_and, arith, refl, ap, ◌∙◌, Some}
 use Rattle.std.proofs.lemmas.Bool.Decides.{nat_tests}
 use Rattle.swi_field.specs.Field.{field, extended}
-use Rattle.swi_isa.specs.declared.instr.ImmOp.{ImmOp}
 use Rattle.swi_isa.specs.declared.instr.ImmOp.TheVariants.{Slli, Srli, Srai}
 use Rattle.swi_isa.specs.declared.instr.AtomicOp.{AtomicOp}
 use Rattle.swi_isa.specs.declared.instr.AtomicOp.TheVariants.{LrW}
@@ -13,8 +12,8 @@ use Rattle.swi_isa.specs.Table.{Lui, Auipc, Jal, Jalr, Branch, Load, Store, OpIm
 use Rattle.swi_isa.specs.Table.{rd_of, rs1_of, rs2_of, imm_i, imm_s, imm_b, imm_u, imm_j}
 use Rattle.swi_isa.proofs.Masks.{under_7, under_15, under_32, under_atomic, under_reserve}
 use Rattle.swi_isa.proofs.Sums.{is_imm_i, is_imm_s, is_imm_b, is_imm_u, is_imm_j}
-use Rattle.swi_encode.specs.Valid.{IsExtended, IsEven, ImmFits, AtomicFits, IsValid}
-use Rattle.swi_encode.specs.Words.{InRange, word_of, u_word, j_word, i_word, s_word, b_word, r_word, alu_word, branch_funct3, load_funct3, store_funct3, imm_funct3, op_funct3, op_funct7, atomic_funct5}
+use Rattle.swi_encode.specs.Valid.{IsExtended, IsEven, AtomicFits, IsValid}
+use Rattle.swi_encode.specs.Words.{InRange, word_of, u_word, j_word, i_word, s_word, b_word, r_word, branch_funct3, load_funct3, store_funct3, imm_funct3, op_funct3, op_funct7, atomic_funct5}
 use Rattle.swi_encode.proofs.Codes.{branch_funct3_lt, load_funct3_lt, store_funct3_lt, imm_funct3_lt, op_codes_lt, atomic_funct5_lt}
 use Rattle.swi_encode.proofs.Rows.{mask_of, value_of, decoded_at}
 
@@ -115,12 +114,6 @@ atomic_code : (op : AtomicOp) (w rd rs1 rs2 : ℕ) → rd < 32 → rs1 < 32 → 
 atomic_code LrW w rd rs1 rs2 p1 p2 p3 fits is = under_reserve w (omega arith) ∙ omega arith
 atomic_code _ w rd rs1 rs2 p1 p2 p3 fits is = under_atomic w (omega arith) ∙ omega arith
 
-alu : (op : ImmOp) (w rd rs1 imm : ℕ) → rd < 32 → rs1 < 32 → imm < 2 ^ 32 → ImmFits op imm → w ≡ alu_word op rd rs1 imm → decoded w ≡ Some (instr.Alu op rd rs1 imm)
-alu Slli w rd rs1 imm p1 p2 p3 fits is = let h : RFields w 0x13 1 0 rd rs1 imm = r_fields w 0x13 1 0 rd rs1 imm (omega arith) (omega arith) (omega arith) p1 p2 fits is in decoded_at (ShiftImm Slli) w refl h.code ∙ cc
-alu Srli w rd rs1 imm p1 p2 p3 fits is = let h : RFields w 0x13 5 0 rd rs1 imm = r_fields w 0x13 5 0 rd rs1 imm (omega arith) (omega arith) (omega arith) p1 p2 fits is in decoded_at (ShiftImm Srli) w refl h.code ∙ cc
-alu Srai w rd rs1 imm p1 p2 p3 fits is = let h : RFields w 0x13 5 32 rd rs1 imm = r_fields w 0x13 5 32 rd rs1 imm (omega arith) (omega arith) (omega arith) p1 p2 fits is in decoded_at (ShiftImm Srai) w refl h.code ∙ cc
-alu op w rd rs1 imm p1 p2 p3 fits is = let h : IFields w 0x13 (imm_funct3 op) rd rs1 imm = i_fields w 0x13 (imm_funct3 op) rd rs1 imm (omega arith) (imm_funct3_lt op) p1 p2 p3 fits is in decoded_at (OpImm op) w refl h.code ∙ cc
-
 -- the word of a valid instruction decodes to it
 pub word_decodes : (i : Instr) (w : ℕ) → w ≡ word_of i → InRange i → IsValid i → decoded w ≡ Some i
 word_decodes (instr.Lui rd imm) w is r v = let h : UFields w 0x37 rd imm = u_fields w 0x37 rd imm (omega arith) r.0 r.1 v is in decoded_at Lui w refl h.code ∙ cc
@@ -130,7 +123,10 @@ word_decodes (instr.Jalr rd rs1 imm) w is r v = let h : IFields w 0x67 0 rd rs1 
 word_decodes (instr.Branch op rs1 rs2 off) w is r v = let h : BFields w (branch_funct3 op) rs1 rs2 off = b_fields w (branch_funct3 op) rs1 rs2 off (branch_funct3_lt op) r.0 r.1 r.2 v.0 v.1 is in decoded_at (Branch op) w refl h.code ∙ cc
 word_decodes (instr.Load op rd rs1 imm) w is r v = let h : IFields w 3 (load_funct3 op) rd rs1 imm = i_fields w 3 (load_funct3 op) rd rs1 imm (omega arith) (load_funct3_lt op) r.0 r.1 r.2 v is in decoded_at (Load op) w refl h.code ∙ cc
 word_decodes (instr.Store op rs1 rs2 imm) w is r v = let h : SFields w (store_funct3 op) rs1 rs2 imm = s_fields w (store_funct3 op) rs1 rs2 imm (store_funct3_lt op) r.0 r.1 r.2 v is in decoded_at (Store op) w refl h.code ∙ cc
-word_decodes (instr.Alu op rd rs1 imm) w is r v = alu op w rd rs1 imm r.0 r.1 r.2 v is
+word_decodes (instr.Alu Slli rd rs1 imm) w is r v = let h : RFields w 0x13 1 0 rd rs1 imm = r_fields w 0x13 1 0 rd rs1 imm (omega arith) (omega arith) (omega arith) r.0 r.1 v is in decoded_at (ShiftImm Slli) w refl h.code ∙ cc
+word_decodes (instr.Alu Srli rd rs1 imm) w is r v = let h : RFields w 0x13 5 0 rd rs1 imm = r_fields w 0x13 5 0 rd rs1 imm (omega arith) (omega arith) (omega arith) r.0 r.1 v is in decoded_at (ShiftImm Srli) w refl h.code ∙ cc
+word_decodes (instr.Alu Srai rd rs1 imm) w is r v = let h : RFields w 0x13 5 32 rd rs1 imm = r_fields w 0x13 5 32 rd rs1 imm (omega arith) (omega arith) (omega arith) r.0 r.1 v is in decoded_at (ShiftImm Srai) w refl h.code ∙ cc
+word_decodes (instr.Alu op rd rs1 imm) w is r v = let h : IFields w 0x13 (imm_funct3 op) rd rs1 imm = i_fields w 0x13 (imm_funct3 op) rd rs1 imm (omega arith) (imm_funct3_lt op) r.0 r.1 r.2 v is in decoded_at (OpImm op) w refl h.code ∙ cc
 word_decodes (instr.Op op rd rs1 rs2) w is r v = let h : RFields w 0x33 (op_funct3 op) (op_funct7 op) rd rs1 rs2 = r_fields w 0x33 (op_funct3 op) (op_funct7 op) rd rs1 rs2 (omega arith) (op_codes_lt op).0 (op_codes_lt op).1 r.0 r.1 r.2 is in decoded_at (Op op) w refl h.code ∙ cc
 word_decodes (instr.Atomic op rd rs1 rs2) w is r v =
     let small : atomic_funct5 op < 32 = atomic_funct5_lt op in

@@ -1,5 +1,5 @@
 -- The highest end of segments, and the room above it.
-use Rattle.std.proofs.Common.{◌≡◌, ℕ, ◌+◌, ◌^◌, ◌<◌, ◌≤◌, max, Bool, true, false, List, [], ◌∷◌, ◌++◌, map, length, get_or, drop, Ok, Err, if◌then◌else◌, arith, refl, subst, inl, inr}
+use Rattle.std.proofs.Common.{◌≡◌, ℕ, ◌+◌, ◌<◌, ◌≤◌, max, Bool, true, false, List, [], ◌∷◌, ◌++◌, map, length, get_or, drop, Ok, Err, if◌then◌else◌, arith, refl, subst, inl, inr}
 use Rattle.std.proofs.lemmas.List.{drop_more}
 use Rattle.std.proofs.lemmas.Bool.{ltb-false}
 use Rattle.std.proofs.lemmas.Grind.{common_steps}
@@ -21,14 +21,10 @@ end_none xs i past = grind (arith, common_steps)
 pub ruleset end_steps = (end_step, end_none)
 
 -- each segment ends at or below the highest end
-below_more : (xs : List SegmentData) (a b : ℕ) → EndBelow xs a → a ≤ b → EndBelow xs b
-below_more [] a b h le = tt
-below_more (s ∷ xs) a b h le = (omega (arith, h.0), below_more xs a b h.1 le)
-
-end_below : (xs : List SegmentData) → EndBelow xs (highest_end xs)
+end_below : (xs : List SegmentData) (a : ℕ) → highest_end xs ≤ a → EndBelow xs a
 unfolding highest_end
-end_below [] = tt
-end_below (s ∷ xs) = (omega arith, below_more xs (highest_end xs) (max (s.base + s.size) (highest_end xs)) (end_below xs) (omega arith))
+end_below [] a le = tt
+end_below (s ∷ xs) a le = (omega arith, end_below xs a (omega arith))
 
 -- the heap and the stack above the segments share no address with them, nor with each other
 clear_with : (r : Range) (xs : List SegmentData) (heap stack : Range) → IsClearOf r (map range_of xs) → r.base + r.size ≤ heap.base → r.base + r.size ≤ stack.base →
@@ -53,8 +49,8 @@ room_law p q is sound l own =
     let apart : AreApart (map range_of q.segments) = subst (λ (r : ProgramData). AreApart (map range_of r.segments)) is sound.apart in
     let ok = ok_of _ _ _ l own in
     subst (λ (k : Layout). IsRoomy q.segments k) ok.1 (record {
-      heap = end_below q.segments;
+      heap = end_below q.segments (highest_end q.segments) (omega arith);
       stack = omega arith;
       end = ltb-false _ _ ok.0;
-      apart = apart_with q.segments (record { base = highest_end q.segments; size = l.heap_len }) (record { base = stack_base q.segments l.heap_len; size = l.stack_len }) apart (end_below q.segments) (omega arith);
+      apart = apart_with q.segments (record { base = highest_end q.segments; size = l.heap_len }) (record { base = stack_base q.segments l.heap_len; size = l.stack_len }) apart (end_below q.segments (highest_end q.segments) (omega arith)) (omega arith);
     })

@@ -1,5 +1,5 @@
 -- The program of a file.
-use Rattle.std.proofs.Common.{◌≡◌, ℕ, ◌+◌, ◌%◌, ◌^◌, ◌≤◌, zero, suc, true, List, [], ◌∷◌, ◌++◌, length, map, filter, fold, sum_by, drop, Some, option_map, arith, refl, sym, add-one, append_assoc, append-nil, slice_get, subst, inl, inr}
+use Rattle.std.proofs.Common.{◌≡◌, ℕ, ◌+◌, ◌%◌, ◌^◌, ◌≤◌, zero, suc, true, List, [], ◌∷◌, ◌++◌, length, map, filter, sum_by, drop, Some, option_map, arith, refl, sym, add-one, append_assoc, slice_get, subst, inr}
 use Rattle.std.specs.List.{list_any}
 use Rattle.std.proofs.lemmas.Grind.{common_steps}
 use Rattle.std.proofs.lemmas.Bool.Decides.{nat_tests}

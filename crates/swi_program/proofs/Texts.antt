@@ -1,5 +1,5 @@
 -- The executable segment of a program, and its text.
-use Rattle.std.proofs.Common.{◌≡◌, ℕ, ◌+◌, ◌-◌, ◌*◌, ◌/◌, ◌%◌, ◌^◌, ◌≤◌, ◌==◌, ◌&&◌, suc, Bool, true, false, nat_le, List, [], ◌∷◌, length, filter, find, get_or, drop, Some, None, option_copied, arith, refl, sym, ap, ◌∙◌, subst, inl, inr, get_or-drop}
+use Rattle.std.proofs.Common.{◌≡◌, ℕ, ◌+◌, ◌-◌, ◌/◌, suc, true, List, [], ◌∷◌, length, filter, find, drop, Some, None, arith, refl, sym, ap, ◌∙◌, subst, inl, inr, get_or-drop}
 use Rattle.std.specs.List.{list_any}
 use Rattle.std.specs.Option.{is_some}
 use Rattle.std.proofs.lemmas.Bool.{cases_Bool}

@@ -1,5 +1,5 @@
 -- Words of a list of bytes.
-use Rattle.std.proofs.Common.{◌≡◌, ℕ, ◌+◌, ◌-◌, ◌*◌, ◌/◌, ◌<◌, ◌≤◌, zero, suc, List, length, get_or, take, drop, arith, refl, ap, ◌∙◌, Some, length-take, length-drop, get_or-drop, get_or-take}
+use Rattle.std.proofs.Common.{◌≡◌, ℕ, ◌+◌, ◌-◌, ◌*◌, ◌/◌, ◌<◌, ◌≤◌, zero, suc, List, length, get_or, take, drop, arith, refl, Some, length-take, length-drop, get_or-drop, get_or-take}
 use Rattle.byteorder.specs.Endian.{little_number}
 use Rattle.swi_elf_read.specs.ProgramHeaders.{round_up_4}
 use Rattle.swi_program.specs.Program.{SegmentData}

@@ -1,5 +1,3 @@
-use Rattle.std.proofs.Common.{find, Some, None, ◌≡◌}
-use Rattle.swi_program.specs.Program.{can_execute}
 use Rattle.swi_program.proofs.Texts.{text_facts, text_there}
 use Rattle.swi_program.proofs.programs.Program.executable.Goals as goal
 
