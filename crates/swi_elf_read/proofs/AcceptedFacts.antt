@@ -1,18 +1,16 @@
 -- What the loaded segments of an accepted file keep.
-use Rattle.std.proofs.Common.{◌≡◌, ℕ, ◌+◌, ◌-◌, ◌≤◌, ◌%◌, ◌^◌, ◌==◌, ◌⊎◌, ◌&&◌, min, not, Bool, true, false, List, [], ◌∷◌, ◌++◌, length, take, drop, map, filter, arith, refl, sym, ◌∙◌, append_assoc, append-nil, length-take, length-drop, Option, Some, None, option_map, nat_le, position, sum_by, fold, inl, inr}
+use Rattle.std.proofs.Common.{◌≡◌, ℕ, ◌+◌, ◌≤◌, ◌<◌, cond, ◌%◌, ◌^◌, ◌&&◌, not, Bool, true, false, List, [], ◌∷◌, ◌++◌, length, drop, filter, arith, refl, sym, ◌∙◌, append_assoc, append-nil, length-take, length-drop, Option, Some, None, option_map, sum_by, inl, inr}
 use Rattle.std.specs.List.{list_any, position_from}
-use Rattle.std.proofs.lemmas.Bool.{cases_Bool, or_parts, and_parts, or_right, eqb-true}
+use Rattle.std.proofs.lemmas.Bool.{cases_Bool, or_parts, eqb-true}
 use Rattle.std.proofs.lemmas.Bool.Decides.{nat_tests}
 use Rattle.std.proofs.lemmas.Iterator.Adapters.{position_from-zero}
-use Rattle.std.proofs.lemmas.List.Folds.{list_any-append}
-use Rattle.std.proofs.lemmas.List.Sums.{sum_by-append}
-use Rattle.std.proofs.lemmas.List.Elements.{filter-append}
+use Rattle.std.proofs.lemmas.List.Folds.{fold-map, list_any-append}
 use Rattle.swi_elf_read.specs.declared.program_header.ProgramHeader.{ProgramHeader}
 use Rattle.swi_elf_read.specs.declared.refusal.ElfRefusal.{ElfRefusal}
-use Rattle.swi_elf_read.specs.declared.refusal.ElfRefusal.TheVariants.{Flags, Extent, Overlap, NoText, TwoTexts, Large, Entry}
-use Rattle.swi_elf_read.specs.ProgramHeaders.{is_loaded, is_text, is_executable, is_extent_wrong, shares_address, is_overlap, is_second_text, is_too_large, passes_limit, memory_of, memory_taken, is_word_address, is_text_word, has_text_word, first_from, first_among}
-use Rattle.swi_elf_read.specs.Elf.{first_some, refuse_if, table_checks, table_refusal, first_refusal, identification_refusal, header_checks, header_refusal, program_headers, e_entry, e_flags, has_plain_flags}
-use Rattle.swi_elf_read.specs.Loaded.{loaded_of, loaded_from, loaded_segments, bytes_of, can_execute, has_word_at, IsLoadable, AreLoadable, IsClearOf, AreApart}
+use Rattle.swi_elf_read.specs.ProgramHeaders.{is_loaded, is_text, is_extent_wrong, shares_address, is_overlap, is_second_text, is_too_large, passes_limit, memory_of, memory_taken, is_word_address, is_text_word, has_text_word, first_from}
+use Rattle.swi_elf_read.specs.Elf.{first_some, refuse_if, table_checks, table_refusal, first_refusal, identification_refusal, header_checks, header_refusal, program_headers, e_entry, e_flags}
+use Rattle.swi_elf_read.proofs.Scans.{memory_one}
+use Rattle.swi_elf_read.specs.Loaded.{loaded_of, loaded_from, loaded_segments, can_execute, has_word_at, IsLoadable, AreLoadable, IsClearOf, AreApart}
 
 -- checks that all pass
 
@@ -25,58 +23,48 @@ all_none [] h = tt
 all_none (None ∷ xs) h = (refl, all_none xs h)
 all_none (Some r ∷ xs) h = cc
 
-refuse_none : (b : Bool) (r : ElfRefusal) → refuse_if b r ≡ None → b ≡ false
-refuse_none true r h = cc
-refuse_none false r h = refl
+refuse_unless : (b : Bool) (r : ElfRefusal) → refuse_if (not b) r ≡ None → b ≡ true
+refuse_unless true r h = refl
+refuse_unless false r h = cc
 
 map_none : (f : ℕ → ElfRefusal) (o : Option ℕ) → option_map f o ≡ None → o ≡ None
 map_none f None h = refl
 map_none f (Some i) h = cc
 
-not_false : (b : Bool) → not b ≡ false → b ≡ true
-not_false true h = refl
-not_false false h = cc
-
 position_from_none : (p : ProgramHeader → Bool) (i : ℕ) (hs : List ProgramHeader) → position_from p i hs ≡ None → list_any p hs ≡ false
 position_from_none p i [] e = refl
-position_from_none p i (x ∷ hs) e =
-    elim (cases_Bool (p x)) [
-      | inl held ↦ let wrong : Some i ≡ None = rw held at e in cc
-      | inr missed ↦ rw missed (position_from_none p (i + 1) hs (rw missed at e))
-    ]
-
-position_none : (p : ProgramHeader → Bool) (hs : List ProgramHeader) → position p hs ≡ None → list_any p hs ≡ false
-position_none p hs e = position_from_none p 0 hs (sym (position_from-zero p hs) ∙ e)
+position_from_none p i (x ∷ hs) e = grind (arith, nat_tests, position_from_none p (i + 1) hs)
 
 first_from_none : (test : List ProgramHeader → ProgramHeader → Bool) (before : List ProgramHeader) (h : ProgramHeader) (rest : List ProgramHeader) →
     first_from test before (h ∷ rest) ≡ None → (test before h ≡ false) × (first_from test (before ++ h ∷ []) rest ≡ None)
 unfolding first_from
-first_from_none test before h rest e =
-    elim (cases_Bool (test before h)) [
-      | inl held ↦ let wrong : Some (length before) ≡ None = rw held at e in cc
-      | inr missed ↦ (missed, rw missed at e)
-    ]
+first_from_none test before h rest e = grind (arith, nat_tests)
 
--- what the checks of the program headers leave
-record Passes (size entry : ℕ) (hs : List ProgramHeader) : Type 0 where
-  extents : list_any (is_extent_wrong size) hs ≡ false
-  apart : first_from is_overlap [] hs ≡ None
-  some : list_any has_text_word hs ≡ true
-  single : first_from is_second_text [] hs ≡ None
-  sizes : first_from is_too_large [] hs ≡ None
-  entry_word : list_any (is_text_word entry) hs ≡ true
+-- what the checks leave
+record Accepted (file : List ℕ) : Type 0 where
+  flags : e_flags file % 16 ≡ 0
+  extents : list_any (is_extent_wrong (length file)) (program_headers file) ≡ false
+  apart : first_from is_overlap [] (program_headers file) ≡ None
+  some : list_any has_text_word (program_headers file) ≡ true
+  single : first_from is_second_text [] (program_headers file) ≡ None
+  sizes : first_from is_too_large [] (program_headers file) ≡ None
+  entry : list_any (is_text_word (e_entry file)) (program_headers file) ≡ true
 
-passes : (size entry : ℕ) (hs : List ProgramHeader) → table_refusal size entry hs ≡ None → Passes size entry hs
-unfolding table_refusal
-passes size entry hs e =
-    let n : AllNone (table_checks size entry hs) = all_none (table_checks size entry hs) e in
+accepted : (file : List ℕ) → first_refusal file ≡ None → Accepted file
+unfolding first_refusal table_refusal
+accepted file e =
+    let checks : List (Option ElfRefusal) = table_checks (length file) (e_entry file) (program_headers file) in
+    let n : AllNone (identification_refusal file ∷ header_refusal file ∷ first_some checks ∷ []) = all_none (identification_refusal file ∷ header_refusal file ∷ first_some checks ∷ []) e in
+    let h : AllNone (header_checks file) = all_none (header_checks file) n.1.0 in
+    let t : AllNone checks = all_none checks n.1.1.0 in
     record {
-      extents = position_none (is_extent_wrong size) hs (map_none Extent (position (is_extent_wrong size) hs) n.1.0);
-      apart = map_none Overlap (first_among is_overlap hs) n.1.1.0;
-      some = not_false (list_any has_text_word hs) (refuse_none (not (list_any has_text_word hs)) (NoText 0) n.1.1.1.0);
-      single = map_none TwoTexts (first_among is_second_text hs) n.1.1.1.1.0;
-      sizes = map_none Large (first_among is_too_large hs) n.1.1.1.1.1.0;
-      entry_word = not_false (list_any (is_text_word entry) hs) (refuse_none (not (list_any (is_text_word entry) hs)) (Entry 24) n.1.1.1.1.1.1.0);
+      flags = eqb-true _ _ (refuse_unless _ _ h.1.1.1.0);
+      extents = position_from_none (is_extent_wrong (length file)) 0 (program_headers file) (sym (position_from-zero (is_extent_wrong (length file)) (program_headers file)) ∙ map_none _ _ t.1.0);
+      apart = map_none _ _ t.1.1.0;
+      some = refuse_unless _ _ t.1.1.1.0;
+      single = map_none _ _ t.1.1.1.1.0;
+      sizes = map_none _ _ t.1.1.1.1.1.0;
+      entry = refuse_unless _ _ t.1.1.1.1.1.1.0;
     }
 
 -- each loaded segment
@@ -84,13 +72,12 @@ passes size entry hs e =
 loadable_one : (file : List ℕ) (h : ProgramHeader) (total : ℕ) → is_loaded h ≡ true → is_extent_wrong (length file) h ≡ false → passes_limit total h ≡ false → IsLoadable (loaded_of file h)
 unfolding is_loaded is_extent_wrong passes_limit
 loadable_one file h total held extent limit =
-    let size : length (take h.p_filesz (drop h.p_offset file)) ≡ min h.p_filesz (length (drop h.p_offset file)) = length-take h.p_filesz (drop h.p_offset file) in
     record {
       rights = omega arith;
       some = grind (arith, nat_tests);
-      front = grind (arith, nat_tests);
+      front = grind (arith, nat_tests, length-take h.p_filesz (drop h.p_offset file));
       end = grind (arith, nat_tests);
-      text = λ e. grind (arith, nat_tests);
+      text = λ e. grind (arith, nat_tests, length-take h.p_filesz (drop h.p_offset file));
     }
 
 each_loadable : (file : List ℕ) (hs before : List ProgramHeader) → list_any (is_extent_wrong (length file)) hs ≡ false → first_from is_too_large before hs ≡ None → AreLoadable (loaded_from file hs)
@@ -106,25 +93,15 @@ each_loadable file (h ∷ hs) before extents sizes =
 
 -- no two share an address
 
-clear_one : (file : List ℕ) (g h : ProgramHeader) → shares_address g h ≡ false →
-    (g.p_vaddr + g.p_memsz ≤ h.p_vaddr) ⊎ (h.p_vaddr + h.p_memsz ≤ g.p_vaddr)
-unfolding shares_address
-clear_one file g h e = grind (arith, nat_tests)
-
 clear_in : (file : List ℕ) (g : ProgramHeader) (hs xs ys : List ProgramHeader) → is_loaded g ≡ true → first_from is_overlap (xs ++ g ∷ ys) hs ≡ None →
     IsClearOf (loaded_of file g) (loaded_from file hs)
-unfolding is_overlap
+unfolding is_overlap shares_address
 clear_in file g [] xs ys held e = tt
 clear_in file g (h ∷ hs) xs ys held e =
     let s = first_from_none is_overlap (xs ++ g ∷ ys) h hs e in
     let rest = clear_in file g hs xs (ys ++ h ∷ []) held (rw append_assoc at s.1) in
     elim (cases_Bool (is_loaded h)) [
-      | inl loaded ↦
-          let t : list_any (λ x. is_loaded x && shares_address x h) (xs ++ g ∷ ys) ≡ false = rw loaded at s.0 in
-          let u = or_parts _ _ (rw list_any-append at t) in
-          let v = or_parts (is_loaded g && shares_address g h) (list_any (λ x. is_loaded x && shares_address x h) ys) u.1 in
-          let w : shares_address g h ≡ false = rw held at v.0 in
-          rw loaded (clear_one file g h w, rest)
+      | inl loaded ↦ rw loaded (grind (arith, nat_tests, rw list_any-append at s.0), rest)
       | inr missed ↦ rw missed rest
     ]
 
@@ -140,159 +117,75 @@ all_apart file (h ∷ hs) before e =
 
 -- one executable segment
 
-exec_is : (file : List ℕ) (h : ProgramHeader) → is_loaded h ≡ true → can_execute (loaded_of file h) ≡ is_text h
+text_is : (file : List ℕ) (h : ProgramHeader) → is_text h ≡ (is_loaded h && can_execute (loaded_of file h))
 unfolding is_text
-exec_is file h held =
-    let low : h.p_flags % 8 % 2 ≡ h.p_flags % 2 = omega arith in
-    rw (held, low) refl
+text_is file h = grind (arith, nat_tests)
 
-none_after : (file : List ℕ) (hs before : List ProgramHeader) → list_any is_text before ≡ true → first_from is_second_text before hs ≡ None →
-    filter can_execute (loaded_from file hs) ≡ []
+one_at_most : (file : List ℕ) (hs before : List ProgramHeader) → first_from is_second_text before hs ≡ None →
+    length (filter can_execute (loaded_from file hs)) + cond (list_any is_text before) 1 0 ≤ 1
 unfolding is_second_text
-none_after file [] before one e = refl
-none_after file (h ∷ hs) before one e =
+one_at_most file [] before e = grind (arith, nat_tests)
+one_at_most file (h ∷ hs) before e =
     let s = first_from_none is_second_text before h hs e in
-    let grown : list_any is_text (before ++ h ∷ []) ≡ true = rw (list_any-append, one) refl in
-    let rest = none_after file hs (before ++ h ∷ []) grown s.1 in
-    let no_text : is_text h ≡ false = and_left (is_text h) (list_any is_text before) s.0 one in
-    elim (cases_Bool (is_loaded h)) [
-      | inl loaded ↦ rw (loaded, exec_is file h loaded, no_text) rest
-      | inr missed ↦ rw missed rest
-    ] where
-      and_left : (x y : Bool) → (x && y) ≡ false → y ≡ true → x ≡ false
-      and_left true y e one = cc
-      and_left false y e one = refl
+    let rest = rw list_any-append at (one_at_most file hs (before ++ h ∷ []) s.1) in
+    grind (arith, nat_tests, s.0, rest, text_is file h)
 
-text_is_loaded : (h : ProgramHeader) → is_text h ≡ true → is_loaded h ≡ true
-unfolding is_text
-text_is_loaded h e = (and_parts (is_loaded h) (is_executable h) e).0
-
-one_text : (file : List ℕ) (hs before : List ProgramHeader) → list_any is_text before ≡ false → list_any has_text_word hs ≡ true → first_from is_second_text before hs ≡ None →
-    length (filter can_execute (loaded_from file hs)) ≡ 1
+one_at_least : (file : List ℕ) (hs : List ProgramHeader) → list_any has_text_word hs ≡ true → 0 < length (filter can_execute (loaded_from file hs))
 unfolding has_text_word is_text_word
-one_text file [] before none some e = cc
-one_text file (h ∷ hs) before none some e =
-    let s = first_from_none is_second_text before h hs e in
-    elim (cases_Bool (is_text h)) [
-      | inl text ↦
-          let loaded : is_loaded h ≡ true = text_is_loaded h text in
-          let grown : list_any is_text (before ++ h ∷ []) ≡ true = rw (list_any-append, none, text) refl in
-          rw (loaded, exec_is file h loaded, text, none_after file hs (before ++ h ∷ []) grown s.1) refl
-      | inr plain ↦
-          let grown : list_any is_text (before ++ h ∷ []) ≡ false = rw (list_any-append, none, plain) refl in
-          let more : list_any has_text_word hs ≡ true = rw plain at some in
-          let rest = one_text file hs (before ++ h ∷ []) grown more s.1 in
-          elim (cases_Bool (is_loaded h)) [
-            | inl loaded ↦ rw (loaded, exec_is file h loaded, plain) rest
-            | inr missed ↦ rw missed rest
-          ]
-    ]
+one_at_least file [] some = absurd (cc)
+one_at_least file (h ∷ hs) some = grind (arith, nat_tests, one_at_least file hs, text_is file h)
 
 -- the memory that they take
 
-within_limit : (total : ℕ) (h : ProgramHeader) → total ≤ 2 ^ 25 → passes_limit total h ≡ false → total + memory_taken h ≤ 2 ^ 25
+memory_more : (before : List ProgramHeader) (h : ProgramHeader) → memory_of before ≤ 2 ^ 25 → passes_limit (memory_of before) h ≡ false → memory_of (before ++ h ∷ []) ≤ 2 ^ 25
 unfolding passes_limit memory_taken
-within_limit total h fits e = grind (arith, nat_tests)
-
-memory_one : (before : List ProgramHeader) (h : ProgramHeader) → memory_of (before ++ h ∷ []) ≡ memory_of before + memory_taken h
-unfolding memory_of memory_taken
-memory_one before h =
-    let size : ProgramHeader → ℕ = λ x. x.p_memsz in
-    elim (cases_Bool (is_loaded h)) [
-      | inl held ↦ rw (filter-append is_loaded, sum_by-append size, held) (omega arith)
-      | inr missed ↦ rw (filter-append is_loaded, sum_by-append size, missed) refl
-    ]
+memory_more before h fits e = rw (memory_one before h) (grind (arith, nat_tests))
 
 memory_fits : (hs before : List ProgramHeader) → memory_of before ≤ 2 ^ 25 → first_from is_too_large before hs ≡ None → memory_of (before ++ hs) ≤ 2 ^ 25
 unfolding is_too_large
 memory_fits [] before fits e = rw append-nil fits
 memory_fits (h ∷ hs) before fits e =
     let s = first_from_none is_too_large before h hs e in
-    let one : memory_of (before ++ h ∷ []) ≤ 2 ^ 25 = rw (memory_one before h) (within_limit (memory_of before) h fits s.0) in
-    rw append_assoc at (memory_fits hs (before ++ h ∷ []) one s.1)
+    rw append_assoc at (memory_fits hs (before ++ h ∷ []) (memory_more before h fits s.0) s.1)
 
 -- the entry
 
-word_kept : (file : List ℕ) (h : ProgramHeader) (a : ℕ) → is_extent_wrong (length file) h ≡ false → is_loaded h ≡ true → is_word_address h a ≡ true →
-    (a % 4 == 0 && (nat_le h.p_vaddr a && nat_le (a + 4) (h.p_vaddr + length (bytes_of file h)))) ≡ true
-unfolding is_word_address is_extent_wrong is_loaded
-word_kept file h a extent loaded e =
-    let size : length (take h.p_filesz (drop h.p_offset file)) ≡ min h.p_filesz (length (drop h.p_offset file)) = length-take h.p_filesz (drop h.p_offset file) in
-    let rest : length (drop h.p_offset file) ≡ length file - h.p_offset = length-drop h.p_offset file in
-    grind (arith, nat_tests)
-
 word_there : (file : List ℕ) (h : ProgramHeader) (a : ℕ) → is_extent_wrong (length file) h ≡ false → is_text_word a h ≡ true →
     (is_loaded h ≡ true) × (has_word_at a (loaded_of file h) ≡ true)
-unfolding is_text_word
+unfolding is_text_word is_text is_word_address is_extent_wrong is_loaded
 word_there file h a extent e =
-    let p = and_parts (is_text h) (is_word_address h a) e in
-    let loaded : is_loaded h ≡ true = text_is_loaded h p.0 in
-    (loaded, rw (exec_is file h loaded, p.0) (word_kept file h a extent loaded p.1))
+    (grind (arith, nat_tests), grind (arith, nat_tests, length-take h.p_filesz (drop h.p_offset file), length-drop h.p_offset file))
 
 entry_there : (file : List ℕ) (a : ℕ) (hs : List ProgramHeader) → list_any (is_extent_wrong (length file)) hs ≡ false → list_any (is_text_word a) hs ≡ true →
     list_any (has_word_at a) (loaded_from file hs) ≡ true
 entry_there file a [] extents e = cc
 entry_there file a (h ∷ hs) extents e =
     let x = or_parts (is_extent_wrong (length file) h) (list_any (is_extent_wrong (length file)) hs) extents in
-    elim (cases_Bool (is_text_word a h)) [
-      | inl here ↦
-          let w = word_there file h a x.0 here in
-          rw (w.0, w.1) refl
-      | inr later ↦
-          let rest = entry_there file a hs x.1 (rw later at e) in
-          elim (cases_Bool (is_loaded h)) [
-            | inl loaded ↦ rw loaded (or_right (has_word_at a (loaded_of file h)) (list_any (has_word_at a) (loaded_from file hs)) rest)
-            | inr missed ↦ rw missed rest
-          ]
-    ]
+    grind (arith, nat_tests, entry_there file a hs x.1, word_there file h a x.0)
 
 -- what an accepted file keeps
 
-accepted_table : (file : List ℕ) → first_refusal file ≡ None → Passes (length file) (e_entry file) (program_headers file)
-unfolding first_refusal
-accepted_table file e =
-    let n : AllNone (identification_refusal file ∷ header_refusal file ∷ table_refusal (length file) (e_entry file) (program_headers file) ∷ []) = all_none (identification_refusal file ∷ header_refusal file ∷ table_refusal (length file) (e_entry file) (program_headers file) ∷ []) e in
-    passes (length file) (e_entry file) (program_headers file) n.1.1.0
-
 pub accepted_flags : (file : List ℕ) → first_refusal file ≡ None → e_flags file % 16 ≡ 0
-unfolding first_refusal
-accepted_flags file e =
-    let n : AllNone (identification_refusal file ∷ header_refusal file ∷ table_refusal (length file) (e_entry file) (program_headers file) ∷ []) = all_none (identification_refusal file ∷ header_refusal file ∷ table_refusal (length file) (e_entry file) (program_headers file) ∷ []) e in
-    let m : AllNone (header_checks file) = all_none (header_checks file) n.1.0 in
-    eqb-true (e_flags file % 16) 0 (not_false (has_plain_flags (e_flags file)) (refuse_none (not (has_plain_flags (e_flags file))) (Flags 36) m.1.1.1.0))
+accepted_flags file e = (accepted file e).flags
 
 pub accepted_each : (file : List ℕ) → first_refusal file ≡ None → AreLoadable (loaded_segments file)
 unfolding loaded_segments
-accepted_each file e =
-    let p = accepted_table file e in
-    each_loadable file (program_headers file) [] p.extents p.sizes
+accepted_each file e = each_loadable file (program_headers file) [] (accepted file e).extents (accepted file e).sizes
 
 pub accepted_apart : (file : List ℕ) → first_refusal file ≡ None → AreApart (loaded_segments file)
 unfolding loaded_segments
-accepted_apart file e = all_apart file (program_headers file) [] (accepted_table file e).apart
+accepted_apart file e = all_apart file (program_headers file) [] (accepted file e).apart
 
 pub accepted_text : (file : List ℕ) → first_refusal file ≡ None → length (filter can_execute (loaded_segments file)) ≡ 1
 unfolding loaded_segments
-accepted_text file e =
-    let p = accepted_table file e in
-    one_text file (program_headers file) [] refl p.some p.single
-
-sum_mapped : (file : List ℕ) (total : ℕ) (hs : List ProgramHeader) →
-    fold (λ a s. a + s.size) total (map (loaded_of file) hs) ≡ fold (λ a h. a + h.p_memsz) total hs
-sum_mapped file total [] = refl
-sum_mapped file total (h ∷ hs) = sum_mapped file (total + h.p_memsz) hs
+accepted_text file e = omega (arith, one_at_least file (program_headers file) (accepted file e).some, one_at_most file (program_headers file) [] (accepted file e).single)
 
 pub accepted_memory : (file : List ℕ) → first_refusal file ≡ None → sum_by (λ s. s.size) (loaded_segments file) ≤ 2 ^ 25
 unfolding loaded_segments memory_of
-accepted_memory file e =
-    let p = accepted_table file e in
-    let m : memory_of (program_headers file) ≤ 2 ^ 25 = memory_fits (program_headers file) [] (omega arith) p.sizes in
-    rw (sum_mapped file 0 (filter is_loaded (program_headers file))) m
+accepted_memory file e = rw (fold-map) (memory_fits (program_headers file) [] (omega arith) (accepted file e).sizes)
 
 pub accepted_entry : (file : List ℕ) → first_refusal file ≡ None → list_any (has_word_at (e_entry file)) (loaded_segments file) ≡ true
 unfolding loaded_segments
-accepted_entry file e =
-    let p = accepted_table file e in
-    entry_there file (e_entry file) (program_headers file) p.extents p.entry_word
+accepted_entry file e = entry_there file (e_entry file) (program_headers file) (accepted file e).extents (accepted file e).entry
 
 pub ruleset accepted_facts = (accepted_flags, accepted_each, accepted_apart, accepted_text, accepted_memory, accepted_entry)

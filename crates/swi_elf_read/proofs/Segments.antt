@@ -1,27 +1,15 @@
 -- Loaded headers, one by one.
-use Rattle.std.proofs.Common.{◌≡◌, ℕ, ◌+◌, ◌<◌, ◌≤◌, ◌-◌, ◌≢◌, suc, true, false, List, [], ◌∷◌, ◌++◌, length, get_or, take, drop, arith, refl, add-one, filter, find, slice_get, length-append, Some, None, sym, subst, inl, inr}
+use Rattle.std.proofs.Common.{◌≡◌, ℕ, ◌+◌, ◌<◌, ◌≤◌, ◌-◌, ◌≢◌, suc, true, false, List, [], ◌∷◌, length, get_or, drop, arith, refl, filter, find, slice_get, Some, None, sym, subst}
 use Rattle.std.specs.List.{list_any}
-use Rattle.std.proofs.Math.Seq.{take-suc}
+use Rattle.std.specs.Option.{is_some}
 use Rattle.std.proofs.lemmas.List.{drop_more}
-use Rattle.std.proofs.lemmas.Bool.{cases_Bool}
+use Rattle.std.proofs.lemmas.Bool.Decides.{nat_tests}
 use Rattle.std.proofs.lemmas.Grind.{common_steps}
-use Rattle.std.proofs.lemmas.List.Elements.{filter-append}
+use Rattle.std.proofs.lemmas.List.Filters.{length-filter_more}
 use Rattle.swi_elf_read.specs.declared.program_header.ProgramHeader.{ProgramHeader}
 use Rattle.swi_elf_read.specs.ProgramHeaders.{is_loaded, is_image}
 
-pub count_more : (hs : List ProgramHeader) (i : ℕ) (d : ProgramHeader) → i < length hs → is_loaded (get_or hs i d) ≡ true →
-    length (filter is_loaded (take (i + 1) hs)) ≡ length (filter is_loaded (take i hs)) + 1
-count_more hs i d within held =
-    let grown : take (i + 1) hs ≡ take i hs ++ (get_or hs i d ∷ []) = rw add-one (take-suc hs i d within) in
-    rw (grown, filter-append is_loaded, held, length-append) refl
-
-pub count_same : (hs : List ProgramHeader) (i : ℕ) (d : ProgramHeader) → i < length hs → is_loaded (get_or hs i d) ≡ false →
-    length (filter is_loaded (take (i + 1) hs)) ≡ length (filter is_loaded (take i hs))
-count_same hs i d within missed =
-    let grown : take (i + 1) hs ≡ take i hs ++ (get_or hs i d ∷ []) = rw add-one (take-suc hs i d within) in
-    rw (grown, filter-append is_loaded, missed, length-append) (omega arith)
-
-pub ruleset count_steps = (count_more, count_same)
+pub ruleset count_steps = (length-filter_more)
 
 -- the loaded headers that are left, where one more is passed over
 pub nth_found : (hs : List ProgramHeader) (i : ℕ) (d : ProgramHeader) → i < length hs → is_loaded (get_or hs i d) ≡ true →
@@ -39,27 +27,11 @@ pub nth_same : (hs : List ProgramHeader) (i k : ℕ) (d : ProgramHeader) → i <
 nth_same hs i k d within missed = rw (drop_more hs i d within, missed) refl
 
 pub nth_end : (hs : List ProgramHeader) (i k : ℕ) → length hs ≤ i → slice_get (filter is_loaded (drop i hs)) k ≡ None
-nth_end hs i k past =
-    let none : drop i hs ≡ [] = grind (arith, common_steps) in
-    rw none refl
+nth_end hs i k past = grind (arith, common_steps)
 
 pub ruleset nth_steps = (nth_found, nth_next, nth_same, nth_end)
 
 -- a first image is there exactly where there is one
-pub image_found : (hs : List ProgramHeader) (h : ProgramHeader) → find is_image hs ≡ Some h → list_any is_image hs ≡ true
-image_found [] h e = cc
-image_found (x ∷ hs) h e =
-    elim (cases_Bool (is_image x)) [
-      | inl held ↦ rw held refl
-      | inr missed ↦ rw missed (image_found hs h (rw missed at e))
-    ]
-
-pub image_missing : (hs : List ProgramHeader) → find is_image hs ≡ None → list_any is_image hs ≡ false
-image_missing [] e = refl
-image_missing (x ∷ hs) e =
-    elim (cases_Bool (is_image x)) [
-      | inl held ↦ let wrong : Some x ≡ None = rw held at e in cc
-      | inr missed ↦ rw missed (image_missing hs (rw missed at e))
-    ]
-
-pub ruleset image_steps = (image_found, image_missing)
+pub image_there : (hs : List ProgramHeader) → list_any is_image hs ≡ is_some (find is_image hs)
+image_there [] = refl
+image_there (x ∷ hs) = grind (arith, nat_tests, image_there hs)

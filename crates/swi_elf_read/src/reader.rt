@@ -138,7 +138,7 @@ pub fn kind(e: &Elf) -> Kind
 }
 
 /// The bytes of the file that its first cache image has. None where the file has no cache image.
-#[tactic(auto, unfolding(crate::specs::Loaded::image_of), using(crate::proofs::Segments::image_steps))]
+#[tactic(auto, unfolding(crate::specs::Loaded::image_of), using(crate::proofs::Segments::image_there))]
 pub fn image_bytes<'a>(e: &Elf<'a>) -> Option<&'a [u8]>
     ensures value { option_copied result ≡ image_of e.now }
     ensures some { IsSome result ↔ IsTrue (list_any is_image (program_headers e.now)) }

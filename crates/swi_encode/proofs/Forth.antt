@@ -1,29 +1,21 @@
 -- The word of a valid instruction decodes to it.
-use Rattle.std.proofs.Common.{◌≡◌, ℕ, ◌+◌, ◌*◌, ◌/◌, ◌%◌, ◌^◌, ◌<◌, arith, ap, ◌∙◌, Some}
+use Rattle.std.proofs.Common.{◌≡◌, ℕ, ◌+◌, ◌*◌, ◌/◌, ◌%◌, ◌^◌, ◌<◌, bit_and, arith, refl, ap, ◌∙◌, Some}
 use Rattle.std.proofs.lemmas.Bool.Decides.{nat_tests}
 use Rattle.swi_field.specs.Field.{field, extended}
-use Rattle.swi_isa.specs.declared.instr.BranchOp.{BranchOp}
-use Rattle.swi_isa.specs.declared.instr.BranchOp.TheVariants.{Beq, Bne, Blt, Bge, Bltu, Bgeu}
-use Rattle.swi_isa.specs.declared.instr.LoadOp.{LoadOp}
-use Rattle.swi_isa.specs.declared.instr.LoadOp.TheVariants.{Lb, Lh, Lw, Lbu, Lhu}
-use Rattle.swi_isa.specs.declared.instr.StoreOp.{StoreOp}
-use Rattle.swi_isa.specs.declared.instr.StoreOp.TheVariants.{Sb, Sh, Sw}
-use Rattle.swi_isa.specs.declared.instr.ImmOp.{ImmOp}
-use Rattle.swi_isa.specs.declared.instr.ImmOp.TheVariants.{Addi, Slti, Sltiu, Xori, Ori, Andi, Slli, Srli, Srai}
-use Rattle.swi_isa.specs.declared.instr.RegOp.{RegOp}
-use Rattle.swi_isa.specs.declared.instr.RegOp.TheVariants.{Add, Sub, Sll, Slt, Sltu, Xor, Srl, Sra, Or, And, Mul, Mulh, Mulhsu, Mulhu, Div, Divu, Rem, Remu}
+use Rattle.swi_isa.specs.declared.instr.ImmOp.TheVariants.{Slli, Srli, Srai}
 use Rattle.swi_isa.specs.declared.instr.AtomicOp.{AtomicOp}
-use Rattle.swi_isa.specs.declared.instr.AtomicOp.TheVariants.{LrW, ScW, SwapW, AddW, XorW, AndW, OrW, MinW, MaxW, MinuW, MaxuW}
+use Rattle.swi_isa.specs.declared.instr.AtomicOp.TheVariants.{LrW}
 use Rattle.swi_isa.specs.declared.instr.Instr.{Instr}
 use Rattle.swi_isa.specs.declared.instr.Instr.TheVariants as instr
 use Rattle.swi_isa.specs.Decode.{decoded}
+use Rattle.swi_isa.specs.Table.{Lui, Auipc, Jal, Jalr, Branch, Load, Store, OpImm, ShiftImm, Op, Amo, Fence, Ecall, Ebreak}
 use Rattle.swi_isa.specs.Table.{rd_of, rs1_of, rs2_of, imm_i, imm_s, imm_b, imm_u, imm_j}
 use Rattle.swi_isa.proofs.Masks.{under_7, under_15, under_32, under_atomic, under_reserve}
-use Rattle.swi_isa.proofs.Apart.{by_tests}
 use Rattle.swi_isa.proofs.Sums.{is_imm_i, is_imm_s, is_imm_b, is_imm_u, is_imm_j}
-use Rattle.swi_encode.specs.Valid.{IsExtended, IsEven, ImmFits, AtomicFits, IsValid}
-use Rattle.swi_encode.proofs.Codes.{branch_funct3_lt, load_funct3_lt, store_funct3_lt, op_funct3_lt, op_funct7_lt, atomic_funct5_lt}
-use Rattle.swi_encode.specs.Words.{InRange, word_of, u_word, j_word, i_word, s_word, b_word, r_word, alu_word, branch_funct3, load_funct3, store_funct3, op_funct3, op_funct7, atomic_funct5}
+use Rattle.swi_encode.specs.Valid.{IsExtended, IsEven, AtomicFits, IsValid}
+use Rattle.swi_encode.specs.Words.{InRange, word_of, u_word, j_word, i_word, s_word, b_word, r_word, branch_funct3, load_funct3, store_funct3, imm_funct3, op_funct3, op_funct7, atomic_funct5}
+use Rattle.swi_encode.proofs.Codes.{branch_funct3_lt, load_funct3_lt, store_funct3_lt, imm_funct3_lt, op_codes_lt, atomic_funct5_lt}
+use Rattle.swi_encode.proofs.Rows.{mask_of, value_of, decoded_at}
 
 again_12 : (v : ℕ) → v < 2 ^ 32 → IsExtended 12 v → extended 12 (v % 2 ^ 12) ≡ v
 again_12 v word range = grind (arith, nat_tests)
@@ -43,20 +35,17 @@ bits_21 off even = omega arith
 
 -- what the fields of each format's word are
 record UFields (w o rd imm : ℕ) : Type 0 where
-  word : w < 2 ^ 32
-  opcode : field 6 0 w ≡ o
+  code : bit_and w 0x7F ≡ o
   dest : rd_of w ≡ rd
   value : imm_u w ≡ imm
 
 u_fields : (w o rd imm : ℕ) → o < 128 → rd < 32 → imm < 2 ^ 32 → imm % 2 ^ 12 ≡ 0 → w ≡ u_word o rd imm → UFields w o rd imm
 u_fields w o rd imm p1 p2 p3 p4 is =
     let high : field 31 12 w * 2 ^ 12 ≡ imm = omega arith in
-    record { word = omega arith; opcode = omega arith; dest = omega arith; value = is_imm_u w ∙ high }
+    record { code = under_7 w ∙ omega arith; dest = omega arith; value = is_imm_u w ∙ high }
 
 record IFields (w o f rd rs1 imm : ℕ) : Type 0 where
-  word : w < 2 ^ 32
-  opcode : field 6 0 w ≡ o
-  funct3 : field 14 12 w ≡ f
+  code : bit_and w 0x707F ≡ o + f * 4096
   dest : rd_of w ≡ rd
   first : rs1_of w ≡ rs1
   value : imm_i w ≡ imm
@@ -64,12 +53,10 @@ record IFields (w o f rd rs1 imm : ℕ) : Type 0 where
 i_fields : (w o f rd rs1 imm : ℕ) → o < 128 → f < 8 → rd < 32 → rs1 < 32 → imm < 2 ^ 32 → IsExtended 12 imm → w ≡ i_word o f rd rs1 imm → IFields w o f rd rs1 imm
 i_fields w o f rd rs1 imm p1 p2 p3 p4 p5 range is =
     let low : field 31 20 w ≡ imm % 2 ^ 12 = omega arith in
-    record { word = omega arith; opcode = omega arith; funct3 = omega arith; dest = omega arith; first = omega arith; value = is_imm_i w ∙ ap (extended 12) low ∙ again_12 imm p5 range }
+    record { code = under_15 w ∙ omega arith; dest = omega arith; first = omega arith; value = is_imm_i w ∙ ap (extended 12) low ∙ again_12 imm p5 range }
 
 record SFields (w f rs1 rs2 imm : ℕ) : Type 0 where
-  word : w < 2 ^ 32
-  opcode : field 6 0 w ≡ 0x23
-  funct3 : field 14 12 w ≡ f
+  code : bit_and w 0x707F ≡ 0x23 + f * 4096
   first : rs1_of w ≡ rs1
   second : rs2_of w ≡ rs2
   value : imm_s w ≡ imm
@@ -77,7 +64,7 @@ record SFields (w f rs1 rs2 imm : ℕ) : Type 0 where
 s_fields : (w f rs1 rs2 imm : ℕ) → f < 8 → rs1 < 32 → rs2 < 32 → imm < 2 ^ 32 → IsExtended 12 imm → w ≡ s_word f rs1 rs2 imm → SFields w f rs1 rs2 imm
 s_fields w f rs1 rs2 imm p1 p2 p3 p4 range is =
     let low : field 31 25 w * 2 ^ 5 + field 11 7 w ≡ imm % 2 ^ 12 = omega arith in
-    record { word = omega arith; opcode = omega arith; funct3 = omega arith; first = omega arith; second = omega arith; value = is_imm_s w ∙ ap (extended 12) low ∙ again_12 imm p4 range }
+    record { code = under_15 w ∙ omega arith; first = omega arith; second = omega arith; value = is_imm_s w ∙ ap (extended 12) low ∙ again_12 imm p4 range }
 
 -- a branch's word, with its fields as variables
 b_parts : (a b c d e f g w : ℕ) → a < 2 → b < 64 → c < 32 → d < 32 → e < 8 → f < 16 → g < 2 →
@@ -86,9 +73,7 @@ b_parts : (a b c d e f g w : ℕ) → a < 2 → b < 64 → c < 32 → d < 32 →
 b_parts a b c d e f g w pa pb pc pd pe pf pg is = (omega arith, omega arith, omega arith, omega arith, omega arith, omega arith, omega arith, omega arith, omega arith)
 
 record BFields (w f rs1 rs2 off : ℕ) : Type 0 where
-  word : w < 2 ^ 32
-  opcode : field 6 0 w ≡ 0x63
-  funct3 : field 14 12 w ≡ f
+  code : bit_and w 0x707F ≡ 0x63 + f * 4096
   first : rs1_of w ≡ rs1
   second : rs2_of w ≡ rs2
   offset : imm_b w ≡ off
@@ -96,7 +81,7 @@ record BFields (w f rs1 rs2 off : ℕ) : Type 0 where
 b_fields : (w f rs1 rs2 off : ℕ) → f < 8 → rs1 < 32 → rs2 < 32 → off < 2 ^ 32 → IsExtended 13 off → IsEven off → w ≡ b_word f rs1 rs2 off → BFields w f rs1 rs2 off
 b_fields w f rs1 rs2 off pf p1 p2 word range even is =
     let all : (w < 2 ^ 32) × (field 6 0 w ≡ 0x63) × (field 14 12 w ≡ f) × (field 19 15 w ≡ rs1) × (field 24 20 w ≡ rs2) × (field 31 31 w ≡ off / 2 ^ 12 % 2) × (field 7 7 w ≡ off / 2 ^ 11 % 2) × (field 30 25 w ≡ off / 2 ^ 5 % 2 ^ 6) × (field 11 8 w ≡ off / 2 % 2 ^ 4) = b_parts (off / 2 ^ 12 % 2) (off / 2 ^ 5 % 2 ^ 6) rs2 rs1 f (off / 2 % 2 ^ 4) (off / 2 ^ 11 % 2) w (omega arith) (omega arith) p2 p1 pf (omega arith) (omega arith) is in
-    record { word = all.0; opcode = all.1; funct3 = all.2; first = all.3; second = all.4; offset = is_imm_b w ∙ rw (all.5, all.6, all.7, all.8, bits_13 off even) (again_13 off word range) }
+    record { code = under_15 w ∙ rw (all.1, all.2) refl; first = all.3; second = all.4; offset = is_imm_b w ∙ rw (all.5, all.6, all.7, all.8, bits_13 off even) (again_13 off word range) }
 
 -- a jump's word, with its fields as variables
 j_parts : (a b c d e w : ℕ) → a < 2 → b < 1024 → c < 2 → d < 256 → e < 32 →
@@ -105,116 +90,48 @@ j_parts : (a b c d e w : ℕ) → a < 2 → b < 1024 → c < 2 → d < 256 → e
 j_parts a b c d e w pa pb pc pd pe is = (omega arith, omega arith, omega arith, omega arith, omega arith, omega arith, omega arith)
 
 record JFields (w rd off : ℕ) : Type 0 where
-  word : w < 2 ^ 32
-  opcode : field 6 0 w ≡ 0x6F
+  code : bit_and w 0x7F ≡ 0x6F
   dest : rd_of w ≡ rd
   offset : imm_j w ≡ off
 
 j_fields : (w rd off : ℕ) → rd < 32 → off < 2 ^ 32 → IsExtended 21 off → IsEven off → w ≡ j_word rd off → JFields w rd off
 j_fields w rd off p1 word range even is =
     let all : (w < 2 ^ 32) × (field 6 0 w ≡ 0x6F) × (field 11 7 w ≡ rd) × (field 31 31 w ≡ off / 2 ^ 20 % 2) × (field 19 12 w ≡ off / 2 ^ 12 % 2 ^ 8) × (field 20 20 w ≡ off / 2 ^ 11 % 2) × (field 30 21 w ≡ off / 2 % 2 ^ 10) = j_parts (off / 2 ^ 20 % 2) (off / 2 % 2 ^ 10) (off / 2 ^ 11 % 2) (off / 2 ^ 12 % 2 ^ 8) rd w (omega arith) (omega arith) (omega arith) (omega arith) p1 is in
-    record { word = all.0; opcode = all.1; dest = all.2; offset = is_imm_j w ∙ rw (all.3, all.4, all.5, all.6, bits_21 off even) (again_21 off word range) }
+    record { code = under_7 w ∙ all.1; dest = all.2; offset = is_imm_j w ∙ rw (all.3, all.4, all.5, all.6, bits_21 off even) (again_21 off word range) }
 
 record RFields (w o f g rd rs1 rs2 : ℕ) : Type 0 where
-  word : w < 2 ^ 32
-  opcode : field 6 0 w ≡ o
-  funct3 : field 14 12 w ≡ f
-  funct7 : field 31 25 w ≡ g
+  code : bit_and w 0xFE00707F ≡ o + f * 4096 + g * 33554432
   dest : rd_of w ≡ rd
   first : rs1_of w ≡ rs1
   second : rs2_of w ≡ rs2
 
 r_fields : (w o f g rd rs1 rs2 : ℕ) → o < 128 → f < 8 → g < 128 → rd < 32 → rs1 < 32 → rs2 < 32 → w ≡ r_word o f g rd rs1 rs2 → RFields w o f g rd rs1 rs2
-r_fields w o f g rd rs1 rs2 p1 p2 p3 p4 p5 p6 is = record { word = omega arith; opcode = omega arith; funct3 = omega arith; funct7 = omega arith; dest = omega arith; first = omega arith; second = omega arith }
+r_fields w o f g rd rs1 rs2 p1 p2 p3 p4 p5 p6 is = record { code = under_32 w (omega arith) ∙ omega arith; dest = omega arith; first = omega arith; second = omega arith }
 
-branches : (op : BranchOp) (w rs1 rs2 off : ℕ) → BFields w (branch_funct3 op) rs1 rs2 off → decoded w ≡ Some (instr.Branch op rs1 rs2 off)
-branches Beq w rs1 rs2 off h = grind (arith, by_tests, under_15)
-branches Bne w rs1 rs2 off h = grind (arith, by_tests, under_15)
-branches Blt w rs1 rs2 off h = grind (arith, by_tests, under_15)
-branches Bge w rs1 rs2 off h = grind (arith, by_tests, under_15)
-branches Bltu w rs1 rs2 off h = grind (arith, by_tests, under_15)
-branches Bgeu w rs1 rs2 off h = grind (arith, by_tests, under_15)
-
-loads : (op : LoadOp) (w rd rs1 imm : ℕ) → IFields w 3 (load_funct3 op) rd rs1 imm → decoded w ≡ Some (instr.Load op rd rs1 imm)
-loads Lb w rd rs1 imm h = grind (arith, by_tests, under_15)
-loads Lh w rd rs1 imm h = grind (arith, by_tests, under_15)
-loads Lw w rd rs1 imm h = grind (arith, by_tests, under_15)
-loads Lbu w rd rs1 imm h = grind (arith, by_tests, under_15)
-loads Lhu w rd rs1 imm h = grind (arith, by_tests, under_15)
-
-stores : (op : StoreOp) (w rs1 rs2 imm : ℕ) → SFields w (store_funct3 op) rs1 rs2 imm → decoded w ≡ Some (instr.Store op rs1 rs2 imm)
-stores Sb w rs1 rs2 imm h = grind (arith, by_tests, under_15)
-stores Sh w rs1 rs2 imm h = grind (arith, by_tests, under_15)
-stores Sw w rs1 rs2 imm h = grind (arith, by_tests, under_15)
-
-registers : (op : RegOp) (w rd rs1 rs2 : ℕ) → RFields w 0x33 (op_funct3 op) (op_funct7 op) rd rs1 rs2 → decoded w ≡ Some (instr.Op op rd rs1 rs2)
-registers Add w rd rs1 rs2 h = grind (arith, by_tests, under_32)
-registers Sub w rd rs1 rs2 h = grind (arith, by_tests, under_32)
-registers Sll w rd rs1 rs2 h = grind (arith, by_tests, under_32)
-registers Slt w rd rs1 rs2 h = grind (arith, by_tests, under_32)
-registers Sltu w rd rs1 rs2 h = grind (arith, by_tests, under_32)
-registers Xor w rd rs1 rs2 h = grind (arith, by_tests, under_32)
-registers Srl w rd rs1 rs2 h = grind (arith, by_tests, under_32)
-registers Sra w rd rs1 rs2 h = grind (arith, by_tests, under_32)
-registers Or w rd rs1 rs2 h = grind (arith, by_tests, under_32)
-registers And w rd rs1 rs2 h = grind (arith, by_tests, under_32)
-registers Mul w rd rs1 rs2 h = grind (arith, by_tests, under_32)
-registers Mulh w rd rs1 rs2 h = grind (arith, by_tests, under_32)
-registers Mulhsu w rd rs1 rs2 h = grind (arith, by_tests, under_32)
-registers Mulhu w rd rs1 rs2 h = grind (arith, by_tests, under_32)
-registers Div w rd rs1 rs2 h = grind (arith, by_tests, under_32)
-registers Divu w rd rs1 rs2 h = grind (arith, by_tests, under_32)
-registers Rem w rd rs1 rs2 h = grind (arith, by_tests, under_32)
-registers Remu w rd rs1 rs2 h = grind (arith, by_tests, under_32)
-
-record AFields (w h rd rs1 rs2 : ℕ) : Type 0 where
-  word : w < 2 ^ 32
-  opcode : field 6 0 w ≡ 0x2F
-  funct3 : field 14 12 w ≡ 2
-  funct5 : field 31 27 w ≡ h
-  dest : rd_of w ≡ rd
-  first : rs1_of w ≡ rs1
-  second : rs2_of w ≡ rs2
-
-a_fields : (w h rd rs1 rs2 : ℕ) → h < 32 → rd < 32 → rs1 < 32 → rs2 < 32 → w ≡ r_word 0x2F 2 (h * 4) rd rs1 rs2 → AFields w h rd rs1 rs2
-a_fields w h rd rs1 rs2 p1 p2 p3 p4 is = record { word = omega arith; opcode = omega arith; funct3 = omega arith; funct5 = omega arith; dest = omega arith; first = omega arith; second = omega arith }
-
-atomics : (op : AtomicOp) (w rd rs1 rs2 : ℕ) → AFields w (atomic_funct5 op) rd rs1 rs2 → AtomicFits op rs2 → decoded w ≡ Some (instr.Atomic op rd rs1 rs2)
-atomics LrW w rd rs1 rs2 h fits = grind (arith, by_tests, under_reserve)
-atomics ScW w rd rs1 rs2 h fits = grind (arith, by_tests, under_atomic)
-atomics SwapW w rd rs1 rs2 h fits = grind (arith, by_tests, under_atomic)
-atomics AddW w rd rs1 rs2 h fits = grind (arith, by_tests, under_atomic)
-atomics XorW w rd rs1 rs2 h fits = grind (arith, by_tests, under_atomic)
-atomics AndW w rd rs1 rs2 h fits = grind (arith, by_tests, under_atomic)
-atomics OrW w rd rs1 rs2 h fits = grind (arith, by_tests, under_atomic)
-atomics MinW w rd rs1 rs2 h fits = grind (arith, by_tests, under_atomic)
-atomics MaxW w rd rs1 rs2 h fits = grind (arith, by_tests, under_atomic)
-atomics MinuW w rd rs1 rs2 h fits = grind (arith, by_tests, under_atomic)
-atomics MaxuW w rd rs1 rs2 h fits = grind (arith, by_tests, under_atomic)
-
-alu : (op : ImmOp) (w rd rs1 imm : ℕ) → rd < 32 → rs1 < 32 → imm < 2 ^ 32 → ImmFits op imm → w ≡ alu_word op rd rs1 imm → decoded w ≡ Some (instr.Alu op rd rs1 imm)
-alu Addi w rd rs1 imm p1 p2 p3 fits is = let h : IFields w 0x13 0 rd rs1 imm = i_fields w 0x13 0 rd rs1 imm (omega arith) (omega arith) p1 p2 p3 fits is in grind (arith, by_tests, under_15)
-alu Slti w rd rs1 imm p1 p2 p3 fits is = let h : IFields w 0x13 2 rd rs1 imm = i_fields w 0x13 2 rd rs1 imm (omega arith) (omega arith) p1 p2 p3 fits is in grind (arith, by_tests, under_15)
-alu Sltiu w rd rs1 imm p1 p2 p3 fits is = let h : IFields w 0x13 3 rd rs1 imm = i_fields w 0x13 3 rd rs1 imm (omega arith) (omega arith) p1 p2 p3 fits is in grind (arith, by_tests, under_15)
-alu Xori w rd rs1 imm p1 p2 p3 fits is = let h : IFields w 0x13 4 rd rs1 imm = i_fields w 0x13 4 rd rs1 imm (omega arith) (omega arith) p1 p2 p3 fits is in grind (arith, by_tests, under_15)
-alu Ori w rd rs1 imm p1 p2 p3 fits is = let h : IFields w 0x13 6 rd rs1 imm = i_fields w 0x13 6 rd rs1 imm (omega arith) (omega arith) p1 p2 p3 fits is in grind (arith, by_tests, under_15)
-alu Andi w rd rs1 imm p1 p2 p3 fits is = let h : IFields w 0x13 7 rd rs1 imm = i_fields w 0x13 7 rd rs1 imm (omega arith) (omega arith) p1 p2 p3 fits is in grind (arith, by_tests, under_15)
-alu Slli w rd rs1 imm p1 p2 p3 fits is = let h : RFields w 0x13 1 0 rd rs1 imm = r_fields w 0x13 1 0 rd rs1 imm (omega arith) (omega arith) (omega arith) p1 p2 fits is in grind (arith, by_tests, under_32)
-alu Srli w rd rs1 imm p1 p2 p3 fits is = let h : RFields w 0x13 5 0 rd rs1 imm = r_fields w 0x13 5 0 rd rs1 imm (omega arith) (omega arith) (omega arith) p1 p2 fits is in grind (arith, by_tests, under_32)
-alu Srai w rd rs1 imm p1 p2 p3 fits is = let h : RFields w 0x13 5 32 rd rs1 imm = r_fields w 0x13 5 32 rd rs1 imm (omega arith) (omega arith) (omega arith) p1 p2 fits is in grind (arith, by_tests, under_32)
+-- funct5 without aq and rl, and for LR.W also rs2
+atomic_code : (op : AtomicOp) (w rd rs1 rs2 : ℕ) → rd < 32 → rs1 < 32 → rs2 < 32 → AtomicFits op rs2 → w ≡ r_word 0x2F 2 (atomic_funct5 op * 4) rd rs1 rs2 →
+    bit_and w (mask_of (Amo op)) ≡ value_of (Amo op)
+atomic_code LrW w rd rs1 rs2 p1 p2 p3 fits is = under_reserve w (omega arith) ∙ omega arith
+atomic_code _ w rd rs1 rs2 p1 p2 p3 fits is = under_atomic w (omega arith) ∙ omega arith
 
 -- the word of a valid instruction decodes to it
-pub decoded-word_of : (i : Instr) (w : ℕ) → w ≡ word_of i → InRange i → IsValid i → decoded w ≡ Some i
-decoded-word_of (instr.Lui rd imm) w is r v = let h : UFields w 0x37 rd imm = u_fields w 0x37 rd imm (omega arith) r.0 r.1 v is in grind (arith, by_tests, under_7)
-decoded-word_of (instr.Auipc rd imm) w is r v = let h : UFields w 0x17 rd imm = u_fields w 0x17 rd imm (omega arith) r.0 r.1 v is in grind (arith, by_tests, under_7)
-decoded-word_of (instr.Jal rd off) w is r v = let h : JFields w rd off = j_fields w rd off r.0 r.1 v.0 v.1 is in grind (arith, by_tests, under_7)
-decoded-word_of (instr.Jalr rd rs1 imm) w is r v = let h : IFields w 0x67 0 rd rs1 imm = i_fields w 0x67 0 rd rs1 imm (omega arith) (omega arith) r.0 r.1 r.2 v is in grind (arith, by_tests, under_15)
-decoded-word_of (instr.Branch op rs1 rs2 off) w is r v = branches op w rs1 rs2 off (b_fields w (branch_funct3 op) rs1 rs2 off (branch_funct3_lt op) r.0 r.1 r.2 v.0 v.1 is)
-decoded-word_of (instr.Load op rd rs1 imm) w is r v = loads op w rd rs1 imm (i_fields w 3 (load_funct3 op) rd rs1 imm (omega arith) (load_funct3_lt op) r.0 r.1 r.2 v is)
-decoded-word_of (instr.Store op rs1 rs2 imm) w is r v = stores op w rs1 rs2 imm (s_fields w (store_funct3 op) rs1 rs2 imm (store_funct3_lt op) r.0 r.1 r.2 v is)
-decoded-word_of (instr.Alu op rd rs1 imm) w is r v = alu op w rd rs1 imm r.0 r.1 r.2 v is
-decoded-word_of (instr.Op op rd rs1 rs2) w is r v = registers op w rd rs1 rs2 (r_fields w 0x33 (op_funct3 op) (op_funct7 op) rd rs1 rs2 (omega arith) (op_funct3_lt op) (op_funct7_lt op) r.0 r.1 r.2 is)
-decoded-word_of (instr.Atomic op rd rs1 rs2) w is r v = atomics op w rd rs1 rs2 (a_fields w (atomic_funct5 op) rd rs1 rs2 (atomic_funct5_lt op) r.0 r.1 r.2 is) v
-decoded-word_of instr.Fence w is r v = rw is (grind (arith, by_tests))
-decoded-word_of instr.Ecall w is r v = rw is (grind (arith, by_tests))
-decoded-word_of instr.Ebreak w is r v = rw is (grind (arith, by_tests))
+pub word_decodes : (i : Instr) (w : ℕ) → w ≡ word_of i → InRange i → IsValid i → decoded w ≡ Some i
+word_decodes (instr.Lui rd imm) w is r v = let h : UFields w 0x37 rd imm = u_fields w 0x37 rd imm (omega arith) r.0 r.1 v is in decoded_at Lui w refl h.code ∙ cc
+word_decodes (instr.Auipc rd imm) w is r v = let h : UFields w 0x17 rd imm = u_fields w 0x17 rd imm (omega arith) r.0 r.1 v is in decoded_at Auipc w refl h.code ∙ cc
+word_decodes (instr.Jal rd off) w is r v = let h : JFields w rd off = j_fields w rd off r.0 r.1 v.0 v.1 is in decoded_at Jal w refl h.code ∙ cc
+word_decodes (instr.Jalr rd rs1 imm) w is r v = let h : IFields w 0x67 0 rd rs1 imm = i_fields w 0x67 0 rd rs1 imm (omega arith) (omega arith) r.0 r.1 r.2 v is in decoded_at Jalr w refl h.code ∙ cc
+word_decodes (instr.Branch op rs1 rs2 off) w is r v = let h : BFields w (branch_funct3 op) rs1 rs2 off = b_fields w (branch_funct3 op) rs1 rs2 off (branch_funct3_lt op) r.0 r.1 r.2 v.0 v.1 is in decoded_at (Branch op) w refl h.code ∙ cc
+word_decodes (instr.Load op rd rs1 imm) w is r v = let h : IFields w 3 (load_funct3 op) rd rs1 imm = i_fields w 3 (load_funct3 op) rd rs1 imm (omega arith) (load_funct3_lt op) r.0 r.1 r.2 v is in decoded_at (Load op) w refl h.code ∙ cc
+word_decodes (instr.Store op rs1 rs2 imm) w is r v = let h : SFields w (store_funct3 op) rs1 rs2 imm = s_fields w (store_funct3 op) rs1 rs2 imm (store_funct3_lt op) r.0 r.1 r.2 v is in decoded_at (Store op) w refl h.code ∙ cc
+word_decodes (instr.Alu Slli rd rs1 imm) w is r v = let h : RFields w 0x13 1 0 rd rs1 imm = r_fields w 0x13 1 0 rd rs1 imm (omega arith) (omega arith) (omega arith) r.0 r.1 v is in decoded_at (ShiftImm Slli) w refl h.code ∙ cc
+word_decodes (instr.Alu Srli rd rs1 imm) w is r v = let h : RFields w 0x13 5 0 rd rs1 imm = r_fields w 0x13 5 0 rd rs1 imm (omega arith) (omega arith) (omega arith) r.0 r.1 v is in decoded_at (ShiftImm Srli) w refl h.code ∙ cc
+word_decodes (instr.Alu Srai rd rs1 imm) w is r v = let h : RFields w 0x13 5 32 rd rs1 imm = r_fields w 0x13 5 32 rd rs1 imm (omega arith) (omega arith) (omega arith) r.0 r.1 v is in decoded_at (ShiftImm Srai) w refl h.code ∙ cc
+word_decodes (instr.Alu op rd rs1 imm) w is r v = let h : IFields w 0x13 (imm_funct3 op) rd rs1 imm = i_fields w 0x13 (imm_funct3 op) rd rs1 imm (omega arith) (imm_funct3_lt op) r.0 r.1 r.2 v is in decoded_at (OpImm op) w refl h.code ∙ cc
+word_decodes (instr.Op op rd rs1 rs2) w is r v = let h : RFields w 0x33 (op_funct3 op) (op_funct7 op) rd rs1 rs2 = r_fields w 0x33 (op_funct3 op) (op_funct7 op) rd rs1 rs2 (omega arith) (op_codes_lt op).0 (op_codes_lt op).1 r.0 r.1 r.2 is in decoded_at (Op op) w refl h.code ∙ cc
+word_decodes (instr.Atomic op rd rs1 rs2) w is r v =
+    let small : atomic_funct5 op < 32 = atomic_funct5_lt op in
+    let h : RFields w 0x2F 2 (atomic_funct5 op * 4) rd rs1 rs2 = r_fields w 0x2F 2 (atomic_funct5 op * 4) rd rs1 rs2 (omega arith) (omega arith) (omega arith) r.0 r.1 r.2 is in
+    decoded_at (Amo op) w refl (atomic_code op w rd rs1 rs2 r.0 r.1 r.2 v is) ∙ cc
+word_decodes instr.Fence w is r v = rw is (decoded_at Fence 0x0FF0000F refl refl)
+word_decodes instr.Ecall w is r v = rw is (decoded_at Ecall 0x73 refl refl)
+word_decodes instr.Ebreak w is r v = rw is (decoded_at Ebreak 0x100073 refl refl)

@@ -1,3 +1,4 @@
 mod Codes
+mod Rows
 mod Forth
 mod Back

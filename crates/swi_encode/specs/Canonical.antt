@@ -4,21 +4,11 @@
 use Rattle.std.specs.Prelude.{ℕ}
 use Rattle.swi_field.specs.Field.{with_field}
 use Rattle.swi_isa.specs.declared.instr.Instr.{Instr}
-use Rattle.swi_isa.specs.declared.instr.Instr.TheVariants.{Lui, Auipc, Jal, Jalr, Branch, Load, Store, Alu, Op, Atomic, Fence, Ecall, Ebreak}
+use Rattle.swi_isa.specs.declared.instr.Instr.TheVariants.{Atomic, Fence}
 
 -- of a word w that decodes to the instruction, the word that is chosen for it: w itself, but for FENCE the one of
 -- `fence iorw, iorw`, and for an atomic w without aq (bit 26) and rl (bit 25)
 abbrev pub canonical : Instr → ℕ → ℕ
 canonical Fence w = 0x0FF0000F
 canonical (Atomic op rd rs1 rs2) w = with_field 26 25 w 0
-canonical (Lui rd imm) w = w
-canonical (Auipc rd imm) w = w
-canonical (Jal rd off) w = w
-canonical (Jalr rd rs1 imm) w = w
-canonical (Branch op rs1 rs2 off) w = w
-canonical (Load op rd rs1 imm) w = w
-canonical (Store op rs1 rs2 imm) w = w
-canonical (Alu op rd rs1 imm) w = w
-canonical (Op op rd rs1 rs2) w = w
-canonical Ecall w = w
-canonical Ebreak w = w
+canonical _ w = w

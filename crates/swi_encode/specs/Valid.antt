@@ -3,11 +3,11 @@
 -- rs2 of LR.W, section "Load-Reserved/Store-Conditional Instructions" of the "A" chapter.
 use Rattle.std.specs.Prelude.{◌≡◌, ℕ, ◌-◌, ◌%◌, ◌^◌, ◌<◌, ◌≤◌, ◌⊎◌}
 use Rattle.swi_isa.specs.declared.instr.Instr.{Instr}
-use Rattle.swi_isa.specs.declared.instr.Instr.TheVariants.{Lui, Auipc, Jal, Jalr, Branch, Load, Store, Alu, Op, Atomic, Fence, Ecall, Ebreak}
+use Rattle.swi_isa.specs.declared.instr.Instr.TheVariants.{Lui, Auipc, Jal, Jalr, Branch, Load, Store, Alu, Atomic}
 use Rattle.swi_isa.specs.declared.instr.ImmOp.{ImmOp}
-use Rattle.swi_isa.specs.declared.instr.ImmOp.TheVariants.{Addi, Slti, Sltiu, Xori, Ori, Andi, Slli, Srli, Srai}
+use Rattle.swi_isa.specs.declared.instr.ImmOp.TheVariants.{Slli, Srli, Srai}
 use Rattle.swi_isa.specs.declared.instr.AtomicOp.{AtomicOp}
-use Rattle.swi_isa.specs.declared.instr.AtomicOp.TheVariants.{LrW, ScW, SwapW, AddW, XorW, AndW, OrW, MinW, MaxW, MinuW, MaxuW}
+use Rattle.swi_isa.specs.declared.instr.AtomicOp.TheVariants.{LrW}
 
 -- a number of 32 bits that is n bits sign-extended: read in two's complement, from -2^(n-1) to 2^(n-1) - 1
 abbrev pub IsExtended : ℕ → ℕ → Type 0
@@ -21,26 +21,12 @@ abbrev pub ImmFits : ImmOp → ℕ → Type 0
 ImmFits Slli v = v < 32
 ImmFits Srli v = v < 32
 ImmFits Srai v = v < 32
-ImmFits Addi v = IsExtended 12 v
-ImmFits Slti v = IsExtended 12 v
-ImmFits Sltiu v = IsExtended 12 v
-ImmFits Xori v = IsExtended 12 v
-ImmFits Ori v = IsExtended 12 v
-ImmFits Andi v = IsExtended 12 v
+ImmFits _ v = IsExtended 12 v
 
 -- LR.W has no second operand
 abbrev pub AtomicFits : AtomicOp → ℕ → Type 0
 AtomicFits LrW rs2 = rs2 ≡ 0
-AtomicFits ScW rs2 = Unit {0}
-AtomicFits SwapW rs2 = Unit {0}
-AtomicFits AddW rs2 = Unit {0}
-AtomicFits XorW rs2 = Unit {0}
-AtomicFits AndW rs2 = Unit {0}
-AtomicFits OrW rs2 = Unit {0}
-AtomicFits MinW rs2 = Unit {0}
-AtomicFits MaxW rs2 = Unit {0}
-AtomicFits MinuW rs2 = Unit {0}
-AtomicFits MaxuW rs2 = Unit {0}
+AtomicFits _ rs2 = Unit {0}
 
 -- the fields fit their encoding
 abbrev pub IsValid : Instr → Type 0
@@ -52,8 +38,5 @@ IsValid (Branch op rs1 rs2 off) = IsExtended 13 off × IsEven off
 IsValid (Load op rd rs1 imm) = IsExtended 12 imm
 IsValid (Store op rs1 rs2 imm) = IsExtended 12 imm
 IsValid (Alu op rd rs1 imm) = ImmFits op imm
-IsValid (Op op rd rs1 rs2) = Unit {0}
 IsValid (Atomic op rd rs1 rs2) = AtomicFits op rs2
-IsValid Fence = Unit {0}
-IsValid Ecall = Unit {0}
-IsValid Ebreak = Unit {0}
+IsValid _ = Unit {0}

@@ -37,6 +37,17 @@ store_funct3 Sb = 0
 store_funct3 Sh = 1
 store_funct3 Sw = 2
 
+abbrev pub imm_funct3 : ImmOp → ℕ
+imm_funct3 Addi = 0
+imm_funct3 Slti = 2
+imm_funct3 Sltiu = 3
+imm_funct3 Xori = 4
+imm_funct3 Ori = 6
+imm_funct3 Andi = 7
+imm_funct3 Slli = 1
+imm_funct3 Srli = 5
+imm_funct3 Srai = 5
+
 abbrev pub op_funct3 : RegOp → ℕ
 op_funct3 Add = 0
 op_funct3 Sub = 0
@@ -58,16 +69,8 @@ op_funct3 Rem = 6
 op_funct3 Remu = 7
 
 abbrev pub op_funct7 : RegOp → ℕ
-op_funct7 Add = 0
 op_funct7 Sub = 32
-op_funct7 Sll = 0
-op_funct7 Slt = 0
-op_funct7 Sltu = 0
-op_funct7 Xor = 0
-op_funct7 Srl = 0
 op_funct7 Sra = 32
-op_funct7 Or = 0
-op_funct7 And = 0
 op_funct7 Mul = 1
 op_funct7 Mulh = 1
 op_funct7 Mulhsu = 1
@@ -76,6 +79,7 @@ op_funct7 Div = 1
 op_funct7 Divu = 1
 op_funct7 Rem = 1
 op_funct7 Remu = 1
+op_funct7 _ = 0
 
 abbrev pub atomic_funct5 : AtomicOp → ℕ
 atomic_funct5 LrW = 2
@@ -111,15 +115,10 @@ abbrev pub r_word : ℕ → ℕ → ℕ → ℕ → ℕ → ℕ → ℕ
 r_word o f g rd rs1 rs2 = g * 2 ^ 25 + rs2 * 2 ^ 20 + rs1 * 2 ^ 15 + f * 2 ^ 12 + rd * 2 ^ 7 + o
 
 abbrev pub alu_word : ImmOp → ℕ → ℕ → ℕ → ℕ
-alu_word Addi rd rs1 imm = i_word 0x13 0 rd rs1 imm
-alu_word Slti rd rs1 imm = i_word 0x13 2 rd rs1 imm
-alu_word Sltiu rd rs1 imm = i_word 0x13 3 rd rs1 imm
-alu_word Xori rd rs1 imm = i_word 0x13 4 rd rs1 imm
-alu_word Ori rd rs1 imm = i_word 0x13 6 rd rs1 imm
-alu_word Andi rd rs1 imm = i_word 0x13 7 rd rs1 imm
-alu_word Slli rd rs1 imm = r_word 0x13 1 0 rd rs1 imm
-alu_word Srli rd rs1 imm = r_word 0x13 5 0 rd rs1 imm
-alu_word Srai rd rs1 imm = r_word 0x13 5 32 rd rs1 imm
+alu_word Slli rd rs1 imm = r_word 0x13 (imm_funct3 Slli) 0 rd rs1 imm
+alu_word Srli rd rs1 imm = r_word 0x13 (imm_funct3 Srli) 0 rd rs1 imm
+alu_word Srai rd rs1 imm = r_word 0x13 (imm_funct3 Srai) 32 rd rs1 imm
+alu_word op rd rs1 imm = i_word 0x13 (imm_funct3 op) rd rs1 imm
 
 -- the word of an instruction; FENCE as `fence iorw, iorw`, an atomic without aq and rl
 abbrev pub word_of : Instr → ℕ
@@ -149,6 +148,4 @@ InRange (instr.Store op rs1 rs2 imm) = (rs1 < 32) × (rs2 < 32) × (imm < 2 ^ 32
 InRange (instr.Alu op rd rs1 imm) = (rd < 32) × (rs1 < 32) × (imm < 2 ^ 32)
 InRange (instr.Op op rd rs1 rs2) = (rd < 32) × (rs1 < 32) × (rs2 < 32)
 InRange (instr.Atomic op rd rs1 rs2) = (rd < 32) × (rs1 < 32) × (rs2 < 32)
-InRange instr.Fence = Unit {0}
-InRange instr.Ecall = Unit {0}
-InRange instr.Ebreak = Unit {0}
+InRange _ = Unit {0}

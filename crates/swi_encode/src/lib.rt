@@ -224,6 +224,7 @@ fn word(i: &Instr) -> u32
 
 /// The word of a valid instruction: it decodes to the instruction again, and it is the only such word but for
 /// FENCE, whose word is that of `fence iorw, iorw`, and for an atomic, whose bits aq and rl are clear (own rule).
+#[tactic(auto, using(crate::proofs::Back::decoded_again))]
 pub fn encode(i: &Instr) -> u32
     requires { IsValid i.now }
     ensures decodes { decoded result ≡ Some i.now }

@@ -80,9 +80,7 @@ load_size Lhu = 2
 abbrev pub load_value : LoadOp → ℕ → ℕ
 load_value Lb v = extended 8 v
 load_value Lh v = extended 16 v
-load_value Lw v = v
-load_value Lbu v = v
-load_value Lhu v = v
+load_value _ v = v
 
 -- how many bytes a store writes
 abbrev pub store_size : StoreOp → ℕ
@@ -186,15 +184,7 @@ updates op rd a v pc regs bus =
 abbrev pub atomic_effect : AtomicOp → ℕ → ℕ → ℕ → ℕ → Registers → List AreaData → Effect
 atomic_effect LrW rd a v pc regs bus = loads_reserved rd a pc regs bus
 atomic_effect ScW rd a v pc regs bus = stores_conditionally rd a v pc regs bus
-atomic_effect SwapW rd a v pc regs bus = updates SwapW rd a v pc regs bus
-atomic_effect AddW rd a v pc regs bus = updates AddW rd a v pc regs bus
-atomic_effect XorW rd a v pc regs bus = updates XorW rd a v pc regs bus
-atomic_effect AndW rd a v pc regs bus = updates AndW rd a v pc regs bus
-atomic_effect OrW rd a v pc regs bus = updates OrW rd a v pc regs bus
-atomic_effect MinW rd a v pc regs bus = updates MinW rd a v pc regs bus
-atomic_effect MaxW rd a v pc regs bus = updates MaxW rd a v pc regs bus
-atomic_effect MinuW rd a v pc regs bus = updates MinuW rd a v pc regs bus
-atomic_effect MaxuW rd a v pc regs bus = updates MaxuW rd a v pc regs bus
+atomic_effect op rd a v pc regs bus = updates op rd a v pc regs bus
 
 -- one line for each form of instruction, at pc
 abbrev pub executed : Instr → ℕ → Registers → List AreaData → Effect
@@ -215,13 +205,9 @@ executed instr.Ebreak pc regs bus = record { done = done.Break; regs = regs; bus
 -- where the run goes on, it is at a multiple of 4; by cases, which a caller's `match` computes
 abbrev pub IsAligned : Done → Type 0
 IsAligned (done.Next pc) = pc % 4 ≡ 0
-IsAligned done.Call = Unit
-IsAligned done.Break = Unit
-IsAligned (done.Fault kind a) = Unit
+IsAligned _ = Unit
 
 -- where a call, a break or a fault comes after the instruction, registers and memory are as they were. Own rule
 abbrev pub StaysUnlessNext : Done → Registers → Registers → List AreaData → List AreaData → Type 0
 StaysUnlessNext (done.Next pc) regs regs' bus bus' = Unit
-StaysUnlessNext done.Call regs regs' bus bus' = (regs' ≡ regs) × (bus' ≡ bus)
-StaysUnlessNext done.Break regs regs' bus bus' = (regs' ≡ regs) × (bus' ≡ bus)
-StaysUnlessNext (done.Fault kind a) regs regs' bus bus' = (regs' ≡ regs) × (bus' ≡ bus)
+StaysUnlessNext _ regs regs' bus bus' = (regs' ≡ regs) × (bus' ≡ bus)

@@ -1,7 +1,7 @@
 -- The masks that the code makes, as the numbers that they are.
 use Rattle.std.proofs.Common.{subst, nat_lt, suc, zero, ◌≡◌, ℕ, ◌+◌, ◌-◌, ◌*◌, ◌/◌, ◌%◌, ◌^◌, ◌<◌, ◌≤◌, bit_and, bit_or, bit_xor, arith, ap, sym, ◌∙◌}
 use Rattle.std.proofs.Math.Pow.{ones_lt}
-use Rattle.std.proofs.lemmas.Bool.{cond_above, cond_below}
+use Rattle.std.proofs.lemmas.Bool.Decides.{nat_tests}
 use Rattle.std.proofs.Math.Nat.{pow-le-pow_right}
 use Rattle.std.proofs.lemmas.Nat.{and_comm, shl_whole, and_mask, or_shifted, or_block, and-not, pow-add, shr_split, shr_below, mod-pow-add, pow_pos}
 use Rattle.std.proofs.lemmas.Nat.Bits.{ones_shr, and_high}
@@ -9,12 +9,15 @@ use Rattle.std.specs.Int.Bits.{or_zero_r, xor_add_and}
 use Rattle.swi_field.specs.Field.{field, with_field, extended}
 use Rattle.std.specs.Bool.{if◌then◌else◌}
 
--- the low bits of a word, by a mask of ones
-pub bit_and-low_ones : (w hi lo : ℕ) → lo ≤ hi → hi ≤ 31 → bit_and (w / 2 ^ lo) (4294967295 / 2 ^ (31 + lo - hi)) ≡ field hi lo w
-bit_and-low_ones w hi lo order top =
-    let ones : 4294967295 / 2 ^ (31 + lo - hi) ≡ 2 ^ (32 - (31 + lo - hi)) - 1 = ones_shr 32 (31 + lo - hi) (omega arith) in
+-- as many ones as a field has bits
+ones_is : (hi lo : ℕ) → lo ≤ hi → hi ≤ 31 → 4294967295 / 2 ^ (31 + lo - hi) ≡ 2 ^ (hi + 1 - lo) - 1
+ones_is hi lo order top =
     let width : 32 - (31 + lo - hi) ≡ hi + 1 - lo = omega arith in
-    rw (ones, width) (and_mask (w / 2 ^ lo) (hi + 1 - lo))
+    ones_shr 32 (31 + lo - hi) (omega arith) ∙ ap (λ n. 2 ^ n - 1) width
+
+-- what the code of bits computes
+pub bits_is : (w hi lo : ℕ) → lo ≤ hi → hi ≤ 31 → bit_and (w / 2 ^ lo) (4294967295 / 2 ^ (31 + lo - hi)) ≡ field hi lo w
+bits_is w hi lo order top = rw (ones_is hi lo order top) (and_mask (w / 2 ^ lo) (hi + 1 - lo))
 
 -- a product with one factor less by one
 less_one : (p q : ℕ) → (p - 1) * q ≡ p * q - q
@@ -24,10 +27,8 @@ less_one (suc p) q = let e : suc p - 1 ≡ p = omega arith in rw e (omega arith)
 -- the ones of a field, in their place
 field_ones : (hi lo : ℕ) → lo ≤ hi → hi ≤ 31 → 4294967295 / 2 ^ (31 + lo - hi) * 2 ^ lo % 4294967296 ≡ 2 ^ (hi + 1 - lo + lo) - 2 ^ lo
 field_ones hi lo order top =
-    let ones : 4294967295 / 2 ^ (31 + lo - hi) ≡ 2 ^ (32 - (31 + lo - hi)) - 1 = ones_shr 32 (31 + lo - hi) (omega arith) in
-    let width : 32 - (31 + lo - hi) ≡ hi + 1 - lo = omega arith in
     let whole : (2 ^ (hi + 1 - lo) - 1) * 2 ^ lo % 2 ^ 32 ≡ (2 ^ (hi + 1 - lo) - 1) * 2 ^ lo = shl_whole (2 ^ (hi + 1 - lo) - 1) (hi + 1 - lo) lo 32 (ones_lt (hi + 1 - lo)) (omega arith) in
-    rw (ones, width, whole, pow-add) (less_one (2 ^ (hi + 1 - lo)) (2 ^ lo))
+    rw (ones_is hi lo order top, whole, pow-add) (less_one (2 ^ (hi + 1 - lo)) (2 ^ lo))
 
 -- a field is cleared by the ones outside it
 bit_and-outside : (w n lo : ℕ) → w < 2 ^ 32 → n + lo ≤ 32 → bit_and w (4294967295 - (2 ^ (n + lo) - 2 ^ lo)) + (w / 2 ^ lo % 2 ^ n) * 2 ^ lo ≡ w
@@ -54,10 +55,8 @@ put_bits_is w v hi lo order top word fits =
 -- v below 2h with the bit h turned over, less h: h goes in, or out twice
 turned : (a r v h x p : ℕ) → a < 2 → r < h → v ≡ a * h + r → h ≤ 2 ^ 31 → p ≡ 2 * h → x + a % 2 * h * 2 ≡ v + h →
     (x + (2 ^ 32 - h)) % 2 ^ 32 ≡ (if nat_lt v h then v else v + (2 ^ 32 - p))
-turned zero r v h x p small low is top twice e =
-    let same : (x + (2 ^ 32 - h)) % 2 ^ 32 ≡ v = omega arith in
-    same ∙ cond_below v h v (v + (2 ^ 32 - p)) (omega arith)
-turned (suc zero) r v h x p small low is top twice e = cond_above v h v (v + (2 ^ 32 - p)) ((x + (2 ^ 32 - h)) % 2 ^ 32) (omega arith) (omega arith)
+turned zero r v h x p small low is top twice e = grind (arith, nat_tests)
+turned (suc zero) r v h x p small low is top twice e = grind (arith, nat_tests)
 turned (suc (suc a)) r v h x p small low is top twice e = absurd (omega arith)
 
 -- what the code of sign computes

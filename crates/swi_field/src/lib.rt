@@ -6,6 +6,7 @@ ghost use Rattle.swi_field.specs.Field.{field, with_field, extended};
 
 /// Bits HI down to LO of `w`, both included, as a number. Bit 0 is the lowest; LO is at most HI, and HI at most 31.
 #[inline(always)]
+#[tactic(auto, using(crate::proofs::Masks::bits_is))]
 pub fn bits<const HI: u32, const LO: u32>(w: u32) -> u32
     requires order { LO ≤ HI }
     requires top { HI ≤ 31 }
@@ -18,6 +19,7 @@ pub fn bits<const HI: u32, const LO: u32>(w: u32) -> u32
 ///
 /// LO is at most HI, and HI at most 31.
 #[inline(always)]
+#[tactic(auto, using(crate::proofs::Masks::put_bits_is))]
 pub fn put_bits<const HI: u32, const LO: u32>(w: u32, v: u32) -> u32
     requires order { LO ≤ HI }
     requires top { HI ≤ 31 }
@@ -31,6 +33,7 @@ pub fn put_bits<const HI: u32, const LO: u32>(w: u32, v: u32) -> u32
 /// Sign extension: the N-bit value `v` in two's complement, as 32 bits in two's complement (RISC-V unprivileged
 /// specification, section 2.3). N is 1 to 32, and `v` is below 2^N.
 #[inline(always)]
+#[tactic(auto, using(crate::proofs::Masks::sign_is))]
 pub fn sign<const N: u32>(v: u32) -> u32
     requires low { 1 ≤ N }
     requires high { N ≤ 32 }

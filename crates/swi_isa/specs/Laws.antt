@@ -46,22 +46,33 @@ formed_row Ebreak m v w e hit = λ word.
     omega (arith, and_mask w 32, all)
 formed_row _ m v w e hit = tt
 
-formed_by : (rs : List Row) (w : ℕ) → list_all has_them rs ≡ true → (i : Instr) → decoded_by rs w ≡ Some i → IsFormed w i
+-- the row by which a word is decoded; it passes a test that all rows pass
+pub record Found (test : Row → Bool) (w : ℕ) (i : Instr) : Type 0 where
+  pub row : Row
+  pub passes : test row ≡ true
+  pub hit : bit_and w row.mask ≡ row.value
+  pub is : made row.form w ≡ i
+
+found_by : (test : Row → Bool) (rs : List Row) (w : ℕ) (i : Instr) → list_all test rs ≡ true → decoded_by rs w ≡ Some i → Found test w i
 unfolding decoded_by
-formed_by [] w all i is = absurd (cc)
-formed_by (r ∷ rs) w all i is =
-    let parts : (has_them r ≡ true) × (list_all has_them rs ≡ true) = and_parts _ _ all in
+found_by test [] w i all is = absurd (cc)
+found_by test (r ∷ rs) w i all is =
+    let parts : (test r ≡ true) × (list_all test rs ≡ true) = and_parts _ _ all in
     elim (cases_eq (bit_and w r.mask) r.value) [
       | inl hit ↦
           let one : Some (made r.form w) ≡ Some i = sym (cond-true _ _ _ (eq-eqb _ _ hit)) ∙ is in
-          let same : made r.form w ≡ i = cc in
-          subst (IsFormed w) same (formed_row r.form r.mask r.value w parts.0 hit)
-      | inr miss ↦ formed_by rs w parts.1 i (sym (cond-false _ _ _ (ne_eqb _ _ miss)) ∙ is)
+          record { row = r; passes = parts.0; hit = hit; is = cc }
+      | inr miss ↦ found_by test rs w i parts.1 (sym (cond-false _ _ _ (ne_eqb _ _ miss)) ∙ is)
     ]
 
-formed : (w : ℕ) (i : Instr) → decoded w ≡ Some i → IsFormed w i
+pub found : (test : Row → Bool) (w : ℕ) (i : Instr) → list_all test rows ≡ true → decoded w ≡ Some i → Found test w i
 unfolding decoded
-formed w i is = formed_by rows w refl i is
+found test w i all is = found_by test rows w i all is
+
+formed : (w : ℕ) (i : Instr) → decoded w ≡ Some i → IsFormed w i
+formed w i is =
+    let f : Found has_them w i = found has_them w i refl is in
+    subst (IsFormed w) f.is (formed_row f.row.form f.row.mask f.row.value w f.passes f.hit)
 
 -- the offset of JAL is even
 pub jal_even : (w rd off : ℕ) → decoded w ≡ Some (instr.Jal rd off) → off % 2 ≡ 0

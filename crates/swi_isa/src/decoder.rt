@@ -144,6 +144,7 @@ pub fn decode(w: u32) -> Option<Instr>
 /// an illegal one none, so that a word never has two meanings. Of each word: where it is a JAL or a branch, its
 /// offset is even; where it is a JALR, its two low bits are 11; and it is EBREAK where it is 0x00100073 and
 /// nowhere else.
+#[tactic(auto, using(crate::proofs::Apart::word_laws))]
 pub fn is_legal(w: u32) -> bool
     ensures legal { IsTrue result ↔ IsSome (decoded w) }
     ensures one_row { length (matching w) ≡ (if result then 1 else 0) }

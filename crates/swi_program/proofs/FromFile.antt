@@ -1,9 +1,10 @@
 -- The program of a file.
-use Rattle.std.proofs.Common.{◌≡◌, ℕ, ◌+◌, ◌%◌, ◌^◌, ◌≤◌, zero, suc, true, List, [], ◌∷◌, ◌++◌, length, map, filter, fold, sum_by, drop, Some, option_map, arith, refl, sym, add-one, append_assoc, append-nil, slice_get, subst, inl, inr}
+use Rattle.std.proofs.Common.{◌≡◌, ℕ, ◌+◌, ◌%◌, ◌^◌, ◌≤◌, zero, suc, true, List, [], ◌∷◌, ◌++◌, length, map, filter, sum_by, drop, Some, option_map, arith, refl, sym, add-one, append_assoc, slice_get, subst, inr}
 use Rattle.std.specs.List.{list_any}
 use Rattle.std.proofs.lemmas.Grind.{common_steps}
-use Rattle.std.proofs.lemmas.Bool.{cases_Bool}
+use Rattle.std.proofs.lemmas.Bool.Decides.{nat_tests}
 use Rattle.std.proofs.lemmas.List.{length-map}
+use Rattle.std.proofs.lemmas.List.Folds.{fold-map}
 use Rattle.swi_elf_read.specs.Loaded as loaded
 use Rattle.swi_elf_read.specs.Loaded.{LoadedData}
 use Rattle.swi_program.specs.Program.{SegmentData, IsProgram, AreSegments, can_execute, has_word_at}
@@ -21,9 +22,7 @@ loadable_at (x ∷ xs) (suc k) s each found = loadable_at xs k s each.1 found
 drop_found : (xs : List LoadedData) (k : ℕ) (s : SegmentData) → option_map segment_of (slice_get xs k) ≡ Some s →
     map segment_of (drop k xs) ≡ s ∷ map segment_of (drop (suc k) xs)
 drop_found [] k s found = cc
-drop_found (x ∷ xs) zero s found =
-    let same : segment_of x ≡ s = cc in
-    rw same refl
+drop_found (x ∷ xs) zero s found = cc
 drop_found (x ∷ xs) (suc k) s found = drop_found xs k s found
 
 pub segment_step : (done grown : List SegmentData) (xs : List LoadedData) (k : ℕ) (s : SegmentData) → option_map segment_of (slice_get xs k) ≡ Some s → grown ≡ done ++ s ∷ [] →
@@ -31,9 +30,7 @@ pub segment_step : (done grown : List SegmentData) (xs : List LoadedData) (k : �
 segment_step done grown xs k s found is = rw (is, append_assoc, add-one, drop_found xs k s found) refl
 
 pub segment_end : (done : List SegmentData) (xs : List LoadedData) (k : ℕ) → length xs ≤ k → done ++ map segment_of (drop k xs) ≡ done
-segment_end done xs k past =
-    let none : drop k xs ≡ [] = grind (arith, common_steps) in
-    rw none (append-nil done)
+segment_end done xs k past = grind (arith, common_steps)
 
 pub ruleset file_steps = (segment_step, segment_end)
 
@@ -53,19 +50,11 @@ apart_kept (x ∷ xs) apart = (clear_kept x xs apart.0, apart_kept xs apart.1)
 
 filter_kept : (xs : List LoadedData) → filter can_execute (map segment_of xs) ≡ map segment_of (filter loaded.can_execute xs)
 filter_kept [] = refl
-filter_kept (x ∷ xs) =
-    elim (cases_Bool (loaded.can_execute x)) [
-      | inl held ↦ rw (held, filter_kept xs) refl
-      | inr missed ↦ rw (missed, filter_kept xs) refl
-    ]
+filter_kept (x ∷ xs) = grind (arith, nat_tests, filter_kept xs)
 
 any_kept : (xs : List LoadedData) (a : ℕ) → list_any (has_word_at a) (map segment_of xs) ≡ list_any (loaded.has_word_at a) xs
 any_kept [] a = refl
 any_kept (x ∷ xs) a = rw (any_kept xs a) refl
-
-sum_kept : (total : ℕ) (xs : List LoadedData) → fold (λ a s. a + s.size) total (map segment_of xs) ≡ fold (λ a s. a + s.size) total xs
-sum_kept total [] = refl
-sum_kept total (x ∷ xs) = sum_kept (total + x.size) xs
 
 pub file_program : (segments : List SegmentData) (xs : List LoadedData) (entry flags : ℕ) → segments ≡ map segment_of xs → flags % 16 ≡ 0 →
     loaded.AreLoadable xs → loaded.AreApart xs → length (filter loaded.can_execute xs) ≡ 1 → sum_by (λ s. s.size) xs ≤ 2 ^ 25 →
@@ -77,7 +66,7 @@ file_program segments xs entry flags is plain each apart one_text memory word =
       each = each_kept xs each;
       apart = apart_kept xs apart;
       one_text = rw (filter_kept xs, length-map (filter loaded.can_execute xs) segment_of) one_text;
-      memory = rw (sum_kept 0 xs) memory;
+      memory = rw fold-map memory;
       word = rw (any_kept xs entry) word;
     } in
     subst (λ (l : List SegmentData). IsProgram (record { entry = entry; flags = flags; segments = l })) (sym is) made

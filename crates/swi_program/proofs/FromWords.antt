@@ -1,5 +1,5 @@
 -- Words as bytes.
-use Rattle.std.proofs.Common.{◌≡◌, ℕ, ◌+◌, ◌*◌, ◌<◌, ◌≤◌, List, [], ◌∷◌, ◌++◌, length, get_or, drop, refl, arith, append_assoc, append-nil}
+use Rattle.std.proofs.Common.{◌≡◌, ℕ, ◌+◌, ◌*◌, ◌<◌, ◌≤◌, List, [], ◌∷◌, ◌++◌, length, get_or, drop, refl, arith, append_assoc}
 use Rattle.std.proofs.lemmas.List.{drop_more}
 use Rattle.std.proofs.lemmas.Grind.{common_steps}
 use Rattle.byteorder.specs.Endian.{little_bytes}
@@ -12,9 +12,7 @@ byte_step done grown ws i d within is = rw (is, append_assoc, drop_more ws i d w
 
 pub byte_end : (done ws : List ℕ) (i : ℕ) → length ws ≤ i → done ++ bytes_of_words (drop i ws) ≡ done
 unfolding bytes_of_words
-byte_end done ws i past =
-    let none : drop i ws ≡ [] = grind (arith, common_steps) in
-    rw none (append-nil done)
+byte_end done ws i past = grind (arith, common_steps)
 
 pub length_bytes : (ws : List ℕ) → length (bytes_of_words ws) ≡ 4 * length ws
 unfolding bytes_of_words

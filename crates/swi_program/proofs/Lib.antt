@@ -4,4 +4,3 @@ pub mod Texts
 pub mod FromFile
 pub mod FromText
 pub mod FromWords
-pub mod Held

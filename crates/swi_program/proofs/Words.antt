@@ -1,5 +1,5 @@
 -- Words of a list of bytes.
-use Rattle.std.proofs.Common.{◌≡◌, ℕ, ◌+◌, ◌-◌, ◌*◌, ◌/◌, ◌<◌, ◌≤◌, zero, suc, List, length, get_or, take, drop, arith, refl, ap, ◌∙◌, Some, length-take, length-drop, get_or-drop, get_or-take}
+use Rattle.std.proofs.Common.{◌≡◌, ℕ, ◌+◌, ◌-◌, ◌*◌, ◌/◌, ◌<◌, ◌≤◌, zero, suc, List, length, get_or, take, drop, arith, refl, Some, length-take, length-drop, get_or-drop, get_or-take}
 use Rattle.byteorder.specs.Endian.{little_number}
 use Rattle.swi_elf_read.specs.ProgramHeaders.{round_up_4}
 use Rattle.swi_program.specs.Program.{SegmentData}
@@ -16,48 +16,29 @@ length_words bytes at (suc n) = rw (length_words bytes (at + 4) n) refl
 pub get_word : (bytes : List ℕ) (at n k : ℕ) → k < n → get_or (words_from bytes at n) k 0 ≡ little_number 4 (drop (at + 4 * k) bytes)
 unfolding words_from
 get_word bytes at zero k within = absurd (omega arith)
-get_word bytes at (suc n) zero within =
-    let here : at + 4 * 0 ≡ at = omega arith in
-    rw here refl
-get_word bytes at (suc n) (suc k) within =
-    let on : at + 4 * suc k ≡ at + 4 + 4 * k = omega arith in
-    rw on (get_word bytes (at + 4) n k (omega arith))
+get_word bytes at (suc n) zero within = grind arith
+get_word bytes at (suc n) (suc k) within = grind (arith, get_word bytes (at + 4) n k)
 
 pub get_word_first : (bytes : List ℕ) (n k : ℕ) → k < n → get_or (words_from bytes 0 n) k 0 ≡ little_number 4 (drop (4 * k) bytes)
-get_word_first bytes n k within =
-    let on : 0 + 4 * k ≡ 4 * k = omega arith in
-    rw on at (get_word bytes 0 n k within)
+get_word_first bytes n k within = grind (arith, get_word bytes 0 n k)
 
 pub ruleset word_views = (length_words, get_word_first)
 
--- a byte, a number and the words of a part
-byte_cut : (bytes : List ℕ) (m j at i : ℕ) → at + i < m → get_or (drop at (take m (drop j bytes))) i 0 ≡ get_or (drop (j + at) bytes) i 0
-byte_cut bytes m j at i within =
-    let place : j + (at + i) ≡ j + at + i = omega arith in
-    rw (get_or-drop at (take m (drop j bytes)) i 0, get_or-take m (drop j bytes) (at + i) 0 within, get_or-drop j bytes (at + i) 0, get_or-drop (j + at) bytes i 0, place) refl
-
+-- a number and the words of a part
 number_cut : (bytes : List ℕ) (m j at : ℕ) → at + 4 ≤ m → little_number 4 (drop at (take m (drop j bytes))) ≡ little_number 4 (drop (j + at) bytes)
-number_cut bytes m j at within =
-    rw (byte_cut bytes m j at 0 (omega arith), byte_cut bytes m j at 1 (omega arith), byte_cut bytes m j at 2 (omega arith), byte_cut bytes m j at 3 (omega arith)) refl
+number_cut bytes m j at within = grind (arith, get_or-drop {A = ℕ}, get_or-take {A = ℕ})
 
 words_cut : (bytes : List ℕ) (m j at n : ℕ) → at + 4 * n ≤ m → words_from (take m (drop j bytes)) at n ≡ words_from bytes (j + at) n
 unfolding words_from
 words_cut bytes m j at zero within = refl
-words_cut bytes m j at (suc n) within =
-    let on : j + (at + 4) ≡ j + at + 4 = omega arith in
-    let rest : words_from (take m (drop j bytes)) (at + 4) n ≡ words_from bytes (j + at + 4) n = rw on at (words_cut bytes m j (at + 4) n (omega arith)) in
-    rw (number_cut bytes m j at (omega arith), rest) refl
+words_cut bytes m j at (suc n) within = grind (arith, number_cut bytes m j at, words_cut bytes m j (at + 4) n)
 
 -- the text of a segment, seen as the whole words of its bytes from the first multiple of 4 on
-pub seen_text : (s : SegmentData) (first base skipped : ℕ) (all part : List ℕ) → first ≡ s.base → base ≡ round_up_4 first → skipped ≡ base - first →
-    all ≡ s.bytes → part ≡ take ((length all - skipped) / 4 * 4) (drop skipped all) → seen base part ≡ text_in (Some s)
-seen_text s first base skipped all part f b k a p =
+pub seen_text : (s : SegmentData) (base : ℕ) (part : List ℕ) → base ≡ round_up_4 s.base →
+    part ≡ take ((length s.bytes - (base - s.base)) / 4 * 4) (drop (base - s.base) s.bytes) → seen base part ≡ text_in (Some s)
+seen_text s base part is cut =
     let m : ℕ = (length s.bytes - (base - s.base)) / 4 * 4 in
-    let is : base ≡ round_up_4 s.base = b ∙ ap round_up_4 f in
-    let skip : skipped ≡ base - s.base = k ∙ ap (λ (n : ℕ). base - n) f in
-    let cut : part ≡ take m (drop (base - s.base) s.bytes) = rw (p, a, skip) refl in
-    let left : length (drop (base - s.base) s.bytes) ≡ length s.bytes - (base - s.base) = length-drop (base - s.base) s.bytes in
-    let whole : length (take m (drop (base - s.base) s.bytes)) ≡ m = omega (arith, length-take m (drop (base - s.base) s.bytes)) in
+    let whole : length (take m (drop (base - s.base) s.bytes)) ≡ m = omega (arith, length-take m (drop (base - s.base) s.bytes), length-drop (base - s.base) s.bytes) in
     let count : m / 4 ≡ (s.base + length s.bytes - base) / 4 = omega arith in
     let here : base - s.base + 0 ≡ base - s.base = omega arith in
     let words : words_from (take m (drop (base - s.base) s.bytes)) 0 (m / 4) ≡ words_from s.bytes (base - s.base + 0) (m / 4) = words_cut s.bytes m (base - s.base) 0 (m / 4) (omega arith) in

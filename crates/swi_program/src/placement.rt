@@ -34,7 +34,8 @@ fn place(segments: &[Segment<'_>], heap: u32, stack: u32) -> Result<Layout, Room
     requires heap_range { heap ≤ 2 ^ 26 }
     requires stack_least { 4096 ≤ stack }
     requires stack_most { stack ≤ 2 ^ 24 }
-    ensures { result ≡ laid_out segments.now heap stack }
+    ensures layout { result ≡ laid_out segments.now heap stack }
+    ensures own { IfOk result (IsLayoutOf segments.now) }
 {
     let start = highest_end(segments);
     let stack_start = (start + u64::from(heap)).div_ceil(4096) * 4096 + 4096;

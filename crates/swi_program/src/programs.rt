@@ -45,7 +45,6 @@ fn first_executable<'s, 'a>(segments: &'s [Segment<'a>]) -> Option<&'s Segment<'
 
 impl<'a> Program<'a> {
     /// The address at which a run begins: that of an instruction word.
-    #[tactic(auto, using(crate::proofs::Texts::entry_word))]
     pub fn entry(&self) -> u32
         ensures value { result ≡ self.now.entry }
         ensures word { IsTextAddress (text_of self.now.segments) result }
@@ -63,7 +62,7 @@ impl<'a> Program<'a> {
 
     /// The segments, in the order of the file's program headers. Each layout of the program leaves
     /// them their room.
-    #[tactic(auto, using(crate::proofs::Ends::room_law, crate::proofs::Texts::texts_counted))]
+    #[tactic(auto, using(crate::proofs::Texts::text_laws))]
     pub fn segments(&self) -> &[Segment<'a>]
         ensures value { result.now ≡ self.now.segments }
         ensures each { AreSegments self.now.segments }
@@ -79,6 +78,7 @@ impl<'a> Program<'a> {
     }
 
     /// The executable segment.
+    #[tactic(auto, using(crate::proofs::Texts::text_laws))]
     fn executable(&self) -> &Segment<'a>
         ensures found { find can_execute self.now.segments ≡ Some result.now }
         ensures whole { HasText result.now }

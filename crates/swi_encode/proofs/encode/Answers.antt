@@ -1,10 +1,5 @@
-use Rattle.std.proofs.Common.{◌∙◌}
-use Rattle.swi_encode.proofs.Forth.{decoded-word_of}
-use Rattle.swi_encode.proofs.Back.{canonical-decoded}
+use Rattle.swi_encode.proofs.Forth.{word_decodes}
 use Rattle.swi_encode.proofs.encode.Goals as goal
 
 pub returns-clause-decodes : goal.returns-clause-decodes
-returns-clause-decodes c = decoded-word_of c.args.i.now c.word.result c.word.ensures.word c.word.ensures.sized c.requires
-
-pub returns-clause-only : goal.returns-clause-only
-returns-clause-only c = λ w small is. c.word.ensures.word ∙ canonical-decoded w c.args.i.now small is
+returns-clause-decodes c = word_decodes c.args.i.now c.word.result c.word.ensures.word c.word.ensures.sized c.requires

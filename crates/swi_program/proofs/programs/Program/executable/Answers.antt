@@ -1,24 +1,8 @@
-use Rattle.std.proofs.Common.{ℕ, List, subst, ◌≡◌, ap, find, Some, None, option_copied}
-use Rattle.swi_program.specs.Program.{SegmentData, can_execute, ProgramData}
-use Rattle.swi_memory.specs.BusOf.{word_in}
-use Rattle.swi_program.specs.Text.{text_of, word_of}
-use Rattle.swi_program.proofs.Held.{program_held}
 use Rattle.swi_program.proofs.Texts.{text_facts, text_there}
 use Rattle.swi_program.proofs.programs.Program.executable.Goals as goal
 
 pub unreachable-requires : goal.unreachable-requires
-unreachable-requires c =
-    let missing : find can_execute c.self.inside.segments.items ≡ None = cc in
-    text_there _ c.self.invariant missing
-
-pub returns-clause-found : goal.returns-clause-found
-returns-clause-found c = cc (ap option_copied c.in-Some.is, ap (λ (p : ProgramData). p.segments) c.self.view_is)
+unreachable-requires c = text_there _ c.self.invariant (cc)
 
 pub returns-clause-whole : goal.returns-clause-whole
-returns-clause-whole c =
-    let found : find can_execute c.self.inside.segments.items ≡ Some c.in-Some.segment.now = cc in
-    text_facts _ _ c.self.invariant found
-
-pub returns-clause-held : goal.returns-clause-held
-returns-clause-held c =
-    subst (λ (xs : List SegmentData). (a : ℕ) → word_in xs a ≡ word_of (text_of xs) a) (ap (λ (p : ProgramData). p.segments) c.self.view_is) (program_held _ c.self.invariant)
+returns-clause-whole c = text_facts _ _ c.self.invariant (cc)
