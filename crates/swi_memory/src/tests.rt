@@ -116,6 +116,9 @@ fn whole_words_of_the_file_are_fetched_and_nothing_else(rt: HostRuntime) -> Resu
         (0xFFFFFFFC, None),
     ] {
         assert_eq!(rt; bus.fetch(a), want, "at {a:x}");
+        if a % 4 == 0 {
+            assert_eq!(rt; bus.fetch_aligned(a), want, "at {a:x}");
+        }
     }
     Ok(())
 }
