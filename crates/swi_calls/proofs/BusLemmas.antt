@@ -1,24 +1,21 @@
 -- Pieces of a range on a bus.
-use Rattle.std.proofs.Common.{◌≡◌, ℕ, ◌+◌, ◌-◌, ◌<◌, ◌≤◌, ◌^◌, ◌%◌, List, length, true, false, arith, sym, ap, ◌∙◌, Result, Ok, Err, OnOk, OnErr}
+use Rattle.std.proofs.Common.{◌≡◌, ℕ, ◌+◌, ◌-◌, ◌<◌, ◌≤◌, ◌^◌, ◌%◌, List, length, true, false, arith, Result, Ok, Err, OnOk, OnErr}
 use Rattle.swi_memory.specs.declared.right.Right.{Right}
 use Rattle.swi_memory.specs.declared.right.Right.TheVariants.{Write}
-use Rattle.swi_memory.specs.Bus.{AreaData, holds, holds_byte, with_bytes}
+use Rattle.swi_memory.specs.Bus.{AreaData, holds, with_bytes}
 use Rattle.swi_memory.specs.Laws.{holds_at, holds_from, holds_front}
 
 -- a piece of a range that holds, at the address that wraps: it doesn't
-pub record Piece (bus : List AreaData) (r : Right) (a n d k : ℕ) : Type 0 where
-  pub place : (a + d) % 2 ^ 32 ≡ a + d
-  pub held : holds bus r (a + d) k ≡ true
+pub piece_place : (bus : List AreaData) (r : Right) (a n d : ℕ) → holds bus r a n ≡ true → d < n → (a + d) % 2 ^ 32 ≡ a + d
+piece_place bus r a n d h more = let here = holds_at bus r a n d h more in omega (arith, here.0)
 
-pub piece_of : (bus : List AreaData) (r : Right) (a n d k : ℕ) → holds bus r a n ≡ true → d < n → d + k ≤ n → Piece bus r a n d k
-piece_of bus r a n d k h more within =
-    let here : (a + d < 2 ^ 32) × (holds_byte bus r (a + d) ≡ true) = holds_at bus r a n d h more in
-    let rest : holds bus r (a + d) (n - d) ≡ true = holds_from bus r a n d h (omega arith) in
-    record { place = omega arith; held = holds_front bus r (a + d) (n - d) k rest (omega arith) }
+pub piece_held : (bus : List AreaData) (r : Right) (a n d k : ℕ) → holds bus r a n ≡ true → d + k ≤ n → holds bus r (a + d) k ≡ true
+piece_held bus r a n d k h within = holds_front bus r (a + d) (n - d) k (holds_from bus r a n d h (omega arith)) (omega arith)
 
--- a copy that may be made, at an address that is spelled in another way
-pub copied : {E : Type 0} (r : Result Unit E) (old new : List AreaData) (x a : ℕ) (bytes : List ℕ) → x ≡ a → holds old Write a (length bytes) ≡ true →
-    OnOk r (new ≡ with_bytes old x bytes) → OnErr r (holds old Write x (length bytes) ≡ false) → new ≡ with_bytes old a bytes
-copied (Ok u) old new x a bytes same held ok refused = ok ∙ ap (λ y. with_bytes old y bytes) same
-copied (Err e) old new x a bytes same held ok refused =
-    let no_way : true ≡ false = sym held ∙ ap (λ y. holds old Write y (length bytes)) (sym same) ∙ refused in cc
+-- a copy of a piece that may be made
+pub copied : {E : Type 0} (r : Result Unit E) (old new : List AreaData) (a n d : ℕ) (bytes : List ℕ) → holds old Write a n ≡ true → d < n → d + length bytes ≤ n →
+    OnOk r (new ≡ with_bytes old ((a + d) % 2 ^ 32) bytes) → OnErr r (holds old Write ((a + d) % 2 ^ 32) (length bytes) ≡ false) → new ≡ with_bytes old (a + d) bytes
+copied (Ok u) old new a n d bytes held more within ok refused = rw (piece_place old Write a n d held more) at ok
+copied (Err e) old new a n d bytes held more within ok refused = cc (piece_place old Write a n d held more, piece_held old Write a n d (length bytes) held within)
+
+pub ruleset pieces = (piece_place, piece_held)

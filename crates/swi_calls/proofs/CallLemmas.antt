@@ -1,12 +1,12 @@
 -- What a system call does with the devices.
-use Rattle.std.proofs.Common.{◌≡◌, ℕ, Bool, true, false, List, [], ◌∷◌, ◌++◌, refl, ap, ◌∙◌, inl, inr, Option, Some, None, Result, Ok, Err, is_err, IsErrOf, rules}
+use Rattle.std.proofs.Common.{◌≡◌, ℕ, Bool, true, false, List, [], ◌∷◌, ◌++◌, refl, ap, ◌∙◌, Option, Some, None, Result, Ok, Err, is_err, rules}
 use Rattle.std.specs.Io.KnownBytes.{Appends}
 use Rattle.swi_outside.specs.Causes.{HasCause}
 use Rattle.swi_outside.specs.Sink.{AppendsPrefix}
 use Rattle.swi_outside.specs.Laws.{Appends-none, Appends-append}
 use Rattle.swi_outside.proofs.SinkLemmas.{prefix_first, prefix_whole, prefix_last}
 use Rattle.swi_calls.specs.declared.end.CallFault.{CallFault}
-use Rattle.swi_calls.specs.declared.end.CallFault.TheVariants.{SourceFault, SinkFault}
+use Rattle.swi_calls.specs.declared.end.CallFault.TheVariants.{SinkFault}
 use Rattle.swi_calls.specs.declared.machine.Machine.{Machine}
 use Rattle.swi_calls.specs.declared.request.Called.{Called}
 use Rattle.swi_calls.specs.declared.request.Request.{Request}
@@ -39,21 +39,8 @@ line_as P log r None c is h = rw is at h
 line_as P log r (Some v) c is h = rw is at h
 
 -- the same fault, whatever the call would have answered
-named_as : {T U : Type 0} (f g : CallFault) → IsErrOf {T = T} (Err f) g → IsErrOf {T = U} (Err f) g
-named_as f g e = let same : f ≡ g = cc in ap (λ h. Err h) same
-
 causes_as : {T U : Type 0} (f : CallFault) (d e : Faults) → HasCauses {T = T} d e (Err f) → HasCauses {T = U} d e (Err f)
-causes_as f d e h = record {
-  source = record { later = h.source.later; cause = λ n. h.source.cause (named_as f SourceFault n); told = elim h.source.told [ inl same ↦ inl same | inr n ↦ inr (named_as f SourceFault n) ] };
-  sinks = record {
-    one_later = h.sinks.one_later;
-    other_later = h.sinks.other_later;
-    cause = λ n. h.sinks.cause (named_as f SinkFault n);
-    one_told = elim h.sinks.one_told [ inl same ↦ inl same | inr n ↦ inr (named_as f SinkFault n) ];
-    other_told = elim h.sinks.other_told [ inl same ↦ inl same | inr n ↦ inr (named_as f SinkFault n) ];
-  };
-  quiet = tt;
-}
+causes_as f d e h = search rules
 
 module _ (m : Machine) (d e : Devices) (p q : Faults) where
   abbrev call_does : List ℕ → Exchange
@@ -68,19 +55,7 @@ module _ (m : Machine) (d e : Devices) (p q : Faults) where
   -- the call failed
   pub call_failed : {T U : Type 0} (f : CallFault) → Exchanged {T = T} call_does d e p q (Err f) → Exchanged {T = U} step_does d e p q (Err f)
   unfolding called
-  call_failed f h = record {
-    input = tt;
-    output = tt;
-    error = tt;
-    output_prefix = h.output_prefix;
-    error_prefix = λ left told. prefix_first d.error e.error (call_does left).error (line left) (h.error_prefix left told);
-    failed_input = λ n. h.failed_input (named_as f SourceFault n);
-    failed_output = h.failed_output;
-    failed_error = h.failed_error;
-    unasked_output = h.unasked_output;
-    unasked_error = λ left none. h.unasked_error left (none_first (call_does left).error (line left) none);
-    causes = causes_as f p q h.causes;
-  }
+  call_failed f h = search (rules, prefix_first, none_first, causes_as)
 
   -- it didn't, and its line, or a part of it, went to the errors
   module _ {T : Type 0} (v : T) (x : Option (List ℕ)) (n : ℕ) (h : Exchanged call_does d e p q (Ok v)) (unasked : m.log ≡ false → (x ≡ e.error) × (n ≡ q.err)) where
@@ -111,16 +86,4 @@ module _ (m : Machine) (d e : Devices) (p q : Faults) where
     pub line_told : n ≡ q.err → ((left : List ℕ) → d.input ≡ Some left → Appends e.error x (line left)) →
         Exchanged {T = Unit {0}} step_does d (record e { error = x }) p (record q { err = n }) (Ok tt)
     unfolding called
-    line_told same gained = record {
-      input = h.input;
-      output = h.output;
-      error = λ left told. Appends-append d.error e.error x (call_does left).error (line left) (h.error left told) (gained left told);
-      output_prefix = tt;
-      error_prefix = tt;
-      failed_input = λ other. let never : ⊥ = cc in absurd never;
-      failed_output = tt;
-      failed_error = tt;
-      unasked_output = h.unasked_output;
-      unasked_error = line_unasked;
-      causes = search rules;
-    }
+    line_told same gained = search (rules, Appends-append, line_unasked)

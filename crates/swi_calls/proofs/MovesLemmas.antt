@@ -1,27 +1,22 @@
 -- Pieces of the input that were put into memory, one behind the other.
-use Rattle.std.proofs.Common.{◌≡◌, ℕ, ◌+◌, ◌-◌, ◌≤◌, List, ◌++◌, length, sym, ap, ◌∙◌, arith, append_assoc, Option, length-append}
-use Rattle.std.specs.Io.KnownBytes.{Appends, Consumes}
+use Rattle.std.proofs.Common.{◌≡◌, ℕ, ◌+◌, ◌-◌, ◌≤◌, List, ◌++◌, length, refl, sym, ap, ◌∙◌, arith, Option, length-append}
+use Rattle.std.specs.Io.KnownBytes.{Appends}
 use Rattle.swi_outside.specs.Sink.{AppendsPrefix}
-use Rattle.swi_memory.specs.Bus.{AreaData, bytes_at, with_bytes}
+use Rattle.swi_memory.specs.Bus.{AreaData, bytes_at}
 use Rattle.swi_calls.specs.Moves.{ReadsInto}
 use Rattle.swi_memory.specs.Laws.{bytes_at-add, with_bytes-append}
 use Rattle.swi_outside.specs.Laws.{Appends-append, Consumes-append}
 use Rattle.swi_outside.proofs.SinkLemmas.{prefix_behind}
 
--- one piece more
-pub reads_more : (bus mid next : List AreaData) (first now last : Option (List ℕ)) (a d k : ℕ) (piece : List ℕ) → ReadsInto bus mid first now a d →
-    length piece ≡ k → next ≡ with_bytes mid (a + d) piece → Consumes now last piece → ReadsInto bus next first last a (d + k)
-reads_more bus mid next first now last a d k piece h sized is taken = record {
-  bytes = h.bytes ++ piece;
-  number = length-append h.bytes piece ∙ ap (λ n. n + length piece) h.number ∙ ap (λ n. d + n) sized;
-  stored = is ∙ ap (λ b. with_bytes b (a + d) piece) h.stored ∙ ap (λ n. with_bytes (with_bytes bus a h.bytes) (a + n) piece) (sym h.number) ∙ sym (with_bytes-append bus a h.bytes piece);
-  consumed = Consumes-append first now last h.bytes piece h.consumed taken;
-}
-
 -- two pieces, one behind the other
 pub reads_join : (bus mid next : List AreaData) (first now last : Option (List ℕ)) (a d k : ℕ) → ReadsInto bus mid first now a d → ReadsInto mid next now last (a + d) k →
     ReadsInto bus next first last a (d + k)
-reads_join bus mid next first now last a d k h i = reads_more bus mid next first now last a d k i.bytes h i.number i.stored i.consumed
+reads_join bus mid next first now last a d k h i = record {
+  bytes = h.bytes ++ i.bytes;
+  number = simp length-append (rw (h.number, i.number) refl);
+  stored = i.stored ∙ rw (h.stored, ← h.number) (sym (with_bytes-append bus a h.bytes i.bytes));
+  consumed = Consumes-append first now last h.bytes i.bytes h.consumed i.consumed;
+}
 
 -- a buffer that is written in pieces: one piece more
 pub written_more : (bus : List AreaData) (a d : ℕ) (piece : List ℕ) (first now next : Option (List ℕ)) → Appends first now (bytes_at bus a d) → piece ≡ bytes_at bus (a + d) (length piece) →
@@ -34,10 +29,6 @@ written_more bus a d piece first now next h bytes w =
 pub written_part : (bus : List AreaData) (a n d : ℕ) (piece : List ℕ) (first now next : Option (List ℕ)) → d + length piece ≤ n → Appends first now (bytes_at bus a d) →
     piece ≡ bytes_at bus (a + d) (length piece) → AppendsPrefix now next piece → AppendsPrefix first next (bytes_at bus a n)
 written_part bus a n d piece first now next within h bytes w =
-    let rest : ℕ = n - (d + length piece) in
-    let e : bytes_at bus a n ≡ bytes_at bus a d ++ (piece ++ bytes_at bus (a + (d + length piece)) rest) =
-    (let m : n ≡ d + length piece + rest = omega arith in ap (bytes_at bus a) m)
-    ∙ bytes_at-add bus a (d + length piece) rest
-    ∙ ap (λ l. l ++ bytes_at bus (a + (d + length piece)) rest) (bytes_at-add bus a d (length piece) ∙ ap (λ l. bytes_at bus a d ++ l) (sym bytes))
-    ∙ append_assoc (bytes_at bus a d) piece (bytes_at bus (a + (d + length piece)) rest) in
-    rw e (prefix_behind first now next (bytes_at bus a d) piece (bytes_at bus (a + (d + length piece)) rest) h w)
+    let m : n ≡ d + (length piece + (n - (d + length piece))) = omega arith in
+    rw (m, bytes_at-add bus a d (length piece + (n - (d + length piece))), bytes_at-add bus (a + d) (length piece) (n - (d + length piece)), ← bytes)
+    (prefix_behind first now next (bytes_at bus a d) piece (bytes_at bus (a + d + length piece) (n - (d + length piece))) h w)

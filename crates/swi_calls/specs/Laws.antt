@@ -1,8 +1,7 @@
 -- Laws of runs: of the flat machine, step by step, and how the run over a fixed text is the flat machine's, up to the first step that would
 -- store into the text, where it ends.
 use Rattle.std.proofs.Common.{◌≡◌, ℕ, zero, suc, ◌+◌, ◌<◌, true, false, Option, Some, None, is_some, refl, sym, ap, ◌∙◌, inl, inr, arith}
-use Rattle.std.proofs.lemmas.Bool.{false≢true, cases_Bool}
-use Rattle.swi_calls.specs.declared.end.End.{End}
+use Rattle.std.proofs.lemmas.Bool.{cases_Bool}
 use Rattle.swi_calls.specs.State.{FlatState}
 use Rattle.swi_calls.specs.StoresText.{next_store}
 use Rattle.swi_calls.specs.FirstStore.{StoresAt}
@@ -37,34 +36,30 @@ pub held_run_more : (k : ℕ) (s : FlatState) → is_some s.machine.ending ≡ f
 unfolding held_run
 held_run_more k s going = rw going refl
 
-none_of : (e : Option End) → is_some e ≡ false → e ≡ None
+none_of : {A : Type 0} (o : Option A) → is_some o ≡ false → o ≡ None
 none_of None e = refl
-none_of (Some x) e = absurd (false≢true (sym e))
+none_of (Some x) e = cc
 
-no_store : (a : Option ℕ) → (is_some a ≡ true → ⊥) → a ≡ None
-no_store None never = refl
-no_store (Some a) never = absurd (never refl)
-
--- a step that would not store into the text
+-- a step that would not store into the text, and one that would
 plain_step : (s : FlatState) → next_store s.machine ≡ None → held_step s ≡ flat_step s
 plain_step s none = ap (λ (a : Option ℕ). joined s (held s.machine a (made s.machine s.input) s.input)) none
 
+stop_step : (s : FlatState) (a : ℕ) → next_store s.machine ≡ Some a → held_step s ≡ stopped_at s a
+stop_step s a is = ap (λ (o : Option ℕ). joined s (held s.machine o (made s.machine s.input) s.input)) is
+
 here_stores : (s : FlatState) → is_some s.machine.ending ≡ false → is_some (next_store s.machine) ≡ true → StoresAt s 0
-here_stores s going stores = record {
-  going = ap (λ (q : FlatState). q.machine.ending) (flat_run_none s) ∙ none_of s.machine.ending going;
-  stores = ap (λ (q : FlatState). is_some (next_store q.machine)) (flat_run_none s) ∙ stores;
-}
+here_stores s going stores = record { going = rw flat_run_none (none_of s.machine.ending going); stores = rw flat_run_none stores }
 
 later_stores : (s : FlatState) (j : ℕ) → is_some s.machine.ending ≡ false → StoresAt (flat_step s) j → StoresAt s (suc j)
-later_stores s j going at = record {
-  going = ap (λ (q : FlatState). q.machine.ending) (flat_run_more j s going) ∙ at.going;
-  stores = ap (λ (q : FlatState). is_some (next_store q.machine)) (flat_run_more j s going) ∙ at.stores;
-}
+later_stores s j going at = record { going = rw (flat_run_more j s going) at.going; stores = rw (flat_run_more j s going) at.stores }
 
 -- a run whose first step would not store into the text
 first_plain : (k : ℕ) (s : FlatState) → is_some s.machine.ending ≡ false → (StoresAt s 0 → ⊥) → held_run (suc k) s ≡ held_run k (flat_step s)
 first_plain k s going never =
-    held_run_more k s going ∙ ap (held_run k) (plain_step s (no_store (next_store s.machine) (λ stores. never (here_stores s going stores))))
+    elim (cases_Bool (is_some (next_store s.machine))) [
+      | inl stores ↦ absurd (never (here_stores s going stores))
+      | inr none ↦ held_run_more k s going ∙ ap (held_run k) (plain_step s (none_of (next_store s.machine) none))
+    ]
 
 -- where none of the first k steps would store into the text, the runs are the same
 pub held_is_flat : (k : ℕ) (s : FlatState) → ((j : ℕ) → j < k → StoresAt s j → ⊥) → held_run k s ≡ flat_run k s
@@ -78,11 +73,8 @@ held_is_flat (suc k) s never =
           ∙ sym (flat_run_more k s going)
     ]
 
-stop_step : (s : FlatState) (a : ℕ) → next_store s.machine ≡ Some a → held_step s ≡ stopped_at s a
-stop_step s a is = ap (λ (o : Option ℕ). joined s (held s.machine o (made s.machine s.input) s.input)) is
-
 store_of : (a : Option ℕ) → is_some a ≡ true → (n : ℕ) × (a ≡ Some n)
-store_of None e = absurd (false≢true e)
+store_of None e = cc
 store_of (Some n) e = (n, refl)
 
 -- where step k + 1 is the first that would, a run of that many steps or more ends there, with the ending StoreText and the rest as the flat
@@ -90,29 +82,21 @@ store_of (Some n) e = (n, refl)
 pub held_stops : (k : ℕ) (s : FlatState) → ((j : ℕ) → j < k → StoresAt s j → ⊥) → StoresAt s k → (more : ℕ) →
     (a : ℕ) × (next_store (flat_run k s).machine ≡ Some a) × (held_run (suc k + more) s ≡ stopped_at (flat_run k s) a)
 held_stops zero s never at more =
-    let same = flat_run_none s in
-    let store = store_of (next_store (flat_run 0 s).machine) at.stores in
-    let here : next_store s.machine ≡ Some store.0 = ap (λ (q : FlatState). next_store q.machine) (sym same) ∙ store.1 in
-    let going : is_some s.machine.ending ≡ false = ap (λ (e : Option End). is_some e) (ap (λ (q : FlatState). q.machine.ending) (sym same) ∙ at.going) in
-    let one : suc 0 + more ≡ suc more = omega arith in (
+    let store = store_of (next_store s.machine) (rw flat_run_none at at.stores) in
+    let none : s.machine.ending ≡ None = rw flat_run_none at at.going in
+    let going : is_some s.machine.ending ≡ false = rw none refl in
+    let one : suc 0 + more ≡ suc more = omega arith in
+    rw (flat_run_none s, one) (
       store.0,
       store.1,
-      ap (λ n. held_run n s) one ∙ held_run_more more s going ∙ ap (held_run more) (stop_step s store.0 here)
-          ∙ held_run_over more (stopped_at s store.0) refl ∙ ap (λ (q : FlatState). stopped_at q store.0) (sym same),
+      held_run_more more s going ∙ ap (held_run more) (stop_step s store.0 store.1) ∙ held_run_over more (stopped_at s store.0) refl,
     )
 held_stops (suc k) s never at more =
     elim (cases_Bool (is_some s.machine.ending)) [
-      | inl over ↦ absurd (false≢true (sym (ap (λ (e : Option End). is_some e) at.going) ∙ (ap (λ (q : FlatState). is_some q.machine.ending) (flat_run_over (suc k) s over) ∙ over)))
+      | inl over ↦ absurd (let none : s.machine.ending ≡ None = rw (flat_run_over (suc k) s over) at at.going in let no_way : false ≡ true = rw none at over in cc)
       | inr going ↦
           let same = flat_run_more k s going in
-          let later : StoresAt (flat_step s) k = record {
-            going = ap (λ (q : FlatState). q.machine.ending) (sym same) ∙ at.going;
-            stores = ap (λ (q : FlatState). is_some (next_store q.machine)) (sym same) ∙ at.stores;
-          } in
-          let rest = held_stops k (flat_step s) (λ j lt b. never (suc j) (omega arith) (later_stores s j going b)) later more in
-          let one : suc (suc k) + more ≡ suc (suc k + more) = omega arith in (
-            rest.0,
-            ap (λ (q : FlatState). next_store q.machine) same ∙ rest.1,
-            ap (λ n. held_run n s) one ∙ first_plain (suc k + more) s going (never 0 (omega arith)) ∙ rest.2 ∙ ap (λ (q : FlatState). stopped_at q rest.0) (sym same),
-          )
+          let rest = held_stops k (flat_step s) (λ j lt b. never (suc j) (omega arith) (later_stores s j going b)) (record { going = rw same at at.going; stores = rw same at at.stores }) more in
+          let one : suc (suc k) + more ≡ suc (suc k + more) = omega arith in
+          rw (same, one) (rest.0, rest.1, first_plain (suc k + more) s going (never 0 (omega arith)) ∙ rest.2)
     ]

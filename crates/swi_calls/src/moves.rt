@@ -80,6 +80,7 @@ pub(crate) fn read_into<I: Source>(
 }
 
 /// The next piece of a buffer, of which `done` bytes are written.
+#[tactic(auto, using(crate::proofs::BusLemmas::pieces))]
 fn piece_at(bus: &Bus, a: u32, count: u32, done: u32) -> &[u8]
     requires held { holds bus.now Read a count ≡ true }
     requires more { done < count }

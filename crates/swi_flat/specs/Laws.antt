@@ -1,5 +1,5 @@
 -- Laws of runs of the flat machine: a run goes on where another stopped, and what is written stays at the front.
-use Rattle.std.proofs.Common.{◌≡◌, ℕ, zero, suc, ◌+◌, ◌-◌, ◌<◌, ◌≤◌, Bool, true, false, is_some, Option, None, List, [], ◌++◌, refl, sym, ap, ◌∙◌, inl, inr, append_assoc, arith}
+use Rattle.std.proofs.Common.{◌≡◌, ℕ, zero, suc, ◌+◌, ◌-◌, ◌<◌, ◌≤◌, false, is_some, Option, None, List, [], ◌++◌, refl, sym, ap, ◌∙◌, inl, inr, append_assoc, arith}
 use Rattle.std.proofs.lemmas.Bool.{cases_Bool}
 use Rattle.std.proofs.lemmas.List.{append-nil}
 use Rattle.swi_calls.specs.declared.end.End.{End}
@@ -9,17 +9,15 @@ use Rattle.swi_calls.specs.Flat.{Made, made, flat_step, flat_run, started}
 use Rattle.swi_calls.specs.Laws.{flat_run_none, flat_run_over, flat_run_more}
 use Rattle.swi_flat.specs.FlatData.{state_at, next_made}
 
-flat_run_sum_by : (a b : ℕ) (s : FlatState) (over : Bool) → is_some s.machine.ending ≡ over →
-    flat_run (a + b) (flat_step s) ≡ flat_run b (flat_run a (flat_step s)) → flat_run (suc (a + b)) s ≡ flat_run b (flat_run (suc a) s)
-flat_run_sum_by a b s true over rest = rw (flat_run_over (suc a) s over, flat_run_over b s over, flat_run_over (suc (a + b)) s over) refl
-flat_run_sum_by a b s false going rest = rw (flat_run_more a s going, flat_run_more (a + b) s going) rest
-
 -- a run of a steps and then b
 pub flat_run_sum : (a b : ℕ) (s : FlatState) → flat_run (a + b) s ≡ flat_run b (flat_run a s)
 flat_run_sum zero b s = let none : zero + b ≡ b = omega arith in rw (none, flat_run_none s) refl
 flat_run_sum (suc a) b s =
     let more : suc a + b ≡ suc (a + b) = omega arith in
-    rw more (flat_run_sum_by a b s (is_some s.machine.ending) refl (flat_run_sum a b (flat_step s)))
+    elim (cases_Bool (is_some s.machine.ending)) [
+      | inl over ↦ rw (flat_run_over (suc a) s over, flat_run_over b s over, flat_run_over (suc a + b) s over) refl
+      | inr going ↦ rw (more, flat_run_more a s going, flat_run_more (a + b) s going) (flat_run_sum a b (flat_step s))
+    ]
 
 -- what a run from a state has written is what stood there, and more behind it
 pub record GoesOn (output error : List ℕ) (after : FlatState) : Type 0 where
