@@ -28,7 +28,7 @@ use Rattle.swi_board.proofs.Falls.{leave_at}
 use Rattle.swi_board.proofs.Leaving.{jump_linked}
 use Rattle.swi_board.proofs.Grown.{grown_exit, grown_word}
 use Rattle.swi_board.proofs.Growing.{depth_most}
-use Rattle.swi_board.proofs.Running.{Running, most_running, runs_on, falls, count_small}
+use Rattle.swi_board.proofs.Running.{Point, Course, Running, most_running, runs_on, falls, count_small}
 use Rattle.swi_board.proofs.Settling.{settles_on}
 
 -- an exit of this kind is a direct one
@@ -48,152 +48,208 @@ unserved span r ram = record {
     none : (a w : ℕ) → a ≡ risen a (w - w)
     none a w = grind arith
 
-module _ (policy : Record → ImageData → Transfer → Record) (v : ImageData) (n span : ℕ) (h0 : HartData) (r0 : Record) (ram0 : RamState) (left0 out0 err0 : Option (List ℕ)) (fits0 : Fits v r0 h0) (small : n ≤ 2 ^ 48)
-    (r : Record) (left out err : Option (List ℕ)) (first : HartData) (start : RamState) (coherent : Coherent v r span start.words) where
-  -- what holds behind each step
-  pub record Stretch (h : HartData) (ram : RamState) : Type 0 where
-    pub running : Running policy v n span h0 r0 ram0 left0 out0 err0 h r ram left out err
-    pub settles : (l : List ℕ) → left0 ≡ Some l → is_between h0.control ≡ true → h.machine.ending ≡ None → (h.machine.steps < n) ⊎ (is_between h.control ≡ true)
-    pub linked : (b o t : ℕ) → is_linked r b o ≡ true → policy r v (direct b o t) ≡ r
-    pub words : ram.words ≡ start.words
-    pub quiet : ram.faults ≡ start.faults
-    pub going : h.machine.ending ≡ None
-    pub short : h.machine.pc < 2 ^ 32
-    pub rises : (h ≡ first) ⊎ (most v first.machine first.control < most v h.machine h.control)
+-- what holds behind each step of a stretch of a run that asks neither the service nor a device, which began at `first`
+pub record Stretch (run : Course) (first : Point) (h : HartData) (ram : RamState) : Type 0 where
+  pub fits : Fits run.image run.from.kept run.from.hart
+  pub small : run.limit ≤ 2 ^ 48
+  pub coherent : Coherent run.image first.kept run.span ram.words
+  pub linked : (b o t : ℕ) → is_linked first.kept b o ≡ true → run.policy first.kept run.image (direct b o t) ≡ first.kept
+  pub below : first.hart.machine.steps < run.limit
+  pub went : first.hart.machine.ending ≡ None
+  pub running : Running run (record first { hart = h; ram = ram })
+  pub settles : (l : List ℕ) → run.from.left ≡ Some l → is_between run.from.hart.control ≡ true → h.machine.ending ≡ None →
+      (h.machine.steps < run.limit) ⊎ (is_between h.control ≡ true)
+  pub words : ram.words ≡ first.ram.words
+  pub quiet : ram.faults ≡ first.ram.faults
+  pub going : h.machine.ending ≡ None
+  pub short : h.machine.pc < 2 ^ 32
+  pub rises : (h ≡ first.hart) ⊎ (most run.image first.hart.machine first.hart.control < most run.image h.machine h.control)
 
-  pub home_at : (h : HartData) (ram : RamState) (i b o : ℕ) (stage : Stage) → Stretch h ram → h.control ≡ At i b o stage → Home v r h.machine i b o stage
-  home_at h ram i b o stage s control =
+-- and what a step does
+record Went (run : Course) (first : Point) (h h' : HartData) : Type 0 where
+  grown : Grown run.image first.kept first.kept h h'
+  fits : Fits run.image first.kept h'
+  moves : first.kept ≡ moved run.policy first.kept run.image (transfer_at run.image h.machine h.control)
+  made : (l : List ℕ) → first.left ≡ Some l → Made run.image first.kept h h' l first.left first.out first.out first.err first.err
+
+module _ {run : Course} {first : Point} where
+  pub home_at : {h : HartData} {ram : RamState} {i b o : ℕ} {stage : Stage} → Stretch run first h ram → h.control ≡ At i b o stage →
+      Home run.image first.kept h.machine i b o stage
+  home_at {h} {ram} {i} {b} {o} {stage} s control =
       let f = s.running.fits in
-      home v r f.flat h.machine i b o stage f.image (subst (λ (k : Control). Matches v r f.flat h.machine k) control f.matches) s.going s.short
+      home run.image first.kept f.flat h.machine i b o stage f.image
+      (subst (λ (k : Control). Matches run.image first.kept f.flat h.machine k) control f.matches) s.going s.short
 
-  pub coherent_at : (h : HartData) (ram : RamState) → Stretch h ram → Coherent v r span ram.words
-  coherent_at h ram s = subst (λ (k : List ℕ). Coherent v r span k) (sym s.words) coherent
+  -- the word under control lies in the part of the ram that the service uses
+  pub used : {h : HartData} {ram : RamState} {i b o : ℕ} {stage : Stage} → Stretch run first h ram → h.control ≡ At i b o stage → i < run.span
+  used {h} {ram} {i} {b} {o} {stage} s control = index_below run.image first.kept h.machine run.span ram.words i b o stage s.coherent (home_at s control)
 
-  pub stands : h0.count ≤ 2 ^ 55 → span ≤ 2 ^ 21 → IsImage v → (h : HartData) (ram : RamState) → Stretch h ram → h.machine.steps < n → (i b o : ℕ) (stage : Stage) → h.control ≡ At i b o stage → StandsInside v r ram h i b o stage
-  stands few low image h ram s below i b o stage control =
-      let at = home_at h ram i b o stage s control in
-      let inside = index_below v r h.machine span ram.words i b o stage (coherent_at h ram s) at in
+  pub stands : {h : HartData} {ram : RamState} {i b o : ℕ} {stage : Stage} → Stretch run first h ram → run.from.hart.count ≤ 2 ^ 55 → run.span ≤ 2 ^ 21 →
+      IsImage run.image → h.machine.steps < run.limit → h.control ≡ At i b o stage → StandsInside run.image first.kept ram h i b o stage
+  stands {h} {ram} {i} {b} {o} {stage} s few low image below control =
+      let v = run.image in
+      let at = home_at s control in
+      let inside = used s control in
       record {
         home = at;
-        decodes = got_some v r h.machine span ram.words i b o stage (coherent_at h ram s) at (slice_index ram.words i) refl;
-        in_ram = index_fits v r h.machine span ram.words i b o stage (coherent_at h ram s) at;
+        decodes = got_some v first.kept h.machine run.span ram.words i b o stage s.coherent at (slice_index ram.words i) refl;
+        in_ram = index_fits v first.kept h.machine run.span ram.words i b o stage s.coherent at;
         index = omega (arith, inside, low);
-        offset = offset_small v r h.machine span ram.words i b o stage (coherent_at h ram s) at image;
-        count = count_small policy v n span h0 r0 ram0 left0 out0 err0 h r ram left out err s.running below s.going s.short small few;
+        offset = offset_small v first.kept h.machine run.span ram.words i b o stage s.coherent at image;
+        count = count_small s.running below s.going s.short s.small few;
       }
 
-  module _ (h h' : HartData) (ram ram' : RamState) (s : Stretch h ram) (below : h.machine.steps < n) (k : WalkedOn v r ram ram' h h') where
-    step_at : Home v r h.machine k.index k.block k.offset k.stage
-    step_at = home_at h ram k.index k.block k.offset k.stage s k.control
+  module _ {h h' : HartData} {ram ram' : RamState} (s : Stretch run first h ram) (below : h.machine.steps < run.limit) (k : WalkedOn run.image first.kept ram ram' h h') where
+    step_at : Home run.image first.kept h.machine k.index k.block k.offset k.stage
+    step_at = home_at s k.control
 
     -- a word is executed as its role has it
-    step_word : (x : Instr) → x ≡ k.instruction → WordOn h.machine h'.machine h'.control x k.index k.block k.offset k.stage → Grown v r r h h' × (Fits v r h' × ((r ≡ moved policy r v (transfer_at v h.machine h.control)) × ((l : List ℕ) → left ≡ Some l → Made v r h h' l left out out err err)))
+    step_word : (x : Instr) → x ≡ k.instruction → WordOn h.machine h'.machine h'.control x k.index k.block k.offset k.stage → Went run first h h'
     step_word x is w =
+        let v = run.image in
+        let r = first.kept in
         let role : Role = quick_role k.stage x (original h.machine) in
-        let stands = word_home v r h.machine span ram.words k.index k.block k.offset k.stage (coherent_at h ram s) step_at (slice_index ram.words k.index) x refl (ap (λ (y : Instr). Some y) is ∙ k.is) w.stays in
+        let stands = word_home v r h.machine run.span ram.words k.index k.block k.offset k.stage s.coherent step_at (slice_index ram.words k.index) x refl
+        (ap (λ (y : Instr). Some y) is ∙ k.is) w.stays in
         let plain : (l : List ℕ) → h' ≡ hart_after h (word_stepped role k.index k.block k.offset k.stage h.machine x l) =
-        λ l. counted_hart h h' l k.is_counted ∙ ap (λ (y : Stepped). hart_after h y) (sym (w.step l)) in (
-          grown_word v r r h h' k.index k.block k.offset k.stage k.control (sym s.going) x role left left refl stands refl (inl plain),
-          (
-            fits_word v r r h h' k.index k.block k.offset k.stage k.control x role left left refl s.running.fits (sym s.going) s.short stands refl (inl plain),
-            (
-              rw k.control (word_moves v r h.machine k.index k.block k.offset k.stage policy r stands.0),
-              λ l told. made_word v r r h h' k.index k.block k.offset k.stage k.control x role l left out out err err stands refl
-                  (subst (λ (y : Stepped). Did h h' y left out out err err) (sym (w.step l)) (did_quiet h h' l left out err k.is_counted told)),
-            ),
-          ),
-        )
+        λ l. counted_hart h h' l k.is_counted ∙ ap (λ (y : Stepped). hart_after h y) (sym (w.step l)) in
+        record {
+          grown = grown_word v r r h h' k.index k.block k.offset k.stage k.control (sym s.going) x role first.left first.left refl stands refl (inl plain);
+          fits = fits_word v r r h h' k.index k.block k.offset k.stage k.control x role first.left first.left refl s.running.fits (sym s.going) s.short stands refl
+              (inl plain);
+          moves = rw k.control (word_moves v r h.machine k.index k.block k.offset k.stage run.policy r stands.0);
+          made = λ l told. made_word v r r h h' k.index k.block k.offset k.stage k.control x role l first.left first.out first.out first.err first.err stands refl
+              (subst (λ (y : Stepped). Did h h' y first.left first.out first.out first.err first.err) (sym (w.step l))
+              (did_quiet h h' l first.left first.out first.err k.is_counted told));
+        }
 
     -- and a link gone over as its exit is left
-    step_link : (x : Instr) → x ≡ k.instruction → LinkOn v r h.machine h'.machine h'.control x (slice_index ram.words k.index) k.index k.block k.offset k.stage → Grown v r r h h' × (Fits v r h' × ((r ≡ moved policy r v (transfer_at v h.machine h.control)) × ((l : List ℕ) → left ≡ Some l → Made v r h h' l left out out err err)))
+    step_link : (x : Instr) → x ≡ k.instruction →
+        LinkOn run.image first.kept h.machine h'.machine h'.control x (slice_index ram.words k.index) k.index k.block k.offset k.stage → Went run first h h'
     step_link x is w =
-        let e = exit_home v r h.machine span ram.words k.index k.block k.offset k.stage (coherent_at h ram s) step_at (slice_index ram.words k.index) x refl (ap (λ (y : Instr). Some y) is ∙ k.is) w.leaving in
-        let leave = leave_at v r ram.words h.machine (slice_index ram.words k.index) k.index k.block k.offset k.stage e (placed v r h.machine span ram.words k.index k.block k.offset k.stage (coherent_at h ram s) step_at) step_at.known refl w.is_direct in
-        let linked = jump_linked v r span ram.words (slice_index ram.words k.index) k.index k.block k.offset (coherent_at h ram s) leave w.linked in
+        let v = run.image in
+        let r = first.kept in
+        let got = slice_index ram.words k.index in
+        let e = exit_home v r h.machine run.span ram.words k.index k.block k.offset k.stage s.coherent step_at got x refl
+        (ap (λ (y : Instr). Some y) is ∙ k.is) w.leaving in
+        let leave = leave_at v r ram.words h.machine got k.index k.block k.offset k.stage e
+        (placed v r h.machine run.span ram.words k.index k.block k.offset k.stage s.coherent step_at) step_at.known refl w.is_direct in
+        let linked = jump_linked v r run.span ram.words got k.index k.block k.offset s.coherent leave w.linked in
         let kind : exit_kind (word_at v k.block (k.offset + 1)) ≡ Direct = direct_kind (word_at v k.block (k.offset + 1)) w.is_direct in
         let step : (l : List ℕ) → ExitStep (exit_kind (word_at v k.block (k.offset + 1))) v r h.machine (step_to h' l) l k.index k.block k.offset k.stage =
         λ l. subst (λ (y : ExitKind). ExitStep y v r h.machine (step_to h' l) l k.index k.block k.offset k.stage) (sym kind) (w.step l) in
-        let moves : r ≡ moved policy r v (exit_transfer (exit_kind (word_at v k.block (k.offset + 1))) v h.machine k.block k.offset) =
-        subst (λ (y : ExitKind). r ≡ moved policy r v (exit_transfer y v h.machine k.block k.offset)) (sym kind) (sym (s.linked k.block k.offset (word_at v k.block (k.offset + 1)) linked)) in (
-          grown_exit v r r h h' k.index k.block k.offset k.stage k.control (sym s.going) e step k.is_counted (omega arith),
-          (
-            fits_exit v r r h h' k.index k.block k.offset k.stage k.control s.running.fits (sym s.going) s.short e step k.is_counted,
-            (
-              rw k.control (exit_moves v r h.machine k.index k.block k.offset k.stage policy r e moves),
-              λ l told. made_exit v r r h h' k.index k.block k.offset k.stage k.control l left out err e step k.is_counted told,
-            ),
-          ),
-        )
+        let moves : r ≡ moved run.policy r v (exit_transfer (exit_kind (word_at v k.block (k.offset + 1))) v h.machine k.block k.offset) =
+        subst (λ (y : ExitKind). r ≡ moved run.policy r v (exit_transfer y v h.machine k.block k.offset)) (sym kind)
+        (sym (s.linked k.block k.offset (word_at v k.block (k.offset + 1)) linked)) in
+        record {
+          grown = grown_exit v r r h h' k.index k.block k.offset k.stage k.control (sym s.going) e step k.is_counted (omega arith);
+          fits = fits_exit v r r h h' k.index k.block k.offset k.stage k.control s.running.fits (sym s.going) s.short e step k.is_counted;
+          moves = rw k.control (exit_moves v r h.machine k.index k.block k.offset k.stage run.policy r e moves);
+          made = λ l told. made_exit v r r h h' k.index k.block k.offset k.stage k.control l first.left first.out first.err e step k.is_counted told;
+        }
 
-    step_all : Grown v r r h h' × (Fits v r h' × ((r ≡ moved policy r v (transfer_at v h.machine h.control)) × ((l : List ℕ) → left ≡ Some l → Made v r h h' l left out out err err)))
+    step_all : Went run first h h'
     step_all = elim k.step [ inl w ↦ step_word k.instruction refl w | inr w ↦ step_link k.instruction refl w ]
 
-  pub grows : (h h' : HartData) (ram ram' : RamState) → Stretch h ram → h.machine.steps < n → WalkedOn v r ram ram' h h' → Grown v r r h h'
-  grows h h' ram ram' s below k = (step_all h h' ram ram' s below k).0
-
-  one : (h h' : HartData) (ram ram' : RamState) → Stretch h ram → h.machine.steps < n → WalkedOn v r ram ram' h h' → Stretch h' ram'
-  one h h' ram ram' s below w =
-      let at = home_at h ram w.index w.block w.offset w.stage s w.control in
-      let low = index_below v r h.machine span ram.words w.index w.block w.offset w.stage (coherent_at h ram s) at in
-      let all = step_all h h' ram ram' s below w in
-      let stepped = ram_exit span (writes r - writes r) w.index w.block w.offset w.stage h.control ram ram' ram' w.control low w.fetched (unserved span r ram') in
+  one : {h h' : HartData} {ram ram' : RamState} → Stretch run first h ram → h.machine.steps < run.limit → WalkedOn run.image first.kept ram ram' h h' →
+      Stretch run first h' ram'
+  one {h} {h'} {ram} {ram'} s below w =
+      let all : Went run first h h' = step_all s below w in
+      let stepped = ram_exit run.span (writes first.kept - writes first.kept) w.index w.block w.offset w.stage h.control ram ram' ram' w.control
+      (used s w.control) w.fetched (unserved run.span first.kept ram') in
       record {
-        running = runs_on policy v n span h0 r0 ram0 left0 out0 err0 h r ram left out err s.running below s.going s.short small h' r ram' left out err stepped (omega arith) all.1.0 all.0 all.1.1.0 all.1.1.1;
-        settles = λ l told between going.
-            let now = s.running.goes l told fits0.flat fits0.image fits0.matches in
-            settles_on v r n h h' now.now.input left out out err err below (all.1.1.1 now.now.input now.left_is) going;
+        fits = s.fits;
+        small = s.small;
+        coherent = subst (λ (k : List ℕ). Coherent run.image first.kept run.span k) (sym (ap (λ (k : RamState). k.words) w.fetched)) s.coherent;
         linked = s.linked;
+        below = s.below;
+        went = s.went;
+        running = runs_on s.running below s.going s.short s.small {next = record first { hart = h'; ram = ram' }} stepped (omega arith) all.fits all.grown
+            all.moves all.made;
+        settles = λ l told between going.
+            let now = s.running.goes l told s.fits.flat s.fits.image s.fits.matches in
+            settles_on below (all.made now.now.input now.left_is) going;
         words = ap (λ (k : RamState). k.words) w.fetched ∙ s.words;
         quiet = ap (λ (k : RamState). k.faults) w.fetched ∙ s.quiet;
         going = w.going;
         short = w.short;
-        rises = inr (higher (most_running v h.machine h.control s.going) all.0.most s.rises);
+        rises = inr (higher (most_running run.image h.machine h.control s.going) all.grown.most s.rises);
       }
     where
-      higher : most v h.machine h.control ≡ 3 * h.machine.steps + depth v h.machine h.control → 3 * h.machine.steps + depth v h.machine h.control + 1 ≤ most v h'.machine h'.control →
-          (h ≡ first) ⊎ (most v first.machine first.control < most v h.machine h.control) → most v first.machine first.control < most v h'.machine h'.control
-      higher is up (inl same) = let m = ap (λ (k : HartData). most v k.machine k.control) same in omega (arith, is, up, m)
+      higher : most run.image h.machine h.control ≡ 3 * h.machine.steps + depth run.image h.machine h.control →
+          3 * h.machine.steps + depth run.image h.machine h.control + 1 ≤ most run.image h'.machine h'.control →
+          (h ≡ first.hart) ⊎ (most run.image first.hart.machine first.hart.control < most run.image h.machine h.control) →
+          most run.image first.hart.machine first.hart.control < most run.image h'.machine h'.control
+      higher is up (inl same) = let m = ap (λ (k : HartData). most run.image k.machine k.control) same in omega (arith, is, up, m)
       higher is up (inr above) = omega (arith, is, up, above)
 
-  pub walk : Stretch first start → (h : HartData) (ram : RamState) → Walked v r n first start h ram → Stretch h ram
-  walk s _ _ Walked.here = s
-  walk s _ _ (Walked.on h1 h2 ram1 ram2 w below k) = one h1 h2 ram1 ram2 (walk s h1 ram1 w) below k
+  pub walk : {h : HartData} {ram : RamState} → Stretch run first first.hart first.ram → Walked run.image first.kept run.limit first.hart first.ram h ram →
+      Stretch run first h ram
+  walk s Walked.here = s
+  walk s (Walked.on h1 h2 ram1 ram2 w below k) = one (walk s w) below k
 
-  pub begins : ((b o t : ℕ) → is_linked r b o ≡ true → policy r v (direct b o t) ≡ r) → Running policy v n span h0 r0 ram0 left0 out0 err0 first r start left out err → ((l : List ℕ) → left0 ≡ Some l → is_between h0.control ≡ true → first.machine.ending ≡ None → (first.machine.steps < n) ⊎ (is_between first.control ≡ true)) →
-      first.machine.ending ≡ None → first.machine.pc < 2 ^ 32 → Stretch first start
-  begins linked running settles going short = record { linked = linked; running = running; settles = settles; words = refl; quiet = refl; going = going; short = short; rises = inl refl }
+  pub begins : {h : HartData} → Running run first → ((l : List ℕ) → run.from.left ≡ Some l → is_between run.from.hart.control ≡ true →
+      first.hart.machine.ending ≡ None → (first.hart.machine.steps < run.limit) ⊎ (is_between first.hart.control ≡ true)) →
+      Fits run.image run.from.kept run.from.hart → run.limit ≤ 2 ^ 48 → Coherent run.image first.kept run.span first.ram.words →
+      ((b o t : ℕ) → is_linked first.kept b o ≡ true → run.policy first.kept run.image (direct b o t) ≡ first.kept) →
+      h ≡ first.hart → h.machine.steps < run.limit → first.hart.machine.ending ≡ None → first.hart.machine.pc < 2 ^ 32 →
+      Stretch run first first.hart first.ram
+  begins {h} running settles fits small coherent linked same below going short = record {
+    fits = fits;
+    small = small;
+    coherent = coherent;
+    linked = linked;
+    below = subst (λ (k : HartData). k.machine.steps < run.limit) same below;
+    went = going;
+    running = running;
+    settles = settles;
+    words = refl;
+    quiet = refl;
+    going = going;
+    short = short;
+    rises = inl refl;
+  }
 
   -- the measure of the loop of words falls
-  pub word_falls : (h h' : HartData) (ram ram' : RamState) → Stretch h ram → h.machine.steps < n → WalkedOn v r ram ram' h h' → 3 * n + 5 - most v h'.machine h'.control < 3 * n + 5 - most v h.machine h.control
-  word_falls h h' ram ram' s below k = falls v n r r h h' below s.going (grows h h' ram ram' s below k)
+  pub word_falls : {h h' : HartData} {ram ram' : RamState} → Stretch run first h ram → h.machine.steps < run.limit → WalkedOn run.image first.kept ram ram' h h' →
+      3 * run.limit + 5 - most run.image h'.machine h'.control < 3 * run.limit + 5 - most run.image h.machine h.control
+  word_falls {h} {h'} s below k = let all : Went run first h h' = step_all s below k in falls below s.going all.grown
 
   -- the loop's measure is no larger behind the steps
-  pub no_higher : (h : HartData) (ram : RamState) → Stretch h ram → 3 * n + 5 - most v h.machine h.control ≤ 3 * n + 5 - most v first.machine first.control
-  no_higher h ram s = by s.rises
-    where
-      by : (h ≡ first) ⊎ (most v first.machine first.control < most v h.machine h.control) → 3 * n + 5 - most v h.machine h.control ≤ 3 * n + 5 - most v first.machine first.control
-      by (inl same) = let m = ap (λ (k : HartData). most v k.machine k.control) same in omega (arith, m)
-      by (inr above) = omega (arith, above)
+  pub no_higher : {h : HartData} {ram : RamState} → Stretch run first h ram →
+      3 * run.limit + 5 - most run.image h.machine h.control ≤ 3 * run.limit + 5 - most run.image first.hart.machine first.hart.control
+  no_higher {h} s = elim s.rises [
+    | inl same ↦ let m = ap (λ (k : HartData). most run.image k.machine k.control) same in omega (arith, m)
+    | inr above ↦ omega (arith, above)
+  ]
 
   -- and smaller where the limit is reached
-  pub lower : (h : HartData) (ram : RamState) → Stretch h ram → first.machine.ending ≡ None → first.machine.steps < n → n ≤ h.machine.steps → 3 * n + 5 - most v h.machine h.control < 3 * n + 5 - most v first.machine first.control
-  lower h ram s going more over =
-      let m = most_running v first.machine first.control going in
-      let d = depth_most v first.machine first.control in
+  pub lower : {h : HartData} {ram : RamState} → Stretch run first h ram → run.limit ≤ h.machine.steps →
+      3 * run.limit + 5 - most run.image h.machine h.control < 3 * run.limit + 5 - most run.image first.hart.machine first.hart.control
+  lower {h} s over =
+      let m = most_running run.image first.hart.machine first.hart.control s.went in
+      let d = depth_most run.image first.hart.machine first.hart.control in
+      let more = s.below in
       elim s.rises [
         | inl same ↦ let k = ap (λ (k : HartData). k.machine.steps) same in absurd (omega (arith, k, more, over))
         | inr above ↦ omega (arith, above, m, d, more)
       ]
 
 -- how steps within a block ended, by the answer
-pub at_limit : {E : Type 0} (v : ImageData) (r : Record) (answer : Result (Option ℕ) E) (found : Option ℕ) (n : ℕ) (h h' : HartData) (ram ram' : RamState) → answer ≡ Ok found → found ≡ None → BlockRan v r answer n h ram h' ram' → Walked v r n h ram h' ram' × (n ≤ h'.machine.steps)
-at_limit {E} v r answer found n h h' ram ram' is none ran = subst (λ (k : Result (Option ℕ) E). BlockRan v r k n h ram h' ram') (is ∙ ap (λ (k : Option ℕ). Ok k) none) ran
+pub at_limit : {E : Type 0} {v : ImageData} {r : Record} {answer : Result (Option ℕ) E} {found : Option ℕ} {n : ℕ} {h h' : HartData} {ram ram' : RamState} →
+    answer ≡ Ok found → found ≡ None → BlockRan v r answer n h ram h' ram' → Walked v r n h ram h' ram' × (n ≤ h'.machine.steps)
+at_limit {E} {v} {r} {answer} {found} {n} {h} {h'} {ram} {ram'} is none ran =
+    subst (λ (k : Result (Option ℕ) E). BlockRan v r k n h ram h' ram') (is ∙ ap (λ (k : Option ℕ). Ok k) none) ran
 
-pub before_word : {E : Type 0} (v : ImageData) (r : Record) (answer : Result (Option ℕ) E) (found : Option ℕ) (got n : ℕ) (h h' : HartData) (ram ram' : RamState) → answer ≡ Ok found → found ≡ Some got → BlockRan v r answer n h ram h' ram' → StoppedAt v r (Some got) n h ram h' ram'
-before_word {E} v r answer found got n h h' ram ram' is word ran = subst (λ (k : Result (Option ℕ) E). BlockRan v r k n h ram h' ram') (is ∙ ap (λ (k : Option ℕ). Ok k) word) ran
+pub before_word : {E : Type 0} {v : ImageData} {r : Record} {answer : Result (Option ℕ) E} {found : Option ℕ} {got n : ℕ} {h h' : HartData} {ram ram' : RamState} →
+    answer ≡ Ok found → found ≡ Some got → BlockRan v r answer n h ram h' ram' → StoppedAt v r (Some got) n h ram h' ram'
+before_word {E} {v} {r} {answer} {found} {got} {n} {h} {h'} {ram} {ram'} is word ran =
+    subst (λ (k : Result (Option ℕ) E). BlockRan v r k n h ram h' ram') (is ∙ ap (λ (k : Option ℕ). Ok k) word) ran
 
-pub before_fault : {E : Type 0} (v : ImageData) (r : Record) (answer : Result (Option ℕ) E) (e : E) (n : ℕ) (h h' : HartData) (ram ram' : RamState) → answer ≡ Err e → BlockRan v r answer n h ram h' ram' → StoppedAt v r None n h ram h' ram'
-before_fault {E} v r answer e n h h' ram ram' is ran = subst (λ (k : Result (Option ℕ) E). BlockRan v r k n h ram h' ram') is ran
+pub before_fault : {E : Type 0} {v : ImageData} {r : Record} {answer : Result (Option ℕ) E} {e : E} {n : ℕ} {h h' : HartData} {ram ram' : RamState} →
+    answer ≡ Err e → BlockRan v r answer n h ram h' ram' → StoppedAt v r None n h ram h' ram'
+before_fault {E} {v} {r} {answer} {e} {n} {h} {h'} {ram} {ram'} is ran =
+    subst (λ (k : Result (Option ℕ) E). BlockRan v r k n h ram h' ram') is ran
 
-pub same_index : (c : Control) (i b o : ℕ) (s : Stage) (i' b' o' : ℕ) (s' : Stage) → c ≡ At i b o s → c ≡ At i' b' o' s' → i ≡ i'
-same_index c i b o s i' b' o' s' one other = let k : At i b o s ≡ At i' b' o' s' = sym one ∙ other in cc
+pub same_index : {c : Control} {i b o : ℕ} {s : Stage} {i' b' o' : ℕ} {s' : Stage} → c ≡ At i b o s → c ≡ At i' b' o' s' → i ≡ i'
+same_index {c} {i} {b} {o} {s} {i'} {b'} {o'} {s'} one other = let k : At i b o s ≡ At i' b' o' s' = sym one ∙ other in cc

@@ -45,7 +45,7 @@ use Rattle.swi_board.proofs.Progress.{Progress, made_step, lead, fall, beside, C
 use Rattle.swi_board.proofs.Counting.{cost_more, cost_none, plain_cost}
 use Rattle.swi_board.proofs.Standing.{slots_are, linked_leads}
 use Rattle.swi_board.proofs.Taking.{input_shrinks}
-use Rattle.swi_board.proofs.Running.{Goes, Running}
+use Rattle.swi_board.proofs.Running.{Goes, Point, Course, Running}
 use Rattle.std.specs.Option.{ForSome}
 
 take_nil : (n : ℕ) → ◌≡◌ {A = List ℕ} (take n []) []
@@ -491,28 +491,35 @@ module _ (policy : Record → ImageData → Transfer → Record) (v : ImageData)
       one_risen a f = grind arith
 
 -- what stands where a device breaks a run off, whatever the input tells
-module _ (policy : Record → ImageData → Transfer → Record) (v : ImageData) (n span : ℕ) (h0 : HartData) (r0 : Record) (ram0 : RamState) (left0 out0 err0 : Option (List ℕ)) (h : HartData) (r : Record) (ram : RamState) (left out err : Option (List ℕ))
-    (so_far : Running policy v n span h0 r0 ram0 left0 out0 err0 h r ram left out err) (more : h.machine.steps < n) (running : h.machine.ending ≡ None) (word : h.machine.pc < 2 ^ 32) (h' : HartData) (bus : List AreaData) (left' out' err' : Option (List ℕ)) (is : h' ≡ broken (with_memory h bus)) where
-  pub device_run : {T : Type 0} (result : Result T BoardFault) → OnDevice result (ForSome left (λ l. BrokenStep v r h l left' out out' err err')) → (IsErrOf result SourceFault → (out' ≡ out) × (err' ≡ err)) →
-      OnDevice result (ForSome left0 (λ l. (f : Machine) → Carries (fetched f.bus) v → Matches v r0 f h0.machine h0.control → BrokeOff result (n - h0.machine.steps) (started f l) h0 h' left' out0 out' err0 err'))
-  device_run {T} (Ok x) step same = tt
-  device_run {T} (Err RamFault) step same = tt
-  device_run {T} (Err SourceFault) step same = λ l told f image matches.
+module _ {run : Course} {now : Point} (so_far : Running run now) (more : now.hart.machine.steps < run.limit) (running : now.hart.machine.ending ≡ None)
+    (word : now.hart.machine.pc < 2 ^ 32) {h' : HartData} {bus : List AreaData} (is : h' ≡ broken (with_memory now.hart bus)) where
+  pub device_run : {T : Type 0} (left' out' err' : Option (List ℕ)) (result : Result T BoardFault) →
+      OnDevice result (ForSome now.left (λ l. BrokenStep run.image now.kept now.hart l left' now.out out' now.err err')) →
+      (IsErrOf result SourceFault → (out' ≡ now.out) × (err' ≡ now.err)) → OnDevice result (ForSome run.from.left (λ l. (f : Machine) →
+      Carries (fetched f.bus) run.image → Matches run.image run.from.kept f run.from.hart.machine run.from.hart.control →
+      BrokeOff result (run.limit - run.from.hart.machine.steps) (started f l) run.from.hart h' left' run.from.out out' run.from.err err'))
+  device_run {T} left' out' err' (Ok x) step same = tt
+  device_run {T} left' out' err' (Err RamFault) step same = tt
+  device_run {T} left' out' err' (Err SourceFault) step same = λ l told f image matches.
       let goes = so_far.goes l told f image matches in
-      device_broke {T = T} (Err SourceFault) policy v n (started f l) h0 h h' r0 r bus left left' out0 out out' err0 err err' goes more running word (step goes.now.input goes.left_is) same is
-  device_run {T} (Err SinkFault) step same = λ l told f image matches.
+      device_broke {T = T} (Err SourceFault) run.policy run.image run.limit (started f l) run.from.hart now.hart h' run.from.kept now.kept bus
+      now.left left' run.from.out now.out out' run.from.err now.err err' goes more running word (step goes.now.input goes.left_is) same is
+  device_run {T} left' out' err' (Err SinkFault) step same = λ l told f image matches.
       let goes = so_far.goes l told f image matches in
-      device_broke {T = T} (Err SinkFault) policy v n (started f l) h0 h h' r0 r bus left left' out0 out out' err0 err err' goes more running word (step goes.now.input goes.left_is) same is
+      device_broke {T = T} (Err SinkFault) run.policy run.image run.limit (started f l) run.from.hart now.hart h' run.from.kept now.kept bus
+      now.left left' run.from.out now.out out' run.from.err now.err err' goes more running word (step goes.now.input goes.left_is) same is
 
-  pub ram_run : (ram' : RamState) → RamBroken v h.machine h.control span ram ram' → left' ≡ left → out' ≡ out → err' ≡ err →
-      ForSome left0 (λ l. (f : Machine) → Carries (fetched f.bus) v → Matches v r0 f h0.machine h0.control → RamBrokeOff v (n - h0.machine.steps) (started f l) h0 h' ram0 ram' left' out0 out' err0 err')
-  ram_run ram' failed same_left same_out same_err = λ l told f image matches.
-      subst (λ (k : Option (List ℕ)). RamBrokeOff v (n - h0.machine.steps) (started f l) h0 h' ram0 ram' k out0 out' err0 err') (sym same_left)
-      (subst (λ (k : Option (List ℕ)). RamBrokeOff v (n - h0.machine.steps) (started f l) h0 h' ram0 ram' left out0 k err0 err') (sym same_out)
-      (subst (λ (k : Option (List ℕ)). RamBrokeOff v (n - h0.machine.steps) (started f l) h0 h' ram0 ram' left out0 out err0 k) (sym same_err)
-      (by_control (so_far.goes l told f image matches) h.control refl)))
+  pub ram_run : {ram' : RamState} {left' out' err' : Option (List ℕ)} → RamBroken run.image now.hart.machine now.hart.control run.span now.ram ram' →
+      left' ≡ now.left → out' ≡ now.out → err' ≡ now.err → ForSome run.from.left (λ l. (f : Machine) →
+      Carries (fetched f.bus) run.image → Matches run.image run.from.kept f run.from.hart.machine run.from.hart.control → RamBrokeOff run.image
+      (run.limit - run.from.hart.machine.steps) (started f l) run.from.hart h' run.from.ram ram' left' run.from.out out' run.from.err err')
+  ram_run {ram'} {left'} {out'} {err'} failed same_left same_out same_err =
+      rw (same_left, same_out, same_err) (λ l told f image matches. by_control (so_far.goes l told f image matches) now.hart.control refl)
     where
-      by_control : {s0 : FlatState} → Goes policy v r0 n s0 h0 h r left out0 out err0 err → (c : Control) → h.control ≡ c → RamBrokeOff v (n - h0.machine.steps) s0 h0 h' ram0 ram' left out0 out err0 err
+      by_control : {s0 : FlatState} → Goes run.policy run.image run.from.kept run.limit s0 run.from.hart now.hart now.kept now.left run.from.out now.out run.from.err now.err →
+          (c : Control) → now.hart.control ≡ c →
+          RamBrokeOff run.image (run.limit - run.from.hart.machine.steps) s0 run.from.hart h' run.from.ram ram' now.left run.from.out now.out run.from.err now.err
       by_control {s0} goes (At i b o stage) e =
-          ram_breaks_off policy v n s0 h0 h r0 r left out0 out err0 err goes more running h' ram0 ram ram' i b o stage e word (ap (λ (k : HartData). k.machine.steps) is) so_far.ram_ran.fetches failed.fetches
+          ram_breaks_off run.policy run.image run.limit s0 run.from.hart now.hart run.from.kept now.kept now.left run.from.out now.out run.from.err now.err
+          goes more running h' run.from.ram now.ram ram' i b o stage e word (ap (λ (k : HartData). k.machine.steps) is) so_far.ram_ran.fetches failed.fetches
       by_control {s0} goes Outside e = absurd (failed.inside e)

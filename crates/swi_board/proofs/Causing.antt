@@ -92,5 +92,11 @@ causes_answer {T} {U} ram before after fault answer is c =
     subst (λ (k : BoardFault). HasCauses {T = T} (record { ram = ram; input = before.input; out = before.out; err = before.err }) (record { ram = ram; input = after.input; out = after.out; err = after.err }) (Err k)) (sym is) (causes_call {T = T} {U = U} ram before after fault c)
 
 -- after steps in which no count rose
-pub causes_from : {T : Type 0} (result : Result T BoardFault) (first before after : Faults) → before ≡ first → HasCauses before after result → HasCauses first after result
-causes_from {T} result first before after same c = subst (λ (k : Faults). HasCauses k after result) same c
+pub causes_from : {T : Type 0} {result : Result T BoardFault} {first before after : Faults} → before ≡ first → HasCauses before after result →
+    HasCauses first after result
+causes_from {T} {result} {first} {before} {after} same c = subst (λ (k : Faults). HasCauses k after result) same c
+
+-- and of those the ram's alone was read anew
+pub same_ram : {ram ram' input out err : ℕ} {first : Faults} → ram' ≡ ram → ◌≡◌ {A = Faults} (record { ram = ram; input = input; out = out; err = err }) first →
+    ◌≡◌ {A = Faults} (record { ram = ram'; input = input; out = out; err = err }) first
+same_ram same rest = rw same rest

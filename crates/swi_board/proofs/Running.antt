@@ -24,6 +24,7 @@ use Rattle.swi_board.specs.Runs.{weight, is_outside, unfetched, fetched_by, dept
 use Rattle.swi_board.proofs.Midway.{step_follows}
 use Rattle.swi_board.proofs.Kept.{next_text, image_same}
 use Rattle.swi_board.proofs.Growing.{depth_most, calls_most}
+use Rattle.swi_board.proofs.Grown.{moved_rises}
 use Rattle.swi_board.specs.Ran.{Ran}
 use Rattle.swi_board.specs.Transfers.{transfers, cost, size, here_of, spent, spent_by, spent_run, after_all}
 use Rattle.swi_calls.specs.Laws.{held_run_none, held_run_over, held_run_more}
@@ -65,7 +66,8 @@ fetched_one h0 h h' later running one outside =
     by (At i b o stage) u none u' is = omega (arith, later, one)
     by Outside u none u' is = omega (arith, later, one)
 
-module _ (policy : Record → ImageData → Transfer → Record) (v : ImageData) (n : ℕ) (s0 : FlatState) (h0 h h' : HartData) (r0 r new : Record) (left left' out0 out out' err0 err err' : Option (List ℕ))
+module _ {policy : Record → ImageData → Transfer → Record} {v : ImageData} {n : ℕ} {s0 : FlatState} {h0 h h' : HartData} {r0 r new : Record}
+    {left left' out0 out out' err0 err err' : Option (List ℕ)}
     (goes : Goes policy v r0 n s0 h0 h r left out0 out err0 err) (more : h.machine.steps < n) (running : h.machine.ending ≡ None) (word : h.machine.pc < 2 ^ 32) (moves : new ≡ moved policy r v (transfer_at v h.machine h.control))
     (step : Made v new h h' goes.now.input left' out out' err err') (outside : (is_some h'.machine.ending && is_outside h'.control) ≡ is_outside h.control) where
   follows : Follows v new step.stepped (next_made v h.machine h.control goes.now.machine goes.now.input)
@@ -264,64 +266,86 @@ module _ (policy : Record → ImageData → Transfer → Record) (v : ImageData)
       }
 
 -- the end of a run: no step is left, or it has ended
-pub goes_out : (policy : Record → ImageData → Transfer → Record) (v : ImageData) (r0 : Record) (n : ℕ) (s0 : FlatState) (h0 h : HartData) (r : Record) (left out0 out err0 err : Option (List ℕ)) → Goes policy v r0 n s0 h0 h r left out0 out err0 err → (n ≤ h.machine.steps) ⊎ (is_some h.machine.ending ≡ true) →
-    Ran policy v (n - h0.machine.steps) s0 h0 r0 h r left out0 out err0 err
-goes_out policy v r0 n s0 h0 h r left out0 out err0 err goes over =
-    let stood : held_run (n - h.machine.steps) goes.now ≡ goes.now =
-    elim over [
-      | inl done ↦ let none : n - h.machine.steps ≡ 0 = omega arith in ap (λ k. held_run k goes.now) none ∙ held_run_none goes.now
-      | inr ended ↦ held_run_over (n - h.machine.steps) goes.now (ap (λ (e : Option End). is_some e) (sym (same_steps v r goes.now.machine h.machine h.control goes.matches).1) ∙ ended)
-    ] in
-    let is : goes.now ≡ held_run (n - h0.machine.steps) s0 = sym stood ∙ goes.run_left in
-    record {
-      matches = subst (λ (s : FlatState). Matches v r s.machine h.machine h.control) is goes.matches;
-      input = goes.left_is ∙ ap (λ (s : FlatState). Some s.input) is;
-      output = subst (λ (s : FlatState). Appends out0 out s.output) is goes.wrote;
-      error = subst (λ (s : FlatState). Appends err0 err s.error) is goes.told;
-      record_is = sym (ap (λ (l : List Transfer). after_all policy v r l) none_left) ∙ goes.records_left;
-      cost_is = no_cost _ _ _ _ _ goes.cost_left free_left ∙ ap (λ (s : FlatState). h0.count + cost v (n - h0.machine.steps) s0 (here_of v s0.machine h0.control) + spent_run s.machine h.control) is;
-      fetches_are = no_fetch _ _ _ _ _ (goes.fetch_left n (inr refl)) free_fetch ∙ ap (λ (s : FlatState). size 0 v (n - h0.machine.steps) s0 (here_of v s0.machine h0.control) + spent_run s.machine h.control) is;
-    }
-  where
-    no_fetch : (a b s z y : ℕ) → a + b + s ≡ z + y → b ≡ 0 → a + s ≡ z + y
-    no_fetch a b s z y p q = omega arith
+module _ {policy : Record → ImageData → Transfer → Record} {v : ImageData} {r0 : Record} {n : ℕ} {s0 : FlatState} {h0 h : HartData} {r : Record}
+    {left out0 out err0 err : Option (List ℕ)} (goes : Goes policy v r0 n s0 h0 h r left out0 out err0 err) where
+  pub goes_out : (n ≤ h.machine.steps) ⊎ (is_some h.machine.ending ≡ true) → Ran policy v (n - h0.machine.steps) s0 h0 r0 h r left out0 out err0 err
+  goes_out over =
+      let stood : held_run (n - h.machine.steps) goes.now ≡ goes.now =
+      elim over [
+        | inl done ↦ let none : n - h.machine.steps ≡ 0 = omega arith in ap (λ k. held_run k goes.now) none ∙ held_run_none goes.now
+        | inr ended ↦ held_run_over (n - h.machine.steps) goes.now (ap (λ (e : Option End). is_some e) (sym (same_steps v r goes.now.machine h.machine h.control goes.matches).1) ∙ ended)
+      ] in
+      let is : goes.now ≡ held_run (n - h0.machine.steps) s0 = sym stood ∙ goes.run_left in
+      record {
+        matches = subst (λ (s : FlatState). Matches v r s.machine h.machine h.control) is goes.matches;
+        input = goes.left_is ∙ ap (λ (s : FlatState). Some s.input) is;
+        output = subst (λ (s : FlatState). Appends out0 out s.output) is goes.wrote;
+        error = subst (λ (s : FlatState). Appends err0 err s.error) is goes.told;
+        record_is = sym (ap (λ (l : List Transfer). after_all policy v r l) none_left) ∙ goes.records_left;
+        cost_is = no_cost _ _ _ _ _ goes.cost_left free_left ∙ ap (λ (s : FlatState). h0.count + cost v (n - h0.machine.steps) s0 (here_of v s0.machine h0.control) + spent_run s.machine h.control) is;
+        fetches_are = no_fetch _ _ _ _ _ (goes.fetch_left n (inr refl)) free_fetch ∙ ap (λ (s : FlatState). size 0 v (n - h0.machine.steps) s0 (here_of v s0.machine h0.control) + spent_run s.machine h.control) is;
+      }
+    where
+      no_fetch : (a b s z y : ℕ) → a + b + s ≡ z + y → b ≡ 0 → a + s ≡ z + y
+      no_fetch a b s z y p q = omega arith
 
-    no_cost : (a b s z y : ℕ) → a + b + s ≡ z + y → b ≡ 0 → a + s ≡ z + y
-    no_cost a b s z y p q = omega arith
+      no_cost : (a b s z y : ℕ) → a + b + s ≡ z + y → b ≡ 0 → a + s ≡ z + y
+      no_cost a b s z y p q = omega arith
 
-    ended_now : is_some h.machine.ending ≡ true → is_some goes.now.machine.ending ≡ true
-    ended_now ended = ap (λ (e : Option End). is_some e) (sym (same_steps v r goes.now.machine h.machine h.control goes.matches).1) ∙ ended
+      ended_now : is_some h.machine.ending ≡ true → is_some goes.now.machine.ending ≡ true
+      ended_now ended = ap (λ (e : Option End). is_some e) (sym (same_steps v r goes.now.machine h.machine h.control goes.matches).1) ∙ ended
 
-    free_fetch : size 0 v (n - h.machine.steps) goes.now (here_of v goes.now.machine h.control) ≡ 0
-    free_fetch = elim over [
-      | inl done ↦ let none : n - h.machine.steps ≡ 0 = omega arith in ap (λ k. size 0 v k goes.now (here_of v goes.now.machine h.control)) none ∙ cost_none 0 v goes.now (here_of v goes.now.machine h.control)
-      | inr ended ↦ over_cost 0 v (n - h.machine.steps) goes.now (here_of v goes.now.machine h.control) (ended_now ended)
-    ]
+      free_fetch : size 0 v (n - h.machine.steps) goes.now (here_of v goes.now.machine h.control) ≡ 0
+      free_fetch = elim over [
+        | inl done ↦ let none : n - h.machine.steps ≡ 0 = omega arith in ap (λ k. size 0 v k goes.now (here_of v goes.now.machine h.control)) none ∙ cost_none 0 v goes.now (here_of v goes.now.machine h.control)
+        | inr ended ↦ over_cost 0 v (n - h.machine.steps) goes.now (here_of v goes.now.machine h.control) (ended_now ended)
+      ]
 
-    none_left : transfers v (n - h.machine.steps) goes.now (here_of v goes.now.machine h.control) ≡ []
-    none_left = elim over [
-      | inl done ↦ let none : n - h.machine.steps ≡ 0 = omega arith in ap (λ k. transfers v k goes.now (here_of v goes.now.machine h.control)) none ∙ transfers_none v goes.now (here_of v goes.now.machine h.control)
-      | inr ended ↦ over_transfers v (n - h.machine.steps) goes.now (here_of v goes.now.machine h.control) (ended_now ended)
-    ]
+      none_left : transfers v (n - h.machine.steps) goes.now (here_of v goes.now.machine h.control) ≡ []
+      none_left = elim over [
+        | inl done ↦ let none : n - h.machine.steps ≡ 0 = omega arith in ap (λ k. transfers v k goes.now (here_of v goes.now.machine h.control)) none ∙ transfers_none v goes.now (here_of v goes.now.machine h.control)
+        | inr ended ↦ over_transfers v (n - h.machine.steps) goes.now (here_of v goes.now.machine h.control) (ended_now ended)
+      ]
 
-    free_left : cost v (n - h.machine.steps) goes.now (here_of v goes.now.machine h.control) ≡ 0
-    free_left = elim over [
-      | inl done ↦ let none : n - h.machine.steps ≡ 0 = omega arith in ap (λ k. cost v k goes.now (here_of v goes.now.machine h.control)) none ∙ cost_none 1 v goes.now (here_of v goes.now.machine h.control)
-      | inr ended ↦ over_cost 1 v (n - h.machine.steps) goes.now (here_of v goes.now.machine h.control) (ended_now ended)
-    ]
+      free_left : cost v (n - h.machine.steps) goes.now (here_of v goes.now.machine h.control) ≡ 0
+      free_left = elim over [
+        | inl done ↦ let none : n - h.machine.steps ≡ 0 = omega arith in ap (λ k. cost v k goes.now (here_of v goes.now.machine h.control)) none ∙ cost_none 1 v goes.now (here_of v goes.now.machine h.control)
+        | inr ended ↦ over_cost 1 v (n - h.machine.steps) goes.now (here_of v goes.now.machine h.control) (ended_now ended)
+      ]
+
+-- what stands at a point of a run: the hart, the service's record, the ram, what is left to read, and what the sinks hold
+pub record Point : Type 0 where
+  pub hart : HartData
+  pub kept : Record
+  pub ram : RamState
+  pub left : Option (List ℕ)
+  pub out : Option (List ℕ)
+  pub err : Option (List ℕ)
+
+-- what stays the same along a run, and the point where it began
+pub record Course : Type 0 where
+  pub policy : Record → ImageData → Transfer → Record
+  pub image : ImageData
+  pub limit : ℕ
+  pub span : ℕ
+  pub from : Point
 
 -- what holds all along a run
-pub record Running (policy : Record → ImageData → Transfer → Record) (v : ImageData) (n : ℕ) (span : ℕ) (h0 : HartData) (r0 : Record) (ram0 : RamState) (left0 out0 err0 : Option (List ℕ)) (h : HartData) (r : Record) (ram : RamState) (left out err : Option (List ℕ)) : Type 0 where
-  pub steps : h.machine.steps ≤ n
-  pub failed : h.failed ≡ h0.failed
-  pub booted : h.booted ≡ h0.booted
-  pub later : h0.count ≤ h.count
-  pub written : writes r0 ≤ writes r
-  pub ram_ran : RamRan span (fetched_by h0 h) (writes r - writes r0) ram0 ram
-  pub fits : Fits v r h
-  pub count : h.count + most v h0.machine h0.control ≤ h0.count + most v h.machine h.control
-  pub calls : h.machine.ending ≡ None → r.counts.services + most_calls v h0.machine h0.control ≤ r0.counts.services + most_calls v h.machine h.control
-  pub goes : (l : List ℕ) → left0 ≡ Some l → (f : Machine) → Carries (fetched f.bus) v → Matches v r0 f h0.machine h0.control → Goes policy v r0 n (started f l) h0 h r left out0 out err0 err
+pub record Running (run : Course) (now : Point) : Type 0 where
+  pub steps : now.hart.machine.steps ≤ run.limit
+  pub failed : now.hart.failed ≡ run.from.hart.failed
+  pub booted : now.hart.booted ≡ run.from.hart.booted
+  pub later : run.from.hart.count ≤ now.hart.count
+  pub written : writes run.from.kept ≤ writes now.kept
+  pub ram_ran : RamRan run.span (fetched_by run.from.hart now.hart) (writes now.kept - writes run.from.kept) run.from.ram now.ram
+  pub fits : Fits run.image now.kept now.hart
+  pub count : now.hart.count + most run.image run.from.hart.machine run.from.hart.control
+      ≤ run.from.hart.count + most run.image now.hart.machine now.hart.control
+  pub calls : now.hart.machine.ending ≡ None → now.kept.counts.services + most_calls run.image run.from.hart.machine run.from.hart.control
+      ≤ run.from.kept.counts.services + most_calls run.image now.hart.machine now.hart.control
+  pub goes : (l : List ℕ) → run.from.left ≡ Some l → (f : Machine) → Carries (fetched f.bus) run.image →
+      Matches run.image run.from.kept f run.from.hart.machine run.from.hart.control →
+      Goes run.policy run.image run.from.kept run.limit (started f l) run.from.hart now.hart now.kept now.left run.from.out now.out run.from.err now.err
 
 less_self : (n : ℕ) → n - n ≡ 0
 less_self n = omega arith
@@ -353,36 +377,50 @@ ram_started span h r ram =
     less_none : (a w : ℕ) → a ≡ risen a (w - w)
     less_none a w = grind arith
 
-pub started_run : (policy : Record → ImageData → Transfer → Record) (v : ImageData) (n : ℕ) (span : ℕ) (h : HartData) (r : Record) (ram : RamState) (left out err : Option (List ℕ)) → Fits v r h → h.machine.steps ≤ n →
-    Running policy v n span h r ram left out err h r ram left out err
-started_run policy v n span h r ram left out err fits le = record {
+pub started_run : {run : Course} → Fits run.image run.from.kept run.from.hart → run.from.hart.machine.steps ≤ run.limit → Running run run.from
+started_run {run} fits le = record {
   steps = le;
   failed = refl;
   booted = refl;
   later = omega arith;
   written = omega arith;
-  ram_ran = ram_started span h r ram;
+  ram_ran = ram_started run.span run.from.hart run.from.kept run.from.ram;
   fits = fits;
   count = omega arith;
   calls = λ e. omega arith;
-  goes = λ l told f image same. record { now = started f l; image = image; matches = same; left_is = told; wrote = Appends-none out; told = Appends-none err; run_left = refl; records_left = refl; from = omega arith; now_is = λ on. sym (ap (λ k. held_run k (started f l)) (less_self h.machine.steps) ∙ held_run_none (started f l)); later = omega arith; fetch_left = λ n' ahead. none_yet _ _ _ (fetched_none h); enough = λ on. none_enough v f l h r on same; cost_left = refl };
+  goes = λ l told f image same. record {
+    now = started f l;
+    image = image;
+    matches = same;
+    left_is = told;
+    wrote = Appends-none run.from.out;
+    told = Appends-none run.from.err;
+    run_left = refl;
+    records_left = refl;
+    from = omega arith;
+    now_is = λ on. sym (ap (λ k. held_run k (started f l)) (less_self run.from.hart.machine.steps) ∙ held_run_none (started f l));
+    later = omega arith;
+    fetch_left = λ n' ahead. none_yet _ _ _ (fetched_none run.from.hart);
+    enough = λ on. none_enough run.image f l run.from.hart run.from.kept on same;
+    cost_left = refl;
+  };
 }
 
 pub most_running : (v : ImageData) (m : Machine) (c : Control) → m.ending ≡ None → most v m c ≡ 3 * m.steps + depth v m c
 most_running v m c e = ap (λ (k : Option End). most_by k v m c) e
 
 -- the loop's measure falls
-pub falls : (v : ImageData) (n : ℕ) (r new : Record) (h h' : HartData) → h.machine.steps < n → h.machine.ending ≡ None → Grown v r new h h' →
+pub falls : {v : ImageData} {n : ℕ} {r new : Record} {h h' : HartData} → h.machine.steps < n → h.machine.ending ≡ None → Grown v r new h h' →
     3 * n + 5 - most v h'.machine h'.control < 3 * n + 5 - most v h.machine h.control
-falls v n r new h h' more running grown =
+falls {v} {n} {r} {new} {h} {h'} more running grown =
     let m = most_running v h.machine h.control running in
     let d = depth_most v h.machine h.control in
     let g = grown.most in
     omega arith
 
 -- what several calls of the ram leave alone
-pub kept_both : (span : ℕ) (first before after : RamState) → KeepsBeyond span first before → KeepsBeyond span before after → KeepsBeyond span first after
-kept_both span first before after one two = record {
+pub kept_both : {span : ℕ} {first before after : RamState} → KeepsBeyond span first before → KeepsBeyond span before after → KeepsBeyond span first after
+kept_both {span} {first} {before} {after} one two = record {
   same_length = two.same_length ∙ one.same_length;
   beyond = λ i le. two.beyond i le ∙ one.beyond i le;
   reached = let p = one.reached in let q = two.reached in reach_both first.reach before.reach after.reach p q;
@@ -397,7 +435,7 @@ ram_more span fetched more one c first before after ran step = record {
   quiet = step.quiet ∙ ran.quiet;
   fetches = step.fetches ∙ ap (λ n. fetches_after c n) ran.fetches ∙ more_fetches c first.fetches fetched;
   sets = step.sets ∙ ap (λ n. risen n one) ran.sets ∙ risen_twice first.sets more one;
-  kept = kept_both span first before after ran.kept step.kept;
+  kept = kept_both ran.kept step.kept;
 }
   where
     risen_twice : (a x y : ℕ) → risen (risen a x) y ≡ risen a (x + y)
@@ -410,45 +448,56 @@ ram_more span fetched more one c first before after ran step = record {
     more_fetches (At i b o stage) a f = risen_twice a f 1
     more_fetches Outside a f = ap (λ n. risen a n) (no_more f)
 
-module _ (policy : Record → ImageData → Transfer → Record) (v : ImageData) (n : ℕ) (span : ℕ) (h0 : HartData) (r0 : Record) (ram0 : RamState) (left0 out0 err0 : Option (List ℕ)) (h : HartData) (r : Record) (ram : RamState) (left out err : Option (List ℕ)) (so_far : Running policy v n span h0 r0 ram0 left0 out0 err0 h r ram left out err)
-    (more : h.machine.steps < n) (running : h.machine.ending ≡ None) (word : h.machine.pc < 2 ^ 32) (small : n ≤ 2 ^ 48) where
-  pub count_small : h0.count ≤ 2 ^ 55 → h.count < 2 ^ 56
+-- what no transfer makes less is no less behind a step
+pub no_less : {run : Course} {now : Point} {new : Record} → Running run now →
+    new ≡ moved run.policy now.kept run.image (transfer_at run.image now.hart.machine now.hart.control) → (measure : Record → ℕ) →
+    ((r : Record) (v : ImageData) (t : Transfer) → measure r ≤ measure (run.policy r v t)) → measure now.kept ≤ measure new
+no_less {run} {now} {new} so_far moves measure grows =
+    moved_rises measure run.policy grows now.kept new run.image (transfer_at run.image now.hart.machine now.hart.control) moves
+
+sum_less : (a b c : ℕ) → a ≤ b → b ≤ c → b - a + (c - b) ≡ c - a
+sum_less a b c p q = omega arith
+
+module _ {run : Course} {now : Point} (so_far : Running run now) (more : now.hart.machine.steps < run.limit) (running : now.hart.machine.ending ≡ None)
+    (word : now.hart.machine.pc < 2 ^ 32) (small : run.limit ≤ 2 ^ 48) where
+  pub count_small : run.from.hart.count ≤ 2 ^ 55 → now.hart.count < 2 ^ 56
   count_small le =
-      let m = most_running v h.machine h.control running in
-      let d = depth_most v h.machine h.control in
+      let m = most_running run.image now.hart.machine now.hart.control running in
+      let d = depth_most run.image now.hart.machine now.hart.control in
       let c = so_far.count in
       omega arith
 
-  pub calls_small : r0.counts.services ≤ 2 ^ 49 → r.counts.services < 2 ^ 50
+  pub calls_small : run.from.kept.counts.services ≤ 2 ^ 49 → now.kept.counts.services < 2 ^ 50
   calls_small le =
       let c = so_far.calls running in
-      let k = calls_most (depth v h.machine h.control) in
+      let k = calls_most (depth run.image now.hart.machine now.hart.control) in
       omega arith
 
-  module _ (h' : HartData) (new : Record) (ram' : RamState) (left' out' err' : Option (List ℕ)) (stepped : RamStepped span (writes new - writes r) h.control ram ram') (rises : writes r ≤ writes new) (fits : Fits v new h') (grown : Grown v r new h h') (moves : new ≡ moved policy r v (transfer_at v h.machine h.control))
-      (step : (l : List ℕ) → left ≡ Some l → Made v new h h' l left' out out' err err') where
-    sum_less : (a b c : ℕ) → a ≤ b → b ≤ c → b - a + (c - b) ≡ c - a
-    sum_less a b c p q = omega arith
-
-    pub runs_on : Running policy v n span h0 r0 ram0 left0 out0 err0 h' new ram' left' out' err'
-    runs_on = record {
-      steps = let g = grown.one in omega (arith, g, more);
-      failed = grown.failed ∙ so_far.failed;
-      booted = grown.booted ∙ so_far.booted;
-      later = let g = grown.count in let l = so_far.later in omega (arith, g, l);
-      written = let w = so_far.written in omega (arith, w, rises);
-      ram_ran = subst (λ k. RamRan span k (writes new - writes r0) ram0 ram') (sym (fetched_one h0 h h' so_far.later running grown.count grown.outside))
-          (subst (λ k. RamRan span (fetched_by h0 h + weight 0 h.control) k ram0 ram') (sum_less (writes r0) (writes r) (writes new) so_far.written rises)
-          (ram_more span (fetched_by h0 h) (writes r - writes r0) (writes new - writes r) h.control ram0 ram ram' so_far.ram_ran stepped));
-      fits = fits;
-      count =
-          let m = most_running v h.machine h.control running in
-          let g = grown.most in
-          let k = grown.count in
-          let c = so_far.count in
-          omega arith;
-      calls = λ e. (let g = grown.calls e in let c = so_far.calls running in omega arith);
-      goes = λ l told f image same.
-          let old = so_far.goes l told f image same in
-          goes_on policy v n (started f l) h0 h h' r0 r new left left' out0 out out' err0 err err' old more running word moves (step old.now.input old.left_is) grown.outside;
-    }
+  pub runs_on : {next : Point} → RamStepped run.span (writes next.kept - writes now.kept) now.hart.control now.ram next.ram → writes now.kept ≤ writes next.kept →
+      Fits run.image next.kept next.hart → Grown run.image now.kept next.kept now.hart next.hart →
+      next.kept ≡ moved run.policy now.kept run.image (transfer_at run.image now.hart.machine now.hart.control) →
+      ((l : List ℕ) → now.left ≡ Some l → Made run.image next.kept now.hart next.hart l next.left now.out next.out now.err next.err) → Running run next
+  runs_on {next} stepped rises fits grown moves step = record {
+    steps = let g = grown.one in omega (arith, g, more);
+    failed = grown.failed ∙ so_far.failed;
+    booted = grown.booted ∙ so_far.booted;
+    later = let g = grown.count in let l = so_far.later in omega (arith, g, l);
+    written = let w = so_far.written in omega (arith, w, rises);
+    ram_ran = subst (λ k. RamRan run.span k (writes next.kept - writes run.from.kept) run.from.ram next.ram)
+        (sym (fetched_one run.from.hart now.hart next.hart so_far.later running grown.count grown.outside))
+        (subst (λ k. RamRan run.span (fetched_by run.from.hart now.hart + weight 0 now.hart.control) k run.from.ram next.ram)
+        (sum_less (writes run.from.kept) (writes now.kept) (writes next.kept) so_far.written rises)
+        (ram_more run.span (fetched_by run.from.hart now.hart) (writes now.kept - writes run.from.kept) (writes next.kept - writes now.kept) now.hart.control
+        run.from.ram now.ram next.ram so_far.ram_ran stepped));
+    fits = fits;
+    count =
+        let m = most_running run.image now.hart.machine now.hart.control running in
+        let g = grown.most in
+        let k = grown.count in
+        let c = so_far.count in
+        omega arith;
+    calls = λ e. (let g = grown.calls e in let c = so_far.calls running in omega arith);
+    goes = λ l told f image same.
+        let old = so_far.goes l told f image same in
+        goes_on old more running word moves (step old.now.input old.left_is) grown.outside;
+  }

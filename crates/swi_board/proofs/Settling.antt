@@ -77,9 +77,9 @@ settles v new m (At i b o stage) s input step = homed (word_at v b o == ebreak) 
 settles v new m Outside s input step = ended m s (ap (λ (q : Stepped). q.made.machine.ending) step)
 
 -- a run's step leaves control so while steps are left
-pub settles_on : (v : ImageData) (new : Record) (n : ℕ) (h h' : HartData) (input : List ℕ) (left' out out' err err' : Option (List ℕ)) →
+pub settles_on : {v : ImageData} {new : Record} {n : ℕ} {h h' : HartData} {input : List ℕ} {left' out out' err err' : Option (List ℕ)} →
     h.machine.steps < n → Made v new h h' input left' out out' err err' → h'.machine.ending ≡ None → (h'.machine.steps < n) ⊎ (is_between h'.control ≡ true)
-settles_on v new n h h' input left' out out' err err' more step none =
+settles_on {v} {new} {n} {h} {h'} {input} more step none =
     let same = step.did.hart in
     elim (settles v new h.machine h.control step.stepped input step.step (ap (λ (k : HartData). k.machine.ending) (sym same) ∙ none)) [
       | inl stays ↦ let steps : h'.machine.steps ≡ h.machine.steps = ap (λ (k : HartData). k.machine.steps) same ∙ stays in inl (omega (arith, steps, more))

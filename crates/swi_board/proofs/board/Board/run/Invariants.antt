@@ -8,16 +8,43 @@ use Rattle.swi_board.proofs.board.Board.run.Given as goal
 
 abbrev pub invariant-loop-hart : goal.invariant-loop-hart
 invariant-loop-hart g l = record {
-  running : Running (g.R.CacheRom.policy (g.R.CacheRom.setting l.fn.self.rom)) l.image l.n (g.R.CacheRom.span (g.R.CacheRom.setting l.fn.self.rom))
-      l.fn.self.hart (g.R.CacheRom.kept l.fn.self.rom) (g.M.CacheRam.state l.fn.ram) (g.I.Source.left l.fn.input) (g.O.Sink.held l.fn.out) (g.E.Sink.held l.fn.err)
-      l.hart (g.R.CacheRom.kept l.rom) (g.M.CacheRam.state l.ram) (g.I.Source.left l.input) (g.O.Sink.held l.out) (g.E.Sink.held l.err);
+  running : Running
+      (record {
+        policy = g.R.CacheRom.policy (g.R.CacheRom.setting l.fn.self.rom);
+        image = l.image;
+        limit = l.n;
+        span = g.R.CacheRom.span (g.R.CacheRom.setting l.fn.self.rom);
+        from = record {
+          hart = l.fn.self.hart;
+          kept = g.R.CacheRom.kept l.fn.self.rom;
+          ram = g.M.CacheRam.state l.fn.ram;
+          left = g.I.Source.left l.fn.input;
+          out = g.O.Sink.held l.fn.out;
+          err = g.E.Sink.held l.fn.err;
+        };
+      })
+      (record {
+        hart = l.hart;
+        kept = g.R.CacheRom.kept l.rom;
+        ram = g.M.CacheRam.state l.ram;
+        left = g.I.Source.left l.input;
+        out = g.O.Sink.held l.out;
+        err = g.E.Sink.held l.err;
+      });
   settles : (left : List ℕ) → g.I.Source.left l.fn.input ≡ Some left → is_between l.fn.self.hart.control ≡ true → l.hart.machine.ending ≡ None →
       (l.hart.machine.steps < l.n) ⊎ (is_between l.hart.control ≡ true);
   setting : g.R.CacheRom.setting l.rom ≡ g.R.CacheRom.setting l.fn.self.rom;
   sound : g.R.CacheRom.sound l.rom l.image (g.M.CacheRam.state l.ram).words;
-  unused : SameFrom (g.R.CacheRom.extent (g.R.CacheRom.setting l.fn.self.rom) (g.R.CacheRom.kept l.rom)) (g.M.CacheRam.state l.fn.ram).words (g.M.CacheRam.state l.ram).words;
-  quiet : ◌≡◌ {A = Faults} (record { ram = (g.M.CacheRam.state l.ram).faults; input = g.I.Source.faults l.input; out = g.O.Sink.faults l.out; err = g.E.Sink.faults l.err })
-      (record { ram = (g.M.CacheRam.state l.fn.ram).faults; input = g.I.Source.faults l.fn.input; out = g.O.Sink.faults l.fn.out; err = g.E.Sink.faults l.fn.err });
+  unused : SameFrom (g.R.CacheRom.extent (g.R.CacheRom.setting l.fn.self.rom) (g.R.CacheRom.kept l.rom))
+      (g.M.CacheRam.state l.fn.ram).words (g.M.CacheRam.state l.ram).words;
+  quiet : ◌≡◌ {A = Faults}
+      (record { ram = (g.M.CacheRam.state l.ram).faults; input = g.I.Source.faults l.input; out = g.O.Sink.faults l.out; err = g.E.Sink.faults l.err })
+      (record {
+        ram = (g.M.CacheRam.state l.fn.ram).faults;
+        input = g.I.Source.faults l.fn.input;
+        out = g.O.Sink.faults l.fn.out;
+        err = g.E.Sink.faults l.fn.err;
+      });
 }
 
 abbrev pub decreases-loop-hart : goal.decreases-loop-hart
