@@ -6,7 +6,7 @@ use Rattle.swi_image.specs.Format.{ImageData}
 use Rattle.swi_image.specs.Sound.{IsImage}
 use Rattle.swi_image.specs.Place.{word_at}
 use Rattle.swi_isa.specs.declared.instr.Instr.{Instr}
-use Rattle.swi_rom.specs.Record.{Record, Transfer, direct, is_linked, writes}
+use Rattle.swi_rom.specs.Record.{Record, direct, is_linked, writes}
 use Rattle.swi_rom.specs.Coherent.{Coherent}
 use Rattle.swi_board.specs.declared.hart.Stage.{Stage}
 use Rattle.swi_board.specs.declared.hart.Control.{Control}
@@ -215,13 +215,15 @@ module _ {run : Course} {first : Point} where
       3 * run.limit + 5 - most run.image h'.machine h'.control < 3 * run.limit + 5 - most run.image h.machine h.control
   word_falls {h} {h'} s below k = let all : Went run first h h' = step_all s below k in falls below s.going all.grown
 
-  -- the loop's measure is no larger behind the steps
-  pub no_higher : {h : HartData} {ram : RamState} → Stretch run first h ram →
-      3 * run.limit + 5 - most run.image h.machine h.control ≤ 3 * run.limit + 5 - most run.image first.hart.machine first.hart.control
-  no_higher {h} s = elim s.rises [
-    | inl same ↦ let m = ap (λ (k : HartData). most run.image k.machine k.control) same in omega (arith, m)
-    | inr above ↦ omega (arith, above)
-  ]
+  -- and so does that of a run, by a step behind the stretch
+  pub falls_from : {h h' : HartData} {ram : RamState} {new : Record} → Stretch run first h ram → h.machine.steps < run.limit → Grown run.image first.kept new h h' →
+      3 * run.limit + 5 - most run.image h'.machine h'.control < 3 * run.limit + 5 - most run.image first.hart.machine first.hart.control
+  falls_from {h} s below grown =
+      let less = falls below s.going grown in
+      elim s.rises [
+        | inl same ↦ let m = ap (λ (k : HartData). most run.image k.machine k.control) same in omega (arith, less, m)
+        | inr above ↦ omega (arith, less, above)
+      ]
 
   -- and smaller where the limit is reached
   pub lower : {h : HartData} {ram : RamState} → Stretch run first h ram → run.limit ≤ h.machine.steps →

@@ -6,7 +6,7 @@ use Rattle.swi_memory.specs.Bus.{fetched}
 use Rattle.swi_calls.specs.declared.end.End.{End}
 use Rattle.swi_calls.specs.declared.machine.Machine.{Machine}
 use Rattle.swi_calls.specs.State.{FlatState}
-use Rattle.swi_calls.specs.Flat.{Made as Step, quiet, started}
+use Rattle.swi_calls.specs.Flat.{quiet, started}
 use Rattle.swi_image.specs.Format.{ImageData}
 use Rattle.swi_render.specs.Carried.{Carries}
 use Rattle.swi_outside.specs.Causes.{risen}
@@ -75,9 +75,6 @@ module _ {policy : Record → ImageData → Transfer → Record} {v : ImageData}
 
   flat_running : is_some goes.now.machine.ending ≡ false
   flat_running = ap (λ (e : Option End). is_some e) (sym (same_steps v r goes.now.machine h.machine h.control goes.matches).1 ∙ running)
-
-  next_by : Bool → Step
-  next_by t = if t then held_made goes.now.machine goes.now.input else quiet goes.now.machine goes.now.input
 
   state_machine : (t : Bool) → (next_state t goes.now).machine ≡ (if t then held_made goes.now.machine goes.now.input else quiet goes.now.machine goes.now.input).machine
   state_machine true = refl
@@ -282,24 +279,15 @@ module _ {policy : Record → ImageData → Transfer → Record} {v : ImageData}
         output = subst (λ (s : FlatState). Appends out0 out s.output) is goes.wrote;
         error = subst (λ (s : FlatState). Appends err0 err s.error) is goes.told;
         record_is = sym (ap (λ (l : List Transfer). after_all policy v r l) none_left) ∙ goes.records_left;
-        cost_is = no_cost _ _ _ _ _ goes.cost_left free_left ∙ ap (λ (s : FlatState). h0.count + cost v (n - h0.machine.steps) s0 (here_of v s0.machine h0.control) + spent_run s.machine h.control) is;
-        fetches_are = no_fetch _ _ _ _ _ (goes.fetch_left n (inr refl)) free_fetch ∙ ap (λ (s : FlatState). size 0 v (n - h0.machine.steps) s0 (here_of v s0.machine h0.control) + spent_run s.machine h.control) is;
+        cost_is = no_cost _ _ _ _ _ goes.cost_left (free_left 1) ∙ ap (λ (s : FlatState). h0.count + cost v (n - h0.machine.steps) s0 (here_of v s0.machine h0.control) + spent_run s.machine h.control) is;
+        fetches_are = no_cost _ _ _ _ _ (goes.fetch_left n (inr refl)) (free_left 0) ∙ ap (λ (s : FlatState). size 0 v (n - h0.machine.steps) s0 (here_of v s0.machine h0.control) + spent_run s.machine h.control) is;
       }
     where
-      no_fetch : (a b s z y : ℕ) → a + b + s ≡ z + y → b ≡ 0 → a + s ≡ z + y
-      no_fetch a b s z y p q = omega arith
-
       no_cost : (a b s z y : ℕ) → a + b + s ≡ z + y → b ≡ 0 → a + s ≡ z + y
       no_cost a b s z y p q = omega arith
 
       ended_now : is_some h.machine.ending ≡ true → is_some goes.now.machine.ending ≡ true
       ended_now ended = ap (λ (e : Option End). is_some e) (sym (same_steps v r goes.now.machine h.machine h.control goes.matches).1) ∙ ended
-
-      free_fetch : size 0 v (n - h.machine.steps) goes.now (here_of v goes.now.machine h.control) ≡ 0
-      free_fetch = elim over [
-        | inl done ↦ let none : n - h.machine.steps ≡ 0 = omega arith in ap (λ k. size 0 v k goes.now (here_of v goes.now.machine h.control)) none ∙ cost_none 0 v goes.now (here_of v goes.now.machine h.control)
-        | inr ended ↦ over_cost 0 v (n - h.machine.steps) goes.now (here_of v goes.now.machine h.control) (ended_now ended)
-      ]
 
       none_left : transfers v (n - h.machine.steps) goes.now (here_of v goes.now.machine h.control) ≡ []
       none_left = elim over [
@@ -307,10 +295,12 @@ module _ {policy : Record → ImageData → Transfer → Record} {v : ImageData}
         | inr ended ↦ over_transfers v (n - h.machine.steps) goes.now (here_of v goes.now.machine h.control) (ended_now ended)
       ]
 
-      free_left : cost v (n - h.machine.steps) goes.now (here_of v goes.now.machine h.control) ≡ 0
-      free_left = elim over [
-        | inl done ↦ let none : n - h.machine.steps ≡ 0 = omega arith in ap (λ k. cost v k goes.now (here_of v goes.now.machine h.control)) none ∙ cost_none 1 v goes.now (here_of v goes.now.machine h.control)
-        | inr ended ↦ over_cost 1 v (n - h.machine.steps) goes.now (here_of v goes.now.machine h.control) (ended_now ended)
+      free_left : (outside : ℕ) → size outside v (n - h.machine.steps) goes.now (here_of v goes.now.machine h.control) ≡ 0
+      free_left outside = elim over [
+        | inl done ↦
+            let none : n - h.machine.steps ≡ 0 = omega arith in
+            ap (λ k. size outside v k goes.now (here_of v goes.now.machine h.control)) none ∙ cost_none outside v goes.now (here_of v goes.now.machine h.control)
+        | inr ended ↦ over_cost outside v (n - h.machine.steps) goes.now (here_of v goes.now.machine h.control) (ended_now ended)
       ]
 
 -- what stands at a point of a run: the hart, the service's record, the ram, what is left to read, and what the sinks hold
@@ -321,6 +311,9 @@ pub record Point : Type 0 where
   pub left : Option (List ℕ)
   pub out : Option (List ℕ)
   pub err : Option (List ℕ)
+
+abbrev pub point : HartData → Record → RamState → Option (List ℕ) → Option (List ℕ) → Option (List ℕ) → Point
+point h r ram left out err = record { hart = h; kept = r; ram = ram; left = left; out = out; err = err }
 
 -- what stays the same along a run, and the point where it began
 pub record Course : Type 0 where
@@ -393,16 +386,16 @@ started_run {run} fits le = record {
     image = image;
     matches = same;
     left_is = told;
-    wrote = Appends-none run.from.out;
-    told = Appends-none run.from.err;
     run_left = refl;
     records_left = refl;
+    cost_left = refl;
+    wrote = Appends-none run.from.out;
+    told = Appends-none run.from.err;
     from = omega arith;
-    now_is = λ on. sym (ap (λ k. held_run k (started f l)) (less_self run.from.hart.machine.steps) ∙ held_run_none (started f l));
     later = omega arith;
+    now_is = λ on. sym (ap (λ k. held_run k (started f l)) (less_self run.from.hart.machine.steps) ∙ held_run_none (started f l));
     fetch_left = λ n' ahead. none_yet _ _ _ (fetched_none run.from.hart);
     enough = λ on. none_enough run.image f l run.from.hart run.from.kept on same;
-    cost_left = refl;
   };
 }
 

@@ -1,4 +1,4 @@
-use Rattle.std.proofs.Common.{◌≡◌, ◌+◌, ◌-◌, ◌*◌, ◌^◌, ◌<◌, None, refl, sym, ap, subst, ◌∙◌, arith, rules}
+use Rattle.std.proofs.Common.{◌≡◌, ◌+◌, ◌-◌, ◌*◌, ◌<◌, None, refl, sym, ap, subst, ◌∙◌, arith}
 use Rattle.swi_board.specs.declared.hart.Control.TheVariants.{At}
 use Rattle.swi_isa.specs.Decode.{decoded}
 use Rattle.swi_exec.specs.Arithmetic.{sum_of}

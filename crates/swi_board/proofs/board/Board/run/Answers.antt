@@ -7,7 +7,7 @@ use Rattle.swi_board.proofs.Running.{started_run, count_small, calls_small, no_l
 use Rattle.swi_board.proofs.Breaking.{device_run, ram_run}
 use Rattle.swi_board.proofs.Settling.{settles_on}
 use Rattle.swi_board.proofs.Causing.{causes_ram, causes_from, same_ram}
-use Rattle.swi_board.proofs.Blocks.{stands, walk, word_falls, begins, no_higher, lower, at_limit, before_word, before_fault, home_at, used, same_index}
+use Rattle.swi_board.proofs.Blocks.{stands, walk, word_falls, begins, falls_from, lower, at_limit, before_word, before_fault, home_at, used, same_index}
 use Rattle.swi_board.proofs.Steps.{ram_unfetched}
 use Rattle.swi_outside.specs.CacheRam.{RamState}
 use Rattle.swi_board.proofs.board.Board.run.Goals as goal
@@ -83,43 +83,35 @@ returns-after-loop-hart-clause-ran g c = λ left told f image same.
 
 pub run_block-requires : goal.run_block-requires
 run_block-requires g c =
-    let running : c.loop-hart.hart.machine.ending ≡ None = search rules in
     let was = c.loop-hart.invariant in
     let begin = begins was.running was.settles c.requires.fits c.requires.limit (rw was.setting at (g.met.R.CacheRom.coherent _ _ _ was.sound))
-    (λ b o t is. g.met.R.CacheRom.first (g.R.CacheRom.setting c.args.self.now.rom) _ _ b o t is)
-    c.hart.view_is c.loop-hart-test.true running c.origin_pc-pc.ensures.word in
+    (λ b o t is. g.met.R.CacheRom.first _ _ _ b o t is) c.hart.view_is c.loop-hart-test.true (search rules) c.origin_pc-pc.ensures.word in
     let low = rw was.setting at (g.met.R.CacheRom.small _ _ _ was.sound) in
-    let image = g.met.R.CacheRom.image _ _ _ was.sound in
     record {
-      going = running;
+      going = begin.going;
       control = c.in-Some.ensures.control;
       sound = was.sound;
       few = c.requires.limit;
       within = let more = begin.below in omega (arith, more);
-      offset = (stands begin c.requires.count low image begin.below c.in-Some.ensures.control).offset;
+      offset = (stands begin c.requires.count low (g.met.R.CacheRom.image _ _ _ was.sound) begin.below c.in-Some.ensures.control).offset;
       short = c.origin_pc-pc.ensures.word;
-      inside = λ h ram walked below i b o stage control. stands (walk begin walked) c.requires.count low image below control;
+      inside = λ h ram walked below i b o stage control. stands (walk begin walked) c.requires.count low (g.met.R.CacheRom.image _ _ _ was.sound) below control;
       rises = λ h h' ram ram' walked below k. word_falls (walk begin walked) below k;
     }
 
 pub loop-hart-smaller-in-Ok-None : goal.loop-hart-smaller-in-Ok-None
 loop-hart-smaller-in-Ok-None g c =
-    let running : c.loop-hart.hart.machine.ending ≡ None = search rules in
     let was = c.loop-hart.invariant in
     let begin = begins was.running was.settles c.requires.fits c.requires.limit (rw was.setting at (g.met.R.CacheRom.coherent _ _ _ was.sound))
-    (λ b o t is. g.met.R.CacheRom.first (g.R.CacheRom.setting c.args.self.now.rom) _ _ b o t is)
-    c.hart.view_is c.loop-hart-test.true running c.origin_pc-pc.ensures.word in
+    (λ b o t is. g.met.R.CacheRom.first _ _ _ b o t is) c.hart.view_is c.loop-hart-test.true (search rules) c.origin_pc-pc.ensures.word in
     let ended = at_limit c.in-Ok-None.is c.in-Ok-None.field-0-is c.run_block.ensures in
-    let s = walk begin ended.0 in
-    lower s ended.1
+    lower (walk begin ended.0) ended.1
 
 pub loop-hart-preserved-in-Ok-None : goal.loop-hart-preserved-in-Ok-None
 loop-hart-preserved-in-Ok-None g c =
-    let running : c.loop-hart.hart.machine.ending ≡ None = search rules in
     let was = c.loop-hart.invariant in
     let begin = begins was.running was.settles c.requires.fits c.requires.limit (rw was.setting at (g.met.R.CacheRom.coherent _ _ _ was.sound))
-    (λ b o t is. g.met.R.CacheRom.first (g.R.CacheRom.setting c.args.self.now.rom) _ _ b o t is)
-    c.hart.view_is c.loop-hart-test.true running c.origin_pc-pc.ensures.word in
+    (λ b o t is. g.met.R.CacheRom.first _ _ _ b o t is) c.hart.view_is c.loop-hart-test.true (search rules) c.origin_pc-pc.ensures.word in
     let ended = at_limit c.in-Ok-None.is c.in-Ok-None.field-0-is c.run_block.ensures in
     let s = walk begin ended.0 in
     record {
@@ -133,11 +125,9 @@ loop-hart-preserved-in-Ok-None g c =
 
 pub returns-in-Err-run_block : goal.returns-in-Err-run_block
 returns-in-Err-run_block g c =
-    let running : c.loop-hart.hart.machine.ending ≡ None = search rules in
     let was = c.loop-hart.invariant in
     let begin = begins was.running was.settles c.requires.fits c.requires.limit (rw was.setting at (g.met.R.CacheRom.coherent _ _ _ was.sound))
-    (λ b o t is. g.met.R.CacheRom.first (g.R.CacheRom.setting c.args.self.now.rom) _ _ b o t is)
-    c.hart.view_is c.loop-hart-test.true running c.origin_pc-pc.ensures.word in
+    (λ b o t is. g.met.R.CacheRom.first _ _ _ b o t is) c.hart.view_is c.loop-hart-test.true (search rules) c.origin_pc-pc.ensures.word in
     let ended = before_fault c.in-Err-run_block.is c.run_block.ensures in
     let s = walk begin ended.walked in
     let failed = ram_unfetched c.args.image.now c.run_block.new.hart.machine c.run_block.new.hart.control _ _ _ _ _ ended.before
@@ -166,11 +156,9 @@ returns-in-Err-run_block g c =
 
 pub at_word-requires : goal.at_word-requires
 at_word-requires g c =
-    let running : c.loop-hart.hart.machine.ending ≡ None = search rules in
     let was = c.loop-hart.invariant in
     let begin = begins was.running was.settles c.requires.fits c.requires.limit (rw was.setting at (g.met.R.CacheRom.coherent _ _ _ was.sound))
-    (λ b o t is. g.met.R.CacheRom.first (g.R.CacheRom.setting c.args.self.now.rom) _ _ b o t is)
-    c.hart.view_is c.loop-hart-test.true running c.origin_pc-pc.ensures.word in
+    (λ b o t is. g.met.R.CacheRom.first _ _ _ b o t is) c.hart.view_is c.loop-hart-test.true (search rules) c.origin_pc-pc.ensures.word in
     let ended = before_word c.in-Ok-Some.is c.in-Ok-Some.field-0-is c.run_block.ensures in
     let s = walk begin ended.walked in
     let control = sym (ap (λ (h : HartData). h.control) c.hart-in-loop-hart.view_is) ∙ sym c.control.ensures ∙ c.in-At.is in
@@ -193,28 +181,22 @@ at_word-requires g c =
 
 pub loop-hart-smaller : goal.loop-hart-smaller
 loop-hart-smaller g c =
-    let running : c.loop-hart.hart.machine.ending ≡ None = search rules in
     let was = c.loop-hart.invariant in
     let begin = begins was.running was.settles c.requires.fits c.requires.limit (rw was.setting at (g.met.R.CacheRom.coherent _ _ _ was.sound))
-    (λ b o t is. g.met.R.CacheRom.first (g.R.CacheRom.setting c.args.self.now.rom) _ _ b o t is)
-    c.hart.view_is c.loop-hart-test.true running c.origin_pc-pc.ensures.word in
+    (λ b o t is. g.met.R.CacheRom.first _ _ _ b o t is) c.hart.view_is c.loop-hart-test.true (search rules) c.origin_pc-pc.ensures.word in
     let ended = before_word c.in-Ok-Some.is c.in-Ok-Some.field-0-is c.run_block.ensures in
     let s = walk begin ended.walked in
     let control = sym (ap (λ (h : HartData). h.control) c.hart-in-loop-hart.view_is) ∙ sym c.control.ensures ∙ c.in-At.is in
     let answered = subst (λ (k : ℕ). Answered (Some c.in-Ok-Some.got) ended.before k (g.M.CacheRam.state c.run_block.new.ram))
     (same_index ended.control control) ended.answered in
     let sound = subst (λ (k : List ℕ). g.R.CacheRom.sound c.loop-hart.rom c.args.image.now k) (sym s.words) was.sound in
-    let less = falls ended.below s.going ((c.in-Ok-at_word.ensures ended.before answered).grown sound) in
-    let most = no_higher s in
-    omega (arith, less, most)
+    falls_from s ended.below ((c.in-Ok-at_word.ensures ended.before answered).grown sound)
 
 pub loop-hart-preserved : goal.loop-hart-preserved
 loop-hart-preserved g c =
-    let running : c.loop-hart.hart.machine.ending ≡ None = search rules in
     let was = c.loop-hart.invariant in
     let begin = begins was.running was.settles c.requires.fits c.requires.limit (rw was.setting at (g.met.R.CacheRom.coherent _ _ _ was.sound))
-    (λ b o t is. g.met.R.CacheRom.first (g.R.CacheRom.setting c.args.self.now.rom) _ _ b o t is)
-    c.hart.view_is c.loop-hart-test.true running c.origin_pc-pc.ensures.word in
+    (λ b o t is. g.met.R.CacheRom.first _ _ _ b o t is) c.hart.view_is c.loop-hart-test.true (search rules) c.origin_pc-pc.ensures.word in
     let ended = before_word c.in-Ok-Some.is c.in-Ok-Some.field-0-is c.run_block.ensures in
     let s = walk begin ended.walked in
     let control = sym (ap (λ (h : HartData). h.control) c.hart-in-loop-hart.view_is) ∙ sym c.control.ensures ∙ c.in-At.is in
@@ -241,11 +223,9 @@ loop-hart-preserved g c =
 
 pub returns-in-Err-at_word : goal.returns-in-Err-at_word
 returns-in-Err-at_word g c =
-    let running : c.loop-hart.hart.machine.ending ≡ None = search rules in
     let was = c.loop-hart.invariant in
     let begin = begins was.running was.settles c.requires.fits c.requires.limit (rw was.setting at (g.met.R.CacheRom.coherent _ _ _ was.sound))
-    (λ b o t is. g.met.R.CacheRom.first (g.R.CacheRom.setting c.args.self.now.rom) _ _ b o t is)
-    c.hart.view_is c.loop-hart-test.true running c.origin_pc-pc.ensures.word in
+    (λ b o t is. g.met.R.CacheRom.first _ _ _ b o t is) c.hart.view_is c.loop-hart-test.true (search rules) c.origin_pc-pc.ensures.word in
     let ended = before_word c.in-Ok-Some.is c.in-Ok-Some.field-0-is c.run_block.ensures in
     let s = walk begin ended.walked in
     let control = sym (ap (λ (h : HartData). h.control) c.hart-in-loop-hart.view_is) ∙ sym c.control.ensures ∙ c.in-At.is in

@@ -3,7 +3,7 @@ use Rattle.swi_rom.specs.Served.{SameFrom}
 use Rattle.swi_board.specs.Hart.{is_between}
 use Rattle.swi_board.specs.Faults.{Faults}
 use Rattle.swi_board.specs.Runs.{most}
-use Rattle.swi_board.proofs.Running.{Running}
+use Rattle.swi_board.proofs.Running.{Running, point}
 use Rattle.swi_board.proofs.board.Board.run.Given as goal
 
 abbrev pub invariant-loop-hart : goal.invariant-loop-hart
@@ -14,23 +14,10 @@ invariant-loop-hart g l = record {
         image = l.image;
         limit = l.n;
         span = g.R.CacheRom.span (g.R.CacheRom.setting l.fn.self.rom);
-        from = record {
-          hart = l.fn.self.hart;
-          kept = g.R.CacheRom.kept l.fn.self.rom;
-          ram = g.M.CacheRam.state l.fn.ram;
-          left = g.I.Source.left l.fn.input;
-          out = g.O.Sink.held l.fn.out;
-          err = g.E.Sink.held l.fn.err;
-        };
+        from = point l.fn.self.hart (g.R.CacheRom.kept l.fn.self.rom) (g.M.CacheRam.state l.fn.ram)
+            (g.I.Source.left l.fn.input) (g.O.Sink.held l.fn.out) (g.E.Sink.held l.fn.err);
       })
-      (record {
-        hart = l.hart;
-        kept = g.R.CacheRom.kept l.rom;
-        ram = g.M.CacheRam.state l.ram;
-        left = g.I.Source.left l.input;
-        out = g.O.Sink.held l.out;
-        err = g.E.Sink.held l.err;
-      });
+      (point l.hart (g.R.CacheRom.kept l.rom) (g.M.CacheRam.state l.ram) (g.I.Source.left l.input) (g.O.Sink.held l.out) (g.E.Sink.held l.err));
   settles : (left : List ℕ) → g.I.Source.left l.fn.input ≡ Some left → is_between l.fn.self.hart.control ≡ true → l.hart.machine.ending ≡ None →
       (l.hart.machine.steps < l.n) ⊎ (is_between l.hart.control ≡ true);
   setting : g.R.CacheRom.setting l.rom ≡ g.R.CacheRom.setting l.fn.self.rom;
@@ -39,12 +26,7 @@ invariant-loop-hart g l = record {
       (g.M.CacheRam.state l.fn.ram).words (g.M.CacheRam.state l.ram).words;
   quiet : ◌≡◌ {A = Faults}
       (record { ram = (g.M.CacheRam.state l.ram).faults; input = g.I.Source.faults l.input; out = g.O.Sink.faults l.out; err = g.E.Sink.faults l.err })
-      (record {
-        ram = (g.M.CacheRam.state l.fn.ram).faults;
-        input = g.I.Source.faults l.fn.input;
-        out = g.O.Sink.faults l.fn.out;
-        err = g.E.Sink.faults l.fn.err;
-      });
+      (record { ram = (g.M.CacheRam.state l.fn.ram).faults; input = g.I.Source.faults l.fn.input; out = g.O.Sink.faults l.fn.out; err = g.E.Sink.faults l.fn.err });
 }
 
 abbrev pub decreases-loop-hart : goal.decreases-loop-hart

@@ -16,10 +16,8 @@ plain_step-requires-clause-home g c =
 
 pub returns-clause-follows : goal.returns-clause-follows
 returns-clause-follows g c =
-    let hart : c.self.inside.hart ≡ c.args.self.now.hart = ap (λ (b : BoardOf g.row.R.Denot). b.hart) c.self.view_is in
-    let rom : c.self.inside.rom ≡ c.args.self.now.rom = ap (λ (b : BoardOf g.row.R.Denot). b.rom) c.self.view_is in
     let running : c.self.inside.hart.machine.ending ≡ None = ap (λ (b : BoardOf g.row.R.Denot). b.hart.machine.ending) c.self.view_is ∙ c.requires.running in
-    rw (← hart, ← rom) (λ sound.
+    rw (← c.self.view_is) (λ sound.
     ok_map_2 c.quick_step.result
     (λ made moves. λ left told f image same. followed (g.R.CacheRom.policy (g.R.CacheRom.setting c.self.inside.rom)) c.args.image.now (g.R.CacheRom.kept c.self.inside.rom) (g.R.CacheRom.kept c.quick_step.new.rom) c.self.inside.hart c.quick_step.new.hart f left _ _ _ _ _
     running c.quick_step.ensures.word image same moves (made left told))
@@ -27,17 +25,14 @@ returns-clause-follows g c =
 
 pub returns-clause-executes : goal.returns-clause-executes
 returns-clause-executes g c =
-    let hart : c.self.inside.hart ≡ c.args.self.now.hart = ap (λ (b : BoardOf g.row.R.Denot). b.hart) c.self.view_is in
-    rw (← hart) (ok_map c.quick_step.result (λ made. λ i b o stage p. absurd (false≢true (sym (c.in_default.ensures.place i b o stage p.control) ∙ p.own))) c.quick_step.ensures.stepped.policy)
+    rw (← c.self.view_is) (ok_map c.quick_step.result (λ made. λ i b o stage p. absurd (false≢true (sym (c.in_default.ensures.place i b o stage p.control) ∙ p.own))) c.quick_step.ensures.stepped.policy)
 
 pub returns-clause-whole : goal.returns-clause-whole
 returns-clause-whole g c =
-    let hart : c.self.inside.hart ≡ c.args.self.now.hart = ap (λ (b : BoardOf g.row.R.Denot). b.hart) c.self.view_is in
-    rw (← hart) (ok_map c.quick_step.result (λ policy. λ i b o stage p whole. absurd (false≢true (sym (c.in_default.ensures.place i b o stage p.control) ∙ p.own))) c.quick_step.ensures.stepped.policy)
+    rw (← c.self.view_is) (ok_map c.quick_step.result (λ policy. λ i b o stage p whole. absurd (false≢true (sym (c.in_default.ensures.place i b o stage p.control) ∙ p.own))) c.quick_step.ensures.stepped.policy)
 
 pub quick_step-requires-clause-sound : goal.quick_step-requires-clause-sound
 quick_step-requires-clause-sound g c =
-    let hart : c.self.inside.hart ≡ c.args.self.now.hart = ap (λ (b : BoardOf g.row.R.Denot). b.hart) c.self.view_is in
     let rom : c.self.inside.rom ≡ c.args.self.now.rom = ap (λ (b : BoardOf g.row.R.Denot). b.rom) c.self.view_is in
     elim c.requires.sound [
       | inl s ↦ rw rom s
@@ -46,21 +41,16 @@ quick_step-requires-clause-sound g c =
 
 pub returns-in-Some-clause-executes : goal.returns-in-Some-clause-executes
 returns-in-Some-clause-executes g c =
-    let hart : c.self.inside.hart ≡ c.args.self.now.hart = ap (λ (b : BoardOf g.row.R.Denot). b.hart) c.self.view_is in
-    let rom : c.self.inside.rom ≡ c.args.self.now.rom = ap (λ (b : BoardOf g.row.R.Denot). b.rom) c.self.view_is in
-    rw (← hart, ← rom) c.plain_step.ensures.executes
+    rw (← c.self.view_is) c.plain_step.ensures.executes
 
 pub returns-in-Some-clause-whole : goal.returns-in-Some-clause-whole
 returns-in-Some-clause-whole g c =
-    let hart : c.self.inside.hart ≡ c.args.self.now.hart = ap (λ (b : BoardOf g.row.R.Denot). b.hart) c.self.view_is in
-    rw (← hart) c.plain_step.ensures.whole
+    rw (← c.self.view_is) c.plain_step.ensures.whole
 
 pub returns-in-Some-clause-follows : goal.returns-in-Some-clause-follows
 returns-in-Some-clause-follows g c =
-    let hart : c.self.inside.hart ≡ c.args.self.now.hart = ap (λ (b : BoardOf g.row.R.Denot). b.hart) c.self.view_is in
-    let rom : c.self.inside.rom ≡ c.args.self.now.rom = ap (λ (b : BoardOf g.row.R.Denot). b.rom) c.self.view_is in
     let running : c.self.inside.hart.machine.ending ≡ None = ap (λ (b : BoardOf g.row.R.Denot). b.hart.machine.ending) c.self.view_is ∙ c.requires.running in
-    rw (← hart, ← rom) (λ sound.
+    rw (← c.self.view_is) (λ sound.
     ok_map_2 c.plain_step.result
     (λ made moves. λ left told f image same. followed (g.R.CacheRom.policy (g.R.CacheRom.setting c.self.inside.rom)) c.args.image.now (g.R.CacheRom.kept c.self.inside.rom) (g.R.CacheRom.kept c.plain_step.new.rom) c.self.inside.hart c.plain_step.new.hart f left _ _ _ _ _
     running c.plain_place.ensures.word image same moves (made left told))
