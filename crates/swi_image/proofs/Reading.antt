@@ -80,8 +80,6 @@ pub offset_inside : (h : Header) (w : List ℕ) (k : ℕ) → IsHeader h w → H
 unfolding size_of offsets_at
 offset_inside h w k is s within = grind (arith, nat_tests, s.size, is.blocks, is.version, is.len, is.offsets)
 
-
-
 -- a search for the first number that a test picks
 pub first_found : (test : ℕ → Bool) (i n : ℕ) → i < n → test i ≡ true → first_from test i (n - i) ≡ Some i
 unfolding first_from
