@@ -305,6 +305,7 @@ struct Bank {
 /// Where the text words lie: `len` bytes from an address on, in one bank.
 struct Text {
     bank: usize,
+    skipped: u32,
     from: u32,
     len: u32,
 }
@@ -418,15 +419,23 @@ impl Bus {
         Ok(())
     }
 
+    /// The address is a multiple of 4.
     #[inline(always)]
-    fn fetch(&self, a: u32) -> Option<u32> {
-        if a % 4 != 0 || a.wrapping_sub(self.text.from) >= self.text.len {
+    fn fetch_aligned(&self, a: u32) -> Option<u32> {
+        let distance = a.wrapping_sub(self.text.from);
+        if distance >= self.text.len {
             return None;
         }
-        let bank = &self.banks[self.text.bank];
-        let at = (a - bank.base) as usize;
-        let bytes = &bank.bytes[at..at + 4];
-        Some(word(bytes))
+        let at = self.text.skipped as usize + distance as usize;
+        Some(word(&self.banks[self.text.bank].bytes[at..at + 4]))
+    }
+
+    #[inline(always)]
+    fn fetch(&self, a: u32) -> Option<u32> {
+        if a % 4 != 0 {
+            return None;
+        }
+        self.fetch_aligned(a)
     }
 }
 
@@ -805,16 +814,16 @@ impl Flat {
     #[inline(never)]
     fn advance(&mut self, limit: u64) {
         let mut pc = self.pc;
-        let mut steps = self.steps;
-        while steps < limit {
+        let mut left = limit - self.steps;
+        while left > 0 {
             let Some(next) = execute(pc, &mut self.regs, &mut self.bus) else {
                 break;
             };
             pc = next;
-            steps += 1;
+            left -= 1;
         }
         self.pc = pc;
-        self.steps = steps;
+        self.steps = limit - left;
     }
 
     fn run(&mut self, limit: u64) {
@@ -830,7 +839,7 @@ impl Flat {
 /// Executes the instruction at pc, and gives the address of the next one; None where it is a call, a break or a fault.
 #[inline(always)]
 fn execute(pc: u32, regs: &mut Regs, bus: &mut Bus) -> Option<u32> {
-    let instr = decode(bus.fetch(pc)?)?;
+    let instr = decode(bus.fetch_aligned(pc)?)?;
     match exec(&instr, pc, regs, bus) {
         Done::Next(next) => Some(next),
         Done::Call | Done::Break | Done::Fault(..) => None,
@@ -868,9 +877,9 @@ fn machine_of(file: &[u8]) -> Flat {
         .map(|bank| {
             let skipped = banks[bank].base.next_multiple_of(4) - banks[bank].base;
             let len = banks[bank].file.saturating_sub(skipped) / 4 * 4;
-            Text { bank, from: banks[bank].base + skipped, len }
+            Text { bank, skipped, from: banks[bank].base + skipped, len }
         })
-        .unwrap_or(Text { bank: 0, from: 0, len: 0 });
+        .unwrap_or(Text { bank: 0, skipped: 0, from: 0, len: 0 });
     let mut regs = Regs::new();
     regs.set(Reg::of(2), (stack + (1 << 16) - 64) / 16 * 16);
     let heap = Heap { base: heap, limit: heap + (1 << 20), now: heap };
