@@ -263,8 +263,8 @@ module _ {policy : Record → ImageData → Transfer → Record} {v : ImageData}
       }
 
 -- the end of a run: no step is left, or it has ended
-module _ {policy : Record → ImageData → Transfer → Record} {v : ImageData} {r0 : Record} {n : ℕ} {s0 : FlatState} {h0 h : HartData} {r : Record}
-    {left out0 out err0 err : Option (List ℕ)} (goes : Goes policy v r0 n s0 h0 h r left out0 out err0 err) where
+module _ (policy : Record → ImageData → Transfer → Record) (v : ImageData) (r0 : Record) (n : ℕ) (s0 : FlatState) (h0 h : HartData) (r : Record)
+    (left out0 out err0 err : Option (List ℕ)) (goes : Goes policy v r0 n s0 h0 h r left out0 out err0 err) where
   pub goes_out : (n ≤ h.machine.steps) ⊎ (is_some h.machine.ending ≡ true) → Ran policy v (n - h0.machine.steps) s0 h0 r0 h r left out0 out err0 err
   goes_out over =
       let stood : held_run (n - h.machine.steps) goes.now ≡ goes.now =
@@ -412,8 +412,8 @@ falls {v} {n} {r} {new} {h} {h'} more running grown =
     omega arith
 
 -- what several calls of the ram leave alone
-pub kept_both : {span : ℕ} {first before after : RamState} → KeepsBeyond span first before → KeepsBeyond span before after → KeepsBeyond span first after
-kept_both {span} {first} {before} {after} one two = record {
+pub kept_both : (span : ℕ) (first before after : RamState) → KeepsBeyond span first before → KeepsBeyond span before after → KeepsBeyond span first after
+kept_both span first before after one two = record {
   same_length = two.same_length ∙ one.same_length;
   beyond = λ i le. two.beyond i le ∙ one.beyond i le;
   reached = let p = one.reached in let q = two.reached in reach_both first.reach before.reach after.reach p q;
@@ -428,7 +428,7 @@ ram_more span fetched more one c first before after ran step = record {
   quiet = step.quiet ∙ ran.quiet;
   fetches = step.fetches ∙ ap (λ n. fetches_after c n) ran.fetches ∙ more_fetches c first.fetches fetched;
   sets = step.sets ∙ ap (λ n. risen n one) ran.sets ∙ risen_twice first.sets more one;
-  kept = kept_both ran.kept step.kept;
+  kept = kept_both _ _ _ _ ran.kept step.kept;
 }
   where
     risen_twice : (a x y : ℕ) → risen (risen a x) y ≡ risen a (x + y)

@@ -26,7 +26,7 @@ use Rattle.swi_cached.proofs.told.run_steps.Goals as goal
 
 pub loop-telling-init : goal.loop-telling-init
 loop-telling-init g c = record {
-  running = started_run (fifo (setting_of c.args.board.now.rom)) c.args.image.now c.args.limit (span_of (setting_of c.args.board.now.rom)) c.args.board.now.hart (kept_by c.args.board.now.rom) (g.R.CacheRam.state c.args.ram.now) (g.I.Source.left c.args.input.now) (g.O.Sink.held c.args.out.now) None c.requires.fits (omega (arith, c.requires.first));
+  running = started_run c.requires.fits (omega (arith, c.requires.first));
   settles = λ left told between going. inr between;
   setting = refl;
   sound = c.requires.sound;
@@ -43,13 +43,13 @@ pub step-requires-clause-count : goal.step-requires-clause-count
 step-requires-clause-count g c =
     let more : c.loop-telling.board.hart.machine.steps < c.args.limit = omega (arith, c.loop-telling-test.true, c.steps.ensures) in
     let running : c.loop-telling.board.hart.machine.ending ≡ None = sym c.ending.ensures ∙ c.in-None.is in
-    count_small (fifo (setting_of c.args.board.now.rom)) c.args.image.now c.args.limit (span_of (setting_of c.args.board.now.rom)) c.args.board.now.hart (kept_by c.args.board.now.rom) (g.R.CacheRam.state c.args.ram.now) (g.I.Source.left c.args.input.now) (g.O.Sink.held c.args.out.now) None c.loop-telling.board.hart (kept_by c.loop-telling.board.rom) (g.R.CacheRam.state c.loop-telling.ram) (g.I.Source.left c.loop-telling.input) (g.O.Sink.held c.loop-telling.out) None c.loop-telling.invariant.running more running c.in-Ok-tell.ensures.word c.requires.limit c.requires.count
+    count_small c.loop-telling.invariant.running more running c.in-Ok-tell.ensures.word c.requires.limit c.requires.count
 
 pub step-requires-clause-services : goal.step-requires-clause-services
 step-requires-clause-services g c =
     let more : c.loop-telling.board.hart.machine.steps < c.args.limit = omega (arith, c.loop-telling-test.true, c.steps.ensures) in
     let running : c.loop-telling.board.hart.machine.ending ≡ None = sym c.ending.ensures ∙ c.in-None.is in
-    calls_small (fifo (setting_of c.args.board.now.rom)) c.args.image.now c.args.limit (span_of (setting_of c.args.board.now.rom)) c.args.board.now.hart (kept_by c.args.board.now.rom) (g.R.CacheRam.state c.args.ram.now) (g.I.Source.left c.args.input.now) (g.O.Sink.held c.args.out.now) None c.loop-telling.board.hart (kept_by c.loop-telling.board.rom) (g.R.CacheRam.state c.loop-telling.ram) (g.I.Source.left c.loop-telling.input) (g.O.Sink.held c.loop-telling.out) None c.loop-telling.invariant.running more running c.in-Ok-tell.ensures.word c.requires.limit c.requires.services
+    calls_small c.loop-telling.invariant.running more running c.in-Ok-tell.ensures.word c.requires.limit c.requires.services
 
 pub loop-telling-preserved : goal.loop-telling-preserved
 loop-telling-preserved g c =
@@ -64,13 +64,11 @@ loop-telling-preserved g c =
     let made = s.made c.loop-telling.invariant.sound in
     let grown = s.grown c.loop-telling.invariant.sound in
     record {
-      running = runs_on (fifo (setting_of c.args.board.now.rom)) c.args.image.now c.args.limit (span_of (setting_of c.args.board.now.rom)) c.args.board.now.hart (kept_by c.args.board.now.rom) (g.R.CacheRam.state c.args.ram.now) (g.I.Source.left c.args.input.now) (g.O.Sink.held c.args.out.now) None
-          c.loop-telling.board.hart (kept_by c.loop-telling.board.rom) (g.R.CacheRam.state c.loop-telling.ram) (g.I.Source.left c.loop-telling.input) (g.O.Sink.held c.loop-telling.out) None c.loop-telling.invariant.running more running c.in-Ok-tell.ensures.word c.requires.limit
-          c.step.new.self.hart (kept_by c.step.new.self.rom) (g.R.CacheRam.state c.step.new.ram) (g.I.Source.left c.step.new.input) (g.O.Sink.held c.step.new.out) None stepped rises (s.fits c.loop-telling.invariant.sound) grown moves
+      running = runs_on c.loop-telling.invariant.running more running c.in-Ok-tell.ensures.word c.requires.limit stepped rises (s.fits c.loop-telling.invariant.sound) grown moves
           (λ l told. unknown_made c.args.image.now (kept_by c.step.new.self.rom) c.loop-telling.board.hart c.step.new.self.hart l _ _ _ _ _ (made l told));
       settles = λ left told between going.
           let goes = c.loop-telling.invariant.running.goes left told c.requires.fits.flat c.requires.fits.image c.requires.fits.matches in
-          settles_on c.args.image.now (kept_by c.step.new.self.rom) c.args.limit c.loop-telling.board.hart c.step.new.self.hart goes.now.input _ _ _ _ _ more (made goes.now.input goes.left_is) going;
+          settles_on more (made goes.now.input goes.left_is) going;
       setting = s.setting ∙ c.loop-telling.invariant.setting;
       sound = s.sound c.loop-telling.invariant.sound;
       unused = λ i le. unused i le ∙ c.loop-telling.invariant.unused i (omega (arith, le, grows));
@@ -98,7 +96,7 @@ pub loop-telling-smaller : goal.loop-telling-smaller
 loop-telling-smaller g c =
     let more : c.loop-telling.board.hart.machine.steps < c.args.limit = omega (arith, c.loop-telling-test.true, c.steps.ensures) in
     let running : c.loop-telling.board.hart.machine.ending ≡ None = sym c.ending.ensures ∙ c.in-None.is in
-    falls c.args.image.now c.args.limit _ _ c.loop-telling.board.hart c.step.new.self.hart more running (c.in-Ok-step.ensures.grown c.loop-telling.invariant.sound)
+    falls more running (c.in-Ok-step.ensures.grown c.loop-telling.invariant.sound)
 
 pub returns-in-Err-tell-clause-broke : goal.returns-in-Err-tell-clause-broke
 returns-in-Err-tell-clause-broke g c = λ left told f image same.
@@ -122,7 +120,7 @@ returns-in-Err-step-clause-kept g c =
 
 pub returns-in-Err-step-clause-causes : goal.returns-in-Err-step-clause-causes
 returns-in-Err-step-clause-causes g c =
-    causes_as {S = Unit} {T = Option (List ℕ)} c.in-Err-step.fault _ _ (causes_from _ _ _ _ (quiet_on _ _ _ _ _ _ _ refl c.in-Ok-tell.ensures.cause.quiet c.loop-telling.invariant.quiet) c.in-Err-step.ensures.causes)
+    causes_as {S = Unit} {T = Option (List ℕ)} c.in-Err-step.fault _ _ (causes_from (quiet_on _ _ _ _ _ _ _ refl c.in-Ok-tell.ensures.cause.quiet c.loop-telling.invariant.quiet) c.in-Err-step.ensures.causes)
 
 pub returns-in-Some-ending-clause-ran : goal.returns-in-Some-ending-clause-ran
 returns-in-Some-ending-clause-ran g c = λ left told f image same.

@@ -11,16 +11,22 @@ use Rattle.swi_board.specs.Board.{Matches}
 use Rattle.swi_board.specs.Hart.{is_between}
 use Rattle.swi_board.specs.Faults.{Faults}
 use Rattle.swi_board.specs.Runs.{most}
-use Rattle.swi_board.proofs.Running.{Running}
+use Rattle.swi_board.proofs.Running.{Running, point}
 use Rattle.swi_cached.specs.Told.{is_each}
 use Rattle.swi_cached.proofs.Tells.{Tells}
 use Rattle.swi_cached.proofs.told.run_steps.Given as goal
 
 abbrev pub invariant-loop-telling : goal.invariant-loop-telling
 invariant-loop-telling g l = record {
-  running : Running (fifo (setting_of l.fn.board.rom)) l.image l.limit (span_of (setting_of l.fn.board.rom))
-      l.fn.board.hart (kept_by l.fn.board.rom) (g.R.CacheRam.state l.fn.ram) (g.I.Source.left l.fn.input) (g.O.Sink.held l.fn.out) None
-      l.board.hart (kept_by l.board.rom) (g.R.CacheRam.state l.ram) (g.I.Source.left l.input) (g.O.Sink.held l.out) None;
+  running : Running
+      (record {
+        policy = fifo (setting_of l.fn.board.rom);
+        image = l.image;
+        limit = l.limit;
+        span = span_of (setting_of l.fn.board.rom);
+        from = point l.fn.board.hart (kept_by l.fn.board.rom) (g.R.CacheRam.state l.fn.ram) (g.I.Source.left l.fn.input) (g.O.Sink.held l.fn.out) None;
+      })
+      (point l.board.hart (kept_by l.board.rom) (g.R.CacheRam.state l.ram) (g.I.Source.left l.input) (g.O.Sink.held l.out) None);
   settles : (left : List ℕ) → g.I.Source.left l.fn.input ≡ Some left → is_between l.fn.board.hart.control ≡ true → l.board.hart.machine.ending ≡ None →
       (l.board.hart.machine.steps < l.limit) ⊎ (is_between l.board.hart.control ≡ true);
   setting : setting_of l.board.rom ≡ setting_of l.fn.board.rom;

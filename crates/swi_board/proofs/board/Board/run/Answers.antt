@@ -74,12 +74,12 @@ returns-in-Err-clause-ram_broke g c = λ e.
 pub returns-else-is_none-clause-ran : goal.returns-else-is_none-clause-ran
 returns-else-is_none-clause-ran g c = λ left told f image same.
     let ended : is_some c.loop-hart.hart.machine.ending ≡ true = search rules in
-    goes_out (c.loop-hart.invariant.running.goes left told f image same) (inr ended)
+    goes_out _ _ _ _ _ _ _ _ _ _ _ _ _ (c.loop-hart.invariant.running.goes left told f image same) (inr ended)
 
 pub returns-after-loop-hart-clause-ran : goal.returns-after-loop-hart-clause-ran
 returns-after-loop-hart-clause-ran g c = λ left told f image same.
     let done = subst (λ (h : HartData). c.args.n ≤ h.machine.steps) c.hart.view_is c.loop-hart-test.false in
-    goes_out (c.loop-hart.invariant.running.goes left told f image same) (inl done)
+    goes_out _ _ _ _ _ _ _ _ _ _ _ _ _ (c.loop-hart.invariant.running.goes left told f image same) (inl done)
 
 pub run_block-requires : goal.run_block-requires
 run_block-requires g c =
@@ -144,7 +144,7 @@ returns-in-Err-run_block g c =
       done = tt;
       settled = tt;
       ram = tt;
-      kept = kept_both s.running.ram_ran.kept failed.kept;
+      kept = kept_both _ _ _ _ s.running.ram_ran.kept failed.kept;
       failed = refl;
       going = ap (λ (h : HartData). h.machine.ending) c.hart-in-Err-run_block.view_is ∙ s.going;
       uncounted = let e = ap (λ (h : HartData). h.machine.steps) c.hart-in-Err-run_block.view_is in omega (arith, e, ended.below);
@@ -246,7 +246,7 @@ returns-in-Err-at_word g c =
       done = tt;
       settled = tt;
       ram = tt;
-      kept = kept_both s.running.ram_ran.kept kept;
+      kept = kept_both _ _ _ _ s.running.ram_ran.kept kept;
       failed = ap (λ (h : HartData). h.failed) a.stopped;
       going = ap (λ (h : HartData). h.machine.ending) (c.in-Err-at_word.ensures ended.before answered).stopped ∙ s.going;
       uncounted = let e = ap (λ (h : HartData). h.machine.steps) a.stopped in omega (arith, e, ended.below);
