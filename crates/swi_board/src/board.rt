@@ -399,10 +399,8 @@ impl<R: CacheRom> Board<R> {
             // Read for the proof alone: that it has 32 bits.
             let _pc = hart.origin_pc();
             let Some(at) = block_place(hart) else {
-                match quick_step(hart, rom, image, ram, input, out, err) {
-                    Ok(_) => continue,
-                    Err(fault) => return Err(fault),
-                }
+                quick_step(hart, rom, image, ram, input, out, err)?;
+                continue;
             };
             let got = match run_block(hart, rom, image, ram, n, at) {
                 Ok(Some(got)) => got,
@@ -415,7 +413,7 @@ impl<R: CacheRom> Board<R> {
             let Control::At(i, b, o, stage) = hart.control.control() else {
                 unreachable!()
             };
-            match at_word(
+            at_word(
                 hart,
                 rom,
                 image,
@@ -425,10 +423,7 @@ impl<R: CacheRom> Board<R> {
                 err,
                 got,
                 (i, b, o, stage),
-            ) {
-                Ok(_) => {}
-                Err(fault) => return Err(fault),
-            }
+            )?;
         }
         Ok(())
     }

@@ -1,4 +1,5 @@
 use Rattle.std.proofs.Common.{◌≡◌, ◌<◌, ◌≤◌, slice_index, ℕ, List, Some, None, is_some, true, sym, ◌∙◌, refl, subst, ap, inl, inr, arith, rules}
+use Rattle.std.proofs.lemmas.Result.{err_from_is_err_and}
 use Rattle.swi_rom.specs.Record.{writes}
 use Rattle.swi_board.specs.Hart.{HartData}
 use Rattle.swi_board.specs.Board.{BoardOf}
@@ -25,10 +26,10 @@ loop-hart-init g c =
       quiet = refl;
     })
 
-pub loop-hart-preserved-in-Ok : goal.loop-hart-preserved-in-Ok
-loop-hart-preserved-in-Ok g c =
+pub loop-hart-preserved-in_default : goal.loop-hart-preserved-in_default
+loop-hart-preserved-in_default g c =
     let was = c.loop-hart.invariant in
-    let s = c.in-Ok.ensures.stepped in
+    let s = c.in_ok-quick_step.ensures.stepped in
     let more = subst (λ (h : HartData). h.machine.steps < c.args.n) c.hart.view_is c.loop-hart-test.true in
     let moves = rw was.setting at s.policy in
     let stepped = rw was.setting at s.ram in
@@ -38,7 +39,7 @@ loop-hart-preserved-in-Ok g c =
     let unused = rw was.setting at s.unused in
     let running : c.loop-hart.hart.machine.ending ≡ None = search rules in
     record {
-      running = runs_on was.running more running c.in-Ok.ensures.word c.requires.limit stepped rises (s.fits was.sound) (s.grown was.sound) moves
+      running = runs_on was.running more running c.in_ok-quick_step.ensures.word c.requires.limit stepped rises (s.fits was.sound) (s.grown was.sound) moves
           (s.made was.sound);
       settles = λ left told between going.
           let now = was.running.goes left told c.requires.fits.flat c.requires.fits.image c.requires.fits.matches in
@@ -49,27 +50,30 @@ loop-hart-preserved-in-Ok g c =
       quiet = s.causes.quiet ∙ was.quiet;
     }
 
-pub loop-hart-smaller-in-Ok : goal.loop-hart-smaller-in-Ok
-loop-hart-smaller-in-Ok g c =
+pub loop-hart-smaller-in_default : goal.loop-hart-smaller-in_default
+loop-hart-smaller-in_default g c =
     let more = subst (λ (h : HartData). h.machine.steps < c.args.n) c.hart.view_is c.loop-hart-test.true in
     let running : c.loop-hart.hart.machine.ending ≡ None = search rules in
-    falls more running (c.in-Ok.ensures.stepped.grown c.loop-hart.invariant.sound)
+    falls more running (c.in_ok-quick_step.ensures.stepped.grown c.loop-hart.invariant.sound)
 
-pub returns-in-Err-clause-broke : goal.returns-in-Err-clause-broke
-returns-in-Err-clause-broke g c =
-    let s = c.in-Err.ensures.stepped in
+pub returns-in_err-quick_step-clause-broke : goal.returns-in_err-quick_step-clause-broke
+returns-in_err-quick_step-clause-broke g c =
+    let p = err_from_is_err_and c.from_residual.result c.from_residual.ensures.1 in
+    let s = c.in_err-quick_step.ensures.stepped in
     let more = subst (λ (h : HartData). h.machine.steps < c.args.n) c.hart.view_is c.loop-hart-test.true in
     let running : c.loop-hart.hart.machine.ending ≡ None = search rules in
-    device_run c.loop-hart.invariant.running more running c.in-Err.ensures.word s.stopped _ _ _ _ (s.broke c.loop-hart.invariant.sound) s.unwritten
+    rw (p.1, p.2) (device_run c.loop-hart.invariant.running more running c.in_err-quick_step.ensures.word s.stopped _ _ _ _ (s.broke c.loop-hart.invariant.sound) s.unwritten)
 
-pub returns-in-Err-clause-ram_broke : goal.returns-in-Err-clause-ram_broke
-returns-in-Err-clause-ram_broke g c = λ e.
-    let s = c.in-Err.ensures.stepped in
+pub returns-in_err-quick_step-clause-ram_broke : goal.returns-in_err-quick_step-clause-ram_broke
+returns-in_err-quick_step-clause-ram_broke g c =
+    let p = err_from_is_err_and c.from_residual.result c.from_residual.ensures.1 in
+    rw (p.1, p.2) (λ e.
+    let s = c.in_err-quick_step.ensures.stepped in
     let more = subst (λ (h : HartData). h.machine.steps < c.args.n) c.hart.view_is c.loop-hart-test.true in
     let running : c.loop-hart.hart.machine.ending ≡ None = search rules in
     let same = s.others_stay e in
     let failed = rw c.loop-hart.invariant.setting at (s.ram_failed e) in
-    ram_run c.loop-hart.invariant.running more running c.in-Err.ensures.word s.stopped failed same.0 same.1.0 same.1.1
+    ram_run c.loop-hart.invariant.running more running c.in_err-quick_step.ensures.word s.stopped failed same.0 same.1.0 same.1.1)
 
 pub returns-else-is_none-clause-ran : goal.returns-else-is_none-clause-ran
 returns-else-is_none-clause-ran g c = λ left told f image same.
@@ -123,12 +127,12 @@ loop-hart-preserved-in-Ok-None g c =
       quiet = same_ram s.quiet was.quiet;
     }
 
-pub returns-in-Err-run_block : goal.returns-in-Err-run_block
-returns-in-Err-run_block g c =
+pub returns-in-Err : goal.returns-in-Err
+returns-in-Err g c =
     let was = c.loop-hart.invariant in
     let begin = begins was.running was.settles c.requires.fits c.requires.limit (rw was.setting at (g.met.R.CacheRom.coherent _ _ _ was.sound))
     (λ b o t is. g.met.R.CacheRom.first _ _ _ b o t is) c.hart.view_is c.loop-hart-test.true (search rules) c.origin_pc-pc.ensures.word in
-    let ended = before_fault c.in-Err-run_block.is c.run_block.ensures in
+    let ended = before_fault c.in-Err.is c.run_block.ensures in
     let s = walk begin ended.walked in
     let failed = ram_unfetched c.args.image.now c.run_block.new.hart.machine c.run_block.new.hart.control _ _ _ _ _ ended.before
     (g.M.CacheRam.state c.run_block.new.ram) ended.control (used s ended.control) ended.answered in
@@ -146,11 +150,11 @@ returns-in-Err-run_block g c =
       ram = tt;
       kept = kept_both _ _ _ _ s.running.ram_ran.kept failed.kept;
       failed = refl;
-      going = ap (λ (h : HartData). h.machine.ending) c.hart-in-Err-run_block.view_is ∙ s.going;
-      uncounted = let e = ap (λ (h : HartData). h.machine.steps) c.hart-in-Err-run_block.view_is in omega (arith, e, ended.below);
+      going = ap (λ (h : HartData). h.machine.ending) c.hart-in-Err.view_is ∙ s.going;
+      uncounted = let e = ap (λ (h : HartData). h.machine.steps) c.hart-in-Err.view_is in omega (arith, e, ended.below);
       broke = tt;
       ram_broke = λ e. ram_run s.running ended.below s.going s.short
-          (ap (λ (h : HartData). record h { failed = true }) c.hart-in-Err-run_block.view_is) failed refl refl refl;
+          (ap (λ (h : HartData). record h { failed = true }) c.hart-in-Err.view_is) failed refl refl refl;
       causes = causes_from (same_ram s.quiet was.quiet) (causes_ram _ _ _ _ _ ended.answered.1 ended.answered.0);
     }
 
@@ -190,7 +194,7 @@ loop-hart-smaller g c =
     let answered = subst (λ (k : ℕ). Answered (Some c.in-Ok-Some.got) ended.before k (g.M.CacheRam.state c.run_block.new.ram))
     (same_index ended.control control) ended.answered in
     let sound = subst (λ (k : List ℕ). g.R.CacheRom.sound c.loop-hart.rom c.args.image.now k) (sym s.words) was.sound in
-    falls_from s ended.below ((c.in-Ok-at_word.ensures ended.before answered).grown sound)
+    falls_from s ended.below ((c.in_ok-at_word.ensures ended.before answered).grown sound)
 
 pub loop-hart-preserved : goal.loop-hart-preserved
 loop-hart-preserved g c =
@@ -203,7 +207,7 @@ loop-hart-preserved g c =
     let answered = subst (λ (k : ℕ). Answered (Some c.in-Ok-Some.got) ended.before k (g.M.CacheRam.state c.run_block.new.ram))
     (same_index ended.control control) ended.answered in
     let sound = subst (λ (k : List ℕ). g.R.CacheRom.sound c.loop-hart.rom c.args.image.now k) (sym s.words) was.sound in
-    let a = c.in-Ok-at_word.ensures ended.before answered in
+    let a = c.in_ok-at_word.ensures ended.before answered in
     let moves = rw was.setting at a.policy in
     let stepped = rw was.setting at a.ram in
     let rises = no_less s.running moves (λ k. writes k) (λ r v t. g.met.R.CacheRom.third (g.R.CacheRom.setting c.args.self.now.rom) r v t) in
@@ -221,8 +225,9 @@ loop-hart-preserved g c =
       quiet = a.causes.quiet ∙ same_ram s.quiet was.quiet;
     }
 
-pub returns-in-Err-at_word : goal.returns-in-Err-at_word
-returns-in-Err-at_word g c =
+pub returns-in_err-at_word : goal.returns-in_err-at_word
+returns-in_err-at_word g c =
+    let p = err_from_is_err_and c.from_residual-in_err-at_word.result c.from_residual-in_err-at_word.ensures.1 in
     let was = c.loop-hart.invariant in
     let begin = begins was.running was.settles c.requires.fits c.requires.limit (rw was.setting at (g.met.R.CacheRom.coherent _ _ _ was.sound))
     (λ b o t is. g.met.R.CacheRom.first _ _ _ b o t is) c.hart.view_is c.loop-hart-test.true (search rules) c.origin_pc-pc.ensures.word in
@@ -232,9 +237,9 @@ returns-in-Err-at_word g c =
     let answered = subst (λ (k : ℕ). Answered (Some c.in-Ok-Some.got) ended.before k (g.M.CacheRam.state c.run_block.new.ram))
     (same_index ended.control control) ended.answered in
     let sound = subst (λ (k : List ℕ). g.R.CacheRom.sound c.loop-hart.rom c.args.image.now k) (sym s.words) was.sound in
-    let a = c.in-Err-at_word.ensures ended.before answered in
+    let a = c.in_err-at_word.ensures ended.before answered in
     let kept = rw was.setting at a.kept in
-    record {
+    rw (p.1, p.2) (record {
       ran = tt;
       count = tt;
       fits = tt;
@@ -248,12 +253,12 @@ returns-in-Err-at_word g c =
       ram = tt;
       kept = kept_both _ _ _ _ s.running.ram_ran.kept kept;
       failed = ap (λ (h : HartData). h.failed) a.stopped;
-      going = ap (λ (h : HartData). h.machine.ending) (c.in-Err-at_word.ensures ended.before answered).stopped ∙ s.going;
+      going = ap (λ (h : HartData). h.machine.ending) (c.in_err-at_word.ensures ended.before answered).stopped ∙ s.going;
       uncounted = let e = ap (λ (h : HartData). h.machine.steps) a.stopped in omega (arith, e, ended.below);
       broke = device_run s.running ended.below s.going s.short a.stopped _ _ _ _ (a.broke sound) a.unwritten;
       ram_broke = λ e.
           let same = a.others_stay e in
           let failed = rw was.setting at (a.ram_failed e) in
           ram_run s.running ended.below s.going s.short a.stopped failed same.0 same.1.0 same.1.1;
-      causes = causes_from (same_ram s.quiet was.quiet) (c.in-Err-at_word.ensures ended.before answered).causes;
-    }
+      causes = causes_from (same_ram s.quiet was.quiet) (c.in_err-at_word.ensures ended.before answered).causes;
+    })
