@@ -160,10 +160,8 @@ pub(crate) fn run_steps<I: Source, O: Sink, E: Sink, R: CacheRam>(
         }) result }
 {
     let Some(mut last) = history else {
-        return match board.run(image, ram, input, out, err, limit) {
-            Ok(()) => Ok(None),
-            Err(fault) => Err(fault),
-        };
+        board.run(image, ram, input, out, err, limit)?;
+        return Ok(None);
     };
     let mut lines = 0;
     while board.steps() < limit {
@@ -175,10 +173,7 @@ pub(crate) fn run_steps<I: Source, O: Sink, E: Sink, R: CacheRam>(
             Ok(told) => lines = told,
             Err(_) => return Err(BoardFault::SinkFault),
         }
-        match board.step(image, ram, input, out, err) {
-            Ok(()) => {}
-            Err(fault) => return Err(fault),
-        }
+        board.step(image, ram, input, out, err)?;
     }
     Ok(Some(last))
 }

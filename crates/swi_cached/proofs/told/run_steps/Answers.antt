@@ -1,4 +1,5 @@
 use Rattle.std.proofs.Common.{◌≡◌, ◌-◌, ◌<◌, ◌≤◌, ℕ, List, Option, None, Err, is_some, true, sym, ◌∙◌, refl, subst, ap, inl, inr, arith}
+use Rattle.std.proofs.lemmas.Result.{err_from_is_err_and}
 use Rattle.swi_outside.specs.CacheRam.{KeepsBeyond}
 use Rattle.swi_calls.specs.Flat.{started}
 use Rattle.swi_calls.specs.State.{FlatState}
@@ -43,17 +44,17 @@ pub step-requires-clause-count : goal.step-requires-clause-count
 step-requires-clause-count g c =
     let more : c.loop-telling.board.hart.machine.steps < c.args.limit = omega (arith, c.loop-telling-test.true, c.steps.ensures) in
     let running : c.loop-telling.board.hart.machine.ending ≡ None = sym c.ending.ensures ∙ c.in-None.is in
-    count_small c.loop-telling.invariant.running more running c.in-Ok-tell.ensures.word c.requires.limit c.requires.count
+    count_small c.loop-telling.invariant.running more running c.in-Ok.ensures.word c.requires.limit c.requires.count
 
 pub step-requires-clause-services : goal.step-requires-clause-services
 step-requires-clause-services g c =
     let more : c.loop-telling.board.hart.machine.steps < c.args.limit = omega (arith, c.loop-telling-test.true, c.steps.ensures) in
     let running : c.loop-telling.board.hart.machine.ending ≡ None = sym c.ending.ensures ∙ c.in-None.is in
-    calls_small c.loop-telling.invariant.running more running c.in-Ok-tell.ensures.word c.requires.limit c.requires.services
+    calls_small c.loop-telling.invariant.running more running c.in-Ok.ensures.word c.requires.limit c.requires.services
 
 pub loop-telling-preserved : goal.loop-telling-preserved
 loop-telling-preserved g c =
-    let s = c.in-Ok-step.ensures in
+    let s = c.in_ok-step.ensures in
     let more : c.loop-telling.board.hart.machine.steps < c.args.limit = omega (arith, c.loop-telling-test.true, c.steps.ensures) in
     let running : c.loop-telling.board.hart.machine.ending ≡ None = sym c.ending.ensures ∙ c.in-None.is in
     let moves = subst (λ (k : List ℕ). kept_by c.step.new.self.rom ≡ moved (fifo k) (kept_by c.loop-telling.board.rom) c.args.image.now (transfer_at c.args.image.now c.loop-telling.board.hart.machine c.loop-telling.board.hart.control)) c.loop-telling.invariant.setting s.policy in
@@ -64,7 +65,7 @@ loop-telling-preserved g c =
     let made = s.made c.loop-telling.invariant.sound in
     let grown = s.grown c.loop-telling.invariant.sound in
     record {
-      running = runs_on c.loop-telling.invariant.running more running c.in-Ok-tell.ensures.word c.requires.limit stepped rises (s.fits c.loop-telling.invariant.sound) grown moves
+      running = runs_on c.loop-telling.invariant.running more running c.in-Ok.ensures.word c.requires.limit stepped rises (s.fits c.loop-telling.invariant.sound) grown moves
           (λ l told. unknown_made c.args.image.now (kept_by c.step.new.self.rom) c.loop-telling.board.hart c.step.new.self.hart l _ _ _ _ _ (made l told));
       settles = λ left told between going.
           let goes = c.loop-telling.invariant.running.goes left told c.requires.fits.flat c.requires.fits.image c.requires.fits.matches in
@@ -72,8 +73,8 @@ loop-telling-preserved g c =
       setting = s.setting ∙ c.loop-telling.invariant.setting;
       sound = s.sound c.loop-telling.invariant.sound;
       unused = λ i le. unused i le ∙ c.loop-telling.invariant.unused i (omega (arith, le, grows));
-      quiet = quiet_on _ _ _ _ _ _ _ s.causes.quiet c.in-Ok-tell.ensures.cause.quiet c.loop-telling.invariant.quiet;
-      lines = lines_on c.args.image.now (kept_by c.loop-telling.board.rom) (kept_by c.step.new.self.rom) c.loop-telling.board.hart c.step.new.self.hart c.args.limit c.in-Ok-tell.told more c.in-Ok-tell.ensures.count grown;
+      quiet = quiet_on _ _ _ _ _ _ _ s.causes.quiet c.in-Ok.ensures.cause.quiet c.loop-telling.invariant.quiet;
+      lines = lines_on c.args.image.now (kept_by c.loop-telling.board.rom) (kept_by c.step.new.self.rom) c.loop-telling.board.hart c.step.new.self.hart c.args.limit c.in-Ok.told more c.in-Ok.ensures.count grown;
       tells = λ left told f image same.
           let goes = c.loop-telling.invariant.running.goes left told f image same in
           let at = same_at c.args.image.now (kept_by c.loop-telling.board.rom) goes.now.machine c.loop-telling.board.hart.machine c.loop-telling.board.hart.control running goes.matches in
@@ -81,12 +82,12 @@ loop-telling-preserved g c =
           let line = line_is (is_each c.args.telling) c.loop-telling.board.hart.machine goes.now.machine at.0 at.1 ∙ ap (λ (q : FlatState). told_line (is_each c.args.telling) q.machine) here in
           let tells = tells_as c.loop-telling.board.hart.machine.ending None (is_each c.args.telling) c.args.limit (started f left) c.loop-telling.board.hart.machine.steps c.loop-telling.lines (g.E.Sink.held c.args.err.now) (g.E.Sink.held c.loop-telling.err) c.loop-telling.last running (c.loop-telling.invariant.tells left told f image same) in
           let begun = begins (is_each c.args.telling) c.args.limit (started f left) c.loop-telling.board.hart.machine.steps c.loop-telling.lines c.loop-telling.board.hart.machine (g.E.Sink.held c.args.err.now) (g.E.Sink.held c.loop-telling.err) (g.E.Sink.held c.tell.new.err) c.loop-telling.last c.tell.new.history
-          line (at.0 ∙ ap (λ (q : FlatState). q.machine.pc) here) tells c.in-Ok-tell.ensures.line c.in-Ok-tell.ensures.noted c.in-Ok-tell.ensures.told in
+          line (at.0 ∙ ap (λ (q : FlatState). q.machine.pc) here) tells c.in-Ok.ensures.line c.in-Ok.ensures.noted c.in-Ok.ensures.told in
           let steps = same_steps c.args.image.now (kept_by c.loop-telling.board.rom) goes.now.machine c.loop-telling.board.hart.machine c.loop-telling.board.hart.control goes.matches in
           let followed = subst (λ (q : FlatState). Followed c.args.image.now (kept_by c.step.new.self.rom) c.step.new.self.hart (next_made c.args.image.now c.loop-telling.board.hart.machine c.loop-telling.board.hart.control q.machine q.input)
           (g.I.Source.left c.step.new.input) (g.O.Sink.held c.loop-telling.out) (g.O.Sink.held c.step.new.out) (g.E.Sink.held c.tell.new.err) (g.E.Sink.held c.step.new.err)) here
           (s.follows c.loop-telling.invariant.sound goes.now.input goes.left_is goes.now.machine goes.image goes.matches) in
-          subst (λ (n : ℕ). Tells c.step.new.self.hart.machine.ending (is_each c.args.telling) c.args.limit (started f left) c.step.new.self.hart.machine.steps n (g.E.Sink.held c.args.err.now) (g.E.Sink.held c.step.new.err) c.tell.new.history) (sym c.in-Ok-tell.ensures.count)
+          subst (λ (n : ℕ). Tells c.step.new.self.hart.machine.ending (is_each c.args.telling) c.args.limit (started f left) c.step.new.self.hart.machine.steps n (g.E.Sink.held c.args.err.now) (g.E.Sink.held c.step.new.err) c.tell.new.history) (sym c.in-Ok.ensures.count)
           (goes_on (is_each c.args.telling) c.args.limit (started f left) c.loop-telling.board.hart.machine.steps (g.E.Sink.held c.args.err.now) (g.E.Sink.held c.tell.new.err) (g.E.Sink.held c.step.new.err) c.tell.new.history begun more
           (ap (λ (q : FlatState). q.machine.ending) (sym here) ∙ sym steps.1 ∙ running) c.args.image.now (kept_by c.step.new.self.rom) c.loop-telling.board.hart c.step.new.self.hart _ _ _
           (ap (λ (q : FlatState). q.machine.steps) (sym here) ∙ sym steps.0) followed);
@@ -96,10 +97,10 @@ pub loop-telling-smaller : goal.loop-telling-smaller
 loop-telling-smaller g c =
     let more : c.loop-telling.board.hart.machine.steps < c.args.limit = omega (arith, c.loop-telling-test.true, c.steps.ensures) in
     let running : c.loop-telling.board.hart.machine.ending ≡ None = sym c.ending.ensures ∙ c.in-None.is in
-    falls more running (c.in-Ok-step.ensures.grown c.loop-telling.invariant.sound)
+    falls more running (c.in_ok-step.ensures.grown c.loop-telling.invariant.sound)
 
-pub returns-in-Err-tell-clause-broke : goal.returns-in-Err-tell-clause-broke
-returns-in-Err-tell-clause-broke g c = λ left told f image same.
+pub returns-in-Err-clause-broke : goal.returns-in-Err-clause-broke
+returns-in-Err-clause-broke g c = λ left told f image same.
     let more : c.loop-telling.board.hart.machine.steps < c.args.limit = omega (arith, c.loop-telling-test.true, c.steps.ensures) in
     let running : c.loop-telling.board.hart.machine.ending ≡ None = sym c.ending.ensures ∙ c.in-None.is in
     let goes = c.loop-telling.invariant.running.goes left told f image same in
@@ -108,19 +109,20 @@ returns-in-Err-tell-clause-broke g c = λ left told f image same.
     let line = line_is (is_each c.args.telling) c.loop-telling.board.hart.machine goes.now.machine at.0 at.1 ∙ ap (λ (q : FlatState). told_line (is_each c.args.telling) q.machine) here in
     let tells = tells_as c.loop-telling.board.hart.machine.ending None (is_each c.args.telling) c.args.limit (started f left) c.loop-telling.board.hart.machine.steps c.loop-telling.lines (g.E.Sink.held c.args.err.now) (g.E.Sink.held c.loop-telling.err) c.loop-telling.last running (c.loop-telling.invariant.tells left told f image same) in
     told_line_broke (is_each c.args.telling) (fifo (setting_of c.args.board.now.rom)) c.args.image.now c.args.limit (started f left) c.args.board.now.hart c.loop-telling.board.hart (kept_by c.args.board.now.rom) (kept_by c.loop-telling.board.rom) _ _ _ (g.E.Sink.held c.args.err.now) (g.E.Sink.held c.loop-telling.err) c.loop-telling.last goes more running c.requires.first refl
-    c.loop-telling.lines (g.E.Sink.held c.tell.new.err) c.in-Err-tell.ensures.first tells line c.in-Err-tell.ensures.front
+    c.loop-telling.lines (g.E.Sink.held c.tell.new.err) c.in-Err.ensures.first tells line c.in-Err.ensures.front
 
-pub returns-in-Err-tell-clause-causes : goal.returns-in-Err-tell-clause-causes
-returns-in-Err-tell-clause-causes g c = causes_line _ _ _ _ _ _ c.loop-telling.invariant.quiet c.in-Err-tell.ensures.cause.later c.in-Err-tell.ensures.cause.failed
+pub returns-in-Err-clause-causes : goal.returns-in-Err-clause-causes
+returns-in-Err-clause-causes g c = causes_line _ _ _ _ _ _ c.loop-telling.invariant.quiet c.in-Err.ensures.cause.later c.in-Err.ensures.cause.failed
 
-pub returns-in-Err-step-clause-kept : goal.returns-in-Err-step-clause-kept
-returns-in-Err-step-clause-kept g c =
+pub returns-in_err-step-clause-kept : goal.returns-in_err-step-clause-kept
+returns-in_err-step-clause-kept g c =
     kept_both _ _ _ _ c.loop-telling.invariant.running.ram_ran.kept
-    (subst (λ (k : List ℕ). KeepsBeyond (span_of k) (g.R.CacheRam.state c.loop-telling.ram) (g.R.CacheRam.state c.step.new.ram)) c.loop-telling.invariant.setting c.in-Err-step.ensures.kept)
+    (subst (λ (k : List ℕ). KeepsBeyond (span_of k) (g.R.CacheRam.state c.loop-telling.ram) (g.R.CacheRam.state c.step.new.ram)) c.loop-telling.invariant.setting c.in_err-step.ensures.kept)
 
-pub returns-in-Err-step-clause-causes : goal.returns-in-Err-step-clause-causes
-returns-in-Err-step-clause-causes g c =
-    causes_as {S = Unit} {T = Option (List ℕ)} c.in-Err-step.fault _ _ (causes_from (quiet_on _ _ _ _ _ _ _ refl c.in-Ok-tell.ensures.cause.quiet c.loop-telling.invariant.quiet) c.in-Err-step.ensures.causes)
+pub returns-in_err-step-clause-causes : goal.returns-in_err-step-clause-causes
+returns-in_err-step-clause-causes g c =
+    let p = err_from_is_err_and c.from_residual-in_err-step.result c.from_residual-in_err-step.ensures.1 in
+    rw (p.1, p.2) (causes_as {S = Unit} {T = Option (List ℕ)} c.in_err-step.field-0.0 _ _ (causes_from (quiet_on _ _ _ _ _ _ _ refl c.in-Ok.ensures.cause.quiet c.loop-telling.invariant.quiet) c.in_err-step.ensures.causes))
 
 pub returns-in-Some-ending-clause-ran : goal.returns-in-Some-ending-clause-ran
 returns-in-Some-ending-clause-ran g c = λ left told f image same.
@@ -137,27 +139,30 @@ returns-clause-ran g c = λ left told f image same.
     (c.loop-telling.invariant.running.goes left told f image same) c.requires.first refl (inl least)
     (all_told c.loop-telling.board.hart.machine.ending (is_each c.args.telling) c.args.limit c.loop-telling.board.hart.machine.steps c.loop-telling.lines (started f left) (g.E.Sink.held c.args.err.now) (g.E.Sink.held c.loop-telling.err) c.loop-telling.last (inl (omega (arith, least, most))) c.loop-telling.invariant.lines (c.loop-telling.invariant.tells left told f image same))
 
-pub returns-in-Err-step-clause-broke : goal.returns-in-Err-step-clause-broke
-returns-in-Err-step-clause-broke g c =
-    let s = c.in-Err-step.ensures in
+pub returns-in_err-step-clause-broke : goal.returns-in_err-step-clause-broke
+returns-in_err-step-clause-broke g c =
+    let p = err_from_is_err_and c.from_residual-in_err-step.result c.from_residual-in_err-step.ensures.1 in
+    let s = c.in_err-step.ensures in
     let more : c.loop-telling.board.hart.machine.steps < c.args.limit = omega (arith, c.loop-telling-test.true, c.steps.ensures) in
     let running : c.loop-telling.board.hart.machine.ending ≡ None = sym c.ending.ensures ∙ c.in-None.is in
-    with_device Unit (Option (List ℕ)) c.in-Err-step.fault _ _ (s.broke c.loop-telling.invariant.sound) (λ step out. λ left told f image same.
+    rw (p.1, p.2) (with_device Unit (Option (List ℕ)) c.in_err-step.field-0.0 _ _ (s.broke c.loop-telling.invariant.sound) (λ step out. λ left told f image same.
     let goes = c.loop-telling.invariant.running.goes left told f image same in
     let at = same_at c.args.image.now (kept_by c.loop-telling.board.rom) goes.now.machine c.loop-telling.board.hart.machine c.loop-telling.board.hart.control running goes.matches in
     let here = now_at c.args.board.now.hart c.loop-telling.board.hart goes.now (started f left) (goes.now_is running) c.requires.first in
     let line = line_is (is_each c.args.telling) c.loop-telling.board.hart.machine goes.now.machine at.0 at.1 ∙ ap (λ (q : FlatState). told_line (is_each c.args.telling) q.machine) here in
     let tells = tells_as c.loop-telling.board.hart.machine.ending None (is_each c.args.telling) c.args.limit (started f left) c.loop-telling.board.hart.machine.steps c.loop-telling.lines (g.E.Sink.held c.args.err.now) (g.E.Sink.held c.loop-telling.err) c.loop-telling.last running (c.loop-telling.invariant.tells left told f image same) in
     let begun = begins (is_each c.args.telling) c.args.limit (started f left) c.loop-telling.board.hart.machine.steps c.loop-telling.lines c.loop-telling.board.hart.machine (g.E.Sink.held c.args.err.now) (g.E.Sink.held c.loop-telling.err) (g.E.Sink.held c.tell.new.err) c.loop-telling.last c.tell.new.history
-    line (at.0 ∙ ap (λ (q : FlatState). q.machine.pc) here) tells c.in-Ok-tell.ensures.line c.in-Ok-tell.ensures.noted c.in-Ok-tell.ensures.told in
+    line (at.0 ∙ ap (λ (q : FlatState). q.machine.pc) here) tells c.in-Ok.ensures.line c.in-Ok.ensures.noted c.in-Ok.ensures.told in
     let steps = same_steps c.args.image.now (kept_by c.loop-telling.board.rom) goes.now.machine c.loop-telling.board.hart.machine c.loop-telling.board.hart.control goes.matches in
     out _ (told_device (is_each c.args.telling) (fifo (setting_of c.args.board.now.rom)) c.args.image.now c.args.limit (started f left) c.args.board.now.hart c.loop-telling.board.hart (kept_by c.args.board.now.rom) (kept_by c.loop-telling.board.rom) _ _ _ (g.E.Sink.held c.args.err.now) (g.E.Sink.held c.tell.new.err) c.tell.new.history goes more running c.requires.first refl
-    c.in-Ok-tell.ensures.word begun c.step.new.self.hart c.step.new.self.hart.machine.bus _ _ _ s.stopped {T = Option (List ℕ)} (Err c.in-Err-step.fault) (to_device {T = Option (List ℕ)} (Err c.in-Err-step.fault) _ (step goes.now.input goes.left_is)) (λ e. s.unwritten (fault_as {S = Option (List ℕ)} {T = Unit} c.in-Err-step.fault SourceFault e))))
+    c.in-Ok.ensures.word begun c.step.new.self.hart c.step.new.self.hart.machine.bus _ _ _ s.stopped {T = Option (List ℕ)} (Err c.in_err-step.field-0.0) (to_device {T = Option (List ℕ)} (Err c.in_err-step.field-0.0) _ (step goes.now.input goes.left_is)) (λ e. s.unwritten (fault_as {S = Option (List ℕ)} {T = Unit} c.in_err-step.field-0.0 SourceFault e)))))
 
-pub returns-in-Err-step-clause-ram_broke : goal.returns-in-Err-step-clause-ram_broke
-returns-in-Err-step-clause-ram_broke g c = λ fault left told f image same.
-    let s = c.in-Err-step.ensures in
-    let e = fault_as {S = Option (List ℕ)} {T = Unit} c.in-Err-step.fault RamFault fault in
+pub returns-in_err-step-clause-ram_broke : goal.returns-in_err-step-clause-ram_broke
+returns-in_err-step-clause-ram_broke g c =
+    let p = err_from_is_err_and c.from_residual-in_err-step.result c.from_residual-in_err-step.ensures.1 in
+    rw (p.1, p.2) (λ fault left told f image same.
+    let s = c.in_err-step.ensures in
+    let e = fault_as {S = Option (List ℕ)} {T = Unit} c.in_err-step.field-0.0 RamFault fault in
     let more : c.loop-telling.board.hart.machine.steps < c.args.limit = omega (arith, c.loop-telling-test.true, c.steps.ensures) in
     let running : c.loop-telling.board.hart.machine.ending ≡ None = sym c.ending.ensures ∙ c.in-None.is in
     let goes = c.loop-telling.invariant.running.goes left told f image same in
@@ -166,38 +171,43 @@ returns-in-Err-step-clause-ram_broke g c = λ fault left told f image same.
     let line = line_is (is_each c.args.telling) c.loop-telling.board.hart.machine goes.now.machine at.0 at.1 ∙ ap (λ (q : FlatState). told_line (is_each c.args.telling) q.machine) here in
     let tells = tells_as c.loop-telling.board.hart.machine.ending None (is_each c.args.telling) c.args.limit (started f left) c.loop-telling.board.hart.machine.steps c.loop-telling.lines (g.E.Sink.held c.args.err.now) (g.E.Sink.held c.loop-telling.err) c.loop-telling.last running (c.loop-telling.invariant.tells left told f image same) in
     let begun = begins (is_each c.args.telling) c.args.limit (started f left) c.loop-telling.board.hart.machine.steps c.loop-telling.lines c.loop-telling.board.hart.machine (g.E.Sink.held c.args.err.now) (g.E.Sink.held c.loop-telling.err) (g.E.Sink.held c.tell.new.err) c.loop-telling.last c.tell.new.history
-    line (at.0 ∙ ap (λ (q : FlatState). q.machine.pc) here) tells c.in-Ok-tell.ensures.line c.in-Ok-tell.ensures.noted c.in-Ok-tell.ensures.told in
+    line (at.0 ∙ ap (λ (q : FlatState). q.machine.pc) here) tells c.in-Ok.ensures.line c.in-Ok.ensures.noted c.in-Ok.ensures.told in
     let steps = same_steps c.args.image.now (kept_by c.loop-telling.board.rom) goes.now.machine c.loop-telling.board.hart.machine c.loop-telling.board.hart.control goes.matches in
     let still = s.others_stay e in
     let counted : c.step.new.self.hart.machine.steps ≡ c.loop-telling.board.hart.machine.steps = ap (λ (k : HartData). k.machine.steps) s.stopped in
     let off = ram_off (fifo (setting_of c.args.board.now.rom)) c.args.image.now c.args.limit _ (started f left) c.args.board.now.hart c.loop-telling.board.hart c.step.new.self.hart (kept_by c.args.board.now.rom) (kept_by c.loop-telling.board.rom) (g.I.Source.left c.loop-telling.input) (g.O.Sink.held c.args.out.now) (g.O.Sink.held c.loop-telling.out)
-    (g.R.CacheRam.state c.args.ram.now) (g.R.CacheRam.state c.loop-telling.ram) (g.R.CacheRam.state c.step.new.ram) goes more running c.in-Ok-tell.ensures.word counted c.loop-telling.invariant.running.ram_ran.fetches (s.ram_failed e) c.requires.first in
+    (g.R.CacheRam.state c.args.ram.now) (g.R.CacheRam.state c.loop-telling.ram) (g.R.CacheRam.state c.step.new.ram) goes more running c.in-Ok.ensures.word counted c.loop-telling.invariant.running.ram_ran.fetches (s.ram_failed e) c.requires.first in
     let whole = told_ram (is_each c.args.telling) c.args.image.now c.args.limit (started f left) c.args.board.now.hart c.step.new.self.hart (g.R.CacheRam.state c.args.ram.now) (g.R.CacheRam.state c.step.new.ram) (g.I.Source.left c.loop-telling.input) (g.O.Sink.held c.args.out.now) (g.O.Sink.held c.loop-telling.out)
     (g.E.Sink.held c.args.err.now) (g.E.Sink.held c.tell.new.err) goes.now c.loop-telling.board.hart.machine.steps c.tell.new.history off c.requires.first counted here (ap (λ (q : FlatState). q.machine.ending) (sym here) ∙ sym steps.1 ∙ running) refl begun in
     subst (λ (x : Option (List ℕ)). ToldRamBroke (is_each c.args.telling) c.args.image.now c.args.limit (started f left) c.args.board.now.hart c.step.new.self.hart (g.R.CacheRam.state c.args.ram.now) (g.R.CacheRam.state c.step.new.ram) x (g.O.Sink.held c.args.out.now) (g.O.Sink.held c.step.new.out) (g.E.Sink.held c.args.err.now) (g.E.Sink.held c.step.new.err)) (sym still.0)
     (subst (λ (x : Option (List ℕ)). ToldRamBroke (is_each c.args.telling) c.args.image.now c.args.limit (started f left) c.args.board.now.hart c.step.new.self.hart (g.R.CacheRam.state c.args.ram.now) (g.R.CacheRam.state c.step.new.ram) (g.I.Source.left c.loop-telling.input) (g.O.Sink.held c.args.out.now) x (g.E.Sink.held c.args.err.now) (g.E.Sink.held c.step.new.err)) (sym still.1.0)
-    (subst (λ (x : Option (List ℕ)). ToldRamBroke (is_each c.args.telling) c.args.image.now c.args.limit (started f left) c.args.board.now.hart c.step.new.self.hart (g.R.CacheRam.state c.args.ram.now) (g.R.CacheRam.state c.step.new.ram) (g.I.Source.left c.loop-telling.input) (g.O.Sink.held c.args.out.now) (g.O.Sink.held c.loop-telling.out) (g.E.Sink.held c.args.err.now) x) (sym still.1.1) whole))
+    (subst (λ (x : Option (List ℕ)). ToldRamBroke (is_each c.args.telling) c.args.image.now c.args.limit (started f left) c.args.board.now.hart c.step.new.self.hart (g.R.CacheRam.state c.args.ram.now) (g.R.CacheRam.state c.step.new.ram) (g.I.Source.left c.loop-telling.input) (g.O.Sink.held c.args.out.now) (g.O.Sink.held c.loop-telling.out) (g.E.Sink.held c.args.err.now) x) (sym still.1.1) whole)))
 
 -- ---- nothing is told
 
-pub returns-in-Ok-clause-ran : goal.returns-in-Ok-clause-ran
-returns-in-Ok-clause-ran g c = λ left told f image same.
+pub returns-in_default-clause-ran : goal.returns-in_default-clause-ran
+returns-in_default-clause-ran g c = λ left told f image same.
     quiet_run c.args.telling (nothing_told c.args.telling (sym c.in_default.is ∙ c.requires.empty)) c.args.image.now c.args.limit (started f left) c.args.board.now.hart c.run.new.self.hart (g.I.Source.left c.run.new.input) (g.O.Sink.held c.args.out.now) (g.O.Sink.held c.run.new.out) (g.E.Sink.held c.args.err.now) (g.E.Sink.held c.run.new.err) c.requires.first
-    (fifo (setting_of c.args.board.now.rom)) (kept_by c.args.board.now.rom) (kept_by c.run.new.self.rom) (c.in-Ok.ensures.ran left told f image same)
+    (fifo (setting_of c.args.board.now.rom)) (kept_by c.args.board.now.rom) (kept_by c.run.new.self.rom) (c.in_ok-run.ensures.ran left told f image same)
 
-pub returns-in-Ok-clause-causes : goal.returns-in-Ok-clause-causes
-returns-in-Ok-clause-causes g c = causes_none _ _ _ c.in-Ok.ensures.causes.quiet
+pub returns-in_default-clause-causes : goal.returns-in_default-clause-causes
+returns-in_default-clause-causes g c = causes_none _ _ _ c.in_ok-run.ensures.causes.quiet
 
-pub returns-in-Err-clause-broke : goal.returns-in-Err-clause-broke
-returns-in-Err-clause-broke g c =
-    with_device Unit (Option (List ℕ)) c.in-Err.fault _ _ c.in-Err.ensures.broke (λ broke out. λ left told f image same.
+pub returns-in_err-run-clause-broke : goal.returns-in_err-run-clause-broke
+returns-in_err-run-clause-broke g c =
+    let p = err_from_is_err_and c.from_residual.result c.from_residual.ensures.1 in
+    rw (p.1, p.2) (with_device Unit (Option (List ℕ)) c.in_err-run.field-0.0 _ _ c.in_err-run.ensures.broke (λ broke out. λ left told f image same.
     quiet_broke c.args.telling (nothing_told c.args.telling (sym c.in_default.is ∙ c.requires.empty)) c.args.image.now c.args.limit (started f left) c.args.board.now.hart c.run.new.self.hart (g.I.Source.left c.run.new.input) (g.O.Sink.held c.args.out.now) (g.O.Sink.held c.run.new.out) (g.E.Sink.held c.args.err.now) (g.E.Sink.held c.run.new.err) c.requires.first
-    {S = Unit} {T = Option (List ℕ)} c.in-Err.fault (broke left told f image same))
+    {S = Unit} {T = Option (List ℕ)} c.in_err-run.field-0.0 (broke left told f image same)))
 
-pub returns-in-Err-clause-ram_broke : goal.returns-in-Err-clause-ram_broke
-returns-in-Err-clause-ram_broke g c = λ fault left told f image same.
+pub returns-in_err-run-clause-ram_broke : goal.returns-in_err-run-clause-ram_broke
+returns-in_err-run-clause-ram_broke g c =
+    let p = err_from_is_err_and c.from_residual.result c.from_residual.ensures.1 in
+    rw (p.1, p.2) (λ fault left told f image same.
     quiet_ram c.args.telling (nothing_told c.args.telling (sym c.in_default.is ∙ c.requires.empty)) c.args.image.now c.args.limit (started f left) c.args.board.now.hart c.run.new.self.hart (g.I.Source.left c.run.new.input) (g.O.Sink.held c.args.out.now) (g.O.Sink.held c.run.new.out) (g.E.Sink.held c.args.err.now) (g.E.Sink.held c.run.new.err) c.requires.first
-    (g.R.CacheRam.state c.args.ram.now) (g.R.CacheRam.state c.run.new.ram) (c.in-Err.ensures.ram_broke (fault_as {S = Option (List ℕ)} {T = Unit} c.in-Err.fault RamFault fault) left told f image same)
+    (g.R.CacheRam.state c.args.ram.now) (g.R.CacheRam.state c.run.new.ram) (c.in_err-run.ensures.ram_broke (fault_as {S = Option (List ℕ)} {T = Unit} c.in_err-run.field-0.0 RamFault fault) left told f image same))
 
-pub returns-in-Err-clause-causes : goal.returns-in-Err-clause-causes
-returns-in-Err-clause-causes g c = causes_as {S = Unit} {T = Option (List ℕ)} c.in-Err.fault _ _ c.in-Err.ensures.causes
+pub returns-in_err-run-clause-causes : goal.returns-in_err-run-clause-causes
+returns-in_err-run-clause-causes g c =
+    let p = err_from_is_err_and c.from_residual.result c.from_residual.ensures.1 in
+    rw (p.1, p.2) (causes_as {S = Unit} {T = Option (List ℕ)} c.in_err-run.field-0.0 _ _ c.in_err-run.ensures.causes)
