@@ -199,10 +199,7 @@ pub fn run_cached<I: Source, O: Sink, E: Sink, R: CacheRam>(
     let Ok(history) = first_history(alloc, telling) else {
         return Err(CachedStop::Memory);
     };
-    let mut board = match boot(alloc, image, program, layout, cache_bytes, log, ram) {
-        Ok(board) => board,
-        Err(stop) => return Err(stop),
-    };
+    let mut board = boot(alloc, image, program, layout, cache_bytes, log, ram)?;
     match run_steps(
         &mut board, image, limit, telling, history, input, out, err, ram,
     ) {
