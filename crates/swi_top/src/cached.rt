@@ -207,10 +207,7 @@ fn run_file<I: Source, O: Sink, E: Sink, R: CacheRam>(
             alloc, &view, &prepared, cache, options, input, out, err, ram,
         );
     };
-    let view = match own_image(&prepared.program, bytes) {
-        Ok(view) => view,
-        Err(refusal) => return Err(refusal),
-    };
+    let view = own_image(&prepared.program, bytes)?;
     run_program(
         alloc, &view, &prepared, cache, options, input, out, err, ram,
     )

@@ -57,10 +57,7 @@ pub(crate) fn check<F: Shelf, O: Sink>(
         }) result [] }
 {
     let file = read_file(alloc, shelf, name)?;
-    let view = match confirmed(alloc, &file) {
-        Ok(view) => view,
-        Err(refusal) => return Err(refusal),
-    };
+    let view = confirmed(alloc, &file)?;
     match out.write(image_line(view.blocks(), view.block_words()).as_bytes()) {
         Ok(()) => Ok(Ending::Done),
         Err(_) => Err(Refusal::SinkFault),

@@ -69,10 +69,7 @@ fn list_file<O: Sink>(
         let image = cut_image(alloc, &program, block_words)?;
         return list_blocks(&program, &image.view(), out);
     };
-    let view = match own_image(&program, bytes) {
-        Ok(view) => view,
-        Err(refusal) => return Err(refusal),
-    };
+    let view = own_image(&program, bytes)?;
     list_blocks(&program, &view, out)
 }
 

@@ -83,10 +83,7 @@ fn upgraded(alloc: Global, file: &[u8]) -> Result<Vec<u8>, Refusal>
     let Some(bytes) = image_bytes(&elf) else {
         return Err(Refusal::NoImage);
     };
-    let view = match own_image(&program, bytes) {
-        Ok(view) => view,
-        Err(refusal) => return Err(refusal),
-    };
+    let view = own_image(&program, bytes)?;
     match upgrade_image(alloc, &program, &view) {
         Ok(image) => file_with(alloc, &program, &image),
         Err(_) => Err(Refusal::Memory),

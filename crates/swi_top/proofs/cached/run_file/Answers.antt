@@ -46,19 +46,20 @@ own_image-requires g c =
     let short : length c.in-Some.bytes.now ≤ length c.args.file.now = image_short c.args.file.now c.in-Some.bytes.now has in
     record { within = omega (arith, c.requires.within) }
 
-pub returns-in-Err-own_image : goal.returns-in-Err-own_image
-returns-in-Err-own_image g c =
+pub returns-in_err-view : goal.returns-in_err-view
+returns-in_err-view g c =
+    let p = err_from_is_err_and c.from_residual-in_err-view.result c.from_residual-in_err-view.ensures.1 in
     let prepared = rw c.in-Ok.ensures.accepted at c.in_ok-prepared.ensures.prepared in
     let has = sym (c.in-Some.ensures.value ∙ ap (λ (x : List ℕ). image_of x) c.in-Ok.ensures.accepted) in
-    let fails = subst (λ (p : ProgramData). ImageFails (text_of p.segments) c.in-Some.bytes.now c.in-Err-own_image.refusal) prepared.program c.in-Err-own_image.ensures.refused in
-    λ d. image_refused c.args.cache.now c.args.options.now c.args.file.now c.in-Some.bytes.now c.in_ok-prepared.prepared.layout _ c.in-Err-own_image.refusal c.requires.within c.in-Ok.ensures.ok prepared.layout has fails
+    let fails = subst (λ (p : ProgramData). ImageFails (text_of p.segments) c.in-Some.bytes.now c.in_err-view.field-0.0) prepared.program c.in_err-view.ensures.refused in
+    rw (p.1, p.2) (λ d. image_refused c.args.cache.now c.args.options.now c.args.file.now c.in-Some.bytes.now c.in_ok-prepared.prepared.layout _ c.in_err-view.field-0.0 c.requires.within c.in-Ok.ensures.ok prepared.layout has fails)
 
 pub returns : goal.returns
 returns g c =
     let prepared = rw c.in-Ok.ensures.accepted at c.in_ok-prepared.ensures.prepared in
     let has = sym (c.in-Some.ensures.value ∙ ap (λ (x : List ℕ). image_of x) c.in-Ok.ensures.accepted) in
-    let passes = subst (λ (p : ProgramData). ImagePasses (text_of p.segments) c.in-Some.bytes.now) prepared.program c.in-Ok-own_image.ensures.passes in
-    let v = c.in-Ok-own_image.view in
+    let passes = subst (λ (p : ProgramData). ImagePasses (text_of p.segments) c.in-Some.bytes.now) prepared.program c.in_ok-view.ensures.passes in
+    let v = c.in_ok-view.view in
     λ d.
     let before : Devices = record d {
       input = g.I.Source.left c.args.input.now;
@@ -70,5 +71,5 @@ returns g c =
     let after : Devices = ran_all before (g.I.Source.left c.run_program-2.new.input) (g.O.Sink.held c.run_program-2.new.out) (g.E.Sink.held c.run_program-2.new.err) (g.R.CacheRam.state c.run_program-2.new.ram)
     (g.I.Source.faults c.run_program-2.new.input) (g.O.Sink.faults c.run_program-2.new.out) (g.E.Sink.faults c.run_program-2.new.err) in
     by_image c.args.cache.now c.args.options.now c.args.file.now c.in-Some.bytes.now v c.in_ok-prepared.prepared.layout before after c.run_program-2.result c.requires.within c.in-Ok.ensures.ok prepared.layout has passes
-    c.in-Ok-own_image.ensures.view
+    c.in_ok-view.ensures.view
     (subst (λ (p : ProgramData). RunsOnCache c.args.options.now c.args.cache.now v p c.in_ok-prepared.prepared.layout before after c.run_program-2.result) prepared.program (c.run_program-2.ensures before))
