@@ -167,16 +167,12 @@ pub(crate) fn call_word<I: Source, O: Sink, E: Sink>(
     ensures goes { OnOk result (CalledAt at.0 at.1 at.2 at.3 hart.old hart.new) }
     ensures moved { Moved hart.old.machine hart.new.machine.bus (I.left input.old) (I.left input.new) }
 {
-    match hart.machine.call_step(input, out, err) {
-        Ok(_) => {
-            if hart.machine.ending.is_none() {
-                hart.control.advance(at, 1, Stage::Start);
-            }
-            hart.count += 1;
-            Ok(())
-        }
-        Err(fault) => Err(fault),
+    hart.machine.call_step(input, out, err)?;
+    if hart.machine.ending.is_none() {
+        hart.control.advance(at, 1, Stage::Start);
     }
+    hart.count += 1;
+    Ok(())
 }
 
 /// A step at a word that is no exit.
