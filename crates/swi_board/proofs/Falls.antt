@@ -19,7 +19,7 @@ use Rattle.swi_exec.specs.Arithmetic.{sum_of}
 use Rattle.swi_exec.specs.Execute.{address_of}
 use Rattle.swi_calls.specs.Flat.{quiet}
 use Rattle.swi_board.specs.declared.block.Walk.{Walk}
-use Rattle.swi_board.specs.Walked.{walk_machine, walk_pc, walk_steps, landed}
+use Rattle.swi_board.specs.Walked.{walk_machine, walk_pc, walk_steps, landed, HasRoom}
 use Rattle.swi_board.specs.Hart.{Stepped, is_fall, is_place, left_made}
 use Rattle.swi_board.specs.Board.{Arrives, Jumps, JumpsBy}
 use Rattle.swi_board.specs.Leaving.{ExitHome, PlacedAt, LeaveAt, RamServed, fell, is_back}
@@ -50,16 +50,15 @@ landed_small v r span words t i b o stage coherent image low at =
     omega (arith, end, inside.1, low)
 
 -- what a link that is gone over leaves of a machine; one that only leads on goes to the pc
-pub over_link : (fall : Bool) (m : Machine) (w : Walk) (index block offset t : ℕ) (input : List ℕ) → (fall ≡ true → t ≡ walk_pc w) → t < 2 ^ 32 →
+pub over_link : (fall : Bool) (m : Machine) (w : Walk) (index block offset t : ℕ) (input : List ℕ) → HasRoom w → (fall ≡ true → t ≡ walk_pc w) → t < 2 ^ 32 →
     quiet (walk_machine (landed index block offset t (if fall then 0 else 1) w) m) input ≡ left_made fall (walk_machine w m) t input
-over_link true m w index block offset t input here low =
-    let none : index - index ≡ 0 = omega arith in
-    let pc : sum_of t (4 * (index - index)) ≡ walk_pc w = omega (arith, here refl) in
-    let steps : walk_steps w + 0 + (index - index) ≡ walk_steps w = omega arith in
+over_link true m w index block offset t input room here low =
+    let steps : walk_steps (landed index block offset t 0 w) ≡ walk_steps w = omega (arith, room.below, room.made) in
+    let pc : walk_pc (landed index block offset t 0 w) ≡ walk_pc w = omega (arith, here refl, steps) in
     ap (λ (k : Machine). quiet k input) (rw (pc, steps) refl)
-over_link false m w index block offset t input here low =
-    let pc : sum_of t (4 * (index - index)) ≡ t = omega arith in
-    let steps : walk_steps w + 1 + (index - index) ≡ walk_steps w + 1 = omega arith in
+over_link false m w index block offset t input room here low =
+    let steps : walk_steps (landed index block offset t 1 w) ≡ walk_steps w + 1 = omega (arith, room.below, room.made) in
+    let pc : walk_pc (landed index block offset t 1 w) ≡ t = omega (arith, steps) in
     ap (λ (k : Machine). quiet k input) (rw (pc, steps) refl)
 
 -- an exit that only leads on goes to the pc

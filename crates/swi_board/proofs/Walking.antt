@@ -23,49 +23,53 @@ use Rattle.swi_board.specs.declared.block.Next.TheVariants as next
 use Rattle.swi_board.specs.declared.block.Walk.{Walk}
 use Rattle.swi_board.specs.Hart.{HartData, stepped, word_stepped, instruction, is_fall}
 use Rattle.swi_board.specs.Leaving.{ExitHome, leaves, quick_role}
-use Rattle.swi_board.specs.Walked.{is_stop, role_by, went, gone, landed, walk_offset, walk_pc, walk_steps, walk_count, walk_control, walk_machine, HasRoom, WalksTo, WordOn, StepOn, WalkedOn, Walked, StandsInside}
-
-next_pc : (w : Walk) → w.from ≤ w.index → sum_of (walk_pc w) 4 ≡ sum_of w.pc (4 * (w.index + 1 - w.from))
-next_pc w le = omega arith
+use Rattle.swi_board.specs.Walked.{is_stop, role_by, went, gone, landed, walk_offset, walk_pc, walk_steps, walk_made, walk_count, walk_control, walk_machine, HasRoom, WalksTo, WordOn, StepOn, WalkedOn, Walked, StandsInside}
 
 lagging : (w : Walk) (m : Machine) (input : List ℕ) (stage : Stage) → w.from ≤ w.index →
     stepped (At (w.index + 1) w.block (walk_offset w + 1) stage) (quiet (walk_machine w m) input)
     ≡ stepped (walk_control (gone (next.Lead stage) w)) (quiet (walk_machine (gone (next.Lead stage) w) m) input)
 lagging w m input stage le =
-    let words : w.index + 1 - (w.from + 1) ≡ w.index - w.from = omega arith in
+    let left : w.end + 1 - (w.index + 1) ≡ w.end - w.index = omega arith in
     let off : walk_offset w + 1 ≡ walk_offset (gone (next.Lead stage) w) = omega arith in
-    rw (off, words) refl
+    rw (off, left) refl
 
-moves_to : (n : Next) (w : Walk) (m : Machine) (input : List ℕ) → is_stop n ≡ false → w.from ≤ w.index →
+-- a step to the next word, which makes an instruction
+made_on : (w : Walk) → w.index < w.end → w.steps + (w.end - w.index) ≤ w.limit → walk_made (gone next.On w) ≡ walk_made w + 1
+made_on w more made = omega (arith, more, made)
+
+next_pc : (w : Walk) → w.index < w.end → w.steps + (w.end - w.index) ≤ w.limit → sum_of (walk_pc w) 4 ≡ walk_pc (gone next.On w)
+next_pc w more made = let one = made_on w more made in omega (arith, one)
+
+next_steps : (w : Walk) → w.index < w.end → w.steps + (w.end - w.index) ≤ w.limit → walk_steps w + 1 ≡ walk_steps (gone next.On w)
+next_steps w more made = omega (arith, more, made)
+
+moves_to : (n : Next) (w : Walk) (m : Machine) (input : List ℕ) → is_stop n ≡ false → w.from ≤ w.index → w.index < w.end → w.steps + (w.end - w.index) ≤ w.limit →
     went n w.index w.block (walk_offset w) (walk_machine w m) input ≡ stepped (walk_control (gone n w)) (quiet (walk_machine (gone n w) m) input)
-moves_to next.On w m input goes le =
-    let words : w.index + 1 - w.from ≡ w.index - w.from + 1 = omega arith in
+moves_to next.On w m input goes le more made =
     let off : walk_offset w + 1 ≡ walk_offset (gone next.On w) = omega arith in
-    let steps : walk_steps w + 1 ≡ walk_steps (gone next.On w) = omega arith in
-    rw (next_pc w le, off, steps) refl
-moves_to next.Over w m input goes le =
-    let words : w.index + 3 - (w.from + 2) ≡ w.index + 1 - w.from = omega arith in
+    rw (next_pc w more made, off, next_steps w more made) refl
+moves_to next.Over w m input goes le more made =
+    let left : w.end + 2 - (w.index + 3) ≡ w.end - (w.index + 1) = omega arith in
     let off : walk_offset w + 3 ≡ walk_offset (gone next.Over w) = omega arith in
-    let steps : walk_steps w + 1 ≡ walk_steps (gone next.Over w) = omega arith in
-    rw (next_pc w le, off, steps, words) refl
-moves_to (next.Lead stage) w m input goes le = lagging w m input stage le
-moves_to next.Exit w m input goes le = lagging w m input Leave le
-moves_to next.Stop w m input goes le = absurd (cc)
+    rw (next_pc w more made, off, next_steps w more made, left) refl
+moves_to (next.Lead stage) w m input goes le more made = lagging w m input stage le
+moves_to next.Exit w m input goes le more made = lagging w m input Leave le
+moves_to next.Stop w m input goes le more made = absurd (cc)
 
 -- the walk behind a word is one to the same limit, and has made a machine instruction more
 pub gone_within : (n : Next) (w : Walk) (limit : ℕ) → w.index < w.end → WalksTo limit w → WalksTo limit (gone n w)
-gone_within next.On w limit more t = record { ahead = omega (arith, t.ahead); below = omega arith; limited = t.limited }
-gone_within next.Over w limit more t = record { ahead = omega (arith, t.ahead); below = omega arith; limited = omega (arith, t.limited) }
-gone_within (next.Lead stage) w limit more t = record { ahead = omega (arith, t.ahead); below = omega arith; limited = omega (arith, t.limited) }
-gone_within next.Exit w limit more t = record { ahead = omega (arith, t.ahead); below = omega arith; limited = omega (arith, t.limited) }
+gone_within next.On w limit more t = record { ahead = omega (arith, t.ahead); below = omega arith; made = omega (arith, t.made); limited = t.limited }
+gone_within next.Over w limit more t = record { ahead = omega (arith, t.ahead); below = omega arith; made = omega (arith, t.made); limited = t.limited }
+gone_within (next.Lead stage) w limit more t = record { ahead = omega (arith, t.ahead); below = omega arith; made = omega (arith, t.made); limited = t.limited }
+gone_within next.Exit w limit more t = record { ahead = omega (arith, t.ahead); below = omega arith; made = omega (arith, t.made); limited = t.limited }
 gone_within next.Stop w limit more t = t
 
-pub gone_counted : (n : Next) (w : Walk) → is_stop n ≡ false → w.from ≤ w.index → walk_count (gone n w) ≡ walk_count w + 1
-gone_counted next.On w goes le = omega arith
-gone_counted next.Over w goes le = omega arith
-gone_counted (next.Lead stage) w goes le = omega arith
-gone_counted next.Exit w goes le = omega arith
-gone_counted next.Stop w goes le = absurd (cc)
+pub gone_counted : (n : Next) (w : Walk) → is_stop n ≡ false → w.index < w.end → w.steps + (w.end - w.index) ≤ w.limit → walk_count (gone n w) ≡ walk_count w + 1
+gone_counted next.On w goes more made = omega (arith, more, made)
+gone_counted next.Over w goes more made = omega (arith, more, made)
+gone_counted (next.Lead stage) w goes more made = omega (arith, more, made)
+gone_counted next.Exit w goes more made = omega (arith, more, made)
+gone_counted next.Stop w goes more made = absurd (cc)
 
 pub gone_near : (n : Next) (w : Walk) → w.from ≤ w.index → walk_offset (gone n w) ≤ walk_offset w + 3
 gone_near next.On w le = omega arith
@@ -76,40 +80,41 @@ gone_near next.Stop w le = omega arith
 
 -- and so is the walk behind a link
 pub landed_within : (index block offset pc steps : ℕ) (w : Walk) (limit : ℕ) → steps ≤ 1 → w.index < w.end → WalksTo limit w → WalksTo limit (landed index block offset pc steps w)
-landed_within index block offset pc steps w limit few more t = record { ahead = omega arith; below = omega arith; limited = omega (arith, t.limited, t.ahead) }
+landed_within index block offset pc steps w limit few more t = record { ahead = omega arith; below = omega arith; made = omega (arith, t.made); limited = t.limited }
 
 pub walked_short : (w : Walk) → walk_pc w < 2 ^ 32
 walked_short w = omega arith
 
 -- a walk that has not come to its end
 pub steps_left : (limit : ℕ) (w : Walk) → WalksTo limit w → w.index < w.end → walk_steps w < limit
-steps_left limit w t more = omega (arith, t.limited, t.ahead)
+steps_left limit w t more = omega (arith, t.limited, t.made)
 
 pub has_room : (v : ImageData) (r : Record) (ram : RamState) (h : HartData) (limit : ℕ) (w : Walk) → WalksTo limit w → limit ≤ 2 ^ 48 → w.index < w.end → h.count ≡ walk_count w →
     StandsInside v r ram h w.index w.block (walk_offset w) w.stage → HasRoom w
 has_room v r ram h limit w t few more count s = record {
   ahead = t.ahead;
   below = more;
-  end = omega (arith, t.limited, t.ahead, s.index);
+  made = t.made;
+  end = omega (arith, t.limited, t.made, s.index);
   index = s.index;
   offset = s.offset;
-  steps = omega (arith, steps_left limit w t more);
+  limit = omega (arith, t.limited);
   count = omega (arith, count, s.count);
 }
 
 -- one that has
 pub steps_made : (limit : ℕ) (w : Walk) → WalksTo limit w → w.end ≤ w.index → walk_steps w ≡ limit
-steps_made limit w t all = omega (arith, t.limited, t.ahead, t.below)
+steps_made limit w t all = omega (arith, t.limited, t.below)
 
 -- a word that was executed
-pub word_on : (n : Next) (w : Walk) (m : Machine) (regs : Registers) (bus : List AreaData) (x : Instr) → is_stop n ≡ false → w.from ≤ w.index → m.ending ≡ None → leaves x ≡ false →
+pub word_on : (n : Next) (w : Walk) (m : Machine) (regs : Registers) (bus : List AreaData) (x : Instr) → is_stop n ≡ false → HasRoom w → m.ending ≡ None → leaves x ≡ false →
     quick_role w.stage x (instruction (fetched m.bus (walk_pc w))) ≡ role_by n →
     ((k : Machine) (b o : ℕ) (input : List ℕ) → k.ending ≡ None → word_stepped (role_by n) w.index b o w.stage (record k { regs = m.regs; bus = m.bus }) x input ≡ went n w.index b o (record k { regs = regs; bus = bus }) input) →
     WordOn (walk_machine w m) (walk_machine (gone n w) (record m { regs = regs; bus = bus })) (walk_control (gone n w)) x w.index w.block (walk_offset w) w.stage
-word_on n w m regs bus x goes ahead going stays role steps = record {
+word_on n w m regs bus x goes room going stays role steps = record {
   stays = stays;
   step = λ input. ap (λ k. word_stepped k w.index w.block (walk_offset w) w.stage (walk_machine w m) x input) role ∙ steps (walk_machine w m) w.block (walk_offset w) input going
-      ∙ moves_to n w (record m { regs = regs; bus = bus }) input goes ahead;
+      ∙ moves_to n w (record m { regs = regs; bus = bus }) input goes room.ahead room.below room.made;
 }
 
 -- a JAL is no EBREAK

@@ -48,18 +48,23 @@ went (next.Lead stage) i b o m input = stepped (At (i + 1) b (o + 1) stage) (qui
 went next.Exit i b o m input = stepped (At (i + 1) b (o + 1) Leave) (quiet m input)
 went next.Stop i b o m input = stepped (At i b o Start) (quiet m input)
 
--- where a walk has come: since the index `from` each word was an instruction
+-- where a walk has come
 abbrev pub walk_offset : Walk → ℕ
 walk_offset w = w.offset + (w.index - w.from)
 
-abbrev pub walk_pc : Walk → ℕ
-walk_pc w = sum_of w.pc (4 * (w.index - w.from))
-
+-- the steps that are left, one for each word up to `end`, are those up to the limit
 abbrev pub walk_steps : Walk → ℕ
-walk_steps w = w.steps + (w.index - w.from)
+walk_steps w = w.limit - (w.end - w.index)
+
+-- the instructions since the walk began or last came over a link
+abbrev pub walk_made : Walk → ℕ
+walk_made w = walk_steps w - w.steps
+
+abbrev pub walk_pc : Walk → ℕ
+walk_pc w = sum_of w.pc (4 * walk_made w)
 
 abbrev pub walk_count : Walk → ℕ
-walk_count w = w.count + (w.index - w.from)
+walk_count w = w.count + walk_made w
 
 -- control there, and the machine, of which the walk has pc and steps
 abbrev pub walk_control : Walk → Control
@@ -68,31 +73,30 @@ walk_control w = At w.index w.block (walk_offset w) w.stage
 abbrev pub walk_machine : Walk → Machine → Machine
 walk_machine w m = record m { pc = walk_pc w; steps = walk_steps w }
 
--- a walk to at most so many steps, which are made where its index is `end`
+-- a walk to at most so many steps
 pub record WalksTo (limit : ℕ) (w : Walk) : Type 0 where
   pub ahead : w.from ≤ w.index
   pub below : w.index ≤ w.end
-  pub limited : w.end + w.steps ≡ w.from + limit
+  pub made : w.steps + (w.end - w.index) ≤ w.limit
+  pub limited : w.limit ≡ limit
 
 -- a walk that can go on
 pub record HasRoom (w : Walk) : Type 0 where
   pub ahead : w.from ≤ w.index
   pub below : w.index < w.end
+  pub made : w.steps + (w.end - w.index) ≤ w.limit
   pub end : w.end < 2 ^ 50
   pub index : w.index < 2 ^ 22
   pub offset : walk_offset w < 2 ^ 22
-  pub steps : walk_steps w < 2 ^ 48
+  pub limit : w.limit ≤ 2 ^ 48
   pub count : walk_count w < 2 ^ 56
 
--- the walk behind a word; k words more behind it are no instruction
-abbrev pub lagged : ℕ → Walk → Walk
-lagged k w = record w { from = w.from + k; offset = w.offset + k; end = w.end + k }
-
+-- the walk behind a word: words behind it that are no instruction move its end
 abbrev pub gone : Next → Walk → Walk
 gone next.On w = record w { index = w.index + 1; stage = Start }
-gone next.Over w = lagged 2 (record w { index = w.index + 3; stage = Start })
-gone (next.Lead stage) w = lagged 1 (record w { index = w.index + 1; stage = stage; count = w.count + 1 })
-gone next.Exit w = lagged 1 (record w { index = w.index + 1; stage = Leave; count = w.count + 1 })
+gone next.Over w = record w { index = w.index + 3; stage = Start; end = w.end + 2 }
+gone (next.Lead stage) w = record w { index = w.index + 1; stage = stage; end = w.end + 1; count = w.count + 1 }
+gone next.Exit w = record w { index = w.index + 1; stage = Leave; end = w.end + 1; count = w.count + 1 }
 gone next.Stop w = w
 
 -- the walk behind a link to a place, which makes so many steps
@@ -101,6 +105,7 @@ landed index block offset pc steps w = record {
   index = index;
   stage = Start;
   end = index + (w.end - w.index) - steps;
+  limit = w.limit;
   from = index;
   block = block;
   offset = offset;

@@ -14,7 +14,7 @@ ghost use Rattle.swi_board.specs.Hart.{HartData, instruction, stepped, word_step
 ghost use Rattle.swi_board.specs.Board.{ExitStep};
 ghost use Rattle.swi_board.specs.Leaving.{Home, ExitHome, PlacedAt, immediate_quick, leaves, offset_of, quick_role};
 ghost use Rattle.swi_board.specs.Runs.{most};
-ghost use Rattle.swi_board.specs.Walked.{is_stop, role_by, went, gone, lagged, landed, walk_offset, walk_pc, walk_steps, walk_count, walk_control, walk_machine, HasRoom, WalksTo, StepOn, Walked, WalkedOn, StandsInside, BlockRan};
+ghost use Rattle.swi_board.specs.Walked.{is_stop, role_by, went, gone, landed, walk_offset, walk_pc, walk_steps, walk_made, walk_count, walk_control, walk_machine, HasRoom, WalksTo, StepOn, Walked, WalkedOn, StandsInside, BlockRan};
 
 use crate::exit::{control_at, fell, jump_index};
 use crate::hart::{Control, ExitKind, Hart, Role, Stage};
@@ -42,72 +42,75 @@ pub enum Next {
     Stop,
 }
 
-/// Where steps have come: the word under control with its stage, and what stood at the index `from`, since which each
-/// word was an instruction: so a step to the next word changes the index alone. At `end` the limit of steps is reached.
+/// Where steps have come: the word under control with its stage, and the index `end` at which the limit of steps would be
+/// reached if each word from here on were an instruction. The other numbers are of the word at which the walk began or
+/// last came over a link: so a step to the next word changes the index alone.
 #[derive(Clone, Copy, Debug, PartialEq, Eq)]
 pub struct Walk {
     pub index: u32,
     pub stage: Stage,
     pub end: u64,
+    pub limit: u64,
     pub from: u32,
     pub block: u32,
     pub offset: u32,
     pub pc: u32,
     pub steps: u64,
+    // With each word since then that was no instruction.
     pub count: u64,
 }
 
 impl Walk {
-    /// How many words lie behind.
+    /// The offset in the block.
     #[inline(always)]
-    fn words(&self) -> u32
-        requires { self.now.from ≤ self.now.index }
-        ensures { result ≡ self.now.index - self.now.from }
+    fn offset(&self) -> u32
+        requires ahead { self.now.from ≤ self.now.index }
+        requires small { walk_offset self.now < 2 ^ 32 }
+        ensures { result ≡ walk_offset self.now }
     {
-        self.index - self.from
-    }
-
-    /// The original address.
-    #[inline(always)]
-    fn pc(&self) -> u32
-        requires { self.now.from ≤ self.now.index }
-        ensures { result ≡ walk_pc self.now }
-    {
-        self.pc.wrapping_add(self.words().wrapping_mul(4))
+        self.offset + (self.index - self.from)
     }
 
     /// The steps made.
     #[inline(always)]
     fn steps(&self) -> u64
-        requires ahead { self.now.from ≤ self.now.index }
-        requires few { walk_steps self.now < 2 ^ 64 }
+        requires ahead { self.now.index ≤ self.now.end }
+        requires limited { self.now.end - self.now.index ≤ self.now.limit }
         ensures { result ≡ walk_steps self.now }
     {
-        self.steps + u64::from(self.words())
+        self.limit - (self.end - u64::from(self.index))
+    }
+
+    /// The instructions since the walk began or last came over a link.
+    #[inline(always)]
+    fn made(&self) -> u64
+        requires ahead { self.now.index ≤ self.now.end }
+        requires limited { self.now.steps + (self.now.end - self.now.index) ≤ self.now.limit }
+        ensures { result ≡ walk_made self.now }
+    {
+        self.steps() - self.steps
+    }
+
+    /// The original address.
+    #[inline(always)]
+    fn pc(&self) -> u32
+        requires ahead { self.now.index ≤ self.now.end }
+        requires limited { self.now.steps + (self.now.end - self.now.index) ≤ self.now.limit }
+        requires few { self.now.limit ≤ 2 ^ 48 }
+        ensures { result ≡ walk_pc self.now }
+    {
+        ((u64::from(self.pc) + 4 * self.made()) % (1 << 32)) as u32
     }
 
     /// The machine instructions made.
     #[inline(always)]
     fn count(&self) -> u64
-        requires ahead { self.now.from ≤ self.now.index }
+        requires ahead { self.now.index ≤ self.now.end }
+        requires limited { self.now.steps + (self.now.end - self.now.index) ≤ self.now.limit }
         requires few { walk_count self.now < 2 ^ 64 }
         ensures { result ≡ walk_count self.now }
     {
-        self.count + u64::from(self.words())
-    }
-
-    /// So many of the words behind were no instruction.
-    #[inline(always)]
-    fn lag(&mut self, words: u32)
-        requires few { words ≤ 2 }
-        requires index { self.old.from < 2 ^ 23 }
-        requires offset { self.old.offset < 2 ^ 23 }
-        requires end { self.old.end < 2 ^ 50 }
-        ensures { self.new ≡ lagged words self.old }
-    {
-        self.from += words;
-        self.offset += words;
-        self.end += u64::from(words);
+        self.count + self.made()
     }
 
     /// Goes on behind a word.
@@ -124,19 +127,19 @@ impl Walk {
             Next::Over => {
                 self.index += 3;
                 self.stage = Stage::Start;
-                self.lag(2);
+                self.end += 2;
             }
             Next::Lead(stage) => {
                 self.index += 1;
                 self.stage = stage;
+                self.end += 1;
                 self.count += 1;
-                self.lag(1);
             }
             Next::Exit => {
                 self.index += 1;
                 self.stage = Stage::Leave;
+                self.end += 1;
                 self.count += 1;
-                self.lag(1);
             }
             Next::Stop => {}
         }
@@ -153,6 +156,7 @@ impl Walk {
             index,
             stage: Stage::Start,
             end: u64::from(index) + (self.end - u64::from(self.index)) - steps,
+            limit: self.limit,
             from: index,
             block,
             offset,
@@ -299,7 +303,7 @@ fn follow<R: CacheRom, M: CacheRam>(
     ensures limited { result ≡ true → (n : ℕ) → WalksTo n walk.old → WalksTo n walk.new }
     ensures same { result ≡ false → walk.new ≡ walk.old }
 {
-    let offset = walk.offset + walk.words();
+    let offset = walk.offset();
     let target = image.word(walk.block, offset + 1);
     if target % 4 != 0 {
         return false;
@@ -406,6 +410,7 @@ pub(crate) fn run_block<R: CacheRom, M: CacheRam>(
         index: at.0,
         stage: at.3,
         end: u64::from(at.0) + (limit - hart.machine.steps),
+        limit,
         from: at.0,
         block: at.1,
         offset: at.2,
@@ -433,7 +438,7 @@ pub(crate) fn run_block<R: CacheRom, M: CacheRam>(
     hart.control.go(Control::At(
         walk.index,
         walk.block,
-        walk.offset + walk.words(),
+        walk.offset(),
         walk.stage,
     ));
     hart.machine.pc = walk.pc();

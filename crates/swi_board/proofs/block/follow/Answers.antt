@@ -46,5 +46,5 @@ returns-clause-step g c = λ is m input.
       ap (λ (k : Walk). quiet (walk_machine k m) input) c.land.ensures
           ∙ ap (λ n. quiet (walk_machine (landed c.in-At.index c.in-At.block c.in-At.place n (if c.fell-leads_on.result then 0 else 1) w) m) input) t
           ∙ ap (λ (q : Bool). quiet (walk_machine (landed c.in-At.index c.in-At.block c.in-At.place target (if q then 0 else 1) w) m) input) falls
-          ∙ over_link (is_fall v (walk_machine w m) w.block (walk_offset w) w.stage) m w c.in-At.index c.in-At.block c.in-At.place target input here (omega (arith, word, t)),
+          ∙ over_link (is_fall v (walk_machine w m) w.block (walk_offset w) w.stage) m w c.in-At.index c.in-At.block c.in-At.place target input c.requires.room here (omega (arith, word, t)),
     )

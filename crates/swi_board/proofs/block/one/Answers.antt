@@ -54,12 +54,12 @@ returns-else-is_stop g c =
     let goes : is_stop c.execute-next.result ≡ false = sym c.is_stop.ensures ∙ c.if-is_stop.false in
     let left : Machine = record c.hart.inside.machine { regs = c.execute-next.new.regs; bus = c.execute-next.new.bus } in
     let role = subst (λ n. quick_role w.stage c.args.x.now (instruction (fetched c.hart.inside.machine.bus n)) ≡ role_by c.execute-next.result) c.pc.ensures (c.execute-next.ensures.role goes) in
-    let word = word_on c.execute-next.result w c.hart.inside.machine c.execute-next.new.regs c.execute-next.new.bus c.args.x.now goes c.requires.room.ahead (ap (λ (k : Machine). k.ending) machine ∙ c.requires.going)
+    let word = word_on c.execute-next.result w c.hart.inside.machine c.execute-next.new.regs c.execute-next.new.bus c.args.x.now goes c.requires.room (ap (λ (k : Machine). k.ending) machine ∙ c.requires.going)
     (c.execute-next.ensures.stays goes) role (c.execute-next.ensures.step goes) in
     record {
       on = λ is. inl (subst (λ (k : Machine). WordOn (walk_machine w k) (walk_machine c.go.new.self left) (walk_control c.go.new.self) c.args.x.now w.index w.block (walk_offset w) w.stage) machine
           (subst (λ (k : Walk). WordOn (walk_machine w c.hart.inside.machine) (walk_machine k left) (walk_control k) c.args.x.now w.index w.block (walk_offset w) w.stage) (sym c.go.ensures) word));
-      counted = λ is. subst (λ (k : Walk). walk_count k ≡ walk_count w + 1) (sym c.go.ensures) (gone_counted c.execute-next.result w goes c.requires.room.ahead);
+      counted = λ is. subst (λ (k : Walk). walk_count k ≡ walk_count w + 1) (sym c.go.ensures) (gone_counted c.execute-next.result w goes c.requires.room.below c.requires.room.made);
       limited = λ is n to. subst (λ (k : Walk). WalksTo n k) (sym c.go.ensures) (gone_within c.execute-next.result w n c.requires.room.below to);
       near = let up = subst (λ (k : Walk). walk_offset k ≤ walk_offset w + 3) (sym c.go.ensures) (gone_near c.execute-next.result w c.requires.room.ahead) in let low = c.requires.room.offset in omega (arith, up, low);
       same = λ none. absurd (cc);

@@ -1,10 +1,10 @@
 use Rattle.std.proofs.Common.{◌≡◌, ◌+◌, ◌-◌, ◌*◌, ◌<◌, None, refl, sym, ap, subst, ◌∙◌, arith}
 use Rattle.swi_board.specs.declared.hart.Control.TheVariants.{At}
 use Rattle.swi_isa.specs.Decode.{decoded}
-use Rattle.swi_exec.specs.Arithmetic.{sum_of}
 use Rattle.swi_outside.specs.CacheRam.{RamState}
 use Rattle.swi_board.specs.Hart.{HartData}
-use Rattle.swi_board.specs.Walked.{walk_control, walk_count, walk_machine, walk_offset, Walked}
+use Rattle.swi_board.specs.declared.block.Walk.{Walk}
+use Rattle.swi_board.specs.Walked.{walk_control, walk_count, walk_machine, walk_made, walk_offset, walk_pc, walk_steps, Walked}
 use Rattle.swi_board.proofs.Walking.{has_room, steps_left, steps_on, started}
 use Rattle.swi_board.proofs.block.run_block.Goals as goal
 
@@ -15,20 +15,26 @@ loop-walk-init g c =
     let pc : c.hart.inside.machine.pc ≡ c.args.hart.now.machine.pc = ap (λ (h : HartData). h.machine.pc) seen in
     let steps : c.hart.inside.machine.steps ≡ c.args.hart.now.machine.steps = ap (λ (h : HartData). h.machine.steps) seen in
     let count : c.hart.inside.count ≡ c.args.hart.now.count = ap (λ (h : HartData). h.count) seen in
+    let within = c.requires.within in
     let none : c.args.at.2 + (i - i) ≡ c.args.at.2 = omega arith in
     let place : At i c.args.at.1 (c.args.at.2 + (i - i)) c.args.at.3 ≡ c.args.hart.now.control = ap (λ k. At i c.args.at.1 k c.args.at.3) none ∙ sym c.requires.control in
-    let here : sum_of c.hart.inside.machine.pc (4 * (i - i)) ≡ c.args.hart.now.machine.pc = let low = c.requires.short in omega (arith, low, pc) in
-    let made : c.hart.inside.machine.steps + (i - i) ≡ c.args.hart.now.machine.steps = omega (arith, steps) in
+    let w : Walk = record {
+      index = i; stage = c.args.at.3; end = c.from.result + (c.args.limit - c.hart.inside.machine.steps); limit = c.args.limit;
+      from = i; block = c.args.at.1; offset = c.args.at.2; pc = c.hart.inside.machine.pc; steps = c.hart.inside.machine.steps; count = c.machine_steps.result;
+    } in
+    let from = c.from.ensures in
+    let none_made : walk_made w ≡ 0 = omega (arith, within, steps, from) in
+    let here : walk_pc w ≡ c.args.hart.now.machine.pc = let low = c.requires.short in omega (arith, low, pc, none_made) in
+    let made : walk_steps w ≡ c.args.hart.now.machine.steps = omega (arith, within, steps, from) in
     let told = c.machine_steps.ensures in
-    let number : c.machine_steps.result + (i - i) ≡ c.args.hart.now.count = omega (arith, told, count) in
+    let number : walk_count w ≡ c.args.hart.now.count = omega (arith, told, count, none_made) in
     let low = c.requires.offset in
-    let within = c.requires.within in
     record {
       walked = started c.args.image.now (g.R.CacheRom.kept c.args.rom.now) c.args.limit c.args.hart.now _ _ _ _ (g.M.CacheRam.state c.args.ram.now) place here made number;
       sound = c.requires.sound;
       going = c.requires.going;
-      to = record { ahead = omega arith; below = omega arith; limited = omega (arith, within, steps) };
-      few = let fits = c.machine_steps.type_inv in omega (arith, fits);
+      to = record { ahead = omega arith; below = omega (arith, from); made = omega (arith, within, steps, from); limited = refl };
+      few = let fits = c.machine_steps.type_inv in omega (arith, fits, none_made);
       near = omega (arith, low);
       left = refl;
     }
