@@ -10,7 +10,7 @@ use Rattle.swi_rom.specs.Record.{Link, Placed, has_link, same_link, IsJump}
 use Rattle.swi_rom.specs.Fifo.{with_link, first_of}
 use Rattle.swi_rom.specs.Coherent.{IsExit}
 use Rattle.swi_rom.specs.declared.rom.Goal.{Goal}
-use Rattle.swi_rom.specs.Slots.{Slots, InShape, links_of, queue_of, kept_by, goal_to, goals_by}
+use Rattle.swi_rom.specs.Slots.{Slots, InShape, links_of, queue_of, kept_by, goal_to}
 use Rattle.swi_rom.specs.Sound.{SlotsSound, LinkStands}
 use Rattle.swi_rom.specs.Steps.{Linked}
 use Rattle.swi_rom.specs.Links.{same_ascending, with_ascending, has_with, same_same, same_is}

@@ -73,6 +73,13 @@ impl<T: LinkTable> Model for SlotRom<T> {
         × T.knows s.table s.filled s.blocks.items };
 }
 
+// A goal for each word, none of which is a link.
+fn no_goals(alloc: Global, words: u32) -> Result<Vec<Goal>, Memory>
+    ensures { IfOk result (λ g. g.items ≡ replicate words (goal_to 0 0 0)) }
+{
+    vec![in alloc; NO_GOAL; words as usize].map_err(|_| Memory)
+}
+
 // The slot after a slot: after the last one comes the first.
 fn following(slot: u32, slots: u32) -> u32
     requires { slot < slots }
@@ -115,7 +122,7 @@ impl<T: LinkTable> SlotRom<T> {
         let blocks = vec![in alloc; 0u32; slots as usize].map_err(|_| Memory)?;
         let lengths = vec![in alloc; 0u32; slots as usize].map_err(|_| Memory)?;
         let table = T::new(alloc, slots, block_words)?;
-        let goals = vec![in alloc; NO_GOAL; (slots * block_words) as usize].map_err(|_| Memory)?;
+        let goals = no_goals(alloc, slots * block_words)?;
         Ok(SlotRom {
             slots,
             size: block_words,
