@@ -9,7 +9,7 @@ use std::process::Abort;
 use std::test::Fail;
 use swi_image::{ImageView, read_image};
 use swi_outside::{CacheRam, VecRam};
-use swi_rom::{CacheRom, Counts, ScanRom};
+use swi_rom::{CacheRom, Counts, Goal, ScanRom};
 
 const E: u32 = 0x0010_0073;
 
@@ -274,16 +274,22 @@ static ROWS: [Row; 5] = [
     },
 ];
 
+/// The bytes of an image.
+fn bytes_of(alloc: Global, words: &[u32]) -> Result<Vec<u8>, Fail> {
+    let mut bytes = Vec::new(alloc);
+    for word in words {
+        bytes.extend_from_slice(&word.to_le_bytes())?;
+    }
+    Ok(bytes)
+}
+
 /// Makes a row's transfers, each with its answer, and looks at what stands then.
 fn assert_stands<R: CacheRom>(rt: &impl Abort, alloc: Global, rom: R, row: &Row) -> Result<R, Fail>
     requires small { R.span (R.setting rom) ≤ 64 }
     requires new { (v : ImageData) (words : List ℕ) → IsImage v → row.now.block_words ≡ v.block_words →
         R.span (R.setting rom) ≤ length words → R.sound rom v words }
 {
-    let mut bytes = Vec::new(alloc);
-    for word in row.image {
-        bytes.extend_from_slice(&word.to_le_bytes())?;
-    }
+    let bytes = bytes_of(alloc, row.image)?;
     assert!(rt; bytes.len() < 1 << 20);
     let image = match read_image(&bytes) {
         Ok(image) => image,
@@ -337,6 +343,7 @@ fn make<R: CacheRom>(
     requires { R.sound rom.old image.now ram.old.words }
     ensures sound { R.sound rom.new image.now ram.new.words }
     ensures words { length ram.new.words ≡ length ram.old.words }
+    ensures setting { R.setting rom.new ≡ R.setting rom.old }
 {
     assert!(rt; rom.counts().services < 1 << 50);
     match transfer {
@@ -392,6 +399,7 @@ fn follow<R: CacheRom>(
     requires services { (R.kept rom.old).counts.services < 2 ^ 50 }
     ensures sound { R.sound rom.new image.now ram.new.words }
     ensures words { length ram.new.words ≡ length ram.old.words }
+    ensures setting { R.setting rom.new ≡ R.setting rom.old }
 {
     let target = match exit_at(rom, image, ram, at) {
         Some(target) => target,
@@ -416,5 +424,28 @@ fn both_services_link_and_evict_alike(rt: HostRuntime) -> Result<(), Fail> {
         assert!(rt; lists.slots() > 0);
         assert_eq!(rt; lists.first_into(0), row.newest);
     }
+    Ok(())
+}
+
+#[test]
+fn link_has_its_goal_beside(rt: HostRuntime) -> Result<(), Fail> {
+    let bytes = bytes_of(rt.alloc(), &INTO_A_BLOCK)?;
+    assert!(rt; bytes.len() < 1 << 20);
+    let image = match read_image(&bytes) {
+        Ok(image) => image,
+        Err(_) => panic!(rt; "no image"),
+    };
+    assert_eq!(rt; image.block_words(), 5);
+    let mut ram = VecRam::new(rt.alloc(), 64)?;
+    let mut rom = FifoRom::new(rt.alloc(), 60, 5)?;
+    make(&rt, &mut rom, &image, &mut ram, Transfer::Enter(0x10000, 0));
+    make(&rt, &mut rom, &image, &mut ram, Transfer::Enter(0x1000C, 7));
+    make(&rt, &mut rom, &image, &mut ram, Transfer::Cross(8, 10));
+    let goal = Goal {
+        address: 0x10010,
+        block: 2,
+        offset: 0,
+    };
+    assert_eq!(rt; rom.goal(8), goal);
     Ok(())
 }

@@ -1,9 +1,9 @@
 ghost use Rattle.std.specs.Prelude.{◌≡◌, ◌+◌, ◌^◌, ◌<◌, ◌≤◌, List, ℕ, Option, length, true};
 ghost use Rattle.swi_image.specs.Format.{ImageData};
-ghost use Rattle.swi_image.specs.Place.{length_at};
+ghost use Rattle.swi_image.specs.Place.{word_at, length_at};
 ghost use Rattle.swi_image.specs.Sound.{IsImage};
 ghost use Rattle.swi_rom.specs.Record.{Record, Transfer, direct, indirect, is_linked, writes, Placed};
-ghost use Rattle.swi_rom.specs.Coherent.{Coherent, StandsAt, ExitAt, resident_of};
+ghost use Rattle.swi_rom.specs.Coherent.{Coherent, LeadsTo, StandsAt, ExitAt, resident_of};
 ghost use Rattle.swi_rom.specs.Served.{Served, OnServed, SameFrom};
 
 use swi_image::ImageView;
@@ -26,6 +26,14 @@ pub struct Counts {
     pub copied: u64,
 }
 
+/// Where a link leads: the original address of its target, and the target's block and offset in the image.
+#[derive(Clone, Copy, Debug, PartialEq, Eq)]
+pub struct Goal {
+    pub address: u32,
+    pub block: u32,
+    pub offset: u32,
+}
+
 /// Why a service gives no index.
 #[derive(Clone, Copy, Debug, PartialEq, Eq)]
 pub enum RomStop {
@@ -37,6 +45,8 @@ pub enum RomStop {
 
 /// A cache service: it keeps blocks of an image in a ram, on demand.
 pub trait CacheRom: Drop {
+    ghost use Rattle.swi_rom.specs.declared.rom.Goal.{Goal};
+
     /// What the service keeps.
     ghost kept: { Self → Record };
 
@@ -57,6 +67,9 @@ pub trait CacheRom: Drop {
 
     /// What stands at an index.
     ghost shown: { Self → ℕ → Option (ℕ × ℕ) };
+
+    /// What is kept of the word at an index, if it is a link.
+    ghost goals: { Self → ℕ → Goal };
 
     /// Serves a jump to an address: the index in the ram of the target's first word, whose block is copied
     /// there if it isn't placed. While nothing is placed this is the boot. `Outside` comes exactly where no
@@ -103,6 +116,11 @@ pub trait CacheRom: Drop {
     fn at(&self, i: u32) -> Option<(u32, u32)>
         ensures { result ≡ shown self.now i };
 
+    /// Where the link at an index leads. Of a word that is no link the answer says nothing.
+    fn goal(&self, i: u32) -> Goal
+        requires { i < span (setting self.now) }
+        ensures { result ≡ goals self.now i };
+
     /// The k-th oldest block and its first word; None exactly from the number of placed blocks on.
     fn resident(&self, k: u32) -> Option<(u32, u32)>
         ensures { result ≡ resident_of (kept self.now) k };
@@ -121,6 +139,11 @@ pub trait CacheRom: Drop {
 
     ghost shown_is: { (s : Self) (v : ImageData) (words : List ℕ) → sound s v words →
         (i : ℕ) → StandsAt v (kept s) i (shown s i) };
+
+    /// Of each link the goal is its target, with the target's place.
+    ghost goal_is: { (s : Self) (v : ImageData) (words : List ℕ) → sound s v words → (b f o : ℕ) →
+        Placed (kept s) b f → is_linked (kept s) b o ≡ true →
+        LeadsTo v (word_at v b (o + 1)) (goals s (f + o)) };
 
     /// Over a link nothing changes.
     ghost first: { (setting : List ℕ) (r : Record) (v : ImageData) (b o t : ℕ) → is_linked r b o ≡ true →

@@ -6,21 +6,28 @@ ghost use Rattle.swi_image.specs.Format.{ImageData};
 ghost use Rattle.swi_image.specs.Sound.{IsImage};
 ghost use Rattle.swi_rom.specs.Record.{reaches};
 ghost use Rattle.swi_rom.specs.Coherent.{resident_of};
-ghost use Rattle.swi_rom.specs.Slots.{Slots, InShape, kept_by};
+ghost use Rattle.swi_rom.specs.Slots.{Slots, InShape, kept_by, goal_to};
 ghost use Rattle.swi_rom.specs.Sound.{SlotsSound};
 ghost use Rattle.swi_rom.specs.Steps.{FailedBelow, MadeRoom, Filled, Linked, MaybeLinked, can_link, IsAbsent, LinksInside, settled, counted_slots, wrapped};
 ghost use Rattle.swi_rom.specs.Arrived.{Arrived};
 
 use crate::table::LinkTable;
 use crate::write::{copy, jump, reach};
-use crate::{CacheRom, Counts, RomStop};
+use crate::{CacheRom, Counts, Goal, RomStop};
 use std::alloc::Global;
 use std::marker::Model;
 use swi_image::ImageView;
 use swi_outside::{CacheRam, Failed, Memory};
 
+// What stands in the table of goals beside a word that was never a link.
+const NO_GOAL: Goal = Goal {
+    address: 0,
+    block: 0,
+    offset: 0,
+};
+
 /// A cache of slots of one size, each of which holds a block. While a slot is free the lowest is filled, and then
-/// the oldest block makes room. The table finds blocks and links.
+/// the oldest block makes room. The table finds blocks and links, and each link has its goal beside.
 #[derive(Drop)]
 pub struct SlotRom<T: LinkTable> {
     slots: u32,
@@ -30,6 +37,7 @@ pub struct SlotRom<T: LinkTable> {
     blocks: Vec<u32>,
     lengths: Vec<u32>,
     table: T,
+    goals: Vec<Goal>,
     counts: Counts,
 }
 
@@ -47,6 +55,7 @@ impl<T: LinkTable> Model for SlotRom<T> {
       blocks = s.blocks.items;
       lengths = s.lengths.items;
       targets = T.targets s.table;
+      goals = s.goals.items;
       counts = s.counts;
     } };
 
@@ -58,9 +67,17 @@ impl<T: LinkTable> Model for SlotRom<T> {
       blocks = s.blocks.items;
       lengths = s.lengths.items;
       targets = T.targets s.table;
+      goals = s.goals.items;
       counts = s.counts;
     }) × (T.slot_count s.table ≡ s.slots) × (T.slot_size s.table ≡ s.size)
         × T.knows s.table s.filled s.blocks.items };
+}
+
+// A goal for each word, none of which is a link.
+fn no_goals(alloc: Global, words: u32) -> Result<Vec<Goal>, Memory>
+    ensures { IfOk result (λ g. g.items ≡ replicate words (goal_to 0 0 0)) }
+{
+    vec![in alloc; NO_GOAL; words as usize].map_err(|_| Memory)
 }
 
 // The slot after a slot: after the last one comes the first.
@@ -94,6 +111,7 @@ impl<T: LinkTable> SlotRom<T> {
           blocks = replicate (cache_bytes / 4 / block_words) 0;
           lengths = replicate (cache_bytes / 4 / block_words) 0;
           targets = replicate (cache_bytes / 4 / block_words * block_words) (cache_bytes / 4 / block_words);
+          goals = replicate (cache_bytes / 4 / block_words * block_words) (goal_to 0 0 0);
           counts = record { services = 0; misses = 0; evictions = 0; links = 0; unlinks = 0; copied = 0 };
         }) }
         ensures sound { IfOk result (λ s. (v : ImageData) (words : List ℕ) → IsImage v →
@@ -104,6 +122,7 @@ impl<T: LinkTable> SlotRom<T> {
         let blocks = vec![in alloc; 0u32; slots as usize].map_err(|_| Memory)?;
         let lengths = vec![in alloc; 0u32; slots as usize].map_err(|_| Memory)?;
         let table = T::new(alloc, slots, block_words)?;
+        let goals = no_goals(alloc, slots * block_words)?;
         Ok(SlotRom {
             slots,
             size: block_words,
@@ -112,6 +131,7 @@ impl<T: LinkTable> SlotRom<T> {
             blocks,
             lengths,
             table,
+            goals,
             counts: Counts {
                 services: 0,
                 misses: 0,
@@ -245,8 +265,15 @@ impl<T: LinkTable> SlotRom<T> {
         }
     }
 
-    // Makes the exit at an index a jump to an index in a slot.
-    fn link<M: CacheRam>(&mut self, ram: &mut M, at: u32, slot: u32, to: u32) -> Result<(), Failed>
+    // Makes the exit at an index a jump to an index in a slot, and keeps its goal.
+    fn link<M: CacheRam>(
+        &mut self,
+        ram: &mut M,
+        at: u32,
+        slot: u32,
+        to: u32,
+        goal: Goal,
+    ) -> Result<(), Failed>
         requires at { at < self.old.slots * self.old.size }
         requires to { to < self.old.slots * self.old.size }
         requires fits { self.old.slots * self.old.size ≤ length (M.state ram.old).words }
@@ -255,7 +282,8 @@ impl<T: LinkTable> SlotRom<T> {
         requires links { self.old.counts.links < 2 ^ 60 }
         requires slot { slot < self.old.slots }
         requires free { self.old.slots ≤ slice_index self.old.targets at }
-        ensures linked { OnOk result (Linked self.old self.new at slot to (M.state ram.old) (M.state ram.new)) }
+        ensures linked { OnOk result (Linked self.old self.new at slot to goal
+            (M.state ram.old) (M.state ram.new)) }
         ensures failed { OnErr result (FailedBelow (self.old.slots * self.old.size)
             (M.state ram.old) (M.state ram.new)) }
         ensures slots { self.new.slots ≡ self.old.slots }
@@ -263,6 +291,7 @@ impl<T: LinkTable> SlotRom<T> {
     {
         ram.set(at, jump(at, to))?;
         self.table.link(at, slot);
+        self.goals[at as usize] = goal;
         self.counts.links += 1;
         Ok(())
     }
@@ -275,6 +304,7 @@ impl<T: LinkTable> SlotRom<T> {
         home: u32,
         slot: u32,
         to: u32,
+        goal: Goal,
     ) -> Result<(), Failed>
         requires at { at < self.old.slots * self.old.size }
         requires to { to < self.old.slots * self.old.size }
@@ -284,7 +314,7 @@ impl<T: LinkTable> SlotRom<T> {
         requires slot { slot < self.old.slots }
         requires free { (slice_index self.old.blocks (at / self.old.size) ≡ home) →
             self.old.slots ≤ slice_index self.old.targets at }
-        ensures linked { OnOk result (MaybeLinked self.old self.new (can_link self.old at home to) at slot to
+        ensures linked { OnOk result (MaybeLinked self.old self.new (can_link self.old at home to) at slot to goal
             (M.state ram.old) (M.state ram.new)) }
         ensures failed { OnErr result (FailedBelow (self.old.slots * self.old.size)
             (M.state ram.old) (M.state ram.new)) }
@@ -297,13 +327,13 @@ impl<T: LinkTable> SlotRom<T> {
         if !reach(at, to) {
             return Ok(());
         }
-        self.link(ram, at, slot, to)
+        self.link(ram, at, slot, to, goal)
     }
 }
 
 impl<T: LinkTable> CacheRom for SlotRom<T> {
     ghost use Rattle.swi_rom.specs.Fifo.{fifo, extent_of, fifo_first, fifo_second, fifo_third, fifo_grows};
-    ghost use Rattle.swi_rom.specs.Slots.{kept_by, setting_of, span_of, shown_by};
+    ghost use Rattle.swi_rom.specs.Slots.{kept_by, setting_of, span_of, shown_by, goals_by};
     ghost use Rattle.swi_rom.specs.Sound.{SlotsSound};
 
     ghost kept = { kept_by };
@@ -319,6 +349,8 @@ impl<T: LinkTable> CacheRom for SlotRom<T> {
     ghost sound = { SlotsSound };
 
     ghost shown = { shown_by };
+
+    ghost goals = { goals_by };
 
     fn enter<M: CacheRam>(
         &mut self,
@@ -350,7 +382,12 @@ impl<T: LinkTable> CacheRom for SlotRom<T> {
             return Err(RomStop::RamFault);
         };
         let index = slot * self.size + offset;
-        let Ok(()) = self.link_exit(ram, at, home, slot, index) else {
+        let goal = Goal {
+            address: target,
+            block,
+            offset,
+        };
+        let Ok(()) = self.link_exit(ram, at, home, slot, index, goal) else {
             return Err(RomStop::RamFault);
         };
         Ok(index)
@@ -366,6 +403,10 @@ impl<T: LinkTable> CacheRom for SlotRom<T> {
             return None;
         }
         Some((self.blocks[slot as usize], offset))
+    }
+
+    fn goal(&self, i: u32) -> Goal {
+        self.goals[i as usize]
     }
 
     fn resident(&self, k: u32) -> Option<(u32, u32)>
@@ -385,7 +426,7 @@ impl<T: LinkTable> CacheRom for SlotRom<T> {
         self.counts
     }
 
-    ghost use Rattle.swi_rom.specs.Laws.{slots_coherent, slots_small, slots_image, slots_shown, slots_within};
+    ghost use Rattle.swi_rom.specs.Laws.{slots_coherent, slots_small, slots_image, slots_shown, slots_goal, slots_within};
 
     ghost coherent = { slots_coherent };
 
@@ -394,6 +435,8 @@ impl<T: LinkTable> CacheRom for SlotRom<T> {
     ghost image = { slots_image };
 
     ghost shown_is = { slots_shown };
+
+    ghost goal_is = { slots_goal };
 
     ghost first = { fifo_first };
 

@@ -18,6 +18,7 @@ returns-clause-sound g c = λ v words image size fits.
         blocks_long = grind (arith, common_steps);
         lengths_long = grind (arith, common_steps);
         targets_long = grind (arith, common_steps);
+        goals_long = grind (arith, common_steps);
         next_is = omega arith;
         filled_is = omega arith;
       };
