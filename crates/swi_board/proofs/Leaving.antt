@@ -2,14 +2,14 @@
 use Rattle.std.proofs.Common.{◌≡◌, ℕ, ◌+◌, ◌<◌, true, false, List, Some, None, Ok, Err, Result, slice_index, refl, sym, ap, subst, ◌∙◌, inl, inr, arith}
 use Rattle.std.proofs.lemmas.Bool.{cases_Bool}
 use Rattle.swi_image.specs.Format.{ImageData}
-use Rattle.swi_image.specs.Place.{word_at}
+use Rattle.swi_image.specs.Place.{word_at, length_at}
 use Rattle.swi_image.specs.Sound.{IsImage}
 use Rattle.swi_image.specs.Laws.{place_inside}
 use Rattle.swi_isa.specs.declared.instr.Instr.TheVariants as instr
 use Rattle.swi_isa.specs.Decode.{decoded}
 use Rattle.swi_outside.specs.CacheRam.{RamState, KeepsBeyond}
 use Rattle.swi_render.specs.Rendering.{ebreak}
-use Rattle.swi_rom.specs.Record.{Record, Transfer, target_of, IsJump, jump_offset, is_linked}
+use Rattle.swi_rom.specs.Record.{Record, Transfer, target_of, IsJump, jump_offset, is_linked, Placed}
 use Rattle.swi_rom.specs.Coherent.{Coherent, TargetAt, StandsAt}
 use Rattle.swi_rom.specs.Served.{Served, Spared, SameFrom}
 use Rattle.swi_rom.specs.declared.rom.RomStop.{RomStop}
@@ -89,14 +89,18 @@ exit_unlinked v r span words w i b o coherent at is =
     ]
 
 -- another word in its place is a link
-pub jump_linked : (v : ImageData) (r : Record) (span : ℕ) (words : List ℕ) (w i b o : ℕ) → Coherent v r span words → LeaveAt v r words w i b o → (w ≡ ebreak → ⊥) → is_linked r b o ≡ true
-jump_linked v r span words w i b o coherent at other =
+pub word_linked : (v : ImageData) (r : Record) (span : ℕ) (words : List ℕ) (w b f o : ℕ) → Coherent v r span words → Placed r b f → o + 1 < length_at v b → word_at v b o ≡ ebreak → w ≡ slice_index words (f + o) → (w ≡ ebreak → ⊥) → is_linked r b o ≡ true
+word_linked v r span words w b f o coherent placed inside is got other =
     elim (cases_Bool (is_linked r b o)) [
       | inl linked ↦ linked
       | inr plain ↦
-          let got : slice_index words (at.first + o) ≡ word_at v b o = coherent.plain b at.first o at.is_placed (omega (arith, at.inside)) plain in
-          absurd (other (at.fetched ∙ ap (λ n. slice_index words n) at.index ∙ got ∙ at.leaves))
+          let own : slice_index words (f + o) ≡ word_at v b o = coherent.plain b f o placed (omega (arith, inside)) plain in
+          absurd (other (got ∙ own ∙ is))
     ]
+
+pub jump_linked : (v : ImageData) (r : Record) (span : ℕ) (words : List ℕ) (w i b o : ℕ) → Coherent v r span words → LeaveAt v r words w i b o → (w ≡ ebreak → ⊥) → is_linked r b o ≡ true
+jump_linked v r span words w i b o coherent at other =
+    word_linked v r span words w b at.first o coherent at.is_placed at.inside at.leaves (at.fetched ∙ ap (λ n. slice_index words n) at.index) other
 
 -- where the link leads
 pub record Linked (v : ImageData) (r : Record) (span : ℕ) (w i t : ℕ) : Type 0 where

@@ -16,7 +16,7 @@ ghost use Rattle.swi_board.specs.Leaving.{Home, ExitHome, PlacedAt, immediate_qu
 ghost use Rattle.swi_board.specs.Runs.{most};
 ghost use Rattle.swi_board.specs.Walked.{is_stop, role_by, went, gone, landed, walk_offset, walk_pc, walk_steps, walk_made, walk_count, walk_control, walk_machine, HasRoom, WalksTo, StepOn, Walked, WalkedOn, StandsInside, BlockRan};
 
-use crate::exit::{control_at, fell, jump_index};
+use crate::exit::{fell, jump_index};
 use crate::hart::{Control, ExitKind, Hart, Role, Stage};
 use crate::step::upper_role;
 use swi_calls::text_store;
@@ -274,7 +274,7 @@ fn execute(index: u32, stage: Stage, pc: u32, x: &Instr, regs: &mut Regs, bus: &
     }
 }
 
-/// Goes over a link, to the place of its exit's target. A target whose place the service doesn't show is not gone to.
+/// Goes over a link, as its JAL does. Where that leads in the image the service has kept.
 #[inline(always)]
 fn follow<R: CacheRom, M: CacheRam>(
     rom: &R,
@@ -283,38 +283,38 @@ fn follow<R: CacheRom, M: CacheRam>(
     got: u32,
     off: u32,
     walk: &mut Walk,
-) -> bool
+)
     requires sound { R.sound rom.now image.now (M.state ram.now).words }
     requires got { got ≡ slice_index (M.state ram.now).words walk.old.index }
     requires offset { off ≡ offset_of (decoded got) }
     requires linked { got ≡ ebreak → ⊥ }
     requires exit { (m : Machine) → m.pc ≡ walk_pc walk.old →
         ExitHome image.now m walk.old.block (walk_offset walk.old) walk.old.stage }
+    requires is_exit { word_at image.now walk.old.block (walk_offset walk.old) ≡ ebreak }
     requires placed { PlacedAt (R.kept rom.now) walk.old.index walk.old.block (walk_offset walk.old) }
     requires block { walk.old.block < length image.now.starts }
     requires inside { walk_offset walk.old + 1 < length_at image.now walk.old.block }
     requires room { HasRoom walk.old }
-    ensures step { result ≡ true → (m : Machine) (input : List ℕ) →
+    ensures step { (m : Machine) (input : List ℕ) →
         ExitStep ExitKind.Direct image.now (R.kept rom.now) (walk_machine walk.old m)
         (stepped (walk_control walk.new) (quiet (walk_machine walk.new m) input)) input
         walk.old.index walk.old.block (walk_offset walk.old) walk.old.stage }
-    ensures direct { result ≡ true → word_at image.now walk.old.block (walk_offset walk.old + 1) % 4 ≡ 0 }
-    ensures counted { result ≡ true → walk_count walk.new ≡ walk_count walk.old + 1 }
-    ensures limited { result ≡ true → (n : ℕ) → WalksTo n walk.old → WalksTo n walk.new }
-    ensures same { result ≡ false → walk.new ≡ walk.old }
+    ensures direct { word_at image.now walk.old.block (walk_offset walk.old + 1) % 4 ≡ 0 }
+    ensures counted { walk_count walk.new ≡ walk_count walk.old + 1 }
+    ensures limited { (n : ℕ) → WalksTo n walk.old → WalksTo n walk.new }
 {
-    let offset = walk.offset();
-    let target = image.word(walk.block, offset + 1);
-    if target % 4 != 0 {
-        return false;
-    }
-    let control = control_at(rom, jump_index(off, walk.index));
-    let Control::At(index, block, place, _) = control else {
-        return false;
-    };
-    let leads_on = fell(walk.stage, walk.pc(), target, control, walk.block, offset);
-    walk.land(index, block, place, target, leads_on);
-    true
+    let to = rom.goal(walk.index);
+    let index = jump_index(off, walk.index);
+    let place = Control::At(index, to.block, to.offset, Stage::Start);
+    let leads_on = fell(
+        walk.stage,
+        walk.pc(),
+        to.address,
+        place,
+        walk.block,
+        walk.offset(),
+    );
+    walk.land(index, to.block, to.offset, to.address, leads_on);
 }
 
 /// A step at a fetched word that asks neither the service nor a device. At any other word nothing changes.
@@ -348,7 +348,10 @@ fn one<R: CacheRom, M: CacheRam>(
     } }
 {
     match *x {
-        Instr::Jal { off, .. } => follow(rom, image, ram, got, off, walk),
+        Instr::Jal { off, .. } => {
+            follow(rom, image, ram, got, off, walk);
+            true
+        }
         _ => {
             let next = execute(
                 walk.index,

@@ -29,8 +29,8 @@ returns-in-Jal-clause-on g c = λ is.
     inr (record {
       leaving = ap leaves c.in-Jal.is;
       linked = jal_links c.args.got _ _ c.args.x.now c.requires.is c.in-Jal.is;
-      is_direct = c.follow.ensures.direct is;
-      step = λ input. c.follow.ensures.step is c.args.hart.now.machine input;
+      is_direct = c.follow.ensures.direct;
+      step = λ input. c.follow.ensures.step c.args.hart.now.machine input;
     })
 
 pub returns-in-Jal-clause-near : goal.returns-in-Jal-clause-near
@@ -38,13 +38,9 @@ returns-in-Jal-clause-near g c =
     let w = c.args.walk.now in
     let k = c.follow.new.walk in
     let s = c.requires.sound in
-    elim (cases_Bool c.follow.result) [
-      | inl is ↦
-          let low = landed_small c.args.image.now (g.R.CacheRom.kept c.args.rom.now) _ _ (word_at c.args.image.now w.block (walk_offset w + 1)) k.index k.block (walk_offset k) k.stage
-          (g.met.R.CacheRom.coherent _ _ _ s) (g.met.R.CacheRom.image _ _ _ s) (g.met.R.CacheRom.small _ _ _ s) (c.follow.ensures.step is c.args.hart.now.machine []).0 in
-          omega (arith, low)
-      | inr is ↦ let low = c.requires.room.offset in let e = ap (λ (j : Walk). walk_offset j) (c.follow.ensures.same is) in omega (arith, low, e)
-    ]
+    let low = landed_small c.args.image.now (g.R.CacheRom.kept c.args.rom.now) _ _ (word_at c.args.image.now w.block (walk_offset w + 1)) k.index k.block (walk_offset k) k.stage
+    (g.met.R.CacheRom.coherent _ _ _ s) (g.met.R.CacheRom.image _ _ _ s) (g.met.R.CacheRom.small _ _ _ s) (c.follow.ensures.step c.args.hart.now.machine []).0 in
+    omega (arith, low)
 
 pub returns-else-is_stop : goal.returns-else-is_stop
 returns-else-is_stop g c =
