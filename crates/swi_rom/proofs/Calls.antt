@@ -1,5 +1,5 @@
 -- The calls of a service with slots, as their code meets them.
-use Rattle.std.proofs.Common.{◌≡◌, ℕ, ◌+◌, ◌*◌, ◌/◌, ◌<◌, ◌≤◌, ◌^◌, false, List, length, Some, Ok, Err, slice_index, slice_index_or, arith, refl, sym, ◌∙◌, ap, subst}
+use Rattle.std.proofs.Common.{◌≡◌, ℕ, ◌+◌, ◌*◌, ◌/◌, ◌<◌, ◌≤◌, ◌^◌, false, List, length, Option, None, Some, Ok, Err, slice_index, slice_index_or, arith, refl, sym, ◌∙◌, ap, subst}
 use Rattle.std.proofs.lemmas.List.{get_or_read}
 use Rattle.std.proofs.lemmas.Nat.{row_fits, div_below}
 use Rattle.std.proofs.lemmas.Bool.{and_left, both_ways, ltb-false, ne_eqb}
@@ -7,16 +7,16 @@ use Rattle.swi_image.specs.Format.{ImageData}
 use Rattle.swi_image.specs.Place.{place_of, length_at}
 use Rattle.swi_outside.specs.CacheRam.{RamState}
 use Rattle.swi_rom.specs.Record.{Record, direct, indirect, Placed, has_link, is_linked}
-use Rattle.swi_rom.specs.Coherent.{ExitAt, resident_of}
+use Rattle.swi_rom.specs.Coherent.{ExitAt, TargetAt, resident_of}
 use Rattle.swi_rom.specs.Fifo.{fifo}
 use Rattle.swi_rom.specs.Served.{Served}
 use Rattle.swi_rom.specs.Slots.{Slots, InShape, links_of, kept_by, setting_of, span_of, goal_to}
 use Rattle.swi_rom.specs.Sound.{SlotsSound}
-use Rattle.swi_rom.specs.Steps.{FailedBelow, MaybeLinked, can_link}
+use Rattle.swi_rom.specs.Steps.{FailedBelow, IsAbsent, MaybeLinked, can_link}
 use Rattle.swi_rom.specs.Arrived.{Arrived}
 use Rattle.swi_rom.specs.declared.rom.Goal.{Goal}
 use Rattle.swi_rom.specs.declared.rom.RomStop.TheVariants.{RamFault}
-use Rattle.swi_rom.specs.Queue.{length_queue}
+use Rattle.swi_rom.specs.Queue.{length_queue, placed_slot}
 use Rattle.swi_rom.specs.SlotLinks.{word_slot, link_of, linked_is}
 use Rattle.swi_rom.specs.Coheres.{tidy_of}
 use Rattle.swi_rom.specs.Order.{slot_at, slot_at_filled}
@@ -46,6 +46,18 @@ pub entered_call : (v : ImageData) (s t : Slots) (c q slot n target : ℕ) (a b 
     Served v (span_of (setting_of s)) target (kept_by s) (fifo (setting_of s) (kept_by s) v (indirect target)) (kept_by t) a b (Ok (slot * n + q))
 entered_call v s t c q slot n target a b arr is e =
     subst (λ (x : ℕ). Served v (span_of (setting_of s)) target (kept_by s) (fifo (setting_of s) (kept_by s) v (indirect target)) (kept_by t) a b (Ok (slot * x + q))) (sym e) (entered v s t c q slot target a b arr is)
+
+-- a block that stands in no slot has no placed target
+pub absent_target : (v : ImageData) (s : Slots) (words : List ℕ) (b o target i : ℕ) → SlotsSound s v words → place_of v target ≡ Some (b, o) → IsAbsent s b → TargetAt v (kept_by s) target i → ⊥
+unfolding Placed
+absent_target v s words b o target i sound is absent at =
+    let same : Some (at.block, at.offset) ≡ Some (b, o) = sym at.place_is ∙ is in
+    let stands = placed_slot s at.block at.first sound.shape at.is_placed in
+    absent stands.0 stands.1 (stands.2 ∙ ap (λ (p : Option (ℕ × ℕ)). block_in p) same)
+  where
+    block_in : Option (ℕ × ℕ) → ℕ
+    block_in None = 0
+    block_in (Some p) = p.0
 
 pub links_same : (v : ImageData) (s t : Slots) (c slot : ℕ) (a b : RamState) → SlotsSound s v a.words → Arrived v s c slot t a b → 0 < s.filled → t.counts.links ≡ s.counts.links
 links_same v s t c slot a b sound arr some =

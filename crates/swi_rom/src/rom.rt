@@ -1,9 +1,9 @@
-ghost use Rattle.std.specs.Prelude.{◌≡◌, ◌+◌, ◌^◌, ◌<◌, ◌≤◌, List, ℕ, Option, length, true};
+ghost use Rattle.std.specs.Prelude.{◌≡◌, ◌+◌, ◌^◌, ◌<◌, ◌≤◌, List, ℕ, Option, IfSome, None, Ok, length, true};
 ghost use Rattle.swi_image.specs.Format.{ImageData};
 ghost use Rattle.swi_image.specs.Place.{word_at, length_at};
 ghost use Rattle.swi_image.specs.Sound.{IsImage};
 ghost use Rattle.swi_rom.specs.Record.{Record, Transfer, direct, indirect, is_linked, writes, Placed};
-ghost use Rattle.swi_rom.specs.Coherent.{Coherent, LeadsTo, StandsAt, ExitAt, resident_of};
+ghost use Rattle.swi_rom.specs.Coherent.{Coherent, LeadsTo, StandsAt, ExitAt, TargetAt, resident_of};
 ghost use Rattle.swi_rom.specs.Served.{Served, OnServed, SameFrom};
 
 use swi_image::ImageView;
@@ -89,6 +89,20 @@ pub trait CacheRom: Drop {
         ensures unused { OnServed result (SameFrom (extent (setting self.old) (kept self.new))
             (M.state ram.old).words (M.state ram.new).words) }
         ensures stays { OnServed result (sound self.new image.now (M.state ram.new).words) };
+
+    /// Serves a jump to an address whose block is placed, as `enter` does: the ram, which is read for the contract
+    /// alone, is not asked. None comes exactly where no placed block has the address; nothing has changed then, and
+    /// `enter` is to be asked.
+    fn revisit<M: CacheRam>(&mut self, image: &ImageView<'_>, ram: &M, target: u32) -> Option<u32>
+        requires sound { sound self.old image.now (M.state ram.now).words }
+        requires services { (kept self.old).counts.services < 2 ^ 50 }
+        ensures served { IfSome result (λ i. Served image.now (span (setting self.old)) target (kept self.old)
+            (policy (setting self.old) (kept self.old) image.now (indirect target)) (kept self.new)
+            (M.state ram.now) (M.state ram.now) (Ok i)) }
+        ensures setting { setting self.new ≡ setting self.old }
+        ensures stays { sound self.new image.now (M.state ram.now).words }
+        ensures same { result ≡ None → self.new ≡ self.old }
+        ensures absent { result ≡ None → (i : ℕ) → TargetAt image.now (kept self.old) target i → ⊥ };
 
     /// Serves the direct exit at index `at`, which isn't linked, to the address in its descriptor, as `enter`
     /// does. Afterwards the exit is linked, where its block is still placed and a JAL reaches from it to the

@@ -367,6 +367,18 @@ impl<T: LinkTable> CacheRom for SlotRom<T> {
         Ok(slot * self.size + offset)
     }
 
+    fn revisit<M: CacheRam>(
+        &mut self,
+        image: &ImageView<'_>,
+        _ram: &M,
+        target: u32,
+    ) -> Option<u32> {
+        let (block, offset) = image.place(target)?;
+        let slot = self.find(block)?;
+        self.count();
+        Some(slot * self.size + offset)
+    }
+
     fn cross<M: CacheRam>(
         &mut self,
         image: &ImageView<'_>,
