@@ -1,12 +1,14 @@
 -- A run over steps within a block: what holds all along it holds behind each of them.
-use Rattle.std.proofs.Common.{◌≡◌, ◌⊎◌, ℕ, ◌+◌, ◌-◌, ◌*◌, ◌%◌, ◌^◌, ◌<◌, ◌≤◌, true, List, slice_index, Option, Some, None, Result, Ok, Err, refl, sym, ap, subst, ◌∙◌, inl, inr, arith}
+use Rattle.std.proofs.Common.{◌≡◌, ◌⊎◌, ℕ, ◌+◌, ◌-◌, ◌*◌, ◌%◌, ◌^◌, ◌<◌, ◌≤◌, Bool, true, not, is_some, List, slice_index, Option, Some, None, Result, Ok, Err, refl, sym, ap, subst, ◌∙◌, inl, inr, arith}
+use Rattle.std.proofs.lemmas.Bool.{false≢true}
+use Rattle.swi_calls.specs.declared.end.End.{End}
 use Rattle.swi_outside.specs.CacheRam.{RamState}
 use Rattle.swi_outside.specs.Causes.{risen}
 use Rattle.swi_image.specs.Format.{ImageData}
 use Rattle.swi_image.specs.Sound.{IsImage}
 use Rattle.swi_image.specs.Place.{word_at}
 use Rattle.swi_isa.specs.declared.instr.Instr.{Instr}
-use Rattle.swi_rom.specs.Record.{Record, direct, is_linked, writes}
+use Rattle.swi_rom.specs.Record.{Record, Transfer, direct, is_linked, writes}
 use Rattle.swi_rom.specs.Coherent.{Coherent}
 use Rattle.swi_board.specs.declared.hart.Stage.{Stage}
 use Rattle.swi_board.specs.declared.hart.Control.{Control}
@@ -18,17 +20,17 @@ use Rattle.swi_board.specs.declared.hart.ExitKind.TheVariants.{Direct}
 use Rattle.swi_board.specs.Runs.{Grown}
 use Rattle.swi_board.specs.Board.{ExitStep, Matches, Fits}
 use Rattle.swi_board.specs.Calling.{Did, Made}
-use Rattle.swi_board.specs.Leaving.{Home, exit_transfer, quick_role, step_to, transfer_at, moved, RamServed}
+use Rattle.swi_board.specs.Leaving.{ExitHome, Home, exit_transfer, leaves, quick_role, step_to, transfer_at, moved, RamServed}
 use Rattle.swi_board.specs.Runs.{most, depth}
-use Rattle.swi_board.specs.Walked.{WordOn, LinkOn, WalkedOn, Walked, StandsInside, StoppedAt, BlockRan}
+use Rattle.swi_board.specs.Walked.{WordOn, LinkOn, JumpOn, StepOn, WalkedOn, Walked, StandsInside, StoppedAt, BlockRan}
 use Rattle.swi_board.proofs.Homes.{home}
 use Rattle.swi_board.proofs.Fetching.{placed, got_some, index_below, index_fits, offset_small, exit_home, exit_moves, word_home, word_moves, counted_hart, did_quiet}
 use Rattle.swi_board.proofs.Steps.{made_exit, fits_exit, made_word, fits_word, ram_exit}
 use Rattle.swi_board.proofs.Falls.{leave_at}
 use Rattle.swi_board.proofs.Leaving.{jump_linked}
-use Rattle.swi_board.proofs.Grown.{grown_exit, grown_word}
+use Rattle.swi_board.proofs.Grown.{grown_exit, grown_word, moved_services}
 use Rattle.swi_board.proofs.Growing.{depth_most}
-use Rattle.swi_board.proofs.Running.{Point, Course, Running, most_running, runs_on, falls, count_small}
+use Rattle.swi_board.proofs.Running.{Point, Course, Running, most_running, runs_on, falls, no_less, count_small, calls_small}
 use Rattle.swi_board.proofs.Settling.{settles_on}
 
 -- an exit of this kind is a direct one
@@ -48,15 +50,21 @@ unserved span r ram = record {
     none : (a w : ℕ) → a ≡ risen a (w - w)
     none a w = grind arith
 
--- what holds behind each step of a stretch of a run that asks neither the service nor a device, which began at `first`
-pub record Stretch (run : Course) (first : Point) (h : HartData) (ram : RamState) : Type 0 where
+-- what a policy keeps to
+pub record Laws (policy : Record → ImageData → Transfer → Record) : Type 0 where
+  pub linked : (r : Record) (v : ImageData) (b o t : ℕ) → is_linked r b o ≡ true → policy r v (direct b o t) ≡ r
+  pub one : (r : Record) (v : ImageData) (t : Transfer) → (policy r v t).counts.services ≤ r.counts.services + 1
+  pub written : (r : Record) (v : ImageData) (t : Transfer) → writes r ≤ writes (policy r v t)
+
+-- what holds behind each step of a stretch of a run that asks neither the ram, but for its fetch, nor a device, which began at `first`
+pub record Stretch (run : Course) (first : Point) (kept : Record) (h : HartData) (ram : RamState) : Type 0 where
   pub fits : Fits run.image run.from.kept run.from.hart
   pub small : run.limit ≤ 2 ^ 48
-  pub coherent : Coherent run.image first.kept run.span ram.words
-  pub linked : (b o t : ℕ) → is_linked first.kept b o ≡ true → run.policy first.kept run.image (direct b o t) ≡ first.kept
+  pub coherent : Coherent run.image kept run.span ram.words
+  pub laws : Laws run.policy
   pub below : first.hart.machine.steps < run.limit
   pub went : first.hart.machine.ending ≡ None
-  pub running : Running run (record first { hart = h; ram = ram })
+  pub running : Running run (record first { hart = h; kept = kept; ram = ram })
   pub settles : (l : List ℕ) → run.from.left ≡ Some l → is_between run.from.hart.control ≡ true → h.machine.ending ≡ None →
       (h.machine.steps < run.limit) ⊎ (is_between h.control ≡ true)
   pub words : ram.words ≡ first.ram.words
@@ -64,50 +72,59 @@ pub record Stretch (run : Course) (first : Point) (h : HartData) (ram : RamState
   pub going : h.machine.ending ≡ None
   pub short : h.machine.pc < 2 ^ 32
   pub rises : (h ≡ first.hart) ⊎ (most run.image first.hart.machine first.hart.control < most run.image h.machine h.control)
+  -- what no transfer lowers is no less
+  pub grows : (measure : Record → ℕ) → ((r : Record) (v : ImageData) (t : Transfer) → measure r ≤ measure (run.policy r v t)) → measure first.kept ≤ measure kept
 
 -- and what a step does
-record Went (run : Course) (first : Point) (h h' : HartData) : Type 0 where
-  grown : Grown run.image first.kept first.kept h h'
-  fits : Fits run.image first.kept h'
-  moves : first.kept ≡ moved run.policy first.kept run.image (transfer_at run.image h.machine h.control)
-  made : (l : List ℕ) → first.left ≡ Some l → Made run.image first.kept h h' l first.left first.out first.out first.err first.err
+record Went (run : Course) (first : Point) (r r' : Record) (before after : RamState) (h h' : HartData) : Type 0 where
+  grown : Grown run.image r r' h h'
+  fits : Fits run.image r' h'
+  moves : r' ≡ moved run.policy r run.image (transfer_at run.image h.machine h.control)
+  made : (l : List ℕ) → first.left ≡ Some l → Made run.image r' h h' l first.left first.out first.out first.err first.err
+  ram : RamServed run.span (writes r' - writes r) after after
+  coherent : Coherent run.image r' run.span after.words
 
 module _ {run : Course} {first : Point} where
-  pub home_at : {h : HartData} {ram : RamState} {i b o : ℕ} {stage : Stage} → Stretch run first h ram → h.control ≡ At i b o stage →
-      Home run.image first.kept h.machine i b o stage
-  home_at {h} {ram} {i} {b} {o} {stage} s control =
+  pub home_at : {r : Record} {h : HartData} {ram : RamState} {i b o : ℕ} {stage : Stage} → Stretch run first r h ram → h.control ≡ At i b o stage →
+      Home run.image r h.machine i b o stage
+  home_at {r} {h} {ram} {i} {b} {o} {stage} s control =
       let f = s.running.fits in
-      home run.image first.kept f.flat h.machine i b o stage f.image
-      (subst (λ (k : Control). Matches run.image first.kept f.flat h.machine k) control f.matches) s.going s.short
+      home run.image r f.flat h.machine i b o stage f.image
+      (subst (λ (k : Control). Matches run.image r f.flat h.machine k) control f.matches) s.going s.short
 
   -- the word under control lies in the part of the ram that the service uses
-  pub used : {h : HartData} {ram : RamState} {i b o : ℕ} {stage : Stage} → Stretch run first h ram → h.control ≡ At i b o stage → i < run.span
-  used {h} {ram} {i} {b} {o} {stage} s control = index_below run.image first.kept h.machine run.span ram.words i b o stage s.coherent (home_at s control)
+  pub used : {r : Record} {h : HartData} {ram : RamState} {i b o : ℕ} {stage : Stage} → Stretch run first r h ram → h.control ≡ At i b o stage → i < run.span
+  used {r} {h} {ram} {i} {b} {o} {stage} s control = index_below run.image r h.machine run.span ram.words i b o stage s.coherent (home_at s control)
 
-  pub stands : {h : HartData} {ram : RamState} {i b o : ℕ} {stage : Stage} → Stretch run first h ram → run.from.hart.count ≤ 2 ^ 55 → run.span ≤ 2 ^ 21 →
-      IsImage run.image → h.machine.steps < run.limit → h.control ≡ At i b o stage → StandsInside run.image first.kept ram h i b o stage
-  stands {h} {ram} {i} {b} {o} {stage} s few low image below control =
+  pub stands : {r : Record} {h : HartData} {ram : RamState} {i b o : ℕ} {stage : Stage} → Stretch run first r h ram → run.from.hart.count ≤ 2 ^ 55 →
+      run.from.kept.counts.services ≤ 2 ^ 49 → run.span ≤ 2 ^ 21 →
+      IsImage run.image → h.machine.steps < run.limit → h.control ≡ At i b o stage → StandsInside run.image r ram h i b o stage
+  stands {r} {h} {ram} {i} {b} {o} {stage} s few calls low image below control =
       let v = run.image in
       let at = home_at s control in
       let inside = used s control in
       record {
         home = at;
-        decodes = got_some v first.kept h.machine run.span ram.words i b o stage s.coherent at (slice_index ram.words i) refl;
-        in_ram = index_fits v first.kept h.machine run.span ram.words i b o stage s.coherent at;
+        decodes = got_some v r h.machine run.span ram.words i b o stage s.coherent at (slice_index ram.words i) refl;
+        in_ram = index_fits v r h.machine run.span ram.words i b o stage s.coherent at;
         index = omega (arith, inside, low);
-        offset = offset_small v first.kept h.machine run.span ram.words i b o stage s.coherent at image;
+        offset = offset_small v r h.machine run.span ram.words i b o stage s.coherent at image;
         count = count_small s.running below s.going s.short s.small few;
+        services = calls_small s.running below s.going s.short s.small calls;
       }
 
-  module _ {h h' : HartData} {ram ram' : RamState} (s : Stretch run first h ram) (below : h.machine.steps < run.limit) (k : WalkedOn run.image first.kept ram ram' h h') where
-    step_at : Home run.image first.kept h.machine k.index k.block k.offset k.stage
+  module _ {r r' : Record} {h h' : HartData} {ram ram' : RamState} (s : Stretch run first r h ram) (below : h.machine.steps < run.limit)
+      (k : WalkedOn run.policy run.span run.image r r' ram ram' h h') where
+    step_at : Home run.image r h.machine k.index k.block k.offset k.stage
     step_at = home_at s k.control
 
+    same_words : ram'.words ≡ ram.words
+    same_words = ap (λ (n : RamState). n.words) k.fetched
+
     -- a word is executed as its role has it
-    step_word : (x : Instr) → x ≡ k.instruction → WordOn h.machine h'.machine h'.control x k.index k.block k.offset k.stage → Went run first h h'
+    step_word : (x : Instr) → x ≡ k.instruction → WordOn h.machine h'.machine h'.control x k.index k.block k.offset k.stage → Went run first r r ram ram' h h'
     step_word x is w =
         let v = run.image in
-        let r = first.kept in
         let role : Role = quick_role k.stage x (original h.machine) in
         let stands = word_home v r h.machine run.span ram.words k.index k.block k.offset k.stage s.coherent step_at (slice_index ram.words k.index) x refl
         (ap (λ (y : Instr). Some y) is ∙ k.is) w.stays in
@@ -121,51 +138,86 @@ module _ {run : Course} {first : Point} where
           made = λ l told. made_word v r r h h' k.index k.block k.offset k.stage k.control x role l first.left first.out first.out first.err first.err stands refl
               (subst (λ (y : Stepped). Did h h' y first.left first.out first.out first.err first.err) (sym (w.step l))
               (did_quiet h h' l first.left first.out first.err k.is_counted told));
+          ram = unserved run.span r ram';
+          coherent = subst (λ (n : List ℕ). Coherent v r run.span n) (sym same_words) s.coherent;
         }
 
-    -- and a link gone over as its exit is left
-    step_link : (x : Instr) → x ≡ k.instruction →
-        LinkOn run.image first.kept h.machine h'.machine h'.control x (slice_index ram.words k.index) k.index k.block k.offset k.stage → Went run first h h'
-    step_link x is w =
+    -- an exit is left
+    step_exit : ExitHome run.image h.machine k.block k.offset k.stage →
+        ((l : List ℕ) → ExitStep (exit_kind (word_at run.image k.block (k.offset + 1))) run.image r' h.machine (step_to h' l) l k.index k.block k.offset k.stage) →
+        r' ≡ moved run.policy r run.image (exit_transfer (exit_kind (word_at run.image k.block (k.offset + 1))) run.image h.machine k.block k.offset) →
+        RamServed run.span (writes r' - writes r) ram' ram' → Coherent run.image r' run.span ram'.words → Went run first r r' ram ram' h h'
+    step_exit e step moves served coherent =
         let v = run.image in
-        let r = first.kept in
+        record {
+          grown = grown_exit v r r' h h' k.index k.block k.offset k.stage k.control (sym s.going) e step k.is_counted (moved_services run.policy s.laws.one r r' v _ moves);
+          fits = fits_exit v r r' h h' k.index k.block k.offset k.stage k.control s.running.fits (sym s.going) s.short e step k.is_counted;
+          moves = rw k.control (exit_moves v r' h.machine k.index k.block k.offset k.stage run.policy r e moves);
+          made = λ l told. made_exit v r r' h h' k.index k.block k.offset k.stage k.control l first.left first.out first.err e step k.is_counted told;
+          ram = served;
+          coherent = coherent;
+        }
+
+    exit_at : (x : Instr) → x ≡ k.instruction → leaves x ≡ true → ExitHome run.image h.machine k.block k.offset k.stage
+    exit_at x is leaving = exit_home run.image r h.machine run.span ram.words k.index k.block k.offset k.stage s.coherent step_at (slice_index ram.words k.index) x refl
+        (ap (λ (y : Instr). Some y) is ∙ k.is) leaving
+
+    -- and a link gone over as its exit is left
+    step_link : r' ≡ r → (x : Instr) → x ≡ k.instruction →
+        LinkOn run.image r h.machine h'.machine h'.control x (slice_index ram.words k.index) k.index k.block k.offset k.stage → Went run first r r' ram ram' h h'
+    step_link same x is w =
+        let v = run.image in
         let got = slice_index ram.words k.index in
-        let e = exit_home v r h.machine run.span ram.words k.index k.block k.offset k.stage s.coherent step_at got x refl
-        (ap (λ (y : Instr). Some y) is ∙ k.is) w.leaving in
+        let e = exit_at x is w.leaving in
         let leave = leave_at v r ram.words h.machine got k.index k.block k.offset k.stage e
         (placed v r h.machine run.span ram.words k.index k.block k.offset k.stage s.coherent step_at) step_at.known refl w.is_direct in
         let linked = jump_linked v r run.span ram.words got k.index k.block k.offset s.coherent leave w.linked in
         let kind : exit_kind (word_at v k.block (k.offset + 1)) ≡ Direct = direct_kind (word_at v k.block (k.offset + 1)) w.is_direct in
-        let step : (l : List ℕ) → ExitStep (exit_kind (word_at v k.block (k.offset + 1))) v r h.machine (step_to h' l) l k.index k.block k.offset k.stage =
-        λ l. subst (λ (y : ExitKind). ExitStep y v r h.machine (step_to h' l) l k.index k.block k.offset k.stage) (sym kind) (w.step l) in
-        let moves : r ≡ moved run.policy r v (exit_transfer (exit_kind (word_at v k.block (k.offset + 1))) v h.machine k.block k.offset) =
-        subst (λ (y : ExitKind). r ≡ moved run.policy r v (exit_transfer y v h.machine k.block k.offset)) (sym kind)
-        (sym (s.linked k.block k.offset (word_at v k.block (k.offset + 1)) linked)) in
-        record {
-          grown = grown_exit v r r h h' k.index k.block k.offset k.stage k.control (sym s.going) e step k.is_counted (omega arith);
-          fits = fits_exit v r r h h' k.index k.block k.offset k.stage k.control s.running.fits (sym s.going) s.short e step k.is_counted;
-          moves = rw k.control (exit_moves v r h.machine k.index k.block k.offset k.stage run.policy r e moves);
-          made = λ l told. made_exit v r r h h' k.index k.block k.offset k.stage k.control l first.left first.out first.err e step k.is_counted told;
-        }
+        let step : (l : List ℕ) → ExitStep (exit_kind (word_at v k.block (k.offset + 1))) v r' h.machine (step_to h' l) l k.index k.block k.offset k.stage =
+        λ l. subst (λ (n : Record). ExitStep (exit_kind (word_at v k.block (k.offset + 1))) v n h.machine (step_to h' l) l k.index k.block k.offset k.stage) (sym same)
+        (subst (λ (y : ExitKind). ExitStep y v r h.machine (step_to h' l) l k.index k.block k.offset k.stage) (sym kind) (w.step l)) in
+        let moves : r' ≡ moved run.policy r v (exit_transfer (exit_kind (word_at v k.block (k.offset + 1))) v h.machine k.block k.offset) =
+        same ∙ subst (λ (y : ExitKind). r ≡ moved run.policy r v (exit_transfer y v h.machine k.block k.offset)) (sym kind)
+        (sym (s.laws.linked r v k.block k.offset (word_at v k.block (k.offset + 1)) linked)) in
+        step_exit e step moves (subst (λ (n : Record). RamServed run.span (writes n - writes r) ram' ram') (sym same) (unserved run.span r ram'))
+        (subst (λ (n : Record). Coherent v n run.span ram'.words) (sym same) (subst (λ (n : List ℕ). Coherent v r run.span n) (sym same_words) s.coherent))
 
-    step_all : Went run first h h'
-    step_all = elim k.step [ inl w ↦ step_word k.instruction refl w | inr w ↦ step_link k.instruction refl w ]
+    -- and a jump to a placed block
+    step_jump : (x : Instr) → x ≡ k.instruction → leaves x ≡ true →
+        JumpOn run.policy run.span run.image r r' ram' h.machine h'.machine h'.control k.index k.block k.offset k.stage → Went run first r r' ram ram' h h'
+    step_jump x is leaving w =
+        let v = run.image in
+        step_exit (exit_at x is leaving)
+        (λ l. subst (λ (y : ExitKind). ExitStep y v r' h.machine (step_to h' l) l k.index k.block k.offset k.stage) (sym w.is_indirect) (w.step l))
+        (subst (λ (y : ExitKind). r' ≡ moved run.policy r v (exit_transfer y v h.machine k.block k.offset)) (sym w.is_indirect) w.moves)
+        w.served w.coherent
 
-  one : {h h' : HartData} {ram ram' : RamState} → Stretch run first h ram → h.machine.steps < run.limit → WalkedOn run.image first.kept ram ram' h h' →
-      Stretch run first h' ram'
-  one {h} {h'} {ram} {ram'} s below w =
-      let all : Went run first h h' = step_all s below w in
-      let stepped = ram_exit run.span (writes first.kept - writes first.kept) w.index w.block w.offset w.stage h.control ram ram' ram' w.control
-      (used s w.control) w.fetched (unserved run.span first.kept ram') in
+    step_all : Went run first r r' ram ram' h h'
+    step_all = elim k.step [
+      | inl stays ↦ step_stays stays.0 stays.1
+      | inr jump ↦ step_jump k.instruction refl jump.0 jump.1
+    ]
+      where
+        step_stays : r' ≡ r → StepOn run.image r h.machine h'.machine h'.control k.instruction (slice_index ram.words k.index) k.index k.block k.offset k.stage →
+            Went run first r r' ram ram' h h'
+        step_stays same (inl w) = subst (λ (n : Record). Went run first r n ram ram' h h') (sym same) (step_word k.instruction refl w)
+        step_stays same (inr w) = step_link same k.instruction refl w
+
+  one : {r r' : Record} {h h' : HartData} {ram ram' : RamState} → Stretch run first r h ram → h.machine.steps < run.limit →
+      WalkedOn run.policy run.span run.image r r' ram ram' h h' → Stretch run first r' h' ram'
+  one {r} {r'} {h} {h'} {ram} {ram'} s below w =
+      let all : Went run first r r' ram ram' h h' = step_all s below w in
+      let stepped = ram_exit run.span (writes r' - writes r) w.index w.block w.offset w.stage h.control ram ram' ram' w.control
+      (used s w.control) w.fetched all.ram in
       record {
         fits = s.fits;
         small = s.small;
-        coherent = subst (λ (k : List ℕ). Coherent run.image first.kept run.span k) (sym (ap (λ (k : RamState). k.words) w.fetched)) s.coherent;
-        linked = s.linked;
+        coherent = all.coherent;
+        laws = s.laws;
         below = s.below;
         went = s.went;
-        running = runs_on s.running below s.going s.short s.small {next = record first { hart = h'; ram = ram' }} stepped (omega arith) all.fits all.grown
-            all.moves all.made;
+        running = runs_on s.running below s.going s.short s.small {next = record first { hart = h'; kept = r'; ram = ram' }} stepped
+            (no_less s.running all.moves (λ n. writes n) s.laws.written) all.fits all.grown all.moves all.made;
         settles = λ l told between going.
             let now = s.running.goes l told s.fits.flat s.fits.image s.fits.matches in
             settles_on below (all.made now.now.input now.left_is) going;
@@ -174,6 +226,7 @@ module _ {run : Course} {first : Point} where
         going = w.going;
         short = w.short;
         rises = inr (higher (most_running run.image h.machine h.control s.going) all.grown.most s.rises);
+        grows = λ measure law. (let so_far = s.grows measure law in let more = no_less s.running all.moves measure law in omega (arith, so_far, more));
       }
     where
       higher : most run.image h.machine h.control ≡ 3 * h.machine.steps + depth run.image h.machine h.control →
@@ -183,22 +236,21 @@ module _ {run : Course} {first : Point} where
       higher is up (inl same) = let m = ap (λ (k : HartData). most run.image k.machine k.control) same in omega (arith, is, up, m)
       higher is up (inr above) = omega (arith, is, up, above)
 
-  pub walk : {h : HartData} {ram : RamState} → Stretch run first first.hart first.ram → Walked run.image first.kept run.limit first.hart first.ram h ram →
-      Stretch run first h ram
+  pub walk : {r : Record} {h : HartData} {ram : RamState} → Stretch run first first.kept first.hart first.ram →
+      Walked run.policy run.span run.image run.limit first.kept first.hart first.ram r h ram → Stretch run first r h ram
   walk s Walked.here = s
-  walk s (Walked.on h1 h2 ram1 ram2 w below k) = one (walk s w) below k
+  walk s (Walked.on r1 r2 h1 h2 ram1 ram2 w below k) = one (walk s w) below k
 
   pub begins : {h : HartData} → Running run first → ((l : List ℕ) → run.from.left ≡ Some l → is_between run.from.hart.control ≡ true →
       first.hart.machine.ending ≡ None → (first.hart.machine.steps < run.limit) ⊎ (is_between first.hart.control ≡ true)) →
-      Fits run.image run.from.kept run.from.hart → run.limit ≤ 2 ^ 48 → Coherent run.image first.kept run.span first.ram.words →
-      ((b o t : ℕ) → is_linked first.kept b o ≡ true → run.policy first.kept run.image (direct b o t) ≡ first.kept) →
+      Fits run.image run.from.kept run.from.hart → run.limit ≤ 2 ^ 48 → Coherent run.image first.kept run.span first.ram.words → Laws run.policy →
       h ≡ first.hart → h.machine.steps < run.limit → first.hart.machine.ending ≡ None → first.hart.machine.pc < 2 ^ 32 →
-      Stretch run first first.hart first.ram
-  begins {h} running settles fits small coherent linked same below going short = record {
+      Stretch run first first.kept first.hart first.ram
+  begins {h} running settles fits small coherent laws same below going short = record {
     fits = fits;
     small = small;
     coherent = coherent;
-    linked = linked;
+    laws = laws;
     below = subst (λ (k : HartData). k.machine.steps < run.limit) same below;
     went = going;
     running = running;
@@ -208,17 +260,19 @@ module _ {run : Course} {first : Point} where
     going = going;
     short = short;
     rises = inl refl;
+    grows = λ measure law. omega arith;
   }
 
   -- the measure of the loop of words falls
-  pub word_falls : {h h' : HartData} {ram ram' : RamState} → Stretch run first h ram → h.machine.steps < run.limit → WalkedOn run.image first.kept ram ram' h h' →
+  pub word_falls : {r r' : Record} {h h' : HartData} {ram ram' : RamState} → Stretch run first r h ram → h.machine.steps < run.limit →
+      WalkedOn run.policy run.span run.image r r' ram ram' h h' →
       3 * run.limit + 5 - most run.image h'.machine h'.control < 3 * run.limit + 5 - most run.image h.machine h.control
-  word_falls {h} {h'} s below k = let all : Went run first h h' = step_all s below k in falls below s.going all.grown
+  word_falls {r} {r'} {h} {h'} {ram} {ram'} s below k = let all : Went run first r r' ram ram' h h' = step_all s below k in falls below s.going all.grown
 
   -- and so does that of a run, by a step behind the stretch
-  pub falls_from : {h h' : HartData} {ram : RamState} {new : Record} → Stretch run first h ram → h.machine.steps < run.limit → Grown run.image first.kept new h h' →
+  pub falls_from : {r : Record} {h h' : HartData} {ram : RamState} {new : Record} → Stretch run first r h ram → h.machine.steps < run.limit → Grown run.image r new h h' →
       3 * run.limit + 5 - most run.image h'.machine h'.control < 3 * run.limit + 5 - most run.image first.hart.machine first.hart.control
-  falls_from {h} s below grown =
+  falls_from {r} {h} s below grown =
       let less = falls below s.going grown in
       elim s.rises [
         | inl same ↦ let m = ap (λ (k : HartData). most run.image k.machine k.control) same in omega (arith, less, m)
@@ -226,9 +280,9 @@ module _ {run : Course} {first : Point} where
       ]
 
   -- and smaller where the limit is reached
-  pub lower : {h : HartData} {ram : RamState} → Stretch run first h ram → run.limit ≤ h.machine.steps →
+  pub lower : {r : Record} {h : HartData} {ram : RamState} → Stretch run first r h ram → run.limit ≤ h.machine.steps →
       3 * run.limit + 5 - most run.image h.machine h.control < 3 * run.limit + 5 - most run.image first.hart.machine first.hart.control
-  lower {h} s over =
+  lower {r} {h} s over =
       let m = most_running run.image first.hart.machine first.hart.control s.went in
       let d = depth_most run.image first.hart.machine first.hart.control in
       let more = s.below in
@@ -238,20 +292,22 @@ module _ {run : Course} {first : Point} where
       ]
 
 -- how steps within a block ended, by the answer
-pub at_limit : {E : Type 0} {v : ImageData} {r : Record} {answer : Result (Option ℕ) E} {found : Option ℕ} {n : ℕ} {h h' : HartData} {ram ram' : RamState} →
-    answer ≡ Ok found → found ≡ None → BlockRan v r answer n h ram h' ram' → Walked v r n h ram h' ram' × (n ≤ h'.machine.steps)
-at_limit {E} {v} {r} {answer} {found} {n} {h} {h'} {ram} {ram'} is none ran =
-    subst (λ (k : Result (Option ℕ) E). BlockRan v r k n h ram h' ram') (is ∙ ap (λ (k : Option ℕ). Ok k) none) ran
+module _ {E : Type 0} {policy : Record → ImageData → Transfer → Record} {span : ℕ} {v : ImageData} {answer : Result (Option ℕ) E} {n : ℕ} {r r' : Record} {h h' : HartData} {ram ram' : RamState} where
+  pub at_limit : {found : Option ℕ} → answer ≡ Ok found → found ≡ None → BlockRan policy span v answer n r h ram r' h' ram' →
+      Walked policy span v n r h ram r' h' ram' × (n ≤ h'.machine.steps)
+  at_limit is none ran = subst (λ (k : Result (Option ℕ) E). BlockRan policy span v k n r h ram r' h' ram') (is ∙ ap (λ (k : Option ℕ). Ok k) none) ran
 
-pub before_word : {E : Type 0} {v : ImageData} {r : Record} {answer : Result (Option ℕ) E} {found : Option ℕ} {got n : ℕ} {h h' : HartData} {ram ram' : RamState} →
-    answer ≡ Ok found → found ≡ Some got → BlockRan v r answer n h ram h' ram' → StoppedAt v r (Some got) n h ram h' ram'
-before_word {E} {v} {r} {answer} {found} {got} {n} {h} {h'} {ram} {ram'} is word ran =
-    subst (λ (k : Result (Option ℕ) E). BlockRan v r k n h ram h' ram') (is ∙ ap (λ (k : Option ℕ). Ok k) word) ran
+  pub before_word : {found : Option ℕ} {got : ℕ} → answer ≡ Ok found → found ≡ Some got → BlockRan policy span v answer n r h ram r' h' ram' →
+      StoppedAt policy span v (Some got) n r h ram r' h' ram'
+  before_word is word ran = subst (λ (k : Result (Option ℕ) E). BlockRan policy span v k n r h ram r' h' ram') (is ∙ ap (λ (k : Option ℕ). Ok k) word) ran
 
-pub before_fault : {E : Type 0} {v : ImageData} {r : Record} {answer : Result (Option ℕ) E} {e : E} {n : ℕ} {h h' : HartData} {ram ram' : RamState} →
-    answer ≡ Err e → BlockRan v r answer n h ram h' ram' → StoppedAt v r None n h ram h' ram'
-before_fault {E} {v} {r} {answer} {e} {n} {h} {h'} {ram} {ram'} is ran =
-    subst (λ (k : Result (Option ℕ) E). BlockRan v r k n h ram h' ram') is ran
+  pub before_fault : {e : E} → answer ≡ Err e → BlockRan policy span v answer n r h ram r' h' ram' → StoppedAt policy span v None n r h ram r' h' ram'
+  before_fault is ran = subst (λ (k : Result (Option ℕ) E). BlockRan policy span v k n r h ram r' h' ram') is ran
 
 pub same_index : {c : Control} {i b o : ℕ} {s : Stage} {i' b' o' : ℕ} {s' : Stage} → c ≡ At i b o s → c ≡ At i' b' o' s' → i ≡ i'
 same_index {c} {i} {b} {o} {s} {i'} {b'} {o'} {s'} one other = let k : At i b o s ≡ At i' b' o' s' = sym one ∙ other in cc
+
+-- an ending that is none
+pub not_ended : (e : Option End) (t : Bool) → is_some e ≡ not t → t ≡ true → e ≡ None
+not_ended None t is holds = refl
+not_ended (Some x) t is holds = absurd (false≢true (sym (is ∙ ap not holds)))

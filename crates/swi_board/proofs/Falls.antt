@@ -16,7 +16,6 @@ use Rattle.swi_board.specs.declared.hart.Control.{Control}
 use Rattle.swi_board.specs.declared.hart.Control.TheVariants.{At, Outside}
 use Rattle.swi_isa.specs.declared.instr.Instr.{Instr}
 use Rattle.swi_isa.specs.declared.instr.Instr.TheVariants as instr
-use Rattle.swi_exec.specs.Arithmetic.{sum_of}
 use Rattle.swi_exec.specs.Execute.{address_of}
 use Rattle.swi_calls.specs.Flat.{quiet}
 use Rattle.swi_board.specs.declared.block.Walk.{Walk}

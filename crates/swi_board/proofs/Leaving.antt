@@ -1,5 +1,5 @@
 -- From a service's answer to what the board says of it.
-use Rattle.std.proofs.Common.{◌≡◌, ℕ, ◌+◌, ◌<◌, true, false, List, Some, None, Ok, Err, Result, slice_index, refl, sym, ap, subst, ◌∙◌, inl, inr, arith}
+use Rattle.std.proofs.Common.{◌≡◌, ℕ, ◌+◌, ◌-◌, ◌<◌, true, false, List, Some, None, Ok, Err, Result, slice_index, refl, sym, ap, subst, ◌∙◌, inl, inr, arith}
 use Rattle.std.proofs.lemmas.Bool.{cases_Bool}
 use Rattle.swi_image.specs.Format.{ImageData}
 use Rattle.swi_image.specs.Place.{word_at, length_at}
@@ -9,7 +9,7 @@ use Rattle.swi_isa.specs.declared.instr.Instr.TheVariants as instr
 use Rattle.swi_isa.specs.Decode.{decoded}
 use Rattle.swi_outside.specs.CacheRam.{RamState, KeepsBeyond}
 use Rattle.swi_render.specs.Rendering.{ebreak}
-use Rattle.swi_rom.specs.Record.{Record, Transfer, target_of, IsJump, jump_offset, is_linked, Placed}
+use Rattle.swi_rom.specs.Record.{Record, Transfer, target_of, IsJump, jump_offset, is_linked, writes, Placed}
 use Rattle.swi_rom.specs.Coherent.{Coherent, TargetAt, StandsAt}
 use Rattle.swi_rom.specs.Served.{Served, Spared, SameFrom}
 use Rattle.swi_rom.specs.declared.rom.RomStop.{RomStop}
@@ -17,7 +17,7 @@ use Rattle.swi_rom.specs.declared.rom.RomStop.TheVariants.{Outside, RamFault}
 use Rattle.swi_board.specs.declared.hart.Stage.TheVariants.{Start}
 use Rattle.swi_board.specs.declared.hart.Control.TheVariants.{At}
 use Rattle.swi_board.specs.Board.{Arrives}
-use Rattle.swi_board.specs.Leaving.{LeaveAt}
+use Rattle.swi_board.specs.Leaving.{LeaveAt, RamServed}
 use Rattle.swi_board.specs.Service.{ServiceState, Transferred}
 use Rattle.swi_isa.specs.Laws.{ebreak_decodes}
 
@@ -39,6 +39,10 @@ by_error {v = v} {span = span} {t = t} {old = old} {next = next} {new = new} {be
 
 beyond : {span : ℕ} {before after : RamState} → Spared span before after → KeepsBeyond span before after
 beyond d = record { same_length = d.length_stays; beyond = d.beyond; reached = d.reached }
+
+-- the ram after a service that gave an index
+pub ram_answered : {v : ImageData} {span t i : ℕ} {old next new : Record} {before after : RamState} → Served v span t old next new before after (Ok i) → RamServed span (writes new - writes old) before after
+ram_answered d = record { quiet = d.quiet; fetches_stay = d.spared.fetches_stay; last_stays = d.spared.last_stays; sets_rise = d.sets_rise; kept = beyond d.spared }
 
 -- the transfer, by the service's answer
 module _ {policy : List ℕ → Record → ImageData → Transfer → Record} {extent : List ℕ → Record → ℕ} {span : List ℕ → ℕ} {v : ImageData} {t : Transfer} {IsSound : Type 0} {s s' : ServiceState} (stays : s'.setting ≡ s.setting) where

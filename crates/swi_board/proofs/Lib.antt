@@ -28,6 +28,7 @@ pub mod Entering
 pub mod Following
 pub mod Settling
 pub mod Exchanging
+pub mod Turning
 pub mod Walking
 pub mod Blocks
 pub mod Answered

@@ -1,5 +1,5 @@
 -- One step more of a walk.
-use Rattle.std.proofs.Common.{◌≡◌, ℕ, ◌+◌, ◌-◌, ◌*◌, ◌^◌, ◌<◌, ◌≤◌, max, false, List, slice_index, Some, None, refl, sym, ap, subst, ◌∙◌, arith}
+use Rattle.std.proofs.Common.{◌≡◌, ◌⊎◌, inl, inr, ℕ, ◌+◌, ◌-◌, ◌^◌, ◌<◌, ◌≤◌, max, true, false, List, slice_index, Some, None, refl, sym, ap, subst, ◌∙◌, arith}
 use Rattle.swi_isa.specs.declared.instr.Instr.{Instr}
 use Rattle.swi_isa.specs.declared.instr.Instr.TheVariants as instr
 use Rattle.swi_isa.specs.Decode.{decoded}
@@ -13,7 +13,7 @@ use Rattle.swi_calls.specs.declared.machine.Machine.{Machine}
 use Rattle.swi_calls.specs.Flat.{quiet}
 use Rattle.swi_image.specs.Format.{ImageData}
 use Rattle.swi_render.specs.Rendering.{ebreak}
-use Rattle.swi_rom.specs.Record.{Record}
+use Rattle.swi_rom.specs.Record.{Record, Transfer}
 use Rattle.swi_board.specs.declared.hart.Stage.{Stage}
 use Rattle.swi_board.specs.declared.hart.Stage.TheVariants.{Start, Low, Return, Leave}
 use Rattle.swi_board.specs.declared.hart.Control.{Control}
@@ -23,7 +23,7 @@ use Rattle.swi_board.specs.declared.block.Next.TheVariants as next
 use Rattle.swi_board.specs.declared.block.Walk.{Walk}
 use Rattle.swi_board.specs.Hart.{HartData, stepped, word_stepped, instruction, is_fall}
 use Rattle.swi_board.specs.Leaving.{ExitHome, leaves, quick_role}
-use Rattle.swi_board.specs.Walked.{is_stop, role_by, went, gone, landed, walk_offset, walk_pc, walk_steps, walk_made, walk_count, walk_control, walk_machine, HasRoom, WalksTo, WordOn, StepOn, WalkedOn, Walked, StandsInside}
+use Rattle.swi_board.specs.Walked.{is_stop, role_by, went, gone, landed, walk_offset, walk_pc, walk_steps, walk_made, walk_count, walk_control, walk_machine, HasRoom, WalksTo, WordOn, StepOn, JumpOn, WalkedOn, Walked, StandsInside}
 
 lagging : (w : Walk) (m : Machine) (input : List ℕ) (stage : Stage) → w.from ≤ w.index →
     stepped (At (w.index + 1) w.block (walk_offset w + 1) stage) (quiet (walk_machine w m) input)
@@ -139,27 +139,44 @@ exit_by_pc v m m' b o stage is e = record {
     same Leave = refl
 
 -- a step of the loop is one more
-pub steps_on : (v : ImageData) (r : Record) (h h' : HartData) (ram ram' : RamState) (w w' : Walk) (x : Instr) (got : ℕ) →
-    h.control ≡ walk_control w → h'.control ≡ walk_control w' → h.machine ≡ walk_machine w h.machine → h'.machine ≡ walk_machine w' h'.machine → h'.count ≡ h.count + 1 → h'.failed ≡ h.failed → h'.booted ≡ h.booted →
-    h'.machine.ending ≡ None → (got ≡ slice_index ram.words w.index) × (ram' ≡ record ram { fetches = counted ram.fetches; reach = max ram.reach (w.index + 1); last = w.index }) → Some x ≡ decoded got →
-    StepOn v r h.machine h'.machine (walk_control w') x got w.index w.block (walk_offset w) w.stage → WalkedOn v r ram ram' h h'
-steps_on v r h h' ram ram' w w' x got at to seen seen' count failed booted going fetch decodes step = record {
-  index = w.index;
-  block = w.block;
-  offset = walk_offset w;
-  stage = w.stage;
-  control = at;
-  fetched = fetch.1;
-  instruction = x;
-  is = decodes ∙ ap decoded fetch.0;
-  step = subst (λ k. StepOn v r h.machine h'.machine h'.control x k w.index w.block (walk_offset w) w.stage) fetch.0
-      (subst (λ (k : Control). StepOn v r h.machine h'.machine k x got w.index w.block (walk_offset w) w.stage) (sym to) step);
-  is_counted = record { count = count; failed = failed; booted = booted };
-  going = going;
-  short = subst (λ (k : Machine). k.pc < 2 ^ 32) (sym seen') (walked_short w');
-}
+module _ (policy : Record → ImageData → Transfer → Record) (span : ℕ) (v : ImageData) (r r' : Record) (h h' : HartData) (ram ram' : RamState) (w w' : Walk) (x : Instr) (got : ℕ)
+    (at : h.control ≡ walk_control w) (to : h'.control ≡ walk_control w') (seen : h'.machine ≡ walk_machine w' h'.machine) (count : h'.count ≡ h.count + 1) (failed : h'.failed ≡ h.failed) (booted : h'.booted ≡ h.booted)
+    (going : h'.machine.ending ≡ None) (fetch : (got ≡ slice_index ram.words w.index) × (ram' ≡ record ram { fetches = counted ram.fetches; reach = max ram.reach (w.index + 1); last = w.index })) (decodes : Some x ≡ decoded got) where
+  stepped_on : ((r' ≡ r) × StepOn v r h.machine h'.machine h'.control x (slice_index ram.words w.index) w.index w.block (walk_offset w) w.stage)
+      ⊎ ((leaves x ≡ true) × JumpOn policy span v r r' ram' h.machine h'.machine h'.control w.index w.block (walk_offset w) w.stage) → WalkedOn policy span v r r' ram ram' h h'
+  stepped_on step = record {
+    index = w.index;
+    block = w.block;
+    offset = walk_offset w;
+    stage = w.stage;
+    control = at;
+    fetched = fetch.1;
+    instruction = x;
+    is = decodes ∙ ap decoded fetch.0;
+    step = step;
+    is_counted = record { count = count; failed = failed; booted = booted };
+    going = going;
+    short = subst (λ (k : Machine). k.pc < 2 ^ 32) (sym seen) (walked_short w');
+  }
+
+  pub steps_on : r' ≡ r → StepOn v r h.machine h'.machine (walk_control w') x got w.index w.block (walk_offset w) w.stage → WalkedOn policy span v r r' ram ram' h h'
+  steps_on same step = stepped_on (inl (
+    same,
+    subst (λ k. StepOn v r h.machine h'.machine h'.control x k w.index w.block (walk_offset w) w.stage) fetch.0
+        (subst (λ (k : Control). StepOn v r h.machine h'.machine k x got w.index w.block (walk_offset w) w.stage) (sym to) step),
+  ))
+
+  pub jumps_on : leaves x ≡ true → JumpOn policy span v r r' ram' h.machine h'.machine (walk_control w') w.index w.block (walk_offset w) w.stage → WalkedOn policy span v r r' ram ram' h h'
+  jumps_on leaving step = stepped_on (inr (leaving, subst (λ (k : Control). JumpOn policy span v r r' ram' h.machine h'.machine k w.index w.block (walk_offset w) w.stage) (sym to) step))
+
+-- an EBREAK leaves its block
+pub break_leaves : (got : ℕ) (x : Instr) → Some x ≡ decoded got → got ≡ ebreak → leaves x ≡ true
+break_leaves got x decodes is =
+    let two : Some x ≡ Some instr.Ebreak = decodes ∙ ap decoded is ∙ ebreak_decodes in
+    let same : x ≡ instr.Ebreak = cc in
+    ap leaves same
 
 -- before the first
-pub started : (v : ImageData) (r : Record) (limit : ℕ) (h : HartData) (c : Control) (pc steps count : ℕ) (ram : RamState) → c ≡ h.control → pc ≡ h.machine.pc → steps ≡ h.machine.steps → count ≡ h.count →
-    Walked v r limit h ram (record h { control = c; machine = record h.machine { pc = pc; steps = steps }; count = count }) ram
-started v r limit h c pc steps count ram place from made number = rw (place, from, made, number) Walked.here
+pub started : (policy : Record → ImageData → Transfer → Record) (span : ℕ) (v : ImageData) (r : Record) (limit : ℕ) (h : HartData) (c : Control) (pc steps count : ℕ) (ram : RamState) → c ≡ h.control → pc ≡ h.machine.pc → steps ≡ h.machine.steps → count ≡ h.count →
+    Walked policy span v limit r h ram r (record h { control = c; machine = record h.machine { pc = pc; steps = steps }; count = count }) ram
+started policy span v r limit h c pc steps count ram place from made number = rw (place, from, made, number) Walked.here

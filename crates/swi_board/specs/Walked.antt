@@ -1,4 +1,5 @@
--- Steps that ask neither the service nor a device and don't end the run: words that stay in their block, and links. Own rule.
+-- Steps that ask neither the ram, but for their fetch, nor a device and don't end the run: words that stay in their block, links, and
+-- jumps to a placed block. Own rule.
 use Rattle.std.specs.Prelude.{◌≡◌, ◌⊎◌, ℕ, ◌+◌, ◌-◌, ◌*◌, ◌%◌, ◌^◌, ◌<◌, ◌≤◌, max, Bool, true, false, List, length, slice_index, Option, Some, None, Result, Ok, Err}
 use Rattle.swi_isa.specs.declared.instr.Instr.{Instr}
 use Rattle.swi_isa.specs.Decode.{decoded}
@@ -6,7 +7,8 @@ use Rattle.swi_exec.specs.Arithmetic.{sum_of}
 use Rattle.swi_image.specs.Format.{ImageData}
 use Rattle.swi_image.specs.Place.{word_at}
 use Rattle.swi_render.specs.Rendering.{ebreak}
-use Rattle.swi_rom.specs.Record.{Record}
+use Rattle.swi_rom.specs.Record.{Record, Transfer, writes}
+use Rattle.swi_rom.specs.Coherent.{Coherent}
 use Rattle.swi_outside.specs.Causes.{Rose, counted}
 use Rattle.swi_outside.specs.CacheRam.{RamState}
 use Rattle.swi_calls.specs.declared.machine.Machine.{Machine}
@@ -17,13 +19,13 @@ use Rattle.swi_board.specs.declared.hart.Control.{Control}
 use Rattle.swi_board.specs.declared.hart.Control.TheVariants.{At}
 use Rattle.swi_board.specs.declared.hart.Role.{Role}
 use Rattle.swi_board.specs.declared.hart.Role.TheVariants.{Lead, Whole, Over}
-use Rattle.swi_board.specs.declared.hart.ExitKind.TheVariants.{Direct}
+use Rattle.swi_board.specs.declared.hart.ExitKind.TheVariants.{Direct, Indirect}
 use Rattle.swi_board.specs.declared.block.Walk.{Walk}
 use Rattle.swi_board.specs.declared.block.Next.{Next}
 use Rattle.swi_board.specs.declared.block.Next.TheVariants as next
-use Rattle.swi_board.specs.Hart.{HartData, Stepped, stepped, word_stepped, original}
+use Rattle.swi_board.specs.Hart.{HartData, Stepped, stepped, word_stepped, original, exit_kind}
 use Rattle.swi_board.specs.Board.{ExitStep}
-use Rattle.swi_board.specs.Leaving.{Home, Counted, leaves, quick_role}
+use Rattle.swi_board.specs.Leaving.{Home, Counted, RamServed, exit_transfer, leaves, moved, quick_role}
 
 abbrev pub is_stop : Next → Bool
 is_stop next.On = false
@@ -128,8 +130,16 @@ pub record LinkOn (v : ImageData) (r : Record) (m m' : Machine) (c : Control) (x
 abbrev pub StepOn : ImageData → Record → Machine → Machine → Control → Instr → ℕ → ℕ → ℕ → ℕ → Stage → Type 0
 StepOn v r m m' c x w index block offset stage = WordOn m m' c x index block offset stage ⊎ LinkOn v r m m' c x w index block offset stage
 
--- one such step
-pub record WalkedOn (v : ImageData) (r : Record) (before after : RamState) (h h' : HartData) : Type 0 where
+-- and one at the exit of a JALR whose target's block is placed: the service counts it by its policy, and does nothing to the ram
+pub record JumpOn (policy : Record → ImageData → Transfer → Record) (span : ℕ) (v : ImageData) (r r' : Record) (ram : RamState) (m m' : Machine) (c : Control) (index block offset : ℕ) (stage : Stage) : Type 0 where
+  pub is_indirect : exit_kind (word_at v block (offset + 1)) ≡ Indirect
+  pub step : (input : List ℕ) → ExitStep Indirect v r' m (stepped c (quiet m' input)) input index block offset stage
+  pub moves : r' ≡ moved policy r v (exit_transfer Indirect v m block offset)
+  pub served : RamServed span (writes r' - writes r) ram ram
+  pub coherent : Coherent v r' span ram.words
+
+-- one such step, with the service's record before and after it
+pub record WalkedOn (policy : Record → ImageData → Transfer → Record) (span : ℕ) (v : ImageData) (r r' : Record) (before after : RamState) (h h' : HartData) : Type 0 where
   pub index : ℕ
   pub block : ℕ
   pub offset : ℕ
@@ -138,15 +148,16 @@ pub record WalkedOn (v : ImageData) (r : Record) (before after : RamState) (h h'
   pub fetched : after ≡ record before { fetches = counted before.fetches; reach = max before.reach (index + 1); last = index }
   pub instruction : Instr
   pub is : Some instruction ≡ decoded (slice_index before.words index)
-  pub step : StepOn v r h.machine h'.machine h'.control instruction (slice_index before.words index) index block offset stage
+  pub step : ((r' ≡ r) × StepOn v r h.machine h'.machine h'.control instruction (slice_index before.words index) index block offset stage)
+      ⊎ ((leaves instruction ≡ true) × JumpOn policy span v r r' after h.machine h'.machine h'.control index block offset stage)
   pub is_counted : Counted h h'
   pub going : h'.machine.ending ≡ None
   pub short : h'.machine.pc < 2 ^ 32
 
 -- and any number of them, each from below the limit of steps
-pub data Walked (v : ImageData) (r : Record) (limit : ℕ) (h : HartData) (ram : RamState) : HartData → RamState → Type 0 where
-  here : Walked v r limit h ram h ram
-  on : (h1 h2 : HartData) (ram1 ram2 : RamState) → Walked v r limit h ram h1 ram1 → h1.machine.steps < limit → WalkedOn v r ram1 ram2 h1 h2 → Walked v r limit h ram h2 ram2
+pub data Walked (policy : Record → ImageData → Transfer → Record) (span : ℕ) (v : ImageData) (limit : ℕ) (r : Record) (h : HartData) (ram : RamState) : Record → HartData → RamState → Type 0 where
+  here : Walked policy span v limit r h ram r h ram
+  on : (r1 r2 : Record) (h1 h2 : HartData) (ram1 ram2 : RamState) → Walked policy span v limit r h ram r1 h1 ram1 → h1.machine.steps < limit → WalkedOn policy span v r1 r2 ram1 ram2 h1 h2 → Walked policy span v limit r h ram r2 h2 ram2
 
 -- what is known of each word that they come to
 pub record StandsInside (v : ImageData) (r : Record) (ram : RamState) (h : HartData) (i b o : ℕ) (stage : Stage) : Type 0 where
@@ -156,6 +167,7 @@ pub record StandsInside (v : ImageData) (r : Record) (ram : RamState) (h : HartD
   pub index : i < 2 ^ 22
   pub offset : o < 2 ^ 22
   pub count : h.count < 2 ^ 56
+  pub services : r.counts.services < 2 ^ 50
 
 -- a fetch of word i, by the word that it answered, None where it failed
 abbrev pub Answered : Option ℕ → RamState → ℕ → RamState → Type 0
@@ -165,9 +177,9 @@ Answered None old i new = Rose old.faults new.faults × (old.faults ≤ new.faul
     × (new ≡ record old { faults = new.faults; reach = max old.reach (i + 1) })
 
 -- the steps ended before a word, whose fetch answered so
-pub record StoppedAt (v : ImageData) (r : Record) (got : Option ℕ) (limit : ℕ) (h : HartData) (ram : RamState) (h' : HartData) (ram' : RamState) : Type 0 where
+pub record StoppedAt (policy : Record → ImageData → Transfer → Record) (span : ℕ) (v : ImageData) (got : Option ℕ) (limit : ℕ) (r : Record) (h : HartData) (ram : RamState) (r' : Record) (h' : HartData) (ram' : RamState) : Type 0 where
   pub before : RamState
-  pub walked : Walked v r limit h ram h' before
+  pub walked : Walked policy span v limit r h ram r' h' before
   pub below : h'.machine.steps < limit
   pub index : ℕ
   pub block : ℕ
@@ -177,7 +189,7 @@ pub record StoppedAt (v : ImageData) (r : Record) (got : Option ℕ) (limit : �
   pub answered : Answered got before index ram'
 
 -- how they ended: at the limit, or before a word
-abbrev pub BlockRan : {E : Type 0} → ImageData → Record → Result (Option ℕ) E → ℕ → HartData → RamState → HartData → RamState → Type 0
-BlockRan v r (Ok None) limit h ram h' ram' = Walked v r limit h ram h' ram' × (limit ≤ h'.machine.steps)
-BlockRan v r (Ok (Some w)) limit h ram h' ram' = StoppedAt v r (Some w) limit h ram h' ram'
-BlockRan v r (Err e) limit h ram h' ram' = StoppedAt v r None limit h ram h' ram'
+abbrev pub BlockRan : {E : Type 0} → (Record → ImageData → Transfer → Record) → ℕ → ImageData → Result (Option ℕ) E → ℕ → Record → HartData → RamState → Record → HartData → RamState → Type 0
+BlockRan policy span v (Ok None) limit r h ram r' h' ram' = Walked policy span v limit r h ram r' h' ram' × (limit ≤ h'.machine.steps)
+BlockRan policy span v (Ok (Some w)) limit r h ram r' h' ram' = StoppedAt policy span v (Some w) limit r h ram r' h' ram'
+BlockRan policy span v (Err e) limit r h ram r' h' ram' = StoppedAt policy span v None limit r h ram r' h' ram'

@@ -14,11 +14,12 @@ ghost use Rattle.swi_board.specs.Hart.{HartData, instruction, stepped, word_step
 ghost use Rattle.swi_board.specs.Board.{ExitStep};
 ghost use Rattle.swi_board.specs.Leaving.{Home, ExitHome, PlacedAt, immediate_quick, leaves, offset_of, quick_role};
 ghost use Rattle.swi_board.specs.Runs.{most};
-ghost use Rattle.swi_board.specs.Walked.{is_stop, role_by, went, gone, landed, walk_offset, walk_pc, walk_steps, walk_made, walk_count, walk_control, walk_machine, HasRoom, WalksTo, StepOn, Walked, WalkedOn, StandsInside, BlockRan};
+ghost use Rattle.swi_board.specs.Walked.{is_stop, role_by, went, gone, landed, walk_offset, walk_pc, walk_steps, walk_made, walk_count, walk_control, walk_machine, HasRoom, WalksTo, StepOn, JumpOn, Walked, WalkedOn, StandsInside, BlockRan};
+ghost use Rattle.swi_rom.specs.Record.{Record};
 
-use crate::exit::{fell, jump_index};
+use crate::exit::{EBREAK, control_at, exit_kind, fell, jump_index};
 use crate::hart::{Control, ExitKind, Hart, Role, Stage};
-use crate::step::upper_role;
+use crate::step::{register_target, upper_role};
 use swi_calls::text_store;
 use swi_exec::{Done, Regs, exec};
 use swi_image::ImageView;
@@ -370,6 +371,60 @@ fn one<R: CacheRom, M: CacheRam>(
     }
 }
 
+/// A step at the exit of a JALR whose target's block is placed. At any other exit nothing changes.
+#[inline(never)]
+fn back<R: CacheRom, M: CacheRam>(
+    hart: &mut Hart,
+    rom: &mut R,
+    image: &ImageView<'_>,
+    ram: &M,
+    walk: &mut Walk,
+) -> bool
+    requires sound { R.sound rom.old image.now (M.state ram.now).words }
+    requires services { (R.kept rom.old).counts.services < 2 ^ 50 }
+    requires exit { ExitHome image.now (walk_machine walk.old hart.old.machine)
+        walk.old.block (walk_offset walk.old) walk.old.stage }
+    requires block { walk.old.block < length image.now.starts }
+    requires room { HasRoom walk.old }
+    ensures on { result ≡ true → JumpOn (R.policy (R.setting rom.old)) (R.span (R.setting rom.old)) image.now
+        (R.kept rom.old) (R.kept rom.new) (M.state ram.now) (walk_machine walk.old hart.old.machine)
+        (walk_machine walk.new hart.new.machine) (walk_control walk.new)
+        walk.old.index walk.old.block (walk_offset walk.old) walk.old.stage }
+    ensures counted { result ≡ true → walk_count walk.new ≡ walk_count walk.old + 1 }
+    ensures limited { result ≡ true → (n : ℕ) → WalksTo n walk.old → WalksTo n walk.new }
+    ensures near { walk_offset walk.new ≤ 2 ^ 22 + 2 }
+    ensures same { result ≡ false → (rom.new ≡ rom.old) × (hart.new ≡ hart.old) }
+    ensures rest { hart.new ≡ record hart.old {
+      machine = record hart.old.machine { regs = hart.new.machine.regs };
+    } }
+    ensures setting { R.setting rom.new ≡ R.setting rom.old }
+    ensures stays { R.sound rom.new image.now (M.state ram.now).words }
+{
+    let block = walk.block;
+    let offset = walk.offset();
+    let d = image.word(block, offset + 1);
+    if exit_kind(d) != ExitKind::Indirect {
+        return false;
+    }
+    let Some(x) = decode(d) else { unreachable!() };
+    let Instr::Jalr { rd, rs1, imm } = x else {
+        unreachable!()
+    };
+    let target = register_target(hart.machine.regs.get(rs1), imm);
+    if target % 4 != 0 {
+        return false;
+    }
+    let Some(index) = rom.revisit(image, ram, target) else {
+        return false;
+    };
+    let Control::At(at, to, place, _) = control_at(rom, index) else {
+        unreachable!()
+    };
+    hart.machine.regs.set(rd, image.word(block, offset + 2));
+    walk.land(at, to, place, target, false);
+    true
+}
+
 /// Where control is in the ram.
 #[inline(always)]
 pub(crate) fn block_place(hart: &Hart) -> Option<(u32, u32, u32, Stage)>
@@ -386,7 +441,7 @@ pub(crate) fn block_place(hart: &Hart) -> Option<(u32, u32, u32, Stage)>
 #[inline(never)]
 pub(crate) fn run_block<R: CacheRom, M: CacheRam>(
     hart: &mut Hart,
-    rom: &R,
+    rom: &mut R,
     image: &ImageView<'_>,
     ram: &mut M,
     limit: u64,
@@ -394,20 +449,24 @@ pub(crate) fn run_block<R: CacheRom, M: CacheRam>(
 ) -> Result<Option<u32>, Failed>
     requires going { hart.old.machine.ending ≡ None }
     requires control { hart.old.control ≡ Control.At at.0 at.1 at.2 at.3 }
-    requires sound { R.sound rom.now image.now (M.state ram.old).words }
+    requires sound { R.sound rom.old image.now (M.state ram.old).words }
     requires few { limit ≤ 2 ^ 48 }
     requires within { hart.old.machine.steps ≤ limit }
     requires offset { at.2 < 2 ^ 22 }
     requires short { hart.old.machine.pc < 2 ^ 32 }
-    requires inside { (h : HartData) (r : RamState) → Walked image.now (R.kept rom.now) limit hart.old
-        (M.state ram.old) h r → h.machine.steps < limit →
-        (i b o : ℕ) (stage : Stage) → h.control ≡ Control.At i b o stage →
-        StandsInside image.now (R.kept rom.now) r h i b o stage }
-    requires rises { (h h' : HartData) (r r' : RamState) → Walked image.now (R.kept rom.now) limit hart.old
-        (M.state ram.old) h r → h.machine.steps < limit → WalkedOn image.now (R.kept rom.now) r r' h h' →
+    requires inside { (r : Record) (h : HartData) (s : RamState) → Walked (R.policy (R.setting rom.old))
+        (R.span (R.setting rom.old)) image.now limit (R.kept rom.old) hart.old (M.state ram.old) r h s →
+        h.machine.steps < limit → (i b o : ℕ) (stage : Stage) → h.control ≡ Control.At i b o stage →
+        StandsInside image.now r s h i b o stage }
+    requires rises { (r r' : Record) (h h' : HartData) (s s' : RamState) → Walked (R.policy (R.setting rom.old))
+        (R.span (R.setting rom.old)) image.now limit (R.kept rom.old) hart.old (M.state ram.old) r h s →
+        h.machine.steps < limit → WalkedOn (R.policy (R.setting rom.old)) (R.span (R.setting rom.old)) image.now
+        r r' s s' h h' →
         3 * limit + 5 - most image.now h'.machine h'.control < 3 * limit + 5 - most image.now h.machine h.control }
-    ensures { BlockRan image.now (R.kept rom.now) result limit hart.old (M.state ram.old)
-        hart.new (M.state ram.new) }
+    ensures ran { BlockRan (R.policy (R.setting rom.old)) (R.span (R.setting rom.old)) image.now result limit
+        (R.kept rom.old) hart.old (M.state ram.old) (R.kept rom.new) hart.new (M.state ram.new) }
+    ensures setting { R.setting rom.new ≡ R.setting rom.old }
+    ensures sound { R.sound rom.new image.now (M.state ram.new).words }
 {
     let mut walk = Walk {
         index: at.0,
@@ -433,17 +492,19 @@ pub(crate) fn run_block<R: CacheRom, M: CacheRam>(
         let Some(x) = decode(word) else {
             unreachable!()
         };
-        if !one(hart, rom, image, ram, word, &x, &mut walk) {
-            left = Ok(Some(word));
-            break;
+        if one(hart, rom, image, ram, word, &x, &mut walk) {
+            continue;
         }
+        // A walk of its own: the loop's is passed to nothing that isn't inlined, and stays in registers.
+        let mut turned = walk;
+        if word == EBREAK && back(hart, rom, image, ram, &mut turned) {
+            walk = turned;
+            continue;
+        }
+        left = Ok(Some(word));
+        break;
     }
-    hart.control.go(Control::At(
-        walk.index,
-        walk.block,
-        walk.offset(),
-        walk.stage,
-    ));
+    hart.control.go(Control::At(walk.index, walk.block, walk.offset(), walk.stage));
     hart.machine.pc = walk.pc();
     hart.machine.steps = walk.steps();
     hart.count = walk.count();

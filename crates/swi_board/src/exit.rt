@@ -18,7 +18,7 @@ use swi_outside::{CacheRam, Failed};
 use swi_rom::{CacheRom, RomStop};
 
 /// The word of EBREAK, which stands for an exit.
-const EBREAK: u32 = 0x0010_0073;
+pub(crate) const EBREAK: u32 = 0x0010_0073;
 
 /// What an exit is for. Two tests of a bit each: of four cases of one number the compiler makes a jump through a table.
 #[inline(always)]

@@ -173,7 +173,7 @@ fn jump_step<R: CacheRom, M: CacheRam>(
 }
 
 /// The target of a JALR.
-fn register_target(a: u32, imm: u32) -> u32
+pub(crate) fn register_target(a: u32, imm: u32) -> u32
     ensures { result ≡ sum_of a imm / 2 * 2 }
 {
     a.wrapping_add(imm) & !1

@@ -9,7 +9,6 @@ use Rattle.swi_board.specs.Walked.{is_stop, role_by, walk_control, walk_count, w
 use Rattle.swi_board.proofs.Fetching.{exit_home}
 use Rattle.swi_board.proofs.Walking.{jal_links, exit_by_pc, word_on, gone_counted, gone_near, gone_within}
 use Rattle.swi_board.proofs.Falls.{landed_small}
-use Rattle.std.proofs.lemmas.Bool.{cases_Bool}
 use Rattle.swi_image.specs.Place.{word_at}
 use Rattle.swi_board.proofs.block.one.Goals as goal
 

@@ -5,8 +5,10 @@ use Rattle.swi_board.proofs.block.run_block.Given as goal
 
 abbrev pub invariant-loop-walk : goal.invariant-loop-walk
 invariant-loop-walk g l = record {
-  walked : Walked l.image (g.R.CacheRom.kept l.rom) l.limit l.fn.hart (g.M.CacheRam.state l.fn.ram)
+  walked : Walked (g.R.CacheRom.policy (g.R.CacheRom.setting l.fn.rom)) (g.R.CacheRom.span (g.R.CacheRom.setting l.fn.rom)) l.image l.limit
+      (g.R.CacheRom.kept l.fn.rom) l.fn.hart (g.M.CacheRam.state l.fn.ram) (g.R.CacheRom.kept l.rom)
       (record l.hart { control = walk_control l.walk; machine = walk_machine l.walk l.hart.machine; count = walk_count l.walk }) (g.M.CacheRam.state l.ram);
+  setting : g.R.CacheRom.setting l.rom ≡ g.R.CacheRom.setting l.fn.rom;
   sound : g.R.CacheRom.sound l.rom l.image (g.M.CacheRam.state l.ram).words;
   going : l.hart.machine.ending ≡ None;
   to : WalksTo l.limit l.walk;

@@ -8,7 +8,7 @@ use Rattle.swi_board.proofs.Running.{started_run, count_small, calls_small, no_l
 use Rattle.swi_board.proofs.Breaking.{device_run, ram_run}
 use Rattle.swi_board.proofs.Settling.{settles_on}
 use Rattle.swi_board.proofs.Causing.{causes_ram, causes_from, same_ram}
-use Rattle.swi_board.proofs.Blocks.{stands, walk, word_falls, begins, falls_from, lower, at_limit, before_word, before_fault, home_at, used, same_index}
+use Rattle.swi_board.proofs.Blocks.{stands, walk, word_falls, begins, falls_from, lower, at_limit, before_word, before_fault, home_at, used, same_index, not_ended}
 use Rattle.swi_board.proofs.Steps.{ram_unfetched}
 use Rattle.swi_outside.specs.CacheRam.{RamState}
 use Rattle.swi_board.proofs.board.Board.run.Goals as goal
@@ -89,7 +89,7 @@ pub run_block-requires : goal.run_block-requires
 run_block-requires g c =
     let was = c.loop-hart.invariant in
     let begin = begins was.running was.settles c.requires.fits c.requires.limit (rw was.setting at (g.met.R.CacheRom.coherent _ _ _ was.sound))
-    (λ b o t is. g.met.R.CacheRom.first _ _ _ b o t is) c.hart.view_is c.loop-hart-test.true (search rules) c.origin_pc-pc.ensures.word in
+    (record { linked = λ r v b o t is. g.met.R.CacheRom.first _ r v b o t is; one = λ r v t. g.met.R.CacheRom.second _ r v t; written = λ r v t. g.met.R.CacheRom.third _ r v t }) c.hart.view_is c.loop-hart-test.true (sym (ap (λ (h : HartData). h.machine.ending) c.hart.view_is) ∙ not_ended _ _ c.is_none.ensures c.if-is_none.true) c.origin_pc-pc.ensures.word in
     let low = rw was.setting at (g.met.R.CacheRom.small _ _ _ was.sound) in
     record {
       going = begin.going;
@@ -97,33 +97,40 @@ run_block-requires g c =
       sound = was.sound;
       few = c.requires.limit;
       within = let more = begin.below in omega (arith, more);
-      offset = (stands begin c.requires.count low (g.met.R.CacheRom.image _ _ _ was.sound) begin.below c.in-Some.ensures.control).offset;
+      offset = (stands begin c.requires.count c.requires.services low (g.met.R.CacheRom.image _ _ _ was.sound) begin.below c.in-Some.ensures.control).offset;
       short = c.origin_pc-pc.ensures.word;
-      inside = λ h ram walked below i b o stage control. stands (walk begin walked) c.requires.count low (g.met.R.CacheRom.image _ _ _ was.sound) below control;
-      rises = λ h h' ram ram' walked below k. word_falls (walk begin walked) below k;
+      inside = λ r h ram walked below i b o stage control.
+          let on = rw was.setting at walked in
+          stands (walk begin on) c.requires.count c.requires.services low (g.met.R.CacheRom.image _ _ _ was.sound) below control;
+      rises = λ r r' h h' ram ram' walked below k.
+          let on = rw was.setting at walked in
+          let more = rw was.setting at k in
+          word_falls (walk begin on) below more;
     }
 
 pub loop-hart-smaller-in-Ok-None : goal.loop-hart-smaller-in-Ok-None
 loop-hart-smaller-in-Ok-None g c =
     let was = c.loop-hart.invariant in
     let begin = begins was.running was.settles c.requires.fits c.requires.limit (rw was.setting at (g.met.R.CacheRom.coherent _ _ _ was.sound))
-    (λ b o t is. g.met.R.CacheRom.first _ _ _ b o t is) c.hart.view_is c.loop-hart-test.true (search rules) c.origin_pc-pc.ensures.word in
-    let ended = at_limit c.in-Ok-None.is c.in-Ok-None.field-0-is c.run_block.ensures in
+    (record { linked = λ r v b o t is. g.met.R.CacheRom.first _ r v b o t is; one = λ r v t. g.met.R.CacheRom.second _ r v t; written = λ r v t. g.met.R.CacheRom.third _ r v t }) c.hart.view_is c.loop-hart-test.true (sym (ap (λ (h : HartData). h.machine.ending) c.hart.view_is) ∙ not_ended _ _ c.is_none.ensures c.if-is_none.true) c.origin_pc-pc.ensures.word in
+    let ended = at_limit c.in-Ok-None.is c.in-Ok-None.field-0-is (rw was.setting at c.run_block.ensures.ran) in
     lower (walk begin ended.0) ended.1
 
 pub loop-hart-preserved-in-Ok-None : goal.loop-hart-preserved-in-Ok-None
 loop-hart-preserved-in-Ok-None g c =
     let was = c.loop-hart.invariant in
     let begin = begins was.running was.settles c.requires.fits c.requires.limit (rw was.setting at (g.met.R.CacheRom.coherent _ _ _ was.sound))
-    (λ b o t is. g.met.R.CacheRom.first _ _ _ b o t is) c.hart.view_is c.loop-hart-test.true (search rules) c.origin_pc-pc.ensures.word in
-    let ended = at_limit c.in-Ok-None.is c.in-Ok-None.field-0-is c.run_block.ensures in
+    (record { linked = λ r v b o t is. g.met.R.CacheRom.first _ r v b o t is; one = λ r v t. g.met.R.CacheRom.second _ r v t; written = λ r v t. g.met.R.CacheRom.third _ r v t }) c.hart.view_is c.loop-hart-test.true (sym (ap (λ (h : HartData). h.machine.ending) c.hart.view_is) ∙ not_ended _ _ c.is_none.ensures c.if-is_none.true) c.origin_pc-pc.ensures.word in
+    let ended = at_limit c.in-Ok-None.is c.in-Ok-None.field-0-is (rw was.setting at c.run_block.ensures.ran) in
     let s = walk begin ended.0 in
+    let grows = s.grows (λ k. g.R.CacheRom.extent (g.R.CacheRom.setting c.args.self.now.rom) k)
+    (λ r v t. g.met.R.CacheRom.grows (g.R.CacheRom.setting c.args.self.now.rom) r v t) in
     record {
       running = s.running;
       settles = s.settles;
-      setting = was.setting;
-      sound = subst (λ (k : List ℕ). g.R.CacheRom.sound c.loop-hart.rom c.args.image.now k) (sym s.words) was.sound;
-      unused = λ i le. ap (λ (k : List ℕ). slice_index k i) s.words ∙ was.unused i le;
+      setting = c.run_block.ensures.setting ∙ was.setting;
+      sound = c.run_block.ensures.sound;
+      unused = λ i le. ap (λ (k : List ℕ). slice_index k i) s.words ∙ was.unused i (omega (arith, le, grows));
       quiet = same_ram s.quiet was.quiet;
     }
 
@@ -131,8 +138,8 @@ pub returns-in-Err : goal.returns-in-Err
 returns-in-Err g c =
     let was = c.loop-hart.invariant in
     let begin = begins was.running was.settles c.requires.fits c.requires.limit (rw was.setting at (g.met.R.CacheRom.coherent _ _ _ was.sound))
-    (λ b o t is. g.met.R.CacheRom.first _ _ _ b o t is) c.hart.view_is c.loop-hart-test.true (search rules) c.origin_pc-pc.ensures.word in
-    let ended = before_fault c.in-Err.is c.run_block.ensures in
+    (record { linked = λ r v b o t is. g.met.R.CacheRom.first _ r v b o t is; one = λ r v t. g.met.R.CacheRom.second _ r v t; written = λ r v t. g.met.R.CacheRom.third _ r v t }) c.hart.view_is c.loop-hart-test.true (sym (ap (λ (h : HartData). h.machine.ending) c.hart.view_is) ∙ not_ended _ _ c.is_none.ensures c.if-is_none.true) c.origin_pc-pc.ensures.word in
+    let ended = before_fault c.in-Err.is (rw was.setting at c.run_block.ensures.ran) in
     let s = walk begin ended.walked in
     let failed = ram_unfetched c.args.image.now c.run_block.new.hart.machine c.run_block.new.hart.control _ _ _ _ _ ended.before
     (g.M.CacheRam.state c.run_block.new.ram) ended.control (used s ended.control) ended.answered in
@@ -140,7 +147,7 @@ returns-in-Err g c =
       ran = tt;
       count = tt;
       fits = tt;
-      setting = was.setting;
+      setting = c.run_block.ensures.setting ∙ was.setting;
       sound = tt;
       unused = tt;
       unfailed = tt;
@@ -162,11 +169,10 @@ pub at_word-requires : goal.at_word-requires
 at_word-requires g c =
     let was = c.loop-hart.invariant in
     let begin = begins was.running was.settles c.requires.fits c.requires.limit (rw was.setting at (g.met.R.CacheRom.coherent _ _ _ was.sound))
-    (λ b o t is. g.met.R.CacheRom.first _ _ _ b o t is) c.hart.view_is c.loop-hart-test.true (search rules) c.origin_pc-pc.ensures.word in
-    let ended = before_word c.in-Ok-Some.is c.in-Ok-Some.field-0-is c.run_block.ensures in
+    (record { linked = λ r v b o t is. g.met.R.CacheRom.first _ r v b o t is; one = λ r v t. g.met.R.CacheRom.second _ r v t; written = λ r v t. g.met.R.CacheRom.third _ r v t }) c.hart.view_is c.loop-hart-test.true (sym (ap (λ (h : HartData). h.machine.ending) c.hart.view_is) ∙ not_ended _ _ c.is_none.ensures c.if-is_none.true) c.origin_pc-pc.ensures.word in
+    let ended = before_word c.in-Ok-Some.is c.in-Ok-Some.field-0-is (rw was.setting at c.run_block.ensures.ran) in
     let s = walk begin ended.walked in
     let control = sym (ap (λ (h : HartData). h.control) c.hart-in-loop-hart.view_is) ∙ sym c.control.ensures ∙ c.in-At.is in
-    let words = ap (λ (k : RamState). k.words) ended.answered.1 ∙ s.words in
     record {
       ready = record {
         running = s.going;
@@ -178,7 +184,7 @@ at_word-requires g c =
       word = s.short;
       control = control;
       home = home_at s control;
-      sound = subst (λ (k : List ℕ). g.R.CacheRom.sound c.loop-hart.rom c.args.image.now k) (sym words) was.sound;
+      sound = c.run_block.ensures.sound;
       got = ended.answered.0 ∙ ap (λ (k : RamState). slice_index k.words ended.index) (sym ended.answered.1)
           ∙ ap (λ (i : ℕ). slice_index (g.M.CacheRam.state c.run_block.new.ram).words i) (same_index ended.control control);
     }
@@ -187,41 +193,44 @@ pub loop-hart-smaller : goal.loop-hart-smaller
 loop-hart-smaller g c =
     let was = c.loop-hart.invariant in
     let begin = begins was.running was.settles c.requires.fits c.requires.limit (rw was.setting at (g.met.R.CacheRom.coherent _ _ _ was.sound))
-    (λ b o t is. g.met.R.CacheRom.first _ _ _ b o t is) c.hart.view_is c.loop-hart-test.true (search rules) c.origin_pc-pc.ensures.word in
-    let ended = before_word c.in-Ok-Some.is c.in-Ok-Some.field-0-is c.run_block.ensures in
+    (record { linked = λ r v b o t is. g.met.R.CacheRom.first _ r v b o t is; one = λ r v t. g.met.R.CacheRom.second _ r v t; written = λ r v t. g.met.R.CacheRom.third _ r v t }) c.hart.view_is c.loop-hart-test.true (sym (ap (λ (h : HartData). h.machine.ending) c.hart.view_is) ∙ not_ended _ _ c.is_none.ensures c.if-is_none.true) c.origin_pc-pc.ensures.word in
+    let ended = before_word c.in-Ok-Some.is c.in-Ok-Some.field-0-is (rw was.setting at c.run_block.ensures.ran) in
     let s = walk begin ended.walked in
     let control = sym (ap (λ (h : HartData). h.control) c.hart-in-loop-hart.view_is) ∙ sym c.control.ensures ∙ c.in-At.is in
     let answered = subst (λ (k : ℕ). Answered (Some c.in-Ok-Some.got) ended.before k (g.M.CacheRam.state c.run_block.new.ram))
     (same_index ended.control control) ended.answered in
-    let sound = subst (λ (k : List ℕ). g.R.CacheRom.sound c.loop-hart.rom c.args.image.now k) (sym s.words) was.sound in
+    let sound = subst (λ (k : List ℕ). g.R.CacheRom.sound c.run_block.new.rom c.args.image.now k) (ap (λ (k : RamState). k.words) answered.1) c.run_block.ensures.sound in
     falls_from s ended.below ((c.in_ok-at_word.ensures ended.before answered).grown sound)
 
 pub loop-hart-preserved : goal.loop-hart-preserved
 loop-hart-preserved g c =
     let was = c.loop-hart.invariant in
     let begin = begins was.running was.settles c.requires.fits c.requires.limit (rw was.setting at (g.met.R.CacheRom.coherent _ _ _ was.sound))
-    (λ b o t is. g.met.R.CacheRom.first _ _ _ b o t is) c.hart.view_is c.loop-hart-test.true (search rules) c.origin_pc-pc.ensures.word in
-    let ended = before_word c.in-Ok-Some.is c.in-Ok-Some.field-0-is c.run_block.ensures in
+    (record { linked = λ r v b o t is. g.met.R.CacheRom.first _ r v b o t is; one = λ r v t. g.met.R.CacheRom.second _ r v t; written = λ r v t. g.met.R.CacheRom.third _ r v t }) c.hart.view_is c.loop-hart-test.true (sym (ap (λ (h : HartData). h.machine.ending) c.hart.view_is) ∙ not_ended _ _ c.is_none.ensures c.if-is_none.true) c.origin_pc-pc.ensures.word in
+    let ended = before_word c.in-Ok-Some.is c.in-Ok-Some.field-0-is (rw was.setting at c.run_block.ensures.ran) in
     let s = walk begin ended.walked in
     let control = sym (ap (λ (h : HartData). h.control) c.hart-in-loop-hart.view_is) ∙ sym c.control.ensures ∙ c.in-At.is in
     let answered = subst (λ (k : ℕ). Answered (Some c.in-Ok-Some.got) ended.before k (g.M.CacheRam.state c.run_block.new.ram))
     (same_index ended.control control) ended.answered in
-    let sound = subst (λ (k : List ℕ). g.R.CacheRom.sound c.loop-hart.rom c.args.image.now k) (sym s.words) was.sound in
+    let sound = subst (λ (k : List ℕ). g.R.CacheRom.sound c.run_block.new.rom c.args.image.now k) (ap (λ (k : RamState). k.words) answered.1) c.run_block.ensures.sound in
+    let setting = c.run_block.ensures.setting ∙ was.setting in
     let a = c.in_ok-at_word.ensures ended.before answered in
-    let moves = rw was.setting at a.policy in
-    let stepped = rw was.setting at a.ram in
+    let moves = rw setting at a.policy in
+    let stepped = rw setting at a.ram in
     let rises = no_less s.running moves (λ k. writes k) (λ r v t. g.met.R.CacheRom.third (g.R.CacheRom.setting c.args.self.now.rom) r v t) in
     let grows = no_less s.running moves (λ k. g.R.CacheRom.extent (g.R.CacheRom.setting c.args.self.now.rom) k)
     (λ r v t. g.met.R.CacheRom.grows (g.R.CacheRom.setting c.args.self.now.rom) r v t) in
-    let unused = rw was.setting at a.unused in
+    let unused = rw setting at a.unused in
+    let walked_on = s.grows (λ k. g.R.CacheRom.extent (g.R.CacheRom.setting c.args.self.now.rom) k)
+    (λ r v t. g.met.R.CacheRom.grows (g.R.CacheRom.setting c.args.self.now.rom) r v t) in
     record {
       running = runs_on s.running ended.below s.going s.short c.requires.limit stepped rises (a.fits sound) (a.grown sound) moves (a.made sound);
       settles = λ left told between going.
           let now = s.running.goes left told c.requires.fits.flat c.requires.fits.image c.requires.fits.matches in
           settles_on ended.below (a.made sound now.now.input now.left_is) going;
-      setting = a.setting ∙ was.setting;
+      setting = a.setting ∙ setting;
       sound = a.sound sound;
-      unused = λ i le. unused i le ∙ ap (λ (k : List ℕ). slice_index k i) s.words ∙ was.unused i (omega (arith, le, grows));
+      unused = λ i le. unused i le ∙ ap (λ (k : List ℕ). slice_index k i) s.words ∙ was.unused i (omega (arith, le, grows, walked_on));
       quiet = a.causes.quiet ∙ same_ram s.quiet was.quiet;
     }
 
@@ -230,20 +239,21 @@ returns-in_err-at_word g c =
     let p = err_from_is_err_and c.from_residual-in_err-at_word.result c.from_residual-in_err-at_word.ensures.1 in
     let was = c.loop-hart.invariant in
     let begin = begins was.running was.settles c.requires.fits c.requires.limit (rw was.setting at (g.met.R.CacheRom.coherent _ _ _ was.sound))
-    (λ b o t is. g.met.R.CacheRom.first _ _ _ b o t is) c.hart.view_is c.loop-hart-test.true (search rules) c.origin_pc-pc.ensures.word in
-    let ended = before_word c.in-Ok-Some.is c.in-Ok-Some.field-0-is c.run_block.ensures in
+    (record { linked = λ r v b o t is. g.met.R.CacheRom.first _ r v b o t is; one = λ r v t. g.met.R.CacheRom.second _ r v t; written = λ r v t. g.met.R.CacheRom.third _ r v t }) c.hart.view_is c.loop-hart-test.true (sym (ap (λ (h : HartData). h.machine.ending) c.hart.view_is) ∙ not_ended _ _ c.is_none.ensures c.if-is_none.true) c.origin_pc-pc.ensures.word in
+    let ended = before_word c.in-Ok-Some.is c.in-Ok-Some.field-0-is (rw was.setting at c.run_block.ensures.ran) in
     let s = walk begin ended.walked in
     let control = sym (ap (λ (h : HartData). h.control) c.hart-in-loop-hart.view_is) ∙ sym c.control.ensures ∙ c.in-At.is in
     let answered = subst (λ (k : ℕ). Answered (Some c.in-Ok-Some.got) ended.before k (g.M.CacheRam.state c.run_block.new.ram))
     (same_index ended.control control) ended.answered in
-    let sound = subst (λ (k : List ℕ). g.R.CacheRom.sound c.loop-hart.rom c.args.image.now k) (sym s.words) was.sound in
+    let sound = subst (λ (k : List ℕ). g.R.CacheRom.sound c.run_block.new.rom c.args.image.now k) (ap (λ (k : RamState). k.words) answered.1) c.run_block.ensures.sound in
+    let setting = c.run_block.ensures.setting ∙ was.setting in
     let a = c.in_err-at_word.ensures ended.before answered in
-    let kept = rw was.setting at a.kept in
+    let kept = rw setting at a.kept in
     rw (p.1, p.2) (record {
       ran = tt;
       count = tt;
       fits = tt;
-      setting = a.setting ∙ was.setting;
+      setting = a.setting ∙ setting;
       sound = tt;
       unused = tt;
       unfailed = tt;
@@ -258,7 +268,7 @@ returns-in_err-at_word g c =
       broke = device_run s.running ended.below s.going s.short a.stopped _ _ _ _ (a.broke sound) a.unwritten;
       ram_broke = λ e.
           let same = a.others_stay e in
-          let failed = rw was.setting at (a.ram_failed e) in
+          let failed = rw setting at (a.ram_failed e) in
           ram_run s.running ended.below s.going s.short a.stopped failed same.0 same.1.0 same.1.1;
       causes = causes_from (same_ram s.quiet was.quiet) (c.in_err-at_word.ensures ended.before answered).causes;
     })
