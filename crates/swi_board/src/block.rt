@@ -1,4 +1,4 @@
-//! Steps that ask neither the service nor a device.
+//! Steps that ask neither the ram, but for their fetch, nor a device.
 #![tactic(auto)]
 
 ghost use Rattle.std.specs.Prelude.{◌≡◌, ◌+◌, ◌-◌, ◌*◌, ◌%◌, ◌^◌, ◌<◌, ◌≤◌, ℕ, List, Option, IfSome, length, slice_index, if◌then◌else◌, None, Some, false, true};
@@ -371,7 +371,8 @@ fn one<R: CacheRom, M: CacheRam>(
     }
 }
 
-/// A step at the exit of a JALR whose target's block is placed. At any other exit nothing changes.
+/// A step at the exit of a JALR whose target's block is placed, as that of a return mostly is: the service counts it,
+/// and asks the ram for nothing. At any other exit nothing changes.
 #[inline(never)]
 fn back<R: CacheRom, M: CacheRam>(
     hart: &mut Hart,
@@ -436,8 +437,8 @@ pub(crate) fn block_place(hart: &Hart) -> Option<(u32, u32, u32, Stage)>
     }
 }
 
-/// Steps up to `limit`, or to the first word that is not executed here, which is then fetched. Nothing but words and
-/// links stands in this loop, so index, pc and counts stay in registers.
+/// Steps up to `limit`, or to the first word that is not executed here, which is then fetched. Nothing but words, links
+/// and jumps to placed blocks stands in this loop, so index, pc and counts stay in registers.
 #[inline(never)]
 pub(crate) fn run_block<R: CacheRom, M: CacheRam>(
     hart: &mut Hart,
@@ -482,12 +483,9 @@ pub(crate) fn run_block<R: CacheRom, M: CacheRam>(
     };
     let mut left = Ok(None);
     while u64::from(walk.index) < walk.end {
-        let word = match ram.fetch(walk.index) {
-            Ok(word) => word,
-            Err(_) => {
-                left = Err(Failed);
-                break;
-            }
+        let Ok(word) = ram.fetch(walk.index) else {
+            left = Err(Failed);
+            break;
         };
         let Some(x) = decode(word) else {
             unreachable!()

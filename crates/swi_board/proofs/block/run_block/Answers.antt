@@ -63,7 +63,7 @@ unreachable-requires g c =
     let more : w.index < w.end = omega (arith, c.loop-walk-test.true) in
     let below = steps_left c.args.limit w c.loop-walk.invariant.to more in
     let inside = c.requires.inside _ _ _ c.loop-walk.invariant.walked below w.index w.block (walk_offset w) w.stage refl in
-    inside.decodes (sym c.in_default.is ∙ c.decode.ensures ∙ ap decoded c.in-Ok.ensures.fetched.0)
+    inside.decodes (sym c.in_default-decode.is ∙ c.decode.ensures ∙ ap decoded c.in-Ok.ensures.fetched.0)
 
 pub one-requires-clause-home : goal.one-requires-clause-home
 one-requires-clause-home g c =
