@@ -438,12 +438,7 @@ pub(crate) fn run_block<R: CacheRom, M: CacheRam>(
             break;
         }
     }
-    hart.control.go(Control::At(
-        walk.index,
-        walk.block,
-        walk.offset(),
-        walk.stage,
-    ));
+    hart.control.go(Control::At(walk.index, walk.block, walk.offset(), walk.stage));
     hart.machine.pc = walk.pc();
     hart.machine.steps = walk.steps();
     hart.count = walk.count();

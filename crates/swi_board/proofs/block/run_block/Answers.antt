@@ -19,8 +19,16 @@ loop-walk-init g c =
     let none : c.args.at.2 + (i - i) ≡ c.args.at.2 = omega arith in
     let place : At i c.args.at.1 (c.args.at.2 + (i - i)) c.args.at.3 ≡ c.args.hart.now.control = ap (λ k. At i c.args.at.1 k c.args.at.3) none ∙ sym c.requires.control in
     let w : Walk = record {
-      index = i; stage = c.args.at.3; end = c.from.result + (c.args.limit - c.hart.inside.machine.steps); limit = c.args.limit;
-      from = i; block = c.args.at.1; offset = c.args.at.2; pc = c.hart.inside.machine.pc; steps = c.hart.inside.machine.steps; count = c.machine_steps.result;
+      index = i;
+      stage = c.args.at.3;
+      end = c.from.result + (c.args.limit - c.hart.inside.machine.steps);
+      limit = c.args.limit;
+      from = i;
+      block = c.args.at.1;
+      offset = c.args.at.2;
+      pc = c.hart.inside.machine.pc;
+      steps = c.hart.inside.machine.steps;
+      count = c.machine_steps.result;
     } in
     let from = c.from.ensures in
     let none_made : walk_made w ≡ 0 = omega (arith, within, steps, from) in
