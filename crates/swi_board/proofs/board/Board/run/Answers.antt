@@ -91,13 +91,15 @@ run_block-requires g c =
     let begin = begins was.running was.settles c.requires.fits c.requires.limit (rw was.setting at (g.met.R.CacheRom.coherent _ _ _ was.sound))
     (λ b o t is. g.met.R.CacheRom.first _ _ _ b o t is) c.hart.view_is c.loop-hart-test.true (search rules) c.origin_pc-pc.ensures.word in
     let low = rw was.setting at (g.met.R.CacheRom.small _ _ _ was.sound) in
+    let here = stands begin c.requires.count low (g.met.R.CacheRom.image _ _ _ was.sound) begin.below c.in-Some.ensures.control in
     record {
       going = begin.going;
       control = c.in-Some.ensures.control;
       sound = was.sound;
       few = c.requires.limit;
       within = let more = begin.below in omega (arith, more);
-      offset = (stands begin c.requires.count low (g.met.R.CacheRom.image _ _ _ was.sound) begin.below c.in-Some.ensures.control).offset;
+      offset = here.offset;
+      after = let index = here.home.index in omega (arith, index);
       short = c.origin_pc-pc.ensures.word;
       inside = λ h ram walked below i b o stage control. stands (walk begin walked) c.requires.count low (g.met.R.CacheRom.image _ _ _ was.sound) below control;
       rises = λ h h' ram ram' walked below k. word_falls (walk begin walked) below k;
