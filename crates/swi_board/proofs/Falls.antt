@@ -1,14 +1,13 @@
 -- Which exits are behind a block's last text word.
-use Rattle.std.proofs.Common.{◌≡◌, ◌==◌, if◌then◌else◌, ℕ, ◌+◌, ◌-◌, ◌*◌, ◌/◌, ◌%◌, ◌^◌, ◌<◌, ◌≤◌, Bool, true, false, not, ◌&&◌, Option, Some, None, List, length, slice_index, refl, sym, ap, subst, ◌∙◌, inl, inr, arith}
+use Rattle.std.proofs.Common.{◌≡◌, ◌==◌, if◌then◌else◌, ℕ, ◌+◌, ◌-◌, ◌*◌, ◌/◌, ◌%◌, ◌^◌, ◌<◌, ◌≤◌, Bool, true, false, not, ◌&&◌, Option, Some, List, length, slice_index, refl, sym, ap, subst, ◌∙◌, inl, inr, arith}
 use Rattle.std.proofs.lemmas.Bool.{false≢true, cases_Bool, and_parts, eqb-true}
 use Rattle.swi_image.specs.Format.{ImageData}
 use Rattle.swi_image.specs.Place.{place_of, word_at}
 use Rattle.swi_image.specs.Sound.{IsImage}
 use Rattle.swi_image.specs.Laws.{place_inside}
 use Rattle.swi_outside.specs.CacheRam.{RamState}
-use Rattle.swi_rom.specs.Coherent.{Coherent, LeadsTo, TargetAt}
-use Rattle.swi_rom.specs.Record.{Placed, Record, writes}
-use Rattle.swi_rom.specs.declared.rom.Goal.{Goal}
+use Rattle.swi_rom.specs.Coherent.{Coherent}
+use Rattle.swi_rom.specs.Record.{Record, writes}
 use Rattle.swi_calls.specs.declared.machine.Machine.{Machine}
 use Rattle.swi_board.specs.declared.hart.Stage.{Stage}
 use Rattle.swi_board.specs.declared.hart.Stage.TheVariants.{Start, Low, Return, Leave}
@@ -40,18 +39,6 @@ at_start v r t c i b o stage is at = by stage (subst (λ (k : Control). Arrives 
     by Low a = absurd a
     by Return a = absurd a
     by Leave a = absurd a
-
--- a target's place by what is kept of the link to it
-pub led_to : (v : ImageData) (r : Record) (t i : ℕ) (k : Goal) → TargetAt v r t i → LeadsTo v t k → Arrives v r t (At i k.block k.offset Start)
-led_to v r t i k at to =
-    let same : Some (at.block, at.offset) ≡ Some (k.block, k.offset) = sym at.place_is ∙ to.place_is in
-    let block : at.block ≡ k.block = ap (λ (p : Option (ℕ × ℕ)). (or_none p).0) same in
-    let offset : at.offset ≡ k.offset = ap (λ (p : Option (ℕ × ℕ)). (or_none p).1) same in
-    ((at.first, subst (λ b. Placed r b at.first) block at.is_placed, at.index ∙ ap (λ o. at.first + o) offset), to.place_is)
-  where
-    or_none : Option (ℕ × ℕ) → ℕ × ℕ
-    or_none None = (0, 0)
-    or_none (Some p) = p
 
 -- and at an offset within the ram
 pub landed_small : (v : ImageData) (r : Record) (span : ℕ) (words : List ℕ) (t : ℕ) (i b o : ℕ) (stage : Stage) → Coherent v r span words → IsImage v → span ≤ 2 ^ 21 → Arrives v r t (At i b o stage) → o < 2 ^ 22

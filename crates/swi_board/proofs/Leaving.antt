@@ -1,5 +1,5 @@
 -- From a service's answer to what the board says of it.
-use Rattle.std.proofs.Common.{◌≡◌, ℕ, ◌+◌, ◌-◌, ◌<◌, true, false, List, Some, None, Ok, Err, Result, slice_index, refl, sym, ap, subst, ◌∙◌, inl, inr, arith}
+use Rattle.std.proofs.Common.{◌≡◌, ℕ, ◌+◌, ◌-◌, ◌^◌, ◌<◌, ◌≤◌, true, false, List, length, Option, Some, None, Ok, Err, Result, slice_index, refl, sym, ap, subst, ◌∙◌, inl, inr, arith}
 use Rattle.std.proofs.lemmas.Bool.{cases_Bool}
 use Rattle.swi_image.specs.Format.{ImageData}
 use Rattle.swi_image.specs.Place.{word_at, length_at}
@@ -10,14 +10,15 @@ use Rattle.swi_isa.specs.Decode.{decoded}
 use Rattle.swi_outside.specs.CacheRam.{RamState, KeepsBeyond}
 use Rattle.swi_render.specs.Rendering.{ebreak}
 use Rattle.swi_rom.specs.Record.{Record, Transfer, target_of, IsJump, jump_offset, is_linked, writes, Placed}
-use Rattle.swi_rom.specs.Coherent.{Coherent, TargetAt, StandsAt}
+use Rattle.swi_rom.specs.Coherent.{Coherent, LeadsTo, TargetAt, StandsAt}
+use Rattle.swi_rom.specs.declared.rom.Goal.{Goal}
 use Rattle.swi_rom.specs.Served.{Served, Spared, SameFrom}
 use Rattle.swi_rom.specs.declared.rom.RomStop.{RomStop}
 use Rattle.swi_rom.specs.declared.rom.RomStop.TheVariants.{Outside, RamFault}
 use Rattle.swi_board.specs.declared.hart.Stage.TheVariants.{Start}
 use Rattle.swi_board.specs.declared.hart.Control.TheVariants.{At}
 use Rattle.swi_board.specs.Board.{Arrives}
-use Rattle.swi_board.specs.Leaving.{LeaveAt, RamServed}
+use Rattle.swi_board.specs.Leaving.{LeaveAt, PlacedAt, RamServed}
 use Rattle.swi_board.specs.Service.{ServiceState, Transferred}
 use Rattle.swi_isa.specs.Laws.{ebreak_decodes}
 
@@ -129,3 +130,38 @@ pub index_small : (v : ImageData) (r : Record) (span : ℕ) (words : List ℕ) (
 index_small v r span words w i b o coherent at =
     let end = coherent.inside b at.first at.is_placed in
     omega (arith, at.index, at.inside, end)
+
+-- what a link is by its place alone
+pub link_leaves : (v : ImageData) (r : Record) (span : ℕ) (words : List ℕ) (w i b o : ℕ) → Coherent v r span words → PlacedAt r i b o → b < length v.starts → o + 1 < length_at v b →
+    word_at v b o ≡ ebreak → w ≡ slice_index words i → (w ≡ ebreak → ⊥) → LeaveAt v r words w i b o × (is_linked r b o ≡ true)
+link_leaves v r span words w i b o coherent p known inside is got other =
+    let linked = word_linked v r span words w b p.first o coherent p.is_placed inside is (got ∙ ap (λ n. slice_index words n) p.index) other in (
+      record {
+        first = p.first;
+        is_placed = p.is_placed;
+        index = p.index;
+        inside = inside;
+        known = known;
+        leaves = is;
+        is_direct = (coherent.exits b o linked).1.direct;
+        fetched = got;
+      },
+      linked,
+    )
+
+-- a jump over it, and what is kept of it, lead to one place
+pub link_arrives : (v : ImageData) (r : Record) (span : ℕ) (words : List ℕ) (w i b o j : ℕ) (k : Goal) → Coherent v r span words → IsImage v → span ≤ 2 ^ 21 → LeaveAt v r words w i b o → (w ≡ ebreak → ⊥) →
+    ((t : ℕ) → IsJump i t w → t < 2 ^ 30 → i < 2 ^ 30 → j ≡ t) → LeadsTo v (word_at v b (o + 1)) k → Arrives v r (word_at v b (o + 1)) (At j k.block k.offset Start)
+link_arrives v r span words w i b o j k coherent image small at other jumps to =
+    let l = link_at v r span words w i b o coherent image at other in
+    let low = index_small v r span words w i b o coherent at in
+    let t = l.target in
+    let same : Some (t.block, t.offset) ≡ Some (k.block, k.offset) = sym t.place_is ∙ to.place_is in
+    let block : t.block ≡ k.block = ap (λ (p : Option (ℕ × ℕ)). (or_none p).0) same in
+    let offset : t.offset ≡ k.offset = ap (λ (p : Option (ℕ × ℕ)). (or_none p).1) same in
+    let index : j ≡ l.to = jumps l.to l.jumps (omega (arith, l.small, small)) (omega (arith, low, small)) in
+    ((t.first, subst (λ n. Placed r n t.first) block t.is_placed, index ∙ t.index ∙ ap (λ n. t.first + n) offset), to.place_is)
+  where
+    or_none : Option (ℕ × ℕ) → ℕ × ℕ
+    or_none None = (0, 0)
+    or_none (Some p) = p

@@ -41,7 +41,7 @@ turned_step v new m m' w rd rs1 imm t link index block offset input room is to f
     let here = At w.index w.block (walk_offset w) w.stage in
     let return = word_at v w.block (walk_offset w + 2) in
     let aligned : (t % 4 == 0) ≡ true = rw four refl in
-    let none : offset + (index - index) ≡ offset = omega arith in
+    let none : index - (index - offset) ≡ offset = omega (arith, arrived.0.2) in
     let at : Arrives v new t (walk_control k) = subst (λ n. Arrives v new t (At index block n Start)) (sym none) arrived in
     let made : quiet (walk_machine k m') input ≡ quiet (record m { pc = t; regs = with_reg m.regs rd return; steps = walk_steps w + 1 }) input =
     ap (λ (x : Machine). quiet (walk_machine k x) input) left

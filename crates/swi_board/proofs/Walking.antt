@@ -25,7 +25,7 @@ use Rattle.swi_board.specs.Hart.{HartData, stepped, word_stepped, instruction, i
 use Rattle.swi_board.specs.Leaving.{ExitHome, leaves, quick_role}
 use Rattle.swi_board.specs.Walked.{is_stop, role_by, went, gone, landed, walk_offset, walk_pc, walk_steps, walk_made, walk_count, walk_control, walk_machine, HasRoom, WalksTo, WordOn, StepOn, JumpOn, WalkedOn, Walked, StandsInside}
 
-lagging : (w : Walk) (m : Machine) (input : List ℕ) (stage : Stage) → w.from ≤ w.index →
+lagging : (w : Walk) (m : Machine) (input : List ℕ) (stage : Stage) → w.first ≤ w.index →
     stepped (At (w.index + 1) w.block (walk_offset w + 1) stage) (quiet (walk_machine w m) input)
     ≡ stepped (walk_control (gone (next.Lead stage) w)) (quiet (walk_machine (gone (next.Lead stage) w) m) input)
 lagging w m input stage le =
@@ -43,7 +43,7 @@ next_pc w more made = let one = made_on w more made in omega (arith, one)
 next_steps : (w : Walk) → w.index < w.end → w.steps + (w.end - w.index) ≤ w.limit → walk_steps w + 1 ≡ walk_steps (gone next.On w)
 next_steps w more made = omega (arith, more, made)
 
-moves_to : (n : Next) (w : Walk) (m : Machine) (input : List ℕ) → is_stop n ≡ false → w.from ≤ w.index → w.index < w.end → w.steps + (w.end - w.index) ≤ w.limit →
+moves_to : (n : Next) (w : Walk) (m : Machine) (input : List ℕ) → is_stop n ≡ false → w.first ≤ w.index → w.index < w.end → w.steps + (w.end - w.index) ≤ w.limit →
     went n w.index w.block (walk_offset w) (walk_machine w m) input ≡ stepped (walk_control (gone n w)) (quiet (walk_machine (gone n w) m) input)
 moves_to next.On w m input goes le more made =
     let off : walk_offset w + 1 ≡ walk_offset (gone next.On w) = omega arith in
@@ -58,10 +58,10 @@ moves_to next.Stop w m input goes le more made = absurd (cc)
 
 -- the walk behind a word is one to the same limit, and has made a machine instruction more
 pub gone_within : (n : Next) (w : Walk) (limit : ℕ) → w.index < w.end → WalksTo limit w → WalksTo limit (gone n w)
-gone_within next.On w limit more t = record { ahead = omega (arith, t.ahead); below = omega arith; made = omega (arith, t.made); limited = t.limited }
-gone_within next.Over w limit more t = record { ahead = omega (arith, t.ahead); below = omega arith; made = omega (arith, t.made); limited = t.limited }
-gone_within (next.Lead stage) w limit more t = record { ahead = omega (arith, t.ahead); below = omega arith; made = omega (arith, t.made); limited = t.limited }
-gone_within next.Exit w limit more t = record { ahead = omega (arith, t.ahead); below = omega arith; made = omega (arith, t.made); limited = t.limited }
+gone_within next.On w limit more t = record { inside = omega (arith, t.inside); below = omega arith; made = omega (arith, t.made); limited = t.limited }
+gone_within next.Over w limit more t = record { inside = omega (arith, t.inside); below = omega arith; made = omega (arith, t.made); limited = t.limited }
+gone_within (next.Lead stage) w limit more t = record { inside = omega (arith, t.inside); below = omega arith; made = omega (arith, t.made); limited = t.limited }
+gone_within next.Exit w limit more t = record { inside = omega (arith, t.inside); below = omega arith; made = omega (arith, t.made); limited = t.limited }
 gone_within next.Stop w limit more t = t
 
 pub gone_counted : (n : Next) (w : Walk) → is_stop n ≡ false → w.index < w.end → w.steps + (w.end - w.index) ≤ w.limit → walk_count (gone n w) ≡ walk_count w + 1
@@ -71,7 +71,7 @@ gone_counted (next.Lead stage) w goes more made = omega (arith, more, made)
 gone_counted next.Exit w goes more made = omega (arith, more, made)
 gone_counted next.Stop w goes more made = absurd (cc)
 
-pub gone_near : (n : Next) (w : Walk) → w.from ≤ w.index → walk_offset (gone n w) ≤ walk_offset w + 3
+pub gone_near : (n : Next) (w : Walk) → w.first ≤ w.index → walk_offset (gone n w) ≤ walk_offset w + 3
 gone_near next.On w le = omega arith
 gone_near next.Over w le = omega arith
 gone_near (next.Lead stage) w le = omega arith
@@ -80,7 +80,7 @@ gone_near next.Stop w le = omega arith
 
 -- and so is the walk behind a link
 pub landed_within : (index block offset pc steps : ℕ) (w : Walk) (limit : ℕ) → steps ≤ 1 → w.index < w.end → WalksTo limit w → WalksTo limit (landed index block offset pc steps w)
-landed_within index block offset pc steps w limit few more t = record { ahead = omega arith; below = omega arith; made = omega (arith, t.made); limited = t.limited }
+landed_within index block offset pc steps w limit few more t = record { inside = omega arith; below = omega arith; made = omega (arith, t.made); limited = t.limited }
 
 pub walked_short : (w : Walk) → walk_pc w < 2 ^ 32
 walked_short w = omega arith
@@ -92,7 +92,7 @@ steps_left limit w t more = omega (arith, t.limited, t.made)
 pub has_room : (v : ImageData) (r : Record) (ram : RamState) (h : HartData) (limit : ℕ) (w : Walk) → WalksTo limit w → limit ≤ 2 ^ 48 → w.index < w.end → h.count ≡ walk_count w →
     StandsInside v r ram h w.index w.block (walk_offset w) w.stage → HasRoom w
 has_room v r ram h limit w t few more count s = record {
-  ahead = t.ahead;
+  inside = t.inside;
   below = more;
   made = t.made;
   end = omega (arith, t.limited, t.made, s.index);
@@ -114,7 +114,7 @@ pub word_on : (n : Next) (w : Walk) (m : Machine) (regs : Registers) (bus : List
 word_on n w m regs bus x goes room going stays role steps = record {
   stays = stays;
   step = λ input. ap (λ k. word_stepped k w.index w.block (walk_offset w) w.stage (walk_machine w m) x input) role ∙ steps (walk_machine w m) w.block (walk_offset w) input going
-      ∙ moves_to n w (record m { regs = regs; bus = bus }) input goes room.ahead room.below room.made;
+      ∙ moves_to n w (record m { regs = regs; bus = bus }) input goes room.inside room.below room.made;
 }
 
 -- a JAL is no EBREAK

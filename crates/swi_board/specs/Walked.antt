@@ -52,7 +52,7 @@ went next.Stop i b o m input = stepped (At i b o Start) (quiet m input)
 
 -- where a walk has come
 abbrev pub walk_offset : Walk → ℕ
-walk_offset w = w.offset + (w.index - w.from)
+walk_offset w = w.index - w.first
 
 -- the steps that are left, one for each word up to `end`, are those up to the limit
 abbrev pub walk_steps : Walk → ℕ
@@ -77,14 +77,14 @@ walk_machine w m = record m { pc = walk_pc w; steps = walk_steps w }
 
 -- a walk to at most so many steps
 pub record WalksTo (limit : ℕ) (w : Walk) : Type 0 where
-  pub ahead : w.from ≤ w.index
+  pub inside : w.first ≤ w.index
   pub below : w.index ≤ w.end
   pub made : w.steps + (w.end - w.index) ≤ w.limit
   pub limited : w.limit ≡ limit
 
 -- a walk that can go on
 pub record HasRoom (w : Walk) : Type 0 where
-  pub ahead : w.from ≤ w.index
+  pub inside : w.first ≤ w.index
   pub below : w.index < w.end
   pub made : w.steps + (w.end - w.index) ≤ w.limit
   pub end : w.end < 2 ^ 50
@@ -108,9 +108,8 @@ landed index block offset pc steps w = record {
   stage = Start;
   end = index + (w.end - w.index) - steps;
   limit = w.limit;
-  from = index;
+  first = index - offset;
   block = block;
-  offset = offset;
   pc = pc;
   steps = walk_steps w + steps;
   count = walk_count w + 1;

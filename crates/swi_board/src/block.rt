@@ -43,18 +43,18 @@ pub enum Next {
     Stop,
 }
 
-/// Where steps have come: the word under control with its stage, and the index `end` at which the limit of steps would be
-/// reached if each word from here on were an instruction. The other numbers are of the word at which the walk began or
-/// last came over a link: so a step to the next word changes the index alone.
+/// Where steps have come: the word under control with its stage, the block that stands from `first` on, and the index
+/// `end` at which the limit of steps would be reached if each word from here on were an instruction. `pc`, `steps` and
+/// `count` are of the word at which the walk began or last came over a link: so a step to the next word changes the index
+/// alone.
 #[derive(Clone, Copy, Debug, PartialEq, Eq)]
 pub struct Walk {
     pub index: u32,
     pub stage: Stage,
     pub end: u64,
     pub limit: u64,
-    pub from: u32,
+    pub first: u32,
     pub block: u32,
-    pub offset: u32,
     pub pc: u32,
     pub steps: u64,
     // With each word since then that was no instruction.
@@ -65,11 +65,10 @@ impl Walk {
     /// The offset in the block.
     #[inline(always)]
     fn offset(&self) -> u32
-        requires ahead { self.now.from ≤ self.now.index }
-        requires small { walk_offset self.now < 2 ^ 32 }
+        requires { self.now.first ≤ self.now.index }
         ensures { result ≡ walk_offset self.now }
     {
-        self.offset + (self.index - self.from)
+        self.index - self.first
     }
 
     /// The steps made.
@@ -149,7 +148,8 @@ impl Walk {
     /// Goes over a link to a place, which is a step unless the exit only leads on.
     #[inline(always)]
     fn land(&mut self, index: u32, block: u32, offset: u32, pc: u32, leads_on: bool)
-        requires { HasRoom self.old }
+        requires room { HasRoom self.old }
+        requires inside { offset ≤ index }
         ensures { self.new ≡ landed index block offset pc (if leads_on then 0 else 1) self.old }
     {
         let steps = if leads_on { 0 } else { 1 };
@@ -158,9 +158,8 @@ impl Walk {
             stage: Stage::Start,
             end: u64::from(index) + (self.end - u64::from(self.index)) - steps,
             limit: self.limit,
-            from: index,
+            first: index - offset,
             block,
-            offset,
             pc,
             steps: self.steps() + steps,
             count: self.count() + 1,
@@ -454,6 +453,7 @@ pub(crate) fn run_block<R: CacheRom, M: CacheRam>(
     requires few { limit ≤ 2 ^ 48 }
     requires within { hart.old.machine.steps ≤ limit }
     requires offset { at.2 < 2 ^ 22 }
+    requires after { at.2 ≤ at.0 }
     requires short { hart.old.machine.pc < 2 ^ 32 }
     requires inside { (r : Record) (h : HartData) (s : RamState) → Walked (R.policy (R.setting rom.old))
         (R.span (R.setting rom.old)) image.now limit (R.kept rom.old) hart.old (M.state ram.old) r h s →
@@ -474,9 +474,8 @@ pub(crate) fn run_block<R: CacheRom, M: CacheRam>(
         stage: at.3,
         end: u64::from(at.0) + (limit - hart.machine.steps),
         limit,
-        from: at.0,
+        first: at.0 - at.2,
         block: at.1,
-        offset: at.2,
         pc: hart.machine.pc,
         steps: hart.machine.steps,
         count: hart.machine_steps(),

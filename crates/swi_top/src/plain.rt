@@ -86,10 +86,8 @@ fn accepted<'a>(
     let Some(bytes) = image_bytes(&elf) else {
         return Ok(prepared);
     };
-    match own_image(&prepared.program, bytes) {
-        Ok(_) => Ok(prepared),
-        Err(refusal) => Err(refusal),
-    }
+    own_image(&prepared.program, bytes)?;
+    Ok(prepared)
 }
 
 /// Runs the program of a file on the flat machine.

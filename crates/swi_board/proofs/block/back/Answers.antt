@@ -56,6 +56,17 @@ returns-clause-on g c = λ is.
       coherent = rw q.setting at (g.met.R.CacheRom.coherent c.revisit.new.self v words q.stays);
     }
 
+pub land-requires-clause-inside : goal.land-requires-clause-inside
+land-requires-clause-inside g c =
+    let v = c.args.image.now in
+    let new = g.R.CacheRom.kept c.revisit.new.self in
+    let words = (g.M.CacheRam.state c.args.ram.now).words in
+    let q = c.in-Some-revisit.ensures in
+    let t = c.register_target-target.result in
+    let place : Arrives v new t c.control_at.result = c.control_at.ensures v words t q.stays q.served.answer in
+    let arrived = at_start v new t c.control_at.result c.in-At.at c.in-At.to c.in-At.place c.in-At.field-3 c.in-At.is place in
+    omega (arith, arrived.0.2)
+
 pub returns-clause-near : goal.returns-clause-near
 returns-clause-near g c =
     let v = c.args.image.now in

@@ -56,7 +56,7 @@ returns-else-is_stop g c =
           (subst (λ (k : Walk). WordOn (walk_machine w c.hart.inside.machine) (walk_machine k left) (walk_control k) c.args.x.now w.index w.block (walk_offset w) w.stage) (sym c.go.ensures) word));
       counted = λ is. subst (λ (k : Walk). walk_count k ≡ walk_count w + 1) (sym c.go.ensures) (gone_counted c.execute-next.result w goes c.requires.room.below c.requires.room.made);
       limited = λ is n to. subst (λ (k : Walk). WalksTo n k) (sym c.go.ensures) (gone_within c.execute-next.result w n c.requires.room.below to);
-      near = let up = subst (λ (k : Walk). walk_offset k ≤ walk_offset w + 3) (sym c.go.ensures) (gone_near c.execute-next.result w c.requires.room.ahead) in let low = c.requires.room.offset in omega (arith, up, low);
+      near = let up = subst (λ (k : Walk). walk_offset k ≤ walk_offset w + 3) (sym c.go.ensures) (gone_near c.execute-next.result w c.requires.room.inside) in let low = c.requires.room.offset in omega (arith, up, low);
       same = λ none. absurd (cc);
       rest = ap (λ (h : HartData). record h { machine = record h.machine { regs = c.execute-next.new.regs; bus = c.execute-next.new.bus } }) seen;
     }

@@ -17,16 +17,16 @@ loop-walk-init g c =
     let steps : c.hart.inside.machine.steps ≡ c.args.hart.now.machine.steps = ap (λ (h : HartData). h.machine.steps) seen in
     let count : c.hart.inside.count ≡ c.args.hart.now.count = ap (λ (h : HartData). h.count) seen in
     let within = c.requires.within in
-    let none : c.args.at.2 + (i - i) ≡ c.args.at.2 = omega arith in
-    let place : At i c.args.at.1 (c.args.at.2 + (i - i)) c.args.at.3 ≡ c.args.hart.now.control = ap (λ k. At i c.args.at.1 k c.args.at.3) none ∙ sym c.requires.control in
+    let after = c.requires.after in
+    let none : i - (i - c.args.at.2) ≡ c.args.at.2 = omega (arith, after) in
+    let place : At i c.args.at.1 (i - (i - c.args.at.2)) c.args.at.3 ≡ c.args.hart.now.control = ap (λ k. At i c.args.at.1 k c.args.at.3) none ∙ sym c.requires.control in
     let w : Walk = record {
       index = i;
       stage = c.args.at.3;
       end = c.from.result + (c.args.limit - c.hart.inside.machine.steps);
       limit = c.args.limit;
-      from = i;
+      first = i - c.args.at.2;
       block = c.args.at.1;
-      offset = c.args.at.2;
       pc = c.hart.inside.machine.pc;
       steps = c.hart.inside.machine.steps;
       count = c.machine_steps.result;
@@ -43,7 +43,7 @@ loop-walk-init g c =
       setting = refl;
       sound = c.requires.sound;
       going = c.requires.going;
-      to = record { ahead = omega arith; below = omega (arith, from); made = omega (arith, within, steps, from); limited = refl };
+      to = record { inside = omega arith; below = omega (arith, from); made = omega (arith, within, steps, from); limited = refl };
       few = let fits = c.machine_steps.type_inv in omega (arith, fits, none_made);
       near = omega (arith, low);
       left = refl;

@@ -1,4 +1,5 @@
 use Rattle.std.proofs.Common.{◌≡◌, ◌≤◌, inr, List, ℕ, [], length, None, sym, ap, ◌∙◌, subst, arith}
+use Rattle.std.proofs.lemmas.Result.{err_from_is_err_and}
 use Rattle.swi_elf_read.specs.Loaded.{image_of}
 use Rattle.swi_program.specs.Program.{ProgramData}
 use Rattle.swi_program.specs.Text.{text_of}
@@ -18,16 +19,17 @@ returns-in_default-clause-accepted c =
     let none : image_of c.args.file.now ≡ None = ap (λ (x : List ℕ). image_of x) (sym c.in-Ok.ensures.accepted) ∙ sym c.in_default.ensures.value in
     passes_none c.args.file.now c.args.options.now.limits c.in_ok-prepared.prepared.layout [] c.requires.within c.in-Ok.ensures.ok prepared.layout none tt
 
-pub returns-in-Ok-own_image-clause-accepted : goal.returns-in-Ok-own_image-clause-accepted
-returns-in-Ok-own_image-clause-accepted c =
+pub returns-clause-accepted : goal.returns-clause-accepted
+returns-clause-accepted c =
     let prepared = rw c.in-Ok.ensures.accepted at c.in_ok-prepared.ensures.prepared in
     let has = sym (c.in-Some.ensures.value ∙ ap (λ (x : List ℕ). image_of x) c.in-Ok.ensures.accepted) in
     passes_some c.args.file.now c.args.options.now.limits c.in_ok-prepared.prepared.layout [] c.in-Some.bytes.now c.requires.within c.in-Ok.ensures.ok prepared.layout has
-    (subst (λ (p : ProgramData). ImagePasses (text_of p.segments) c.in-Some.bytes.now) prepared.program c.in-Ok-own_image.ensures.passes) tt
+    (subst (λ (p : ProgramData). ImagePasses (text_of p.segments) c.in-Some.bytes.now) prepared.program c.in_ok-own_image.ensures.passes) tt
 
-pub returns-clause-refused : goal.returns-clause-refused
-returns-clause-refused c =
+pub returns-in_err-own_image-clause-refused : goal.returns-in_err-own_image-clause-refused
+returns-in_err-own_image-clause-refused c =
+    let p = err_from_is_err_and c.from_residual-in_err-own_image.result c.from_residual-in_err-own_image.ensures.1 in
     let prepared = rw c.in-Ok.ensures.accepted at c.in_ok-prepared.ensures.prepared in
     let has = sym (c.in-Some.ensures.value ∙ ap (λ (x : List ℕ). image_of x) c.in-Ok.ensures.accepted) in
-    inr (fails_some c.args.file.now c.args.options.now.limits c.in_ok-prepared.prepared.layout [] c.in-Some.bytes.now c.in-Err-own_image.refusal c.requires.within c.in-Ok.ensures.ok prepared.layout has
-    (subst (λ (p : ProgramData). ImageFails (text_of p.segments) c.in-Some.bytes.now c.in-Err-own_image.refusal) prepared.program c.in-Err-own_image.ensures.refused))
+    rw (p.1, p.2) (inr (fails_some c.args.file.now c.args.options.now.limits c.in_ok-prepared.prepared.layout [] c.in-Some.bytes.now c.in_err-own_image.field-0.0 c.requires.within c.in-Ok.ensures.ok prepared.layout has
+    (subst (λ (p : ProgramData). ImageFails (text_of p.segments) c.in-Some.bytes.now c.in_err-own_image.field-0.0) prepared.program c.in_err-own_image.ensures.refused)))

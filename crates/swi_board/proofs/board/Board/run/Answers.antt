@@ -91,13 +91,15 @@ run_block-requires g c =
     let begin = begins was.running was.settles c.requires.fits c.requires.limit (rw was.setting at (g.met.R.CacheRom.coherent _ _ _ was.sound))
     (record { linked = λ r v b o t is. g.met.R.CacheRom.first _ r v b o t is; one = λ r v t. g.met.R.CacheRom.second _ r v t; written = λ r v t. g.met.R.CacheRom.third _ r v t }) c.hart.view_is c.loop-hart-test.true (sym (ap (λ (h : HartData). h.machine.ending) c.hart.view_is) ∙ not_ended _ _ c.is_none.ensures c.if-is_none.true) c.origin_pc-pc.ensures.word in
     let low = rw was.setting at (g.met.R.CacheRom.small _ _ _ was.sound) in
+    let here = stands begin c.requires.count c.requires.services low (g.met.R.CacheRom.image _ _ _ was.sound) begin.below c.in-Some.ensures.control in
     record {
       going = begin.going;
       control = c.in-Some.ensures.control;
       sound = was.sound;
       few = c.requires.limit;
       within = let more = begin.below in omega (arith, more);
-      offset = (stands begin c.requires.count c.requires.services low (g.met.R.CacheRom.image _ _ _ was.sound) begin.below c.in-Some.ensures.control).offset;
+      offset = here.offset;
+      after = let index = here.home.index in omega (arith, index);
       short = c.origin_pc-pc.ensures.word;
       inside = λ r h ram walked below i b o stage control.
           let on = rw was.setting at walked in
