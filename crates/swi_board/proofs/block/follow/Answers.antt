@@ -1,6 +1,6 @@
-use Rattle.std.proofs.Common.{rules, ◌≡◌, ◌+◌, ◌-◌, ◌*◌, ◌%◌, ◌^◌, ◌<◌, Bool, Some, true, if◌then◌else◌, slice_index, sym, refl, ap, subst, ◌∙◌, arith}
+use Rattle.std.proofs.Common.{rules, ◌≡◌, ◌+◌, ◌-◌, ◌^◌, ◌<◌, Bool, true, if◌then◌else◌, sym, refl, ap, subst, ◌∙◌, arith}
 use Rattle.swi_rom.specs.Coherent.{LeadsTo}
-use Rattle.swi_image.specs.Place.{place_of, word_at}
+use Rattle.swi_image.specs.Place.{word_at}
 use Rattle.swi_board.specs.declared.hart.Control.{Control}
 use Rattle.swi_board.specs.declared.hart.Control.TheVariants.{At}
 use Rattle.swi_board.specs.declared.hart.Stage.TheVariants.{Start}
