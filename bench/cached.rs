@@ -1,5 +1,5 @@
-//! The cached machine of this repository written in plain Rust, in the same form: one fetch out of the ram, one decode and one
-//! execution a step; image and service are asked only at an exit. `bench/run` measures the proved one against it.
+//! The cached machine of this repository written in plain Rust, in the same form: words, links and jumps to placed blocks stand
+//! in a loop of their own, which is left for any other word. `bench/run` measures the proved one against it.
 
 use crate::*;
 
@@ -113,7 +113,9 @@ impl Ram {
     #[inline(always)]
     fn fetch(&mut self, i: u32) -> u32 {
         self.fetches = self.fetches.saturating_add(1);
-        self.reach = self.reach.max(i + 1);
+        if i >= self.reach {
+            self.reach = i + 1;
+        }
         self.last = i;
         self.words[i as usize]
     }
@@ -128,7 +130,16 @@ impl Ram {
 /// The slot of a block that has none.
 const NOWHERE: u32 = u32::MAX;
 
-/// The service: the oldest block makes room. Of each slot it keeps the words that are linked to it.
+/// Where a link leads: the original address, and its block and offset in the image.
+#[derive(Clone, Copy)]
+struct Goal {
+    address: u32,
+    block: u32,
+    offset: u32,
+}
+
+/// The service: the oldest block makes room. Of each slot it keeps the words that are linked to it, and of each of these words
+/// the goal, so that nothing is looked up where control goes over a link.
 struct Rom {
     size: u32,
     next: usize,
@@ -136,6 +147,7 @@ struct Rom {
     blocks: Vec<u32>,
     homes: Vec<u32>,
     into: Vec<Vec<u32>>,
+    goals: Vec<Goal>,
     services: u64,
 }
 
@@ -149,7 +161,19 @@ impl Rom {
             blocks: vec![0; slots],
             homes: vec![NOWHERE; blocks],
             into: vec![vec![]; slots],
+            goals: vec![Goal { address: 0, block: 0, offset: 0 }; slots * size as usize],
             services: 0,
+        }
+    }
+
+    fn find(&self, block: u32) -> Option<u32> {
+        Some(self.homes[block as usize]).filter(|&home| home != NOWHERE)
+    }
+
+    /// The boot, which comes while nothing is placed, is no service.
+    fn count(&mut self) {
+        if self.filled > 0 {
+            self.services += 1;
         }
     }
 
@@ -170,10 +194,9 @@ impl Rom {
     }
 
     fn arrive(&mut self, image: &Image, ram: &mut Ram, block: u32) -> u32 {
-        self.services += 1;
-        let home = self.homes[block as usize];
-        if home != NOWHERE {
-            return home;
+        self.count();
+        if let Some(slot) = self.find(block) {
+            return slot;
         }
         self.make_room(ram);
         let slot = self.next as u32;
@@ -192,6 +215,14 @@ impl Rom {
         Some(self.arrive(image, ram, block) * self.size + offset)
     }
 
+    /// Enters a block that is placed: the ram is not asked.
+    fn revisit(&mut self, image: &Image, target: u32) -> Option<u32> {
+        let (block, offset) = image.place(target)?;
+        let slot = self.find(block)?;
+        self.count();
+        Some(slot * self.size + offset)
+    }
+
     fn cross(&mut self, image: &Image, ram: &mut Ram, at: u32, target: u32) -> Option<u32> {
         let (block, offset) = image.place(target)?;
         let own = (at / self.size) as usize;
@@ -202,6 +233,7 @@ impl Rom {
         if self.blocks[own] == home && (-(1 << 20)..1 << 20).contains(&distance) {
             ram.set(at, jump(distance as u32));
             self.into[slot as usize].push(at);
+            self.goals[at as usize] = Goal { address: target, block, offset };
         }
         Some(index)
     }
@@ -228,21 +260,113 @@ enum Stage {
 /// Index, block, offset and stage of the word under control.
 type At = (u32, u32, u32, Stage);
 
-/// What an executed word is of its instruction.
-enum Role {
-    Lead(Stage),
-    Whole,
+/// Where control goes from a word.
+#[derive(Clone, Copy, PartialEq, Eq)]
+enum Next {
+    /// To the next word, with which an instruction begins.
+    On,
+    /// Over the exit behind the word.
     Over,
+    /// To the next word, of the same instruction.
+    Lead(Stage),
+    /// Nowhere: the word was not executed.
+    Stop,
 }
 
-/// Where control is; no stage where no text word stands.
-struct Hart {
+/// Where steps have come: the word under control with its stage, the block that stands from `first` on, and the index `end` at
+/// which the limit of steps would be reached if each word from here on were an instruction. `pc`, `steps` and `count` are of the
+/// word at which the walk began or last came over a link: so a step to the next word changes the index alone.
+#[derive(Clone, Copy)]
+struct Walk {
     index: u32,
+    stage: Stage,
+    end: u64,
+    limit: u64,
     first: u32,
     block: u32,
-    stage: Option<Stage>,
-    machine: Flat,
+    pc: u32,
+    steps: u64,
     count: u64,
+}
+
+impl Walk {
+    #[inline(always)]
+    fn offset(&self) -> u32 {
+        self.index - self.first
+    }
+
+    #[inline(always)]
+    fn steps(&self) -> u64 {
+        self.limit - (self.end - u64::from(self.index))
+    }
+
+    /// The instructions since the walk began or last came over a link.
+    #[inline(always)]
+    fn made(&self) -> u64 {
+        self.steps() - self.steps
+    }
+
+    #[inline(always)]
+    fn pc(&self) -> u32 {
+        self.pc.wrapping_add(4 * self.made() as u32)
+    }
+
+    #[inline(always)]
+    fn count(&self) -> u64 {
+        self.count + self.made()
+    }
+
+    #[inline(always)]
+    fn go(&mut self, next: Next) {
+        match next {
+            Next::On => {
+                self.index += 1;
+                self.stage = Stage::Start;
+            }
+            Next::Over => {
+                self.index += 3;
+                self.stage = Stage::Start;
+                self.end += 2;
+            }
+            Next::Lead(stage) => {
+                self.index += 1;
+                self.stage = stage;
+                self.end += 1;
+                self.count += 1;
+            }
+            Next::Stop => {}
+        }
+    }
+
+    /// Goes over a link to a place, which is a step unless the exit only leads on.
+    #[inline(always)]
+    fn land(&mut self, index: u32, to: Goal, leads_on: bool) {
+        let steps = u64::from(!leads_on);
+        *self = Walk {
+            index,
+            stage: Stage::Start,
+            end: u64::from(index) + (self.end - u64::from(self.index)) - steps,
+            limit: self.limit,
+            first: index - to.offset,
+            block: to.block,
+            pc: to.address,
+            steps: self.steps() + steps,
+            count: self.count() + 1,
+        };
+    }
+
+    #[inline(always)]
+    fn follow(&mut self, rom: &Rom, off: u32) {
+        let to = rom.goals[self.index as usize];
+        let leads_on = fell(self.stage, self.pc(), to.address, Some((to.block, to.offset)), (self.block, self.offset()));
+        self.land(self.index.wrapping_mul(4).wrapping_add(off) / 4, to, leads_on);
+    }
+}
+
+/// Whether an exit at a place that was left for the target is one behind the block's last text word.
+#[inline(always)]
+fn fell(stage: Stage, pc: u32, target: u32, to: Option<(u32, u32)>, from: (u32, u32)) -> bool {
+    stage == Stage::Start && target == pc && to != Some(from)
 }
 
 #[inline(always)]
@@ -292,6 +416,66 @@ fn text_store(instr: &Instr, regs: &Regs, bus: &Bus) -> bool {
     }
 }
 
+/// Where control goes from a LUI, by the instruction that it begins.
+#[inline(never)]
+fn upper_role(bus: &Bus, pc: u32, stage: Stage) -> Next {
+    if stage != Stage::Start {
+        return Next::On;
+    }
+    match bus.fetch(pc).and_then(decode) {
+        Some(Instr::Auipc { .. }) => Next::Lead(Stage::Low),
+        Some(Instr::Jal { .. }) => Next::Lead(Stage::Return),
+        _ => Next::On,
+    }
+}
+
+/// Executes an operation on two registers, a load, or a store outside the text.
+#[inline(always)]
+fn execute_plain(index: u32, instr: &Instr, regs: &mut Regs, bus: &mut Bus) -> Next {
+    match *instr {
+        Instr::Op { .. } | Instr::Load { .. } => {}
+        Instr::Store { .. } if !text_store(instr, regs, bus) => {}
+        _ => return Next::Stop,
+    }
+    match exec(instr, 4 * index, regs, bus) {
+        Done::Next(_) => Next::On,
+        _ => Next::Stop,
+    }
+}
+
+/// Executes a branch, or a word that only changes a register or stores outside the text. Each kind has its own `exec` right
+/// behind the decoder, so that the compiler joins the two. Any other word, and one that faults, changes nothing.
+#[inline(always)]
+fn execute(walk: &Walk, instr: &Instr, regs: &mut Regs, bus: &mut Bus) -> Next {
+    let pc = 4 * walk.index;
+    match *instr {
+        Instr::Branch { .. } => match exec(instr, pc, regs, bus) {
+            Done::Next(next) if next == pc + 12 => Next::Over,
+            _ => Next::Lead(Stage::Leave),
+        },
+        Instr::Alu { op, .. } => {
+            exec(instr, pc, regs, bus);
+            if matches!((walk.stage, op), (Stage::Return, ImmOp::Addi)) {
+                return Next::Lead(Stage::Leave);
+            }
+            Next::On
+        }
+        Instr::Lui { .. } => {
+            let next = upper_role(bus, walk.pc(), walk.stage);
+            exec(instr, pc, regs, bus);
+            next
+        }
+        _ => execute_plain(walk.index, instr, regs, bus),
+    }
+}
+
+/// Where control is; nowhere in the ram where no text word stands.
+struct Hart {
+    control: Option<At>,
+    machine: Flat,
+    count: u64,
+}
+
 impl Hart {
     #[cold]
     #[inline(never)]
@@ -300,168 +484,155 @@ impl Hart {
         self.count += 1;
     }
 
+    /// A step at a word that asks neither the service nor a device. At any other nothing changes.
     #[inline(always)]
-    fn advance(&mut self, at: At, words: u32, stage: Stage) {
-        self.index = at.0 + words;
-        self.stage = Some(stage);
+    fn one(&mut self, rom: &Rom, instr: &Instr, walk: &mut Walk) -> bool {
+        if let Instr::Jal { off, .. } = *instr {
+            walk.follow(rom, off);
+            return true;
+        }
+        let next = execute(walk, instr, &mut self.machine.regs, &mut self.machine.bus);
+        walk.go(next);
+        next != Next::Stop
     }
 
-    #[inline(always)]
-    fn go(&mut self, rom: &Rom, index: Option<u32>) {
-        let Some(index) = index else {
-            self.stage = None;
-            return;
-        };
-        let (block, offset) = rom.at(index);
-        self.index = index;
-        self.first = index - offset;
-        self.block = block;
-        self.stage = Some(Stage::Start);
-    }
-
+    /// A step at the exit of a JALR whose target's block is placed, as that of a return mostly is. At any other nothing changes.
     #[inline(never)]
-    fn upper_role(&self, stage: Stage) -> Role {
-        if stage != Stage::Start {
-            return Role::Whole;
-        }
-        match self.machine.bus.fetch(self.machine.pc).and_then(decode) {
-            Some(Instr::Auipc { .. }) => Role::Lead(Stage::Low),
-            Some(Instr::Jal { .. }) => Role::Lead(Stage::Return),
-            _ => Role::Whole,
-        }
-    }
-
-    #[inline(always)]
-    fn role(&self, stage: Stage, instr: &Instr) -> Role {
-        match *instr {
-            Instr::Lui { .. } => self.upper_role(stage),
-            Instr::Branch { .. } => Role::Over,
-            Instr::Alu { op: ImmOp::Addi, .. } if stage == Stage::Return => Role::Lead(Stage::Leave),
-            _ => Role::Whole,
-        }
-    }
-
-    #[inline(always)]
-    fn whole(&mut self, at: At, instr: &Instr) -> bool {
-        if text_store(instr, &self.machine.regs, &self.machine.bus) {
-            self.end(End::Exited(242));
+    fn back(&mut self, rom: &mut Rom, image: &Image, walk: &mut Walk) -> bool {
+        let (block, offset) = (walk.block, walk.offset());
+        let descriptor = image.word(block, offset + 1);
+        if descriptor % 4 != 3 {
             return false;
         }
-        match exec(instr, 4 * at.0, &mut self.machine.regs, &mut self.machine.bus) {
-            Done::Next(_) => {
-                self.advance(at, 1, Stage::Start);
-                self.machine.pc = self.machine.pc.wrapping_add(4);
-                self.machine.steps += 1;
-                self.count += 1;
-            }
-            Done::Call => return true,
-            Done::Break => self.end(End::Faulted(FaultKind::Break, self.machine.pc)),
-            Done::Fault(kind, address) => self.end(End::Faulted(kind, address)),
+        let Some(Instr::Jalr { rd, rs1, imm }) = decode(descriptor) else { unreachable!() };
+        let address = self.machine.regs.get(rs1).wrapping_add(imm) & !1;
+        if address % 4 != 0 {
+            return false;
         }
-        false
+        let Some(index) = rom.revisit(image, address) else {
+            return false;
+        };
+        self.machine.regs.set(rd, image.word(block, offset + 2));
+        let (block, offset) = rom.at(index);
+        walk.land(index, Goal { address, block, offset }, false);
+        true
     }
 
+    /// Steps up to the limit, or to the first word that is not executed here, which is then fetched. Nothing but words, links
+    /// and jumps to placed blocks stands in this loop, so index, pc and counts stay in registers.
     #[inline(never)]
-    fn call(&mut self, at: At) {
-        self.machine.call();
-        if self.machine.ending.is_none() {
-            self.advance(at, 1, Stage::Start);
+    fn run_block(&mut self, rom: &mut Rom, image: &Image, ram: &mut Ram, limit: u64, at: At) -> Option<u32> {
+        let (index, block, offset, stage) = at;
+        let steps = self.machine.steps;
+        let end = u64::from(index) + (limit - steps);
+        let pc = self.machine.pc;
+        let mut walk = Walk { index, stage, end, limit, first: index - offset, block, pc, steps, count: self.count };
+        let mut left = None;
+        while u64::from(walk.index) < walk.end {
+            let word = ram.fetch(walk.index);
+            let Some(instr) = decode(word) else { unreachable!() };
+            if self.one(rom, &instr, &mut walk) {
+                continue;
+            }
+            // A walk of its own: the loop's is passed to nothing that isn't inlined, and stays in registers.
+            let mut turned = walk;
+            if word == EBREAK && self.back(rom, image, &mut turned) {
+                walk = turned;
+                continue;
+            }
+            left = Some(word);
+            break;
         }
+        self.control = Some((walk.index, walk.block, walk.offset(), walk.stage));
+        self.machine.pc = walk.pc();
+        self.machine.steps = walk.steps();
+        self.count = walk.count();
+        left
+    }
+
+    /// A step at a word that `run_block` left: an exit, or one that completes its instruction.
+    fn at_word(&mut self, rom: &mut Rom, image: &Image, ram: &mut Ram, word: u32, at: At) {
+        let (index, block, offset, _) = at;
+        let Some(instr) = decode(word) else { unreachable!() };
+        let Flat { regs, bus, .. } = &mut self.machine;
+        if text_store(&instr, regs, bus) {
+            self.machine.ending = Some(End::Exited(242));
+            self.count += 1;
+            return;
+        }
+        match exec(&instr, 4 * index, regs, bus) {
+            Done::Next(_) => {
+                self.machine.pc = self.machine.pc.wrapping_add(4);
+                self.machine.steps += 1;
+            }
+            Done::Call => self.machine.call(),
+            Done::Break => return self.exit_step(rom, image, ram, at),
+            Done::Fault(kind, address) => return self.end(End::Faulted(kind, address)),
+        }
+        self.control = Some((index + 1, block, offset + 1, Stage::Start));
         self.count += 1;
     }
 
-    #[inline(always)]
-    fn word(&mut self, at: At, instr: &Instr) -> bool {
-        match self.role(at.3, instr) {
-            Role::Lead(next) => {
-                exec(instr, 4 * at.0, &mut self.machine.regs, &mut self.machine.bus);
-                self.advance(at, 1, next);
-                self.count += 1;
+    fn exit_step(&mut self, rom: &mut Rom, image: &Image, ram: &mut Ram, at: At) {
+        let (_, block, offset, _) = at;
+        let descriptor = image.word(block, offset + 1);
+        let pc = self.machine.pc;
+        match descriptor % 4 {
+            0 => self.direct_step(rom, image, ram, at, descriptor),
+            1 => {
+                let kind = match self.machine.bus.fetch(pc).and_then(decode) {
+                    Some(Instr::Ebreak) => FaultKind::Break,
+                    _ => FaultKind::Illegal,
+                };
+                self.end(End::Faulted(kind, pc));
             }
-            Role::Over => {
-                let done = exec(instr, 4 * at.0, &mut self.machine.regs, &mut self.machine.bus);
-                if matches!(done, Done::Next(pc) if pc == 4 * at.0 + 12) {
-                    self.advance(at, 3, Stage::Start);
-                    self.machine.pc = self.machine.pc.wrapping_add(4);
-                    self.machine.steps += 1;
-                } else {
-                    self.advance(at, 1, Stage::Leave);
-                }
-                self.count += 1;
-            }
-            Role::Whole => return self.whole(at, instr),
+            2 => self.end(End::Faulted(FaultKind::FetchMisaligned, descriptor)),
+            _ => self.jalr_step(rom, image, ram, descriptor, image.word(block, offset + 2)),
         }
-        false
     }
 
-    #[inline(never)]
-    fn leave(&mut self, rom: &mut Rom, image: &Image, ram: &mut Ram, at: At, link: Option<u32>, target: u32) {
-        let index = match link {
-            Some(off) => Some(at.0.wrapping_mul(4).wrapping_add(off) / 4),
-            None => rom.cross(image, ram, at.0, target),
-        };
-        self.go(rom, index);
-        let back = self.stage.is_some() && (self.block, self.index - self.first) == (at.1, at.2);
-        if at.3 != Stage::Start || target != self.machine.pc || back {
+    fn direct_step(&mut self, rom: &mut Rom, image: &Image, ram: &mut Ram, at: At, target: u32) {
+        let (index, block, offset, stage) = at;
+        let to = rom.cross(image, ram, index, target);
+        if !fell(stage, self.machine.pc, target, to.map(|index| rom.at(index)), (block, offset)) {
             self.machine.pc = target;
             self.machine.steps += 1;
         }
+        self.go(rom, to);
+    }
+
+    fn jalr_step(&mut self, rom: &mut Rom, image: &Image, ram: &mut Ram, descriptor: u32, link: u32) {
+        let Some(Instr::Jalr { rd, rs1, imm }) = decode(descriptor) else { unreachable!() };
+        let target = self.machine.regs.get(rs1).wrapping_add(imm) & !1;
+        if target % 4 != 0 {
+            return self.end(End::Faulted(FaultKind::FetchMisaligned, target));
+        }
+        let to = rom.enter(image, ram, target);
+        self.machine.regs.set(rd, link);
+        self.machine.pc = target;
+        self.machine.steps += 1;
+        self.go(rom, to);
+    }
+
+    /// Goes to an index in the ram.
+    fn go(&mut self, rom: &Rom, index: Option<u32>) {
+        self.control = index.map(|index| {
+            let (block, offset) = rom.at(index);
+            (index, block, offset, Stage::Start)
+        });
         self.count += 1;
     }
 
-    #[inline(never)]
-    fn jump(&mut self, rom: &mut Rom, image: &Image, ram: &mut Ram, target: u32) {
-        let index = rom.enter(image, ram, target);
-        self.go(rom, index);
-    }
-
-    #[inline(never)]
-    fn exit(&mut self, rom: &mut Rom, image: &Image, ram: &mut Ram, at: At, link: Option<u32>) {
-        let (_, block, offset, _) = at;
-        let descriptor = image.word(block, offset + 1);
-        match descriptor % 4 {
-            0 => self.leave(rom, image, ram, at, link, descriptor),
-            1 => self.end(End::Faulted(FaultKind::Illegal, self.machine.pc)),
-            2 => self.end(End::Faulted(FaultKind::FetchMisaligned, descriptor)),
-            _ => {
-                let Some(Instr::Jalr { rd, rs1, imm }) = decode(descriptor) else { unreachable!() };
-                let target = self.machine.regs.get(rs1).wrapping_add(imm) & !1;
-                if target % 4 != 0 {
-                    return self.end(End::Faulted(FaultKind::FetchMisaligned, target));
-                }
-                self.jump(rom, image, ram, target);
-                self.machine.regs.set(rd, image.word(block, offset + 2));
-                self.machine.pc = target;
-                self.machine.steps += 1;
-                self.count += 1;
-            }
-        }
-    }
-
-    #[inline(always)]
-    fn step(&mut self, rom: &mut Rom, image: &Image, ram: &mut Ram) {
-        let Some(stage) = self.stage else {
-            return self.end(End::Faulted(FaultKind::FetchAccess, self.machine.pc));
-        };
-        let at = (self.index, self.block, self.index.wrapping_sub(self.first), stage);
-        let Some(instr) = decode(ram.fetch(at.0)) else { unreachable!() };
-        match instr {
-            Instr::Jal { off, .. } => self.exit(rom, image, ram, at, Some(off)),
-            Instr::Ebreak => self.exit(rom, image, ram, at, None),
-            _ => {
-                if self.word(at, &instr) {
-                    self.call(at);
-                }
-            }
-        }
-    }
-}
-
-impl Hart {
-    #[inline(never)]
     fn run(&mut self, rom: &mut Rom, image: &Image, ram: &mut Ram, limit: u64) {
         while self.machine.steps < limit && self.machine.ending.is_none() {
-            self.step(rom, image, ram);
+            let Some(at) = self.control else {
+                return self.end(End::Faulted(FaultKind::FetchAccess, self.machine.pc));
+            };
+            if let Some(word) = self.run_block(rom, image, ram, limit, at)
+                && let Some(at) = self.control
+            {
+                self.at_word(rom, image, ram, word, at);
+            }
         }
     }
 }
@@ -472,13 +643,14 @@ pub fn run(machine: Flat, cache_bytes: u32, block_words: u32, limit: u64) -> Fla
     let mut ram = Ram { words: vec![0; cache_bytes as usize / 4], fetches: 0, sets: 0, reach: 0, last: 0 };
     let mut rom = Rom::new(cache_bytes, block_words, image.starts.len());
     let entry = machine.pc;
-    let mut hart = Hart { index: 0, first: 0, block: 0, stage: None, machine, count: 1 };
-    hart.jump(&mut rom, &image, &mut ram, entry);
+    let mut hart = Hart { control: None, machine, count: 0 };
+    let index = rom.enter(&image, &mut ram, entry);
+    hart.go(&rom, index);
     hart.run(&mut rom, &image, &mut ram, limit);
     let Ram { fetches, sets, reach, last, .. } = ram;
     std::hint::black_box((fetches, sets, reach, last));
     if env::var("STATS").is_ok() {
-        eprintln!("steps {} instructions {} services {} writes {sets}", hart.machine.steps, hart.count, rom.services - 1);
+        eprintln!("steps {} instructions {} services {} writes {sets}", hart.machine.steps, hart.count, rom.services);
     }
     hart.machine
 }
