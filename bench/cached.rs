@@ -275,7 +275,7 @@ enum Next {
 
 /// Where steps have come: the word under control with its stage, the block that stands from `first` on, and the index `end` at
 /// which the limit of steps would be reached if each word from here on were an instruction. `pc`, `steps` and `count` are of the
-/// word at which the walk began or last came over a link: so a step to the next word changes the index alone.
+/// word at which the walk began or last landed: so a step to the next word changes the index alone.
 #[derive(Clone, Copy)]
 struct Walk {
     index: u32,
@@ -300,7 +300,7 @@ impl Walk {
         self.limit - (self.end - u64::from(self.index))
     }
 
-    /// The instructions since the walk began or last came over a link.
+    /// The instructions since the walk began or last landed.
     #[inline(always)]
     fn made(&self) -> u64 {
         self.steps() - self.steps

@@ -45,8 +45,8 @@ pub enum Next {
 
 /// Where steps have come: the word under control with its stage, the block that stands from `first` on, and the index
 /// `end` at which the limit of steps would be reached if each word from here on were an instruction. `pc`, `steps` and
-/// `count` are of the word at which the walk began or last came over a link: so a step to the next word changes the index
-/// alone.
+/// `count` are of the word at which the walk began or last landed, over a link or a jump: so a step to the next word
+/// changes the index alone.
 #[derive(Clone, Copy, Debug, PartialEq, Eq)]
 pub struct Walk {
     pub index: u32,
@@ -81,7 +81,7 @@ impl Walk {
         self.limit - (self.end - u64::from(self.index))
     }
 
-    /// The instructions since the walk began or last came over a link.
+    /// The instructions since the walk began or last landed.
     #[inline(always)]
     fn made(&self) -> u64
         requires ahead { self.now.index ≤ self.now.end }
@@ -437,7 +437,7 @@ pub(crate) fn block_place(hart: &Hart) -> Option<(u32, u32, u32, Stage)>
 }
 
 /// Steps up to `limit`, or to the first word that is not executed here, which is then fetched. Nothing but words, links
-/// and jumps to placed blocks stands in this loop, so index, pc and counts stay in registers.
+/// and jumps to placed blocks stands in this loop, so that what a word changes can stay in registers.
 #[inline(never)]
 pub(crate) fn run_block<R: CacheRom, M: CacheRam>(
     hart: &mut Hart,
@@ -492,7 +492,7 @@ pub(crate) fn run_block<R: CacheRom, M: CacheRam>(
         if one(hart, rom, image, ram, word, &x, &mut walk) {
             continue;
         }
-        // A walk of its own: the loop's is passed to nothing that isn't inlined, and stays in registers.
+        // A walk of its own: the loop's is passed to nothing that isn't inlined, and so needn't live in memory.
         let mut turned = walk;
         if word == EBREAK && back(hart, rom, image, ram, &mut turned) {
             walk = turned;

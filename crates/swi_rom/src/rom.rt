@@ -91,7 +91,7 @@ pub trait CacheRom: Drop {
         ensures stays { OnServed result (sound self.new image.now (M.state ram.new).words) };
 
     /// Serves a jump to an address whose block is placed, as `enter` does: the ram, which is read for the contract
-    /// alone, is not asked. None comes exactly where no placed block has the address; nothing has changed then, and
+    /// alone, is not asked. None comes only where no placed block has the address; nothing has changed then, and
     /// `enter` is to be asked.
     fn revisit<M: CacheRam>(&mut self, image: &ImageView<'_>, ram: &M, target: u32) -> Option<u32>
         requires sound { sound self.old image.now (M.state ram.now).words }
