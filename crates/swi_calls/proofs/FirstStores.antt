@@ -8,7 +8,7 @@ use Rattle.swi_exec.specs.declared.done.FaultKind.TheVariants.{StoreAccess}
 use Rattle.swi_calls.specs.declared.end.End.TheVariants.{Faulted}
 use Rattle.swi_calls.specs.State.{FlatState}
 use Rattle.swi_calls.specs.Flat.{made, flat_run, started}
-use Rattle.swi_calls.specs.FirstStore.{StoresAt, IsFirstStore}
+use Rattle.swi_calls.specs.FirstStore.{StoresAt}
 use Rattle.swi_calls.specs.Held.{held_run, stopped_at}
 
 -- auipc x5, 0 and sw x0, 0(x5), where they can be written
@@ -31,6 +31,7 @@ at_start area = started (record {
   steps = 0;
 }) []
 
+-- the second step is the first that would store into the text
 none_before : (j : ℕ) → suc j < 2 → StoresAt (at_start text) j → ⊥
 unfolding text flat_run made decoded decoded_by imm_u imm_s
 none_before zero early h = let no_store : false ≡ true = h.stores in cc
@@ -39,15 +40,6 @@ none_before (suc j) early h = omega (arith, early)
 second_stores_at : StoresAt (at_start text) 1
 unfolding text flat_run made decoded decoded_by imm_u imm_s
 second_stores_at = record { going = refl; stores = refl }
-
--- the second step is the first that would store into the text
-second_stores : IsFirstStore (at_start text) 9 2
-second_stores = record {
-  one_at_least = omega arith;
-  within = omega arith;
-  here = second_stores_at;
-  first = none_before;
-}
 
 -- a store that faults is none
 faults_first : StoresAt (at_start fixed_text) 1 → ⊥

@@ -1,5 +1,5 @@
--- The first step of a run that would store into the text. Own rule: the run of the cached machine, for which the text is fixed, ends there.
-use Rattle.std.specs.Prelude.{◌≡◌, ℕ, suc, ◌-◌, ◌≤◌, ◌<◌, true, None, is_some}
+-- A step of a run that would store into the text. Own rule: the run of the cached machine, for which the text is fixed, ends before it.
+use Rattle.std.specs.Prelude.{◌≡◌, ℕ, true, None, is_some}
 use Rattle.swi_calls.specs.Flat.{flat_run}
 use Rattle.swi_calls.specs.State.{FlatState}
 use Rattle.swi_calls.specs.StoresText.{next_store}
@@ -8,10 +8,3 @@ use Rattle.swi_calls.specs.StoresText.{next_store}
 pub record StoresAt (s : FlatState) (k : ℕ) : Type 0 where
   pub going : (flat_run k s).machine.ending ≡ None
   pub stores : is_some (next_store (flat_run k s).machine) ≡ true
-
--- step k, from 1 to n, is the first that would store into the text
-pub record IsFirstStore (s : FlatState) (n k : ℕ) : Type 0 where
-  pub one_at_least : 1 ≤ k
-  pub within : k ≤ n
-  pub here : StoresAt s (k - 1)
-  pub first : (j : ℕ) → suc j < k → StoresAt s j → ⊥

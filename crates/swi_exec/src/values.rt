@@ -84,14 +84,8 @@ pub fn load(op: LoadOp, a: u32, bus: &Bus) -> Result<u32, Access>
         (λ _. holds bus.now Read a (load_size op) ≡ false) }
 {
     match op {
-        LoadOp::Lb => match bus.load(a, 1) {
-            Ok(v) => Ok(sign::<8>(v)),
-            Err(refused) => Err(refused),
-        },
-        LoadOp::Lh => match bus.load(a, 2) {
-            Ok(v) => Ok(sign::<16>(v)),
-            Err(refused) => Err(refused),
-        },
+        LoadOp::Lb => Ok(sign::<8>(bus.load(a, 1)?)),
+        LoadOp::Lh => Ok(sign::<16>(bus.load(a, 2)?)),
         LoadOp::Lw => bus.load(a, 4),
         LoadOp::Lbu => bus.load(a, 1),
         LoadOp::Lhu => bus.load(a, 2),

@@ -1,6 +1,6 @@
 -- A cache ram: its words, and what was done to it. Own rule.
 use Rattle.std.specs.Prelude.{◌≡◌, ◌⊎◌, ℕ, ◌+◌, ◌≤◌, max, List, length, slice_index, slice_set, Result, Ok, Err}
-use Rattle.swi_outside.specs.Causes.{Rose, counted, risen}
+use Rattle.swi_outside.specs.Causes.{Rose, counted}
 
 pub record RamState : Type 0 where
   -- the words, from index 0
@@ -46,8 +46,3 @@ pub record KeepsBeyond (from : ℕ) (before after : RamState) : Type 0 where
   pub same_length : length after.words ≡ length before.words
   pub beyond : (i : ℕ) → from ≤ i → slice_index after.words i ≡ slice_index before.words i
   pub reached : after.reach ≤ max before.reach from
-
--- a count of fetches rose by so many at least and at most
-pub record RoseWithin (least most before after : ℕ) : Type 0 where
-  pub at_least : risen before least ≤ after
-  pub at_most : after ≤ risen before most

@@ -1,6 +1,7 @@
 pub mod CacheRam
 pub mod Causes
 pub mod Laws
+pub mod RamCalls
 pub mod Shelf
 pub mod Sink
 pub mod Source

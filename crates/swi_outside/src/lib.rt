@@ -14,6 +14,7 @@ mod folder_shelf;
 mod mem_shelf;
 mod mem_sink;
 mod mem_source;
+mod ram_calls;
 mod real;
 mod shelf;
 mod shelf_call;

@@ -106,13 +106,12 @@ fn shelf_in_memory_keeps_contents_and_fails_where_listed(rt: HostRuntime) -> Res
 }
 
 #[test]
-fn ram_counts_what_it_did(rt: HostRuntime) -> Result<(), Fail> {
+fn ram_keeps_what_was_set(rt: HostRuntime) -> Result<(), Fail> {
     let alloc = rt.alloc();
     let mut ram = VecRam::new(alloc, 4)?;
     assert_eq!(rt; ram.words(), 4);
     assert_eq!(rt; set_then_fetch(&mut ram, 1, 7), (Ok(()), Ok(7)));
     assert_eq!(rt; (ram.word(1), ram.word(2)), (7, 0));
-    assert_eq!(rt; (ram.fetches(), ram.sets()), (1, 1));
     Ok(())
 }
 

@@ -1,33 +1,33 @@
 ghost use Rattle.std.specs.Prelude.{◌≡◌, ◌<◌, length, slice_index, replicate, IfOk, IsOk};
 ghost use Rattle.swi_outside.specs.CacheRam.{Fetched, WordSet, new_ram};
 
+use crate::ram_calls::RamCalls;
 use crate::{CacheRam, Failed, Memory};
 use std::alloc::Global;
 use std::marker::Model;
+use std::snapshot::Snapshot;
 
-/// A ram that never fails.
+/// A ram that never fails. What contracts see of its calls takes no bytes and no time when it runs: it has no reader.
 #[derive(Drop)]
 pub struct VecRam {
     words: Vec<u32>,
-    fetches: u64,
-    sets: u64,
-    reach: u32,
-    last: u32,
+    calls: Snapshot<RamCalls>,
 }
 
 impl Model for VecRam {
     ghost use Rattle.std.specs.Prelude.{◌^◌, ◌<◌, length};
     ghost use Rattle.swi_outside.specs.CacheRam.{RamState};
+    ghost use Rattle.swi_outside.specs.RamCalls.{fetches_in, sets_in, reach_of, last_fetch};
 
     ghost Value = { RamState };
 
     ghost view = { λ r. record {
       words = r.words.items;
-      fetches = r.fetches;
-      sets = r.sets;
+      fetches = fetches_in r.calls.value;
+      sets = sets_in r.calls.value;
       faults = 0;
-      reach = r.reach;
-      last = r.last;
+      reach = reach_of r.calls.value;
+      last = last_fetch r.calls.value;
     } };
 
     ghost invariant = { λ r. length r.words.items < 2 ^ 32 };
@@ -41,10 +41,7 @@ impl VecRam {
         let words = vec![in alloc; 0u32; words as usize].map_err(|_| Memory)?;
         Ok(VecRam {
             words,
-            fetches: 0,
-            sets: 0,
-            reach: 0,
-            last: 0,
+            calls: Snapshot::of(&RamCalls::None),
         })
     }
 
@@ -54,20 +51,6 @@ impl VecRam {
         ensures { result ≡ slice_index self.now.words i }
     {
         self.words[i as usize]
-    }
-
-    /// How many fetches were made, up to 2^64 - 1.
-    pub fn fetches(&self) -> u64
-        ensures { result ≡ self.now.fetches }
-    {
-        self.fetches
-    }
-
-    /// How many sets were made, up to 2^64 - 1.
-    pub fn sets(&self) -> u64
-        ensures { result ≡ self.now.sets }
-    {
-        self.sets
     }
 }
 
@@ -85,11 +68,7 @@ impl CacheRam for VecRam {
         ensures fetched { Fetched self.old i result self.new }
         ensures never_fails { IsOk result }
     {
-        self.fetches = self.fetches.saturating_add(1);
-        if i >= self.reach {
-            self.reach = i + 1;
-        }
-        self.last = i;
+        self.calls = Snapshot::of(&RamCalls::Fetched(Snapshot::of(&self.calls), i));
         Ok(self.words[i as usize])
     }
 
@@ -99,8 +78,7 @@ impl CacheRam for VecRam {
         ensures set { WordSet self.old i w result self.new }
         ensures never_fails { IsOk result }
     {
-        self.sets = self.sets.saturating_add(1);
-        self.reach = self.reach.max(i + 1);
+        self.calls = Snapshot::of(&RamCalls::Set(Snapshot::of(&self.calls), i));
         self.words[i as usize] = w;
         Ok(())
     }

@@ -16,7 +16,8 @@ use swi_board::Hart;
 use swi_image::ImageView;
 use swi_isa::Reg;
 use swi_memory::Layout;
-use swi_outside::{Failed, VecRam};
+use std::marker::Model;
+use swi_outside::{CacheRam, Failed, VecRam};
 use swi_rom::ScanRom;
 
 /// Sets a0 to 7, as the text has it, and to 8.
@@ -27,6 +28,44 @@ const OTHER: u32 = 0x00800513;
 /// What stands behind the second step, steps and a0; and behind the third, the ending and the counts of steps,
 /// instructions and fetches.
 type Steps = ((u64, u32), (Option<End>, u64, u64, u64));
+
+/// A ram that never fails and counts its fetches.
+#[derive(Drop)]
+struct Counted {
+    ram: VecRam,
+    fetches: u64,
+}
+
+impl Model for Counted {
+    ghost use Rattle.swi_outside.specs.CacheRam.{RamState};
+
+    ghost Value = { RamState };
+
+    ghost view = { λ r. r.ram };
+}
+
+impl CacheRam for Counted {
+    ghost state = { λ r. r };
+
+    fn words(&self) -> u32 {
+        self.ram.words()
+    }
+
+    fn fetch(&mut self, i: u32) -> Result<u32, Failed>
+        requires { i < length self.old.words }
+    {
+        self.fetches = self.fetches.saturating_add(1);
+        self.ram.fetch(i)
+    }
+
+    fn set(&mut self, i: u32, w: u32) -> Result<(), Failed>
+        requires { i < length self.old.words }
+        ensures words { self.new.words ≡ slice_set self.old.words i w }
+        ensures never_fails { IsOk result }
+    {
+        self.ram.set(i, w)
+    }
+}
 
 /// Whether a board may make a step.
 fn goes_on<R: CacheRom>(board: &Board<R>) -> bool
@@ -68,7 +107,7 @@ fn is_own(hart: &Hart) -> bool
 }
 
 /// Sets a word of a ram.
-fn put(ram: &mut VecRam, i: u32, word: u32) -> Result<(), Failed>
+fn put(ram: &mut Counted, i: u32, word: u32) -> Result<(), Failed>
     requires { i < length ram.old.words }
     ensures words { ram.new.words ≡ slice_set ram.old.words i word }
     ensures never_fails { IsOk result }
@@ -81,7 +120,7 @@ fn steps_over<R: CacheRom>(
     alloc: Global,
     board: &mut Board<R>,
     image: &ImageView<'_>,
-    ram: &mut VecRam,
+    ram: &mut Counted,
     i: u32,
     place: (u32, u32),
 ) -> Result<Steps, Fail>
@@ -123,7 +162,7 @@ fn steps_over<R: CacheRom>(
             board.ending(),
             board.steps(),
             board.machine_steps(),
-            ram.fetches(),
+            ram.fetches,
         ),
     ))
 }
@@ -147,7 +186,10 @@ fn stepped<R: CacheRom>(
     let mut input = MemSource::new(Vec::new(alloc), Vec::new(alloc));
     let mut out = MemSink::new(alloc, 16, Vec::new(alloc))?;
     let mut err = MemSink::new(alloc, 16, Vec::new(alloc))?;
-    let mut ram = VecRam::new(alloc, 8)?;
+    let mut ram = Counted {
+        ram: VecRam::new(alloc, 8)?,
+        fetches: 0,
+    };
     if rom.counts().services > 0 {
         return Err(Fail::from("no new service"));
     }
