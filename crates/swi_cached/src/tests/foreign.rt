@@ -12,11 +12,11 @@ ghost use Rattle.swi_program.specs.Text.{text_of};
 ghost use Rattle.swi_render.specs.ImageOf.{IsImageOf};
 
 use super::*;
+use std::marker::Model;
 use swi_board::Hart;
 use swi_image::ImageView;
 use swi_isa::Reg;
 use swi_memory::Layout;
-use std::marker::Model;
 use swi_outside::{CacheRam, Failed, VecRam};
 use swi_rom::ScanRom;
 
