@@ -217,7 +217,7 @@ fn stepped<R: CacheRom>(
         || image.word(place.0, place.1) != OWN
         || !is_own(&hart)
         || ram.words() != 8
-        || ram.word(i) != OWN
+        || ram.ram.word(i) != OWN
     {
         return Err(Fail::from("another word"));
     }
