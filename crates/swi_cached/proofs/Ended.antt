@@ -28,6 +28,7 @@ use Rattle.std.specs.Io.KnownBytes.{Appends}
 use Rattle.swi_cached.specs.Cached.{CachedRun, span_of, end_of, told_after, fetches_after, policy_of, record_after, record_at_boot}
 use Rattle.swi_cached.specs.Answers.{Ended, IsShort, RamAfter}
 use Rattle.swi_cached.specs.Booted.{Booted}
+use Rattle.swi_board.proofs.Growing.{depth_most}
 use Rattle.swi_board.proofs.Running.{kept_both}
 use Rattle.swi_cached.proofs.Boot.{same_between}
 
@@ -58,7 +59,7 @@ module _ (c : CachedRun) (h0 h : HartData) (s0 : Slots) (r : Record) (before mid
   counts : (a b x y : ℕ) → x ≡ 0 → y ≡ 0 → h0.count ≡ 1 → a + x ≡ h0.count + b + y → a ≡ 1 + b
   counts a b x y p q one e = omega (arith, p, q, one, e)
 
-  record_is : r ≡ record_after c c.limit
+  pub record_is : r ≡ record_after c c.limit
   record_is =
       ran.record_is
       ∙ ap (λ (k : Option (ℕ × ℕ)). after_all (policy_of c) c.image (kept_by s0) (transfers c.image c.limit c.start k)) booted.here
@@ -144,18 +145,34 @@ most_settled v m c = by m.ending
     by (Some (Faulted k a)) between = (omega arith, λ _. omega arith)
     by (Some (StoreText a)) between = (omega arith, λ never. absurd (never a refl))
 
-pub is_short : (c : CachedRun) (h0 h : HartData) (s0 : Slots) (before mid : RamState) → Booted c h0 s0 before mid → c.start.machine.ending ≡ None → c.start.machine.steps ≡ 0 →
-    (h.machine.ending ≡ None → is_between h.control ≡ true) →
-    h.count + most c.image h0.machine h0.control ≤ h0.count + most c.image h.machine h.control → IsShort h
-is_short c h0 h s0 before mid booted going none settled rise =
-    let deep = depth_booted c.image c.start.machine h0.control booted.between booted.here in
-    let sum : 3 * c.start.machine.steps + depth c.image c.start.machine h0.control ≡ 1 = omega (arith, none, deep) in
-    let start : most c.image h0.machine h0.control ≡ 1 =
-    ap (λ (m : Machine). most c.image m h0.control) booted.machine ∙ ap (λ (e : Option End). most_by e c.image c.start.machine h0.control) going ∙ sum in
-    let last = most_settled c.image h.machine h.control settled in
-    let one = booted.count in
-    let most_last = last.0 in
-    record { most = omega (arith, start, one, rise, most_last); fewer = λ never. let fewer = last.1 never in omega (arith, start, one, rise, fewer) }
+most_any : (v : ImageData) (m : Machine) (c : Control) → most v m c ≤ 3 * m.steps + 3
+most_any v m c = by m.ending
+  where
+    by : (e : Option End) → most_by e v m c ≤ 3 * m.steps + 3
+    by None = let d = depth_most v m c in omega (arith, d)
+    by (Some (Exited code)) = omega arith
+    by (Some (Faulted k a)) = omega arith
+    by (Some (StoreText a)) = omega arith
+
+module _ (c : CachedRun) (h0 h : HartData) (s0 : Slots) (before mid : RamState) (booted : Booted c h0 s0 before mid)
+    (going : c.start.machine.ending ≡ None) (none : c.start.machine.steps ≡ 0)
+    (rise : h.count + most c.image h0.machine h0.control ≤ h0.count + most c.image h.machine h.control) where
+  start : most c.image h0.machine h0.control ≡ 1
+  start =
+      let deep = depth_booted c.image c.start.machine h0.control booted.between booted.here in
+      let sum : 3 * c.start.machine.steps + depth c.image c.start.machine h0.control ≡ 1 = omega (arith, none, deep) in
+      ap (λ (m : Machine). most c.image m h0.control) booted.machine ∙ ap (λ (e : Option End). most_by e c.image c.start.machine h0.control) going ∙ sum
+
+  pub is_short : (h.machine.ending ≡ None → is_between h.control ≡ true) → IsShort h
+  is_short settled =
+      let one = booted.count in
+      let last = most_settled c.image h.machine h.control settled in
+      let most_last = last.0 in
+      record { most = omega (arith, start, one, rise, most_last); fewer = λ never. let fewer = last.1 never in omega (arith, start, one, rise, fewer) }
+
+  -- also where the input tells nothing, and the run may stand within an instruction
+  pub few_more : h.count ≤ 3 * h.machine.steps + 3
+  few_more = let one = booted.count in let last = most_any c.image h.machine h.control in omega (arith, start, one, rise, last)
 
 -- a run of the board from its first step on, in the words of its boot
 pub ran_told : (c : CachedRun) (h0 h : HartData) (s0 : Slots) (r : Record) (before mid : RamState) (left' out out' err err' : Option (List ℕ)) → Booted c h0 s0 before mid →

@@ -1,5 +1,6 @@
 mod Boot
 mod Ended
+mod Services
 pub mod Failed
 mod Causing
 mod Fetched

@@ -17,6 +17,7 @@ pub record Booted (c : CachedRun) (h : HartData) (s : Slots) (before after : Ram
   pub machine : h.machine ≡ c.start.machine
   pub count : h.count ≡ 1
   pub unfailed : h.failed ≡ false
+  pub booted : h.booted ≡ true
   pub between : is_between h.control ≡ true
   pub matches : Matches c.image (kept_by s) c.start.machine h.machine h.control
   pub fits : Fits c.image (kept_by s) h

@@ -12,6 +12,7 @@ ghost use Rattle.swi_render.specs.ImageOf.{IsImageOf};
 ghost use Rattle.swi_rom.specs.Slots.{Slots, kept_by, setting_of};
 ghost use Rattle.swi_rom.specs.Sound.{SlotsSound};
 ghost use Rattle.swi_calls.specs.Flat.{flat_start};
+ghost use Rattle.swi_board.specs.Board.{Fits};
 ghost use Rattle.swi_board.specs.Leaving.{RamFailed as ServiceFailed};
 ghost use Rattle.swi_cached.specs.Cached.{run_of, slots_of, empty_record, IsCounted, IsFlatRun, StopsBeforeStore};
 ghost use Rattle.swi_cached.specs.Told.{addresses, history_of};
@@ -116,7 +117,7 @@ fn boot<R: CacheRam>(
 
 /// Runs a program out of a cache ram: the blocks of its image are copied on demand into slots of a cache of so many
 /// bytes, the oldest first out, and `limit` original steps are made, or fewer where the program ends. The board that is
-/// answered tells how it ended, and what it cost.
+/// answered tells how it ended, and what it cost; where it has not ended, `Board::run` runs it on.
 ///
 /// The image is one of the program's text, and the layout is the program's. The cache holds a block of the image, and
 /// has at most 8 MiB and no more bytes than the ram; `limit` is at most 2^48. With `log` each system call is told in a
@@ -159,6 +160,15 @@ pub fn run_cached<I: Source, O: Sink, E: Sink, R: CacheRam>(
     ensures unfailed { IfOk result (λ p. p.0.hart.failed ≡ false) }
     ensures short { IfOk result (λ p. ForSome (I.left input.old) (λ left. IsShort p.0.hart)) }
     ensures done { IfOk result (λ p. (p.0.hart.machine.steps ≡ limit) ⊎ (is_some p.0.hart.machine.ending ≡ true)) }
+    // What `Board::run` asks of a board that has not ended, and that it is booted, with the setting of its service.
+    ensures booted { IfOk result (λ p. p.0.hart.booted ≡ true) }
+    ensures fits { IfOk result (λ p. Fits image.now (kept_by p.0.rom) p.0.hart) }
+    ensures sound { IfOk result (λ p. SlotsSound p.0.rom image.now (R.state ram.new).words) }
+    ensures setting { IfOk result (λ p. setting_of p.0.rom
+        ≡ slots_of cache_bytes image.now ∷ image.now.block_words ∷ []) }
+    ensures count { IfOk result (λ p. p.0.hart.count ≤ 3 * p.0.hart.machine.steps + 3) }
+    ensures services { IfOk result (λ p. ForSome (I.left input.old) (λ left.
+        (kept_by p.0.rom).counts.services ≤ 2 * limit)) }
     ensures ram { OnOk result (ForSome (I.left input.old) (λ left.
         RamAfter (run_of image.now cache_bytes program.now layout.now log telling limit left)
         (R.state ram.old) (R.state ram.new))) }

@@ -369,6 +369,57 @@ fn runs_end_and_count(rt: HostRuntime) -> Result<(), Fail> {
     Ok(())
 }
 
+/// A run that stops at a limit goes on with its board, and comes to the end of one run.
+#[test]
+fn boards_run_on(rt: HostRuntime) -> Result<(), Fail> {
+    let (alloc, row) = (rt.alloc(), &ROWS[1]);
+    let file = file_with(alloc, COUNT, 5)?;
+    let program = program_in(alloc, &file)?;
+    let Ok(layout) = lay_out(&program, 1 << 20, 1 << 16) else {
+        return Err(Fail::from("no room"));
+    };
+    let Ok(image) = cut(alloc, &program, 16) else {
+        return Err(Fail::from("no image"));
+    };
+    let view = image.view();
+    if view.block_words() > 16 {
+        return Err(Fail::from("long blocks"));
+    }
+    for limit in 0..9 {
+        let mut input = MemSource::new(Vec::new(alloc), Vec::new(alloc));
+        let mut out = MemSink::new(alloc, 16, Vec::new(alloc))?;
+        let mut err = MemSink::new(alloc, 16, Vec::new(alloc))?;
+        let mut ram = FaultRam::new(alloc, 16, Vec::new(alloc))?;
+        let answer = run_cached(
+            alloc,
+            &view,
+            &program,
+            &layout,
+            64,
+            false,
+            Telling::Nothing,
+            limit,
+            &mut input,
+            &mut out,
+            &mut err,
+            &mut ram,
+        );
+        let Ok((mut board, _history)) = answer else {
+            return Err(Fail::from("no run"));
+        };
+        if board.ending().is_some() {
+            return Err(Fail::from("ended before its end"));
+        }
+        assert_eq!(rt; board.steps(), limit);
+        let on = board.run(&view, &mut ram, &mut input, &mut out, &mut err, 1000);
+        assert!(rt; on.is_ok(), "limit {limit}");
+        assert_eq!(rt; board.ending(), row.ending, "limit {limit}");
+        assert_eq!(rt; board.origin_pc(), row.pc, "limit {limit}");
+        assert_eq!(rt; counts_of(&board, &ram), row.counts, "limit {limit}");
+    }
+    Ok(())
+}
+
 /// What is told of the run of `SEVEN`: nothing; the addresses of its steps; these, and their lines.
 static TOLD: [(Telling, &[u32], &[u8]); 3] = [
     (Telling::Nothing, &[], b""),

@@ -121,6 +121,8 @@ pub(crate) fn run_steps<I: Source, O: Sink, E: Sink, R: CacheRam>(
         (O.held out.old) (O.held out.new) (E.held err.old) (E.held err.new) told)) }
     ensures count { OnOk result (board.new.hart.count + most image.now board.old.hart.machine board.old.hart.control
         ≤ board.old.hart.count + most image.now board.new.hart.machine board.new.hart.control) }
+    ensures fits { OnOk result (Fits image.now (kept_by board.new.rom) board.new.hart) }
+    ensures booted { OnOk result (board.new.hart.booted ≡ board.old.hart.booted) }
     ensures setting { setting_of board.new.rom ≡ setting_of board.old.rom }
     ensures sound { OnOk result (SlotsSound board.new.rom image.now (R.state ram.new).words) }
     ensures unused { OnOk result (SameFrom (extent_of (setting_of board.old.rom) (kept_by board.new.rom))

@@ -17,6 +17,7 @@ returns-in-Ok-boot-clause-booted g c = λ telling limit left.
       machine = b.machine;
       count = b.count;
       unfailed = b.unfailed;
+      booted = b.booted;
       between = b.between;
       matches = b.matches;
       fits = b.fits;

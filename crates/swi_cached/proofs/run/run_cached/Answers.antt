@@ -1,13 +1,15 @@
-use Rattle.std.proofs.Common.{ℕ, List, [], Option, None, Err, refl, ap, arith}
+use Rattle.std.proofs.Common.{ℕ, ◌*◌, ◌≤◌, List, [], Option, None, Err, refl, sym, ap, subst, ◌∙◌, arith}
 use Rattle.std.proofs.lemmas.Result.{err_from_is_err_and}
 use Rattle.swi_calls.specs.Flat.{machine_of}
 use Rattle.swi_calls.specs.declared.machine.Machine.{Machine}
+use Rattle.swi_rom.specs.Record.{Record}
 use Rattle.swi_rom.specs.Slots.{kept_by}
 use Rattle.swi_cached.specs.declared.run.CachedStop.TheVariants as stop
 use Rattle.swi_cached.specs.Cached.{run_of}
 use Rattle.swi_cached.proofs.Boot.{carries_booted, services_booted}
-use Rattle.swi_cached.proofs.Ended.{has_ended, is_short, ram_after, ran_told, kept_on}
+use Rattle.swi_cached.proofs.Ended.{has_ended, record_is, is_short, few_more, ram_after, ran_told, kept_on}
 use Rattle.swi_cached.proofs.Fetched.{is_counted}
+use Rattle.swi_cached.proofs.Services.{services_few}
 use Rattle.swi_cached.proofs.Failed.{ram_failed, boot_failed, step_failed, is_flat_run, stops_before_store}
 use Rattle.swi_cached.proofs.Causing.{causes_quiet, causes_run, as_stop, as_stops, is_ram, is_source, on_device, never_memory, err_as}
 use Rattle.swi_cached.proofs.run.run_cached.Goals as goal
@@ -66,6 +68,27 @@ run_steps-requires-clause-services g c =
     let one = services_booted (run_of c.args.image.now c.args.cache_bytes c.args.program.now c.args.layout.now c.args.log c.args.telling c.args.limit []) c.in_ok-board.board.hart c.in_ok-board.board.rom _ _ (c.in_ok-board.ensures.booted c.args.telling c.args.limit []) in
     omega (arith, one)
 
+pub returns-in-Ok-run_steps-clause-booted : goal.returns-in-Ok-run_steps-clause-booted
+returns-in-Ok-run_steps-clause-booted g c = c.in-Ok-run_steps.ensures.booted ∙ (c.in_ok-board.ensures.booted c.args.telling c.args.limit []).booted
+
+pub returns-in-Ok-run_steps-clause-setting : goal.returns-in-Ok-run_steps-clause-setting
+returns-in-Ok-run_steps-clause-setting g c = c.in-Ok-run_steps.ensures.setting ∙ (c.in_ok-board.ensures.booted c.args.telling c.args.limit []).setting
+
+pub returns-in-Ok-run_steps-clause-count : goal.returns-in-Ok-run_steps-clause-count
+returns-in-Ok-run_steps-clause-count g c =
+    let k = run_of c.args.image.now c.args.cache_bytes c.args.program.now c.args.layout.now c.args.log c.args.telling c.args.limit [] in
+    few_more k c.in_ok-board.board.hart c.run_steps.new.board.hart c.in_ok-board.board.rom _ _ (c.in_ok-board.ensures.booted c.args.telling c.args.limit []) refl refl c.in-Ok-run_steps.ensures.count
+
+pub returns-in-Ok-run_steps-clause-services : goal.returns-in-Ok-run_steps-clause-services
+returns-in-Ok-run_steps-clause-services g c = λ x told.
+    let k = run_of c.args.image.now c.args.cache_bytes c.args.program.now c.args.layout.now c.args.log c.args.telling c.args.limit x in
+    let booted = c.in_ok-board.ensures.booted c.args.telling c.args.limit x in
+    let carries = carries_booted c.args.image.now (kept_by c.in_ok-board.board.rom) c.in_ok-board.board.hart (machine_of c.args.program.now c.args.layout.now c.args.log) booted.machine booted.between booted.fits in
+    let whole = c.in-Ok-run_steps.ensures.ran x told (machine_of c.args.program.now c.args.layout.now c.args.log) carries booted.matches in
+    let ran = ran_told k c.in_ok-board.board.hart c.run_steps.new.board.hart c.in_ok-board.board.rom (kept_by c.run_steps.new.board.rom) (g.R.CacheRam.state c.args.ram.now) (g.R.CacheRam.state c.boot.new.ram) (g.I.Source.left c.run_steps.new.input) (g.O.Sink.held c.args.out.now) (g.O.Sink.held c.run_steps.new.out) None None booted whole.ran in
+    let is = record_is k c.in_ok-board.board.hart c.run_steps.new.board.hart c.in_ok-board.board.rom (kept_by c.run_steps.new.board.rom) (g.R.CacheRam.state c.args.ram.now) (g.R.CacheRam.state c.boot.new.ram) (g.R.CacheRam.state c.run_steps.new.ram) (g.I.Source.left c.run_steps.new.input) (g.O.Sink.held c.args.out.now) (g.O.Sink.held c.run_steps.new.out) None None booted ran (c.in-Ok-run_steps.ensures.settled x told booted.between) in
+    subst (λ (r : Record). r.counts.services ≤ 2 * c.args.limit) (sym is) (services_few k c.args.limit)
+
 pub returns-in-Ok-run_steps-clause-ended : goal.returns-in-Ok-run_steps-clause-ended
 returns-in-Ok-run_steps-clause-ended g c = λ x told.
     let k = run_of c.args.image.now c.args.cache_bytes c.args.program.now c.args.layout.now c.args.log c.args.telling c.args.limit x in
@@ -87,7 +110,7 @@ returns-in-Ok-run_steps-clause-short g c = λ x told.
     let k = run_of c.args.image.now c.args.cache_bytes c.args.program.now c.args.layout.now c.args.log c.args.telling c.args.limit x in
     let booted = c.in_ok-board.ensures.booted c.args.telling c.args.limit x in
     let carries = carries_booted c.args.image.now (kept_by c.in_ok-board.board.rom) c.in_ok-board.board.hart (machine_of c.args.program.now c.args.layout.now c.args.log) booted.machine booted.between booted.fits in
-    is_short k c.in_ok-board.board.hart c.run_steps.new.board.hart c.in_ok-board.board.rom _ _ booted refl refl (c.in-Ok-run_steps.ensures.settled x told booted.between) c.in-Ok-run_steps.ensures.count
+    is_short k c.in_ok-board.board.hart c.run_steps.new.board.hart c.in_ok-board.board.rom _ _ booted refl refl c.in-Ok-run_steps.ensures.count (c.in-Ok-run_steps.ensures.settled x told booted.between)
 
 pub returns-in-Ok-run_steps-clause-ram : goal.returns-in-Ok-run_steps-clause-ram
 returns-in-Ok-run_steps-clause-ram g c = λ x told.
