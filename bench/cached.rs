@@ -130,16 +130,8 @@ impl Ram {
 /// The slot of a block that has none.
 const NOWHERE: u32 = u32::MAX;
 
-/// Where a link leads: the original address, and its block and offset in the image.
-#[derive(Clone, Copy)]
-struct Goal {
-    address: u32,
-    block: u32,
-    offset: u32,
-}
-
 /// The service: the oldest block makes room. Of each slot it keeps the words that are linked to it, and of each of these words
-/// the goal, so that nothing is looked up where control goes over a link.
+/// the goal, the address to which it leads, so that nothing is looked up where control goes over a link.
 struct Rom {
     size: u32,
     next: usize,
@@ -147,7 +139,7 @@ struct Rom {
     blocks: Vec<u32>,
     homes: Vec<u32>,
     into: Vec<Vec<u32>>,
-    goals: Vec<Goal>,
+    goals: Vec<u32>,
     services: u64,
 }
 
@@ -161,7 +153,7 @@ impl Rom {
             blocks: vec![0; slots],
             homes: vec![NOWHERE; blocks],
             into: vec![vec![]; slots],
-            goals: vec![Goal { address: 0, block: 0, offset: 0 }; slots * size as usize],
+            goals: vec![0; slots * size as usize],
             services: 0,
         }
     }
@@ -233,7 +225,7 @@ impl Rom {
         if self.blocks[own] == home && (-(1 << 20)..1 << 20).contains(&distance) {
             ram.set(at, jump(distance as u32));
             self.into[slot as usize].push(at);
-            self.goals[at as usize] = Goal { address: target, block, offset };
+            self.goals[at as usize] = target;
         }
         Some(index)
     }
@@ -273,28 +265,21 @@ enum Next {
     Stop,
 }
 
-/// Where steps have come: the word under control with its stage, the block that stands from `first` on, and the index `end` at
-/// which the limit of steps would be reached if each word from here on were an instruction. `pc`, `steps` and `count` are of the
-/// word at which the walk began or last landed: so a step to the next word changes the index alone.
+/// Where steps have come: the word under control with its stage, and the index `end` at which the limit of steps would be reached
+/// if each word from here on were an instruction. `pc`, `steps` and `count` are of the word at which the walk began or last landed:
+/// so a step to the next word changes the index alone. What stands at the index the service shows.
 #[derive(Clone, Copy)]
 struct Walk {
     index: u32,
     stage: Stage,
     end: u64,
     limit: u64,
-    first: u32,
-    block: u32,
     pc: u32,
     steps: u64,
     count: u64,
 }
 
 impl Walk {
-    #[inline(always)]
-    fn offset(&self) -> u32 {
-        self.index - self.first
-    }
-
     #[inline(always)]
     fn steps(&self) -> u64 {
         self.limit - (self.end - u64::from(self.index))
@@ -340,16 +325,14 @@ impl Walk {
 
     /// Goes over a link to a place, which is a step unless the exit only leads on.
     #[inline(always)]
-    fn land(&mut self, index: u32, to: Goal, leads_on: bool) {
+    fn land(&mut self, index: u32, pc: u32, leads_on: bool) {
         let steps = u64::from(!leads_on);
         *self = Walk {
             index,
             stage: Stage::Start,
             end: u64::from(index) + (self.end - u64::from(self.index)) - steps,
             limit: self.limit,
-            first: index - to.offset,
-            block: to.block,
-            pc: to.address,
+            pc,
             steps: self.steps() + steps,
             count: self.count() + 1,
         };
@@ -357,16 +340,18 @@ impl Walk {
 
     #[inline(always)]
     fn follow(&mut self, rom: &Rom, off: u32) {
-        let to = rom.goals[self.index as usize];
-        let leads_on = fell(self.stage, self.pc(), to.address, Some((to.block, to.offset)), (self.block, self.offset()));
-        self.land(self.index.wrapping_mul(4).wrapping_add(off) / 4, to, leads_on);
+        let target = rom.goals[self.index as usize];
+        let index = self.index.wrapping_mul(4).wrapping_add(off) / 4;
+        let leads_on = fell(self.stage, self.pc(), target, index == self.index);
+        self.land(index, target, leads_on);
     }
 }
 
-/// Whether an exit at a place that was left for the target is one behind the block's last text word.
+/// Whether an exit that was left for the target is one behind a block's last text word, by whether control went back to the exit
+/// itself.
 #[inline(always)]
-fn fell(stage: Stage, pc: u32, target: u32, to: Option<(u32, u32)>, from: (u32, u32)) -> bool {
-    stage == Stage::Start && target == pc && to != Some(from)
+fn fell(stage: Stage, pc: u32, target: u32, back: bool) -> bool {
+    stage == Stage::Start && target == pc && !back
 }
 
 #[inline(always)]
@@ -496,37 +481,34 @@ impl Hart {
         next != Next::Stop
     }
 
-    /// A step at the exit of a JALR whose target's block is placed, as that of a return mostly is. At any other nothing changes.
+    /// Jumps over a register by the exit at an index, where that is a JALR's whose target's block is placed, as that of a return
+    /// mostly is: where the target stands, and the target. At any other exit nothing changes.
     #[inline(never)]
-    fn back(&mut self, rom: &mut Rom, image: &Image, walk: &mut Walk) -> bool {
-        let (block, offset) = (walk.block, walk.offset());
+    fn back(&mut self, rom: &mut Rom, image: &Image, at: u32) -> Option<(u32, u32)> {
+        let (block, offset) = rom.at(at);
         let descriptor = image.word(block, offset + 1);
         if descriptor % 4 != 3 {
-            return false;
+            return None;
         }
         let Some(Instr::Jalr { rd, rs1, imm }) = decode(descriptor) else { unreachable!() };
-        let address = self.machine.regs.get(rs1).wrapping_add(imm) & !1;
-        if address % 4 != 0 {
-            return false;
+        let target = self.machine.regs.get(rs1).wrapping_add(imm) & !1;
+        if target % 4 != 0 {
+            return None;
         }
-        let Some(index) = rom.revisit(image, address) else {
-            return false;
-        };
+        let index = rom.revisit(image, target)?;
         self.machine.regs.set(rd, image.word(block, offset + 2));
-        let (block, offset) = rom.at(index);
-        walk.land(index, Goal { address, block, offset }, false);
-        true
+        Some((index, target))
     }
 
     /// Steps up to the limit, or to the first word that is not executed here, which is then fetched. Nothing but words, links
     /// and jumps to placed blocks stands in this loop, so index, pc and counts stay in registers.
     #[inline(never)]
     fn run_block(&mut self, rom: &mut Rom, image: &Image, ram: &mut Ram, limit: u64, at: At) -> Option<u32> {
-        let (index, block, offset, stage) = at;
+        let (index, _, _, stage) = at;
         let steps = self.machine.steps;
         let end = u64::from(index) + (limit - steps);
         let pc = self.machine.pc;
-        let mut walk = Walk { index, stage, end, limit, first: index - offset, block, pc, steps, count: self.count };
+        let mut walk = Walk { index, stage, end, limit, pc, steps, count: self.count };
         let mut left = None;
         while u64::from(walk.index) < walk.end {
             let word = ram.fetch(walk.index);
@@ -534,16 +516,17 @@ impl Hart {
             if self.one(rom, &instr, &mut walk) {
                 continue;
             }
-            // A walk of its own: the loop's is passed to nothing that isn't inlined, and stays in registers.
-            let mut turned = walk;
-            if word == EBREAK && self.back(rom, image, &mut turned) {
-                walk = turned;
-                continue;
+            if word == EBREAK {
+                if let Some((index, target)) = self.back(rom, image, walk.index) {
+                    walk.land(index, target, false);
+                    continue;
+                }
             }
             left = Some(word);
             break;
         }
-        self.control = Some((walk.index, walk.block, walk.offset(), walk.stage));
+        let (block, offset) = rom.at(walk.index);
+        self.control = Some((walk.index, block, offset, walk.stage));
         self.machine.pc = walk.pc();
         self.machine.steps = walk.steps();
         self.count = walk.count();
@@ -592,9 +575,9 @@ impl Hart {
     }
 
     fn direct_step(&mut self, rom: &mut Rom, image: &Image, ram: &mut Ram, at: At, target: u32) {
-        let (index, block, offset, stage) = at;
+        let (index, _, _, stage) = at;
         let to = rom.cross(image, ram, index, target);
-        if !fell(stage, self.machine.pc, target, to.map(|index| rom.at(index)), (block, offset)) {
+        if !fell(stage, self.machine.pc, target, to == Some(index)) {
             self.machine.pc = target;
             self.machine.steps += 1;
         }

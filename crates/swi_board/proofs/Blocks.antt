@@ -5,7 +5,6 @@ use Rattle.swi_calls.specs.declared.end.End.{End}
 use Rattle.swi_outside.specs.CacheRam.{RamState}
 use Rattle.swi_outside.specs.Causes.{risen}
 use Rattle.swi_image.specs.Format.{ImageData}
-use Rattle.swi_image.specs.Sound.{IsImage}
 use Rattle.swi_image.specs.Place.{word_at}
 use Rattle.swi_isa.specs.declared.instr.Instr.{Instr}
 use Rattle.swi_rom.specs.Record.{Record, Transfer, direct, is_linked, writes}
@@ -24,7 +23,7 @@ use Rattle.swi_board.specs.Leaving.{ExitHome, Home, exit_transfer, leaves, quick
 use Rattle.swi_board.specs.Runs.{most, depth}
 use Rattle.swi_board.specs.Walked.{WordOn, LinkOn, JumpOn, StepOn, WalkedOn, Walked, StandsInside, StoppedAt, BlockRan}
 use Rattle.swi_board.proofs.Homes.{home}
-use Rattle.swi_board.proofs.Fetching.{placed, got_some, index_below, index_fits, offset_small, exit_home, exit_moves, word_home, word_moves, counted_hart, did_quiet}
+use Rattle.swi_board.proofs.Fetching.{placed, got_some, index_below, index_fits, exit_home, exit_moves, word_home, word_moves, counted_hart, did_quiet}
 use Rattle.swi_board.proofs.Steps.{made_exit, fits_exit, made_word, fits_word, ram_exit}
 use Rattle.swi_board.proofs.Falls.{leave_at}
 use Rattle.swi_board.proofs.Leaving.{jump_linked}
@@ -98,8 +97,8 @@ module _ {run : Course} {first : Point} where
 
   pub stands : {r : Record} {h : HartData} {ram : RamState} {i b o : ℕ} {stage : Stage} → Stretch run first r h ram → run.from.hart.count ≤ 2 ^ 55 →
       run.from.kept.counts.services ≤ 2 ^ 49 → run.span ≤ 2 ^ 21 →
-      IsImage run.image → h.machine.steps < run.limit → h.control ≡ At i b o stage → StandsInside run.image r ram h i b o stage
-  stands {r} {h} {ram} {i} {b} {o} {stage} s few calls low image below control =
+      h.machine.steps < run.limit → h.control ≡ At i b o stage → StandsInside run.image r ram h i b o stage
+  stands {r} {h} {ram} {i} {b} {o} {stage} s few calls low below control =
       let v = run.image in
       let at = home_at s control in
       let inside = used s control in
@@ -108,7 +107,6 @@ module _ {run : Course} {first : Point} where
         decodes = got_some v r h.machine run.span ram.words i b o stage s.coherent at (slice_index ram.words i) refl;
         in_ram = index_fits v r h.machine run.span ram.words i b o stage s.coherent at;
         index = omega (arith, inside, low);
-        offset = offset_small v r h.machine run.span ram.words i b o stage s.coherent at image;
         count = count_small s.running below s.going s.short s.small few;
         services = calls_small s.running below s.going s.short s.small calls;
       }

@@ -1,13 +1,11 @@
 -- Which exits are behind a block's last text word.
-use Rattle.std.proofs.Common.{◌≡◌, ◌==◌, if◌then◌else◌, ℕ, ◌+◌, ◌-◌, ◌*◌, ◌/◌, ◌%◌, ◌^◌, ◌<◌, ◌≤◌, Bool, true, false, not, ◌&&◌, Option, Some, List, length, slice_index, refl, sym, ap, subst, ◌∙◌, inl, inr, arith}
+use Rattle.std.proofs.Common.{◌≡◌, ◌==◌, if◌then◌else◌, ℕ, ◌+◌, ◌-◌, ◌*◌, ◌/◌, ◌%◌, ◌^◌, ◌<◌, Bool, true, false, not, ◌&&◌, Option, Some, List, length, slice_index, refl, sym, ap, subst, ◌∙◌, inl, inr, arith}
 use Rattle.std.proofs.lemmas.Bool.{false≢true, cases_Bool, and_parts, eqb-true}
 use Rattle.swi_image.specs.Format.{ImageData}
 use Rattle.swi_image.specs.Place.{place_of, word_at}
-use Rattle.swi_image.specs.Sound.{IsImage}
-use Rattle.swi_image.specs.Laws.{place_inside}
 use Rattle.swi_outside.specs.CacheRam.{RamState}
-use Rattle.swi_rom.specs.Coherent.{Coherent}
-use Rattle.swi_rom.specs.Record.{Record, writes}
+use Rattle.swi_rom.specs.Coherent.{Coherent, StandsAt}
+use Rattle.swi_rom.specs.Record.{Record, Placed, writes}
 use Rattle.swi_calls.specs.declared.machine.Machine.{Machine}
 use Rattle.swi_board.specs.declared.hart.Stage.{Stage}
 use Rattle.swi_board.specs.declared.hart.Stage.TheVariants.{Start, Low, Return, Leave}
@@ -30,44 +28,54 @@ back_is v r t (At i b' o' Return) b o at = absurd at
 back_is v r t (At i b' o' Leave) b o at = absurd at
 back_is v r t Outside b o at = ap (λ (p : Option (ℕ × ℕ)). is_place p b o) at
 
--- at a target's place control is at a first word
-pub at_start : (v : ImageData) (r : Record) (t : ℕ) (c : Control) (i b o : ℕ) (stage : Stage) → c ≡ At i b o stage → Arrives v r t c → Arrives v r t (At i b o Start)
-at_start v r t c i b o stage is at = by stage (subst (λ (k : Control). Arrives v r t k) is at)
+-- control is back at the exit itself where it is at the exit's index
+pub back_at : (v : ImageData) (r : Record) (span : ℕ) (words : List ℕ) (j b' o' i b o : ℕ) → Coherent v r span words → StandsAt v r j (Some (b', o')) → StandsAt v r i (Some (b, o)) →
+    (j == i) ≡ is_back (At j b' o' Start) b o
+back_at v r span words j b' o' i b o coherent to from =
+    elim (cases_Bool (j == i)) [
+      | inl same ↦
+          let at : j ≡ i = eqb-true _ _ same in
+          let p = coherent.apart b' to.0 o' b from.0 o to.1 from.1 to.2 from.2 (sym to.3 ∙ at ∙ from.3) in
+          same ∙ sym (rw (p.0, p.1) (both (b == b) (o == o) (self b) (self o)))
+      | inr other ↦
+          elim (cases_Bool (b' == b && o' == o)) [
+            | inl same ↦
+                let p = and_parts (b' == b) (o' == o) same in
+                let block : b' ≡ b = eqb-true _ _ p.0 in
+                let offset : o' ≡ o = eqb-true _ _ p.1 in
+                let first : to.0 ≡ from.0 = coherent.once b to.0 from.0 (subst (λ n. Placed r n to.0) block to.1) from.1 in
+                let at : j ≡ i = to.3 ∙ ap (λ n. n + o') first ∙ ap (λ n. from.0 + n) offset ∙ sym from.3 in
+                absurd (false≢true (sym other ∙ (ap (λ n. n == i) at ∙ self i)))
+            | inr apart ↦ other ∙ sym apart
+          ]
+    ]
   where
-    by : (s : Stage) → Arrives v r t (At i b o s) → Arrives v r t (At i b o Start)
-    by Start a = a
-    by Low a = absurd a
-    by Return a = absurd a
-    by Leave a = absurd a
+    self : (n : ℕ) → (n == n) ≡ true
+    self n = grind arith
 
--- and at an offset within the ram
-pub landed_small : (v : ImageData) (r : Record) (span : ℕ) (words : List ℕ) (t : ℕ) (i b o : ℕ) (stage : Stage) → Coherent v r span words → IsImage v → span ≤ 2 ^ 21 → Arrives v r t (At i b o stage) → o < 2 ^ 22
-landed_small v r span words t i b o stage coherent image low at =
-    let start = at_start v r t (At i b o stage) i b o stage refl at in
-    let end = coherent.inside b start.0.0 start.0.1 in
-    let inside = place_inside v image t b o start.1 in
-    omega (arith, end, inside.1, low)
+    both : (p q : Bool) → p ≡ true → q ≡ true → (p && q) ≡ true
+    both p q one other = rw (one, other) refl
 
 -- what a link that is gone over leaves of a machine; one that only leads on goes to the pc
-pub over_link : (fall : Bool) (m : Machine) (w : Walk) (index block offset t : ℕ) (input : List ℕ) → HasRoom w → (fall ≡ true → t ≡ walk_pc w) → t < 2 ^ 32 →
-    quiet (walk_machine (landed index block offset t (if fall then 0 else 1) w) m) input ≡ left_made fall (walk_machine w m) t input
-over_link true m w index block offset t input room here low =
-    let steps : walk_steps (landed index block offset t 0 w) ≡ walk_steps w = omega (arith, room.below, room.made) in
-    let pc : walk_pc (landed index block offset t 0 w) ≡ walk_pc w = omega (arith, here refl, steps) in
+pub over_link : (fall : Bool) (m : Machine) (w : Walk) (index t : ℕ) (input : List ℕ) → HasRoom w → (fall ≡ true → t ≡ walk_pc w) → t < 2 ^ 32 →
+    quiet (walk_machine (landed index t (if fall then 0 else 1) w) m) input ≡ left_made fall (walk_machine w m) t input
+over_link true m w index t input room here low =
+    let steps : walk_steps (landed index t 0 w) ≡ walk_steps w = omega (arith, room.below, room.made) in
+    let pc : walk_pc (landed index t 0 w) ≡ walk_pc w = omega (arith, here refl, steps) in
     ap (λ (k : Machine). quiet k input) (rw (pc, steps) refl)
-over_link false m w index block offset t input room here low =
-    let steps : walk_steps (landed index block offset t 1 w) ≡ walk_steps w + 1 = omega (arith, room.below, room.made) in
-    let pc : walk_pc (landed index block offset t 1 w) ≡ t = omega (arith, steps) in
+over_link false m w index t input room here low =
+    let steps : walk_steps (landed index t 1 w) ≡ walk_steps w + 1 = omega (arith, room.below, room.made) in
+    let pc : walk_pc (landed index t 1 w) ≡ t = omega (arith, steps) in
     ap (λ (k : Machine). quiet k input) (rw (pc, steps) refl)
 
 -- an exit that only leads on goes to the pc
-pub fell_here : (stage : Stage) (pc t : ℕ) (c : Control) (b o : ℕ) → fell stage pc t c b o ≡ true → t ≡ pc
-fell_here Start pc t c b o is = eqb-true _ _ (and_parts (t == pc) (not (is_back c b o)) is).0
-fell_here Low pc t c b o is = absurd (cc)
-fell_here Return pc t c b o is = absurd (cc)
-fell_here Leave pc t c b o is = absurd (cc)
+pub fell_here : (stage : Stage) (pc t : ℕ) (back : Bool) → fell stage pc t back ≡ true → t ≡ pc
+fell_here Start pc t back is = eqb-true _ _ (and_parts (t == pc) (not back) is).0
+fell_here Low pc t back is = absurd (cc)
+fell_here Return pc t back is = absurd (cc)
+fell_here Leave pc t back is = absurd (cc)
 
-pub fell_is : (v : ImageData) (new : Record) (m : Machine) (b o : ℕ) (stage : Stage) (t : ℕ) (c : Control) → t ≡ word_at v b (o + 1) → ExitHome v m b o stage → Arrives v new t c → fell stage m.pc t c b o ≡ is_fall v m b o stage
+pub fell_is : (v : ImageData) (new : Record) (m : Machine) (b o : ℕ) (stage : Stage) (t : ℕ) (c : Control) → t ≡ word_at v b (o + 1) → ExitHome v m b o stage → Arrives v new t c → fell stage m.pc t (is_back c b o) ≡ is_fall v m b o stage
 fell_is v new m b o Low t c is home at = refl
 fell_is v new m b o Return t c is home at = refl
 fell_is v new m b o Leave t c is home at = refl

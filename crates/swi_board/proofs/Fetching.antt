@@ -11,7 +11,7 @@ use Rattle.swi_image.specs.Place.{word_at, length_at}
 use Rattle.swi_image.specs.Sound.{IsImage}
 use Rattle.swi_render.specs.Rendering.{ebreak}
 use Rattle.swi_rom.specs.Record.{jump_offset, Record, Transfer, is_linked}
-use Rattle.swi_rom.specs.Coherent.{Coherent}
+use Rattle.swi_rom.specs.Coherent.{Coherent, StandsAt}
 use Rattle.swi_board.specs.declared.hart.Stage.{Stage}
 use Rattle.swi_board.specs.declared.hart.Role.{Role}
 use Rattle.swi_board.specs.declared.hart.Control.TheVariants.{At}
@@ -37,12 +37,16 @@ break_leaves instr.Fence e = refl
 break_leaves instr.Ecall e = refl
 break_leaves instr.Ebreak e = e
 
+-- what stands under control
+pub home_stands : {v : ImageData} {r : Record} {m : Machine} {i b o : ℕ} {stage : Stage} → Home v r m i b o stage → StandsAt v r i (Some (b, o))
+home_stands h = (h.first, h.is_placed, elim h.kind [ inl e ↦ omega (arith, e.inside) | inr w ↦ w.inside ], h.index)
+
 module _ (v : ImageData) (r : Record) (m : Machine) (span : ℕ) (words : List ℕ) (i b o : ℕ) (stage : Stage) (coherent : Coherent v r span words) (home : Home v r m i b o stage) where
   pub placed : PlacedAt r i b o
   placed = record { first = home.first; is_placed = home.is_placed; index = home.index }
 
   offset_below : o < length_at v b
-  offset_below = elim home.kind [ inl e ↦ omega (arith, e.inside) | inr w ↦ w.inside ]
+  offset_below = (home_stands home).2
 
   pub index_below : i < span
   index_below = let end = coherent.inside b home.first home.is_placed in omega (arith, home.index, offset_below, end)

@@ -10,8 +10,7 @@ use Rattle.swi_isa.specs.Decode.{decoded}
 use Rattle.swi_outside.specs.CacheRam.{RamState, KeepsBeyond}
 use Rattle.swi_render.specs.Rendering.{ebreak}
 use Rattle.swi_rom.specs.Record.{Record, Transfer, target_of, IsJump, jump_offset, is_linked, writes, Placed}
-use Rattle.swi_rom.specs.Coherent.{Coherent, LeadsTo, TargetAt, StandsAt}
-use Rattle.swi_rom.specs.declared.rom.Goal.{Goal}
+use Rattle.swi_rom.specs.Coherent.{Coherent, TargetAt, StandsAt}
 use Rattle.swi_rom.specs.Served.{Served, Spared, SameFrom}
 use Rattle.swi_rom.specs.declared.rom.RomStop.{RomStop}
 use Rattle.swi_rom.specs.declared.rom.RomStop.TheVariants.{Outside, RamFault}
@@ -149,19 +148,26 @@ link_leaves v r span words w i b o coherent p known inside is got other =
       linked,
     )
 
--- a jump over it, and what is kept of it, lead to one place
-pub link_arrives : (v : ImageData) (r : Record) (span : ℕ) (words : List ℕ) (w i b o j : ℕ) (k : Goal) → Coherent v r span words → IsImage v → span ≤ 2 ^ 21 → LeaveAt v r words w i b o → (w ≡ ebreak → ⊥) →
-    ((t : ℕ) → IsJump i t w → t < 2 ^ 30 → i < 2 ^ 30 → j ≡ t) → LeadsTo v (word_at v b (o + 1)) k → Arrives v r (word_at v b (o + 1)) (At j k.block k.offset Start)
-link_arrives v r span words w i b o j k coherent image small at other jumps to =
+-- a jump over it goes to its target's place
+pub link_target : (v : ImageData) (r : Record) (span : ℕ) (words : List ℕ) (w i b o j : ℕ) → Coherent v r span words → IsImage v → span ≤ 2 ^ 21 → LeaveAt v r words w i b o → (w ≡ ebreak → ⊥) →
+    ((t : ℕ) → IsJump i t w → t < 2 ^ 30 → i < 2 ^ 30 → j ≡ t) → TargetAt v r (word_at v b (o + 1)) j
+link_target v r span words w i b o j coherent image small at other jumps =
     let l = link_at v r span words w i b o coherent image at other in
     let low = index_small v r span words w i b o coherent at in
-    let t = l.target in
-    let same : Some (t.block, t.offset) ≡ Some (k.block, k.offset) = sym t.place_is ∙ to.place_is in
-    let block : t.block ≡ k.block = ap (λ (p : Option (ℕ × ℕ)). (or_none p).0) same in
-    let offset : t.offset ≡ k.offset = ap (λ (p : Option (ℕ × ℕ)). (or_none p).1) same in
-    let index : j ≡ l.to = jumps l.to l.jumps (omega (arith, l.small, small)) (omega (arith, low, small)) in
-    ((t.first, subst (λ n. Placed r n t.first) block t.is_placed, index ∙ t.index ∙ ap (λ n. t.first + n) offset), to.place_is)
-  where
-    or_none : Option (ℕ × ℕ) → ℕ × ℕ
-    or_none None = (0, 0)
-    or_none (Some p) = p
+    subst (λ n. TargetAt v r (word_at v b (o + 1)) n) (sym (jumps l.to l.jumps (omega (arith, l.small, small)) (omega (arith, low, small)))) l.target
+
+-- where a target's place stands control arrives
+pub target_arrives : {v : ImageData} {r : Record} {t i : ℕ} → (at : TargetAt v r t i) → Arrives v r t (At i at.block at.offset Start)
+target_arrives at = ((at.first, at.is_placed, at.index), at.place_is)
+
+pub target_stands : {r : Record} {t i : ℕ} (v : ImageData) → IsImage v → (at : TargetAt v r t i) → StandsAt v r i (Some (at.block, at.offset))
+target_stands {t = t} v image at = (at.first, at.is_placed, (place_inside v image t at.block at.offset at.place_is).1, at.index)
+
+-- a placed word is shown as what it is
+pub shown_place : (v : ImageData) (r : Record) (span : ℕ) (words : List ℕ) (i b o : ℕ) (s : Option (ℕ × ℕ)) → Coherent v r span words → StandsAt v r i (Some (b, o)) → StandsAt v r i s → s ≡ Some (b, o)
+shown_place v r span words i b o None coherent here none =
+    let past = none b here.0 here.1 (omega (arith, here.3)) in
+    absurd (omega (arith, here.2, here.3, past))
+shown_place v r span words i b o (Some p) coherent here stands =
+    let same = coherent.apart p.0 stands.0 p.1 b here.0 o stands.1 here.1 stands.2 here.2 (sym stands.3 ∙ here.3) in
+    ap (λ n. Some (n, p.1)) same.0 ∙ ap (λ n. Some (b, n)) same.1

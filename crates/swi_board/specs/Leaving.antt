@@ -79,12 +79,12 @@ abbrev pub is_back : Control → ℕ → ℕ → Bool
 is_back (At i b o stage) b' o' = b == b' && o == o'
 is_back Outside b' o' = false
 
--- whether an exit that was left for t is one behind a block's last text word, by where control went
-abbrev pub fell : Stage → ℕ → ℕ → Control → ℕ → ℕ → Bool
-fell Start pc t c b o = (t == pc) && not (is_back c b o)
-fell Low pc t c b o = false
-fell Return pc t c b o = false
-fell Leave pc t c b o = false
+-- whether an exit that was left for t is one behind a block's last text word, by whether control went to the exit itself
+abbrev pub fell : Stage → ℕ → ℕ → Bool → Bool
+fell Start pc t back = (t == pc) && not back
+fell Low pc t back = false
+fell Return pc t back = false
+fell Leave pc t back = false
 
 -- the role of a fetched word, by itself, and where it is a LUI by the original instruction
 abbrev pub upper_quick : Stage → Option Instr → Role

@@ -5,9 +5,9 @@ use Rattle.swi_isa.specs.declared.instr.Instr.{Instr}
 use Rattle.swi_isa.specs.Decode.{decoded}
 use Rattle.swi_exec.specs.Arithmetic.{sum_of}
 use Rattle.swi_image.specs.Format.{ImageData}
-use Rattle.swi_image.specs.Place.{word_at}
+use Rattle.swi_image.specs.Place.{word_at, length_at}
 use Rattle.swi_render.specs.Rendering.{ebreak}
-use Rattle.swi_rom.specs.Record.{Record, Transfer, writes}
+use Rattle.swi_rom.specs.Record.{Record, Transfer, Placed, writes}
 use Rattle.swi_rom.specs.Coherent.{Coherent}
 use Rattle.swi_outside.specs.Causes.{Rose, counted}
 use Rattle.swi_outside.specs.CacheRam.{RamState}
@@ -25,7 +25,7 @@ use Rattle.swi_board.specs.declared.block.Next.{Next}
 use Rattle.swi_board.specs.declared.block.Next.TheVariants as next
 use Rattle.swi_board.specs.Hart.{HartData, Stepped, stepped, word_stepped, original, exit_kind}
 use Rattle.swi_board.specs.Board.{ExitStep}
-use Rattle.swi_board.specs.Leaving.{Home, Counted, RamServed, exit_transfer, leaves, moved, quick_role}
+use Rattle.swi_board.specs.Leaving.{Home, JalrAt, Counted, RamServed, exit_transfer, leaves, moved, quick_role}
 
 abbrev pub is_stop : Next → Bool
 is_stop next.On = false
@@ -50,10 +50,6 @@ went (next.Lead stage) i b o m input = stepped (At (i + 1) b (o + 1) stage) (qui
 went next.Exit i b o m input = stepped (At (i + 1) b (o + 1) Leave) (quiet m input)
 went next.Stop i b o m input = stepped (At i b o Start) (quiet m input)
 
--- where a walk has come
-abbrev pub walk_offset : Walk → ℕ
-walk_offset w = w.index - w.first
-
 -- the steps that are left, one for each word up to `end`, are those up to the limit
 abbrev pub walk_steps : Walk → ℕ
 walk_steps w = w.limit - (w.end - w.index)
@@ -68,28 +64,34 @@ walk_pc w = sum_of w.pc (4 * walk_made w)
 abbrev pub walk_count : Walk → ℕ
 walk_count w = w.count + walk_made w
 
--- control there, and the machine, of which the walk has pc and steps
-abbrev pub walk_control : Walk → Control
-walk_control w = At w.index w.block (walk_offset w) w.stage
+-- what is shown at an index, if anything is
+abbrev pub place_shown : Option (ℕ × ℕ) → ℕ × ℕ
+place_shown None = (0, 0)
+place_shown (Some p) = p
+
+-- control where a walk has come, by the block and the offset that stand there; the machine, of which the walk has pc and steps; and
+-- the hart
+abbrev pub walk_control : Walk → ℕ × ℕ → Control
+walk_control w p = At w.index p.0 p.1 w.stage
 
 abbrev pub walk_machine : Walk → Machine → Machine
 walk_machine w m = record m { pc = walk_pc w; steps = walk_steps w }
 
+abbrev pub walk_hart : Walk → ℕ × ℕ → HartData → HartData
+walk_hart w p h = record h { control = walk_control w p; machine = walk_machine w h.machine; count = walk_count w }
+
 -- a walk to at most so many steps
 pub record WalksTo (limit : ℕ) (w : Walk) : Type 0 where
-  pub inside : w.first ≤ w.index
   pub below : w.index ≤ w.end
   pub made : w.steps + (w.end - w.index) ≤ w.limit
   pub limited : w.limit ≡ limit
 
 -- a walk that can go on
 pub record HasRoom (w : Walk) : Type 0 where
-  pub inside : w.first ≤ w.index
   pub below : w.index < w.end
   pub made : w.steps + (w.end - w.index) ≤ w.limit
   pub end : w.end < 2 ^ 50
   pub index : w.index < 2 ^ 22
-  pub offset : walk_offset w < 2 ^ 22
   pub limit : w.limit ≤ 2 ^ 48
   pub count : walk_count w < 2 ^ 56
 
@@ -101,15 +103,13 @@ gone (next.Lead stage) w = record w { index = w.index + 1; stage = stage; end = 
 gone next.Exit w = record w { index = w.index + 1; stage = Leave; end = w.end + 1; count = w.count + 1 }
 gone next.Stop w = w
 
--- the walk behind a link to a place, which makes so many steps
-abbrev pub landed : ℕ → ℕ → ℕ → ℕ → ℕ → Walk → Walk
-landed index block offset pc steps w = record {
+-- the walk behind a link to an index, where this pc stands, which makes so many steps
+abbrev pub landed : ℕ → ℕ → ℕ → Walk → Walk
+landed index pc steps w = record {
   index = index;
   stage = Start;
   end = index + (w.end - w.index) - steps;
   limit = w.limit;
-  first = index - offset;
-  block = block;
   pc = pc;
   steps = walk_steps w + steps;
   count = walk_count w + 1;
@@ -128,6 +128,15 @@ pub record LinkOn (v : ImageData) (r : Record) (m m' : Machine) (c : Control) (x
 
 abbrev pub StepOn : ImageData → Record → Machine → Machine → Control → Instr → ℕ → ℕ → ℕ → ℕ → Stage → Type 0
 StepOn v r m m' c x w index block offset stage = WordOn m m' c x index block offset stage ⊎ LinkOn v r m m' c x w index block offset stage
+
+-- an exit under control, without what it leaves
+pub record ExitStands (v : ImageData) (r : Record) (i : ℕ) (p : ℕ × ℕ) : Type 0 where
+  pub first : ℕ
+  pub is_placed : Placed r p.0 first
+  pub index : i ≡ first + p.1
+  pub known : p.0 < length v.starts
+  pub inside : p.1 + 1 < length_at v p.0
+  pub jalr : exit_kind (word_at v p.0 (p.1 + 1)) ≡ Indirect → JalrAt v p.0 p.1
 
 -- and one at the exit of a JALR whose target's block is placed: the service counts it by its policy, and does nothing to the ram
 pub record JumpOn (policy : Record → ImageData → Transfer → Record) (span : ℕ) (v : ImageData) (r r' : Record) (ram : RamState) (m m' : Machine) (c : Control) (index block offset : ℕ) (stage : Stage) : Type 0 where
@@ -164,7 +173,6 @@ pub record StandsInside (v : ImageData) (r : Record) (ram : RamState) (h : HartD
   pub in_ram : i < length ram.words
   pub decodes : None ≡ decoded (slice_index ram.words i) → ⊥
   pub index : i < 2 ^ 22
-  pub offset : o < 2 ^ 22
   pub count : h.count < 2 ^ 56
   pub services : r.counts.services < 2 ^ 50
 

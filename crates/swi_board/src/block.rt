@@ -5,19 +5,17 @@ ghost use Rattle.std.specs.Prelude.{◌≡◌, ◌+◌, ◌-◌, ◌*◌, ◌%�
 ghost use Rattle.swi_outside.specs.CacheRam.{RamState};
 ghost use Rattle.swi_memory.specs.Bus.{fetched};
 ghost use Rattle.swi_calls.specs.declared.machine.Machine.{Machine};
-ghost use Rattle.swi_calls.specs.Flat.{quiet};
 ghost use Rattle.swi_isa.specs.declared.instr.Instr.{Instr as AnyInstr};
 ghost use Rattle.swi_isa.specs.Decode.{decoded};
-ghost use Rattle.swi_image.specs.Place.{length_at, word_at};
 ghost use Rattle.swi_render.specs.Rendering.{ebreak};
-ghost use Rattle.swi_board.specs.Hart.{HartData, instruction, stepped, word_stepped};
-ghost use Rattle.swi_board.specs.Board.{ExitStep};
-ghost use Rattle.swi_board.specs.Leaving.{Home, ExitHome, PlacedAt, immediate_quick, leaves, offset_of, quick_role};
+ghost use Rattle.swi_board.specs.Hart.{HartData, instruction, word_stepped};
+ghost use Rattle.swi_board.specs.Leaving.{Home, immediate_quick, leaves, offset_of, quick_role};
 ghost use Rattle.swi_board.specs.Runs.{most};
-ghost use Rattle.swi_board.specs.Walked.{is_stop, role_by, went, gone, landed, walk_offset, walk_pc, walk_steps, walk_made, walk_count, walk_control, walk_machine, HasRoom, WalksTo, StepOn, JumpOn, Walked, WalkedOn, StandsInside, BlockRan};
+ghost use Rattle.swi_board.specs.Walked.{is_stop, role_by, went, gone, landed, place_shown, walk_pc, walk_steps, walk_made, walk_count, walk_control, walk_machine, ExitStands, HasRoom, WalksTo, LinkOn, StepOn, JumpOn, Walked, WalkedOn, StandsInside, BlockRan};
 ghost use Rattle.swi_rom.specs.Record.{Record};
+ghost use Rattle.swi_rom.specs.Coherent.{StandsAt};
 
-use crate::exit::{EBREAK, control_at, exit_kind, fell, jump_index};
+use crate::exit::{EBREAK, exit_kind, fell, jump_index};
 use crate::hart::{Control, ExitKind, Hart, Role, Stage};
 use crate::step::{register_target, upper_role};
 use swi_calls::text_store;
@@ -43,18 +41,16 @@ pub enum Next {
     Stop,
 }
 
-/// Where steps have come: the word under control with its stage, the block that stands from `first` on, and the index
-/// `end` at which the limit of steps would be reached if each word from here on were an instruction. `pc`, `steps` and
-/// `count` are of the word at which the walk began or last landed, over a link or a jump: so a step to the next word
-/// changes the index alone.
+/// Where steps have come: the word under control with its stage, and the index `end` at which the limit of steps would
+/// be reached if each word from here on were an instruction. `pc`, `steps` and `count` are of the word at which the walk
+/// began or last landed, over a link or a jump: so a step to the next word changes the index alone. Of the block only
+/// the service knows, which shows what stands at the index.
 #[derive(Clone, Copy, Debug, PartialEq, Eq)]
 pub struct Walk {
     pub index: u32,
     pub stage: Stage,
     pub end: u64,
     pub limit: u64,
-    pub first: u32,
-    pub block: u32,
     pub pc: u32,
     pub steps: u64,
     // With each word since then that was no instruction.
@@ -62,15 +58,6 @@ pub struct Walk {
 }
 
 impl Walk {
-    /// The offset in the block.
-    #[inline(always)]
-    fn offset(&self) -> u32
-        requires { self.now.first ≤ self.now.index }
-        ensures { result ≡ walk_offset self.now }
-    {
-        self.index - self.first
-    }
-
     /// The steps made.
     #[inline(always)]
     fn steps(&self) -> u64
@@ -147,10 +134,9 @@ impl Walk {
 
     /// Goes over a link to a place, which is a step unless the exit only leads on.
     #[inline(always)]
-    fn land(&mut self, index: u32, block: u32, offset: u32, pc: u32, leads_on: bool)
-        requires room { HasRoom self.old }
-        requires inside { offset ≤ index }
-        ensures { self.new ≡ landed index block offset pc (if leads_on then 0 else 1) self.old }
+    fn land(&mut self, index: u32, pc: u32, leads_on: bool)
+        requires { HasRoom self.old }
+        ensures { self.new ≡ landed index pc (if leads_on then 0 else 1) self.old }
     {
         let steps = if leads_on { 0 } else { 1 };
         *self = Walk {
@@ -158,8 +144,6 @@ impl Walk {
             stage: Stage::Start,
             end: u64::from(index) + (self.end - u64::from(self.index)) - steps,
             limit: self.limit,
-            first: index - offset,
-            block,
             pc,
             steps: self.steps() + steps,
             count: self.count() + 1,
@@ -274,7 +258,7 @@ fn execute(index: u32, stage: Stage, pc: u32, x: &Instr, regs: &mut Regs, bus: &
     }
 }
 
-/// Goes over a link, as its JAL does. Where that leads in the image the service has kept.
+/// Goes over a link, as its JAL does. Where that leads the service has kept.
 #[inline(always)]
 fn follow<R: CacheRom, M: CacheRam>(
     rom: &R,
@@ -285,36 +269,22 @@ fn follow<R: CacheRom, M: CacheRam>(
     walk: &mut Walk,
 )
     requires sound { R.sound rom.now image.now (M.state ram.now).words }
+    requires used { walk.old.index < R.span (R.setting rom.now) }
     requires got { got ≡ slice_index (M.state ram.now).words walk.old.index }
     requires offset { off ≡ offset_of (decoded got) }
     requires linked { got ≡ ebreak → ⊥ }
-    requires exit { (m : Machine) → m.pc ≡ walk_pc walk.old →
-        ExitHome image.now m walk.old.block (walk_offset walk.old) walk.old.stage }
-    requires is_exit { word_at image.now walk.old.block (walk_offset walk.old) ≡ ebreak }
-    requires placed { PlacedAt (R.kept rom.now) walk.old.index walk.old.block (walk_offset walk.old) }
-    requires block { walk.old.block < length image.now.starts }
-    requires inside { walk_offset walk.old + 1 < length_at image.now walk.old.block }
     requires room { HasRoom walk.old }
-    ensures step { (m : Machine) (input : List ℕ) →
-        ExitStep ExitKind.Direct image.now (R.kept rom.now) (walk_machine walk.old m)
-        (stepped (walk_control walk.new) (quiet (walk_machine walk.new m) input)) input
-        walk.old.index walk.old.block (walk_offset walk.old) walk.old.stage }
-    ensures direct { word_at image.now walk.old.block (walk_offset walk.old + 1) % 4 ≡ 0 }
+    ensures on { (x : AnyInstr) (m : Machine) (p : ℕ × ℕ) → Some x ≡ decoded got → leaves x ≡ true →
+        Home image.now (R.kept rom.now) (walk_machine walk.old m) walk.old.index p.0 p.1 walk.old.stage →
+        (q : ℕ × ℕ) × LinkOn image.now (R.kept rom.now) (walk_machine walk.old m) (walk_machine walk.new m)
+        (walk_control walk.new q) x got walk.old.index p.0 p.1 walk.old.stage }
     ensures counted { walk_count walk.new ≡ walk_count walk.old + 1 }
     ensures limited { (n : ℕ) → WalksTo n walk.old → WalksTo n walk.new }
 {
-    let to = rom.goal(walk.index);
+    let target = rom.goal(walk.index);
     let index = jump_index(off, walk.index);
-    let place = Control::At(index, to.block, to.offset, Stage::Start);
-    let leads_on = fell(
-        walk.stage,
-        walk.pc(),
-        to.address,
-        place,
-        walk.block,
-        walk.offset(),
-    );
-    walk.land(index, to.block, to.offset, to.address, leads_on);
+    let leads_on = fell(walk.stage, walk.pc(), target, index == walk.index);
+    walk.land(index, target, leads_on);
 }
 
 /// A step at a fetched word that asks neither the service nor a device. At any other word nothing changes.
@@ -330,17 +300,17 @@ fn one<R: CacheRom, M: CacheRam>(
 ) -> bool
     requires going { hart.old.machine.ending ≡ None }
     requires sound { R.sound rom.now image.now (M.state ram.now).words }
+    requires used { walk.old.index < R.span (R.setting rom.now) }
     requires got { got ≡ slice_index (M.state ram.now).words walk.old.index }
     requires is { Some x.now ≡ decoded got }
-    requires home { Home image.now (R.kept rom.now) (walk_machine walk.old hart.old.machine) walk.old.index
-        walk.old.block (walk_offset walk.old) walk.old.stage }
     requires room { HasRoom walk.old }
-    ensures on { result ≡ true → StepOn image.now (R.kept rom.now) (walk_machine walk.old hart.old.machine)
-        (walk_machine walk.new hart.new.machine) (walk_control walk.new) x.now got
-        walk.old.index walk.old.block (walk_offset walk.old) walk.old.stage }
+    ensures on { result ≡ true → (p : ℕ × ℕ) → Home image.now (R.kept rom.now)
+        (walk_machine walk.old hart.old.machine) walk.old.index p.0 p.1 walk.old.stage →
+        (q : ℕ × ℕ) × StepOn image.now (R.kept rom.now) (walk_machine walk.old hart.old.machine)
+        (walk_machine walk.new hart.new.machine) (walk_control walk.new q) x.now got
+        walk.old.index p.0 p.1 walk.old.stage }
     ensures counted { result ≡ true → walk_count walk.new ≡ walk_count walk.old + 1 }
     ensures limited { result ≡ true → (n : ℕ) → WalksTo n walk.old → WalksTo n walk.new }
-    ensures near { walk_offset walk.new ≤ 2 ^ 22 + 2 }
     ensures same { result ≡ false → (walk.new ≡ walk.old) × (hart.new ≡ hart.old) }
     ensures rest { hart.new ≡ record hart.old {
       machine = record hart.old.machine
@@ -370,41 +340,38 @@ fn one<R: CacheRom, M: CacheRam>(
     }
 }
 
-/// A step at the exit of a JALR whose target's block is placed, as that of a return mostly is: the service counts it,
-/// and asks the ram for nothing. At any other exit nothing changes.
+/// Jumps over a register by the exit at an index, where that is a JALR's whose target's block is placed, as that of a
+/// return mostly is: where the target stands, and the target. The service counts it, and asks the ram for nothing. At any
+/// other exit nothing changes.
 #[inline(never)]
 fn back<R: CacheRom, M: CacheRam>(
     hart: &mut Hart,
     rom: &mut R,
     image: &ImageView<'_>,
     ram: &M,
-    walk: &mut Walk,
-) -> bool
+    at: u32,
+) -> Option<(u32, u32)>
     requires sound { R.sound rom.old image.now (M.state ram.now).words }
     requires services { (R.kept rom.old).counts.services < 2 ^ 50 }
-    requires exit { ExitHome image.now (walk_machine walk.old hart.old.machine)
-        walk.old.block (walk_offset walk.old) walk.old.stage }
-    requires block { walk.old.block < length image.now.starts }
-    requires room { HasRoom walk.old }
-    ensures on { result ≡ true → JumpOn (R.policy (R.setting rom.old)) (R.span (R.setting rom.old)) image.now
-        (R.kept rom.old) (R.kept rom.new) (M.state ram.now) (walk_machine walk.old hart.old.machine)
-        (walk_machine walk.new hart.new.machine) (walk_control walk.new)
-        walk.old.index walk.old.block (walk_offset walk.old) walk.old.stage }
-    ensures counted { result ≡ true → walk_count walk.new ≡ walk_count walk.old + 1 }
-    ensures limited { result ≡ true → (n : ℕ) → WalksTo n walk.old → WalksTo n walk.new }
-    ensures near { walk_offset walk.new ≤ 2 ^ 22 + 2 }
-    ensures same { result ≡ false → (rom.new ≡ rom.old) × (hart.new ≡ hart.old) }
+    requires exit { ExitStands image.now (R.kept rom.old) at (place_shown (R.shown rom.old at)) }
+    ensures on { IfSome result (λ j. (walk : Walk) → walk.index ≡ at → HasRoom walk →
+        (q : ℕ × ℕ) × JumpOn (R.policy (R.setting rom.old)) (R.span (R.setting rom.old)) image.now
+        (R.kept rom.old) (R.kept rom.new) (M.state ram.now) (walk_machine walk hart.old.machine)
+        (walk_machine (landed j.0 j.1 1 walk) hart.new.machine) (walk_control (landed j.0 j.1 1 walk) q)
+        at (place_shown (R.shown rom.old at)).0 (place_shown (R.shown rom.old at)).1 walk.stage) }
+    ensures same { result ≡ None → (rom.new ≡ rom.old) × (hart.new ≡ hart.old) }
     ensures rest { hart.new ≡ record hart.old {
       machine = record hart.old.machine { regs = hart.new.machine.regs };
     } }
     ensures setting { R.setting rom.new ≡ R.setting rom.old }
     ensures stays { R.sound rom.new image.now (M.state ram.now).words }
 {
-    let block = walk.block;
-    let offset = walk.offset();
+    let Some((block, offset)) = rom.at(at) else {
+        unreachable!()
+    };
     let d = image.word(block, offset + 1);
     if exit_kind(d) != ExitKind::Indirect {
-        return false;
+        return None;
     }
     let Some(x) = decode(d) else { unreachable!() };
     let Instr::Jalr { rd, rs1, imm } = x else {
@@ -412,17 +379,11 @@ fn back<R: CacheRom, M: CacheRam>(
     };
     let target = register_target(hart.machine.regs.get(rs1), imm);
     if target % 4 != 0 {
-        return false;
+        return None;
     }
-    let Some(index) = rom.revisit(image, ram, target) else {
-        return false;
-    };
-    let Control::At(at, to, place, _) = control_at(rom, index) else {
-        unreachable!()
-    };
+    let index = rom.revisit(image, ram, target)?;
     hart.machine.regs.set(rd, image.word(block, offset + 2));
-    walk.land(at, to, place, target, false);
-    true
+    Some((index, target))
 }
 
 /// Where control is in the ram.
@@ -437,7 +398,8 @@ pub(crate) fn block_place(hart: &Hart) -> Option<(u32, u32, u32, Stage)>
 }
 
 /// Steps up to `limit`, or to the first word that is not executed here, which is then fetched. Nothing but words, links
-/// and jumps to placed blocks stands in this loop, so that what a word changes can stay in registers.
+/// and jumps to placed blocks stands in this loop, and its walk is passed to nothing that isn't inlined: so what a word
+/// changes can stay in registers.
 #[inline(never)]
 pub(crate) fn run_block<R: CacheRom, M: CacheRam>(
     hart: &mut Hart,
@@ -452,13 +414,14 @@ pub(crate) fn run_block<R: CacheRom, M: CacheRam>(
     requires sound { R.sound rom.old image.now (M.state ram.old).words }
     requires few { limit ≤ 2 ^ 48 }
     requires within { hart.old.machine.steps ≤ limit }
-    requires offset { at.2 < 2 ^ 22 }
-    requires after { at.2 ≤ at.0 }
     requires short { hart.old.machine.pc < 2 ^ 32 }
     requires inside { (r : Record) (h : HartData) (s : RamState) → Walked (R.policy (R.setting rom.old))
         (R.span (R.setting rom.old)) image.now limit (R.kept rom.old) hart.old (M.state ram.old) r h s →
         h.machine.steps < limit → (i b o : ℕ) (stage : Stage) → h.control ≡ Control.At i b o stage →
         StandsInside image.now r s h i b o stage }
+    requires stands { (r : Record) (h : HartData) (s : RamState) → Walked (R.policy (R.setting rom.old))
+        (R.span (R.setting rom.old)) image.now limit (R.kept rom.old) hart.old (M.state ram.old) r h s →
+        (i b o : ℕ) (stage : Stage) → h.control ≡ Control.At i b o stage → StandsAt image.now r i (Some (b, o)) }
     requires rises { (r r' : Record) (h h' : HartData) (s s' : RamState) → Walked (R.policy (R.setting rom.old))
         (R.span (R.setting rom.old)) image.now limit (R.kept rom.old) hart.old (M.state ram.old) r h s →
         h.machine.steps < limit → WalkedOn (R.policy (R.setting rom.old)) (R.span (R.setting rom.old)) image.now
@@ -474,8 +437,6 @@ pub(crate) fn run_block<R: CacheRom, M: CacheRam>(
         stage: at.3,
         end: u64::from(at.0) + (limit - hart.machine.steps),
         limit,
-        first: at.0 - at.2,
-        block: at.1,
         pc: hart.machine.pc,
         steps: hart.machine.steps,
         count: hart.machine_steps(),
@@ -492,16 +453,20 @@ pub(crate) fn run_block<R: CacheRom, M: CacheRam>(
         if one(hart, rom, image, ram, word, &x, &mut walk) {
             continue;
         }
-        // A walk of its own: the loop's is passed to nothing that isn't inlined, and so needn't live in memory.
-        let mut turned = walk;
-        if word == EBREAK && back(hart, rom, image, ram, &mut turned) {
-            walk = turned;
-            continue;
+        if word == EBREAK {
+            if let Some((index, target)) = back(hart, rom, image, ram, walk.index) {
+                walk.land(index, target, false);
+                continue;
+            }
         }
         left = Ok(Some(word));
         break;
     }
-    hart.control.go(Control::At(walk.index, walk.block, walk.offset(), walk.stage));
+    let Some((block, offset)) = rom.at(walk.index) else {
+        unreachable!()
+    };
+    hart.control
+        .go(Control::At(walk.index, block, offset, walk.stage));
     hart.machine.pc = walk.pc();
     hart.machine.steps = walk.steps();
     hart.count = walk.count();

@@ -7,7 +7,7 @@ ghost use Rattle.swi_image.specs.Place.{word_at};
 ghost use Rattle.swi_rom.specs.Record.{direct, indirect, IsJump};
 ghost use Rattle.swi_rom.specs.Coherent.{TargetAt};
 ghost use Rattle.swi_board.specs.Board.{Arrives};
-ghost use Rattle.swi_board.specs.Leaving.{LeaveAt, fell, offset_of};
+ghost use Rattle.swi_board.specs.Leaving.{LeaveAt, fell, is_back, offset_of};
 ghost use Rattle.swi_isa.specs.Decode.{decoded};
 ghost use Rattle.swi_board.specs.Hart.{exit_kind};
 ghost use Rattle.swi_board.specs.Service.{Transferred};
@@ -38,17 +38,26 @@ pub(crate) fn exit_kind(d: u32) -> ExitKind
     }
 }
 
-/// Whether an exit at the block's offset that was left for the target is one behind the block's last text word.
+/// Whether control went to the exit at the block's offset itself.
 #[inline(always)]
-pub(crate) fn fell(stage: Stage, pc: u32, target: u32, control: Control, b: u32, o: u32) -> bool
-    ensures { result ≡ fell stage pc target control b o }
+pub(crate) fn is_back(control: Control, b: u32, o: u32) -> bool
+    ensures { result ≡ is_back control b o }
+{
+    match control {
+        Control::At(_, block, offset, _) => block == b && offset == o,
+        Control::Outside => false,
+    }
+}
+
+/// Whether an exit that was left for the target is one behind a block's last text word, by whether control went back to
+/// the exit itself.
+#[inline(always)]
+pub(crate) fn fell(stage: Stage, pc: u32, target: u32, back: bool) -> bool
+    ensures { result ≡ fell stage pc target back }
 {
     match stage {
-        Stage::Start => match control {
-            Control::At(_, block, offset, _) => target == pc && !(block == b && offset == o),
-            Control::Outside => target == pc,
-        },
-        _ => false,
+        Stage::Start => target == pc && !back,
+        Stage::Low | Stage::Return | Stage::Leave => false,
     }
 }
 

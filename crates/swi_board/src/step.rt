@@ -12,7 +12,7 @@ ghost use Rattle.swi_board.specs.Leaving.{offset_of, fell, quick_role, upper_qui
 ghost use Rattle.swi_board.specs.Service.{Transferred};
 ghost use Rattle.swi_board.specs.Hart.{exit_kind, instruction, original, trap_kind};
 
-use crate::exit::{exit_kind, fell, jump, leave};
+use crate::exit::{exit_kind, fell, is_back, jump, leave};
 use crate::hart::{Control, ExitKind, Hart, Role, Stage};
 use crate::word::end;
 use swi_calls::End;
@@ -120,7 +120,7 @@ fn direct_step<R: CacheRom, M: CacheRam>(
         Ok(control) => control,
         Err(_) => return Err(Failed),
     };
-    if !fell(stage, hart.machine.pc, target, control, b, o) {
+    if !fell(stage, hart.machine.pc, target, is_back(control, b, o)) {
         hart.machine.pc = target;
         hart.machine.steps += 1;
     }

@@ -15,7 +15,6 @@ use Rattle.swi_rom.specs.Sound.{SlotsSound}
 use Rattle.swi_rom.specs.Steps.{Wrote, Copied, IsAbsent, counted_slots, more_service, is_dropped, leads_in}
 use Rattle.swi_rom.specs.Arrived.{Arrived}
 use Rattle.swi_rom.specs.declared.rom.Counts.{Counts}
-use Rattle.swi_rom.specs.declared.rom.Goal.{Goal}
 use Rattle.swi_rom.specs.Rams.{wrote_none}
 use Rattle.swi_rom.specs.Queue.{spot, placed_slot, slot_placed, length_queue}
 use Rattle.swi_rom.specs.SlotLinks.{Tidy, link_of, linked_word, linked_is, word_linked, word_below, word_slot, word_is}
@@ -57,7 +56,7 @@ absent_not_placed s b shape absent =
     false_from_ne_true (is_placed (kept_by s) b) (λ (h : is_placed (kept_by s) b ≡ true). let w = is_placed_slot s b shape h in absent w.0 w.1 w.2)
 
 -- the counts alone change neither queue nor links
-pub same_queue : (s : Slots) (targets : List ℕ) (goals : List Goal) (counts : Counts) → queue_of (record s { targets = targets; goals = goals; counts = counts }) ≡ queue_of s
+pub same_queue : (s : Slots) (targets goals : List ℕ) (counts : Counts) → queue_of (record s { targets = targets; goals = goals; counts = counts }) ≡ queue_of s
 unfolding queue_of
 same_queue s targets goals counts = refl
 

@@ -10,11 +10,10 @@ use Rattle.swi_rom.specs.Record.{Record, direct, indirect, Placed, has_link, is_
 use Rattle.swi_rom.specs.Coherent.{ExitAt, TargetAt, resident_of}
 use Rattle.swi_rom.specs.Fifo.{fifo}
 use Rattle.swi_rom.specs.Served.{Served}
-use Rattle.swi_rom.specs.Slots.{Slots, InShape, links_of, kept_by, setting_of, span_of, goal_to}
+use Rattle.swi_rom.specs.Slots.{Slots, InShape, links_of, kept_by, setting_of, span_of}
 use Rattle.swi_rom.specs.Sound.{SlotsSound}
 use Rattle.swi_rom.specs.Steps.{FailedBelow, IsAbsent, MaybeLinked, can_link}
 use Rattle.swi_rom.specs.Arrived.{Arrived}
-use Rattle.swi_rom.specs.declared.rom.Goal.{Goal}
 use Rattle.swi_rom.specs.declared.rom.RomStop.TheVariants.{RamFault}
 use Rattle.swi_rom.specs.Queue.{length_queue, placed_slot}
 use Rattle.swi_rom.specs.SlotLinks.{word_slot, link_of, linked_is}
@@ -79,14 +78,14 @@ home_is : (v : ImageData) (s : Slots) (at target home : ℕ) → (e : ExitIn v s
 home_is v s at target home e is = is ∙ ap (λ (x : ℕ). slice_index s.blocks x) (exit_row v s at target e)
 
 pub crossed_call : (v : ImageData) (s t u : Slots) (c q slot at target home index : ℕ) (a b d : RamState) → SlotsSound s v a.words → ExitAt v (kept_by s) at target → place_of v target ≡ Some (c, q) → Arrived v s c slot t a b →
-    home ≡ slice_index s.blocks (at / s.size) → index ≡ slot * s.size + q → MaybeLinked t u (can_link t at home index) at slot index (goal_to target c q) b d →
+    home ≡ slice_index s.blocks (at / s.size) → index ≡ slot * s.size + q → MaybeLinked t u (can_link t at home index) at slot index target b d →
     ((bl o f : ℕ) → Placed (kept_by s) bl f → o < length_at v bl → at ≡ f + o →
     Served v (span_of (setting_of s)) target (kept_by s) (fifo (setting_of s) (kept_by s) v (direct bl o target)) (kept_by u) a d (Ok index)) × SlotsSound u v d.words
 crossed_call v s t u c q slot at target home index a b d sound x is arr home_at index_is maybe =
     let e = exit_in v s a.words at target sound x in
-    let maybe' : MaybeLinked t u (can_link t at (slice_index s.blocks e.slot) (slot * s.size + q)) at slot (slot * s.size + q) (goal_to target c q) b d =
-    subst (λ (i : ℕ). MaybeLinked t u (can_link t at (slice_index s.blocks e.slot) i) at slot i (goal_to target c q) b d) index_is
-    (subst (λ (k : ℕ). MaybeLinked t u (can_link t at k index) at slot index (goal_to target c q) b d) (home_is v s at target home e home_at) maybe) in (
+    let maybe' : MaybeLinked t u (can_link t at (slice_index s.blocks e.slot) (slot * s.size + q)) at slot (slot * s.size + q) target b d =
+    subst (λ (i : ℕ). MaybeLinked t u (can_link t at (slice_index s.blocks e.slot) i) at slot i target b d) index_is
+    (subst (λ (k : ℕ). MaybeLinked t u (can_link t at k index) at slot index target b d) (home_is v s at target home e home_at) maybe) in (
       λ bl o f h lt at_is. subst (λ (i : ℕ). Served v (span_of (setting_of s)) target (kept_by s) (fifo (setting_of s) (kept_by s) v (direct bl o target)) (kept_by u) a d (Ok i)) (sym index_is)
           (crossed v s t u c q slot at target a b d sound e is arr maybe' bl o f h lt at_is),
       crossed_sound v s t u c q slot at target a b d sound e is arr maybe',
@@ -101,7 +100,7 @@ resident_from s t k m b e shape lt m_is b_is =
     (ap (λ (x : ℕ). Some (x, m * s.size)) here ∙ ap (λ (x : ℕ). Some (slice_index s.blocks x, x * s.size)) m_is ∙ sym (resident_is s k shape lt))
 
 -- the exit's block has lost its slot
-pub never_linked : (s t : Slots) (at home slot to b : ℕ) (g : Goal) (a : RamState) → s ≡ t → InShape s → at < t.slots * t.size → b ≡ slice_index_or s.blocks (at / s.size) b → (b ≡ home → ⊥) →
+pub never_linked : (s t : Slots) (at home slot to b g : ℕ) (a : RamState) → s ≡ t → InShape s → at < t.slots * t.size → b ≡ slice_index_or s.blocks (at / s.size) b → (b ≡ home → ⊥) →
     MaybeLinked t t (can_link t at home to) at slot to g a a
 never_linked s t at home slot to b g a e shape lt is ne = record {
   yes = λ can. absurd (both_ways (can_link t at home to) no can);

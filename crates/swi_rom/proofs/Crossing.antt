@@ -11,12 +11,11 @@ use Rattle.swi_rom.specs.Record.{Record, Link, Transfer, direct, indirect, targe
 use Rattle.swi_rom.specs.Coherent.{TargetAt, ExitAt, IsExit}
 use Rattle.swi_rom.specs.Fifo.{fifo, went, linked, is_over_link, arrived, counted, is_placed, first_of, with_link}
 use Rattle.swi_rom.specs.Served.{Served, WordsMove}
-use Rattle.swi_rom.specs.Slots.{Slots, InShape, links_of, queue_of, kept_by, setting_of, span_of, goal_to}
+use Rattle.swi_rom.specs.Slots.{Slots, InShape, links_of, queue_of, kept_by, setting_of, span_of}
 use Rattle.swi_rom.specs.Sound.{SlotsSound}
 use Rattle.swi_rom.specs.Steps.{Wrote, FailedBelow, Linked, MaybeLinked, can_link}
 use Rattle.swi_rom.specs.Arrived.{Arrived}
 use Rattle.swi_rom.specs.declared.rom.RomStop.TheVariants.{Outside, RamFault}
-use Rattle.swi_rom.specs.declared.rom.Goal.{Goal}
 use Rattle.swi_rom.specs.Rams.{wrote_more, spared_none}
 use Rattle.swi_rom.specs.Links.{has_with, same_is, same_same}
 use Rattle.swi_rom.specs.Queue.{placed_slot, slot_placed, length_queue}
@@ -209,7 +208,7 @@ can_be v s t c q slot at target a b sound arr is e stays =
       place_is = ap (λ (x : ℕ). place_of v (word_at v x (e.offset + 1))) stays ∙ ap (λ (x : ℕ). place_of v x) (sym e.descriptor) ∙ is ∙ ap (λ (x : ℕ). Some (x, q)) (sym arr.stands);
     }
 
-linked_kept : (t : Slots) (v : ImageData) (n o slot q : ℕ) (g : Goal) → Tidy t → CanLink t v n o slot q →
+linked_kept : (t : Slots) (v : ImageData) (n o slot q g : ℕ) → Tidy t → CanLink t v n o slot q →
     kept_by (linked_slots t (n * t.size + o) slot g) ≡ record (kept_by t) { links = with_link (link_of t n o) (links_of t); counts = record t.counts { links = t.counts.links + 1 } }
 linked_kept t v n o slot q g tidy can =
     rw (same_queue t (slice_set t.targets (n * t.size + o) slot) (slice_set t.goals (n * t.size + o) g) (record t.counts { links = t.counts.links + 1 }), linked_links t v n o slot q g tidy can) refl
@@ -232,7 +231,7 @@ other_link v s words n o f k sound lt lt' free was h e =
     let low : slice_index s.targets (n * s.size + o) < s.slots = subst (λ (j : ℕ). slice_index s.targets j < s.slots) at w.5 in
     omega (arith, high, low)
 
-linked_words : (v : ImageData) (s t u : Slots) (n o slot q to : ℕ) (g : Goal) (a b d : RamState) → SlotsSound s v a.words → InShape t → n < s.filled → o < s.size → t.size ≡ s.size → CanLink t v n o slot q →
+linked_words : (v : ImageData) (s t u : Slots) (n o slot q to g : ℕ) (a b d : RamState) → SlotsSound s v a.words → InShape t → n < s.filled → o < s.size → t.size ≡ s.size → CanLink t v n o slot q →
     has_link (links_of s) (link_of s n o) ≡ false → slice_index t.blocks n ≡ slice_index s.blocks n → has_link (links_of t) (link_of t n o) ≡ false →
     Linked t u (n * t.size + o) slot to g b d → WordsMove v (kept_by s) (kept_by t) a b → WordsMove v (kept_by s) (with_new t n o) a d
 unfolding Placed
@@ -274,7 +273,7 @@ new_target v t n o target i at = record { block = at.block; offset = at.offset; 
 
 crossed_link : (v : ImageData) (s t u : Slots) (c q slot at target : ℕ) (a b d : RamState) → SlotsSound s v a.words → (e : ExitIn v s at target) → place_of v target ≡ Some (c, q) → Arrived v s c slot t a b → 0 < s.filled →
     t.counts.links < t.counts.services → writes (kept_by s) ≤ writes (kept_by t) →
-    Linked t u at slot (slot * s.size + q) (goal_to target c q) b d → slice_index t.blocks e.slot ≡ slice_index s.blocks e.slot →
+    Linked t u at slot (slot * s.size + q) target b d → slice_index t.blocks e.slot ≡ slice_index s.blocks e.slot →
     let next : Record = record (kept_by t) { links = with_link (record { program = 0; block = slice_index s.blocks e.slot; offset = e.offset }) (links_of t); counts = record t.counts { links = t.counts.links + 1 } } in
     next ≡ fifo (setting_of s) (kept_by s) v (direct (slice_index s.blocks e.slot) e.offset target) →
     Served v (span_of (setting_of s)) target (kept_by s) (fifo (setting_of s) (kept_by s) v (direct (slice_index s.blocks e.slot) e.offset target)) (kept_by u) a d (Ok (slot * s.size + q)) × SlotsSound u v d.words
@@ -285,28 +284,26 @@ crossed_link v s t u c q slot at target a b d sound e is arr some few more linke
     let gone : has_link (links_of t) (link_of t n o) ≡ false =
     ap (λ (x : ℕ). has_link (links_of t) (record { program = 0; block = x; offset = o })) stays ∙ not_after v s t c slot a b sound arr some (link_of s n o) e.free in
     let at_is : at ≡ n * t.size + o = e.index ∙ ap (λ (x : ℕ). n * x + o) (sym arr.size_stays) in
-    let g : Goal = goal_to target c q in
-    let goal : goal_to target c q ≡ goal_to (word_at v (slice_index t.blocks n) (o + 1)) (slice_index t.blocks slot) q =
-    ap (λ (x : ℕ). goal_to x c q) (e.descriptor ∙ ap (λ (x : ℕ). word_at v x (o + 1)) (sym stays)) ∙ ap (λ (x : ℕ). goal_to (word_at v (slice_index t.blocks n) (o + 1)) x q) (sym arr.stands) in
-    let linked' : Linked t u (n * t.size + o) slot (slot * s.size + q) g b d = subst (λ (x : ℕ). Linked t u x slot (slot * s.size + q) g b d) at_is linked in
-    let u_is : u ≡ linked_slots t (n * t.size + o) slot g = linked'.slots_are in
-    let kept_u : kept_by u ≡ with_new t n o = ap (λ (x : Slots). kept_by x) u_is ∙ linked_kept t v n o slot q g (tidy_of t v b.words arr.sound) can in
-    let whole : Linked t (linked_slots t (n * t.size + o) slot g) (n * t.size + o) slot (slot * t.size + q) g b d =
-    subst (λ (x : Slots). Linked t x (n * t.size + o) slot (slot * t.size + q) g b d) u_is
-    (subst (λ (x : ℕ). Linked t u (n * t.size + o) slot (slot * x + q) g b d) (sym arr.size_stays) linked') in
+    let goal : target ≡ word_at v (slice_index t.blocks n) (o + 1) = e.descriptor ∙ ap (λ (x : ℕ). word_at v x (o + 1)) (sym stays) in
+    let linked' : Linked t u (n * t.size + o) slot (slot * s.size + q) target b d = subst (λ (x : ℕ). Linked t u x slot (slot * s.size + q) target b d) at_is linked in
+    let u_is : u ≡ linked_slots t (n * t.size + o) slot target = linked'.slots_are in
+    let kept_u : kept_by u ≡ with_new t n o = ap (λ (x : Slots). kept_by x) u_is ∙ linked_kept t v n o slot q target (tidy_of t v b.words arr.sound) can in
+    let whole : Linked t (linked_slots t (n * t.size + o) slot target) (n * t.size + o) slot (slot * t.size + q) target b d =
+    subst (λ (x : Slots). Linked t x (n * t.size + o) slot (slot * t.size + q) target b d) u_is
+    (subst (λ (x : ℕ). Linked t u (n * t.size + o) slot (slot * x + q) target b d) (sym arr.size_stays) linked') in
     let wrote : Wrote (s.slots * s.size) 1 b d = subst (λ (x : ℕ). Wrote (x * s.size) 1 b d) arr.slots_stay (subst (λ (x : ℕ). Wrote (t.slots * x) 1 b d) arr.size_stays linked'.wrote) in
-    let words : WordsMove v (kept_by s) (with_new t n o) a d = linked_words v s t u n o slot q (slot * s.size + q) g a b d sound arr.sound.shape e.filled e.inside arr.size_stays can e.free stays gone linked' arr.words in (
+    let words : WordsMove v (kept_by s) (with_new t n o) a d = linked_words v s t u n o slot q (slot * s.size + q) target a b d sound arr.sound.shape e.filled e.inside arr.size_stays can e.free stays gone linked' arr.words in (
       subst (λ (x : Record). Served v (span_of (setting_of s)) target (kept_by s) (fifo (setting_of s) (kept_by s) v (direct (slice_index s.blocks n) o target)) x a d (Ok (slot * s.size + q))) (sym kept_u)
           (served v (s.slots * s.size) target (slot * s.size + q) (writes (kept_by t) - writes (kept_by s) + 1) (c, q) (kept_by s) _ (with_new t n o) a d is
           (ap (λ (x : ℕ). record (kept_by t) { links = with_link (record { program = 0; block = x; offset = o }) (links_of t); counts = record t.counts { links = t.counts.links + 1 } }) stays ∙ moves)
           (new_target v t n o target (slot * s.size + q) (arrived_target v s t c q slot target a b arr is))
           (wrote_more (s.slots * s.size) (s.slots * s.size) _ 1 a b d arr.wrote wrote (omega arith)) (omega arith) words),
-      subst (λ (x : Slots). SlotsSound x v d.words) (sym u_is) (linked_sound t v n o slot q g b d arr.sound can few goal whole),
+      subst (λ (x : Slots). SlotsSound x v d.words) (sym u_is) (linked_sound t v n o slot q target b d arr.sound can few goal whole),
     )
 
 -- the exit has been linked, or it can't be
 crossed_at : (v : ImageData) (s t u : Slots) (c q slot at target : ℕ) (a b d : RamState) → SlotsSound s v a.words → (e : ExitIn v s at target) → place_of v target ≡ Some (c, q) → Arrived v s c slot t a b →
-    MaybeLinked t u (can_link t at (slice_index s.blocks e.slot) (slot * s.size + q)) at slot (slot * s.size + q) (goal_to target c q) b d →
+    MaybeLinked t u (can_link t at (slice_index s.blocks e.slot) (slot * s.size + q)) at slot (slot * s.size + q) target b d →
     Served v (span_of (setting_of s)) target (kept_by s) (fifo (setting_of s) (kept_by s) v (direct (slice_index s.blocks e.slot) e.offset target)) (kept_by u) a d (Ok (slot * s.size + q)) × SlotsSound u v d.words
 crossed_at v s t u c q slot at target a b d sound e is arr maybe =
     let n : ℕ = e.slot in
@@ -334,7 +331,7 @@ crossed_at v s t u c q slot at target a b d sound e is arr maybe =
         ap (λ (x : ℕ). slice_index t.blocks x) (sym (ap (λ (x : ℕ). x / t.size) e ∙ (word_slot t n o lt).0)) ∙ eqb-true _ _ (and_parts (slice_index t.blocks (at / t.size) == home) (reaches at to) can).0
 
 pub crossed : (v : ImageData) (s t u : Slots) (c q slot at target : ℕ) (a b d : RamState) → SlotsSound s v a.words → (e : ExitIn v s at target) → place_of v target ≡ Some (c, q) → Arrived v s c slot t a b →
-    MaybeLinked t u (can_link t at (slice_index s.blocks e.slot) (slot * s.size + q)) at slot (slot * s.size + q) (goal_to target c q) b d → (bl o f : ℕ) → Placed (kept_by s) bl f → o < length_at v bl → at ≡ f + o →
+    MaybeLinked t u (can_link t at (slice_index s.blocks e.slot) (slot * s.size + q)) at slot (slot * s.size + q) target b d → (bl o f : ℕ) → Placed (kept_by s) bl f → o < length_at v bl → at ≡ f + o →
     Served v (span_of (setting_of s)) target (kept_by s) (fifo (setting_of s) (kept_by s) v (direct bl o target)) (kept_by u) a d (Ok (slot * s.size + q))
 crossed v s t u c q slot at target a b d sound e is arr maybe bl o f h lt at_is =
     let same = exit_same v s a.words at target bl o f sound e h lt at_is in
@@ -343,5 +340,5 @@ crossed v s t u c q slot at target a b d sound e is arr maybe bl o f h lt at_is 
     (crossed_at v s t u c q slot at target a b d sound e is arr maybe).0)
 
 pub crossed_sound : (v : ImageData) (s t u : Slots) (c q slot at target : ℕ) (a b d : RamState) → SlotsSound s v a.words → (e : ExitIn v s at target) → place_of v target ≡ Some (c, q) → Arrived v s c slot t a b →
-    MaybeLinked t u (can_link t at (slice_index s.blocks e.slot) (slot * s.size + q)) at slot (slot * s.size + q) (goal_to target c q) b d → SlotsSound u v d.words
+    MaybeLinked t u (can_link t at (slice_index s.blocks e.slot) (slot * s.size + q)) at slot (slot * s.size + q) target b d → SlotsSound u v d.words
 crossed_sound v s t u c q slot at target a b d sound e is arr maybe = (crossed_at v s t u c q slot at target a b d sound e is arr maybe).1

@@ -1,5 +1,5 @@
 -- An exit becomes a link.
-use Rattle.std.proofs.Common.{◌≡◌, ℕ, ◌+◌, ◌*◌, ◌/◌, ◌<◌, ◌≤◌, true, false, length, Some, slice_index, slice_index_or, slice_set, arith, sym, ◌∙◌, ap, subst, inl, inr}
+use Rattle.std.proofs.Common.{◌≡◌, ℕ, ◌+◌, ◌*◌, ◌/◌, ◌<◌, ◌≤◌, true, false, length, Some, slice_index, slice_set, arith, sym, ◌∙◌, ap, subst, inl, inr}
 use Rattle.std.proofs.lemmas.Bool.{cases_eq, le-ltb, or_left, or_right, or_cases}
 use Rattle.std.proofs.lemmas.List.{length-set, get_or-set_same, get_or-set_other}
 use Rattle.std.proofs.lemmas.Nat.{same_from_place}
@@ -9,8 +9,7 @@ use Rattle.swi_outside.specs.CacheRam.{RamState}
 use Rattle.swi_rom.specs.Record.{Link, Placed, has_link, same_link, IsJump}
 use Rattle.swi_rom.specs.Fifo.{with_link, first_of}
 use Rattle.swi_rom.specs.Coherent.{IsExit}
-use Rattle.swi_rom.specs.declared.rom.Goal.{Goal}
-use Rattle.swi_rom.specs.Slots.{Slots, InShape, links_of, queue_of, kept_by, goal_to}
+use Rattle.swi_rom.specs.Slots.{Slots, InShape, links_of, queue_of, kept_by}
 use Rattle.swi_rom.specs.Sound.{SlotsSound, LinkStands}
 use Rattle.swi_rom.specs.Steps.{Linked}
 use Rattle.swi_rom.specs.Links.{same_ascending, with_ascending, has_with, same_same, same_is}
@@ -28,7 +27,7 @@ first_of_slot s n tidy lt =
     first_in_has (queue_of s) 0 (slice_index s.blocks n) (n * s.size) (slot_placed s n tidy.shape lt)
     (λ g h. let p = placed_slot s (slice_index s.blocks n) g tidy.shape h in sym p.3 ∙ ap (λ (m : ℕ). m * s.size) (tidy.distinct p.0 n p.1 lt p.2))
 
-abbrev pub linked_slots : Slots → ℕ → ℕ → Goal → Slots
+abbrev pub linked_slots : Slots → ℕ → ℕ → ℕ → Slots
 linked_slots s at slot goal = record s { targets = slice_set s.targets at slot; goals = slice_set s.goals at goal; counts = record s.counts { links = s.counts.links + 1 } }
 
 -- word o of a filled slot is no link yet, and its exit leads to a filled slot
@@ -52,11 +51,11 @@ target_here s v n o slot q shape can = get_or-set_same s.targets (n * s.size + o
 target_other : (s : Slots) (at slot i : ℕ) → (i ≡ at → ⊥) → slice_index (slice_set s.targets at slot) i ≡ slice_index s.targets i
 target_other s at slot i ne = get_or-set_other s.targets at i slot 0 ne
 
-goal_here : (s : Slots) (v : ImageData) (n o slot q : ℕ) (g : Goal) → InShape s → CanLink s v n o slot q → slice_index_or (slice_set s.goals (n * s.size + o) g) (n * s.size + o) (goal_to 0 0 0) ≡ g
+goal_here : (s : Slots) (v : ImageData) (n o slot q g : ℕ) → InShape s → CanLink s v n o slot q → slice_index (slice_set s.goals (n * s.size + o) g) (n * s.size + o) ≡ g
 goal_here s v n o slot q g shape can =
-    get_or-set_same s.goals (n * s.size + o) g (goal_to 0 0 0) (omega (arith, within s v n o slot q shape can, shape.targets_long, shape.goals_long))
+    get_or-set_same s.goals (n * s.size + o) g 0 (omega (arith, within s v n o slot q shape can, shape.targets_long, shape.goals_long))
 
-pub linked_tidy : (s : Slots) (v : ImageData) (n o slot q : ℕ) (g : Goal) → Tidy s → CanLink s v n o slot q → Tidy (linked_slots s (n * s.size + o) slot g)
+pub linked_tidy : (s : Slots) (v : ImageData) (n o slot q g : ℕ) → Tidy s → CanLink s v n o slot q → Tidy (linked_slots s (n * s.size + o) slot g)
 linked_tidy s v n o slot q g tidy can = record {
   shape = record {
     some_slot = tidy.shape.some_slot;
@@ -83,7 +82,7 @@ not_yet : (s : Slots) (v : ImageData) (n o slot q : ℕ) → Tidy s → CanLink 
 not_yet s v n o slot q tidy can = linked_is s n o tidy can.filled can.inside ∙ le-ltb _ _ can.free
 
 -- the links are those before and the new one
-pub linked_links : (s : Slots) (v : ImageData) (n o slot q : ℕ) (g : Goal) → Tidy s → CanLink s v n o slot q →
+pub linked_links : (s : Slots) (v : ImageData) (n o slot q g : ℕ) → Tidy s → CanLink s v n o slot q →
     links_of (linked_slots s (n * s.size + o) slot g) ≡ with_link (link_of s n o) (links_of s)
 linked_links s v n o slot q g tidy can =
     let t : Slots = linked_slots s (n * s.size + o) slot g in
@@ -107,7 +106,7 @@ linked_links s v n o slot q g tidy can =
           (sym (target_other s (n * s.size + o) slot (w.0 * s.size + w.1) (λ (e : w.0 * s.size + w.1 ≡ n * s.size + o). (let f = can.free in let x : slice_index s.targets (n * s.size + o) < s.slots = subst (λ (j : ℕ). slice_index s.targets j < s.slots) e w.5 in omega arith)))) w.5)))
     ]))
 
-pub linked_sound : (s : Slots) (v : ImageData) (n o slot q : ℕ) (g : Goal) (before after : RamState) → SlotsSound s v before.words → CanLink s v n o slot q → s.counts.links < s.counts.services → g ≡ goal_to (word_at v (slice_index s.blocks n) (o + 1)) (slice_index s.blocks slot) q →
+pub linked_sound : (s : Slots) (v : ImageData) (n o slot q g : ℕ) (before after : RamState) → SlotsSound s v before.words → CanLink s v n o slot q → s.counts.links < s.counts.services → g ≡ word_at v (slice_index s.blocks n) (o + 1) →
     Linked s (linked_slots s (n * s.size + o) slot g) (n * s.size + o) slot (slot * s.size + q) g before after → SlotsSound (linked_slots s (n * s.size + o) slot g) v after.words
 linked_sound s v n o slot q g before after sound can few goal linked =
     let tidy = linked_tidy s v n o slot q g (tidy_of s v before.words sound) can in
@@ -141,8 +140,8 @@ linked_sound s v n o slot q g before after sound can few goal linked =
       unlinks_few = omega (arith, ap length links, length_with_all (link_of s n o) (links_of s), sound.unlinks_few);
     }
   where
-    new_link : (s : Slots) (v : ImageData) (n o slot q : ℕ) (g : Goal) (before after : RamState) → InShape s → CanLink s v n o slot q →
-        g ≡ goal_to (word_at v (slice_index s.blocks n) (o + 1)) (slice_index s.blocks slot) q →
+    new_link : (s : Slots) (v : ImageData) (n o slot q g : ℕ) (before after : RamState) → InShape s → CanLink s v n o slot q →
+        g ≡ word_at v (slice_index s.blocks n) (o + 1) →
         Linked s (linked_slots s (n * s.size + o) slot g) (n * s.size + o) slot (slot * s.size + q) g before after → LinkStands (linked_slots s (n * s.size + o) slot g) v after.words n o
     new_link s v n o slot q g before after shape can goal linked =
         let here = target_here s v n o slot q shape can in
@@ -152,10 +151,10 @@ linked_sound s v n o slot q g before after sound can few goal linked =
           offset = q;
           place_is = can.place_is ∙ ap (λ (x : ℕ). Some (slice_index s.blocks x, q)) (sym here);
           jumps = subst (λ (x : ℕ). IsJump (n * s.size + o) (x * s.size + q) (slice_index after.words (n * s.size + o))) (sym here) linked.jumps;
-          goal_is = goal_here s v n o slot q g shape can ∙ goal ∙ ap (λ (x : ℕ). goal_to (word_at v (slice_index s.blocks n) (o + 1)) (slice_index s.blocks x) q) (sym here);
+          goal_is = goal_here s v n o slot q g shape can ∙ goal;
         }
 
-    old_link : (s : Slots) (v : ImageData) (n o slot q m p : ℕ) (g : Goal) (before after : RamState) →
+    old_link : (s : Slots) (v : ImageData) (n o slot q m p g : ℕ) (before after : RamState) →
         Linked s (linked_slots s (n * s.size + o) slot g) (n * s.size + o) slot (slot * s.size + q) g before after → (m * s.size + p ≡ n * s.size + o → ⊥) → LinkStands s v before.words m p →
         LinkStands (linked_slots s (n * s.size + o) slot g) v after.words m p
     old_link s v n o slot q m p g before after linked ne k =
@@ -167,6 +166,5 @@ linked_sound s v n o slot q g before after sound can few goal linked =
           place_is = k.place_is ∙ ap (λ (x : ℕ). Some (slice_index s.blocks x, k.offset)) (sym same);
           jumps = subst (λ (x : ℕ). IsJump (m * s.size + p) (x * s.size + k.offset) (slice_index after.words (m * s.size + p))) (sym same)
               (subst (λ (w : ℕ). IsJump (m * s.size + p) (slice_index s.targets (m * s.size + p) * s.size + k.offset) w) (sym (linked.others (m * s.size + p) ne)) k.jumps);
-          goal_is = get_or-set_other s.goals (n * s.size + o) (m * s.size + p) g (goal_to 0 0 0) ne ∙ k.goal_is
-              ∙ ap (λ (x : ℕ). goal_to (word_at v (slice_index s.blocks m) (p + 1)) (slice_index s.blocks x) k.offset) (sym same);
+          goal_is = get_or-set_other s.goals (n * s.size + o) (m * s.size + p) g 0 ne ∙ k.goal_is;
         }

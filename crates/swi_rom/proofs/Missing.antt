@@ -9,7 +9,7 @@ use Rattle.swi_image.specs.Place.{place_of, word_at, length_at}
 use Rattle.swi_outside.specs.CacheRam.{RamState}
 use Rattle.swi_rom.specs.Record.{ebreak, IsJump}
 use Rattle.swi_rom.specs.Coherent.{IsExit}
-use Rattle.swi_rom.specs.Slots.{Slots, InShape, links_of, goal_to}
+use Rattle.swi_rom.specs.Slots.{Slots, InShape, links_of}
 use Rattle.swi_rom.specs.Sound.{SlotsSound, LinkStands}
 use Rattle.swi_rom.specs.Steps.{Wrote, Copied, is_dropped, leads_in, settled, IsAbsent, Cleared, leading_in}
 use Rattle.swi_rom.specs.declared.rom.Counts.{Counts}
@@ -151,9 +151,7 @@ moved_link s targets counts v b m o n k before between after sound roomy copied 
           ∙ ap (λ (c : ℕ). Some (c, link.offset)) (sym target ∙ ap (λ (x : ℕ). slice_index (slice_set s.blocks s.next b) x) (sym left.same));
       jumps = subst (λ (x : ℕ). IsJump (m * s.size + o) (x * s.size + link.offset) (slice_index after.words (m * s.size + o))) (sym left.same)
           (subst (λ (w : ℕ). IsJump (m * s.size + o) (slice_index s.targets (m * s.size + o) * s.size + link.offset) w) (sym words) link.jumps);
-      goal_is = link.goal_is
-          ∙ ap (λ (c : ℕ). goal_to (word_at v c (o + 1)) (slice_index s.blocks (slice_index s.targets (m * s.size + o))) link.offset) (sym block)
-          ∙ ap (λ (c : ℕ). goal_to (word_at v (slice_index (slice_set s.blocks s.next b) m) (o + 1)) c link.offset) (sym target ∙ ap (λ (x : ℕ). slice_index (slice_set s.blocks s.next b) x) (sym left.same));
+      goal_is = link.goal_is ∙ ap (λ (c : ℕ). word_at v c (o + 1)) (sym block);
     }
 
 moved_plain : (s : Slots) (targets : List ℕ) (v : ImageData) (b m o n k : ℕ) (before between after : RamState) → SlotsSound s v before.words → Roomy s targets k before between →

@@ -3,7 +3,6 @@ use Rattle.std.specs.Prelude.{◌≡◌, ℕ, ◌+◌, ◌<◌, ◌≤◌, ◌%�
 use Rattle.swi_image.specs.Format.{ImageData}
 use Rattle.swi_image.specs.Place.{place_of, word_at, length_at}
 use Rattle.swi_rom.specs.Record.{Record, Placement, Placed, is_linked, ebreak, IsJump}
-use Rattle.swi_rom.specs.declared.rom.Goal.{Goal}
 
 -- the target's place stands at this index
 pub record TargetAt (v : ImageData) (r : Record) (t i : ℕ) : Type 0 where
@@ -13,11 +12,6 @@ pub record TargetAt (v : ImageData) (r : Record) (t i : ℕ) : Type 0 where
   pub place_is : place_of v t ≡ Some (block, offset)
   pub is_placed : Placed r block first
   pub index : i ≡ first + offset
-
--- the goal is this address, and the address's place in the image
-pub record LeadsTo (v : ImageData) (t : ℕ) (g : Goal) : Type 0 where
-  pub address : g.address ≡ t
-  pub place_is : place_of v t ≡ Some (g.block, g.offset)
 
 -- a direct exit of the image: EBREAK, and behind it the address that it leads to
 pub record IsExit (v : ImageData) (b o : ℕ) : Type 0 where

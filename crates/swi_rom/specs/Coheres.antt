@@ -6,10 +6,9 @@ use Rattle.swi_image.specs.Format.{ImageData}
 use Rattle.swi_image.specs.Place.{place_of, word_at, length_at}
 use Rattle.swi_image.specs.Sound.{IsImage}
 use Rattle.swi_rom.specs.Record.{Link, has_link, is_linked, Placed, IsJump}
-use Rattle.swi_rom.specs.Coherent.{Coherent, IsExit, TargetAt, LeadsTo}
+use Rattle.swi_rom.specs.Coherent.{Coherent, IsExit, TargetAt}
 use Rattle.swi_rom.specs.Slots.{Slots, InShape, links_of, kept_by, span_of, setting_of, goals_by}
 use Rattle.swi_rom.specs.Sound.{SlotsSound, LinkStands}
-use Rattle.swi_rom.specs.declared.rom.Goal.{Goal}
 use Rattle.swi_rom.specs.SlotLinks.{Tidy, linked_word, linked_is}
 use Rattle.swi_rom.specs.Order.{queue_distinct}
 use Rattle.swi_rom.specs.Queue.{placed_slot, slot_placed}
@@ -53,12 +52,10 @@ linked_target s v words b o f sound h l =
     )
 
 pub linked_goal : (s : Slots) (v : ImageData) (words : List ℕ) → SlotsSound s v words → (b f o : ℕ) → Placed (kept_by s) b f → is_linked (kept_by s) b o ≡ true →
-    LeadsTo v (word_at v b (o + 1)) (goals_by s (f + o))
+    goals_by s (f + o) ≡ word_at v b (o + 1)
 linked_goal s v words sound b f o h l =
     let w = placed_link s v words b o f sound h l in
-    subst (λ (c : ℕ). LeadsTo v (word_at v c (o + 1)) (goals_by s (f + o))) w.2
-    (subst (λ (g : ℕ). LeadsTo v (word_at v (slice_index s.blocks w.0) (o + 1)) (goals_by s (g + o))) w.3
-    (subst (λ (g : Goal). LeadsTo v (word_at v (slice_index s.blocks w.0) (o + 1)) g) (sym w.4.goal_is) (record { address = refl; place_is = w.4.place_is })))
+    ap (λ (n : ℕ). goals_by s (n + o)) (sym w.3) ∙ w.4.goal_is ∙ ap (λ (c : ℕ). word_at v c (o + 1)) w.2
 
 pub coheres : (s : Slots) (v : ImageData) (words : List ℕ) → SlotsSound s v words → Coherent v (kept_by s) (span_of (setting_of s)) words
 coheres s v words sound = record {

@@ -6,7 +6,7 @@ use Rattle.swi_image.specs.Place.{word_at}
 use Rattle.swi_image.specs.Sound.{IsImage}
 use Rattle.swi_rom.specs.Record.{Record, Placed, is_linked}
 use Rattle.swi_rom.specs.Fifo.{extent_of}
-use Rattle.swi_rom.specs.Coherent.{Coherent, LeadsTo, StandsAt}
+use Rattle.swi_rom.specs.Coherent.{Coherent, StandsAt}
 use Rattle.swi_rom.specs.Slots.{Slots, kept_by, span_of, setting_of, shown_by, goals_by}
 use Rattle.swi_rom.specs.Sound.{SlotsSound}
 use Rattle.swi_rom.specs.Coheres.{coheres, linked_goal, small_span, image_is}
@@ -25,7 +25,7 @@ pub slots_shown : (s : Slots) (v : ImageData) (words : List ℕ) → SlotsSound 
 slots_shown = shown_stands
 
 pub slots_goal : (s : Slots) (v : ImageData) (words : List ℕ) → SlotsSound s v words → (b f o : ℕ) → Placed (kept_by s) b f → is_linked (kept_by s) b o ≡ true →
-    LeadsTo v (word_at v b (o + 1)) (goals_by s (f + o))
+    goals_by s (f + o) ≡ word_at v b (o + 1)
 slots_goal = linked_goal
 
 pub slots_within : (setting : List ℕ) (r : Record) → extent_of setting r ≤ span_of setting

@@ -5,7 +5,7 @@ use Rattle.swi_image.specs.Place.{place_of, word_at, length_at}
 use Rattle.swi_image.specs.Sound.{IsImage}
 use Rattle.swi_rom.specs.Record.{IsJump}
 use Rattle.swi_rom.specs.Coherent.{IsExit}
-use Rattle.swi_rom.specs.Slots.{Slots, InShape, links_of, goal_to, goals_by}
+use Rattle.swi_rom.specs.Slots.{Slots, InShape, links_of, goals_by}
 
 -- word o of slot n is a link, the jump that stands there leads to its target's place, and its goal is kept
 pub record LinkStands (s : Slots) (v : ImageData) (words : List ℕ) (n o : ℕ) : Type 0 where
@@ -14,7 +14,7 @@ pub record LinkStands (s : Slots) (v : ImageData) (words : List ℕ) (n o : ℕ)
   pub offset : ℕ
   pub place_is : place_of v (word_at v (slice_index s.blocks n) (o + 1)) ≡ Some (slice_index s.blocks (slice_index s.targets (n * s.size + o)), offset)
   pub jumps : IsJump (n * s.size + o) (slice_index s.targets (n * s.size + o) * s.size + offset) (slice_index words (n * s.size + o))
-  pub goal_is : goals_by s (n * s.size + o) ≡ goal_to (word_at v (slice_index s.blocks n) (o + 1)) (slice_index s.blocks (slice_index s.targets (n * s.size + o))) offset
+  pub goal_is : goals_by s (n * s.size + o) ≡ word_at v (slice_index s.blocks n) (o + 1)
 
 pub record SlotsSound (s : Slots) (v : ImageData) (words : List ℕ) : Type 0 where
   pub shape : InShape s

@@ -8,7 +8,6 @@ use Rattle.swi_rom.specs.Record.{ebreak, IsJump, reaches}
 use Rattle.swi_rom.specs.Served.{Spared}
 use Rattle.swi_rom.specs.Table.{NotAmong}
 use Rattle.swi_rom.specs.Slots.{Slots}
-use Rattle.swi_rom.specs.declared.rom.Goal.{Goal}
 
 -- so many sets below an index, none of which failed
 pub record Wrote (span n : ℕ) (before after : RamState) : Type 0 where
@@ -75,7 +74,7 @@ settled s b n = record s {
 }
 
 -- the word at an index has been made a link to an index in a slot, with a goal
-pub record Linked (s t : Slots) (at slot to : ℕ) (goal : Goal) (before after : RamState) : Type 0 where
+pub record Linked (s t : Slots) (at slot to goal : ℕ) (before after : RamState) : Type 0 where
   pub slots_are : t ≡ record s { targets = slice_set s.targets at slot; goals = slice_set s.goals at goal; counts = record s.counts { links = s.counts.links + 1 } }
   pub jumps : IsJump at to (slice_index after.words at)
   pub others : (i : ℕ) → (i ≡ at → ⊥) → slice_index after.words i ≡ slice_index before.words i
@@ -106,7 +105,7 @@ abbrev pub LinksInside : Slots → ℕ → Type 0
 LinksInside s n = (o : ℕ) → slice_index s.lengths n ≤ o → o < s.size → s.slots ≤ slice_index s.targets (n * s.size + o)
 
 -- the word at an index has been made a link, or it hasn't and nothing has changed
-pub record MaybeLinked (s t : Slots) (links : Bool) (at slot to : ℕ) (goal : Goal) (before after : RamState) : Type 0 where
+pub record MaybeLinked (s t : Slots) (links : Bool) (at slot to goal : ℕ) (before after : RamState) : Type 0 where
   pub yes : links ≡ true → Linked s t at slot to goal before after
   pub no : links ≡ false → (t ≡ s) × (after ≡ before)
 

@@ -7,7 +7,7 @@ mod slots;
 mod table;
 mod write;
 
-pub use rom::{CacheRom, Counts, Goal, RomStop};
+pub use rom::{CacheRom, Counts, RomStop};
 pub use scan::{ScanRom, ScanTable};
 pub use slots::SlotRom;
 pub use table::LinkTable;

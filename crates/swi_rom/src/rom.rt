@@ -3,7 +3,7 @@ ghost use Rattle.swi_image.specs.Format.{ImageData};
 ghost use Rattle.swi_image.specs.Place.{word_at, length_at};
 ghost use Rattle.swi_image.specs.Sound.{IsImage};
 ghost use Rattle.swi_rom.specs.Record.{Record, Transfer, direct, indirect, is_linked, writes, Placed};
-ghost use Rattle.swi_rom.specs.Coherent.{Coherent, LeadsTo, StandsAt, ExitAt, TargetAt, resident_of};
+ghost use Rattle.swi_rom.specs.Coherent.{Coherent, StandsAt, ExitAt, TargetAt, resident_of};
 ghost use Rattle.swi_rom.specs.Served.{Served, OnServed, SameFrom};
 
 use swi_image::ImageView;
@@ -26,14 +26,6 @@ pub struct Counts {
     pub copied: u64,
 }
 
-/// Where a link leads: the original address of its target, and the target's block and offset in the image.
-#[derive(Clone, Copy, Debug, PartialEq, Eq)]
-pub struct Goal {
-    pub address: u32,
-    pub block: u32,
-    pub offset: u32,
-}
-
 /// Why a service gives no index.
 #[derive(Clone, Copy, Debug, PartialEq, Eq)]
 pub enum RomStop {
@@ -45,8 +37,6 @@ pub enum RomStop {
 
 /// A cache service: it keeps blocks of an image in a ram, on demand.
 pub trait CacheRom: Drop {
-    ghost use Rattle.swi_rom.specs.declared.rom.Goal.{Goal};
-
     /// What the service keeps.
     ghost kept: { Self → Record };
 
@@ -68,8 +58,8 @@ pub trait CacheRom: Drop {
     /// What stands at an index.
     ghost shown: { Self → ℕ → Option (ℕ × ℕ) };
 
-    /// What is kept of the word at an index, if it is a link.
-    ghost goals: { Self → ℕ → Goal };
+    /// The address kept of the word at an index, if it is a link.
+    ghost goals: { Self → ℕ → ℕ };
 
     /// Serves a jump to an address: the index in the ram of the target's first word, whose block is copied
     /// there if it isn't placed. While nothing is placed this is the boot. `Outside` comes exactly where no
@@ -91,8 +81,8 @@ pub trait CacheRom: Drop {
         ensures stays { OnServed result (sound self.new image.now (M.state ram.new).words) };
 
     /// Serves a jump to an address whose block is placed, as `enter` does: the ram, which is read for the contract
-    /// alone, is not asked. None comes only where no placed block has the address; nothing has changed then, and
-    /// `enter` is to be asked.
+    /// alone, is not asked. None comes exactly where no placed block has the address; nothing has changed then,
+    /// and `enter` is to be asked.
     fn revisit<M: CacheRam>(&mut self, image: &ImageView<'_>, ram: &M, target: u32) -> Option<u32>
         requires sound { sound self.old image.now (M.state ram.now).words }
         requires services { (kept self.old).counts.services < 2 ^ 50 }
@@ -102,6 +92,7 @@ pub trait CacheRom: Drop {
         ensures setting { setting self.new ≡ setting self.old }
         ensures stays { sound self.new image.now (M.state ram.now).words }
         ensures same { result ≡ None → self.new ≡ self.old }
+        ensures placed { IfSome result (λ i. TargetAt image.now (kept self.old) target i) }
         ensures absent { result ≡ None → (i : ℕ) → TargetAt image.now (kept self.old) target i → ⊥ };
 
     /// Serves the direct exit at index `at`, which isn't linked, to the address in its descriptor, as `enter`
@@ -130,8 +121,8 @@ pub trait CacheRom: Drop {
     fn at(&self, i: u32) -> Option<(u32, u32)>
         ensures { result ≡ shown self.now i };
 
-    /// Where the link at an index leads. Of a word that is no link the answer says nothing.
-    fn goal(&self, i: u32) -> Goal
+    /// The original address to which the link at an index leads. Of a word that is no link the answer says nothing.
+    fn goal(&self, i: u32) -> u32
         requires { i < span (setting self.now) }
         ensures { result ≡ goals self.now i };
 
@@ -154,10 +145,9 @@ pub trait CacheRom: Drop {
     ghost shown_is: { (s : Self) (v : ImageData) (words : List ℕ) → sound s v words →
         (i : ℕ) → StandsAt v (kept s) i (shown s i) };
 
-    /// Of each link the goal is its target, with the target's place.
+    /// Of each link the goal is its target.
     ghost goal_is: { (s : Self) (v : ImageData) (words : List ℕ) → sound s v words → (b f o : ℕ) →
-        Placed (kept s) b f → is_linked (kept s) b o ≡ true →
-        LeadsTo v (word_at v b (o + 1)) (goals s (f + o)) };
+        Placed (kept s) b f → is_linked (kept s) b o ≡ true → goals s (f + o) ≡ word_at v b (o + 1) };
 
     /// Over a link nothing changes.
     ghost first: { (setting : List ℕ) (r : Record) (v : ImageData) (b o t : ℕ) → is_linked r b o ≡ true →

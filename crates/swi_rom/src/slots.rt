@@ -6,25 +6,18 @@ ghost use Rattle.swi_image.specs.Format.{ImageData};
 ghost use Rattle.swi_image.specs.Sound.{IsImage};
 ghost use Rattle.swi_rom.specs.Record.{reaches};
 ghost use Rattle.swi_rom.specs.Coherent.{resident_of};
-ghost use Rattle.swi_rom.specs.Slots.{Slots, InShape, kept_by, goal_to};
+ghost use Rattle.swi_rom.specs.Slots.{Slots, InShape, kept_by};
 ghost use Rattle.swi_rom.specs.Sound.{SlotsSound};
 ghost use Rattle.swi_rom.specs.Steps.{FailedBelow, MadeRoom, Filled, Linked, MaybeLinked, can_link, IsAbsent, LinksInside, settled, counted_slots, wrapped};
 ghost use Rattle.swi_rom.specs.Arrived.{Arrived};
 
 use crate::table::LinkTable;
 use crate::write::{copy, jump, reach};
-use crate::{CacheRom, Counts, Goal, RomStop};
+use crate::{CacheRom, Counts, RomStop};
 use std::alloc::Global;
 use std::marker::Model;
 use swi_image::ImageView;
 use swi_outside::{CacheRam, Failed, Memory};
-
-// What stands in the table of goals beside a word that was never a link.
-const NO_GOAL: Goal = Goal {
-    address: 0,
-    block: 0,
-    offset: 0,
-};
 
 /// A cache of slots of one size, each of which holds a block. While a slot is free the lowest is filled, and then
 /// the oldest block makes room. The table finds blocks and links, and each link has its goal beside.
@@ -37,7 +30,7 @@ pub struct SlotRom<T: LinkTable> {
     blocks: Vec<u32>,
     lengths: Vec<u32>,
     table: T,
-    goals: Vec<Goal>,
+    goals: Vec<u32>,
     counts: Counts,
 }
 
@@ -73,11 +66,11 @@ impl<T: LinkTable> Model for SlotRom<T> {
         × T.knows s.table s.filled s.blocks.items };
 }
 
-// A goal for each word, none of which is a link.
-fn no_goals(alloc: Global, words: u32) -> Result<Vec<Goal>, Memory>
-    ensures { IfOk result (λ g. g.items ≡ replicate words (goal_to 0 0 0)) }
+// An address for each word, none of which is a link.
+fn no_goals(alloc: Global, words: u32) -> Result<Vec<u32>, Memory>
+    ensures { IfOk result (λ g. g.items ≡ replicate words 0) }
 {
-    vec![in alloc; NO_GOAL; words as usize].map_err(|_| Memory)
+    vec![in alloc; 0u32; words as usize].map_err(|_| Memory)
 }
 
 // The slot after a slot: after the last one comes the first.
@@ -111,7 +104,7 @@ impl<T: LinkTable> SlotRom<T> {
           blocks = replicate (cache_bytes / 4 / block_words) 0;
           lengths = replicate (cache_bytes / 4 / block_words) 0;
           targets = replicate (cache_bytes / 4 / block_words * block_words) (cache_bytes / 4 / block_words);
-          goals = replicate (cache_bytes / 4 / block_words * block_words) (goal_to 0 0 0);
+          goals = replicate (cache_bytes / 4 / block_words * block_words) 0;
           counts = record { services = 0; misses = 0; evictions = 0; links = 0; unlinks = 0; copied = 0 };
         }) }
         ensures sound { IfOk result (λ s. (v : ImageData) (words : List ℕ) → IsImage v →
@@ -272,7 +265,7 @@ impl<T: LinkTable> SlotRom<T> {
         at: u32,
         slot: u32,
         to: u32,
-        goal: Goal,
+        goal: u32,
     ) -> Result<(), Failed>
         requires at { at < self.old.slots * self.old.size }
         requires to { to < self.old.slots * self.old.size }
@@ -304,7 +297,7 @@ impl<T: LinkTable> SlotRom<T> {
         home: u32,
         slot: u32,
         to: u32,
-        goal: Goal,
+        goal: u32,
     ) -> Result<(), Failed>
         requires at { at < self.old.slots * self.old.size }
         requires to { to < self.old.slots * self.old.size }
@@ -394,12 +387,7 @@ impl<T: LinkTable> CacheRom for SlotRom<T> {
             return Err(RomStop::RamFault);
         };
         let index = slot * self.size + offset;
-        let goal = Goal {
-            address: target,
-            block,
-            offset,
-        };
-        let Ok(()) = self.link_exit(ram, at, home, slot, index, goal) else {
+        let Ok(()) = self.link_exit(ram, at, home, slot, index, target) else {
             return Err(RomStop::RamFault);
         };
         Ok(index)
@@ -417,7 +405,7 @@ impl<T: LinkTable> CacheRom for SlotRom<T> {
         Some((self.blocks[slot as usize], offset))
     }
 
-    fn goal(&self, i: u32) -> Goal {
+    fn goal(&self, i: u32) -> u32 {
         self.goals[i as usize]
     }
 

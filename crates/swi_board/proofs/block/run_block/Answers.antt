@@ -1,32 +1,33 @@
-use Rattle.std.proofs.Common.{◌≡◌, ◌+◌, ◌-◌, ◌<◌, None, refl, sym, ap, subst, ◌∙◌, arith}
-use Rattle.swi_board.specs.declared.hart.Control.TheVariants.{At}
+use Rattle.std.proofs.Common.{◌≡◌, ◌+◌, ◌-◌, ◌*◌, ◌<◌, ℕ, Some, refl, sym, ap, subst, ◌∙◌, arith}
 use Rattle.swi_isa.specs.Decode.{decoded}
 use Rattle.swi_outside.specs.CacheRam.{RamState}
 use Rattle.swi_board.specs.Hart.{HartData}
 use Rattle.swi_board.specs.declared.block.Walk.{Walk}
-use Rattle.swi_board.specs.Walked.{walk_control, walk_count, walk_machine, walk_made, walk_offset, walk_pc, walk_steps, Walked, WalksTo}
-use Rattle.swi_board.proofs.Walking.{break_leaves, has_room, jumps_on, steps_left, steps_on, started}
-use Rattle.swi_board.proofs.Fetching.{exit_home}
+use Rattle.swi_board.specs.Runs.{most}
+use Rattle.swi_board.specs.Walked.{landed, place_shown, walk_control, walk_count, walk_hart, walk_machine, walk_made, walk_pc, walk_steps, JumpOn, Walked, WalkedOn, WalksTo}
+use Rattle.swi_board.proofs.Walking.{break_leaves, exit_stands, has_room, is_shown, jumps_on, landed_counted, landed_within, steps_left, steps_on, started, walks_on}
+use Rattle.swi_board.proofs.Fetching.{index_below}
+use Rattle.swi_board.proofs.Leaving.{shown_place}
+use Rattle.swi_board.proofs.block.run_block.Given.{Over}
 use Rattle.swi_board.proofs.block.run_block.Goals as goal
 
 pub loop-walk-init : goal.loop-walk-init
 loop-walk-init g c =
-    let seen : record { control = c.hart.inside.control; machine = c.hart.inside.machine; count = c.hart.inside.count; failed = c.hart.inside.failed; booted = c.hart.inside.booted } ≡ c.args.hart.now = c.hart.view_is in
+    let v = c.args.image.now in
+    let r = g.R.CacheRom.kept c.args.rom.now in
+    let ram = g.M.CacheRam.state c.args.ram.now in
+    let setting = g.R.CacheRom.setting c.args.rom.now in
     let i = c.args.at.0 in
+    let seen = c.hart.view_is in
     let pc : c.hart.inside.machine.pc ≡ c.args.hart.now.machine.pc = ap (λ (h : HartData). h.machine.pc) seen in
     let steps : c.hart.inside.machine.steps ≡ c.args.hart.now.machine.steps = ap (λ (h : HartData). h.machine.steps) seen in
     let count : c.hart.inside.count ≡ c.args.hart.now.count = ap (λ (h : HartData). h.count) seen in
     let within = c.requires.within in
-    let after = c.requires.after in
-    let none : i - (i - c.args.at.2) ≡ c.args.at.2 = omega (arith, after) in
-    let place : At i c.args.at.1 (i - (i - c.args.at.2)) c.args.at.3 ≡ c.args.hart.now.control = ap (λ k. At i c.args.at.1 k c.args.at.3) none ∙ sym c.requires.control in
     let w : Walk = record {
       index = i;
       stage = c.args.at.3;
       end = c.from.result + (c.args.limit - c.hart.inside.machine.steps);
       limit = c.args.limit;
-      first = i - c.args.at.2;
-      block = c.args.at.1;
       pc = c.hart.inside.machine.pc;
       steps = c.hart.inside.machine.steps;
       count = c.machine_steps.result;
@@ -37,178 +38,179 @@ loop-walk-init g c =
     let made : walk_steps w ≡ c.args.hart.now.machine.steps = omega (arith, within, steps, from) in
     let told = c.machine_steps.ensures in
     let number : walk_count w ≡ c.args.hart.now.count = omega (arith, told, count, none_made) in
-    let low = c.requires.offset in
+    let stands = c.requires.stands _ _ _ Walked.here i c.args.at.1 c.args.at.2 c.args.at.3 c.requires.control in
+    let shown = shown_place v r _ _ i c.args.at.1 c.args.at.2 _ (g.met.R.CacheRom.coherent _ _ _ c.requires.sound) stands (g.met.R.CacheRom.shown_is _ _ _ c.requires.sound i) in
+    let walked : Walked (g.R.CacheRom.policy setting) (g.R.CacheRom.span setting) v c.args.limit r c.args.hart.now ram r (walk_hart w (place_shown (g.R.CacheRom.shown c.args.rom.now i)) c.args.hart.now) ram =
+    walks_on w c.args.hart.now shown (started _ _ v r c.args.limit c.args.hart.now _ _ _ _ ram (sym c.requires.control) here made number) in
+    let to : WalksTo c.args.limit w = record { below = omega (arith, from); made = omega (arith, within, steps, from); limited = refl } in
     record {
-      walked = started _ _ c.args.image.now (g.R.CacheRom.kept c.args.rom.now) c.args.limit c.args.hart.now _ _ _ _ (g.M.CacheRam.state c.args.ram.now) place here made number;
+      walked = walked;
+      shown = is_shown shown;
+      inside = λ more. c.requires.inside _ _ _ walked (steps_left c.args.limit w to more) i _ _ w.stage refl;
       setting = refl;
       sound = c.requires.sound;
       going = c.requires.going;
-      to = record { inside = omega arith; below = omega (arith, from); made = omega (arith, within, steps, from); limited = refl };
+      to = to;
       few = let fits = c.machine_steps.type_inv in omega (arith, fits, none_made);
-      near = omega (arith, low);
       left = refl;
     }
 
 pub fetch-requires : goal.fetch-requires
-fetch-requires g c =
-    let w = c.loop-walk.walk in
-    let more : w.index < w.end = omega (arith, c.loop-walk-test.true) in
-    let below = steps_left c.args.limit w c.loop-walk.invariant.to more in
-    let inside = c.requires.inside _ _ _ c.loop-walk.invariant.walked below w.index w.block (walk_offset w) w.stage refl in
-    inside.in_ram
+fetch-requires g c = (c.loop-walk.invariant.inside (omega (arith, c.loop-walk-test.true))).in_ram
 
 pub unreachable-requires : goal.unreachable-requires
 unreachable-requires g c =
-    let w = c.loop-walk.walk in
-    let more : w.index < w.end = omega (arith, c.loop-walk-test.true) in
-    let below = steps_left c.args.limit w c.loop-walk.invariant.to more in
-    let inside = c.requires.inside _ _ _ c.loop-walk.invariant.walked below w.index w.block (walk_offset w) w.stage refl in
-    inside.decodes (sym c.in_default-decode.is ∙ c.decode.ensures ∙ ap decoded c.in-Ok.ensures.fetched.0)
+    (c.loop-walk.invariant.inside (omega (arith, c.loop-walk-test.true))).decodes (sym c.in_default-decode.is ∙ c.decode.ensures ∙ ap decoded c.in-Ok.ensures.fetched.0)
 
-pub one-requires-clause-home : goal.one-requires-clause-home
-one-requires-clause-home g c =
-    let w = c.loop-walk.walk in
-    let more : w.index < w.end = omega (arith, c.loop-walk-test.true) in
-    let below = steps_left c.args.limit w c.loop-walk.invariant.to more in
-    let inside = c.requires.inside _ _ _ c.loop-walk.invariant.walked below w.index w.block (walk_offset w) w.stage refl in
-    inside.home
+pub one-requires-clause-used : goal.one-requires-clause-used
+one-requires-clause-used g c =
+    let home = (c.loop-walk.invariant.inside (omega (arith, c.loop-walk-test.true))).home in
+    index_below _ _ _ _ _ _ _ _ _ (g.met.R.CacheRom.coherent _ _ _ c.loop-walk.invariant.sound) home
 
 pub one-requires-clause-room : goal.one-requires-clause-room
 one-requires-clause-room g c =
+    let inv = c.loop-walk.invariant in
+    let more : c.loop-walk.walk.index < c.loop-walk.walk.end = omega (arith, c.loop-walk-test.true) in
+    has_room _ _ _ c.args.limit c.loop-walk.walk _ c.loop-walk.hart inv.to c.requires.few more (inv.inside more)
+
+-- a step of `one`, and what is shown behind it
+gone_on : (g : Over) (c : goal.Then-one g) → (q : ℕ × ℕ) × WalkedOn (g.R.CacheRom.policy (g.R.CacheRom.setting c.args.rom.now)) (g.R.CacheRom.span (g.R.CacheRom.setting c.args.rom.now)) c.args.image.now
+    (g.R.CacheRom.kept c.loop-walk.rom) (g.R.CacheRom.kept c.loop-walk.rom) (g.M.CacheRam.state c.loop-walk.ram) (g.M.CacheRam.state c.fetch.new.self)
+    (walk_hart c.loop-walk.walk (place_shown (g.R.CacheRom.shown c.loop-walk.rom c.loop-walk.walk.index)) c.loop-walk.hart) (walk_hart c.one.new.walk q c.one.new.hart)
+    × (g.R.CacheRom.shown c.loop-walk.rom c.one.new.walk.index ≡ Some (q.0, q.1))
+gone_on g c =
+    let v = c.args.image.now in
     let w = c.loop-walk.walk in
+    let w' = c.one.new.walk in
+    let inv = c.loop-walk.invariant in
     let more : w.index < w.end = omega (arith, c.loop-walk-test.true) in
-    let below = steps_left c.args.limit w c.loop-walk.invariant.to more in
-    let inside = c.requires.inside _ _ _ c.loop-walk.invariant.walked below w.index w.block (walk_offset w) w.stage refl in
-    has_room _ _ _ _ c.args.limit w c.loop-walk.invariant.to c.requires.few more refl inside
+    let setting = g.R.CacheRom.setting c.args.rom.now in
+    let r = g.R.CacheRom.kept c.loop-walk.rom in
+    let p = place_shown (g.R.CacheRom.shown c.loop-walk.rom w.index) in
+    let rest = c.one.ensures.rest in
+    let step = c.one.ensures.on c.if-one.true p (inv.inside more).home in
+    let on = steps_on (g.R.CacheRom.policy setting) (g.R.CacheRom.span setting) v r r c.loop-walk.hart c.one.new.hart (g.M.CacheRam.state c.loop-walk.ram) (g.M.CacheRam.state c.fetch.new.self) w w' p step.0
+    c.in-Some.x c.in-Ok.word (c.one.ensures.counted c.if-one.true) (ap (λ (k : HartData). k.failed) rest) (ap (λ (k : HartData). k.booted) rest) (ap (λ (k : HartData). k.machine.ending) rest ∙ inv.going)
+    c.in-Ok.ensures.fetched (sym c.in-Some.is ∙ c.decode.ensures) refl step.1 in
+    let stands = c.requires.stands _ _ _ (Walked.on _ _ _ _ _ _ inv.walked (steps_left c.args.limit w inv.to more) on) w'.index step.0.0 step.0.1 w'.stage refl in
+    (step.0, on, shown_place v r _ _ w'.index step.0.0 step.0.1 _ (g.met.R.CacheRom.coherent _ _ _ inv.sound) stands (g.met.R.CacheRom.shown_is _ _ _ inv.sound w'.index))
 
 pub loop-walk-smaller-then-one : goal.loop-walk-smaller-then-one
 loop-walk-smaller-then-one g c =
+    let v = c.args.image.now in
     let w = c.loop-walk.walk in
-    let more : w.index < w.end = omega (arith, c.loop-walk-test.true) in
-    let below = steps_left c.args.limit w c.loop-walk.invariant.to more in
-    let setting = g.R.CacheRom.setting c.args.rom.now in
-    let h : HartData = record c.loop-walk.hart { control = walk_control w; machine = walk_machine w c.loop-walk.hart.machine; count = walk_count w } in
     let w' = c.one.new.walk in
-    let rest = c.one.ensures.rest in
-    let h' : HartData = record c.one.new.hart { control = walk_control w'; machine = walk_machine w' c.one.new.hart.machine; count = walk_count w' } in
-    let going : c.one.new.hart.machine.ending ≡ None = ap (λ (k : HartData). k.machine.ending) rest ∙ c.loop-walk.invariant.going in
-    let on = steps_on (g.R.CacheRom.policy setting) (g.R.CacheRom.span setting) c.args.image.now (g.R.CacheRom.kept c.loop-walk.rom) (g.R.CacheRom.kept c.loop-walk.rom)
-    h h' (g.M.CacheRam.state c.loop-walk.ram) (g.M.CacheRam.state c.fetch.new.self) w w' c.in-Some.x c.in-Ok.word refl refl refl (c.one.ensures.counted c.if-one.true)
-    (ap (λ (k : HartData). k.failed) rest) (ap (λ (k : HartData). k.booted) rest) going c.in-Ok.ensures.fetched (sym c.in-Some.is ∙ c.decode.ensures) refl (c.one.ensures.on c.if-one.true) in
-    c.requires.rises _ _ h h' (g.M.CacheRam.state c.loop-walk.ram) (g.M.CacheRam.state c.fetch.new.self) c.loop-walk.invariant.walked below on
+    let inv = c.loop-walk.invariant in
+    let on = gone_on g c in
+    subst (λ k. 3 * c.args.limit + 5 - most v (walk_machine w' c.one.new.hart.machine) (walk_control w' (place_shown k))
+    < 3 * c.args.limit + 5 - most v (walk_machine w c.loop-walk.hart.machine) (walk_control w (place_shown (g.R.CacheRom.shown c.loop-walk.rom w.index))))
+    (sym on.2) (c.requires.rises _ _ _ _ _ _ inv.walked (steps_left c.args.limit w inv.to (omega (arith, c.loop-walk-test.true))) on.1)
 
 pub loop-walk-preserved-then-one : goal.loop-walk-preserved-then-one
 loop-walk-preserved-then-one g c =
     let w = c.loop-walk.walk in
-    let more : w.index < w.end = omega (arith, c.loop-walk-test.true) in
-    let below = steps_left c.args.limit w c.loop-walk.invariant.to more in
-    let inside = c.requires.inside _ _ _ c.loop-walk.invariant.walked below w.index w.block (walk_offset w) w.stage refl in
-    let setting = g.R.CacheRom.setting c.args.rom.now in
-    let h : HartData = record c.loop-walk.hart { control = walk_control w; machine = walk_machine w c.loop-walk.hart.machine; count = walk_count w } in
     let w' = c.one.new.walk in
-    let rest = c.one.ensures.rest in
-    let h' : HartData = record c.one.new.hart { control = walk_control w'; machine = walk_machine w' c.one.new.hart.machine; count = walk_count w' } in
-    let going : c.one.new.hart.machine.ending ≡ None = ap (λ (k : HartData). k.machine.ending) rest ∙ c.loop-walk.invariant.going in
-    let on = steps_on (g.R.CacheRom.policy setting) (g.R.CacheRom.span setting) c.args.image.now (g.R.CacheRom.kept c.loop-walk.rom) (g.R.CacheRom.kept c.loop-walk.rom)
-    h h' (g.M.CacheRam.state c.loop-walk.ram) (g.M.CacheRam.state c.fetch.new.self) w w' c.in-Some.x c.in-Ok.word refl refl refl (c.one.ensures.counted c.if-one.true)
-    (ap (λ (k : HartData). k.failed) rest) (ap (λ (k : HartData). k.booted) rest) going c.in-Ok.ensures.fetched (sym c.in-Some.is ∙ c.decode.ensures) refl (c.one.ensures.on c.if-one.true) in
-    let count = inside.count in
+    let inv = c.loop-walk.invariant in
+    let more : w.index < w.end = omega (arith, c.loop-walk-test.true) in
+    let on = gone_on g c in
+    let walked = walks_on w' c.one.new.hart on.2 (Walked.on _ _ _ _ _ _ inv.walked (steps_left c.args.limit w inv.to more) on.1) in
+    let to = c.one.ensures.limited c.if-one.true c.args.limit inv.to in
+    let count = (inv.inside more).count in
     let more_count = c.one.ensures.counted c.if-one.true in
     record {
-      walked = Walked.on _ _ h h' (g.M.CacheRam.state c.loop-walk.ram) (g.M.CacheRam.state c.fetch.new.self) c.loop-walk.invariant.walked below on;
-      setting = c.loop-walk.invariant.setting;
-      sound = subst (λ k. g.R.CacheRom.sound c.loop-walk.rom c.args.image.now k) (sym (ap (λ (k : RamState). k.words) c.in-Ok.ensures.fetched.1)) c.loop-walk.invariant.sound;
-      going = going;
-      to = c.one.ensures.limited c.if-one.true c.args.limit c.loop-walk.invariant.to;
+      walked = walked;
+      shown = is_shown on.2;
+      inside = λ more. c.requires.inside _ _ _ walked (steps_left c.args.limit w' to more) w'.index _ _ w'.stage refl;
+      setting = inv.setting;
+      sound = subst (λ k. g.R.CacheRom.sound c.loop-walk.rom c.args.image.now k) (sym (ap (λ (k : RamState). k.words) c.in-Ok.ensures.fetched.1)) inv.sound;
+      going = ap (λ (k : HartData). k.machine.ending) c.one.ensures.rest ∙ inv.going;
+      to = to;
       few = omega (arith, count, more_count);
-      near = c.one.ensures.near;
-      left = c.loop-walk.invariant.left;
+      left = inv.left;
     }
 
 pub back-requires-clause-services : goal.back-requires-clause-services
-back-requires-clause-services g c =
-    let w = c.loop-walk.walk in
-    let more : w.index < w.end = omega (arith, c.loop-walk-test.true) in
-    let below = steps_left c.args.limit w c.loop-walk.invariant.to more in
-    (c.requires.inside _ _ _ c.loop-walk.invariant.walked below w.index w.block (walk_offset w) w.stage refl).services
+back-requires-clause-services g c = (c.loop-walk.invariant.inside (omega (arith, c.loop-walk-test.true))).services
 
 pub back-requires-clause-exit : goal.back-requires-clause-exit
 back-requires-clause-exit g c =
-    let w = c.loop-walk.walk in
-    let more : w.index < w.end = omega (arith, c.loop-walk-test.true) in
-    let below = steps_left c.args.limit w c.loop-walk.invariant.to more in
-    let inside = c.requires.inside _ _ _ c.loop-walk.invariant.walked below w.index w.block (walk_offset w) w.stage refl in
-    let same = c.one.ensures.same c.if-one.false in
+    let inv = c.loop-walk.invariant in
+    let home = (inv.inside (omega (arith, c.loop-walk-test.true))).home in
     let decodes = sym c.in-Some.is ∙ c.decode.ensures in
-    rw (same.0, same.1) (exit_home c.args.image.now (g.R.CacheRom.kept c.loop-walk.rom) (walk_machine w c.loop-walk.hart.machine) _ _ w.index w.block (walk_offset w) w.stage
-    (g.met.R.CacheRom.coherent _ _ _ c.loop-walk.invariant.sound) inside.home c.in-Ok.word c.in-Some.x c.in-Ok.ensures.fetched.0 decodes
+    rw ((c.one.ensures.same c.if-one.false).0) (exit_stands _ _ _ _ _ _ _ _ _ (g.met.R.CacheRom.coherent _ _ _ inv.sound) home c.in-Ok.word c.in-Some.x c.in-Ok.ensures.fetched.0 decodes
     (break_leaves c.in-Ok.word c.in-Some.x decodes c.if-word-eq-EBREAK.true))
 
-pub back-requires-clause-block : goal.back-requires-clause-block
-back-requires-clause-block g c =
-    let w = c.loop-walk.walk in
-    let more : w.index < w.end = omega (arith, c.loop-walk-test.true) in
-    let below = steps_left c.args.limit w c.loop-walk.invariant.to more in
-    let inside = c.requires.inside _ _ _ c.loop-walk.invariant.walked below w.index w.block (walk_offset w) w.stage refl in
-    rw ((c.one.ensures.same c.if-one.false).0) inside.home.known
+pub land-requires : goal.land-requires
+land-requires g c =
+    let inv = c.loop-walk.invariant in
+    let more : c.loop-walk.walk.index < c.loop-walk.walk.end = omega (arith, c.loop-walk-test.true) in
+    rw ((c.one.ensures.same c.if-one.false).0) (has_room _ _ _ c.args.limit c.loop-walk.walk _ c.loop-walk.hart inv.to c.requires.few more (inv.inside more))
 
-pub back-requires-clause-room : goal.back-requires-clause-room
-back-requires-clause-room g c =
+-- a step of `back`, and what is shown behind it
+jumped_on : (g : Over) (c : goal.After-land g) → (q : ℕ × ℕ) × WalkedOn (g.R.CacheRom.policy (g.R.CacheRom.setting c.args.rom.now)) (g.R.CacheRom.span (g.R.CacheRom.setting c.args.rom.now)) c.args.image.now
+    (g.R.CacheRom.kept c.loop-walk.rom) (g.R.CacheRom.kept c.back.new.rom) (g.M.CacheRam.state c.loop-walk.ram) (g.M.CacheRam.state c.fetch.new.self)
+    (walk_hart c.loop-walk.walk (place_shown (g.R.CacheRom.shown c.loop-walk.rom c.loop-walk.walk.index)) c.loop-walk.hart) (walk_hart c.land.new.self q c.back.new.hart)
+    × (g.R.CacheRom.shown c.back.new.rom c.land.new.self.index ≡ Some (q.0, q.1)) × WalksTo c.args.limit c.land.new.self
+jumped_on g c =
+    let v = c.args.image.now in
     let w = c.loop-walk.walk in
+    let w' = c.land.new.self in
+    let inv = c.loop-walk.invariant in
     let more : w.index < w.end = omega (arith, c.loop-walk-test.true) in
-    let below = steps_left c.args.limit w c.loop-walk.invariant.to more in
-    let inside = c.requires.inside _ _ _ c.loop-walk.invariant.walked below w.index w.block (walk_offset w) w.stage refl in
-    rw ((c.one.ensures.same c.if-one.false).0) (has_room _ _ _ _ c.args.limit w c.loop-walk.invariant.to c.requires.few more refl inside)
+    let room = has_room _ _ _ c.args.limit w _ c.loop-walk.hart inv.to c.requires.few more (inv.inside more) in
+    let policy = g.R.CacheRom.policy (g.R.CacheRom.setting c.args.rom.now) in
+    let span = g.R.CacheRom.span (g.R.CacheRom.setting c.args.rom.now) in
+    let r = g.R.CacheRom.kept c.loop-walk.rom in
+    let new = g.R.CacheRom.kept c.back.new.rom in
+    let ram = g.M.CacheRam.state c.fetch.new.self in
+    let p = place_shown (g.R.CacheRom.shown c.loop-walk.rom w.index) in
+    let same = c.one.ensures.same c.if-one.false in
+    let rest = c.back.ensures.rest ∙ ap (λ (k : HartData). record k { machine = record k.machine { regs = c.back.new.hart.machine.regs } }) same.1 in
+    let is : w' ≡ landed c.in-Some-back.index c.in-Some-back.target 1 w = c.land.ensures ∙ ap (λ (k : Walk). landed c.in-Some-back.index c.in-Some-back.target 1 k) same.0 in
+    let step = rw (inv.setting, same.0, same.1) at (c.in-Some-back.ensures.on w (sym (ap (λ (k : Walk). k.index) same.0)) room) in
+    let jump : JumpOn policy span v r new ram (walk_machine w c.loop-walk.hart.machine) (walk_machine w' c.back.new.hart.machine) (walk_control w' step.0) w.index p.0 p.1 w.stage =
+    subst (λ (k : Walk). JumpOn policy span v r new ram (walk_machine w c.loop-walk.hart.machine) (walk_machine k c.back.new.hart.machine) (walk_control k step.0) w.index p.0 p.1 w.stage) (sym is) step.1 in
+    let counted : walk_count w' ≡ walk_count w + 1 = ap walk_count is ∙ landed_counted c.in-Some-back.index c.in-Some-back.target 1 w (omega arith) room in
+    let decodes = sym c.in-Some.is ∙ c.decode.ensures in
+    let on = jumps_on policy span v r new c.loop-walk.hart c.back.new.hart (g.M.CacheRam.state c.loop-walk.ram) ram w w' p step.0 c.in-Some.x c.in-Ok.word counted
+    (ap (λ (k : HartData). k.failed) rest) (ap (λ (k : HartData). k.booted) rest) (ap (λ (k : HartData). k.machine.ending) rest ∙ inv.going) c.in-Ok.ensures.fetched decodes
+    (break_leaves c.in-Ok.word c.in-Some.x decodes c.if-word-eq-EBREAK.true) jump in
+    let stands = c.requires.stands _ _ _ (Walked.on _ _ _ _ _ _ inv.walked (steps_left c.args.limit w inv.to more) on) w'.index step.0.0 step.0.1 w'.stage refl in (
+      step.0,
+      on,
+      shown_place v new _ _ w'.index step.0.0 step.0.1 _ (g.met.R.CacheRom.coherent _ _ _ c.back.ensures.stays) stands (g.met.R.CacheRom.shown_is _ _ _ c.back.ensures.stays w'.index),
+      subst (λ (k : Walk). WalksTo c.args.limit k) (sym is) (landed_within c.in-Some-back.index c.in-Some-back.target 1 w c.args.limit (omega arith) more inv.to),
+    )
 
 pub loop-walk-smaller : goal.loop-walk-smaller
 loop-walk-smaller g c =
+    let v = c.args.image.now in
     let w = c.loop-walk.walk in
-    let more : w.index < w.end = omega (arith, c.loop-walk-test.true) in
-    let below = steps_left c.args.limit w c.loop-walk.invariant.to more in
-    let setting = g.R.CacheRom.setting c.args.rom.now in
-    let h : HartData = record c.loop-walk.hart { control = walk_control w; machine = walk_machine w c.loop-walk.hart.machine; count = walk_count w } in
-    let same = c.one.ensures.same c.if-one.false in
-    let w' = c.back.new.walk in
-    let rest = c.back.ensures.rest ∙ ap (λ (k : HartData). record k { machine = record k.machine { regs = c.back.new.hart.machine.regs } }) same.1 in
-    let h' : HartData = record c.back.new.hart { control = walk_control w'; machine = walk_machine w' c.back.new.hart.machine; count = walk_count w' } in
-    let going : c.back.new.hart.machine.ending ≡ None = ap (λ (k : HartData). k.machine.ending) rest ∙ c.loop-walk.invariant.going in
-    let counted = c.back.ensures.counted c.if-back.true ∙ ap (λ (k : Walk). walk_count k + 1) same.0 in
-    let jump = rw (c.loop-walk.invariant.setting, same.0, same.1) at (c.back.ensures.on c.if-back.true) in
-    let decodes = sym c.in-Some.is ∙ c.decode.ensures in
-    let on = jumps_on (g.R.CacheRom.policy setting) (g.R.CacheRom.span setting) c.args.image.now (g.R.CacheRom.kept c.loop-walk.rom) (g.R.CacheRom.kept c.back.new.rom)
-    h h' (g.M.CacheRam.state c.loop-walk.ram) (g.M.CacheRam.state c.fetch.new.self) w w' c.in-Some.x c.in-Ok.word refl refl refl counted
-    (ap (λ (k : HartData). k.failed) rest) (ap (λ (k : HartData). k.booted) rest) going c.in-Ok.ensures.fetched decodes
-    (break_leaves c.in-Ok.word c.in-Some.x decodes c.if-word-eq-EBREAK.true) jump in
-    c.requires.rises _ _ h h' (g.M.CacheRam.state c.loop-walk.ram) (g.M.CacheRam.state c.fetch.new.self) c.loop-walk.invariant.walked below on
+    let w' = c.land.new.self in
+    let inv = c.loop-walk.invariant in
+    let on = jumped_on g c in
+    subst (λ k. 3 * c.args.limit + 5 - most v (walk_machine w' c.back.new.hart.machine) (walk_control w' (place_shown k))
+    < 3 * c.args.limit + 5 - most v (walk_machine w c.loop-walk.hart.machine) (walk_control w (place_shown (g.R.CacheRom.shown c.loop-walk.rom w.index))))
+    (sym on.2) (c.requires.rises _ _ _ _ _ _ inv.walked (steps_left c.args.limit w inv.to (omega (arith, c.loop-walk-test.true))) on.1)
 
 pub loop-walk-preserved : goal.loop-walk-preserved
 loop-walk-preserved g c =
     let w = c.loop-walk.walk in
+    let w' = c.land.new.self in
+    let inv = c.loop-walk.invariant in
     let more : w.index < w.end = omega (arith, c.loop-walk-test.true) in
-    let below = steps_left c.args.limit w c.loop-walk.invariant.to more in
-    let inside = c.requires.inside _ _ _ c.loop-walk.invariant.walked below w.index w.block (walk_offset w) w.stage refl in
-    let setting = g.R.CacheRom.setting c.args.rom.now in
-    let h : HartData = record c.loop-walk.hart { control = walk_control w; machine = walk_machine w c.loop-walk.hart.machine; count = walk_count w } in
-    let same = c.one.ensures.same c.if-one.false in
-    let w' = c.back.new.walk in
-    let rest = c.back.ensures.rest ∙ ap (λ (k : HartData). record k { machine = record k.machine { regs = c.back.new.hart.machine.regs } }) same.1 in
-    let h' : HartData = record c.back.new.hart { control = walk_control w'; machine = walk_machine w' c.back.new.hart.machine; count = walk_count w' } in
-    let going : c.back.new.hart.machine.ending ≡ None = ap (λ (k : HartData). k.machine.ending) rest ∙ c.loop-walk.invariant.going in
-    let counted = c.back.ensures.counted c.if-back.true ∙ ap (λ (k : Walk). walk_count k + 1) same.0 in
-    let jump = rw (c.loop-walk.invariant.setting, same.0, same.1) at (c.back.ensures.on c.if-back.true) in
-    let decodes = sym c.in-Some.is ∙ c.decode.ensures in
-    let on = jumps_on (g.R.CacheRom.policy setting) (g.R.CacheRom.span setting) c.args.image.now (g.R.CacheRom.kept c.loop-walk.rom) (g.R.CacheRom.kept c.back.new.rom)
-    h h' (g.M.CacheRam.state c.loop-walk.ram) (g.M.CacheRam.state c.fetch.new.self) w w' c.in-Some.x c.in-Ok.word refl refl refl counted
-    (ap (λ (k : HartData). k.failed) rest) (ap (λ (k : HartData). k.booted) rest) going c.in-Ok.ensures.fetched decodes
-    (break_leaves c.in-Ok.word c.in-Some.x decodes c.if-word-eq-EBREAK.true) jump in
-    let count = inside.count in
+    let on = jumped_on g c in
+    let walked = walks_on w' c.back.new.hart on.2 (Walked.on _ _ _ _ _ _ inv.walked (steps_left c.args.limit w inv.to more) on.1) in
+    let count = (inv.inside more).count in
+    let more_count = on.1.is_counted.count in
     record {
-      walked = Walked.on _ _ h h' (g.M.CacheRam.state c.loop-walk.ram) (g.M.CacheRam.state c.fetch.new.self) c.loop-walk.invariant.walked below on;
-      setting = c.back.ensures.setting ∙ c.loop-walk.invariant.setting;
+      walked = walked;
+      shown = is_shown on.2;
+      inside = λ more. c.requires.inside _ _ _ walked (steps_left c.args.limit w' on.3 more) w'.index _ _ w'.stage refl;
+      setting = c.back.ensures.setting ∙ inv.setting;
       sound = c.back.ensures.stays;
-      going = going;
-      to = c.back.ensures.limited c.if-back.true c.args.limit (subst (λ (k : Walk). WalksTo c.args.limit k) (sym same.0) c.loop-walk.invariant.to);
-      few = omega (arith, count, counted);
-      near = c.back.ensures.near;
-      left = c.loop-walk.invariant.left;
+      going = on.1.going;
+      to = on.3;
+      few = omega (arith, count, more_count);
+      left = inv.left;
     }

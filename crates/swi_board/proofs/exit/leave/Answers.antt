@@ -1,7 +1,7 @@
-use Rattle.std.proofs.Common.{◌≡◌, arith, refl, sym, subst}
+use Rattle.std.proofs.Common.{arith, refl, sym, subst}
 use Rattle.swi_rom.specs.Coherent.{TargetAt}
 use Rattle.swi_board.proofs.Falls.{ram_same}
-use Rattle.swi_board.proofs.Leaving.{by_error, served_at, served_outside, served_not, exit_unlinked, jump_linked, link_at, index_small}
+use Rattle.swi_board.proofs.Leaving.{by_error, served_at, served_outside, served_not, exit_unlinked, jump_linked, link_target}
 use Rattle.swi_board.proofs.exit.leave.Goals as goal
 
 pub returns-then-got-ne-EBREAK-clause-control : goal.returns-then-got-ne-EBREAK-clause-control
@@ -10,12 +10,9 @@ returns-then-got-ne-EBREAK-clause-control g c =
     let v = c.args.image.now in
     let r = g.R.CacheRom.kept c.args.rom.now in
     let coherent = g.met.R.CacheRom.coherent _ _ _ s in
-    let small = g.met.R.CacheRom.small _ _ _ s in
-    let l = link_at _ _ _ _ c.args.got c.args.at.0 c.args.at.1 c.args.at.2 coherent (g.met.R.CacheRom.image _ _ _ s) c.requires.exit c.if-got-ne-EBREAK.true in
-    let low = index_small _ _ _ _ c.args.got c.args.at.0 c.args.at.1 c.args.at.2 coherent c.requires.exit in
-    let index : c.jump_index.result ≡ l.to = c.jump_index.ensures l.to c.args.got l.jumps c.requires.offset (omega (arith, l.small, small)) (omega (arith, low, small)) in
-    let target = subst (λ n. TargetAt v r n l.to) (sym c.requires.target) l.target in
-    c.control_at.ensures v _ c.args.target s (subst (λ n. TargetAt v r c.args.target n) (sym index) target)
+    let to = link_target v r _ _ c.args.got c.args.at.0 c.args.at.1 c.args.at.2 c.jump_index.result coherent (g.met.R.CacheRom.image _ _ _ s) (g.met.R.CacheRom.small _ _ _ s)
+    c.requires.exit c.if-got-ne-EBREAK.true (λ n jumps. c.jump_index.ensures n c.args.got jumps c.requires.offset) in
+    c.control_at.ensures v _ c.args.target s (subst (λ n. TargetAt v r n c.jump_index.result) (sym c.requires.target) to)
 
 pub returns-then-got-ne-EBREAK-clause-served : goal.returns-then-got-ne-EBREAK-clause-served
 returns-then-got-ne-EBREAK-clause-served g c =

@@ -9,6 +9,7 @@ use Rattle.swi_board.proofs.Breaking.{device_run, ram_run}
 use Rattle.swi_board.proofs.Settling.{settles_on}
 use Rattle.swi_board.proofs.Causing.{causes_ram, causes_from, same_ram}
 use Rattle.swi_board.proofs.Blocks.{stands, walk, word_falls, begins, falls_from, lower, at_limit, before_word, before_fault, home_at, used, same_index, not_ended}
+use Rattle.swi_board.proofs.Fetching.{home_stands}
 use Rattle.swi_board.proofs.Steps.{ram_unfetched}
 use Rattle.swi_outside.specs.CacheRam.{RamState}
 use Rattle.swi_board.proofs.board.Board.run.Goals as goal
@@ -91,19 +92,19 @@ run_block-requires g c =
     let begin = begins was.running was.settles c.requires.fits c.requires.limit (rw was.setting at (g.met.R.CacheRom.coherent _ _ _ was.sound))
     (record { linked = λ r v b o t is. g.met.R.CacheRom.first _ r v b o t is; one = λ r v t. g.met.R.CacheRom.second _ r v t; written = λ r v t. g.met.R.CacheRom.third _ r v t }) c.hart.view_is c.loop-hart-test.true (sym (ap (λ (h : HartData). h.machine.ending) c.hart.view_is) ∙ not_ended _ _ c.is_none.ensures c.if-is_none.true) c.origin_pc-pc.ensures.word in
     let low = rw was.setting at (g.met.R.CacheRom.small _ _ _ was.sound) in
-    let here = stands begin c.requires.count c.requires.services low (g.met.R.CacheRom.image _ _ _ was.sound) begin.below c.in-Some.ensures.control in
     record {
       going = begin.going;
       control = c.in-Some.ensures.control;
       sound = was.sound;
       few = c.requires.limit;
       within = let more = begin.below in omega (arith, more);
-      offset = here.offset;
-      after = let index = here.home.index in omega (arith, index);
       short = c.origin_pc-pc.ensures.word;
       inside = λ r h ram walked below i b o stage control.
           let on = rw was.setting at walked in
-          stands (walk begin on) c.requires.count c.requires.services low (g.met.R.CacheRom.image _ _ _ was.sound) below control;
+          stands (walk begin on) c.requires.count c.requires.services low below control;
+      stands = λ r h ram walked i b o stage control.
+          let on = rw was.setting at walked in
+          home_stands (home_at (walk begin on) control);
       rises = λ r r' h h' ram ram' walked below k.
           let on = rw was.setting at walked in
           let more = rw was.setting at k in

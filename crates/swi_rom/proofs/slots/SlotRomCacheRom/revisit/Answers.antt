@@ -1,5 +1,7 @@
-use Rattle.std.proofs.Common.{ap, arith, sym, ◌∙◌, subst}
-use Rattle.swi_rom.specs.Slots.{Slots}
+use Rattle.std.proofs.Common.{◌+◌, ◌*◌, ap, arith, sym, ◌∙◌, subst}
+use Rattle.swi_rom.specs.Slots.{Slots, kept_by}
+use Rattle.swi_rom.specs.Record.{Placed}
+use Rattle.swi_rom.specs.Queue.{slot_placed}
 use Rattle.swi_rom.specs.Sound.{SlotsSound}
 use Rattle.swi_rom.proofs.Arriving.{counted_sound, hit_arrived}
 use Rattle.swi_rom.proofs.Calls.{place_block, index_fits, entered_call, absent_target}
@@ -28,3 +30,16 @@ returns-clause-served g c =
 pub returns-clause-stays : goal.returns-clause-stays
 returns-clause-stays g c =
     subst (λ (s : Slots). SlotsSound s c.args.image.now (g.M.CacheRam.state c.args._ram.now).words) (sym c.count.ensures) (counted_sound _ _ _ c.requires.sound)
+
+pub returns-clause-placed : goal.returns-clause-placed
+returns-clause-placed g c =
+    let s = c.args.self.now in
+    let slot = c.in_ok-slot.slot in
+    let lt = c.in_ok-slot.ensures.0 in record {
+      block = c.in_ok-block.block;
+      offset = c.in_ok-block.offset;
+      first = slot * s.size;
+      place_is = sym c.in_ok-block.ensures.place;
+      is_placed = subst (λ n. Placed (kept_by s) n (slot * s.size)) c.in_ok-slot.ensures.1 (slot_placed s slot c.requires.sound.shape lt);
+      index = ap (λ (t : Slots). slot * t.size + c.in_ok-block.offset) (c.self.view_is ∙ c.count.ensures);
+    }
