@@ -9,26 +9,25 @@ use Rattle.swi_image.specs.Place.{word_at}
 use Rattle.swi_isa.specs.declared.instr.Instr.{Instr}
 use Rattle.swi_rom.specs.Record.{Record, Transfer, direct, is_linked, writes}
 use Rattle.swi_rom.specs.Coherent.{Coherent}
-use Rattle.swi_board.specs.declared.hart.Stage.{Stage}
-use Rattle.swi_board.specs.declared.hart.Control.{Control}
-use Rattle.swi_board.specs.declared.hart.Control.TheVariants.{At}
-use Rattle.swi_board.specs.declared.hart.Role.{Role}
-use Rattle.swi_board.specs.Hart.{HartData, Stepped, exit_kind, hart_after, word_stepped, original, is_between}
-use Rattle.swi_board.specs.declared.hart.ExitKind.{ExitKind}
-use Rattle.swi_board.specs.declared.hart.ExitKind.TheVariants.{Direct}
-use Rattle.swi_board.specs.Runs.{Grown}
-use Rattle.swi_board.specs.Board.{ExitStep, Matches, Fits}
-use Rattle.swi_board.specs.Calling.{Did, Made}
-use Rattle.swi_board.specs.Leaving.{ExitHome, Home, exit_transfer, leaves, quick_role, step_to, transfer_at, moved, RamServed}
-use Rattle.swi_board.specs.Runs.{most, depth}
+use Rattle.swi_hart.specs.declared.hart.Stage.{Stage}
+use Rattle.swi_hart.specs.declared.hart.Control.{Control}
+use Rattle.swi_hart.specs.declared.hart.Control.TheVariants.{At}
+use Rattle.swi_hart.specs.declared.hart.Role.{Role}
+use Rattle.swi_hart.specs.Hart.{HartData, Stepped, exit_kind, hart_after, word_stepped, original, is_between}
+use Rattle.swi_hart.specs.declared.hart.ExitKind.{ExitKind}
+use Rattle.swi_hart.specs.declared.hart.ExitKind.TheVariants.{Direct}
+use Rattle.swi_hart.specs.Bounds.{Grown, most, depth}
+use Rattle.swi_hart.specs.Matching.{ExitStep, Matches, Fits}
+use Rattle.swi_hart.specs.Calling.{Did, Made}
+use Rattle.swi_hart.specs.Leaving.{ExitHome, Home, exit_transfer, leaves, quick_role, step_to, transfer_at, moved, RamServed}
 use Rattle.swi_board.specs.Walked.{WordOn, LinkOn, JumpOn, StepOn, WalkedOn, Walked, StandsInside, StoppedAt, BlockRan}
-use Rattle.swi_board.proofs.Homes.{home}
-use Rattle.swi_board.proofs.Fetching.{placed, got_some, index_below, index_fits, exit_home, exit_moves, word_home, word_moves, counted_hart, did_quiet}
-use Rattle.swi_board.proofs.Steps.{made_exit, fits_exit, made_word, fits_word, ram_exit}
-use Rattle.swi_board.proofs.Falls.{leave_at}
-use Rattle.swi_board.proofs.Leaving.{jump_linked}
-use Rattle.swi_board.proofs.Grown.{grown_exit, grown_word, moved_services}
-use Rattle.swi_board.proofs.Growing.{depth_most}
+use Rattle.swi_hart.proofs.Homes.{home}
+use Rattle.swi_hart.proofs.Fetching.{placed, got_some, index_below, index_fits, exit_home, exit_moves, word_home, word_moves, counted_hart, did_quiet}
+use Rattle.swi_hart.proofs.Steps.{made_exit, fits_exit, made_word, fits_word, ram_exit}
+use Rattle.swi_hart.proofs.Falls.{leave_at}
+use Rattle.swi_hart.proofs.Leaving.{jump_linked}
+use Rattle.swi_hart.proofs.Grown.{grown_exit, grown_word, moved_services}
+use Rattle.swi_hart.proofs.Growing.{depth_most}
 use Rattle.swi_board.proofs.Running.{Point, Course, Running, most_running, runs_on, falls, no_less, count_small, calls_small}
 use Rattle.swi_board.proofs.Settling.{settles_on}
 

@@ -22,29 +22,29 @@ use Rattle.swi_image.specs.Place.{place_of, word_at}
 use Rattle.swi_render.specs.Rendering.{ebreak, Slot, rendering_of}
 use Rattle.swi_render.specs.Carried.{Carries}
 use Rattle.swi_rom.specs.Record.{Record, Placed, Transfer, direct, indirect}
-use Rattle.swi_board.specs.declared.hart.Stage.{Stage}
-use Rattle.swi_board.specs.declared.hart.Stage.TheVariants.{Start, Low, Return, Leave}
-use Rattle.swi_board.specs.declared.hart.Control.{Control}
-use Rattle.swi_board.specs.declared.hart.Control.TheVariants.{At, Outside}
-use Rattle.swi_board.specs.declared.hart.ExitKind.{ExitKind}
-use Rattle.swi_board.specs.declared.hart.ExitKind.TheVariants.{Direct, Misaligned, Trap, Indirect}
-use Rattle.swi_board.specs.Hart.{HartData, Stepped, stepped, next_made, completes, original, slots, instruction, exit_kind, is_fall, left_made}
-use Rattle.swi_board.specs.Board.{Arrives, Jumps, JumpsBy, ExitStep, HomeStep, BoardStep, StageAt, Stands, Agrees, Matches, Follows}
-use Rattle.swi_board.specs.Calling.{BrokenStep, OnDevice, with_memory}
-use Rattle.swi_board.specs.declared.fault.BoardFault.{BoardFault}
-use Rattle.swi_board.specs.declared.fault.BoardFault.TheVariants.{RamFault, SourceFault, SinkFault}
-use Rattle.swi_board.specs.Leaving.{transfer_at, exit_transfer, jump_transfer, moved, HasPlace, RamBroken, broken}
+use Rattle.swi_hart.specs.declared.hart.Stage.{Stage}
+use Rattle.swi_hart.specs.declared.hart.Stage.TheVariants.{Start, Low, Return, Leave}
+use Rattle.swi_hart.specs.declared.hart.Control.{Control}
+use Rattle.swi_hart.specs.declared.hart.Control.TheVariants.{At, Outside}
+use Rattle.swi_hart.specs.declared.hart.ExitKind.{ExitKind}
+use Rattle.swi_hart.specs.declared.hart.ExitKind.TheVariants.{Direct, Misaligned, Trap, Indirect}
+use Rattle.swi_hart.specs.Hart.{HartData, Stepped, stepped, next_made, completes, original, slots, instruction, exit_kind, is_fall, left_made}
+use Rattle.swi_hart.specs.Matching.{Arrives, Jumps, JumpsBy, ExitStep, HomeStep, BoardStep, StageAt, Stands, Agrees, Matches, Follows}
+use Rattle.swi_hart.specs.Calling.{BrokenStep, OnDevice, with_memory}
+use Rattle.swi_hart.specs.declared.fault.BoardFault.{BoardFault}
+use Rattle.swi_hart.specs.declared.fault.BoardFault.TheVariants.{RamFault, SourceFault, SinkFault}
+use Rattle.swi_hart.specs.Leaving.{transfer_at, exit_transfer, jump_transfer, moved, HasPlace, RamBroken, broken}
 use Rattle.swi_board.specs.Runs.{fetched_by}
 use Rattle.swi_board.specs.Transfers.{Here, spent_by, at_fall, settled, before_last, step_cost, step_size, size, fetches, here_of, here_after, spent, spent_run, jumps_as, leaves_by, after_all}
 use Rattle.swi_board.specs.Ran.{BrokeOff, RamBrokeOff, next_of}
 use Rattle.swi_board.proofs.Held.{same_steps, run_snoc}
-use Rattle.swi_board.proofs.Midway.{step_follows, at_exit}
+use Rattle.swi_hart.proofs.Midway.{step_follows, at_exit}
 use Rattle.swi_board.proofs.Progressing.{progress, start_not_fall}
-use Rattle.swi_board.proofs.Stepping.{two_places}
+use Rattle.swi_hart.proofs.Stepping.{two_places}
 use Rattle.swi_board.proofs.Progress.{Progress, made_step, lead, fall, beside, Completes}
 use Rattle.swi_board.proofs.Counting.{cost_more, cost_none, plain_cost}
-use Rattle.swi_board.proofs.Standing.{slots_are, linked_leads}
-use Rattle.swi_board.proofs.Taking.{input_shrinks}
+use Rattle.swi_hart.proofs.Standing.{slots_are, linked_leads}
+use Rattle.swi_hart.proofs.Taking.{input_shrinks}
 use Rattle.swi_board.proofs.Running.{Goes, Point, Course, Running}
 use Rattle.std.specs.Option.{ForSome}
 

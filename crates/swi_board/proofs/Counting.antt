@@ -7,13 +7,13 @@ use Rattle.swi_calls.specs.State.{FlatState}
 use Rattle.swi_image.specs.Format.{ImageData}
 use Rattle.swi_image.specs.Place.{place_of}
 use Rattle.swi_rom.specs.Record.{Record, Transfer, direct}
-use Rattle.swi_board.specs.declared.hart.Control.{Control}
-use Rattle.swi_board.specs.declared.hart.Control.TheVariants.{At, Outside}
+use Rattle.swi_hart.specs.declared.hart.Control.{Control}
+use Rattle.swi_hart.specs.declared.hart.Control.TheVariants.{At, Outside}
 use Rattle.swi_calls.specs.Held.{held_made, held_step}
-use Rattle.swi_board.specs.Hart.{Stepped, original, slots, is_place, completes}
+use Rattle.swi_hart.specs.Hart.{Stepped, original, slots, is_place, completes}
 use Rattle.swi_board.specs.Runs.{weight}
 use Rattle.swi_board.specs.Transfers.{Here, at_fall, settled, step_transfers, here_after, fall_transfers, transfers, step_size, size, after_all, here_of, spent, spent_run, spent_by}
-use Rattle.swi_board.proofs.Stepping.{same_place}
+use Rattle.swi_hart.proofs.Stepping.{same_place}
 use Rattle.swi_board.proofs.Progress.{Progress, made_step, lead, fall, beside, Completes}
 use Rattle.swi_board.proofs.Held.{next_state, held_steps}
 

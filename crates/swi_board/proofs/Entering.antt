@@ -9,14 +9,14 @@ use Rattle.swi_image.specs.Place.{place_of}
 use Rattle.swi_program.specs.Text.{TextData, IsTextAddress, word_of}
 use Rattle.swi_render.specs.Carried.{Carries}
 use Rattle.swi_rom.specs.Record.{Record}
-use Rattle.swi_board.specs.declared.hart.Stage.TheVariants.{Start, Low, Return, Leave}
-use Rattle.swi_board.specs.declared.hart.Control.{Control}
-use Rattle.swi_board.specs.declared.hart.Control.TheVariants.{At, Outside}
-use Rattle.swi_board.specs.Hart.{HartData, is_between}
-use Rattle.swi_board.specs.Board.{Arrives, Stands, Agrees, Matches, Fits}
-use Rattle.swi_board.specs.Leaving.{entries}
+use Rattle.swi_hart.specs.declared.hart.Stage.TheVariants.{Start, Low, Return, Leave}
+use Rattle.swi_hart.specs.declared.hart.Control.{Control}
+use Rattle.swi_hart.specs.declared.hart.Control.TheVariants.{At, Outside}
+use Rattle.swi_hart.specs.Hart.{HartData, is_between}
+use Rattle.swi_hart.specs.Matching.{Arrives, Stands, Agrees, Matches, Fits}
+use Rattle.swi_board.specs.Board.{entries}
 use Rattle.swi_board.specs.Transfers.{here_of, spent, spent_by, spent_run}
-use Rattle.swi_board.proofs.Kept.{image_same}
+use Rattle.swi_hart.proofs.Kept.{image_same}
 
 stands_entered : (v : ImageData) (r : Record) (f : Machine) (c : Control) → Arrives v r f.pc c → Stands v r f f c
 stands_entered v r f (At i b o Start) at = (at.0, (refl, inl at.1))

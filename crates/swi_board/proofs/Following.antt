@@ -6,12 +6,12 @@ use Rattle.swi_calls.specs.declared.machine.Machine.{Machine}
 use Rattle.swi_image.specs.Format.{ImageData}
 use Rattle.swi_render.specs.Carried.{Carries}
 use Rattle.swi_rom.specs.Record.{Record, Transfer}
-use Rattle.swi_board.specs.Hart.{HartData, next_made}
-use Rattle.swi_board.specs.Board.{Matches}
-use Rattle.swi_board.specs.Calling.{Made}
-use Rattle.swi_board.specs.Leaving.{moved, transfer_at}
+use Rattle.swi_hart.specs.Hart.{HartData, next_made}
+use Rattle.swi_hart.specs.Matching.{Matches}
+use Rattle.swi_hart.specs.Calling.{Made}
+use Rattle.swi_hart.specs.Leaving.{moved, transfer_at}
 use Rattle.swi_board.specs.Ran.{Followed}
-use Rattle.swi_board.proofs.Midway.{step_follows}
+use Rattle.swi_hart.proofs.Midway.{step_follows}
 use Rattle.swi_board.proofs.Held.{no_exit_no_transfer}
 
 pub followed : (policy : Record → ImageData → Transfer → Record) (v : ImageData) (r new : Record) (h h' : HartData) (f : Machine) (left : List ℕ) (left' out out' err err' : Option (List ℕ)) → h.machine.ending ≡ None → h.machine.pc < 2 ^ 32 →

@@ -14,15 +14,15 @@ use Rattle.swi_calls.specs.Laws.{held_run_over, held_run_more}
 use Rattle.swi_image.specs.Format.{ImageData}
 use Rattle.swi_image.specs.Place.{word_at}
 use Rattle.swi_rom.specs.Record.{Record, Transfer}
-use Rattle.swi_board.specs.declared.hart.Stage.TheVariants.{Start, Low, Return, Leave}
-use Rattle.swi_board.specs.declared.hart.Control.{Control}
-use Rattle.swi_board.specs.declared.hart.Control.TheVariants.{At, Outside}
+use Rattle.swi_hart.specs.declared.hart.Stage.TheVariants.{Start, Low, Return, Leave}
+use Rattle.swi_hart.specs.declared.hart.Control.{Control}
+use Rattle.swi_hart.specs.declared.hart.Control.TheVariants.{At, Outside}
 use Rattle.swi_calls.specs.Held.{held, held_made, held_step, held_run}
-use Rattle.swi_board.specs.Hart.{exit_kind}
-use Rattle.swi_board.specs.Board.{Stands, Agrees, Matches}
-use Rattle.swi_board.specs.Leaving.{transfer_at, exit_transfer, moved}
-use Rattle.swi_board.proofs.Midway.{at_exit}
-use Rattle.swi_board.proofs.Growing.{after_one}
+use Rattle.swi_hart.specs.Hart.{exit_kind}
+use Rattle.swi_hart.specs.Matching.{Stands, Agrees, Matches}
+use Rattle.swi_hart.specs.Leaving.{transfer_at, exit_transfer, moved}
+use Rattle.swi_hart.proofs.Midway.{at_exit}
+use Rattle.swi_hart.proofs.Growing.{after_one}
 
 -- the machines agree but for registers
 pub stands_steps : (v : ImageData) (r : Record) (f m : Machine) (c : Control) → Stands v r f m c → (m.steps ≡ f.steps) × (m.ending ≡ f.ending)

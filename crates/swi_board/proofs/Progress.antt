@@ -21,26 +21,26 @@ use Rattle.swi_image.specs.Format.{ImageData}
 use Rattle.swi_image.specs.Place.{place_of, word_at}
 use Rattle.swi_render.specs.declared.parts.Part.TheVariants as part
 use Rattle.swi_render.specs.Rendering.{ebreak, opposite, upper, slot, Slot, Is, trap, rendering_of}
-use Rattle.swi_board.specs.Hart.{links, Stepped, stepped, behind, whole_made, over_by, over_stepped, word_stepped, first_role, original, exit_kind, is_fall, completes, completes_as, slots, leads}
+use Rattle.swi_hart.specs.Hart.{links, Stepped, stepped, behind, whole_made, over_by, over_stepped, word_stepped, first_role, original, exit_kind, is_fall, completes, completes_as, slots, leads}
 use Rattle.swi_render.specs.Carried.{FallAt, StandAt}
 use Rattle.swi_rom.specs.Record.{Record, Transfer, direct, indirect}
-use Rattle.swi_board.specs.declared.hart.Stage.{Stage}
-use Rattle.swi_board.specs.declared.hart.Stage.TheVariants.{Start, Low, Return, Leave}
-use Rattle.swi_board.specs.declared.hart.Control.{Control}
-use Rattle.swi_board.specs.declared.hart.Control.TheVariants.{At, Outside}
-use Rattle.swi_board.specs.declared.hart.Role.{Role}
-use Rattle.swi_board.specs.declared.hart.Role.TheVariants.{Whole}
-use Rattle.swi_board.specs.declared.hart.ExitKind.{ExitKind}
-use Rattle.swi_board.specs.declared.hart.ExitKind.TheVariants.{Direct, Misaligned, Trap, Indirect}
+use Rattle.swi_hart.specs.declared.hart.Stage.{Stage}
+use Rattle.swi_hart.specs.declared.hart.Stage.TheVariants.{Start, Low, Return, Leave}
+use Rattle.swi_hart.specs.declared.hart.Control.{Control}
+use Rattle.swi_hart.specs.declared.hart.Control.TheVariants.{At, Outside}
+use Rattle.swi_hart.specs.declared.hart.Role.{Role}
+use Rattle.swi_hart.specs.declared.hart.Role.TheVariants.{Whole}
+use Rattle.swi_hart.specs.declared.hart.ExitKind.{ExitKind}
+use Rattle.swi_hart.specs.declared.hart.ExitKind.TheVariants.{Direct, Misaligned, Trap, Indirect}
 use Rattle.swi_calls.specs.Held.{held, held_made}
-use Rattle.swi_board.specs.Board.{IsIn, Arrives, Jumps, JumpsBy, HomeStep}
-use Rattle.swi_board.specs.Leaving.{exit_transfer, jump_transfer, transfer_at, moved}
+use Rattle.swi_hart.specs.Matching.{IsIn, Arrives, Jumps, JumpsBy, HomeStep}
+use Rattle.swi_hart.specs.Leaving.{exit_transfer, jump_transfer, transfer_at, moved}
 use Rattle.swi_board.specs.Transfers.{at_fall, jumps_as, step_cost, branch_words, before_last, leaves_by, after_all, here_of, spent}
-use Rattle.swi_board.proofs.Table.{jal_half, not_exit, is_break}
+use Rattle.swi_hart.proofs.Table.{jal_half, not_exit, is_break}
 use Rattle.swi_isa.specs.Laws.{jalr_low}
-use Rattle.swi_board.proofs.Own.{is_own, own_made, opposite_taken}
-use Rattle.swi_board.proofs.Stepping.{direct_kind, half_kind, trap_is, jump_kind, two_places, original_is, no_fall, first, step_is, exit_at, jumped, not_jumped, skips_not}
-use Rattle.swi_board.proofs.Standing.{slots_are, linked_jump, plain_jump, plain_leads}
+use Rattle.swi_hart.proofs.Own.{is_own, own_made, opposite_taken}
+use Rattle.swi_hart.proofs.Stepping.{direct_kind, half_kind, trap_is, jump_kind, two_places, original_is, no_fall, first, step_is, exit_at, jumped, not_jumped, skips_not}
+use Rattle.swi_hart.proofs.Standing.{slots_are, linked_jump, plain_jump, plain_leads}
 
 -- the step completes the instruction x of f, which began at p and of which n machine steps were made before
 pub record Completes (policy : Record → ImageData → Transfer → Record) (v : ImageData) (r new : Record) (f : Machine) (x : Option Instr) (ss : List Slot) (p : ℕ × ℕ) (n : ℕ) (s : Stepped) (next : Machine) : Type 0 where

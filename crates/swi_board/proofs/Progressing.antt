@@ -17,23 +17,23 @@ use Rattle.swi_calls.specs.Flat.{Made, quiet, with_effect}
 use Rattle.swi_image.specs.Format.{ImageData}
 use Rattle.swi_image.specs.Place.{place_of, word_at}
 use Rattle.swi_render.specs.Rendering.{ebreak, upper, lower, Slot, rendering_of}
-use Rattle.swi_board.specs.Hart.{Stepped, whole_made, original, instruction, is_place, completes, slots}
+use Rattle.swi_hart.specs.Hart.{Stepped, whole_made, original, instruction, is_place, completes, slots}
 use Rattle.swi_render.specs.Carried.{GoesOn, Carries}
 use Rattle.swi_rom.specs.Record.{Record, Transfer, direct}
-use Rattle.swi_board.specs.declared.hart.Stage.{Stage}
-use Rattle.swi_board.specs.declared.hart.Stage.TheVariants.{Start, Low, Return, Leave}
-use Rattle.swi_board.specs.declared.hart.Control.{Control}
-use Rattle.swi_board.specs.declared.hart.Control.TheVariants.{At, Outside}
-use Rattle.swi_board.specs.declared.hart.ExitKind.TheVariants.{Direct, Misaligned}
+use Rattle.swi_hart.specs.declared.hart.Stage.{Stage}
+use Rattle.swi_hart.specs.declared.hart.Stage.TheVariants.{Start, Low, Return, Leave}
+use Rattle.swi_hart.specs.declared.hart.Control.{Control}
+use Rattle.swi_hart.specs.declared.hart.Control.TheVariants.{At, Outside}
+use Rattle.swi_hart.specs.declared.hart.ExitKind.TheVariants.{Direct, Misaligned}
 use Rattle.swi_calls.specs.Held.{held_made}
-use Rattle.swi_board.specs.Board.{IsIn, Arrives, HomeStep, BoardStep, AtLow, AtReturn, AtExit, AtTaken, StageAt, Agrees, Matches}
-use Rattle.swi_board.specs.Leaving.{transfer_at, moved}
+use Rattle.swi_hart.specs.Matching.{IsIn, Arrives, HomeStep, BoardStep, AtLow, AtReturn, AtExit, AtTaken, StageAt, Agrees, Matches}
+use Rattle.swi_hart.specs.Leaving.{transfer_at, moved}
 use Rattle.swi_board.specs.Transfers.{at_fall, here_of, before_last, spent}
-use Rattle.swi_board.proofs.Table.{branch_half, not_exit}
-use Rattle.swi_board.proofs.Own.{held_as, held_none, low_done}
-use Rattle.swi_board.proofs.Stepping.{direct_kind, half_kind, same_place, exit_at, executed_word, jumped, not_jumped}
-use Rattle.swi_board.proofs.Standing.{stands_for, slots_are, linked_jump, linked_leads, halves}
-use Rattle.swi_board.proofs.Midway.{upper_is, at_exit, running_as}
+use Rattle.swi_hart.proofs.Table.{branch_half, not_exit}
+use Rattle.swi_hart.proofs.Own.{held_as, held_none, low_done}
+use Rattle.swi_hart.proofs.Stepping.{direct_kind, half_kind, same_place, exit_at, executed_word, jumped, not_jumped}
+use Rattle.swi_hart.proofs.Standing.{stands_for, slots_are, linked_jump, linked_leads, halves}
+use Rattle.swi_hart.proofs.Midway.{upper_is, at_exit, running_as}
 use Rattle.swi_board.proofs.Progress.{Progress, made_step, lead, beside, Completes, stays_completes, arrived_completes, ended_completes, exit_moves, place_progress, fall_progress}
 
 pub start_not_fall : (v : ImageData) (f : Machine) (b o : ℕ) → place_of v f.pc ≡ Some (b, o) → at_fall v f (Some (b, o)) ≡ false

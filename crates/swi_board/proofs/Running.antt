@@ -13,19 +13,20 @@ use Rattle.swi_outside.specs.Causes.{risen}
 use Rattle.swi_outside.specs.CacheRam.{RamState, KeepsBeyond}
 use Rattle.swi_rom.specs.Record.{Record, Transfer, writes}
 use Rattle.swi_outside.specs.Laws.{Appends-append, Appends-none}
-use Rattle.swi_board.specs.declared.hart.Control.{Control}
-use Rattle.swi_board.specs.declared.hart.Control.TheVariants.{At, Outside}
+use Rattle.swi_hart.specs.declared.hart.Control.{Control}
+use Rattle.swi_hart.specs.declared.hart.Control.TheVariants.{At, Outside}
 use Rattle.swi_calls.specs.Held.{held_made, held_step, held_run}
-use Rattle.swi_board.specs.Hart.{HartData, next_made, completes}
-use Rattle.swi_board.specs.Board.{Matches, Follows, Fits}
-use Rattle.swi_board.specs.Calling.{Made}
-use Rattle.swi_board.specs.Leaving.{transfer_at, moved, RamRan, RamStepped, fetches_after}
-use Rattle.swi_board.specs.Runs.{weight, is_outside, unfetched, fetched_by, depth, most, most_by, most_calls, Grown}
-use Rattle.swi_board.proofs.Midway.{step_follows}
-use Rattle.swi_board.proofs.Kept.{next_text, image_same}
-use Rattle.swi_board.proofs.Growing.{depth_most, calls_most}
-use Rattle.swi_board.proofs.Grown.{moved_rises}
-use Rattle.swi_board.specs.Ran.{Ran}
+use Rattle.swi_hart.specs.Hart.{HartData, next_made, completes}
+use Rattle.swi_hart.specs.Matching.{Matches, Follows, Fits}
+use Rattle.swi_hart.specs.Calling.{Made}
+use Rattle.swi_hart.specs.Leaving.{transfer_at, moved, RamStepped, fetches_after}
+use Rattle.swi_board.specs.Ran.{RamRan, Ran}
+use Rattle.swi_board.specs.Runs.{weight, unfetched, fetched_by}
+use Rattle.swi_hart.specs.Bounds.{is_outside, depth, most, most_by, most_calls, Grown}
+use Rattle.swi_hart.proofs.Midway.{step_follows}
+use Rattle.swi_hart.proofs.Kept.{next_text, image_same}
+use Rattle.swi_hart.proofs.Growing.{depth_most, calls_most}
+use Rattle.swi_hart.proofs.Grown.{moved_rises}
 use Rattle.swi_board.specs.Transfers.{transfers, cost, size, here_of, spent, spent_by, spent_run, after_all}
 use Rattle.swi_calls.specs.Laws.{held_run_none, held_run_over, held_run_more}
 use Rattle.swi_board.proofs.Held.{same_steps, held_steps, run_snoc, no_exit_no_transfer, next_state}

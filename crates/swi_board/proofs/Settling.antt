@@ -10,17 +10,17 @@ use Rattle.swi_image.specs.Format.{ImageData}
 use Rattle.swi_image.specs.Place.{word_at}
 use Rattle.swi_render.specs.Rendering.{ebreak}
 use Rattle.swi_rom.specs.Record.{Record}
-use Rattle.swi_board.specs.declared.hart.Stage.{Stage}
-use Rattle.swi_board.specs.declared.hart.Stage.TheVariants.{Start}
-use Rattle.swi_board.specs.declared.hart.Control.{Control}
-use Rattle.swi_board.specs.declared.hart.Control.TheVariants.{At, Outside}
-use Rattle.swi_board.specs.declared.hart.Role.{Role}
-use Rattle.swi_board.specs.declared.hart.Role.TheVariants.{Lead, Whole, Over}
-use Rattle.swi_board.specs.declared.hart.ExitKind.{ExitKind}
-use Rattle.swi_board.specs.declared.hart.ExitKind.TheVariants.{Direct, Misaligned, Trap, Indirect}
-use Rattle.swi_board.specs.Hart.{HartData, Stepped, is_between, behind, role_of, original, exit_kind, word_stepped, over_by, skips, with_left}
-use Rattle.swi_board.specs.Board.{BoardStep, HomeStep, ExitStep, Jumps, JumpsBy}
-use Rattle.swi_board.specs.Calling.{Made}
+use Rattle.swi_hart.specs.declared.hart.Stage.{Stage}
+use Rattle.swi_hart.specs.declared.hart.Stage.TheVariants.{Start}
+use Rattle.swi_hart.specs.declared.hart.Control.{Control}
+use Rattle.swi_hart.specs.declared.hart.Control.TheVariants.{At, Outside}
+use Rattle.swi_hart.specs.declared.hart.Role.{Role}
+use Rattle.swi_hart.specs.declared.hart.Role.TheVariants.{Lead, Whole, Over}
+use Rattle.swi_hart.specs.declared.hart.ExitKind.{ExitKind}
+use Rattle.swi_hart.specs.declared.hart.ExitKind.TheVariants.{Direct, Misaligned, Trap, Indirect}
+use Rattle.swi_hart.specs.Hart.{HartData, Stepped, is_between, behind, role_of, original, exit_kind, word_stepped, over_by, skips, with_left}
+use Rattle.swi_hart.specs.Matching.{BoardStep, HomeStep, ExitStep, Jumps, JumpsBy}
+use Rattle.swi_hart.specs.Calling.{Made}
 use Rattle.swi_board.proofs.Entering.{entered_between}
 
 -- control is between two instructions, or no step was made, or the run has ended

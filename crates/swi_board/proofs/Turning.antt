@@ -12,14 +12,15 @@ use Rattle.swi_calls.specs.declared.machine.Machine.{Machine}
 use Rattle.swi_calls.specs.Flat.{quiet}
 use Rattle.swi_rom.specs.Record.{Record, indirect}
 use Rattle.swi_rom.specs.Coherent.{TargetAt}
-use Rattle.swi_board.specs.declared.hart.ExitKind.TheVariants.{Indirect}
+use Rattle.swi_hart.specs.declared.hart.ExitKind.TheVariants.{Indirect}
 use Rattle.swi_board.specs.declared.block.Walk.{Walk}
-use Rattle.swi_board.specs.Hart.{stepped}
-use Rattle.swi_board.specs.Board.{ExitStep, Jumps, JumpsBy}
-use Rattle.swi_board.specs.Leaving.{jump_transfer}
+use Rattle.swi_hart.specs.Hart.{stepped}
+use Rattle.swi_hart.specs.Matching.{ExitStep, Jumps, JumpsBy}
+use Rattle.swi_hart.specs.Leaving.{jump_transfer}
 use Rattle.swi_board.specs.Walked.{landed, walk_control, walk_machine, walk_steps, HasRoom}
-use Rattle.swi_board.proofs.Falls.{jumps_by, over_link}
-use Rattle.swi_board.proofs.Leaving.{target_arrives}
+use Rattle.swi_hart.proofs.Falls.{jumps_by}
+use Rattle.swi_board.proofs.Walking.{over_link}
+use Rattle.swi_hart.proofs.Leaving.{target_arrives}
 
 -- the transfer of the jump
 pub turned_transfer : (x : Option Instr) (m : Machine) (rd rs1 imm t : ℕ) → x ≡ Some (instr.Jalr rd rs1 imm) → t ≡ address_of m.regs rs1 imm / 2 * 2 → t % 4 ≡ 0 → Some (indirect t) ≡ jump_transfer x m

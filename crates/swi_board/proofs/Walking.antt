@@ -1,5 +1,5 @@
 -- One step more of a walk.
-use Rattle.std.proofs.Common.{◌≡◌, ◌⊎◌, inl, inr, ℕ, ◌+◌, ◌-◌, ◌^◌, ◌<◌, ◌≤◌, true, false, List, Option, slice_index, Some, None, refl, sym, ap, subst, ◌∙◌, arith}
+use Rattle.std.proofs.Common.{◌≡◌, ◌⊎◌, inl, inr, ℕ, ◌+◌, ◌-◌, ◌^◌, ◌<◌, ◌≤◌, true, false, List, Option, slice_index, Some, None, refl, sym, ap, subst, ◌∙◌, arith, Bool, if◌then◌else◌}
 use Rattle.swi_isa.specs.declared.instr.Instr.{Instr}
 use Rattle.swi_isa.specs.declared.instr.Instr.TheVariants as instr
 use Rattle.swi_isa.specs.Decode.{decoded}
@@ -14,17 +14,18 @@ use Rattle.swi_image.specs.Format.{ImageData}
 use Rattle.swi_render.specs.Rendering.{ebreak}
 use Rattle.swi_rom.specs.Record.{Record, Transfer}
 use Rattle.swi_rom.specs.Coherent.{Coherent}
-use Rattle.swi_board.specs.declared.hart.Stage.{Stage}
-use Rattle.swi_board.specs.declared.hart.Stage.TheVariants.{Leave}
-use Rattle.swi_board.specs.declared.hart.Control.{Control}
-use Rattle.swi_board.specs.declared.hart.Control.TheVariants.{At}
+use Rattle.swi_hart.specs.declared.hart.Stage.{Stage}
+use Rattle.swi_hart.specs.declared.hart.Stage.TheVariants.{Leave}
+use Rattle.swi_hart.specs.declared.hart.Control.{Control}
+use Rattle.swi_hart.specs.declared.hart.Control.TheVariants.{At}
 use Rattle.swi_board.specs.declared.block.Next.{Next}
 use Rattle.swi_board.specs.declared.block.Next.TheVariants as next
 use Rattle.swi_board.specs.declared.block.Walk.{Walk}
-use Rattle.swi_board.specs.Hart.{HartData, stepped, word_stepped, instruction}
-use Rattle.swi_board.specs.Leaving.{Home, leaves, quick_role}
-use Rattle.swi_board.specs.Walked.{is_stop, role_by, went, gone, landed, walk_pc, walk_steps, walk_made, walk_count, walk_control, walk_machine, walk_hart, place_shown, Answered, ExitStands, HasRoom, WalksTo, WordOn, StepOn, JumpOn, WalkedOn, Walked, StandsInside}
-use Rattle.swi_board.proofs.Fetching.{exit_home}
+use Rattle.swi_hart.specs.Hart.{HartData, stepped, word_stepped, instruction, left_made}
+use Rattle.swi_hart.specs.Leaving.{Home, leaves, quick_role}
+use Rattle.swi_board.specs.Walked.{is_stop, role_by, went, gone, landed, walk_pc, walk_steps, walk_made, walk_count, walk_control, walk_machine, walk_hart, place_shown, ExitStands, HasRoom, WalksTo, WordOn, StepOn, JumpOn, WalkedOn, Walked, StandsInside}
+use Rattle.swi_hart.specs.MachineStep.{Answered}
+use Rattle.swi_hart.proofs.Fetching.{exit_home}
 
 -- what stands behind a word, by where control goes from it
 abbrev pub gone_place : Next → ℕ × ℕ → ℕ × ℕ
@@ -182,3 +183,15 @@ pub exit_stands : (v : ImageData) (r : Record) (m : Machine) (span : ℕ) (words
 exit_stands v r m span words i b o stage coherent home got x is decodes leaving =
     let e = exit_home v r m span words i b o stage coherent home got x is decodes leaving in
     record { first = home.first; is_placed = home.is_placed; index = home.index; known = home.known; inside = e.inside; jalr = e.jalr }
+
+-- what a link that is gone over leaves of a machine; one that only leads on goes to the pc
+pub over_link : (fall : Bool) (m : Machine) (w : Walk) (index t : ℕ) (input : List ℕ) → HasRoom w → (fall ≡ true → t ≡ walk_pc w) → t < 2 ^ 32 →
+    quiet (walk_machine (landed index t (if fall then 0 else 1) w) m) input ≡ left_made fall (walk_machine w m) t input
+over_link true m w index t input room here low =
+    let steps : walk_steps (landed index t 0 w) ≡ walk_steps w = omega (arith, room.below, room.made) in
+    let pc : walk_pc (landed index t 0 w) ≡ walk_pc w = omega (arith, here refl, steps) in
+    ap (λ (k : Machine). quiet k input) (rw (pc, steps) refl)
+over_link false m w index t input room here low =
+    let steps : walk_steps (landed index t 1 w) ≡ walk_steps w + 1 = omega (arith, room.below, room.made) in
+    let pc : walk_pc (landed index t 1 w) ≡ t = omega (arith, steps) in
+    ap (λ (k : Machine). quiet k input) (rw (pc, steps) refl)

@@ -3,17 +3,24 @@ use Rattle.std.specs.Prelude.{◌≡◌, ℕ, ◌+◌, ◌<◌, ◌≤◌, List,
 use Rattle.std.specs.Io.KnownBytes.{Appends, Consumes}
 use Rattle.swi_calls.specs.State.{FlatState}
 use Rattle.swi_outside.specs.Causes.{risen}
-use Rattle.swi_outside.specs.CacheRam.{RamState}
+use Rattle.swi_outside.specs.CacheRam.{RamState, KeepsBeyond}
 use Rattle.swi_calls.specs.Flat.{Made}
 use Rattle.swi_image.specs.Format.{ImageData}
 use Rattle.swi_rom.specs.Record.{Record, Transfer}
-use Rattle.swi_board.specs.declared.fault.BoardFault.{BoardFault}
-use Rattle.swi_board.specs.declared.fault.BoardFault.TheVariants.{SourceFault}
-use Rattle.swi_board.specs.Hart.{HartData}
-use Rattle.swi_board.specs.Board.{Matches}
+use Rattle.swi_hart.specs.declared.fault.BoardFault.{BoardFault}
+use Rattle.swi_hart.specs.declared.fault.BoardFault.TheVariants.{SourceFault}
+use Rattle.swi_hart.specs.Hart.{HartData}
+use Rattle.swi_hart.specs.Matching.{Matches}
 use Rattle.swi_calls.specs.Held.{held_made, held_run}
 use Rattle.swi_board.specs.Runs.{fetched_by}
 use Rattle.swi_board.specs.Transfers.{transfers, cost, fetches, here_of, spent_run, after_all}
+
+-- the ram over a whole run: so many fetches and sets, and no fault
+pub record RamRan (span fetched more : ℕ) (before after : RamState) : Type 0 where
+  pub quiet : after.faults ≡ before.faults
+  pub fetches : after.fetches ≡ risen before.fetches fetched
+  pub sets : after.sets ≡ risen before.sets more
+  pub kept : KeepsBeyond span before after
 
 -- the board has come to where so many steps of the flat machine lead, took the same input and wrote the same bytes
 pub record Ran (policy : Record → ImageData → Transfer → Record) (v : ImageData) (k : ℕ) (s : FlatState) (h0 : HartData) (r0 : Record) (h : HartData) (r : Record) (left out out' err err' : Option (List ℕ)) : Type 0 where

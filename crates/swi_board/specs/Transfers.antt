@@ -11,10 +11,10 @@ use Rattle.swi_image.specs.Format.{ImageData}
 use Rattle.swi_image.specs.Place.{place_of}
 use Rattle.swi_render.specs.Rendering.{Slot, falls_of}
 use Rattle.swi_rom.specs.Record.{Record, Transfer, direct, indirect}
-use Rattle.swi_board.specs.declared.hart.Stage.TheVariants.{Start, Low, Return, Leave}
-use Rattle.swi_board.specs.declared.hart.Control.{Control}
-use Rattle.swi_board.specs.declared.hart.Control.TheVariants.{At, Outside}
-use Rattle.swi_board.specs.Hart.{original, is_place, slots, leads}
+use Rattle.swi_hart.specs.declared.hart.Stage.TheVariants.{Start, Low, Return, Leave}
+use Rattle.swi_hart.specs.declared.hart.Control.{Control}
+use Rattle.swi_hart.specs.declared.hart.Control.TheVariants.{At, Outside}
+use Rattle.swi_hart.specs.Hart.{original, is_place, slots, leads}
 use Rattle.swi_calls.specs.Held.{held_step}
 
 -- where a run stands: at the block and offset of a text word's first word or of an exit behind a block's last text word, or outside

@@ -9,23 +9,24 @@ use Rattle.swi_image.specs.Place.{word_at, length_at}
 use Rattle.swi_render.specs.Rendering.{ebreak}
 use Rattle.swi_rom.specs.Record.{Record, Transfer, Placed, writes}
 use Rattle.swi_rom.specs.Coherent.{Coherent}
-use Rattle.swi_outside.specs.Causes.{Rose, counted}
+use Rattle.swi_outside.specs.Causes.{counted}
 use Rattle.swi_outside.specs.CacheRam.{RamState}
 use Rattle.swi_calls.specs.declared.machine.Machine.{Machine}
 use Rattle.swi_calls.specs.Flat.{quiet}
-use Rattle.swi_board.specs.declared.hart.Stage.{Stage}
-use Rattle.swi_board.specs.declared.hart.Stage.TheVariants.{Start, Leave}
-use Rattle.swi_board.specs.declared.hart.Control.{Control}
-use Rattle.swi_board.specs.declared.hart.Control.TheVariants.{At}
-use Rattle.swi_board.specs.declared.hart.Role.{Role}
-use Rattle.swi_board.specs.declared.hart.Role.TheVariants.{Lead, Whole, Over}
-use Rattle.swi_board.specs.declared.hart.ExitKind.TheVariants.{Direct, Indirect}
+use Rattle.swi_hart.specs.declared.hart.Stage.{Stage}
+use Rattle.swi_hart.specs.declared.hart.Stage.TheVariants.{Start, Leave}
+use Rattle.swi_hart.specs.declared.hart.Control.{Control}
+use Rattle.swi_hart.specs.declared.hart.Control.TheVariants.{At}
+use Rattle.swi_hart.specs.declared.hart.Role.{Role}
+use Rattle.swi_hart.specs.declared.hart.Role.TheVariants.{Lead, Whole, Over}
+use Rattle.swi_hart.specs.declared.hart.ExitKind.TheVariants.{Direct, Indirect}
 use Rattle.swi_board.specs.declared.block.Walk.{Walk}
 use Rattle.swi_board.specs.declared.block.Next.{Next}
 use Rattle.swi_board.specs.declared.block.Next.TheVariants as next
-use Rattle.swi_board.specs.Hart.{HartData, Stepped, stepped, word_stepped, original, exit_kind}
-use Rattle.swi_board.specs.Board.{ExitStep}
-use Rattle.swi_board.specs.Leaving.{Home, JalrAt, Counted, RamServed, exit_transfer, leaves, moved, quick_role}
+use Rattle.swi_hart.specs.Hart.{HartData, Stepped, stepped, word_stepped, original, exit_kind}
+use Rattle.swi_hart.specs.Matching.{ExitStep}
+use Rattle.swi_hart.specs.Leaving.{Home, JalrAt, Counted, RamServed, exit_transfer, leaves, moved, quick_role}
+use Rattle.swi_hart.specs.MachineStep.{Answered}
 
 abbrev pub is_stop : Next → Bool
 is_stop next.On = false
@@ -175,13 +176,6 @@ pub record StandsInside (v : ImageData) (r : Record) (ram : RamState) (h : HartD
   pub index : i < 2 ^ 22
   pub count : h.count < 2 ^ 56
   pub services : r.counts.services < 2 ^ 50
-
--- a fetch of word i, by the word that it answered, None where it failed
-abbrev pub Answered : Option ℕ → RamState → ℕ → RamState → Type 0
-Answered (Some w) old i new = (w ≡ slice_index old.words i)
-    × (new ≡ record old { fetches = counted old.fetches; reach = max old.reach (i + 1); last = i })
-Answered None old i new = Rose old.faults new.faults × (old.faults ≤ new.faults)
-    × (new ≡ record old { faults = new.faults; reach = max old.reach (i + 1) })
 
 -- the steps ended before a word, whose fetch answered so
 pub record StoppedAt (policy : Record → ImageData → Transfer → Record) (span : ℕ) (v : ImageData) (got : Option ℕ) (limit : ℕ) (r : Record) (h : HartData) (ram : RamState) (r' : Record) (h' : HartData) (ram' : RamState) : Type 0 where

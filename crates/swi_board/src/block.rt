@@ -8,18 +8,19 @@ ghost use Rattle.swi_calls.specs.declared.machine.Machine.{Machine};
 ghost use Rattle.swi_isa.specs.declared.instr.Instr.{Instr as AnyInstr};
 ghost use Rattle.swi_isa.specs.Decode.{decoded};
 ghost use Rattle.swi_render.specs.Rendering.{ebreak};
-ghost use Rattle.swi_board.specs.Hart.{HartData, instruction, word_stepped};
-ghost use Rattle.swi_board.specs.Leaving.{Home, immediate_quick, leaves, offset_of, quick_role};
-ghost use Rattle.swi_board.specs.Runs.{most};
+ghost use Rattle.swi_hart.specs.Hart.{HartData, instruction, word_stepped};
+ghost use Rattle.swi_hart.specs.Leaving.{Home, immediate_quick, leaves, offset_of, quick_role};
+ghost use Rattle.swi_hart.specs.Bounds.{most};
 ghost use Rattle.swi_board.specs.Walked.{is_stop, role_by, went, gone, landed, place_shown, walk_pc, walk_steps, walk_made, walk_count, walk_control, walk_machine, ExitStands, HasRoom, WalksTo, LinkOn, StepOn, JumpOn, Walked, WalkedOn, StandsInside, BlockRan};
 ghost use Rattle.swi_rom.specs.Record.{Record};
 ghost use Rattle.swi_rom.specs.Coherent.{StandsAt};
 
-use crate::exit::{EBREAK, exit_kind, fell, jump_index};
-use crate::hart::{Control, ExitKind, Hart, Role, Stage};
-use crate::step::{register_target, upper_role};
 use swi_calls::text_store;
 use swi_exec::{Done, Regs, exec};
+use swi_hart::{
+    Control, EBREAK, ExitKind, Hart, Role, Stage, exit_kind, fell, jump_index, register_target,
+    upper_role,
+};
 use swi_image::ImageView;
 use swi_isa::{ImmOp, Instr, decode};
 use swi_memory::Bus;

@@ -3,15 +3,6 @@
 
 mod block;
 mod board;
-mod exit;
-mod fault;
-mod hart;
-mod plain;
-mod position;
-mod quick;
-mod step;
-mod word;
 
 pub use board::{Board, BootStop};
-pub use fault::BoardFault;
-pub use hart::{Control, Hart, Stage};
+pub use swi_hart::{BoardFault, Control, Hart, Stage};

@@ -11,11 +11,11 @@ use Rattle.swi_image.specs.Format.{ImageData}
 use Rattle.swi_render.specs.Carried.{Carries}
 use Rattle.swi_rom.specs.Record.{Record, indirect, writes}
 use Rattle.swi_rom.specs.Slots.{Slots, kept_by, setting_of, queue_of, numbered, links_of, link_at, collected}
-use Rattle.swi_board.specs.declared.hart.Stage.TheVariants.{Start, Low, Return, Leave}
-use Rattle.swi_board.specs.declared.hart.Control.{Control}
-use Rattle.swi_board.specs.declared.hart.Control.TheVariants.{At, Outside}
-use Rattle.swi_board.specs.Hart.{HartData, is_between}
-use Rattle.swi_board.specs.Board.{Agrees, Matches, Fits}
+use Rattle.swi_hart.specs.declared.hart.Stage.TheVariants.{Start, Low, Return, Leave}
+use Rattle.swi_hart.specs.declared.hart.Control.{Control}
+use Rattle.swi_hart.specs.declared.hart.Control.TheVariants.{At, Outside}
+use Rattle.swi_hart.specs.Hart.{HartData, is_between}
+use Rattle.swi_hart.specs.Matching.{Agrees, Matches, Fits}
 use Rattle.swi_rom.specs.Fifo.{fifo_second}
 use Rattle.swi_cached.specs.Cached.{CachedRun, slots_of, empty_record, record_at_boot}
 use Rattle.swi_cached.specs.Booted.{Booted}

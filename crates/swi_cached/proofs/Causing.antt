@@ -1,11 +1,11 @@
 -- Which faults a run answers.
 use Rattle.std.proofs.Common.{◌≡◌, ◌⊎◌, ℕ, Ok, Err, IsErrOf, refl, sym, ap, subst, inl, inr, arith}
 use Rattle.swi_outside.specs.Causes.{DeviceCause, PairCause}
-use Rattle.swi_board.specs.declared.fault.BoardFault.{BoardFault}
-use Rattle.swi_board.specs.declared.fault.BoardFault.TheVariants as board
-use Rattle.swi_board.specs.Calling.{OnDevice}
-use Rattle.swi_board.specs.Faults as board_faults
-use Rattle.swi_board.specs.Faults.{Faults}
+use Rattle.swi_hart.specs.declared.fault.BoardFault.{BoardFault}
+use Rattle.swi_hart.specs.declared.fault.BoardFault.TheVariants as board
+use Rattle.swi_hart.specs.Calling.{OnDevice}
+use Rattle.swi_hart.specs.Faults as board_faults
+use Rattle.swi_hart.specs.Faults.{Faults}
 use Rattle.swi_cached.specs.declared.run.CachedStop.{CachedStop}
 use Rattle.swi_cached.specs.declared.run.CachedStop.TheVariants as stop
 use Rattle.swi_cached.specs.Answers.{HasCauses, stop_of}

@@ -16,19 +16,19 @@ use Rattle.swi_rom.specs.Record.{Record, Transfer, writes}
 use Rattle.swi_rom.specs.Served.{SameFrom}
 use Rattle.swi_rom.specs.Slots.{Slots, kept_by, setting_of, span_of as span_by}
 use Rattle.swi_rom.specs.Sound.{SlotsSound}
-use Rattle.swi_board.specs.declared.hart.Stage.TheVariants.{Start, Low, Return, Leave}
-use Rattle.swi_board.specs.declared.hart.Control.{Control}
-use Rattle.swi_board.specs.declared.hart.Control.TheVariants.{At, Outside}
-use Rattle.swi_board.specs.Hart.{HartData, is_between, is_place}
-use Rattle.swi_board.specs.Leaving.{RamRan}
-use Rattle.swi_board.specs.Ran.{Ran}
-use Rattle.swi_board.specs.Runs.{depth, most, most_by, fetched_by}
+use Rattle.swi_hart.specs.declared.hart.Stage.TheVariants.{Start, Low, Return, Leave}
+use Rattle.swi_hart.specs.declared.hart.Control.{Control}
+use Rattle.swi_hart.specs.declared.hart.Control.TheVariants.{At, Outside}
+use Rattle.swi_hart.specs.Hart.{HartData, is_between, is_place}
+use Rattle.swi_board.specs.Ran.{RamRan, Ran}
+use Rattle.swi_hart.specs.Bounds.{depth, most, most_by}
+use Rattle.swi_board.specs.Runs.{fetched_by}
 use Rattle.swi_board.specs.Transfers.{transfers, cost, fetches, here_of, spent_by, spent_run, after_all}
 use Rattle.std.specs.Io.KnownBytes.{Appends}
 use Rattle.swi_cached.specs.Cached.{CachedRun, span_of, end_of, told_after, fetches_after, policy_of, record_after, record_at_boot}
 use Rattle.swi_cached.specs.Answers.{Ended, IsShort, RamAfter}
 use Rattle.swi_cached.specs.Booted.{Booted}
-use Rattle.swi_board.proofs.Growing.{depth_most}
+use Rattle.swi_hart.proofs.Growing.{depth_most}
 use Rattle.swi_board.proofs.Running.{kept_both}
 use Rattle.swi_cached.proofs.Boot.{same_between}
 

@@ -11,9 +11,9 @@ use Rattle.swi_calls.specs.Laws.{held_is_flat, held_stops, held_run_none}
 use Rattle.swi_image.specs.Format.{ImageData}
 use Rattle.swi_image.specs.Place.{place_of}
 use Rattle.swi_rom.specs.Slots.{Slots}
-use Rattle.swi_board.specs.declared.fault.BoardFault.{BoardFault}
-use Rattle.swi_board.specs.declared.fault.BoardFault.TheVariants.{SourceFault as board_source}
-use Rattle.swi_board.specs.Hart.{HartData}
+use Rattle.swi_hart.specs.declared.fault.BoardFault.{BoardFault}
+use Rattle.swi_hart.specs.declared.fault.BoardFault.TheVariants.{SourceFault as board_source}
+use Rattle.swi_hart.specs.Hart.{HartData}
 use Rattle.swi_board.specs.Ran.{RamBrokeOff, BrokeOff}
 use Rattle.swi_board.specs.Transfers.{size, fetches, spent_run, at_fall, settled, step_size, here_after}
 use Rattle.swi_cached.specs.declared.run.CachedStop.{CachedStop}

@@ -27,11 +27,11 @@ use Rattle.swi_calls.specs.StoresText.{next_store, word_store}
 use Rattle.swi_image.specs.Format.{ImageData}
 use Rattle.swi_image.specs.Place.{place_of}
 use Rattle.swi_render.specs.Carried.{Carries}
-use Rattle.swi_board.specs.declared.hart.Control.TheVariants.{Outside}
-use Rattle.swi_board.specs.Hart.{is_place, original, slots}
+use Rattle.swi_hart.specs.declared.hart.Control.TheVariants.{Outside}
+use Rattle.swi_hart.specs.Hart.{is_place, original, slots}
 use Rattle.swi_board.specs.Transfers.{Here, at_fall, settled, step_size, size, here_after, jumps_as}
 use Rattle.swi_board.proofs.Counting.{cost_none, cost_more, over_cost}
-use Rattle.swi_board.proofs.Kept.{image_same, next_text}
+use Rattle.swi_hart.proofs.Kept.{image_same, next_text}
 use Rattle.swi_cached.specs.Cached.{CachedRun, IsCounted, unfetched}
 
 -- ---- what an instruction leads to: a pc of 32 bits, or an ending that is not that of a fetch

@@ -7,12 +7,12 @@ use Rattle.swi_calls.specs.declared.end.End.{End}
 use Rattle.swi_calls.specs.declared.machine.Machine.{Machine}
 use Rattle.swi_image.specs.Format.{ImageData}
 use Rattle.swi_image.specs.Place.{word_at}
-use Rattle.swi_board.specs.declared.hart.Stage.TheVariants.{Start, Low, Return, Leave}
-use Rattle.swi_board.specs.declared.hart.Control.{Control}
-use Rattle.swi_board.specs.declared.hart.Control.TheVariants.{At, Outside}
-use Rattle.swi_board.specs.declared.hart.Role.TheVariants.{Whole}
-use Rattle.swi_board.specs.Hart.{index_of, place_under, is_between, instruction, original, first_role, role_of}
-use Rattle.swi_board.specs.Exchanged.{Exchanged, PlainAt, is_plain}
+use Rattle.swi_hart.specs.declared.hart.Stage.TheVariants.{Start, Low, Return, Leave}
+use Rattle.swi_hart.specs.declared.hart.Control.{Control}
+use Rattle.swi_hart.specs.declared.hart.Control.TheVariants.{At, Outside}
+use Rattle.swi_hart.specs.declared.hart.Role.TheVariants.{Whole}
+use Rattle.swi_hart.specs.Hart.{index_of, place_under, is_between, instruction, original, first_role, role_of}
+use Rattle.swi_hart.specs.Exchanged.{Exchanged, PlainAt, is_plain}
 
 held_or : {X : Type 0} → Option X → X → X
 held_or None x = x

@@ -11,7 +11,7 @@ use Rattle.swi_image.specs.Place.{place_of}
 use Rattle.swi_render.specs.Rendering.{Slot}
 use Rattle.swi_rom.specs.Fifo.{fifo, went, counted, arrived_services, fifo_second}
 use Rattle.swi_rom.specs.Record.{Record, Transfer, direct, indirect}
-use Rattle.swi_board.specs.Hart.{original, slots}
+use Rattle.swi_hart.specs.Hart.{original, slots}
 use Rattle.swi_board.specs.Transfers.{Here, at_fall, settled, here_after, jumps_as, fall_transfers, leaves_by, step_transfers, transfers, after_all}
 use Rattle.swi_cached.specs.Cached.{CachedRun, empty_record, policy_of, record_at_boot, record_after}
 

@@ -16,26 +16,26 @@ use Rattle.swi_calls.specs.Flat.{quiet}
 use Rattle.swi_calls.specs.Held.{held_made, held_run}
 use Rattle.swi_image.specs.Format.{ImageData}
 use Rattle.swi_rom.specs.Record.{Record, Transfer}
-use Rattle.swi_board.specs.declared.fault.BoardFault.{BoardFault}
-use Rattle.swi_board.specs.declared.fault.BoardFault.TheVariants.{RamFault, SourceFault, SinkFault}
-use Rattle.swi_board.specs.Calling.{BrokenStep, Made, OnDevice, with_memory}
-use Rattle.swi_board.specs.Hart.{HartData, completes}
-use Rattle.swi_board.specs.Leaving.{broken, RamBroken}
+use Rattle.swi_hart.specs.declared.fault.BoardFault.{BoardFault}
+use Rattle.swi_hart.specs.declared.fault.BoardFault.TheVariants.{RamFault, SourceFault, SinkFault}
+use Rattle.swi_hart.specs.Calling.{BrokenStep, Made, OnDevice, with_memory}
+use Rattle.swi_hart.specs.Hart.{HartData, completes}
+use Rattle.swi_hart.specs.Leaving.{broken, RamBroken}
 use Rattle.swi_board.specs.Runs.{fetched_by}
-use Rattle.swi_board.specs.declared.hart.Control.TheVariants.{At, Outside}
+use Rattle.swi_hart.specs.declared.hart.Control.TheVariants.{At, Outside}
 use Rattle.swi_outside.specs.Causes.{risen}
 use Rattle.swi_board.specs.Ran.{Ran, BrokeOff, RamBrokeOff}
-use Rattle.swi_board.specs.Faults.{Faults, HasCauses}
-use Rattle.swi_board.specs.Runs.{Grown, most, most_by}
+use Rattle.swi_hart.specs.Faults.{Faults, HasCauses}
+use Rattle.swi_hart.specs.Bounds.{Grown, most, most_by}
 use Rattle.swi_outside.specs.Causes.{Rose}
 use Rattle.swi_calls.specs.declared.end.End.TheVariants as end
-use Rattle.swi_board.specs.declared.hart.Control.{Control}
-use Rattle.swi_board.proofs.Growing.{depth_most}
+use Rattle.swi_hart.specs.declared.hart.Control.{Control}
+use Rattle.swi_hart.proofs.Growing.{depth_most}
 use Rattle.swi_board.proofs.Breaking.{device_broke, ram_breaks_off}
 use Rattle.swi_board.proofs.Held.{same_steps, run_snoc}
-use Rattle.swi_board.proofs.Midway.{step_follows}
+use Rattle.swi_hart.proofs.Midway.{step_follows}
 use Rattle.swi_board.proofs.Running.{Goes, goes_out}
-use Rattle.swi_board.proofs.Taking.{input_shrinks}
+use Rattle.swi_hart.proofs.Taking.{input_shrinks}
 use Rattle.swi_cached.specs.declared.told.Telling.{Telling}
 use Rattle.swi_cached.specs.Told.{addresses, error_by, history_of, is_each, next_error, of_steps, told_line}
 use Rattle.swi_cached.specs.Traced.{ToldRun, ToldBroke, ToldRamBroke}

@@ -12,11 +12,11 @@ use Rattle.swi_calls.specs.Held.{held_made, held_step, held_run}
 use Rattle.swi_calls.specs.Laws.{held_run_none, held_run_over, held_run_more}
 use Rattle.swi_image.specs.Format.{ImageData}
 use Rattle.swi_rom.specs.Record.{Record}
-use Rattle.swi_board.specs.declared.hart.Stage.TheVariants.{Start, Low, Return, Leave}
-use Rattle.swi_board.specs.declared.hart.Control.{Control}
-use Rattle.swi_board.specs.declared.hart.Control.TheVariants.{At, Outside}
-use Rattle.swi_board.specs.Board.{Stands, Agrees, Matches}
-use Rattle.swi_board.specs.Hart.{HartData, completes, next_made}
+use Rattle.swi_hart.specs.declared.hart.Stage.TheVariants.{Start, Low, Return, Leave}
+use Rattle.swi_hart.specs.declared.hart.Control.{Control}
+use Rattle.swi_hart.specs.declared.hart.Control.TheVariants.{At, Outside}
+use Rattle.swi_hart.specs.Matching.{Stands, Agrees, Matches}
+use Rattle.swi_hart.specs.Hart.{HartData, completes, next_made}
 use Rattle.swi_board.specs.Ran.{Followed}
 use Rattle.swi_board.proofs.Held.{same_steps, held_steps, run_snoc}
 use Rattle.swi_trace.specs.History.{IsLastOf}

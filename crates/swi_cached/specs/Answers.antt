@@ -8,10 +8,10 @@ use Rattle.swi_calls.specs.Held.{held_made}
 use Rattle.swi_calls.specs.declared.end.End.TheVariants.{StoreText}
 use Rattle.swi_rom.specs.Coherent.{Coherent}
 use Rattle.swi_rom.specs.Record.{Record, writes}
-use Rattle.swi_board.specs.declared.fault.BoardFault.{BoardFault}
-use Rattle.swi_board.specs.declared.fault.BoardFault.TheVariants as board
-use Rattle.swi_board.specs.Faults.{Faults}
-use Rattle.swi_board.specs.Hart.{HartData}
+use Rattle.swi_hart.specs.declared.fault.BoardFault.{BoardFault}
+use Rattle.swi_hart.specs.declared.fault.BoardFault.TheVariants as board
+use Rattle.swi_hart.specs.Faults.{Faults}
+use Rattle.swi_hart.specs.Hart.{HartData}
 use Rattle.swi_cached.specs.declared.run.CachedStop.{CachedStop}
 use Rattle.swi_cached.specs.declared.run.CachedStop.TheVariants.{RamFault, SourceFault, SinkFault}
 use Rattle.swi_cached.specs.Cached.{CachedRun, span_of, program_after, told_after, end_of, instructions_after, fetches_after, record_after, used_after}

@@ -7,9 +7,9 @@ use Rattle.swi_rom.specs.Fifo.{extent_of}
 use Rattle.swi_rom.specs.Served.{SameFrom}
 use Rattle.swi_rom.specs.Slots.{Slots, kept_by, setting_of}
 use Rattle.swi_rom.specs.Sound.{SlotsSound}
-use Rattle.swi_board.specs.Board.{Matches, Fits}
-use Rattle.swi_board.specs.Hart.{HartData, is_between}
-use Rattle.swi_board.specs.Leaving.{RamServed}
+use Rattle.swi_hart.specs.Matching.{Matches, Fits}
+use Rattle.swi_hart.specs.Hart.{HartData, is_between}
+use Rattle.swi_hart.specs.Leaving.{RamServed}
 use Rattle.swi_board.specs.Transfers.{here_of, spent_run}
 use Rattle.swi_cached.specs.Cached.{CachedRun, span_of, record_at_boot}
 

@@ -6,9 +6,9 @@ use Rattle.swi_calls.specs.State.{FlatState}
 use Rattle.swi_calls.specs.Held.{held_run}
 use Rattle.swi_image.specs.Format.{ImageData}
 use Rattle.swi_rom.specs.Record.{Record, Transfer}
-use Rattle.swi_board.specs.declared.fault.BoardFault.{BoardFault}
-use Rattle.swi_board.specs.declared.fault.BoardFault.TheVariants.{SourceFault}
-use Rattle.swi_board.specs.Hart.{HartData}
+use Rattle.swi_hart.specs.declared.fault.BoardFault.{BoardFault}
+use Rattle.swi_hart.specs.declared.fault.BoardFault.TheVariants.{SourceFault}
+use Rattle.swi_hart.specs.Hart.{HartData}
 use Rattle.swi_board.specs.Ran.{Ran, BrokeOff, RamBrokeOff}
 use Rattle.swi_cached.specs.declared.told.Telling.{Telling}
 use Rattle.swi_cached.specs.Told.{addresses, error_by, history_of, is_each, next_error, told_line}

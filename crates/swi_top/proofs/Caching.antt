@@ -24,13 +24,13 @@ use Rattle.swi_calls.specs.Flat.{flat_start}
 use Rattle.swi_calls.specs.State.{FlatState}
 use Rattle.swi_rom.specs.Record.{Record, writes}
 use Rattle.swi_report.specs.declared.stats.Work.{Work}
-use Rattle.swi_board.specs.Hart.{HartData}
+use Rattle.swi_hart.specs.Hart.{HartData}
 use Rattle.swi_cached.specs.declared.run.CachedStop.{CachedStop}
 use Rattle.swi_cached.specs.declared.run.CachedStop.TheVariants as stop
 use Rattle.swi_cached.specs.Answers as run
 use Rattle.swi_cached.specs.declared.told.Telling.{Telling}
 use Rattle.swi_cached.specs.Told.{addresses, history_of, next_error, told_line}
-use Rattle.swi_board.specs.Faults as board
+use Rattle.swi_hart.specs.Faults as board
 use Rattle.swi_memory.specs.Bus.{AreaData}
 use Rattle.std.proofs.Math.Seq.{take-append_seam, take-length}
 use Rattle.std.proofs.lemmas.List.{take-append-drop}

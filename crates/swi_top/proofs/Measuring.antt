@@ -23,7 +23,7 @@ use Rattle.swi_command.specs.CommandLine.{Request, MeasureMade}
 use Rattle.swi_command.specs.declared.command.CacheOptions.{CacheOptions}
 use Rattle.swi_calls.specs.declared.machine.Machine.{Machine}
 use Rattle.swi_rom.specs.Record.{Record}
-use Rattle.swi_board.specs.Hart.{HartData}
+use Rattle.swi_hart.specs.Hart.{HartData}
 use Rattle.swi_report.specs.declared.stats.Work.{Work}
 use Rattle.swi_cached.specs.Cached.{CachedRun, IsCounted, end_of, instructions_after, slots_of}
 use Rattle.swi_cached.specs.Answers as run

@@ -9,7 +9,7 @@ use Rattle.swi_command.specs.declared.command.RunOptions.{RunOptions}
 use Rattle.swi_calls.specs.Flat.{flat_start}
 use Rattle.swi_calls.specs.declared.end.End.{End}
 use Rattle.swi_rom.specs.Record.{Record, writes}
-use Rattle.swi_board.specs.Hart.{HartData}
+use Rattle.swi_hart.specs.Hart.{HartData}
 use Rattle.swi_report.specs.declared.stats.Work.{Work}
 use Rattle.swi_answer.specs.declared.answer.Ending.{Ending}
 use Rattle.swi_answer.specs.declared.answer.Refusal.{Refusal}

@@ -1,8 +1,8 @@
 //! A plain word of another hand in the ram: it is executed, and the run goes on as over the image's.
 
 ghost use Rattle.std.specs.Prelude.{◌≡◌, ◌<◌, ◌≤◌, Some, None, IfSome, IsOk, List, ℕ, length, slice_index, slice_set, true, false};
-ghost use Rattle.swi_board.specs.Board.{Fits};
-ghost use Rattle.swi_board.specs.Hart.{index_of, place_under, is_between};
+ghost use Rattle.swi_hart.specs.Matching.{Fits};
+ghost use Rattle.swi_hart.specs.Hart.{index_of, place_under, is_between};
 ghost use Rattle.swi_image.specs.Format.{ImageData};
 ghost use Rattle.swi_image.specs.Place.{word_at};
 ghost use Rattle.swi_image.specs.Sound.{IsImage};

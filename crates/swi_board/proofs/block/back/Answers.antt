@@ -8,12 +8,12 @@ use Rattle.swi_calls.specs.declared.machine.Machine.{Machine}
 use Rattle.swi_calls.specs.Flat.{quiet}
 use Rattle.swi_image.specs.Place.{word_at}
 use Rattle.swi_rom.specs.Coherent.{TargetAt}
-use Rattle.swi_board.specs.declared.hart.ExitKind.TheVariants.{Indirect}
-use Rattle.swi_board.specs.Hart.{HartData, exit_kind, stepped}
-use Rattle.swi_board.specs.Board.{ExitStep}
-use Rattle.swi_board.specs.Leaving.{moved}
+use Rattle.swi_hart.specs.declared.hart.ExitKind.TheVariants.{Indirect}
+use Rattle.swi_hart.specs.Hart.{HartData, exit_kind, stepped}
+use Rattle.swi_hart.specs.Matching.{ExitStep}
+use Rattle.swi_hart.specs.Leaving.{moved}
 use Rattle.swi_board.specs.Walked.{landed, place_shown, walk_control, walk_machine}
-use Rattle.swi_board.proofs.Leaving.{ram_answered}
+use Rattle.swi_hart.proofs.Leaving.{ram_answered}
 use Rattle.swi_board.proofs.Turning.{turned_step, turned_transfer}
 use Rattle.swi_board.proofs.block.back.Goals as goal
 

@@ -2,17 +2,18 @@ use Rattle.std.proofs.Common.{rules, ◌≡◌, ◌==◌, ◌+◌, ◌^◌, ◌<
 use Rattle.swi_rom.specs.Coherent.{TargetAt}
 use Rattle.swi_image.specs.Place.{word_at}
 use Rattle.swi_calls.specs.Flat.{quiet}
-use Rattle.swi_board.specs.declared.hart.Control.{Control}
-use Rattle.swi_board.specs.declared.hart.Control.TheVariants.{At}
-use Rattle.swi_board.specs.declared.hart.Stage.TheVariants.{Start}
+use Rattle.swi_hart.specs.declared.hart.Control.{Control}
+use Rattle.swi_hart.specs.declared.hart.Control.TheVariants.{At}
+use Rattle.swi_hart.specs.declared.hart.Stage.TheVariants.{Start}
 use Rattle.swi_board.specs.declared.block.Walk.{Walk}
-use Rattle.swi_board.specs.Board.{Arrives}
-use Rattle.swi_board.specs.Hart.{is_fall}
-use Rattle.swi_board.specs.Leaving.{fell}
+use Rattle.swi_hart.specs.Matching.{Arrives}
+use Rattle.swi_hart.specs.Hart.{is_fall}
+use Rattle.swi_hart.specs.Leaving.{fell}
 use Rattle.swi_board.specs.Walked.{landed, walk_control, walk_machine, walk_pc}
-use Rattle.swi_board.proofs.Falls.{back_at, fell_is, fell_here, over_link}
-use Rattle.swi_board.proofs.Fetching.{exit_home, home_stands, placed}
-use Rattle.swi_board.proofs.Leaving.{link_leaves, link_target, target_arrives, target_stands}
+use Rattle.swi_hart.proofs.Falls.{back_at, fell_is, fell_here}
+use Rattle.swi_board.proofs.Walking.{over_link}
+use Rattle.swi_hart.proofs.Fetching.{exit_home, home_stands, placed}
+use Rattle.swi_hart.proofs.Leaving.{link_leaves, link_target, target_arrives, target_stands}
 use Rattle.swi_board.proofs.block.follow.Goals as goal
 
 pub returns-clause-on : goal.returns-clause-on

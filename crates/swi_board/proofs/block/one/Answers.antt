@@ -2,8 +2,8 @@ use Rattle.std.proofs.Common.{◌≡◌, ◌+◌, false, sym, ap, subst, ◌∙�
 use Rattle.swi_calls.specs.declared.machine.Machine.{Machine}
 use Rattle.swi_memory.specs.Bus.{fetched}
 use Rattle.swi_board.specs.declared.block.Walk.{Walk}
-use Rattle.swi_board.specs.Hart.{HartData, instruction}
-use Rattle.swi_board.specs.Leaving.{leaves, quick_role}
+use Rattle.swi_hart.specs.Hart.{HartData, instruction}
+use Rattle.swi_hart.specs.Leaving.{leaves, quick_role}
 use Rattle.swi_board.specs.Walked.{is_stop, role_by, walk_control, walk_count, walk_machine, WalksTo, WordOn}
 use Rattle.swi_board.proofs.Walking.{jal_links, word_on, gone_counted, gone_place, gone_within}
 use Rattle.swi_board.proofs.block.one.Goals as goal

@@ -1,13 +1,13 @@
 use Rattle.std.proofs.Common.{◌≡◌, ◌+◌, ◌-◌, ◌*◌, ◌<◌, ℕ, Some, refl, sym, ap, subst, ◌∙◌, arith}
 use Rattle.swi_isa.specs.Decode.{decoded}
 use Rattle.swi_outside.specs.CacheRam.{RamState}
-use Rattle.swi_board.specs.Hart.{HartData}
+use Rattle.swi_hart.specs.Hart.{HartData}
 use Rattle.swi_board.specs.declared.block.Walk.{Walk}
-use Rattle.swi_board.specs.Runs.{most}
+use Rattle.swi_hart.specs.Bounds.{most}
 use Rattle.swi_board.specs.Walked.{landed, place_shown, walk_control, walk_count, walk_hart, walk_machine, walk_made, walk_pc, walk_steps, JumpOn, Walked, WalkedOn, WalksTo}
 use Rattle.swi_board.proofs.Walking.{break_leaves, exit_stands, has_room, is_shown, jumps_on, landed_counted, landed_within, steps_left, steps_on, started, walks_on}
-use Rattle.swi_board.proofs.Fetching.{index_below}
-use Rattle.swi_board.proofs.Leaving.{shown_place}
+use Rattle.swi_hart.proofs.Fetching.{index_below}
+use Rattle.swi_hart.proofs.Leaving.{shown_place}
 use Rattle.swi_board.proofs.block.run_block.Given.{Over}
 use Rattle.swi_board.proofs.block.run_block.Goals as goal
 

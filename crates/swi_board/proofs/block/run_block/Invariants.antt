@@ -1,5 +1,5 @@
 use Rattle.std.proofs.Common.{◌≡◌, ◌+◌, ◌-◌, ◌*◌, ◌<◌, ◌^◌, Ok, None}
-use Rattle.swi_board.specs.Runs.{most}
+use Rattle.swi_hart.specs.Bounds.{most}
 use Rattle.swi_board.specs.Walked.{place_shown, walk_control, walk_count, walk_hart, walk_machine, WalksTo, Walked, StandsInside}
 use Rattle.swi_board.proofs.block.run_block.Given as goal
 

@@ -3,7 +3,7 @@ use Rattle.swi_rom.specs.Fifo.{fifo, extent_of}
 use Rattle.swi_rom.specs.Record.{Record, indirect, writes}
 use Rattle.swi_rom.specs.Served.{SameFrom}
 use Rattle.swi_rom.specs.Slots.{kept_by, setting_of, span_of as span_by}
-use Rattle.swi_board.specs.Leaving.{RamServed}
+use Rattle.swi_hart.specs.Leaving.{RamServed}
 use Rattle.swi_cached.specs.Cached.{slots_of, empty_record}
 use Rattle.swi_cached.proofs.Boot.{wrote_at_boot}
 use Rattle.swi_cached.proofs.run.boot.Goals as goal

@@ -8,16 +8,16 @@ use Rattle.swi_rom.specs.Fifo.{fifo, extent_of, fifo_third, fifo_grows}
 use Rattle.swi_rom.specs.Record.{writes}
 use Rattle.swi_rom.specs.Served.{SameFrom}
 use Rattle.swi_rom.specs.Slots.{kept_by, setting_of, span_of}
-use Rattle.swi_board.specs.Hart.{HartData, next_made}
-use Rattle.swi_board.specs.Leaving.{moved, transfer_at, RamStepped}
+use Rattle.swi_hart.specs.Hart.{HartData, next_made}
+use Rattle.swi_hart.specs.Leaving.{moved, transfer_at, RamStepped}
 use Rattle.swi_board.specs.Ran.{Followed}
 use Rattle.swi_cached.specs.Traced.{ToldRamBroke}
 use Rattle.swi_board.proofs.Held.{same_steps}
 use Rattle.swi_board.proofs.Running.{started_run, runs_on, falls, kept_both, count_small, calls_small}
-use Rattle.swi_board.proofs.Grown.{moved_rises}
+use Rattle.swi_hart.proofs.Grown.{moved_rises}
 use Rattle.swi_board.proofs.Settling.{settles_on}
-use Rattle.swi_board.specs.declared.fault.BoardFault.TheVariants.{RamFault, SourceFault}
-use Rattle.swi_board.proofs.Causing.{causes_none, causes_from}
+use Rattle.swi_hart.specs.declared.fault.BoardFault.TheVariants.{RamFault, SourceFault}
+use Rattle.swi_hart.proofs.Causing.{causes_none, causes_from}
 use Rattle.swi_cached.proofs.Causing.{causes_as, fault_as}
 use Rattle.swi_cached.proofs.Quiet.{first_empty, nothing_told, quiet_broke, quiet_ram, quiet_run}
 use Rattle.swi_cached.specs.Told.{is_each, told_line}

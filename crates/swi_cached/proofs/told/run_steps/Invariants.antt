@@ -7,10 +7,10 @@ use Rattle.swi_rom.specs.Fifo.{fifo, extent_of}
 use Rattle.swi_rom.specs.Served.{SameFrom}
 use Rattle.swi_rom.specs.Slots.{kept_by, setting_of, span_of}
 use Rattle.swi_rom.specs.Sound.{SlotsSound}
-use Rattle.swi_board.specs.Board.{Matches}
-use Rattle.swi_board.specs.Hart.{is_between}
-use Rattle.swi_board.specs.Faults.{Faults}
-use Rattle.swi_board.specs.Runs.{most}
+use Rattle.swi_hart.specs.Matching.{Matches}
+use Rattle.swi_hart.specs.Hart.{is_between}
+use Rattle.swi_hart.specs.Faults.{Faults}
+use Rattle.swi_hart.specs.Bounds.{most}
 use Rattle.swi_board.proofs.Running.{Running, point}
 use Rattle.swi_cached.specs.Told.{is_each}
 use Rattle.swi_cached.proofs.Tells.{Tells}

@@ -2,9 +2,10 @@ use Rattle.std.proofs.Common.{◌+◌, Bool, Some, None, if◌then◌else◌, ap
 use Rattle.swi_memory.specs.Bus.{fetched}
 use Rattle.swi_program.specs.Text.{text_of, word_of}
 use Rattle.swi_rom.specs.Record.{indirect}
-use Rattle.swi_board.specs.Hart.{HartData}
-use Rattle.swi_board.specs.Leaving.{moved, entries, entry_transfer}
-use Rattle.swi_board.proofs.Kept.{image_same}
+use Rattle.swi_hart.specs.Hart.{HartData}
+use Rattle.swi_hart.specs.Leaving.{moved}
+use Rattle.swi_board.specs.Board.{entries, entry_transfer}
+use Rattle.swi_hart.proofs.Kept.{image_same}
 use Rattle.swi_board.proofs.Entering.{text_place, text_some}
 use Rattle.swi_board.proofs.board.Board.boot.Goals as goal
 

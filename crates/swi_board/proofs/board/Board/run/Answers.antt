@@ -1,16 +1,16 @@
 use Rattle.std.proofs.Common.{◌≡◌, ◌<◌, ◌≤◌, slice_index, ℕ, List, Some, None, is_some, true, sym, ◌∙◌, refl, subst, ap, inl, inr, arith, rules}
 use Rattle.std.proofs.lemmas.Result.{err_from_is_err_and}
 use Rattle.swi_rom.specs.Record.{writes}
-use Rattle.swi_board.specs.Hart.{HartData}
+use Rattle.swi_hart.specs.Hart.{HartData}
 use Rattle.swi_board.specs.Board.{BoardOf}
-use Rattle.swi_board.specs.Walked.{Answered}
+use Rattle.swi_hart.specs.MachineStep.{Answered}
 use Rattle.swi_board.proofs.Running.{started_run, count_small, calls_small, no_less, runs_on, goes_out, falls, kept_both}
 use Rattle.swi_board.proofs.Breaking.{device_run, ram_run}
 use Rattle.swi_board.proofs.Settling.{settles_on}
-use Rattle.swi_board.proofs.Causing.{causes_ram, causes_from, same_ram}
+use Rattle.swi_hart.proofs.Causing.{causes_ram, causes_from, same_ram}
 use Rattle.swi_board.proofs.Blocks.{stands, walk, word_falls, begins, falls_from, lower, at_limit, before_word, before_fault, home_at, used, same_index, not_ended}
-use Rattle.swi_board.proofs.Fetching.{home_stands}
-use Rattle.swi_board.proofs.Steps.{ram_unfetched}
+use Rattle.swi_hart.proofs.Fetching.{home_stands}
+use Rattle.swi_hart.proofs.Steps.{ram_unfetched}
 use Rattle.swi_outside.specs.CacheRam.{RamState}
 use Rattle.swi_board.proofs.board.Board.run.Goals as goal
 

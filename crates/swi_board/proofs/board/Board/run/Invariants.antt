@@ -1,8 +1,8 @@
 use Rattle.std.proofs.Common.{◌≡◌, ◌⊎◌, ◌<◌, ◌*◌, ◌+◌, ◌-◌, ℕ, List, Some, None, true}
 use Rattle.swi_rom.specs.Served.{SameFrom}
-use Rattle.swi_board.specs.Hart.{is_between}
-use Rattle.swi_board.specs.Faults.{Faults}
-use Rattle.swi_board.specs.Runs.{most}
+use Rattle.swi_hart.specs.Hart.{is_between}
+use Rattle.swi_hart.specs.Faults.{Faults}
+use Rattle.swi_hart.specs.Bounds.{most}
 use Rattle.swi_board.proofs.Running.{Running, point}
 use Rattle.swi_board.proofs.board.Board.run.Given as goal
 

@@ -1,10 +1,11 @@
 use Rattle.std.proofs.Common.{◌≡◌, sym, ◌∙◌, ap, subst, None, inl, inr}
 use Rattle.std.proofs.lemmas.Bool.{false≢true}
-use Rattle.swi_board.specs.declared.hart.Control.{Control}
-use Rattle.swi_board.specs.Board.{BoardOf, Fits, Matches}
+use Rattle.swi_hart.specs.declared.hart.Control.{Control}
+use Rattle.swi_board.specs.Board.{BoardOf}
+use Rattle.swi_hart.specs.Matching.{Fits, Matches}
 use Rattle.swi_board.proofs.Following.{followed}
-use Rattle.swi_board.proofs.Homes.{home}
-use Rattle.swi_board.proofs.Results.{ok_map, ok_map_2}
+use Rattle.swi_hart.proofs.Homes.{home}
+use Rattle.swi_hart.proofs.Results.{ok_map, ok_map_2}
 use Rattle.swi_board.proofs.board.Board.step.Goals as goal
 
 pub plain_step-requires-clause-home : goal.plain_step-requires-clause-home

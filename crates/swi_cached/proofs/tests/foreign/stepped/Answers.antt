@@ -1,7 +1,7 @@
 use Rattle.std.proofs.Common.{Option, is_some, refl, sym, ap, subst, ◌∙◌}
 use Rattle.swi_calls.specs.declared.end.End.{End}
-use Rattle.swi_board.specs.Hart.{HartData, is_between}
-use Rattle.swi_board.specs.Board.{Fits}
+use Rattle.swi_hart.specs.Hart.{HartData, is_between}
+use Rattle.swi_hart.specs.Matching.{Fits}
 use Rattle.swi_cached.proofs.Foreign.{on_ok, none_of}
 use Rattle.swi_cached.proofs.tests.foreign.stepped.Goals as goal
 

@@ -1,5 +1,5 @@
 use Rattle.std.proofs.Common.{List, ℕ, sym, inl, inr, ◌∙◌}
-use Rattle.swi_board.specs.declared.hart.Stage.TheVariants.{Start}
+use Rattle.swi_hart.specs.declared.hart.Stage.TheVariants.{Start}
 use Rattle.swi_cached.proofs.Foreign.{control_is, own_role, plain_at, exchanged, still_sound, on_ok}
 use Rattle.swi_cached.proofs.tests.foreign.steps_over.Goals as goal
 

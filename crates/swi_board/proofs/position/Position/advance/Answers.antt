@@ -1,8 +1,0 @@
-use Rattle.std.proofs.Common.{◌∙◌, arith}
-use Rattle.swi_board.proofs.Advancing.{advanced}
-use Rattle.swi_board.proofs.position.Position.advance.Goals as goal
-
-pub returns : goal.returns
-returns c =
-    advanced c.self.inside.stage c.self.inside.index c.self.inside.first c.self.inside.block c.args.words c.args.at.0 c.args.at.1 c.args.at.2 c.args.at.3 c.args.stage
-    (c.self.view_is ∙ c.requires.control) (omega arith) c.requires.inside c.requires.few

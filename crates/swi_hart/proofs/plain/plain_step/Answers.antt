@@ -1,0 +1,95 @@
+use Rattle.std.proofs.Common.{ℕ, List, [], refl, sym, ap, ◌∙◌, slice_index, arith}
+use Rattle.swi_isa.specs.Decode.{decoded}
+use Rattle.swi_outside.specs.CacheRam.{RamState}
+use Rattle.swi_hart.specs.Hart.{HartData, role_of, original}
+use Rattle.swi_hart.specs.Exchanged.{is_plain}
+use Rattle.swi_hart.specs.Leaving.{broken}
+use Rattle.swi_hart.proofs.Answered.{ram_stopped}
+use Rattle.swi_hart.proofs.Causing.{causes_none}
+use Rattle.swi_hart.proofs.Exchanging.{plain_home, put_back, own_word, plain_below, plain_held, no_call, made_plain, fits_plain, grown_plain, executes_plain, whole_plain, same_at, stage_same}
+use Rattle.swi_hart.proofs.Falls.{ram_same}
+use Rattle.swi_hart.proofs.Fetching.{offset_small, word_moves}
+use Rattle.swi_hart.proofs.Steps.{ram_exit, ram_unfetched}
+use Rattle.swi_hart.proofs.plain.plain_step.Goals as goal
+
+pub returns-in-Err : goal.returns-in-Err
+returns-in-Err g c =
+    let v = c.args.image.now in
+    let r = g.R.CacheRom.kept c.args.rom.now in
+    let h = c.args.hart.now in
+    let ram = g.M.CacheRam.state c.args.ram.now in
+    let span = g.R.CacheRom.span (g.R.CacheRom.setting c.args.rom.now) in
+    let sound = λ (ws : List ℕ). g.R.CacheRom.sound c.args.rom.now v ws in
+    let coherent = λ (ws : List ℕ) (s : g.R.CacheRom.sound c.args.rom.now v ws). g.met.R.CacheRom.coherent c.args.rom.now v ws s in
+    let plain = ap (λ (w : ℕ). is_plain (decoded w)) (sym c.requires.own) ∙ c.requires.plain in
+    let below = plain_below v r h.machine span ram.words c.args.at.0 c.args.at.1 c.args.at.2 c.args.at.3 sound coherent c.requires.home h.control c.requires.control plain c.requires.sound in
+    let failed = ram_unfetched v h.machine h.control _ c.args.at.0 c.args.at.1 c.args.at.2 c.args.at.3 _ _ c.requires.control below c.in-Err.ensures.fetched in
+    record { stepped = ram_stopped _ _ _ _ _ _ _ (ap broken c.hart.view_is) refl failed; executes = tt; whole = tt }
+
+pub run_word-requires : goal.run_word-requires
+run_word-requires g c =
+    let v = c.args.image.now in
+    let r = g.R.CacheRom.kept c.args.rom.now in
+    let h = c.args.hart.now in
+    let ram = g.M.CacheRam.state c.args.ram.now in
+    let span = g.R.CacheRom.span (g.R.CacheRom.setting c.args.rom.now) in
+    let sound = λ (ws : List ℕ). g.R.CacheRom.sound c.args.rom.now v ws in
+    let coherent = λ (ws : List ℕ) (s : g.R.CacheRom.sound c.args.rom.now v ws). g.met.R.CacheRom.coherent c.args.rom.now v ws s in
+    let plain = ap (λ (w : ℕ). is_plain (decoded w)) (sym c.requires.own) ∙ c.requires.plain in
+    let below = plain_below v r h.machine span ram.words c.args.at.0 c.args.at.1 c.args.at.2 c.args.at.3 sound coherent c.requires.home h.control c.requires.control plain c.requires.sound in
+    let put = put_back v r h.machine span ram.words c.args.at.0 c.args.at.1 c.args.at.2 c.args.at.3 sound coherent c.requires.home h.control c.requires.control plain c.requires.sound in
+    let small = g.met.R.CacheRom.small _ _ _ put in
+    record {
+      running = c.requires.ready.running;
+      few = c.requires.ready.few;
+      count = c.requires.ready.count;
+      control = c.requires.control;
+      small = omega (arith, below, small);
+      inside = offset_small v r h.machine _ _ c.args.at.0 c.args.at.1 c.args.at.2 c.args.at.3 (coherent _ put) c.requires.home (g.met.R.CacheRom.image _ _ _ put);
+    }
+
+pub returns : goal.returns
+returns g c =
+    let v = c.args.image.now in
+    let r = g.R.CacheRom.kept c.args.rom.now in
+    let h = c.args.hart.now in
+    let ram = g.M.CacheRam.state c.args.ram.now in
+    let span = g.R.CacheRom.span (g.R.CacheRom.setting c.args.rom.now) in
+    let sound = λ (ws : List ℕ). g.R.CacheRom.sound c.args.rom.now v ws in
+    let coherent = λ (ws : List ℕ) (s : g.R.CacheRom.sound c.args.rom.now v ws). g.met.R.CacheRom.coherent c.args.rom.now v ws s in
+    let policy = g.R.CacheRom.policy (g.R.CacheRom.setting c.args.rom.now) in
+    let plain = ap (λ (w : ℕ). is_plain (decoded w)) (sym c.requires.own) ∙ c.requires.plain in
+    let held = plain_held v r h.machine span ram.words c.args.at.0 c.args.at.1 c.args.at.2 c.args.at.3 sound coherent c.requires.home h.control c.requires.control plain c.requires.sound in
+    let held_is = sym c.in-Some-Some.is-1 ∙ c.decode-2.ensures ∙ ap decoded c.in-Ok.ensures.fetched.0 in
+    let own_is = sym c.in-Some-Some.is-0 ∙ c.decode.ensures ∙ ap decoded c.requires.own in
+    let runs = no_call c.in-Some-Some.x c.run_word.result (ap is_plain held_is ∙ held) c.run_word.ensures.asks in
+    let below = plain_below v r h.machine span ram.words c.args.at.0 c.args.at.1 c.args.at.2 c.args.at.3 sound coherent c.requires.home h.control c.requires.control plain c.requires.sound in
+    let w = plain_home v r h.machine c.args.at.0 c.args.at.1 c.args.at.2 c.args.at.3 c.requires.home plain in
+    let same = ram_same span r (g.M.CacheRam.state c.fetch.new.self) in
+    let fetched = c.in-Ok.ensures.fetched.1 in
+    let ran = (c.run_word.ensures.ran runs).ran [] in
+    record {
+      stepped = record {
+        made = λ s left told. made_plain v r h c.run_word.new.hart ram.words c.args.at.0 c.args.at.1 c.args.at.2 c.args.at.3 c.requires.home c.requires.control plain c.in-Some-Some.image_word c.in-Some-Some.x c.role-role.result own_is held_is c.role-role.ensures ((c.run_word.ensures.ran runs).ran) (own_word v r h.machine span ram.words c.args.at.0 c.args.at.1 c.args.at.2 c.args.at.3 sound coherent c.requires.home h.control c.requires.control plain s) (c.run_word.ensures.ran runs).took (c.run_word.ensures.ran runs).output (c.run_word.ensures.ran runs).error left _ _ _ told;
+        fits = λ s. fits_plain v r h c.run_word.new.hart ram.words c.args.at.0 c.args.at.1 c.args.at.2 c.args.at.3 c.requires.home c.requires.control plain c.in-Some-Some.image_word c.in-Some-Some.x c.role-role.result own_is held_is c.role-role.ensures ((c.run_word.ensures.ran runs).ran) (own_word v r h.machine span ram.words c.args.at.0 c.args.at.1 c.args.at.2 c.args.at.3 sound coherent c.requires.home h.control c.requires.control plain s) c.requires.ready.fits (sym c.requires.ready.running) c.requires.word;
+        counted = record { count = ap (λ (k : HartData). k.count) ran; failed = ap (λ (k : HartData). k.failed) ran; booted = ap (λ (k : HartData). k.booted) ran };
+        policy = rw c.requires.control (word_moves v r h.machine c.args.at.0 c.args.at.1 c.args.at.2 c.args.at.3 policy r w);
+        setting = refl;
+        sound = λ s. rw fetched s;
+        unused = λ i le. ap (λ (k : RamState). slice_index k.words i) fetched;
+        ram = ram_exit _ _ c.args.at.0 c.args.at.1 c.args.at.2 c.args.at.3 h.control _ _ _ c.requires.control below fetched same;
+        grown = λ s. grown_plain v r h c.run_word.new.hart ram.words c.args.at.0 c.args.at.1 c.args.at.2 c.args.at.3 c.requires.home c.requires.control plain c.in-Some-Some.image_word c.in-Some-Some.x c.role-role.result own_is held_is c.role-role.ensures ((c.run_word.ensures.ran runs).ran) (own_word v r h.machine span ram.words c.args.at.0 c.args.at.1 c.args.at.2 c.args.at.3 sound coherent c.requires.home h.control c.requires.control plain s) (sym c.requires.ready.running);
+        stopped = tt;
+        broke = λ s. tt;
+        unwritten = λ e. absurd (cc);
+        others_stay = λ e. absurd (cc);
+        ram_failed = λ e. absurd (cc);
+        kept = (ram_exit _ _ c.args.at.0 c.args.at.1 c.args.at.2 c.args.at.3 h.control _ _ _ c.requires.control below fetched same).kept;
+        causes = causes_none _ _ _ (ap (λ (k : RamState). record { ram = k.faults; input = g.I.Source.faults c.args.input.now; out = g.O.Sink.faults c.args.out.now; err = g.E.Sink.faults c.args.err.now }) fetched);
+      };
+      executes = λ i b o stage p. same_at h c.run_word.new.hart c.args.rom.now ram.words (g.M.CacheRam.state c.fetch.new.self).words c.args.at.0 c.args.at.1 c.args.at.2 c.args.at.3 i b o stage _ _ _ (sym c.requires.control ∙ p.control) (ap (λ (k : RamState). k.words) fetched)
+          (λ y is. executes_plain v r h c.run_word.new.hart ram.words c.args.at.0 c.args.at.1 c.args.at.2 c.args.at.3 c.requires.home c.requires.control plain c.in-Some-Some.image_word c.in-Some-Some.x c.role-role.result own_is held_is c.role-role.ensures (c.run_word.ensures.ran runs).ran y is);
+      whole = λ i b o stage p whole.
+          let stage_is = stage_same c.args.at.0 c.args.at.1 c.args.at.2 c.args.at.3 i b o stage (sym c.requires.control ∙ p.control) in
+          whole_plain v r h c.run_word.new.hart ram.words c.args.at.0 c.args.at.1 c.args.at.2 c.args.at.3 c.requires.home c.requires.control plain c.in-Some-Some.image_word c.in-Some-Some.x c.role-role.result own_is held_is c.role-role.ensures (c.run_word.ensures.ran runs).ran (ap is_plain held_is ∙ held) (ap (λ k. role_of k (original h.machine)) stage_is ∙ whole) c.requires.ready.fits c.requires.ready.running c.requires.word;
+    }

@@ -1,0 +1,142 @@
+use Rattle.std.proofs.Common.{◌≡◌, Option, ap, subst, ◌+◌, ℕ, List, slice_index, sym, ◌∙◌, refl}
+use Rattle.swi_outside.specs.CacheRam.{RamState}
+use Rattle.swi_image.specs.Place.{word_at}
+use Rattle.swi_memory.specs.Bus.{AreaData}
+use Rattle.swi_calls.specs.Causes as calls
+use Rattle.swi_hart.specs.Calling.{Moved, with_memory}
+use Rattle.swi_hart.specs.Hart.{HartData, exit_kind, original}
+use Rattle.swi_hart.specs.Leaving.{exit_transfer, quick_role, broken}
+use Rattle.swi_hart.proofs.Answered.{ram_stopped}
+use Rattle.swi_hart.proofs.Causing.{causes_none, causes_answer, on_device, source_failed, ram_unfailed}
+use Rattle.swi_hart.proofs.Falls.{ram_same}
+use Rattle.swi_hart.proofs.Fetching.{got_some, index_below, exit_home, word_home, exit_moves, word_moves}
+use Rattle.swi_hart.proofs.Grown.{grown_exit, grown_word, moved_services}
+use Rattle.swi_hart.proofs.Steps.{made_exit, fits_exit, made_word, fits_word, exit_placed, broken_word, ram_exit, ram_unserved, kept_after}
+use Rattle.swi_hart.proofs.quick.at_word.Goals as goal
+
+pub unreachable-requires : goal.unreachable-requires
+unreachable-requires g c =
+    got_some c.args.image.now (g.R.CacheRom.kept c.args.rom.now) c.args.hart.now.machine _ _ c.args.at.0 c.args.at.1 c.args.at.2 c.args.at.3
+    (g.met.R.CacheRom.coherent _ _ _ c.requires.sound) c.requires.home c.args.got c.requires.got (sym c.in_default.is ∙ c.decode.ensures)
+
+pub exit_step-requires-clause-home : goal.exit_step-requires-clause-home
+exit_step-requires-clause-home g c =
+    exit_home c.args.image.now (g.R.CacheRom.kept c.args.rom.now) c.args.hart.now.machine _ _ c.args.at.0 c.args.at.1 c.args.at.2 c.args.at.3
+    (g.met.R.CacheRom.coherent _ _ _ c.requires.sound) c.requires.home c.args.got c.in-Some.x c.requires.got (sym c.in-Some.is ∙ c.decode.ensures) (sym c.leaves.ensures ∙ c.if-leaves.true)
+
+pub returns-in-Ok : goal.returns-in-Ok
+returns-in-Ok g c = λ before fetched.
+    let v = c.args.image.now in
+    let r = g.R.CacheRom.kept c.args.rom.now in
+    let new = g.R.CacheRom.kept c.exit_step.new.rom in
+    let h = c.args.hart.now in
+    let policy = g.R.CacheRom.policy (g.R.CacheRom.setting c.args.rom.now) in
+    let coherent = g.met.R.CacheRom.coherent _ _ _ c.requires.sound in
+    let e = exit_home v r h.machine _ _ c.args.at.0 c.args.at.1 c.args.at.2 c.args.at.3
+    coherent c.requires.home c.args.got c.in-Some.x c.requires.got (sym c.in-Some.is ∙ c.decode.ensures) (sym c.leaves.ensures ∙ c.if-leaves.true) in
+    let below = index_below v r h.machine _ _ c.args.at.0 c.args.at.1 c.args.at.2 c.args.at.3 coherent c.requires.home in
+    let s = c.in-Ok.ensures in
+    let more = moved_services policy (λ r v t. g.met.R.CacheRom.second (g.R.CacheRom.setting c.args.rom.now) r v t) r new v
+    (exit_transfer (exit_kind (word_at v c.args.at.1 (c.args.at.2 + 1))) v h.machine c.args.at.1 c.args.at.2) s.served.policy in
+    record {
+      made = λ sound left told. made_exit v r new h c.exit_step.new.hart c.args.at.0 c.args.at.1 c.args.at.2 c.args.at.3 c.requires.control left _ _ _ e s.step s.counted told;
+      fits = λ sound. fits_exit v r new h c.exit_step.new.hart c.args.at.0 c.args.at.1 c.args.at.2 c.args.at.3 c.requires.control c.requires.ready.fits (sym c.requires.ready.running) c.requires.word e s.step s.counted;
+      counted = s.counted;
+      policy = rw c.requires.control (exit_moves v new h.machine c.args.at.0 c.args.at.1 c.args.at.2 c.args.at.3 policy r e s.served.policy);
+      setting = s.served.setting;
+      sound = λ sound. s.served.sound;
+      unused = λ j le. s.served.unused j le ∙ ap (λ (k : RamState). slice_index k.words j) fetched.1;
+      ram = ram_exit _ _ c.args.at.0 c.args.at.1 c.args.at.2 c.args.at.3 h.control before _ _ c.requires.control below fetched.1 s.served.ram;
+      grown = λ sound. grown_exit v r new h c.exit_step.new.hart c.args.at.0 c.args.at.1 c.args.at.2 c.args.at.3 c.requires.control (sym c.requires.ready.running) e s.step s.counted more;
+      stopped = tt;
+      broke = λ sound. tt;
+      unwritten = λ is. absurd (cc);
+      others_stay = λ is. absurd (cc);
+      ram_failed = λ is. absurd (cc);
+      kept = kept_after _ c.args.at.0 before _ _ below fetched.1 s.served.ram.kept;
+      causes = causes_none _ _ _ (ap (λ (n : ℕ). record { ram = n; input = g.I.Source.faults c.args.input.now; out = g.O.Sink.faults c.args.out.now; err = g.E.Sink.faults c.args.err.now }) (s.served.ram.quiet ∙ ap (λ (k : RamState). k.faults) fetched.1));
+    }
+
+pub returns-in-Err : goal.returns-in-Err
+returns-in-Err g c = λ before fetched.
+    let v = c.args.image.now in
+    let r = g.R.CacheRom.kept c.args.rom.now in
+    let h = c.args.hart.now in
+    let coherent = g.met.R.CacheRom.coherent _ _ _ c.requires.sound in
+    let e = exit_home v r h.machine _ _ c.args.at.0 c.args.at.1 c.args.at.2 c.args.at.3
+    coherent c.requires.home c.args.got c.in-Some.x c.requires.got (sym c.in-Some.is ∙ c.decode.ensures) (sym c.leaves.ensures ∙ c.if-leaves.true) in
+    let below = index_below v r h.machine _ _ c.args.at.0 c.args.at.1 c.args.at.2 c.args.at.3 coherent c.requires.home in
+    let s = c.in-Err.ensures in
+    ram_stopped _ _ _ _ _ _ _ (ap broken (c.hart.view_is ∙ s.stays)) s.served.setting
+    (ram_unserved v h.machine h.control _ c.args.at.0 c.args.at.1 c.args.at.2 c.args.at.3 before _ _ c.requires.control below fetched.1 s.served.failed
+    (exit_placed v h.machine h.control c.args.at.0 c.args.at.1 c.args.at.2 c.args.at.3 c.requires.control e s.served.placed))
+
+pub returns-in-Ok-role_step : goal.returns-in-Ok-role_step
+returns-in-Ok-role_step g c = λ before fetched.
+    let v = c.args.image.now in
+    let r = g.R.CacheRom.kept c.args.rom.now in
+    let h = c.args.hart.now in
+    let coherent = g.met.R.CacheRom.coherent _ _ _ c.requires.sound in
+    let w = word_home v r h.machine _ _ c.args.at.0 c.args.at.1 c.args.at.2 c.args.at.3
+    coherent c.requires.home c.args.got c.in-Some.x c.requires.got (sym c.in-Some.is ∙ c.decode.ensures) (sym c.leaves.ensures ∙ c.if-leaves.false) in
+    let below = index_below v r h.machine _ _ c.args.at.0 c.args.at.1 c.args.at.2 c.args.at.3 coherent c.requires.home in
+    let same = ram_same (g.R.CacheRom.span (g.R.CacheRom.setting c.args.rom.now)) r (g.M.CacheRam.state c.args.ram.now) in
+    let s = c.in-Ok-role_step.ensures in
+    let grows = grown_word v r r h c.role_step.new.hart c.args.at.0 c.args.at.1 c.args.at.2 c.args.at.3 c.requires.control
+    (sym c.requires.ready.running) c.in-Some.x (quick_role c.args.at.3 c.in-Some.x (original h.machine)) _ _ refl w refl s.went in
+    record {
+      made = λ sound left told. made_word v r r h c.role_step.new.hart c.args.at.0 c.args.at.1 c.args.at.2 c.args.at.3 c.requires.control
+          c.in-Some.x (quick_role c.args.at.3 c.in-Some.x (original h.machine)) left _ _ _ _ _ w refl
+          (record { hart = s.executed.hart left told; input = s.executed.devices.input left told; output = s.executed.devices.output left told; error = s.executed.devices.error left told });
+      fits = λ sound. fits_word v r r h c.role_step.new.hart c.args.at.0 c.args.at.1 c.args.at.2 c.args.at.3 c.requires.control
+          c.in-Some.x (quick_role c.args.at.3 c.in-Some.x (original h.machine)) _ _ refl c.requires.ready.fits (sym c.requires.ready.running) c.requires.word w refl s.went;
+      counted = record { count = grows.count; failed = grows.failed; booted = grows.booted };
+      policy = rw c.requires.control (word_moves v r h.machine c.args.at.0 c.args.at.1 c.args.at.2 c.args.at.3 (g.R.CacheRom.policy (g.R.CacheRom.setting c.args.rom.now)) r w.0);
+      setting = refl;
+      sound = λ sound. c.requires.sound;
+      unused = λ j le. ap (λ (k : RamState). slice_index k.words j) fetched.1;
+      ram = ram_exit _ _ c.args.at.0 c.args.at.1 c.args.at.2 c.args.at.3 h.control before _ _ c.requires.control below fetched.1 same;
+      grown = λ sound. grows;
+      stopped = tt;
+      broke = λ sound. tt;
+      unwritten = λ is. absurd (cc);
+      others_stay = λ is. absurd (cc);
+      ram_failed = λ is. absurd (cc);
+      kept = kept_after _ c.args.at.0 before _ _ below fetched.1 same.kept;
+      causes = causes_none _ _ _ (ap (λ (n : ℕ). record { ram = n; input = g.I.Source.faults c.role_step.new.input; out = g.O.Sink.faults c.role_step.new.out; err = g.E.Sink.faults c.role_step.new.err }) (ap (λ (k : RamState). k.faults) fetched.1)
+          ∙ ap (λ (f : calls.Faults). record { ram = before.faults; input = f.input; out = f.out; err = f.err }) s.executed.devices.causes.quiet);
+    }
+
+pub returns-in-Err-role_step : goal.returns-in-Err-role_step
+returns-in-Err-role_step g c = λ before fetched.
+    let v = c.args.image.now in
+    let r = g.R.CacheRom.kept c.args.rom.now in
+    let h = c.args.hart.now in
+    let coherent = g.met.R.CacheRom.coherent _ _ _ c.requires.sound in
+    let below = index_below v r h.machine _ _ c.args.at.0 c.args.at.1 c.args.at.2 c.args.at.3 coherent c.requires.home in
+    let w = word_home v r h.machine _ _ c.args.at.0 c.args.at.1 c.args.at.2 c.args.at.3
+    coherent c.requires.home c.args.got c.in-Some.x c.requires.got (sym c.in-Some.is ∙ c.decode.ensures) (sym c.leaves.ensures ∙ c.if-leaves.false) in
+    let s = c.in-Err-role_step.ensures in
+    let same : (g.M.CacheRam.state c.args.ram.now).faults ≡ before.faults = ap (λ (k : RamState). k.faults) fetched.1 in
+    record {
+      made = λ sound. tt;
+      fits = λ sound. tt;
+      counted = tt;
+      policy = tt;
+      setting = refl;
+      sound = λ sound. tt;
+      unused = tt;
+      ram = tt;
+      grown = λ sound. tt;
+      stopped = ap broken (c.hart-2.view_is ∙ s.executed.stays) ∙ ap (λ (bus : List AreaData). broken (with_memory h bus)) (sym (ap (λ (k : HartData). k.machine.bus) c.hart-2.view_is));
+      broke = λ sound. on_device Unit _ c.in-Err-role_step.fault c.fault_of.result c.fault_of.ensures (λ left told.
+          broken_word v r h c.role_step.new.hart.machine.bus c.args.at.0 c.args.at.1 c.args.at.2 c.args.at.3 c.requires.control
+          c.in-Some.x (quick_role c.args.at.3 c.in-Some.x (original h.machine)) left _ _ _ _ _ w refl s.asked
+          (subst (λ (k : Option (List ℕ)). Moved h.machine c.role_step.new.hart.machine.bus k (g.I.Source.left c.role_step.new.input)) told s.moved)
+          (s.executed.devices.output_prefix left told) (s.executed.devices.error_prefix left told));
+      unwritten = λ is. s.executed.devices.failed_input (source_failed c.in-Err-role_step.fault c.fault_of.result c.fault_of.ensures is);
+      others_stay = λ is. absurd (ram_unfailed c.in-Err-role_step.fault c.fault_of.result c.fault_of.ensures is);
+      ram_failed = λ is. absurd (ram_unfailed c.in-Err-role_step.fault c.fault_of.result c.fault_of.ensures is);
+      kept = kept_after _ c.args.at.0 before _ _ below fetched.1 (ram_same (g.R.CacheRom.span (g.R.CacheRom.setting c.args.rom.now)) r (g.M.CacheRam.state c.args.ram.now)).kept;
+      causes = rw same (causes_answer before.faults _ _ c.in-Err-role_step.fault c.fault_of.result c.fault_of.ensures s.executed.devices.causes);
+    }

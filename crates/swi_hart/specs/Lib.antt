@@ -1,0 +1,10 @@
+pub mod Matching
+pub mod Calling
+pub mod Faults
+pub mod Hart
+pub mod Leaving
+pub mod Position
+pub mod Bounds
+pub mod Exchanged
+pub mod Service
+pub mod MachineStep

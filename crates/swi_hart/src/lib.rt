@@ -1,0 +1,19 @@
+//! A hart out of a cache ram, and one machine step of it.
+#![tactic(auto)]
+
+mod exit;
+mod fault;
+mod hart;
+mod plain;
+mod position;
+mod quick;
+mod step;
+mod word;
+
+pub use exit::{EBREAK, exit_kind, fell, jump, jump_index};
+pub use fault::BoardFault;
+pub use hart::{Control, ExitKind, Hart, Role, Stage};
+pub use plain::{plain_place, plain_step};
+pub use position::Position;
+pub use quick::{at_word, quick_step};
+pub use step::{register_target, upper_role};

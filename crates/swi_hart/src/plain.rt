@@ -1,0 +1,112 @@
+//! A step over a plain word, which need not be the image's.
+#![tactic(auto)]
+
+ghost use Rattle.std.specs.Prelude.{◌≡◌, ◌⊎◌, ◌^◌, ◌<◌, ℕ, OnOk, MatchOption, Some, None, true, false};
+ghost use Rattle.swi_isa.specs.Decode.{decoded};
+ghost use Rattle.swi_memory.specs.Bus.{fetched};
+ghost use Rattle.swi_image.specs.Place.{word_at};
+ghost use Rattle.swi_rom.specs.Record.{Record};
+ghost use Rattle.swi_hart.specs.Matching.{Fits};
+ghost use Rattle.swi_hart.specs.Hart.{role_of, original};
+ghost use Rattle.swi_hart.specs.Exchanged.{Exchanged, PlainAt, ExecutesHeld, is_plain};
+ghost use Rattle.swi_hart.specs.Leaving.{Home};
+ghost use Rattle.swi_hart.specs.MachineStep.{MachineStepped, ReadyToStep};
+
+use crate::fault::BoardFault;
+use crate::hart::{Control, Hart, Role, Stage};
+use crate::step::role;
+use crate::word::run_word;
+use swi_image::ImageView;
+use swi_isa::{Instr, decode};
+use swi_outside::{CacheRam, Sink, Source};
+use swi_rom::CacheRom;
+
+/// Whether a word is plain: LUI, or arithmetic.
+fn is_plain(word: u32) -> bool
+    ensures { result ≡ is_plain (decoded word) }
+{
+    matches!(
+        decode(word),
+        Some(Instr::Lui { .. } | Instr::Alu { .. } | Instr::Op { .. })
+    )
+}
+
+/// The place under control, as index, block, offset and stage, and the image's word there; None where that is not plain,
+/// or where no text word is under control.
+pub fn plain_place(hart: &Hart, image: &ImageView<'_>) -> Option<((u32, u32, u32, Stage), u32)>
+    requires running { hart.now.machine.ending ≡ None }
+    requires fits { (r : Record) × Fits image.now r hart.now }
+    ensures word { hart.now.machine.pc < 2 ^ 32 }
+    ensures place { MatchOption result ((i b o : ℕ) (stage : Stage) → hart.now.control ≡ Control.At i b o stage →
+        is_plain (decoded (word_at image.now b o)) ≡ false)
+        (λ p. (hart.now.control ≡ Control.At p.0.0 p.0.1 p.0.2 p.0.3) × (p.1 ≡ word_at image.now p.0.1 p.0.2)
+        × (is_plain (decoded p.1) ≡ true)) }
+{
+    let _pc = hart.origin_pc();
+    match hart.control.control() {
+        Control::At(i, b, o, stage) => {
+            let own = image.word(b, o);
+            if is_plain(own) {
+                Some(((i, b, o, stage), own))
+            } else {
+                None
+            }
+        }
+        Control::Outside => None,
+    }
+}
+
+/// A step at a word of the ram where the image has the plain word `own`: the word that is fetched is executed, by the role
+/// of the image's. `at` is the place under control, as index, block, offset and stage. Faults are as for `at_word`.
+#[inline(never)]
+pub fn plain_step<R: CacheRom, M: CacheRam, I: Source, O: Sink, E: Sink>(
+    hart: &mut Hart,
+    rom: &mut R,
+    image: &ImageView<'_>,
+    ram: &mut M,
+    input: &mut I,
+    out: &mut O,
+    err: &mut E,
+    at: (u32, u32, u32, Stage),
+    own: u32,
+) -> Result<(), BoardFault>
+    requires ready { ReadyToStep image.now (R.kept rom.old) hart.old }
+    requires unfailed { hart.old.failed ≡ false }
+    requires word { hart.old.machine.pc < 2 ^ 32 }
+    requires control { hart.old.control ≡ Control.At at.0 at.1 at.2 at.3 }
+    requires home { Home image.now (R.kept rom.old) hart.old.machine at.0 at.1 at.2 at.3 }
+    requires own { own ≡ word_at image.now at.1 at.2 }
+    requires plain { is_plain (decoded own) ≡ true }
+    requires sound { R.sound rom.old image.now (M.state ram.old).words
+        ⊎ Exchanged (λ words. R.sound rom.old image.now words) image.now (M.state ram.old).words hart.old.control }
+    ensures stepped { MachineStepped R.policy R.extent R.span image.now
+        (R.sound rom.old image.now (M.state ram.old).words) (R.sound rom.new image.now (M.state ram.new).words)
+        (record { hart = hart.old; kept = R.kept rom.old; setting = R.setting rom.old; ram = M.state ram.old })
+        (record { hart = hart.new; kept = R.kept rom.new; setting = R.setting rom.new; ram = M.state ram.new })
+        (record { input = I.left input.old; output = O.held out.old; error = E.held err.old })
+        (record { input = I.left input.new; output = O.held out.new; error = E.held err.new })
+        (record { input = I.faults input.old; out = O.faults out.old; err = E.faults err.old })
+        (record { input = I.faults input.new; out = O.faults out.new; err = E.faults err.new }) result }
+    ensures executes { OnOk result ((i b o : ℕ) (stage : Stage) →
+        PlainAt image.now (M.state ram.old).words hart.old.control i b o stage →
+        ExecutesHeld hart.old hart.new rom.old rom.new i b o stage (M.state ram.old).words (M.state ram.new).words
+        (I.left input.old) (I.left input.new) (O.held out.old) (O.held out.new) (E.held err.old) (E.held err.new)) }
+    ensures whole { OnOk result ((i b o : ℕ) (stage : Stage) →
+        PlainAt image.now (M.state ram.old).words hart.old.control i b o stage →
+        role_of stage (original hart.old.machine) ≡ Role.Whole → Fits image.now (R.kept rom.new) hart.new) }
+{
+    let (i, _, _, stage) = at;
+    let got = match ram.fetch(i) {
+        Ok(got) => got,
+        Err(_) => {
+            hart.failed = true;
+            return Err(BoardFault::RamFault);
+        }
+    };
+    let (Some(image_word), Some(x)) = (decode(own), decode(got)) else {
+        unreachable!()
+    };
+    let role = role(hart, stage, &image_word);
+    run_word(hart, at, &x, role);
+    Ok(())
+}

@@ -1,0 +1,162 @@
+//! A step whose fetched word is the image's, or a link.
+#![tactic(auto)]
+
+ghost use Rattle.std.specs.Prelude.{◌≡◌, ◌^◌, ◌<◌, slice_index, Some, true};
+ghost use Rattle.swi_outside.specs.CacheRam.{RamState};
+ghost use Rattle.swi_hart.specs.MachineStep.{MachineStepped, ReadyToStep, Answered};
+ghost use Rattle.swi_hart.specs.Leaving.{Home, leaves, offset_of};
+
+use crate::fault::{BoardFault, fault_of};
+use crate::hart::{Control, Hart, Stage};
+use crate::step::exit_step;
+use crate::word::{end, role_step};
+use swi_calls::End;
+use swi_exec::FaultKind;
+use swi_image::ImageView;
+use swi_isa::{Instr, decode};
+use swi_outside::{CacheRam, Sink, Source};
+use swi_rom::CacheRom;
+
+/// Whether the word leaves its block.
+#[inline(always)]
+fn leaves(x: &Instr) -> bool
+    ensures { result ≡ leaves x.now }
+{
+    matches!(*x, Instr::Jal { .. } | Instr::Ebreak)
+}
+
+/// The offset of a JAL, and else 0.
+#[inline(always)]
+fn offset_of(x: &Instr) -> u32
+    ensures { result ≡ offset_of (Some x.now) }
+{
+    match *x {
+        Instr::Jal { off, .. } => off,
+        _ => 0,
+    }
+}
+
+/// A step at a word of the ram that was fetched: `got`, from the place `at` under control, as index, block, offset and
+/// stage. The service is sound, and so the word is the image's, or a link.
+///
+/// Each fault comes only where its device's count rose; of the hart only `failed` and the memory can then have changed.
+#[inline(always)]
+pub fn at_word<R: CacheRom, M: CacheRam, I: Source, O: Sink, E: Sink>(
+    hart: &mut Hart,
+    rom: &mut R,
+    image: &ImageView<'_>,
+    ram: &mut M,
+    input: &mut I,
+    out: &mut O,
+    err: &mut E,
+    got: u32,
+    at: (u32, u32, u32, Stage),
+) -> Result<(), BoardFault>
+    requires ready { ReadyToStep image.now (R.kept rom.old) hart.old }
+    requires word { hart.old.machine.pc < 2 ^ 32 }
+    requires control { hart.old.control ≡ Control.At at.0 at.1 at.2 at.3 }
+    requires home { Home image.now (R.kept rom.old) hart.old.machine at.0 at.1 at.2 at.3 }
+    requires sound { R.sound rom.old image.now (M.state ram.old).words }
+    requires got { got ≡ slice_index (M.state ram.old).words at.0 }
+    ensures { (before : RamState) → Answered (Some got) before at.0 (M.state ram.old) →
+        MachineStepped R.policy R.extent R.span image.now
+        (R.sound rom.old image.now before.words) (R.sound rom.new image.now (M.state ram.new).words)
+        (record { hart = hart.old; kept = R.kept rom.old; setting = R.setting rom.old; ram = before })
+        (record { hart = hart.new; kept = R.kept rom.new; setting = R.setting rom.new; ram = M.state ram.new })
+        (record { input = I.left input.old; output = O.held out.old; error = E.held err.old })
+        (record { input = I.left input.new; output = O.held out.new; error = E.held err.new })
+        (record { input = I.faults input.old; out = O.faults out.old; err = E.faults err.old })
+        (record { input = I.faults input.new; out = O.faults out.new; err = E.faults err.new }) result }
+{
+    let Some(x) = decode(got) else { unreachable!() };
+    if leaves(&x) {
+        // A tuple of its own: `at` is then passed to nothing that isn't inlined, and stays in registers.
+        let place = (at.0, at.1, at.2, at.3);
+        return match exit_step(hart, rom, image, ram, got, offset_of(&x), place) {
+            Ok(_) => Ok(()),
+            Err(_) => {
+                hart.failed = true;
+                Err(BoardFault::RamFault)
+            }
+        };
+    }
+    match role_step(hart, at, &x, input, out, err) {
+        Ok(_) => Ok(()),
+        Err(fault) => {
+            hart.failed = true;
+            Err(fault_of(fault))
+        }
+    }
+}
+
+/// A step at a word of the ram.
+#[inline(always)]
+fn at_step<R: CacheRom, M: CacheRam, I: Source, O: Sink, E: Sink>(
+    hart: &mut Hart,
+    rom: &mut R,
+    image: &ImageView<'_>,
+    ram: &mut M,
+    input: &mut I,
+    out: &mut O,
+    err: &mut E,
+    at: (u32, u32, u32, Stage),
+) -> Result<(), BoardFault>
+    requires ready { ReadyToStep image.now (R.kept rom.old) hart.old }
+    requires word { hart.old.machine.pc < 2 ^ 32 }
+    requires control { hart.old.control ≡ Control.At at.0 at.1 at.2 at.3 }
+    requires home { Home image.now (R.kept rom.old) hart.old.machine at.0 at.1 at.2 at.3 }
+    requires sound { R.sound rom.old image.now (M.state ram.old).words }
+    ensures { MachineStepped R.policy R.extent R.span image.now
+        (R.sound rom.old image.now (M.state ram.old).words) (R.sound rom.new image.now (M.state ram.new).words)
+        (record { hart = hart.old; kept = R.kept rom.old; setting = R.setting rom.old; ram = M.state ram.old })
+        (record { hart = hart.new; kept = R.kept rom.new; setting = R.setting rom.new; ram = M.state ram.new })
+        (record { input = I.left input.old; output = O.held out.old; error = E.held err.old })
+        (record { input = I.left input.new; output = O.held out.new; error = E.held err.new })
+        (record { input = I.faults input.old; out = O.faults out.old; err = E.faults err.old })
+        (record { input = I.faults input.new; out = O.faults out.new; err = E.faults err.new }) result }
+{
+    let got = match ram.fetch(at.0) {
+        Ok(got) => got,
+        Err(_) => {
+            hart.failed = true;
+            return Err(BoardFault::RamFault);
+        }
+    };
+    at_word(hart, rom, image, ram, input, out, err, got, at)
+}
+
+/// One machine step: the word under control is fetched, and then as for `at_word`. Where no text word is under control
+/// the run ends. Faults are as for `at_word`.
+#[inline(never)]
+pub fn quick_step<R: CacheRom, M: CacheRam, I: Source, O: Sink, E: Sink>(
+    hart: &mut Hart,
+    rom: &mut R,
+    image: &ImageView<'_>,
+    ram: &mut M,
+    input: &mut I,
+    out: &mut O,
+    err: &mut E,
+) -> Result<(), BoardFault>
+    requires ready { ReadyToStep image.now (R.kept rom.old) hart.old }
+    requires sound { R.sound rom.old image.now (M.state ram.old).words }
+    ensures word { hart.old.machine.pc < 2 ^ 32 }
+    ensures stepped { MachineStepped R.policy R.extent R.span image.now
+        (R.sound rom.old image.now (M.state ram.old).words) (R.sound rom.new image.now (M.state ram.new).words)
+        (record { hart = hart.old; kept = R.kept rom.old; setting = R.setting rom.old; ram = M.state ram.old })
+        (record { hart = hart.new; kept = R.kept rom.new; setting = R.setting rom.new; ram = M.state ram.new })
+        (record { input = I.left input.old; output = O.held out.old; error = E.held err.old })
+        (record { input = I.left input.new; output = O.held out.new; error = E.held err.new })
+        (record { input = I.faults input.old; out = O.faults out.old; err = E.faults err.old })
+        (record { input = I.faults input.new; out = O.faults out.new; err = E.faults err.new }) result }
+{
+    let pc = hart.origin_pc();
+    match hart.control.control() {
+        Control::At(i, b, o, stage) => {
+            at_step(hart, rom, image, ram, input, out, err, (i, b, o, stage))
+        }
+        Control::Outside => {
+            end(hart, End::Faulted(FaultKind::FetchAccess, pc));
+            Ok(())
+        }
+    }
+}

@@ -1,0 +1,269 @@
+//! One step of a hart out of the ram.
+#![tactic(auto)]
+
+ghost use Rattle.std.specs.Prelude.{◌≡◌, ◌+◌, ◌*◌, ◌/◌, ◌^◌, ◌%◌, ◌<◌, ℕ, List, length, slice_index, ◌==◌, if◌then◌else◌, OnOk, OnErr, Some, None, true};
+ghost use Rattle.swi_isa.specs.Decode.{decoded};
+ghost use Rattle.swi_exec.specs.Arithmetic.{sum_of};
+ghost use Rattle.swi_memory.specs.Bus.{fetched};
+ghost use Rattle.swi_image.specs.Place.{word_at};
+ghost use Rattle.swi_rom.specs.Record.{direct, indirect};
+ghost use Rattle.swi_hart.specs.Matching.{ExitStep, Jumps, JumpsBy};
+ghost use Rattle.swi_hart.specs.Leaving.{offset_of, fell, quick_role, upper_quick, ExitHome, PlacedAt, Counted, step_to, exit_transfer, is_jalr, jump_transfer};
+ghost use Rattle.swi_hart.specs.Service.{Transferred};
+ghost use Rattle.swi_hart.specs.Hart.{exit_kind, instruction, original, trap_kind};
+
+use crate::exit::{exit_kind, fell, is_back, jump, leave};
+use crate::hart::{Control, ExitKind, Hart, Role, Stage};
+use crate::word::end;
+use swi_calls::End;
+use swi_exec::FaultKind;
+use swi_image::ImageView;
+use swi_isa::{ImmOp, Instr, Reg, decode};
+use swi_memory::Bus;
+use swi_outside::{CacheRam, Failed};
+use swi_rom::CacheRom;
+
+/// The instruction that stands at an original address. Where it is inlined, what nothing asks of it is not computed.
+#[inline(always)]
+fn original(bus: &Bus, pc: u32) -> Option<Instr>
+    ensures { result ≡ instruction (fetched bus.now pc) }
+{
+    match bus.fetch(pc) {
+        Some(word) => decode(word),
+        None => None,
+    }
+}
+
+/// The role of a LUI at this stage, by the instruction at the original address.
+#[inline(never)]
+pub fn upper_role(bus: &Bus, pc: u32, stage: Stage) -> Role
+    ensures { result ≡ upper_quick stage (instruction (fetched bus.now pc)) }
+{
+    if stage != Stage::Start {
+        return Role::Whole;
+    }
+    match original(bus, pc) {
+        Some(Instr::Auipc { .. }) => Role::Lead(Stage::Low),
+        Some(Instr::Jal { .. }) => Role::Lead(Stage::Return),
+        Some(Instr::Branch { .. }) => Role::Over,
+        _ => Role::Whole,
+    }
+}
+
+/// The role of a fetched word. What the word is decides first: each way out of the decoder then leads to its own case,
+/// and no word but a LUI and an ADDI asks for the stage.
+#[inline(always)]
+pub(crate) fn role(hart: &Hart, stage: Stage, x: &Instr) -> Role
+    ensures { result ≡ quick_role stage x.now (original hart.now.machine) }
+{
+    match *x {
+        Instr::Lui { .. } => upper_role(&hart.machine.bus, hart.machine.pc, stage),
+        Instr::Branch { .. } => Role::Over,
+        Instr::Alu {
+            op: ImmOp::Addi,
+            ..
+        } => match stage {
+            Stage::Return => Role::Lead(Stage::Leave),
+            Stage::Start | Stage::Low | Stage::Leave => Role::Whole,
+        },
+        _ => Role::Whole,
+    }
+}
+
+/// The fault of a word that stops the run.
+#[cold]
+#[inline(never)]
+fn trap(hart: &Hart) -> FaultKind
+    ensures { result ≡ trap_kind (original hart.now.machine) }
+{
+    match original(&hart.machine.bus, hart.machine.pc) {
+        Some(Instr::Ebreak) => FaultKind::Break,
+        _ => FaultKind::Illegal,
+    }
+}
+
+/// A step at a direct exit.
+#[inline(always)]
+fn direct_step<R: CacheRom, M: CacheRam>(
+    hart: &mut Hart,
+    rom: &mut R,
+    image: &ImageView<'_>,
+    ram: &mut M,
+    got: u32,
+    off: u32,
+    at: (u32, u32, u32, Stage),
+    target: u32,
+) -> Result<(), Failed>
+    requires few { hart.old.machine.steps < 2 ^ 48 }
+    requires count { hart.old.count < 2 ^ 56 }
+    requires sound { R.sound rom.old image.now (M.state ram.old).words }
+    requires services { (R.kept rom.old).counts.services < 2 ^ 50 }
+    requires home { ExitHome image.now hart.old.machine at.1 at.2 at.3 }
+    requires placed { PlacedAt (R.kept rom.old) at.0 at.1 at.2 }
+    requires block { at.1 < length image.now.starts }
+    requires fetched { got ≡ slice_index (M.state ram.old).words at.0 }
+    requires offset { off ≡ offset_of (decoded got) }
+    requires target { target ≡ word_at image.now at.1 (at.2 + 1) }
+    requires direct { target % 4 ≡ 0 }
+    ensures step { OnOk result ((input : List ℕ) →
+        ExitStep ExitKind.Direct image.now (R.kept rom.new) hart.old.machine
+        (step_to hart.new input) input at.0 at.1 at.2 at.3) }
+    ensures counted { OnOk result (Counted hart.old hart.new) }
+    ensures served { Transferred R.policy R.extent R.span image.now (Some (direct at.1 at.2 target))
+        (R.sound rom.new image.now (M.state ram.new).words)
+        (record { kept = R.kept rom.old; setting = R.setting rom.old; ram = M.state ram.old })
+        (record { kept = R.kept rom.new; setting = R.setting rom.new; ram = M.state ram.new }) result }
+    ensures stays { OnErr result (hart.new ≡ hart.old) }
+{
+    let (i, b, o, stage) = at;
+    let control = match leave(rom, image, ram, got, off, (i, b, o), target) {
+        Ok(control) => control,
+        Err(_) => return Err(Failed),
+    };
+    if !fell(stage, hart.machine.pc, target, is_back(control, b, o)) {
+        hart.machine.pc = target;
+        hart.machine.steps += 1;
+    }
+    hart.control.go(control);
+    hart.count += 1;
+    Ok(())
+}
+
+/// A step at the exit of a JALR.
+fn jump_step<R: CacheRom, M: CacheRam>(
+    hart: &mut Hart,
+    rom: &mut R,
+    image: &ImageView<'_>,
+    ram: &mut M,
+    at: (u32, u32, u32, Stage),
+    rd: Reg,
+    target: u32,
+    link: u32,
+) -> Result<(), Failed>
+    requires few { hart.old.machine.steps < 2 ^ 48 }
+    requires count { hart.old.count < 2 ^ 56 }
+    requires control { hart.old.control ≡ Control.At at.0 at.1 at.2 at.3 }
+    requires sound { R.sound rom.old image.now (M.state ram.old).words }
+    requires services { (R.kept rom.old).counts.services < 2 ^ 50 }
+    ensures step { OnOk result ((input : List ℕ) → Jumps (target % 4 == 0) image.now (R.kept rom.new)
+        (step_to hart.new input) input
+        (Control.At at.0 at.1 at.2 at.3) hart.old.machine rd link target) }
+    ensures counted { OnOk result (Counted hart.old hart.new) }
+    ensures served { Transferred R.policy R.extent R.span image.now
+        (if target % 4 == 0 then Some (indirect target) else None)
+        (R.sound rom.new image.now (M.state ram.new).words)
+        (record { kept = R.kept rom.old; setting = R.setting rom.old; ram = M.state ram.old })
+        (record { kept = R.kept rom.new; setting = R.setting rom.new; ram = M.state ram.new }) result }
+    ensures stays { OnErr result (hart.new ≡ hart.old) }
+{
+    if target % 4 != 0 {
+        end(hart, End::Faulted(FaultKind::FetchMisaligned, target));
+        return Ok(());
+    }
+    let control = match jump(rom, image, ram, target) {
+        Ok(control) => control,
+        Err(_) => return Err(Failed),
+    };
+    hart.machine.regs.set(rd, link);
+    hart.control.go(control);
+    hart.machine.pc = target;
+    hart.machine.steps += 1;
+    hart.count += 1;
+    Ok(())
+}
+
+/// The target of a JALR, by its register's value and its immediate.
+pub fn register_target(a: u32, imm: u32) -> u32
+    ensures { result ≡ sum_of a imm / 2 * 2 }
+{
+    a.wrapping_add(imm) & !1
+}
+
+/// A step at the exit of this JALR.
+fn jalr_step<R: CacheRom, M: CacheRam>(
+    hart: &mut Hart,
+    rom: &mut R,
+    image: &ImageView<'_>,
+    ram: &mut M,
+    at: (u32, u32, u32, Stage),
+    x: &Instr,
+    link: u32,
+) -> Result<(), Failed>
+    requires few { hart.old.machine.steps < 2 ^ 48 }
+    requires count { hart.old.count < 2 ^ 56 }
+    requires control { hart.old.control ≡ Control.At at.0 at.1 at.2 at.3 }
+    requires sound { R.sound rom.old image.now (M.state ram.old).words }
+    requires services { (R.kept rom.old).counts.services < 2 ^ 50 }
+    requires jalr { is_jalr x.now ≡ true }
+    ensures step { OnOk result ((input : List ℕ) → JumpsBy (Some x.now) image.now (R.kept rom.new)
+        (step_to hart.new input) input
+        (Control.At at.0 at.1 at.2 at.3) hart.old.machine link) }
+    ensures counted { OnOk result (Counted hart.old hart.new) }
+    ensures served { Transferred R.policy R.extent R.span image.now (jump_transfer (Some x.now) hart.old.machine)
+        (R.sound rom.new image.now (M.state ram.new).words)
+        (record { kept = R.kept rom.old; setting = R.setting rom.old; ram = M.state ram.old })
+        (record { kept = R.kept rom.new; setting = R.setting rom.new; ram = M.state ram.new }) result }
+    ensures stays { OnErr result (hart.new ≡ hart.old) }
+{
+    match *x {
+        Instr::Jalr { rd, rs1, imm } => {
+            let target = register_target(hart.machine.regs.get(rs1), imm);
+            jump_step(hart, rom, image, ram, at, rd, target, link)
+        }
+        _ => unreachable!(),
+    }
+}
+
+/// A step at an exit.
+#[inline(always)]
+pub(crate) fn exit_step<R: CacheRom, M: CacheRam>(
+    hart: &mut Hart,
+    rom: &mut R,
+    image: &ImageView<'_>,
+    ram: &mut M,
+    got: u32,
+    off: u32,
+    at: (u32, u32, u32, Stage),
+) -> Result<(), Failed>
+    requires few { hart.old.machine.steps < 2 ^ 48 }
+    requires count { hart.old.count < 2 ^ 56 }
+    requires control { hart.old.control ≡ Control.At at.0 at.1 at.2 at.3 }
+    requires sound { R.sound rom.old image.now (M.state ram.old).words }
+    requires services { (R.kept rom.old).counts.services < 2 ^ 50 }
+    requires home { ExitHome image.now hart.old.machine at.1 at.2 at.3 }
+    requires placed { PlacedAt (R.kept rom.old) at.0 at.1 at.2 }
+    requires block { at.1 < length image.now.starts }
+    requires small { at.2 < 2 ^ 22 }
+    requires fetched { got ≡ slice_index (M.state ram.old).words at.0 }
+    requires offset { off ≡ offset_of (decoded got) }
+    ensures step { OnOk result ((input : List ℕ) →
+        ExitStep (exit_kind (word_at image.now at.1 (at.2 + 1))) image.now (R.kept rom.new) hart.old.machine
+        (step_to hart.new input) input at.0 at.1 at.2 at.3) }
+    ensures counted { OnOk result (Counted hart.old hart.new) }
+    ensures served { Transferred R.policy R.extent R.span image.now
+        (exit_transfer (exit_kind (word_at image.now at.1 (at.2 + 1))) image.now hart.old.machine at.1 at.2)
+        (R.sound rom.new image.now (M.state ram.new).words)
+        (record { kept = R.kept rom.old; setting = R.setting rom.old; ram = M.state ram.old })
+        (record { kept = R.kept rom.new; setting = R.setting rom.new; ram = M.state ram.new }) result }
+    ensures stays { OnErr result (hart.new ≡ hart.old) }
+{
+    let (_, b, o, _) = at;
+    let d = image.word(b, o + 1);
+    match exit_kind(d) {
+        ExitKind::Direct => direct_step(hart, rom, image, ram, got, off, at, d),
+        ExitKind::Misaligned => {
+            end(hart, End::Faulted(FaultKind::FetchMisaligned, d));
+            Ok(())
+        }
+        ExitKind::Trap => {
+            let kind = trap(hart);
+            let pc = hart.machine.pc;
+            end(hart, End::Faulted(kind, pc));
+            Ok(())
+        }
+        ExitKind::Indirect => {
+            let Some(x) = decode(d) else { unreachable!() };
+            jalr_step(hart, rom, image, ram, at, &x, image.word(b, o + 2))
+        }
+    }
+}

@@ -1,0 +1,236 @@
+//! Words that are executed at their place in the ram.
+#![tactic(auto)]
+
+ghost use Rattle.std.specs.Prelude.{◌≡◌, ◌+◌, ◌^◌, ◌<◌, ℕ, List, None, Some, true, false, OnOk};
+ghost use Rattle.swi_calls.specs.StoresText.{text_store_of};
+ghost use Rattle.swi_calls.specs.Flat.{ended};
+ghost use Rattle.swi_hart.specs.Hart.{word_stepped, call_stepped, original};
+ghost use Rattle.swi_hart.specs.Leaving.{quick_role, changes_register};
+ghost use Rattle.swi_hart.specs.Calling.{Called as CalledAt, Moved, QuietWord, ReadyAt, WordExecuted, WordStepped};
+
+use crate::hart::{Hart, Role, Stage};
+use crate::step::role;
+use swi_calls::{CallFault, End, text_store};
+use swi_exec::{Done, FaultKind, exec};
+use swi_isa::Instr;
+use swi_outside::{Sink, Source};
+
+/// Ends the run, with a step of the machine.
+#[cold]
+#[inline(never)]
+pub(crate) fn end(hart: &mut Hart, end: End)
+    requires few { hart.old.machine.steps < 2 ^ 48 }
+    requires count { hart.old.count < 2 ^ 56 }
+    ensures { hart.new ≡ record hart.old { machine = ended hart.old.machine end; count = hart.old.count + 1 } }
+{
+    hart.machine.end(end);
+    hart.count += 1;
+}
+
+/// Ends the run before a store into the text.
+#[cold]
+#[inline(never)]
+fn stop(hart: &mut Hart, address: u32)
+    requires count { hart.old.count < 2 ^ 56 }
+    ensures { hart.new ≡ record hart.old {
+      machine = record hart.old.machine {
+        ending = Some
+            (End.StoreText address);
+      };
+      count = hart.old.count + 1;
+    } }
+{
+    hart.machine.ending = Some(End::StoreText(address));
+    hart.count += 1;
+}
+
+/// Executes a word that is no exit, by its role. Answers whether a system call is to be made, and then nothing has
+/// changed.
+#[inline(always)]
+#[tactic(auto, using(crate::proofs::Calls::call_is))]
+pub(crate) fn run_word(hart: &mut Hart, at: (u32, u32, u32, Stage), x: &Instr, role: Role) -> bool
+    requires { ReadyAt hart.old at.0 at.1 at.2 at.3 }
+    ensures asks { result ≡ true → (x.now ≡ Instr.Ecall)
+        × (text_store_of x.now hart.old.machine.regs hart.old.machine.bus ≡ None) }
+    ensures called { result ≡ true → (hart.new ≡ hart.old) × ((input : List ℕ) →
+        word_stepped role at.0 at.1 at.2 at.3 hart.old.machine x.now input
+        ≡ call_stepped at.0 at.1 at.2 at.3 hart.old.machine input) }
+    ensures ran { result ≡ false → QuietWord
+        (λ input. word_stepped role at.0 at.1 at.2 at.3 hart.old.machine x.now input)
+        hart.old hart.new }
+{
+    let i = at.0;
+    match role {
+        Role::Lead(next) => {
+            exec(x, 4 * i, &mut hart.machine.regs, &mut hart.machine.bus);
+            hart.control.advance(at, 1, next);
+            hart.count += 1;
+            false
+        }
+        Role::Over => {
+            over_word(hart, at, x);
+            false
+        }
+        Role::Whole => {
+            if let Some(address) = text_store(x, &hart.machine.regs, &hart.machine.bus) {
+                stop(hart, address);
+                return false;
+            }
+            match exec(x, 4 * i, &mut hart.machine.regs, &mut hart.machine.bus) {
+                Done::Next(_) => {
+                    hart.control.advance(at, 1, Stage::Start);
+                    hart.machine.pc = hart.machine.pc.wrapping_add(4);
+                    hart.machine.steps += 1;
+                    hart.count += 1;
+                    false
+                }
+                Done::Call => true,
+                Done::Break => {
+                    let pc = hart.machine.pc;
+                    end(hart, End::Faulted(FaultKind::Break, pc));
+                    false
+                }
+                Done::Fault(kind, address) => {
+                    end(hart, End::Faulted(kind, address));
+                    false
+                }
+            }
+        }
+    }
+}
+
+/// Whether a word only changes a register.
+#[inline(always)]
+fn changes_register(x: &Instr) -> bool
+    ensures { result ≡ changes_register x.now }
+{
+    matches!(
+        *x,
+        Instr::Alu { .. } | Instr::Op { .. } | Instr::Load { .. }
+    )
+}
+
+/// Executes a branch, which stands over an exit.
+#[inline(always)]
+fn over_word(hart: &mut Hart, at: (u32, u32, u32, Stage), x: &Instr)
+    requires { ReadyAt hart.old at.0 at.1 at.2 at.3 }
+    ensures { QuietWord (λ input. word_stepped Role.Over at.0 at.1 at.2 at.3 hart.old.machine x.now input)
+        hart.old hart.new }
+{
+    let i = at.0;
+    let done = exec(x, 4 * i, &mut hart.machine.regs, &mut hart.machine.bus);
+    if done == Done::Next(4 * i + 12) {
+        hart.control.advance(at, 3, Stage::Start);
+        hart.machine.pc = hart.machine.pc.wrapping_add(4);
+        hart.machine.steps += 1;
+    } else {
+        hart.control.advance(at, 1, Stage::Leave);
+    }
+    hart.count += 1;
+}
+
+/// Executes a word that completes its instruction, and that only changes a register.
+#[inline(always)]
+fn register_word(hart: &mut Hart, at: (u32, u32, u32, Stage), x: &Instr)
+    requires ready { ReadyAt hart.old at.0 at.1 at.2 at.3 }
+    requires register { changes_register x.now ≡ true }
+    ensures { QuietWord (λ input. word_stepped Role.Whole at.0 at.1 at.2 at.3 hart.old.machine x.now input)
+        hart.old hart.new }
+{
+    match exec(x, 4 * at.0, &mut hart.machine.regs, &mut hart.machine.bus) {
+        Done::Next(_) => {
+            hart.control.advance(at, 1, Stage::Start);
+            hart.machine.pc = hart.machine.pc.wrapping_add(4);
+            hart.machine.steps += 1;
+            hart.count += 1;
+        }
+        Done::Fault(kind, address) => end(hart, End::Faulted(kind, address)),
+        Done::Call | Done::Break => unreachable!(),
+    }
+}
+
+/// The step of a system call.
+#[inline(never)]
+pub(crate) fn call_word<I: Source, O: Sink, E: Sink>(
+    hart: &mut Hart,
+    at: (u32, u32, u32, Stage),
+    input: &mut I,
+    out: &mut O,
+    err: &mut E,
+) -> Result<(), CallFault>
+    requires { ReadyAt hart.old at.0 at.1 at.2 at.3 }
+    ensures word { WordExecuted (λ left. call_stepped at.0 at.1 at.2 at.3 hart.old.machine left) hart.old hart.new
+        (record { input = I.left input.old; output = O.held out.old; error = E.held err.old })
+        (record { input = I.left input.new; output = O.held out.new; error = E.held err.new })
+        (record { input = I.faults input.old; out = O.faults out.old; err = E.faults err.old })
+        (record { input = I.faults input.new; out = O.faults out.new; err = E.faults err.new }) result }
+    ensures goes { OnOk result (CalledAt at.0 at.1 at.2 at.3 hart.old hart.new) }
+    ensures moved { Moved hart.old.machine hart.new.machine.bus (I.left input.old) (I.left input.new) }
+{
+    hart.machine.call_step(input, out, err)?;
+    if hart.machine.ending.is_none() {
+        hart.control.advance(at, 1, Stage::Start);
+    }
+    hart.count += 1;
+    Ok(())
+}
+
+/// A step at a word that is no exit.
+#[inline(always)]
+pub(crate) fn word_step<I: Source, O: Sink, E: Sink>(
+    hart: &mut Hart,
+    at: (u32, u32, u32, Stage),
+    x: &Instr,
+    role: Role,
+    input: &mut I,
+    out: &mut O,
+    err: &mut E,
+) -> Result<(), CallFault>
+    requires { ReadyAt hart.old at.0 at.1 at.2 at.3 }
+    ensures { WordStepped x.now at.0 at.1 at.2 at.3
+        (λ left. word_stepped role at.0 at.1 at.2 at.3 hart.old.machine x.now left) hart.old hart.new
+        (record { input = I.left input.old; output = O.held out.old; error = E.held err.old })
+        (record { input = I.left input.new; output = O.held out.new; error = E.held err.new })
+        (record { input = I.faults input.old; out = O.faults out.old; err = E.faults err.old })
+        (record { input = I.faults input.new; out = O.faults out.new; err = E.faults err.new }) result }
+{
+    if run_word(hart, at, x, role) {
+        call_word(hart, (at.0, at.1, at.2, at.3), input, out, err)
+    } else {
+        Ok(())
+    }
+}
+
+/// A step at a word that is no exit, by the role that it has. Each kind of word that programs execute most comes to its
+/// own `exec` right behind the decoder, so that the compiler joins the two, without a jump through a table between
+/// them.
+#[inline(always)]
+pub(crate) fn role_step<I: Source, O: Sink, E: Sink>(
+    hart: &mut Hart,
+    at: (u32, u32, u32, Stage),
+    x: &Instr,
+    input: &mut I,
+    out: &mut O,
+    err: &mut E,
+) -> Result<(), CallFault>
+    requires { ReadyAt hart.old at.0 at.1 at.2 at.3 }
+    ensures { WordStepped x.now at.0 at.1 at.2 at.3
+        (λ left. word_stepped (quick_role at.3 x.now (original hart.old.machine))
+        at.0 at.1 at.2 at.3 hart.old.machine x.now left) hart.old hart.new
+        (record { input = I.left input.old; output = O.held out.old; error = E.held err.old })
+        (record { input = I.left input.new; output = O.held out.new; error = E.held err.new })
+        (record { input = I.faults input.old; out = O.faults out.old; err = E.faults err.old })
+        (record { input = I.faults input.new; out = O.faults out.new; err = E.faults err.new }) result }
+{
+    let (_, _, _, stage) = at;
+    if let Instr::Branch { .. } = *x {
+        over_word(hart, at, x);
+        return Ok(());
+    }
+    if stage != Stage::Return && changes_register(x) {
+        register_word(hart, at, x);
+        return Ok(());
+    }
+    let role = role(hart, stage, x);
+    word_step(hart, at, x, role, input, out, err)
+}
