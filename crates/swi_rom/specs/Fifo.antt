@@ -114,6 +114,11 @@ pub fifo_first : (setting : List ℕ) (r : Record) (v : ImageData) (b o t : ℕ)
 unfolding fifo
 fifo_first setting r v b o t over = rw over refl
 
+-- of a transfer to an address where no text word stands nothing is kept
+pub fifo_outside : (setting : List ℕ) (r : Record) (v : ImageData) (t : Transfer) → place_of v (target_of t) ≡ None → fifo setting r v t ≡ r
+unfolding fifo went
+fifo_outside setting r v t nowhere = rw nowhere (grind arith)
+
 counted_more : (r : Record) (es : List Placement) → r.counts.services + more_services es ≤ r.counts.services + 1
 counted_more r [] = omega arith
 counted_more r (e ∷ es) = omega arith

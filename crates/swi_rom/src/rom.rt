@@ -1,8 +1,8 @@
 ghost use Rattle.std.specs.Prelude.{◌≡◌, ◌+◌, ◌^◌, ◌<◌, ◌≤◌, List, ℕ, Option, IfSome, None, Ok, length, true};
 ghost use Rattle.swi_image.specs.Format.{ImageData};
-ghost use Rattle.swi_image.specs.Place.{word_at, length_at};
+ghost use Rattle.swi_image.specs.Place.{word_at, length_at, place_of};
 ghost use Rattle.swi_image.specs.Sound.{IsImage};
-ghost use Rattle.swi_rom.specs.Record.{Record, Transfer, direct, indirect, is_linked, writes, Placed};
+ghost use Rattle.swi_rom.specs.Record.{Record, Transfer, direct, indirect, target_of, is_linked, writes, Placed};
 ghost use Rattle.swi_rom.specs.Coherent.{Coherent, StandsAt, ExitAt, TargetAt, resident_of};
 ghost use Rattle.swi_rom.specs.Served.{Served, OnServed, SameFrom};
 
@@ -63,7 +63,8 @@ pub trait CacheRom: Drop {
 
     /// Serves a jump to an address: the index in the ram of the target's first word, whose block is copied
     /// there if it isn't placed. While nothing is placed this is the boot. `Outside` comes exactly where no
-    /// text word stands at the address. The words from the extent on are as before.
+    /// text word stands at the address. The words from the extent on are as before. The service is sound for the image
+    /// and the ram, and has counted fewer than 2^50 services; so for `revisit` and `cross`.
     fn enter<M: CacheRam>(
         &mut self,
         image: &ImageView<'_>,
@@ -121,7 +122,8 @@ pub trait CacheRom: Drop {
     fn at(&self, i: u32) -> Option<(u32, u32)>
         ensures { result ≡ shown self.now i };
 
-    /// The original address to which the link at an index leads. Of a word that is no link the answer says nothing.
+    /// The original address to which the link at an index leads, which is below the span. Of a word that is no link the
+    /// answer says nothing.
     fn goal(&self, i: u32) -> u32
         requires { i < span (setting self.now) }
         ensures { result ≡ goals self.now i };
@@ -152,6 +154,10 @@ pub trait CacheRom: Drop {
     /// Over a link nothing changes.
     ghost first: { (setting : List ℕ) (r : Record) (v : ImageData) (b o t : ℕ) → is_linked r b o ≡ true →
         policy setting r v (direct b o t) ≡ r };
+
+    /// A transfer to an address where no text word stands changes nothing.
+    ghost outside: { (setting : List ℕ) (r : Record) (v : ImageData) (t : Transfer) →
+        place_of v (target_of t) ≡ None → policy setting r v t ≡ r };
 
     /// One transfer is at most one service.
     ghost second: { (setting : List ℕ) (r : Record) (v : ImageData) (t : Transfer) →

@@ -90,7 +90,8 @@ fn turned(slot: u32, filled: u32) -> u32
 
 impl<T: LinkTable> SlotRom<T> {
     /// An empty cache of up to `cache_bytes` bytes, in as many slots of `block_words` words as they hold: for every
-    /// image with blocks of so many words, and every ram that holds the slots.
+    /// image with blocks of so many words, and every ram that holds the slots. A block has 2 to 1024 words; the cache
+    /// holds one, and has at most 2^23 bytes.
     pub fn new(alloc: Global, cache_bytes: u32, block_words: u32) -> Result<SlotRom<T>, Memory>
         requires least { 2 ≤ block_words }
         requires most { block_words ≤ 1024 }
@@ -325,7 +326,7 @@ impl<T: LinkTable> SlotRom<T> {
 }
 
 impl<T: LinkTable> CacheRom for SlotRom<T> {
-    ghost use Rattle.swi_rom.specs.Fifo.{fifo, extent_of, fifo_first, fifo_second, fifo_third, fifo_grows};
+    ghost use Rattle.swi_rom.specs.Fifo.{fifo, extent_of, fifo_first, fifo_outside, fifo_second, fifo_third, fifo_grows};
     ghost use Rattle.swi_rom.specs.Slots.{kept_by, setting_of, span_of, shown_by, goals_by};
     ghost use Rattle.swi_rom.specs.Sound.{SlotsSound};
 
@@ -439,6 +440,8 @@ impl<T: LinkTable> CacheRom for SlotRom<T> {
     ghost goal_is = { slots_goal };
 
     ghost first = { fifo_first };
+
+    ghost outside = { fifo_outside };
 
     ghost second = { fifo_second };
 
