@@ -1,5 +1,5 @@
 -- A run on the cached machine, from what its parts say.
-use Rattle.std.proofs.Common.{◌≡◌, ◌⊎◌, inl, inr, ℕ, ◌+◌, ◌-◌, ◌*◌, ◌/◌, ◌^◌, ◌≤◌, min, List, [], ◌∷◌, ◌++◌, length, take, drop, append_assoc, if◌then◌else◌, Option, None, Some, Result, Ok, Err, IsErrOf, refl, sym, ◌∙◌, subst, ap, arith}
+use Rattle.std.proofs.Common.{◌≡◌, ◌⊎◌, inl, inr, ℕ, ◌+◌, ◌-◌, ◌*◌, ◌/◌, ◌^◌, ◌≤◌, min, List, [], ◌∷◌, ◌++◌, length, take, drop, append_assoc, if◌then◌else◌, Option, None, Some, Result, Ok, Err, IsErrOf, MatchResult, refl, sym, ◌∙◌, subst, ap, arith}
 use Rattle.std.proofs.Math.Nat.{div-mul-le_self}
 use Rattle.std.proofs.lemmas.List.{append-nil}
 use Rattle.std.specs.Io.KnownBytes.{Appends}
@@ -46,7 +46,8 @@ use Rattle.swi_top.specs.Checks.{Check, FitsUnlessImage, HoldsBlock, Fails, Imag
 use Rattle.swi_top.specs.Devices.{Devices, Faults}
 use Rattle.swi_top.specs.Runs.{FailedAfterRun, ending_by, report}
 use Rattle.swi_top.specs.Tracing.{addresses_in}
-use Rattle.swi_top.proofs.Tracing.{all_shown, some_shown}
+use Rattle.swi_top.proofs.Due.{left_empty}
+use Rattle.swi_top.proofs.Tracing.{all_shown, last_is, some_shown}
 use Rattle.swi_top.proofs.Refusals.{IsLate, checked_by, keeps_ram, late_causes, late_run, ok_causes, quiet_cause, refused_late, sized_along, sized_err, sized_ok, told_is}
 use Rattle.swi_top.proofs.Confirming.{out_causes}
 use Rattle.swi_top.proofs.Images.{fails_some, of_none, passes_none, passes_some, run_checks}
@@ -295,6 +296,12 @@ run_stopped {T} {o} {cache} {v} {p} {l} {d} {t} {i} {out} {e} {ram} {fi} {fo} {f
         sink_failed {T = T} o cache v p l d i out e ram fi fo fe held kept
         (λ left told. as_run (λ (k : CachedRun). run.StepFailed {T = T} k (Err stop.SinkFault) i d.output out d.error e) t o cache v p l left t_is (broke (inr refl) left told)) causes
 
+-- what stopped a run whose refusal `map_err(refusal_of)?` hands on
+pub handed_on : {T : Type 0} (r : Result T CachedStop) (x : Refusal) → MatchResult r (λ y. ◌≡◌ {A = Result T Refusal} (Err x) (Ok y)) (λ f. x ≡ refusal_of f) →
+    (f : CachedStop) × (r ≡ Err f) × (x ≡ refusal_of f)
+handed_on (Ok y) x h = let bad : ⊥ = cc in absurd bad
+handed_on (Err f) x h = (f, refl, h)
+
 -- the report of a board that came to its end
 abbrev pub board_report : RunOptions → HartData → Record → List ℕ
 board_report o h r = report o.reports h.machine (Some (board_work h.count h.machine.ending r))
@@ -395,8 +402,8 @@ module _ {o : RunOptions} {cache : CacheOptions} {v : ImageData} {p : ProgramDat
   wrote : (left : List ℕ) → d.input ≡ Some left → board_report o h r ≡ cached_report o (of left)
   wrote left told = let b = a.ended left told in report_is o (of left) h r b.machine b.count b.record_is (a.counted left)
 
-  pub report_broke : {out : Option (List ℕ)} {fo : ℕ} → AppendsPrefix mid out (board_report o h r) → mo ≤ fo → Rose mo fo → RunsOnCache o cache v p l d (ran_all d i out em ram fi fo me) (Err refusal.SinkFault)
-  report_broke {out} {fo} part later rose =
+  pub report_broke : {out : Option (List ℕ)} {fo : ℕ} → AppendsPrefix mid out (board_report o h r) → (board_report o h r ≡ [] → ⊥) → mo ≤ fo → Rose mo fo → RunsOnCache o cache v p l d (ran_all d i out em ram fi fo me) (Err refusal.SinkFault)
+  report_broke {out} {fo} part due later rose =
       let first : mo ≡ d.faults.out = ap (λ (x : board.Faults). x.out) quiet in
       behind out em fo me
       (subst (λ (n : ℕ). HasCauses {T = Ending} d.faults (record d.faults { out = fo; err = n }) (Err refusal.SinkFault)) (sym (ap (λ (x : board.Faults). x.err) quiet))
@@ -408,15 +415,15 @@ module _ {o : RunOptions} {cache : CacheOptions} {v : ImageData} {p : ProgramDat
             (subst (λ (y : List ℕ). Appends mid out (take part.0 y)) (wrote left told) part.1);
         error_front = 0;
         error = to_nil d.error em ((told_after (of left) (of left).limit).error ++ []) (to_nil d.error em (told_after (of left) (of left).limit).error b.error);
-        behind = inl refl;
+        behind = inl (refl, (λ none. due (wrote left told ∙ none)), subst (λ (n : ℕ). Rose n fo) first rose);
         input = b.input;
         fault = refl;
       })
 
   -- the report was written, and of the last lines a front
   pub lines_broke : {out e : Option (List ℕ)} {fo fe : ℕ} {bus : List AreaData} → Appends mid out (board_report o h r) → fo ≡ mo → bus ≡ h.machine.bus →
-      AppendsPrefix em e (last_told o.reports.trace bus (addresses_in history)) → me ≤ fe → Rose me fe → RunsOnCache o cache v p l d (ran_all d i out e ram fi fo fe) (Err refusal.SinkFault)
-  lines_broke {out} {e} {fo} {fe} {bus} written same_out bus_is part later rose =
+      AppendsPrefix em e (last_told o.reports.trace bus (addresses_in history)) → (last_told o.reports.trace bus (addresses_in history) ≡ [] → ⊥) → me ≤ fe → Rose me fe → RunsOnCache o cache v p l d (ran_all d i out e ram fi fo fe) (Err refusal.SinkFault)
+  lines_broke {out} {e} {fo} {fe} {bus} written same_out bus_is part due later rose =
       let first : me ≡ d.faults.err = ap (λ (x : board.Faults). x.err) quiet in
       behind out e fo fe
       (subst (λ (n : ℕ). HasCauses {T = Ending} d.faults (record d.faults { out = n; err = fe }) (Err refusal.SinkFault)) (sym (same_out ∙ ap (λ (x : board.Faults). x.out) quiet))
@@ -431,7 +438,12 @@ module _ {o : RunOptions} {cache : CacheOptions} {v : ImageData} {p : ProgramDat
         error_front = length (take q.0 lines);
         error = to_nil d.error e _ (subst (λ (y : List ℕ). Appends d.error e ((told_after (of left) (of left).limit).error ++ y)) (sym (seam q.0 lines _))
             (Appends-append d.error em e (told_after (of left) (of left).limit).error (take q.0 lines) b.error q.1));
-        behind = inr refl;
+        behind = inr (
+          refl,
+          (λ none. due (last_is o.reports.trace (of left) h.machine bus history bus_is b.machine (a.told left told) ∙ left_empty lines _ none)),
+          same_out ∙ ap (λ (x : board.Faults). x.out) quiet,
+          subst (λ (n : ℕ). Rose n fe) first rose,
+        );
         input = b.input;
         fault = refl;
       })

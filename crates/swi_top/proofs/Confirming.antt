@@ -60,7 +60,7 @@ confirm_failed d c out n name bytes held same stands accepted has written later 
   failed = λ _ file told.
       subst (λ (f : List ℕ). ConfirmFailed f d (record d { contents = c; output = out; faults = record d.faults { out = n } }) refusal.SinkFault [])
       (told_is d.contents name file bytes told stands)
-      (record { held = held; has = has; output = written; error = Appends-none d.error; fault = refl });
+      (record { held = held; has = has; output = written; error = Appends-none d.error; fault = refl; cause = rose });
   refused = λ never. absurd (never tt);
   shelf = record { others = λ x _. same x; refused = λ _. same; quiet = λ _. refl; failed = λ e. absurd (let never : ⊥ = cc in never) };
   ram = refl;

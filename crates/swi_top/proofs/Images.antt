@@ -1,5 +1,5 @@
 -- The image that a file has.
-use Rattle.std.proofs.Common.{◌≡◌, inl, inr, ℕ, ◌≤◌, List, ◌∷◌, length, take, drop, Option, Some, None, Ok, sym, arith, subst}
+use Rattle.std.proofs.Common.{◌≡◌, inl, inr, ℕ, ◌≤◌, List, ◌∷◌, length, take, drop, Option, Some, None, Result, Ok, Err, IfOk, MatchResult, sym, arith, subst}
 use Rattle.std.specs.Prelude.{option_map, find}
 use Rattle.std.proofs.lemmas.List.{length-take, length-drop}
 use Rattle.swi_elf_read.specs.declared.program_header.ProgramHeader.{ProgramHeader}
@@ -57,3 +57,8 @@ fails_some file limits l more bytes r short elf room has fails = inr (
     ),
   ),
 )
+
+-- what is known of the value that `map_err(..)?` lets through
+pub let_through : {T E : Type 0} (P : T → Type 0) (r : Result T E) (y : T) → IfOk r P → MatchResult r (λ x. ◌≡◌ {A = Result T Refusal} (Ok y) (Ok x)) (λ _. ⊥) → P y
+let_through P (Ok x) y p same = subst P (let e : x ≡ y = cc in e) p
+let_through P (Err e) y p same = absurd same

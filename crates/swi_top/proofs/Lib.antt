@@ -2,6 +2,7 @@ pub mod Images
 pub mod Refusals
 pub mod Puts
 pub mod Confirming
+pub mod Due
 pub mod Lines
 pub mod Running
 pub mod Flats

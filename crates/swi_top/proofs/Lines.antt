@@ -21,8 +21,9 @@ use Rattle.swi_calls.specs.Flat.{Made}
 use Rattle.swi_top.specs.Devices.{Devices, Faults, ShowsLine}
 use Rattle.swi_top.specs.Causes.{HasCauses}
 use Rattle.swi_top.specs.Checks.{cache_refusal}
-use Rattle.swi_top.specs.Runs.{Ran, StepFailed, FailedAtStep, FailedAfterRun, ending_of, start_of}
+use Rattle.swi_top.specs.Runs.{Ran, StepFailed, FailedAtStep, FailedAfterRun, FailedBehind, ending_of, start_of}
 use Rattle.swi_top.specs.Answers.{Answers, AnswersWithLine, Does, IsRefusedAtOnce, IsEndingOf, IsSized, Leaves, RamBroke, cached_run, last_lines, shown_error, made_ending, made_run, made_summary, output_name, plain_report, plain_run}
+use Rattle.swi_top.proofs.Due.{right_empty}
 use Rattle.swi_top.proofs.Refusals.{contents_stay, quiet_cause}
 
 pub appends_as : (a b : Option (List ℕ)) (x y : List ℕ) → x ≡ y → Appends a b x → Appends a b y
@@ -76,14 +77,21 @@ at_step_line run begun next most limit d m r error err line h p = record {
   failed = step_line (run h.steps) (begun (run h.steps)) (next (run h.steps)) (most (run h.steps)) d m r error err line h.failed p;
 }
 
-after_run_line : (s : FlatState) (report tail : List ℕ) (d m : Devices) (r : Refusal) (error : Option (List ℕ)) (err : ℕ) (line : List ℕ) →
+behind_line : (report lines : List ℕ) (i j : ℕ) (f m : Faults) (n : ℕ) → m.err ≤ n → FailedBehind report i lines j f m →
+    FailedBehind report i lines j f (record m { err = n })
+behind_line report lines i j f m n later h = elim h [
+  | inl a ↦ inl a
+  | inr a ↦ inr (a.0, a.1, a.2, rose_above f.err m.err n later a.3)
+]
+
+after_run_line : (s : FlatState) (report tail : List ℕ) (d m : Devices) (r : Refusal) (error : Option (List ℕ)) (err : ℕ) (line : List ℕ) → m.faults.err ≤ err →
     FailedAfterRun s report tail d m r [] → Appends m.error error line → FailedAfterRun s report tail d (told_to m error err) r line
-after_run_line s report tail d m r error err line h p = record {
+after_run_line s report tail d m r error err line later h p = record {
   output_front = h.output_front;
   output = h.output;
   error_front = h.error_front;
   error = appends_last d.error m.error error (s.error ++ take h.error_front (tail ++ ending_line (ending_of s))) line h.error p;
-  behind = h.behind;
+  behind = behind_line report (tail ++ ending_line (ending_of s)) h.output_front h.error_front d.faults m.faults err later h.behind;
   input = h.input;
   fault = h.fault;
 }
@@ -104,19 +112,19 @@ ram_line c d m r error err line h p = record {
   input = h.input;
 }
 
-leaves_line : (q : Request) (file : List ℕ) (d m : Devices) (r : Refusal) (error : Option (List ℕ)) (err : ℕ) (line : List ℕ) →
+leaves_line : (q : Request) (file : List ℕ) (d m : Devices) (r : Refusal) (error : Option (List ℕ)) (err : ℕ) (line : List ℕ) → m.faults.err ≤ err →
     Leaves q file d m r [] → Appends m.error error line → Leaves q file d (told_to m error err) r line
-leaves_line (RewriteFile input output block) file d m r error err line h p = h
-leaves_line (UpgradeFile input output) file d m r error err line h p = h
-leaves_line (ListFile name block) file d m r error err line h p =
-    record { image = h.image; own = h.own; output = h.output; error = Appends-append d.error m.error error [] line h.error p; fault = h.fault }
-leaves_line (CheckFile name) file d m r error err line h p =
-    record { held = h.held; has = h.has; output = h.output; error = Appends-append d.error m.error error [] line h.error p; fault = h.fault }
-leaves_line (RunPlain name o) file d m r error err line h p = λ input is. elim (h input is) [
+leaves_line (RewriteFile input output block) file d m r error err line later h p = h
+leaves_line (UpgradeFile input output) file d m r error err line later h p = h
+leaves_line (ListFile name block) file d m r error err line later h p =
+    record { image = h.image; own = h.own; output = h.output; error = Appends-append d.error m.error error [] line h.error p; fault = h.fault; cause = h.cause }
+leaves_line (CheckFile name) file d m r error err line later h p =
+    record { held = h.held; has = h.has; output = h.output; error = Appends-append d.error m.error error [] line h.error p; fault = h.fault; cause = h.cause }
+leaves_line (RunPlain name o) file d m r error err line later h p = λ input is. elim (h input is) [
   | inl a ↦ inl (at_step_line (plain_run o file input) _ _ _ o.limits.steps d m r error err line a p)
-  | inr a ↦ inr (after_run_line (plain_run o file input o.limits.steps) (plain_report o (plain_run o file input o.limits.steps)) [] d m r error err line a p)
+  | inr a ↦ inr (after_run_line (plain_run o file input o.limits.steps) (plain_report o (plain_run o file input o.limits.steps)) [] d m r error err line later a p)
 ]
-leaves_line (RunCached name cache o) file d m r error err line h p = (
+leaves_line (RunCached name cache o) file d m r error err line later h p = (
   h.0,
   h.1,
   h.2,
@@ -125,14 +133,14 @@ leaves_line (RunCached name cache o) file d m r error err line h p = (
       | inl a ↦ inl (ram_line (cached_run cache o h.0 (start_of o file input)) d m r error err line a p)
       | inr b ↦ inr (elim b [
         | inl a ↦ inl (at_step_line (told_after (cached_run cache o h.0 (start_of o file input))) _ _ _ o.limits.steps d m r error err line a p)
-        | inr a ↦ inr (after_run_line _ _ _ d m r error err line a.0 p, a.1)
+        | inr a ↦ inr (after_run_line _ _ _ d m r error err line later a.0 p, a.1)
       ])
     ];
     flat = f.flat;
     stops = f.stops;
   },
 )
-leaves_line (MeasureMade seed functions cache) file d m r error err line h p = record {
+leaves_line (MeasureMade seed functions cache) file d m r error err line later h p = record {
   program = h.program;
   layout = h.layout;
   image = h.image;
@@ -150,7 +158,7 @@ leaves_line (MeasureMade seed functions cache) file d m r error err line h p = r
         output = a.0.output;
         error_front = a.0.error_front;
         error = appends_last d.error m.error error _ line a.0.error p;
-        behind = a.0.behind;
+        behind = behind_line _ _ a.0.output_front a.0.error_front d.faults m.faults err later a.0.behind;
       },
       a.1,
     )
@@ -171,7 +179,7 @@ refused_line q d m r error err a line later = record {
     checked = a.checked;
     ended = tt;
     done = tt;
-    failed = λ f file told. leaves_line q file d m r error err (take line.shown (refusal_line r)) (a.failed f file told) line.bytes;
+    failed = λ f file told. leaves_line q file d m r error err (take line.shown (refusal_line r)) later (a.failed f file told) line.bytes;
     refused = λ never. let u = a.refused never in (
       record { input = u.0.input; output = u.0.output; ram = u.0.ram },
       Appends-append d.error m.error error [] (take line.shown (refusal_line r)) u.1 line.bytes,
@@ -257,10 +265,21 @@ shown_split trace.Off c = sym (append-nil (told_after c c.limit).error)
 shown_split trace.Each c = sym (append-nil (told_after c c.limit).error)
 shown_split trace.Last c = refl
 
+-- the error sink failed at lines that end with one that has bytes
+behind_ending : (report tail : List ℕ) (j : ℕ) (e x : Ending) (f m : Faults) (n : ℕ) → e ≡ x → (ending_line e ≡ [] → ⊥) → m ≡ f → Rose m.err n →
+    FailedBehind report (length report) (tail ++ ending_line x) j f (record m { err = n })
+behind_ending report tail j e x f m n is never same rose = inr (
+  refl,
+  λ none. never (ap (λ (y : Ending). ending_line y) is ∙ right_empty tail (ending_line x) none),
+  ap (λ (y : Faults). y.out) same,
+  subst (λ (y : Faults). Rose y.err n) same rose,
+)
+
 -- the line of an ending could not be written
 after_line : (s : FlatState) (all report tail : List ℕ) (d m : Devices) (e : Ending) (error : Option (List ℕ)) (err : ℕ) → all ≡ s.error ++ tail →
-    Ran (record s { error = all }) report d m e [] → AppendsPrefix m.error error (ending_line e) → FailedAfterRun s report tail d (told_to m error err) refusal.SinkFault []
-after_line s all report tail d m e error err split h p = record {
+    Ran (record s { error = all }) report d m e [] → AppendsPrefix m.error error (ending_line e) → (ending_line e ≡ [] → ⊥) → m.faults ≡ d.faults → Rose m.faults.err err →
+    FailedAfterRun s report tail d (told_to m error err) refusal.SinkFault []
+after_line s all report tail d m e error err split h p never same rose = record {
   output_front = length report;
   output = appends_as d.output m.output (s.output ++ report) (s.output ++ take (length report) report) (ap (λ (x : List ℕ). s.output ++ x) (take_all report)) h.output;
   error_front = length tail + p.0;
@@ -269,7 +288,7 @@ after_line s all report tail d m e error err split h p = record {
       ∙ ap (λ (x : List ℕ). s.error ++ x) (sym (take-append-add tail (ending_line (ending_of s)) p.0)) ∙ sym (append-nil _))
       (appends_last d.error m.error error all (take p.0 (ending_line (ending_of s))) h.error
       (subst (λ (x : Ending). Appends m.error error (take p.0 (ending_line x))) h.ending p.1));
-  behind = inr refl;
+  behind = behind_ending report tail (length tail + p.0) e (ending_of s) d.faults m.faults err h.ending never same rose;
   input = h.input;
   fault = refl;
 }
@@ -278,21 +297,22 @@ no_done : (e : Ending) → e ≡ ending.Done → (ending_line e ≡ [] → ⊥) 
 no_done e is never = never (no_line e is)
 
 leaves_ending : (q : Request) (file : List ℕ) (d m : Devices) (e : Ending) (error : Option (List ℕ)) (err : ℕ) → IsEndingOf q e → Does q file d m e [] →
-    AppendsPrefix m.error error (ending_line e) → (ending_line e ≡ [] → ⊥) → Leaves q file d (told_to m error err) refusal.SinkFault []
-leaves_ending (RewriteFile input output block) file d m e error err is h p never = no_done e is never
-leaves_ending (UpgradeFile input output) file d m e error err is h p never = no_done e is never
-leaves_ending (ListFile name block) file d m e error err is h p never = absurd (no_done e is never)
-leaves_ending (CheckFile name) file d m e error err is h p never = absurd (no_done e is never)
-leaves_ending (RunPlain name o) file d m e error err is h p never = λ input left. inr (after_line (plain_run o file input o.limits.steps) (plain_run o file input o.limits.steps).error _ [] d m e error err (sym (append-nil _)) (h input left) p)
-leaves_ending (RunCached name cache o) file d m e error err is h p never = (
+    AppendsPrefix m.error error (ending_line e) → (ending_line e ≡ [] → ⊥) → m.faults ≡ d.faults → Rose m.faults.err err →
+    Leaves q file d (told_to m error err) refusal.SinkFault []
+leaves_ending (RewriteFile input output block) file d m e error err is h p never same rose = no_done e is never
+leaves_ending (UpgradeFile input output) file d m e error err is h p never same rose = no_done e is never
+leaves_ending (ListFile name block) file d m e error err is h p never same rose = absurd (no_done e is never)
+leaves_ending (CheckFile name) file d m e error err is h p never same rose = absurd (no_done e is never)
+leaves_ending (RunPlain name o) file d m e error err is h p never same rose = λ input left. inr (after_line (plain_run o file input o.limits.steps) (plain_run o file input o.limits.steps).error _ [] d m e error err (sym (append-nil _)) (h input left) p never same rose)
+leaves_ending (RunCached name cache o) file d m e error err is h p never same rose = (
   h.0,
   h.1,
   h.2,
   λ input left.
       let r = h.3 input left in
-      let c = cached_run cache o h.0 (start_of o file input) in record { broke = inr (inr (after_line (told_after c c.limit) (shown_error o.reports.trace c) _ (last_lines o.reports.trace c) d m e error err (shown_split o.reports.trace c) r.ran p, r.cached.ram)); flat = r.cached.flat; stops = r.cached.stops },
+      let c = cached_run cache o h.0 (start_of o file input) in record { broke = inr (inr (after_line (told_after c c.limit) (shown_error o.reports.trace c) _ (last_lines o.reports.trace c) d m e error err (shown_split o.reports.trace c) r.ran p never same rose, r.cached.ram)); flat = r.cached.flat; stops = r.cached.stops },
 )
-leaves_ending (MeasureMade seed functions cache) file d m e error err is h p never =
+leaves_ending (MeasureMade seed functions cache) file d m e error err is h p never same rose =
     let c = made_run cache h.program h.layout h.image in
     let summary : List ℕ = made_summary functions h.program h.image c in record {
       program = h.program;
@@ -308,7 +328,7 @@ leaves_ending (MeasureMade seed functions cache) file d m e error err is h p nev
           error = appends_as d.error error (take p.0 (ending_line (made_ending (end_of c)))) (take p.0 (ending_line (made_ending (end_of c))) ++ []) (sym (append-nil _))
               (Appends-append d.error m.error error [] (take p.0 (ending_line (made_ending (end_of c)))) h.error
               (subst (λ (x : Ending). Appends m.error error (take p.0 (ending_line x))) h.ending p.1));
-          behind = inr refl;
+          behind = behind_ending summary [] p.0 e (made_ending (end_of c)) d.faults m.faults err h.ending never same rose;
         },
         h.ran,
       );
@@ -355,7 +375,7 @@ ending_failed q d m e error err a p never later rose = record {
   checked = a.checked;
   ended = tt;
   done = tt;
-  failed = λ _ file told. leaves_ending q file d m e error err a.ended (a.done file told) p never;
+  failed = λ _ file told. leaves_ending q file d m e error err a.ended (a.done file told) p never a.causes.quiet rose;
   refused = λ run. absurd (run tt);
   shelf = record {
     others = a.shelf.others;

@@ -1,5 +1,5 @@
 -- The run of a made program, and what a command answers that measures it.
-use Rattle.std.proofs.Common.{◌≡◌, ◌⊎◌, inl, inr, ℕ, ◌*◌, ◌^◌, ◌<◌, ◌≤◌, List, [], ◌∷◌, length, take, Option, None, Result, Ok, Err, IfOk, IfErr, IsErrOf, refl, sym, ◌∙◌, subst, ap, arith, nat_lt, false}
+use Rattle.std.proofs.Common.{◌≡◌, ◌⊎◌, inl, inr, ℕ, ◌*◌, ◌^◌, ◌<◌, ◌≤◌, List, [], ◌∷◌, length, take, Option, None, Result, Ok, Err, IfOk, IfErr, OnErr, IsErrOf, refl, sym, ◌∙◌, subst, ap, arith, nat_lt, false}
 use Rattle.std.proofs.lemmas.Bool.Decides.{nat_tests}
 use Rattle.std.specs.List.{AllZip}
 use Rattle.std.specs.Io.KnownBytes.{Appends}
@@ -134,9 +134,9 @@ made_done seed functions cache p l v d out ram fo h r e size is fits held ran be
 pub summary_broke : (seed functions : ℕ) (cache : CacheOptions) (p : ProgramData) (l : Layout) (v : ImageData) (d : Devices) (out : Option (List ℕ)) (ram : RamState) (fo : ℕ) (h : HartData) (r : Record) →
     size_refusal cache.cache_bytes (length d.ram.words) ≡ None → IsMadeRun seed functions cache p l v → Fits (text_of p.segments) cache.block_words →
     4 * cache.block_words ≤ cache.cache_bytes → MadeRan (made_run cache p l v) h r d.ram ram → KeepsBeyond (slots_of cache.cache_bytes v * v.block_words) d.ram ram →
-    ram.faults ≡ d.faults.ram → AppendsPrefix d.output out (board_summary functions p v h r) → d.faults.out ≤ fo → Rose d.faults.out fo →
+    ram.faults ≡ d.faults.ram → AppendsPrefix d.output out (board_summary functions p v h r) → (board_summary functions p v h r ≡ [] → ⊥) → d.faults.out ≤ fo → Rose d.faults.out fo →
     Answers (MeasureMade seed functions cache) d (measured_to d out ram fo) (Err refusal.SinkFault) []
-summary_broke seed functions cache p l v d out ram fo h r size is fits held ran beyond ram_is part later rose =
+summary_broke seed functions cache p l v d out ram fo h r size is fits held ran beyond ram_is part due later rose =
     let c = made_run cache p l v in record {
       asked = λ x. let bad : ⊥ = cc in bad;
       sized = sized_along _ _ size (sized_err refusal.SinkFault (λ x. x));
@@ -155,7 +155,7 @@ summary_broke seed functions cache p l v d out ram fo h r size is fits held ran 
             output = subst (λ (x : List ℕ). Appends d.output out (take part.0 x)) (summary_is functions p v c h r d.ram ram ran) part.1;
             error_front = 0;
             error = Appends-none d.error;
-            behind = inl refl;
+            behind = inl (refl, (λ none. due (summary_is functions p v c h r d.ram ram ran ∙ none)), rose);
           },
           ran.ran,
         );
@@ -237,13 +237,14 @@ pub summarized : (seed functions : ℕ) (cache : CacheOptions) (p : ProgramData)
     size_refusal cache.cache_bytes (length d.ram.words) ≡ None → IsMadeRun seed functions cache p l v → Fits (text_of p.segments) cache.block_words →
     4 * cache.block_words ≤ cache.cache_bytes → MadeRan (made_run cache p l v) h k d.ram ram → KeepsBeyond (slots_of cache.cache_bytes v * v.block_words) d.ram ram →
     ram.faults ≡ d.faults.ram → IfOk r (λ e. (e ≡ made_ending_by h.machine.ending h.machine.pc h.machine.steps) × Appends d.output out (board_summary functions p v h k)) →
-    IfErr r (λ e. (e ≡ refusal.SinkFault) × AppendsPrefix d.output out (board_summary functions p v h k)) → HasCause d.faults.out fo r →
+    IfErr r (λ e. (e ≡ refusal.SinkFault) × AppendsPrefix d.output out (board_summary functions p v h k)) → OnErr r (board_summary functions p v h k ≡ [] → ⊥) →
+    HasCause d.faults.out fo r →
     Answers (MeasureMade seed functions cache) d (measured_to d out ram fo) r []
-summarized seed functions cache p l v d out ram fo h k (Ok e) size is fits held ran beyond ram_is done failed cause =
+summarized seed functions cache p l v d out ram fo h k (Ok e) size is fits held ran beyond ram_is done failed due cause =
     made_done seed functions cache p l v d out ram fo h k e size is fits held ran beyond ram_is done.0 done.1 cause.quiet
-summarized seed functions cache p l v d out ram fo h k (Err r) size is fits held ran beyond ram_is done failed cause =
+summarized seed functions cache p l v d out ram fo h k (Err r) size is fits held ran beyond ram_is done failed due cause =
     subst (λ (x : Refusal). Answers (MeasureMade seed functions cache) d (measured_to d out ram fo) (Err x) []) (sym failed.0)
-    (summary_broke seed functions cache p l v d out ram fo h k size is fits held ran beyond ram_is failed.1 cause.later cause.failed)
+    (summary_broke seed functions cache p l v d out ram fo h k size is fits held ran beyond ram_is failed.1 due cause.later cause.failed)
 
 pub unfailed : {T : Type 0} (n m : ℕ) (x : T) → DeviceCause n m (IsErrOf {T = T} (Ok x) refusal.RamFault) → m ≡ n
 unfailed n m x cause = elim cause.told [ inl e ↦ e | inr never ↦ absurd (let bad : ⊥ = cc in bad) ]

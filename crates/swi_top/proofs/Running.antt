@@ -173,9 +173,9 @@ pub report_failed : (o : RunOptions) (p : ProgramData) (l : Layout) (first new :
     ForSome d.input (λ left. i ≡ Some (state_at o.limits.steps first.machine left).input) →
     ForSome d.input (λ left. Appends d.output mid (state_at o.limits.steps first.machine left).output) →
     ForSome d.input (λ left. Appends d.error e (state_at o.limits.steps first.machine left).error) →
-    AppendsPrefix mid out (report o.reports new.machine None) →
+    AppendsPrefix mid out (report o.reports new.machine None) → (report o.reports new.machine None ≡ [] → ⊥) →
     fi ≡ d.faults.input → d.faults.out ≤ fo → Rose d.faults.out fo → fe ≡ d.faults.err → RunsPlain o p l d (run_to d i out e fi fo fe) (Err refusal.SinkFault)
-report_failed o p l first new d i mid out e fi fo fe first_is machine input output error part fi_is later rose fe_is = record {
+report_failed o p l first new d i mid out e fi fo fe first_is machine input output error part due fi_is later rose fe_is = record {
   done = tt;
   refused = inr (inl refl);
   memory = λ y. let bad : ⊥ = cc in absurd bad;
@@ -189,7 +189,7 @@ report_failed o p l first new d i mid out e fi fo fe first_is machine input outp
         error_front = 0;
         error = subst (λ (y : List ℕ). Appends d.error e y) (sym (append-nil (state.error ++ [])))
             (subst (λ (y : List ℕ). Appends d.error e y) (sym (append-nil state.error)) (error left told));
-        behind = inl refl;
+        behind = inl (refl, subst (λ (m : Machine). report o.reports m None ≡ [] → ⊥) same due, rose);
         input = input left told;
         fault = refl;
       }));

@@ -53,7 +53,7 @@ all_lines bus xs n old new all h =
 
 -- ---- what is told behind a run
 
-last_is : (t : Trace) (c : CachedRun) (m : Machine) (bus : List AreaData) (history : Option (List ℕ)) → bus ≡ m.bus → m ≡ (end_of c).machine → history ≡ history_of (telling_of t) (addresses c.limit c.start) →
+pub last_is : (t : Trace) (c : CachedRun) (m : Machine) (bus : List AreaData) (history : Option (List ℕ)) → bus ≡ m.bus → m ≡ (end_of c).machine → history ≡ history_of (telling_of t) (addresses c.limit c.start) →
     last_told t bus (addresses_in history) ≡ last_lines t c
 last_is t c m bus history same machine last =
     ap (λ (x : List AreaData). last_told t x (addresses_in history)) (same ∙ ap (λ (x : Machine). x.bus) machine) ∙ ap (λ (x : Option (List ℕ)). last_told t (end_of c).machine.bus (addresses_in x)) last ∙ by t

@@ -49,7 +49,7 @@ use Rattle.swi_top.specs.Checks.{Check, IsAccepted, IsRefusedBy, cache_refusal, 
 use Rattle.swi_top.specs.Causes.{HasCauses}
 use Rattle.swi_top.specs.Listing.{listing}
 use Rattle.swi_top.specs.Measuring.{made_ending_by, summary_by}
-use Rattle.swi_top.specs.Runs.{Ran, FailedAtStep, FailedAfterRun, start_of, report}
+use Rattle.swi_top.specs.Runs.{Ran, FailedAtStep, FailedAfterRun, FailedBehind, start_of, report}
 
 -- ---- what a request names
 
@@ -257,6 +257,7 @@ pub record ConfirmFailed (file : List ℕ) (before after : Devices) (r : Refusal
   pub output : AppendsPrefix before.output after.output (checked_line (image_of held))
   pub error : Appends before.error after.error last
   pub fault : r ≡ refusal.SinkFault
+  pub cause : Rose before.faults.out after.faults.out
 
 pub record ListFailed (file : List ℕ) (most : ℕ) (before after : Devices) (r : Refusal) (last : List ℕ) : Type 0 where
   pub image : ImageData
@@ -264,6 +265,7 @@ pub record ListFailed (file : List ℕ) (most : ℕ) (before after : Devices) (r
   pub output : AppendsPrefix before.output after.output (listing (text_in file) image)
   pub error : Appends before.error after.error last
   pub fault : r ≡ refusal.SinkFault
+  pub cause : Rose before.faults.out after.faults.out
 
 -- the most bytes that the next step takes: those of the read that its registers ask for
 abbrev pub read_room_of : FlatState → ℕ
@@ -326,7 +328,7 @@ pub record SummaryBroke (e : Ending) (summary : List ℕ) (before after : Device
   pub output : Appends before.output after.output (take output_front summary)
   pub error_front : ℕ
   pub error : Appends before.error after.error (take error_front (ending_line e) ++ last)
-  pub behind : (error_front ≡ 0) ⊎ (output_front ≡ length summary)
+  pub behind : FailedBehind summary output_front (ending_line e) error_front before.faults after.faults
 
 pub record MeasureFailed (seed functions : ℕ) (cache : CacheOptions) (before after : Devices) (r : Refusal) (last : List ℕ) : Type 0 where
   pub program : ProgramData

@@ -1,6 +1,7 @@
 -- The run of a file's program, and what it leaves. Own rule; the machine is that of the RISC-V unprivileged specification.
 use Rattle.std.specs.Prelude.{◌≡◌, ◌⊎◌, ℕ, ◌<◌, ◌≤◌, List, [], ◌++◌, length, take, Option, Some, None, Result, Ok, Err, if◌then◌else◌}
 use Rattle.std.specs.Io.KnownBytes.{Appends, Consumes}
+use Rattle.swi_outside.specs.Causes.{Rose}
 use Rattle.swi_outside.specs.Sink.{AppendsThenPrefix}
 use Rattle.swi_exec.specs.Registers.{Registers}
 use Rattle.swi_memory.specs.Bus.{AreaData}
@@ -22,7 +23,7 @@ use Rattle.swi_answer.specs.declared.answer.Ending.TheVariants as ending
 use Rattle.swi_answer.specs.declared.answer.Refusal.{Refusal}
 use Rattle.swi_answer.specs.declared.answer.Refusal.TheVariants as refusal
 use Rattle.swi_answer.specs.Lines.{ending_line}
-use Rattle.swi_top.specs.Devices.{Devices}
+use Rattle.swi_top.specs.Devices.{Devices, Faults}
 use Rattle.swi_top.specs.Checks.{room_in}
 
 abbrev pub layout_in : Result Layout Room → Layout
@@ -83,12 +84,19 @@ pub record FailedAtStep (run : ℕ → FlatState) (begun : FlatState → List �
   pub fewer : steps < limit
   pub failed : StepFailed (run steps) (begun (run steps)) (next (run steps)) (most (run steps)) before after r last
 
+-- Which sink failed behind a run: the output, at a report that has bytes; or, where the report is whole, the error sink, at lines that have
+-- bytes.
+abbrev pub FailedBehind : List ℕ → ℕ → List ℕ → ℕ → Faults → Faults → Type 0
+FailedBehind report output_front lines error_front before after =
+    ((error_front ≡ 0) × (report ≡ [] → ⊥) × Rose before.out after.out)
+    ⊎ ((output_front ≡ length report) × (lines ≡ [] → ⊥) × (after.out ≡ before.out) × Rose before.err after.err)
+
 -- A sink failed behind the run: at the report, or, where that is whole, at what is told of the last steps and the ending's line.
 pub record FailedAfterRun (s : FlatState) (report tail : List ℕ) (before after : Devices) (r : Refusal) (last : List ℕ) : Type 0 where
   pub output_front : ℕ
   pub output : Appends before.output after.output (s.output ++ take output_front report)
   pub error_front : ℕ
   pub error : Appends before.error after.error ((s.error ++ take error_front (tail ++ ending_line (ending_of s))) ++ last)
-  pub behind : (error_front ≡ 0) ⊎ (output_front ≡ length report)
+  pub behind : FailedBehind report output_front (tail ++ ending_line (ending_of s)) error_front before.faults after.faults
   pub input : after.input ≡ Some s.input
   pub fault : r ≡ refusal.SinkFault

@@ -1,7 +1,7 @@
 //! The commands `cached` and `trace`: a run on the cached machine.
 #![tactic(auto)]
 
-ghost use Rattle.std.specs.Prelude.{◌≡◌, ◌*◌, ◌^◌, ◌≤◌, Some, [], length};
+ghost use Rattle.std.specs.Prelude.{◌≡◌, ◌*◌, ◌^◌, ◌≤◌, Some, OnErr, [], length};
 ghost use Rattle.swi_outside.specs.Causes.{HasCause};
 ghost use Rattle.swi_outside.specs.Sink.{WritesPiece};
 ghost use Rattle.swi_command.specs.CommandLine.{IsCacheInRange, IsInRange, RunCached};
@@ -67,6 +67,8 @@ pub(crate) fn report_board<O: Sink>(
     ensures bytes { WritesPiece (O.held out.old) (O.held out.new) result (report reports.now board.now.hart.machine
         (Some (board_work board.now.hart.count board.now.hart.machine.ending (kept_by board.now.rom)))) }
     ensures cause { HasCause (O.faults out.old) (O.faults out.new) result }
+    ensures asked { OnErr result (report reports.now board.now.hart.machine
+        (Some (board_work board.now.hart.count board.now.hart.machine.ending (kept_by board.now.rom))) ≡ [] → ⊥) }
 {
     let work = work_of(board);
     let (pc, steps) = (board.origin_pc(), board.steps());
@@ -136,12 +138,10 @@ fn run_program<I: Source, O: Sink, E: Sink, R: CacheRam>(
     let (program, layout) = (&prepared.program, &prepared.layout);
     let (reports, steps) = (&options.reports, options.limits.steps);
     let (calls, telling) = (reports.calls, telling_of(reports.trace));
-    let ended = match run_cached(
+    let ended = run_cached(
         alloc, image, program, layout, bytes, calls, telling, steps, input, out, err, ram,
-    ) {
-        Ok(ended) => ended,
-        Err(stop) => return Err(refusal_of(stop)),
-    };
+    )
+    .map_err(refusal_of)?;
     let (board, history) = (&ended.0, &ended.1);
     let Ok(()) = report_board(reports, board, out) else {
         return Err(Refusal::SinkFault);
@@ -195,10 +195,7 @@ fn run_file<I: Source, O: Sink, E: Sink, R: CacheRam>(
           };
         }) result }
 {
-    let elf = match read_elf(file) {
-        Ok(elf) => elf,
-        Err(refusal) => return Err(Refusal::Elf(refusal)),
-    };
+    let elf = read_elf(file).map_err(Refusal::Elf)?;
     let prepared = prepare(alloc, &elf, &options.limits)?;
     let Some(bytes) = image_bytes(&elf) else {
         let image = cut_image(alloc, &prepared.program, cache.block_words)?;

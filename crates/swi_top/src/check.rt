@@ -24,10 +24,7 @@ pub(crate) fn confirmed<'a>(alloc: Global, file: &'a [u8]) -> Result<ImageView<'
     ensures accepted { OnOk result (IsAccepted file.now (checks_of (CheckFile []))) }
     ensures refused { IfErr result (IsRefusedOr file.now (checks_of (CheckFile []))) }
 {
-    let elf = match read_elf(file) {
-        Ok(elf) => elf,
-        Err(refusal) => return Err(Refusal::Elf(refusal)),
-    };
+    let elf = read_elf(file).map_err(Refusal::Elf)?;
     let program = load(alloc, &elf)?;
     match image_bytes(&elf) {
         Some(bytes) => own_image(&program, bytes),

@@ -40,10 +40,7 @@ pub(crate) fn own_image<'a>(
     ensures passes { OnOk result (ImagePasses (text_of program.now.segments) bytes.now) }
     ensures refused { IfErr result (ImageFails (text_of program.now.segments) bytes.now) }
 {
-    let view = match read_image(bytes) {
-        Ok(view) => view,
-        Err(refusal) => return Err(Refusal::Image(refusal)),
-    };
+    let view = read_image(bytes).map_err(Refusal::Image)?;
     match check(program, &view) {
         Ok(()) => Ok(view),
         Err(mismatch) => Err(Refusal::Mismatch(mismatch)),

@@ -60,10 +60,7 @@ fn list_file<O: Sink>(
         (record d { output = O.held out.old; faults = record d.faults { out = O.faults out.old } })
         (record d { output = O.held out.new; faults = record d.faults { out = O.faults out.new } }) result }
 {
-    let elf = match read_elf(file) {
-        Ok(elf) => elf,
-        Err(refusal) => return Err(Refusal::Elf(refusal)),
-    };
+    let elf = read_elf(file).map_err(Refusal::Elf)?;
     let program = load(alloc, &elf)?;
     let Some(bytes) = image_bytes(&elf) else {
         let image = cut_image(alloc, &program, block_words)?;

@@ -126,6 +126,7 @@ fn run_made<R: CacheRam>(
 }
 
 /// Writes the summary of a made program that exited, or answers how else it ended.
+#[tactic(auto, using(crate::proofs::Due::summary_due))]
 fn summarize<O: Sink>(
     functions: u32,
     program: &Program<'_>,
@@ -141,6 +142,7 @@ fn summarize<O: Sink>(
         × AppendsPrefix (O.held out.old) (O.held out.new)
         (board_summary functions program.now image.now board.now.hart (kept_by board.now.rom))) }
     ensures cause { HasCause (O.faults out.old) (O.faults out.new) result }
+    ensures asked { OnErr result (board_summary functions program.now image.now board.now.hart (kept_by board.now.rom) ≡ [] → ⊥) }
 {
     let Some(End::Exited(exit)) = board.ending() else {
         return Ok(ending_of(board.ending(), board.origin_pc(), board.steps()));

@@ -78,10 +78,7 @@ fn accepted<'a>(
     ensures accepted { OnOk result (IsAccepted file.now (checks_of (RunPlain [] options.now))) }
     ensures refused { IfErr result (IsRefusedOr file.now (checks_of (RunPlain [] options.now))) }
 {
-    let elf = match read_elf(file) {
-        Ok(elf) => elf,
-        Err(refusal) => return Err(Refusal::Elf(refusal)),
-    };
+    let elf = read_elf(file).map_err(Refusal::Elf)?;
     let prepared = prepare(alloc, &elf, &options.limits)?;
     let Some(bytes) = image_bytes(&elf) else {
         return Ok(prepared);

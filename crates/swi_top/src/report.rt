@@ -1,7 +1,7 @@
 //! What is told of a run when it is over.
 #![tactic(auto)]
 
-ghost use Rattle.std.specs.Prelude.{◌≡◌};
+ghost use Rattle.std.specs.Prelude.{◌≡◌, OnErr, []};
 ghost use Rattle.std.specs.Option.{option_copied};
 ghost use Rattle.swi_outside.specs.Causes.{HasCause};
 ghost use Rattle.swi_outside.specs.Sink.{WritesPiece};
@@ -28,7 +28,7 @@ pub(crate) fn ending_of(end: Option<End>, pc: u32, steps: u64) -> Ending
 }
 
 /// Writes the state and the counts, as far as they are asked for.
-#[tactic(auto, using(swi_outside::proofs::SinkLemmas::prefix_first, swi_outside::proofs::SinkLemmas::prefix_last))]
+#[tactic(auto, using(swi_outside::proofs::SinkLemmas::prefix_first, swi_outside::proofs::SinkLemmas::prefix_last, crate::proofs::Due::state_due, crate::proofs::Due::stats_due))]
 pub(crate) fn write_report<O: Sink>(
     reports: &Reports,
     pc: u32,
@@ -42,6 +42,7 @@ pub(crate) fn write_report<O: Sink>(
     ensures bytes { WritesPiece (O.held out.old) (O.held out.new) result
         (report_of reports.now pc regs.now bus.now heap.entry.now.now steps (option_copied work.entry)) }
     ensures cause { HasCause (O.faults out.old) (O.faults out.new) result }
+    ensures asked { OnErr result (report_of reports.now pc regs.now bus.now heap.entry.now.now steps (option_copied work.entry) ≡ [] → ⊥) }
 {
     if reports.state {
         state_text(pc, regs, bus, heap, out)?;

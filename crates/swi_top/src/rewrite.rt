@@ -59,10 +59,7 @@ fn rewritten(alloc: Global, file: &[u8], block_words: u32) -> Result<Vec<u8>, Re
     ensures accepted { OnOk result (IsAccepted file.now (checks_of (RewriteFile [] [] block_words))) }
     ensures refused { IfErr result (IsRefusedOr file.now (checks_of (RewriteFile [] [] block_words))) }
 {
-    let elf = match read_elf(file) {
-        Ok(elf) => elf,
-        Err(refusal) => return Err(Refusal::Elf(refusal)),
-    };
+    let elf = read_elf(file).map_err(Refusal::Elf)?;
     let program = load(alloc, &elf)?;
     let image = cut_image(alloc, &program, block_words)?;
     file_with(alloc, &program, &image)
@@ -75,10 +72,7 @@ fn upgraded(alloc: Global, file: &[u8]) -> Result<Vec<u8>, Refusal>
     ensures accepted { OnOk result (IsAccepted file.now (checks_of (UpgradeFile [] []))) }
     ensures refused { IfErr result (IsRefusedOr file.now (checks_of (UpgradeFile [] []))) }
 {
-    let elf = match read_elf(file) {
-        Ok(elf) => elf,
-        Err(refusal) => return Err(Refusal::Elf(refusal)),
-    };
+    let elf = read_elf(file).map_err(Refusal::Elf)?;
     let program = load(alloc, &elf)?;
     let Some(bytes) = image_bytes(&elf) else {
         return Err(Refusal::NoImage);

@@ -1,7 +1,7 @@
 //! The lines of a run's last steps.
 #![tactic(auto)]
 
-ghost use Rattle.std.specs.Prelude.{◌≡◌, slice_get};
+ghost use Rattle.std.specs.Prelude.{◌≡◌, OnErr, [], slice_get};
 ghost use Rattle.swi_outside.specs.Causes.{HasCause};
 ghost use Rattle.swi_outside.specs.Sink.{WritesPiece};
 ghost use Rattle.swi_cached.specs.Told.{lines_at};
@@ -38,9 +38,11 @@ fn write_step<E: Sink>(history: &History, k: u32, bus: &Bus, err: &mut E) -> Res
 }
 
 /// Writes the lines of the steps at a history's addresses.
+#[tactic(auto, using(crate::proofs::Due::lines_due))]
 fn write_history<E: Sink>(history: &History, bus: &Bus, err: &mut E) -> Result<(), Failed>
     ensures bytes { WritesPiece (E.held err.old) (E.held err.new) result (lines_at bus.now history.now) }
     ensures cause { HasCause (E.faults err.old) (E.faults err.new) result }
+    ensures asked { OnErr result (lines_at bus.now history.now ≡ [] → ⊥) }
 {
     for k in 0..history.len() {
         if write_step(history, k, bus, err).is_err() {
@@ -60,6 +62,7 @@ pub(crate) fn write_last<E: Sink>(
     ensures bytes { WritesPiece (E.held err.old) (E.held err.new) result
         (last_told trace bus.now (addresses_in history.now)) }
     ensures cause { HasCause (E.faults err.old) (E.faults err.new) result }
+    ensures asked { OnErr result (last_told trace bus.now (addresses_in history.now) ≡ [] → ⊥) }
 {
     match trace {
         Trace::Last => match history {

@@ -53,4 +53,4 @@ returns g c =
     summarized c.args.seed c.args.functions c.args.cache.now c.in_ok-prepared.prepared.program c.in_ok-prepared.prepared.layout c.view-view.result before
     (g.O.Sink.held c.summarize.new.out) (g.R.CacheRam.state c.run_made.new.ram) (g.O.Sink.faults c.summarize.new.out) _ _ c.summarize.result
     c.in_ok-check_sizes.ensures.ok is c.in_ok-image.ensures.fits held c.in_ok-board.ensures.ran c.in_ok-board.ensures.kept
-    (unfailed _ _ _ c.in_ok-board.ensures.cause) c.summarize.ensures.done c.summarize.ensures.failed c.summarize.ensures.cause
+    (unfailed _ _ _ c.in_ok-board.ensures.cause) c.summarize.ensures.done c.summarize.ensures.failed c.summarize.ensures.asked c.summarize.ensures.cause

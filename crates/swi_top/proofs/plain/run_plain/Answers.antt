@@ -78,8 +78,9 @@ returns g c = λ d.
     } in
     let e = c.in-Ok-run.ensures in
     let part = rw (c.pc-pc.ensures, c.steps-steps.ensures, c.regs-regs.ensures, c.bus-bus.ensures, c.heap-heap.ensures) at c.in-Err.ensures.bytes in
+    let due = rw (c.pc-pc.ensures, c.steps-steps.ensures, c.regs-regs.ensures, c.bus-bus.ensures, c.heap-heap.ensures) at c.in-Err.ensures.asked in
     let causes = e.causes.quiet in
     report_failed c.args.options.now c.args.prepared.now.program c.args.prepared.now.layout c.in-Ok.machine c.run.new.self before _ (g.O.Sink.held c.run.new.out) _ _ _ _ _
-    c.in-Ok.ensures.machine e.machine e.input e.output e.error part
+    c.in-Ok.ensures.machine e.machine e.input e.output e.error part due
     (ap (λ (x : Faults). x.input) causes) (subst (λ (n : ℕ). n ≤ g.O.Sink.faults c.write_report.new.out) (ap (λ (x : Faults). x.out) causes) c.in-Err.ensures.cause.later)
     (subst (λ (n : ℕ). Rose n (g.O.Sink.faults c.write_report.new.out)) (ap (λ (x : Faults). x.out) causes) c.in-Err.ensures.cause.failed) (ap (λ (x : Faults). x.err) causes)
