@@ -88,10 +88,7 @@ fn enter<R: CacheRom, M: CacheRam>(
 {
     let pc = hart.origin_pc();
     if image.place(pc).is_some() {
-        let control = match jump(rom, image, ram, pc) {
-            Ok(control) => control,
-            Err(_) => return Err(Failed),
-        };
+        let control = jump(rom, image, ram, pc)?;
         hart.control.go(control);
         hart.count += 1;
     } else {
@@ -105,7 +102,7 @@ impl<R: CacheRom> Board<R> {
     /// A board of a hart and a service, at the hart's address: where a text word stands there, one service enters it,
     /// and that is a machine instruction; else neither service nor ram is called. The image is one of the text that the
     /// hart holds, the service is sound for it and the ram, and the hart has not ended, and is between two
-    /// instructions.
+    /// instructions. No device has failed, and fewer than 2^56 machine instructions and 2^50 services are counted.
     ///
     /// `Failed` comes only where the ram's count of faults rose; hart and service are then given up.
     pub fn resume<M: CacheRam>(
@@ -146,14 +143,13 @@ impl<R: CacheRom> Board<R> {
     {
         let mut hart = hart;
         let mut rom = rom;
-        match enter(&mut hart, &mut rom, image, ram) {
-            Ok(_) => Ok(Board { hart, rom }),
-            Err(_) => Err(Failed),
-        }
+        enter(&mut hart, &mut rom, image, ram)?;
+        Ok(Board { hart, rom })
     }
 
     /// The board of a program before its first step: its hart is started, and then resumed. That is one machine
-    /// instruction.
+    /// instruction. The layout is the program's, the image one of its text, and the service sound for the image and the
+    /// ram, as a new one is, with fewer than 2^50 services.
     ///
     /// All memory is taken before the first call of the ram. RamFault comes only where the ram's count of faults rose.
     pub fn boot<M: CacheRam>(
@@ -202,7 +198,7 @@ impl<R: CacheRom> Board<R> {
         }
     }
 
-    /// The hart and the service. Nothing changes.
+    /// The hart and the service. No device has failed; nothing changes.
     pub fn part(self) -> (Hart, R)
         requires unfailed { self.hart.failed ≡ false }
         ensures hart { result.0 ≡ self.hart }
@@ -226,7 +222,7 @@ impl<R: CacheRom> Board<R> {
 
     /// One machine instruction: the word under control is fetched and executed, or an exit is left, over its link or by
     /// a service. The image fits the board and the service is sound for it and the ram; the run has not ended, and no
-    /// device has failed.
+    /// device has failed; fewer than 2^48 steps, 2^56 machine instructions and 2^50 services are counted.
     ///
     /// Where the image's word under control is plain (LUI, or arithmetic), the ram may hold another plain word there,
     /// as long as the service is sound with the image's word put back: the word that was fetched is executed, and the
@@ -322,7 +318,9 @@ impl<R: CacheRom> Board<R> {
         quick_step(hart, rom, image, ram, input, out, err)
     }
 
-    /// Steps until `n` original steps are made, or the run has ended.
+    /// Steps until `n` original steps are made, or the run has ended. `n` is at most 2^48, and no less than the steps
+    /// made; no device has failed; the image fits the board and the service is sound for it and the ram, as `boot`,
+    /// `step` and `run` leave them; at most 2^55 machine instructions and 2^49 services are counted.
     ///
     /// Each fault comes only where its device's count rose. After one `failed` is true, and the step that it broke off
     /// is not counted.

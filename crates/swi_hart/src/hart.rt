@@ -6,7 +6,7 @@ ghost use Rattle.swi_memory.specs.Bus.{fetched};
 ghost use Rattle.swi_calls.specs.Flat.{machine_of};
 ghost use Rattle.swi_program.specs.Layout.{IsLayoutOf};
 ghost use Rattle.swi_program.specs.Text.{text_of, word_of, IsTextAddress};
-ghost use Rattle.swi_hart.specs.Hart.{unbooted, index_of, place_under};
+ghost use Rattle.swi_hart.specs.Hart.{unbooted, index_of, place_under, is_between};
 
 use crate::position::Position;
 use std::alloc::Global;
@@ -192,6 +192,16 @@ impl Hart {
         match (self.machine.ending, self.control.control()) {
             (None, Control::At(index, _, _, _)) => Some(index),
             _ => None,
+        }
+    }
+
+    /// Whether control is between two instructions, as `Board::resume` asks.
+    pub fn is_between(&self) -> bool
+        ensures { result ≡ is_between self.now.control }
+    {
+        match self.control.control() {
+            Control::At(_, _, _, stage) => stage == Stage::Start,
+            Control::Outside => true,
         }
     }
 

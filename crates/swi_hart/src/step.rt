@@ -116,10 +116,7 @@ fn direct_step<R: CacheRom, M: CacheRam>(
     ensures stays { OnErr result (hart.new ≡ hart.old) }
 {
     let (i, b, o, stage) = at;
-    let control = match leave(rom, image, ram, got, off, (i, b, o), target) {
-        Ok(control) => control,
-        Err(_) => return Err(Failed),
-    };
+    let control = leave(rom, image, ram, got, off, (i, b, o), target)?;
     if !fell(stage, hart.machine.pc, target, is_back(control, b, o)) {
         hart.machine.pc = target;
         hart.machine.steps += 1;
@@ -160,10 +157,7 @@ fn jump_step<R: CacheRom, M: CacheRam>(
         end(hart, End::Faulted(FaultKind::FetchMisaligned, target));
         return Ok(());
     }
-    let control = match jump(rom, image, ram, target) {
-        Ok(control) => control,
-        Err(_) => return Err(Failed),
-    };
+    let control = jump(rom, image, ram, target)?;
     hart.machine.regs.set(rd, link);
     hart.control.go(control);
     hart.machine.pc = target;
