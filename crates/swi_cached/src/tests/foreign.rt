@@ -7,6 +7,7 @@ ghost use Rattle.swi_image.specs.Format.{ImageData};
 ghost use Rattle.swi_image.specs.Place.{word_at};
 ghost use Rattle.swi_image.specs.Sound.{IsImage};
 ghost use Rattle.swi_memory.specs.Bus.{fetched};
+ghost use Rattle.swi_outside.specs.CacheRam.{Fetched, WordSet};
 ghost use Rattle.swi_program.specs.Layout.{IsLayoutOf};
 ghost use Rattle.swi_program.specs.Text.{text_of};
 ghost use Rattle.swi_render.specs.ImageOf.{IsImageOf};
@@ -53,6 +54,7 @@ impl CacheRam for Counted {
 
     fn fetch(&mut self, i: u32) -> Result<u32, Failed>
         requires { i < length self.old.words }
+        ensures fetched { Fetched self.old i result self.new }
     {
         self.fetches = self.fetches.saturating_add(1);
         self.ram.fetch(i)
@@ -60,6 +62,7 @@ impl CacheRam for Counted {
 
     fn set(&mut self, i: u32, w: u32) -> Result<(), Failed>
         requires { i < length self.old.words }
+        ensures set { WordSet self.old i w result self.new }
         ensures words { self.new.words ≡ slice_set self.old.words i w }
         ensures never_fails { IsOk result }
     {
