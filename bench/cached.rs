@@ -103,26 +103,15 @@ impl Image {
 
 struct Ram {
     words: Vec<u32>,
-    fetches: u64,
-    sets: u64,
-    reach: u32,
-    last: u32,
 }
 
 impl Ram {
     #[inline(always)]
-    fn fetch(&mut self, i: u32) -> u32 {
-        self.fetches = self.fetches.saturating_add(1);
-        if i >= self.reach {
-            self.reach = i + 1;
-        }
-        self.last = i;
+    fn fetch(&self, i: u32) -> u32 {
         self.words[i as usize]
     }
 
     fn set(&mut self, i: u32, w: u32) {
-        self.sets = self.sets.saturating_add(1);
-        self.reach = self.reach.max(i + 1);
         self.words[i as usize] = w;
     }
 }
@@ -623,17 +612,15 @@ impl Hart {
 /// Runs the machine through a cache of so many bytes.
 pub fn run(machine: Flat, cache_bytes: u32, block_words: u32, limit: u64) -> Flat {
     let image = Image::cut(&machine.bus, block_words);
-    let mut ram = Ram { words: vec![0; cache_bytes as usize / 4], fetches: 0, sets: 0, reach: 0, last: 0 };
+    let mut ram = Ram { words: vec![0; cache_bytes as usize / 4] };
     let mut rom = Rom::new(cache_bytes, block_words, image.starts.len());
     let entry = machine.pc;
     let mut hart = Hart { control: None, machine, count: 0 };
     let index = rom.enter(&image, &mut ram, entry);
     hart.go(&rom, index);
     hart.run(&mut rom, &image, &mut ram, limit);
-    let Ram { fetches, sets, reach, last, .. } = ram;
-    std::hint::black_box((fetches, sets, reach, last));
     if env::var("STATS").is_ok() {
-        eprintln!("steps {} instructions {} services {} writes {sets}", hart.machine.steps, hart.count, rom.services);
+        eprintln!("steps {} instructions {} services {}", hart.machine.steps, hart.count, rom.services);
     }
     hart.machine
 }
