@@ -78,6 +78,16 @@ class Elf:
                     yield name, address, info
 
 
+def program_of(runner, path, name):
+    """The file of a program, which `swic check` takes for one that has no blocks of its own."""
+    run = runner.run([str(runner.program), "check", str(path)], "/dev/null")
+    if run.status in (0, 244, 245):
+        raise Wrong(f"{name} was rewritten and has its own blocks: take the file that it was made of")
+    if run.status != 252:
+        raise Wrong(f"{name} can't be run: {run.line}")
+    return read_elf(path, name)
+
+
 def read_elf(path, name):
     data = path.read_bytes()
     if len(data) < 52 or data[:4] != b"\x7fELF":
