@@ -20,6 +20,7 @@ SECTIONS
     . = ALIGN(4);
   } :text
 
+  . = ALIGN(4096);
   .rodata :
   {
     *(.rodata .rodata.* .srodata .srodata.*)
