@@ -1,5 +1,4 @@
 """The pictures of tools/sweep and tools/why, as words for gnuplot."""
-import math
 
 COLOURS = ["0072b2", "d55e00", "009e73", "cc79a7", "e69f00", "56b4e9", "000000", "999999"]
 MARKS = [5, 6, 7, 8, 9, 13, 11, 12]
