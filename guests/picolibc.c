@@ -43,12 +43,16 @@ static int get_input(FILE *file)
 static FILE input = FDEV_SETUP_STREAM(NULL, get_input, NULL, _FDEV_SETUP_READ);
 static FILE output = FDEV_SETUP_STREAM(put_output, NULL, flush_output, _FDEV_SETUP_WRITE);
 static FILE errors = FDEV_SETUP_STREAM(put_error, NULL, NULL, _FDEV_SETUP_WRITE);
-FILE *const stdin = &input;
-FILE *const stdout = &output;
-FILE *const stderr = &errors;
+
+/* What the library names, which link-time optimization (-flto) would leave out as unused. */
+#define FOR_LIBRARY __attribute__((used))
+
+FOR_LIBRARY FILE *const stdin = &input;
+FOR_LIBRARY FILE *const stdout = &output;
+FOR_LIBRARY FILE *const stderr = &errors;
 
 /* The heap's old end, after it has grown by so many bytes; malloc asks for it here. */
-void *sbrk(ptrdiff_t bytes)
+FOR_LIBRARY void *sbrk(ptrdiff_t bytes)
 {
     u32 old = set_break(0);
     if (set_break(old + bytes) != old + bytes)
@@ -56,7 +60,7 @@ void *sbrk(ptrdiff_t bytes)
     return (void *)old;
 }
 
-void _exit(int code)
+FOR_LIBRARY void _exit(int code)
 {
     flush_output(&output);
     for (;;)
@@ -64,18 +68,18 @@ void _exit(int code)
 }
 
 /* What start.S calls with main's answer: atexit's functions and C++'s destructors are called, then _exit. */
-void finish(int code)
+FOR_LIBRARY void finish(int code)
 {
     exit(code);
 }
 
 /* For abort, and so for assert: a signal to the program itself ends it, with the status that a shell gives. */
-int getpid(void)
+FOR_LIBRARY int getpid(void)
 {
     return 1;
 }
 
-int kill(int process, int signal)
+FOR_LIBRARY int kill(int process, int signal)
 {
     (void)process;
     _exit(128 + signal);

@@ -1,0 +1,98 @@
+"""ELF files that swic accepts: their text, their functions, and copies with the text moved."""
+import dataclasses
+import struct
+
+from shared.runs import Wrong
+
+IMAGE = 0x6C434953  # the type of the program header that marks the blocks of a rewritten file
+NOP = struct.pack("<I", 0x13)
+
+
+@dataclasses.dataclass(frozen=True)
+class Segment:
+    """A program header, with where it stands in the file."""
+    header: int
+    kind: int
+    offset: int
+    address: int
+    held: int
+    size: int
+    flags: int
+
+
+class Elf:
+    """What is read of an ELF32 file that swic accepts."""
+
+    def __init__(self, data):
+        self.data = data
+        table, count = struct.unpack_from("<I", data, 28)[0], struct.unpack_from("<H", data, 44)[0]
+        self.segments = []
+        for header in range(table, table + 32 * count, 32):
+            kind, offset, address, _, held, size, flags, _ = struct.unpack_from("<8I", data, header)
+            self.segments.append(Segment(header, kind, offset, address, held, size, flags))
+        self.loaded = [segment for segment in self.segments if segment.kind == 1 and segment.size]
+        self.executed = next(segment for segment in self.loaded if segment.flags & 1)
+        skipped = -self.executed.address % 4
+        self.text = self.executed.address + skipped  # the address of the first text word
+        self.text_bytes = (self.executed.held - skipped) // 4 * 4
+
+    def word(self, address):
+        return struct.unpack_from("<I", self.data, self.executed.offset + address - self.executed.address)[0]
+
+    def image_bytes(self):
+        return next((segment.held for segment in self.segments if segment.kind == IMAGE), None)
+
+    def moved(self, words):
+        """The same program with so many words before its text, which nothing executes: addresses stay, and blocks are cut elsewhere."""
+        segment, more = self.executed, 4 * words
+        if segment.address < more:
+            raise Wrong("no address is free below the text")
+        if any(other.address < segment.address and other.address + other.size > segment.address - more for other in self.loaded):
+            raise Wrong("another segment stands right below the text")
+        data = bytearray(self.data) + bytes(-len(self.data) % 4)
+        struct.pack_into("<IIIII", data, segment.header + 4, len(data), segment.address - more, segment.address - more, segment.held + more, segment.size + more)
+        return bytes(data + NOP * words + self.data[segment.offset:segment.offset + segment.held])
+
+    def functions(self):
+        """The functions of the text as (address, name), ascending: symbols of functions, and labels that other files see."""
+        found = {}
+        for name, address, info in self.symbols():
+            kind, bound = info & 15, info >> 4
+            if kind == 2 or kind == 0 and bound:
+                # at one address a function goes before a label, and what others see before what is local
+                found[address] = min(found.get(address, (9, 9, "")), (kind == 0, bound == 0, name))
+        return sorted((address, name) for address, (_, _, name) in found.items())
+
+    def symbols(self):
+        table, size, count = struct.unpack_from("<I", self.data, 32)[0], *struct.unpack_from("<HH", self.data, 46)
+        sections = [struct.unpack_from("<10I", self.data, table + size * k) for k in range(count if table else 0)]
+        for _, kind, _, _, offset, length, link, *_ in sections:
+            if kind != 2:
+                continue
+            names = sections[link][4]
+            for at in range(offset, offset + length, 16):
+                begin, address, _, info, _, section = struct.unpack_from("<IIIBBH", self.data, at)
+                end = self.data.index(b"\0", names + begin)
+                name = self.data[names + begin:end].decode(errors="replace")
+                if name and section and self.text <= address < self.text + self.text_bytes:
+                    yield name, address, info
+
+
+def program_of(runner, path, name):
+    """The file of a program, which `swic check` takes for one that has no blocks of its own."""
+    run = runner.run([str(runner.program), "check", str(path)], "/dev/null")
+    if run.status in (0, 244, 245):
+        raise Wrong(f"{name} was rewritten and has its own blocks: take the file that it was made of")
+    if run.status != 252:
+        raise Wrong(f"{name} can't be run: {run.line}")
+    return read_elf(path, name)
+
+
+def read_elf(path, name):
+    data = path.read_bytes()
+    if len(data) < 52 or data[:4] != b"\x7fELF":
+        raise Wrong(f"{name} is no ELF file")
+    try:
+        return Elf(data)
+    except (struct.error, StopIteration, IndexError, ValueError):
+        raise Wrong(f"{name} is no program that swic accepts") from None

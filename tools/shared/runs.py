@@ -1,0 +1,264 @@
+"""What tools/sweep, tools/why and tools/order share: the words of a call, the program that is built, its runs and their counts."""
+import argparse
+import dataclasses
+import os
+import pathlib
+import re
+import signal
+import stat
+import subprocess
+import sys
+import tempfile
+import time
+
+TOP = pathlib.Path(__file__).resolve().parent.parent.parent
+SCRIPT = pathlib.Path(sys.argv[0]).name
+BUILT = TOP / "crates/swic/out/swic"
+LARGEST = 8388608  # bytes, the largest cache that is accepted
+REACH = 1 << 20  # bytes that a JAL reaches, so any exit in a cache of this size can be linked
+
+
+class Wrong(Exception):
+    """What the user is told in one line."""
+
+
+class Stopped(Exception):
+    """SIGINT or SIGTERM came."""
+
+    def __init__(self, number):
+        super().__init__(number)
+        self.status = 128 + number
+
+
+@dataclasses.dataclass(frozen=True)
+class Counts:
+    """The nine counts of `--stats`, in its order."""
+    steps: int
+    instructions: int
+    services: int
+    misses: int
+    evictions: int
+    links: int
+    unlinks: int
+    fetches: int
+    writes: int
+
+    @property
+    def work(self):
+        """The words that the cache RAM gives and takes, for each step."""
+        return (self.fetches + self.writes) / max(self.steps, 1)
+
+    def of_thousand(self, name):
+        return 1000 * getattr(self, name) / max(self.steps, 1)
+
+
+NAMES = [field.name for field in dataclasses.fields(Counts)]
+# They stand behind the program's own output, whose last line may have no end.
+STATS = re.compile("".join(rf"{name} (\d+)\n" for name in NAMES).encode() + rb"\Z")
+
+
+@dataclasses.dataclass(frozen=True)
+class Run:
+    """How a run ended: its status, its counts where it has any, the last line of its errors, and the seconds that it took."""
+    status: int
+    counts: Counts | None
+    line: str
+    seconds: float
+
+
+def tail_of(stream, most=4096):
+    """The last bytes of a stream, which may be long."""
+    held = b""
+    while chunk := stream.read(1 << 16):
+        held = (held + chunk)[-most:]
+    return held
+
+
+class Runner:
+    """Runs the built program, and ends what still runs when it is stopped."""
+
+    def __init__(self, program):
+        self.program = program
+        self.alive = set()
+        self.stopped = False
+
+    def start(self, words, **how):
+        child = subprocess.Popen(words, **how)
+        self.alive.add(child)
+        if self.stopped:
+            child.terminate()
+        return child
+
+    def stop(self):
+        self.stopped = True
+        for child in list(self.alive):
+            child.terminate()
+        for child in list(self.alive):
+            child.wait()
+
+    def run(self, command, source):
+        """One run with --stats."""
+        begun = time.monotonic()
+        with open(source, "rb") as given, tempfile.TemporaryFile() as errors:
+            with self.start(command, stdin=given, stdout=subprocess.PIPE, stderr=errors) as child:
+                out = tail_of(child.stdout)
+            self.alive.discard(child)
+            errors.seek(max(0, errors.seek(0, os.SEEK_END) - 4096))
+            lines = errors.read().decode(errors="replace").splitlines()
+        if child.returncode < 0 and not self.stopped:
+            raise Wrong(f"{command[0]} was ended by signal {-child.returncode}")
+        found = STATS.search(out)
+        counts = Counts(*map(int, found.groups())) if found else None
+        return Run(child.returncode, counts, lines[-1].replace("\t", " ") if lines else "", time.monotonic() - begun)
+
+
+def built_program():
+    """The program that is built. `./swic` is asked once, since it builds where a source is newer; SWIC names another program."""
+    if named := os.environ.get("SWIC"):
+        return pathlib.Path(named).absolute()
+    asked = subprocess.run([TOP / "swic", "check", "/dev/null"], stdin=subprocess.DEVNULL, stdout=subprocess.DEVNULL)
+    if asked.returncode == 254:
+        raise Wrong("swic isn't built, and can't be")
+    return BUILT
+
+
+def file_of(name, what, folder):
+    """The path of a file that is named; of a pipe a copy, since it is read more than once."""
+    try:
+        mode = os.stat(name).st_mode
+        if str(name) == os.devnull:
+            return pathlib.Path(name)
+        if stat.S_ISREG(mode):
+            with open(name, "rb"):
+                return pathlib.Path(name).resolve()
+        if stat.S_ISDIR(mode):
+            raise Wrong(f"{name} is a folder, and no {what}")
+        with open(name, "rb") as pipe:
+            return copy_of(pipe, what, folder)
+    except OSError as error:
+        raise Wrong(f"no {what} {name} that can be read: {error.strerror}") from None
+
+
+def copy_of(stream, what, folder):
+    held = pathlib.Path(folder, what)
+    with open(held, "wb") as out:
+        while chunk := stream.read(1 << 20):
+            out.write(chunk)
+    return held
+
+
+def input_of(name, folder):
+    """The input that is named; without a name the standard input, where it is a pipe or a file, else none."""
+    if name is not None and name != "-":
+        return file_of(name, "input", folder)
+    try:
+        mode = os.fstat(0).st_mode
+    except OSError:
+        return pathlib.Path("/dev/null")
+    if stat.S_ISFIFO(mode) or stat.S_ISREG(mode) or name == "-":
+        say("the input is the standard input")
+        return copy_of(sys.stdin.buffer, "input", folder)
+    return pathlib.Path("/dev/null")
+
+
+class Words(argparse.ArgumentParser):
+    """Reads the words of a call; what is wrong is told in one line, as all else."""
+
+    def __init__(self, **how):
+        super().__init__(allow_abbrev=False, formatter_class=argparse.RawDescriptionHelpFormatter, **how)
+
+    def error(self, message):
+        raise Wrong(f"{message}; --help tells the words")
+
+
+def number(least, most):
+    def read(text):
+        if not re.fullmatch(r"[0-9]{1,15}", text) or not least <= int(text) <= most:
+            raise argparse.ArgumentTypeError(f"'{text}' is no number from {least} to {most}")
+        return int(text)
+    return read
+
+
+def add_run_options(words):
+    words.add_argument("--first", type=number(1, 10**14), metavar="N", help="only the first N steps: for a program that doesn't end, or takes long")
+    words.add_argument("--steps", type=number(1, 10**14), metavar="N", default=1000000000, help="most steps of a run, which has to end within them; default: 1000000000")
+    words.add_argument("--heap", type=number(0, 67108864), metavar="N", default=1048576, help="bytes of the heap; default: 1048576")
+    words.add_argument("--stack", type=number(4096, 16777216), metavar="N", default=65536, help="bytes of the stack; default: 65536")
+
+
+def run_words(options):
+    return ["--steps", str(options.first or options.steps), "--heap", str(options.heap), "--stack", str(options.stack)]
+
+
+def refuse(run, name, options, faults=False):
+    """Tells why a run gives no counts to compare; one that faults does only where `faults` is set."""
+    if run.status == 240 and run.line.startswith("spent:") and not options.first:
+        raise Wrong(f"{name} doesn't end within {options.steps} steps ({run.line}): give more by --steps, or count its first N steps by --first N")
+    if run.status == 241 and run.line.startswith("fault:") and not faults:
+        raise Wrong(f"{name} faults ({run.line})")
+    if run.status == 242 and run.line.startswith("store into text"):
+        raise Wrong(f"{name} stores into its own text, so no cache can run it ({run.line})")
+    if run.status == 250 and run.counts is None:
+        raise Wrong(f"swic does not take these options: {run.line}")
+    if run.status in (243, 248, 249, 251) and run.counts is None:
+        raise Wrong(f"{name} can't be run: {run.line}")
+
+
+def say(text):
+    print(f"{SCRIPT}: {text}", file=sys.stderr, flush=True)
+
+
+def time_of(seconds):
+    """A time as a reader says it."""
+    return f"{max(seconds, 1):.0f} s" if seconds < 100 else f"{seconds / 60:.0f} min" if seconds < 6000 else f"{seconds / 3600:.1f} h"
+
+
+def plot(script, target):
+    """Draws a picture by gnuplot, and says where it is, or why there is none."""
+    with tempfile.TemporaryDirectory() as folder:
+        made = pathlib.Path(folder, "svg")
+        try:
+            drawn = subprocess.run(["gnuplot", "-"], input=script.replace("@OUT@", str(made)), text=True, capture_output=True)
+        except FileNotFoundError:
+            return say("no gnuplot here: no picture")
+        if drawn.returncode or not made.exists() or not made.stat().st_size:
+            return say(f"gnuplot made no picture: {drawn.stderr.strip().splitlines()[:1]}")
+        write(target, made.read_text())
+    print(f"picture: {target}")
+
+
+def write(path, text):
+    try:
+        pathlib.Path(path).write_text(text)
+    except OSError as error:
+        raise Wrong(f"{path} can't be written: {error.strerror}") from None
+
+
+def prefix_of(options, name, suffix):
+    """The beginning of the names of what is written: in this folder, unless --out tells another."""
+    prefix = options.out or f"{name.removesuffix('.elf')}-{suffix}"
+    folder = pathlib.Path(prefix).parent
+    if not folder.is_dir() or not os.access(folder, os.W_OK):
+        raise Wrong(f"no folder {folder} that can be written")
+    return prefix
+
+
+def main(run):
+    """Calls a script with a folder for what it needs while it runs; ends with its status, or a line that says what is wrong."""
+    def stop(number, _frame):
+        raise Stopped(number)
+    for each in (signal.SIGINT, signal.SIGTERM, signal.SIGHUP):
+        # what nohup, or a shell's background, has set aside stays so
+        if signal.getsignal(each) != signal.SIG_IGN:
+            signal.signal(each, stop)
+    try:
+        with tempfile.TemporaryDirectory() as folder:
+            sys.exit(run(sys.argv[1:], folder))
+    except Wrong as wrong:
+        say(wrong)
+        sys.exit(1)
+    except Stopped as stopped:
+        sys.exit(stopped.status)
+    except BrokenPipeError:
+        os.dup2(os.open(os.devnull, os.O_WRONLY), 1)
+        sys.exit(141)
