@@ -1,5 +1,6 @@
 /* Two segments: text and constants (read, execute), and data (read, write).
-   The heap begins where the data segment ends, so that end is a multiple of 16. */
+   The heap begins where the data segment ends, so that end is a multiple of 16.
+   -Wl,--defsym=TEXT_BASE=0x90000000 puts the text at another address than 0x10000. */
 OUTPUT_ARCH(riscv)
 ENTRY(_start)
 
@@ -11,7 +12,7 @@ PHDRS
 
 SECTIONS
 {
-  . = 0x10000;
+  . = DEFINED(TEXT_BASE) ? TEXT_BASE : 0x10000;
   .text :
   {
     *(.text.start)

@@ -1,0 +1,143 @@
+/*
+ * What the cache service, the trap vector and the board tell each other.
+ *
+ * The vector is assembly: it reads struct frame by the offsets below, which service.c compares with the struct.
+ */
+#ifndef RUNTIME_H
+#define RUNTIME_H
+
+#define FRAME_X(n) (4 * (n))
+#define FRAME_TEXT_BASE 128
+#define FRAME_TEXT_BYTES 132
+#define FRAME_PLACES 136
+#define FRAME_FIRST_OF_BLOCK 140
+#define FRAME_BEFORE_CACHE 144
+#define FRAME_SERVICES 148
+#define FRAME_BYTES 160
+
+/* A text word's place in one word: its block from this bit on, its offset in the block below. */
+#define PLACE_BLOCK_SHIFT 13
+#define PLACE_OFFSET_MASK 1023
+
+/* The causes that the standard's table for mcause gives to EBREAK and ECALL (Privileged Architecture, mcause). */
+#define CAUSE_BREAKPOINT 3
+#define CAUSE_USER_CALL 8
+#define CAUSE_MACHINE_CALL 11
+
+/* With a table of places, and one of blocks, the vector itself serves jumps over registers. */
+#if !defined(SEARCH) && !defined(SCAN)
+#define SERVE_IN_VECTOR
+#endif
+
+#ifndef __ASSEMBLER__
+#include <stdbool.h>
+#include <stdint.h>
+
+/* The image of a rewritten file, read where it stands: its numbers and its tables. */
+struct image {
+    uint32_t block_words;    /* the most words of a block */
+    uint32_t blocks;         /* how many blocks there are */
+    uint32_t text_words;     /* how many words the program's text has */
+    uint32_t base;           /* the address of the first text word */
+    const uint32_t *starts;  /* of each block the number of its first text word */
+    const uint32_t *ends;    /* of each block the index in `words` at which it ends; NULL in version 1 */
+    const uint32_t *offsets; /* of each text word its offset in its block, in words */
+    const uint32_t *words;   /* the words of all blocks */
+};
+
+/* Why words are no image: number and name of the guide's table, and a word; the number 0 where they are one. */
+struct image_error {
+    uint32_t number, word;
+};
+const char *image_error_name(uint32_t number);
+
+/*
+ * Reads the image of `count` words that stands at `at`, and checks its numbers and tables, so that the service never
+ * leaves its memory. That its blocks are those of the program's text is what `swic check` says.
+ */
+struct image_error image_read(struct image *image, const uint32_t *at, uint32_t count);
+
+/* The index in `words` at which a block begins. */
+static inline uint32_t block_begin(const struct image *image, uint32_t block)
+{
+    if (!image->ends)
+        return block * image->block_words;
+    return block ? image->ends[block - 1] : 0;
+}
+
+/* How many words a block has. */
+static inline uint32_t block_length(const struct image *image, uint32_t block)
+{
+    return image->ends ? image->ends[block] - block_begin(image, block) : image->block_words;
+}
+
+/* The program's registers while the runtime has control, and what the vector reads of the service. */
+struct frame {
+    uint32_t x[32]; /* x[0] is not used */
+    uint32_t text_base;
+    uint32_t text_bytes;
+    const uint32_t *places;   /* of each text word its place; NULL with SEARCH */
+    uint16_t *first_of_block; /* of each block the index of its first word in the cache, plus 1; 0: it has no slot */
+    uint32_t before_cache;    /* the address of the cache's first word, minus 4 */
+    uint32_t services;        /* entries of the service, the start not among them */
+};
+
+/* The one frame. It stands in trap.S, at the upper end of the runtime's stack. */
+extern struct frame frame;
+
+struct counts {
+    uint32_t services, misses, evictions, links, unlinks, copied; /* copied: in words */
+};
+
+/* A slot of the cache: the block in it, and the first of the exits that are linked into it (index + 1; 0: none). */
+struct slot {
+    uint32_t block;
+    uint32_t first_link;
+};
+
+/* The memory that the service takes for its tables. */
+struct service_memory {
+    struct slot *slots;       /* one for each slot */
+    uint16_t *first_of_block; /* one for each block; NULL with SCAN */
+    uint32_t *places;         /* one for each text word; may be slow; NULL with SEARCH */
+};
+
+/* The most words that all slots may have together: their indices, plus 1, are kept in 16 bits. */
+#define CACHE_WORDS_MOST 65535u
+
+/*
+ * Starts the service: no block stands in the cache, of `slots` slots of image->block_words words each, together at most
+ * CACHE_WORDS_MOST. The cache has to be readable, writable and executable in machine mode.
+ */
+void service_start(const struct image *image, const struct service_memory *memory, uint32_t *cache, uint32_t slots);
+
+/* The address in the cache at which the text address `target` stands, its block copied where it has to be; 0 where it
+ * is none. */
+uint32_t service_enter(uint32_t target);
+
+/* The text address of the instruction whose rendering has the word at `pc`, an address in the cache's filled slots. */
+uint32_t service_origin(uint32_t pc);
+
+/* Whether an address is one of the cache. */
+bool service_holds(uint32_t address);
+
+struct counts service_counts(void);
+
+/* Called by the vector: serves a trap at `pc`, and answers where to go on. */
+uint32_t service_trap(struct frame *registers, uint32_t pc, uint32_t cause);
+
+/* In trap.S: where mtvec has to lead, and the way into the program, by mepc and the frame. */
+void trap_vector(void);
+_Noreturn void trap_resume(void);
+
+/* What ends a program. TRAP: the text word at the address traps by itself, as EBREAK or as none of the instructions. */
+enum fault { FAULT_FETCH_MISALIGNED, FAULT_FETCH_ACCESS, FAULT_TRAP, FAULT_LOAD_ACCESS, FAULT_STORE_ACCESS };
+
+/* The board's: serves calls, interrupts and all else that isn't an exit, and answers where to go on. */
+uint32_t board_trap(struct frame *registers, uint32_t pc, uint32_t cause);
+
+/* The board's: ends the program, whose instruction at the text address `pc` did this. */
+_Noreturn void board_fault(enum fault fault, uint32_t pc, uint32_t address);
+
+#endif
+#endif

@@ -1,0 +1,411 @@
+/*
+ * The cache service: it copies blocks into the slots of a cache, links exits by jumps that it patches into the copied
+ * words, evicts the oldest block first and undoes the links into it. It knows nothing of the board.
+ *
+ * Slots are filled in order and taken again in this order, so the slot that the next miss takes is the free one with
+ * the lowest number, and behind that the one with the oldest block.
+ *
+ * The list of the exits that are linked into a slot runs through the cache itself. A linked exit is a JAL, so the word
+ * behind it, its descriptor, is never executed: it holds the list's neighbours, and is read from the image again when
+ * the link is undone. No rendering has a JAL with rd = x0 (an exit stands for it), so a word that is one is a link.
+ *
+ * Built with SCAN a block's slot is found by looking at all slots, and no table has a field for each block. Built with
+ * SEARCH the block of a text word is found by halving, and no table has a field for each text word.
+ */
+#include <stddef.h>
+#include "runtime.h"
+
+#define EBREAK 0x00100073u
+#define JAL_X0 0x0000006fu
+
+/* Keeps a call a call, so that its instructions are counted by its address. */
+#define COUNTED __attribute__((noinline))
+
+union word {
+    uint32_t bits;
+    struct {
+        uint16_t next, previous; /* the index of an exit, plus 1; 0 at the list's end */
+    } link;
+};
+
+static struct {
+    struct image image;
+    union word *cache;
+    struct slot *slots;
+    uint32_t slot_count;
+    uint32_t next_slot; /* which the next miss takes */
+    bool is_full;       /* whether every slot has a block */
+    struct counts counts;
+} service;
+
+_Static_assert(offsetof(struct frame, text_base) == FRAME_TEXT_BASE, "FRAME_TEXT_BASE");
+_Static_assert(offsetof(struct frame, text_bytes) == FRAME_TEXT_BYTES, "FRAME_TEXT_BYTES");
+_Static_assert(offsetof(struct frame, places) == FRAME_PLACES, "FRAME_PLACES");
+_Static_assert(offsetof(struct frame, first_of_block) == FRAME_FIRST_OF_BLOCK, "FRAME_FIRST_OF_BLOCK");
+_Static_assert(offsetof(struct frame, before_cache) == FRAME_BEFORE_CACHE, "FRAME_BEFORE_CACHE");
+_Static_assert(offsetof(struct frame, services) == FRAME_SERVICES, "FRAME_SERVICES");
+_Static_assert(sizeof(struct frame) <= FRAME_BYTES, "FRAME_BYTES");
+
+/* Places and slots */
+
+struct place {
+    uint32_t block, offset;
+};
+
+#ifdef SEARCH
+/* The block of a text word: the last that starts at or before it. */
+static uint32_t block_of(const struct image *image, uint32_t text_word)
+{
+    uint32_t low = 0;
+    for (uint32_t count = image->blocks; count > 1;) {
+        uint32_t half = count / 2;
+        if (image->starts[low + half] <= text_word)
+            low += half;
+        count -= half;
+    }
+    return low;
+}
+#endif
+
+static struct place place_of(uint32_t text_word)
+{
+#ifdef SEARCH
+    uint32_t block = block_of(&service.image, text_word);
+    return (struct place){block, service.image.offsets[text_word]};
+#else
+    uint32_t packed = frame.places[text_word];
+    return (struct place){packed >> PLACE_BLOCK_SHIFT, packed & PLACE_OFFSET_MASK};
+#endif
+}
+
+static uint32_t first_of_slot(uint32_t slot)
+{
+    return slot * service.image.block_words;
+}
+
+static uint32_t slot_at(uint32_t index)
+{
+    return index / service.image.block_words;
+}
+
+/* The index of a block's first word in the cache, plus 1; 0 where it has no slot. */
+static uint32_t first_of(uint32_t block)
+{
+#ifdef SCAN
+    uint32_t filled = service.is_full ? service.slot_count : service.next_slot;
+    for (uint32_t slot = 0; slot < filled; slot++)
+        if (service.slots[slot].block == block)
+            return first_of_slot(slot) + 1;
+    return 0;
+#else
+    return frame.first_of_block[block];
+#endif
+}
+
+static void set_first_of(uint32_t block, uint32_t first)
+{
+#ifdef SCAN
+    (void)block, (void)first;
+#else
+    frame.first_of_block[block] = (uint16_t)first;
+#endif
+}
+
+/* Links */
+
+static bool is_link(union word word)
+{
+    return word.bits << 20 == JAL_X0 << 20;
+}
+
+/* JAL x0 over so many bytes (The RISC-V Instruction Set Manual, Volume I, section 2.5: the J format). */
+static uint32_t jump_over(uint32_t bytes)
+{
+    return (bytes & 0x100000) << 11 | (bytes & 0x7fe) << 20 | (bytes & 0x800) << 9 | (bytes & 0xff000) | JAL_X0;
+}
+
+/* The index to which such a word at an index jumps. */
+static uint32_t target_of(uint32_t exit, uint32_t jump)
+{
+    uint32_t sign = jump >> 31 ? 0xfff00000 : 0;
+    uint32_t bytes = sign | (jump & 0xff000) | (jump >> 9 & 0x800) | (jump >> 20 & 0x7fe);
+    return (4 * exit + bytes) / 4;
+}
+
+/* Makes the exit at an index a jump to another, and the first of the links into that one's slot. */
+COUNTED static void link(uint32_t exit, uint32_t target)
+{
+    union word *cache = service.cache;
+    struct slot *slot = &service.slots[slot_at(target)];
+    uint32_t second = slot->first_link;
+    cache[exit].bits = jump_over(4 * (target - exit));
+    cache[exit + 1].link.next = (uint16_t)second;
+    cache[exit + 1].link.previous = 0;
+    if (second)
+        cache[second].link.previous = (uint16_t)(exit + 1);
+    slot->first_link = exit + 1;
+    service.counts.links++;
+}
+
+/* Makes a link an exit again, as it stands in the image. */
+COUNTED static void undo(uint32_t exit)
+{
+    uint32_t slot = slot_at(exit);
+    uint32_t offset = exit - first_of_slot(slot);
+    uint32_t begin = block_begin(&service.image, service.slots[slot].block);
+    service.cache[exit].bits = EBREAK;
+    service.cache[exit + 1].bits = service.image.words[begin + offset + 1];
+    service.counts.unlinks++;
+}
+
+/* Takes a link out of the list that it stands in. */
+static void take_out(uint32_t exit)
+{
+    union word *cache = service.cache;
+    uint32_t next = cache[exit + 1].link.next;
+    uint32_t previous = cache[exit + 1].link.previous;
+    if (next)
+        cache[next].link.previous = (uint16_t)previous;
+    if (previous)
+        cache[previous].link.next = (uint16_t)next;
+    else
+        service.slots[slot_at(target_of(exit, cache[exit].bits))].first_link = next;
+}
+
+/* Blocks */
+
+static void take_out_links_from(uint32_t first, uint32_t length)
+{
+    const union word *end = service.cache + first + length;
+    for (const union word *word = service.cache + first; word < end; word++)
+        if (is_link(*word))
+            take_out((uint32_t)(word++ - service.cache));
+}
+
+static void undo_links_into(uint32_t slot)
+{
+    uint32_t link = service.slots[slot].first_link;
+    while (link) {
+        uint32_t next = service.cache[link].link.next;
+        undo(link - 1);
+        link = next;
+    }
+}
+
+COUNTED static void evict(uint32_t slot)
+{
+    uint32_t block = service.slots[slot].block;
+    take_out_links_from(first_of_slot(slot), block_length(&service.image, block));
+    undo_links_into(slot);
+    set_first_of(block, 0);
+    service.counts.evictions++;
+}
+
+/* Four words at a time: the loop's own instructions would else be three of five. */
+static void copy(union word *to, const uint32_t *from, uint32_t count)
+{
+    for (; count >= 4; count -= 4, to += 4, from += 4) {
+        uint32_t first = from[0], second = from[1], third = from[2], fourth = from[3];
+        to[0].bits = first;
+        to[1].bits = second;
+        to[2].bits = third;
+        to[3].bits = fourth;
+    }
+    for (uint32_t k = 0; k < count; k++)
+        to[k].bits = from[k];
+}
+
+/* Copies a block that has no slot into the next one, and answers the index of its first word. */
+COUNTED static uint32_t miss(uint32_t block)
+{
+    uint32_t slot = service.next_slot;
+    uint32_t first = first_of_slot(slot);
+    uint32_t length = block_length(&service.image, block);
+    if (service.is_full)
+        evict(slot);
+    if (++service.next_slot == service.slot_count) {
+        service.next_slot = 0;
+        service.is_full = true;
+    }
+    copy(service.cache + first, service.image.words + block_begin(&service.image, block), length);
+    service.slots[slot] = (struct slot){block, 0};
+    set_first_of(block, first + 1);
+    service.counts.misses++;
+    service.counts.copied += length;
+    return first;
+}
+
+/* Whether an address is one of a text word, and where that stands in the cache; its block is copied where it has to be.
+ */
+static inline bool find(uint32_t target, uint32_t *index)
+{
+    uint32_t distance = target - frame.text_base;
+    if (distance >= frame.text_bytes || distance % 4 != 0)
+        return false;
+    struct place place = place_of(distance / 4);
+    uint32_t first = first_of(place.block);
+    *index = place.offset + (first ? first - 1 : miss(place.block));
+    return true;
+}
+
+/* What was written to the cache is fetched from now on. */
+static void synchronize(void)
+{
+    __asm__ volatile("fence.i" ::: "memory");
+}
+
+static uint32_t address_of(uint32_t index)
+{
+    return (uint32_t)(service.cache + index);
+}
+
+static uint32_t index_of(uint32_t address)
+{
+    return (address - (uint32_t)service.cache) / 4;
+}
+
+uint32_t service_enter(uint32_t target)
+{
+    uint32_t index;
+    if (!find(target, &index))
+        return 0;
+    synchronize();
+    return address_of(index);
+}
+
+/* The same for the exit at an index, which is linked; but where its own block left for the target's, nothing is. */
+static uint32_t leave_by(uint32_t exit, uint32_t target)
+{
+    uint32_t before = service.counts.misses, index;
+    if (!find(target, &index))
+        return 0;
+    bool is_gone = service.counts.misses != before && slot_at(index) == slot_at(exit);
+    if (!is_gone)
+        link(exit, index);
+    synchronize();
+    return address_of(index);
+}
+
+uint32_t service_origin(uint32_t pc)
+{
+    const struct image *image = &service.image;
+    uint32_t slot = slot_at(index_of(pc));
+    uint32_t offset = index_of(pc) - first_of_slot(slot);
+    uint32_t block = service.slots[slot].block;
+    uint32_t word = image->starts[block];
+    uint32_t end = block + 1 < image->blocks ? image->starts[block + 1] : image->text_words;
+    while (word + 1 < end && image->offsets[word + 1] <= offset)
+        word++;
+    return image->base + 4 * word;
+}
+
+bool service_holds(uint32_t address)
+{
+    return address - (uint32_t)service.cache < 4 * first_of_slot(service.slot_count);
+}
+
+struct counts service_counts(void)
+{
+    struct counts counts = service.counts;
+    counts.services = frame.services;
+    return counts;
+}
+
+/* Exits */
+
+/* The fields of JALR (section 2.5: the I format). */
+static uint32_t rd_of(uint32_t jalr)
+{
+    return jalr >> 7 & 31;
+}
+
+static uint32_t rs1_of(uint32_t jalr)
+{
+    return jalr >> 15 & 31;
+}
+
+static uint32_t immediate_of(uint32_t jalr)
+{
+    return jalr >> 20 | (jalr >> 31 ? 0xfffff000 : 0);
+}
+
+/* An exit whose descriptor is the target's address. */
+static uint32_t serve_direct(uint32_t pc, uint32_t target)
+{
+    uint32_t to = leave_by(index_of(pc), target);
+    if (!to)
+        board_fault(FAULT_FETCH_ACCESS, target, target);
+    return to;
+}
+
+/* An exit whose descriptor is the JALR itself; the value that it links stands behind it. */
+static uint32_t serve_register(struct frame *registers, uint32_t pc, uint32_t jalr)
+{
+    uint32_t linked = service.cache[index_of(pc) + 2].bits;
+    uint32_t target = (registers->x[rs1_of(jalr)] + immediate_of(jalr)) & ~1u;
+    if (target % 4 != 0)
+        board_fault(FAULT_FETCH_MISALIGNED, service_origin(pc), target);
+    if (rd_of(jalr))
+        registers->x[rd_of(jalr)] = linked;
+    uint32_t to = service_enter(target);
+    if (!to)
+        board_fault(FAULT_FETCH_ACCESS, target, target);
+    return to;
+}
+
+uint32_t service_trap(struct frame *registers, uint32_t pc, uint32_t cause)
+{
+    if (cause != CAUSE_BREAKPOINT || !service_holds(pc))
+        return board_trap(registers, pc, cause);
+    uint32_t descriptor = service.cache[index_of(pc) + 1].bits, to;
+    switch (descriptor & 3) {
+    case 0:
+        to = serve_direct(pc, descriptor);
+        break;
+    case 3:
+        to = serve_register(registers, pc, descriptor);
+        break;
+    case 2: /* a jump to an address that is no multiple of 4 */
+        board_fault(FAULT_FETCH_MISALIGNED, service_origin(pc), descriptor);
+    default: /* a word of the text that traps, at the descriptor less 1 */
+        board_fault(FAULT_TRAP, descriptor - 1, descriptor - 1);
+    }
+    frame.services++;
+    return to;
+}
+
+/* The start */
+
+static void clear_tables(const struct service_memory *memory)
+{
+    for (uint32_t slot = 0; slot < service.slot_count; slot++)
+        memory->slots[slot] = (struct slot){0, 0};
+    for (uint32_t block = 0; memory->first_of_block && block < service.image.blocks; block++)
+        memory->first_of_block[block] = 0;
+}
+
+static void fill_places(const struct image *image, uint32_t *places)
+{
+    uint32_t block = 0;
+    for (uint32_t word = 0; word < image->text_words; word++) {
+        if (block + 1 < image->blocks && image->starts[block + 1] == word)
+            block++;
+        places[word] = block << PLACE_BLOCK_SHIFT | image->offsets[word];
+    }
+}
+
+void service_start(const struct image *image, const struct service_memory *memory, uint32_t *cache, uint32_t slots)
+{
+    service.image = *image;
+    service.cache = (union word *)cache;
+    service.slots = memory->slots;
+    service.slot_count = slots;
+    clear_tables(memory);
+    if (memory->places)
+        fill_places(image, memory->places);
+    frame.text_base = image->base;
+    frame.text_bytes = 4 * image->text_words;
+    frame.places = memory->places;
+    frame.first_of_block = memory->first_of_block;
+    frame.before_cache = address_of(0) - 4;
+}

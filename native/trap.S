@@ -1,0 +1,180 @@
+# The trap vector.
+#
+# All of x1 to x31 are the program's. While it runs, mscratch holds the address of `frame`, in which its registers stand
+# while the runtime runs; mscratch then holds the program's sp. The runtime's stack grows down from the frame, so that
+# one register finds both. The C code is built so that it needs neither gp nor tp.
+#
+# A jump over a register to a placed block, as a return mostly is, is served here without C where its rd is x0 or ra
+# (with SERVE_IN_VECTOR). A jump over a register that is served in C may read and write any register, so all of them are
+# saved; for all else those are that a C function may change.
+
+#include "runtime.h"
+
+#ifndef STACK_BYTES
+#define STACK_BYTES 2048
+#endif
+
+    .section .bss.frame, "aw", @nobits
+    .balign 16
+    .skip   STACK_BYTES
+    .globl  frame
+frame:
+    .skip   FRAME_BYTES
+
+    .option norvc
+    .section .text.trap, "ax", @progbits
+
+# Those that a C function may change, but t0 to t2 and sp.
+    .macro  each_scratch op
+    .irp    n, 1, 10, 11, 12, 13, 14, 15, 16, 17, 28, 29, 30, 31
+    \op     x\n, FRAME_X(\n)(sp)
+    .endr
+    .endm
+
+    .macro  each_temporary op
+    .irp    n, 5, 6, 7
+    \op     x\n, FRAME_X(\n)(sp)
+    .endr
+    .endm
+
+# Those that a C function leaves as they are, and gp and tp.
+    .macro  each_saved op
+    .irp    n, 3, 4, 8, 9, 18, 19, 20, 21, 22, 23, 24, 25, 26, 27
+    \op     x\n, FRAME_X(\n)(sp)
+    .endr
+    .endm
+
+    .macro  save_scratch
+    each_scratch sw
+    csrr    t0, mscratch
+    sw      t0, FRAME_X(2)(sp)
+    .endm
+
+    .macro  call_service
+    mv      a0, sp
+    csrr    a1, mepc
+    csrr    a2, mcause
+    call    service_trap            # (frame, mepc, mcause): where to go on
+    csrw    mepc, a0
+    .endm
+
+    .globl  trap_vector
+    .balign 4
+trap_vector:
+    csrrw   sp, mscratch, sp
+    each_temporary sw
+    csrr    t0, mcause
+    addi    t0, t0, -CAUSE_BREAKPOINT
+    bnez    t0, serve
+    csrr    t0, mepc
+    lw      t1, 4(t0)               # the descriptor
+#ifdef SERVE_IN_VECTOR
+    li      t2, 0x00008067          # ret: JALR x0, 0(ra)
+    bne     t1, t2, other_exit
+    mv      t1, ra
+
+# t1: the target
+find:
+    lw      t2, FRAME_TEXT_BASE(sp)
+    sub     t1, t1, t2
+    andi    t2, t1, 3
+    bnez    t2, serve_jump
+    lw      t2, FRAME_TEXT_BYTES(sp)
+    bgeu    t1, t2, serve_jump
+    lw      t2, FRAME_PLACES(sp)
+    add     t1, t1, t2
+    lw      t1, 0(t1)               # its place
+    srli    t2, t1, PLACE_BLOCK_SHIFT
+    slli    t2, t2, 1
+    lw      t0, FRAME_FIRST_OF_BLOCK(sp)
+    add     t2, t2, t0
+    lhu     t2, 0(t2)               # the index of the block's first word, plus 1
+    beqz    t2, serve_jump
+    andi    t1, t1, PLACE_OFFSET_MASK
+    add     t1, t1, t2
+    slli    t1, t1, 2
+    lw      t2, FRAME_BEFORE_CACHE(sp)
+    add     t1, t1, t2
+    csrr    t0, mepc
+    lw      t2, 4(t0)
+    andi    t2, t2, 1 << 7          # rd is ra: it is linked
+    beqz    t2, 1f
+    lw      ra, 8(t0)
+1:  csrw    mepc, t1
+    lw      t0, FRAME_SERVICES(sp)
+    addi    t0, t0, 1
+    sw      t0, FRAME_SERVICES(sp)
+    each_temporary lw
+    csrrw   sp, mscratch, sp
+    .globl  trap_return_short
+trap_return_short:
+    mret
+
+other_exit:
+    not     t2, t1
+    andi    t2, t2, 3
+    bnez    t2, serve               # no jump over a register
+    srli    t2, t1, 7
+    andi    t2, t2, 30
+    bnez    t2, serve_jump          # rd is neither x0 nor ra
+    srli    t2, t1, 12
+    andi    t2, t2, 31 << 3         # rs1, by the 8 bytes of its row below
+    la      t0, read_register
+    add     t0, t0, t2
+    srai    t1, t1, 20              # the immediate
+    jr      t0
+
+    .macro  read_by instruction:vararg
+    \instruction
+    j       add_immediate
+    .endm
+
+    .balign 8
+read_register:
+    read_by li t0, 0
+    read_by mv t0, x1
+    read_by csrr t0, mscratch       # sp
+    read_by mv t0, x3
+    read_by mv t0, x4
+    read_by lw t0, FRAME_X(5)(sp)
+    read_by lw t0, FRAME_X(6)(sp)
+    read_by lw t0, FRAME_X(7)(sp)
+    .irp    n, 8, 9, 10, 11, 12, 13, 14, 15, 16, 17, 18, 19, 20, 21, 22, 23, 24, 25, 26, 27, 28, 29, 30, 31
+    read_by mv t0, x\n
+    .endr
+
+add_immediate:
+    add     t1, t1, t0
+    andi    t1, t1, -2
+    j       find
+#else
+    not     t1, t1
+    andi    t1, t1, 3
+    beqz    t1, serve_jump
+#endif
+
+serve:
+    save_scratch
+    call_service
+return:
+    csrw    mscratch, sp
+    each_scratch lw
+    each_temporary lw
+    lw      sp, FRAME_X(2)(sp)
+    .globl  trap_return
+trap_return:
+    mret
+
+serve_jump:
+    save_scratch
+    each_saved sw
+    call_service
+    each_saved lw
+    j       return
+
+# The way into a program that starts: mepc and every register of the frame are set.
+    .globl  trap_resume
+trap_resume:
+    la      sp, frame
+    each_saved lw
+    j       return
