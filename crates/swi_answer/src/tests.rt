@@ -9,7 +9,7 @@ use swi_exec::FaultKind;
 use swi_image::ImageRefusal;
 
 /// Refusals, their lines and their statuses.
-static REFUSALS: [(Refusal, &str, u8); 21] = [
+static REFUSALS: [(Refusal, &str, u8); 23] = [
     (
         Refusal::Usage,
         "usage: swic rewrite, cached, plain, trace, list, check, measure, upgrade\n",
@@ -35,6 +35,16 @@ static REFUSALS: [(Refusal, &str, u8); 21] = [
         248,
     ),
     (Refusal::Elf(ElfRefusal::Short(51)), "elf 1 Short 51\n", 243),
+    (
+        Refusal::Elf(ElfRefusal::Table(28)),
+        "elf 11 Table 28\n",
+        243,
+    ),
+    (
+        Refusal::Elf(ElfRefusal::Extent(1)),
+        "elf 13 Extent 1\n",
+        243,
+    ),
     (
         Refusal::Elf(ElfRefusal::Entry(24)),
         "elf 18 Entry 24\n",

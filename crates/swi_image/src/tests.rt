@@ -1,5 +1,9 @@
+ghost use Rattle.std.specs.Prelude.{◌≡◌, ◌<◌};
+
 use super::*;
 use std::alloc::Global;
+use std::marker::Brand;
+use std::sync::ledger::{Blank, Ledger};
 use std::test::Fail;
 
 /// Three text words in one block of 8 words, version 1: by hand from the format's table.
@@ -53,7 +57,7 @@ fn changed(alloc: Global, words: &[u32], changes: &[(usize, u32)]) -> Result<Vec
 
 /// The first check that the bytes fail.
 fn refusal_of(bytes: &[u8]) -> Option<ImageRefusal> {
-    read_image(&bytes[..bytes.len().min(1 << 20)]).err()
+    read_image(&bytes[..bytes.len().min(1 << 23)]).err()
 }
 
 /// The first check that these words fail.
@@ -116,6 +120,27 @@ fn changed_words_give_the_first_check_that_fails(rt: HostRuntime) -> Result<(), 
     for (words, changes, want) in table {
         let words = changed(rt.alloc(), words, changes)?;
         assert_eq!(rt; refusal_of_words(rt.alloc(), &words)?, want, "{changes:?}");
+    }
+    Ok(())
+}
+
+/// An image of so many text words, each of one word, in blocks of 1024, version 2.
+fn full_blocks(alloc: Global, len: u32) -> Result<Vec<u32>, Fail> {
+    let blocks = len.div_ceil(1024);
+    let mut words = Vec::from_slice(alloc, &[0x31434953, 2, 1024, blocks, len, 0x00010000])?;
+    words.extend((0..blocks).map(|b| b.wrapping_mul(1024)))?;
+    words.extend((0..blocks).map(|b| b.wrapping_mul(1024).wrapping_add(1024).min(len)))?;
+    words.extend((0..len).map(|k| k % 1024))?;
+    words.extend((0..len).map(|_| 0x00150513))?;
+    Ok(words)
+}
+
+#[test]
+fn a_text_has_two_to_the_19_words_at_most(rt: HostRuntime) -> Result<(), Fail> {
+    let longer = Some(ImageRefusal::Length(6 + 2 * 513 + 2 * 524_289));
+    for (len, want) in [(524_288, None), (524_289, longer)] {
+        let words = full_blocks(rt.alloc(), len)?;
+        assert_eq!(rt; refusal_of_words(rt.alloc(), &words)?, want, "{len}");
     }
     Ok(())
 }
@@ -207,6 +232,16 @@ fn both_versions_say_their_blocks(rt: HostRuntime) -> Result<(), Fail> {
     Ok(())
 }
 
+/// The place of an address, by the search that is counted.
+fn place_counted<L: Ledger>(view: &ImageView, a: u32, blank: Blank) -> Option<(u32, u32)>
+    requires name { blank.name ≡ L.name }
+    requires parts { blank.parts ≡ L.parts }
+    requires some { 0 < blank.parts }
+{
+    let mut steps = Steps::<L>::new(blank);
+    view.place_steps(a, &mut steps)
+}
+
 #[test]
 fn text_words_have_their_places_and_origins(rt: HostRuntime) -> Result<(), Fail> {
     let places = [
@@ -236,6 +271,8 @@ fn text_words_have_their_places_and_origins(rt: HostRuntime) -> Result<(), Fail>
         let view = read_image(&bytes[1..]).ok().expect(&rt, "accepted");
         for (address, want) in places {
             assert_eq!(rt; view.place(address), want, "{address}");
+            let counted = place_counted::<Brand>(&view, address, Blank::new(1));
+            assert_eq!(rt; counted, want, "{address}");
         }
         for ((block, offset), want) in origins {
             assert!(rt; block < view.blocks() && offset < view.length(block));

@@ -23,11 +23,17 @@ const ILLEGAL: u32 = 0;
 
 const EBREAK: u32 = 0x0010_0073;
 
+/// FENCE, as the assembler writes it.
+const FENCE: u32 = 0x0FF0_000F;
+
 #[test]
 fn each_case_has_its_words(rt: HostRuntime) -> Result<(), Fail> {
-    let table: [(u32, u32, &[u32]); 14] = [
+    let table: [(u32, u32, &[u32]); 16] = [
         (0x05D00893, 0x10000, &[0x05D00893]),
         (ECALL, 0x10008, &[ECALL]),
+        (FENCE, 0x10008, &[FENCE]),
+        // the last value that is not rounded up, as `li a0, 0x107ff`, and the first that is
+        (0x00000517, 0x107FF, &[0x00010537, 0x7FF50513]),
         (0x00000517, 0x10800, &[0x00011537, 0x80050513]),
         (0x00000517, 0x7FFFF800, &[0x80000537, 0x80050513]),
         (0x00000517, 0xFFFFF800, &[0x00000537, 0x80050513]),
@@ -65,9 +71,10 @@ fn each_branch_is_skipped_by_its_opposite(rt: HostRuntime) -> Result<(), Fail> {
 
 #[test]
 fn each_case_has_its_parts(rt: HostRuntime) -> Result<(), Fail> {
-    let table: [(u32, bool, &[Part]); 10] = [
+    let table: [(u32, bool, &[Part]); 11] = [
         (0x05D00893, true, &[Step, Fall, Inert]),
         (ECALL, true, &[Step, Fall, Inert]),
+        (FENCE, true, &[Step, Fall, Inert]),
         (0x00000517, true, &[Lead, Step, Fall, Inert]),
         (0x0000006F, false, &[Leave, Inert]),
         (0x008000EF, false, &[Lead, Lead, Leave, Inert]),
@@ -91,7 +98,7 @@ fn each_case_has_its_parts(rt: HostRuntime) -> Result<(), Fail> {
 
 #[test]
 fn words_of_a_text_are_found_by_number(rt: HostRuntime) -> Result<(), Fail> {
-    let words = [0x05D00893, 0x00700513, ECALL, ILLEGAL];
+    let words = [0x05D00893, FENCE, ECALL, ILLEGAL];
     let bytes = bytes_of(rt.alloc(), &words)?;
     let Ok(program) = one_text(rt.alloc(), 0x10000, &bytes) else {
         return Ok(())
@@ -103,6 +110,7 @@ fn words_of_a_text_are_found_by_number(rt: HostRuntime) -> Result<(), Fail> {
     assert_eq!(rt; address_of(&text, 2), 0x10008);
     assert_eq!(rt; sizes_of(&text, 2), Sizes { len: 1, needs: 3 });
     assert_eq!(rt; render_word(&text, 2).as_slice(), &[ECALL][..]);
+    assert_eq!(rt; exit_behind(&text, 1), Some([EBREAK, 0x10008]));
     assert_eq!(rt; exit_behind(&text, 2), Some([EBREAK, 0x1000C]));
     assert_eq!(rt; exit_behind(&text, 3), None);
     Ok(())

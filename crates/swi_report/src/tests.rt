@@ -26,6 +26,7 @@ const HEAD: &str = "pc 00010008\n\
 const MEMORY: &str = "00002000: -- -- -- -- -- -- 11 00 00 22 00 ff -- -- -- --\n\
     00002000: -- -- -- -- -- -- -- -- -- -- -- -- 00 00 00 33\n\
     00003020: 5a 00 00 00 00 00 00 00 00 00 00 00 00 00 00 00\n\
+    00003030: 00 01 00 00 00 00 00 00 00 00 00 00 00 00 00 00\n\
     fffffff0: -- -- -- -- -- -- -- -- -- -- 00 00 00 00 00 80\n";
 
 fn regs() -> Regs {
@@ -52,13 +53,14 @@ fn zeros(alloc: Global) -> Result<Bus, Fail> {
     Ok(Bus::new(alloc, &segments, &layout)?)
 }
 
-/// Two segments that adjoin inside a row, one with zero rows before and behind another, which can't be
+/// Two segments that adjoin inside a row, one with zero rows before and behind two others, which can't be
 /// read, one that can't be written, and a stack that ends with the last address.
 fn data(alloc: Global) -> Result<Bus, Fail> {
-    let mut late = [0; 17];
+    let mut late = [0; 34];
     late[16] = 0x5A;
+    late[33] = 1;
     let segments = [
-        Segment::of(0x3010, 2, 48, &late),
+        Segment::of(0x3010, 2, 64, &late),
         Segment::of(0x200C, 6, 8, &[0, 0, 0, 0x33]),
         Segment::of(0x2006, 6, 6, &[0x11, 0, 0, 0x22, 0, 0xFF]),
         Segment::of(0x1000, 5, 4, &[0x13, 0, 0, 0]),

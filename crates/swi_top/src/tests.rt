@@ -12,6 +12,7 @@ use swi_exec::FaultKind::*;
 use swi_image::ImageRefusal;
 use swi_outside::{CacheRam, FaultRam, MemShelf, MemSink, MemSource};
 
+mod hostile;
 mod limits;
 mod list;
 mod measure;

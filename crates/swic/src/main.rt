@@ -2,22 +2,34 @@
 //! is the exit status.
 #![tactic(auto)]
 
-ghost use Rattle.std.specs.Prelude.{◌^◌, ◌≤◌, IfOk, length};
+ghost use Rattle.std.specs.Prelude.{◌≡◌, ◌≢◌, ◌^◌, ◌≤◌, IfOk, length};
+ghost use Rattle.std.specs.IoError.{error_kind};
 
-use std::alloc::{AllocError, Global};
-use std::env;
+use std::alloc::Global;
+use std::io::ErrorKind;
 use std::process::ExitCode;
+use std::{env, io};
 use swi_outside::{FolderShelf, Memory, RealSink, RealSource, SystemFolder, VecRam};
 use swi_top::{Refusal, status_of, top};
 
 /// The words of cache RAM: those of the largest cache, of 2^23 bytes.
 const RAM_WORDS: u32 = 1 << 21;
 
-/// The words after the program's name; None where they could not be read, as where one is no text.
-fn words_of(rt: &HostRuntime) -> Option<Result<Vec<String>, AllocError>> {
-    match env::args(rt) {
-        Ok(words) => Some(words.skip(1).collect(rt.alloc())),
-        Err(_) => None,
+/// The words after the program's name.
+fn words_of(rt: &HostRuntime) -> io::Result<Vec<String>> {
+    let words = env::args(rt)?.skip(1).collect(rt.alloc())?;
+    Ok(words)
+}
+
+/// What is answered where the words could not be read: Memory where there was none for them, and else Usage,
+/// as where one is no text.
+fn refusal_of(error: &io::Error) -> Refusal
+    ensures memory { error_kind error.now ≡ ErrorKind.OutOfMemory → result ≡ Refusal.Memory }
+    ensures usage { error_kind error.now ≢ ErrorKind.OutOfMemory → result ≡ Refusal.Usage }
+{
+    match error.kind() {
+        ErrorKind::OutOfMemory => Refusal::Memory,
+        _ => Refusal::Usage,
     }
 }
 
@@ -50,10 +62,18 @@ fn run(rt: &HostRuntime, words: &[String]) -> u8 {
     status_of(&answer)
 }
 
+/// The status of a refusal for which there are no words: Usage with its line, which the top call writes where it
+/// has no word; any other without a line.
+fn refuse(rt: &HostRuntime, refusal: Refusal) -> u8 {
+    match refusal {
+        Refusal::Usage => run(rt, &[]),
+        refusal => status_of(&Err(refusal)),
+    }
+}
+
 fn main(rt: HostRuntime) -> ExitCode {
     ExitCode::from(match words_of(&rt) {
-        Some(Ok(words)) => run(&rt, words.as_slice()),
-        Some(Err(_)) => status_of(&Err(Refusal::Memory)),
-        None => run(&rt, &[]),
+        Ok(words) => run(&rt, words.as_slice()),
+        Err(error) => refuse(&rt, refusal_of(&error)),
     })
 }
