@@ -1,6 +1,7 @@
 //! Steps that ask neither the ram, but for their fetch, nor a device.
 #![tactic(auto)]
 
+ghost use Rattle.swi_rom.specs.Served.{Keeps};
 ghost use Rattle.std.specs.Prelude.{◌≡◌, ◌+◌, ◌-◌, ◌*◌, ◌%◌, ◌^◌, ◌<◌, ◌≤◌, ℕ, List, Option, IfSome, length, slice_index, if◌then◌else◌, None, Some, false, true};
 ghost use Rattle.swi_outside.specs.CacheRam.{RamState};
 ghost use Rattle.swi_memory.specs.Bus.{fetched};
@@ -366,6 +367,7 @@ fn back<R: CacheRom, M: CacheRam>(
     } }
     ensures setting { R.setting rom.new ≡ R.setting rom.old }
     ensures stays { R.sound rom.new image.now (M.state ram.now).words }
+    ensures keeps { Keeps R.serves image.now rom.old rom.new (M.state ram.now).words (M.state ram.now).words }
 {
     let Some((block, offset)) = rom.at(at) else {
         unreachable!()
@@ -432,6 +434,7 @@ pub(crate) fn run_block<R: CacheRom, M: CacheRam>(
         (R.kept rom.old) hart.old (M.state ram.old) (R.kept rom.new) hart.new (M.state ram.new) }
     ensures setting { R.setting rom.new ≡ R.setting rom.old }
     ensures sound { R.sound rom.new image.now (M.state ram.new).words }
+    ensures keeps { Keeps R.serves image.now rom.old rom.new (M.state ram.old).words (M.state ram.new).words }
 {
     let mut walk = Walk {
         index: at.0,

@@ -13,7 +13,7 @@ ghost use Rattle.swi_hart.specs.Hart.{is_between, index_of, place_under, next_ma
 ghost use Rattle.swi_hart.specs.Exchanged.{Exchanged, PlainAt, ExecutesHeld};
 ghost use Rattle.swi_hart.specs.Matching.{Arrives, Fits, Matches};
 ghost use Rattle.swi_board.specs.Board.{BoardOf, entry_transfer, entries};
-ghost use Rattle.swi_rom.specs.Served.{SameFrom};
+ghost use Rattle.swi_rom.specs.Served.{SameFrom, Keeps};
 ghost use Rattle.swi_hart.specs.Leaving.{RamServed, RamFailed, moved, RamStepped, RamBroken, broken, transfer_at};
 ghost use Rattle.swi_board.specs.Ran.{RamRan, Ran, BrokeOff, RamBrokeOff, Followed};
 ghost use Rattle.swi_board.specs.Transfers.{here_of, spent_run};
@@ -82,7 +82,8 @@ fn enter<R: CacheRom, M: CacheRam>(
         }) }
     ensures control { OnOk result (Arrives image.now (R.kept rom.new) hart.old.machine.pc hart.new.control) }
     ensures served { Transferred R.policy R.extent R.span image.now (entry_transfer image.now hart.old.machine.pc)
-        (R.sound rom.new image.now (M.state ram.new).words)
+        (R.sound rom.new image.now (M.state ram.new).words × Keeps R.serves image.now rom.old rom.new
+        (M.state ram.old).words (M.state ram.new).words)
         (record { kept = R.kept rom.old; setting = R.setting rom.old; ram = M.state ram.old })
         (record { kept = R.kept rom.new; setting = R.setting rom.new; ram = M.state ram.new }) result }
 {
@@ -135,6 +136,8 @@ impl<R: CacheRom> Board<R> {
             (R.kept rom) image.now (entry_transfer image.now hart.machine.pc)) }
         ensures setting { IfOk result (λ b. R.setting b.rom ≡ R.setting rom) }
         ensures sound { IfOk result (λ b. R.sound b.rom image.now (M.state ram.new).words) }
+        ensures keeps { IfOk result (λ b. Keeps R.serves image.now rom b.rom
+            (M.state ram.old).words (M.state ram.new).words) }
         ensures unused { IfOk result (λ b. SameFrom (R.extent (R.setting rom) (R.kept b.rom))
             (M.state ram.old).words (M.state ram.new).words) }
         ensures ram { IfOk result (λ b. RamServed (R.span (R.setting rom))
@@ -276,6 +279,9 @@ impl<R: CacheRom> Board<R> {
         ensures setting { R.setting self.new.rom ≡ R.setting self.old.rom }
         ensures sound { R.sound self.old.rom image.now (M.state ram.old).words →
             OnOk result (R.sound self.new.rom image.now (M.state ram.new).words) }
+        ensures keeps { R.sound self.old.rom image.now (M.state ram.old).words →
+            OnOk result (Keeps R.serves image.now self.old.rom self.new.rom
+            (M.state ram.old).words (M.state ram.new).words) }
         ensures unused { OnOk result (SameFrom (R.extent (R.setting self.old.rom) (R.kept self.new.rom))
             (M.state ram.old).words (M.state ram.new).words) }
         ensures ram { OnOk result (RamStepped (R.span (R.setting self.old.rom))
@@ -352,6 +358,8 @@ impl<R: CacheRom> Board<R> {
         ensures fits { OnOk result (Fits image.now (R.kept self.new.rom) self.new.hart) }
         ensures setting { R.setting self.new.rom ≡ R.setting self.old.rom }
         ensures sound { OnOk result (R.sound self.new.rom image.now (M.state ram.new).words) }
+        ensures keeps { OnOk result (Keeps R.serves image.now self.old.rom self.new.rom
+            (M.state ram.old).words (M.state ram.new).words) }
         ensures unused { OnOk result (SameFrom (R.extent (R.setting self.old.rom) (R.kept self.new.rom))
             (M.state ram.old).words (M.state ram.new).words) }
         ensures unfailed { OnOk result (self.new.hart.failed ≡ false) }

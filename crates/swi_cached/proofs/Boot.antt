@@ -38,12 +38,12 @@ unfolding queue_of numbered
 none_placed s next filled = rw (next, filled) refl
 
 -- a service that was just made keeps nothing
-pub kept_empty : (slots size : ℕ) (s : Slots) → s.slots ≡ slots → s.size ≡ size → s.next ≡ 0 → s.filled ≡ 0 → s.targets ≡ replicate (slots * size) slots →
+pub kept_empty : (slots size : ℕ) (s : Slots) → s.slots ≡ slots → s.size ≡ size → s.next ≡ 0 → s.filled ≡ 0 → s.turn ≡ 0 → s.targets ≡ replicate (slots * size) slots →
     s.counts ≡ record { services = 0; misses = 0; evictions = 0; links = 0; unlinks = 0; copied = 0 } → kept_by s ≡ empty_record
-kept_empty slots size s a b next filled targets counts =
+kept_empty slots size s a b next filled turn targets counts =
     let placed = none_placed s next filled in
     let links = none_linked slots size s a b targets in
-    rw (placed, links, counts) refl
+    rw (placed, links, turn, counts) refl
 
 pub setting_is : (bytes size : ℕ) (s : Slots) (v : ImageData) → s.slots ≡ bytes / 4 / size → s.size ≡ size → size ≡ v.block_words →
     setting_of s ≡ slots_of bytes v ∷ v.block_words ∷ []

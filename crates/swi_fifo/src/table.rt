@@ -21,9 +21,6 @@ use swi_rom::{LinkTable, SlotRom};
 /// into the block from its slot's list, and no call but `new` takes memory.
 pub type FifoRom = SlotRom<ChainTable>;
 
-// The most blocks that an image has.
-const BLOCKS: usize = 1 << 19;
-
 // The slot of a block that has none.
 const NOWHERE: u32 = u32::MAX;
 
@@ -44,10 +41,10 @@ impl Model for ChainTable {
 }
 
 // No block has a slot.
-fn no_homes(alloc: Global, blocks: usize) -> Result<Vec<u32>, Memory>
+fn no_homes(alloc: Global, blocks: u32) -> Result<Vec<u32>, Memory>
     ensures { IfOk result (λ h. h.items ≡ replicate blocks nowhere) }
 {
-    vec![in alloc; NOWHERE; blocks].map_err(|_| Memory)
+    vec![in alloc; NOWHERE; blocks as usize].map_err(|_| Memory)
 }
 
 // The block of a filled slot has no slot from now on.
@@ -71,12 +68,14 @@ impl LinkTable for ChainTable {
 
     ghost slot_size = { λ t. t.size };
 
+    ghost block_count = { λ t. length t.homes };
+
     ghost targets = { λ t. targets_of t.chains };
 
     ghost knows = { λ t filled blocks. KnowsHomes t.homes filled blocks };
 
-    fn new(alloc: Global, slots: u32, size: u32) -> Result<ChainTable, Memory> {
-        let homes = no_homes(alloc, BLOCKS)?;
+    fn new(alloc: Global, slots: u32, size: u32, blocks: u32) -> Result<ChainTable, Memory> {
+        let homes = no_homes(alloc, blocks)?;
         let chains = Chains::new(alloc, slots, slots * size)?;
         Ok(ChainTable {
             size,
@@ -106,12 +105,12 @@ impl LinkTable for ChainTable {
     }
 }
 
-/// The lists of a service. A word's index stands in a slot's list exactly where a link stands there whose
-/// target's block is placed in the slot.
+/// The lists of a service. A word's index stands in a slot's list exactly where a link stands there that leads to the
+/// block of the slot.
 pub fn chains(rom: &FifoRom) -> &Chains
     ensures slots { length result.now.lists ≡ rom.now.slots }
     ensures links { (v : ImageData) (words : List ℕ) → SlotsSound rom.now v words → (n i : ℕ) →
-        Has (list_of result.now n) i ↔ LinkInto v (kept_by rom.now) (n * rom.now.size) i }
+        Has (list_of result.now n) i ↔ LinkInto (kept_by rom.now) (n * rom.now.size) i }
 {
     let chains = &rom.table().chains;
     let _ = chains.slots();

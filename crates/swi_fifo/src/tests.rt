@@ -286,7 +286,7 @@ fn bytes_of(alloc: Global, words: &[u32]) -> Result<Vec<u8>, Fail> {
 /// Makes a row's transfers, each with its answer, and looks at what stands then.
 fn assert_stands<R: CacheRom>(rt: &impl Abort, alloc: Global, rom: R, row: &Row) -> Result<R, Fail>
     requires small { R.span (R.setting rom) ≤ 64 }
-    requires new { (v : ImageData) (words : List ℕ) → IsImage v → row.now.block_words ≡ v.block_words →
+    requires new { (v : ImageData) (words : List ℕ) → IsImage v → v.block_words ≤ row.now.block_words →
         R.span (R.setting rom) ≤ length words → R.sound rom v words }
 {
     let bytes = bytes_of(alloc, row.image)?;

@@ -2,6 +2,7 @@
 #![tactic(auto)]
 
 ghost use Rattle.std.specs.Prelude.{◌≡◌, ◌+◌, ◌^◌, ◌%◌, ◌<◌, ℕ, List, IfOk, Some, None};
+ghost use Rattle.swi_rom.specs.Served.{Keeps};
 ghost use Rattle.swi_image.specs.Format.{ImageData};
 ghost use Rattle.swi_image.specs.Place.{word_at};
 ghost use Rattle.swi_rom.specs.Record.{direct, indirect, IsJump};
@@ -100,7 +101,8 @@ pub(crate) fn leave<R: CacheRom, M: CacheRam>(
     requires target { target ≡ word_at image.now at.1 (at.2 + 1) }
     ensures control { IfOk result (λ c. Arrives image.now (R.kept rom.new) target c) }
     ensures served { Transferred R.policy R.extent R.span image.now (Some (direct at.1 at.2 target))
-        (R.sound rom.new image.now (M.state ram.new).words)
+        (R.sound rom.new image.now (M.state ram.new).words × Keeps R.serves image.now rom.old rom.new
+        (M.state ram.old).words (M.state ram.new).words)
         (record { kept = R.kept rom.old; setting = R.setting rom.old; ram = M.state ram.old })
         (record { kept = R.kept rom.new; setting = R.setting rom.new; ram = M.state ram.new }) result }
 {
@@ -128,7 +130,8 @@ pub fn jump<R: CacheRom, M: CacheRam>(
     requires services { (R.kept rom.old).counts.services < 2 ^ 50 }
     ensures control { IfOk result (λ c. Arrives image.now (R.kept rom.new) target c) }
     ensures served { Transferred R.policy R.extent R.span image.now (Some (indirect target))
-        (R.sound rom.new image.now (M.state ram.new).words)
+        (R.sound rom.new image.now (M.state ram.new).words × Keeps R.serves image.now rom.old rom.new
+        (M.state ram.old).words (M.state ram.new).words)
         (record { kept = R.kept rom.old; setting = R.setting rom.old; ram = M.state ram.old })
         (record { kept = R.kept rom.new; setting = R.setting rom.new; ram = M.state ram.new }) result }
 {

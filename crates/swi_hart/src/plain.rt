@@ -2,6 +2,7 @@
 #![tactic(auto)]
 
 ghost use Rattle.std.specs.Prelude.{◌≡◌, ◌⊎◌, ◌^◌, ◌<◌, ℕ, OnOk, MatchOption, Some, None, true, false};
+ghost use Rattle.swi_rom.specs.Served.{Keeps};
 ghost use Rattle.swi_isa.specs.Decode.{decoded};
 ghost use Rattle.swi_memory.specs.Bus.{fetched};
 ghost use Rattle.swi_image.specs.Place.{word_at};
@@ -80,7 +81,9 @@ pub fn plain_step<R: CacheRom, M: CacheRam, I: Source, O: Sink, E: Sink>(
     requires sound { R.sound rom.old image.now (M.state ram.old).words
         ⊎ Exchanged (λ words. R.sound rom.old image.now words) image.now (M.state ram.old).words hart.old.control }
     ensures stepped { MachineStepped R.policy R.extent R.span image.now
-        (R.sound rom.old image.now (M.state ram.old).words) (R.sound rom.new image.now (M.state ram.new).words)
+        (R.sound rom.old image.now (M.state ram.old).words)
+        (R.sound rom.new image.now (M.state ram.new).words × Keeps R.serves image.now rom.old rom.new
+        (M.state ram.old).words (M.state ram.new).words)
         (record { hart = hart.old; kept = R.kept rom.old; setting = R.setting rom.old; ram = M.state ram.old })
         (record { hart = hart.new; kept = R.kept rom.new; setting = R.setting rom.new; ram = M.state ram.new })
         (record { input = I.left input.old; output = O.held out.old; error = E.held err.old })

@@ -2,6 +2,7 @@
 #![tactic(auto)]
 
 ghost use Rattle.std.specs.Prelude.{◌≡◌, ◌^◌, ◌<◌, slice_index, Some, true};
+ghost use Rattle.swi_rom.specs.Served.{Keeps};
 ghost use Rattle.swi_outside.specs.CacheRam.{RamState};
 ghost use Rattle.swi_hart.specs.MachineStep.{MachineStepped, ReadyToStep, Answered};
 ghost use Rattle.swi_hart.specs.Leaving.{Home, leaves, offset_of};
@@ -60,7 +61,9 @@ pub fn at_word<R: CacheRom, M: CacheRam, I: Source, O: Sink, E: Sink>(
     requires got { got ≡ slice_index (M.state ram.old).words at.0 }
     ensures { (before : RamState) → Answered (Some got) before at.0 (M.state ram.old) →
         MachineStepped R.policy R.extent R.span image.now
-        (R.sound rom.old image.now before.words) (R.sound rom.new image.now (M.state ram.new).words)
+        (R.sound rom.old image.now before.words)
+        (R.sound rom.new image.now (M.state ram.new).words × Keeps R.serves image.now rom.old rom.new
+        before.words (M.state ram.new).words)
         (record { hart = hart.old; kept = R.kept rom.old; setting = R.setting rom.old; ram = before })
         (record { hart = hart.new; kept = R.kept rom.new; setting = R.setting rom.new; ram = M.state ram.new })
         (record { input = I.left input.old; output = O.held out.old; error = E.held err.old })
@@ -107,7 +110,9 @@ fn at_step<R: CacheRom, M: CacheRam, I: Source, O: Sink, E: Sink>(
     requires home { Home image.now (R.kept rom.old) hart.old.machine at.0 at.1 at.2 at.3 }
     requires sound { R.sound rom.old image.now (M.state ram.old).words }
     ensures { MachineStepped R.policy R.extent R.span image.now
-        (R.sound rom.old image.now (M.state ram.old).words) (R.sound rom.new image.now (M.state ram.new).words)
+        (R.sound rom.old image.now (M.state ram.old).words)
+        (R.sound rom.new image.now (M.state ram.new).words × Keeps R.serves image.now rom.old rom.new
+        (M.state ram.old).words (M.state ram.new).words)
         (record { hart = hart.old; kept = R.kept rom.old; setting = R.setting rom.old; ram = M.state ram.old })
         (record { hart = hart.new; kept = R.kept rom.new; setting = R.setting rom.new; ram = M.state ram.new })
         (record { input = I.left input.old; output = O.held out.old; error = E.held err.old })
@@ -141,7 +146,9 @@ pub fn quick_step<R: CacheRom, M: CacheRam, I: Source, O: Sink, E: Sink>(
     requires sound { R.sound rom.old image.now (M.state ram.old).words }
     ensures word { hart.old.machine.pc < 2 ^ 32 }
     ensures stepped { MachineStepped R.policy R.extent R.span image.now
-        (R.sound rom.old image.now (M.state ram.old).words) (R.sound rom.new image.now (M.state ram.new).words)
+        (R.sound rom.old image.now (M.state ram.old).words)
+        (R.sound rom.new image.now (M.state ram.new).words × Keeps R.serves image.now rom.old rom.new
+        (M.state ram.old).words (M.state ram.new).words)
         (record { hart = hart.old; kept = R.kept rom.old; setting = R.setting rom.old; ram = M.state ram.old })
         (record { hart = hart.new; kept = R.kept rom.new; setting = R.setting rom.new; ram = M.state ram.new })
         (record { input = I.left input.old; output = O.held out.old; error = E.held err.old })

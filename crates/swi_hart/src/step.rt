@@ -2,6 +2,7 @@
 #![tactic(auto)]
 
 ghost use Rattle.std.specs.Prelude.{◌≡◌, ◌+◌, ◌*◌, ◌/◌, ◌^◌, ◌%◌, ◌<◌, ℕ, List, length, slice_index, ◌==◌, if◌then◌else◌, OnOk, OnErr, Some, None, true};
+ghost use Rattle.swi_rom.specs.Served.{Keeps};
 ghost use Rattle.swi_isa.specs.Decode.{decoded};
 ghost use Rattle.swi_exec.specs.Arithmetic.{sum_of};
 ghost use Rattle.swi_memory.specs.Bus.{fetched};
@@ -110,7 +111,8 @@ fn direct_step<R: CacheRom, M: CacheRam>(
         (step_to hart.new input) input at.0 at.1 at.2 at.3) }
     ensures counted { OnOk result (Counted hart.old hart.new) }
     ensures served { Transferred R.policy R.extent R.span image.now (Some (direct at.1 at.2 target))
-        (R.sound rom.new image.now (M.state ram.new).words)
+        (R.sound rom.new image.now (M.state ram.new).words × Keeps R.serves image.now rom.old rom.new
+        (M.state ram.old).words (M.state ram.new).words)
         (record { kept = R.kept rom.old; setting = R.setting rom.old; ram = M.state ram.old })
         (record { kept = R.kept rom.new; setting = R.setting rom.new; ram = M.state ram.new }) result }
     ensures stays { OnErr result (hart.new ≡ hart.old) }
@@ -148,7 +150,8 @@ fn jump_step<R: CacheRom, M: CacheRam>(
     ensures counted { OnOk result (Counted hart.old hart.new) }
     ensures served { Transferred R.policy R.extent R.span image.now
         (if target % 4 == 0 then Some (indirect target) else None)
-        (R.sound rom.new image.now (M.state ram.new).words)
+        (R.sound rom.new image.now (M.state ram.new).words × Keeps R.serves image.now rom.old rom.new
+        (M.state ram.old).words (M.state ram.new).words)
         (record { kept = R.kept rom.old; setting = R.setting rom.old; ram = M.state ram.old })
         (record { kept = R.kept rom.new; setting = R.setting rom.new; ram = M.state ram.new }) result }
     ensures stays { OnErr result (hart.new ≡ hart.old) }
@@ -194,7 +197,8 @@ fn jalr_step<R: CacheRom, M: CacheRam>(
         (Control.At at.0 at.1 at.2 at.3) hart.old.machine link) }
     ensures counted { OnOk result (Counted hart.old hart.new) }
     ensures served { Transferred R.policy R.extent R.span image.now (jump_transfer (Some x.now) hart.old.machine)
-        (R.sound rom.new image.now (M.state ram.new).words)
+        (R.sound rom.new image.now (M.state ram.new).words × Keeps R.serves image.now rom.old rom.new
+        (M.state ram.old).words (M.state ram.new).words)
         (record { kept = R.kept rom.old; setting = R.setting rom.old; ram = M.state ram.old })
         (record { kept = R.kept rom.new; setting = R.setting rom.new; ram = M.state ram.new }) result }
     ensures stays { OnErr result (hart.new ≡ hart.old) }
@@ -236,7 +240,8 @@ pub(crate) fn exit_step<R: CacheRom, M: CacheRam>(
     ensures counted { OnOk result (Counted hart.old hart.new) }
     ensures served { Transferred R.policy R.extent R.span image.now
         (exit_transfer (exit_kind (word_at image.now at.1 (at.2 + 1))) image.now hart.old.machine at.1 at.2)
-        (R.sound rom.new image.now (M.state ram.new).words)
+        (R.sound rom.new image.now (M.state ram.new).words × Keeps R.serves image.now rom.old rom.new
+        (M.state ram.old).words (M.state ram.new).words)
         (record { kept = R.kept rom.old; setting = R.setting rom.old; ram = M.state ram.old })
         (record { kept = R.kept rom.new; setting = R.setting rom.new; ram = M.state ram.new }) result }
     ensures stays { OnErr result (hart.new ≡ hart.old) }

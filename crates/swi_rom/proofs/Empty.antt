@@ -1,11 +1,12 @@
 -- An empty cache is sound for every image and ram that fit.
-use Rattle.std.proofs.Common.{◌≡◌, ℕ, suc, zero, ◌*◌, ◌<◌, ◌≤◌, List, length, slice_index, replicate, arith, refl, ◌∙◌, ap}
+use Rattle.std.proofs.Common.{◌≡◌, ℕ, suc, zero, ◌*◌, ◌<◌, ◌≤◌, List, length, slice_index, replicate, Result, Ok, Err, IfOk, arith, refl, ◌∙◌, ap}
 use Rattle.std.proofs.lemmas.List.{get_or-replicate}
 use Rattle.std.proofs.lemmas.Bool.{le-ltb}
 use Rattle.swi_image.specs.Format.{ImageData}
 use Rattle.swi_image.specs.Sound.{IsImage}
-use Rattle.swi_rom.specs.Slots.{Slots, InShape, links_of, link_at, collected}
-use Rattle.swi_rom.specs.Sound.{SlotsSound}
+use Rattle.swi_rom.specs.Slots.{Slots, InShape, links_of, link_at, collected, empty_slots}
+use Rattle.swi_rom.specs.Keys.{Images}
+use Rattle.swi_rom.specs.Sound.{SlotsServe, SlotsSound, Serves}
 
 pub record IsEmpty (s : Slots) : Type 0 where
   pub shape : InShape s
@@ -27,13 +28,13 @@ none_linked : (s : Slots) → ((i : ℕ) → i < s.slots * s.size → s.slots �
 unfolding links_of
 none_linked s f = none_collected s (s.slots * s.size) f
 
-pub empty_sound : (s : Slots) (v : ImageData) (words : List ℕ) → IsEmpty s → IsImage v → s.size ≡ v.block_words → s.slots * s.size ≤ length words → SlotsSound s v words
-empty_sound s v words empty image size fits =
+pub empty_serves : (s : Slots) (vs : Images) (words : List ℕ) → IsEmpty s → ((p : ℕ) → IsImage (vs p)) → ((p : ℕ) → (vs p).block_words ≤ s.size) → s.slots * s.size ≤ length words → SlotsServe s vs words
+empty_serves s vs words empty images sizes fits =
     let no : (i : ℕ) → i < s.slots * s.size → slice_index s.targets i ≡ s.slots = λ i lt. ap (λ (ts : List ℕ). slice_index ts i) empty.targets ∙ get_or-replicate (s.slots * s.size) i s.slots 0 lt in
     record {
       shape = empty.shape;
-      image = image;
-      size_is = size;
+      images = images;
+      size_most = sizes;
       fits = fits;
       distinct = λ n m lt lt' e. absurd (omega (arith, empty.filled));
       known = λ n lt. absurd (omega (arith, empty.filled));
@@ -47,3 +48,13 @@ empty_sound s v words empty image size fits =
       links_few = omega (arith, empty.links);
       unlinks_few = omega (arith, empty.unlinks, none_linked s (λ i lt. omega (arith, no i lt)));
     }
+
+-- with one program its image is that of all
+pub alone : {T E : Type 0} (view : T → Slots) (result : Result T E) (size slots : ℕ) → IfOk result (λ (s : T). view s ≡ empty_slots slots size 1) →
+    IfOk result (λ (s : T). (vs : Images) (words : List ℕ) → ((p : ℕ) → IsImage (vs p)) → ((p : ℕ) → (vs p).block_words ≤ size) → slots * size ≤ length words → SlotsServe (view s) vs words) →
+    IfOk result (λ (s : T). (v : ImageData) (words : List ℕ) → IsImage v → v.block_words ≤ size → slots * size ≤ length words → SlotsSound (view s) v words)
+alone view (Ok s) size slots empty serves = λ v words image most fits. ((λ (p : ℕ). v), alone_serves v words image most fits)
+  where
+    alone_serves : (v : ImageData) (words : List ℕ) → IsImage v → v.block_words ≤ size → slots * size ≤ length words → Serves (view s) v (λ (p : ℕ). v) words
+    alone_serves v words image most fits = (refl, serves (λ (p : ℕ). v) words (λ p. image) (λ p. most) fits)
+alone view (Err e) size slots empty serves = tt

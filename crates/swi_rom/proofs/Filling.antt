@@ -1,13 +1,17 @@
 -- A ram that fails while a block is copied.
-use Rattle.std.proofs.Common.{◌≡◌, ℕ, ◌+◌, ◌*◌, ◌<◌, ◌≤◌, List, slice_index, slice_index_or, arith, subst, sym, ap, inl, inr}
+use Rattle.std.proofs.Common.{◌≡◌, ℕ, ◌+◌, ◌*◌, ◌<◌, ◌≤◌, ◌^◌, List, length, slice_index, slice_index_or, arith, subst, sym, ap, inl, inr}
 use Rattle.std.proofs.lemmas.Nat.{row_fits}
 use Rattle.std.proofs.lemmas.Bool.{cases_lt}
 use Rattle.std.proofs.lemmas.List.{get_or_read}
 use Rattle.swi_image.specs.Format.{ImageData}
+use Rattle.swi_image.specs.Place.{length_at}
+use Rattle.swi_image.specs.Sound.{IsImage}
+use Rattle.swi_rom.specs.Keys.{Images}
+use Rattle.swi_rom.specs.Inside.{block_short, block_known, block_few}
 use Rattle.swi_outside.specs.CacheRam.{RamState}
 use Rattle.swi_rom.specs.Slots.{Slots, InShape}
 use Rattle.swi_rom.specs.Steps.{MadeRoom, FailedBelow, LinksInside, Wrote, leading_in}
-use Rattle.swi_rom.specs.Sound.{SlotsSound}
+use Rattle.swi_rom.specs.Sound.{SlotsSound, Serves}
 use Rattle.swi_rom.specs.SlotLinks.{word_below, word_slot}
 use Rattle.swi_rom.specs.Rams.{failed_more, failed_wider, wrote_none}
 
@@ -35,10 +39,25 @@ fill_failed s t first n a b c shape le at room failed =
     failed_more (s.slots * s.size) (s.slots * s.size) w.0 a b c w.1
     (failed_wider (first + n) (s.slots * s.size) b c failed (rw (at, k.0, k.1) (slot_fits s n shape le))) (omega arith)
 
+-- a block of the program in turn fits a slot
+pub sound_short : (s : Slots) (v : ImageData) (b : ℕ) (words : List ℕ) → SlotsSound s v words → b < length v.starts → length_at v b ≤ s.size
+sound_short s v b words sound lt =
+    let image : IsImage v = subst (λ (w : ImageData). IsImage w) sound.1.0 (sound.1.1.images s.turn) in
+    omega (arith, block_short v b image (block_known v b image lt), subst (λ (w : ImageData). w.block_words ≤ s.size) sound.1.0 (sound.1.1.size_most s.turn))
+
+-- and its number is small
+pub sound_few : (s : Slots) (v : ImageData) (b : ℕ) (words : List ℕ) → SlotsSound s v words → b < length v.starts → b < 2 ^ 19
+sound_few s v b words sound lt = block_few v b (subst (λ (w : ImageData). IsImage w) sound.1.0 (sound.1.1.images s.turn)) lt
+
+pub sound_known : (vs : Images) (s : Slots) (v : ImageData) (b : ℕ) (words : List ℕ) → Serves s v vs words → b < length v.starts → b < length (vs s.turn).blocks
+sound_known vs s v b words serves lt =
+    subst (λ (w : ImageData). b < length w.blocks) (sym serves.0) (block_known v b (subst (λ (w : ImageData). IsImage w) serves.0 (serves.1.images s.turn)) lt)
+
 -- the links of the slot that is filled next stand within its block
 pub links_inside : (s : Slots) (v : ImageData) (words : List ℕ) → SlotsSound s v words → LinksInside s s.next
-links_inside s v words sound o le lt = elim (cases_lt (slice_index s.targets (s.next * s.size + o)) s.slots) [
+links_inside s v words known o le lt = elim (cases_lt (slice_index s.targets (s.next * s.size + o)) s.slots) [
   | inl t ↦ absurd (
+      let sound = known.1.1 in
       let stands = sound.stands (s.next * s.size + o) (word_below s s.next o sound.shape sound.shape.next_below lt) t in
       let filled : s.next < s.filled = omega (arith, stands, (word_slot s s.next o lt).0) in
       let link = sound.linked s.next o filled lt t in

@@ -4,13 +4,11 @@ use Rattle.std.proofs.lemmas.Bool.{cases_Bool, cases_eq, cases_lt, both_ways}
 use Rattle.std.proofs.lemmas.Bool.Decides.{nat_tests}
 use Rattle.std.proofs.lemmas.List.{get_or-set_same, get_or-set_other}
 use Rattle.std.proofs.lemmas.Nat.{row_fits}
-use Rattle.swi_image.specs.Format.{ImageData}
-use Rattle.swi_image.specs.Place.{place_of, word_at, length_at}
+use Rattle.swi_rom.specs.Keys.{Images, owner_of, word_in, words_in, ExitOf, IsKnown, goes}
 use Rattle.swi_outside.specs.CacheRam.{RamState}
 use Rattle.swi_rom.specs.Record.{ebreak, IsJump}
-use Rattle.swi_rom.specs.Coherent.{IsExit}
 use Rattle.swi_rom.specs.Slots.{Slots, InShape, links_of}
-use Rattle.swi_rom.specs.Sound.{SlotsSound, LinkStands}
+use Rattle.swi_rom.specs.Sound.{SlotsServe, LinkStands}
 use Rattle.swi_rom.specs.Steps.{Wrote, Copied, is_dropped, leads_in, settled, IsAbsent, Cleared, leading_in}
 use Rattle.swi_rom.specs.declared.rom.Counts.{Counts}
 use Rattle.swi_rom.specs.Rams.{wrote_none}
@@ -18,7 +16,7 @@ use Rattle.swi_rom.proofs.Shapes.{settled_shape}
 use Rattle.swi_rom.specs.Queue.{next_free}
 use Rattle.swi_rom.specs.SlotLinks.{Tidy, word_below, word_slot, word_is}
 use Rattle.swi_rom.specs.Coheres.{length_most}
-use Rattle.swi_rom.specs.Inside.{block_short}
+use Rattle.swi_rom.specs.Inside.{known_short}
 
 -- room has been made for a block in the next slot: no link leads from it or to it
 pub record Roomy (s : Slots) (targets : List ℕ) (k : ℕ) (before between : RamState) : Type 0 where
@@ -30,8 +28,8 @@ pub record Roomy (s : Slots) (targets : List ℕ) (k : ℕ) (before between : Ra
   pub wrote : Wrote (s.slots * s.size) k before between
 
 -- where a slot is free, no link leads to it
-free_target : (s : Slots) (v : ImageData) (words : List ℕ) (i : ℕ) → SlotsSound s v words → s.filled < s.slots → i < s.slots * s.size → slice_index s.targets i ≡ s.next → ⊥
-free_target s v words i sound lt below e =
+free_target : (s : Slots) (vs : Images) (words : List ℕ) (i : ℕ) → SlotsServe s vs words → s.filled < s.slots → i < s.slots * s.size → slice_index s.targets i ≡ s.next → ⊥
+free_target s vs words i sound lt below e =
     let next : s.next ≡ s.filled = next_free s sound.shape lt in
     let small : slice_index s.targets i < s.slots = omega (arith, sound.shape.next_below) in
     let p = word_is s i sound.shape in
@@ -40,12 +38,12 @@ free_target s v words i sound lt below e =
     let t : slice_index s.targets i < s.filled = subst (λ (j : ℕ). slice_index s.targets j < s.filled) p.0 k.target in
     omega arith
 
-pub roomy_free : (s : Slots) (v : ImageData) (before : RamState) → SlotsSound s v before.words → s.filled < s.slots → Roomy s s.targets 0 before before
-roomy_free s v before sound lt = record {
+pub roomy_free : (s : Slots) (vs : Images) (before : RamState) → SlotsServe s vs before.words → s.filled < s.slots → Roomy s s.targets 0 before before
+roomy_free s vs before sound lt = record {
   long = refl;
   dropped = λ i below d. elim (cases_lt (slice_index s.targets i) s.slots) [
     | inl small ↦ absurd (elim (cases_eq (slice_index s.targets i) s.next) [
-      | inl e ↦ free_target s v before.words i sound lt below e
+      | inl e ↦ free_target s vs before.words i sound lt below e
       | inr ne ↦ (let row : i / s.size < s.filled = sound.stands i below small in
           let next : s.next ≡ s.filled = next_free s sound.shape lt in
           let no : is_dropped s.size s.next s.targets i ≡ false = grind (arith, nat_tests) in
@@ -54,7 +52,7 @@ roomy_free s v before sound lt = record {
     | inr le ↦ le
   ];
   rest = λ i below d. refl;
-  undone = λ i below l. absurd (free_target s v before.words i sound lt below (grind (arith, nat_tests)));
+  undone = λ i below l. absurd (free_target s vs before.words i sound lt below (grind (arith, nat_tests)));
   others = λ i f. refl;
   wrote = wrote_none (s.slots * s.size) before;
 }
@@ -122,17 +120,17 @@ target_left s targets k m o a b shape roomy lt lt' t =
     ]
 
 -- the words of another slot are as when room was made
-pub other_slot : (s : Slots) (v : ImageData) (b m o n : ℕ) (between after : RamState) → InShape s → Copied v b (s.next * s.size) n between after → n ≤ s.size → (m ≡ s.next → ⊥) → o < s.size →
+pub other_slot : (s : Slots) (word : ℕ → ℕ) (m o n : ℕ) (between after : RamState) → InShape s → Copied word (s.next * s.size) n between after → n ≤ s.size → (m ≡ s.next → ⊥) → o < s.size →
     slice_index after.words (m * s.size + o) ≡ slice_index between.words (m * s.size + o)
-other_slot s v b m o n between after shape copied le ne lt = elim (cases_lt m s.next) [
+other_slot s word m o n between after shape copied le ne lt = elim (cases_lt m s.next) [
   | inl less ↦ copied.below (m * s.size + o) (omega (arith, row_fits m s.size s.next s.size less (omega arith)))
   | inr more ↦ copied.wrote.spared.beyond (m * s.size + o) (omega (arith, row_fits s.next s.size m s.size (grind arith) (omega arith)))
 ]
 
-moved_link : (s : Slots) (targets : List ℕ) (counts : Counts) (v : ImageData) (b m o n k : ℕ) (before between after : RamState) → SlotsSound s v before.words → Roomy s targets k before between →
-    Copied v b (s.next * s.size) n between after → n ≤ s.size → m < min (s.filled + 1) s.slots → o < s.size → slice_index targets (m * s.size + o) < s.slots →
-    LinkStands (filled_slots s targets counts b n) v after.words m o
-moved_link s targets counts v b m o n k before between after sound roomy copied le lt lt' t =
+moved_link : (s : Slots) (targets : List ℕ) (counts : Counts) (vs : Images) (b m o n k : ℕ) (before between after : RamState) → SlotsServe s vs before.words → Roomy s targets k before between →
+    Copied (λ (i : ℕ). word_in vs b i) (s.next * s.size) n between after → n ≤ s.size → m < min (s.filled + 1) s.slots → o < s.size → slice_index targets (m * s.size + o) < s.slots →
+    LinkStands (filled_slots s targets counts b n) vs after.words m o
+moved_link s targets counts vs b m o n k before between after sound roomy copied le lt lt' t =
     let left = target_left s targets k m o before between sound.shape roomy lt lt' t in
     let link = sound.linked m o left.filled lt' (omega (arith, left.same)) in
     let block : slice_index (slice_set s.blocks s.next b) m ≡ slice_index s.blocks m = other_block s b m left.other in
@@ -140,28 +138,28 @@ moved_link s targets counts v b m o n k before between after sound roomy copied 
     let quiet : leads_in s.size s.next s.targets (m * s.size + o) ≡ false =
     (let ne = left.elsewhere in grind (arith, nat_tests)) in
     let words : slice_index after.words (m * s.size + o) ≡ slice_index before.words (m * s.size + o) =
-    other_slot s v b m o n between after sound.shape copied le left.other lt' ∙ roomy.others (m * s.size + o) (λ h. quiet) in
+    other_slot s (λ (i : ℕ). word_in vs b i) m o n between after sound.shape copied le left.other lt' ∙ roomy.others (m * s.size + o) (λ h. quiet) in
     let target : slice_index (slice_set s.blocks s.next b) (slice_index s.targets (m * s.size + o)) ≡ slice_index s.blocks (slice_index s.targets (m * s.size + o)) =
     other_block s b (slice_index s.targets (m * s.size + o)) left.elsewhere in
     record {
-      is_exit = subst (λ (c : ℕ). IsExit v c o) (sym block) link.is_exit;
+      is_exit = subst (λ (c : ℕ). ExitOf vs c o) (sym block) link.is_exit;
       target = omega (arith, left.same, link.target, sound.shape.filled_most);
       offset = link.offset;
-      place_is = ap (λ (c : ℕ). place_of v (word_at v c (o + 1))) block ∙ link.place_is
+      place_is = ap (λ (c : ℕ). goes vs c (word_in vs c (o + 1))) block ∙ link.place_is
           ∙ ap (λ (c : ℕ). Some (c, link.offset)) (sym target ∙ ap (λ (x : ℕ). slice_index (slice_set s.blocks s.next b) x) (sym left.same));
       jumps = subst (λ (x : ℕ). IsJump (m * s.size + o) (x * s.size + link.offset) (slice_index after.words (m * s.size + o))) (sym left.same)
           (subst (λ (w : ℕ). IsJump (m * s.size + o) (slice_index s.targets (m * s.size + o) * s.size + link.offset) w) (sym words) link.jumps);
-      goal_is = link.goal_is ∙ ap (λ (c : ℕ). word_at v c (o + 1)) (sym block);
+      goal_is = link.goal_is ∙ ap (λ (c : ℕ). word_in vs c (o + 1)) (sym block);
     }
 
-moved_plain : (s : Slots) (targets : List ℕ) (v : ImageData) (b m o n k : ℕ) (before between after : RamState) → SlotsSound s v before.words → Roomy s targets k before between →
-    Copied v b (s.next * s.size) n between after → n ≤ s.size → m < s.filled → (m ≡ s.next → ⊥) → o < length_at v (slice_index s.blocks m) → s.slots ≤ slice_index targets (m * s.size + o) →
-    slice_index after.words (m * s.size + o) ≡ word_at v (slice_index s.blocks m) o
-moved_plain s targets v b m o n k before between after sound roomy copied le lt ne lt' t =
-    let inside : o < s.size = omega (arith, length_most s v before.words m sound lt) in
+moved_plain : (s : Slots) (targets : List ℕ) (vs : Images) (b m o n k : ℕ) (before between after : RamState) → SlotsServe s vs before.words → Roomy s targets k before between →
+    Copied (λ (i : ℕ). word_in vs b i) (s.next * s.size) n between after → n ≤ s.size → m < s.filled → (m ≡ s.next → ⊥) → o < words_in vs (slice_index s.blocks m) → s.slots ≤ slice_index targets (m * s.size + o) →
+    slice_index after.words (m * s.size + o) ≡ word_in vs (slice_index s.blocks m) o
+moved_plain s targets vs b m o n k before between after sound roomy copied le lt ne lt' t =
+    let inside : o < s.size = omega (arith, length_most s vs before.words m sound lt) in
     let below : m * s.size + o < s.slots * s.size = word_below s m o sound.shape (omega (arith, sound.shape.filled_most)) inside in
     let row : (m * s.size + o) / s.size ≡ m = (word_slot s m o inside).0 in
-    other_slot s v b m o n between after sound.shape copied le ne inside ∙
+    other_slot s (λ (i : ℕ). word_in vs b i) m o n between after sound.shape copied le ne inside ∙
     elim (cases_eq (slice_index s.targets (m * s.size + o)) s.next) [
       | inl e ↦ (let leads : leads_in s.size s.next s.targets (m * s.size + o) ≡ true = grind (arith, nat_tests) in
           roomy.undone (m * s.size + o) below leads ∙ sym (sound.linked m o lt inside (omega (arith, sound.shape.next_below))).is_exit.leaves)
@@ -186,6 +184,8 @@ moved_shape s targets counts b n k shape long move =
       size_least = shape.size_least;
       size_most = shape.size_most;
       words_few = shape.words_few;
+      turn_below = shape.turn_below;
+      programs_most = shape.programs_most;
       next_below = shape.next_below;
       filled_most = shape.filled_most;
       blocks_long = shape.blocks_long;
@@ -196,9 +196,9 @@ moved_shape s targets counts b n k shape long move =
       filled_is = shape.filled_is ∙ ap (λ (m : ℕ). min m s.slots) (sym move.misses);
     })
 
-pub moved_tidy : (s : Slots) (targets : List ℕ) (counts : Counts) (v : ImageData) (b n k : ℕ) (before between : RamState) → SlotsSound s v before.words → Roomy s targets k before between → CountsMove s counts k → IsAbsent s b →
+pub moved_tidy : (s : Slots) (targets : List ℕ) (counts : Counts) (vs : Images) (b n k : ℕ) (before between : RamState) → SlotsServe s vs before.words → Roomy s targets k before between → CountsMove s counts k → IsAbsent s b →
     Tidy (filled_slots s targets counts b n)
-moved_tidy s targets counts v b n k before between sound roomy move absent = record {
+moved_tidy s targets counts vs b n k before between sound roomy move absent = record {
   shape = moved_shape s targets counts b n k sound.shape roomy.long move;
   distinct = λ m l lt lt' e. elim (slot_cases s m sound.shape lt) [
     | inl here ↦ elim (slot_cases s l sound.shape lt') [
@@ -216,38 +216,38 @@ moved_tidy s targets counts v b n k before between sound roomy move absent = rec
   ];
 }
 
-pub moved_sound : (s : Slots) (targets : List ℕ) (counts : Counts) (v : ImageData) (b n k : ℕ) (before between after : RamState) → SlotsSound s v before.words → s.counts.misses ≤ s.counts.services →
-    Roomy s targets k before between → CountsMove s counts k → IsAbsent s b → b < length v.blocks → n ≡ length_at v b → Copied v b (s.next * s.size) n between after →
+pub moved_sound : (s : Slots) (targets : List ℕ) (counts : Counts) (vs : Images) (b n k : ℕ) (before between after : RamState) → SlotsServe s vs before.words → s.counts.misses ≤ s.counts.services →
+    Roomy s targets k before between → CountsMove s counts k → IsAbsent s b → IsKnown vs b → n ≡ words_in vs b → Copied (λ (i : ℕ). word_in vs b i) (s.next * s.size) n between after →
     counts.unlinks + length (links_of (filled_slots s targets counts b n)) ≤ s.counts.links →
-    SlotsSound (filled_slots s targets counts b n) v after.words
-moved_sound s targets counts v b n k before between after sound few roomy move absent known long copied unlinks =
-    let tidy = moved_tidy s targets counts v b n k before between sound roomy move absent in
-    let le : n ≤ s.size = omega (arith, block_short v b sound.image known, sound.size_is) in
+    SlotsServe (filled_slots s targets counts b n) vs after.words
+moved_sound s targets counts vs b n k before between after sound few roomy move absent known long copied unlinks =
+    let tidy = moved_tidy s targets counts vs b n k before between sound roomy move absent in
+    let le : n ≤ s.size = omega (arith, known_short vs b (sound.images (owner_of b)) known, sound.size_most (owner_of b)) in
     let words : length after.words ≡ length before.words = copied.wrote.spared.length_stays ∙ roomy.wrote.spared.length_stays in
     record {
       shape = tidy.shape;
-      image = sound.image;
-      size_is = sound.size_is;
+      images = sound.images;
+      size_most = sound.size_most;
       fits = omega (arith, sound.fits);
       distinct = tidy.distinct;
       known = λ m lt. elim (slot_cases s m sound.shape lt) [
-        | inl here ↦ subst (λ (x : ℕ). slice_index (slice_set s.blocks s.next b) x < length v.blocks) (sym here) (subst (λ (c : ℕ). c < length v.blocks) (sym (here_block s b sound.shape)) known)
-        | inr other ↦ subst (λ (c : ℕ). c < length v.blocks) (sym (other_block s b m other.1)) (sound.known m other.0)
+        | inl here ↦ subst (λ (x : ℕ). IsKnown vs (slice_index (slice_set s.blocks s.next b) x)) (sym here) (subst (λ (c : ℕ). IsKnown vs c) (sym (here_block s b sound.shape)) known)
+        | inr other ↦ subst (λ (c : ℕ). IsKnown vs c) (sym (other_block s b m other.1)) (sound.known m other.0)
       ];
       lengths_are = λ m lt. elim (slot_cases s m sound.shape lt) [
-        | inl here ↦ subst (λ (x : ℕ). slice_index (slice_set s.lengths s.next n) x ≡ length_at v (slice_index (slice_set s.blocks s.next b) x)) (sym here)
-            (get_or-set_same s.lengths s.next n 0 (omega (arith, sound.shape.next_below, sound.shape.lengths_long)) ∙ long ∙ ap (λ (c : ℕ). length_at v c) (sym (here_block s b sound.shape)))
-        | inr other ↦ get_or-set_other s.lengths s.next m n 0 other.1 ∙ sound.lengths_are m other.0 ∙ ap (λ (c : ℕ). length_at v c) (sym (other_block s b m other.1))
+        | inl here ↦ subst (λ (x : ℕ). slice_index (slice_set s.lengths s.next n) x ≡ words_in vs (slice_index (slice_set s.blocks s.next b) x)) (sym here)
+            (get_or-set_same s.lengths s.next n 0 (omega (arith, sound.shape.next_below, sound.shape.lengths_long)) ∙ long ∙ ap (λ (c : ℕ). words_in vs c) (sym (here_block s b sound.shape)))
+        | inr other ↦ get_or-set_other s.lengths s.next m n 0 other.1 ∙ sound.lengths_are m other.0 ∙ ap (λ (c : ℕ). words_in vs c) (sym (other_block s b m other.1))
       ];
       stands = tidy.stands;
-      linked = λ m o lt lt' t. moved_link s targets counts v b m o n k before between after sound roomy copied le lt lt' t;
+      linked = λ m o lt lt' t. moved_link s targets counts vs b m o n k before between after sound roomy copied le lt lt' t;
       plain = λ m o lt lt' t. elim (slot_cases s m sound.shape lt) [
         | inl here ↦ (
-            let inside : o < n = omega (arith, subst (λ (c : ℕ). o < length_at v c) (ap (λ (x : ℕ). slice_index (slice_set s.blocks s.next b) x) here ∙ here_block s b sound.shape) lt') in
-            ap (λ (x : ℕ). slice_index after.words (x * s.size + o)) here ∙ copied.copied o inside ∙ ap (λ (c : ℕ). word_at v c o) (sym (ap (λ (x : ℕ). slice_index (slice_set s.blocks s.next b) x) here ∙ here_block s b sound.shape)))
+            let inside : o < n = omega (arith, subst (λ (c : ℕ). o < words_in vs c) (ap (λ (x : ℕ). slice_index (slice_set s.blocks s.next b) x) here ∙ here_block s b sound.shape) lt') in
+            ap (λ (x : ℕ). slice_index after.words (x * s.size + o)) here ∙ copied.copied o inside ∙ ap (λ (c : ℕ). word_in vs c o) (sym (ap (λ (x : ℕ). slice_index (slice_set s.blocks s.next b) x) here ∙ here_block s b sound.shape)))
         | inr other ↦ (
             let block = other_block s b m other.1 in
-            moved_plain s targets v b m o n k before between after sound roomy copied le other.0 other.1 (subst (λ (c : ℕ). o < length_at v c) block lt') t ∙ ap (λ (c : ℕ). word_at v c o) (sym block))
+            moved_plain s targets vs b m o n k before between after sound roomy copied le other.0 other.1 (subst (λ (c : ℕ). o < words_in vs c) block lt') t ∙ ap (λ (c : ℕ). word_in vs c o) (sym block))
       ];
       misses_few = omega (arith, move.misses, move.services);
       evictions_few = omega (arith, move.evictions, move.misses);

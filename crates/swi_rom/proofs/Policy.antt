@@ -13,28 +13,28 @@ pub record Forward (r t : Record) : Type 0 where
   pub services : t.counts.services ≡ r.counts.services
   pub written : writes r ≤ writes t
 
-evicted_forward : (v : ImageData) (r : Record) (es : List Placement) → Forward r (evicted v r es)
+evicted_forward : (r : Record) (es : List Placement) → Forward r (evicted r es)
 unfolding evicted
-evicted_forward v r [] = record { links_left = λ k h. h; made = refl; services = refl; written = omega arith }
-evicted_forward v r (e ∷ es) = record {
-  links_left = λ k h. (and_parts (has_link r.links k) (is_kept v e.block k) (sym (has_filter (is_kept v e.block) r.links k) ∙ h)).0;
+evicted_forward r [] = record { links_left = λ k h. h; made = refl; services = refl; written = omega arith }
+evicted_forward r (e ∷ es) = record {
+  links_left = λ k h. (and_parts (has_link r.links k) (is_kept e k) (sym (has_filter (is_kept e) r.links k) ∙ h)).0;
   made = refl;
   services = refl;
   written = omega arith;
 }
 
-room_forward : (t : Bool) (v : ImageData) (r : Record) → Forward r (if t then r else evicted v r r.placed)
-room_forward true v r = record { links_left = λ k h. h; made = refl; services = refl; written = omega arith }
-room_forward false v r = evicted_forward v r r.placed
+room_forward : (t : Bool) (r : Record) → Forward r (if t then r else evicted r r.placed)
+room_forward true r = record { links_left = λ k h. h; made = refl; services = refl; written = omega arith }
+room_forward false r = evicted_forward r r.placed
 
 appended_forward : (slots size : ℕ) (v : ImageData) (r m : Record) (c : ℕ) → Forward r m → Forward r (appended slots size v m c)
 unfolding appended
 appended_forward slots size v r m c f = record { links_left = f.links_left; made = f.made; services = f.services; written = omega (arith, f.written) }
 
 arrived_in : (t : Bool) (slots size : ℕ) (v : ImageData) (r : Record) (c : ℕ) →
-    Forward r (if t then r else appended slots size v (if nat_lt (length r.placed) slots then r else evicted v r r.placed) c)
+    Forward r (if t then r else appended slots size v (if nat_lt (length r.placed) slots then r else evicted r r.placed) c)
 arrived_in true slots size v r c = record { links_left = λ k h. h; made = refl; services = refl; written = omega arith }
-arrived_in false slots size v r c = appended_forward slots size v r _ c (room_forward (nat_lt (length r.placed) slots) v r)
+arrived_in false slots size v r c = appended_forward slots size v r _ c (room_forward (nat_lt (length r.placed) slots) r)
 
 pub arrived_forward : (slots size : ℕ) (v : ImageData) (r : Record) (c : ℕ) → Forward r (arrived slots size v r c)
 unfolding arrived

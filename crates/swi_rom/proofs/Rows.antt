@@ -4,8 +4,8 @@ use Rattle.swi_isa.specs.Decode.{decoded, decoded_by}
 use Rattle.swi_isa.specs.Table.{imm_j}
 use Rattle.swi_image.specs.Format.{ImageData}
 use Rattle.swi_image.specs.Place.{place_of, block_at}
-use Rattle.swi_rom.specs.Record.{Record, Placement, Link, Transfer, direct, indirect, has_link, IsJump, reaches}
-use Rattle.swi_rom.specs.Fifo.{fifo, went, linked, arrived, appended, evicted, counted, is_placed, first_of, with_link, leads_to, is_undone, is_kept}
+use Rattle.swi_rom.specs.Record.{Record, Placement, Link, Transfer, direct, indirect, exit_among, IsJump, reaches}
+use Rattle.swi_rom.specs.Fifo.{fifo, went, linked, arrived, appended, evicted, counted, is_placed, first_of, with_link, is_undone, is_kept}
 
 abbrev run : List ℕ → Record → ImageData → List Transfer → Record
 run setting r v [] = r
@@ -17,8 +17,8 @@ empty = record { turn = 0; placed = []; links = []; counts = record { services =
 abbrev at : ℕ → ℕ → Placement
 at b f = record { program = 0; block = b; first = f }
 
-abbrev link : ℕ → ℕ → Link
-link b o = record { program = 0; block = b; offset = o }
+abbrev link : ℕ → ℕ → ℕ → Link
+link b o c = record { program = 0; block = b; offset = o; into = c }
 
 -- x5 = 3; subtract 1; branch back by 4 while x5 isn't 0; exit: in one block
 abbrev loop_16 : ImageData
@@ -66,8 +66,8 @@ jumper = record {
 
 -- a block that is linked to itself
 self_link : run (1 ∷ 16 ∷ []) empty loop_16 (indirect 0x10000 ∷ direct 0 3 0x10004 ∷ direct 0 3 0x10004 ∷ []) ≡
-    record { turn = 0; placed = at 0 0 ∷ []; links = link 0 3 ∷ []; counts = record { services = 1; misses = 1; evictions = 0; links = 1; unlinks = 0; copied = 9 }; more = [] }
-unfolding fifo went linked arrived appended evicted counted is_placed first_of with_link leads_to is_undone is_kept place_of block_at has_link
+    record { turn = 0; placed = at 0 0 ∷ []; links = link 0 3 0 ∷ []; counts = record { services = 1; misses = 1; evictions = 0; links = 1; unlinks = 0; copied = 9 }; more = [] }
+unfolding fifo went linked arrived appended evicted counted is_placed first_of with_link is_undone is_kept place_of block_at exit_among
 self_link = refl
 
 self_jump : IsJump 3 1 0xFF9FF06F
@@ -80,12 +80,12 @@ turns = indirect 0x10000 ∷ direct 0 2 0x10008 ∷ direct 1 1 0x10004 ∷ direc
 -- with one slot every exit's block is evicted by its target
 one_slot : run (1 ∷ 5 ∷ []) empty loop_5 turns ≡
     record { turn = 0; placed = at 2 0 ∷ []; links = []; counts = record { services = 6; misses = 7; evictions = 6; links = 0; unlinks = 0; copied = 31 }; more = [] }
-unfolding fifo went linked arrived appended evicted counted is_placed first_of with_link leads_to is_undone is_kept place_of block_at has_link
+unfolding fifo went linked arrived appended evicted counted is_placed first_of with_link is_undone is_kept place_of block_at exit_among
 one_slot = refl
 
 two_slots : run (2 ∷ 5 ∷ []) empty loop_5 turns ≡
-    record { turn = 0; placed = at 1 5 ∷ at 2 0 ∷ []; links = link 1 3 ∷ []; counts = record { services = 3; misses = 3; evictions = 1; links = 3; unlinks = 1; copied = 13 }; more = [] }
-unfolding fifo went linked arrived appended evicted counted is_placed first_of with_link leads_to is_undone is_kept place_of block_at has_link
+    record { turn = 0; placed = at 1 5 ∷ at 2 0 ∷ []; links = link 1 3 2 ∷ []; counts = record { services = 3; misses = 3; evictions = 1; links = 3; unlinks = 1; copied = 13 }; more = [] }
+unfolding fifo went linked arrived appended evicted counted is_placed first_of with_link is_undone is_kept place_of block_at exit_among
 two_slots = refl
 
 two_jump : IsJump 8 0 0xFE1FF06F
@@ -94,13 +94,13 @@ two_jump = refl
 
 -- first-in order at its worst
 circling : run (2 ∷ 2 ∷ []) empty circle (indirect 0x10000 ∷ direct 0 0 0x10004 ∷ direct 1 0 0x10008 ∷ direct 2 0 0x10000 ∷ direct 0 0 0x10004 ∷ direct 1 0 0x10008 ∷ direct 2 0 0x10000 ∷ []) ≡
-    record { turn = 0; placed = at 2 2 ∷ at 0 0 ∷ []; links = link 2 0 ∷ []; counts = record { services = 6; misses = 7; evictions = 5; links = 6; unlinks = 0; copied = 14 }; more = [] }
-unfolding fifo went linked arrived appended evicted counted is_placed first_of with_link leads_to is_undone is_kept place_of block_at has_link
+    record { turn = 0; placed = at 2 2 ∷ at 0 0 ∷ []; links = link 2 0 0 ∷ []; counts = record { services = 6; misses = 7; evictions = 5; links = 6; unlinks = 0; copied = 14 }; more = [] }
+unfolding fifo went linked arrived appended evicted counted is_placed first_of with_link is_undone is_kept place_of block_at exit_among
 circling = refl
 
 jumping : run (3 ∷ 5 ∷ []) empty jumper (indirect 0x10000 ∷ indirect 0x1000C ∷ direct 1 3 0x10010 ∷ []) ≡
-    record { turn = 0; placed = at 0 0 ∷ at 1 5 ∷ at 2 10 ∷ []; links = link 1 3 ∷ []; counts = record { services = 2; misses = 3; evictions = 0; links = 1; unlinks = 0; copied = 14 }; more = [] }
-unfolding fifo went linked arrived appended evicted counted is_placed first_of with_link leads_to is_undone is_kept place_of block_at has_link
+    record { turn = 0; placed = at 0 0 ∷ at 1 5 ∷ at 2 10 ∷ []; links = link 1 3 2 ∷ []; counts = record { services = 2; misses = 3; evictions = 0; links = 1; unlinks = 0; copied = 14 }; more = [] }
+unfolding fifo went linked arrived appended evicted counted is_placed first_of with_link is_undone is_kept place_of block_at exit_among
 jumping = refl
 
 -- how far a JAL reaches: back by 2^20 bytes, and forward by 2^20 - 4

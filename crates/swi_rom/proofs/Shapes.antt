@@ -33,6 +33,8 @@ settled_shape s b n shape = record {
   size_least = shape.size_least;
   size_most = shape.size_most;
   words_few = shape.words_few;
+  turn_below = shape.turn_below;
+  programs_most = shape.programs_most;
   next_below = wrapped_below s.next s.slots shape.next_below;
   filled_most = omega arith;
   blocks_long = length-set s.blocks s.next b ∙ shape.blocks_long;
@@ -50,6 +52,8 @@ pub settled_as : (s : Slots) (targets : List ℕ) (b n next filled : ℕ) → In
       size = s.size;
       next = next;
       filled = filled;
+      programs = s.programs;
+      turn = s.turn;
       blocks = slice_set s.blocks s.next b;
       lengths = slice_set s.lengths s.next n;
       targets = targets;

@@ -9,10 +9,9 @@ use Rattle.swi_rom.specs.Fifo.{fifo, extent_of, fifo_grows}
 use Rattle.swi_rom.specs.Served.{SameFrom, WordsMove}
 use Rattle.swi_rom.specs.Slots.{Slots, InShape, kept_by, links_of, queue_of, setting_of}
 use Rattle.swi_rom.specs.Sound.{SlotsSound}
-use Rattle.swi_rom.specs.Queue.{placed_slot}
+use Rattle.swi_rom.specs.Queue.{has_slot, placed_slot}
 use Rattle.swi_rom.specs.SlotLinks.{linked_word}
-use Rattle.swi_rom.specs.Coheres.{tidy_of, length_most}
-use Rattle.swi_rom.proofs.Arriving.{has_slot}
+use Rattle.swi_rom.specs.Coheres.{tidy_of, placed_most}
 
 -- the words of a filled slot
 row_within : (s : Slots) (n o : ℕ) → InShape s → n < s.filled → o < s.size → n * s.size + o < extent_of (setting_of s) (kept_by s)
@@ -22,20 +21,21 @@ row_within s n o shape lt lt' =
 
 placed_within : (s : Slots) (v : ImageData) (words : List ℕ) (b f o : ℕ) → SlotsSound s v words → Placed (kept_by s) b f → o < length_at v b → f + o < extent_of (setting_of s) (kept_by s)
 placed_within s v words b f o sound h lt =
-    let p = placed_slot s b f sound.shape h in
-    let le : length_at v b ≤ s.size = subst (λ (c : ℕ). length_at v c ≤ s.size) p.2 (length_most s v words p.0 sound p.1) in
-    subst (λ (g : ℕ). g + o < extent_of (setting_of s) (kept_by s)) p.3 (row_within s p.0 o sound.shape p.1 (omega (arith, lt, le)))
+    let serve = sound.1.1 in
+    let p = placed_slot s b f serve.shape h in
+    let le : length_at v b ≤ s.size = subst (λ (w : ImageData). length_at w b ≤ s.size) sound.1.0 (placed_most s sound.0 words p.0 b serve p.1 p.2 p.4) in
+    subst (λ (g : ℕ). g + o < extent_of (setting_of s) (kept_by s)) p.3 (row_within s p.0 o serve.shape p.1 (omega (arith, lt, le)))
 
--- a link has no program but the first, and its offset is one of a slot's words
-link_small : (s : Slots) (v : ImageData) (words : List ℕ) (l : Link) → SlotsSound s v words → has_link (links_of s) l ≡ true → (l.program ≡ 0) × (l.offset < s.size)
+-- a link's offset is one of a slot's words
+link_small : (s : Slots) (v : ImageData) (words : List ℕ) (l : Link) → SlotsSound s v words → has_link (links_of s) l ≡ true → l.offset < s.size
 link_small s v words l sound is =
-    let w = linked_word s l (tidy_of s v words sound) is in
+    let w = linked_word s l (tidy_of s sound.0 words sound.1.1) is in
     let here : w.1 ≡ l.offset = ap (λ (k : Link). k.offset) w.4 in
-    (sym (ap (λ (k : Link). k.program) w.4), omega (arith, here, w.3))
+    omega (arith, here, w.3)
 
-stood_within : (s : Slots) (l : Link) (f : ℕ) → InShape s → l.program ≡ 0 → l.offset < s.size → Has (queue_of s) (record { program = l.program; block = l.block; first = f }) → f + l.offset < extent_of (setting_of s) (kept_by s)
-stood_within s l f shape own lt h =
-    let p = has_slot s l.program l.block f shape own h in
+stood_within : (s : Slots) (l : Link) (f : ℕ) → InShape s → l.offset < s.size → Has (queue_of s) (record { program = l.program; block = l.block; first = f }) → f + l.offset < extent_of (setting_of s) (kept_by s)
+stood_within s l f shape lt h =
+    let p = has_slot s l.program l.block f shape h in
     subst (λ (g : ℕ). g + l.offset < extent_of (setting_of s) (kept_by s)) p.3 (row_within s p.0 l.offset shape p.1 lt)
 
 same_from_link : (x y : Bool) → (x ≡ y → ⊥) → (x ≡ true) ⊎ (y ≡ true)
@@ -60,15 +60,15 @@ unused_stays s u v t a d sound sound' same moves words = λ i le. elim (words.ch
     size_same : u.size ≡ s.size
     size_same = ap (λ (k : List ℕ). slice_index k 1) same
 
-    small : (l : Link) → (has_link (links_of s) l ≡ true) ⊎ (has_link (links_of u) l ≡ true) → (l.program ≡ 0) × (l.offset < s.size)
+    small : (l : Link) → (has_link (links_of s) l ≡ true) ⊎ (has_link (links_of u) l ≡ true) → l.offset < s.size
     small l (inl is) = link_small s v a.words l sound is
-    small l (inr is) = let w = link_small u v d.words l sound' is in (w.0, omega (arith, w.1, size_same))
+    small l (inr is) = let w = link_small u v d.words l sound' is in omega (arith, w, size_same)
 
     grew : extent_of (setting_of s) (kept_by s) ≤ extent_of (setting_of s) (kept_by u)
     grew = subst (λ (r : Record). extent_of (setting_of s) (kept_by s) ≤ extent_of (setting_of s) r) (sym moves) (fifo_grows (setting_of s) (kept_by s) v t)
 
-    in_either : (l : Link) (f : ℕ) → (l.program ≡ 0) × (l.offset < s.size) → Has (queue_of s) (record { program = l.program; block = l.block; first = f }) ⊎ Has (queue_of u) (record { program = l.program; block = l.block; first = f }) →
+    in_either : (l : Link) (f : ℕ) → l.offset < s.size → Has (queue_of s) (record { program = l.program; block = l.block; first = f }) ⊎ Has (queue_of u) (record { program = l.program; block = l.block; first = f }) →
         f + l.offset < extent_of (setting_of s) (kept_by u)
-    in_either l f own (inl h) = let old = stood_within s l f sound.shape own.0 own.1 h in omega (arith, old, grew)
+    in_either l f own (inl h) = let old = stood_within s l f sound.1.1.shape own h in omega (arith, old, grew)
     in_either l f own (inr h) =
-        subst (λ (k : List ℕ). f + l.offset < extent_of k (kept_by u)) same (stood_within u l f sound'.shape own.0 (omega (arith, own.1, size_same)) h)
+        subst (λ (k : List ℕ). f + l.offset < extent_of k (kept_by u)) same (stood_within u l f sound'.1.1.shape (omega (arith, own, size_same)) h)

@@ -2,35 +2,34 @@
 use Rattle.std.specs.Prelude.{◌≡◌, ◌≤◌, ℕ, ◌+◌, ◌*◌, ◌%◌, ◌==◌, ◌&&◌, ◌||◌, Bool, true, false, not, List, [], ◌∷◌, ◌++◌, length, filter, min, Option, Some, None, if◌then◌else◌, slice_index, nat_lt}
 use Rattle.std.specs.List.{list_any}
 use Rattle.swi_image.specs.Format.{ImageData}
-use Rattle.swi_image.specs.Place.{place_of, word_at, length_at}
+use Rattle.swi_image.specs.Place.{place_of, length_at}
 use Rattle.swi_rom.specs.Record.{Record, Placement, Link, Transfer, direct, indirect, target_of, is_linked, reaches, writes}
 use Rattle.std.proofs.Common.{arith, refl}
 use Rattle.std.proofs.lemmas.Nat.{mul-le}
 
-abbrev pub is_block : ℕ → Option (ℕ × ℕ) → Bool
-is_block b None = false
-is_block b (Some p) = p.0 == b
+-- the link is from the block, or its target is in it
+abbrev pub is_from : Placement → Link → Bool
+is_from e l = l.program == e.program && l.block == e.block
 
--- the link's target is in the block
-unfoldable pub leads_to : ImageData → ℕ → Link → Bool
-leads_to v b l = is_block b (place_of v (word_at v l.block (l.offset + 1)))
+abbrev pub leads_to : Placement → Link → Bool
+leads_to e l = l.program == e.program && l.into == e.block
 
 -- the link is undone, or it stays, when the block is evicted
-unfoldable pub is_undone : ImageData → ℕ → Link → Bool
-is_undone v b l = not (l.block == b) && leads_to v b l
+unfoldable pub is_undone : Placement → Link → Bool
+is_undone e l = not (is_from e l) && leads_to e l
 
-unfoldable pub is_kept : ImageData → ℕ → Link → Bool
-is_kept v b l = not (l.block == b || leads_to v b l)
+unfoldable pub is_kept : Placement → Link → Bool
+is_kept e l = not (is_from e l || leads_to e l)
 
 -- the oldest block leaves, with the links from it and to it
-unfoldable pub evicted : ImageData → Record → List Placement → Record
-evicted v r [] = r
-evicted v r (e ∷ es) = record r {
+unfoldable pub evicted : Record → List Placement → Record
+evicted r [] = r
+evicted r (e ∷ es) = record r {
   placed = es;
-  links = filter (is_kept v e.block) r.links;
+  links = filter (is_kept e) r.links;
   counts = record r.counts {
     evictions = r.counts.evictions + 1;
-    unlinks = r.counts.unlinks + length (filter (is_undone v e.block) r.links);
+    unlinks = r.counts.unlinks + length (filter (is_undone e) r.links);
   };
 }
 
@@ -48,7 +47,7 @@ appended slots size v r c = record r {
 unfoldable pub arrived : ℕ → ℕ → ImageData → Record → ℕ → Record
 arrived slots size v r c =
     if is_placed r c then r
-    else appended slots size v (if nat_lt (length r.placed) slots then r else evicted v r r.placed) c
+    else appended slots size v (if nat_lt (length r.placed) slots then r else evicted r r.placed) c
 
 -- one more service, but for the boot, when nothing is placed
 abbrev pub more_services : List Placement → ℕ
@@ -66,9 +65,9 @@ first_in (e ∷ es) p b = if e.program == p && e.block == b then e.first else fi
 unfoldable pub first_of : Record → ℕ → ℕ
 first_of r b = first_in r.placed r.turn b
 
--- the links are in ascending order, by program, then block, then offset
+-- the links are in ascending order, by program, then block, then offset, then the block to which they lead
 abbrev pub link_before : Link → Link → Bool
-link_before k l = nat_lt k.program l.program || (k.program == l.program && (nat_lt k.block l.block || (k.block == l.block && nat_lt k.offset l.offset)))
+link_before k l = nat_lt k.program l.program || (k.program == l.program && (nat_lt k.block l.block || (k.block == l.block && (nat_lt k.offset l.offset || (k.offset == l.offset && nat_lt k.into l.into)))))
 
 unfoldable pub with_link : Link → List Link → List Link
 with_link k [] = k ∷ []
@@ -79,7 +78,7 @@ unfoldable pub linked : Record → ℕ → ℕ → ℕ × ℕ → Record
 linked r b o p =
     if is_placed r b && reaches (first_of r b + o) (first_of r p.0 + p.1)
     then record r {
-      links = with_link (record { program = r.turn; block = b; offset = o }) r.links;
+      links = with_link (record { program = r.turn; block = b; offset = o; into = p.0 }) r.links;
       counts = record r.counts { links = r.counts.links + 1 };
     }
     else r
@@ -123,10 +122,10 @@ counted_more : (r : Record) (es : List Placement) → r.counts.services + more_s
 counted_more r [] = omega arith
 counted_more r (e ∷ es) = omega arith
 
-pub evicted_services : (v : ImageData) (r : Record) (es : List Placement) → (evicted v r es).counts.services ≡ r.counts.services
+pub evicted_services : (r : Record) (es : List Placement) → (evicted r es).counts.services ≡ r.counts.services
 unfolding evicted
-evicted_services v r [] = refl
-evicted_services v r (e ∷ es) = refl
+evicted_services r [] = refl
+evicted_services r (e ∷ es) = refl
 
 pub arrived_services : (slots size : ℕ) (v : ImageData) (r : Record) (c : ℕ) → (arrived slots size v r c).counts.services ≡ r.counts.services
 unfolding arrived appended
@@ -149,10 +148,10 @@ pub fifo_second : (setting : List ℕ) (r : Record) (v : ImageData) (t : Transfe
 unfolding fifo
 fifo_second setting r v t = grind (arith, went_services)
 
-evicted_writes : (v : ImageData) (r : Record) (es : List Placement) → writes r ≤ writes (evicted v r es)
+evicted_writes : (r : Record) (es : List Placement) → writes r ≤ writes (evicted r es)
 unfolding evicted
-evicted_writes v r [] = omega arith
-evicted_writes v r (e ∷ es) = omega arith
+evicted_writes r [] = omega arith
+evicted_writes r (e ∷ es) = omega arith
 
 arrived_writes : (slots size : ℕ) (v : ImageData) (r : Record) (c : ℕ) → writes r ≤ writes (arrived slots size v r c)
 unfolding arrived appended
@@ -174,10 +173,10 @@ pub fifo_third : (setting : List ℕ) (r : Record) (v : ImageData) (t : Transfer
 unfolding fifo
 fifo_third setting r v t = grind (arith, went_writes)
 
-evicted_misses : (v : ImageData) (r : Record) (es : List Placement) → (evicted v r es).counts.misses ≡ r.counts.misses
+evicted_misses : (r : Record) (es : List Placement) → (evicted r es).counts.misses ≡ r.counts.misses
 unfolding evicted
-evicted_misses v r [] = refl
-evicted_misses v r (e ∷ es) = refl
+evicted_misses r [] = refl
+evicted_misses r (e ∷ es) = refl
 
 arrived_misses : (slots size : ℕ) (v : ImageData) (r : Record) (c : ℕ) → r.counts.misses ≤ (arrived slots size v r c).counts.misses
 unfolding arrived appended

@@ -1,5 +1,6 @@
 pub mod Record
 pub mod Coherent
+pub mod Keys
 pub mod Fifo
 pub mod Served
 pub mod Table

@@ -45,6 +45,10 @@ pub record WordsMove (v : ImageData) (old new : Record) (before after : RamState
 abbrev pub SameFrom : ℕ → List ℕ → List ℕ → Type 0
 SameFrom n before after = (i : ℕ) → n ≤ i → slice_index after i ≡ slice_index before i
 
+-- whatever images the programs have that are not in turn, a service that served them serves them afterwards
+abbrev pub Keeps : {S : Type 0} → (S → ImageData → (ℕ → ImageData) → List ℕ → Type 0) → ImageData → S → S → List ℕ → List ℕ → Type 0
+Keeps serves v s t before after = (images : ℕ → ImageData) → serves s v images before → serves t v images after
+
 -- what sets below an index, failed or not, leave alone
 pub record Spared (span : ℕ) (before after : RamState) : Type 0 where
   pub later : before.faults ≤ after.faults

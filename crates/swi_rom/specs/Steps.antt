@@ -8,6 +8,7 @@ use Rattle.swi_rom.specs.Record.{ebreak, IsJump, reaches}
 use Rattle.swi_rom.specs.Served.{Spared}
 use Rattle.swi_rom.specs.Table.{NotAmong}
 use Rattle.swi_rom.specs.Slots.{Slots}
+use Rattle.swi_rom.specs.Keys.{key_of}
 
 -- so many sets below an index, none of which failed
 pub record Wrote (span n : ℕ) (before after : RamState) : Type 0 where
@@ -20,10 +21,10 @@ pub record FailedBelow (span : ℕ) (before after : RamState) : Type 0 where
   pub spared : Spared span before after
   pub rose : Rose before.faults after.faults
 
--- a block's words from 0 to n stand from an index on, and no other word has changed
-pub record Copied (v : ImageData) (b first n : ℕ) (before after : RamState) : Type 0 where
+-- the first n of these words stand from an index on, and no other word has changed
+pub record Copied (word : ℕ → ℕ) (first n : ℕ) (before after : RamState) : Type 0 where
   pub wrote : Wrote (first + n) n before after
-  pub copied : (k : ℕ) → k < n → slice_index after.words (first + k) ≡ word_at v b k
+  pub copied : (k : ℕ) → k < n → slice_index after.words (first + k) ≡ word k
   pub below : (i : ℕ) → i < first → slice_index after.words i ≡ slice_index before.words i
 
 -- word i is a link into the slot from another slot
@@ -63,7 +64,7 @@ pub record MadeRoom (s t : Slots) (before after : RamState) : Type 0 where
         };
       })
 
--- the block with a length has taken the next slot
+-- the block with a key and a length has taken the next slot
 abbrev pub settled : Slots → ℕ → ℕ → Slots
 settled s b n = record s {
   next = wrapped (s.next + 1) s.slots;
@@ -93,10 +94,10 @@ pub record Filled (v : ImageData) (s : Slots) (b : ℕ) (t : Slots) (before afte
   pub room : Slots
   pub between : RamState
   pub made_room : MadeRoom s room before between
-  pub copied : Copied v b (room.next * room.size) (length_at v b) between after
-  pub settles : t ≡ settled room b (length_at v b)
+  pub copied : Copied (word_at v b) (room.next * room.size) (length_at v b) between after
+  pub settles : t ≡ settled room (key_of s.turn b) (length_at v b)
 
--- no slot has the block
+-- no slot has the block with a key
 abbrev pub IsAbsent : Slots → ℕ → Type 0
 IsAbsent s b = NotAmong s.filled s.blocks b
 

@@ -4,7 +4,7 @@ ghost use Rattle.swi_image.specs.Place.{word_at, length_at, place_of};
 ghost use Rattle.swi_image.specs.Sound.{IsImage};
 ghost use Rattle.swi_rom.specs.Record.{Record, Transfer, direct, indirect, target_of, is_linked, writes, Placed};
 ghost use Rattle.swi_rom.specs.Coherent.{Coherent, StandsAt, ExitAt, TargetAt, resident_of};
-ghost use Rattle.swi_rom.specs.Served.{Served, OnServed, SameFrom};
+ghost use Rattle.swi_rom.specs.Served.{Served, OnServed, SameFrom, Keeps};
 
 use swi_image::ImageView;
 use swi_outside::CacheRam;
@@ -55,6 +55,10 @@ pub trait CacheRom: Drop {
     /// It may serve this image, with these words in the ram.
     ghost sound: { Self → ImageData → List ℕ → Type 0 };
 
+    /// It may serve this image for the program in turn, and each program the image that it has here, with these words in
+    /// the ram.
+    ghost serves: { Self → ImageData → (ℕ → ImageData) → List ℕ → Type 0 };
+
     /// What stands at an index.
     ghost shown: { Self → ℕ → Option (ℕ × ℕ) };
 
@@ -64,7 +68,8 @@ pub trait CacheRom: Drop {
     /// Serves a jump to an address: the index in the ram of the target's first word, whose block is copied
     /// there if it isn't placed. While nothing is placed this is the boot. `Outside` comes exactly where no
     /// text word stands at the address. The words from the extent on are as before. The service is sound for the image
-    /// and the ram, and has counted fewer than 2^50 services; so for `revisit` and `cross`.
+    /// and the ram, and has counted fewer than 2^50 services; so for `revisit` and `cross`. Afterwards it serves each other
+    /// program's image as before.
     fn enter<M: CacheRam>(
         &mut self,
         image: &ImageView<'_>,
@@ -79,7 +84,9 @@ pub trait CacheRom: Drop {
         ensures setting { setting self.new ≡ setting self.old }
         ensures unused { OnServed result (SameFrom (extent (setting self.old) (kept self.new))
             (M.state ram.old).words (M.state ram.new).words) }
-        ensures stays { OnServed result (sound self.new image.now (M.state ram.new).words) };
+        ensures stays { OnServed result (sound self.new image.now (M.state ram.new).words) }
+        ensures keeps { OnServed result (Keeps serves image.now self.old self.new
+            (M.state ram.old).words (M.state ram.new).words) };
 
     /// Serves a jump to an address whose block is placed, as `enter` does: the ram, which is read for the contract
     /// alone, is not asked. None comes exactly where no placed block has the address; nothing has changed then,
@@ -92,6 +99,7 @@ pub trait CacheRom: Drop {
             (M.state ram.now) (M.state ram.now) (Ok i)) }
         ensures setting { setting self.new ≡ setting self.old }
         ensures stays { sound self.new image.now (M.state ram.now).words }
+        ensures keeps { Keeps serves image.now self.old self.new (M.state ram.now).words (M.state ram.now).words }
         ensures same { result ≡ None → self.new ≡ self.old }
         ensures placed { IfSome result (λ i. TargetAt image.now (kept self.old) target i) }
         ensures absent { result ≡ None → (i : ℕ) → TargetAt image.now (kept self.old) target i → ⊥ };
@@ -116,7 +124,9 @@ pub trait CacheRom: Drop {
         ensures setting { setting self.new ≡ setting self.old }
         ensures unused { OnServed result (SameFrom (extent (setting self.old) (kept self.new))
             (M.state ram.old).words (M.state ram.new).words) }
-        ensures stays { OnServed result (sound self.new image.now (M.state ram.new).words) };
+        ensures stays { OnServed result (sound self.new image.now (M.state ram.new).words) }
+        ensures keeps { OnServed result (Keeps serves image.now self.old self.new
+            (M.state ram.old).words (M.state ram.new).words) };
 
     /// Block and offset of the placed word at an index; None exactly where no block is placed.
     fn at(&self, i: u32) -> Option<(u32, u32)>

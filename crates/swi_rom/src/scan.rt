@@ -20,6 +20,7 @@ pub type ScanRom = SlotRom<ScanTable>;
 pub struct ScanTable {
     slots: u32,
     size: u32,
+    blocks: u32,
     targets: Vec<u32>,
 }
 
@@ -28,7 +29,7 @@ impl Model for ScanTable {
 
     ghost Value = { Targets };
 
-    ghost view = { λ t. record { slots = t.slots; size = t.size; of = t.targets.items } };
+    ghost view = { λ t. record { slots = t.slots; size = t.size; blocks = t.blocks; of = t.targets.items } };
 }
 
 // Drops every link from a slot and to it. Those to it from other slots are undone in the ram; their number
@@ -70,15 +71,18 @@ impl LinkTable for ScanTable {
 
     ghost slot_size = { λ t. t.size };
 
+    ghost block_count = { λ t. t.blocks };
+
     ghost targets = { λ t. t.of };
 
     ghost knows = { λ t filled blocks. ⊤ };
 
-    fn new(alloc: Global, slots: u32, size: u32) -> Result<ScanTable, Memory> {
+    fn new(alloc: Global, slots: u32, size: u32, blocks: u32) -> Result<ScanTable, Memory> {
         let targets = vec![in alloc; slots; (slots * size) as usize].map_err(|_| Memory)?;
         Ok(ScanTable {
             slots,
             size,
+            blocks,
             targets,
         })
     }

@@ -6,8 +6,9 @@ ghost use Rattle.swi_image.specs.Format.{ImageData};
 ghost use Rattle.swi_image.specs.Sound.{IsImage};
 ghost use Rattle.swi_rom.specs.Record.{reaches};
 ghost use Rattle.swi_rom.specs.Coherent.{resident_of};
-ghost use Rattle.swi_rom.specs.Slots.{Slots, InShape, kept_by};
-ghost use Rattle.swi_rom.specs.Sound.{SlotsSound};
+ghost use Rattle.swi_rom.specs.Slots.{Slots, InShape, kept_by, empty_slots};
+ghost use Rattle.swi_rom.specs.Sound.{SlotsServe, SlotsSound, Serves};
+ghost use Rattle.swi_rom.specs.Keys.{key_of, owner_of, number_of};
 ghost use Rattle.swi_rom.specs.Steps.{FailedBelow, MadeRoom, Filled, Linked, MaybeLinked, can_link, IsAbsent, LinksInside, settled, counted_slots, wrapped};
 ghost use Rattle.swi_rom.specs.Arrived.{Arrived};
 
@@ -19,14 +20,17 @@ use std::marker::Model;
 use swi_image::ImageView;
 use swi_outside::{CacheRam, Failed, Memory};
 
-/// A cache of slots of one size, each of which holds a block. While a slot is free the lowest is filled, and then
-/// the oldest block makes room. The table finds blocks and links, and each link has its goal beside.
+/// A cache of slots of one size, each of which holds a block of one of its programs. While a slot is free the lowest is
+/// filled, and then the oldest block makes room. The table finds blocks and links, and each link has its goal beside.
 #[derive(Drop)]
 pub struct SlotRom<T: LinkTable> {
     slots: u32,
     size: u32,
     next: u32,
     filled: u32,
+    programs: u32,
+    turn: u32,
+    // Of each slot its block's key.
     blocks: Vec<u32>,
     lengths: Vec<u32>,
     table: T,
@@ -35,7 +39,7 @@ pub struct SlotRom<T: LinkTable> {
 }
 
 impl<T: LinkTable> Model for SlotRom<T> {
-    ghost use Rattle.std.specs.Prelude.{◌≡◌};
+    ghost use Rattle.std.specs.Prelude.{◌≡◌, ◌*◌, ◌^◌};
     ghost use Rattle.swi_rom.specs.Slots.{Slots, InShape};
 
     ghost Value = { Slots };
@@ -45,6 +49,8 @@ impl<T: LinkTable> Model for SlotRom<T> {
       size = s.size;
       next = s.next;
       filled = s.filled;
+      programs = s.programs;
+      turn = s.turn;
       blocks = s.blocks.items;
       lengths = s.lengths.items;
       targets = T.targets s.table;
@@ -57,13 +63,15 @@ impl<T: LinkTable> Model for SlotRom<T> {
       size = s.size;
       next = s.next;
       filled = s.filled;
+      programs = s.programs;
+      turn = s.turn;
       blocks = s.blocks.items;
       lengths = s.lengths.items;
       targets = T.targets s.table;
       goals = s.goals.items;
       counts = s.counts;
     }) × (T.slot_count s.table ≡ s.slots) × (T.slot_size s.table ≡ s.size)
-        × T.knows s.table s.filled s.blocks.items };
+        × (T.block_count s.table ≡ s.programs * 2 ^ 19) × T.knows s.table s.filled s.blocks.items };
 }
 
 // An address for each word, none of which is a link.
@@ -88,40 +96,79 @@ fn turned(slot: u32, filled: u32) -> u32
     if slot < filled { slot } else { slot - filled }
 }
 
+/// The most blocks that an image has.
+const BLOCKS: u32 = 1 << 19;
+
+// The key of a program's block.
+fn key(program: u32, block: u32) -> u32
+    requires program { program < 2 ^ 12 }
+    requires block { block < 2 ^ 19 }
+    ensures { result ≡ key_of program block }
+{
+    program * BLOCKS + block
+}
+
+// Of which program a block is, by its key.
+fn owner(key: u32) -> u32
+    ensures { result ≡ owner_of key }
+{
+    key / BLOCKS
+}
+
+// Which block of its program it is.
+fn number(key: u32) -> u32
+    ensures { result ≡ number_of key }
+{
+    key % BLOCKS
+}
+
 impl<T: LinkTable> SlotRom<T> {
-    /// An empty cache of up to `cache_bytes` bytes, in as many slots of `block_words` words as they hold: for every
-    /// image with blocks of so many words, and every ram that holds the slots. A block has 2 to 1024 words; the cache
-    /// holds one, and has at most 2^23 bytes.
+    /// An empty cache for one program, as `shared` makes it.
     pub fn new(alloc: Global, cache_bytes: u32, block_words: u32) -> Result<SlotRom<T>, Memory>
         requires least { 2 ≤ block_words }
         requires most { block_words ≤ 1024 }
         requires bytes { 4 * block_words ≤ cache_bytes }
         requires limit { cache_bytes ≤ 2 ^ 23 }
-        ensures empty { IfOk result (λ s. s ≡ record {
-          slots = cache_bytes / 4 / block_words;
-          size = block_words;
-          next = 0;
-          filled = 0;
-          blocks = replicate (cache_bytes / 4 / block_words) 0;
-          lengths = replicate (cache_bytes / 4 / block_words) 0;
-          targets = replicate (cache_bytes / 4 / block_words * block_words) (cache_bytes / 4 / block_words);
-          goals = replicate (cache_bytes / 4 / block_words * block_words) 0;
-          counts = record { services = 0; misses = 0; evictions = 0; links = 0; unlinks = 0; copied = 0 };
-        }) }
+        ensures empty { IfOk result (λ s. s ≡ empty_slots (cache_bytes / 4 / block_words) block_words 1) }
         ensures sound { IfOk result (λ s. (v : ImageData) (words : List ℕ) → IsImage v →
-            block_words ≡ v.block_words → cache_bytes / 4 / block_words * block_words ≤ length words →
+            v.block_words ≤ block_words → cache_bytes / 4 / block_words * block_words ≤ length words →
             SlotsSound s v words) }
+    {
+        SlotRom::shared(alloc, cache_bytes, block_words, 1)
+    }
+
+    /// An empty cache of up to `cache_bytes` bytes for up to eight programs, of which the first is in turn, in as many slots
+    /// of `block_words` words as they hold: for all images with blocks of at most so many words, and every ram that holds
+    /// the slots. A block has 2 to 1024 words; the cache holds one, and has at most 2^23 bytes.
+    pub fn shared(
+        alloc: Global,
+        cache_bytes: u32,
+        block_words: u32,
+        programs: u32,
+    ) -> Result<SlotRom<T>, Memory>
+        requires least { 2 ≤ block_words }
+        requires most { block_words ≤ 1024 }
+        requires bytes { 4 * block_words ≤ cache_bytes }
+        requires limit { cache_bytes ≤ 2 ^ 23 }
+        requires programs { 1 ≤ programs }
+        requires few { programs ≤ 8 }
+        ensures empty { IfOk result (λ s. s ≡ empty_slots (cache_bytes / 4 / block_words) block_words programs) }
+        ensures serves { IfOk result (λ s. (images : ℕ → ImageData) (words : List ℕ) → ((p : ℕ) → IsImage (images p)) →
+            ((p : ℕ) → (images p).block_words ≤ block_words) →
+            cache_bytes / 4 / block_words * block_words ≤ length words → SlotsServe s images words) }
     {
         let slots = cache_bytes / 4 / block_words;
         let blocks = vec![in alloc; 0u32; slots as usize].map_err(|_| Memory)?;
         let lengths = vec![in alloc; 0u32; slots as usize].map_err(|_| Memory)?;
-        let table = T::new(alloc, slots, block_words)?;
+        let table = T::new(alloc, slots, block_words, programs * BLOCKS)?;
         let goals = no_goals(alloc, slots * block_words)?;
         Ok(SlotRom {
             slots,
             size: block_words,
             next: 0,
             filled: 0,
+            programs,
+            turn: 0,
             blocks,
             lengths,
             table,
@@ -137,6 +184,14 @@ impl<T: LinkTable> SlotRom<T> {
         })
     }
 
+    /// Another program comes in turn. Nothing else changes.
+    pub fn turn_to(&mut self, program: u32)
+        requires { program < self.old.programs }
+        ensures { self.new ≡ record self.old { turn = program } }
+    {
+        self.turn = program;
+    }
+
     /// The table of links, which agrees with what the service keeps.
     pub fn table(&self) -> &T
         ensures slots { T.slot_count result.now ≡ self.now.slots }
@@ -147,13 +202,14 @@ impl<T: LinkTable> SlotRom<T> {
         &self.table
     }
 
-    // The slot of a block.
+    // The slot of a block of the program in turn.
     fn find(&self, block: u32) -> Option<u32>
         requires { block < 2 ^ 19 }
-        ensures { MatchOption result (IsAbsent self.now block)
-            (λ n. (n < self.now.filled) × (slice_index self.now.blocks n ≡ block)) }
+        ensures { MatchOption result (IsAbsent self.now (key_of self.now.turn block))
+            (λ n. (n < self.now.filled) × (slice_index self.now.blocks n ≡ key_of self.now.turn block)) }
     {
-        self.table.find(&self.blocks, self.filled, block)
+        self.table
+            .find(&self.blocks, self.filled, key(self.turn, block))
     }
 
     // Counts a service, but for the boot.
@@ -193,12 +249,12 @@ impl<T: LinkTable> SlotRom<T> {
         requires misses { self.old.counts.misses < 2 ^ 51 }
         requires copied { self.old.counts.copied < 2 ^ 62 }
         requires block { block < 2 ^ 19 }
-        requires absent { IsAbsent self.old block }
-        ensures { self.new ≡ settled self.old block length }
+        requires absent { IsAbsent self.old (key_of self.old.turn block) }
+        ensures { self.new ≡ settled self.old (key_of self.old.turn block) length }
     {
-        self.table
-            .settle(&self.blocks, self.filled, self.next, block);
-        self.blocks[self.next as usize] = block;
+        let key = key(self.turn, block);
+        self.table.settle(&self.blocks, self.filled, self.next, key);
+        self.blocks[self.next as usize] = key;
         self.lengths[self.next as usize] = length;
         self.counts.misses += 1;
         self.counts.copied += length as u64;
@@ -216,7 +272,7 @@ impl<T: LinkTable> SlotRom<T> {
         requires sound { SlotsSound self.old image.now (M.state ram.old).words }
         requires services { self.old.counts.services ≤ 2 ^ 50 }
         requires block { block < length image.now.starts }
-        requires absent { IsAbsent self.old block }
+        requires absent { IsAbsent self.old (key_of self.old.turn block) }
         ensures filled { OnOk result (Filled image.now self.old block self.new
             (M.state ram.old) (M.state ram.new)) }
         ensures failed { OnErr result (FailedBelow (self.old.slots * self.old.size)
@@ -241,8 +297,9 @@ impl<T: LinkTable> SlotRom<T> {
         requires sound { SlotsSound self.old image.now (M.state ram.old).words }
         requires services { self.old.counts.services < 2 ^ 50 }
         requires block { block < length image.now.starts }
-        ensures arrived { IfOk result (λ n. Arrived image.now self.old block n self.new
-            (M.state ram.old) (M.state ram.new)) }
+        ensures arrived { IfOk result (λ n. (images : ℕ → ImageData) →
+            Serves self.old image.now images (M.state ram.old).words →
+            Arrived images self.old block n self.new (M.state ram.old) (M.state ram.new)) }
         ensures failed { OnErr result (FailedBelow (self.old.slots * self.old.size)
             (M.state ram.old) (M.state ram.new)) }
         ensures slots { self.new.slots ≡ self.old.slots }
@@ -328,7 +385,7 @@ impl<T: LinkTable> SlotRom<T> {
 impl<T: LinkTable> CacheRom for SlotRom<T> {
     ghost use Rattle.swi_rom.specs.Fifo.{fifo, extent_of, fifo_first, fifo_outside, fifo_second, fifo_third, fifo_grows};
     ghost use Rattle.swi_rom.specs.Slots.{kept_by, setting_of, span_of, shown_by, goals_by};
-    ghost use Rattle.swi_rom.specs.Sound.{SlotsSound};
+    ghost use Rattle.swi_rom.specs.Sound.{SlotsSound, Serves};
 
     ghost kept = { kept_by };
 
@@ -341,6 +398,8 @@ impl<T: LinkTable> CacheRom for SlotRom<T> {
     ghost policy = { fifo };
 
     ghost sound = { SlotsSound };
+
+    ghost serves = { Serves };
 
     ghost shown = { shown_by };
 
@@ -400,27 +459,33 @@ impl<T: LinkTable> CacheRom for SlotRom<T> {
         if slot >= self.filled {
             return None;
         }
+        let block = self.blocks[slot as usize];
+        if owner(block) != self.turn {
+            return None;
+        }
         if offset >= self.lengths[slot as usize] {
             return None;
         }
-        Some((self.blocks[slot as usize], offset))
+        Some((number(block), offset))
     }
 
     fn goal(&self, i: u32) -> u32 {
         self.goals[i as usize]
     }
 
-    fn resident(&self, k: u32) -> Option<(u32, u32)>
-        ensures value { result ≡ resident_of (kept_by self.now) k }
-        // Of q placed blocks the k-th oldest stands in slot (misses - q + k) mod slots.
-        ensures slot { IfSome result (λ e. e.1 ≡
-            (self.now.counts.misses - self.now.filled + k) % self.now.slots * self.now.size) }
-    {
-        if k >= self.filled {
-            return None;
+    fn resident(&self, k: u32) -> Option<(u32, u32)> {
+        let mut left = k;
+        for n in 0..self.filled {
+            let slot = turned(self.next + n, self.filled);
+            let block = self.blocks[slot as usize];
+            if owner(block) == self.turn {
+                if left == 0 {
+                    return Some((number(block), slot * self.size));
+                }
+                left -= 1;
+            }
         }
-        let slot = turned(self.next + k, self.filled);
-        Some((self.blocks[slot as usize], slot * self.size))
+        None
     }
 
     fn counts(&self) -> Counts {

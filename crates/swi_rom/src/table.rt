@@ -16,27 +16,32 @@ pub trait LinkTable: Drop {
 
     ghost slot_size: { Self → ℕ };
 
+    /// Blocks have numbers below this one.
+    ghost block_count: { Self → ℕ };
+
     /// Of each word the slot to which it is linked; where it isn't, the number of slots.
     ghost targets: { Self → List ℕ };
 
     /// It knows which of these blocks stand in the first so many slots.
     ghost knows: { Self → ℕ → List ℕ → Type 0 };
 
-    /// A table of empty slots.
-    fn new(alloc: Global, slots: u32, size: u32) -> Result<Self, Memory>
+    /// A table of empty slots, for so many blocks.
+    fn new(alloc: Global, slots: u32, size: u32, blocks: u32) -> Result<Self, Memory>
         requires some { 0 < size }
         requires slots { slots ≤ 2 ^ 20 }
         requires words { slots * size ≤ 2 ^ 21 }
+        requires blocks { blocks ≤ 2 ^ 22 }
         ensures slots { IfOk result (λ t. slot_count t ≡ slots) }
         ensures size { IfOk result (λ t. slot_size t ≡ size) }
+        ensures blocks { IfOk result (λ t. block_count t ≡ blocks) }
         ensures empty { IfOk result (λ t. targets t ≡ replicate (slots * size) slots) }
-        ensures knows { IfOk result (λ t. (blocks : List ℕ) → knows t 0 blocks) };
+        ensures knows { IfOk result (λ t. (stand : List ℕ) → knows t 0 stand) };
 
     /// The slot of a block among the first `filled`, whose blocks these are.
     fn find(&self, blocks: &[u32], filled: u32, block: u32) -> Option<u32>
         requires knows { knows self.now filled blocks.now }
         requires filled { filled ≤ length blocks.now }
-        requires block { block < 2 ^ 19 }
+        requires block { block < block_count self.now }
         ensures { MatchOption result (NotAmong filled blocks.now block)
             (λ n. (n < filled) × (slice_index blocks.now n ≡ block)) };
 
@@ -60,6 +65,7 @@ pub trait LinkTable: Drop {
         ensures long { length (targets self.new) ≡ length (targets self.old) }
         ensures slots { slot_count self.new ≡ slot_count self.old }
         ensures size { slot_size self.new ≡ slot_size self.old }
+        ensures blocks { block_count self.new ≡ block_count self.old }
         ensures knows { (filled : ℕ) (blocks : List ℕ) →
             knows self.old filled blocks → knows self.new filled blocks };
 
@@ -70,10 +76,11 @@ pub trait LinkTable: Drop {
         requires slot { slot < length blocks.now }
         requires next { slot ≤ filled }
         requires few { slot < 2 ^ 20 }
-        requires block { block < 2 ^ 19 }
+        requires block { block < block_count self.old }
         ensures targets { targets self.new ≡ targets self.old }
         ensures slots { slot_count self.new ≡ slot_count self.old }
         ensures size { slot_size self.new ≡ slot_size self.old }
+        ensures blocks { block_count self.new ≡ block_count self.old }
         ensures knows { knows self.new (max filled (slot + 1)) (slice_set blocks.now slot block) };
 
     /// A word that is no link becomes one to a slot.
@@ -84,6 +91,7 @@ pub trait LinkTable: Drop {
         ensures targets { targets self.new ≡ slice_set (targets self.old) at slot }
         ensures slots { slot_count self.new ≡ slot_count self.old }
         ensures size { slot_size self.new ≡ slot_size self.old }
+        ensures blocks { block_count self.new ≡ block_count self.old }
         ensures knows { (filled : ℕ) (blocks : List ℕ) →
             knows self.old filled blocks → knows self.new filled blocks };
 }

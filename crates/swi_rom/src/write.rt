@@ -2,7 +2,7 @@
 #![tactic(auto)]
 
 ghost use Rattle.std.specs.Prelude.{◌≡◌, ◌+◌, ◌-◌, ◌*◌, ◌^◌, ◌<◌, ◌≤◌, length, IfOk, OnOk, OnErr, IsTrue, ◌↔◌};
-ghost use Rattle.swi_image.specs.Place.{length_at};
+ghost use Rattle.swi_image.specs.Place.{word_at, length_at};
 ghost use Rattle.swi_rom.specs.Record.{IsJump, reaches};
 ghost use Rattle.swi_rom.specs.Steps.{Copied, FailedBelow};
 
@@ -32,7 +32,7 @@ pub(crate) fn copy<M: CacheRam>(
     requires size { size ≡ length_at image.now block }
     requires small { first + size < 2 ^ 32 }
     requires fits { first + size ≤ length (M.state ram.old).words }
-    ensures copied { OnOk result (Copied image.now block first size (M.state ram.old) (M.state ram.new)) }
+    ensures copied { OnOk result (Copied (word_at image.now block) first size (M.state ram.old) (M.state ram.new)) }
     ensures failed { OnErr result (FailedBelow (first + size) (M.state ram.old) (M.state ram.new)) }
 {
     for k in 0..size {

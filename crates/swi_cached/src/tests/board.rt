@@ -106,7 +106,7 @@ fn run_on<R: CacheRom>(
     requires laid_out { IsLayoutOf program.now.segments layout.now }
     requires own { IsImageOf (text_of program.now.segments) image.now }
     requires small { R.span (R.setting rom) ≤ 2048 }
-    requires new { (v : ImageData) (words : List ℕ) → IsImage v → image.now.block_words ≡ v.block_words →
+    requires new { (v : ImageData) (words : List ℕ) → IsImage v → v.block_words ≤ image.now.block_words →
         R.span (R.setting rom) ≤ length words → R.sound rom v words }
 {
     crate::run::carry(image, program);

@@ -1,4 +1,5 @@
 use Rattle.std.proofs.Common.{◌≡◌, ◌+◌, ◌-◌, ◌*◌, ◌<◌, ◌^◌, Ok, None}
+use Rattle.swi_rom.specs.Served.{Keeps}
 use Rattle.swi_hart.specs.Bounds.{most}
 use Rattle.swi_board.specs.Walked.{place_shown, walk_control, walk_count, walk_hart, walk_machine, WalksTo, Walked, StandsInside}
 use Rattle.swi_board.proofs.block.run_block.Given as goal
@@ -14,6 +15,7 @@ invariant-loop-walk g l = record {
       (place_shown (g.R.CacheRom.shown l.rom l.walk.index)).0 (place_shown (g.R.CacheRom.shown l.rom l.walk.index)).1 l.walk.stage;
   setting : g.R.CacheRom.setting l.rom ≡ g.R.CacheRom.setting l.fn.rom;
   sound : g.R.CacheRom.sound l.rom l.image (g.M.CacheRam.state l.ram).words;
+  keeps : Keeps g.R.CacheRom.serves l.image l.fn.rom l.rom (g.M.CacheRam.state l.fn.ram).words (g.M.CacheRam.state l.ram).words;
   going : l.hart.machine.ending ≡ None;
   to : WalksTo l.limit l.walk;
   few : walk_count l.walk < 2 ^ 64;

@@ -10,4 +10,4 @@ returns-clause-setting c =
 pub returns-clause-empty : goal.returns-clause-empty
 returns-clause-empty c =
     if_ok c.new.result (λ s is. kept_empty (c.args.cache_bytes / 4 / c.block_words.result) c.block_words.result s (ap (λ (q : Slots). q.slots) is) (ap (λ (q : Slots). q.size) is)
-    (ap (λ (q : Slots). q.next) is) (ap (λ (q : Slots). q.filled) is) (ap (λ (q : Slots). q.targets) is) (ap (λ (q : Slots). q.counts) is)) c.new.ensures.empty
+    (ap (λ (q : Slots). q.next) is) (ap (λ (q : Slots). q.filled) is) (ap (λ (q : Slots). q.turn) is) (ap (λ (q : Slots). q.targets) is) (ap (λ (q : Slots). q.counts) is)) c.new.ensures.empty

@@ -21,7 +21,7 @@ returns-then-got-ne-EBREAK-clause-served g c =
     record {
       policy = sym (g.met.R.CacheRom.first _ _ _ _ _ _ linked);
       setting = refl;
-      sound = s;
+      sound = (s, λ images serves. serves);
       unused = λ i le. refl;
       ram = ram_same _ (g.R.CacheRom.kept c.args.rom.now) _;
       failed = tt;
@@ -52,7 +52,7 @@ pub returns-in-Ok-clause-served : goal.returns-in-Ok-clause-served
 returns-in-Ok-clause-served g c =
     let e = c.requires.exit in
     let q = c.in-Ok.ensures in
-    served_at q.setting _ _ (q.served c.args.at.1 c.args.at.2 e.first e.is_placed (omega (arith, e.inside)) e.index) q.unused q.stays
+    served_at q.setting _ _ (q.served c.args.at.1 c.args.at.2 e.first e.is_placed (omega (arith, e.inside)) e.index) q.unused (q.stays, q.keeps)
 
 pub returns-in-Err-Outside : goal.returns-in-Err-Outside
 returns-in-Err-Outside g c =
@@ -61,7 +61,8 @@ returns-in-Err-Outside g c =
     let s = by_error c.in-Err-Outside.field-0-is (q.served c.args.at.1 c.args.at.2 e.first e.is_placed (omega (arith, e.inside)) e.index) in
     let unused = rw c.in-Err-Outside.field-0-is at q.unused in
     let stays = rw c.in-Err-Outside.field-0-is at q.stays in
-    record { control = s.outside refl; served = served_outside q.setting _ s unused stays }
+    let keeps = rw c.in-Err-Outside.field-0-is at q.keeps in
+    record { control = s.outside refl; served = served_outside q.setting _ s unused (stays, keeps) }
 
 pub returns-in-Err-RamFault-clause-served : goal.returns-in-Err-RamFault-clause-served
 returns-in-Err-RamFault-clause-served g c =

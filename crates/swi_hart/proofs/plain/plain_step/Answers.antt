@@ -75,7 +75,7 @@ returns g c =
         counted = record { count = ap (λ (k : HartData). k.count) ran; failed = ap (λ (k : HartData). k.failed) ran; booted = ap (λ (k : HartData). k.booted) ran };
         policy = rw c.requires.control (word_moves v r h.machine c.args.at.0 c.args.at.1 c.args.at.2 c.args.at.3 policy r w);
         setting = refl;
-        sound = λ s. rw fetched s;
+        sound = λ s. (rw fetched s, λ images serves. rw fetched serves);
         unused = λ i le. ap (λ (k : RamState). slice_index k.words i) fetched;
         ram = ram_exit _ _ c.args.at.0 c.args.at.1 c.args.at.2 c.args.at.3 h.control _ _ _ c.requires.control below fetched same;
         grown = λ s. grown_plain v r h c.run_word.new.hart ram.words c.args.at.0 c.args.at.1 c.args.at.2 c.args.at.3 c.requires.home c.requires.control plain c.in-Some-Some.image_word c.in-Some-Some.x c.role-role.result own_is held_is c.role-role.ensures ((c.run_word.ensures.ran runs).ran) (own_word v r h.machine span ram.words c.args.at.0 c.args.at.1 c.args.at.2 c.args.at.3 sound coherent c.requires.home h.control c.requires.control plain s) (sym c.requires.ready.running);

@@ -44,7 +44,7 @@ returns-in-Ok g c = λ before fetched.
       counted = s.counted;
       policy = rw c.requires.control (exit_moves v new h.machine c.args.at.0 c.args.at.1 c.args.at.2 c.args.at.3 policy r e s.served.policy);
       setting = s.served.setting;
-      sound = λ sound. s.served.sound;
+      sound = λ sound. (s.served.sound.0, λ images serves. s.served.sound.1 images (subst (λ (k : List ℕ). g.R.CacheRom.serves c.args.rom.now v images k) (sym (ap (λ (k : RamState). k.words) fetched.1)) serves));
       unused = λ j le. s.served.unused j le ∙ ap (λ (k : RamState). slice_index k.words j) fetched.1;
       ram = ram_exit _ _ c.args.at.0 c.args.at.1 c.args.at.2 c.args.at.3 h.control before _ _ c.requires.control below fetched.1 s.served.ram;
       grown = λ sound. grown_exit v r new h c.exit_step.new.hart c.args.at.0 c.args.at.1 c.args.at.2 c.args.at.3 c.requires.control (sym c.requires.ready.running) e s.step s.counted more;
@@ -93,7 +93,7 @@ returns-in-Ok-role_step g c = λ before fetched.
       counted = record { count = grows.count; failed = grows.failed; booted = grows.booted };
       policy = rw c.requires.control (word_moves v r h.machine c.args.at.0 c.args.at.1 c.args.at.2 c.args.at.3 (g.R.CacheRom.policy (g.R.CacheRom.setting c.args.rom.now)) r w.0);
       setting = refl;
-      sound = λ sound. c.requires.sound;
+      sound = λ sound. (c.requires.sound, λ images serves. subst (λ (k : List ℕ). g.R.CacheRom.serves c.args.rom.now v images k) (sym (ap (λ (k : RamState). k.words) fetched.1)) serves);
       unused = λ j le. ap (λ (k : RamState). slice_index k.words j) fetched.1;
       ram = ram_exit _ _ c.args.at.0 c.args.at.1 c.args.at.2 c.args.at.3 h.control before _ _ c.requires.control below fetched.1 same;
       grown = λ sound. grows;

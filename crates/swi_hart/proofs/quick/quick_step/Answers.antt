@@ -36,7 +36,7 @@ returns-in-Outside-clause-stepped g c =
       counted = record { count = grows.count; failed = grows.failed; booted = grows.booted };
       policy = sym (ap (λ (k : Control). moved policy r v (transfer_at v h.machine k)) outside);
       setting = refl;
-      sound = λ sound. c.requires.sound;
+      sound = λ sound. (c.requires.sound, λ images serves. serves);
       unused = λ i le. refl;
       ram = ram_outside_step span r h.control (g.M.CacheRam.state c.args.ram.now) outside;
       grown = λ sound. grows;

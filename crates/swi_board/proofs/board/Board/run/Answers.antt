@@ -23,6 +23,7 @@ loop-hart-init g c =
       settles = λ left told between going. inr between;
       setting = refl;
       sound = c.requires.sound;
+      keeps = λ images serves. serves;
       unused = λ i le. refl;
       quiet = refl;
     })
@@ -46,7 +47,8 @@ loop-hart-preserved-in_default g c =
           let now = was.running.goes left told c.requires.fits.flat c.requires.fits.image c.requires.fits.matches in
           settles_on more (s.made was.sound now.now.input now.left_is) going;
       setting = s.setting ∙ was.setting;
-      sound = s.sound was.sound;
+      sound = (s.sound was.sound).0;
+      keeps = λ images serves. (s.sound was.sound).1 images (was.keeps images serves);
       unused = λ i le. unused i le ∙ was.unused i (omega (arith, le, grows));
       quiet = s.causes.quiet ∙ was.quiet;
     }
@@ -133,6 +135,7 @@ loop-hart-preserved-in-Ok-None g c =
       settles = s.settles;
       setting = c.run_block.ensures.setting ∙ was.setting;
       sound = c.run_block.ensures.sound;
+      keeps = λ images serves. c.run_block.ensures.keeps images (was.keeps images serves);
       unused = λ i le. ap (λ (k : List ℕ). slice_index k i) s.words ∙ was.unused i (omega (arith, le, grows));
       quiet = same_ram s.quiet was.quiet;
     }
@@ -152,6 +155,7 @@ returns-in-Err g c =
       fits = tt;
       setting = c.run_block.ensures.setting ∙ was.setting;
       sound = tt;
+      keeps = tt;
       unused = tt;
       unfailed = tt;
       booted = tt;
@@ -232,7 +236,9 @@ loop-hart-preserved g c =
           let now = s.running.goes left told c.requires.fits.flat c.requires.fits.image c.requires.fits.matches in
           settles_on ended.below (a.made sound now.now.input now.left_is) going;
       setting = a.setting ∙ setting;
-      sound = a.sound sound;
+      sound = (a.sound sound).0;
+      keeps = λ images serves. (a.sound sound).1 images
+          (subst (λ (k : List ℕ). g.R.CacheRom.serves c.run_block.new.rom c.args.image.now images k) (ap (λ (k : RamState). k.words) answered.1) (c.run_block.ensures.keeps images (was.keeps images serves)));
       unused = λ i le. unused i le ∙ ap (λ (k : List ℕ). slice_index k i) s.words ∙ was.unused i (omega (arith, le, grows, walked_on));
       quiet = a.causes.quiet ∙ same_ram s.quiet was.quiet;
     }
@@ -258,6 +264,7 @@ returns-in_err-at_word g c =
       fits = tt;
       setting = a.setting ∙ setting;
       sound = tt;
+      keeps = tt;
       unused = tt;
       unfailed = tt;
       booted = tt;

@@ -1,5 +1,5 @@
 use Rattle.std.proofs.Common.{◌≡◌, ◌⊎◌, ◌<◌, ◌*◌, ◌+◌, ◌-◌, ℕ, List, Some, None, true}
-use Rattle.swi_rom.specs.Served.{SameFrom}
+use Rattle.swi_rom.specs.Served.{SameFrom, Keeps}
 use Rattle.swi_hart.specs.Hart.{is_between}
 use Rattle.swi_hart.specs.Faults.{Faults}
 use Rattle.swi_hart.specs.Bounds.{most}
@@ -22,6 +22,7 @@ invariant-loop-hart g l = record {
       (l.hart.machine.steps < l.n) ⊎ (is_between l.hart.control ≡ true);
   setting : g.R.CacheRom.setting l.rom ≡ g.R.CacheRom.setting l.fn.self.rom;
   sound : g.R.CacheRom.sound l.rom l.image (g.M.CacheRam.state l.ram).words;
+  keeps : Keeps g.R.CacheRom.serves l.image l.fn.self.rom l.rom (g.M.CacheRam.state l.fn.ram).words (g.M.CacheRam.state l.ram).words;
   unused : SameFrom (g.R.CacheRom.extent (g.R.CacheRom.setting l.fn.self.rom) (g.R.CacheRom.kept l.rom))
       (g.M.CacheRam.state l.fn.ram).words (g.M.CacheRam.state l.ram).words;
   quiet : ◌≡◌ {A = Faults}

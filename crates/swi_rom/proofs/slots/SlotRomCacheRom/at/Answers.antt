@@ -8,6 +8,10 @@ pub returns-then-slot-self : goal.returns-then-slot-self
 unfolding shown_by
 returns-then-slot-self g c = grind (arith, nat_tests, common_steps)
 
+pub returns-then-owner-self : goal.returns-then-owner-self
+unfolding shown_by
+returns-then-owner-self g c = grind (arith, nat_tests, common_steps)
+
 pub returns-then-offset-index : goal.returns-then-offset-index
 unfolding shown_by
 returns-then-offset-index g c = grind (arith, nat_tests, common_steps)

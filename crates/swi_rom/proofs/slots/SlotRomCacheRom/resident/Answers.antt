@@ -1,19 +1,28 @@
-use Rattle.std.proofs.Common.{◌≡◌, ℕ, ◌+◌, ◌-◌, ◌*◌, ◌%◌, ap, sym, subst, ◌∙◌, None}
-use Rattle.swi_rom.specs.Slots.{Slots, kept_by}
-use Rattle.swi_rom.specs.Coherent.{resident_of}
-use Rattle.swi_rom.specs.Readers.{resident_none, slot_at_is}
-use Rattle.swi_rom.proofs.Calls.{resident_from}
+use Rattle.std.proofs.Common.{ap, refl, sym, ◌∙◌, subst, ◌≡◌, arith}
+use Rattle.swi_rom.specs.Readers.{resident_here, own_step, other_step, resident_none, own_from}
+use Rattle.std.specs.Prelude.{slice_get}
 use Rattle.swi_rom.proofs.slots.SlotRomCacheRom.resident.Goals as goal
+use Rattle.swi_rom.proofs.slots.SlotRomCacheRom.resident.Goals.{then-owner-self+else-left-eq0, else-owner-self}
 
-pub returns-then-k-self-clause-value : goal.returns-then-k-self-clause-value
-returns-then-k-self-clause-value g c =
-    subst (λ (s : Slots). None ≡ resident_of (kept_by s) c.args.k) c.self.view_is (sym (resident_none _ c.args.k c.self.invariant.0 c.if-k-self.true))
+pub returns-then-left-eq0 : goal.returns-then-left-eq0
+returns-then-left-eq0 g c =
+    let number = c.number.ensures in
+    rw number
+    (resident_here _ _ c.loop-n.n c.args.k c.turned-slot.result _ _ c.self.view_is c.self.invariant.0 c.loop-n-test.true
+    (subst (λ (x : _). slice_get (own_from c.args.self.now c.loop-n.n) x ≡ slice_get (own_from c.args.self.now 0) c.args.k) c.if-left-eq0.true c.loop-n.invariant)
+    c.turned-slot.ensures c.index-block.ensures (sym c.owner.ensures ∙ c.if-owner-self.true) refl)
 
-pub returns-clause-value : goal.returns-clause-value
-returns-clause-value g c =
-    resident_from _ _ c.args.k c.turned-slot.result c.index.result.now c.self.view_is c.self.invariant.0 c.if-k-self.false c.turned-slot.ensures c.index.ensures
+pub loop-n-preserved : goal.loop-n-preserved
+loop-n-preserved g c = elim c.if-owner-self.branch [
+  | then-owner-self+else-left-eq0 w ↦
+      rw (w.left-is)
+      (own_step _ _ c.loop-n.n c.args.k c.turned-slot.result _ c.loop-n.left c.self.view_is c.self.invariant.0 c.loop-n-test.true c.loop-n.invariant
+      c.turned-slot.ensures c.index-block.ensures (sym c.owner.ensures ∙ w.if-owner-self.true) w.if-left-eq0.false)
+  | else-owner-self w ↦
+      rw (w.left-is)
+      (other_step _ _ c.loop-n.n c.args.k c.turned-slot.result _ c.loop-n.left c.self.view_is c.self.invariant.0 c.loop-n-test.true c.loop-n.invariant
+      c.turned-slot.ensures c.index-block.ensures (λ e. w.if-owner-self.false (c.owner.ensures ∙ e)))
+]
 
-pub returns-clause-slot : goal.returns-clause-slot
-returns-clause-slot g c =
-    subst (λ (s : Slots). c.turned-slot.result * c.self.inside.size ≡ (s.counts.misses - s.filled + c.args.k) % s.slots * s.size) c.self.view_is
-    (ap (λ (x : ℕ). x * c.self.inside.size) (c.turned-slot.ensures ∙ slot_at_is _ c.args.k c.self.invariant.0 c.if-k-self.false))
+pub returns : goal.returns
+returns g c = resident_none _ _ c.loop-n.n c.args.k c.loop-n.left c.self.view_is c.self.invariant.0 c.loop-n-test.false c.loop-n.invariant
