@@ -1,6 +1,6 @@
 -- A block arrives: it stood, or it has taken the next slot.
-use Rattle.std.proofs.Common.{◌≡◌, ◌⊎◌, ℕ, suc, zero, ◌+◌, ◌-◌, ◌*◌, ◌/◌, ◌%◌, ◌^◌, ◌<◌, ◌≤◌, ◌==◌, ◌&&◌, true, false, List, [], ◌∷◌, length, slice_index, slice_set, nat_lt, arith, refl, sym, ◌∙◌, ap, subst, inl, inr}
-use Rattle.std.proofs.lemmas.Bool.{cases_Bool, cases_lt, ltb-false, le-ltb, both_ways, and_parts, and_from, or_left, or_right, or_cases, false_from_ne_true, eq-eqb, eqb-true}
+use Rattle.std.proofs.Common.{◌≡◌, ◌⊎◌, ℕ, suc, zero, ◌+◌, ◌-◌, ◌*◌, ◌/◌, ◌%◌, ◌^◌, ◌<◌, ◌≤◌, ◌==◌, ◌&&◌, true, false, List, [], ◌∷◌, length, slice_index, slice_set, arith, refl, sym, ◌∙◌, ap, subst, inl, inr}
+use Rattle.std.proofs.lemmas.Bool.{cases_Bool, cases_lt, both_ways, and_parts, and_from, or_left, or_right, or_cases, false_from_ne_true, eq-eqb, eqb-true}
 use Rattle.std.proofs.lemmas.Bool.Decides.{nat_tests}
 use Rattle.std.proofs.lemmas.Nat.{same_from_place}
 use Rattle.std.specs.List.{list_any}
@@ -8,15 +8,17 @@ use Rattle.swi_image.specs.Format.{ImageData}
 use Rattle.swi_image.specs.Place.{length_at}
 use Rattle.swi_outside.specs.CacheRam.{RamState}
 use Rattle.swi_rom.specs.Record.{Record, Placement, Link, Has, has_link, Placed, ebreak}
-use Rattle.swi_slots.specs.Fifo.{is_placed, arrived, counted, more_services}
+use Rattle.swi_rom.specs.Policy.{is_placed, counted, more_services}
+use Rattle.swi_slots.specs.Fifo.{arrived}
 use Rattle.swi_rom.specs.Served.{WordsMove, NewlyPlaced, LinkChanged}
 use Rattle.swi_slots.specs.Slots.{Slots, InShape, links_of, link_at, queue_of, kept_by}
 use Rattle.swi_slots.specs.Keys.{Images, key_of, key_parts, word_in}
 use Rattle.swi_slots.specs.Sound.{SlotsServe, SlotsSound, Serves}
-use Rattle.swi_slots.specs.Steps.{Wrote, Copied, IsAbsent, counted_slots, more_service, is_dropped, leads_in}
+use Rattle.swi_rom.specs.Writing.{Wrote, Copied}
+use Rattle.swi_slots.specs.Steps.{IsAbsent, counted_slots, more_service, is_dropped, leads_in}
 use Rattle.swi_slots.specs.Arrived.{Arrived}
 use Rattle.swi_rom.specs.declared.rom.Counts.{Counts}
-use Rattle.swi_slots.specs.Rams.{wrote_none}
+use Rattle.swi_rom.specs.Rams.{wrote_none}
 use Rattle.swi_slots.specs.Queue.{has_slot, slot_has, placed_slot, slot_placed, length_queue}
 use Rattle.swi_slots.specs.SlotLinks.{Tidy, link_of, link_key, linked_word, never_link, word_linked, word_below, word_slot, word_is}
 use Rattle.swi_slots.specs.Coheres.{tidy_of}
@@ -140,6 +142,7 @@ hit_arrived s vs b n a sound lt small e =
       turn_stays = refl;
       slots_stay = refl;
       size_stays = refl;
+      programs_stay = refl;
       filled = lt;
       stands = e;
       blocks_move = inl (refl, refl);

@@ -2,24 +2,24 @@
 use Rattle.std.proofs.Common.{◌≡◌, ℕ, ◌+◌, ◌*◌, ◌/◌, ◌<◌, ◌≤◌, ◌^◌, false, List, length, Option, None, Some, Ok, Err, slice_index, slice_index_or, arith, refl, sym, ◌∙◌, ap, subst}
 use Rattle.std.proofs.lemmas.List.{get_or_read}
 use Rattle.std.proofs.lemmas.Nat.{row_fits, div_below}
-use Rattle.std.proofs.lemmas.Bool.{and_left, both_ways, ltb-false, ne_eqb}
+use Rattle.std.proofs.lemmas.Bool.{and_left, both_ways, ne_eqb}
 use Rattle.swi_image.specs.Format.{ImageData}
 use Rattle.swi_image.specs.Place.{place_of, length_at}
 use Rattle.swi_outside.specs.CacheRam.{RamState}
-use Rattle.swi_rom.specs.Record.{Record, direct, indirect, Placed, has_link, is_linked}
+use Rattle.swi_rom.specs.Record.{Record, direct, indirect, Placed, is_linked}
 use Rattle.swi_rom.specs.Coherent.{ExitAt, TargetAt}
 use Rattle.swi_slots.specs.Fifo.{fifo}
 use Rattle.swi_rom.specs.Served.{Served}
-use Rattle.swi_slots.specs.Slots.{Slots, InShape, links_of, kept_by, setting_of, span_of}
+use Rattle.swi_slots.specs.Slots.{Slots, InShape, kept_by, setting_of, span_of}
 use Rattle.swi_slots.specs.Keys.{Images, key_of}
 use Rattle.swi_slots.specs.Sound.{SlotsSound, Serves}
-use Rattle.swi_slots.specs.Steps.{FailedBelow, counted_slots, IsAbsent, MaybeLinked, can_link}
+use Rattle.swi_rom.specs.Writing.{FailedBelow}
+use Rattle.swi_slots.specs.Steps.{counted_slots, IsAbsent, MaybeLinked, can_link}
 use Rattle.swi_slots.specs.Arrived.{Arrived}
 use Rattle.swi_rom.specs.declared.rom.RomStop.TheVariants.{RamFault}
 use Rattle.swi_slots.specs.Queue.{length_queue, placed_slot}
-use Rattle.swi_slots.specs.SlotLinks.{word_slot, link_of, linked_is}
-use Rattle.swi_slots.specs.Coheres.{tidy_of}
-use Rattle.swi_slots.specs.Rams.{failed_more}
+use Rattle.swi_slots.specs.SlotLinks.{word_slot}
+use Rattle.swi_rom.specs.Rams.{failed_more}
 use Rattle.swi_slots.proofs.Policy.{counted_forward}
 use Rattle.swi_slots.proofs.Crossing.{ExitIn, exit_in, free_stays, exit_same, entered, fault_served, crossed, crossed_sound}
 use Rattle.swi_image.specs.Sound.{IsImage}
@@ -95,7 +95,7 @@ exit_at v s words at target sound x =
 pub links_same : (v : ImageData) (s t : Slots) (c slot : ℕ) (a b : RamState) → SlotsSound s v a.words → Arrives v s c slot t a b → 0 < s.filled → t.counts.links ≡ s.counts.links
 links_same v s t c slot a b sound all some =
     let arr = known_arrived v s t c slot a b sound all in
-    ap (λ (r : Record). r.counts.links) arr.moves ∙ (counted_forward s.slots s.size (sound.0 s.turn) (kept_by s) c (omega (arith, length_queue s sound.1.1.shape))).1
+    ap (λ (r : Record). r.counts.links) arr.moves ∙ (counted_forward (setting_of s) (sound.0 s.turn) (kept_by s) c (omega (arith, length_queue s sound.1.1.shape))).1
 
 pub exit_row : (vs : Images) (s : Slots) (at target : ℕ) → (e : ExitIn vs s at target) → at / s.size ≡ e.slot
 exit_row vs s at target e = ap (λ (x : ℕ). x / s.size) e.index ∙ (word_slot s e.slot e.offset e.inside).0

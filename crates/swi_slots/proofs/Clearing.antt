@@ -5,9 +5,10 @@ use Rattle.std.proofs.lemmas.Bool.{cases_eq}
 use Rattle.swi_outside.specs.CacheRam.{RamState}
 use Rattle.swi_outside.specs.Causes.{counted}
 use Rattle.swi_rom.specs.Record.{ebreak}
-use Rattle.swi_slots.specs.Steps.{Wrote, Cleared, leads_in, is_dropped, leading_in}
+use Rattle.swi_rom.specs.Writing.{Wrote}
+use Rattle.swi_slots.specs.Steps.{Cleared, leads_in, is_dropped, leading_in}
 use Rattle.swi_slots.specs.Tells.{leading_more}
-use Rattle.swi_slots.specs.Rams.{wrote_none, wrote_one, wrote_more}
+use Rattle.swi_rom.specs.Rams.{wrote_none, wrote_one, wrote_more}
 
 pub cleared_none : (slots size slot : ℕ) (old : List ℕ) (a : RamState) → Cleared slots size slot 0 old old a a
 unfolding leading_in

@@ -9,15 +9,18 @@ use Rattle.swi_outside.specs.Causes.{risen}
 use Rattle.swi_outside.specs.CacheRam.{RamState}
 use Rattle.swi_rom.specs.Record.{Record, Link, Transfer, direct, indirect, target_of, Has, Placed, has_link, same_link, is_linked, writes, reaches}
 use Rattle.swi_rom.specs.Coherent.{TargetAt, ExitAt}
-use Rattle.swi_slots.specs.Fifo.{fifo, went, linked, is_over_link, arrived, counted, is_placed, first_of, with_link}
+use Rattle.swi_rom.specs.Policy.{served_by, went, linked, is_over_link, counted, is_placed, first_of, with_link}
+use Rattle.swi_rom.specs.Service.{Setting}
+use Rattle.swi_slots.specs.Fifo.{fifo, arrived}
 use Rattle.swi_rom.specs.Served.{Served, WordsMove}
-use Rattle.swi_slots.specs.Slots.{Slots, InShape, links_of, queue_of, kept_by, setting_of, span_of}
+use Rattle.swi_slots.specs.Slots.{Slots, links_of, queue_of, kept_by, setting_of, span_of}
 use Rattle.swi_slots.specs.Keys.{Images, key_of, owner_of, number_of, key_owner, key_number, key_parts, word_in, ExitOf, key_place, goes}
 use Rattle.swi_slots.specs.Sound.{SlotsServe}
-use Rattle.swi_slots.specs.Steps.{Wrote, FailedBelow, Linked, MaybeLinked, can_link}
+use Rattle.swi_rom.specs.Writing.{Wrote, FailedBelow}
+use Rattle.swi_slots.specs.Steps.{Linked, MaybeLinked, can_link}
 use Rattle.swi_slots.specs.Arrived.{Arrived}
 use Rattle.swi_rom.specs.declared.rom.RomStop.TheVariants.{Outside, RamFault}
-use Rattle.swi_slots.specs.Rams.{wrote_more, spared_none}
+use Rattle.swi_rom.specs.Rams.{wrote_more, spared_none}
 use Rattle.swi_slots.specs.Links.{has_with, same_is, same_same}
 use Rattle.swi_slots.specs.Queue.{has_slot, slot_has, placed_slot, slot_placed, length_queue}
 use Rattle.swi_slots.specs.SlotLinks.{Tidy, link_of, link_key, link_target, never_link, linked_word, word_linked, among_is, word_slot}
@@ -66,9 +69,9 @@ fault_served v span target c old next new a b is f = record {
   words = tt;
 }
 
-outside_moves : (setting : List ℕ) (v : ImageData) (r : Record) (t : Transfer) → is_over_link r t ≡ false → place_of v (target_of t) ≡ None → r ≡ fifo setting r v t
-unfolding fifo went
-outside_moves setting v r t over none = rw (over, none) refl
+outside_moves : (by : Setting) (v : ImageData) (r : Record) (t : Transfer) → is_over_link r t ≡ false → place_of v (target_of t) ≡ None → r ≡ fifo by r v t
+unfolding served_by went
+outside_moves by v r t over none = rw (over, none) refl
 
 pub outside_served : (v : ImageData) (s : Slots) (t : Transfer) (a : RamState) → is_over_link (kept_by s) t ≡ false → place_of v (target_of t) ≡ None →
     Served v (span_of (setting_of s)) (target_of t) (kept_by s) (fifo (setting_of s) (kept_by s) v t) (kept_by s) a a (Err Outside)
@@ -85,8 +88,8 @@ outside_served v s t a over none = record {
   words = record { changes = λ i. inl refl; restored = λ k f was is h h'. absurd (both_ways (has_link (links_of s) k) is was) };
 }
 
-indirect_moves : (v : ImageData) (s : Slots) (target c q : ℕ) → place_of v target ≡ Some (c, q) → arrived s.slots s.size v (counted (kept_by s)) c ≡ fifo (setting_of s) (kept_by s) v (indirect target)
-unfolding fifo went
+indirect_moves : (v : ImageData) (s : Slots) (target c q : ℕ) → place_of v target ≡ Some (c, q) → arrived (setting_of s) v (counted (kept_by s)) c ≡ fifo (setting_of s) (kept_by s) v (indirect target)
+unfolding served_by went
 indirect_moves v s target c q is = rw is refl
 
 -- a jump
@@ -174,28 +177,28 @@ link_test vs s t c q slot n h o a b sound arr lt lt' small key =
     ]
 
 direct_moves : (v : ImageData) (s : Slots) (b o target c q : ℕ) → is_linked (kept_by s) b o ≡ false → place_of v target ≡ Some (c, q) →
-    linked (arrived s.slots s.size v (counted (kept_by s)) c) b o (c, q) ≡ fifo (setting_of s) (kept_by s) v (direct b o target)
-unfolding fifo went
+    linked with_link (arrived (setting_of s) v (counted (kept_by s)) c) b o (c, q) ≡ fifo (setting_of s) (kept_by s) v (direct b o target)
+unfolding served_by went
 direct_moves v s b o target c q free is = rw (free, is) refl
 
 linked_when : (r : Record) (b o : ℕ) (p : ℕ × ℕ) → (is_placed r b && reaches (first_of r b + o) (first_of r p.0 + p.1)) ≡ true →
-    linked r b o p ≡ record r { links = with_link (record { program = r.turn; block = b; offset = o; into = p.0 }) r.links; counts = record r.counts { links = r.counts.links + 1 } }
+    linked with_link r b o p ≡ record r { links = with_link (record { program = r.turn; block = b; offset = o; into = p.0 }) r.links; counts = record r.counts { links = r.counts.links + 1 } }
 unfolding linked
 linked_when r b o p t = rw t refl
 
-linked_not : (r : Record) (b o : ℕ) (p : ℕ × ℕ) → (is_placed r b && reaches (first_of r b + o) (first_of r p.0 + p.1)) ≡ false → linked r b o p ≡ r
+linked_not : (r : Record) (b o : ℕ) (p : ℕ × ℕ) → (is_placed r b && reaches (first_of r b + o) (first_of r p.0 + p.1)) ≡ false → linked with_link r b o p ≡ r
 unfolding linked
 linked_not r b o p t = rw t refl
 
 -- a link after the arrival was one before
 links_before : (vs : Images) (s t : Slots) (c slot : ℕ) (a b : RamState) → SlotsServe s vs a.words → Arrived vs s c slot t a b → 0 < s.filled → (k : Link) → has_link (links_of t) k ≡ true → has_link (links_of s) k ≡ true
 links_before vs s t c slot a b sound arr some k h =
-    (counted_forward s.slots s.size (vs s.turn) (kept_by s) c (omega (arith, length_queue s sound.shape))).0 k (sym (ap (λ (r : Record). has_link r.links k) arr.moves) ∙ h)
+    (counted_forward (setting_of s) (vs s.turn) (kept_by s) c (omega (arith, length_queue s sound.shape))).0 k (sym (ap (λ (r : Record). has_link r.links k) arr.moves) ∙ h)
 
 counts_after : (vs : Images) (s t : Slots) (c slot : ℕ) (a b : RamState) → SlotsServe s vs a.words → Arrived vs s c slot t a b → 0 < s.filled →
     (t.counts.links < t.counts.services) × (writes (kept_by s) ≤ writes (kept_by t))
 counts_after vs s t c slot a b sound arr some =
-    let f = counted_forward s.slots s.size (vs s.turn) (kept_by s) c (omega (arith, length_queue s sound.shape)) in (
+    let f = counted_forward (setting_of s) (vs s.turn) (kept_by s) c (omega (arith, length_queue s sound.shape)) in (
       omega (arith, sound.links_few, f.1, f.2, ap (λ (r : Record). r.counts.links) arr.moves, ap (λ (r : Record). r.counts.services) arr.moves),
       omega (arith, f.3, ap (λ (r : Record). writes r) arr.moves),
     )
@@ -339,8 +342,8 @@ crossed_at vs s t u c q slot at target a b d sound e is arr maybe =
     let home : ℕ = slice_index s.blocks n in
     let some : 0 < s.filled = omega (arith, e.filled) in
     let after = counts_after vs s t c slot a b sound arr some in
-    let moves : linked (kept_by t) e.block o (c, q) ≡ fifo (setting_of s) (kept_by s) (vs s.turn) (direct e.block o target) =
-    ap (λ (r : Record). linked r e.block o (c, q)) arr.moves ∙ direct_moves (vs s.turn) s e.block o target c q e.unlinked is in
+    let moves : linked with_link (kept_by t) e.block o (c, q) ≡ fifo (setting_of s) (kept_by s) (vs s.turn) (direct e.block o target) =
+    ap (λ (r : Record). linked with_link r e.block o (c, q)) arr.moves ∙ direct_moves (vs s.turn) s e.block o target c q e.unlinked is in
     let test : (is_placed (kept_by t) e.block && reaches (first_of (kept_by t) e.block + o) (first_of (kept_by t) c + q)) ≡ can_link t at home (slot * s.size + q) =
     link_test vs s t c q slot n e.block o a b sound arr e.filled e.inside e.small e.key ∙ ap (λ (x : ℕ). can_link t x home (slot * s.size + q)) (sym e.index) in
     elim (cases_Bool (can_link t at home (slot * s.size + q))) [

@@ -10,10 +10,11 @@ use Rattle.swi_slots.specs.Keys.{Images}
 use Rattle.swi_slots.specs.Inside.{block_short, block_known, block_few}
 use Rattle.swi_outside.specs.CacheRam.{RamState}
 use Rattle.swi_slots.specs.Slots.{Slots, InShape}
-use Rattle.swi_slots.specs.Steps.{MadeRoom, FailedBelow, LinksInside, Wrote, leading_in}
+use Rattle.swi_rom.specs.Writing.{FailedBelow, Wrote}
+use Rattle.swi_slots.specs.Steps.{MadeRoom, LinksInside, leading_in}
 use Rattle.swi_slots.specs.Sound.{SlotsSound, Serves}
 use Rattle.swi_slots.specs.SlotLinks.{word_below, word_slot}
-use Rattle.swi_slots.specs.Rams.{failed_more, failed_wider, wrote_none}
+use Rattle.swi_rom.specs.Rams.{failed_more, failed_wider, wrote_none}
 
 -- the slot that is filled ends within the slots
 pub slot_fits : (s : Slots) (n : ℕ) → InShape s → n ≤ s.size → s.next * s.size + n ≤ s.slots * s.size

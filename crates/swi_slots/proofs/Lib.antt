@@ -12,3 +12,4 @@ pub mod Empty
 pub mod Calls
 pub mod Rows
 pub mod Unused
+pub mod Turned

@@ -1,12 +1,12 @@
 -- An exit becomes a link.
 use Rattle.std.proofs.Common.{◌≡◌, ℕ, ◌+◌, ◌*◌, ◌/◌, ◌<◌, ◌≤◌, ◌^◌, refl, true, false, length, Some, slice_index, slice_set, arith, sym, ◌∙◌, ap, subst, inl, inr}
-use Rattle.std.proofs.lemmas.Bool.{cases_eq, le-ltb, or_left, or_right, or_cases}
+use Rattle.std.proofs.lemmas.Bool.{cases_eq, or_left, or_right, or_cases}
 use Rattle.std.proofs.lemmas.List.{length-set, get_or-set_same, get_or-set_other}
 use Rattle.std.proofs.lemmas.Nat.{same_from_place}
 use Rattle.swi_slots.specs.Keys.{Images, key_of, owner_of, number_of, key_parts, word_in, ExitOf, goes}
 use Rattle.swi_outside.specs.CacheRam.{RamState}
 use Rattle.swi_rom.specs.Record.{Link, Placed, has_link, same_link, IsJump}
-use Rattle.swi_slots.specs.Fifo.{with_link, first_of}
+use Rattle.swi_rom.specs.Policy.{with_link, first_of}
 use Rattle.swi_slots.specs.Slots.{Slots, InShape, links_of, queue_of, kept_by}
 use Rattle.swi_slots.specs.Sound.{SlotsServe, LinkStands}
 use Rattle.swi_slots.specs.Steps.{Linked}

@@ -2,10 +2,10 @@
 use Rattle.std.proofs.Common.{◌≡◌, ℕ, suc, zero, ◌+◌, ◌*◌, ◌/◌, ◌%◌, ◌<◌, ◌≤◌, ◌==◌, ◌&&◌, ◌||◌, Bool, true, false, not, List, filter, length, Option, Some, None, slice_index, nat_lt, if◌then◌else◌, arith, refl, sym, ◌∙◌, ap, subst, inl, inr}
 use Rattle.std.proofs.lemmas.Bool.{cases_eq, ltb-true, ltb-false, both_ways, and_parts, and_from, eq-eqb, ne_eqb, eqb-true, eqb-false}
 use Rattle.std.proofs.lemmas.Bool.Decides.{nat_tests}
-use Rattle.swi_slots.specs.Keys.{Images, key_of, owner_of, number_of, key_owner, key_parts, word_in}
+use Rattle.swi_slots.specs.Keys.{Images, key_of, owner_of, number_of, key_parts}
 use Rattle.swi_outside.specs.CacheRam.{RamState}
 use Rattle.swi_rom.specs.Record.{Placement, Link, has_link}
-use Rattle.swi_slots.specs.Fifo.{is_from, leads_to, is_undone, is_kept}
+use Rattle.swi_rom.specs.Policy.{is_from, leads_to, is_undone, is_kept}
 use Rattle.swi_slots.specs.Slots.{Slots, InShape, links_of, link_at}
 use Rattle.swi_slots.specs.Sound.{SlotsServe, LinkStands}
 use Rattle.swi_slots.specs.Steps.{is_dropped, leads_in, leading_in, IsAbsent}

@@ -5,15 +5,17 @@ use Rattle.swi_image.specs.Format.{ImageData}
 use Rattle.swi_image.specs.Place.{word_at, length_at}
 use Rattle.swi_outside.specs.CacheRam.{RamState}
 use Rattle.swi_rom.specs.Record.{Record, Placement, Link, Has, Placed, has_link, writes}
-use Rattle.swi_slots.specs.Fifo.{is_kept, is_undone, is_placed, evicted, appended, arrived}
+use Rattle.swi_rom.specs.Policy.{is_kept, is_undone, is_placed, evicted}
+use Rattle.swi_slots.specs.Fifo.{appended, arrived}
 use Rattle.swi_rom.specs.Served.{WordsMove}
 use Rattle.swi_slots.specs.Keys.{Images, key_of, key_owner, key_number, owner_of, number_of, word_in, words_in, IsKnown}
-use Rattle.swi_slots.specs.Slots.{Slots, InShape, links_of, queue_of, kept_by}
+use Rattle.swi_slots.specs.Slots.{Slots, InShape, links_of, queue_of, kept_by, setting_of}
 use Rattle.swi_slots.specs.Sound.{SlotsServe}
-use Rattle.swi_slots.specs.Steps.{Wrote, Copied, Filled, IsAbsent, counted_slots, settled, leading_in}
+use Rattle.swi_rom.specs.Writing.{Wrote, Copied}
+use Rattle.swi_slots.specs.Steps.{Filled, IsAbsent, counted_slots, settled, leading_in}
 use Rattle.swi_slots.specs.Arrived.{Arrived}
 use Rattle.swi_rom.specs.declared.rom.Counts.{Counts}
-use Rattle.swi_slots.specs.Rams.{wrote_more, wrote_wider}
+use Rattle.swi_rom.specs.Rams.{wrote_more, wrote_wider}
 use Rattle.swi_slots.proofs.Filling.{slot_fits}
 use Rattle.swi_slots.specs.Queue.{spot, length_queue, queue_free, queue_full}
 use Rattle.swi_slots.proofs.Missing.{Roomy, roomy_free, roomy_full, CountsMove, filled_slots, next_filled, here_block, moved_sound}
@@ -24,11 +26,12 @@ use Rattle.swi_slots.specs.Coheres.{key_word, key_words}
 
 -- what a miss comes to, the service having been counted
 pub record Missed (vs : Images) (s : Slots) (b : ℕ) (t : Slots) (before after : RamState) : Type 0 where
-  pub moves : kept_by t ≡ arrived s.slots s.size (vs s.turn) (kept_by s) b
+  pub moves : kept_by t ≡ arrived (setting_of s) (vs s.turn) (kept_by s) b
   pub sound : SlotsServe t vs after.words
   pub turn_stays : t.turn ≡ s.turn
   pub slots_stay : t.slots ≡ s.slots
   pub size_stays : t.size ≡ s.size
+  pub programs_stay : t.programs ≡ s.programs
   pub filled : s.next < t.filled
   pub blocks_are : t.blocks ≡ slice_set s.blocks s.next (key_of s.turn b)
   pub filled_is : t.filled ≡ min (s.filled + 1) s.slots
@@ -48,7 +51,7 @@ spot_is : (s : Slots) (b n : ℕ) → b < 2 ^ 19 → let e : Placement = record 
 spot_is s b n small = rw (key_owner s.turn b small, key_number s.turn b small) refl
 
 free_moves : (s : Slots) (vs : Images) (b : ℕ) (before : RamState) → SlotsServe s vs before.words → IsAbsent s (key_of s.turn b) → b < 2 ^ 19 → s.filled < s.slots →
-    kept_by (settled s (key_of s.turn b) (length_at (vs s.turn) b)) ≡ arrived s.slots s.size (vs s.turn) (kept_by s) b
+    kept_by (settled s (key_of s.turn b) (length_at (vs s.turn) b)) ≡ arrived (setting_of s) (vs s.turn) (kept_by s) b
 unfolding arrived appended
 free_moves s vs b before sound absent small free =
     let key : ℕ = key_of s.turn b in
@@ -85,7 +88,7 @@ full_counts s k = record s.counts { evictions = s.counts.evictions + 1; unlinks 
 
 full_moves : (s : Slots) (targets : List ℕ) (vs : Images) (b k : ℕ) (before between : RamState) → SlotsServe s vs before.words → IsAbsent s (key_of s.turn b) → b < 2 ^ 19 → s.slots ≤ s.filled →
     Roomy s targets k before between → k ≡ length (filter (is_undone (entry s s.next)) (links_of s)) → CountsMove s (full_counts s k) k →
-    kept_by (filled_slots s targets (full_counts s k) (key_of s.turn b) (length_at (vs s.turn) b)) ≡ arrived s.slots s.size (vs s.turn) (kept_by s) b
+    kept_by (filled_slots s targets (full_counts s k) (key_of s.turn b) (length_at (vs s.turn) b)) ≡ arrived (setting_of s) (vs s.turn) (kept_by s) b
 unfolding arrived appended
 full_moves s targets vs b k before between sound absent small full roomy number move =
     let key : ℕ = key_of s.turn b in
@@ -158,6 +161,7 @@ missed_free vs s b before after sound few absent known free copied =
       turn_stays = refl;
       slots_stay = refl;
       size_stays = refl;
+      programs_stay = refl;
       filled = next_filled s sound.shape;
       blocks_are = refl;
       filled_is = refl;
@@ -183,6 +187,7 @@ missed_full vs s targets b k before between after sound few absent known full ro
       turn_stays = refl;
       slots_stay = refl;
       size_stays = refl;
+      programs_stay = refl;
       filled = next_filled s sound.shape;
       blocks_are = refl;
       filled_is = refl;
@@ -258,12 +263,13 @@ pub miss_arrived : (vs : Images) (s t : Slots) (b : ℕ) (before after : RamStat
 miss_arrived vs s t b before after sound absent known f =
     let m = missed vs (counted_slots s) t b before after (counted_sound s vs before.words sound) (counted_few s vs before.words sound) absent known f in
     record {
-      moves = m.moves ∙ ap (λ (r : Record). arrived s.slots s.size (vs s.turn) r b) (counted_is s sound.shape);
+      moves = m.moves ∙ ap (λ (r : Record). arrived (setting_of s) (vs s.turn) r b) (counted_is s sound.shape);
       sound = m.sound;
       small = (own_block vs s b before.words sound known).small;
       turn_stays = m.turn_stays;
       slots_stay = m.slots_stay;
       size_stays = m.size_stays;
+      programs_stay = m.programs_stay;
       filled = m.filled;
       stands = ap (λ (bs : List ℕ). slice_index bs s.next) m.blocks_are ∙ here_block s (key_of s.turn b) sound.shape;
       blocks_move = inr (m.blocks_are, m.filled_is, absent);

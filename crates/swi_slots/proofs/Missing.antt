@@ -9,9 +9,10 @@ use Rattle.swi_outside.specs.CacheRam.{RamState}
 use Rattle.swi_rom.specs.Record.{ebreak, IsJump}
 use Rattle.swi_slots.specs.Slots.{Slots, InShape, links_of}
 use Rattle.swi_slots.specs.Sound.{SlotsServe, LinkStands}
-use Rattle.swi_slots.specs.Steps.{Wrote, Copied, is_dropped, leads_in, settled, IsAbsent, Cleared, leading_in}
+use Rattle.swi_rom.specs.Writing.{Wrote, Copied}
+use Rattle.swi_slots.specs.Steps.{is_dropped, leads_in, settled, IsAbsent, Cleared, leading_in}
 use Rattle.swi_rom.specs.declared.rom.Counts.{Counts}
-use Rattle.swi_slots.specs.Rams.{wrote_none}
+use Rattle.swi_rom.specs.Rams.{wrote_none}
 use Rattle.swi_slots.proofs.Shapes.{settled_shape}
 use Rattle.swi_slots.specs.Queue.{next_free}
 use Rattle.swi_slots.specs.SlotLinks.{Tidy, word_below, word_slot, word_is}

@@ -4,15 +4,18 @@ use Rattle.swi_isa.specs.Decode.{decoded, decoded_by}
 use Rattle.swi_isa.specs.Table.{imm_j}
 use Rattle.swi_image.specs.Format.{ImageData}
 use Rattle.swi_image.specs.Place.{place_of, block_at}
-use Rattle.swi_rom.specs.Record.{Record, Placement, Link, Transfer, direct, indirect, exit_among, IsJump, reaches}
-use Rattle.swi_slots.specs.Fifo.{fifo, went, linked, arrived, appended, evicted, counted, is_placed, first_of, with_link, is_undone, is_kept}
+use Rattle.swi_rom.specs.Record.{Record, Placement, Link, Transfer, direct, indirect, exit_among, empty_record, IsJump, reaches}
+use Rattle.swi_rom.specs.Service.{Setting}
+use Rattle.swi_rom.specs.Policy.{served_by, went, linked, evicted, counted, is_placed, first_of, with_link, is_undone, is_kept}
+use Rattle.swi_slots.specs.Fifo.{fifo, arrived, appended}
 
-abbrev run : List ℕ → Record → ImageData → List Transfer → Record
-run setting r v [] = r
-run setting r v (t ∷ ts) = run setting (fifo setting r v t) v ts
+abbrev run : Setting → Record → ImageData → List Transfer → Record
+run by r v [] = r
+run by r v (t ∷ ts) = run by (fifo by r v t) v ts
 
-abbrev empty : Record
-empty = record { turn = 0; placed = []; links = []; counts = record { services = 0; misses = 0; evictions = 0; links = 0; unlinks = 0; copied = 0 }; more = [] }
+-- a setting for one program
+abbrev slots : ℕ → ℕ → Setting
+slots n words = record { slots = n; slot_words = words; programs = 1 }
 
 abbrev at : ℕ → ℕ → Placement
 at b f = record { program = 0; block = b; first = f }
@@ -65,9 +68,9 @@ jumper = record {
 }
 
 -- a block that is linked to itself
-self_link : run (1 ∷ 16 ∷ []) empty loop_16 (indirect 0x10000 ∷ direct 0 3 0x10004 ∷ direct 0 3 0x10004 ∷ []) ≡
+self_link : run (slots 1 16) empty_record loop_16 (indirect 0x10000 ∷ direct 0 3 0x10004 ∷ direct 0 3 0x10004 ∷ []) ≡
     record { turn = 0; placed = at 0 0 ∷ []; links = link 0 3 0 ∷ []; counts = record { services = 1; misses = 1; evictions = 0; links = 1; unlinks = 0; copied = 9 }; more = [] }
-unfolding fifo went linked arrived appended evicted counted is_placed first_of with_link is_undone is_kept place_of block_at exit_among
+unfolding served_by went linked arrived appended evicted counted is_placed first_of with_link is_undone is_kept place_of block_at exit_among
 self_link = refl
 
 self_jump : IsJump 3 1 0xFF9FF06F
@@ -78,14 +81,14 @@ abbrev turns : List Transfer
 turns = indirect 0x10000 ∷ direct 0 2 0x10008 ∷ direct 1 1 0x10004 ∷ direct 0 2 0x10008 ∷ direct 1 1 0x10004 ∷ direct 0 2 0x10008 ∷ direct 1 3 0x1000C ∷ []
 
 -- with one slot every exit's block is evicted by its target
-one_slot : run (1 ∷ 5 ∷ []) empty loop_5 turns ≡
+one_slot : run (slots 1 5) empty_record loop_5 turns ≡
     record { turn = 0; placed = at 2 0 ∷ []; links = []; counts = record { services = 6; misses = 7; evictions = 6; links = 0; unlinks = 0; copied = 31 }; more = [] }
-unfolding fifo went linked arrived appended evicted counted is_placed first_of with_link is_undone is_kept place_of block_at exit_among
+unfolding served_by went linked arrived appended evicted counted is_placed first_of with_link is_undone is_kept place_of block_at exit_among
 one_slot = refl
 
-two_slots : run (2 ∷ 5 ∷ []) empty loop_5 turns ≡
+two_slots : run (slots 2 5) empty_record loop_5 turns ≡
     record { turn = 0; placed = at 1 5 ∷ at 2 0 ∷ []; links = link 1 3 2 ∷ []; counts = record { services = 3; misses = 3; evictions = 1; links = 3; unlinks = 1; copied = 13 }; more = [] }
-unfolding fifo went linked arrived appended evicted counted is_placed first_of with_link is_undone is_kept place_of block_at exit_among
+unfolding served_by went linked arrived appended evicted counted is_placed first_of with_link is_undone is_kept place_of block_at exit_among
 two_slots = refl
 
 two_jump : IsJump 8 0 0xFE1FF06F
@@ -93,14 +96,14 @@ unfolding decoded decoded_by imm_j
 two_jump = refl
 
 -- first-in order at its worst
-circling : run (2 ∷ 2 ∷ []) empty circle (indirect 0x10000 ∷ direct 0 0 0x10004 ∷ direct 1 0 0x10008 ∷ direct 2 0 0x10000 ∷ direct 0 0 0x10004 ∷ direct 1 0 0x10008 ∷ direct 2 0 0x10000 ∷ []) ≡
+circling : run (slots 2 2) empty_record circle (indirect 0x10000 ∷ direct 0 0 0x10004 ∷ direct 1 0 0x10008 ∷ direct 2 0 0x10000 ∷ direct 0 0 0x10004 ∷ direct 1 0 0x10008 ∷ direct 2 0 0x10000 ∷ []) ≡
     record { turn = 0; placed = at 2 2 ∷ at 0 0 ∷ []; links = link 2 0 0 ∷ []; counts = record { services = 6; misses = 7; evictions = 5; links = 6; unlinks = 0; copied = 14 }; more = [] }
-unfolding fifo went linked arrived appended evicted counted is_placed first_of with_link is_undone is_kept place_of block_at exit_among
+unfolding served_by went linked arrived appended evicted counted is_placed first_of with_link is_undone is_kept place_of block_at exit_among
 circling = refl
 
-jumping : run (3 ∷ 5 ∷ []) empty jumper (indirect 0x10000 ∷ indirect 0x1000C ∷ direct 1 3 0x10010 ∷ []) ≡
+jumping : run (slots 3 5) empty_record jumper (indirect 0x10000 ∷ indirect 0x1000C ∷ direct 1 3 0x10010 ∷ []) ≡
     record { turn = 0; placed = at 0 0 ∷ at 1 5 ∷ at 2 10 ∷ []; links = link 1 3 2 ∷ []; counts = record { services = 2; misses = 3; evictions = 0; links = 1; unlinks = 0; copied = 14 }; more = [] }
-unfolding fifo went linked arrived appended evicted counted is_placed first_of with_link is_undone is_kept place_of block_at exit_among
+unfolding served_by went linked arrived appended evicted counted is_placed first_of with_link is_undone is_kept place_of block_at exit_among
 jumping = refl
 
 -- how far a JAL reaches: back by 2^20 bytes, and forward by 2^20 - 4

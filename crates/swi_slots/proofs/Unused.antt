@@ -1,11 +1,12 @@
 -- A served transfer leaves the words of slots that were never filled.
-use Rattle.std.proofs.Common.{◌≡◌, ◌⊎◌, ℕ, ◌+◌, ◌*◌, ◌<◌, ◌≤◌, min, true, false, Bool, List, [], ◌∷◌, slice_index, arith, refl, sym, ◌∙◌, ap, subst, inl, inr}
+use Rattle.std.proofs.Common.{◌≡◌, ◌⊎◌, ℕ, ◌+◌, ◌*◌, ◌<◌, ◌≤◌, min, true, false, Bool, List, arith, refl, sym, ap, subst, inl, inr}
 use Rattle.std.proofs.lemmas.Nat.{row_fits}
 use Rattle.swi_image.specs.Format.{ImageData}
 use Rattle.swi_image.specs.Place.{length_at}
 use Rattle.swi_outside.specs.CacheRam.{RamState}
+use Rattle.swi_rom.specs.Service.{Setting}
 use Rattle.swi_rom.specs.Record.{Record, Link, Has, Placed, Transfer, has_link}
-use Rattle.swi_slots.specs.Fifo.{fifo, extent_of, fifo_grows}
+use Rattle.swi_slots.specs.Fifo.{fifo, extent_of, fifo_extent}
 use Rattle.swi_rom.specs.Served.{SameFrom, WordsMove}
 use Rattle.swi_slots.specs.Slots.{Slots, InShape, kept_by, links_of, queue_of, setting_of}
 use Rattle.swi_slots.specs.Sound.{SlotsSound}
@@ -43,8 +44,8 @@ same_from_link true y ne = inl refl
 same_from_link false true ne = inr refl
 same_from_link false false ne = absurd (ne refl)
 
-pub setting_same : (s u : Slots) → u.slots ≡ s.slots → u.size ≡ s.size → setting_of u ≡ setting_of s
-setting_same s u slots size = ap (λ (n : ℕ). n ∷ u.size ∷ []) slots ∙ ap (λ (n : ℕ). s.slots ∷ n ∷ []) size
+pub setting_same : (s u : Slots) → u.slots ≡ s.slots → u.size ≡ s.size → u.programs ≡ s.programs → setting_of u ≡ setting_of s
+setting_same s u slots size programs = rw (slots, size, programs) refl
 
 pub unused_stays : (s u : Slots) (v : ImageData) (t : Transfer) (a d : RamState) → SlotsSound s v a.words → SlotsSound u v d.words → setting_of u ≡ setting_of s → kept_by u ≡ fifo (setting_of s) (kept_by s) v t →
     WordsMove v (kept_by s) (kept_by u) a d → SameFrom (extent_of (setting_of s) (kept_by u)) a.words d.words
@@ -55,20 +56,20 @@ unused_stays s u v t a d sound sound' same moves words = λ i le. elim (words.ch
 ]
   where
     in_new : (b f o : ℕ) → Placed (kept_by u) b f → o < length_at v b → f + o < extent_of (setting_of s) (kept_by u)
-    in_new b f o h lt = subst (λ (k : List ℕ). f + o < extent_of k (kept_by u)) same (placed_within u v d.words b f o sound' h lt)
+    in_new b f o h lt = subst (λ (k : Setting). f + o < extent_of k (kept_by u)) same (placed_within u v d.words b f o sound' h lt)
 
     size_same : u.size ≡ s.size
-    size_same = ap (λ (k : List ℕ). slice_index k 1) same
+    size_same = ap (λ (k : Setting). k.slot_words) same
 
     small : (l : Link) → (has_link (links_of s) l ≡ true) ⊎ (has_link (links_of u) l ≡ true) → l.offset < s.size
     small l (inl is) = link_small s v a.words l sound is
     small l (inr is) = let w = link_small u v d.words l sound' is in omega (arith, w, size_same)
 
     grew : extent_of (setting_of s) (kept_by s) ≤ extent_of (setting_of s) (kept_by u)
-    grew = subst (λ (r : Record). extent_of (setting_of s) (kept_by s) ≤ extent_of (setting_of s) r) (sym moves) (fifo_grows (setting_of s) (kept_by s) v t)
+    grew = subst (λ (r : Record). extent_of (setting_of s) (kept_by s) ≤ extent_of (setting_of s) r) (sym moves) (fifo_extent (setting_of s) (kept_by s) v t)
 
     in_either : (l : Link) (f : ℕ) → l.offset < s.size → Has (queue_of s) (record { program = l.program; block = l.block; first = f }) ⊎ Has (queue_of u) (record { program = l.program; block = l.block; first = f }) →
         f + l.offset < extent_of (setting_of s) (kept_by u)
     in_either l f own (inl h) = let old = stood_within s l f sound.1.1.shape own h in omega (arith, old, grew)
     in_either l f own (inr h) =
-        subst (λ (k : List ℕ). f + l.offset < extent_of k (kept_by u)) same (stood_within u l f sound'.1.1.shape (omega (arith, own, size_same)) h)
+        subst (λ (k : Setting). f + l.offset < extent_of k (kept_by u)) same (stood_within u l f sound'.1.1.shape (omega (arith, own, size_same)) h)

@@ -6,11 +6,11 @@ use Rattle.swi_image.specs.Format.{ImageData}
 use Rattle.swi_image.specs.Place.{place_of, word_at, length_at}
 use Rattle.swi_image.specs.Sound.{IsImage}
 use Rattle.swi_image.specs.Laws.{place_inside}
-use Rattle.swi_rom.specs.Record.{Placement, is_linked, exit_among, Placed, IsJump}
+use Rattle.swi_rom.specs.Record.{is_linked, Placed, IsJump}
 use Rattle.swi_rom.specs.Coherent.{Coherent, IsExit, TargetAt}
 use Rattle.swi_slots.specs.Keys.{Images, key_of, owner_of, number_of, key_owner, key_number, word_in, words_in, ExitOf, IsKnown, key_place, goes}
-use Rattle.swi_slots.specs.Slots.{Slots, InShape, links_of, kept_by, span_of, setting_of, goals_by}
-use Rattle.swi_slots.specs.Sound.{SlotsServe, SlotsSound, Serves, LinkStands}
+use Rattle.swi_slots.specs.Slots.{Slots, InShape, kept_by, span_of, setting_of, goals_by}
+use Rattle.swi_slots.specs.Sound.{SlotsServe, SlotsSound, LinkStands}
 use Rattle.swi_slots.specs.SlotLinks.{Tidy, among_word, among_is}
 use Rattle.swi_slots.specs.Order.{queue_distinct}
 use Rattle.swi_slots.specs.Queue.{placed_slot, slot_placed}

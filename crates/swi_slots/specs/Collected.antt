@@ -2,7 +2,7 @@
 use Rattle.std.proofs.Common.{◌≡◌, ℕ, suc, zero, ◌+◌, ◌<◌, ◌≤◌, ◌&&◌, Bool, true, false, if◌then◌else◌, cond, List, [], ◌∷◌, filter, length, Option, Some, None, arith, refl, sym, ◌∙◌, ap, subst, inl, inr, add-one}
 use Rattle.std.proofs.lemmas.Bool.{cases_Bool, or_cases, or_right, or_left, and_parts, false_from_ne_true, both_ways, cases_eq}
 use Rattle.swi_rom.specs.Record.{Link, same_link, has_link}
-use Rattle.swi_slots.specs.Fifo.{link_before, with_link}
+use Rattle.swi_rom.specs.Policy.{link_before, with_link}
 use Rattle.swi_slots.specs.Slots.{collected, add_link}
 use Rattle.swi_slots.specs.Links.{Ascending, has_none, has_next, has_with, same_is, same_same, with_ascending}
 

@@ -4,7 +4,7 @@ use Rattle.std.proofs.lemmas.Bool.Decides.{nat_tests}
 use Rattle.std.proofs.lemmas.Bool.{or_cases, or_right, or_left, false_from_ne_true, both_ways}
 use Rattle.std.specs.List.{list_any}
 use Rattle.swi_rom.specs.Record.{Link, same_link, has_link, at_exit, exit_among}
-use Rattle.swi_slots.specs.Fifo.{link_before, with_link}
+use Rattle.swi_rom.specs.Policy.{link_before, with_link}
 
 before_itself : (k : Link) → link_before k k ≡ false
 before_itself k = grind (arith, nat_tests)

@@ -1,16 +1,16 @@
 -- What the readers show.
-use Rattle.std.proofs.Common.{◌≡◌, ℕ, suc, zero, ◌+◌, ◌-◌, ◌*◌, ◌/◌, ◌%◌, ◌<◌, ◌≤◌, ◌==◌, ◌&&◌, Bool, true, false, List, [], ◌∷◌, filter, take, drop, Option, Some, None, slice_index, slice_index_or, slice_get, nat_lt, if◌then◌else◌, arith, refl, sym, ◌∙◌, ap, subst, inl, inr}
+use Rattle.std.proofs.Common.{◌≡◌, ℕ, suc, zero, ◌+◌, ◌-◌, ◌*◌, ◌/◌, ◌%◌, ◌<◌, ◌≤◌, ◌==◌, ◌&&◌, Bool, true, false, List, [], ◌∷◌, filter, drop, Option, Some, None, slice_index, slice_index_or, slice_get, nat_lt, if◌then◌else◌, arith, refl, sym, ◌∙◌, ap, subst, inl, inr}
 use Rattle.std.proofs.lemmas.Bool.{cases_lt, ltb-true, lt-ltb, le-ltb, both_ways, and_parts, and_from, eq-eqb, eqb-true, ne_eqb}
 use Rattle.std.proofs.lemmas.List.{drop_more, drop_all, get_or_read}
 use Rattle.std.proofs.lemmas.Nat.{mod-mul-add, div-add-mod', le-div}
 use Rattle.swi_image.specs.Format.{ImageData}
 use Rattle.swi_image.specs.Place.{length_at}
-use Rattle.swi_rom.specs.Record.{Placement, Has}
+use Rattle.swi_rom.specs.Record.{Placement}
 use Rattle.swi_rom.specs.Coherent.{StandsAt, resident_of, pair_of}
 use Rattle.swi_slots.specs.Slots.{Slots, InShape, queue_of, kept_by, shown_by}
 use Rattle.swi_slots.specs.Keys.{Images, key_of, owner_of, number_of, key_owner, key_parts, number_below, words_in}
 use Rattle.swi_slots.specs.Sound.{SlotsServe, SlotsSound}
-use Rattle.swi_slots.specs.Queue.{spot, placed_slot, slot_placed, next_free, length_queue, rotated_has, numbered_has}
+use Rattle.swi_slots.specs.Queue.{spot, placed_slot, slot_placed, next_free, length_queue}
 use Rattle.swi_slots.specs.SlotLinks.{word_is, word_slot}
 use Rattle.swi_slots.specs.Order.{slot_at, slot_at_filled, queue_at}
 use Rattle.swi_slots.specs.Coheres.{placed_most, key_words}

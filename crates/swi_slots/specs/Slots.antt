@@ -1,7 +1,8 @@
 -- A service with slots of one size, as plain data: what stands in each slot, and which words are links.
 use Rattle.std.specs.Prelude.{◌≡◌, ℕ, suc, zero, ◌+◌, ◌*◌, ◌/◌, ◌%◌, ◌<◌, ◌≤◌, ◌==◌, ◌&&◌, ◌^◌, min, List, [], ◌∷◌, ◌++◌, take, drop, length, replicate, Option, Some, None, if◌then◌else◌, slice_index, nat_lt}
 use Rattle.swi_rom.specs.Record.{Record, Placement, Link}
-use Rattle.swi_slots.specs.Fifo.{with_link}
+use Rattle.swi_rom.specs.Service.{Setting}
+use Rattle.swi_rom.specs.Policy.{with_link}
 use Rattle.swi_slots.specs.Keys.{owner_of, number_of}
 use Rattle.swi_rom.specs.declared.rom.Counts.{Counts}
 
@@ -42,11 +43,11 @@ pub record InShape (s : Slots) : Type 0 where
   pub next_is : s.next ≡ s.counts.misses % s.slots
   pub filled_is : s.filled ≡ min s.counts.misses s.slots
 
-abbrev pub setting_of : Slots → List ℕ
-setting_of s = s.slots ∷ s.size ∷ []
+abbrev pub setting_of : Slots → Setting
+setting_of s = record { slots = s.slots; slot_words = s.size; programs = s.programs }
 
-abbrev pub span_of : List ℕ → ℕ
-span_of setting = slice_index setting 0 * slice_index setting 1
+abbrev pub span_of : Setting → ℕ
+span_of by = by.slots * by.slot_words
 
 -- the blocks of the slots from slot k on
 unfoldable pub numbered : ℕ → ℕ → List ℕ → List Placement

@@ -2,10 +2,9 @@
 use Rattle.std.specs.Prelude.{◌≡◌, ℕ, suc, zero, ◌+◌, ◌*◌, ◌/◌, ◌<◌, ◌≤◌, ◌==◌, ◌&&◌, ◌||◌, Bool, true, false, not, List, length, slice_index, slice_set, if◌then◌else◌, min}
 use Rattle.swi_image.specs.Format.{ImageData}
 use Rattle.swi_image.specs.Place.{word_at, length_at}
-use Rattle.swi_outside.specs.Causes.{Rose, risen}
 use Rattle.swi_outside.specs.CacheRam.{RamState}
 use Rattle.swi_rom.specs.Record.{ebreak, IsJump, reaches}
-use Rattle.swi_rom.specs.Served.{Spared}
+use Rattle.swi_rom.specs.Writing.{Wrote, Copied}
 use Rattle.swi_slots.specs.Table.{NotAmong}
 use Rattle.swi_slots.specs.Slots.{Slots}
 use Rattle.swi_slots.specs.Keys.{key_of}

@@ -2,14 +2,15 @@
 #![tactic(auto)]
 
 ghost use Rattle.std.specs.Prelude.{◌≡◌, ◌+◌, ◌*◌, ◌^◌, ◌<◌, ◌≤◌, ℕ, List, length, replicate, max, slice_index, slice_set, IfOk, OnErr, MatchOption};
-ghost use Rattle.swi_slots.specs.Steps.{Cleared, FailedBelow, leading_in};
+ghost use Rattle.swi_rom.specs.Writing.{FailedBelow};
+ghost use Rattle.swi_slots.specs.Steps.{Cleared, leading_in};
 
 use crate::slots::SlotRom;
 use crate::table::LinkTable;
-use crate::write::EBREAK;
 use std::alloc::Global;
 use std::marker::Model;
 use swi_outside::{CacheRam, Failed, Memory};
+use swi_rom::EBREAK;
 
 /// A service that finds the links into a slot by looking through all words, and a block's slot by looking
 /// through the slots.

@@ -4,21 +4,21 @@
 ghost use Rattle.std.specs.Prelude.{◌≡◌, ◌+◌, ◌-◌, ◌*◌, ◌/◌, ◌%◌, ◌^◌, ◌<◌, ◌≤◌, ◌==◌, ℕ, List, length, replicate, slice_index, slice_get, Option, IfOk, OnOk, OnErr, IfSome, MatchOption, IsTrue, min, nat_lt, if◌then◌else◌};
 ghost use Rattle.swi_image.specs.Format.{ImageData};
 ghost use Rattle.swi_image.specs.Sound.{IsImage};
-ghost use Rattle.swi_rom.specs.Record.{reaches};
+ghost use Rattle.swi_rom.specs.Record.{empty_record, reaches};
 ghost use Rattle.swi_rom.specs.Coherent.{resident_of};
-ghost use Rattle.swi_slots.specs.Slots.{Slots, InShape, kept_by, empty_slots};
+ghost use Rattle.swi_slots.specs.Slots.{Slots, InShape, kept_by, setting_of, empty_slots};
 ghost use Rattle.swi_slots.specs.Sound.{SlotsServe, SlotsSound, Serves};
 ghost use Rattle.swi_slots.specs.Keys.{key_of, owner_of, number_of};
-ghost use Rattle.swi_slots.specs.Steps.{FailedBelow, MadeRoom, Filled, Linked, MaybeLinked, can_link, IsAbsent, LinksInside, settled, counted_slots, wrapped};
+ghost use Rattle.swi_rom.specs.Writing.{FailedBelow};
+ghost use Rattle.swi_slots.specs.Steps.{MadeRoom, Filled, Linked, MaybeLinked, can_link, IsAbsent, LinksInside, settled, counted_slots, wrapped};
 ghost use Rattle.swi_slots.specs.Arrived.{Arrived};
 
 use crate::table::LinkTable;
-use crate::write::{copy, jump, reach};
-use crate::{CacheRom, Counts, RomStop};
 use std::alloc::Global;
 use std::marker::Model;
 use swi_image::ImageView;
 use swi_outside::{CacheRam, Failed, Memory};
+use swi_rom::{CacheRom, Counts, RomStop, copy, jump, reach};
 
 /// A cache of slots of one size, each of which holds a block of one of its programs. While a slot is free the lowest is
 /// filled, and then the oldest block makes room. The table finds blocks and links, and each link has its goal beside.
@@ -130,6 +130,7 @@ impl<T: LinkTable> SlotRom<T> {
         requires bytes { 4 * block_words ≤ cache_bytes }
         requires limit { cache_bytes ≤ 2 ^ 23 }
         ensures empty { IfOk result (λ s. s ≡ empty_slots (cache_bytes / 4 / block_words) block_words 1) }
+        ensures kept { IfOk result (λ s. kept_by s ≡ empty_record) }
         ensures sound { IfOk result (λ s. (v : ImageData) (words : List ℕ) → IsImage v →
             v.block_words ≤ block_words → cache_bytes / 4 / block_words * block_words ≤ length words →
             SlotsSound s v words) }
@@ -153,6 +154,7 @@ impl<T: LinkTable> SlotRom<T> {
         requires programs { 1 ≤ programs }
         requires few { programs ≤ 8 }
         ensures empty { IfOk result (λ s. s ≡ empty_slots (cache_bytes / 4 / block_words) block_words programs) }
+        ensures kept { IfOk result (λ s. kept_by s ≡ empty_record) }
         ensures serves { IfOk result (λ s. (images : ℕ → ImageData) (words : List ℕ) → ((p : ℕ) → IsImage (images p)) →
             ((p : ℕ) → (images p).block_words ≤ block_words) →
             cache_bytes / 4 / block_words * block_words ≤ length words → SlotsServe s images words) }
@@ -184,10 +186,13 @@ impl<T: LinkTable> SlotRom<T> {
         })
     }
 
-    /// Another program comes in turn. Nothing else changes.
+    /// Another program comes in turn. Nothing else changes: what served the images of all programs serves them still.
     pub fn turn_to(&mut self, program: u32)
-        requires { program < self.old.programs }
-        ensures { self.new ≡ record self.old { turn = program } }
+        requires { program < (setting_of self.old).programs }
+        ensures turned { self.new ≡ record self.old { turn = program } }
+        ensures kept { kept_by self.new ≡ record (kept_by self.old) { turn = program } }
+        ensures serves { (image : ImageData) (images : ℕ → ImageData) (words : List ℕ) →
+            Serves self.old image images words → Serves self.new (images program) images words }
     {
         self.turn = program;
     }
@@ -233,6 +238,7 @@ impl<T: LinkTable> SlotRom<T> {
             (M.state ram.old) (M.state ram.new)) }
         ensures slots { self.new.slots ≡ self.old.slots }
         ensures size { self.new.size ≡ self.old.size }
+        ensures programs { self.new.programs ≡ self.old.programs }
     {
         if self.filled < self.slots {
             return Ok(());
@@ -279,6 +285,7 @@ impl<T: LinkTable> SlotRom<T> {
             (M.state ram.old) (M.state ram.new)) }
         ensures slots { self.new.slots ≡ self.old.slots }
         ensures size { self.new.size ≡ self.old.size }
+        ensures programs { self.new.programs ≡ self.old.programs }
     {
         self.make_room(ram)?;
         let length = image.length(block);
@@ -304,6 +311,7 @@ impl<T: LinkTable> SlotRom<T> {
             (M.state ram.old) (M.state ram.new)) }
         ensures slots { self.new.slots ≡ self.old.slots }
         ensures size { self.new.size ≡ self.old.size }
+        ensures programs { self.new.programs ≡ self.old.programs }
     {
         self.count();
         match self.find(block) {
@@ -339,6 +347,7 @@ impl<T: LinkTable> SlotRom<T> {
             (M.state ram.old) (M.state ram.new)) }
         ensures slots { self.new.slots ≡ self.old.slots }
         ensures size { self.new.size ≡ self.old.size }
+        ensures programs { self.new.programs ≡ self.old.programs }
     {
         ram.set(at, jump(at, to))?;
         self.table.link(at, slot);
@@ -371,6 +380,7 @@ impl<T: LinkTable> SlotRom<T> {
             (M.state ram.old) (M.state ram.new)) }
         ensures slots { self.new.slots ≡ self.old.slots }
         ensures size { self.new.size ≡ self.old.size }
+        ensures programs { self.new.programs ≡ self.old.programs }
     {
         if self.blocks[(at / self.size) as usize] != home {
             return Ok(());
@@ -383,27 +393,9 @@ impl<T: LinkTable> SlotRom<T> {
 }
 
 impl<T: LinkTable> CacheRom for SlotRom<T> {
-    ghost use Rattle.swi_slots.specs.Fifo.{fifo, extent_of, fifo_first, fifo_outside, fifo_second, fifo_third, fifo_grows};
-    ghost use Rattle.swi_slots.specs.Slots.{kept_by, setting_of, span_of, shown_by, goals_by};
-    ghost use Rattle.swi_slots.specs.Sound.{SlotsSound, Serves};
+    ghost use Rattle.swi_slots.specs.Service.{slots_service};
 
-    ghost kept = { kept_by };
-
-    ghost setting = { setting_of };
-
-    ghost span = { span_of };
-
-    ghost extent = { extent_of };
-
-    ghost policy = { fifo };
-
-    ghost sound = { SlotsSound };
-
-    ghost serves = { Serves };
-
-    ghost shown = { shown_by };
-
-    ghost goals = { goals_by };
+    ghost service = { slots_service };
 
     fn enter<M: CacheRam>(
         &mut self,
@@ -492,27 +484,7 @@ impl<T: LinkTable> CacheRom for SlotRom<T> {
         self.counts
     }
 
-    ghost use Rattle.swi_slots.specs.Laws.{slots_coherent, slots_small, slots_image, slots_shown, slots_goal, slots_within};
+    ghost use Rattle.swi_slots.specs.Laws.{slots_laws};
 
-    ghost coherent = { slots_coherent };
-
-    ghost small = { slots_small };
-
-    ghost image = { slots_image };
-
-    ghost shown_is = { slots_shown };
-
-    ghost goal_is = { slots_goal };
-
-    ghost first = { fifo_first };
-
-    ghost outside = { fifo_outside };
-
-    ghost second = { fifo_second };
-
-    ghost third = { fifo_third };
-
-    ghost within = { slots_within };
-
-    ghost grows = { fifo_grows };
+    ghost laws = { slots_laws };
 }

@@ -3,7 +3,8 @@
 
 ghost use Rattle.std.specs.Prelude.{◌≡◌, ◌+◌, ◌*◌, ◌^◌, ◌<◌, ◌≤◌, ℕ, List, length, max, replicate, slice_index, slice_set, IfOk, OnErr, MatchOption};
 ghost use Rattle.swi_slots.specs.Table.{NotAmong};
-ghost use Rattle.swi_slots.specs.Steps.{Cleared, FailedBelow, leading_in};
+ghost use Rattle.swi_rom.specs.Writing.{FailedBelow};
+ghost use Rattle.swi_slots.specs.Steps.{Cleared, leading_in};
 
 use std::alloc::Global;
 use swi_outside::{CacheRam, Failed, Memory};

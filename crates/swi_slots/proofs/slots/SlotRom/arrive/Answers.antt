@@ -5,7 +5,7 @@ use Rattle.swi_slots.specs.Keys.{key_of}
 use Rattle.swi_slots.specs.Sound.{SlotsSound}
 use Rattle.swi_slots.specs.Steps.{Filled, IsAbsent, counted_slots}
 use Rattle.swi_slots.specs.Arrived.{Arrived}
-use Rattle.swi_slots.proofs.Arriving.{counted_serves, counted_service, hit_arrived}
+use Rattle.swi_slots.proofs.Arriving.{counted_service, hit_arrived}
 use Rattle.swi_slots.proofs.Filling.{sound_few, sound_known}
 use Rattle.swi_slots.proofs.Misses.{miss_arrived}
 use Rattle.swi_slots.proofs.slots.SlotRom.arrive.Goals as goal

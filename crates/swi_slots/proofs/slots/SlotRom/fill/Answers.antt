@@ -1,6 +1,6 @@
 use Rattle.std.proofs.Common.{ap, arith, ◌*◌}
 use Rattle.swi_slots.specs.Slots.{Slots}
-use Rattle.swi_slots.specs.Rams.{on_err}
+use Rattle.swi_rom.specs.Rams.{on_err}
 use Rattle.swi_slots.proofs.Filling.{fill_failed, links_inside, sound_short}
 use Rattle.swi_slots.proofs.slots.SlotRom.fill.Goals as goal
 

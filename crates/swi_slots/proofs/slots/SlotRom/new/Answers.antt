@@ -1,4 +1,3 @@
-use Rattle.std.proofs.Common.{refl}
 use Rattle.swi_slots.proofs.Empty.{alone}
 use Rattle.swi_slots.proofs.slots.SlotRom.new.Goals as goal
 

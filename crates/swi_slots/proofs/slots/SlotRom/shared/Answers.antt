@@ -1,7 +1,7 @@
 use Rattle.std.proofs.Common.{◌/◌, arith, refl}
 use Rattle.std.proofs.lemmas.Grind.{common_steps}
 use Rattle.std.proofs.lemmas.Nat.{le-div, div-add-mod'}
-use Rattle.swi_slots.proofs.Empty.{empty_serves}
+use Rattle.swi_slots.proofs.Empty.{empty_serves, kept_empty}
 use Rattle.swi_slots.proofs.slots.SlotRom.shared.Goals as goal
 
 pub returns-clause-serves : goal.returns-clause-serves
@@ -33,3 +33,6 @@ returns-clause-serves g c = λ vs words images sizes fits.
       unlinks = refl;
       copied = refl;
     }) images sizes fits
+
+pub returns-clause-kept : goal.returns-clause-kept
+returns-clause-kept g c = kept_empty _ refl refl refl (grind (arith, common_steps)) refl

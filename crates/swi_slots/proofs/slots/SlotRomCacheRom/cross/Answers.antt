@@ -81,4 +81,4 @@ returns-clause-unused g c =
     let served = crossed_call _ _ _ _ _ _ c.in-Ok.slot _ _ _ _ _ _ _ c.requires.sound x (sym c.in-Some.ensures.place) c.in-Ok.ensures.arrived home index c.in-Ok-link_exit.ensures.linked x.block x.offset x.first x.is_placed (omega (arith, x.is_exit.inside)) x.index in
     let serves = crossed_serves _ _ _ _ _ _ c.in-Ok.slot _ _ _ _ _ _ _ x (sym c.in-Some.ensures.place) c.in-Ok.ensures.arrived home index c.in-Ok-link_exit.ensures.linked c.requires.sound.0 c.requires.sound.1 in
     unused_stays c.args.self.now c.link_exit.new.self c.args.image.now (direct x.block x.offset c.args.target) _ _ c.requires.sound (c.requires.sound.0, serves)
-    (setting_same c.args.self.now c.link_exit.new.self (c.in-Ok-link_exit.ensures.slots ∙ c.in-Ok.ensures.slots) (c.in-Ok-link_exit.ensures.size ∙ c.in-Ok.ensures.size)) served.moves served.words
+    (setting_same c.args.self.now c.link_exit.new.self (c.in-Ok-link_exit.ensures.slots ∙ c.in-Ok.ensures.slots) (c.in-Ok-link_exit.ensures.size ∙ c.in-Ok.ensures.size) (c.in-Ok-link_exit.ensures.programs ∙ c.in-Ok.ensures.programs)) served.moves served.words

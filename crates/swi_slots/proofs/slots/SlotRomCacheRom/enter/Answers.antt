@@ -26,7 +26,7 @@ returns-clause-served g c =
 pub returns-clause-unused : goal.returns-clause-unused
 returns-clause-unused g c =
     let served = entered_call _ _ _ _ _ c.in-Ok.slot c.self.inside.size _ _ _ c.requires.sound c.in-Ok.ensures.arrived (sym c.in-Some.ensures.place) (ap (λ (s : Slots). s.size) c.self.view_is ∙ c.in-Ok.ensures.size) in
-    unused_stays c.args.self.now c.arrive.new.self c.args.image.now (indirect c.args.target) _ _ c.requires.sound (arrived_sound _ _ _ _ _ _ _ c.requires.sound c.in-Ok.ensures.arrived) (setting_same c.args.self.now c.arrive.new.self c.in-Ok.ensures.slots c.in-Ok.ensures.size) served.moves served.words
+    unused_stays c.args.self.now c.arrive.new.self c.args.image.now (indirect c.args.target) _ _ c.requires.sound (arrived_sound _ _ _ _ _ _ _ c.requires.sound c.in-Ok.ensures.arrived) (setting_same c.args.self.now c.arrive.new.self c.in-Ok.ensures.slots c.in-Ok.ensures.size c.in-Ok.ensures.programs) served.moves served.words
 
 pub returns-clause-stays : goal.returns-clause-stays
 returns-clause-stays g c = arrived_sound _ _ _ _ _ _ _ c.requires.sound c.in-Ok.ensures.arrived

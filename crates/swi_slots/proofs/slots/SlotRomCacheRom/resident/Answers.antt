@@ -1,4 +1,4 @@
-use Rattle.std.proofs.Common.{ap, refl, sym, ◌∙◌, subst, ◌≡◌, arith}
+use Rattle.std.proofs.Common.{refl, sym, ◌∙◌, subst, ◌≡◌}
 use Rattle.swi_slots.specs.Readers.{resident_here, own_step, other_step, resident_none, own_from}
 use Rattle.std.specs.Prelude.{slice_get}
 use Rattle.swi_slots.proofs.slots.SlotRomCacheRom.resident.Goals as goal

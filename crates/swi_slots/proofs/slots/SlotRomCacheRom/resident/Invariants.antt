@@ -1,5 +1,4 @@
-use Rattle.std.proofs.Common.{◌≡◌, Option}
-use Rattle.swi_rom.specs.Record.{Placement}
+use Rattle.std.proofs.Common.{◌≡◌}
 use Rattle.swi_slots.specs.Readers.{own_from}
 use Rattle.std.specs.Prelude.{slice_get}
 use Rattle.swi_slots.proofs.slots.SlotRomCacheRom.resident.Given as goal

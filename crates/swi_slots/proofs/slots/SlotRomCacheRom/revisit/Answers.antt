@@ -1,7 +1,5 @@
 use Rattle.std.proofs.Common.{◌+◌, ◌*◌, ap, arith, sym, ◌∙◌, subst}
-use Rattle.swi_image.specs.Format.{ImageData}
-use Rattle.swi_slots.specs.Slots.{Slots, kept_by}
-use Rattle.swi_rom.specs.Record.{Placed}
+use Rattle.swi_slots.specs.Slots.{Slots}
 use Rattle.swi_slots.specs.Queue.{slot_placed}
 use Rattle.swi_slots.specs.Sound.{SlotsSound, Serves}
 use Rattle.swi_slots.proofs.Arriving.{counted_service, counted_serves}
