@@ -5,8 +5,9 @@ use Rattle.std.proofs.lemmas.Nat.{div-mul-add, div-add-mod', mod_below, row_fits
 use Rattle.swi_outside.specs.CacheRam.{RamState}
 use Rattle.swi_chain.specs.Chains.{ChainsData}
 use Rattle.swi_rom.specs.Record.{ebreak}
-use Rattle.swi_rom.specs.Steps.{Wrote, Cleared, leads_in, is_dropped, leading_in}
-use Rattle.swi_rom.specs.Tells.{own_tells, leads_tells, none_tells, leading_nothing}
+use Rattle.swi_rom.specs.Writing.{Wrote}
+use Rattle.swi_slots.specs.Steps.{Cleared, leads_in, is_dropped, leading_in}
+use Rattle.swi_slots.specs.Tells.{own_tells, leads_tells, none_tells, leading_nothing}
 use Rattle.swi_fifo.specs.Homes.{TableData}
 use Rattle.swi_fifo.specs.Targets.{slot_of, targets_of}
 use Rattle.swi_fifo.specs.Undone.{Undone, IsEmptied, Released}

@@ -6,9 +6,10 @@ use Rattle.swi_outside.specs.Causes.{counted}
 use Rattle.swi_outside.specs.CacheRam.{RamState}
 use Rattle.swi_chain.specs.Chains.{ChainsData, Has, IsApart, IsFree, list_of, without}
 use Rattle.swi_rom.specs.Record.{ebreak}
-use Rattle.swi_rom.specs.Steps.{FailedBelow, Wrote, leads_in, leading_in}
+use Rattle.swi_rom.specs.Writing.{FailedBelow, Wrote}
+use Rattle.swi_slots.specs.Steps.{leads_in, leading_in}
 use Rattle.swi_rom.specs.Rams.{failed_more, failed_wider, wrote_none, wrote_one, wrote_more}
-use Rattle.swi_rom.specs.Tells.{own_tells, leads_tells, none_tells, leading_most, leading_alike, leading_less}
+use Rattle.swi_slots.specs.Tells.{own_tells, leads_tells, none_tells, leading_most, leading_alike, leading_less}
 use Rattle.swi_fifo.specs.Targets.{slot_of, targets_of}
 use Rattle.swi_fifo.specs.Undone.{Undone, Stays, Leaves, IsEmptied, Released}
 use Rattle.swi_fifo.proofs.Lists.{slot_has, slot_free, slot_one, target_at, unlinked_lists, unlinked_here, unlinked_other}

@@ -2,12 +2,12 @@
 use Rattle.std.proofs.Common.{◌≡◌, ℕ, ◌+◌, ◌*◌, ◌/◌, ◌%◌, ◌<◌, ◌↔◌, List, length, slice_index, arith, sym, ◌∙◌, ap, subst}
 use Rattle.swi_image.specs.Format.{ImageData}
 use Rattle.swi_rom.specs.Record.{Placement, Link, Has as InQueue}
-use Rattle.swi_rom.specs.Keys.{Images, key_of, key_parts, owner_of, number_of}
-use Rattle.swi_rom.specs.Slots.{Slots, InShape, queue_of, kept_by}
-use Rattle.swi_rom.specs.Sound.{SlotsServe, SlotsSound, LinkStands}
-use Rattle.swi_rom.specs.Queue.{has_slot, slot_has as placed_has}
-use Rattle.swi_rom.specs.SlotLinks.{link_of, link_key, linked_word, word_linked, word_is, word_below}
-use Rattle.swi_rom.specs.Coheres.{tidy_of, target_owner}
+use Rattle.swi_slots.specs.Keys.{Images, key_of, key_parts, owner_of, number_of}
+use Rattle.swi_slots.specs.Slots.{Slots, InShape, queue_of, kept_by}
+use Rattle.swi_slots.specs.Sound.{SlotsServe, SlotsSound, LinkStands}
+use Rattle.swi_slots.specs.Queue.{has_slot, slot_has as placed_has}
+use Rattle.swi_slots.specs.SlotLinks.{link_of, link_key, linked_word, word_linked, word_is, word_below}
+use Rattle.swi_slots.specs.Coheres.{tidy_of, target_owner}
 use Rattle.swi_chain.specs.Chains.{ChainsData, Has, IsApart, list_of}
 use Rattle.swi_fifo.specs.Homes.{TableData}
 use Rattle.swi_fifo.specs.Targets.{slot_of, targets_of}

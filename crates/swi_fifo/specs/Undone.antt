@@ -3,7 +3,8 @@ use Rattle.std.specs.Prelude.{◌≡◌, ◌⊎◌, ℕ, ◌+◌, ◌/◌, ◌<�
 use Rattle.swi_outside.specs.CacheRam.{RamState}
 use Rattle.swi_chain.specs.Chains.{ChainsData}
 use Rattle.swi_rom.specs.Record.{ebreak}
-use Rattle.swi_rom.specs.Steps.{Wrote, leading_in}
+use Rattle.swi_rom.specs.Writing.{Wrote}
+use Rattle.swi_slots.specs.Steps.{leading_in}
 use Rattle.swi_fifo.specs.Targets.{slot_of, targets_of}
 
 -- the word is linked as before, and the same word

@@ -3,9 +3,10 @@
 
 ghost use Rattle.std.specs.Prelude.{◌≡◌, ◌+◌, ◌*◌, ◌^◌, ◌<◌, ◌≤◌, ◌↔◌, ℕ, List, length, replicate, max, nat_lt, slice_index, slice_set, IfOk, OnErr, MatchOption, if◌then◌else◌};
 ghost use Rattle.swi_image.specs.Format.{ImageData};
-ghost use Rattle.swi_rom.specs.Slots.{kept_by};
-ghost use Rattle.swi_rom.specs.Sound.{SlotsSound};
-ghost use Rattle.swi_rom.specs.Steps.{Cleared, FailedBelow, leading_in};
+ghost use Rattle.swi_slots.specs.Slots.{kept_by};
+ghost use Rattle.swi_slots.specs.Sound.{SlotsSound};
+ghost use Rattle.swi_rom.specs.Writing.{FailedBelow};
+ghost use Rattle.swi_slots.specs.Steps.{Cleared, leading_in};
 ghost use Rattle.swi_chain.specs.Chains.{list_of, Has};
 ghost use Rattle.swi_fifo.specs.Chained.{LinkInto};
 ghost use Rattle.swi_fifo.specs.Homes.{nowhere};
@@ -15,7 +16,7 @@ use std::alloc::Global;
 use std::marker::Model;
 use swi_chain::Chains;
 use swi_outside::{CacheRam, Failed, Memory};
-use swi_rom::{LinkTable, SlotRom};
+use swi_slots::{LinkTable, SlotRom};
 
 /// The service that keeps a list of links for each slot, and a slot for each block. An eviction takes the links
 /// into the block from its slot's list, and no call but `new` takes memory.

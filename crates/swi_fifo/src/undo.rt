@@ -4,7 +4,7 @@
 ghost use Rattle.std.specs.Prelude.{◌≡◌, ◌+◌, ◌/◌, ◌<◌, ◌≤◌, ◌^◌, ℕ, length, IfOk, OnErr, slice_set, max};
 ghost use Rattle.swi_outside.specs.Causes.{counted};
 ghost use Rattle.swi_rom.specs.Record.{ebreak};
-ghost use Rattle.swi_rom.specs.Steps.{FailedBelow};
+ghost use Rattle.swi_rom.specs.Writing.{FailedBelow};
 ghost use Rattle.swi_fifo.specs.Targets.{slot_of};
 ghost use Rattle.swi_fifo.specs.Undone.{Undone, IsEmptied, Released};
 

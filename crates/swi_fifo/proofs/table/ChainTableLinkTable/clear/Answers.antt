@@ -1,5 +1,5 @@
 use Rattle.std.proofs.Common.{ℕ, arith, ap, subst, ◌∙◌}
-use Rattle.swi_rom.specs.Steps.{FailedBelow}
+use Rattle.swi_rom.specs.Writing.{FailedBelow}
 use Rattle.swi_rom.specs.Rams.{on_err}
 use Rattle.swi_fifo.specs.Homes.{TableData}
 use Rattle.swi_fifo.proofs.Clearing.{words_are, same_length, own_within, cleared_call, number_call}
