@@ -1,5 +1,5 @@
-use Rattle.swi_fifo.proofs.Leaving.{released_start, released_next}
-use Rattle.swi_fifo.proofs.undo.drop_own.Goals as goal
+use Rattle.swi_undo.proofs.Leaving.{released_start, released_next}
+use Rattle.swi_undo.proofs.links.drop_own.Goals as goal
 
 pub loop-at-init : goal.loop-at-init
 loop-at-init c = released_start _ _
