@@ -22,7 +22,7 @@ ghost use Rattle.swi_calls.specs.declared.machine.Machine.{Machine};
 ghost use Rattle.swi_hart.specs.Calling.{Made, BrokenStep, OnDevice, with_memory};
 ghost use Rattle.swi_hart.specs.Faults.{HasCauses};
 ghost use Rattle.swi_outside.specs.CacheRam.{KeepsBeyond};
-ghost use Rattle.swi_hart.specs.Service.{Transferred};
+ghost use Rattle.swi_hart.specs.Service.{TransferServed};
 ghost use Rattle.swi_hart.specs.Bounds.{most, Grown};
 ghost use Rattle.swi_board.specs.Runs.{fetched_by};
 
@@ -72,20 +72,18 @@ fn enter<R: CacheRom, M: CacheRam>(
     ram: &mut M,
 ) -> Result<(), Failed>
     requires count { hart.old.count < 2 ^ 56 }
-    requires sound { R.sound rom.old image.now (M.state ram.old).words }
-    requires services { (R.kept rom.old).counts.services < 2 ^ 50 }
+    requires sound { R.service.sound rom.old image.now (M.state ram.old).words }
+    requires services { (R.service.kept rom.old).counts.services < 2 ^ 50 }
     ensures hart { OnOk result (hart.new
         ≡ record hart.old {
           control = hart.new.control;
           count = hart.old.count + entries image.now hart.old.machine.pc;
           booted = true;
         }) }
-    ensures control { OnOk result (Arrives image.now (R.kept rom.new) hart.old.machine.pc hart.new.control) }
-    ensures served { Transferred R.policy R.extent R.span image.now (entry_transfer image.now hart.old.machine.pc)
-        (R.sound rom.new image.now (M.state ram.new).words × Keeps R.serves image.now rom.old rom.new
-        (M.state ram.old).words (M.state ram.new).words)
-        (record { kept = R.kept rom.old; setting = R.setting rom.old; ram = M.state ram.old })
-        (record { kept = R.kept rom.new; setting = R.setting rom.new; ram = M.state ram.new }) result }
+    ensures control { OnOk result (Arrives image.now (R.service.kept rom.new) hart.old.machine.pc hart.new.control) }
+    ensures served { TransferServed R.service image.now (entry_transfer image.now hart.old.machine.pc)
+        (record { rom = rom.old; ram = M.state ram.old })
+        (record { rom = rom.new; ram = M.state ram.new }) result }
 {
     let pc = hart.origin_pc();
     if image.place(pc).is_some() {
@@ -117,8 +115,8 @@ impl<R: CacheRom> Board<R> {
         requires unfailed { hart.failed ≡ false }
         requires between { is_between hart.control ≡ true }
         requires count { hart.count < 2 ^ 56 }
-        requires sound { R.sound rom image.now (M.state ram.old).words }
-        requires services { (R.kept rom).counts.services < 2 ^ 50 }
+        requires sound { R.service.sound rom image.now (M.state ram.old).words }
+        requires services { (R.service.kept rom).counts.services < 2 ^ 50 }
         ensures hart { IfOk result (λ b. b.hart
             ≡ record hart {
               control = b.hart.control;
@@ -126,23 +124,23 @@ impl<R: CacheRom> Board<R> {
               booted = true;
             }) }
         ensures matches { IfOk result (λ b. Matches image.now
-            (R.kept b.rom) hart.machine b.hart.machine b.hart.control) }
-        ensures fits { IfOk result (λ b. Fits image.now (R.kept b.rom) b.hart) }
+            (R.service.kept b.rom) hart.machine b.hart.machine b.hart.control) }
+        ensures fits { IfOk result (λ b. Fits image.now (R.service.kept b.rom) b.hart) }
         ensures here { IfOk result (λ b. here_of image.now hart.machine b.hart.control
             ≡ place_of image.now hart.machine.pc) }
         ensures spent { IfOk result (λ b. spent_run hart.machine b.hart.control ≡ 0) }
         ensures between { IfOk result (λ b. is_between b.hart.control ≡ true) }
-        ensures policy { IfOk result (λ b. R.kept b.rom ≡ moved (R.policy (R.setting rom))
-            (R.kept rom) image.now (entry_transfer image.now hart.machine.pc)) }
-        ensures setting { IfOk result (λ b. R.setting b.rom ≡ R.setting rom) }
-        ensures sound { IfOk result (λ b. R.sound b.rom image.now (M.state ram.new).words) }
-        ensures keeps { IfOk result (λ b. Keeps R.serves image.now rom b.rom
+        ensures policy { IfOk result (λ b. R.service.kept b.rom ≡ moved (R.service.policy (R.service.setting rom))
+            (R.service.kept rom) image.now (entry_transfer image.now hart.machine.pc)) }
+        ensures setting { IfOk result (λ b. R.service.setting b.rom ≡ R.service.setting rom) }
+        ensures sound { IfOk result (λ b. R.service.sound b.rom image.now (M.state ram.new).words) }
+        ensures keeps { IfOk result (λ b. Keeps R.service image.now rom b.rom
             (M.state ram.old).words (M.state ram.new).words) }
-        ensures unused { IfOk result (λ b. SameFrom (R.extent (R.setting rom) (R.kept b.rom))
+        ensures unused { IfOk result (λ b. SameFrom (R.service.extent (R.service.setting rom) (R.service.kept b.rom))
             (M.state ram.old).words (M.state ram.new).words) }
-        ensures ram { IfOk result (λ b. RamServed (R.span (R.setting rom))
-            (writes (R.kept b.rom) - writes (R.kept rom)) (M.state ram.old) (M.state ram.new)) }
-        ensures failed { OnErr result (RamFailed (R.span (R.setting rom)) (M.state ram.old) (M.state ram.new)) }
+        ensures ram { IfOk result (λ b. RamServed (R.service.span (R.service.setting rom))
+            (writes (R.service.kept b.rom) - writes (R.service.kept rom)) (M.state ram.old) (M.state ram.new)) }
+        ensures failed { OnErr result (RamFailed (R.service.span (R.service.setting rom)) (M.state ram.old) (M.state ram.new)) }
     {
         let mut hart = hart;
         let mut rom = rom;
@@ -166,29 +164,29 @@ impl<R: CacheRom> Board<R> {
     ) -> Result<Board<R>, BootStop>
         requires laid_out { IsLayoutOf p.now.segments l.now }
         requires carries { Carries (word_of (text_of p.now.segments)) image.now }
-        requires sound { R.sound rom image.now (M.state ram.old).words }
-        requires services { (R.kept rom).counts.services < 2 ^ 50 }
+        requires sound { R.service.sound rom image.now (M.state ram.old).words }
+        requires services { (R.service.kept rom).counts.services < 2 ^ 50 }
         ensures machine { IfOk result (λ b. b.hart.machine ≡ machine_of p.now l.now log) }
         ensures count { IfOk result (λ b. b.hart.count ≡ 1) }
         ensures unfailed { IfOk result (λ b. b.hart.failed ≡ false) }
         ensures booted { IfOk result (λ b. b.hart.booted ≡ true) }
         ensures between { IfOk result (λ b. is_between b.hart.control ≡ true) }
-        ensures matches { IfOk result (λ b. Matches image.now (R.kept b.rom)
+        ensures matches { IfOk result (λ b. Matches image.now (R.service.kept b.rom)
             (machine_of p.now l.now log) b.hart.machine b.hart.control) }
-        ensures fits { IfOk result (λ b. Fits image.now (R.kept b.rom) b.hart) }
+        ensures fits { IfOk result (λ b. Fits image.now (R.service.kept b.rom) b.hart) }
         ensures here { IfOk result (λ b. here_of image.now (machine_of p.now l.now log) b.hart.control
             ≡ place_of image.now p.now.entry) }
         ensures spent { IfOk result (λ b. spent_run (machine_of p.now l.now log) b.hart.control ≡ 0) }
-        ensures policy { IfOk result (λ b. R.kept b.rom ≡ R.policy (R.setting rom)
-            (R.kept rom) image.now (indirect p.now.entry)) }
-        ensures setting { IfOk result (λ b. R.setting b.rom ≡ R.setting rom) }
-        ensures sound { IfOk result (λ b. R.sound b.rom image.now (M.state ram.new).words) }
-        ensures unused { IfOk result (λ b. SameFrom (R.extent (R.setting rom) (R.kept b.rom))
+        ensures policy { IfOk result (λ b. R.service.kept b.rom ≡ R.service.policy (R.service.setting rom)
+            (R.service.kept rom) image.now (indirect p.now.entry)) }
+        ensures setting { IfOk result (λ b. R.service.setting b.rom ≡ R.service.setting rom) }
+        ensures sound { IfOk result (λ b. R.service.sound b.rom image.now (M.state ram.new).words) }
+        ensures unused { IfOk result (λ b. SameFrom (R.service.extent (R.service.setting rom) (R.service.kept b.rom))
             (M.state ram.old).words (M.state ram.new).words) }
-        ensures ram { IfOk result (λ b. RamServed (R.span (R.setting rom))
-            (writes (R.kept b.rom) - writes (R.kept rom)) (M.state ram.old) (M.state ram.new)) }
+        ensures ram { IfOk result (λ b. RamServed (R.service.span (R.service.setting rom))
+            (writes (R.service.kept b.rom) - writes (R.service.kept rom)) (M.state ram.old) (M.state ram.new)) }
         ensures failed { IsErrOf result BootStop.RamFault →
-            RamFailed (R.span (R.setting rom)) (M.state ram.old) (M.state ram.new) }
+            RamFailed (R.service.span (R.service.setting rom)) (M.state ram.old) (M.state ram.new) }
         ensures untouched { IsErrOf result BootStop.Memory → M.state ram.new ≡ M.state ram.old }
     {
         let hart = match Hart::start(alloc, p, l, log) {
@@ -215,7 +213,7 @@ impl<R: CacheRom> Board<R> {
     /// `step` or `run`.
     pub fn join(hart: Hart, rom: R) -> Board<R>
         requires booted { hart.booted ≡ true }
-        requires shown { (i : ℕ) → index_of hart.machine.ending hart.control ≡ Some i → R.shown rom i
+        requires shown { (i : ℕ) → index_of hart.machine.ending hart.control ≡ Some i → R.service.shown rom i
             ≡ place_under hart.machine.ending hart.control }
         ensures hart { result.hart ≡ hart }
         ensures rom { result.rom ≡ rom }
@@ -245,20 +243,20 @@ impl<R: CacheRom> Board<R> {
         requires unfailed { self.old.hart.failed ≡ false }
         requires few { self.old.hart.machine.steps < 2 ^ 48 }
         requires count { self.old.hart.count < 2 ^ 56 }
-        requires services { (R.kept self.old.rom).counts.services < 2 ^ 50 }
-        requires fits { Fits image.now (R.kept self.old.rom) self.old.hart }
-        requires sound { R.sound self.old.rom image.now (M.state ram.old).words
-            ⊎ Exchanged (λ words. R.sound self.old.rom image.now words) image.now
+        requires services { (R.service.kept self.old.rom).counts.services < 2 ^ 50 }
+        requires fits { Fits image.now (R.service.kept self.old.rom) self.old.hart }
+        requires sound { R.service.sound self.old.rom image.now (M.state ram.old).words
+            ⊎ Exchanged (λ words. R.service.sound self.old.rom image.now words) image.now
             (M.state ram.old).words self.old.hart.control }
-        ensures follows { R.sound self.old.rom image.now (M.state ram.old).words →
+        ensures follows { R.service.sound self.old.rom image.now (M.state ram.old).words →
             OnOk result (ForSome (I.left input.old) (λ left. (f : Machine) → Carries (fetched f.bus) image.now →
-            Matches image.now (R.kept self.old.rom) f self.old.hart.machine self.old.hart.control →
-            Followed image.now (R.kept self.new.rom) self.new.hart
+            Matches image.now (R.service.kept self.old.rom) f self.old.hart.machine self.old.hart.control →
+            Followed image.now (R.service.kept self.new.rom) self.new.hart
             (next_made image.now self.old.hart.machine self.old.hart.control f left)
             (I.left input.new) (O.held out.old) (O.held out.new) (E.held err.old) (E.held err.new))) }
-        ensures made { R.sound self.old.rom image.now (M.state ram.old).words →
+        ensures made { R.service.sound self.old.rom image.now (M.state ram.old).words →
             OnOk result (ForSome (I.left input.old)
-            (λ left. Made image.now (R.kept self.new.rom) self.old.hart self.new.hart left
+            (λ left. Made image.now (R.service.kept self.new.rom) self.old.hart self.new.hart left
             (I.left input.new) (O.held out.old) (O.held out.new) (E.held err.old) (E.held err.new))) }
         ensures executes { OnOk result ((i b o : ℕ) (stage : Stage) →
             PlainAt image.now (M.state ram.old).words self.old.hart.control i b o stage →
@@ -268,31 +266,31 @@ impl<R: CacheRom> Board<R> {
         ensures whole { OnOk result ((i b o : ℕ) (stage : Stage) →
             PlainAt image.now (M.state ram.old).words self.old.hart.control i b o stage →
             role_of stage (original self.old.hart.machine) ≡ Role.Whole →
-            Fits image.now (R.kept self.new.rom) self.new.hart) }
+            Fits image.now (R.service.kept self.new.rom) self.new.hart) }
         ensures unfailed { OnOk result (self.new.hart.failed ≡ false) }
         ensures booted { OnOk result (self.new.hart.booted ≡ self.old.hart.booted) }
-        ensures fits { R.sound self.old.rom image.now (M.state ram.old).words →
-            OnOk result (Fits image.now (R.kept self.new.rom) self.new.hart) }
-        ensures policy { OnOk result (R.kept self.new.rom ≡ moved (R.policy (R.setting self.old.rom))
-            (R.kept self.old.rom) image.now
+        ensures fits { R.service.sound self.old.rom image.now (M.state ram.old).words →
+            OnOk result (Fits image.now (R.service.kept self.new.rom) self.new.hart) }
+        ensures policy { OnOk result (R.service.kept self.new.rom ≡ moved (R.service.policy (R.service.setting self.old.rom))
+            (R.service.kept self.old.rom) image.now
             (transfer_at image.now self.old.hart.machine self.old.hart.control)) }
-        ensures setting { R.setting self.new.rom ≡ R.setting self.old.rom }
-        ensures sound { R.sound self.old.rom image.now (M.state ram.old).words →
-            OnOk result (R.sound self.new.rom image.now (M.state ram.new).words) }
-        ensures keeps { R.sound self.old.rom image.now (M.state ram.old).words →
-            OnOk result (Keeps R.serves image.now self.old.rom self.new.rom
+        ensures setting { R.service.setting self.new.rom ≡ R.service.setting self.old.rom }
+        ensures sound { R.service.sound self.old.rom image.now (M.state ram.old).words →
+            OnOk result (R.service.sound self.new.rom image.now (M.state ram.new).words) }
+        ensures keeps { R.service.sound self.old.rom image.now (M.state ram.old).words →
+            OnOk result (Keeps R.service image.now self.old.rom self.new.rom
             (M.state ram.old).words (M.state ram.new).words) }
-        ensures unused { OnOk result (SameFrom (R.extent (R.setting self.old.rom) (R.kept self.new.rom))
+        ensures unused { OnOk result (SameFrom (R.service.extent (R.service.setting self.old.rom) (R.service.kept self.new.rom))
             (M.state ram.old).words (M.state ram.new).words) }
-        ensures ram { OnOk result (RamStepped (R.span (R.setting self.old.rom))
-            (writes (R.kept self.new.rom) - writes (R.kept self.old.rom)) self.old.hart.control
+        ensures ram { OnOk result (RamStepped (R.service.span (R.service.setting self.old.rom))
+            (writes (R.service.kept self.new.rom) - writes (R.service.kept self.old.rom)) self.old.hart.control
             (M.state ram.old) (M.state ram.new)) }
-        ensures grown { R.sound self.old.rom image.now (M.state ram.old).words →
-            OnOk result (Grown image.now (R.kept self.old.rom) (R.kept self.new.rom) self.old.hart self.new.hart) }
+        ensures grown { R.service.sound self.old.rom image.now (M.state ram.old).words →
+            OnOk result (Grown image.now (R.service.kept self.old.rom) (R.service.kept self.new.rom) self.old.hart self.new.hart) }
         ensures stopped { OnErr result (self.new.hart ≡ broken (with_memory self.old.hart self.new.hart.machine.bus)) }
-        ensures broke { R.sound self.old.rom image.now (M.state ram.old).words →
+        ensures broke { R.service.sound self.old.rom image.now (M.state ram.old).words →
             OnDevice result (ForSome (I.left input.old)
-            (λ left. BrokenStep image.now (R.kept self.old.rom) self.old.hart left
+            (λ left. BrokenStep image.now (R.service.kept self.old.rom) self.old.hart left
             (I.left input.new) (O.held out.old) (O.held out.new) (E.held err.old) (E.held err.new))) }
         ensures unwritten { IsErrOf result BoardFault.SourceFault → (O.held out.new ≡ O.held out.old)
             × (E.held err.new ≡ E.held err.old) }
@@ -301,8 +299,8 @@ impl<R: CacheRom> Board<R> {
             ≡ E.held err.old)) }
         ensures ram_failed { IsErrOf result BoardFault.RamFault →
             RamBroken image.now self.old.hart.machine self.old.hart.control
-            (R.span (R.setting self.old.rom)) (M.state ram.old) (M.state ram.new) }
-        ensures kept { KeepsBeyond (R.span (R.setting self.old.rom)) (M.state ram.old) (M.state ram.new) }
+            (R.service.span (R.service.setting self.old.rom)) (M.state ram.old) (M.state ram.new) }
+        ensures kept { KeepsBeyond (R.service.span (R.service.setting self.old.rom)) (M.state ram.old) (M.state ram.new) }
         ensures causes { HasCauses
             (record {
               ram = (M.state ram.old).faults;
@@ -339,50 +337,50 @@ impl<R: CacheRom> Board<R> {
         err: &mut E,
         n: u64,
     ) -> Result<(), BoardFault>
-        requires fits { Fits image.now (R.kept self.old.rom) self.old.hart }
-        requires sound { R.sound self.old.rom image.now (M.state ram.old).words }
+        requires fits { Fits image.now (R.service.kept self.old.rom) self.old.hart }
+        requires sound { R.service.sound self.old.rom image.now (M.state ram.old).words }
         requires steps { self.old.hart.machine.steps ≤ n }
         requires unfailed { self.old.hart.failed ≡ false }
         requires limit { n ≤ 2 ^ 48 }
         requires count { self.old.hart.count ≤ 2 ^ 55 }
-        requires services { (R.kept self.old.rom).counts.services ≤ 2 ^ 49 }
+        requires services { (R.service.kept self.old.rom).counts.services ≤ 2 ^ 49 }
         ensures ran { OnOk result (ForSome (I.left input.old) (λ left. (f : Machine) →
             Carries (fetched f.bus) image.now →
-            Matches image.now (R.kept self.old.rom) f self.old.hart.machine self.old.hart.control →
-            Ran (R.policy (R.setting self.old.rom)) image.now (n - self.old.hart.machine.steps)
-            (started f left) self.old.hart (R.kept self.old.rom) self.new.hart (R.kept self.new.rom) (I.left input.new)
+            Matches image.now (R.service.kept self.old.rom) f self.old.hart.machine self.old.hart.control →
+            Ran (R.service.policy (R.service.setting self.old.rom)) image.now (n - self.old.hart.machine.steps)
+            (started f left) self.old.hart (R.service.kept self.old.rom) self.new.hart (R.service.kept self.new.rom) (I.left input.new)
             (O.held out.old) (O.held out.new) (E.held err.old) (E.held err.new))) }
         ensures count { OnOk result
             (self.new.hart.count + most image.now self.old.hart.machine self.old.hart.control
             ≤ self.old.hart.count + most image.now self.new.hart.machine self.new.hart.control) }
-        ensures fits { OnOk result (Fits image.now (R.kept self.new.rom) self.new.hart) }
-        ensures setting { R.setting self.new.rom ≡ R.setting self.old.rom }
-        ensures sound { OnOk result (R.sound self.new.rom image.now (M.state ram.new).words) }
-        ensures keeps { OnOk result (Keeps R.serves image.now self.old.rom self.new.rom
+        ensures fits { OnOk result (Fits image.now (R.service.kept self.new.rom) self.new.hart) }
+        ensures setting { R.service.setting self.new.rom ≡ R.service.setting self.old.rom }
+        ensures sound { OnOk result (R.service.sound self.new.rom image.now (M.state ram.new).words) }
+        ensures keeps { OnOk result (Keeps R.service image.now self.old.rom self.new.rom
             (M.state ram.old).words (M.state ram.new).words) }
-        ensures unused { OnOk result (SameFrom (R.extent (R.setting self.old.rom) (R.kept self.new.rom))
+        ensures unused { OnOk result (SameFrom (R.service.extent (R.service.setting self.old.rom) (R.service.kept self.new.rom))
             (M.state ram.old).words (M.state ram.new).words) }
         ensures unfailed { OnOk result (self.new.hart.failed ≡ false) }
         ensures booted { OnOk result (self.new.hart.booted ≡ self.old.hart.booted) }
         ensures done { OnOk result ((self.new.hart.machine.steps ≡ n) ⊎ (is_some self.new.hart.machine.ending ≡ true)) }
         ensures settled { OnOk result (ForSome (I.left input.old) (λ left. is_between self.old.hart.control ≡ true →
             self.new.hart.machine.ending ≡ None → is_between self.new.hart.control ≡ true)) }
-        ensures ram { OnOk result (RamRan (R.span (R.setting self.old.rom)) (fetched_by self.old.hart self.new.hart)
-            (writes (R.kept self.new.rom) - writes (R.kept self.old.rom))
+        ensures ram { OnOk result (RamRan (R.service.span (R.service.setting self.old.rom)) (fetched_by self.old.hart self.new.hart)
+            (writes (R.service.kept self.new.rom) - writes (R.service.kept self.old.rom))
             (M.state ram.old) (M.state ram.new)) }
-        ensures kept { KeepsBeyond (R.span (R.setting self.old.rom)) (M.state ram.old) (M.state ram.new) }
+        ensures kept { KeepsBeyond (R.service.span (R.service.setting self.old.rom)) (M.state ram.old) (M.state ram.new) }
         ensures failed { OnErr result (self.new.hart.failed ≡ true) }
         ensures going { OnErr result (self.new.hart.machine.ending ≡ None) }
         ensures uncounted { OnErr result (self.new.hart.machine.steps < n) }
         ensures broke { OnDevice result (ForSome (I.left input.old) (λ left. (f : Machine) →
             Carries (fetched f.bus) image.now →
-            Matches image.now (R.kept self.old.rom) f self.old.hart.machine self.old.hart.control →
+            Matches image.now (R.service.kept self.old.rom) f self.old.hart.machine self.old.hart.control →
             BrokeOff result (n - self.old.hart.machine.steps)
             (started f left) self.old.hart self.new.hart (I.left input.new)
             (O.held out.old) (O.held out.new) (E.held err.old) (E.held err.new))) }
         ensures ram_broke { IsErrOf result BoardFault.RamFault → ForSome (I.left input.old) (λ left. (f : Machine) →
             Carries (fetched f.bus) image.now →
-            Matches image.now (R.kept self.old.rom) f self.old.hart.machine self.old.hart.control →
+            Matches image.now (R.service.kept self.old.rom) f self.old.hart.machine self.old.hart.control →
             RamBrokeOff image.now (n - self.old.hart.machine.steps)
             (started f left) self.old.hart self.new.hart (M.state ram.old) (M.state ram.new) (I.left input.new)
             (O.held out.old) (O.held out.new) (E.held err.old) (E.held err.new)) }

@@ -8,22 +8,22 @@ pub returns-then-got-ne-EBREAK-clause-control : goal.returns-then-got-ne-EBREAK-
 returns-then-got-ne-EBREAK-clause-control g c =
     let s = c.requires.sound in
     let v = c.args.image.now in
-    let r = g.R.CacheRom.kept c.args.rom.now in
-    let coherent = g.met.R.CacheRom.coherent _ _ _ s in
-    let to = link_target v r _ _ c.args.got c.args.at.0 c.args.at.1 c.args.at.2 c.jump_index.result coherent (g.met.R.CacheRom.image _ _ _ s) (g.met.R.CacheRom.small _ _ _ s)
+    let r = g.R.CacheRom.service.kept c.args.rom.now in
+    let coherent = g.met.R.CacheRom.laws.coherent _ _ _ s in
+    let to = link_target v r _ _ c.args.got c.args.at.0 c.args.at.1 c.args.at.2 c.jump_index.result coherent (g.met.R.CacheRom.laws.image _ _ _ s) (g.met.R.CacheRom.laws.small _ _ _ s)
     c.requires.exit c.if-got-ne-EBREAK.true (λ n jumps. c.jump_index.ensures n c.args.got jumps c.requires.offset) in
     c.control_at.ensures v _ c.args.target s (subst (λ n. TargetAt v r n c.jump_index.result) (sym c.requires.target) to)
 
 pub returns-then-got-ne-EBREAK-clause-served : goal.returns-then-got-ne-EBREAK-clause-served
 returns-then-got-ne-EBREAK-clause-served g c =
     let s = c.requires.sound in
-    let linked = jump_linked _ _ _ _ c.args.got c.args.at.0 c.args.at.1 c.args.at.2 (g.met.R.CacheRom.coherent _ _ _ s) c.requires.exit c.if-got-ne-EBREAK.true in
+    let linked = jump_linked _ _ _ _ c.args.got c.args.at.0 c.args.at.1 c.args.at.2 (g.met.R.CacheRom.laws.coherent _ _ _ s) c.requires.exit c.if-got-ne-EBREAK.true in
     record {
-      policy = sym (g.met.R.CacheRom.first _ _ _ _ _ _ linked);
+      policy = sym (g.met.R.CacheRom.laws.link_stays _ _ _ _ _ _ linked);
       setting = refl;
       sound = (s, λ images serves. serves);
       unused = λ i le. refl;
-      ram = ram_same _ (g.R.CacheRom.kept c.args.rom.now) _;
+      ram = ram_same _ (g.R.CacheRom.service.kept c.args.rom.now) _;
       failed = tt;
       placed = tt;
     }
@@ -37,7 +37,7 @@ cross-requires-clause-exit g c =
       first = e.first;
       is_placed = e.is_placed;
       index = e.index;
-      not_linked = exit_unlinked _ _ _ _ _ _ _ _ (g.met.R.CacheRom.coherent _ _ _ c.requires.sound) e c.if-got-ne-EBREAK.false;
+      not_linked = exit_unlinked _ _ _ _ _ _ _ _ (g.met.R.CacheRom.laws.coherent _ _ _ c.requires.sound) e c.if-got-ne-EBREAK.false;
       is_exit = record { inside = e.inside; leaves = e.leaves; direct = e.is_direct };
       descriptor = c.requires.target;
     }
