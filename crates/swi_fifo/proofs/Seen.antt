@@ -10,10 +10,11 @@ use Rattle.swi_slots.specs.SlotLinks.{link_of, link_key, linked_word, word_linke
 use Rattle.swi_slots.specs.Coheres.{tidy_of, target_owner}
 use Rattle.swi_chain.specs.Chains.{ChainsData, Has, IsApart, list_of}
 use Rattle.swi_fifo.specs.Homes.{TableData}
-use Rattle.swi_fifo.specs.Targets.{slot_of, targets_of}
+use Rattle.swi_chain.specs.Holders.{holder_of}
+use Rattle.swi_chain.specs.Lists.{holder_has, holder_is}
+use Rattle.swi_fifo.specs.Targets.{targets_of}
 use Rattle.swi_fifo.specs.Chained.{LinkInto}
-use Rattle.swi_fifo.proofs.Lists.{slot_has, length_targets, target_at}
-use Rattle.swi_fifo.proofs.Leaving.{slot_first}
+use Rattle.swi_fifo.proofs.Targets.{length_targets, target_at}
 
 -- the table and the slots speak of the same words and slots
 pub record Agrees (c : ChainsData) (s : Slots) : Type 0 where
@@ -28,7 +29,7 @@ into : (c : ChainsData) (s : Slots) (vs : Images) (words : List ℕ) (n i : ℕ)
 into c s vs words n i agrees sound h =
     let small : i < c.words = agrees.apart.within n i h in
     let below : i < s.slots * s.size = omega (arith, small, words_are c s agrees sound.shape) in
-    let is : slice_index s.targets i ≡ n = ap (λ (xs : List ℕ). slice_index xs i) (sym agrees.targets) ∙ target_at c i small ∙ slot_first c n i agrees.apart h in
+    let is : slice_index s.targets i ≡ n = ap (λ (xs : List ℕ). slice_index xs i) (sym agrees.targets) ∙ target_at c i small ∙ holder_is c n i agrees.apart h in
     let lt : n < s.slots = omega (arith, agrees.apart.slot n i h, agrees.slots) in
     let row : i / s.size < s.filled = sound.stands i below (omega (arith, is)) in
     let p = word_is s i sound.shape in
@@ -67,8 +68,8 @@ out_of c s vs words n i agrees sound x =
     let at : i ≡ w.0 * s.size + w.1 = x.index ∙ ap (λ (f : ℕ). f + x.link.offset) (sym p.3 ∙ ap (λ (m : ℕ). m * s.size) row) ∙ ap (λ (o : ℕ). w.0 * s.size + o) (sym column) in
     let is : slice_index s.targets i ≡ n = ap (λ (j : ℕ). slice_index s.targets j) at ∙ same ∙ slot in
     let small : i < c.words = omega (arith, at, word_below s w.0 w.1 sound.shape (omega (arith, w.2, sound.shape.filled_most)) w.3, words_are c s agrees sound.shape) in
-    let own : slot_of c.lists i ≡ n = sym (target_at c i small) ∙ ap (λ (xs : List ℕ). slice_index xs i) agrees.targets ∙ is in
-    subst (λ (m : ℕ). Has (list_of c m) i) own (slot_has c.lists i (omega (arith, own, slot, q.1, sound.shape.filled_most, agrees.slots)))
+    let own : holder_of c.lists i ≡ n = sym (target_at c i small) ∙ ap (λ (xs : List ℕ). slice_index xs i) agrees.targets ∙ is in
+    subst (λ (m : ℕ). Has (list_of c m) i) own (holder_has c.lists i (omega (arith, own, slot, q.1, sound.shape.filled_most, agrees.slots)))
   where
     row_same : (p n size : ℕ) → 0 < size → p * size ≡ n * size → p ≡ n
     row_same p n size pos e = grind arith

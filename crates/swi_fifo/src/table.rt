@@ -11,12 +11,12 @@ ghost use Rattle.swi_chain.specs.Chains.{list_of, Has};
 ghost use Rattle.swi_fifo.specs.Chained.{LinkInto};
 ghost use Rattle.swi_fifo.specs.Homes.{nowhere};
 
-use crate::undo::{drop_own, undo_links};
 use std::alloc::Global;
 use std::marker::Model;
 use swi_chain::Chains;
 use swi_outside::{CacheRam, Failed, Memory};
 use swi_slots::{LinkTable, SlotRom};
+use swi_undo::undo;
 
 /// The service that keeps a list of links for each slot, and a slot for each block. An eviction takes the links
 /// into the block from its slot's list, and no call but `new` takes memory.
@@ -91,9 +91,8 @@ impl LinkTable for ChainTable {
     }
 
     fn clear<M: CacheRam>(&mut self, slot: u32, words: u32, ram: &mut M) -> Result<u32, Failed> {
-        let undone = undo_links(&mut self.chains, self.size, slot, ram)?;
-        drop_own(&mut self.chains, slot * self.size, words.min(self.size));
-        Ok(undone)
+        let size = words.min(self.size);
+        undo(&mut self.chains, slot, slot * self.size, size, ram)
     }
 
     fn settle(&mut self, blocks: &[u32], filled: u32, slot: u32, block: u32) {
