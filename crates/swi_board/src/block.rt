@@ -2,7 +2,7 @@
 #![tactic(auto)]
 
 ghost use Rattle.swi_rom.specs.Served.{Keeps};
-ghost use Rattle.std.specs.Prelude.{◌≡◌, ◌+◌, ◌-◌, ◌*◌, ◌%◌, ◌^◌, ◌<◌, ◌≤◌, ℕ, List, Option, IfSome, length, slice_index, if◌then◌else◌, None, Some, false, true};
+ghost use Rattle.std.specs.Prelude.{◌≡◌, ◌+◌, ◌-◌, ◌*◌, ◌%◌, ◌^◌, ◌<◌, ◌≤◌, ℕ, List, Option, IfSome, slice_index, if◌then◌else◌, None, Some, false, true};
 ghost use Rattle.swi_outside.specs.CacheRam.{RamState};
 ghost use Rattle.swi_memory.specs.Bus.{fetched};
 ghost use Rattle.swi_calls.specs.declared.machine.Machine.{Machine};

@@ -8,12 +8,14 @@ ghost use Rattle.swi_program.specs.Layout.{IsLayoutOf};
 ghost use Rattle.swi_program.specs.Text.{text_of, word_of};
 ghost use Rattle.swi_image.specs.Place.{place_of};
 ghost use Rattle.swi_render.specs.Carried.{Carries};
-ghost use Rattle.swi_rom.specs.Record.{indirect, writes};
+ghost use Rattle.swi_rom.specs.Record.{Record, indirect, writes};
 ghost use Rattle.swi_hart.specs.Hart.{is_between, index_of, place_under, next_made, role_of, original};
 ghost use Rattle.swi_hart.specs.Exchanged.{Exchanged, PlainAt, ExecutesHeld};
 ghost use Rattle.swi_hart.specs.Matching.{Arrives, Fits, Matches};
+ghost use Rattle.swi_hart.specs.Staying.{StaysUnder};
+ghost use Rattle.swi_image.specs.Format.{ImageData};
 ghost use Rattle.swi_board.specs.Board.{BoardOf, entry_transfer, entries};
-ghost use Rattle.swi_rom.specs.Served.{SameFrom, Keeps};
+ghost use Rattle.swi_rom.specs.Served.{SameFrom, WordsMove, Keeps};
 ghost use Rattle.swi_hart.specs.Leaving.{RamServed, RamFailed, moved, RamStepped, RamBroken, broken, transfer_at};
 ghost use Rattle.swi_board.specs.Ran.{RamRan, Ran, BrokeOff, RamBrokeOff, Followed};
 ghost use Rattle.swi_board.specs.Transfers.{here_of, spent_run};
@@ -103,7 +105,9 @@ impl<R: CacheRom> Board<R> {
     /// hart holds, the service is sound for it and the ram, and the hart has not ended, and is between two
     /// instructions. No device has failed, and fewer than 2^56 machine instructions and 2^50 services are counted.
     ///
-    /// `Failed` comes only where the ram's count of faults rose; hart and service are then given up.
+    /// A word of the ram that changes is of a newly placed block, or a link that was made or undone; each other program
+    /// that the service served is served as before. `Failed` comes only where the ram's count of faults rose; hart and
+    /// service are then given up.
     pub fn resume<M: CacheRam>(
         image: &ImageView<'_>,
         hart: Hart,
@@ -138,6 +142,8 @@ impl<R: CacheRom> Board<R> {
             (M.state ram.old).words (M.state ram.new).words) }
         ensures unused { IfOk result (λ b. SameFrom (R.service.extent (R.service.setting rom) (R.service.kept b.rom))
             (M.state ram.old).words (M.state ram.new).words) }
+        ensures words { IfOk result (λ b. WordsMove image.now (R.service.kept rom) (R.service.kept b.rom)
+            (M.state ram.old) (M.state ram.new)) }
         ensures ram { IfOk result (λ b. RamServed (R.service.span (R.service.setting rom))
             (writes (R.service.kept b.rom) - writes (R.service.kept rom)) (M.state ram.old) (M.state ram.new)) }
         ensures failed { OnErr result (RamFailed (R.service.span (R.service.setting rom)) (M.state ram.old) (M.state ram.new)) }
@@ -181,8 +187,12 @@ impl<R: CacheRom> Board<R> {
             (R.service.kept rom) image.now (indirect p.now.entry)) }
         ensures setting { IfOk result (λ b. R.service.setting b.rom ≡ R.service.setting rom) }
         ensures sound { IfOk result (λ b. R.service.sound b.rom image.now (M.state ram.new).words) }
+        ensures keeps { IfOk result (λ b. Keeps R.service image.now rom b.rom
+            (M.state ram.old).words (M.state ram.new).words) }
         ensures unused { IfOk result (λ b. SameFrom (R.service.extent (R.service.setting rom) (R.service.kept b.rom))
             (M.state ram.old).words (M.state ram.new).words) }
+        ensures words { IfOk result (λ b. WordsMove image.now (R.service.kept rom) (R.service.kept b.rom)
+            (M.state ram.old) (M.state ram.new)) }
         ensures ram { IfOk result (λ b. RamServed (R.service.span (R.service.setting rom))
             (writes (R.service.kept b.rom) - writes (R.service.kept rom)) (M.state ram.old) (M.state ram.new)) }
         ensures failed { IsErrOf result BootStop.RamFault →
@@ -210,13 +220,20 @@ impl<R: CacheRom> Board<R> {
 
     /// A board of a hart that is booted and a service that shows the hart's place at the index under its control.
     /// Nothing changes or is counted. That the service is sound for the hart's image and the ram is asked by the next
-    /// `step` or `run`.
+    /// `step` or `run`. Where control's block stands as it did in the service's record before, the board matches the same
+    /// flat machines, and the image fits it as before.
     pub fn join(hart: Hart, rom: R) -> Board<R>
         requires booted { hart.booted ≡ true }
         requires shown { (i : ℕ) → index_of hart.machine.ending hart.control ≡ Some i → R.service.shown rom i
             ≡ place_under hart.machine.ending hart.control }
         ensures hart { result.hart ≡ hart }
         ensures rom { result.rom ≡ rom }
+        ensures matches { (v : ImageData) (old : Record) (f : Machine) →
+            StaysUnder old (R.service.kept rom) hart.machine hart.control →
+            Matches v old f hart.machine hart.control →
+            Matches v (R.service.kept result.rom) f result.hart.machine result.hart.control }
+        ensures fits { (v : ImageData) (old : Record) → StaysUnder old (R.service.kept rom) hart.machine hart.control →
+            Fits v old hart → Fits v (R.service.kept result.rom) result.hart }
     {
         Board { hart, rom }
     }
@@ -230,7 +247,8 @@ impl<R: CacheRom> Board<R> {
     /// step goes on as over the image's.
     ///
     /// It follows each flat machine that the board matches: by a step, or by none where the word completes no
-    /// instruction. After an error `failed` is true, and no step is counted.
+    /// instruction. A word of the ram that changes is of a newly placed block, or a link that was made or undone. After an
+    /// error `failed` is true, and no step is counted.
     pub fn step<M: CacheRam, I: Source, O: Sink, E: Sink>(
         &mut self,
         image: &ImageView<'_>,
@@ -282,6 +300,8 @@ impl<R: CacheRom> Board<R> {
             (M.state ram.old).words (M.state ram.new).words) }
         ensures unused { OnOk result (SameFrom (R.service.extent (R.service.setting self.old.rom) (R.service.kept self.new.rom))
             (M.state ram.old).words (M.state ram.new).words) }
+        ensures words { OnOk result (WordsMove image.now (R.service.kept self.old.rom) (R.service.kept self.new.rom)
+            (M.state ram.old) (M.state ram.new)) }
         ensures ram { OnOk result (RamStepped (R.service.span (R.service.setting self.old.rom))
             (writes (R.service.kept self.new.rom) - writes (R.service.kept self.old.rom)) self.old.hart.control
             (M.state ram.old) (M.state ram.new)) }
@@ -325,6 +345,9 @@ impl<R: CacheRom> Board<R> {
     /// Steps until `n` original steps are made, or the run has ended. `n` is at most 2^48, and no less than the steps
     /// made; no device has failed; the image fits the board and the service is sound for it and the ram, as `boot`,
     /// `step` and `run` leave them; at most 2^55 machine instructions and 2^49 services are counted.
+    ///
+    /// Where the run goes on, control has come to where the flat steps lead. Which words of the ram change is said of `step`
+    /// alone: along a run a block can come and leave again.
     ///
     /// Each fault comes only where its device's count rose. After one `failed` is true, and the step that it broke off
     /// is not counted.

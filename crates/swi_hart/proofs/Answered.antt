@@ -25,6 +25,7 @@ ram_stopped s d f h' kept' setting' ram' is stays failed = record {
   setting = stays;
   sound = λ sound. tt;
   unused = tt;
+  words = tt;
   ram = tt;
   grown = λ sound. tt;
   stopped = is ∙ ap (λ (bus : List AreaData). broken (with_memory s.hart bus)) (sym (ap (λ (h : HartData). h.machine.bus) is));

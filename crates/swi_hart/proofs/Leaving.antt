@@ -53,6 +53,7 @@ module _ {policy : Setting → Record → ImageData → Transfer → Record} {ex
     setting = stays;
     sound = sound;
     unused = unused;
+    words = d.words;
     ram = record { quiet = d.quiet; fetches_stay = d.spared.fetches_stay; last_stays = d.spared.last_stays; sets_rise = d.sets_rise; kept = beyond d.spared };
     failed = tt;
     placed = tt;
@@ -64,6 +65,7 @@ module _ {policy : Setting → Record → ImageData → Transfer → Record} {ex
     setting = stays;
     sound = sound;
     unused = unused;
+    words = d.words;
     ram = record { quiet = d.quiet; fetches_stay = d.spared.fetches_stay; last_stays = d.spared.last_stays; sets_rise = d.sets_rise; kept = beyond d.spared };
     failed = tt;
     placed = tt;
@@ -75,6 +77,7 @@ module _ {policy : Setting → Record → ImageData → Transfer → Record} {ex
     setting = stays;
     sound = tt;
     unused = tt;
+    words = tt;
     ram = tt;
     failed = record { rose = d.failed refl; later = d.spared.later; fetches_stay = d.spared.fetches_stay; kept = beyond d.spared };
     placed = λ none. let e : ◌≡◌ {A = Result ℕ RomStop} (Err RamFault) (Err Outside) = d.only_outside none in cc;

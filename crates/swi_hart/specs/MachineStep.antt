@@ -7,7 +7,7 @@ use Rattle.swi_calls.specs.Exchange.{Devices}
 use Rattle.swi_image.specs.Format.{ImageData}
 use Rattle.swi_rom.specs.Service.{ServiceOf, Setting}
 use Rattle.swi_rom.specs.Record.{Record, Transfer, writes}
-use Rattle.swi_rom.specs.Served.{SameFrom}
+use Rattle.swi_rom.specs.Served.{SameFrom, WordsMove}
 use Rattle.swi_hart.specs.declared.fault.BoardFault.{BoardFault}
 use Rattle.swi_hart.specs.declared.fault.BoardFault.TheVariants.{RamFault, SourceFault}
 use Rattle.swi_hart.specs.Hart.{HartData}
@@ -50,6 +50,8 @@ pub record MachineStepped (policy_of : Setting → Record → ImageData → Tran
   pub setting : new.setting ≡ old.setting
   pub sound : WasSound → OnOk result IsSound
   pub unused : OnOk result (SameFrom (extent_of old.setting new.kept) old.ram.words new.ram.words)
+  -- a word that changed is of a newly placed block, or a link that was made or undone
+  pub words : OnOk result (WordsMove v old.kept new.kept old.ram new.ram)
   pub ram : OnOk result (RamStepped (span_of old.setting) (writes new.kept - writes old.kept) old.hart.control old.ram new.ram)
   pub grown : WasSound → OnOk result (Grown v old.kept new.kept old.hart new.hart)
   pub stopped : OnErr result (new.hart ≡ broken (with_memory old.hart new.hart.machine.bus))

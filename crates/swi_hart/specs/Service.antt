@@ -4,7 +4,7 @@ use Rattle.swi_outside.specs.CacheRam.{RamState}
 use Rattle.swi_image.specs.Format.{ImageData}
 use Rattle.swi_rom.specs.Service.{ServiceOf, Setting}
 use Rattle.swi_rom.specs.Record.{Record, Transfer, writes}
-use Rattle.swi_rom.specs.Served.{SameFrom, Keeps}
+use Rattle.swi_rom.specs.Served.{SameFrom, WordsMove, Keeps}
 use Rattle.swi_hart.specs.Leaving.{RamServed, RamFailed, HasPlace, moved}
 
 -- a service as far as it tells, with its ram: its record, its setting, and the ram
@@ -21,6 +21,8 @@ pub record Transferred {T E : Type 0} (policy_of : Setting → Record → ImageD
   pub setting : after.setting ≡ before.setting
   pub sound : OnOk result IsSound
   pub unused : OnOk result (SameFrom (extent_of before.setting after.kept) before.ram.words after.ram.words)
+  -- a word that changed is of a newly placed block, or a link that was made or undone
+  pub words : OnOk result (WordsMove v before.kept after.kept before.ram after.ram)
   pub ram : OnOk result (RamServed (span_of before.setting) (writes after.kept - writes before.kept) before.ram after.ram)
   pub failed : OnErr result (RamFailed (span_of before.setting) before.ram after.ram)
   pub placed : OnErr result (HasPlace v t)

@@ -1,6 +1,6 @@
 use Rattle.std.proofs.Common.{arith, refl, sym, subst}
 use Rattle.swi_rom.specs.Coherent.{TargetAt}
-use Rattle.swi_hart.proofs.Falls.{ram_same}
+use Rattle.swi_hart.proofs.Falls.{ram_same, words_same}
 use Rattle.swi_hart.proofs.Leaving.{by_error, served_at, served_outside, served_not, exit_unlinked, jump_linked, link_target}
 use Rattle.swi_hart.proofs.exit.leave.Goals as goal
 
@@ -23,6 +23,7 @@ returns-then-got-ne-EBREAK-clause-served g c =
       setting = refl;
       sound = (s, λ images serves. serves);
       unused = λ i le. refl;
+      words = words_same _ (g.R.CacheRom.service.kept c.args.rom.now) _ _ refl;
       ram = ram_same _ (g.R.CacheRom.service.kept c.args.rom.now) _;
       failed = tt;
       placed = tt;

@@ -7,7 +7,7 @@ use Rattle.swi_hart.specs.Leaving.{broken}
 use Rattle.swi_hart.proofs.Answered.{ram_stopped}
 use Rattle.swi_hart.proofs.Causing.{causes_none}
 use Rattle.swi_hart.proofs.Exchanging.{plain_home, put_back, own_word, plain_below, plain_held, no_call, made_plain, fits_plain, grown_plain, executes_plain, whole_plain, same_at, stage_same}
-use Rattle.swi_hart.proofs.Falls.{ram_same}
+use Rattle.swi_hart.proofs.Falls.{ram_same, words_same}
 use Rattle.swi_hart.proofs.Fetching.{offset_small, word_moves}
 use Rattle.swi_hart.proofs.Steps.{ram_exit, ram_unfetched}
 use Rattle.swi_hart.proofs.plain.plain_step.Goals as goal
@@ -77,6 +77,7 @@ returns g c =
         setting = refl;
         sound = λ s. (rw fetched s, λ images serves. rw fetched serves);
         unused = λ i le. ap (λ (k : RamState). slice_index k.words i) fetched;
+        words = words_same v r ram _ (ap (λ (k : RamState). k.words) fetched);
         ram = ram_exit _ _ c.args.at.0 c.args.at.1 c.args.at.2 c.args.at.3 h.control _ _ _ c.requires.control below fetched same;
         grown = λ s. grown_plain v r h c.run_word.new.hart ram.words c.args.at.0 c.args.at.1 c.args.at.2 c.args.at.3 c.requires.home c.requires.control plain c.in-Some-Some.image_word c.in-Some-Some.x c.role-role.result own_is held_is c.role-role.ensures ((c.run_word.ensures.ran runs).ran) (own_word v r h.machine span ram.words c.args.at.0 c.args.at.1 c.args.at.2 c.args.at.3 sound coherent c.requires.home h.control c.requires.control plain s) (sym c.requires.ready.running);
         stopped = tt;

@@ -8,7 +8,7 @@ use Rattle.swi_hart.specs.Hart.{HartData, exit_kind, original}
 use Rattle.swi_hart.specs.Leaving.{exit_transfer, quick_role, broken}
 use Rattle.swi_hart.proofs.Answered.{ram_stopped}
 use Rattle.swi_hart.proofs.Causing.{causes_none, causes_answer, on_device, source_failed, ram_unfailed}
-use Rattle.swi_hart.proofs.Falls.{ram_same}
+use Rattle.swi_hart.proofs.Falls.{ram_same, words_same, words_after}
 use Rattle.swi_hart.proofs.Fetching.{got_some, index_below, exit_home, word_home, exit_moves, word_moves}
 use Rattle.swi_hart.proofs.Grown.{grown_exit, grown_word, moved_services}
 use Rattle.swi_hart.proofs.Steps.{made_exit, fits_exit, made_word, fits_word, exit_placed, broken_word, ram_exit, ram_unserved, kept_after}
@@ -46,6 +46,7 @@ returns-in-Ok g c = λ before fetched.
       setting = s.served.setting;
       sound = λ sound. (s.served.sound.0, λ images serves. s.served.sound.1 images (subst (λ (k : List ℕ). g.R.CacheRom.service.serves c.args.rom.now v images k) (sym (ap (λ (k : RamState). k.words) fetched.1)) serves));
       unused = λ j le. s.served.unused j le ∙ ap (λ (k : RamState). slice_index k.words j) fetched.1;
+      words = words_after v r new before _ _ (ap (λ (k : RamState). k.words) fetched.1) s.served.words;
       ram = ram_exit _ _ c.args.at.0 c.args.at.1 c.args.at.2 c.args.at.3 h.control before _ _ c.requires.control below fetched.1 s.served.ram;
       grown = λ sound. grown_exit v r new h c.exit_step.new.hart c.args.at.0 c.args.at.1 c.args.at.2 c.args.at.3 c.requires.control (sym c.requires.ready.running) e s.step s.counted more;
       stopped = tt;
@@ -95,6 +96,7 @@ returns-in-Ok-role_step g c = λ before fetched.
       setting = refl;
       sound = λ sound. (c.requires.sound, λ images serves. subst (λ (k : List ℕ). g.R.CacheRom.service.serves c.args.rom.now v images k) (sym (ap (λ (k : RamState). k.words) fetched.1)) serves);
       unused = λ j le. ap (λ (k : RamState). slice_index k.words j) fetched.1;
+      words = words_same v r before _ (ap (λ (k : RamState). k.words) fetched.1);
       ram = ram_exit _ _ c.args.at.0 c.args.at.1 c.args.at.2 c.args.at.3 h.control before _ _ c.requires.control below fetched.1 same;
       grown = λ sound. grows;
       stopped = tt;
@@ -126,6 +128,7 @@ returns-in-Err-role_step g c = λ before fetched.
       setting = refl;
       sound = λ sound. tt;
       unused = tt;
+      words = tt;
       ram = tt;
       grown = λ sound. tt;
       stopped = ap broken (c.hart-2.view_is ∙ s.executed.stays) ∙ ap (λ (bus : List AreaData). broken (with_memory h bus)) (sym (ap (λ (k : HartData). k.machine.bus) c.hart-2.view_is));

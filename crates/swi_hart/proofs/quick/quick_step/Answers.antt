@@ -8,7 +8,7 @@ use Rattle.swi_hart.specs.declared.hart.Control.TheVariants.{Outside}
 use Rattle.swi_hart.specs.Matching.{Matches}
 use Rattle.swi_hart.specs.Leaving.{transfer_at, moved}
 use Rattle.swi_hart.proofs.Causing.{causes_none}
-use Rattle.swi_hart.proofs.Falls.{ram_same}
+use Rattle.swi_hart.proofs.Falls.{ram_same, words_same}
 use Rattle.swi_hart.proofs.Homes.{home}
 use Rattle.swi_hart.proofs.Grown.{grown_outside}
 use Rattle.swi_hart.proofs.Steps.{made_outside, fits_outside, ram_outside_step}
@@ -38,6 +38,7 @@ returns-in-Outside-clause-stepped g c =
       setting = refl;
       sound = λ sound. (c.requires.sound, λ images serves. serves);
       unused = λ i le. refl;
+      words = words_same v r _ _ refl;
       ram = ram_outside_step span r h.control (g.M.CacheRam.state c.args.ram.now) outside;
       grown = λ sound. grows;
       stopped = tt;
