@@ -12,7 +12,7 @@ use Rattle.swi_hart.specs.declared.hart.Control.TheVariants.{At, Outside}
 use Rattle.swi_calls.specs.Held.{held_made, held_step}
 use Rattle.swi_hart.specs.Hart.{Stepped, original, slots, is_place, completes}
 use Rattle.swi_board.specs.Runs.{weight}
-use Rattle.swi_board.specs.Transfers.{Here, at_fall, settled, step_transfers, here_after, fall_transfers, transfers, step_size, size, after_all, here_of, spent, spent_run, spent_by}
+use Rattle.swi_board.specs.Transfers.{Here, at_fall, settled, step_transfers, here_after, here_run, fall_transfers, transfers, step_size, size, after_all, here_of, spent, spent_run, spent_by}
 use Rattle.swi_hart.proofs.Stepping.{same_place}
 use Rattle.swi_board.proofs.Progress.{Progress, made_step, lead, fall, beside, Completes}
 use Rattle.swi_board.proofs.Held.{next_state, held_steps}
@@ -45,6 +45,15 @@ pub cost_more : (outside : ℕ) (v : ImageData) (k : ℕ) (s : FlatState) (here 
 unfolding size
 cost_more outside v k s here going = rw going refl
 
+pub here_none : (v : ImageData) (s : FlatState) (here : Here) → here_run v 0 s here ≡ here
+unfolding here_run
+here_none v s here = refl
+
+here_more : (v : ImageData) (k : ℕ) (s : FlatState) (here : Here) → is_some s.machine.ending ≡ false →
+    here_run v (suc k) s here ≡ here_run v k (held_step s) (here_after v s.machine (settled v s.machine here) (held_step s).machine)
+unfolding here_run
+here_more v k s here going = rw going refl
+
 pub over_transfers : (v : ImageData) (k : ℕ) (s : FlatState) (here : Here) → is_some s.machine.ending ≡ true → transfers v k s here ≡ []
 over_transfers v k s here over = transfers_over v k s here over
 
@@ -76,6 +85,9 @@ module _ (v : ImageData) (k : ℕ) (s : FlatState) (here : Here) (going : is_som
       transfers_more v k s here going
       ∙ ap (λ (l : List Transfer). l ++ (step_transfers s.machine (settled v s.machine here) (held_step s).machine ++ transfers v k (held_step s) (here_after v s.machine (settled v s.machine here) (held_step s).machine))) (no_falls here plain)
       ∙ ap (λ (h : Here). step_transfers s.machine h (held_step s).machine ++ transfers v k (held_step s) (here_after v s.machine h (held_step s).machine)) settled_same
+
+  plain_here : here_run v (suc k) s here ≡ here_run v k (held_step s) (here_after v s.machine here (held_step s).machine)
+  plain_here = here_more v k s here going ∙ ap (λ (h : Here). here_run v k (held_step s) (here_after v s.machine h (held_step s).machine)) settled_same
 
   pub plain_cost : (outside : ℕ) → size outside v (suc k) s here ≡ step_size outside s.machine here + size outside v k (held_step s) (here_after v s.machine here (held_step s).machine)
   plain_cost outside =
@@ -208,6 +220,48 @@ module _ (policy : Record → ImageData → Transfer → Record) (v : ImageData)
   progress_left (lead p t here plain same there deeper) after = subst (λ (q : Bool). Left q) (sym t) (lead_left p here same there deeper (ap (λ (q : Bool). (next_state q now).machine.steps) (sym t) ∙ after))
   progress_left (fall p t here falls none moves there none') after = subst (λ (q : Bool). Left q) (sym t) (fall_left p here falls none moves there none' (ap (λ (q : Bool). (next_state q now).machine.steps) (sym t) ∙ after))
   progress_left (beside t is same over) after = subst (λ (q : Bool). Left q) (sym t) (out_left is same over)
+
+  -- and where the run is to stand, while it goes on
+  unfoldable pub HereLeft : Bool → Type 0
+  HereLeft t = (next_state t now).machine.ending ≡ None →
+      here_run v (n - steps') (next_state t now) (here_of v (next_state t now).machine s.control) ≡ here_run v (n - steps) now (here_of v now.machine c)
+
+  made_here : (p : ℕ × ℕ) → here_of v now.machine c ≡ Some p → at_fall v now.machine (Some p) ≡ false → Completes policy v r new now.machine (original now.machine) (slots now.machine) p (spent now.machine c) s (held_made now.machine now.input).machine →
+      (held_step now).machine.steps ≡ steps' → HereLeft true
+  unfolding HereLeft
+  made_here p here plain done after = λ on.
+      let less : n - steps' ≡ n - steps - 1 =
+      elim (held_steps now.machine now.input) [
+        | inl one ↦ omega (arith, one, after)
+        | inr stop ↦ absurd (false≢true (sym (ap (λ (e : Option End). is_some e) on) ∙ stop.1))
+      ] in
+      ap (λ j. here_run v j (held_step now) (here_of v (held_step now).machine s.control)) less ∙ ap (λ (h : Here). here_run v (n - steps - 1) (held_step now) h) (done.here on)
+      ∙ sym (ap (λ (h : Here). here_run v (n - steps) now h) here ∙ ap (λ j. here_run v j now (Some p)) left_more ∙ plain_here v (n - steps - 1) now (Some p) going plain)
+
+  lead_here : (p : ℕ × ℕ) → here_of v now.machine c ≡ Some p → here_of v now.machine s.control ≡ Some p → now.machine.steps ≡ steps' → HereLeft false
+  unfolding HereLeft
+  lead_here p here there after = λ on.
+      let less : n - steps' ≡ n - steps = omega arith in
+      ap (λ j. here_run v j now (here_of v now.machine s.control)) less ∙ ap (λ (h : Here). here_run v (n - steps) now h) (there ∙ sym here)
+
+  fall_here : (p : ℕ × ℕ) → here_of v now.machine c ≡ Some p → at_fall v now.machine (Some p) ≡ true → here_of v now.machine s.control ≡ place_of v now.machine.pc → now.machine.steps ≡ steps' → HereLeft false
+  unfolding HereLeft
+  fall_here p here falls there after = λ on.
+      let less : n - steps' ≡ suc (n - steps - 1) = omega arith in
+      ap (λ (h : Here). here_run v (n - steps') now h) there ∙ ap (λ j. here_run v j now (place_of v now.machine.pc)) less
+      ∙ plain_here v (n - steps - 1) now (place_of v now.machine.pc) going (place_not_fall v now.machine)
+      ∙ sym (ap (λ (h : Here). here_run v (n - steps) now h) here ∙ ap (λ j. here_run v j now (Some p)) left_more ∙ here_more v (n - steps - 1) now (Some p) going
+      ∙ ap (λ (t : Bool). here_run v (n - steps - 1) (held_step now) (here_after v now.machine (if t then place_of v now.machine.pc else Some p) (held_step now).machine)) falls)
+
+  out_here : is_some (held_step now).machine.ending ≡ true → HereLeft true
+  unfolding HereLeft
+  out_here over = λ on. absurd (false≢true (sym (ap (λ (e : Option End). is_some e) on) ∙ over))
+
+  pub progress_here : Progress policy v r new now.machine m c s now.input → (next_state (completes v m c) now).machine.steps ≡ steps' → HereLeft (completes v m c)
+  progress_here (made_step p t here plain done) after = subst (λ (q : Bool). HereLeft q) (sym t) (made_here p here plain done (ap (λ (q : Bool). (next_state q now).machine.steps) (sym t) ∙ after))
+  progress_here (lead p t here plain same there deeper) after = subst (λ (q : Bool). HereLeft q) (sym t) (lead_here p here there (ap (λ (q : Bool). (next_state q now).machine.steps) (sym t) ∙ after))
+  progress_here (fall p t here falls none moves there none') after = subst (λ (q : Bool). HereLeft q) (sym t) (fall_here p here falls there (ap (λ (q : Bool). (next_state q now).machine.steps) (sym t) ∙ after))
+  progress_here (beside t is same over) after = subst (λ (q : Bool). HereLeft q) (sym t) (out_here over)
 
 -- a step that completes no instruction leads one word further, or makes the exit behind a block
 pub progress_spent : (policy : Record → ImageData → Transfer → Record) (v : ImageData) (r new : Record) (f m : Machine) (c : Control) (s : Stepped) (input : List ℕ) → Progress policy v r new f m c s input → completes v m c ≡ false →

@@ -27,12 +27,12 @@ use Rattle.swi_hart.proofs.Midway.{step_follows}
 use Rattle.swi_hart.proofs.Kept.{next_text, image_same}
 use Rattle.swi_hart.proofs.Growing.{depth_most, calls_most}
 use Rattle.swi_hart.proofs.Grown.{moved_rises}
-use Rattle.swi_board.specs.Transfers.{transfers, cost, size, here_of, spent, spent_by, spent_run, after_all}
+use Rattle.swi_board.specs.Transfers.{transfers, cost, size, here_of, here_run, spent, spent_by, spent_run, after_all}
 use Rattle.swi_calls.specs.Laws.{held_run_none, held_run_over, held_run_more}
 use Rattle.swi_board.proofs.Held.{same_steps, held_steps, run_snoc, no_exit_no_transfer, next_state}
 use Rattle.swi_board.proofs.Progress.{Progress}
 use Rattle.swi_board.proofs.Progressing.{progress}
-use Rattle.swi_board.proofs.Counting.{progress_left, progress_spent, Left, transfers_none, cost_none, over_transfers, over_cost}
+use Rattle.swi_board.proofs.Counting.{progress_left, progress_here, progress_spent, Left, HereLeft, here_none, transfers_none, cost_none, over_transfers, over_cost}
 
 -- where a run from one state of the flat machine has come
 pub record Goes (policy : Record → ImageData → Transfer → Record) (v : ImageData) (r0 : Record) (n : ℕ) (s0 : FlatState) (h0 h : HartData) (r : Record) (left out0 out err0 err : Option (List ℕ)) : Type 0 where
@@ -44,6 +44,7 @@ pub record Goes (policy : Record → ImageData → Transfer → Record) (v : Ima
   pub told : Appends err0 err now.error
   pub run_left : held_run (n - h.machine.steps) now ≡ held_run (n - h0.machine.steps) s0
   pub records_left : after_all policy v r (transfers v (n - h.machine.steps) now (here_of v now.machine h.control)) ≡ after_all policy v r0 (transfers v (n - h0.machine.steps) s0 (here_of v s0.machine h0.control))
+  pub here_left : h.machine.ending ≡ None → here_run v (n - h.machine.steps) now (here_of v now.machine h.control) ≡ here_run v (n - h0.machine.steps) s0 (here_of v s0.machine h0.control)
   pub from : h0.machine.steps ≤ h.machine.steps
   pub now_is : h.machine.ending ≡ None → now ≡ held_run (h.machine.steps - h0.machine.steps) s0
   pub later : h0.count ≤ h.count
@@ -197,6 +198,15 @@ module _ {policy : Record → ImageData → Transfer → Record} {v : ImageData}
   progressed : Progress policy v r new goes.now.machine h.machine h.control step.stepped goes.now.input
   progressed = progress policy v r new goes.now.machine h.machine h.control step.stepped goes.now.input goes.image goes.matches running word moves (no_exit_no_transfer policy v r new h.machine h.control moves) step.step
 
+  here_by : (next_state (completes v h.machine h.control) goes.now).machine.steps ≡ h'.machine.steps → (next_state (completes v h.machine h.control) goes.now).machine.ending ≡ None →
+      here_run v (n - h'.machine.steps) (next_state (completes v h.machine h.control) goes.now) (here_of v (next_state (completes v h.machine h.control) goes.now).machine h'.control)
+      ≡ here_run v (n - h0.machine.steps) s0 (here_of v s0.machine h0.control)
+  unfolding HereLeft
+  here_by steps on =
+      let to = progress_here policy v n goes.now r new h.machine h.control step.stepped h.machine.steps h'.machine.steps flat_running more (same_steps v r goes.now.machine h.machine h.control goes.matches).0 progressed steps on in
+      ap (λ (c : Control). here_run v (n - h'.machine.steps) (next_state (completes v h.machine h.control) goes.now) (here_of v (next_state (completes v h.machine h.control) goes.now).machine c)) control_is
+      ∙ to ∙ goes.here_left running
+
   -- no fewer words are fetched than the steps made have
   enough_by : (t : Bool) → completes v h.machine h.control ≡ t → (next_state (completes v h.machine h.control) goes.now).machine.steps ≡ h'.machine.steps → (next_state (completes v h.machine h.control) goes.now).machine.ending ≡ None →
       size 0 v (h'.machine.steps - h0.machine.steps) s0 (here_of v s0.machine h0.control) + spent (next_state (completes v h.machine h.control) goes.now).machine h'.control ≤ fetched_by h0 h' + spent_run s0.machine h0.control
@@ -250,6 +260,8 @@ module _ {policy : Record → ImageData → Transfer → Record} {v : ImageData}
             (Appends-append err0 err err' goes.now.error (next_made v h.machine h.control goes.now.machine goes.now.input).error goes.told (subst (λ (l : List ℕ). Appends err err' l) follows.error step.did.error));
         run_left = left_by (completes v h.machine h.control) (sym (same_steps v new (next_state (completes v h.machine h.control) goes.now).machine h'.machine h'.control matches).0) ∙ goes.run_left;
         records_left = (left_is_by moved_on).0;
+        here_left = λ on. here_by (sym (same_steps v new (next_state (completes v h.machine h.control) goes.now).machine h'.machine h'.control matches).0)
+            (sym (same_steps v new (next_state (completes v h.machine h.control) goes.now).machine h'.machine h'.control matches).1 ∙ on);
         from = let low = goes.from in let up = steps_rise in let now_steps = (same_steps v new (next_state (completes v h.machine h.control) goes.now).machine h'.machine h'.control matches).0 in omega (arith, low, up, now_steps);
         now_is = λ on. now_by (completes v h.machine h.control) (sym (same_steps v new (next_state (completes v h.machine h.control) goes.now).machine h'.machine h'.control matches).0)
             (sym (same_steps v new (next_state (completes v h.machine h.control) goes.now).machine h'.machine h'.control matches).1 ∙ on);
@@ -280,6 +292,8 @@ module _ (policy : Record → ImageData → Transfer → Record) (v : ImageData)
         output = subst (λ (s : FlatState). Appends out0 out s.output) is goes.wrote;
         error = subst (λ (s : FlatState). Appends err0 err s.error) is goes.told;
         record_is = sym (ap (λ (l : List Transfer). after_all policy v r l) none_left) ∙ goes.records_left;
+        here_is = λ on. ap (λ (s : FlatState). here_of v s.machine h.control) (sym is)
+            ∙ sym (here_left (going_on (ap (λ (s : FlatState). s.machine.ending) is ∙ on))) ∙ goes.here_left (going_on (ap (λ (s : FlatState). s.machine.ending) is ∙ on));
         cost_is = no_cost _ _ _ _ _ goes.cost_left (free_left 1) ∙ ap (λ (s : FlatState). h0.count + cost v (n - h0.machine.steps) s0 (here_of v s0.machine h0.control) + spent_run s.machine h.control) is;
         fetches_are = no_cost _ _ _ _ _ (goes.fetch_left n (inr refl)) (free_left 0) ∙ ap (λ (s : FlatState). size 0 v (n - h0.machine.steps) s0 (here_of v s0.machine h0.control) + spent_run s.machine h.control) is;
       }
@@ -289,6 +303,15 @@ module _ (policy : Record → ImageData → Transfer → Record) (v : ImageData)
 
       ended_now : is_some h.machine.ending ≡ true → is_some goes.now.machine.ending ≡ true
       ended_now ended = ap (λ (e : Option End). is_some e) (sym (same_steps v r goes.now.machine h.machine h.control goes.matches).1) ∙ ended
+
+      going_on : goes.now.machine.ending ≡ None → h.machine.ending ≡ None
+      going_on on = (same_steps v r goes.now.machine h.machine h.control goes.matches).1 ∙ on
+
+      here_left : h.machine.ending ≡ None → here_run v (n - h.machine.steps) goes.now (here_of v goes.now.machine h.control) ≡ here_of v goes.now.machine h.control
+      here_left on = elim over [
+        | inl done ↦ let none : n - h.machine.steps ≡ 0 = omega arith in ap (λ k. here_run v k goes.now (here_of v goes.now.machine h.control)) none ∙ here_none v goes.now (here_of v goes.now.machine h.control)
+        | inr ended ↦ absurd (false≢true (sym (ap (λ (e : Option End). is_some e) on) ∙ ended))
+      ]
 
       none_left : transfers v (n - h.machine.steps) goes.now (here_of v goes.now.machine h.control) ≡ []
       none_left = elim over [
@@ -389,6 +412,7 @@ started_run {run} fits le = record {
     left_is = told;
     run_left = refl;
     records_left = refl;
+    here_left = λ on. refl;
     cost_left = refl;
     wrote = Appends-none run.from.out;
     told = Appends-none run.from.err;

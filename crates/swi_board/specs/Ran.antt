@@ -13,7 +13,7 @@ use Rattle.swi_hart.specs.Hart.{HartData}
 use Rattle.swi_hart.specs.Matching.{Matches}
 use Rattle.swi_calls.specs.Held.{held_made, held_run}
 use Rattle.swi_board.specs.Runs.{fetched_by}
-use Rattle.swi_board.specs.Transfers.{transfers, cost, fetches, here_of, spent_run, after_all}
+use Rattle.swi_board.specs.Transfers.{transfers, cost, fetches, here_of, here_run, spent_run, after_all}
 
 -- the ram over a whole run: so many fetches and sets, and no fault
 pub record RamRan (span fetched more : ℕ) (before after : RamState) : Type 0 where
@@ -30,6 +30,8 @@ pub record Ran (policy : Record → ImageData → Transfer → Record) (v : Imag
   pub error : Appends err err' (held_run k s).error
   -- the service has served the run's transfers by its policy
   pub record_is : r ≡ after_all policy v r0 (transfers v k s (here_of v s.machine h0.control))
+  -- while it goes on, control has come to where the run stands
+  pub here_is : (held_run k s).machine.ending ≡ None → here_of v (held_run k s).machine h.control ≡ here_run v k s (here_of v s.machine h0.control)
   -- and so many machine steps were made, but for those of an instruction in which the run began or ended
   pub cost_is : h.count + spent_run s.machine h0.control ≡ h0.count + cost v k s (here_of v s.machine h0.control) + spent_run (held_run k s).machine h.control
   pub fetches_are : fetched_by h0 h + spent_run s.machine h0.control ≡ fetches v k s (here_of v s.machine h0.control) + spent_run (held_run k s).machine h.control

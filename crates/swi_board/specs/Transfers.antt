@@ -75,6 +75,13 @@ transfers v (suc k) s here =
     else fall_transfers v s.machine here ++ (step_transfers s.machine (settled v s.machine here) (held_step s).machine
     ++ transfers v k (held_step s) (here_after v s.machine (settled v s.machine here) (held_step s).machine))
 
+-- where the run stands after up to so many steps
+unfoldable pub here_run : ImageData → ℕ → FlatState → Here → Here
+here_run v zero s here = here
+here_run v (suc k) s here =
+    if is_some s.machine.ending then here
+    else here_run v k (held_step s) (here_after v s.machine (settled v s.machine here) (held_step s).machine)
+
 -- the words executed by one step; one outside the text executes none, and counts as is said
 abbrev pub step_size : ℕ → Machine → Here → ℕ
 step_size outside f None = outside

@@ -1,7 +1,8 @@
 //! Steps that ask neither the ram, but for their fetch, nor a device.
 #![tactic(auto)]
 
-ghost use Rattle.std.specs.Prelude.{◌≡◌, ◌+◌, ◌-◌, ◌*◌, ◌%◌, ◌^◌, ◌<◌, ◌≤◌, ℕ, List, Option, IfSome, length, slice_index, if◌then◌else◌, None, Some, false, true};
+ghost use Rattle.swi_rom.specs.Served.{Keeps};
+ghost use Rattle.std.specs.Prelude.{◌≡◌, ◌+◌, ◌-◌, ◌*◌, ◌%◌, ◌^◌, ◌<◌, ◌≤◌, ℕ, List, Option, IfSome, slice_index, if◌then◌else◌, None, Some, false, true};
 ghost use Rattle.swi_outside.specs.CacheRam.{RamState};
 ghost use Rattle.swi_memory.specs.Bus.{fetched};
 ghost use Rattle.swi_calls.specs.declared.machine.Machine.{Machine};
@@ -269,15 +270,15 @@ fn follow<R: CacheRom, M: CacheRam>(
     off: u32,
     walk: &mut Walk,
 )
-    requires sound { R.sound rom.now image.now (M.state ram.now).words }
-    requires used { walk.old.index < R.span (R.setting rom.now) }
+    requires sound { R.service.sound rom.now image.now (M.state ram.now).words }
+    requires used { walk.old.index < R.service.span (R.service.setting rom.now) }
     requires got { got ≡ slice_index (M.state ram.now).words walk.old.index }
     requires offset { off ≡ offset_of (decoded got) }
     requires linked { got ≡ ebreak → ⊥ }
     requires room { HasRoom walk.old }
     ensures on { (x : AnyInstr) (m : Machine) (p : ℕ × ℕ) → Some x ≡ decoded got → leaves x ≡ true →
-        Home image.now (R.kept rom.now) (walk_machine walk.old m) walk.old.index p.0 p.1 walk.old.stage →
-        (q : ℕ × ℕ) × LinkOn image.now (R.kept rom.now) (walk_machine walk.old m) (walk_machine walk.new m)
+        Home image.now (R.service.kept rom.now) (walk_machine walk.old m) walk.old.index p.0 p.1 walk.old.stage →
+        (q : ℕ × ℕ) × LinkOn image.now (R.service.kept rom.now) (walk_machine walk.old m) (walk_machine walk.new m)
         (walk_control walk.new q) x got walk.old.index p.0 p.1 walk.old.stage }
     ensures counted { walk_count walk.new ≡ walk_count walk.old + 1 }
     ensures limited { (n : ℕ) → WalksTo n walk.old → WalksTo n walk.new }
@@ -300,14 +301,14 @@ fn one<R: CacheRom, M: CacheRam>(
     walk: &mut Walk,
 ) -> bool
     requires going { hart.old.machine.ending ≡ None }
-    requires sound { R.sound rom.now image.now (M.state ram.now).words }
-    requires used { walk.old.index < R.span (R.setting rom.now) }
+    requires sound { R.service.sound rom.now image.now (M.state ram.now).words }
+    requires used { walk.old.index < R.service.span (R.service.setting rom.now) }
     requires got { got ≡ slice_index (M.state ram.now).words walk.old.index }
     requires is { Some x.now ≡ decoded got }
     requires room { HasRoom walk.old }
-    ensures on { result ≡ true → (p : ℕ × ℕ) → Home image.now (R.kept rom.now)
+    ensures on { result ≡ true → (p : ℕ × ℕ) → Home image.now (R.service.kept rom.now)
         (walk_machine walk.old hart.old.machine) walk.old.index p.0 p.1 walk.old.stage →
-        (q : ℕ × ℕ) × StepOn image.now (R.kept rom.now) (walk_machine walk.old hart.old.machine)
+        (q : ℕ × ℕ) × StepOn image.now (R.service.kept rom.now) (walk_machine walk.old hart.old.machine)
         (walk_machine walk.new hart.new.machine) (walk_control walk.new q) x.now got
         walk.old.index p.0 p.1 walk.old.stage }
     ensures counted { result ≡ true → walk_count walk.new ≡ walk_count walk.old + 1 }
@@ -352,20 +353,21 @@ fn back<R: CacheRom, M: CacheRam>(
     ram: &M,
     at: u32,
 ) -> Option<(u32, u32)>
-    requires sound { R.sound rom.old image.now (M.state ram.now).words }
-    requires services { (R.kept rom.old).counts.services < 2 ^ 50 }
-    requires exit { ExitStands image.now (R.kept rom.old) at (place_shown (R.shown rom.old at)) }
+    requires sound { R.service.sound rom.old image.now (M.state ram.now).words }
+    requires services { (R.service.kept rom.old).counts.services < 2 ^ 50 }
+    requires exit { ExitStands image.now (R.service.kept rom.old) at (place_shown (R.service.shown rom.old at)) }
     ensures on { IfSome result (λ j. (walk : Walk) → walk.index ≡ at → HasRoom walk →
-        (q : ℕ × ℕ) × JumpOn (R.policy (R.setting rom.old)) (R.span (R.setting rom.old)) image.now
-        (R.kept rom.old) (R.kept rom.new) (M.state ram.now) (walk_machine walk hart.old.machine)
+        (q : ℕ × ℕ) × JumpOn (R.service.policy (R.service.setting rom.old)) (R.service.span (R.service.setting rom.old)) image.now
+        (R.service.kept rom.old) (R.service.kept rom.new) (M.state ram.now) (walk_machine walk hart.old.machine)
         (walk_machine (landed j.0 j.1 1 walk) hart.new.machine) (walk_control (landed j.0 j.1 1 walk) q)
-        at (place_shown (R.shown rom.old at)).0 (place_shown (R.shown rom.old at)).1 walk.stage) }
+        at (place_shown (R.service.shown rom.old at)).0 (place_shown (R.service.shown rom.old at)).1 walk.stage) }
     ensures same { result ≡ None → (rom.new ≡ rom.old) × (hart.new ≡ hart.old) }
     ensures rest { hart.new ≡ record hart.old {
       machine = record hart.old.machine { regs = hart.new.machine.regs };
     } }
-    ensures setting { R.setting rom.new ≡ R.setting rom.old }
-    ensures stays { R.sound rom.new image.now (M.state ram.now).words }
+    ensures setting { R.service.setting rom.new ≡ R.service.setting rom.old }
+    ensures stays { R.service.sound rom.new image.now (M.state ram.now).words }
+    ensures keeps { Keeps R.service image.now rom.old rom.new (M.state ram.now).words (M.state ram.now).words }
 {
     let Some((block, offset)) = rom.at(at) else {
         unreachable!()
@@ -412,26 +414,27 @@ pub(crate) fn run_block<R: CacheRom, M: CacheRam>(
 ) -> Result<Option<u32>, Failed>
     requires going { hart.old.machine.ending ≡ None }
     requires control { hart.old.control ≡ Control.At at.0 at.1 at.2 at.3 }
-    requires sound { R.sound rom.old image.now (M.state ram.old).words }
+    requires sound { R.service.sound rom.old image.now (M.state ram.old).words }
     requires few { limit ≤ 2 ^ 48 }
     requires within { hart.old.machine.steps ≤ limit }
     requires short { hart.old.machine.pc < 2 ^ 32 }
-    requires inside { (r : Record) (h : HartData) (s : RamState) → Walked (R.policy (R.setting rom.old))
-        (R.span (R.setting rom.old)) image.now limit (R.kept rom.old) hart.old (M.state ram.old) r h s →
+    requires inside { (r : Record) (h : HartData) (s : RamState) → Walked (R.service.policy (R.service.setting rom.old))
+        (R.service.span (R.service.setting rom.old)) image.now limit (R.service.kept rom.old) hart.old (M.state ram.old) r h s →
         h.machine.steps < limit → (i b o : ℕ) (stage : Stage) → h.control ≡ Control.At i b o stage →
         StandsInside image.now r s h i b o stage }
-    requires stands { (r : Record) (h : HartData) (s : RamState) → Walked (R.policy (R.setting rom.old))
-        (R.span (R.setting rom.old)) image.now limit (R.kept rom.old) hart.old (M.state ram.old) r h s →
+    requires stands { (r : Record) (h : HartData) (s : RamState) → Walked (R.service.policy (R.service.setting rom.old))
+        (R.service.span (R.service.setting rom.old)) image.now limit (R.service.kept rom.old) hart.old (M.state ram.old) r h s →
         (i b o : ℕ) (stage : Stage) → h.control ≡ Control.At i b o stage → StandsAt image.now r i (Some (b, o)) }
-    requires rises { (r r' : Record) (h h' : HartData) (s s' : RamState) → Walked (R.policy (R.setting rom.old))
-        (R.span (R.setting rom.old)) image.now limit (R.kept rom.old) hart.old (M.state ram.old) r h s →
-        h.machine.steps < limit → WalkedOn (R.policy (R.setting rom.old)) (R.span (R.setting rom.old)) image.now
+    requires rises { (r r' : Record) (h h' : HartData) (s s' : RamState) → Walked (R.service.policy (R.service.setting rom.old))
+        (R.service.span (R.service.setting rom.old)) image.now limit (R.service.kept rom.old) hart.old (M.state ram.old) r h s →
+        h.machine.steps < limit → WalkedOn (R.service.policy (R.service.setting rom.old)) (R.service.span (R.service.setting rom.old)) image.now
         r r' s s' h h' →
         3 * limit + 5 - most image.now h'.machine h'.control < 3 * limit + 5 - most image.now h.machine h.control }
-    ensures ran { BlockRan (R.policy (R.setting rom.old)) (R.span (R.setting rom.old)) image.now result limit
-        (R.kept rom.old) hart.old (M.state ram.old) (R.kept rom.new) hart.new (M.state ram.new) }
-    ensures setting { R.setting rom.new ≡ R.setting rom.old }
-    ensures sound { R.sound rom.new image.now (M.state ram.new).words }
+    ensures ran { BlockRan (R.service.policy (R.service.setting rom.old)) (R.service.span (R.service.setting rom.old)) image.now result limit
+        (R.service.kept rom.old) hart.old (M.state ram.old) (R.service.kept rom.new) hart.new (M.state ram.new) }
+    ensures setting { R.service.setting rom.new ≡ R.service.setting rom.old }
+    ensures sound { R.service.sound rom.new image.now (M.state ram.new).words }
+    ensures keeps { Keeps R.service image.now rom.old rom.new (M.state ram.old).words (M.state ram.new).words }
 {
     let mut walk = Walk {
         index: at.0,

@@ -8,12 +8,14 @@ ghost use Rattle.swi_program.specs.Layout.{IsLayoutOf};
 ghost use Rattle.swi_program.specs.Text.{text_of, word_of};
 ghost use Rattle.swi_image.specs.Place.{place_of};
 ghost use Rattle.swi_render.specs.Carried.{Carries};
-ghost use Rattle.swi_rom.specs.Record.{indirect, writes};
+ghost use Rattle.swi_rom.specs.Record.{Record, indirect, writes};
 ghost use Rattle.swi_hart.specs.Hart.{is_between, index_of, place_under, next_made, role_of, original};
 ghost use Rattle.swi_hart.specs.Exchanged.{Exchanged, PlainAt, ExecutesHeld};
 ghost use Rattle.swi_hart.specs.Matching.{Arrives, Fits, Matches};
+ghost use Rattle.swi_hart.specs.Staying.{StaysUnder};
+ghost use Rattle.swi_image.specs.Format.{ImageData};
 ghost use Rattle.swi_board.specs.Board.{BoardOf, entry_transfer, entries};
-ghost use Rattle.swi_rom.specs.Served.{SameFrom};
+ghost use Rattle.swi_rom.specs.Served.{SameFrom, WordsMove, Keeps};
 ghost use Rattle.swi_hart.specs.Leaving.{RamServed, RamFailed, moved, RamStepped, RamBroken, broken, transfer_at};
 ghost use Rattle.swi_board.specs.Ran.{RamRan, Ran, BrokeOff, RamBrokeOff, Followed};
 ghost use Rattle.swi_board.specs.Transfers.{here_of, spent_run};
@@ -22,7 +24,7 @@ ghost use Rattle.swi_calls.specs.declared.machine.Machine.{Machine};
 ghost use Rattle.swi_hart.specs.Calling.{Made, BrokenStep, OnDevice, with_memory};
 ghost use Rattle.swi_hart.specs.Faults.{HasCauses};
 ghost use Rattle.swi_outside.specs.CacheRam.{KeepsBeyond};
-ghost use Rattle.swi_hart.specs.Service.{Transferred};
+ghost use Rattle.swi_hart.specs.Service.{TransferServed};
 ghost use Rattle.swi_hart.specs.Bounds.{most, Grown};
 ghost use Rattle.swi_board.specs.Runs.{fetched_by};
 
@@ -72,19 +74,18 @@ fn enter<R: CacheRom, M: CacheRam>(
     ram: &mut M,
 ) -> Result<(), Failed>
     requires count { hart.old.count < 2 ^ 56 }
-    requires sound { R.sound rom.old image.now (M.state ram.old).words }
-    requires services { (R.kept rom.old).counts.services < 2 ^ 50 }
+    requires sound { R.service.sound rom.old image.now (M.state ram.old).words }
+    requires services { (R.service.kept rom.old).counts.services < 2 ^ 50 }
     ensures hart { OnOk result (hart.new
         ≡ record hart.old {
           control = hart.new.control;
           count = hart.old.count + entries image.now hart.old.machine.pc;
           booted = true;
         }) }
-    ensures control { OnOk result (Arrives image.now (R.kept rom.new) hart.old.machine.pc hart.new.control) }
-    ensures served { Transferred R.policy R.extent R.span image.now (entry_transfer image.now hart.old.machine.pc)
-        (R.sound rom.new image.now (M.state ram.new).words)
-        (record { kept = R.kept rom.old; setting = R.setting rom.old; ram = M.state ram.old })
-        (record { kept = R.kept rom.new; setting = R.setting rom.new; ram = M.state ram.new }) result }
+    ensures control { OnOk result (Arrives image.now (R.service.kept rom.new) hart.old.machine.pc hart.new.control) }
+    ensures served { TransferServed R.service image.now (entry_transfer image.now hart.old.machine.pc)
+        (record { rom = rom.old; ram = M.state ram.old })
+        (record { rom = rom.new; ram = M.state ram.new }) result }
 {
     let pc = hart.origin_pc();
     if image.place(pc).is_some() {
@@ -104,7 +105,9 @@ impl<R: CacheRom> Board<R> {
     /// hart holds, the service is sound for it and the ram, and the hart has not ended, and is between two
     /// instructions. No device has failed, and fewer than 2^56 machine instructions and 2^50 services are counted.
     ///
-    /// `Failed` comes only where the ram's count of faults rose; hart and service are then given up.
+    /// A word of the ram that changes is of a newly placed block, or a link that was made or undone; each other program
+    /// that the service served is served as before. `Failed` comes only where the ram's count of faults rose; hart and
+    /// service are then given up.
     pub fn resume<M: CacheRam>(
         image: &ImageView<'_>,
         hart: Hart,
@@ -116,8 +119,8 @@ impl<R: CacheRom> Board<R> {
         requires unfailed { hart.failed ≡ false }
         requires between { is_between hart.control ≡ true }
         requires count { hart.count < 2 ^ 56 }
-        requires sound { R.sound rom image.now (M.state ram.old).words }
-        requires services { (R.kept rom).counts.services < 2 ^ 50 }
+        requires sound { R.service.sound rom image.now (M.state ram.old).words }
+        requires services { (R.service.kept rom).counts.services < 2 ^ 50 }
         ensures hart { IfOk result (λ b. b.hart
             ≡ record hart {
               control = b.hart.control;
@@ -125,21 +128,25 @@ impl<R: CacheRom> Board<R> {
               booted = true;
             }) }
         ensures matches { IfOk result (λ b. Matches image.now
-            (R.kept b.rom) hart.machine b.hart.machine b.hart.control) }
-        ensures fits { IfOk result (λ b. Fits image.now (R.kept b.rom) b.hart) }
+            (R.service.kept b.rom) hart.machine b.hart.machine b.hart.control) }
+        ensures fits { IfOk result (λ b. Fits image.now (R.service.kept b.rom) b.hart) }
         ensures here { IfOk result (λ b. here_of image.now hart.machine b.hart.control
             ≡ place_of image.now hart.machine.pc) }
         ensures spent { IfOk result (λ b. spent_run hart.machine b.hart.control ≡ 0) }
         ensures between { IfOk result (λ b. is_between b.hart.control ≡ true) }
-        ensures policy { IfOk result (λ b. R.kept b.rom ≡ moved (R.policy (R.setting rom))
-            (R.kept rom) image.now (entry_transfer image.now hart.machine.pc)) }
-        ensures setting { IfOk result (λ b. R.setting b.rom ≡ R.setting rom) }
-        ensures sound { IfOk result (λ b. R.sound b.rom image.now (M.state ram.new).words) }
-        ensures unused { IfOk result (λ b. SameFrom (R.extent (R.setting rom) (R.kept b.rom))
+        ensures policy { IfOk result (λ b. R.service.kept b.rom ≡ moved (R.service.policy (R.service.setting rom))
+            (R.service.kept rom) image.now (entry_transfer image.now hart.machine.pc)) }
+        ensures setting { IfOk result (λ b. R.service.setting b.rom ≡ R.service.setting rom) }
+        ensures sound { IfOk result (λ b. R.service.sound b.rom image.now (M.state ram.new).words) }
+        ensures keeps { IfOk result (λ b. Keeps R.service image.now rom b.rom
             (M.state ram.old).words (M.state ram.new).words) }
-        ensures ram { IfOk result (λ b. RamServed (R.span (R.setting rom))
-            (writes (R.kept b.rom) - writes (R.kept rom)) (M.state ram.old) (M.state ram.new)) }
-        ensures failed { OnErr result (RamFailed (R.span (R.setting rom)) (M.state ram.old) (M.state ram.new)) }
+        ensures unused { IfOk result (λ b. SameFrom (R.service.extent (R.service.setting rom) (R.service.kept b.rom))
+            (M.state ram.old).words (M.state ram.new).words) }
+        ensures words { IfOk result (λ b. WordsMove image.now (R.service.kept rom) (R.service.kept b.rom)
+            (M.state ram.old) (M.state ram.new)) }
+        ensures ram { IfOk result (λ b. RamServed (R.service.span (R.service.setting rom))
+            (writes (R.service.kept b.rom) - writes (R.service.kept rom)) (M.state ram.old) (M.state ram.new)) }
+        ensures failed { OnErr result (RamFailed (R.service.span (R.service.setting rom)) (M.state ram.old) (M.state ram.new)) }
     {
         let mut hart = hart;
         let mut rom = rom;
@@ -163,29 +170,33 @@ impl<R: CacheRom> Board<R> {
     ) -> Result<Board<R>, BootStop>
         requires laid_out { IsLayoutOf p.now.segments l.now }
         requires carries { Carries (word_of (text_of p.now.segments)) image.now }
-        requires sound { R.sound rom image.now (M.state ram.old).words }
-        requires services { (R.kept rom).counts.services < 2 ^ 50 }
+        requires sound { R.service.sound rom image.now (M.state ram.old).words }
+        requires services { (R.service.kept rom).counts.services < 2 ^ 50 }
         ensures machine { IfOk result (λ b. b.hart.machine ≡ machine_of p.now l.now log) }
         ensures count { IfOk result (λ b. b.hart.count ≡ 1) }
         ensures unfailed { IfOk result (λ b. b.hart.failed ≡ false) }
         ensures booted { IfOk result (λ b. b.hart.booted ≡ true) }
         ensures between { IfOk result (λ b. is_between b.hart.control ≡ true) }
-        ensures matches { IfOk result (λ b. Matches image.now (R.kept b.rom)
+        ensures matches { IfOk result (λ b. Matches image.now (R.service.kept b.rom)
             (machine_of p.now l.now log) b.hart.machine b.hart.control) }
-        ensures fits { IfOk result (λ b. Fits image.now (R.kept b.rom) b.hart) }
+        ensures fits { IfOk result (λ b. Fits image.now (R.service.kept b.rom) b.hart) }
         ensures here { IfOk result (λ b. here_of image.now (machine_of p.now l.now log) b.hart.control
             ≡ place_of image.now p.now.entry) }
         ensures spent { IfOk result (λ b. spent_run (machine_of p.now l.now log) b.hart.control ≡ 0) }
-        ensures policy { IfOk result (λ b. R.kept b.rom ≡ R.policy (R.setting rom)
-            (R.kept rom) image.now (indirect p.now.entry)) }
-        ensures setting { IfOk result (λ b. R.setting b.rom ≡ R.setting rom) }
-        ensures sound { IfOk result (λ b. R.sound b.rom image.now (M.state ram.new).words) }
-        ensures unused { IfOk result (λ b. SameFrom (R.extent (R.setting rom) (R.kept b.rom))
+        ensures policy { IfOk result (λ b. R.service.kept b.rom ≡ R.service.policy (R.service.setting rom)
+            (R.service.kept rom) image.now (indirect p.now.entry)) }
+        ensures setting { IfOk result (λ b. R.service.setting b.rom ≡ R.service.setting rom) }
+        ensures sound { IfOk result (λ b. R.service.sound b.rom image.now (M.state ram.new).words) }
+        ensures keeps { IfOk result (λ b. Keeps R.service image.now rom b.rom
             (M.state ram.old).words (M.state ram.new).words) }
-        ensures ram { IfOk result (λ b. RamServed (R.span (R.setting rom))
-            (writes (R.kept b.rom) - writes (R.kept rom)) (M.state ram.old) (M.state ram.new)) }
+        ensures unused { IfOk result (λ b. SameFrom (R.service.extent (R.service.setting rom) (R.service.kept b.rom))
+            (M.state ram.old).words (M.state ram.new).words) }
+        ensures words { IfOk result (λ b. WordsMove image.now (R.service.kept rom) (R.service.kept b.rom)
+            (M.state ram.old) (M.state ram.new)) }
+        ensures ram { IfOk result (λ b. RamServed (R.service.span (R.service.setting rom))
+            (writes (R.service.kept b.rom) - writes (R.service.kept rom)) (M.state ram.old) (M.state ram.new)) }
         ensures failed { IsErrOf result BootStop.RamFault →
-            RamFailed (R.span (R.setting rom)) (M.state ram.old) (M.state ram.new) }
+            RamFailed (R.service.span (R.service.setting rom)) (M.state ram.old) (M.state ram.new) }
         ensures untouched { IsErrOf result BootStop.Memory → M.state ram.new ≡ M.state ram.old }
     {
         let hart = match Hart::start(alloc, p, l, log) {
@@ -209,13 +220,20 @@ impl<R: CacheRom> Board<R> {
 
     /// A board of a hart that is booted and a service that shows the hart's place at the index under its control.
     /// Nothing changes or is counted. That the service is sound for the hart's image and the ram is asked by the next
-    /// `step` or `run`.
+    /// `step` or `run`. Where control's block stands as it did in the service's record before, the board matches the same
+    /// flat machines, and the image fits it as before.
     pub fn join(hart: Hart, rom: R) -> Board<R>
         requires booted { hart.booted ≡ true }
-        requires shown { (i : ℕ) → index_of hart.machine.ending hart.control ≡ Some i → R.shown rom i
+        requires shown { (i : ℕ) → index_of hart.machine.ending hart.control ≡ Some i → R.service.shown rom i
             ≡ place_under hart.machine.ending hart.control }
         ensures hart { result.hart ≡ hart }
         ensures rom { result.rom ≡ rom }
+        ensures matches { (v : ImageData) (old : Record) (f : Machine) →
+            StaysUnder old (R.service.kept rom) hart.machine hart.control →
+            Matches v old f hart.machine hart.control →
+            Matches v (R.service.kept result.rom) f result.hart.machine result.hart.control }
+        ensures fits { (v : ImageData) (old : Record) → StaysUnder old (R.service.kept rom) hart.machine hart.control →
+            Fits v old hart → Fits v (R.service.kept result.rom) result.hart }
     {
         Board { hart, rom }
     }
@@ -229,7 +247,8 @@ impl<R: CacheRom> Board<R> {
     /// step goes on as over the image's.
     ///
     /// It follows each flat machine that the board matches: by a step, or by none where the word completes no
-    /// instruction. After an error `failed` is true, and no step is counted.
+    /// instruction. A word of the ram that changes is of a newly placed block, or a link that was made or undone. After an
+    /// error `failed` is true, and no step is counted.
     pub fn step<M: CacheRam, I: Source, O: Sink, E: Sink>(
         &mut self,
         image: &ImageView<'_>,
@@ -242,20 +261,20 @@ impl<R: CacheRom> Board<R> {
         requires unfailed { self.old.hart.failed ≡ false }
         requires few { self.old.hart.machine.steps < 2 ^ 48 }
         requires count { self.old.hart.count < 2 ^ 56 }
-        requires services { (R.kept self.old.rom).counts.services < 2 ^ 50 }
-        requires fits { Fits image.now (R.kept self.old.rom) self.old.hart }
-        requires sound { R.sound self.old.rom image.now (M.state ram.old).words
-            ⊎ Exchanged (λ words. R.sound self.old.rom image.now words) image.now
+        requires services { (R.service.kept self.old.rom).counts.services < 2 ^ 50 }
+        requires fits { Fits image.now (R.service.kept self.old.rom) self.old.hart }
+        requires sound { R.service.sound self.old.rom image.now (M.state ram.old).words
+            ⊎ Exchanged (λ words. R.service.sound self.old.rom image.now words) image.now
             (M.state ram.old).words self.old.hart.control }
-        ensures follows { R.sound self.old.rom image.now (M.state ram.old).words →
+        ensures follows { R.service.sound self.old.rom image.now (M.state ram.old).words →
             OnOk result (ForSome (I.left input.old) (λ left. (f : Machine) → Carries (fetched f.bus) image.now →
-            Matches image.now (R.kept self.old.rom) f self.old.hart.machine self.old.hart.control →
-            Followed image.now (R.kept self.new.rom) self.new.hart
+            Matches image.now (R.service.kept self.old.rom) f self.old.hart.machine self.old.hart.control →
+            Followed image.now (R.service.kept self.new.rom) self.new.hart
             (next_made image.now self.old.hart.machine self.old.hart.control f left)
             (I.left input.new) (O.held out.old) (O.held out.new) (E.held err.old) (E.held err.new))) }
-        ensures made { R.sound self.old.rom image.now (M.state ram.old).words →
+        ensures made { R.service.sound self.old.rom image.now (M.state ram.old).words →
             OnOk result (ForSome (I.left input.old)
-            (λ left. Made image.now (R.kept self.new.rom) self.old.hart self.new.hart left
+            (λ left. Made image.now (R.service.kept self.new.rom) self.old.hart self.new.hart left
             (I.left input.new) (O.held out.old) (O.held out.new) (E.held err.old) (E.held err.new))) }
         ensures executes { OnOk result ((i b o : ℕ) (stage : Stage) →
             PlainAt image.now (M.state ram.old).words self.old.hart.control i b o stage →
@@ -265,28 +284,33 @@ impl<R: CacheRom> Board<R> {
         ensures whole { OnOk result ((i b o : ℕ) (stage : Stage) →
             PlainAt image.now (M.state ram.old).words self.old.hart.control i b o stage →
             role_of stage (original self.old.hart.machine) ≡ Role.Whole →
-            Fits image.now (R.kept self.new.rom) self.new.hart) }
+            Fits image.now (R.service.kept self.new.rom) self.new.hart) }
         ensures unfailed { OnOk result (self.new.hart.failed ≡ false) }
         ensures booted { OnOk result (self.new.hart.booted ≡ self.old.hart.booted) }
-        ensures fits { R.sound self.old.rom image.now (M.state ram.old).words →
-            OnOk result (Fits image.now (R.kept self.new.rom) self.new.hart) }
-        ensures policy { OnOk result (R.kept self.new.rom ≡ moved (R.policy (R.setting self.old.rom))
-            (R.kept self.old.rom) image.now
+        ensures fits { R.service.sound self.old.rom image.now (M.state ram.old).words →
+            OnOk result (Fits image.now (R.service.kept self.new.rom) self.new.hart) }
+        ensures policy { OnOk result (R.service.kept self.new.rom ≡ moved (R.service.policy (R.service.setting self.old.rom))
+            (R.service.kept self.old.rom) image.now
             (transfer_at image.now self.old.hart.machine self.old.hart.control)) }
-        ensures setting { R.setting self.new.rom ≡ R.setting self.old.rom }
-        ensures sound { R.sound self.old.rom image.now (M.state ram.old).words →
-            OnOk result (R.sound self.new.rom image.now (M.state ram.new).words) }
-        ensures unused { OnOk result (SameFrom (R.extent (R.setting self.old.rom) (R.kept self.new.rom))
+        ensures setting { R.service.setting self.new.rom ≡ R.service.setting self.old.rom }
+        ensures sound { R.service.sound self.old.rom image.now (M.state ram.old).words →
+            OnOk result (R.service.sound self.new.rom image.now (M.state ram.new).words) }
+        ensures keeps { R.service.sound self.old.rom image.now (M.state ram.old).words →
+            OnOk result (Keeps R.service image.now self.old.rom self.new.rom
             (M.state ram.old).words (M.state ram.new).words) }
-        ensures ram { OnOk result (RamStepped (R.span (R.setting self.old.rom))
-            (writes (R.kept self.new.rom) - writes (R.kept self.old.rom)) self.old.hart.control
+        ensures unused { OnOk result (SameFrom (R.service.extent (R.service.setting self.old.rom) (R.service.kept self.new.rom))
+            (M.state ram.old).words (M.state ram.new).words) }
+        ensures words { OnOk result (WordsMove image.now (R.service.kept self.old.rom) (R.service.kept self.new.rom)
             (M.state ram.old) (M.state ram.new)) }
-        ensures grown { R.sound self.old.rom image.now (M.state ram.old).words →
-            OnOk result (Grown image.now (R.kept self.old.rom) (R.kept self.new.rom) self.old.hart self.new.hart) }
+        ensures ram { OnOk result (RamStepped (R.service.span (R.service.setting self.old.rom))
+            (writes (R.service.kept self.new.rom) - writes (R.service.kept self.old.rom)) self.old.hart.control
+            (M.state ram.old) (M.state ram.new)) }
+        ensures grown { R.service.sound self.old.rom image.now (M.state ram.old).words →
+            OnOk result (Grown image.now (R.service.kept self.old.rom) (R.service.kept self.new.rom) self.old.hart self.new.hart) }
         ensures stopped { OnErr result (self.new.hart ≡ broken (with_memory self.old.hart self.new.hart.machine.bus)) }
-        ensures broke { R.sound self.old.rom image.now (M.state ram.old).words →
+        ensures broke { R.service.sound self.old.rom image.now (M.state ram.old).words →
             OnDevice result (ForSome (I.left input.old)
-            (λ left. BrokenStep image.now (R.kept self.old.rom) self.old.hart left
+            (λ left. BrokenStep image.now (R.service.kept self.old.rom) self.old.hart left
             (I.left input.new) (O.held out.old) (O.held out.new) (E.held err.old) (E.held err.new))) }
         ensures unwritten { IsErrOf result BoardFault.SourceFault → (O.held out.new ≡ O.held out.old)
             × (E.held err.new ≡ E.held err.old) }
@@ -295,8 +319,8 @@ impl<R: CacheRom> Board<R> {
             ≡ E.held err.old)) }
         ensures ram_failed { IsErrOf result BoardFault.RamFault →
             RamBroken image.now self.old.hart.machine self.old.hart.control
-            (R.span (R.setting self.old.rom)) (M.state ram.old) (M.state ram.new) }
-        ensures kept { KeepsBeyond (R.span (R.setting self.old.rom)) (M.state ram.old) (M.state ram.new) }
+            (R.service.span (R.service.setting self.old.rom)) (M.state ram.old) (M.state ram.new) }
+        ensures kept { KeepsBeyond (R.service.span (R.service.setting self.old.rom)) (M.state ram.old) (M.state ram.new) }
         ensures causes { HasCauses
             (record {
               ram = (M.state ram.old).faults;
@@ -322,6 +346,9 @@ impl<R: CacheRom> Board<R> {
     /// made; no device has failed; the image fits the board and the service is sound for it and the ram, as `boot`,
     /// `step` and `run` leave them; at most 2^55 machine instructions and 2^49 services are counted.
     ///
+    /// Where the run goes on, control has come to where the flat steps lead. Which words of the ram change is said of `step`
+    /// alone: along a run a block can come and leave again.
+    ///
     /// Each fault comes only where its device's count rose. After one `failed` is true, and the step that it broke off
     /// is not counted.
     pub fn run<M: CacheRam, I: Source, O: Sink, E: Sink>(
@@ -333,48 +360,50 @@ impl<R: CacheRom> Board<R> {
         err: &mut E,
         n: u64,
     ) -> Result<(), BoardFault>
-        requires fits { Fits image.now (R.kept self.old.rom) self.old.hart }
-        requires sound { R.sound self.old.rom image.now (M.state ram.old).words }
+        requires fits { Fits image.now (R.service.kept self.old.rom) self.old.hart }
+        requires sound { R.service.sound self.old.rom image.now (M.state ram.old).words }
         requires steps { self.old.hart.machine.steps ≤ n }
         requires unfailed { self.old.hart.failed ≡ false }
         requires limit { n ≤ 2 ^ 48 }
         requires count { self.old.hart.count ≤ 2 ^ 55 }
-        requires services { (R.kept self.old.rom).counts.services ≤ 2 ^ 49 }
+        requires services { (R.service.kept self.old.rom).counts.services ≤ 2 ^ 49 }
         ensures ran { OnOk result (ForSome (I.left input.old) (λ left. (f : Machine) →
             Carries (fetched f.bus) image.now →
-            Matches image.now (R.kept self.old.rom) f self.old.hart.machine self.old.hart.control →
-            Ran (R.policy (R.setting self.old.rom)) image.now (n - self.old.hart.machine.steps)
-            (started f left) self.old.hart (R.kept self.old.rom) self.new.hart (R.kept self.new.rom) (I.left input.new)
+            Matches image.now (R.service.kept self.old.rom) f self.old.hart.machine self.old.hart.control →
+            Ran (R.service.policy (R.service.setting self.old.rom)) image.now (n - self.old.hart.machine.steps)
+            (started f left) self.old.hart (R.service.kept self.old.rom) self.new.hart (R.service.kept self.new.rom) (I.left input.new)
             (O.held out.old) (O.held out.new) (E.held err.old) (E.held err.new))) }
         ensures count { OnOk result
             (self.new.hart.count + most image.now self.old.hart.machine self.old.hart.control
             ≤ self.old.hart.count + most image.now self.new.hart.machine self.new.hart.control) }
-        ensures fits { OnOk result (Fits image.now (R.kept self.new.rom) self.new.hart) }
-        ensures setting { R.setting self.new.rom ≡ R.setting self.old.rom }
-        ensures sound { OnOk result (R.sound self.new.rom image.now (M.state ram.new).words) }
-        ensures unused { OnOk result (SameFrom (R.extent (R.setting self.old.rom) (R.kept self.new.rom))
+        ensures fits { OnOk result (Fits image.now (R.service.kept self.new.rom) self.new.hart) }
+        ensures setting { R.service.setting self.new.rom ≡ R.service.setting self.old.rom }
+        ensures sound { OnOk result (R.service.sound self.new.rom image.now (M.state ram.new).words) }
+        ensures keeps { OnOk result (Keeps R.service image.now self.old.rom self.new.rom
+            (M.state ram.old).words (M.state ram.new).words) }
+        ensures unused { OnOk result (SameFrom (R.service.extent (R.service.setting self.old.rom) (R.service.kept self.new.rom))
             (M.state ram.old).words (M.state ram.new).words) }
         ensures unfailed { OnOk result (self.new.hart.failed ≡ false) }
         ensures booted { OnOk result (self.new.hart.booted ≡ self.old.hart.booted) }
         ensures done { OnOk result ((self.new.hart.machine.steps ≡ n) ⊎ (is_some self.new.hart.machine.ending ≡ true)) }
         ensures settled { OnOk result (ForSome (I.left input.old) (λ left. is_between self.old.hart.control ≡ true →
             self.new.hart.machine.ending ≡ None → is_between self.new.hart.control ≡ true)) }
-        ensures ram { OnOk result (RamRan (R.span (R.setting self.old.rom)) (fetched_by self.old.hart self.new.hart)
-            (writes (R.kept self.new.rom) - writes (R.kept self.old.rom))
+        ensures ram { OnOk result (RamRan (R.service.span (R.service.setting self.old.rom)) (fetched_by self.old.hart self.new.hart)
+            (writes (R.service.kept self.new.rom) - writes (R.service.kept self.old.rom))
             (M.state ram.old) (M.state ram.new)) }
-        ensures kept { KeepsBeyond (R.span (R.setting self.old.rom)) (M.state ram.old) (M.state ram.new) }
+        ensures kept { KeepsBeyond (R.service.span (R.service.setting self.old.rom)) (M.state ram.old) (M.state ram.new) }
         ensures failed { OnErr result (self.new.hart.failed ≡ true) }
         ensures going { OnErr result (self.new.hart.machine.ending ≡ None) }
         ensures uncounted { OnErr result (self.new.hart.machine.steps < n) }
         ensures broke { OnDevice result (ForSome (I.left input.old) (λ left. (f : Machine) →
             Carries (fetched f.bus) image.now →
-            Matches image.now (R.kept self.old.rom) f self.old.hart.machine self.old.hart.control →
+            Matches image.now (R.service.kept self.old.rom) f self.old.hart.machine self.old.hart.control →
             BrokeOff result (n - self.old.hart.machine.steps)
             (started f left) self.old.hart self.new.hart (I.left input.new)
             (O.held out.old) (O.held out.new) (E.held err.old) (E.held err.new))) }
         ensures ram_broke { IsErrOf result BoardFault.RamFault → ForSome (I.left input.old) (λ left. (f : Machine) →
             Carries (fetched f.bus) image.now →
-            Matches image.now (R.kept self.old.rom) f self.old.hart.machine self.old.hart.control →
+            Matches image.now (R.service.kept self.old.rom) f self.old.hart.machine self.old.hart.control →
             RamBrokeOff image.now (n - self.old.hart.machine.steps)
             (started f left) self.old.hart self.new.hart (M.state ram.old) (M.state ram.new) (I.left input.new)
             (O.held out.old) (O.held out.new) (E.held err.old) (E.held err.new)) }

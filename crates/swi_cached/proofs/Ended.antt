@@ -6,16 +6,14 @@ use Rattle.swi_outside.specs.CacheRam.{RamState, KeepsBeyond}
 use Rattle.swi_calls.specs.declared.end.End.{End}
 use Rattle.swi_calls.specs.declared.end.End.TheVariants.{Exited, Faulted, StoreText}
 use Rattle.swi_calls.specs.declared.machine.Machine.{Machine}
+use Rattle.swi_calls.specs.State.{FlatState}
 use Rattle.swi_image.specs.Format.{ImageData}
 use Rattle.swi_image.specs.Place.{place_of}
 use Rattle.swi_rom.specs.Coherent.{Coherent}
-use Rattle.swi_rom.specs.Fifo.{fifo, extent_of, fifo_third, fifo_grows}
-use Rattle.swi_rom.specs.Laws.{slots_coherent}
 use Rattle.swi_rom.specs.Rams.{risen_more}
 use Rattle.swi_rom.specs.Record.{Record, Transfer, writes}
+use Rattle.swi_rom.specs.Service.{Setting}
 use Rattle.swi_rom.specs.Served.{SameFrom}
-use Rattle.swi_rom.specs.Slots.{Slots, kept_by, setting_of, span_of as span_by}
-use Rattle.swi_rom.specs.Sound.{SlotsSound}
 use Rattle.swi_hart.specs.declared.hart.Stage.TheVariants.{Start, Low, Return, Leave}
 use Rattle.swi_hart.specs.declared.hart.Control.{Control}
 use Rattle.swi_hart.specs.declared.hart.Control.TheVariants.{At, Outside}
@@ -30,7 +28,7 @@ use Rattle.swi_cached.specs.Answers.{Ended, IsShort, RamAfter}
 use Rattle.swi_cached.specs.Booted.{Booted}
 use Rattle.swi_hart.proofs.Growing.{depth_most}
 use Rattle.swi_board.proofs.Running.{kept_both}
-use Rattle.swi_cached.proofs.Boot.{same_between}
+use Rattle.swi_cached.proofs.Boot.{Lawful, same_between}
 
 -- between two instructions nothing of the next is made
 spent_settled : (f : Machine) (c : Control) → (f.ending ≡ None → is_between c ≡ true) → spent_run f c ≡ 0
@@ -47,8 +45,8 @@ spent_settled f c = by f.ending c
 none_left : (a b x y : ℕ) → x ≡ 0 → y ≡ 0 → a + x ≡ b + y → a ≡ b
 none_left a b x y p q e = omega (arith, p, q, e)
 
-module _ (c : CachedRun) (h0 h : HartData) (s0 : Slots) (r : Record) (before mid after : RamState) (left' out out' e e' : Option (List ℕ))
-    (booted : Booted c h0 s0 before mid) (ran : Ran (policy_of c) c.image c.limit c.start h0 (kept_by s0) h r left' out out' e e')
+module _ (c : CachedRun) (h0 h : HartData) (k0 : Record) (r : Record) (before mid after : RamState) (left' out out' e e' : Option (List ℕ))
+    (booted : Booted c h0 k0 before mid) (ran : Ran (policy_of c) c.image c.limit c.start h0 k0 h r left' out out' e e')
     (settled : h.machine.ending ≡ None → is_between h.control ≡ true) where
   same : h.machine ≡ (end_of c).machine
   same = same_between c.image r (end_of c).machine h.machine h.control settled ran.matches
@@ -62,7 +60,7 @@ module _ (c : CachedRun) (h0 h : HartData) (s0 : Slots) (r : Record) (before mid
   pub record_is : r ≡ record_after c c.limit
   record_is =
       ran.record_is
-      ∙ ap (λ (k : Option (ℕ × ℕ)). after_all (policy_of c) c.image (kept_by s0) (transfers c.image c.limit c.start k)) booted.here
+      ∙ ap (λ (k : Option (ℕ × ℕ)). after_all (policy_of c) c.image k0 (transfers c.image c.limit c.start k)) booted.here
       ∙ ap (λ (k : Record). after_all (policy_of c) c.image k (transfers c.image c.limit c.start (place_of c.image c.start.machine.pc))) booted.kept
 
   pub has_ended : (err err' : Option (List ℕ)) → Appends err err' (told_after c c.limit).error → Ended c h r left' out out' err err'
@@ -91,30 +89,27 @@ module _ (c : CachedRun) (h0 h : HartData) (s0 : Slots) (r : Record) (before mid
   sum_is : (a b n : ℕ) → a ≤ b → n ≡ a → a + (b - n) ≡ b
   sum_is a b n le e = omega (arith, le, e)
 
-  pub ram_after : (s : Slots) → r ≡ kept_by s → setting_of s ≡ setting_of s0 → SlotsSound s c.image after.words →
-      RamRan (span_by (setting_of s0)) (fetched_by h0 h) (writes r - writes (kept_by s0)) mid after → SameFrom (extent_of (setting_of s0) r) mid.words after.words → RamAfter c before after
-  ram_after s is setting sound ram unused = record {
-    coherent =
-        subst (λ (n : ℕ). Coherent c.image (record_after c c.limit) n after.words) (ap span_by (setting ∙ booted.setting))
-        (subst (λ (q : Record). Coherent c.image q (span_by (setting_of s)) after.words) (sym is ∙ record_is) (slots_coherent s c.image after.words sound));
+  pub ram_after : Lawful c.cache → Coherent c.image r (span_of c) after.words →
+      RamRan (span_of c) (fetched_by h0 h) (writes r - writes k0) mid after → SameFrom (c.cache.extent r) mid.words after.words → RamAfter c before after
+  ram_after laws coherent ram unused = record {
+    coherent = subst (λ (q : Record). Coherent c.image q (span_of c) after.words) record_is coherent;
     fetches = ram.fetches ∙ ap (λ n. risen n (fetched_by h0 h)) booted.ram.fetches_stay ∙ ap (λ n. risen before.fetches n) fetched;
     sets =
-        ram.sets ∙ ap (λ n. risen n (writes r - writes (kept_by s0))) booted.ram.sets_rise
-        ∙ risen_more before.sets (writes (record_at_boot c)) (writes r - writes (kept_by s0))
-        ∙ ap (λ n. risen before.sets n) (ap (λ (q : Record). writes (record_at_boot c) + (writes q - writes (kept_by s0))) record_is
-        ∙ sum_is (writes (record_at_boot c)) (writes (record_after c c.limit)) (writes (kept_by s0))
-        (rises (λ q. writes q) (λ q t. fifo_third (c.slots ∷ c.image.block_words ∷ []) q c.image t) (transfers c.image c.limit c.start (place_of c.image c.start.machine.pc)) (record_at_boot c)) (ap (λ (q : Record). writes q) booted.kept));
+        ram.sets ∙ ap (λ n. risen n (writes r - writes k0)) booted.ram.sets_rise
+        ∙ risen_more before.sets (writes (record_at_boot c)) (writes r - writes k0)
+        ∙ ap (λ n. risen before.sets n) (ap (λ (q : Record). writes (record_at_boot c) + (writes q - writes k0)) record_is
+        ∙ sum_is (writes (record_at_boot c)) (writes (record_after c c.limit)) (writes k0)
+        (rises (λ q. writes q) (λ q t. laws.writes_rise q c.image t) (transfers c.image c.limit c.start (place_of c.image c.start.machine.pc)) (record_at_boot c)) (ap (λ (q : Record). writes q) booted.kept));
     unused = λ i le.
-        let grew = rises (λ q. extent_of (c.slots ∷ c.image.block_words ∷ []) q) (λ q t. fifo_grows (c.slots ∷ c.image.block_words ∷ []) q c.image t) (transfers c.image c.limit c.start (place_of c.image c.start.machine.pc)) (record_at_boot c) in
-        let later = subst (λ (q : Record). SameFrom (extent_of (c.slots ∷ c.image.block_words ∷ []) q) mid.words after.words) record_is (subst (λ (k : List ℕ). SameFrom (extent_of k r) mid.words after.words) booted.setting unused) in
+        let grew = rises (λ q. c.cache.extent q) (λ q t. laws.extent_rises q c.image t) (transfers c.image c.limit c.start (place_of c.image c.start.machine.pc)) (record_at_boot c) in
+        let later = subst (λ (q : Record). SameFrom (c.cache.extent q) mid.words after.words) record_is unused in
         later i le ∙ booted.unused i (omega (arith, le, grew));
   }
 
--- the words behind the slots, over the boot and the run
-pub kept_on : (c : CachedRun) (h0 : HartData) (s0 : Slots) (before mid after : RamState) → Booted c h0 s0 before mid → KeepsBeyond (span_by (setting_of s0)) mid after →
+-- the words behind the cache, over the boot and the run
+pub kept_on : (c : CachedRun) (h0 : HartData) (k0 : Record) (before mid after : RamState) → Booted c h0 k0 before mid → KeepsBeyond (span_of c) mid after →
     KeepsBeyond (span_of c) before after
-kept_on c h0 s0 before mid after booted kept =
-    kept_both (span_of c) before mid after booted.ram.kept (subst (λ (k : List ℕ). KeepsBeyond (span_by k) mid after) booted.setting kept)
+kept_on c h0 k0 before mid after booted kept = kept_both (span_of c) before mid after booted.ram.kept kept
 
 -- a control at a text word's place is not at an exit behind a block's last text word
 depth_booted : (v : ImageData) (m : Machine) (c : Control) → is_between c ≡ true → here_of v m c ≡ place_of v m.pc → depth v m c ≡ 1
@@ -154,7 +149,7 @@ most_any v m c = by m.ending
     by (Some (Faulted k a)) = omega arith
     by (Some (StoreText a)) = omega arith
 
-module _ (c : CachedRun) (h0 h : HartData) (s0 : Slots) (before mid : RamState) (booted : Booted c h0 s0 before mid)
+module _ (c : CachedRun) (h0 h : HartData) (k0 : Record) (before mid : RamState) (booted : Booted c h0 k0 before mid)
     (going : c.start.machine.ending ≡ None) (none : c.start.machine.steps ≡ 0)
     (rise : h.count + most c.image h0.machine h0.control ≤ h0.count + most c.image h.machine h.control) where
   start : most c.image h0.machine h0.control ≡ 1
@@ -174,8 +169,8 @@ module _ (c : CachedRun) (h0 h : HartData) (s0 : Slots) (before mid : RamState) 
   pub few_more : h.count ≤ 3 * h.machine.steps + 3
   few_more = let one = booted.count in let last = most_any c.image h.machine h.control in omega (arith, start, one, rise, last)
 
--- a run of the board from its first step on, in the words of its boot
-pub ran_told : (c : CachedRun) (h0 h : HartData) (s0 : Slots) (r : Record) (before mid : RamState) (left' out out' err err' : Option (List ℕ)) → Booted c h0 s0 before mid →
-    Ran (fifo (setting_of s0)) c.image c.limit c.start h0 (kept_by s0) h r left' out out' err err' → Ran (policy_of c) c.image c.limit c.start h0 (kept_by s0) h r left' out out' err err'
-ran_told c h0 h s0 r before mid left' out out' err err' booted ran =
-    subst (λ (k : List ℕ). Ran (fifo k) c.image c.limit c.start h0 (kept_by s0) h r left' out out' err err') booted.setting ran
+-- a run of the board in the words of another setting, which is the same
+pub ran_told : (policy : Setting → Record → ImageData → Transfer → Record) (m n : Setting) (v : ImageData) (limit : ℕ) (start : FlatState) (h0 : HartData) (k0 : Record) (h : HartData) (r : Record) (left' out out' err err' : Option (List ℕ)) → m ≡ n →
+    Ran (policy m) v limit start h0 k0 h r left' out out' err err' → Ran (policy n) v limit start h0 k0 h r left' out out' err err'
+ran_told policy m n v limit start h0 k0 h r left' out out' err err' same ran =
+    subst (λ (k : Setting). Ran (policy k) v limit start h0 k0 h r left' out out' err err') same ran

@@ -10,7 +10,7 @@ use Rattle.swi_calls.specs.Held.{held_run, held_step}
 use Rattle.swi_calls.specs.Laws.{held_is_flat, held_stops, held_run_none}
 use Rattle.swi_image.specs.Format.{ImageData}
 use Rattle.swi_image.specs.Place.{place_of}
-use Rattle.swi_rom.specs.Slots.{Slots}
+use Rattle.swi_rom.specs.Record.{Record}
 use Rattle.swi_hart.specs.declared.fault.BoardFault.{BoardFault}
 use Rattle.swi_hart.specs.declared.fault.BoardFault.TheVariants.{SourceFault as board_source}
 use Rattle.swi_hart.specs.Hart.{HartData}
@@ -24,10 +24,10 @@ use Rattle.swi_cached.specs.Answers.{RamFailed, StepFailed, step_after}
 use Rattle.swi_cached.specs.Booted.{Booted}
 
 -- the ram failed in the run
-pub ram_failed : (c : CachedRun) (h0 h' : HartData) (s0 : Slots) (before mid after : RamState) (left' out out' err err' e e' : Option (List ℕ)) → Booted c h0 s0 before mid →
+pub ram_failed : (c : CachedRun) (h0 h' : HartData) (k0 : Record) (before mid after : RamState) (left' out out' err err' e e' : Option (List ℕ)) → Booted c h0 k0 before mid →
     (broke : RamBrokeOff c.image c.limit c.start h0 h' mid after left' out out' e e') → (begun : Bool) →
     Appends err err' ((told_after c broke.steps).error ++ (if begun then told_line c.trace (program_after c broke.steps).machine else [])) → RamFailed c before after left' out out' err err'
-ram_failed c h0 h' s0 before mid after left' out out' err err' e e' booted broke begun told =
+ram_failed c h0 h' k0 before mid after left' out out' err err' e e' booted broke begun told =
     let fetched : ℕ = broke.fetched in
     let no_rest = booted.spent in
     let least : fetches_after c broke.steps ≤ broke.fetched + spent_run c.start.machine h0.control =

@@ -1,4 +1,5 @@
 mod Boot
+pub mod Slotted
 mod Ended
 mod Services
 pub mod Failed

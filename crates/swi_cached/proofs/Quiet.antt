@@ -46,7 +46,7 @@ module _ (t : Telling) (is : t ≡ telling.Nothing) (v : ImageData) (n : ℕ) (s
   quiet_run policy r0 r ran =
       let a = subst (λ (k : ℕ). Ran policy v k s h0 r0 h r left' out out' err err') all ran in
       subst (λ (x : Telling). ToldRun x policy v n s h0 r0 h r left' out out' err err' None) (sym is) (record {
-        ran = record { matches = a.matches; input = a.input; output = a.output; error = tt; record_is = a.record_is; cost_is = a.cost_is; fetches_are = a.fetches_are };
+        ran = record { matches = a.matches; input = a.input; output = a.output; error = tt; record_is = a.record_is; here_is = a.here_is; cost_is = a.cost_is; fetches_are = a.fetches_are };
         error = a.error;
         kept = refl;
       })

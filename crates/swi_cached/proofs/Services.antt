@@ -9,11 +9,11 @@ use Rattle.swi_calls.specs.declared.machine.Machine.{Machine}
 use Rattle.swi_image.specs.Format.{ImageData}
 use Rattle.swi_image.specs.Place.{place_of}
 use Rattle.swi_render.specs.Rendering.{Slot}
-use Rattle.swi_rom.specs.Fifo.{fifo, went, counted, arrived_services, fifo_second}
-use Rattle.swi_rom.specs.Record.{Record, Transfer, direct, indirect}
+use Rattle.swi_rom.specs.Record.{Record, Transfer, direct}
 use Rattle.swi_hart.specs.Hart.{original, slots}
 use Rattle.swi_board.specs.Transfers.{Here, at_fall, settled, here_after, jumps_as, fall_transfers, leaves_by, step_transfers, transfers, after_all}
-use Rattle.swi_cached.specs.Cached.{CachedRun, empty_record, policy_of, record_at_boot, record_after}
+use Rattle.swi_cached.specs.Cached.{CachedRun, IsFresh, policy_of, record_at_boot, record_after}
+use Rattle.swi_cached.proofs.Boot.{Lawful, boot_serves}
 
 -- ---- a step makes two transfers at most
 
@@ -69,25 +69,17 @@ transfers_few v (suc k) s here =
 
 -- ---- each of them is one service at most, and the boot none
 
-after_services : (c : CachedRun) (r : Record) (ts : List Transfer) → (after_all (policy_of c) c.image r ts).counts.services ≤ r.counts.services + length ts
-after_services c r [] = omega arith
-after_services c r (t ∷ ts) =
-    let one = fifo_second (c.slots ∷ c.image.block_words ∷ []) r c.image t in
-    let rest = after_services c (policy_of c r c.image t) ts in
+after_services : (c : CachedRun) → Lawful c.cache → (r : Record) (ts : List Transfer) → (after_all (policy_of c) c.image r ts).counts.services ≤ r.counts.services + length ts
+after_services c laws r [] = omega arith
+after_services c laws r (t ∷ ts) =
+    let one = laws.one_service r c.image t in
+    let rest = after_services c laws (policy_of c r c.image t) ts in
     omega (arith, one, rest)
 
-boot_serves : (c : CachedRun) → (record_at_boot c).counts.services ≡ 0
-unfolding fifo went counted
-boot_serves c = by (place_of c.image c.start.machine.pc)
-  where
-    by : (p : Option (ℕ × ℕ)) → (went c.slots c.image.block_words c.image empty_record (indirect c.start.machine.pc) p).counts.services ≡ 0
-    by None = refl
-    by (Some p) = arrived_services c.slots c.image.block_words c.image (counted empty_record) p.0
-
-pub services_few : (c : CachedRun) (n : ℕ) → (record_after c n).counts.services ≤ 2 * n
-services_few c n =
-    let boot = boot_serves c in
+pub services_few : (c : CachedRun) (n : ℕ) → Lawful c.cache → IsFresh c.cache.empty → (record_after c n).counts.services ≤ 2 * n
+services_few c n laws fresh =
+    let boot = boot_serves c laws fresh in
     let made = transfers c.image n c.start (place_of c.image c.start.machine.pc) in
     let few = transfers_few c.image n c.start (place_of c.image c.start.machine.pc) in
-    let more = after_services c (record_at_boot c) made in
+    let more = after_services c laws (record_at_boot c) made in
     omega (arith, boot, few, more)

@@ -54,6 +54,7 @@ virtual policy v r0 n s0 h0 h r left out0 out goes = record {
   told = refl;
   run_left = goes.run_left;
   records_left = goes.records_left;
+  here_left = goes.here_left;
   from = goes.from;
   now_is = goes.now_is;
   later = goes.later;

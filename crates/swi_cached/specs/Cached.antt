@@ -1,5 +1,5 @@
 -- A run on the cached machine, as data: what it does besides what its program does. Own rule.
-use Rattle.std.specs.Prelude.{◌≡◌, ℕ, ◌+◌, ◌*◌, ◌/◌, ◌<◌, min, Bool, List, [], ◌∷◌, Option, Some}
+use Rattle.std.specs.Prelude.{◌≡◌, ℕ, ◌+◌, ◌<◌, Bool, List, [], Option, Some}
 use Rattle.swi_exec.specs.declared.done.FaultKind.TheVariants.{FetchAccess}
 use Rattle.swi_calls.specs.declared.end.End.{End}
 use Rattle.swi_calls.specs.declared.end.End.TheVariants.{Faulted}
@@ -12,37 +12,33 @@ use Rattle.swi_image.specs.Format.{ImageData}
 use Rattle.swi_image.specs.Place.{place_of}
 use Rattle.swi_memory.specs.declared.layout.Layout.{Layout}
 use Rattle.swi_program.specs.Program.{ProgramData}
-use Rattle.swi_rom.specs.Fifo.{fifo}
-use Rattle.swi_rom.specs.Record.{Record, Transfer, indirect}
+use Rattle.swi_rom.specs.Record.{Record, Transfer, indirect, writes}
+use Rattle.swi_rom.specs.Service.{Cache}
 use Rattle.swi_board.specs.Transfers.{transfers, cost, fetches, after_all}
 use Rattle.swi_cached.specs.declared.told.Telling.{Telling}
 use Rattle.swi_cached.specs.Told.{error_by, is_each}
 
--- a run: its image, the slots of the cache, the program before its first step, the most steps, and whether the errors have a line of each
+-- a run: its image, its cache, the program before its first step, the most steps, and whether the errors have a line of each
 pub record CachedRun : Type 0 where
   pub image : ImageData
-  pub slots : ℕ
+  pub cache : Cache
   pub start : FlatState
   pub limit : ℕ
   pub trace : Bool
 
--- as many slots as a cache of so many bytes has room for blocks
-abbrev pub slots_of : ℕ → ImageData → ℕ
-slots_of bytes v = bytes / (4 * v.block_words)
-
--- the run of a program in such a cache, with this input, and with lines of its steps or without them
-abbrev pub run_of : ImageData → ℕ → ProgramData → Layout → Bool → Telling → ℕ → List ℕ → CachedRun
-run_of v bytes p l log telling limit input = record {
+-- the run of a program out of a cache, with this input, and with lines of its steps or without them
+abbrev pub run_of : ImageData → Cache → ProgramData → Layout → Bool → Telling → ℕ → List ℕ → CachedRun
+run_of v cache p l log telling limit input = record {
   image = v;
-  slots = slots_of bytes v;
+  cache = cache;
   start = flat_start p l log input;
   limit = limit;
   trace = is_each telling;
 }
 
--- the words of the ram that the slots take
+-- the words of the ram that the cache uses
 abbrev pub span_of : CachedRun → ℕ
-span_of c = c.slots * c.image.block_words
+span_of c = c.cache.span
 
 -- The program after so many steps. It is the flat machine, which executes the original instructions where they stand,
 -- but that it ends before a step that would store into the text.
@@ -84,23 +80,18 @@ unfetched _ = 0
 abbrev pub IsCounted : CachedRun → Type 0
 IsCounted c = (n : ℕ) → instructions_after c n ≡ 1 + fetches_after c n + unfetched (program_after c n).machine.ending
 
--- nothing is placed, linked or counted yet
-abbrev pub empty_record : Record
-empty_record = record {
-  turn = 0;
-  placed = [];
-  links = [];
-  counts = record { services = 0; misses = 0; evictions = 0; links = 0; unlinks = 0; copied = 0 };
-  more = [];
-}
+-- a service that has done nothing yet: no block is placed, no transfer was served and no word written
+pub record IsFresh (r : Record) : Type 0 where
+  pub unplaced : r.placed ≡ []
+  pub unserved : r.counts.services ≡ 0
+  pub unwritten : writes r ≡ 0
 
--- the policy: first in, first out, in slots of a block each
 abbrev pub policy_of : CachedRun → Record → ImageData → Transfer → Record
-policy_of c = fifo (c.slots ∷ c.image.block_words ∷ [])
+policy_of c = c.cache.policy
 
 -- the boot enters the block of the first instruction
 abbrev pub record_at_boot : CachedRun → Record
-record_at_boot c = policy_of c empty_record c.image (indirect c.start.machine.pc)
+record_at_boot c = policy_of c c.cache.empty c.image (indirect c.start.machine.pc)
 
 -- The blocks that are placed, the oldest first, the links and the counts after the first n steps: each transfer of
 -- control behind the boot is served by the policy.
@@ -108,6 +99,6 @@ abbrev pub record_after : CachedRun → ℕ → Record
 record_after c n = after_all (policy_of c) c.image (record_at_boot c)
     (transfers c.image n c.start (place_of c.image c.start.machine.pc))
 
--- the words of the slots into which a block was copied within the first n steps: the lowest slots, one for each miss
+-- the words of the cache that can have been written within the first n steps
 abbrev pub used_after : CachedRun → ℕ → ℕ
-used_after c n = min (record_after c n).counts.misses c.slots * c.image.block_words
+used_after c n = c.cache.extent (record_after c n)

@@ -1,4 +1,5 @@
 pub mod Cached
+pub mod Slotted
 pub mod Told
 pub mod Traced
 pub mod Booted

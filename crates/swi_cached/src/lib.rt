@@ -2,9 +2,11 @@
 #![tactic(auto)]
 
 mod run;
+mod slots;
 mod told;
 
 pub use run::{CachedStop, run_cached};
+pub use slots::slots_for;
 pub use told::Telling;
 
 #[cfg(test)]

@@ -1,4 +1,4 @@
-//! The run: the service, the boot, and the steps.
+//! The run over a cache service: the boot, and the steps.
 #![tactic(auto)]
 
 ghost use Rattle.std.specs.Prelude.{◌≡◌, ◌⊎◌, ◌+◌, ◌*◌, ◌^◌, ◌<◌, ◌≤◌, ◌∷◌, [], List, ℕ, length, IfOk, OnOk, IsErrOf, Some, None, true, false, is_some};
@@ -9,12 +9,11 @@ ghost use Rattle.swi_program.specs.Layout.{IsLayoutOf};
 ghost use Rattle.swi_program.specs.Text.{text_of, word_of};
 ghost use Rattle.swi_render.specs.Carried.{Carries};
 ghost use Rattle.swi_render.specs.ImageOf.{IsImageOf};
-ghost use Rattle.swi_rom.specs.Slots.{Slots, kept_by, setting_of};
-ghost use Rattle.swi_rom.specs.Sound.{SlotsSound};
+ghost use Rattle.swi_rom.specs.Service.{cache_of};
 ghost use Rattle.swi_calls.specs.Flat.{flat_start};
 ghost use Rattle.swi_hart.specs.Matching.{Fits};
 ghost use Rattle.swi_hart.specs.Leaving.{RamFailed as ServiceFailed};
-ghost use Rattle.swi_cached.specs.Cached.{run_of, slots_of, empty_record, IsCounted, IsFlatRun, StopsBeforeStore};
+ghost use Rattle.swi_cached.specs.Cached.{run_of, IsFresh, IsCounted, IsFlatRun, StopsBeforeStore};
 ghost use Rattle.swi_cached.specs.Told.{addresses, history_of};
 ghost use Rattle.swi_cached.specs.Answers.{Ended, IsShort, RamAfter, RamFailed, StepFailed, HasCauses, stop_of};
 ghost use Rattle.swi_cached.specs.Booted.{Booted};
@@ -22,11 +21,11 @@ ghost use Rattle.swi_cached.specs.Booted.{Booted};
 use crate::told::{Telling, first_history, run_steps};
 use std::alloc::Global;
 use swi_board::{Board, BoardFault, BootStop};
-use swi_fifo::FifoRom;
 use swi_image::ImageView;
 use swi_memory::Layout;
 use swi_outside::{CacheRam, Memory, Sink, Source};
 use swi_program::Program;
+use swi_rom::CacheRom;
 use swi_trace::History;
 
 /// What stops a run on the cached machine.
@@ -65,49 +64,34 @@ pub(crate) fn carry(image: &ImageView<'_>, program: &Program<'_>)
     let _entry = program.entry();
 }
 
-/// An empty service of the image's blocks.
-fn service(alloc: Global, image: &ImageView<'_>, cache_bytes: u32) -> Result<FifoRom, Memory>
-    requires least { 4 * image.now.block_words ≤ cache_bytes }
-    requires most { cache_bytes ≤ 2 ^ 23 }
-    ensures setting { IfOk result (λ s. setting_of s ≡ slots_of cache_bytes image.now ∷ image.now.block_words ∷ []) }
-    ensures empty { IfOk result (λ s. kept_by s ≡ empty_record) }
-    ensures sound { IfOk result (λ s. (words : List ℕ) → cache_bytes ≤ 4 * length words →
-        SlotsSound s image.now words) }
-{
-    let _blocks = image.blocks();
-    FifoRom::new(alloc, cache_bytes, image.block_words())
-}
-
 /// The board of the program before its first step.
-fn boot<R: CacheRam>(
+fn boot<R: CacheRam, S: CacheRom>(
     alloc: Global,
     image: &ImageView<'_>,
     program: &Program<'_>,
     layout: &Layout,
-    cache_bytes: u32,
+    rom: S,
     log: bool,
     ram: &mut R,
-) -> Result<Board<FifoRom>, CachedStop>
+) -> Result<Board<S>, CachedStop>
     requires laid_out { IsLayoutOf program.now.segments layout.now }
     requires own { IsImageOf (text_of program.now.segments) image.now }
-    requires least { 4 * image.now.block_words ≤ cache_bytes }
-    requires most { cache_bytes ≤ 2 ^ 23 }
-    requires held { cache_bytes ≤ 4 * length (R.state ram.old).words }
+    requires sound { S.service.sound rom image.now (R.state ram.old).words }
+    requires fresh { IsFresh (S.service.kept rom) }
     ensures booted { IfOk result (λ b. (telling : Telling) (limit : ℕ) (left : List ℕ) →
-        Booted (run_of image.now cache_bytes program.now layout.now log telling limit left) b.hart b.rom
-        (R.state ram.old) (R.state ram.new)) }
+        Booted (run_of image.now (cache_of S.service rom) program.now layout.now log telling limit left) b.hart
+        (S.service.kept b.rom) (R.state ram.old) (R.state ram.new)) }
+    ensures setting { IfOk result (λ b. S.service.setting b.rom ≡ S.service.setting rom) }
+    ensures sound { IfOk result (λ b. S.service.sound b.rom image.now (R.state ram.new).words) }
     ensures placed { is_some (place_of image.now program.now.entry) ≡ true }
     ensures word { program.now.entry < 2 ^ 32 }
     ensures untouched { IsErrOf result CachedStop.Memory → R.state ram.new ≡ R.state ram.old }
     ensures failed { IsErrOf result CachedStop.RamFault →
-        ServiceFailed (slots_of cache_bytes image.now * image.now.block_words) (R.state ram.old) (R.state ram.new) }
+        ServiceFailed (S.service.span (S.service.setting rom)) (R.state ram.old) (R.state ram.new) }
     ensures not_source { IsErrOf result CachedStop.SourceFault → ⊥ }
     ensures not_sink { IsErrOf result CachedStop.SinkFault → ⊥ }
 {
     carry(image, program);
-    let Ok(rom) = service(alloc, image, cache_bytes) else {
-        return Err(CachedStop::Memory);
-    };
     match Board::boot(alloc, image, program, layout, log, rom, ram) {
         Ok(board) => Ok(board),
         Err(BootStop::RamFault) => Err(CachedStop::RamFault),
@@ -115,12 +99,12 @@ fn boot<R: CacheRam>(
     }
 }
 
-/// Runs a program out of a cache ram: the blocks of its image are copied on demand into slots of a cache of so many
-/// bytes, the oldest first out, and `limit` original steps are made, or fewer where the program ends. The board that is
-/// answered tells how it ended, and what it cost; where it has not ended, `Board::run` runs it on.
+/// Runs a program out of a cache ram: a service copies the blocks of its image there on demand, and evicts them by its
+/// policy; `limit` original steps are made, or fewer where the program ends. The board that is answered has the service. It
+/// tells how the program ended, and what it cost; where it has not ended, `Board::run` runs it on.
 ///
-/// The image is one of the program's text, and the layout is the program's. The cache holds a block of the image, and
-/// has at most 8 MiB and no more bytes than the ram; `limit` is at most 2^48. With `log` each system call is told in a
+/// The image is one of the program's text, and the layout is the program's. The service is sound for the image and the
+/// ram, and has done nothing yet; `limit` is at most 2^48. With `log` each system call is told in a
 /// line on the error sink. `telling` says what is told of the steps: the history, where there is one, has the addresses
 /// of the last 32, and with `Each` a step has its line before its first word is fetched, also one that ends the run
 /// by a fault, and one that would store into the text, which isn't made.
@@ -131,13 +115,13 @@ fn boot<R: CacheRam>(
 /// After `Memory` nothing has changed. After `RamFault` the sinks hold just what the steps wrote whose fetches were
 /// made; after `SourceFault` what the steps made have written; with `Each` the error sink then holds the line of the
 /// step that was broken off too. After `SinkFault` they hold what the steps made have written, and a front of what the
-/// next step writes, its line first. The words of the ram behind the slots never change. Own rule.
-pub fn run_cached<I: Source, O: Sink, E: Sink, R: CacheRam>(
+/// next step writes, its line first. The words of the ram behind those of the service never change. Own rule.
+pub fn run_cached<I: Source, O: Sink, E: Sink, R: CacheRam, S: CacheRom>(
     alloc: Global,
     image: &ImageView<'_>,
     program: &Program<'_>,
     layout: &Layout,
-    cache_bytes: u32,
+    rom: S,
     log: bool,
     telling: Telling,
     limit: u64,
@@ -145,16 +129,15 @@ pub fn run_cached<I: Source, O: Sink, E: Sink, R: CacheRam>(
     out: &mut O,
     err: &mut E,
     ram: &mut R,
-) -> Result<(Board<FifoRom>, Option<History>), CachedStop>
+) -> Result<(Board<S>, Option<History>), CachedStop>
     requires laid_out { IsLayoutOf program.now.segments layout.now }
     requires own { IsImageOf (text_of program.now.segments) image.now }
-    requires least { 4 * image.now.block_words ≤ cache_bytes }
-    requires most { cache_bytes ≤ 2 ^ 23 }
-    requires held { cache_bytes ≤ 4 * length (R.state ram.old).words }
+    requires sound { S.service.sound rom image.now (R.state ram.old).words }
+    requires fresh { IsFresh (S.service.kept rom) }
     requires limit { limit ≤ 2 ^ 48 }
     ensures ended { IfOk result (λ p. ForSome (I.left input.old) (λ left.
-        Ended (run_of image.now cache_bytes program.now layout.now log telling limit left) p.0.hart (kept_by p.0.rom)
-        (I.left input.new) (O.held out.old) (O.held out.new) (E.held err.old) (E.held err.new))) }
+        Ended (run_of image.now (cache_of S.service rom) program.now layout.now log telling limit left) p.0.hart
+        (S.service.kept p.0.rom) (I.left input.new) (O.held out.old) (O.held out.new) (E.held err.old) (E.held err.new))) }
     ensures told { IfOk result (λ p. ForSome (I.left input.old) (λ left.
         p.1 ≡ history_of telling (addresses limit (flat_start program.now layout.now log left)))) }
     ensures unfailed { IfOk result (λ p. p.0.hart.failed ≡ false) }
@@ -162,30 +145,28 @@ pub fn run_cached<I: Source, O: Sink, E: Sink, R: CacheRam>(
     ensures done { IfOk result (λ p. (p.0.hart.machine.steps ≡ limit) ⊎ (is_some p.0.hart.machine.ending ≡ true)) }
     // What `Board::run` asks of a board that has not ended, and that it is booted, with the setting of its service.
     ensures booted { IfOk result (λ p. p.0.hart.booted ≡ true) }
-    ensures fits { IfOk result (λ p. Fits image.now (kept_by p.0.rom) p.0.hart) }
-    ensures sound { IfOk result (λ p. SlotsSound p.0.rom image.now (R.state ram.new).words) }
-    ensures setting { IfOk result (λ p. setting_of p.0.rom
-        ≡ slots_of cache_bytes image.now ∷ image.now.block_words ∷ []) }
+    ensures fits { IfOk result (λ p. Fits image.now (S.service.kept p.0.rom) p.0.hart) }
+    ensures sound { IfOk result (λ p. S.service.sound p.0.rom image.now (R.state ram.new).words) }
+    ensures setting { IfOk result (λ p. S.service.setting p.0.rom ≡ S.service.setting rom) }
     ensures count { IfOk result (λ p. p.0.hart.count ≤ 3 * p.0.hart.machine.steps + 3) }
     ensures services { IfOk result (λ p. ForSome (I.left input.old) (λ left.
-        (kept_by p.0.rom).counts.services ≤ 2 * limit)) }
+        (S.service.kept p.0.rom).counts.services ≤ 2 * limit)) }
     ensures ram { OnOk result (ForSome (I.left input.old) (λ left.
-        RamAfter (run_of image.now cache_bytes program.now layout.now log telling limit left)
+        RamAfter (run_of image.now (cache_of S.service rom) program.now layout.now log telling limit left)
         (R.state ram.old) (R.state ram.new))) }
     ensures counted { OnOk result ((left : List ℕ) →
-        IsCounted (run_of image.now cache_bytes program.now layout.now log telling limit left)) }
-    ensures kept { KeepsBeyond (slots_of cache_bytes image.now * image.now.block_words)
-        (R.state ram.old) (R.state ram.new) }
+        IsCounted (run_of image.now (cache_of S.service rom) program.now layout.now log telling limit left)) }
+    ensures kept { KeepsBeyond (S.service.span (S.service.setting rom)) (R.state ram.old) (R.state ram.new) }
     ensures memory { IsErrOf result CachedStop.Memory →
         (R.state ram.new ≡ R.state ram.old) × (I.left input.new ≡ I.left input.old)
         × (O.held out.new ≡ O.held out.old) × (E.held err.new ≡ E.held err.old) }
     ensures ram_failed { IsErrOf result CachedStop.RamFault → ForSome (I.left input.old) (λ left.
-        RamFailed (run_of image.now cache_bytes program.now layout.now log telling limit left)
+        RamFailed (run_of image.now (cache_of S.service rom) program.now layout.now log telling limit left)
         (R.state ram.old) (R.state ram.new)
         (I.left input.new) (O.held out.old) (O.held out.new) (E.held err.old) (E.held err.new)) }
     ensures step_failed { IsErrOf result CachedStop.SourceFault ⊎ IsErrOf result CachedStop.SinkFault →
         ForSome (I.left input.old) (λ left.
-        StepFailed (run_of image.now cache_bytes program.now layout.now log telling limit left) result
+        StepFailed (run_of image.now (cache_of S.service rom) program.now layout.now log telling limit left) result
         (I.left input.new) (O.held out.old) (O.held out.new) (E.held err.old) (E.held err.new)) }
     ensures causes { HasCauses
         (record {
@@ -202,14 +183,14 @@ pub fn run_cached<I: Source, O: Sink, E: Sink, R: CacheRam>(
         }) result }
     // The program's run is the flat machine's, up to the first store into the text.
     ensures flat { (left : List ℕ) → IsFlatRun
-        (run_of image.now cache_bytes program.now layout.now log telling limit left) }
+        (run_of image.now (cache_of S.service rom) program.now layout.now log telling limit left) }
     ensures stops { (left : List ℕ) →
-        StopsBeforeStore (run_of image.now cache_bytes program.now layout.now log telling limit left) }
+        StopsBeforeStore (run_of image.now (cache_of S.service rom) program.now layout.now log telling limit left) }
 {
     let Ok(history) = first_history(alloc, telling) else {
         return Err(CachedStop::Memory);
     };
-    let mut board = boot(alloc, image, program, layout, cache_bytes, log, ram)?;
+    let mut board = boot(alloc, image, program, layout, rom, log, ram)?;
     match run_steps(
         &mut board, image, limit, telling, history, input, out, err, ram,
     ) {

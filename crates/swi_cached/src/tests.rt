@@ -138,12 +138,13 @@ fn stands_after(alloc: Global, run: &Run, words: u32) -> Result<Stands, Fail> {
     let mut out = MemSink::new(alloc, 4096, [run.out_fails].to_vec(alloc)?)?;
     let mut err = MemSink::new(alloc, 4096, Vec::new(alloc))?;
     let mut ram = FaultRam::new(alloc, words, [run.ram_fails].to_vec(alloc)?)?;
+    let rom = slots_for(alloc, &view, run.cache_bytes)?;
     let answer = run_cached(
         alloc,
         &view,
         &program,
         &layout,
-        run.cache_bytes,
+        rom,
         false,
         run.telling,
         run.limit,
@@ -390,12 +391,13 @@ fn boards_run_on(rt: HostRuntime) -> Result<(), Fail> {
         let mut out = MemSink::new(alloc, 16, Vec::new(alloc))?;
         let mut err = MemSink::new(alloc, 16, Vec::new(alloc))?;
         let mut ram = FaultRam::new(alloc, 16, Vec::new(alloc))?;
+        let rom = slots_for(alloc, &view, 64)?;
         let answer = run_cached(
             alloc,
             &view,
             &program,
             &layout,
-            64,
+            rom,
             false,
             Telling::Nothing,
             limit,

@@ -12,11 +12,8 @@ ghost use Rattle.swi_calls.specs.declared.machine.Machine.{Machine};
 ghost use Rattle.swi_calls.specs.Flat.{started};
 ghost use Rattle.swi_memory.specs.Bus.{fetched};
 ghost use Rattle.swi_render.specs.Carried.{Carries};
-ghost use Rattle.swi_rom.specs.Fifo.{fifo, extent_of};
 ghost use Rattle.swi_rom.specs.Record.{writes};
 ghost use Rattle.swi_rom.specs.Served.{SameFrom};
-ghost use Rattle.swi_rom.specs.Slots.{kept_by, setting_of, span_of};
-ghost use Rattle.swi_rom.specs.Sound.{SlotsSound};
 ghost use Rattle.swi_hart.specs.Matching.{Fits, Matches};
 ghost use Rattle.swi_hart.specs.Calling.{OnDevice};
 ghost use Rattle.swi_hart.specs.Faults.{HasCauses};
@@ -29,9 +26,9 @@ ghost use Rattle.swi_cached.specs.Traced.{ToldRun, ToldBroke, ToldRamBroke};
 
 use std::alloc::Global;
 use swi_board::{Board, BoardFault};
-use swi_fifo::FifoRom;
 use swi_image::ImageView;
 use swi_outside::{CacheRam, Failed, Memory, Sink, Source};
+use swi_rom::CacheRom;
 use swi_trace::{History, trace_line};
 
 /// What is told of a run's steps.
@@ -57,8 +54,8 @@ pub(crate) fn first_history(alloc: Global, telling: Telling) -> Result<Option<Hi
 
 /// Tells of the step that comes next, unless so many lines say that it was told: its address into the history, and
 /// with `Each` its line on the error sink. Answers how many steps are told then.
-fn tell<E: Sink>(
-    board: &Board<FifoRom>,
+fn tell<E: Sink, S: CacheRom>(
+    board: &Board<S>,
     lines: u64,
     telling: Telling,
     history: &mut History,
@@ -93,8 +90,8 @@ fn tell<E: Sink>(
 
 /// Makes steps until `limit` are made or the run has ended, each told before it is made where steps are told. Answers
 /// the history.
-pub(crate) fn run_steps<I: Source, O: Sink, E: Sink, R: CacheRam>(
-    board: &mut Board<FifoRom>,
+pub(crate) fn run_steps<I: Source, O: Sink, E: Sink, R: CacheRam, S: CacheRom>(
+    board: &mut Board<S>,
     image: &ImageView<'_>,
     limit: u64,
     telling: Telling,
@@ -104,47 +101,47 @@ pub(crate) fn run_steps<I: Source, O: Sink, E: Sink, R: CacheRam>(
     err: &mut E,
     ram: &mut R,
 ) -> Result<Option<History>, BoardFault>
-    requires fits { Fits image.now (kept_by board.old.rom) board.old.hart }
-    requires sound { SlotsSound board.old.rom image.now (R.state ram.old).words }
+    requires fits { Fits image.now (S.service.kept board.old.rom) board.old.hart }
+    requires sound { S.service.sound board.old.rom image.now (R.state ram.old).words }
     requires first { board.old.hart.machine.steps ≡ 0 }
     requires running { board.old.hart.machine.ending ≡ None }
     requires unfailed { board.old.hart.failed ≡ false }
     requires limit { limit ≤ 2 ^ 48 }
     requires count { board.old.hart.count ≤ 2 ^ 55 }
-    requires services { (kept_by board.old.rom).counts.services ≤ 2 ^ 49 }
+    requires services { (S.service.kept board.old.rom).counts.services ≤ 2 ^ 49 }
     requires empty { history ≡ history_of telling [] }
     ensures ran { IfOk result (λ told. ForSome (I.left input.old) (λ left. (f : Machine) →
         Carries (fetched f.bus) image.now →
-        Matches image.now (kept_by board.old.rom) f board.old.hart.machine board.old.hart.control →
-        ToldRun telling (fifo (setting_of board.old.rom)) image.now limit
-        (started f left) board.old.hart (kept_by board.old.rom) board.new.hart (kept_by board.new.rom)
+        Matches image.now (S.service.kept board.old.rom) f board.old.hart.machine board.old.hart.control →
+        ToldRun telling (S.service.policy (S.service.setting board.old.rom)) image.now limit
+        (started f left) board.old.hart (S.service.kept board.old.rom) board.new.hart (S.service.kept board.new.rom)
         (I.left input.new)
         (O.held out.old) (O.held out.new) (E.held err.old) (E.held err.new) told)) }
     ensures count { OnOk result (board.new.hart.count + most image.now board.old.hart.machine board.old.hart.control
         ≤ board.old.hart.count + most image.now board.new.hart.machine board.new.hart.control) }
-    ensures fits { OnOk result (Fits image.now (kept_by board.new.rom) board.new.hart) }
+    ensures fits { OnOk result (Fits image.now (S.service.kept board.new.rom) board.new.hart) }
     ensures booted { OnOk result (board.new.hart.booted ≡ board.old.hart.booted) }
-    ensures setting { setting_of board.new.rom ≡ setting_of board.old.rom }
-    ensures sound { OnOk result (SlotsSound board.new.rom image.now (R.state ram.new).words) }
-    ensures unused { OnOk result (SameFrom (extent_of (setting_of board.old.rom) (kept_by board.new.rom))
+    ensures setting { S.service.setting board.new.rom ≡ S.service.setting board.old.rom }
+    ensures sound { OnOk result (S.service.sound board.new.rom image.now (R.state ram.new).words) }
+    ensures unused { OnOk result (SameFrom (S.service.extent (S.service.setting board.old.rom) (S.service.kept board.new.rom))
         (R.state ram.old).words (R.state ram.new).words) }
     ensures unfailed { OnOk result (board.new.hart.failed ≡ false) }
     ensures done { OnOk result ((board.new.hart.machine.steps ≡ limit)
         ⊎ (is_some board.new.hart.machine.ending ≡ true)) }
     ensures settled { OnOk result (ForSome (I.left input.old) (λ left. is_between board.old.hart.control ≡ true →
         board.new.hart.machine.ending ≡ None → is_between board.new.hart.control ≡ true)) }
-    ensures ram { OnOk result (RamRan (span_of (setting_of board.old.rom)) (fetched_by board.old.hart board.new.hart)
-        (writes (kept_by board.new.rom) - writes (kept_by board.old.rom))
+    ensures ram { OnOk result (RamRan (S.service.span (S.service.setting board.old.rom)) (fetched_by board.old.hart board.new.hart)
+        (writes (S.service.kept board.new.rom) - writes (S.service.kept board.old.rom))
         (R.state ram.old) (R.state ram.new)) }
-    ensures kept { KeepsBeyond (span_of (setting_of board.old.rom)) (R.state ram.old) (R.state ram.new) }
+    ensures kept { KeepsBeyond (S.service.span (S.service.setting board.old.rom)) (R.state ram.old) (R.state ram.new) }
     ensures broke { OnDevice result (ForSome (I.left input.old) (λ left. (f : Machine) →
         Carries (fetched f.bus) image.now →
-        Matches image.now (kept_by board.old.rom) f board.old.hart.machine board.old.hart.control →
+        Matches image.now (S.service.kept board.old.rom) f board.old.hart.machine board.old.hart.control →
         ToldBroke (is_each telling) result limit (started f left) board.old.hart board.new.hart (I.left input.new)
         (O.held out.old) (O.held out.new) (E.held err.old) (E.held err.new))) }
     ensures ram_broke { IsErrOf result BoardFault.RamFault → ForSome (I.left input.old) (λ left. (f : Machine) →
         Carries (fetched f.bus) image.now →
-        Matches image.now (kept_by board.old.rom) f board.old.hart.machine board.old.hart.control →
+        Matches image.now (S.service.kept board.old.rom) f board.old.hart.machine board.old.hart.control →
         ToldRamBroke (is_each telling) image.now limit (started f left) board.old.hart board.new.hart (R.state ram.old)
         (R.state ram.new) (I.left input.new)
         (O.held out.old) (O.held out.new) (E.held err.old) (E.held err.new)) }

@@ -1,3 +1,5 @@
 pub mod Chains
 pub mod Tied
 pub mod Laws
+pub mod Holders
+pub mod Lists

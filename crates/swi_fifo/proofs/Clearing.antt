@@ -1,30 +1,25 @@
 -- All links from and to a slot are dropped.
-use Rattle.std.proofs.Common.{◌≡◌, ◌⊎◌, ℕ, ◌+◌, ◌*◌, ◌/◌, ◌%◌, ◌-◌, ◌<◌, ◌≤◌, min, if◌then◌else◌, length, slice_index, arith, refl, sym, ◌∙◌, ap, subst, inl, inr}
-use Rattle.std.proofs.lemmas.Bool.{cases_eq, cases_lt}
+use Rattle.std.proofs.Common.{◌≡◌, ℕ, suc, zero, ◌+◌, ◌*◌, ◌/◌, ◌%◌, ◌-◌, ◌<◌, ◌≤◌, min, Bool, true, false, Result, Ok, Err, OnOk, IfOk, if◌then◌else◌, length, slice_index, arith, refl, sym, ◌∙◌, ap, subst, inl, inr}
+use Rattle.std.proofs.lemmas.Bool.{cases_Bool, cases_eq}
 use Rattle.std.proofs.lemmas.Nat.{div-mul-add, div-add-mod', mod_below, row_fits}
 use Rattle.swi_outside.specs.CacheRam.{RamState}
 use Rattle.swi_chain.specs.Chains.{ChainsData}
+use Rattle.swi_chain.specs.Holders.{holder_of}
+use Rattle.swi_chain.specs.Lists.{holder_most}
 use Rattle.swi_rom.specs.Record.{ebreak}
-use Rattle.swi_rom.specs.Steps.{Wrote, Cleared, leads_in, is_dropped, leading_in}
-use Rattle.swi_rom.specs.Tells.{own_tells, leads_tells, none_tells, leading_nothing}
+use Rattle.swi_rom.specs.Writing.{Wrote}
+use Rattle.swi_slots.specs.Steps.{Cleared, leads_in, is_dropped, leading_in}
+use Rattle.swi_slots.specs.Tells.{own_tells, leads_tells, none_tells}
+use Rattle.swi_undo.specs.Undone.{is_own, comes_in, coming_in, is_dropped as is_gone}
+use Rattle.swi_undo.specs.Gone.{Gone}
+use Rattle.swi_undo.specs.Tells.{own_is, own_not, own_tells as owned, comes_tells, none_tells as neither}
 use Rattle.swi_fifo.specs.Homes.{TableData}
-use Rattle.swi_fifo.specs.Targets.{slot_of, targets_of}
-use Rattle.swi_fifo.specs.Undone.{Undone, IsEmptied, Released}
-use Rattle.swi_fifo.proofs.Lists.{slot_most, length_targets, target_at, target_past}
+use Rattle.swi_fifo.specs.Targets.{targets_of}
+use Rattle.swi_fifo.proofs.Targets.{length_targets, target_at, target_past}
 
--- a word of another slot isn't released
-row_away : (slot size n i : ℕ) → 0 < size → n ≤ size → (i / size ≡ slot → ⊥) → (i < slot * size) ⊎ (slot * size + n ≤ i)
-row_away slot size n i pos le ne = elim (cases_lt i (slot * size)) [
-  | inl below ↦ inl below
-  | inr from ↦ elim (cases_lt i (slot * size + n)) [
-    | inl lt ↦ absurd (ne (ap (λ (x : ℕ). x / size) (omega arith) ∙ div-mul-add slot size (i - slot * size) (omega arith)))
-    | inr past ↦ inr past
-  ]
-]
-
--- a word of the slot's own is released, or it stands behind the block and was no link
-row_own : (slot size n i : ℕ) → 0 < size → i / size ≡ slot → (slot * size ≤ i) × (i < slot * size + size)
-row_own slot size n i pos e =
+-- where the words of a slot stand
+row_own : (slot size i : ℕ) → 0 < size → i / size ≡ slot → (slot * size ≤ i) × (i < slot * size + size)
+row_own slot size i pos e =
     let split : i / size * size + i % size ≡ i = div-add-mod' i size in
     let same : slot * size + i % size ≡ i = ap (λ (x : ℕ). x * size + i % size) (sym e) ∙ split in
     (omega (arith, same), omega (arith, same, mod_below i size pos))
@@ -32,68 +27,83 @@ row_own slot size n i pos e =
 abbrev pub Behind : ℕ → ℕ → ℕ → ChainsData → Type 0
 Behind slot size words c = (o : ℕ) → words ≤ o → o < size → length c.lists ≤ slice_index (targets_of c) (slot * size + o)
 
-dropped_at : (slot size words n i : ℕ) (old mid new : ChainsData) (a b : RamState) → Undone size slot n old mid a b → IsEmptied slot mid → Released (slot * size) (min words size) mid new → slot < length old.lists → 0 < size → Behind slot size words old →
-    i < old.words → slot_of new.lists i ≡ (if is_dropped size slot (targets_of old) i then length old.lists else slot_of old.lists i)
-dropped_at slot size words n i old mid new a b u empty r below pos behind lt = elim (cases_eq (i / size) slot) [
-  | inl own ↦ rw (own_tells size slot i (targets_of old) own).0 (
-      let row = row_own slot size n i pos own in
-      elim (cases_lt i (slot * size + min words size)) [
-        | inl inside ↦ r.dropped i row.0 inside ∙ u.slots_stay
-        | inr past ↦ r.others i (inr past) ∙ elim (u.each i lt) [
-          | inl s ↦ s.slot_stays ∙ full (sym (target_at old i lt) ∙ ap (λ (x : ℕ). slice_index (targets_of old) x) (omega (arith, row.0))) (behind (i - slot * size) (omega (arith, row.0, row.1)) (omega (arith, row.0, row.1)))
-          | inr l ↦ l.is_none
-        ]
-      ])
-  | inr foreign ↦ r.others i (row_away slot size (min words size) i pos (omega arith) foreign) ∙ elim (cases_eq (slot_of old.lists i) slot) [
-    | inl is ↦ rw (leads_tells size slot i (targets_of old) foreign (target_at old i lt ∙ is)).0 (elim (u.each i lt) [
-      | inl s ↦ absurd (empty.none i (s.slot_stays ∙ is))
-      | inr l ↦ l.is_none
-    ])
-    | inr other ↦ rw (none_tells size slot i (targets_of old) foreign (λ (e : slice_index (targets_of old) i ≡ slot). other (sym (target_at old i lt) ∙ e))).0 (elim (u.each i lt) [
-      | inl s ↦ s.slot_stays
-      | inr l ↦ absurd (other l.was)
-    ])
+-- a slot's word behind its block is no link
+behind_free : (slot size words i : ℕ) (c : ChainsData) → 0 < size → Behind slot size words c → i < c.words → i / size ≡ slot → is_own (slot * size) (min words size) i ≡ false → holder_of c.lists i ≡ length c.lists
+behind_free slot size words i c pos behind lt own foreign =
+    let row = row_own slot size i pos own in
+    let past : slot * size + min words size ≤ i = elim (own_not (slot * size) (min words size) i foreign) [ inl below ↦ absurd (omega (arith, row.0, below)) | inr past ↦ past ] in
+    let free = behind (i - slot * size) (omega (arith, row.0, row.1, past)) (omega (arith, row.0, row.1)) in
+    let here : slice_index (targets_of c) (slot * size + (i - slot * size)) ≡ holder_of c.lists i = ap (λ (x : ℕ). slice_index (targets_of c) x) (omega (arith, row.0)) ∙ target_at c i lt in
+    omega (arith, free, here, holder_most c.lists i)
+
+-- one of the block's own words is one of the slot
+own_row : (slot size n i : ℕ) → n ≤ size → is_own (slot * size) n i ≡ true → i / size ≡ slot
+own_row slot size n i le own =
+    let at = own_is (slot * size) n i own in
+    ap (λ (x : ℕ). x / size) (omega (arith, at.0)) ∙ div-mul-add slot size (i - slot * size) (omega (arith, at.0, at.1))
+
+-- what the slots say of a word, and what its lists say
+record Alike (slot size n i : ℕ) (c : ChainsData) : Type 0 where
+  leads : leads_in size slot (targets_of c) i ≡ comes_in slot (slot * size) n c.lists i
+  dropped : (if is_dropped size slot (targets_of c) i then length c.lists else holder_of c.lists i) ≡ (if is_gone slot (slot * size) n c.lists i then length c.lists else holder_of c.lists i)
+
+alike : (slot size words i : ℕ) (c : ChainsData) → slot < length c.lists → 0 < size → Behind slot size words c → i < c.words → Alike slot size (min words size) i c
+alike slot size words i c below pos behind lt = elim (cases_Bool (is_own (slot * size) (min words size) i)) [
+  | inl own ↦ (
+      let mine = own_tells size slot i (targets_of c) (own_row slot size (min words size) i (omega arith) own) in
+      let his = owned slot (slot * size) (min words size) i c.lists own in
+      record { leads = mine.1 ∙ sym his.1; dropped = rw (mine.0, his.0) refl })
+  | inr foreign ↦ elim (cases_eq (i / size) slot) [
+    | inl row ↦ (
+        let mine = own_tells size slot i (targets_of c) row in
+        let free = behind_free slot size words i c pos behind lt row foreign in
+        let his = neither slot (slot * size) (min words size) i c.lists foreign (λ (e : holder_of c.lists i ≡ slot). omega (arith, e, free, below)) in
+        record { leads = mine.1 ∙ sym his.1; dropped = rw (mine.0, his.0) (sym free) })
+    | inr away ↦ elim (cases_eq (holder_of c.lists i) slot) [
+      | inl is ↦ (
+          let mine = leads_tells size slot i (targets_of c) away (target_at c i lt ∙ is) in
+          let his = comes_tells slot (slot * size) (min words size) i c.lists foreign is in
+          record { leads = mine.1 ∙ sym his.1; dropped = rw (mine.0, his.0) refl })
+      | inr other ↦ (
+          let mine = none_tells size slot i (targets_of c) away (λ (e : slice_index (targets_of c) i ≡ slot). other (sym (target_at c i lt) ∙ e)) in
+          let his = neither slot (slot * size) (min words size) i c.lists foreign other in
+          record { leads = mine.1 ∙ sym his.1; dropped = rw (mine.0, his.0) refl })
+    ]
   ]
 ]
-  where
-    full : {t : ℕ} → slot_of old.lists i ≡ t → length old.lists ≤ t → slot_of old.lists i ≡ length old.lists
-    full e le = omega (arith, e, slot_most old.lists i)
 
-undone_at : (slot size n i : ℕ) (old mid : ChainsData) (a b : RamState) → Undone size slot n old mid a b → IsEmptied slot mid → i < old.words →
-    slice_index b.words i ≡ (if leads_in size slot (targets_of old) i then ebreak else slice_index a.words i)
-undone_at slot size n i old mid a b u empty lt = elim (cases_eq (i / size) slot) [
-  | inl own ↦ rw (own_tells size slot i (targets_of old) own).1 (elim (u.each i lt) [ inl s ↦ s.word_stays | inr l ↦ l.own own ])
-  | inr foreign ↦ elim (cases_eq (slot_of old.lists i) slot) [
-    | inl is ↦ rw (leads_tells size slot i (targets_of old) foreign (target_at old i lt ∙ is)).1 (elim (u.each i lt) [
-      | inl s ↦ absurd (empty.none i (s.slot_stays ∙ is))
-      | inr l ↦ l.foreign foreign
-    ])
-    | inr other ↦ rw (none_tells size slot i (targets_of old) foreign (λ (e : slice_index (targets_of old) i ≡ slot). other (sym (target_at old i lt) ∙ e))).1 (elim (u.each i lt) [
-      | inl s ↦ s.word_stays
-      | inr l ↦ absurd (other l.was)
-    ])
-  ]
-]
+same_count : (slot size n k : ℕ) (c : ChainsData) → ((i : ℕ) → i < k → leads_in size slot (targets_of c) i ≡ comes_in slot (slot * size) n c.lists i) → coming_in slot (slot * size) n c.lists k ≡ leading_in size slot (targets_of c) k
+unfolding leading_in coming_in
+same_count slot size n zero c same = refl
+same_count slot size n (suc k) c same =
+    let rest = same_count slot size n k c (λ i lt. same i (omega arith)) in
+    rw (same k (omega arith), rest) refl
 
-pub number_is : (slot size n : ℕ) (old mid : ChainsData) (a b : RamState) → Undone size slot n old mid a b → IsEmptied slot mid → n ≡ leading_in size slot (targets_of old) old.words
-number_is slot size n old mid a b u empty =
-    omega (arith, u.number, leading_nothing size slot old.words (targets_of mid) (λ i lt e. empty.none i (sym (target_at mid i (omega (arith, u.words_stay))) ∙ e)))
+pub number_is : (slot size words : ℕ) (c : ChainsData) → slot < length c.lists → 0 < size → Behind slot size words c → coming_in slot (slot * size) (min words size) c.lists c.words ≡ leading_in size slot (targets_of c) c.words
+number_is slot size words c below pos behind = same_count slot size (min words size) c.words c (λ i lt. (alike slot size words i c below pos behind lt).leads)
 
-pub cleared : (slot size words n span : ℕ) (old mid new : ChainsData) (a b : RamState) → Undone size slot n old mid a b → IsEmptied slot mid → Released (slot * size) (min words size) mid new → slot < length old.lists → 0 < size → Behind slot size words old →
+cleared : (slot size words span : ℕ) (old new : ChainsData) (a b : RamState) → Gone slot (slot * size) (min words size) old new a b → new.words ≡ old.words → slot < length old.lists → 0 < size → Behind slot size words old →
     old.words ≡ span → span ≡ length old.lists * size → Cleared (length old.lists) size slot span (targets_of old) (targets_of new) a b
-cleared slot size words n span old mid new a b u empty r below pos behind is all =
-    let long : new.words ≡ old.words = r.words_stay ∙ u.words_stay in
-    record {
-      length_stays = length_targets new.lists 0 new.words ∙ long ∙ sym (length_targets old.lists 0 old.words);
-      dropped = λ i lt. target_at new i (omega (arith, long, is)) ∙ dropped_at slot size words n i old mid new a b u empty r below pos behind (omega (arith, is))
-          ∙ ap (λ (t : ℕ). if is_dropped size slot (targets_of old) i then length old.lists else t) (sym (target_at old i (omega (arith, is))));
-      rest = λ i le. target_past new i (omega (arith, long, is)) ∙ sym (target_past old i (omega (arith, is)));
-      undone = λ i lt. undone_at slot size n i old mid a b u empty (omega (arith, is));
-      beyond = λ i le. u.beyond i (omega (arith, is));
-      wrote = subst (λ (k : ℕ). Wrote (length old.lists * size) (leading_in size slot (targets_of old) k) a b) is
-          (subst (λ (k : ℕ). Wrote k (leading_in size slot (targets_of old) old.words) a b) (is ∙ all)
-          (subst (λ (k : ℕ). Wrote old.words k a b) (number_is slot size n old mid a b u empty) u.wrote));
-    }
+cleared slot size words span old new a b gone long below pos behind is all = record {
+  length_stays = length_targets new.lists 0 new.words ∙ long ∙ sym (length_targets old.lists 0 old.words);
+  dropped = λ i lt. target_at new i (omega (arith, long, is)) ∙ gone.dropped i (omega (arith, is)) ∙ sym (alike slot size words i old below pos behind (omega (arith, is))).dropped
+      ∙ ap (λ (t : ℕ). if is_dropped size slot (targets_of old) i then length old.lists else t) (sym (target_at old i (omega (arith, is))));
+  rest = λ i le. target_past new i (omega (arith, long, is)) ∙ sym (target_past old i (omega (arith, is)));
+  undone = λ i lt. gone.undone i (omega (arith, is)) ∙ ap (λ (t : Bool). if t then ebreak else slice_index a.words i) (sym (alike slot size words i old below pos behind (omega (arith, is))).leads);
+  beyond = λ i le. gone.beyond i (omega (arith, is));
+  wrote = subst (λ (k : ℕ). Wrote (length old.lists * size) (leading_in size slot (targets_of old) k) a b) is
+      (subst (λ (k : ℕ). Wrote k (leading_in size slot (targets_of old) old.words) a b) (is ∙ all)
+      (subst (λ (k : ℕ). Wrote old.words k a b) (number_is slot size words old below pos behind) gone.wrote));
+}
+
+-- what holds of an answer gives what is asked of it
+pub ok_gives : {T E P Q : Type 0} (r : Result T E) → OnOk r P → (P → Q) → IfOk r (λ (n : T). Q)
+ok_gives (Ok n) p f = f p
+ok_gives (Err e) p f = tt
+
+pub number_gives : {T E : Type 0} {P Q : T → Type 0} (r : Result T E) → IfOk r P → ((n : T) → P n → Q n) → IfOk r Q
+number_gives (Ok n) p f = f n p
+number_gives (Err e) p f = tt
 
 -- the calls, as their code meets them: `c` and `size` are the table's fields
 pub words_are : (t : TableData) (c : ChainsData) → c ≡ t.chains → length (targets_of t.chains) ≡ length t.chains.lists * t.size → c.words ≡ length t.chains.lists * t.size
@@ -102,23 +112,23 @@ words_are t c e all = ap (λ (x : ChainsData). x.words) e ∙ sym (length_target
 pub same_length : (t : TableData) (c new : ChainsData) → c ≡ t.chains → new.words ≡ c.words → length (targets_of new) ≡ length (targets_of t.chains)
 same_length t c new e words = length_targets new.lists 0 new.words ∙ words ∙ ap (λ (x : ChainsData). x.words) e ∙ sym (length_targets t.chains.lists 0 t.chains.words)
 
-pub own_within : (t : TableData) (c mid : ChainsData) (size slot words w : ℕ) → c ≡ t.chains → size ≡ t.size → w ≡ min words size → length (targets_of t.chains) ≡ length t.chains.lists * t.size → mid.words ≡ c.words → slot < length t.chains.lists →
-    slot * size + w ≤ mid.words
-own_within t c mid size slot words w e e' w_is all stays below =
+pub own_within : (t : TableData) (c : ChainsData) (size slot words w : ℕ) → c ≡ t.chains → size ≡ t.size → w ≡ min words size → length (targets_of t.chains) ≡ length t.chains.lists * t.size → slot < length t.chains.lists → slot * size + w ≤ c.words
+own_within t c size slot words w e e' w_is all below =
     let fits : slot * t.size + t.size ≤ length t.chains.lists * t.size = row_fits slot t.size (length t.chains.lists) t.size below (omega arith) in
     let same : slot * size ≡ slot * t.size = ap (λ (x : ℕ). slot * x) e' in
-    omega (arith, fits, same, w_is, e', words_are t c e all, stays)
+    omega (arith, fits, same, w_is, e', words_are t c e all)
 
-pub cleared_call : (t : TableData) (c mid new : ChainsData) (size slot words w n : ℕ) (a b : RamState) → c ≡ t.chains → size ≡ t.size → w ≡ min words size → Undone size slot n c mid a b → IsEmptied slot mid → Released (slot * size) w mid new →
+pub cleared_call : (t : TableData) (c new : ChainsData) (size slot words w : ℕ) (a b : RamState) → c ≡ t.chains → size ≡ t.size → w ≡ min words size → Gone slot (slot * size) w c new a b → new.words ≡ c.words →
     slot < length t.chains.lists → 0 < t.size → length (targets_of t.chains) ≡ length t.chains.lists * t.size → Behind slot t.size words t.chains →
     Cleared (length t.chains.lists) t.size slot (length t.chains.lists * t.size) (targets_of t.chains) (targets_of new) a b
-cleared_call t c mid new size slot words w n a b e e' w_is u empty r below pos all behind =
-    let u' : Undone t.size slot n t.chains mid a b = subst (λ (x : ℕ). Undone x slot n t.chains mid a b) e' (subst (λ (x : ChainsData). Undone size slot n x mid a b) e u) in
-    let r' : Released (slot * t.size) (min words t.size) mid new = subst (λ (x : ℕ). Released (slot * x) (min words x) mid new) e' (subst (λ (x : ℕ). Released (slot * size) x mid new) w_is r) in
-    cleared slot t.size words n (length t.chains.lists * t.size) t.chains mid new a b u' empty r' below pos behind (words_are t t.chains refl all) refl
+cleared_call t c new size slot words w a b e e' w_is gone long below pos all behind =
+    let g : Gone slot (slot * t.size) (min words t.size) t.chains new a b =
+    subst (λ (x : ℕ). Gone slot (slot * x) (min words x) t.chains new a b) e' (subst (λ (x : ℕ). Gone slot (slot * size) x t.chains new a b) w_is (subst (λ (x : ChainsData). Gone slot (slot * size) w x new a b) e gone)) in
+    cleared slot t.size words (length t.chains.lists * t.size) t.chains new a b g (long ∙ ap (λ (x : ChainsData). x.words) e) below pos behind (words_are t t.chains refl all) refl
 
-pub number_call : (t : TableData) (c mid : ChainsData) (size slot n : ℕ) (a b : RamState) → c ≡ t.chains → size ≡ t.size → Undone size slot n c mid a b → IsEmptied slot mid → length (targets_of t.chains) ≡ length t.chains.lists * t.size →
-    n ≡ leading_in t.size slot (targets_of t.chains) (length t.chains.lists * t.size)
-number_call t c mid size slot n a b e e' u empty all =
-    let u' : Undone t.size slot n t.chains mid a b = subst (λ (x : ℕ). Undone x slot n t.chains mid a b) e' (subst (λ (x : ChainsData). Undone size slot n x mid a b) e u) in
-    number_is slot t.size n t.chains mid a b u' empty ∙ ap (λ (k : ℕ). leading_in t.size slot (targets_of t.chains) k) (words_are t t.chains refl all)
+pub number_call : (t : TableData) (c : ChainsData) (size slot words w n : ℕ) → c ≡ t.chains → size ≡ t.size → w ≡ min words size → n ≡ coming_in slot (slot * size) w c.lists c.words →
+    slot < length t.chains.lists → 0 < t.size → length (targets_of t.chains) ≡ length t.chains.lists * t.size → Behind slot t.size words t.chains → n ≡ leading_in t.size slot (targets_of t.chains) (length t.chains.lists * t.size)
+number_call t c size slot words w n e e' w_is is below pos all behind =
+    is ∙ ap (λ (x : ChainsData). coming_in slot (slot * size) w x.lists x.words) e ∙ ap (λ (x : ℕ). coming_in slot (slot * size) x t.chains.lists t.chains.words) w_is
+    ∙ ap (λ (x : ℕ). coming_in slot (slot * x) (min words x) t.chains.lists t.chains.words) e' ∙ number_is slot t.size words t.chains below pos behind
+    ∙ ap (λ (k : ℕ). leading_in t.size slot (targets_of t.chains) k) (words_are t t.chains refl all)

@@ -1,5 +1,4 @@
-mod Lists
-mod Leaving
+mod Targets
 mod Clearing
 mod Knowing
 mod Seen

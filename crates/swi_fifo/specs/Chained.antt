@@ -1,17 +1,12 @@
--- What a list of links says of the ram.
-use Rattle.std.specs.Prelude.{◌≡◌, ℕ, ◌+◌, true, Some}
-use Rattle.swi_image.specs.Format.{ImageData}
-use Rattle.swi_image.specs.Place.{place_of, word_at}
-use Rattle.swi_rom.specs.Record.{Record, Placed, is_linked}
+-- What a list of links says of the record.
+use Rattle.std.specs.Prelude.{◌≡◌, ℕ, ◌+◌, true}
+use Rattle.swi_rom.specs.Record.{Record, Link, Has, has_link}
 
--- at index i stands a link whose target's block stands from word `home` on
-pub record LinkInto (v : ImageData) (r : Record) (home i : ℕ) : Type 0 where
-  pub block : ℕ
-  pub offset : ℕ
+-- at index i stands a link, of any program, and the block to which it leads stands from word `home` on
+pub record LinkInto (r : Record) (home i : ℕ) : Type 0 where
+  pub link : Link
   pub first : ℕ
-  pub is_placed : Placed r block first
-  pub linked : is_linked r block offset ≡ true
-  pub index : i ≡ first + offset
-  pub target : ℕ × ℕ
-  pub place_is : place_of v (word_at v block (offset + 1)) ≡ Some target
-  pub stands : Placed r target.0 home
+  pub is_link : has_link r.links link ≡ true
+  pub stood : Has r.placed (record { program = link.program; block = link.block; first = first })
+  pub index : i ≡ first + link.offset
+  pub stands : Has r.placed (record { program = link.program; block = link.into; first = home })

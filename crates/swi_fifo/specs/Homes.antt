@@ -15,7 +15,6 @@ nowhere = 2 ^ 32 - 1
 
 -- a block has a slot among the first so many exactly where it stands there
 pub record KnowsHomes (homes : List ℕ) (filled : ℕ) (blocks : List ℕ) : Type 0 where
-  pub all : length homes ≡ 2 ^ 19
-  pub others : (b : ℕ) → b < 2 ^ 19 → filled ≤ slice_index homes b → slice_index homes b ≡ nowhere
-  pub found : (b : ℕ) → b < 2 ^ 19 → slice_index homes b < filled → slice_index blocks (slice_index homes b) ≡ b
-  pub known : (n : ℕ) → n < filled → (slice_index blocks n < 2 ^ 19) × (slice_index homes (slice_index blocks n) ≡ n)
+  pub others : (b : ℕ) → b < length homes → filled ≤ slice_index homes b → slice_index homes b ≡ nowhere
+  pub found : (b : ℕ) → b < length homes → slice_index homes b < filled → slice_index blocks (slice_index homes b) ≡ b
+  pub known : (n : ℕ) → n < filled → (slice_index blocks n < length homes) × (slice_index homes (slice_index blocks n) ≡ n)

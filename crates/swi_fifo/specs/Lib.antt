@@ -1,4 +1,3 @@
 pub mod Targets
-pub mod Undone
 pub mod Homes
 pub mod Chained

@@ -2,7 +2,6 @@
 #![tactic(auto)]
 
 mod table;
-mod undo;
 
 pub use table::{ChainTable, FifoRom, chains};
 

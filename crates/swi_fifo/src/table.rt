@@ -3,26 +3,24 @@
 
 ghost use Rattle.std.specs.Prelude.{◌≡◌, ◌+◌, ◌*◌, ◌^◌, ◌<◌, ◌≤◌, ◌↔◌, ℕ, List, length, replicate, max, nat_lt, slice_index, slice_set, IfOk, OnErr, MatchOption, if◌then◌else◌};
 ghost use Rattle.swi_image.specs.Format.{ImageData};
-ghost use Rattle.swi_rom.specs.Slots.{kept_by};
-ghost use Rattle.swi_rom.specs.Sound.{SlotsSound};
-ghost use Rattle.swi_rom.specs.Steps.{Cleared, FailedBelow, leading_in};
+ghost use Rattle.swi_slots.specs.Slots.{kept_by};
+ghost use Rattle.swi_slots.specs.Sound.{SlotsSound};
+ghost use Rattle.swi_rom.specs.Writing.{FailedBelow};
+ghost use Rattle.swi_slots.specs.Steps.{Cleared, leading_in};
 ghost use Rattle.swi_chain.specs.Chains.{list_of, Has};
 ghost use Rattle.swi_fifo.specs.Chained.{LinkInto};
 ghost use Rattle.swi_fifo.specs.Homes.{nowhere};
 
-use crate::undo::{drop_own, undo_links};
 use std::alloc::Global;
 use std::marker::Model;
 use swi_chain::Chains;
 use swi_outside::{CacheRam, Failed, Memory};
-use swi_rom::{LinkTable, SlotRom};
+use swi_slots::{LinkTable, SlotRom};
+use swi_undo::undo;
 
 /// The service that keeps a list of links for each slot, and a slot for each block. An eviction takes the links
 /// into the block from its slot's list, and no call but `new` takes memory.
 pub type FifoRom = SlotRom<ChainTable>;
-
-// The most blocks that an image has.
-const BLOCKS: usize = 1 << 19;
 
 // The slot of a block that has none.
 const NOWHERE: u32 = u32::MAX;
@@ -44,10 +42,10 @@ impl Model for ChainTable {
 }
 
 // No block has a slot.
-fn no_homes(alloc: Global, blocks: usize) -> Result<Vec<u32>, Memory>
+fn no_homes(alloc: Global, blocks: u32) -> Result<Vec<u32>, Memory>
     ensures { IfOk result (λ h. h.items ≡ replicate blocks nowhere) }
 {
-    vec![in alloc; NOWHERE; blocks].map_err(|_| Memory)
+    vec![in alloc; NOWHERE; blocks as usize].map_err(|_| Memory)
 }
 
 // The block of a filled slot has no slot from now on.
@@ -71,12 +69,14 @@ impl LinkTable for ChainTable {
 
     ghost slot_size = { λ t. t.size };
 
+    ghost block_count = { λ t. length t.homes };
+
     ghost targets = { λ t. targets_of t.chains };
 
     ghost knows = { λ t filled blocks. KnowsHomes t.homes filled blocks };
 
-    fn new(alloc: Global, slots: u32, size: u32) -> Result<ChainTable, Memory> {
-        let homes = no_homes(alloc, BLOCKS)?;
+    fn new(alloc: Global, slots: u32, size: u32, blocks: u32) -> Result<ChainTable, Memory> {
+        let homes = no_homes(alloc, blocks)?;
         let chains = Chains::new(alloc, slots, slots * size)?;
         Ok(ChainTable {
             size,
@@ -91,9 +91,8 @@ impl LinkTable for ChainTable {
     }
 
     fn clear<M: CacheRam>(&mut self, slot: u32, words: u32, ram: &mut M) -> Result<u32, Failed> {
-        let undone = undo_links(&mut self.chains, self.size, slot, ram)?;
-        drop_own(&mut self.chains, slot * self.size, words.min(self.size));
-        Ok(undone)
+        let size = words.min(self.size);
+        undo(&mut self.chains, slot, slot * self.size, size, ram)
     }
 
     fn settle(&mut self, blocks: &[u32], filled: u32, slot: u32, block: u32) {
@@ -106,12 +105,12 @@ impl LinkTable for ChainTable {
     }
 }
 
-/// The lists of a service. A word's index stands in a slot's list exactly where a link stands there whose
-/// target's block is placed in the slot.
+/// The lists of a service. A word's index stands in a slot's list exactly where a link stands there that leads to the
+/// block of the slot.
 pub fn chains(rom: &FifoRom) -> &Chains
     ensures slots { length result.now.lists ≡ rom.now.slots }
     ensures links { (v : ImageData) (words : List ℕ) → SlotsSound rom.now v words → (n i : ℕ) →
-        Has (list_of result.now n) i ↔ LinkInto v (kept_by rom.now) (n * rom.now.size) i }
+        Has (list_of result.now n) i ↔ LinkInto (kept_by rom.now) (n * rom.now.size) i }
 {
     let chains = &rom.table().chains;
     let _ = chains.slots();

@@ -9,7 +9,8 @@ use std::process::Abort;
 use std::test::Fail;
 use swi_image::{ImageView, read_image};
 use swi_outside::{CacheRam, VecRam};
-use swi_rom::{CacheRom, Counts, ScanRom};
+use swi_rom::{CacheRom, Counts};
+use swi_slots::ScanRom;
 
 const E: u32 = 0x0010_0073;
 
@@ -285,9 +286,9 @@ fn bytes_of(alloc: Global, words: &[u32]) -> Result<Vec<u8>, Fail> {
 
 /// Makes a row's transfers, each with its answer, and looks at what stands then.
 fn assert_stands<R: CacheRom>(rt: &impl Abort, alloc: Global, rom: R, row: &Row) -> Result<R, Fail>
-    requires small { R.span (R.setting rom) ≤ 64 }
-    requires new { (v : ImageData) (words : List ℕ) → IsImage v → row.now.block_words ≡ v.block_words →
-        R.span (R.setting rom) ≤ length words → R.sound rom v words }
+    requires small { R.service.span (R.service.setting rom) ≤ 64 }
+    requires new { (v : ImageData) (words : List ℕ) → IsImage v → v.block_words ≤ row.now.block_words →
+        R.service.span (R.service.setting rom) ≤ length words → R.service.sound rom v words }
 {
     let bytes = bytes_of(alloc, row.image)?;
     assert!(rt; bytes.len() < 1 << 20);
@@ -323,7 +324,7 @@ fn after_all<R: CacheRom>(
     ram: &mut VecRam,
     transfers: &[Transfer],
 ) -> R
-    requires { R.sound rom image.now ram.old.words }
+    requires { R.service.sound rom image.now ram.old.words }
     ensures { length ram.new.words ≡ length ram.old.words }
 {
     for transfer in transfers {
@@ -339,10 +340,10 @@ fn make<R: CacheRom>(
     ram: &mut VecRam,
     transfer: Transfer,
 )
-    requires { R.sound rom.old image.now ram.old.words }
-    ensures sound { R.sound rom.new image.now ram.new.words }
+    requires { R.service.sound rom.old image.now ram.old.words }
+    ensures sound { R.service.sound rom.new image.now ram.new.words }
     ensures words { length ram.new.words ≡ length ram.old.words }
-    ensures setting { R.setting rom.new ≡ R.setting rom.old }
+    ensures setting { R.service.setting rom.new ≡ R.service.setting rom.old }
 {
     assert!(rt; rom.counts().services < 1 << 50);
     match transfer {
@@ -356,8 +357,8 @@ fn make<R: CacheRom>(
 
 /// The address to which the exit at an index leads; None where no exit stands there that isn't linked.
 fn exit_at<R: CacheRom>(rom: &R, image: &ImageView<'_>, ram: &VecRam, at: u32) -> Option<u32>
-    requires { R.sound rom.now image.now ram.now.words }
-    ensures { IfSome result (λ t. ExitAt image.now (R.kept rom.now) at t) }
+    requires { R.service.sound rom.now image.now ram.now.words }
+    ensures { IfSome result (λ t. ExitAt image.now (R.service.kept rom.now) at t) }
 {
     let (block, offset) = match rom.at(at) {
         Some(place) => place,
@@ -394,11 +395,11 @@ fn follow<R: CacheRom>(
     at: u32,
     answer: u32,
 )
-    requires sound { R.sound rom.old image.now ram.old.words }
-    requires services { (R.kept rom.old).counts.services < 2 ^ 50 }
-    ensures sound { R.sound rom.new image.now ram.new.words }
+    requires sound { R.service.sound rom.old image.now ram.old.words }
+    requires services { (R.service.kept rom.old).counts.services < 2 ^ 50 }
+    ensures sound { R.service.sound rom.new image.now ram.new.words }
     ensures words { length ram.new.words ≡ length ram.old.words }
-    ensures setting { R.setting rom.new ≡ R.setting rom.old }
+    ensures setting { R.service.setting rom.new ≡ R.service.setting rom.old }
 {
     let target = match exit_at(rom, image, ram, at) {
         Some(target) => target,

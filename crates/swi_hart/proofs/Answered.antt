@@ -5,6 +5,7 @@ use Rattle.swi_outside.specs.CacheRam.{RamState}
 use Rattle.swi_calls.specs.Causes as calls
 use Rattle.swi_calls.specs.Exchange.{Devices}
 use Rattle.swi_image.specs.Format.{ImageData}
+use Rattle.swi_rom.specs.Service.{Setting}
 use Rattle.swi_rom.specs.Record.{Record, Transfer}
 use Rattle.swi_hart.specs.declared.fault.BoardFault.TheVariants.{RamFault}
 use Rattle.swi_hart.specs.Hart.{HartData}
@@ -13,8 +14,8 @@ use Rattle.swi_hart.specs.Leaving.{RamBroken, broken}
 use Rattle.swi_hart.specs.MachineStep.{BoardState, MachineStepped}
 use Rattle.swi_hart.proofs.Causing.{causes_ram}
 
-pub ram_stopped : {policy : List ℕ → Record → ImageData → Transfer → Record} {extent : List ℕ → Record → ℕ} {span : List ℕ → ℕ} {v : ImageData} {WasSound IsSound : Type 0} (s : BoardState) (d : Devices) (f : calls.Faults)
-    (h' : HartData) (kept' : Record) (setting' : List ℕ) (ram' : RamState) → h' ≡ broken s.hart → setting' ≡ s.setting → RamBroken v s.hart.machine s.hart.control (span s.setting) s.ram ram' →
+pub ram_stopped : {policy : Setting → Record → ImageData → Transfer → Record} {extent : Setting → Record → ℕ} {span : Setting → ℕ} {v : ImageData} {WasSound IsSound : Type 0} (s : BoardState) (d : Devices) (f : calls.Faults)
+    (h' : HartData) (kept' : Record) (setting' : Setting) (ram' : RamState) → h' ≡ broken s.hart → setting' ≡ s.setting → RamBroken v s.hart.machine s.hart.control (span s.setting) s.ram ram' →
     MachineStepped policy extent span v WasSound IsSound s (record s { hart = h'; kept = kept'; setting = setting'; ram = ram' }) d d f f (Err RamFault)
 ram_stopped s d f h' kept' setting' ram' is stays failed = record {
   made = λ sound. tt;
@@ -24,6 +25,7 @@ ram_stopped s d f h' kept' setting' ram' is stays failed = record {
   setting = stays;
   sound = λ sound. tt;
   unused = tt;
+  words = tt;
   ram = tt;
   grown = λ sound. tt;
   stopped = is ∙ ap (λ (bus : List AreaData). broken (with_memory s.hart bus)) (sym (ap (λ (h : HartData). h.machine.bus) is));

@@ -1,11 +1,12 @@
 -- Which exits are behind a block's last text word.
-use Rattle.std.proofs.Common.{◌≡◌, ◌==◌, ℕ, ◌+◌, ◌-◌, ◌*◌, ◌/◌, ◌%◌, ◌^◌, ◌<◌, Bool, true, false, not, ◌&&◌, Option, Some, List, length, slice_index, refl, sym, ap, subst, ◌∙◌, inl, inr, arith}
+use Rattle.std.proofs.Common.{◌≡◌, ◌⊎◌, ◌==◌, ℕ, ◌+◌, ◌-◌, ◌*◌, ◌/◌, ◌%◌, ◌<◌, Bool, true, false, not, ◌&&◌, Option, Some, List, length, slice_index, refl, sym, ap, subst, ◌∙◌, inl, inr, arith}
 use Rattle.std.proofs.lemmas.Bool.{false≢true, cases_Bool, and_parts, eqb-true}
 use Rattle.swi_image.specs.Format.{ImageData}
 use Rattle.swi_image.specs.Place.{place_of, word_at}
 use Rattle.swi_outside.specs.CacheRam.{RamState}
 use Rattle.swi_rom.specs.Coherent.{Coherent, StandsAt}
 use Rattle.swi_rom.specs.Record.{Record, Placed, writes}
+use Rattle.swi_rom.specs.Served.{NewlyPlaced, LinkChanged, WordsMove}
 use Rattle.swi_calls.specs.declared.machine.Machine.{Machine}
 use Rattle.swi_hart.specs.declared.hart.Stage.{Stage}
 use Rattle.swi_hart.specs.declared.hart.Stage.TheVariants.{Start, Low, Return, Leave}
@@ -106,6 +107,20 @@ ram_same span r ram = record {
   last_stays = refl;
   sets_rise = grind arith;
   kept = record { same_length = refl; beyond = λ i le. refl; reached = grind arith };
+}
+
+-- and where no word changed
+pub words_same : (v : ImageData) (r : Record) (before after : RamState) → after.words ≡ before.words → WordsMove v r r before after
+words_same v r before after same = record {
+  changes = λ i. inl (ap (λ (ws : List ℕ). slice_index ws i) same);
+  restored = λ k f was gone old new. absurd (false≢true (sym gone ∙ was));
+}
+
+-- a fetch before a call of the service changes no word
+pub words_after : (v : ImageData) (r new : Record) (first before after : RamState) → before.words ≡ first.words → WordsMove v r new before after → WordsMove v r new first after
+words_after v r new first before after same moves = record {
+  changes = λ i. subst (λ (ws : List ℕ). (slice_index after.words i ≡ slice_index ws i) ⊎ (NewlyPlaced v r new i ⊎ LinkChanged r new i)) same (moves.changes i);
+  restored = moves.restored;
 }
 
 -- a jump over a register, by its instruction

@@ -9,6 +9,7 @@ use Rattle.swi_isa.specs.declared.instr.Instr.TheVariants as instr
 use Rattle.swi_isa.specs.Decode.{decoded}
 use Rattle.swi_outside.specs.CacheRam.{RamState, KeepsBeyond}
 use Rattle.swi_render.specs.Rendering.{ebreak}
+use Rattle.swi_rom.specs.Service.{Setting}
 use Rattle.swi_rom.specs.Record.{Record, Transfer, target_of, IsJump, jump_offset, is_linked, writes, Placed}
 use Rattle.swi_rom.specs.Coherent.{Coherent, TargetAt, StandsAt}
 use Rattle.swi_rom.specs.Served.{Served, Spared, SameFrom}
@@ -45,13 +46,14 @@ pub ram_answered : {v : ImageData} {span t i : ℕ} {old next new : Record} {bef
 ram_answered d = record { quiet = d.quiet; fetches_stay = d.spared.fetches_stay; last_stays = d.spared.last_stays; sets_rise = d.sets_rise; kept = beyond d.spared }
 
 -- the transfer, by the service's answer
-module _ {policy : List ℕ → Record → ImageData → Transfer → Record} {extent : List ℕ → Record → ℕ} {span : List ℕ → ℕ} {v : ImageData} {t : Transfer} {IsSound : Type 0} {s s' : ServiceState} (stays : s'.setting ≡ s.setting) where
+module _ {policy : Setting → Record → ImageData → Transfer → Record} {extent : Setting → Record → ℕ} {span : Setting → ℕ} {v : ImageData} {t : Transfer} {IsSound : Type 0} {s s' : ServiceState} (stays : s'.setting ≡ s.setting) where
   pub served_at : {T E : Type 0} (x : T) (i : ℕ) → Served v (span s.setting) (target_of t) s.kept (policy s.setting s.kept v t) s'.kept s.ram s'.ram (Ok i) → SameFrom (extent s.setting s'.kept) s.ram.words s'.ram.words → IsSound → Transferred {T = T} {E = E} policy extent span v (Some t) IsSound s s' (Ok x)
   served_at x i d unused sound = record {
     policy = d.moves;
     setting = stays;
     sound = sound;
     unused = unused;
+    words = d.words;
     ram = record { quiet = d.quiet; fetches_stay = d.spared.fetches_stay; last_stays = d.spared.last_stays; sets_rise = d.sets_rise; kept = beyond d.spared };
     failed = tt;
     placed = tt;
@@ -63,6 +65,7 @@ module _ {policy : List ℕ → Record → ImageData → Transfer → Record} {e
     setting = stays;
     sound = sound;
     unused = unused;
+    words = d.words;
     ram = record { quiet = d.quiet; fetches_stay = d.spared.fetches_stay; last_stays = d.spared.last_stays; sets_rise = d.sets_rise; kept = beyond d.spared };
     failed = tt;
     placed = tt;
@@ -74,6 +77,7 @@ module _ {policy : List ℕ → Record → ImageData → Transfer → Record} {e
     setting = stays;
     sound = tt;
     unused = tt;
+    words = tt;
     ram = tt;
     failed = record { rose = d.failed refl; later = d.spared.later; fetches_stay = d.spared.fetches_stay; kept = beyond d.spared };
     placed = λ none. let e : ◌≡◌ {A = Result ℕ RomStop} (Err RamFault) (Err Outside) = d.only_outside none in cc;

@@ -1,4 +1,5 @@
 pub mod Matching
+pub mod Staying
 pub mod Calling
 pub mod Faults
 pub mod Hart

@@ -1,12 +1,13 @@
 -- What a step of the machine leaves, by its answer. Own rule.
-use Rattle.std.specs.Prelude.{◌≡◌, ℕ, ◌-◌, ◌^◌, ◌<◌, List, None, Result, OnOk, OnErr, IsErrOf, ◌+◌, ◌≤◌, max, Option, Some, slice_index}
+use Rattle.std.specs.Prelude.{◌≡◌, ℕ, ◌-◌, ◌^◌, ◌<◌, None, Result, OnOk, OnErr, IsErrOf, ◌+◌, ◌≤◌, max, Option, Some, slice_index}
 use Rattle.std.specs.Option.{ForSome}
 use Rattle.swi_outside.specs.CacheRam.{RamState, KeepsBeyond}
 use Rattle.swi_calls.specs.Causes as calls
 use Rattle.swi_calls.specs.Exchange.{Devices}
 use Rattle.swi_image.specs.Format.{ImageData}
+use Rattle.swi_rom.specs.Service.{ServiceOf, Setting}
 use Rattle.swi_rom.specs.Record.{Record, Transfer, writes}
-use Rattle.swi_rom.specs.Served.{SameFrom}
+use Rattle.swi_rom.specs.Served.{SameFrom, WordsMove}
 use Rattle.swi_hart.specs.declared.fault.BoardFault.{BoardFault}
 use Rattle.swi_hart.specs.declared.fault.BoardFault.TheVariants.{RamFault, SourceFault}
 use Rattle.swi_hart.specs.Hart.{HartData}
@@ -15,13 +16,14 @@ use Rattle.swi_hart.specs.Calling.{Made, BrokenStep, OnDevice, with_memory}
 use Rattle.swi_hart.specs.Faults.{Faults, HasCauses}
 use Rattle.swi_hart.specs.Leaving.{Counted, RamStepped, RamBroken, broken, moved, transfer_at}
 use Rattle.swi_hart.specs.Bounds.{Grown}
+use Rattle.swi_hart.specs.Service.{StaysSound}
 use Rattle.swi_outside.specs.Causes.{Rose, counted}
 
 -- a board with its ram, as far as they tell: hart, the service's record and setting, and the ram
 pub record BoardState : Type 0 where
   pub hart : HartData
   pub kept : Record
-  pub setting : List ℕ
+  pub setting : Setting
   pub ram : RamState
 
 -- a hart that goes on where the image fits it, with room for a step and a service
@@ -37,8 +39,8 @@ faults_of ram f = record { ram = ram.faults; input = f.input; out = f.out; err =
 
 -- A step of the machine, by its answer. What needs a service that was sound for the ram before is said under that, and whether it is
 -- sound afterwards is said by the caller. Policy, extent and span go by the service's setting.
-pub record MachineStepped (policy_of : List ℕ → Record → ImageData → Transfer → Record) (extent_of : List ℕ → Record → ℕ)
-    (span_of : List ℕ → ℕ) (v : ImageData) (WasSound IsSound : Type 0) (old new : BoardState) (before after : Devices)
+pub record MachineStepped (policy_of : Setting → Record → ImageData → Transfer → Record) (extent_of : Setting → Record → ℕ)
+    (span_of : Setting → ℕ) (v : ImageData) (WasSound IsSound : Type 0) (old new : BoardState) (before after : Devices)
     (faults faults_after : calls.Faults) (result : Result Unit BoardFault) : Type 0 where
   pub made : WasSound → OnOk result (ForSome before.input (λ left.
       Made v new.kept old.hart new.hart left after.input before.output after.output before.error after.error))
@@ -48,6 +50,8 @@ pub record MachineStepped (policy_of : List ℕ → Record → ImageData → Tra
   pub setting : new.setting ≡ old.setting
   pub sound : WasSound → OnOk result IsSound
   pub unused : OnOk result (SameFrom (extent_of old.setting new.kept) old.ram.words new.ram.words)
+  -- a word that changed is of a newly placed block, or a link that was made or undone
+  pub words : OnOk result (WordsMove v old.kept new.kept old.ram new.ram)
   pub ram : OnOk result (RamStepped (span_of old.setting) (writes new.kept - writes old.kept) old.hart.control old.ram new.ram)
   pub grown : WasSound → OnOk result (Grown v old.kept new.kept old.hart new.hart)
   pub stopped : OnErr result (new.hart ≡ broken (with_memory old.hart new.hart.machine.bus))
@@ -65,3 +69,19 @@ Answered (Some w) old i new = (w ≡ slice_index old.words i)
     × (new ≡ record old { fetches = counted old.fetches; reach = max old.reach (i + 1); last = i })
 Answered None old i new = Rose old.faults new.faults × (old.faults ≤ new.faults)
     × (new ≡ record old { faults = new.faults; reach = max old.reach (i + 1) })
+
+-- a board with its ram, whole
+pub record BoardWithRam (S : Type 0) : Type 0 where
+  pub hart : HartData
+  pub rom : S
+  pub ram : RamState
+
+-- what they tell
+abbrev pub board_told : {S : Type 0} → ServiceOf S → BoardWithRam S → BoardState
+board_told k b = record { hart = b.hart; kept = k.kept b.rom; setting = k.setting b.rom; ram = b.ram }
+
+-- a step of the machine, over whole boards
+abbrev pub BoardStepped : {S : Type 0} → ServiceOf S → ImageData → BoardWithRam S → BoardWithRam S → Devices → Devices → calls.Faults → calls.Faults → Result Unit BoardFault → Type 0
+BoardStepped k v old new before after faults faults_after result = MachineStepped k.policy k.extent k.span v (k.sound old.rom v old.ram.words)
+    (StaysSound k v (record { rom = old.rom; ram = old.ram }) (record { rom = new.rom; ram = new.ram }))
+    (board_told k old) (board_told k new) before after faults faults_after result

@@ -10,7 +10,7 @@ ghost use Rattle.swi_hart.specs.Matching.{Arrives};
 ghost use Rattle.swi_hart.specs.Leaving.{LeaveAt, fell, is_back, offset_of};
 ghost use Rattle.swi_isa.specs.Decode.{decoded};
 ghost use Rattle.swi_hart.specs.Hart.{exit_kind};
-ghost use Rattle.swi_hart.specs.Service.{Transferred};
+ghost use Rattle.swi_hart.specs.Service.{TransferServed};
 
 use crate::hart::{Control, ExitKind, Stage};
 use swi_image::ImageView;
@@ -73,8 +73,8 @@ pub fn jump_index(off: u32, i: u32) -> u32
 /// Control at the word of the ram where, by the service, a target stands.
 #[inline(always)]
 pub(crate) fn control_at<R: CacheRom>(rom: &R, index: u32) -> Control
-    ensures { (v : ImageData) (words : List ℕ) (t : ℕ) → R.sound rom.now v words →
-        TargetAt v (R.kept rom.now) t index → Arrives v (R.kept rom.now) t result }
+    ensures { (v : ImageData) (words : List ℕ) (t : ℕ) → R.service.sound rom.now v words →
+        TargetAt v (R.service.kept rom.now) t index → Arrives v (R.service.kept rom.now) t result }
 {
     match rom.at(index) {
         Some((b, o)) => Control::At(index, b, o, Stage::Start),
@@ -93,16 +93,15 @@ pub(crate) fn leave<R: CacheRom, M: CacheRam>(
     at: (u32, u32, u32),
     target: u32,
 ) -> Result<Control, Failed>
-    requires sound { R.sound rom.old image.now (M.state ram.old).words }
-    requires services { (R.kept rom.old).counts.services < 2 ^ 50 }
+    requires sound { R.service.sound rom.old image.now (M.state ram.old).words }
+    requires services { (R.service.kept rom.old).counts.services < 2 ^ 50 }
     requires offset { off ≡ offset_of (decoded got) }
-    requires exit { LeaveAt image.now (R.kept rom.old) (M.state ram.old).words got at.0 at.1 at.2 }
+    requires exit { LeaveAt image.now (R.service.kept rom.old) (M.state ram.old).words got at.0 at.1 at.2 }
     requires target { target ≡ word_at image.now at.1 (at.2 + 1) }
-    ensures control { IfOk result (λ c. Arrives image.now (R.kept rom.new) target c) }
-    ensures served { Transferred R.policy R.extent R.span image.now (Some (direct at.1 at.2 target))
-        (R.sound rom.new image.now (M.state ram.new).words)
-        (record { kept = R.kept rom.old; setting = R.setting rom.old; ram = M.state ram.old })
-        (record { kept = R.kept rom.new; setting = R.setting rom.new; ram = M.state ram.new }) result }
+    ensures control { IfOk result (λ c. Arrives image.now (R.service.kept rom.new) target c) }
+    ensures served { TransferServed R.service image.now (Some (direct at.1 at.2 target))
+        (record { rom = rom.old; ram = M.state ram.old })
+        (record { rom = rom.new; ram = M.state ram.new }) result }
 {
     let (i, _, _) = at;
     if got != EBREAK {
@@ -124,13 +123,12 @@ pub fn jump<R: CacheRom, M: CacheRam>(
     ram: &mut M,
     target: u32,
 ) -> Result<Control, Failed>
-    requires sound { R.sound rom.old image.now (M.state ram.old).words }
-    requires services { (R.kept rom.old).counts.services < 2 ^ 50 }
-    ensures control { IfOk result (λ c. Arrives image.now (R.kept rom.new) target c) }
-    ensures served { Transferred R.policy R.extent R.span image.now (Some (indirect target))
-        (R.sound rom.new image.now (M.state ram.new).words)
-        (record { kept = R.kept rom.old; setting = R.setting rom.old; ram = M.state ram.old })
-        (record { kept = R.kept rom.new; setting = R.setting rom.new; ram = M.state ram.new }) result }
+    requires sound { R.service.sound rom.old image.now (M.state ram.old).words }
+    requires services { (R.service.kept rom.old).counts.services < 2 ^ 50 }
+    ensures control { IfOk result (λ c. Arrives image.now (R.service.kept rom.new) target c) }
+    ensures served { TransferServed R.service image.now (Some (indirect target))
+        (record { rom = rom.old; ram = M.state ram.old })
+        (record { rom = rom.new; ram = M.state ram.new }) result }
 {
     match rom.enter(image, ram, target) {
         Ok(index) => Ok(control_at(rom, index)),

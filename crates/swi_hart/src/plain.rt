@@ -10,7 +10,7 @@ ghost use Rattle.swi_hart.specs.Matching.{Fits};
 ghost use Rattle.swi_hart.specs.Hart.{role_of, original};
 ghost use Rattle.swi_hart.specs.Exchanged.{Exchanged, PlainAt, ExecutesHeld, is_plain};
 ghost use Rattle.swi_hart.specs.Leaving.{Home};
-ghost use Rattle.swi_hart.specs.MachineStep.{MachineStepped, ReadyToStep};
+ghost use Rattle.swi_hart.specs.MachineStep.{BoardStepped, ReadyToStep};
 
 use crate::fault::BoardFault;
 use crate::hart::{Control, Hart, Role, Stage};
@@ -70,19 +70,18 @@ pub fn plain_step<R: CacheRom, M: CacheRam, I: Source, O: Sink, E: Sink>(
     at: (u32, u32, u32, Stage),
     own: u32,
 ) -> Result<(), BoardFault>
-    requires ready { ReadyToStep image.now (R.kept rom.old) hart.old }
+    requires ready { ReadyToStep image.now (R.service.kept rom.old) hart.old }
     requires unfailed { hart.old.failed ≡ false }
     requires word { hart.old.machine.pc < 2 ^ 32 }
     requires control { hart.old.control ≡ Control.At at.0 at.1 at.2 at.3 }
-    requires home { Home image.now (R.kept rom.old) hart.old.machine at.0 at.1 at.2 at.3 }
+    requires home { Home image.now (R.service.kept rom.old) hart.old.machine at.0 at.1 at.2 at.3 }
     requires own { own ≡ word_at image.now at.1 at.2 }
     requires plain { is_plain (decoded own) ≡ true }
-    requires sound { R.sound rom.old image.now (M.state ram.old).words
-        ⊎ Exchanged (λ words. R.sound rom.old image.now words) image.now (M.state ram.old).words hart.old.control }
-    ensures stepped { MachineStepped R.policy R.extent R.span image.now
-        (R.sound rom.old image.now (M.state ram.old).words) (R.sound rom.new image.now (M.state ram.new).words)
-        (record { hart = hart.old; kept = R.kept rom.old; setting = R.setting rom.old; ram = M.state ram.old })
-        (record { hart = hart.new; kept = R.kept rom.new; setting = R.setting rom.new; ram = M.state ram.new })
+    requires sound { R.service.sound rom.old image.now (M.state ram.old).words
+        ⊎ Exchanged (λ words. R.service.sound rom.old image.now words) image.now (M.state ram.old).words hart.old.control }
+    ensures stepped { BoardStepped R.service image.now
+        (record { hart = hart.old; rom = rom.old; ram = M.state ram.old })
+        (record { hart = hart.new; rom = rom.new; ram = M.state ram.new })
         (record { input = I.left input.old; output = O.held out.old; error = E.held err.old })
         (record { input = I.left input.new; output = O.held out.new; error = E.held err.new })
         (record { input = I.faults input.old; out = O.faults out.old; err = E.faults err.old })
@@ -93,7 +92,7 @@ pub fn plain_step<R: CacheRom, M: CacheRam, I: Source, O: Sink, E: Sink>(
         (I.left input.old) (I.left input.new) (O.held out.old) (O.held out.new) (E.held err.old) (E.held err.new)) }
     ensures whole { OnOk result ((i b o : ℕ) (stage : Stage) →
         PlainAt image.now (M.state ram.old).words hart.old.control i b o stage →
-        role_of stage (original hart.old.machine) ≡ Role.Whole → Fits image.now (R.kept rom.new) hart.new) }
+        role_of stage (original hart.old.machine) ≡ Role.Whole → Fits image.now (R.service.kept rom.new) hart.new) }
 {
     let (i, _, _, stage) = at;
     let got = match ram.fetch(i) {

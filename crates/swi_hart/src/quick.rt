@@ -3,7 +3,7 @@
 
 ghost use Rattle.std.specs.Prelude.{◌≡◌, ◌^◌, ◌<◌, slice_index, Some, true};
 ghost use Rattle.swi_outside.specs.CacheRam.{RamState};
-ghost use Rattle.swi_hart.specs.MachineStep.{MachineStepped, ReadyToStep, Answered};
+ghost use Rattle.swi_hart.specs.MachineStep.{BoardStepped, ReadyToStep, Answered};
 ghost use Rattle.swi_hart.specs.Leaving.{Home, leaves, offset_of};
 
 use crate::fault::{BoardFault, fault_of};
@@ -52,17 +52,16 @@ pub fn at_word<R: CacheRom, M: CacheRam, I: Source, O: Sink, E: Sink>(
     got: u32,
     at: (u32, u32, u32, Stage),
 ) -> Result<(), BoardFault>
-    requires ready { ReadyToStep image.now (R.kept rom.old) hart.old }
+    requires ready { ReadyToStep image.now (R.service.kept rom.old) hart.old }
     requires word { hart.old.machine.pc < 2 ^ 32 }
     requires control { hart.old.control ≡ Control.At at.0 at.1 at.2 at.3 }
-    requires home { Home image.now (R.kept rom.old) hart.old.machine at.0 at.1 at.2 at.3 }
-    requires sound { R.sound rom.old image.now (M.state ram.old).words }
+    requires home { Home image.now (R.service.kept rom.old) hart.old.machine at.0 at.1 at.2 at.3 }
+    requires sound { R.service.sound rom.old image.now (M.state ram.old).words }
     requires got { got ≡ slice_index (M.state ram.old).words at.0 }
     ensures { (before : RamState) → Answered (Some got) before at.0 (M.state ram.old) →
-        MachineStepped R.policy R.extent R.span image.now
-        (R.sound rom.old image.now before.words) (R.sound rom.new image.now (M.state ram.new).words)
-        (record { hart = hart.old; kept = R.kept rom.old; setting = R.setting rom.old; ram = before })
-        (record { hart = hart.new; kept = R.kept rom.new; setting = R.setting rom.new; ram = M.state ram.new })
+        BoardStepped R.service image.now
+        (record { hart = hart.old; rom = rom.old; ram = before })
+        (record { hart = hart.new; rom = rom.new; ram = M.state ram.new })
         (record { input = I.left input.old; output = O.held out.old; error = E.held err.old })
         (record { input = I.left input.new; output = O.held out.new; error = E.held err.new })
         (record { input = I.faults input.old; out = O.faults out.old; err = E.faults err.old })
@@ -101,15 +100,14 @@ fn at_step<R: CacheRom, M: CacheRam, I: Source, O: Sink, E: Sink>(
     err: &mut E,
     at: (u32, u32, u32, Stage),
 ) -> Result<(), BoardFault>
-    requires ready { ReadyToStep image.now (R.kept rom.old) hart.old }
+    requires ready { ReadyToStep image.now (R.service.kept rom.old) hart.old }
     requires word { hart.old.machine.pc < 2 ^ 32 }
     requires control { hart.old.control ≡ Control.At at.0 at.1 at.2 at.3 }
-    requires home { Home image.now (R.kept rom.old) hart.old.machine at.0 at.1 at.2 at.3 }
-    requires sound { R.sound rom.old image.now (M.state ram.old).words }
-    ensures { MachineStepped R.policy R.extent R.span image.now
-        (R.sound rom.old image.now (M.state ram.old).words) (R.sound rom.new image.now (M.state ram.new).words)
-        (record { hart = hart.old; kept = R.kept rom.old; setting = R.setting rom.old; ram = M.state ram.old })
-        (record { hart = hart.new; kept = R.kept rom.new; setting = R.setting rom.new; ram = M.state ram.new })
+    requires home { Home image.now (R.service.kept rom.old) hart.old.machine at.0 at.1 at.2 at.3 }
+    requires sound { R.service.sound rom.old image.now (M.state ram.old).words }
+    ensures { BoardStepped R.service image.now
+        (record { hart = hart.old; rom = rom.old; ram = M.state ram.old })
+        (record { hart = hart.new; rom = rom.new; ram = M.state ram.new })
         (record { input = I.left input.old; output = O.held out.old; error = E.held err.old })
         (record { input = I.left input.new; output = O.held out.new; error = E.held err.new })
         (record { input = I.faults input.old; out = O.faults out.old; err = E.faults err.old })
@@ -137,13 +135,12 @@ pub fn quick_step<R: CacheRom, M: CacheRam, I: Source, O: Sink, E: Sink>(
     out: &mut O,
     err: &mut E,
 ) -> Result<(), BoardFault>
-    requires ready { ReadyToStep image.now (R.kept rom.old) hart.old }
-    requires sound { R.sound rom.old image.now (M.state ram.old).words }
+    requires ready { ReadyToStep image.now (R.service.kept rom.old) hart.old }
+    requires sound { R.service.sound rom.old image.now (M.state ram.old).words }
     ensures word { hart.old.machine.pc < 2 ^ 32 }
-    ensures stepped { MachineStepped R.policy R.extent R.span image.now
-        (R.sound rom.old image.now (M.state ram.old).words) (R.sound rom.new image.now (M.state ram.new).words)
-        (record { hart = hart.old; kept = R.kept rom.old; setting = R.setting rom.old; ram = M.state ram.old })
-        (record { hart = hart.new; kept = R.kept rom.new; setting = R.setting rom.new; ram = M.state ram.new })
+    ensures stepped { BoardStepped R.service image.now
+        (record { hart = hart.old; rom = rom.old; ram = M.state ram.old })
+        (record { hart = hart.new; rom = rom.new; ram = M.state ram.new })
         (record { input = I.left input.old; output = O.held out.old; error = E.held err.old })
         (record { input = I.left input.new; output = O.held out.new; error = E.held err.new })
         (record { input = I.faults input.old; out = O.faults out.old; err = E.faults err.old })

@@ -9,7 +9,7 @@ ghost use Rattle.swi_image.specs.Place.{word_at};
 ghost use Rattle.swi_rom.specs.Record.{direct, indirect};
 ghost use Rattle.swi_hart.specs.Matching.{ExitStep, Jumps, JumpsBy};
 ghost use Rattle.swi_hart.specs.Leaving.{offset_of, fell, quick_role, upper_quick, ExitHome, PlacedAt, Counted, step_to, exit_transfer, is_jalr, jump_transfer};
-ghost use Rattle.swi_hart.specs.Service.{Transferred};
+ghost use Rattle.swi_hart.specs.Service.{TransferServed};
 ghost use Rattle.swi_hart.specs.Hart.{exit_kind, instruction, original, trap_kind};
 
 use crate::exit::{exit_kind, fell, is_back, jump, leave};
@@ -96,23 +96,22 @@ fn direct_step<R: CacheRom, M: CacheRam>(
 ) -> Result<(), Failed>
     requires few { hart.old.machine.steps < 2 ^ 48 }
     requires count { hart.old.count < 2 ^ 56 }
-    requires sound { R.sound rom.old image.now (M.state ram.old).words }
-    requires services { (R.kept rom.old).counts.services < 2 ^ 50 }
+    requires sound { R.service.sound rom.old image.now (M.state ram.old).words }
+    requires services { (R.service.kept rom.old).counts.services < 2 ^ 50 }
     requires home { ExitHome image.now hart.old.machine at.1 at.2 at.3 }
-    requires placed { PlacedAt (R.kept rom.old) at.0 at.1 at.2 }
+    requires placed { PlacedAt (R.service.kept rom.old) at.0 at.1 at.2 }
     requires block { at.1 < length image.now.starts }
     requires fetched { got ≡ slice_index (M.state ram.old).words at.0 }
     requires offset { off ≡ offset_of (decoded got) }
     requires target { target ≡ word_at image.now at.1 (at.2 + 1) }
     requires direct { target % 4 ≡ 0 }
     ensures step { OnOk result ((input : List ℕ) →
-        ExitStep ExitKind.Direct image.now (R.kept rom.new) hart.old.machine
+        ExitStep ExitKind.Direct image.now (R.service.kept rom.new) hart.old.machine
         (step_to hart.new input) input at.0 at.1 at.2 at.3) }
     ensures counted { OnOk result (Counted hart.old hart.new) }
-    ensures served { Transferred R.policy R.extent R.span image.now (Some (direct at.1 at.2 target))
-        (R.sound rom.new image.now (M.state ram.new).words)
-        (record { kept = R.kept rom.old; setting = R.setting rom.old; ram = M.state ram.old })
-        (record { kept = R.kept rom.new; setting = R.setting rom.new; ram = M.state ram.new }) result }
+    ensures served { TransferServed R.service image.now (Some (direct at.1 at.2 target))
+        (record { rom = rom.old; ram = M.state ram.old })
+        (record { rom = rom.new; ram = M.state ram.new }) result }
     ensures stays { OnErr result (hart.new ≡ hart.old) }
 {
     let (i, b, o, stage) = at;
@@ -140,17 +139,15 @@ fn jump_step<R: CacheRom, M: CacheRam>(
     requires few { hart.old.machine.steps < 2 ^ 48 }
     requires count { hart.old.count < 2 ^ 56 }
     requires control { hart.old.control ≡ Control.At at.0 at.1 at.2 at.3 }
-    requires sound { R.sound rom.old image.now (M.state ram.old).words }
-    requires services { (R.kept rom.old).counts.services < 2 ^ 50 }
-    ensures step { OnOk result ((input : List ℕ) → Jumps (target % 4 == 0) image.now (R.kept rom.new)
+    requires sound { R.service.sound rom.old image.now (M.state ram.old).words }
+    requires services { (R.service.kept rom.old).counts.services < 2 ^ 50 }
+    ensures step { OnOk result ((input : List ℕ) → Jumps (target % 4 == 0) image.now (R.service.kept rom.new)
         (step_to hart.new input) input
         (Control.At at.0 at.1 at.2 at.3) hart.old.machine rd link target) }
     ensures counted { OnOk result (Counted hart.old hart.new) }
-    ensures served { Transferred R.policy R.extent R.span image.now
-        (if target % 4 == 0 then Some (indirect target) else None)
-        (R.sound rom.new image.now (M.state ram.new).words)
-        (record { kept = R.kept rom.old; setting = R.setting rom.old; ram = M.state ram.old })
-        (record { kept = R.kept rom.new; setting = R.setting rom.new; ram = M.state ram.new }) result }
+    ensures served { TransferServed R.service image.now (if target % 4 == 0 then Some (indirect target) else None)
+        (record { rom = rom.old; ram = M.state ram.old })
+        (record { rom = rom.new; ram = M.state ram.new }) result }
     ensures stays { OnErr result (hart.new ≡ hart.old) }
 {
     if target % 4 != 0 {
@@ -186,17 +183,16 @@ fn jalr_step<R: CacheRom, M: CacheRam>(
     requires few { hart.old.machine.steps < 2 ^ 48 }
     requires count { hart.old.count < 2 ^ 56 }
     requires control { hart.old.control ≡ Control.At at.0 at.1 at.2 at.3 }
-    requires sound { R.sound rom.old image.now (M.state ram.old).words }
-    requires services { (R.kept rom.old).counts.services < 2 ^ 50 }
+    requires sound { R.service.sound rom.old image.now (M.state ram.old).words }
+    requires services { (R.service.kept rom.old).counts.services < 2 ^ 50 }
     requires jalr { is_jalr x.now ≡ true }
-    ensures step { OnOk result ((input : List ℕ) → JumpsBy (Some x.now) image.now (R.kept rom.new)
+    ensures step { OnOk result ((input : List ℕ) → JumpsBy (Some x.now) image.now (R.service.kept rom.new)
         (step_to hart.new input) input
         (Control.At at.0 at.1 at.2 at.3) hart.old.machine link) }
     ensures counted { OnOk result (Counted hart.old hart.new) }
-    ensures served { Transferred R.policy R.extent R.span image.now (jump_transfer (Some x.now) hart.old.machine)
-        (R.sound rom.new image.now (M.state ram.new).words)
-        (record { kept = R.kept rom.old; setting = R.setting rom.old; ram = M.state ram.old })
-        (record { kept = R.kept rom.new; setting = R.setting rom.new; ram = M.state ram.new }) result }
+    ensures served { TransferServed R.service image.now (jump_transfer (Some x.now) hart.old.machine)
+        (record { rom = rom.old; ram = M.state ram.old })
+        (record { rom = rom.new; ram = M.state ram.new }) result }
     ensures stays { OnErr result (hart.new ≡ hart.old) }
 {
     match *x {
@@ -222,23 +218,21 @@ pub(crate) fn exit_step<R: CacheRom, M: CacheRam>(
     requires few { hart.old.machine.steps < 2 ^ 48 }
     requires count { hart.old.count < 2 ^ 56 }
     requires control { hart.old.control ≡ Control.At at.0 at.1 at.2 at.3 }
-    requires sound { R.sound rom.old image.now (M.state ram.old).words }
-    requires services { (R.kept rom.old).counts.services < 2 ^ 50 }
+    requires sound { R.service.sound rom.old image.now (M.state ram.old).words }
+    requires services { (R.service.kept rom.old).counts.services < 2 ^ 50 }
     requires home { ExitHome image.now hart.old.machine at.1 at.2 at.3 }
-    requires placed { PlacedAt (R.kept rom.old) at.0 at.1 at.2 }
+    requires placed { PlacedAt (R.service.kept rom.old) at.0 at.1 at.2 }
     requires block { at.1 < length image.now.starts }
     requires small { at.2 < 2 ^ 22 }
     requires fetched { got ≡ slice_index (M.state ram.old).words at.0 }
     requires offset { off ≡ offset_of (decoded got) }
     ensures step { OnOk result ((input : List ℕ) →
-        ExitStep (exit_kind (word_at image.now at.1 (at.2 + 1))) image.now (R.kept rom.new) hart.old.machine
+        ExitStep (exit_kind (word_at image.now at.1 (at.2 + 1))) image.now (R.service.kept rom.new) hart.old.machine
         (step_to hart.new input) input at.0 at.1 at.2 at.3) }
     ensures counted { OnOk result (Counted hart.old hart.new) }
-    ensures served { Transferred R.policy R.extent R.span image.now
-        (exit_transfer (exit_kind (word_at image.now at.1 (at.2 + 1))) image.now hart.old.machine at.1 at.2)
-        (R.sound rom.new image.now (M.state ram.new).words)
-        (record { kept = R.kept rom.old; setting = R.setting rom.old; ram = M.state ram.old })
-        (record { kept = R.kept rom.new; setting = R.setting rom.new; ram = M.state ram.new }) result }
+    ensures served { TransferServed R.service image.now (exit_transfer (exit_kind (word_at image.now at.1 (at.2 + 1))) image.now hart.old.machine at.1 at.2)
+        (record { rom = rom.old; ram = M.state ram.old })
+        (record { rom = rom.new; ram = M.state ram.new }) result }
     ensures stays { OnErr result (hart.new ≡ hart.old) }
 {
     let (_, b, o, _) = at;

@@ -4,7 +4,7 @@ use Rattle.std.proofs.lemmas.List.{length-set, get_or-set_other}
 use Rattle.swi_outside.specs.Causes.{Rose, risen, counted}
 use Rattle.swi_outside.specs.CacheRam.{RamState}
 use Rattle.swi_rom.specs.Served.{Spared}
-use Rattle.swi_rom.specs.Steps.{Wrote, FailedBelow}
+use Rattle.swi_rom.specs.Writing.{Wrote, FailedBelow}
 
 pub on_err : {T E : Type 0} (r : Result T E) (P : Type 0) → P → OnErr r P
 on_err (Ok x) P p = tt

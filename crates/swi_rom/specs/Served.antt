@@ -6,6 +6,7 @@ use Rattle.swi_outside.specs.Causes.{Rose, risen}
 use Rattle.swi_outside.specs.CacheRam.{RamState}
 use Rattle.swi_rom.specs.Record.{Record, Link, Has, Placed, has_link, writes, ebreak}
 use Rattle.swi_rom.specs.Coherent.{TargetAt}
+use Rattle.swi_rom.specs.Service.{ServiceOf}
 use Rattle.swi_rom.specs.declared.rom.RomStop.{RomStop}
 use Rattle.swi_rom.specs.declared.rom.RomStop.TheVariants.{Outside, RamFault}
 
@@ -44,6 +45,10 @@ pub record WordsMove (v : ImageData) (old new : Record) (before after : RamState
 -- the words from an index on are as before
 abbrev pub SameFrom : ℕ → List ℕ → List ℕ → Type 0
 SameFrom n before after = (i : ℕ) → n ≤ i → slice_index after i ≡ slice_index before i
+
+-- whatever images the programs have that are not in turn, a service that served them serves them afterwards
+abbrev pub Keeps : {S : Type 0} → ServiceOf S → ImageData → S → S → List ℕ → List ℕ → Type 0
+Keeps k v s t before after = (images : ℕ → ImageData) → k.serves s v images before → k.serves t v images after
 
 -- what sets below an index, failed or not, leave alone
 pub record Spared (span : ℕ) (before after : RamState) : Type 0 where

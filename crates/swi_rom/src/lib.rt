@@ -1,13 +1,9 @@
-//! The cache service: blocks of an image that are copied into a cache ram on demand.
+//! A cache service: the trait that keeps blocks of an image in a cache ram on demand, the words in which services are told,
+//! and what each of them writes into the ram.
 #![tactic(auto)]
 
 mod rom;
-mod scan;
-mod slots;
-mod table;
 mod write;
 
 pub use rom::{CacheRom, Counts, RomStop};
-pub use scan::{ScanRom, ScanTable};
-pub use slots::SlotRom;
-pub use table::LinkTable;
+pub use write::{EBREAK, copy, jump, reach};

@@ -4,7 +4,8 @@ ghost use Rattle.swi_image.specs.Place.{word_at, length_at, place_of};
 ghost use Rattle.swi_image.specs.Sound.{IsImage};
 ghost use Rattle.swi_rom.specs.Record.{Record, Transfer, direct, indirect, target_of, is_linked, writes, Placed};
 ghost use Rattle.swi_rom.specs.Coherent.{Coherent, StandsAt, ExitAt, TargetAt, resident_of};
-ghost use Rattle.swi_rom.specs.Served.{Served, OnServed, SameFrom};
+ghost use Rattle.swi_rom.specs.Service.{ServiceOf, IsService};
+ghost use Rattle.swi_rom.specs.Served.{Served, OnServed, SameFrom, Keeps};
 
 use swi_image::ImageView;
 use swi_outside::CacheRam;
@@ -37,64 +38,47 @@ pub enum RomStop {
 
 /// A cache service: it keeps blocks of an image in a ram, on demand.
 pub trait CacheRom: Drop {
-    /// What the service keeps.
-    ghost kept: { Self → Record };
-
-    /// What `new` fixes and no call changes.
-    ghost setting: { Self → List ℕ };
-
-    /// How many words of the ram it uses, by its setting.
-    ghost span: { List ℕ → ℕ };
-
-    /// So many words of the ram, from the first one on, can have been written until a record stands, by the setting.
-    ghost extent: { List ℕ → Record → ℕ };
-
-    /// The next record.
-    ghost policy: { List ℕ → Record → ImageData → Transfer → Record };
-
-    /// It may serve this image, with these words in the ram.
-    ghost sound: { Self → ImageData → List ℕ → Type 0 };
-
-    /// What stands at an index.
-    ghost shown: { Self → ℕ → Option (ℕ × ℕ) };
-
-    /// The address kept of the word at an index, if it is a link.
-    ghost goals: { Self → ℕ → ℕ };
+    /// What it keeps, the policy by which that goes on, when it is sound, and what it shows.
+    ghost service: { ServiceOf Self };
 
     /// Serves a jump to an address: the index in the ram of the target's first word, whose block is copied
     /// there if it isn't placed. While nothing is placed this is the boot. `Outside` comes exactly where no
     /// text word stands at the address. The words from the extent on are as before. The service is sound for the image
-    /// and the ram, and has counted fewer than 2^50 services; so for `revisit` and `cross`.
+    /// and the ram, and has counted fewer than 2^50 services; so for `revisit` and `cross`. Afterwards it serves each other
+    /// program's image as before.
     fn enter<M: CacheRam>(
         &mut self,
         image: &ImageView<'_>,
         ram: &mut M,
         target: u32,
     ) -> Result<u32, RomStop>
-        requires sound { sound self.old image.now (M.state ram.old).words }
-        requires services { (kept self.old).counts.services < 2 ^ 50 }
-        ensures served { Served image.now (span (setting self.old)) target (kept self.old)
-            (policy (setting self.old) (kept self.old) image.now (indirect target)) (kept self.new)
+        requires sound { service.sound self.old image.now (M.state ram.old).words }
+        requires services { (service.kept self.old).counts.services < 2 ^ 50 }
+        ensures served { Served image.now (service.span (service.setting self.old)) target (service.kept self.old)
+            (service.policy (service.setting self.old) (service.kept self.old) image.now (indirect target)) (service.kept self.new)
             (M.state ram.old) (M.state ram.new) result }
-        ensures setting { setting self.new ≡ setting self.old }
-        ensures unused { OnServed result (SameFrom (extent (setting self.old) (kept self.new))
+        ensures setting { service.setting self.new ≡ service.setting self.old }
+        ensures unused { OnServed result (SameFrom (service.extent (service.setting self.old) (service.kept self.new))
             (M.state ram.old).words (M.state ram.new).words) }
-        ensures stays { OnServed result (sound self.new image.now (M.state ram.new).words) };
+        ensures stays { OnServed result (service.sound self.new image.now (M.state ram.new).words) }
+        ensures keeps { OnServed result (Keeps service image.now self.old self.new
+            (M.state ram.old).words (M.state ram.new).words) };
 
     /// Serves a jump to an address whose block is placed, as `enter` does: the ram, which is read for the contract
     /// alone, is not asked. None comes exactly where no placed block has the address; nothing has changed then,
     /// and `enter` is to be asked.
     fn revisit<M: CacheRam>(&mut self, image: &ImageView<'_>, ram: &M, target: u32) -> Option<u32>
-        requires sound { sound self.old image.now (M.state ram.now).words }
-        requires services { (kept self.old).counts.services < 2 ^ 50 }
-        ensures served { IfSome result (λ i. Served image.now (span (setting self.old)) target (kept self.old)
-            (policy (setting self.old) (kept self.old) image.now (indirect target)) (kept self.new)
+        requires sound { service.sound self.old image.now (M.state ram.now).words }
+        requires services { (service.kept self.old).counts.services < 2 ^ 50 }
+        ensures served { IfSome result (λ i. Served image.now (service.span (service.setting self.old)) target (service.kept self.old)
+            (service.policy (service.setting self.old) (service.kept self.old) image.now (indirect target)) (service.kept self.new)
             (M.state ram.now) (M.state ram.now) (Ok i)) }
-        ensures setting { setting self.new ≡ setting self.old }
-        ensures stays { sound self.new image.now (M.state ram.now).words }
+        ensures setting { service.setting self.new ≡ service.setting self.old }
+        ensures stays { service.sound self.new image.now (M.state ram.now).words }
+        ensures keeps { Keeps service image.now self.old self.new (M.state ram.now).words (M.state ram.now).words }
         ensures same { result ≡ None → self.new ≡ self.old }
-        ensures placed { IfSome result (λ i. TargetAt image.now (kept self.old) target i) }
-        ensures absent { result ≡ None → (i : ℕ) → TargetAt image.now (kept self.old) target i → ⊥ };
+        ensures placed { IfSome result (λ i. TargetAt image.now (service.kept self.old) target i) }
+        ensures absent { result ≡ None → (i : ℕ) → TargetAt image.now (service.kept self.old) target i → ⊥ };
 
     /// Serves the direct exit at index `at`, which isn't linked, to the address in its descriptor, as `enter`
     /// does. Afterwards the exit is linked, where its block is still placed and a JAL reaches from it to the
@@ -106,71 +90,37 @@ pub trait CacheRom: Drop {
         at: u32,
         target: u32,
     ) -> Result<u32, RomStop>
-        requires sound { sound self.old image.now (M.state ram.old).words }
-        requires services { (kept self.old).counts.services < 2 ^ 50 }
-        requires exit { ExitAt image.now (kept self.old) at target }
-        ensures served { (b o f : ℕ) → Placed (kept self.old) b f → o < length_at image.now b → at ≡ f + o →
-            Served image.now (span (setting self.old)) target (kept self.old)
-            (policy (setting self.old) (kept self.old) image.now (direct b o target)) (kept self.new)
+        requires sound { service.sound self.old image.now (M.state ram.old).words }
+        requires services { (service.kept self.old).counts.services < 2 ^ 50 }
+        requires exit { ExitAt image.now (service.kept self.old) at target }
+        ensures served { (b o f : ℕ) → Placed (service.kept self.old) b f → o < length_at image.now b → at ≡ f + o →
+            Served image.now (service.span (service.setting self.old)) target (service.kept self.old)
+            (service.policy (service.setting self.old) (service.kept self.old) image.now (direct b o target)) (service.kept self.new)
             (M.state ram.old) (M.state ram.new) result }
-        ensures setting { setting self.new ≡ setting self.old }
-        ensures unused { OnServed result (SameFrom (extent (setting self.old) (kept self.new))
+        ensures setting { service.setting self.new ≡ service.setting self.old }
+        ensures unused { OnServed result (SameFrom (service.extent (service.setting self.old) (service.kept self.new))
             (M.state ram.old).words (M.state ram.new).words) }
-        ensures stays { OnServed result (sound self.new image.now (M.state ram.new).words) };
+        ensures stays { OnServed result (service.sound self.new image.now (M.state ram.new).words) }
+        ensures keeps { OnServed result (Keeps service image.now self.old self.new
+            (M.state ram.old).words (M.state ram.new).words) };
 
     /// Block and offset of the placed word at an index; None exactly where no block is placed.
     fn at(&self, i: u32) -> Option<(u32, u32)>
-        ensures { result ≡ shown self.now i };
+        ensures { result ≡ service.shown self.now i };
 
     /// The original address to which the link at an index leads, which is below the span. Of a word that is no link the
     /// answer says nothing.
     fn goal(&self, i: u32) -> u32
-        requires { i < span (setting self.now) }
-        ensures { result ≡ goals self.now i };
+        requires { i < service.span (service.setting self.now) }
+        ensures { result ≡ service.goals self.now i };
 
     /// The k-th oldest block and its first word; None exactly from the number of placed blocks on.
     fn resident(&self, k: u32) -> Option<(u32, u32)>
-        ensures { result ≡ resident_of (kept self.now) k };
+        ensures { result ≡ resident_of (service.kept self.now) k };
 
     fn counts(&self) -> Counts
-        ensures { result ≡ (kept self.now).counts };
+        ensures { result ≡ (service.kept self.now).counts };
 
-    /// It keeps the words coherent.
-    ghost coherent: { (s : Self) (v : ImageData) (words : List ℕ) → sound s v words →
-        Coherent v (kept s) (span (setting s)) words };
-
-    /// The span is at most 8 MiB.
-    ghost small: { (s : Self) (v : ImageData) (words : List ℕ) → sound s v words → span (setting s) ≤ 2 ^ 21 };
-
-    ghost image: { (s : Self) (v : ImageData) (words : List ℕ) → sound s v words → IsImage v };
-
-    ghost shown_is: { (s : Self) (v : ImageData) (words : List ℕ) → sound s v words →
-        (i : ℕ) → StandsAt v (kept s) i (shown s i) };
-
-    /// Of each link the goal is its target.
-    ghost goal_is: { (s : Self) (v : ImageData) (words : List ℕ) → sound s v words → (b f o : ℕ) →
-        Placed (kept s) b f → is_linked (kept s) b o ≡ true → goals s (f + o) ≡ word_at v b (o + 1) };
-
-    /// Over a link nothing changes.
-    ghost first: { (setting : List ℕ) (r : Record) (v : ImageData) (b o t : ℕ) → is_linked r b o ≡ true →
-        policy setting r v (direct b o t) ≡ r };
-
-    /// A transfer to an address where no text word stands changes nothing.
-    ghost outside: { (setting : List ℕ) (r : Record) (v : ImageData) (t : Transfer) →
-        place_of v (target_of t) ≡ None → policy setting r v t ≡ r };
-
-    /// One transfer is at most one service.
-    ghost second: { (setting : List ℕ) (r : Record) (v : ImageData) (t : Transfer) →
-        (policy setting r v t).counts.services ≤ r.counts.services + 1 };
-
-    /// No transfer takes back what was written.
-    ghost third: { (setting : List ℕ) (r : Record) (v : ImageData) (t : Transfer) →
-        writes r ≤ writes (policy setting r v t) };
-
-    /// The extent lies within the span.
-    ghost within: { (setting : List ℕ) (r : Record) → extent setting r ≤ span setting };
-
-    /// No transfer takes back a part of the extent.
-    ghost grows: { (setting : List ℕ) (r : Record) (v : ImageData) (t : Transfer) →
-        extent setting r ≤ extent setting (policy setting r v t) };
+    /// What every service keeps.
+    ghost laws: { IsService service };
 }

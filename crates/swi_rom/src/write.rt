@@ -2,9 +2,9 @@
 #![tactic(auto)]
 
 ghost use Rattle.std.specs.Prelude.{◌≡◌, ◌+◌, ◌-◌, ◌*◌, ◌^◌, ◌<◌, ◌≤◌, length, IfOk, OnOk, OnErr, IsTrue, ◌↔◌};
-ghost use Rattle.swi_image.specs.Place.{length_at};
+ghost use Rattle.swi_image.specs.Place.{word_at, length_at};
 ghost use Rattle.swi_rom.specs.Record.{IsJump, reaches};
-ghost use Rattle.swi_rom.specs.Steps.{Copied, FailedBelow};
+ghost use Rattle.swi_rom.specs.Writing.{Copied, FailedBelow};
 
 use swi_encode::encode;
 use swi_image::ImageView;
@@ -12,7 +12,7 @@ use swi_isa::{Instr, Reg};
 use swi_outside::{CacheRam, Failed};
 
 /// The word of EBREAK.
-pub(crate) const EBREAK: u32 = 0x0010_0073;
+pub const EBREAK: u32 = 0x0010_0073;
 
 /// The number of x0, for a jump that keeps no return address.
 const X0: u32 = 0;
@@ -21,7 +21,7 @@ const X0: u32 = 0;
 const JAL_REACH: u32 = 1 << 20;
 
 /// Copies a block's words to the ram's words from `first` on.
-pub(crate) fn copy<M: CacheRam>(
+pub fn copy<M: CacheRam>(
     image: &ImageView<'_>,
     ram: &mut M,
     block: u32,
@@ -32,7 +32,7 @@ pub(crate) fn copy<M: CacheRam>(
     requires size { size ≡ length_at image.now block }
     requires small { first + size < 2 ^ 32 }
     requires fits { first + size ≤ length (M.state ram.old).words }
-    ensures copied { OnOk result (Copied image.now block first size (M.state ram.old) (M.state ram.new)) }
+    ensures copied { OnOk result (Copied (word_at image.now block) first size (M.state ram.old) (M.state ram.new)) }
     ensures failed { OnErr result (FailedBelow (first + size) (M.state ram.old) (M.state ram.new)) }
 {
     for k in 0..size {
@@ -42,7 +42,7 @@ pub(crate) fn copy<M: CacheRam>(
 }
 
 /// Whether a JAL reaches from one word to another.
-pub(crate) fn reach(from: u32, to: u32) -> bool
+pub fn reach(from: u32, to: u32) -> bool
     requires from { from < 2 ^ 30 }
     requires to { to < 2 ^ 30 }
     ensures { result ≡ reaches from to }
@@ -51,7 +51,7 @@ pub(crate) fn reach(from: u32, to: u32) -> bool
 }
 
 /// The word that jumps from one word to another and writes no register.
-pub(crate) fn jump(from: u32, to: u32) -> u32
+pub fn jump(from: u32, to: u32) -> u32
     requires from { from < 2 ^ 30 }
     requires to { to < 2 ^ 30 }
     requires reaches { IsTrue (reaches from to) }

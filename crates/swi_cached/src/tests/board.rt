@@ -11,7 +11,7 @@ use super::*;
 use swi_board::{BoardFault, BootStop};
 use swi_image::ImageView;
 use swi_memory::Layout;
-use swi_rom::ScanRom;
+use swi_slots::ScanRom;
 
 /// Adds 2 to the stack pointer, and loads from there with a reservation.
 const ODD: &[u32] = &[0x00210293, 0x1002A52F];
@@ -105,9 +105,9 @@ fn run_on<R: CacheRom>(
 ) -> Result<Came, Fail>
     requires laid_out { IsLayoutOf program.now.segments layout.now }
     requires own { IsImageOf (text_of program.now.segments) image.now }
-    requires small { R.span (R.setting rom) ≤ 2048 }
-    requires new { (v : ImageData) (words : List ℕ) → IsImage v → image.now.block_words ≡ v.block_words →
-        R.span (R.setting rom) ≤ length words → R.sound rom v words }
+    requires small { R.service.span (R.service.setting rom) ≤ 2048 }
+    requires new { (v : ImageData) (words : List ℕ) → IsImage v → v.block_words ≤ image.now.block_words →
+        R.service.span (R.service.setting rom) ≤ length words → R.service.sound rom v words }
 {
     crate::run::carry(image, program);
     let _blocks = image.blocks();

@@ -19,7 +19,7 @@ use swi_image::ImageView;
 use swi_isa::Reg;
 use swi_memory::Layout;
 use swi_outside::{CacheRam, Failed, VecRam};
-use swi_rom::ScanRom;
+use swi_slots::ScanRom;
 
 /// Sets a0 to 7, as the text has it, and to 8.
 const OWN: u32 = 0x00700513;
@@ -76,7 +76,7 @@ fn goes_on<R: CacheRom>(board: &Board<R>) -> bool
     ensures unfailed { result ≡ true → board.now.hart.failed ≡ false }
     ensures few { result ≡ true → board.now.hart.machine.steps < 10 }
     ensures count { result ≡ true → board.now.hart.count < 10 }
-    ensures services { result ≡ true → (R.kept board.now.rom).counts.services < 10 }
+    ensures services { result ≡ true → (R.service.kept board.now.rom).counts.services < 10 }
 {
     board.ending().is_none()
         && !board.failed()
@@ -89,7 +89,7 @@ fn goes_on<R: CacheRom>(board: &Board<R>) -> bool
 fn under<R: CacheRom>(hart: &Hart, rom: &R) -> Option<(u32, (u32, u32))>
     ensures at { IfSome result (λ p. index_of hart.now.machine.ending hart.now.control ≡ Some p.0) }
     ensures place { IfSome result (λ p. place_under hart.now.machine.ending hart.now.control ≡ Some p.1) }
-    ensures shown { IfSome result (λ p. R.shown rom.now p.0 ≡ Some p.1) }
+    ensures shown { IfSome result (λ p. R.service.shown rom.now p.0 ≡ Some p.1) }
 {
     let i = hart.at()?;
     let place = hart.place()?;
@@ -130,8 +130,8 @@ fn steps_over<R: CacheRom>(
     requires at { index_of board.old.hart.machine.ending board.old.hart.control ≡ Some i }
     requires place { place_under board.old.hart.machine.ending board.old.hart.control ≡ Some place }
     requires between { is_between board.old.hart.control ≡ true }
-    requires fits { Fits image.now (R.kept board.old.rom) board.old.hart }
-    requires sound { R.sound board.old.rom image.now ram.old.words }
+    requires fits { Fits image.now (R.service.kept board.old.rom) board.old.hart }
+    requires sound { R.service.sound board.old.rom image.now ram.old.words }
     requires inside { i < length ram.old.words }
     requires own { word_at image.now place.0 place.1 ≡ 0x00700513 }
     requires held { slice_index ram.old.words i ≡ 0x00700513 }
@@ -180,9 +180,9 @@ fn stepped<R: CacheRom>(
 ) -> Result<Steps, Fail>
     requires laid_out { IsLayoutOf program.now.segments layout.now }
     requires own { IsImageOf (text_of program.now.segments) image.now }
-    requires small { R.span (R.setting rom) ≤ 8 }
-    requires new { (v : ImageData) (words : List ℕ) → IsImage v → image.now.block_words ≡ v.block_words →
-        R.span (R.setting rom) ≤ length words → R.sound rom v words }
+    requires small { R.service.span (R.service.setting rom) ≤ 8 }
+    requires new { (v : ImageData) (words : List ℕ) → IsImage v → v.block_words ≤ image.now.block_words →
+        R.service.span (R.service.setting rom) ≤ length words → R.service.sound rom v words }
 {
     crate::run::carry(image, program);
     let _blocks = image.blocks();

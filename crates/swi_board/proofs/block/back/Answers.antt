@@ -21,9 +21,9 @@ pub returns-clause-on : goal.returns-clause-on
 returns-clause-on g c = λ w here room.
     let v = c.args.image.now in
     let m = c.args.hart.now.machine in
-    let new = g.R.CacheRom.kept c.revisit.new.self in
+    let new = g.R.CacheRom.service.kept c.revisit.new.self in
     let words = (g.M.CacheRam.state c.args.ram.now).words in
-    let p = place_shown (g.R.CacheRom.shown c.args.rom.now c.args.at) in
+    let p = place_shown (g.R.CacheRom.service.shown c.args.rom.now c.args.at) in
     let place : (c.in-Some.block, c.in-Some.offset) ≡ p = ap place_shown (sym c.in-Some.is ∙ c.at.ensures) in
     let q = c.in_ok-index.ensures in
     let t = c.register_target-target.result in
@@ -48,9 +48,9 @@ returns-clause-on g c = λ w here room.
         is_indirect = ap exit_kind (sym exit) ∙ kind;
         step = λ input. subst (λ i. ExitStep Indirect v new (walk_machine w m) (stepped (walk_control k (at.block, at.offset)) (quiet (walk_machine k left) input)) input i p.0 p.1 w.stage) here
             (turned_step v new m left w p c.in-Jalr.rd c.in-Jalr.rs1 c.in-Jalr.imm t c.word.result c.in_ok-index.index input room got to_is four low at link left_is);
-        moves = q.served.moves ∙ ap (λ n. moved (g.R.CacheRom.policy (g.R.CacheRom.setting c.args.rom.now)) (g.R.CacheRom.kept c.args.rom.now) v n)
+        moves = q.served.moves ∙ ap (λ n. moved (g.R.CacheRom.service.policy (g.R.CacheRom.service.setting c.args.rom.now)) (g.R.CacheRom.service.kept c.args.rom.now) v n)
             (turned_transfer _ (walk_machine w m) c.in-Jalr.rd c.in-Jalr.rs1 c.in-Jalr.imm t got to_is four);
         served = ram_answered q.served;
-        coherent = rw q.setting at (g.met.R.CacheRom.coherent c.revisit.new.self v words q.stays);
+        coherent = rw q.setting at (g.met.R.CacheRom.laws.coherent c.revisit.new.self v words q.stays);
       },
     )

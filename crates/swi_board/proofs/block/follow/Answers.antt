@@ -19,23 +19,23 @@ use Rattle.swi_board.proofs.block.follow.Goals as goal
 pub returns-clause-on : goal.returns-clause-on
 returns-clause-on g c = λ x m p decodes leaving home.
     let v = c.args.image.now in
-    let r = g.R.CacheRom.kept c.args.rom.now in
+    let r = g.R.CacheRom.service.kept c.args.rom.now in
     let w = c.args.walk.now in
     let n = walk_machine w m in
     let s = c.requires.sound in
-    let coherent = g.met.R.CacheRom.coherent _ _ _ s in
-    let image = g.met.R.CacheRom.image _ _ _ s in
+    let coherent = g.met.R.CacheRom.laws.coherent _ _ _ s in
+    let image = g.met.R.CacheRom.laws.image _ _ _ s in
     let exit = exit_home v r n _ _ w.index p.0 p.1 w.stage coherent home c.args.got x c.requires.got decodes leaving in
     let target = word_at v p.0 (p.1 + 1) in
     let at = link_leaves v r _ _ c.args.got w.index p.0 p.1 coherent (placed v r n _ _ w.index p.0 p.1 w.stage coherent home) home.known exit.inside exit.is_exit c.requires.got c.requires.linked in
     let j = c.jump_index-index.result in
     let to : TargetAt v r target j =
-    link_target v r _ _ c.args.got w.index p.0 p.1 j coherent image (g.met.R.CacheRom.small _ _ _ s) at.0 c.requires.linked (λ k jumps. c.jump_index-index.ensures k c.args.got jumps c.requires.offset) in
+    link_target v r _ _ c.args.got w.index p.0 p.1 j coherent image (g.met.R.CacheRom.laws.small _ _ _ s) at.0 c.requires.linked (λ k jumps. c.jump_index-index.ensures k c.args.got jumps c.requires.offset) in
     let place : Control = At j to.block to.offset Start in
     let arrived : Arrives v r target place = target_arrives to in
     let address = c.goal-target.result in
-    let t : address ≡ target = c.goal-target.ensures ∙ ap (λ k. g.R.CacheRom.goals c.args.rom.now k) home.index
-    ∙ g.met.R.CacheRom.goal_is c.args.rom.now v _ s p.0 home.first p.1 home.is_placed at.1 in
+    let t : address ≡ target = c.goal-target.ensures ∙ ap (λ k. g.R.CacheRom.service.goals c.args.rom.now k) home.index
+    ∙ g.met.R.CacheRom.laws.goal_is c.args.rom.now v _ s p.0 home.first p.1 home.is_placed at.1 in
     let fall = is_fall v n p.0 p.1 w.stage in
     let told : c.fell-leads_on.result ≡ fell w.stage (walk_pc w) address (j == w.index) =
     c.fell-leads_on.ensures ∙ ap (λ k. fell w.stage k address (j == w.index)) c.pc.ensures in

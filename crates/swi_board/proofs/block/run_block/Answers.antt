@@ -14,9 +14,9 @@ use Rattle.swi_board.proofs.block.run_block.Goals as goal
 pub loop-walk-init : goal.loop-walk-init
 loop-walk-init g c =
     let v = c.args.image.now in
-    let r = g.R.CacheRom.kept c.args.rom.now in
+    let r = g.R.CacheRom.service.kept c.args.rom.now in
     let ram = g.M.CacheRam.state c.args.ram.now in
-    let setting = g.R.CacheRom.setting c.args.rom.now in
+    let setting = g.R.CacheRom.service.setting c.args.rom.now in
     let i = c.args.at.0 in
     let seen = c.hart.view_is in
     let pc : c.hart.inside.machine.pc ≡ c.args.hart.now.machine.pc = ap (λ (h : HartData). h.machine.pc) seen in
@@ -39,8 +39,8 @@ loop-walk-init g c =
     let told = c.machine_steps.ensures in
     let number : walk_count w ≡ c.args.hart.now.count = omega (arith, told, count, none_made) in
     let stands = c.requires.stands _ _ _ Walked.here i c.args.at.1 c.args.at.2 c.args.at.3 c.requires.control in
-    let shown = shown_place v r _ _ i c.args.at.1 c.args.at.2 _ (g.met.R.CacheRom.coherent _ _ _ c.requires.sound) stands (g.met.R.CacheRom.shown_is _ _ _ c.requires.sound i) in
-    let walked : Walked (g.R.CacheRom.policy setting) (g.R.CacheRom.span setting) v c.args.limit r c.args.hart.now ram r (walk_hart w (place_shown (g.R.CacheRom.shown c.args.rom.now i)) c.args.hart.now) ram =
+    let shown = shown_place v r _ _ i c.args.at.1 c.args.at.2 _ (g.met.R.CacheRom.laws.coherent _ _ _ c.requires.sound) stands (g.met.R.CacheRom.laws.shown_is _ _ _ c.requires.sound i) in
+    let walked : Walked (g.R.CacheRom.service.policy setting) (g.R.CacheRom.service.span setting) v c.args.limit r c.args.hart.now ram r (walk_hart w (place_shown (g.R.CacheRom.service.shown c.args.rom.now i)) c.args.hart.now) ram =
     walks_on w c.args.hart.now shown (started _ _ v r c.args.limit c.args.hart.now _ _ _ _ ram (sym c.requires.control) here made number) in
     let to : WalksTo c.args.limit w = record { below = omega (arith, from); made = omega (arith, within, steps, from); limited = refl } in
     record {
@@ -49,6 +49,7 @@ loop-walk-init g c =
       inside = λ more. c.requires.inside _ _ _ walked (steps_left c.args.limit w to more) i _ _ w.stage refl;
       setting = refl;
       sound = c.requires.sound;
+      keeps = λ images serves. serves;
       going = c.requires.going;
       to = to;
       few = let fits = c.machine_steps.type_inv in omega (arith, fits, none_made);
@@ -65,7 +66,7 @@ unreachable-requires g c =
 pub one-requires-clause-used : goal.one-requires-clause-used
 one-requires-clause-used g c =
     let home = (c.loop-walk.invariant.inside (omega (arith, c.loop-walk-test.true))).home in
-    index_below _ _ _ _ _ _ _ _ _ (g.met.R.CacheRom.coherent _ _ _ c.loop-walk.invariant.sound) home
+    index_below _ _ _ _ _ _ _ _ _ (g.met.R.CacheRom.laws.coherent _ _ _ c.loop-walk.invariant.sound) home
 
 pub one-requires-clause-room : goal.one-requires-clause-room
 one-requires-clause-room g c =
@@ -74,26 +75,26 @@ one-requires-clause-room g c =
     has_room _ _ _ c.args.limit c.loop-walk.walk _ c.loop-walk.hart inv.to c.requires.few more (inv.inside more)
 
 -- a step of `one`, and what is shown behind it
-gone_on : (g : Over) (c : goal.Then-one g) → (q : ℕ × ℕ) × WalkedOn (g.R.CacheRom.policy (g.R.CacheRom.setting c.args.rom.now)) (g.R.CacheRom.span (g.R.CacheRom.setting c.args.rom.now)) c.args.image.now
-    (g.R.CacheRom.kept c.loop-walk.rom) (g.R.CacheRom.kept c.loop-walk.rom) (g.M.CacheRam.state c.loop-walk.ram) (g.M.CacheRam.state c.fetch.new.self)
-    (walk_hart c.loop-walk.walk (place_shown (g.R.CacheRom.shown c.loop-walk.rom c.loop-walk.walk.index)) c.loop-walk.hart) (walk_hart c.one.new.walk q c.one.new.hart)
-    × (g.R.CacheRom.shown c.loop-walk.rom c.one.new.walk.index ≡ Some (q.0, q.1))
+gone_on : (g : Over) (c : goal.Then-one g) → (q : ℕ × ℕ) × WalkedOn (g.R.CacheRom.service.policy (g.R.CacheRom.service.setting c.args.rom.now)) (g.R.CacheRom.service.span (g.R.CacheRom.service.setting c.args.rom.now)) c.args.image.now
+    (g.R.CacheRom.service.kept c.loop-walk.rom) (g.R.CacheRom.service.kept c.loop-walk.rom) (g.M.CacheRam.state c.loop-walk.ram) (g.M.CacheRam.state c.fetch.new.self)
+    (walk_hart c.loop-walk.walk (place_shown (g.R.CacheRom.service.shown c.loop-walk.rom c.loop-walk.walk.index)) c.loop-walk.hart) (walk_hart c.one.new.walk q c.one.new.hart)
+    × (g.R.CacheRom.service.shown c.loop-walk.rom c.one.new.walk.index ≡ Some (q.0, q.1))
 gone_on g c =
     let v = c.args.image.now in
     let w = c.loop-walk.walk in
     let w' = c.one.new.walk in
     let inv = c.loop-walk.invariant in
     let more : w.index < w.end = omega (arith, c.loop-walk-test.true) in
-    let setting = g.R.CacheRom.setting c.args.rom.now in
-    let r = g.R.CacheRom.kept c.loop-walk.rom in
-    let p = place_shown (g.R.CacheRom.shown c.loop-walk.rom w.index) in
+    let setting = g.R.CacheRom.service.setting c.args.rom.now in
+    let r = g.R.CacheRom.service.kept c.loop-walk.rom in
+    let p = place_shown (g.R.CacheRom.service.shown c.loop-walk.rom w.index) in
     let rest = c.one.ensures.rest in
     let step = c.one.ensures.on c.if-one.true p (inv.inside more).home in
-    let on = steps_on (g.R.CacheRom.policy setting) (g.R.CacheRom.span setting) v r r c.loop-walk.hart c.one.new.hart (g.M.CacheRam.state c.loop-walk.ram) (g.M.CacheRam.state c.fetch.new.self) w w' p step.0
+    let on = steps_on (g.R.CacheRom.service.policy setting) (g.R.CacheRom.service.span setting) v r r c.loop-walk.hart c.one.new.hart (g.M.CacheRam.state c.loop-walk.ram) (g.M.CacheRam.state c.fetch.new.self) w w' p step.0
     c.in-Some.x c.in-Ok.word (c.one.ensures.counted c.if-one.true) (ap (λ (k : HartData). k.failed) rest) (ap (λ (k : HartData). k.booted) rest) (ap (λ (k : HartData). k.machine.ending) rest ∙ inv.going)
     c.in-Ok.ensures.fetched (sym c.in-Some.is ∙ c.decode.ensures) refl step.1 in
     let stands = c.requires.stands _ _ _ (Walked.on _ _ _ _ _ _ inv.walked (steps_left c.args.limit w inv.to more) on) w'.index step.0.0 step.0.1 w'.stage refl in
-    (step.0, on, shown_place v r _ _ w'.index step.0.0 step.0.1 _ (g.met.R.CacheRom.coherent _ _ _ inv.sound) stands (g.met.R.CacheRom.shown_is _ _ _ inv.sound w'.index))
+    (step.0, on, shown_place v r _ _ w'.index step.0.0 step.0.1 _ (g.met.R.CacheRom.laws.coherent _ _ _ inv.sound) stands (g.met.R.CacheRom.laws.shown_is _ _ _ inv.sound w'.index))
 
 pub loop-walk-smaller-then-one : goal.loop-walk-smaller-then-one
 loop-walk-smaller-then-one g c =
@@ -103,7 +104,7 @@ loop-walk-smaller-then-one g c =
     let inv = c.loop-walk.invariant in
     let on = gone_on g c in
     subst (λ k. 3 * c.args.limit + 5 - most v (walk_machine w' c.one.new.hart.machine) (walk_control w' (place_shown k))
-    < 3 * c.args.limit + 5 - most v (walk_machine w c.loop-walk.hart.machine) (walk_control w (place_shown (g.R.CacheRom.shown c.loop-walk.rom w.index))))
+    < 3 * c.args.limit + 5 - most v (walk_machine w c.loop-walk.hart.machine) (walk_control w (place_shown (g.R.CacheRom.service.shown c.loop-walk.rom w.index))))
     (sym on.2) (c.requires.rises _ _ _ _ _ _ inv.walked (steps_left c.args.limit w inv.to (omega (arith, c.loop-walk-test.true))) on.1)
 
 pub loop-walk-preserved-then-one : goal.loop-walk-preserved-then-one
@@ -122,7 +123,8 @@ loop-walk-preserved-then-one g c =
       shown = is_shown on.2;
       inside = λ more. c.requires.inside _ _ _ walked (steps_left c.args.limit w' to more) w'.index _ _ w'.stage refl;
       setting = inv.setting;
-      sound = subst (λ k. g.R.CacheRom.sound c.loop-walk.rom c.args.image.now k) (sym (ap (λ (k : RamState). k.words) c.in-Ok.ensures.fetched.1)) inv.sound;
+      sound = subst (λ k. g.R.CacheRom.service.sound c.loop-walk.rom c.args.image.now k) (sym (ap (λ (k : RamState). k.words) c.in-Ok.ensures.fetched.1)) inv.sound;
+      keeps = λ images serves. subst (λ k. g.R.CacheRom.service.serves c.loop-walk.rom c.args.image.now images k) (sym (ap (λ (k : RamState). k.words) c.in-Ok.ensures.fetched.1)) (inv.keeps images serves);
       going = ap (λ (k : HartData). k.machine.ending) c.one.ensures.rest ∙ inv.going;
       to = to;
       few = omega (arith, count, more_count);
@@ -137,7 +139,7 @@ back-requires-clause-exit g c =
     let inv = c.loop-walk.invariant in
     let home = (inv.inside (omega (arith, c.loop-walk-test.true))).home in
     let decodes = sym c.in-Some.is ∙ c.decode.ensures in
-    rw ((c.one.ensures.same c.if-one.false).0) (exit_stands _ _ _ _ _ _ _ _ _ (g.met.R.CacheRom.coherent _ _ _ inv.sound) home c.in-Ok.word c.in-Some.x c.in-Ok.ensures.fetched.0 decodes
+    rw ((c.one.ensures.same c.if-one.false).0) (exit_stands _ _ _ _ _ _ _ _ _ (g.met.R.CacheRom.laws.coherent _ _ _ inv.sound) home c.in-Ok.word c.in-Some.x c.in-Ok.ensures.fetched.0 decodes
     (break_leaves c.in-Ok.word c.in-Some.x decodes c.if-word-eq-EBREAK.true))
 
 pub land-requires : goal.land-requires
@@ -147,10 +149,10 @@ land-requires g c =
     rw ((c.one.ensures.same c.if-one.false).0) (has_room _ _ _ c.args.limit c.loop-walk.walk _ c.loop-walk.hart inv.to c.requires.few more (inv.inside more))
 
 -- a step of `back`, and what is shown behind it
-jumped_on : (g : Over) (c : goal.After-land g) → (q : ℕ × ℕ) × WalkedOn (g.R.CacheRom.policy (g.R.CacheRom.setting c.args.rom.now)) (g.R.CacheRom.span (g.R.CacheRom.setting c.args.rom.now)) c.args.image.now
-    (g.R.CacheRom.kept c.loop-walk.rom) (g.R.CacheRom.kept c.back.new.rom) (g.M.CacheRam.state c.loop-walk.ram) (g.M.CacheRam.state c.fetch.new.self)
-    (walk_hart c.loop-walk.walk (place_shown (g.R.CacheRom.shown c.loop-walk.rom c.loop-walk.walk.index)) c.loop-walk.hart) (walk_hart c.land.new.self q c.back.new.hart)
-    × (g.R.CacheRom.shown c.back.new.rom c.land.new.self.index ≡ Some (q.0, q.1)) × WalksTo c.args.limit c.land.new.self
+jumped_on : (g : Over) (c : goal.After-land g) → (q : ℕ × ℕ) × WalkedOn (g.R.CacheRom.service.policy (g.R.CacheRom.service.setting c.args.rom.now)) (g.R.CacheRom.service.span (g.R.CacheRom.service.setting c.args.rom.now)) c.args.image.now
+    (g.R.CacheRom.service.kept c.loop-walk.rom) (g.R.CacheRom.service.kept c.back.new.rom) (g.M.CacheRam.state c.loop-walk.ram) (g.M.CacheRam.state c.fetch.new.self)
+    (walk_hart c.loop-walk.walk (place_shown (g.R.CacheRom.service.shown c.loop-walk.rom c.loop-walk.walk.index)) c.loop-walk.hart) (walk_hart c.land.new.self q c.back.new.hart)
+    × (g.R.CacheRom.service.shown c.back.new.rom c.land.new.self.index ≡ Some (q.0, q.1)) × WalksTo c.args.limit c.land.new.self
 jumped_on g c =
     let v = c.args.image.now in
     let w = c.loop-walk.walk in
@@ -158,12 +160,12 @@ jumped_on g c =
     let inv = c.loop-walk.invariant in
     let more : w.index < w.end = omega (arith, c.loop-walk-test.true) in
     let room = has_room _ _ _ c.args.limit w _ c.loop-walk.hart inv.to c.requires.few more (inv.inside more) in
-    let policy = g.R.CacheRom.policy (g.R.CacheRom.setting c.args.rom.now) in
-    let span = g.R.CacheRom.span (g.R.CacheRom.setting c.args.rom.now) in
-    let r = g.R.CacheRom.kept c.loop-walk.rom in
-    let new = g.R.CacheRom.kept c.back.new.rom in
+    let policy = g.R.CacheRom.service.policy (g.R.CacheRom.service.setting c.args.rom.now) in
+    let span = g.R.CacheRom.service.span (g.R.CacheRom.service.setting c.args.rom.now) in
+    let r = g.R.CacheRom.service.kept c.loop-walk.rom in
+    let new = g.R.CacheRom.service.kept c.back.new.rom in
     let ram = g.M.CacheRam.state c.fetch.new.self in
-    let p = place_shown (g.R.CacheRom.shown c.loop-walk.rom w.index) in
+    let p = place_shown (g.R.CacheRom.service.shown c.loop-walk.rom w.index) in
     let same = c.one.ensures.same c.if-one.false in
     let rest = c.back.ensures.rest ∙ ap (λ (k : HartData). record k { machine = record k.machine { regs = c.back.new.hart.machine.regs } }) same.1 in
     let is : w' ≡ landed c.in-Some-back.index c.in-Some-back.target 1 w = c.land.ensures ∙ ap (λ (k : Walk). landed c.in-Some-back.index c.in-Some-back.target 1 k) same.0 in
@@ -178,7 +180,7 @@ jumped_on g c =
     let stands = c.requires.stands _ _ _ (Walked.on _ _ _ _ _ _ inv.walked (steps_left c.args.limit w inv.to more) on) w'.index step.0.0 step.0.1 w'.stage refl in (
       step.0,
       on,
-      shown_place v new _ _ w'.index step.0.0 step.0.1 _ (g.met.R.CacheRom.coherent _ _ _ c.back.ensures.stays) stands (g.met.R.CacheRom.shown_is _ _ _ c.back.ensures.stays w'.index),
+      shown_place v new _ _ w'.index step.0.0 step.0.1 _ (g.met.R.CacheRom.laws.coherent _ _ _ c.back.ensures.stays) stands (g.met.R.CacheRom.laws.shown_is _ _ _ c.back.ensures.stays w'.index),
       subst (λ (k : Walk). WalksTo c.args.limit k) (sym is) (landed_within c.in-Some-back.index c.in-Some-back.target 1 w c.args.limit (omega arith) more inv.to),
     )
 
@@ -190,7 +192,7 @@ loop-walk-smaller g c =
     let inv = c.loop-walk.invariant in
     let on = jumped_on g c in
     subst (λ k. 3 * c.args.limit + 5 - most v (walk_machine w' c.back.new.hart.machine) (walk_control w' (place_shown k))
-    < 3 * c.args.limit + 5 - most v (walk_machine w c.loop-walk.hart.machine) (walk_control w (place_shown (g.R.CacheRom.shown c.loop-walk.rom w.index))))
+    < 3 * c.args.limit + 5 - most v (walk_machine w c.loop-walk.hart.machine) (walk_control w (place_shown (g.R.CacheRom.service.shown c.loop-walk.rom w.index))))
     (sym on.2) (c.requires.rises _ _ _ _ _ _ inv.walked (steps_left c.args.limit w inv.to (omega (arith, c.loop-walk-test.true))) on.1)
 
 pub loop-walk-preserved : goal.loop-walk-preserved
@@ -209,6 +211,7 @@ loop-walk-preserved g c =
       inside = λ more. c.requires.inside _ _ _ walked (steps_left c.args.limit w' on.3 more) w'.index _ _ w'.stage refl;
       setting = c.back.ensures.setting ∙ inv.setting;
       sound = c.back.ensures.stays;
+      keeps = λ images serves. c.back.ensures.keeps images (subst (λ k. g.R.CacheRom.service.serves c.loop-walk.rom c.args.image.now images k) (sym (ap (λ (k : RamState). k.words) c.in-Ok.ensures.fetched.1)) (inv.keeps images serves));
       going = on.1.going;
       to = on.3;
       few = omega (arith, count, more_count);

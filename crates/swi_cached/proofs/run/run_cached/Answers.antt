@@ -1,12 +1,17 @@
-use Rattle.std.proofs.Common.{ℕ, ◌*◌, ◌≤◌, List, [], Option, None, Err, refl, sym, ap, subst, ◌∙◌, arith}
+use Rattle.std.proofs.Common.{ℕ, ◌-◌, ◌*◌, ◌≤◌, List, [], Option, None, Err, refl, sym, ap, subst, ◌∙◌, arith}
 use Rattle.std.proofs.lemmas.Result.{err_from_is_err_and}
 use Rattle.swi_calls.specs.Flat.{machine_of}
 use Rattle.swi_calls.specs.declared.machine.Machine.{Machine}
-use Rattle.swi_rom.specs.Record.{Record}
-use Rattle.swi_rom.specs.Slots.{kept_by}
+use Rattle.swi_rom.specs.Record.{Record, writes}
+use Rattle.swi_rom.specs.Coherent.{Coherent}
+use Rattle.swi_rom.specs.Served.{SameFrom}
+use Rattle.swi_board.specs.Ran.{RamRan}
+use Rattle.swi_board.specs.Runs.{fetched_by}
+use Rattle.swi_outside.specs.CacheRam.{KeepsBeyond}
 use Rattle.swi_cached.specs.declared.run.CachedStop.TheVariants as stop
+use Rattle.swi_rom.specs.Service.{Setting, cache_of}
 use Rattle.swi_cached.specs.Cached.{run_of}
-use Rattle.swi_cached.proofs.Boot.{carries_booted, services_booted}
+use Rattle.swi_cached.proofs.Boot.{lawful, carries_booted, services_booted}
 use Rattle.swi_cached.proofs.Ended.{has_ended, record_is, is_short, few_more, ram_after, ran_told, kept_on}
 use Rattle.swi_cached.proofs.Fetched.{is_counted}
 use Rattle.swi_cached.proofs.Services.{services_few}
@@ -15,41 +20,41 @@ use Rattle.swi_cached.proofs.Causing.{causes_quiet, causes_run, as_stop, as_stop
 use Rattle.swi_cached.proofs.run.run_cached.Goals as goal
 
 pub returns-in_default-clause-flat : goal.returns-in_default-clause-flat
-returns-in_default-clause-flat g c = λ left. is_flat_run (run_of c.args.image.now c.args.cache_bytes c.args.program.now c.args.layout.now c.args.log c.args.telling c.args.limit left)
+returns-in_default-clause-flat g c = λ left. is_flat_run (run_of c.args.image.now (cache_of g.S.CacheRom.service c.args.rom) c.args.program.now c.args.layout.now c.args.log c.args.telling c.args.limit left)
 
 pub returns-in_default-clause-stops : goal.returns-in_default-clause-stops
-returns-in_default-clause-stops g c = λ left. stops_before_store (run_of c.args.image.now c.args.cache_bytes c.args.program.now c.args.layout.now c.args.log c.args.telling c.args.limit left)
+returns-in_default-clause-stops g c = λ left. stops_before_store (run_of c.args.image.now (cache_of g.S.CacheRom.service c.args.rom) c.args.program.now c.args.layout.now c.args.log c.args.telling c.args.limit left)
 
 pub returns-in_err-board-clause-flat : goal.returns-in_err-board-clause-flat
-returns-in_err-board-clause-flat g c = λ left. is_flat_run (run_of c.args.image.now c.args.cache_bytes c.args.program.now c.args.layout.now c.args.log c.args.telling c.args.limit left)
+returns-in_err-board-clause-flat g c = λ left. is_flat_run (run_of c.args.image.now (cache_of g.S.CacheRom.service c.args.rom) c.args.program.now c.args.layout.now c.args.log c.args.telling c.args.limit left)
 
 pub returns-in_err-board-clause-stops : goal.returns-in_err-board-clause-stops
-returns-in_err-board-clause-stops g c = λ left. stops_before_store (run_of c.args.image.now c.args.cache_bytes c.args.program.now c.args.layout.now c.args.log c.args.telling c.args.limit left)
+returns-in_err-board-clause-stops g c = λ left. stops_before_store (run_of c.args.image.now (cache_of g.S.CacheRom.service c.args.rom) c.args.program.now c.args.layout.now c.args.log c.args.telling c.args.limit left)
 
 pub returns-in-Ok-run_steps-clause-flat : goal.returns-in-Ok-run_steps-clause-flat
-returns-in-Ok-run_steps-clause-flat g c = λ left. is_flat_run (run_of c.args.image.now c.args.cache_bytes c.args.program.now c.args.layout.now c.args.log c.args.telling c.args.limit left)
+returns-in-Ok-run_steps-clause-flat g c = λ left. is_flat_run (run_of c.args.image.now (cache_of g.S.CacheRom.service c.args.rom) c.args.program.now c.args.layout.now c.args.log c.args.telling c.args.limit left)
 
 pub returns-in-Ok-run_steps-clause-stops : goal.returns-in-Ok-run_steps-clause-stops
-returns-in-Ok-run_steps-clause-stops g c = λ left. stops_before_store (run_of c.args.image.now c.args.cache_bytes c.args.program.now c.args.layout.now c.args.log c.args.telling c.args.limit left)
+returns-in-Ok-run_steps-clause-stops g c = λ left. stops_before_store (run_of c.args.image.now (cache_of g.S.CacheRom.service c.args.rom) c.args.program.now c.args.layout.now c.args.log c.args.telling c.args.limit left)
 
 pub returns-in-Err-clause-flat : goal.returns-in-Err-clause-flat
-returns-in-Err-clause-flat g c = λ left. is_flat_run (run_of c.args.image.now c.args.cache_bytes c.args.program.now c.args.layout.now c.args.log c.args.telling c.args.limit left)
+returns-in-Err-clause-flat g c = λ left. is_flat_run (run_of c.args.image.now (cache_of g.S.CacheRom.service c.args.rom) c.args.program.now c.args.layout.now c.args.log c.args.telling c.args.limit left)
 
 pub returns-in-Err-clause-stops : goal.returns-in-Err-clause-stops
-returns-in-Err-clause-stops g c = λ left. stops_before_store (run_of c.args.image.now c.args.cache_bytes c.args.program.now c.args.layout.now c.args.log c.args.telling c.args.limit left)
+returns-in-Err-clause-stops g c = λ left. stops_before_store (run_of c.args.image.now (cache_of g.S.CacheRom.service c.args.rom) c.args.program.now c.args.layout.now c.args.log c.args.telling c.args.limit left)
 
 pub returns-in_err-board-clause-ram_failed : goal.returns-in_err-board-clause-ram_failed
 returns-in_err-board-clause-ram_failed g c =
     let p = err_from_is_err_and c.from_residual.result c.from_residual.ensures.1 in
     rw (p.1, p.2) (λ e x told.
-    boot_failed (run_of c.args.image.now c.args.cache_bytes c.args.program.now c.args.layout.now c.args.log c.args.telling c.args.limit x) (g.R.CacheRam.state c.args.ram.now) (g.R.CacheRam.state c.boot.new.ram) (g.I.Source.left c.args.input.now) (g.O.Sink.held c.args.out.now) (g.E.Sink.held c.args.err.now)
+    boot_failed (run_of c.args.image.now (cache_of g.S.CacheRom.service c.args.rom) c.args.program.now c.args.layout.now c.args.log c.args.telling c.args.limit x) (g.R.CacheRam.state c.args.ram.now) (g.R.CacheRam.state c.boot.new.ram) (g.I.Source.left c.args.input.now) (g.O.Sink.held c.args.out.now) (g.E.Sink.held c.args.err.now)
     refl refl refl told c.in_err-board.ensures.placed (c.in_err-board.ensures.failed (err_as c.in_err-board.field-0.0 stop.RamFault e)).fetches_stay)
 
 pub run_steps-requires-clause-fits : goal.run_steps-requires-clause-fits
 run_steps-requires-clause-fits g c = (c.in_ok-board.ensures.booted c.args.telling c.args.limit []).fits
 
 pub run_steps-requires-clause-sound : goal.run_steps-requires-clause-sound
-run_steps-requires-clause-sound g c = (c.in_ok-board.ensures.booted c.args.telling c.args.limit []).sound
+run_steps-requires-clause-sound g c = c.in_ok-board.ensures.sound
 
 pub run_steps-requires-clause-first : goal.run_steps-requires-clause-first
 run_steps-requires-clause-first g c = ap (λ (m : Machine). m.steps) (c.in_ok-board.ensures.booted c.args.telling c.args.limit []).machine
@@ -65,75 +70,84 @@ run_steps-requires-clause-count g c = let one = (c.in_ok-board.ensures.booted c.
 
 pub run_steps-requires-clause-services : goal.run_steps-requires-clause-services
 run_steps-requires-clause-services g c =
-    let one = services_booted (run_of c.args.image.now c.args.cache_bytes c.args.program.now c.args.layout.now c.args.log c.args.telling c.args.limit []) c.in_ok-board.board.hart c.in_ok-board.board.rom _ _ (c.in_ok-board.ensures.booted c.args.telling c.args.limit []) in
+    let laws = lawful g.S.CacheRom.service g.met.S.CacheRom.laws c.args.rom in
+    let one = services_booted (run_of c.args.image.now (cache_of g.S.CacheRom.service c.args.rom) c.args.program.now c.args.layout.now c.args.log c.args.telling c.args.limit []) c.in_ok-board.board.hart (g.S.CacheRom.service.kept c.in_ok-board.board.rom) _ _ laws c.requires.fresh (c.in_ok-board.ensures.booted c.args.telling c.args.limit []) in
     omega (arith, one)
 
 pub returns-in-Ok-run_steps-clause-booted : goal.returns-in-Ok-run_steps-clause-booted
 returns-in-Ok-run_steps-clause-booted g c = c.in-Ok-run_steps.ensures.booted ∙ (c.in_ok-board.ensures.booted c.args.telling c.args.limit []).booted
 
 pub returns-in-Ok-run_steps-clause-setting : goal.returns-in-Ok-run_steps-clause-setting
-returns-in-Ok-run_steps-clause-setting g c = c.in-Ok-run_steps.ensures.setting ∙ (c.in_ok-board.ensures.booted c.args.telling c.args.limit []).setting
+returns-in-Ok-run_steps-clause-setting g c = c.in-Ok-run_steps.ensures.setting ∙ c.in_ok-board.ensures.setting
 
 pub returns-in-Ok-run_steps-clause-count : goal.returns-in-Ok-run_steps-clause-count
 returns-in-Ok-run_steps-clause-count g c =
-    let k = run_of c.args.image.now c.args.cache_bytes c.args.program.now c.args.layout.now c.args.log c.args.telling c.args.limit [] in
-    few_more k c.in_ok-board.board.hart c.run_steps.new.board.hart c.in_ok-board.board.rom _ _ (c.in_ok-board.ensures.booted c.args.telling c.args.limit []) refl refl c.in-Ok-run_steps.ensures.count
+    let k = run_of c.args.image.now (cache_of g.S.CacheRom.service c.args.rom) c.args.program.now c.args.layout.now c.args.log c.args.telling c.args.limit [] in
+    few_more k c.in_ok-board.board.hart c.run_steps.new.board.hart (g.S.CacheRom.service.kept c.in_ok-board.board.rom) _ _ (c.in_ok-board.ensures.booted c.args.telling c.args.limit []) refl refl c.in-Ok-run_steps.ensures.count
 
 pub returns-in-Ok-run_steps-clause-services : goal.returns-in-Ok-run_steps-clause-services
 returns-in-Ok-run_steps-clause-services g c = λ x told.
-    let k = run_of c.args.image.now c.args.cache_bytes c.args.program.now c.args.layout.now c.args.log c.args.telling c.args.limit x in
+    let k = run_of c.args.image.now (cache_of g.S.CacheRom.service c.args.rom) c.args.program.now c.args.layout.now c.args.log c.args.telling c.args.limit x in
     let booted = c.in_ok-board.ensures.booted c.args.telling c.args.limit x in
-    let carries = carries_booted c.args.image.now (kept_by c.in_ok-board.board.rom) c.in_ok-board.board.hart (machine_of c.args.program.now c.args.layout.now c.args.log) booted.machine booted.between booted.fits in
+    let carries = carries_booted c.args.image.now (g.S.CacheRom.service.kept c.in_ok-board.board.rom) c.in_ok-board.board.hart (machine_of c.args.program.now c.args.layout.now c.args.log) booted.machine booted.between booted.fits in
     let whole = c.in-Ok-run_steps.ensures.ran x told (machine_of c.args.program.now c.args.layout.now c.args.log) carries booted.matches in
-    let ran = ran_told k c.in_ok-board.board.hart c.run_steps.new.board.hart c.in_ok-board.board.rom (kept_by c.run_steps.new.board.rom) (g.R.CacheRam.state c.args.ram.now) (g.R.CacheRam.state c.boot.new.ram) (g.I.Source.left c.run_steps.new.input) (g.O.Sink.held c.args.out.now) (g.O.Sink.held c.run_steps.new.out) None None booted whole.ran in
-    let is = record_is k c.in_ok-board.board.hart c.run_steps.new.board.hart c.in_ok-board.board.rom (kept_by c.run_steps.new.board.rom) (g.R.CacheRam.state c.args.ram.now) (g.R.CacheRam.state c.boot.new.ram) (g.R.CacheRam.state c.run_steps.new.ram) (g.I.Source.left c.run_steps.new.input) (g.O.Sink.held c.args.out.now) (g.O.Sink.held c.run_steps.new.out) None None booted ran (c.in-Ok-run_steps.ensures.settled x told booted.between) in
-    subst (λ (r : Record). r.counts.services ≤ 2 * c.args.limit) (sym is) (services_few k c.args.limit)
+    let ran = ran_told g.S.CacheRom.service.policy _ _ _ _ _ _ _ _ _ _ _ _ _ _ c.in_ok-board.ensures.setting whole.ran in
+    let is = record_is k c.in_ok-board.board.hart c.run_steps.new.board.hart (g.S.CacheRom.service.kept c.in_ok-board.board.rom) (g.S.CacheRom.service.kept c.run_steps.new.board.rom) (g.R.CacheRam.state c.args.ram.now) (g.R.CacheRam.state c.boot.new.ram) (g.R.CacheRam.state c.run_steps.new.ram) (g.I.Source.left c.run_steps.new.input) (g.O.Sink.held c.args.out.now) (g.O.Sink.held c.run_steps.new.out) None None booted ran (c.in-Ok-run_steps.ensures.settled x told booted.between) in
+    let laws = lawful g.S.CacheRom.service g.met.S.CacheRom.laws c.args.rom in
+    subst (λ (r : Record). r.counts.services ≤ 2 * c.args.limit) (sym is) (services_few k c.args.limit laws c.requires.fresh)
 
 pub returns-in-Ok-run_steps-clause-ended : goal.returns-in-Ok-run_steps-clause-ended
 returns-in-Ok-run_steps-clause-ended g c = λ x told.
-    let k = run_of c.args.image.now c.args.cache_bytes c.args.program.now c.args.layout.now c.args.log c.args.telling c.args.limit x in
+    let k = run_of c.args.image.now (cache_of g.S.CacheRom.service c.args.rom) c.args.program.now c.args.layout.now c.args.log c.args.telling c.args.limit x in
     let booted = c.in_ok-board.ensures.booted c.args.telling c.args.limit x in
-    let carries = carries_booted c.args.image.now (kept_by c.in_ok-board.board.rom) c.in_ok-board.board.hart (machine_of c.args.program.now c.args.layout.now c.args.log) booted.machine booted.between booted.fits in
+    let carries = carries_booted c.args.image.now (g.S.CacheRom.service.kept c.in_ok-board.board.rom) c.in_ok-board.board.hart (machine_of c.args.program.now c.args.layout.now c.args.log) booted.machine booted.between booted.fits in
     let whole = c.in-Ok-run_steps.ensures.ran x told (machine_of c.args.program.now c.args.layout.now c.args.log) carries booted.matches in
-    let ran = ran_told k c.in_ok-board.board.hart c.run_steps.new.board.hart c.in_ok-board.board.rom (kept_by c.run_steps.new.board.rom) (g.R.CacheRam.state c.args.ram.now) (g.R.CacheRam.state c.boot.new.ram) (g.I.Source.left c.run_steps.new.input) (g.O.Sink.held c.args.out.now) (g.O.Sink.held c.run_steps.new.out) None None booted whole.ran in
-    has_ended k c.in_ok-board.board.hart c.run_steps.new.board.hart c.in_ok-board.board.rom (kept_by c.run_steps.new.board.rom) (g.R.CacheRam.state c.args.ram.now) (g.R.CacheRam.state c.boot.new.ram) (g.R.CacheRam.state c.run_steps.new.ram) (g.I.Source.left c.run_steps.new.input) (g.O.Sink.held c.args.out.now) (g.O.Sink.held c.run_steps.new.out) None None booted ran (c.in-Ok-run_steps.ensures.settled x told booted.between) (g.E.Sink.held c.args.err.now) (g.E.Sink.held c.run_steps.new.err) whole.error
+    let ran = ran_told g.S.CacheRom.service.policy _ _ _ _ _ _ _ _ _ _ _ _ _ _ c.in_ok-board.ensures.setting whole.ran in
+    has_ended k c.in_ok-board.board.hart c.run_steps.new.board.hart (g.S.CacheRom.service.kept c.in_ok-board.board.rom) (g.S.CacheRom.service.kept c.run_steps.new.board.rom) (g.R.CacheRam.state c.args.ram.now) (g.R.CacheRam.state c.boot.new.ram) (g.R.CacheRam.state c.run_steps.new.ram) (g.I.Source.left c.run_steps.new.input) (g.O.Sink.held c.args.out.now) (g.O.Sink.held c.run_steps.new.out) None None booted ran (c.in-Ok-run_steps.ensures.settled x told booted.between) (g.E.Sink.held c.args.err.now) (g.E.Sink.held c.run_steps.new.err) whole.error
 
 pub returns-in-Ok-run_steps-clause-told : goal.returns-in-Ok-run_steps-clause-told
 returns-in-Ok-run_steps-clause-told g c = λ x told.
-    let k = run_of c.args.image.now c.args.cache_bytes c.args.program.now c.args.layout.now c.args.log c.args.telling c.args.limit x in
+    let k = run_of c.args.image.now (cache_of g.S.CacheRom.service c.args.rom) c.args.program.now c.args.layout.now c.args.log c.args.telling c.args.limit x in
     let booted = c.in_ok-board.ensures.booted c.args.telling c.args.limit x in
-    let carries = carries_booted c.args.image.now (kept_by c.in_ok-board.board.rom) c.in_ok-board.board.hart (machine_of c.args.program.now c.args.layout.now c.args.log) booted.machine booted.between booted.fits in
+    let carries = carries_booted c.args.image.now (g.S.CacheRom.service.kept c.in_ok-board.board.rom) c.in_ok-board.board.hart (machine_of c.args.program.now c.args.layout.now c.args.log) booted.machine booted.between booted.fits in
     (c.in-Ok-run_steps.ensures.ran x told (machine_of c.args.program.now c.args.layout.now c.args.log) carries booted.matches).kept
 
 pub returns-in-Ok-run_steps-clause-short : goal.returns-in-Ok-run_steps-clause-short
 returns-in-Ok-run_steps-clause-short g c = λ x told.
-    let k = run_of c.args.image.now c.args.cache_bytes c.args.program.now c.args.layout.now c.args.log c.args.telling c.args.limit x in
+    let k = run_of c.args.image.now (cache_of g.S.CacheRom.service c.args.rom) c.args.program.now c.args.layout.now c.args.log c.args.telling c.args.limit x in
     let booted = c.in_ok-board.ensures.booted c.args.telling c.args.limit x in
-    let carries = carries_booted c.args.image.now (kept_by c.in_ok-board.board.rom) c.in_ok-board.board.hart (machine_of c.args.program.now c.args.layout.now c.args.log) booted.machine booted.between booted.fits in
-    is_short k c.in_ok-board.board.hart c.run_steps.new.board.hart c.in_ok-board.board.rom _ _ booted refl refl c.in-Ok-run_steps.ensures.count (c.in-Ok-run_steps.ensures.settled x told booted.between)
+    let carries = carries_booted c.args.image.now (g.S.CacheRom.service.kept c.in_ok-board.board.rom) c.in_ok-board.board.hart (machine_of c.args.program.now c.args.layout.now c.args.log) booted.machine booted.between booted.fits in
+    is_short k c.in_ok-board.board.hart c.run_steps.new.board.hart (g.S.CacheRom.service.kept c.in_ok-board.board.rom) _ _ booted refl refl c.in-Ok-run_steps.ensures.count (c.in-Ok-run_steps.ensures.settled x told booted.between)
 
 pub returns-in-Ok-run_steps-clause-ram : goal.returns-in-Ok-run_steps-clause-ram
 returns-in-Ok-run_steps-clause-ram g c = λ x told.
-    let k = run_of c.args.image.now c.args.cache_bytes c.args.program.now c.args.layout.now c.args.log c.args.telling c.args.limit x in
+    let k = run_of c.args.image.now (cache_of g.S.CacheRom.service c.args.rom) c.args.program.now c.args.layout.now c.args.log c.args.telling c.args.limit x in
     let booted = c.in_ok-board.ensures.booted c.args.telling c.args.limit x in
-    let carries = carries_booted c.args.image.now (kept_by c.in_ok-board.board.rom) c.in_ok-board.board.hart (machine_of c.args.program.now c.args.layout.now c.args.log) booted.machine booted.between booted.fits in
+    let carries = carries_booted c.args.image.now (g.S.CacheRom.service.kept c.in_ok-board.board.rom) c.in_ok-board.board.hart (machine_of c.args.program.now c.args.layout.now c.args.log) booted.machine booted.between booted.fits in
     let whole = c.in-Ok-run_steps.ensures.ran x told (machine_of c.args.program.now c.args.layout.now c.args.log) carries booted.matches in
-    let ran = ran_told k c.in_ok-board.board.hart c.run_steps.new.board.hart c.in_ok-board.board.rom (kept_by c.run_steps.new.board.rom) (g.R.CacheRam.state c.args.ram.now) (g.R.CacheRam.state c.boot.new.ram) (g.I.Source.left c.run_steps.new.input) (g.O.Sink.held c.args.out.now) (g.O.Sink.held c.run_steps.new.out) None None booted whole.ran in
-    ram_after k c.in_ok-board.board.hart c.run_steps.new.board.hart c.in_ok-board.board.rom (kept_by c.run_steps.new.board.rom) (g.R.CacheRam.state c.args.ram.now) (g.R.CacheRam.state c.boot.new.ram) (g.R.CacheRam.state c.run_steps.new.ram) (g.I.Source.left c.run_steps.new.input) (g.O.Sink.held c.args.out.now) (g.O.Sink.held c.run_steps.new.out) None None booted ran (c.in-Ok-run_steps.ensures.settled x told booted.between)
-    c.run_steps.new.board.rom refl c.in-Ok-run_steps.ensures.setting c.in-Ok-run_steps.ensures.sound c.in-Ok-run_steps.ensures.ram c.in-Ok-run_steps.ensures.unused
+    let ran = ran_told g.S.CacheRom.service.policy _ _ _ _ _ _ _ _ _ _ _ _ _ _ c.in_ok-board.ensures.setting whole.ran in
+    let laws = lawful g.S.CacheRom.service g.met.S.CacheRom.laws c.args.rom in
+    ram_after k c.in_ok-board.board.hart c.run_steps.new.board.hart (g.S.CacheRom.service.kept c.in_ok-board.board.rom) (g.S.CacheRom.service.kept c.run_steps.new.board.rom) (g.R.CacheRam.state c.args.ram.now) (g.R.CacheRam.state c.boot.new.ram) (g.R.CacheRam.state c.run_steps.new.ram) (g.I.Source.left c.run_steps.new.input) (g.O.Sink.held c.args.out.now) (g.O.Sink.held c.run_steps.new.out) None None booted ran (c.in-Ok-run_steps.ensures.settled x told booted.between)
+    laws
+    (subst (λ (m : Setting). Coherent c.args.image.now (g.S.CacheRom.service.kept c.run_steps.new.board.rom) (g.S.CacheRom.service.span m) (g.R.CacheRam.state c.run_steps.new.ram).words) (c.in-Ok-run_steps.ensures.setting ∙ c.in_ok-board.ensures.setting)
+    (g.met.S.CacheRom.laws.coherent c.run_steps.new.board.rom c.args.image.now (g.R.CacheRam.state c.run_steps.new.ram).words c.in-Ok-run_steps.ensures.sound))
+    (subst (λ (m : Setting). RamRan (g.S.CacheRom.service.span m) (fetched_by c.in_ok-board.board.hart c.run_steps.new.board.hart) (writes (g.S.CacheRom.service.kept c.run_steps.new.board.rom) - writes (g.S.CacheRom.service.kept c.in_ok-board.board.rom)) (g.R.CacheRam.state c.boot.new.ram) (g.R.CacheRam.state c.run_steps.new.ram)) c.in_ok-board.ensures.setting c.in-Ok-run_steps.ensures.ram)
+    (subst (λ (m : Setting). SameFrom (g.S.CacheRom.service.extent m (g.S.CacheRom.service.kept c.run_steps.new.board.rom)) (g.R.CacheRam.state c.boot.new.ram).words (g.R.CacheRam.state c.run_steps.new.ram).words) c.in_ok-board.ensures.setting c.in-Ok-run_steps.ensures.unused)
 
 pub returns-in-Ok-run_steps-clause-counted : goal.returns-in-Ok-run_steps-clause-counted
 returns-in-Ok-run_steps-clause-counted g c = λ x.
-    let k = run_of c.args.image.now c.args.cache_bytes c.args.program.now c.args.layout.now c.args.log c.args.telling c.args.limit x in
+    let k = run_of c.args.image.now (cache_of g.S.CacheRom.service c.args.rom) c.args.program.now c.args.layout.now c.args.log c.args.telling c.args.limit x in
     let booted = c.in_ok-board.ensures.booted c.args.telling c.args.limit x in
     is_counted k
-    (carries_booted c.args.image.now (kept_by c.in_ok-board.board.rom) c.in_ok-board.board.hart (machine_of c.args.program.now c.args.layout.now c.args.log) booted.machine booted.between booted.fits) c.in_ok-board.ensures.word refl
+    (carries_booted c.args.image.now (g.S.CacheRom.service.kept c.in_ok-board.board.rom) c.in_ok-board.board.hart (machine_of c.args.program.now c.args.layout.now c.args.log) booted.machine booted.between booted.fits) c.in_ok-board.ensures.word refl
 
 pub returns-in-Ok-run_steps-clause-kept : goal.returns-in-Ok-run_steps-clause-kept
-returns-in-Ok-run_steps-clause-kept g c = kept_on (run_of c.args.image.now c.args.cache_bytes c.args.program.now c.args.layout.now c.args.log c.args.telling c.args.limit []) c.in_ok-board.board.hart c.in_ok-board.board.rom _ _ _ (c.in_ok-board.ensures.booted c.args.telling c.args.limit []) c.in-Ok-run_steps.ensures.kept
+returns-in-Ok-run_steps-clause-kept g c = kept_on (run_of c.args.image.now (cache_of g.S.CacheRom.service c.args.rom) c.args.program.now c.args.layout.now c.args.log c.args.telling c.args.limit []) c.in_ok-board.board.hart (g.S.CacheRom.service.kept c.in_ok-board.board.rom) _ _ _ (c.in_ok-board.ensures.booted c.args.telling c.args.limit [])
+    (subst (λ (m : Setting). KeepsBeyond (g.S.CacheRom.service.span m) (g.R.CacheRam.state c.boot.new.ram) (g.R.CacheRam.state c.run_steps.new.ram)) c.in_ok-board.ensures.setting c.in-Ok-run_steps.ensures.kept)
 
 pub returns-in-Err-clause-kept : goal.returns-in-Err-clause-kept
-returns-in-Err-clause-kept g c = kept_on (run_of c.args.image.now c.args.cache_bytes c.args.program.now c.args.layout.now c.args.log c.args.telling c.args.limit []) c.in_ok-board.board.hart c.in_ok-board.board.rom _ _ _ (c.in_ok-board.ensures.booted c.args.telling c.args.limit []) c.in-Err.ensures.kept
+returns-in-Err-clause-kept g c = kept_on (run_of c.args.image.now (cache_of g.S.CacheRom.service c.args.rom) c.args.program.now c.args.layout.now c.args.log c.args.telling c.args.limit []) c.in_ok-board.board.hart (g.S.CacheRom.service.kept c.in_ok-board.board.rom) _ _ _ (c.in_ok-board.ensures.booted c.args.telling c.args.limit [])
+    (subst (λ (m : Setting). KeepsBeyond (g.S.CacheRom.service.span m) (g.R.CacheRam.state c.boot.new.ram) (g.R.CacheRam.state c.run_steps.new.ram)) c.in_ok-board.ensures.setting c.in-Err.ensures.kept)
 
 pub returns-in-Ok-run_steps-clause-causes : goal.returns-in-Ok-run_steps-clause-causes
 returns-in-Ok-run_steps-clause-causes g c =
@@ -150,17 +164,17 @@ returns-in-Err-clause-memory g c = λ e. absurd (never_memory c.in-Err.fault (as
 
 pub returns-in-Err-clause-ram_failed : goal.returns-in-Err-clause-ram_failed
 returns-in-Err-clause-ram_failed g c = λ e x told.
-    let k = run_of c.args.image.now c.args.cache_bytes c.args.program.now c.args.layout.now c.args.log c.args.telling c.args.limit x in
+    let k = run_of c.args.image.now (cache_of g.S.CacheRom.service c.args.rom) c.args.program.now c.args.layout.now c.args.log c.args.telling c.args.limit x in
     let booted = c.in_ok-board.ensures.booted c.args.telling c.args.limit x in
-    let carries = carries_booted c.args.image.now (kept_by c.in_ok-board.board.rom) c.in_ok-board.board.hart (machine_of c.args.program.now c.args.layout.now c.args.log) booted.machine booted.between booted.fits in
+    let carries = carries_booted c.args.image.now (g.S.CacheRom.service.kept c.in_ok-board.board.rom) c.in_ok-board.board.hart (machine_of c.args.program.now c.args.layout.now c.args.log) booted.machine booted.between booted.fits in
     let broke = c.in-Err.ensures.ram_broke (is_ram c.in-Err.fault (as_stop c.in-Err.fault c.stop_of.result stop.RamFault c.stop_of.ensures e)) x told (machine_of c.args.program.now c.args.layout.now c.args.log) carries booted.matches in
-    ram_failed k c.in_ok-board.board.hart c.run_steps.new.board.hart c.in_ok-board.board.rom (g.R.CacheRam.state c.args.ram.now) (g.R.CacheRam.state c.boot.new.ram) (g.R.CacheRam.state c.run_steps.new.ram) (g.I.Source.left c.run_steps.new.input) (g.O.Sink.held c.args.out.now) (g.O.Sink.held c.run_steps.new.out) (g.E.Sink.held c.args.err.now) (g.E.Sink.held c.run_steps.new.err) None None booted broke.broke broke.begun broke.error
+    ram_failed k c.in_ok-board.board.hart c.run_steps.new.board.hart (g.S.CacheRom.service.kept c.in_ok-board.board.rom) (g.R.CacheRam.state c.args.ram.now) (g.R.CacheRam.state c.boot.new.ram) (g.R.CacheRam.state c.run_steps.new.ram) (g.I.Source.left c.run_steps.new.input) (g.O.Sink.held c.args.out.now) (g.O.Sink.held c.run_steps.new.out) (g.E.Sink.held c.args.err.now) (g.E.Sink.held c.run_steps.new.err) None None booted broke.broke broke.begun broke.error
 
 pub returns-in-Err-clause-step_failed : goal.returns-in-Err-clause-step_failed
 returns-in-Err-clause-step_failed g c = λ e x told.
-    let k = run_of c.args.image.now c.args.cache_bytes c.args.program.now c.args.layout.now c.args.log c.args.telling c.args.limit x in
+    let k = run_of c.args.image.now (cache_of g.S.CacheRom.service c.args.rom) c.args.program.now c.args.layout.now c.args.log c.args.telling c.args.limit x in
     let booted = c.in_ok-board.ensures.booted c.args.telling c.args.limit x in
-    let carries = carries_booted c.args.image.now (kept_by c.in_ok-board.board.rom) c.in_ok-board.board.hart (machine_of c.args.program.now c.args.layout.now c.args.log) booted.machine booted.between booted.fits in
+    let carries = carries_booted c.args.image.now (g.S.CacheRom.service.kept c.in_ok-board.board.rom) c.in_ok-board.board.hart (machine_of c.args.program.now c.args.layout.now c.args.log) booted.machine booted.between booted.fits in
     let broken = on_device (Option (List ℕ)) _ _ c.in-Err.fault (as_stops c.in-Err.fault c.stop_of.result stop.SourceFault stop.SinkFault c.stop_of.ensures e) c.in-Err.ensures.broke x told (machine_of c.args.program.now c.args.layout.now c.args.log) carries booted.matches in
     step_failed k c.in_ok-board.board.hart c.run_steps.new.board.hart (Err c.in-Err.fault) (Err c.stop_of.result) (g.I.Source.left c.run_steps.new.input) (g.O.Sink.held c.args.out.now) (g.O.Sink.held c.run_steps.new.out) (g.E.Sink.held c.args.err.now) (g.E.Sink.held c.run_steps.new.err) None None
     (λ s. is_source c.in-Err.fault (as_stop c.in-Err.fault c.stop_of.result stop.SourceFault c.stop_of.ensures s)) broken.broke broken.front broken.error broken.unwritten

@@ -4,10 +4,9 @@ use Rattle.swi_outside.specs.CacheRam.{KeepsBeyond}
 use Rattle.swi_calls.specs.Flat.{started}
 use Rattle.swi_calls.specs.State.{FlatState}
 use Rattle.swi_calls.specs.declared.end.End.{End}
-use Rattle.swi_rom.specs.Fifo.{fifo, extent_of, fifo_third, fifo_grows}
 use Rattle.swi_rom.specs.Record.{writes}
+use Rattle.swi_rom.specs.Service.{Setting}
 use Rattle.swi_rom.specs.Served.{SameFrom}
-use Rattle.swi_rom.specs.Slots.{kept_by, setting_of, span_of}
 use Rattle.swi_hart.specs.Hart.{HartData, next_made}
 use Rattle.swi_hart.specs.Leaving.{moved, transfer_at, RamStepped}
 use Rattle.swi_board.specs.Ran.{Followed}
@@ -57,16 +56,16 @@ loop-telling-preserved g c =
     let s = c.in_ok-step.ensures in
     let more : c.loop-telling.board.hart.machine.steps < c.args.limit = omega (arith, c.loop-telling-test.true, c.steps.ensures) in
     let running : c.loop-telling.board.hart.machine.ending ≡ None = sym c.ending.ensures ∙ c.in-None.is in
-    let moves = subst (λ (k : List ℕ). kept_by c.step.new.self.rom ≡ moved (fifo k) (kept_by c.loop-telling.board.rom) c.args.image.now (transfer_at c.args.image.now c.loop-telling.board.hart.machine c.loop-telling.board.hart.control)) c.loop-telling.invariant.setting s.policy in
-    let stepped = subst (λ (k : List ℕ). RamStepped (span_of k) (writes (kept_by c.step.new.self.rom) - writes (kept_by c.loop-telling.board.rom)) c.loop-telling.board.hart.control (g.R.CacheRam.state c.loop-telling.ram) (g.R.CacheRam.state c.step.new.ram)) c.loop-telling.invariant.setting s.ram in
-    let rises = moved_rises (λ k. writes k) (fifo (setting_of c.args.board.now.rom)) (λ r v t. fifo_third (setting_of c.args.board.now.rom) r v t) (kept_by c.loop-telling.board.rom) (kept_by c.step.new.self.rom) c.args.image.now (transfer_at c.args.image.now c.loop-telling.board.hart.machine c.loop-telling.board.hart.control) moves in
-    let grows = moved_rises (λ k. extent_of (setting_of c.args.board.now.rom) k) (fifo (setting_of c.args.board.now.rom)) (λ r v t. fifo_grows (setting_of c.args.board.now.rom) r v t) (kept_by c.loop-telling.board.rom) (kept_by c.step.new.self.rom) c.args.image.now (transfer_at c.args.image.now c.loop-telling.board.hart.machine c.loop-telling.board.hart.control) moves in
-    let unused = subst (λ (k : List ℕ). SameFrom (extent_of k (kept_by c.step.new.self.rom)) (g.R.CacheRam.state c.loop-telling.ram).words (g.R.CacheRam.state c.step.new.ram).words) c.loop-telling.invariant.setting s.unused in
+    let moves = subst (λ (k : Setting). g.S.CacheRom.service.kept c.step.new.self.rom ≡ moved (g.S.CacheRom.service.policy k) (g.S.CacheRom.service.kept c.loop-telling.board.rom) c.args.image.now (transfer_at c.args.image.now c.loop-telling.board.hart.machine c.loop-telling.board.hart.control)) c.loop-telling.invariant.setting s.policy in
+    let stepped = subst (λ (k : Setting). RamStepped (g.S.CacheRom.service.span k) (writes (g.S.CacheRom.service.kept c.step.new.self.rom) - writes (g.S.CacheRom.service.kept c.loop-telling.board.rom)) c.loop-telling.board.hart.control (g.R.CacheRam.state c.loop-telling.ram) (g.R.CacheRam.state c.step.new.ram)) c.loop-telling.invariant.setting s.ram in
+    let rises = moved_rises (λ k. writes k) (g.S.CacheRom.service.policy (g.S.CacheRom.service.setting c.args.board.now.rom)) (λ r v t. g.met.S.CacheRom.laws.writes_rise (g.S.CacheRom.service.setting c.args.board.now.rom) r v t) (g.S.CacheRom.service.kept c.loop-telling.board.rom) (g.S.CacheRom.service.kept c.step.new.self.rom) c.args.image.now (transfer_at c.args.image.now c.loop-telling.board.hart.machine c.loop-telling.board.hart.control) moves in
+    let grows = moved_rises (λ k. g.S.CacheRom.service.extent (g.S.CacheRom.service.setting c.args.board.now.rom) k) (g.S.CacheRom.service.policy (g.S.CacheRom.service.setting c.args.board.now.rom)) (λ r v t. g.met.S.CacheRom.laws.extent_rises (g.S.CacheRom.service.setting c.args.board.now.rom) r v t) (g.S.CacheRom.service.kept c.loop-telling.board.rom) (g.S.CacheRom.service.kept c.step.new.self.rom) c.args.image.now (transfer_at c.args.image.now c.loop-telling.board.hart.machine c.loop-telling.board.hart.control) moves in
+    let unused = subst (λ (k : Setting). SameFrom (g.S.CacheRom.service.extent k (g.S.CacheRom.service.kept c.step.new.self.rom)) (g.R.CacheRam.state c.loop-telling.ram).words (g.R.CacheRam.state c.step.new.ram).words) c.loop-telling.invariant.setting s.unused in
     let made = s.made c.loop-telling.invariant.sound in
     let grown = s.grown c.loop-telling.invariant.sound in
     record {
       running = runs_on c.loop-telling.invariant.running more running c.in-Ok.ensures.word c.requires.limit stepped rises (s.fits c.loop-telling.invariant.sound) grown moves
-          (λ l told. unknown_made c.args.image.now (kept_by c.step.new.self.rom) c.loop-telling.board.hart c.step.new.self.hart l _ _ _ _ _ (made l told));
+          (λ l told. unknown_made c.args.image.now (g.S.CacheRom.service.kept c.step.new.self.rom) c.loop-telling.board.hart c.step.new.self.hart l _ _ _ _ _ (made l told));
       settles = λ left told between going.
           let goes = c.loop-telling.invariant.running.goes left told c.requires.fits.flat c.requires.fits.image c.requires.fits.matches in
           settles_on more (made goes.now.input goes.left_is) going;
@@ -74,22 +73,22 @@ loop-telling-preserved g c =
       sound = s.sound c.loop-telling.invariant.sound;
       unused = λ i le. unused i le ∙ c.loop-telling.invariant.unused i (omega (arith, le, grows));
       quiet = quiet_on _ _ _ _ _ _ _ s.causes.quiet c.in-Ok.ensures.cause.quiet c.loop-telling.invariant.quiet;
-      lines = lines_on c.args.image.now (kept_by c.loop-telling.board.rom) (kept_by c.step.new.self.rom) c.loop-telling.board.hart c.step.new.self.hart c.args.limit c.in-Ok.told more c.in-Ok.ensures.count grown;
+      lines = lines_on c.args.image.now (g.S.CacheRom.service.kept c.loop-telling.board.rom) (g.S.CacheRom.service.kept c.step.new.self.rom) c.loop-telling.board.hart c.step.new.self.hart c.args.limit c.in-Ok.told more c.in-Ok.ensures.count grown;
       tells = λ left told f image same.
           let goes = c.loop-telling.invariant.running.goes left told f image same in
-          let at = same_at c.args.image.now (kept_by c.loop-telling.board.rom) goes.now.machine c.loop-telling.board.hart.machine c.loop-telling.board.hart.control running goes.matches in
+          let at = same_at c.args.image.now (g.S.CacheRom.service.kept c.loop-telling.board.rom) goes.now.machine c.loop-telling.board.hart.machine c.loop-telling.board.hart.control running goes.matches in
           let here = now_at c.args.board.now.hart c.loop-telling.board.hart goes.now (started f left) (goes.now_is running) c.requires.first in
           let line = line_is (is_each c.args.telling) c.loop-telling.board.hart.machine goes.now.machine at.0 at.1 ∙ ap (λ (q : FlatState). told_line (is_each c.args.telling) q.machine) here in
           let tells = tells_as c.loop-telling.board.hart.machine.ending None (is_each c.args.telling) c.args.limit (started f left) c.loop-telling.board.hart.machine.steps c.loop-telling.lines (g.E.Sink.held c.args.err.now) (g.E.Sink.held c.loop-telling.err) c.loop-telling.last running (c.loop-telling.invariant.tells left told f image same) in
           let begun = begins (is_each c.args.telling) c.args.limit (started f left) c.loop-telling.board.hart.machine.steps c.loop-telling.lines c.loop-telling.board.hart.machine (g.E.Sink.held c.args.err.now) (g.E.Sink.held c.loop-telling.err) (g.E.Sink.held c.tell.new.err) c.loop-telling.last c.tell.new.history
           line (at.0 ∙ ap (λ (q : FlatState). q.machine.pc) here) tells c.in-Ok.ensures.line c.in-Ok.ensures.noted c.in-Ok.ensures.told in
-          let steps = same_steps c.args.image.now (kept_by c.loop-telling.board.rom) goes.now.machine c.loop-telling.board.hart.machine c.loop-telling.board.hart.control goes.matches in
-          let followed = subst (λ (q : FlatState). Followed c.args.image.now (kept_by c.step.new.self.rom) c.step.new.self.hart (next_made c.args.image.now c.loop-telling.board.hart.machine c.loop-telling.board.hart.control q.machine q.input)
+          let steps = same_steps c.args.image.now (g.S.CacheRom.service.kept c.loop-telling.board.rom) goes.now.machine c.loop-telling.board.hart.machine c.loop-telling.board.hart.control goes.matches in
+          let followed = subst (λ (q : FlatState). Followed c.args.image.now (g.S.CacheRom.service.kept c.step.new.self.rom) c.step.new.self.hart (next_made c.args.image.now c.loop-telling.board.hart.machine c.loop-telling.board.hart.control q.machine q.input)
           (g.I.Source.left c.step.new.input) (g.O.Sink.held c.loop-telling.out) (g.O.Sink.held c.step.new.out) (g.E.Sink.held c.tell.new.err) (g.E.Sink.held c.step.new.err)) here
           (s.follows c.loop-telling.invariant.sound goes.now.input goes.left_is goes.now.machine goes.image goes.matches) in
           subst (λ (n : ℕ). Tells c.step.new.self.hart.machine.ending (is_each c.args.telling) c.args.limit (started f left) c.step.new.self.hart.machine.steps n (g.E.Sink.held c.args.err.now) (g.E.Sink.held c.step.new.err) c.tell.new.history) (sym c.in-Ok.ensures.count)
           (goes_on (is_each c.args.telling) c.args.limit (started f left) c.loop-telling.board.hart.machine.steps (g.E.Sink.held c.args.err.now) (g.E.Sink.held c.tell.new.err) (g.E.Sink.held c.step.new.err) c.tell.new.history begun more
-          (ap (λ (q : FlatState). q.machine.ending) (sym here) ∙ sym steps.1 ∙ running) c.args.image.now (kept_by c.step.new.self.rom) c.loop-telling.board.hart c.step.new.self.hart _ _ _
+          (ap (λ (q : FlatState). q.machine.ending) (sym here) ∙ sym steps.1 ∙ running) c.args.image.now (g.S.CacheRom.service.kept c.step.new.self.rom) c.loop-telling.board.hart c.step.new.self.hart _ _ _
           (ap (λ (q : FlatState). q.machine.steps) (sym here) ∙ sym steps.0) followed);
     }
 
@@ -104,11 +103,11 @@ returns-in-Err-clause-broke g c = λ left told f image same.
     let more : c.loop-telling.board.hart.machine.steps < c.args.limit = omega (arith, c.loop-telling-test.true, c.steps.ensures) in
     let running : c.loop-telling.board.hart.machine.ending ≡ None = sym c.ending.ensures ∙ c.in-None.is in
     let goes = c.loop-telling.invariant.running.goes left told f image same in
-    let at = same_at c.args.image.now (kept_by c.loop-telling.board.rom) goes.now.machine c.loop-telling.board.hart.machine c.loop-telling.board.hart.control running goes.matches in
+    let at = same_at c.args.image.now (g.S.CacheRom.service.kept c.loop-telling.board.rom) goes.now.machine c.loop-telling.board.hart.machine c.loop-telling.board.hart.control running goes.matches in
     let here = now_at c.args.board.now.hart c.loop-telling.board.hart goes.now (started f left) (goes.now_is running) c.requires.first in
     let line = line_is (is_each c.args.telling) c.loop-telling.board.hart.machine goes.now.machine at.0 at.1 ∙ ap (λ (q : FlatState). told_line (is_each c.args.telling) q.machine) here in
     let tells = tells_as c.loop-telling.board.hart.machine.ending None (is_each c.args.telling) c.args.limit (started f left) c.loop-telling.board.hart.machine.steps c.loop-telling.lines (g.E.Sink.held c.args.err.now) (g.E.Sink.held c.loop-telling.err) c.loop-telling.last running (c.loop-telling.invariant.tells left told f image same) in
-    told_line_broke (is_each c.args.telling) (fifo (setting_of c.args.board.now.rom)) c.args.image.now c.args.limit (started f left) c.args.board.now.hart c.loop-telling.board.hart (kept_by c.args.board.now.rom) (kept_by c.loop-telling.board.rom) _ _ _ (g.E.Sink.held c.args.err.now) (g.E.Sink.held c.loop-telling.err) c.loop-telling.last goes more running c.requires.first refl
+    told_line_broke (is_each c.args.telling) (g.S.CacheRom.service.policy (g.S.CacheRom.service.setting c.args.board.now.rom)) c.args.image.now c.args.limit (started f left) c.args.board.now.hart c.loop-telling.board.hart (g.S.CacheRom.service.kept c.args.board.now.rom) (g.S.CacheRom.service.kept c.loop-telling.board.rom) _ _ _ (g.E.Sink.held c.args.err.now) (g.E.Sink.held c.loop-telling.err) c.loop-telling.last goes more running c.requires.first refl
     c.loop-telling.lines (g.E.Sink.held c.tell.new.err) c.in-Err.ensures.first tells line c.in-Err.ensures.front
 
 pub returns-in-Err-clause-causes : goal.returns-in-Err-clause-causes
@@ -117,7 +116,7 @@ returns-in-Err-clause-causes g c = causes_line _ _ _ _ _ _ c.loop-telling.invari
 pub returns-in_err-step-clause-kept : goal.returns-in_err-step-clause-kept
 returns-in_err-step-clause-kept g c =
     kept_both _ _ _ _ c.loop-telling.invariant.running.ram_ran.kept
-    (subst (λ (k : List ℕ). KeepsBeyond (span_of k) (g.R.CacheRam.state c.loop-telling.ram) (g.R.CacheRam.state c.step.new.ram)) c.loop-telling.invariant.setting c.in_err-step.ensures.kept)
+    (subst (λ (k : Setting). KeepsBeyond (g.S.CacheRom.service.span k) (g.R.CacheRam.state c.loop-telling.ram) (g.R.CacheRam.state c.step.new.ram)) c.loop-telling.invariant.setting c.in_err-step.ensures.kept)
 
 pub returns-in_err-step-clause-causes : goal.returns-in_err-step-clause-causes
 returns-in_err-step-clause-causes g c =
@@ -127,7 +126,7 @@ returns-in_err-step-clause-causes g c =
 pub returns-in-Some-ending-clause-ran : goal.returns-in-Some-ending-clause-ran
 returns-in-Some-ending-clause-ran g c = λ left told f image same.
     let ended : is_some c.loop-telling.board.hart.machine.ending ≡ true = ap (λ (e : Option End). is_some e) (sym c.ending.ensures ∙ c.in-Some-ending.is) in
-    told_run c.args.telling c.in-Some.last (sym c.in-Some.is ∙ c.requires.empty) (fifo (setting_of c.args.board.now.rom)) c.args.image.now (kept_by c.args.board.now.rom) c.args.limit (started f left) c.args.board.now.hart c.loop-telling.board.hart (kept_by c.loop-telling.board.rom) _ _ _ (g.E.Sink.held c.args.err.now) (g.E.Sink.held c.loop-telling.err) c.loop-telling.last
+    told_run c.args.telling c.in-Some.last (sym c.in-Some.is ∙ c.requires.empty) (g.S.CacheRom.service.policy (g.S.CacheRom.service.setting c.args.board.now.rom)) c.args.image.now (g.S.CacheRom.service.kept c.args.board.now.rom) c.args.limit (started f left) c.args.board.now.hart c.loop-telling.board.hart (g.S.CacheRom.service.kept c.loop-telling.board.rom) _ _ _ (g.E.Sink.held c.args.err.now) (g.E.Sink.held c.loop-telling.err) c.loop-telling.last
     (c.loop-telling.invariant.running.goes left told f image same) c.requires.first refl (inr ended)
     (all_told c.loop-telling.board.hart.machine.ending (is_each c.args.telling) c.args.limit c.loop-telling.board.hart.machine.steps c.loop-telling.lines (started f left) (g.E.Sink.held c.args.err.now) (g.E.Sink.held c.loop-telling.err) c.loop-telling.last (inr ended) c.loop-telling.invariant.lines (c.loop-telling.invariant.tells left told f image same))
 
@@ -135,7 +134,7 @@ pub returns-clause-ran : goal.returns-clause-ran
 returns-clause-ran g c = λ left told f image same.
     let least : c.args.limit ≤ c.loop-telling.board.hart.machine.steps = omega (arith, c.loop-telling-test.false, c.steps.ensures) in
     let most = c.loop-telling.invariant.running.steps in
-    told_run c.args.telling c.in-Some.last (sym c.in-Some.is ∙ c.requires.empty) (fifo (setting_of c.args.board.now.rom)) c.args.image.now (kept_by c.args.board.now.rom) c.args.limit (started f left) c.args.board.now.hart c.loop-telling.board.hart (kept_by c.loop-telling.board.rom) _ _ _ (g.E.Sink.held c.args.err.now) (g.E.Sink.held c.loop-telling.err) c.loop-telling.last
+    told_run c.args.telling c.in-Some.last (sym c.in-Some.is ∙ c.requires.empty) (g.S.CacheRom.service.policy (g.S.CacheRom.service.setting c.args.board.now.rom)) c.args.image.now (g.S.CacheRom.service.kept c.args.board.now.rom) c.args.limit (started f left) c.args.board.now.hart c.loop-telling.board.hart (g.S.CacheRom.service.kept c.loop-telling.board.rom) _ _ _ (g.E.Sink.held c.args.err.now) (g.E.Sink.held c.loop-telling.err) c.loop-telling.last
     (c.loop-telling.invariant.running.goes left told f image same) c.requires.first refl (inl least)
     (all_told c.loop-telling.board.hart.machine.ending (is_each c.args.telling) c.args.limit c.loop-telling.board.hart.machine.steps c.loop-telling.lines (started f left) (g.E.Sink.held c.args.err.now) (g.E.Sink.held c.loop-telling.err) c.loop-telling.last (inl (omega (arith, least, most))) c.loop-telling.invariant.lines (c.loop-telling.invariant.tells left told f image same))
 
@@ -147,14 +146,14 @@ returns-in_err-step-clause-broke g c =
     let running : c.loop-telling.board.hart.machine.ending ≡ None = sym c.ending.ensures ∙ c.in-None.is in
     rw (p.1, p.2) (with_device Unit (Option (List ℕ)) c.in_err-step.field-0.0 _ _ (s.broke c.loop-telling.invariant.sound) (λ step out. λ left told f image same.
     let goes = c.loop-telling.invariant.running.goes left told f image same in
-    let at = same_at c.args.image.now (kept_by c.loop-telling.board.rom) goes.now.machine c.loop-telling.board.hart.machine c.loop-telling.board.hart.control running goes.matches in
+    let at = same_at c.args.image.now (g.S.CacheRom.service.kept c.loop-telling.board.rom) goes.now.machine c.loop-telling.board.hart.machine c.loop-telling.board.hart.control running goes.matches in
     let here = now_at c.args.board.now.hart c.loop-telling.board.hart goes.now (started f left) (goes.now_is running) c.requires.first in
     let line = line_is (is_each c.args.telling) c.loop-telling.board.hart.machine goes.now.machine at.0 at.1 ∙ ap (λ (q : FlatState). told_line (is_each c.args.telling) q.machine) here in
     let tells = tells_as c.loop-telling.board.hart.machine.ending None (is_each c.args.telling) c.args.limit (started f left) c.loop-telling.board.hart.machine.steps c.loop-telling.lines (g.E.Sink.held c.args.err.now) (g.E.Sink.held c.loop-telling.err) c.loop-telling.last running (c.loop-telling.invariant.tells left told f image same) in
     let begun = begins (is_each c.args.telling) c.args.limit (started f left) c.loop-telling.board.hart.machine.steps c.loop-telling.lines c.loop-telling.board.hart.machine (g.E.Sink.held c.args.err.now) (g.E.Sink.held c.loop-telling.err) (g.E.Sink.held c.tell.new.err) c.loop-telling.last c.tell.new.history
     line (at.0 ∙ ap (λ (q : FlatState). q.machine.pc) here) tells c.in-Ok.ensures.line c.in-Ok.ensures.noted c.in-Ok.ensures.told in
-    let steps = same_steps c.args.image.now (kept_by c.loop-telling.board.rom) goes.now.machine c.loop-telling.board.hart.machine c.loop-telling.board.hart.control goes.matches in
-    out _ (told_device (is_each c.args.telling) (fifo (setting_of c.args.board.now.rom)) c.args.image.now c.args.limit (started f left) c.args.board.now.hart c.loop-telling.board.hart (kept_by c.args.board.now.rom) (kept_by c.loop-telling.board.rom) _ _ _ (g.E.Sink.held c.args.err.now) (g.E.Sink.held c.tell.new.err) c.tell.new.history goes more running c.requires.first refl
+    let steps = same_steps c.args.image.now (g.S.CacheRom.service.kept c.loop-telling.board.rom) goes.now.machine c.loop-telling.board.hart.machine c.loop-telling.board.hart.control goes.matches in
+    out _ (told_device (is_each c.args.telling) (g.S.CacheRom.service.policy (g.S.CacheRom.service.setting c.args.board.now.rom)) c.args.image.now c.args.limit (started f left) c.args.board.now.hart c.loop-telling.board.hart (g.S.CacheRom.service.kept c.args.board.now.rom) (g.S.CacheRom.service.kept c.loop-telling.board.rom) _ _ _ (g.E.Sink.held c.args.err.now) (g.E.Sink.held c.tell.new.err) c.tell.new.history goes more running c.requires.first refl
     c.in-Ok.ensures.word begun c.step.new.self.hart c.step.new.self.hart.machine.bus _ _ _ s.stopped {T = Option (List ℕ)} (Err c.in_err-step.field-0.0) (to_device {T = Option (List ℕ)} (Err c.in_err-step.field-0.0) _ (step goes.now.input goes.left_is)) (λ e. s.unwritten (fault_as {S = Option (List ℕ)} {T = Unit} c.in_err-step.field-0.0 SourceFault e)))))
 
 pub returns-in_err-step-clause-ram_broke : goal.returns-in_err-step-clause-ram_broke
@@ -166,16 +165,16 @@ returns-in_err-step-clause-ram_broke g c =
     let more : c.loop-telling.board.hart.machine.steps < c.args.limit = omega (arith, c.loop-telling-test.true, c.steps.ensures) in
     let running : c.loop-telling.board.hart.machine.ending ≡ None = sym c.ending.ensures ∙ c.in-None.is in
     let goes = c.loop-telling.invariant.running.goes left told f image same in
-    let at = same_at c.args.image.now (kept_by c.loop-telling.board.rom) goes.now.machine c.loop-telling.board.hart.machine c.loop-telling.board.hart.control running goes.matches in
+    let at = same_at c.args.image.now (g.S.CacheRom.service.kept c.loop-telling.board.rom) goes.now.machine c.loop-telling.board.hart.machine c.loop-telling.board.hart.control running goes.matches in
     let here = now_at c.args.board.now.hart c.loop-telling.board.hart goes.now (started f left) (goes.now_is running) c.requires.first in
     let line = line_is (is_each c.args.telling) c.loop-telling.board.hart.machine goes.now.machine at.0 at.1 ∙ ap (λ (q : FlatState). told_line (is_each c.args.telling) q.machine) here in
     let tells = tells_as c.loop-telling.board.hart.machine.ending None (is_each c.args.telling) c.args.limit (started f left) c.loop-telling.board.hart.machine.steps c.loop-telling.lines (g.E.Sink.held c.args.err.now) (g.E.Sink.held c.loop-telling.err) c.loop-telling.last running (c.loop-telling.invariant.tells left told f image same) in
     let begun = begins (is_each c.args.telling) c.args.limit (started f left) c.loop-telling.board.hart.machine.steps c.loop-telling.lines c.loop-telling.board.hart.machine (g.E.Sink.held c.args.err.now) (g.E.Sink.held c.loop-telling.err) (g.E.Sink.held c.tell.new.err) c.loop-telling.last c.tell.new.history
     line (at.0 ∙ ap (λ (q : FlatState). q.machine.pc) here) tells c.in-Ok.ensures.line c.in-Ok.ensures.noted c.in-Ok.ensures.told in
-    let steps = same_steps c.args.image.now (kept_by c.loop-telling.board.rom) goes.now.machine c.loop-telling.board.hart.machine c.loop-telling.board.hart.control goes.matches in
+    let steps = same_steps c.args.image.now (g.S.CacheRom.service.kept c.loop-telling.board.rom) goes.now.machine c.loop-telling.board.hart.machine c.loop-telling.board.hart.control goes.matches in
     let still = s.others_stay e in
     let counted : c.step.new.self.hart.machine.steps ≡ c.loop-telling.board.hart.machine.steps = ap (λ (k : HartData). k.machine.steps) s.stopped in
-    let off = ram_off (fifo (setting_of c.args.board.now.rom)) c.args.image.now c.args.limit _ (started f left) c.args.board.now.hart c.loop-telling.board.hart c.step.new.self.hart (kept_by c.args.board.now.rom) (kept_by c.loop-telling.board.rom) (g.I.Source.left c.loop-telling.input) (g.O.Sink.held c.args.out.now) (g.O.Sink.held c.loop-telling.out)
+    let off = ram_off (g.S.CacheRom.service.policy (g.S.CacheRom.service.setting c.args.board.now.rom)) c.args.image.now c.args.limit _ (started f left) c.args.board.now.hart c.loop-telling.board.hart c.step.new.self.hart (g.S.CacheRom.service.kept c.args.board.now.rom) (g.S.CacheRom.service.kept c.loop-telling.board.rom) (g.I.Source.left c.loop-telling.input) (g.O.Sink.held c.args.out.now) (g.O.Sink.held c.loop-telling.out)
     (g.R.CacheRam.state c.args.ram.now) (g.R.CacheRam.state c.loop-telling.ram) (g.R.CacheRam.state c.step.new.ram) goes more running c.in-Ok.ensures.word counted c.loop-telling.invariant.running.ram_ran.fetches (s.ram_failed e) c.requires.first in
     let whole = told_ram (is_each c.args.telling) c.args.image.now c.args.limit (started f left) c.args.board.now.hart c.step.new.self.hart (g.R.CacheRam.state c.args.ram.now) (g.R.CacheRam.state c.step.new.ram) (g.I.Source.left c.loop-telling.input) (g.O.Sink.held c.args.out.now) (g.O.Sink.held c.loop-telling.out)
     (g.E.Sink.held c.args.err.now) (g.E.Sink.held c.tell.new.err) goes.now c.loop-telling.board.hart.machine.steps c.tell.new.history off c.requires.first counted here (ap (λ (q : FlatState). q.machine.ending) (sym here) ∙ sym steps.1 ∙ running) refl begun in
@@ -188,7 +187,7 @@ returns-in_err-step-clause-ram_broke g c =
 pub returns-in_default-clause-ran : goal.returns-in_default-clause-ran
 returns-in_default-clause-ran g c = λ left told f image same.
     quiet_run c.args.telling (nothing_told c.args.telling (sym c.in_default.is ∙ c.requires.empty)) c.args.image.now c.args.limit (started f left) c.args.board.now.hart c.run.new.self.hart (g.I.Source.left c.run.new.input) (g.O.Sink.held c.args.out.now) (g.O.Sink.held c.run.new.out) (g.E.Sink.held c.args.err.now) (g.E.Sink.held c.run.new.err) c.requires.first
-    (fifo (setting_of c.args.board.now.rom)) (kept_by c.args.board.now.rom) (kept_by c.run.new.self.rom) (c.in_ok-run.ensures.ran left told f image same)
+    (g.S.CacheRom.service.policy (g.S.CacheRom.service.setting c.args.board.now.rom)) (g.S.CacheRom.service.kept c.args.board.now.rom) (g.S.CacheRom.service.kept c.run.new.self.rom) (c.in_ok-run.ensures.ran left told f image same)
 
 pub returns-in_default-clause-causes : goal.returns-in_default-clause-causes
 returns-in_default-clause-causes g c = causes_none _ _ _ c.in_ok-run.ensures.causes.quiet

@@ -3,10 +3,7 @@ use Rattle.swi_memory.specs.Bus.{fetched}
 use Rattle.swi_calls.specs.declared.machine.Machine.{Machine}
 use Rattle.swi_calls.specs.Flat.{started}
 use Rattle.swi_render.specs.Carried.{Carries}
-use Rattle.swi_rom.specs.Fifo.{fifo, extent_of}
 use Rattle.swi_rom.specs.Served.{SameFrom}
-use Rattle.swi_rom.specs.Slots.{kept_by, setting_of, span_of}
-use Rattle.swi_rom.specs.Sound.{SlotsSound}
 use Rattle.swi_hart.specs.Matching.{Matches}
 use Rattle.swi_hart.specs.Hart.{is_between}
 use Rattle.swi_hart.specs.Faults.{Faults}
@@ -20,22 +17,22 @@ abbrev pub invariant-loop-telling : goal.invariant-loop-telling
 invariant-loop-telling g l = record {
   running : Running
       (record {
-        policy = fifo (setting_of l.fn.board.rom);
+        policy = g.S.CacheRom.service.policy (g.S.CacheRom.service.setting l.fn.board.rom);
         image = l.image;
         limit = l.limit;
-        span = span_of (setting_of l.fn.board.rom);
-        from = point l.fn.board.hart (kept_by l.fn.board.rom) (g.R.CacheRam.state l.fn.ram) (g.I.Source.left l.fn.input) (g.O.Sink.held l.fn.out) None;
+        span = g.S.CacheRom.service.span (g.S.CacheRom.service.setting l.fn.board.rom);
+        from = point l.fn.board.hart (g.S.CacheRom.service.kept l.fn.board.rom) (g.R.CacheRam.state l.fn.ram) (g.I.Source.left l.fn.input) (g.O.Sink.held l.fn.out) None;
       })
-      (point l.board.hart (kept_by l.board.rom) (g.R.CacheRam.state l.ram) (g.I.Source.left l.input) (g.O.Sink.held l.out) None);
+      (point l.board.hart (g.S.CacheRom.service.kept l.board.rom) (g.R.CacheRam.state l.ram) (g.I.Source.left l.input) (g.O.Sink.held l.out) None);
   settles : (left : List ℕ) → g.I.Source.left l.fn.input ≡ Some left → is_between l.fn.board.hart.control ≡ true → l.board.hart.machine.ending ≡ None →
       (l.board.hart.machine.steps < l.limit) ⊎ (is_between l.board.hart.control ≡ true);
-  setting : setting_of l.board.rom ≡ setting_of l.fn.board.rom;
-  sound : SlotsSound l.board.rom l.image (g.R.CacheRam.state l.ram).words;
-  unused : SameFrom (extent_of (setting_of l.fn.board.rom) (kept_by l.board.rom)) (g.R.CacheRam.state l.fn.ram).words (g.R.CacheRam.state l.ram).words;
+  setting : g.S.CacheRom.service.setting l.board.rom ≡ g.S.CacheRom.service.setting l.fn.board.rom;
+  sound : g.S.CacheRom.service.sound l.board.rom l.image (g.R.CacheRam.state l.ram).words;
+  unused : SameFrom (g.S.CacheRom.service.extent (g.S.CacheRom.service.setting l.fn.board.rom) (g.S.CacheRom.service.kept l.board.rom)) (g.R.CacheRam.state l.fn.ram).words (g.R.CacheRam.state l.ram).words;
   quiet : ◌≡◌ {A = Faults} (record { ram = (g.R.CacheRam.state l.ram).faults; input = g.I.Source.faults l.input; out = g.O.Sink.faults l.out; err = g.E.Sink.faults l.err })
       (record { ram = (g.R.CacheRam.state l.fn.ram).faults; input = g.I.Source.faults l.fn.input; out = g.O.Sink.faults l.fn.out; err = g.E.Sink.faults l.fn.err });
   lines : (l.lines ≡ l.board.hart.machine.steps) ⊎ ((l.lines ≡ l.board.hart.machine.steps + 1) × ((l.board.hart.machine.steps < l.limit) ⊎ (is_some l.board.hart.machine.ending ≡ true)));
-  tells : (left : List ℕ) → g.I.Source.left l.fn.input ≡ Some left → (f : Machine) → Carries (fetched f.bus) l.image → Matches l.image (kept_by l.fn.board.rom) f l.fn.board.hart.machine l.fn.board.hart.control →
+  tells : (left : List ℕ) → g.I.Source.left l.fn.input ≡ Some left → (f : Machine) → Carries (fetched f.bus) l.image → Matches l.image (g.S.CacheRom.service.kept l.fn.board.rom) f l.fn.board.hart.machine l.fn.board.hart.control →
       Tells l.board.hart.machine.ending (is_each l.telling) l.limit (started f left) l.board.hart.machine.steps l.lines (g.E.Sink.held l.fn.err) (g.E.Sink.held l.err) l.last;
 }
 

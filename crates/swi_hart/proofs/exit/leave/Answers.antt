@@ -1,6 +1,6 @@
 use Rattle.std.proofs.Common.{arith, refl, sym, subst}
 use Rattle.swi_rom.specs.Coherent.{TargetAt}
-use Rattle.swi_hart.proofs.Falls.{ram_same}
+use Rattle.swi_hart.proofs.Falls.{ram_same, words_same}
 use Rattle.swi_hart.proofs.Leaving.{by_error, served_at, served_outside, served_not, exit_unlinked, jump_linked, link_target}
 use Rattle.swi_hart.proofs.exit.leave.Goals as goal
 
@@ -8,22 +8,23 @@ pub returns-then-got-ne-EBREAK-clause-control : goal.returns-then-got-ne-EBREAK-
 returns-then-got-ne-EBREAK-clause-control g c =
     let s = c.requires.sound in
     let v = c.args.image.now in
-    let r = g.R.CacheRom.kept c.args.rom.now in
-    let coherent = g.met.R.CacheRom.coherent _ _ _ s in
-    let to = link_target v r _ _ c.args.got c.args.at.0 c.args.at.1 c.args.at.2 c.jump_index.result coherent (g.met.R.CacheRom.image _ _ _ s) (g.met.R.CacheRom.small _ _ _ s)
+    let r = g.R.CacheRom.service.kept c.args.rom.now in
+    let coherent = g.met.R.CacheRom.laws.coherent _ _ _ s in
+    let to = link_target v r _ _ c.args.got c.args.at.0 c.args.at.1 c.args.at.2 c.jump_index.result coherent (g.met.R.CacheRom.laws.image _ _ _ s) (g.met.R.CacheRom.laws.small _ _ _ s)
     c.requires.exit c.if-got-ne-EBREAK.true (λ n jumps. c.jump_index.ensures n c.args.got jumps c.requires.offset) in
     c.control_at.ensures v _ c.args.target s (subst (λ n. TargetAt v r n c.jump_index.result) (sym c.requires.target) to)
 
 pub returns-then-got-ne-EBREAK-clause-served : goal.returns-then-got-ne-EBREAK-clause-served
 returns-then-got-ne-EBREAK-clause-served g c =
     let s = c.requires.sound in
-    let linked = jump_linked _ _ _ _ c.args.got c.args.at.0 c.args.at.1 c.args.at.2 (g.met.R.CacheRom.coherent _ _ _ s) c.requires.exit c.if-got-ne-EBREAK.true in
+    let linked = jump_linked _ _ _ _ c.args.got c.args.at.0 c.args.at.1 c.args.at.2 (g.met.R.CacheRom.laws.coherent _ _ _ s) c.requires.exit c.if-got-ne-EBREAK.true in
     record {
-      policy = sym (g.met.R.CacheRom.first _ _ _ _ _ _ linked);
+      policy = sym (g.met.R.CacheRom.laws.link_stays _ _ _ _ _ _ linked);
       setting = refl;
-      sound = s;
+      sound = (s, λ images serves. serves);
       unused = λ i le. refl;
-      ram = ram_same _ (g.R.CacheRom.kept c.args.rom.now) _;
+      words = words_same _ (g.R.CacheRom.service.kept c.args.rom.now) _ _ refl;
+      ram = ram_same _ (g.R.CacheRom.service.kept c.args.rom.now) _;
       failed = tt;
       placed = tt;
     }
@@ -37,7 +38,7 @@ cross-requires-clause-exit g c =
       first = e.first;
       is_placed = e.is_placed;
       index = e.index;
-      not_linked = exit_unlinked _ _ _ _ _ _ _ _ (g.met.R.CacheRom.coherent _ _ _ c.requires.sound) e c.if-got-ne-EBREAK.false;
+      not_linked = exit_unlinked _ _ _ _ _ _ _ _ (g.met.R.CacheRom.laws.coherent _ _ _ c.requires.sound) e c.if-got-ne-EBREAK.false;
       is_exit = record { inside = e.inside; leaves = e.leaves; direct = e.is_direct };
       descriptor = c.requires.target;
     }
@@ -52,7 +53,7 @@ pub returns-in-Ok-clause-served : goal.returns-in-Ok-clause-served
 returns-in-Ok-clause-served g c =
     let e = c.requires.exit in
     let q = c.in-Ok.ensures in
-    served_at q.setting _ _ (q.served c.args.at.1 c.args.at.2 e.first e.is_placed (omega (arith, e.inside)) e.index) q.unused q.stays
+    served_at q.setting _ _ (q.served c.args.at.1 c.args.at.2 e.first e.is_placed (omega (arith, e.inside)) e.index) q.unused (q.stays, q.keeps)
 
 pub returns-in-Err-Outside : goal.returns-in-Err-Outside
 returns-in-Err-Outside g c =
@@ -61,7 +62,8 @@ returns-in-Err-Outside g c =
     let s = by_error c.in-Err-Outside.field-0-is (q.served c.args.at.1 c.args.at.2 e.first e.is_placed (omega (arith, e.inside)) e.index) in
     let unused = rw c.in-Err-Outside.field-0-is at q.unused in
     let stays = rw c.in-Err-Outside.field-0-is at q.stays in
-    record { control = s.outside refl; served = served_outside q.setting _ s unused stays }
+    let keeps = rw c.in-Err-Outside.field-0-is at q.keeps in
+    record { control = s.outside refl; served = served_outside q.setting _ s unused (stays, keeps) }
 
 pub returns-in-Err-RamFault-clause-served : goal.returns-in-Err-RamFault-clause-served
 returns-in-Err-RamFault-clause-served g c =

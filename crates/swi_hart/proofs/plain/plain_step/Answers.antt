@@ -7,7 +7,7 @@ use Rattle.swi_hart.specs.Leaving.{broken}
 use Rattle.swi_hart.proofs.Answered.{ram_stopped}
 use Rattle.swi_hart.proofs.Causing.{causes_none}
 use Rattle.swi_hart.proofs.Exchanging.{plain_home, put_back, own_word, plain_below, plain_held, no_call, made_plain, fits_plain, grown_plain, executes_plain, whole_plain, same_at, stage_same}
-use Rattle.swi_hart.proofs.Falls.{ram_same}
+use Rattle.swi_hart.proofs.Falls.{ram_same, words_same}
 use Rattle.swi_hart.proofs.Fetching.{offset_small, word_moves}
 use Rattle.swi_hart.proofs.Steps.{ram_exit, ram_unfetched}
 use Rattle.swi_hart.proofs.plain.plain_step.Goals as goal
@@ -15,12 +15,12 @@ use Rattle.swi_hart.proofs.plain.plain_step.Goals as goal
 pub returns-in-Err : goal.returns-in-Err
 returns-in-Err g c =
     let v = c.args.image.now in
-    let r = g.R.CacheRom.kept c.args.rom.now in
+    let r = g.R.CacheRom.service.kept c.args.rom.now in
     let h = c.args.hart.now in
     let ram = g.M.CacheRam.state c.args.ram.now in
-    let span = g.R.CacheRom.span (g.R.CacheRom.setting c.args.rom.now) in
-    let sound = λ (ws : List ℕ). g.R.CacheRom.sound c.args.rom.now v ws in
-    let coherent = λ (ws : List ℕ) (s : g.R.CacheRom.sound c.args.rom.now v ws). g.met.R.CacheRom.coherent c.args.rom.now v ws s in
+    let span = g.R.CacheRom.service.span (g.R.CacheRom.service.setting c.args.rom.now) in
+    let sound = λ (ws : List ℕ). g.R.CacheRom.service.sound c.args.rom.now v ws in
+    let coherent = λ (ws : List ℕ) (s : g.R.CacheRom.service.sound c.args.rom.now v ws). g.met.R.CacheRom.laws.coherent c.args.rom.now v ws s in
     let plain = ap (λ (w : ℕ). is_plain (decoded w)) (sym c.requires.own) ∙ c.requires.plain in
     let below = plain_below v r h.machine span ram.words c.args.at.0 c.args.at.1 c.args.at.2 c.args.at.3 sound coherent c.requires.home h.control c.requires.control plain c.requires.sound in
     let failed = ram_unfetched v h.machine h.control _ c.args.at.0 c.args.at.1 c.args.at.2 c.args.at.3 _ _ c.requires.control below c.in-Err.ensures.fetched in
@@ -29,35 +29,35 @@ returns-in-Err g c =
 pub run_word-requires : goal.run_word-requires
 run_word-requires g c =
     let v = c.args.image.now in
-    let r = g.R.CacheRom.kept c.args.rom.now in
+    let r = g.R.CacheRom.service.kept c.args.rom.now in
     let h = c.args.hart.now in
     let ram = g.M.CacheRam.state c.args.ram.now in
-    let span = g.R.CacheRom.span (g.R.CacheRom.setting c.args.rom.now) in
-    let sound = λ (ws : List ℕ). g.R.CacheRom.sound c.args.rom.now v ws in
-    let coherent = λ (ws : List ℕ) (s : g.R.CacheRom.sound c.args.rom.now v ws). g.met.R.CacheRom.coherent c.args.rom.now v ws s in
+    let span = g.R.CacheRom.service.span (g.R.CacheRom.service.setting c.args.rom.now) in
+    let sound = λ (ws : List ℕ). g.R.CacheRom.service.sound c.args.rom.now v ws in
+    let coherent = λ (ws : List ℕ) (s : g.R.CacheRom.service.sound c.args.rom.now v ws). g.met.R.CacheRom.laws.coherent c.args.rom.now v ws s in
     let plain = ap (λ (w : ℕ). is_plain (decoded w)) (sym c.requires.own) ∙ c.requires.plain in
     let below = plain_below v r h.machine span ram.words c.args.at.0 c.args.at.1 c.args.at.2 c.args.at.3 sound coherent c.requires.home h.control c.requires.control plain c.requires.sound in
     let put = put_back v r h.machine span ram.words c.args.at.0 c.args.at.1 c.args.at.2 c.args.at.3 sound coherent c.requires.home h.control c.requires.control plain c.requires.sound in
-    let small = g.met.R.CacheRom.small _ _ _ put in
+    let small = g.met.R.CacheRom.laws.small _ _ _ put in
     record {
       running = c.requires.ready.running;
       few = c.requires.ready.few;
       count = c.requires.ready.count;
       control = c.requires.control;
       small = omega (arith, below, small);
-      inside = offset_small v r h.machine _ _ c.args.at.0 c.args.at.1 c.args.at.2 c.args.at.3 (coherent _ put) c.requires.home (g.met.R.CacheRom.image _ _ _ put);
+      inside = offset_small v r h.machine _ _ c.args.at.0 c.args.at.1 c.args.at.2 c.args.at.3 (coherent _ put) c.requires.home (g.met.R.CacheRom.laws.image _ _ _ put);
     }
 
 pub returns : goal.returns
 returns g c =
     let v = c.args.image.now in
-    let r = g.R.CacheRom.kept c.args.rom.now in
+    let r = g.R.CacheRom.service.kept c.args.rom.now in
     let h = c.args.hart.now in
     let ram = g.M.CacheRam.state c.args.ram.now in
-    let span = g.R.CacheRom.span (g.R.CacheRom.setting c.args.rom.now) in
-    let sound = λ (ws : List ℕ). g.R.CacheRom.sound c.args.rom.now v ws in
-    let coherent = λ (ws : List ℕ) (s : g.R.CacheRom.sound c.args.rom.now v ws). g.met.R.CacheRom.coherent c.args.rom.now v ws s in
-    let policy = g.R.CacheRom.policy (g.R.CacheRom.setting c.args.rom.now) in
+    let span = g.R.CacheRom.service.span (g.R.CacheRom.service.setting c.args.rom.now) in
+    let sound = λ (ws : List ℕ). g.R.CacheRom.service.sound c.args.rom.now v ws in
+    let coherent = λ (ws : List ℕ) (s : g.R.CacheRom.service.sound c.args.rom.now v ws). g.met.R.CacheRom.laws.coherent c.args.rom.now v ws s in
+    let policy = g.R.CacheRom.service.policy (g.R.CacheRom.service.setting c.args.rom.now) in
     let plain = ap (λ (w : ℕ). is_plain (decoded w)) (sym c.requires.own) ∙ c.requires.plain in
     let held = plain_held v r h.machine span ram.words c.args.at.0 c.args.at.1 c.args.at.2 c.args.at.3 sound coherent c.requires.home h.control c.requires.control plain c.requires.sound in
     let held_is = sym c.in-Some-Some.is-1 ∙ c.decode-2.ensures ∙ ap decoded c.in-Ok.ensures.fetched.0 in
@@ -75,8 +75,9 @@ returns g c =
         counted = record { count = ap (λ (k : HartData). k.count) ran; failed = ap (λ (k : HartData). k.failed) ran; booted = ap (λ (k : HartData). k.booted) ran };
         policy = rw c.requires.control (word_moves v r h.machine c.args.at.0 c.args.at.1 c.args.at.2 c.args.at.3 policy r w);
         setting = refl;
-        sound = λ s. rw fetched s;
+        sound = λ s. (rw fetched s, λ images serves. rw fetched serves);
         unused = λ i le. ap (λ (k : RamState). slice_index k.words i) fetched;
+        words = words_same v r ram _ (ap (λ (k : RamState). k.words) fetched);
         ram = ram_exit _ _ c.args.at.0 c.args.at.1 c.args.at.2 c.args.at.3 h.control _ _ _ c.requires.control below fetched same;
         grown = λ s. grown_plain v r h c.run_word.new.hart ram.words c.args.at.0 c.args.at.1 c.args.at.2 c.args.at.3 c.requires.home c.requires.control plain c.in-Some-Some.image_word c.in-Some-Some.x c.role-role.result own_is held_is c.role-role.ensures ((c.run_word.ensures.ran runs).ran) (own_word v r h.machine span ram.words c.args.at.0 c.args.at.1 c.args.at.2 c.args.at.3 sound coherent c.requires.home h.control c.requires.control plain s) (sym c.requires.ready.running);
         stopped = tt;

@@ -8,7 +8,7 @@ use Rattle.swi_hart.specs.Hart.{HartData, exit_kind, original}
 use Rattle.swi_hart.specs.Leaving.{exit_transfer, quick_role, broken}
 use Rattle.swi_hart.proofs.Answered.{ram_stopped}
 use Rattle.swi_hart.proofs.Causing.{causes_none, causes_answer, on_device, source_failed, ram_unfailed}
-use Rattle.swi_hart.proofs.Falls.{ram_same}
+use Rattle.swi_hart.proofs.Falls.{ram_same, words_same, words_after}
 use Rattle.swi_hart.proofs.Fetching.{got_some, index_below, exit_home, word_home, exit_moves, word_moves}
 use Rattle.swi_hart.proofs.Grown.{grown_exit, grown_word, moved_services}
 use Rattle.swi_hart.proofs.Steps.{made_exit, fits_exit, made_word, fits_word, exit_placed, broken_word, ram_exit, ram_unserved, kept_after}
@@ -16,27 +16,27 @@ use Rattle.swi_hart.proofs.quick.at_word.Goals as goal
 
 pub unreachable-requires : goal.unreachable-requires
 unreachable-requires g c =
-    got_some c.args.image.now (g.R.CacheRom.kept c.args.rom.now) c.args.hart.now.machine _ _ c.args.at.0 c.args.at.1 c.args.at.2 c.args.at.3
-    (g.met.R.CacheRom.coherent _ _ _ c.requires.sound) c.requires.home c.args.got c.requires.got (sym c.in_default.is ∙ c.decode.ensures)
+    got_some c.args.image.now (g.R.CacheRom.service.kept c.args.rom.now) c.args.hart.now.machine _ _ c.args.at.0 c.args.at.1 c.args.at.2 c.args.at.3
+    (g.met.R.CacheRom.laws.coherent _ _ _ c.requires.sound) c.requires.home c.args.got c.requires.got (sym c.in_default.is ∙ c.decode.ensures)
 
 pub exit_step-requires-clause-home : goal.exit_step-requires-clause-home
 exit_step-requires-clause-home g c =
-    exit_home c.args.image.now (g.R.CacheRom.kept c.args.rom.now) c.args.hart.now.machine _ _ c.args.at.0 c.args.at.1 c.args.at.2 c.args.at.3
-    (g.met.R.CacheRom.coherent _ _ _ c.requires.sound) c.requires.home c.args.got c.in-Some.x c.requires.got (sym c.in-Some.is ∙ c.decode.ensures) (sym c.leaves.ensures ∙ c.if-leaves.true)
+    exit_home c.args.image.now (g.R.CacheRom.service.kept c.args.rom.now) c.args.hart.now.machine _ _ c.args.at.0 c.args.at.1 c.args.at.2 c.args.at.3
+    (g.met.R.CacheRom.laws.coherent _ _ _ c.requires.sound) c.requires.home c.args.got c.in-Some.x c.requires.got (sym c.in-Some.is ∙ c.decode.ensures) (sym c.leaves.ensures ∙ c.if-leaves.true)
 
 pub returns-in-Ok : goal.returns-in-Ok
 returns-in-Ok g c = λ before fetched.
     let v = c.args.image.now in
-    let r = g.R.CacheRom.kept c.args.rom.now in
-    let new = g.R.CacheRom.kept c.exit_step.new.rom in
+    let r = g.R.CacheRom.service.kept c.args.rom.now in
+    let new = g.R.CacheRom.service.kept c.exit_step.new.rom in
     let h = c.args.hart.now in
-    let policy = g.R.CacheRom.policy (g.R.CacheRom.setting c.args.rom.now) in
-    let coherent = g.met.R.CacheRom.coherent _ _ _ c.requires.sound in
+    let policy = g.R.CacheRom.service.policy (g.R.CacheRom.service.setting c.args.rom.now) in
+    let coherent = g.met.R.CacheRom.laws.coherent _ _ _ c.requires.sound in
     let e = exit_home v r h.machine _ _ c.args.at.0 c.args.at.1 c.args.at.2 c.args.at.3
     coherent c.requires.home c.args.got c.in-Some.x c.requires.got (sym c.in-Some.is ∙ c.decode.ensures) (sym c.leaves.ensures ∙ c.if-leaves.true) in
     let below = index_below v r h.machine _ _ c.args.at.0 c.args.at.1 c.args.at.2 c.args.at.3 coherent c.requires.home in
     let s = c.in-Ok.ensures in
-    let more = moved_services policy (λ r v t. g.met.R.CacheRom.second (g.R.CacheRom.setting c.args.rom.now) r v t) r new v
+    let more = moved_services policy (λ r v t. g.met.R.CacheRom.laws.one_service (g.R.CacheRom.service.setting c.args.rom.now) r v t) r new v
     (exit_transfer (exit_kind (word_at v c.args.at.1 (c.args.at.2 + 1))) v h.machine c.args.at.1 c.args.at.2) s.served.policy in
     record {
       made = λ sound left told. made_exit v r new h c.exit_step.new.hart c.args.at.0 c.args.at.1 c.args.at.2 c.args.at.3 c.requires.control left _ _ _ e s.step s.counted told;
@@ -44,8 +44,9 @@ returns-in-Ok g c = λ before fetched.
       counted = s.counted;
       policy = rw c.requires.control (exit_moves v new h.machine c.args.at.0 c.args.at.1 c.args.at.2 c.args.at.3 policy r e s.served.policy);
       setting = s.served.setting;
-      sound = λ sound. s.served.sound;
+      sound = λ sound. (s.served.sound.0, λ images serves. s.served.sound.1 images (subst (λ (k : List ℕ). g.R.CacheRom.service.serves c.args.rom.now v images k) (sym (ap (λ (k : RamState). k.words) fetched.1)) serves));
       unused = λ j le. s.served.unused j le ∙ ap (λ (k : RamState). slice_index k.words j) fetched.1;
+      words = words_after v r new before _ _ (ap (λ (k : RamState). k.words) fetched.1) s.served.words;
       ram = ram_exit _ _ c.args.at.0 c.args.at.1 c.args.at.2 c.args.at.3 h.control before _ _ c.requires.control below fetched.1 s.served.ram;
       grown = λ sound. grown_exit v r new h c.exit_step.new.hart c.args.at.0 c.args.at.1 c.args.at.2 c.args.at.3 c.requires.control (sym c.requires.ready.running) e s.step s.counted more;
       stopped = tt;
@@ -60,9 +61,9 @@ returns-in-Ok g c = λ before fetched.
 pub returns-in-Err : goal.returns-in-Err
 returns-in-Err g c = λ before fetched.
     let v = c.args.image.now in
-    let r = g.R.CacheRom.kept c.args.rom.now in
+    let r = g.R.CacheRom.service.kept c.args.rom.now in
     let h = c.args.hart.now in
-    let coherent = g.met.R.CacheRom.coherent _ _ _ c.requires.sound in
+    let coherent = g.met.R.CacheRom.laws.coherent _ _ _ c.requires.sound in
     let e = exit_home v r h.machine _ _ c.args.at.0 c.args.at.1 c.args.at.2 c.args.at.3
     coherent c.requires.home c.args.got c.in-Some.x c.requires.got (sym c.in-Some.is ∙ c.decode.ensures) (sym c.leaves.ensures ∙ c.if-leaves.true) in
     let below = index_below v r h.machine _ _ c.args.at.0 c.args.at.1 c.args.at.2 c.args.at.3 coherent c.requires.home in
@@ -74,13 +75,13 @@ returns-in-Err g c = λ before fetched.
 pub returns-in-Ok-role_step : goal.returns-in-Ok-role_step
 returns-in-Ok-role_step g c = λ before fetched.
     let v = c.args.image.now in
-    let r = g.R.CacheRom.kept c.args.rom.now in
+    let r = g.R.CacheRom.service.kept c.args.rom.now in
     let h = c.args.hart.now in
-    let coherent = g.met.R.CacheRom.coherent _ _ _ c.requires.sound in
+    let coherent = g.met.R.CacheRom.laws.coherent _ _ _ c.requires.sound in
     let w = word_home v r h.machine _ _ c.args.at.0 c.args.at.1 c.args.at.2 c.args.at.3
     coherent c.requires.home c.args.got c.in-Some.x c.requires.got (sym c.in-Some.is ∙ c.decode.ensures) (sym c.leaves.ensures ∙ c.if-leaves.false) in
     let below = index_below v r h.machine _ _ c.args.at.0 c.args.at.1 c.args.at.2 c.args.at.3 coherent c.requires.home in
-    let same = ram_same (g.R.CacheRom.span (g.R.CacheRom.setting c.args.rom.now)) r (g.M.CacheRam.state c.args.ram.now) in
+    let same = ram_same (g.R.CacheRom.service.span (g.R.CacheRom.service.setting c.args.rom.now)) r (g.M.CacheRam.state c.args.ram.now) in
     let s = c.in-Ok-role_step.ensures in
     let grows = grown_word v r r h c.role_step.new.hart c.args.at.0 c.args.at.1 c.args.at.2 c.args.at.3 c.requires.control
     (sym c.requires.ready.running) c.in-Some.x (quick_role c.args.at.3 c.in-Some.x (original h.machine)) _ _ refl w refl s.went in
@@ -91,10 +92,11 @@ returns-in-Ok-role_step g c = λ before fetched.
       fits = λ sound. fits_word v r r h c.role_step.new.hart c.args.at.0 c.args.at.1 c.args.at.2 c.args.at.3 c.requires.control
           c.in-Some.x (quick_role c.args.at.3 c.in-Some.x (original h.machine)) _ _ refl c.requires.ready.fits (sym c.requires.ready.running) c.requires.word w refl s.went;
       counted = record { count = grows.count; failed = grows.failed; booted = grows.booted };
-      policy = rw c.requires.control (word_moves v r h.machine c.args.at.0 c.args.at.1 c.args.at.2 c.args.at.3 (g.R.CacheRom.policy (g.R.CacheRom.setting c.args.rom.now)) r w.0);
+      policy = rw c.requires.control (word_moves v r h.machine c.args.at.0 c.args.at.1 c.args.at.2 c.args.at.3 (g.R.CacheRom.service.policy (g.R.CacheRom.service.setting c.args.rom.now)) r w.0);
       setting = refl;
-      sound = λ sound. c.requires.sound;
+      sound = λ sound. (c.requires.sound, λ images serves. subst (λ (k : List ℕ). g.R.CacheRom.service.serves c.args.rom.now v images k) (sym (ap (λ (k : RamState). k.words) fetched.1)) serves);
       unused = λ j le. ap (λ (k : RamState). slice_index k.words j) fetched.1;
+      words = words_same v r before _ (ap (λ (k : RamState). k.words) fetched.1);
       ram = ram_exit _ _ c.args.at.0 c.args.at.1 c.args.at.2 c.args.at.3 h.control before _ _ c.requires.control below fetched.1 same;
       grown = λ sound. grows;
       stopped = tt;
@@ -110,9 +112,9 @@ returns-in-Ok-role_step g c = λ before fetched.
 pub returns-in-Err-role_step : goal.returns-in-Err-role_step
 returns-in-Err-role_step g c = λ before fetched.
     let v = c.args.image.now in
-    let r = g.R.CacheRom.kept c.args.rom.now in
+    let r = g.R.CacheRom.service.kept c.args.rom.now in
     let h = c.args.hart.now in
-    let coherent = g.met.R.CacheRom.coherent _ _ _ c.requires.sound in
+    let coherent = g.met.R.CacheRom.laws.coherent _ _ _ c.requires.sound in
     let below = index_below v r h.machine _ _ c.args.at.0 c.args.at.1 c.args.at.2 c.args.at.3 coherent c.requires.home in
     let w = word_home v r h.machine _ _ c.args.at.0 c.args.at.1 c.args.at.2 c.args.at.3
     coherent c.requires.home c.args.got c.in-Some.x c.requires.got (sym c.in-Some.is ∙ c.decode.ensures) (sym c.leaves.ensures ∙ c.if-leaves.false) in
@@ -126,6 +128,7 @@ returns-in-Err-role_step g c = λ before fetched.
       setting = refl;
       sound = λ sound. tt;
       unused = tt;
+      words = tt;
       ram = tt;
       grown = λ sound. tt;
       stopped = ap broken (c.hart-2.view_is ∙ s.executed.stays) ∙ ap (λ (bus : List AreaData). broken (with_memory h bus)) (sym (ap (λ (k : HartData). k.machine.bus) c.hart-2.view_is));
@@ -137,6 +140,6 @@ returns-in-Err-role_step g c = λ before fetched.
       unwritten = λ is. s.executed.devices.failed_input (source_failed c.in-Err-role_step.fault c.fault_of.result c.fault_of.ensures is);
       others_stay = λ is. absurd (ram_unfailed c.in-Err-role_step.fault c.fault_of.result c.fault_of.ensures is);
       ram_failed = λ is. absurd (ram_unfailed c.in-Err-role_step.fault c.fault_of.result c.fault_of.ensures is);
-      kept = kept_after _ c.args.at.0 before _ _ below fetched.1 (ram_same (g.R.CacheRom.span (g.R.CacheRom.setting c.args.rom.now)) r (g.M.CacheRam.state c.args.ram.now)).kept;
+      kept = kept_after _ c.args.at.0 before _ _ below fetched.1 (ram_same (g.R.CacheRom.service.span (g.R.CacheRom.service.setting c.args.rom.now)) r (g.M.CacheRam.state c.args.ram.now)).kept;
       causes = rw same (causes_answer before.faults _ _ c.in-Err-role_step.fault c.fault_of.result c.fault_of.ensures s.executed.devices.causes);
     }

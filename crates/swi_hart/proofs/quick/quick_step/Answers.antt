@@ -8,7 +8,7 @@ use Rattle.swi_hart.specs.declared.hart.Control.TheVariants.{Outside}
 use Rattle.swi_hart.specs.Matching.{Matches}
 use Rattle.swi_hart.specs.Leaving.{transfer_at, moved}
 use Rattle.swi_hart.proofs.Causing.{causes_none}
-use Rattle.swi_hart.proofs.Falls.{ram_same}
+use Rattle.swi_hart.proofs.Falls.{ram_same, words_same}
 use Rattle.swi_hart.proofs.Homes.{home}
 use Rattle.swi_hart.proofs.Grown.{grown_outside}
 use Rattle.swi_hart.proofs.Steps.{made_outside, fits_outside, ram_outside_step}
@@ -17,16 +17,16 @@ use Rattle.swi_hart.proofs.quick.quick_step.Goals as goal
 pub at_step-requires-clause-home : goal.at_step-requires-clause-home
 at_step-requires-clause-home g c =
     let f = c.requires.ready.fits in
-    home c.args.image.now (g.R.CacheRom.kept c.args.rom.now) f.flat c.args.hart.now.machine c.in-At.i c.in-At.b c.in-At.o c.in-At.stage f.image
-    (subst (λ (k : Control). Matches c.args.image.now (g.R.CacheRom.kept c.args.rom.now) f.flat c.args.hart.now.machine k) (sym (ap (λ (h : HartData). h.control) c.hart.view_is) ∙ sym c.control.ensures ∙ c.in-At.is) f.matches) c.requires.ready.running c.origin_pc-pc.ensures.word
+    home c.args.image.now (g.R.CacheRom.service.kept c.args.rom.now) f.flat c.args.hart.now.machine c.in-At.i c.in-At.b c.in-At.o c.in-At.stage f.image
+    (subst (λ (k : Control). Matches c.args.image.now (g.R.CacheRom.service.kept c.args.rom.now) f.flat c.args.hart.now.machine k) (sym (ap (λ (h : HartData). h.control) c.hart.view_is) ∙ sym c.control.ensures ∙ c.in-At.is) f.matches) c.requires.ready.running c.origin_pc-pc.ensures.word
 
 pub returns-in-Outside-clause-stepped : goal.returns-in-Outside-clause-stepped
 returns-in-Outside-clause-stepped g c =
     let v = c.args.image.now in
-    let r = g.R.CacheRom.kept c.args.rom.now in
+    let r = g.R.CacheRom.service.kept c.args.rom.now in
     let h = c.args.hart.now in
-    let span = g.R.CacheRom.span (g.R.CacheRom.setting c.args.rom.now) in
-    let policy = g.R.CacheRom.policy (g.R.CacheRom.setting c.args.rom.now) in
+    let span = g.R.CacheRom.service.span (g.R.CacheRom.service.setting c.args.rom.now) in
+    let policy = g.R.CacheRom.service.policy (g.R.CacheRom.service.setting c.args.rom.now) in
     let outside : h.control ≡ Outside = sym (ap (λ (h : HartData). h.control) c.hart.view_is) ∙ sym c.control.ensures ∙ c.in-Outside.is in
     let is = subst (λ p. c.end.new.hart ≡ record h { machine = ended h.machine (Faulted kind.FetchAccess p); count = h.count + 1 }) c.origin_pc-pc.ensures.value c.end.ensures in
     let grows = grown_outside v r r h c.end.new.hart kind.FetchAccess h.machine.pc outside refl is in
@@ -36,8 +36,9 @@ returns-in-Outside-clause-stepped g c =
       counted = record { count = grows.count; failed = grows.failed; booted = grows.booted };
       policy = sym (ap (λ (k : Control). moved policy r v (transfer_at v h.machine k)) outside);
       setting = refl;
-      sound = λ sound. c.requires.sound;
+      sound = λ sound. (c.requires.sound, λ images serves. serves);
       unused = λ i le. refl;
+      words = words_same v r _ _ refl;
       ram = ram_outside_step span r h.control (g.M.CacheRam.state c.args.ram.now) outside;
       grown = λ sound. grows;
       stopped = tt;

@@ -10,6 +10,6 @@ pub returns-clause-step : goal.returns-clause-step
 returns-clause-step g c =
     let is : c.args.x.now ≡ instr.Jalr c.in-Jalr.rd c.in-Jalr.rs1 c.in-Jalr.imm = search rules in
     ok_map c.jump_step.result
-    (λ step. λ input. jumps_by c.args.image.now (g.R.CacheRom.kept c.jump_step.new.rom) (step_to c.jump_step.new.hart input) input
+    (λ step. λ input. jumps_by c.args.image.now (g.R.CacheRom.service.kept c.jump_step.new.rom) (step_to c.jump_step.new.hart input) input
     (At c.args.at.0 c.args.at.1 c.args.at.2 c.args.at.3) c.args.hart.now.machine c.args.x.now c.in-Jalr.rd c.in-Jalr.rs1 c.in-Jalr.imm _ c.args.link is (search rules) (step input))
     c.jump_step.ensures.step

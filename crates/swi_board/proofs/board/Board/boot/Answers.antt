@@ -21,5 +21,5 @@ returns-in-Ok-resume-clause-count g c =
 pub returns-in-Ok-resume-clause-policy : goal.returns-in-Ok-resume-clause-policy
 returns-in-Ok-resume-clause-policy g c =
     c.in-Ok-resume.ensures.policy
-    ∙ ap (λ (h : HartData). moved (g.R.CacheRom.policy (g.R.CacheRom.setting c.args.rom)) (g.R.CacheRom.kept c.args.rom) c.args.image.now (entry_transfer c.args.image.now h.machine.pc)) c.in-Ok.ensures.hart
-    ∙ ap (λ (q : Bool). moved (g.R.CacheRom.policy (g.R.CacheRom.setting c.args.rom)) (g.R.CacheRom.kept c.args.rom) c.args.image.now (if q then Some (indirect c.args.p.now.entry) else None)) (text_some (text_of c.args.p.now.segments) c.args.image.now c.args.p.now.entry c.requires.carries c.start.ensures.entry)
+    ∙ ap (λ (h : HartData). moved (g.R.CacheRom.service.policy (g.R.CacheRom.service.setting c.args.rom)) (g.R.CacheRom.service.kept c.args.rom) c.args.image.now (entry_transfer c.args.image.now h.machine.pc)) c.in-Ok.ensures.hart
+    ∙ ap (λ (q : Bool). moved (g.R.CacheRom.service.policy (g.R.CacheRom.service.setting c.args.rom)) (g.R.CacheRom.service.kept c.args.rom) c.args.image.now (if q then Some (indirect c.args.p.now.entry) else None)) (text_some (text_of c.args.p.now.segments) c.args.image.now c.args.p.now.entry c.requires.carries c.start.ensures.entry)

@@ -23,6 +23,7 @@ loop-hart-init g c =
       settles = λ left told between going. inr between;
       setting = refl;
       sound = c.requires.sound;
+      keeps = λ images serves. serves;
       unused = λ i le. refl;
       quiet = refl;
     })
@@ -34,9 +35,9 @@ loop-hart-preserved-in_default g c =
     let more = subst (λ (h : HartData). h.machine.steps < c.args.n) c.hart.view_is c.loop-hart-test.true in
     let moves = rw was.setting at s.policy in
     let stepped = rw was.setting at s.ram in
-    let rises = no_less was.running moves (λ k. writes k) (λ r v t. g.met.R.CacheRom.third (g.R.CacheRom.setting c.args.self.now.rom) r v t) in
-    let grows = no_less was.running moves (λ k. g.R.CacheRom.extent (g.R.CacheRom.setting c.args.self.now.rom) k)
-    (λ r v t. g.met.R.CacheRom.grows (g.R.CacheRom.setting c.args.self.now.rom) r v t) in
+    let rises = no_less was.running moves (λ k. writes k) (λ r v t. g.met.R.CacheRom.laws.writes_rise (g.R.CacheRom.service.setting c.args.self.now.rom) r v t) in
+    let grows = no_less was.running moves (λ k. g.R.CacheRom.service.extent (g.R.CacheRom.service.setting c.args.self.now.rom) k)
+    (λ r v t. g.met.R.CacheRom.laws.extent_rises (g.R.CacheRom.service.setting c.args.self.now.rom) r v t) in
     let unused = rw was.setting at s.unused in
     let running : c.loop-hart.hart.machine.ending ≡ None = search rules in
     record {
@@ -46,7 +47,8 @@ loop-hart-preserved-in_default g c =
           let now = was.running.goes left told c.requires.fits.flat c.requires.fits.image c.requires.fits.matches in
           settles_on more (s.made was.sound now.now.input now.left_is) going;
       setting = s.setting ∙ was.setting;
-      sound = s.sound was.sound;
+      sound = (s.sound was.sound).0;
+      keeps = λ images serves. (s.sound was.sound).1 images (was.keeps images serves);
       unused = λ i le. unused i le ∙ was.unused i (omega (arith, le, grows));
       quiet = s.causes.quiet ∙ was.quiet;
     }
@@ -89,9 +91,9 @@ returns-after-loop-hart-clause-ran g c = λ left told f image same.
 pub run_block-requires : goal.run_block-requires
 run_block-requires g c =
     let was = c.loop-hart.invariant in
-    let begin = begins was.running was.settles c.requires.fits c.requires.limit (rw was.setting at (g.met.R.CacheRom.coherent _ _ _ was.sound))
-    (record { linked = λ r v b o t is. g.met.R.CacheRom.first _ r v b o t is; one = λ r v t. g.met.R.CacheRom.second _ r v t; written = λ r v t. g.met.R.CacheRom.third _ r v t }) c.hart.view_is c.loop-hart-test.true (sym (ap (λ (h : HartData). h.machine.ending) c.hart.view_is) ∙ not_ended _ _ c.is_none.ensures c.if-is_none.true) c.origin_pc-pc.ensures.word in
-    let low = rw was.setting at (g.met.R.CacheRom.small _ _ _ was.sound) in
+    let begin = begins was.running was.settles c.requires.fits c.requires.limit (rw was.setting at (g.met.R.CacheRom.laws.coherent _ _ _ was.sound))
+    (record { linked = λ r v b o t is. g.met.R.CacheRom.laws.link_stays _ r v b o t is; one = λ r v t. g.met.R.CacheRom.laws.one_service _ r v t; written = λ r v t. g.met.R.CacheRom.laws.writes_rise _ r v t }) c.hart.view_is c.loop-hart-test.true (sym (ap (λ (h : HartData). h.machine.ending) c.hart.view_is) ∙ not_ended _ _ c.is_none.ensures c.if-is_none.true) c.origin_pc-pc.ensures.word in
+    let low = rw was.setting at (g.met.R.CacheRom.laws.small _ _ _ was.sound) in
     record {
       going = begin.going;
       control = c.in-Some.ensures.control;
@@ -114,25 +116,26 @@ run_block-requires g c =
 pub loop-hart-smaller-in-Ok-None : goal.loop-hart-smaller-in-Ok-None
 loop-hart-smaller-in-Ok-None g c =
     let was = c.loop-hart.invariant in
-    let begin = begins was.running was.settles c.requires.fits c.requires.limit (rw was.setting at (g.met.R.CacheRom.coherent _ _ _ was.sound))
-    (record { linked = λ r v b o t is. g.met.R.CacheRom.first _ r v b o t is; one = λ r v t. g.met.R.CacheRom.second _ r v t; written = λ r v t. g.met.R.CacheRom.third _ r v t }) c.hart.view_is c.loop-hart-test.true (sym (ap (λ (h : HartData). h.machine.ending) c.hart.view_is) ∙ not_ended _ _ c.is_none.ensures c.if-is_none.true) c.origin_pc-pc.ensures.word in
+    let begin = begins was.running was.settles c.requires.fits c.requires.limit (rw was.setting at (g.met.R.CacheRom.laws.coherent _ _ _ was.sound))
+    (record { linked = λ r v b o t is. g.met.R.CacheRom.laws.link_stays _ r v b o t is; one = λ r v t. g.met.R.CacheRom.laws.one_service _ r v t; written = λ r v t. g.met.R.CacheRom.laws.writes_rise _ r v t }) c.hart.view_is c.loop-hart-test.true (sym (ap (λ (h : HartData). h.machine.ending) c.hart.view_is) ∙ not_ended _ _ c.is_none.ensures c.if-is_none.true) c.origin_pc-pc.ensures.word in
     let ended = at_limit c.in-Ok-None.is c.in-Ok-None.field-0-is (rw was.setting at c.run_block.ensures.ran) in
     lower (walk begin ended.0) ended.1
 
 pub loop-hart-preserved-in-Ok-None : goal.loop-hart-preserved-in-Ok-None
 loop-hart-preserved-in-Ok-None g c =
     let was = c.loop-hart.invariant in
-    let begin = begins was.running was.settles c.requires.fits c.requires.limit (rw was.setting at (g.met.R.CacheRom.coherent _ _ _ was.sound))
-    (record { linked = λ r v b o t is. g.met.R.CacheRom.first _ r v b o t is; one = λ r v t. g.met.R.CacheRom.second _ r v t; written = λ r v t. g.met.R.CacheRom.third _ r v t }) c.hart.view_is c.loop-hart-test.true (sym (ap (λ (h : HartData). h.machine.ending) c.hart.view_is) ∙ not_ended _ _ c.is_none.ensures c.if-is_none.true) c.origin_pc-pc.ensures.word in
+    let begin = begins was.running was.settles c.requires.fits c.requires.limit (rw was.setting at (g.met.R.CacheRom.laws.coherent _ _ _ was.sound))
+    (record { linked = λ r v b o t is. g.met.R.CacheRom.laws.link_stays _ r v b o t is; one = λ r v t. g.met.R.CacheRom.laws.one_service _ r v t; written = λ r v t. g.met.R.CacheRom.laws.writes_rise _ r v t }) c.hart.view_is c.loop-hart-test.true (sym (ap (λ (h : HartData). h.machine.ending) c.hart.view_is) ∙ not_ended _ _ c.is_none.ensures c.if-is_none.true) c.origin_pc-pc.ensures.word in
     let ended = at_limit c.in-Ok-None.is c.in-Ok-None.field-0-is (rw was.setting at c.run_block.ensures.ran) in
     let s = walk begin ended.0 in
-    let grows = s.grows (λ k. g.R.CacheRom.extent (g.R.CacheRom.setting c.args.self.now.rom) k)
-    (λ r v t. g.met.R.CacheRom.grows (g.R.CacheRom.setting c.args.self.now.rom) r v t) in
+    let grows = s.grows (λ k. g.R.CacheRom.service.extent (g.R.CacheRom.service.setting c.args.self.now.rom) k)
+    (λ r v t. g.met.R.CacheRom.laws.extent_rises (g.R.CacheRom.service.setting c.args.self.now.rom) r v t) in
     record {
       running = s.running;
       settles = s.settles;
       setting = c.run_block.ensures.setting ∙ was.setting;
       sound = c.run_block.ensures.sound;
+      keeps = λ images serves. c.run_block.ensures.keeps images (was.keeps images serves);
       unused = λ i le. ap (λ (k : List ℕ). slice_index k i) s.words ∙ was.unused i (omega (arith, le, grows));
       quiet = same_ram s.quiet was.quiet;
     }
@@ -140,8 +143,8 @@ loop-hart-preserved-in-Ok-None g c =
 pub returns-in-Err : goal.returns-in-Err
 returns-in-Err g c =
     let was = c.loop-hart.invariant in
-    let begin = begins was.running was.settles c.requires.fits c.requires.limit (rw was.setting at (g.met.R.CacheRom.coherent _ _ _ was.sound))
-    (record { linked = λ r v b o t is. g.met.R.CacheRom.first _ r v b o t is; one = λ r v t. g.met.R.CacheRom.second _ r v t; written = λ r v t. g.met.R.CacheRom.third _ r v t }) c.hart.view_is c.loop-hart-test.true (sym (ap (λ (h : HartData). h.machine.ending) c.hart.view_is) ∙ not_ended _ _ c.is_none.ensures c.if-is_none.true) c.origin_pc-pc.ensures.word in
+    let begin = begins was.running was.settles c.requires.fits c.requires.limit (rw was.setting at (g.met.R.CacheRom.laws.coherent _ _ _ was.sound))
+    (record { linked = λ r v b o t is. g.met.R.CacheRom.laws.link_stays _ r v b o t is; one = λ r v t. g.met.R.CacheRom.laws.one_service _ r v t; written = λ r v t. g.met.R.CacheRom.laws.writes_rise _ r v t }) c.hart.view_is c.loop-hart-test.true (sym (ap (λ (h : HartData). h.machine.ending) c.hart.view_is) ∙ not_ended _ _ c.is_none.ensures c.if-is_none.true) c.origin_pc-pc.ensures.word in
     let ended = before_fault c.in-Err.is (rw was.setting at c.run_block.ensures.ran) in
     let s = walk begin ended.walked in
     let failed = ram_unfetched c.args.image.now c.run_block.new.hart.machine c.run_block.new.hart.control _ _ _ _ _ ended.before
@@ -152,6 +155,7 @@ returns-in-Err g c =
       fits = tt;
       setting = c.run_block.ensures.setting ∙ was.setting;
       sound = tt;
+      keeps = tt;
       unused = tt;
       unfailed = tt;
       booted = tt;
@@ -171,8 +175,8 @@ returns-in-Err g c =
 pub at_word-requires : goal.at_word-requires
 at_word-requires g c =
     let was = c.loop-hart.invariant in
-    let begin = begins was.running was.settles c.requires.fits c.requires.limit (rw was.setting at (g.met.R.CacheRom.coherent _ _ _ was.sound))
-    (record { linked = λ r v b o t is. g.met.R.CacheRom.first _ r v b o t is; one = λ r v t. g.met.R.CacheRom.second _ r v t; written = λ r v t. g.met.R.CacheRom.third _ r v t }) c.hart.view_is c.loop-hart-test.true (sym (ap (λ (h : HartData). h.machine.ending) c.hart.view_is) ∙ not_ended _ _ c.is_none.ensures c.if-is_none.true) c.origin_pc-pc.ensures.word in
+    let begin = begins was.running was.settles c.requires.fits c.requires.limit (rw was.setting at (g.met.R.CacheRom.laws.coherent _ _ _ was.sound))
+    (record { linked = λ r v b o t is. g.met.R.CacheRom.laws.link_stays _ r v b o t is; one = λ r v t. g.met.R.CacheRom.laws.one_service _ r v t; written = λ r v t. g.met.R.CacheRom.laws.writes_rise _ r v t }) c.hart.view_is c.loop-hart-test.true (sym (ap (λ (h : HartData). h.machine.ending) c.hart.view_is) ∙ not_ended _ _ c.is_none.ensures c.if-is_none.true) c.origin_pc-pc.ensures.word in
     let ended = before_word c.in-Ok-Some.is c.in-Ok-Some.field-0-is (rw was.setting at c.run_block.ensures.ran) in
     let s = walk begin ended.walked in
     let control = sym (ap (λ (h : HartData). h.control) c.hart-in-loop-hart.view_is) ∙ sym c.control.ensures ∙ c.in-At.is in
@@ -195,44 +199,46 @@ at_word-requires g c =
 pub loop-hart-smaller : goal.loop-hart-smaller
 loop-hart-smaller g c =
     let was = c.loop-hart.invariant in
-    let begin = begins was.running was.settles c.requires.fits c.requires.limit (rw was.setting at (g.met.R.CacheRom.coherent _ _ _ was.sound))
-    (record { linked = λ r v b o t is. g.met.R.CacheRom.first _ r v b o t is; one = λ r v t. g.met.R.CacheRom.second _ r v t; written = λ r v t. g.met.R.CacheRom.third _ r v t }) c.hart.view_is c.loop-hart-test.true (sym (ap (λ (h : HartData). h.machine.ending) c.hart.view_is) ∙ not_ended _ _ c.is_none.ensures c.if-is_none.true) c.origin_pc-pc.ensures.word in
+    let begin = begins was.running was.settles c.requires.fits c.requires.limit (rw was.setting at (g.met.R.CacheRom.laws.coherent _ _ _ was.sound))
+    (record { linked = λ r v b o t is. g.met.R.CacheRom.laws.link_stays _ r v b o t is; one = λ r v t. g.met.R.CacheRom.laws.one_service _ r v t; written = λ r v t. g.met.R.CacheRom.laws.writes_rise _ r v t }) c.hart.view_is c.loop-hart-test.true (sym (ap (λ (h : HartData). h.machine.ending) c.hart.view_is) ∙ not_ended _ _ c.is_none.ensures c.if-is_none.true) c.origin_pc-pc.ensures.word in
     let ended = before_word c.in-Ok-Some.is c.in-Ok-Some.field-0-is (rw was.setting at c.run_block.ensures.ran) in
     let s = walk begin ended.walked in
     let control = sym (ap (λ (h : HartData). h.control) c.hart-in-loop-hart.view_is) ∙ sym c.control.ensures ∙ c.in-At.is in
     let answered = subst (λ (k : ℕ). Answered (Some c.in-Ok-Some.got) ended.before k (g.M.CacheRam.state c.run_block.new.ram))
     (same_index ended.control control) ended.answered in
-    let sound = subst (λ (k : List ℕ). g.R.CacheRom.sound c.run_block.new.rom c.args.image.now k) (ap (λ (k : RamState). k.words) answered.1) c.run_block.ensures.sound in
+    let sound = subst (λ (k : List ℕ). g.R.CacheRom.service.sound c.run_block.new.rom c.args.image.now k) (ap (λ (k : RamState). k.words) answered.1) c.run_block.ensures.sound in
     falls_from s ended.below ((c.in_ok-at_word.ensures ended.before answered).grown sound)
 
 pub loop-hart-preserved : goal.loop-hart-preserved
 loop-hart-preserved g c =
     let was = c.loop-hart.invariant in
-    let begin = begins was.running was.settles c.requires.fits c.requires.limit (rw was.setting at (g.met.R.CacheRom.coherent _ _ _ was.sound))
-    (record { linked = λ r v b o t is. g.met.R.CacheRom.first _ r v b o t is; one = λ r v t. g.met.R.CacheRom.second _ r v t; written = λ r v t. g.met.R.CacheRom.third _ r v t }) c.hart.view_is c.loop-hart-test.true (sym (ap (λ (h : HartData). h.machine.ending) c.hart.view_is) ∙ not_ended _ _ c.is_none.ensures c.if-is_none.true) c.origin_pc-pc.ensures.word in
+    let begin = begins was.running was.settles c.requires.fits c.requires.limit (rw was.setting at (g.met.R.CacheRom.laws.coherent _ _ _ was.sound))
+    (record { linked = λ r v b o t is. g.met.R.CacheRom.laws.link_stays _ r v b o t is; one = λ r v t. g.met.R.CacheRom.laws.one_service _ r v t; written = λ r v t. g.met.R.CacheRom.laws.writes_rise _ r v t }) c.hart.view_is c.loop-hart-test.true (sym (ap (λ (h : HartData). h.machine.ending) c.hart.view_is) ∙ not_ended _ _ c.is_none.ensures c.if-is_none.true) c.origin_pc-pc.ensures.word in
     let ended = before_word c.in-Ok-Some.is c.in-Ok-Some.field-0-is (rw was.setting at c.run_block.ensures.ran) in
     let s = walk begin ended.walked in
     let control = sym (ap (λ (h : HartData). h.control) c.hart-in-loop-hart.view_is) ∙ sym c.control.ensures ∙ c.in-At.is in
     let answered = subst (λ (k : ℕ). Answered (Some c.in-Ok-Some.got) ended.before k (g.M.CacheRam.state c.run_block.new.ram))
     (same_index ended.control control) ended.answered in
-    let sound = subst (λ (k : List ℕ). g.R.CacheRom.sound c.run_block.new.rom c.args.image.now k) (ap (λ (k : RamState). k.words) answered.1) c.run_block.ensures.sound in
+    let sound = subst (λ (k : List ℕ). g.R.CacheRom.service.sound c.run_block.new.rom c.args.image.now k) (ap (λ (k : RamState). k.words) answered.1) c.run_block.ensures.sound in
     let setting = c.run_block.ensures.setting ∙ was.setting in
     let a = c.in_ok-at_word.ensures ended.before answered in
     let moves = rw setting at a.policy in
     let stepped = rw setting at a.ram in
-    let rises = no_less s.running moves (λ k. writes k) (λ r v t. g.met.R.CacheRom.third (g.R.CacheRom.setting c.args.self.now.rom) r v t) in
-    let grows = no_less s.running moves (λ k. g.R.CacheRom.extent (g.R.CacheRom.setting c.args.self.now.rom) k)
-    (λ r v t. g.met.R.CacheRom.grows (g.R.CacheRom.setting c.args.self.now.rom) r v t) in
+    let rises = no_less s.running moves (λ k. writes k) (λ r v t. g.met.R.CacheRom.laws.writes_rise (g.R.CacheRom.service.setting c.args.self.now.rom) r v t) in
+    let grows = no_less s.running moves (λ k. g.R.CacheRom.service.extent (g.R.CacheRom.service.setting c.args.self.now.rom) k)
+    (λ r v t. g.met.R.CacheRom.laws.extent_rises (g.R.CacheRom.service.setting c.args.self.now.rom) r v t) in
     let unused = rw setting at a.unused in
-    let walked_on = s.grows (λ k. g.R.CacheRom.extent (g.R.CacheRom.setting c.args.self.now.rom) k)
-    (λ r v t. g.met.R.CacheRom.grows (g.R.CacheRom.setting c.args.self.now.rom) r v t) in
+    let walked_on = s.grows (λ k. g.R.CacheRom.service.extent (g.R.CacheRom.service.setting c.args.self.now.rom) k)
+    (λ r v t. g.met.R.CacheRom.laws.extent_rises (g.R.CacheRom.service.setting c.args.self.now.rom) r v t) in
     record {
       running = runs_on s.running ended.below s.going s.short c.requires.limit stepped rises (a.fits sound) (a.grown sound) moves (a.made sound);
       settles = λ left told between going.
           let now = s.running.goes left told c.requires.fits.flat c.requires.fits.image c.requires.fits.matches in
           settles_on ended.below (a.made sound now.now.input now.left_is) going;
       setting = a.setting ∙ setting;
-      sound = a.sound sound;
+      sound = (a.sound sound).0;
+      keeps = λ images serves. (a.sound sound).1 images
+          (subst (λ (k : List ℕ). g.R.CacheRom.service.serves c.run_block.new.rom c.args.image.now images k) (ap (λ (k : RamState). k.words) answered.1) (c.run_block.ensures.keeps images (was.keeps images serves)));
       unused = λ i le. unused i le ∙ ap (λ (k : List ℕ). slice_index k i) s.words ∙ was.unused i (omega (arith, le, grows, walked_on));
       quiet = a.causes.quiet ∙ same_ram s.quiet was.quiet;
     }
@@ -241,14 +247,14 @@ pub returns-in_err-at_word : goal.returns-in_err-at_word
 returns-in_err-at_word g c =
     let p = err_from_is_err_and c.from_residual-in_err-at_word.result c.from_residual-in_err-at_word.ensures.1 in
     let was = c.loop-hart.invariant in
-    let begin = begins was.running was.settles c.requires.fits c.requires.limit (rw was.setting at (g.met.R.CacheRom.coherent _ _ _ was.sound))
-    (record { linked = λ r v b o t is. g.met.R.CacheRom.first _ r v b o t is; one = λ r v t. g.met.R.CacheRom.second _ r v t; written = λ r v t. g.met.R.CacheRom.third _ r v t }) c.hart.view_is c.loop-hart-test.true (sym (ap (λ (h : HartData). h.machine.ending) c.hart.view_is) ∙ not_ended _ _ c.is_none.ensures c.if-is_none.true) c.origin_pc-pc.ensures.word in
+    let begin = begins was.running was.settles c.requires.fits c.requires.limit (rw was.setting at (g.met.R.CacheRom.laws.coherent _ _ _ was.sound))
+    (record { linked = λ r v b o t is. g.met.R.CacheRom.laws.link_stays _ r v b o t is; one = λ r v t. g.met.R.CacheRom.laws.one_service _ r v t; written = λ r v t. g.met.R.CacheRom.laws.writes_rise _ r v t }) c.hart.view_is c.loop-hart-test.true (sym (ap (λ (h : HartData). h.machine.ending) c.hart.view_is) ∙ not_ended _ _ c.is_none.ensures c.if-is_none.true) c.origin_pc-pc.ensures.word in
     let ended = before_word c.in-Ok-Some.is c.in-Ok-Some.field-0-is (rw was.setting at c.run_block.ensures.ran) in
     let s = walk begin ended.walked in
     let control = sym (ap (λ (h : HartData). h.control) c.hart-in-loop-hart.view_is) ∙ sym c.control.ensures ∙ c.in-At.is in
     let answered = subst (λ (k : ℕ). Answered (Some c.in-Ok-Some.got) ended.before k (g.M.CacheRam.state c.run_block.new.ram))
     (same_index ended.control control) ended.answered in
-    let sound = subst (λ (k : List ℕ). g.R.CacheRom.sound c.run_block.new.rom c.args.image.now k) (ap (λ (k : RamState). k.words) answered.1) c.run_block.ensures.sound in
+    let sound = subst (λ (k : List ℕ). g.R.CacheRom.service.sound c.run_block.new.rom c.args.image.now k) (ap (λ (k : RamState). k.words) answered.1) c.run_block.ensures.sound in
     let setting = c.run_block.ensures.setting ∙ was.setting in
     let a = c.in_err-at_word.ensures ended.before answered in
     let kept = rw setting at a.kept in
@@ -258,6 +264,7 @@ returns-in_err-at_word g c =
       fits = tt;
       setting = a.setting ∙ setting;
       sound = tt;
+      keeps = tt;
       unused = tt;
       unfailed = tt;
       booted = tt;

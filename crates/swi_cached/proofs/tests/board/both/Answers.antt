@@ -1,5 +1,5 @@
 use Rattle.std.proofs.Common.{◌≤◌, length, ◌∙◌, subst}
-use Rattle.swi_rom.specs.Slots.{Slots, setting_of, span_of}
+use Rattle.swi_slots.specs.Slots.{Slots, setting_of, span_of}
 use Rattle.swi_cached.proofs.tests.board.both.Goals as goal
 
 pub run_on-requires-clause-new : goal.run_on-requires-clause-new

@@ -1,5 +1,5 @@
 use Rattle.std.proofs.Common.{◌≤◌, length, subst, ◌∙◌}
-use Rattle.swi_rom.specs.Slots.{Slots, setting_of, span_of}
+use Rattle.swi_slots.specs.Slots.{Slots, setting_of, span_of}
 use Rattle.swi_cached.proofs.tests.foreign.foreign_word_is_executed_by_both.Goals as goal
 
 pub stepped-requires-2-clause-new : goal.stepped-requires-2-clause-new

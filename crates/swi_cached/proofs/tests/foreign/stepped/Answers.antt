@@ -19,11 +19,11 @@ steps_over-requires-clause-between g c =
 
 pub steps_over-requires-clause-fits : goal.steps_over-requires-clause-fits
 steps_over-requires-clause-fits g c =
-    subst (λ r. Fits c.args.image.now (g.R.CacheRom.kept r) c.join-board.result.hart) (sym (c.join-board.ensures.rom ∙ c.part-hart.ensures.rom))
-    (subst (λ (h : HartData). Fits c.args.image.now (g.R.CacheRom.kept c.run.new.self.rom) h) (sym (c.join-board.ensures.hart ∙ c.part-hart.ensures.hart))
+    subst (λ r. Fits c.args.image.now (g.R.CacheRom.service.kept r) c.join-board.result.hart) (sym (c.join-board.ensures.rom ∙ c.part-hart.ensures.rom))
+    (subst (λ (h : HartData). Fits c.args.image.now (g.R.CacheRom.service.kept c.run.new.self.rom) h) (sym (c.join-board.ensures.hart ∙ c.part-hart.ensures.hart))
     (on_ok c.run.result (sym c.is_err.ensures.value ∙ c.if-is_err.false) c.run.ensures.fits))
 
 pub steps_over-requires-clause-sound : goal.steps_over-requires-clause-sound
 steps_over-requires-clause-sound g c =
-    subst (λ r. g.R.CacheRom.sound r c.args.image.now c.run.new.ram.words) (sym (c.join-board.ensures.rom ∙ c.part-hart.ensures.rom))
+    subst (λ r. g.R.CacheRom.service.sound r c.args.image.now c.run.new.ram.words) (sym (c.join-board.ensures.rom ∙ c.part-hart.ensures.rom))
     (on_ok c.run.result (sym c.is_err.ensures.value ∙ c.if-is_err.false) c.run.ensures.sound)

@@ -7,7 +7,7 @@ pub step-requires-clause-sound : goal.step-requires-clause-sound
 step-requires-clause-sound g c =
     let h = c.args.board.now.hart in
     let stands = control_is h.machine.ending h.control c.args.i c.args.place.0 c.args.place.1 c.requires.at c.requires.place c.requires.between in
-    inr (exchanged (λ (words : List ℕ). g.R.CacheRom.sound c.args.board.now.rom c.args.image.now words) c.args.image.now c.args.ram.now.words c.put.new.ram.words
+    inr (exchanged (λ (words : List ℕ). g.R.CacheRom.service.sound c.args.board.now.rom c.args.image.now words) c.args.image.now c.args.ram.now.words c.put.new.ram.words
     h.control c.args.i c.args.place.0 c.args.place.1 stands c.requires.inside c.requires.own c.requires.held c.put.ensures.words c.requires.sound)
 
 pub step-requires-2-clause-fits : goal.step-requires-2-clause-fits
@@ -27,6 +27,6 @@ step-requires-2-clause-sound g c =
     c.requires.inside c.requires.own c.put.ensures.words in
     let made = on_ok c.step.result (sym c.is_err-2.ensures.value ∙ c.if-is_err-2.false) c.step.ensures.executes
     c.args.i c.args.place.0 c.args.place.1 Start plain in
-    inl (still_sound (λ r (words : List ℕ). g.R.CacheRom.sound r c.args.image.now words) c.args.board.now.rom c.step.new.self.rom
+    inl (still_sound (λ r (words : List ℕ). g.R.CacheRom.service.sound r c.args.image.now words) c.args.board.now.rom c.step.new.self.rom
     c.args.ram.now.words c.put.new.ram.words c.step.new.ram.words c.put-else-not-goes_on-2.new.ram.words c.args.i
     c.requires.held c.put.ensures.words made.words_stay c.put-else-not-goes_on-2.ensures.words made.rom_stays c.requires.sound)

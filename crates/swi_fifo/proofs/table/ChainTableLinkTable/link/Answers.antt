@@ -1,6 +1,6 @@
 use Rattle.std.proofs.Common.{ap}
 use Rattle.swi_fifo.specs.Homes.{TableData}
-use Rattle.swi_fifo.proofs.Lists.{at_call, free_call, link_call}
+use Rattle.swi_fifo.proofs.Targets.{at_call, free_call, link_call}
 use Rattle.swi_fifo.proofs.table.ChainTableLinkTable.link.Goals as goal
 
 pub link-requires-clause-at : goal.link-requires-clause-at
