@@ -44,6 +44,19 @@ const THREE: [u32; 32] = [
     0x00008513, 0x00000073, 0x00100073, 0x00010018,
 ];
 
+/// Two additions, LR.W, SC.W and an addition; their greedy cut, and the one before the LR.W.
+const ATOMIC: [u32; 5] = [0x00128293, 0x00128293, 0x1005A2AF, 0x1855A32F, 0x00128293];
+
+const GREEDY: [u32; 24] = [
+    0x31434953, 2, 5, 2, 5, 0x10000, 0, 3, 5, 9, 0, 1, 2, 0, 1, 0x00128293, 0x00128293, 0x1005A2AF,
+    0x00100073, 0x0001000C, 0x1855A32F, 0x00128293, 0x00100073, 0x00010014,
+];
+
+const WHOLE: [u32; 24] = [
+    0x31434953, 2, 5, 2, 5, 0x10000, 0, 2, 4, 9, 0, 1, 0, 1, 2, 0x00128293, 0x00128293, 0x00100073,
+    0x00010008, 0x1005A2AF, 0x1855A32F, 0x00128293, 0x00100073, 0x00010014,
+];
+
 #[derive(Clone, Copy, PartialEq, Eq, Debug)]
 enum Answer {
     Refused(ImageRefusal),
@@ -119,6 +132,8 @@ fn images_of_the_program_fit(rt: HostRuntime) -> Result<(), Fail> {
     assert_eq!(rt; checked(rt.alloc(), &SEVEN, &FIRST, &[])?, fits);
     assert_eq!(rt; checked(rt.alloc(), &SEVEN, &SECOND, &[])?, fits);
     assert_eq!(rt; checked(rt.alloc(), &CALLS, &THREE, &[])?, fits);
+    assert_eq!(rt; checked(rt.alloc(), &ATOMIC, &GREEDY, &[])?, fits);
+    assert_eq!(rt; checked(rt.alloc(), &ATOMIC, &WHOLE, &[])?, fits);
     Ok(())
 }
 

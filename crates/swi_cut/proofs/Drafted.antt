@@ -7,7 +7,10 @@ use Rattle.swi_program.specs.Text.{TextData}
 use Rattle.swi_image.specs.Checks.{begin_of}
 use Rattle.swi_image.specs.Place.{next_of}
 use Rattle.swi_render.specs.ImageOf.{block_between}
-use Rattle.swi_cut.specs.Drafts.{Grew, IsWritten, IsRun, IsGreedy, AreGreedy, IsDone, AreDrafted}
+use Rattle.swi_render.specs.Cut.{needs_of}
+use Rattle.swi_cut.specs.declared.cutting.Cutting.{Cutting}
+use Rattle.swi_cut.specs.declared.cutting.Cutting.TheVariants.{Greedy, WholeLoops}
+use Rattle.swi_cut.specs.Drafts.{Grew, IsWritten, IsRun, IsBlockEnd, AreBlockEnds, IsDone, AreDrafted}
 use Rattle.swi_cut.proofs.Written.{asked_grown, last_of, length_more}
 
 pub test_lt : (a b : ℕ) → a < b → nat_lt a b ≡ true
@@ -98,27 +101,31 @@ draft_more t most done end e starts starts_new ends ends_new offsets offsets_new
       ];
     }))
 
-same_greedy : (t : TextData) (most first first_ end end_ : ℕ) → first ≡ first_ → end ≡ end_ → IsGreedy t most first_ end_ → IsGreedy t most first end
-same_greedy t most first first_ end end_ a b g = rw (a, b) g
+same_end : (c : Cutting) (t : TextData) (most first first_ end end_ : ℕ) → first ≡ first_ → end ≡ end_ → IsBlockEnd c t most first_ end_ → IsBlockEnd c t most first end
+same_end c t most first first_ end end_ a b e = rw (a, b) e
 
-pub greedy_more : (t : TextData) (most done end : ℕ) (starts starts_new : List ℕ) → AreGreedy t most starts done → IsGreedy t most done end → starts_new ≡ starts ++ done ∷ [] → AreGreedy t most starts_new end
-greedy_more t most done end starts starts_new g new is =
-    subst (λ (l : List ℕ). AreGreedy t most l end) (sym is) (record {
+fit_of : (c : Cutting) (t : TextData) (most first end : ℕ) → IsBlockEnd c t most first end → (k : ℕ) → first ≤ k → k < end → needs_of t k ≤ most
+fit_of Greedy t most first end e = e.fit
+fit_of WholeLoops t most first end e = e.fit
+
+pub ends_more : (c : Cutting) (t : TextData) (most done end : ℕ) (starts starts_new : List ℕ) → AreBlockEnds c t most starts done → IsBlockEnd c t most done end → starts_new ≡ starts ++ done ∷ [] → AreBlockEnds c t most starts_new end
+ends_more c t most done end starts starts_new e new is =
+    subst (λ (l : List ℕ). AreBlockEnds c t most l end) (sym is) (record {
       fit = λ j within. elim (cases_lt j done) [
-        | inl old ↦ g.fit j old
-        | inr later ↦ new.fit j later within
+        | inl old ↦ e.fit j old
+        | inr later ↦ fit_of c t most done end new j later within
       ];
       each = λ b within. elim (cases_lt b (length starts)) [
-        | inl old ↦ same_greedy t most (get_or (starts ++ done ∷ []) b 0) (get_or starts b 0) (next_of (starts ++ done ∷ []) end b) (next_of starts done b)
-            (get_or-append starts (done ∷ []) 0 b old) (next_grown starts done end b old) (g.each b old)
+        | inl old ↦ same_end c t most (get_or (starts ++ done ∷ []) b 0) (get_or starts b 0) (next_of (starts ++ done ∷ []) end b) (next_of starts done b)
+            (get_or-append starts (done ∷ []) 0 b old) (next_grown starts done end b old) (e.each b old)
         | inr last ↦
             let here : b ≡ length starts = omega (arith, length_more starts done) in
-            same_greedy t most (get_or (starts ++ done ∷ []) b 0) done (next_of (starts ++ done ∷ []) end b) end (last_of starts done b here) (rw here (next_last starts done end)) new
+            same_end c t most (get_or (starts ++ done ∷ []) b 0) done (next_of (starts ++ done ∷ []) end b) end (last_of starts done b here) (rw here (next_last starts done end)) new
       ];
     })
 
-pub greedy_none : (t : TextData) (most : ℕ) (starts : List ℕ) → starts ≡ [] → AreGreedy t most starts 0
-greedy_none t most starts is = record { fit = λ k within. absurd (omega arith); each = λ b within. absurd (omega (arith, ap length is)) }
+pub ends_none : (c : Cutting) (t : TextData) (most : ℕ) (starts : List ℕ) → starts ≡ [] → AreBlockEnds c t most starts 0
+ends_none c t most starts is = record { fit = λ k within. absurd (omega arith); each = λ b within. absurd (omega (arith, ap length is)) }
 
 pub draft_none : (t : TextData) (most : ℕ) → AreDrafted t most 0 [] [] [] []
 draft_none t most = record {

@@ -8,10 +8,12 @@ use Rattle.swi_image.specs.Place.{next_of, next_start, block_at}
 use Rattle.swi_image.specs.Sound.{AreTables, image_of_tables}
 use Rattle.swi_render.specs.Rendering.{As}
 use Rattle.swi_render.specs.ImageOf.{block_between, pad, AreWordsOf}
-use Rattle.swi_render.specs.Cut.{IsCut}
 use Rattle.swi_render.proofs.Runs.{length_part, offset_first, offset_up, offset_below}
+use Rattle.swi_cut.specs.declared.cutting.Cutting.{Cutting}
+use Rattle.swi_cut.specs.declared.cutting.Cutting.TheVariants.{Greedy, WholeLoops}
+use Rattle.swi_cut.specs.Cuts.{IsCutBy}
 use Rattle.swi_cut.specs.Upgrades.{IsMade}
-use Rattle.swi_cut.specs.Drafts.{IsDone, AreDrafted, AreGreedy}
+use Rattle.swi_cut.specs.Drafts.{IsDone, AreDrafted, IsBlockEnd, AreBlockEnds}
 use Rattle.swi_cut.proofs.Drafted.{test_lt, test_some}
 
 next_before : (starts : List ℕ) (n b : ℕ) → b + 1 < length starts → next_of starts n b ≡ get_or starts (b + 1) 0
@@ -101,21 +103,36 @@ made_tables t most base starts starts_ ends ends_ offsets offsets_ words words_ 
     let found_ = rw (a, b, e) at found in
     rw is (rw (n, a, b, c, e) (made_done t most starts ends offsets words d found_))
 
--- an image with greedy starts is the cut
-pub cut_of_made : (t : TextData) (most : ℕ) (starts ends offsets words : List ℕ) (v : ImageData) → AreDrafted t most (length t.words) starts ends offsets words → AreGreedy t most starts (length t.words) →
-    IsMade t most starts v → IsCut t most v
-cut_of_made t most starts ends offsets words v d g m =
+next_made : (t : TextData) (most : ℕ) (starts : List ℕ) (v : ImageData) (b : ℕ) → IsMade t most starts v → next_start v b ≡ next_of starts (length t.words) b
+next_made t most starts v b m = ap (λ (l : List ℕ). next_of l (length v.offsets) b) m.same_starts ∙ ap (λ (n : ℕ). next_of starts n b) m.image.len
+
+end_of : (c : Cutting) (t : TextData) (most : ℕ) (starts : List ℕ) (v : ImageData) (b : ℕ) → AreBlockEnds c t most starts (length t.words) → IsMade t most starts v → b < length v.starts →
+    IsBlockEnd c t most (get_or v.starts b 0) (next_start v b)
+end_of c t most starts v b e m within =
+    let same : get_or v.starts b 0 ≡ get_or starts b 0 = ap (λ (l : List ℕ). get_or l b 0) m.same_starts in
+    let next = next_made t most starts v b m in
+    rw (same, next) (e.each b (omega (arith, ap length m.same_starts)))
+
+next_within : (t : TextData) (most : ℕ) (starts ends offsets words : List ℕ) (v : ImageData) (b : ℕ) → AreDrafted t most (length t.words) starts ends offsets words → IsMade t most starts v →
+    b + 1 < length v.starts → next_start v b < length t.words
+next_within t most starts ends offsets words v b d m more =
     let size : length v.starts ≡ length starts = ap length m.same_starts in
-    let same : (b : ℕ) → next_start v b ≡ next_of starts (length t.words) b = λ (b : ℕ). ap (λ (l : List ℕ). next_of l (length v.offsets) b) m.same_starts ∙ ap (λ (n : ℕ). next_of starts n b) m.image.len in
-    let first : (b : ℕ) → get_or v.starts b 0 ≡ get_or starts b 0 = λ (b : ℕ). ap (λ (l : List ℕ). get_or l b 0) m.same_starts in
-    record {
-      image = m.image;
-      version = m.version;
-      most_words = m.most_words;
-      full = λ b more.
-          let later = d.blocks (b + 1) (omega arith) in
-          let full : most < length (block_between t (get_or starts b 0) (next_of starts (length t.words) b + 1)) =
-          (g.each b (omega arith)).full (omega (arith, next_before starts (length t.words) b (omega arith), later.run.some, later.run.within)) in
-          subst (λ (n : ℕ). most < length (block_between t n (next_start v b + 1))) (sym (first b))
-          (subst (λ (n : ℕ). most < length (block_between t (get_or starts b 0) (n + 1))) (sym (same b)) full);
-    }
+    let later = d.blocks (b + 1) (omega arith) in
+    omega (arith, next_made t most starts v b m, next_before starts (length t.words) b (omega arith), later.run.some, later.run.within)
+
+-- an image whose blocks end where they are to end is the cut
+pub cut_of_made : (c : Cutting) (t : TextData) (most : ℕ) (starts ends offsets words : List ℕ) (v : ImageData) → AreDrafted t most (length t.words) starts ends offsets words →
+    AreBlockEnds c t most starts (length t.words) → IsMade t most starts v → IsCutBy c t most v
+cut_of_made Greedy t most starts ends offsets words v d e m = record {
+  image = m.image;
+  version = m.version;
+  most_words = m.most_words;
+  full = λ b more. (end_of Greedy t most starts v b e m (omega arith)).full (next_within t most starts ends offsets words v b d m more);
+}
+cut_of_made WholeLoops t most starts ends offsets words v d e m = record {
+  image = m.image;
+  version = m.version;
+  most_words = m.most_words;
+  keeps = λ b within. (end_of WholeLoops t most starts v b e m within).keeps;
+  ends = λ b more. (end_of WholeLoops t most starts v b e m (omega arith)).ends (next_within t most starts ends offsets words v b d m more);
+}

@@ -1,11 +1,14 @@
 -- A text that is cut as far as some word: what the private functions of this crate tell each other.
-use Rattle.std.specs.Prelude.{◌≡◌, ℕ, ◌+◌, ◌*◌, ◌<◌, ◌≤◌, List, length, get_or, slice_index}
+use Rattle.std.specs.Prelude.{◌≡◌, ◌⊎◌, ℕ, ◌+◌, ◌*◌, ◌<◌, ◌≤◌, List, length, get_or, slice_index}
 use Rattle.swi_program.specs.Text.{TextData}
 use Rattle.swi_image.specs.Checks.{begin_of}
 use Rattle.swi_image.specs.Place.{next_of}
 use Rattle.swi_render.specs.Rendering.{Slot, As}
 use Rattle.swi_render.specs.ImageOf.{block_between, OffsetsRight, pad}
 use Rattle.swi_render.specs.Cut.{needs_of}
+use Rattle.swi_render.specs.Loops.{IsKept, KeepsSequences, EndsFull, EndsBeforeSequence}
+use Rattle.swi_cut.specs.declared.cutting.Cutting.{Cutting}
+use Rattle.swi_cut.specs.declared.cutting.Cutting.TheVariants.{Greedy, WholeLoops}
 use Rattle.swi_cut.specs.declared.draft.Draft.{Draft}
 
 -- a list that grew at its end
@@ -42,6 +45,21 @@ pub record IsGreedy (t : TextData) (most first end : ℕ) : Type 0 where
   pub fit : (k : ℕ) → first ≤ k → k < end → needs_of t k ≤ most
   pub full : end < length t.words → most < length (block_between t first (end + 1))
 
+-- each of these words fits, the block keeps its sequences, and it does not end before it must
+pub record IsWhole (t : TextData) (most first end : ℕ) : Type 0 where
+  pub fit : (k : ℕ) → first ≤ k → k < end → needs_of t k ≤ most
+  pub keeps : KeepsSequences t most first end
+  pub ends : end < length t.words → EndsFull t most first end ⊎ EndsBeforeSequence t most first end
+
+-- a block that ends before a text word splits a sequence that begins at another and that it is to keep
+abbrev pub IsSplit : TextData → ℕ → ℕ → ℕ → Type 0
+IsSplit t most lr end = (sc : ℕ) × IsKept t most lr sc × (end ≤ sc)
+
+-- the block ends where it is to end
+abbrev pub IsBlockEnd : Cutting → TextData → ℕ → ℕ → ℕ → Type 0
+IsBlockEnd Greedy t most first end = IsGreedy t most first end
+IsBlockEnd WholeLoops t most first end = IsWhole t most first end
+
 -- a block of a draft: its text words, and where its words stand
 pub record IsDone (t : TextData) (most first end from to : ℕ) (offsets words : List ℕ) : Type 0 where
   pub run : IsRun t most first end
@@ -66,7 +84,7 @@ pub record AreDrafted (t : TextData) (most done : ℕ) (starts ends offsets word
 abbrev pub IsDraft : TextData → ℕ → ℕ → Draft → Type 0
 IsDraft t most done d = AreDrafted t most done d.starts.items d.ends.items d.offsets.items d.words.items
 
--- the blocks are greedy, and all text words before one fit
-pub record AreGreedy (t : TextData) (most : ℕ) (starts : List ℕ) (done : ℕ) : Type 0 where
+-- the blocks end where they are to end, and all text words before one fit
+pub record AreBlockEnds (c : Cutting) (t : TextData) (most : ℕ) (starts : List ℕ) (done : ℕ) : Type 0 where
   pub fit : (k : ℕ) → k < done → needs_of t k ≤ most
-  pub each : (b : ℕ) → b < length starts → IsGreedy t most (slice_index starts b) (next_of starts done b)
+  pub each : (b : ℕ) → b < length starts → IsBlockEnd c t most (slice_index starts b) (next_of starts done b)

@@ -1,3 +1,4 @@
 pub mod Causes
+pub mod Cuts
 pub mod Upgrades
 pub mod Drafts

@@ -2,11 +2,15 @@
 #![tactic(auto)]
 
 mod cutter;
+mod cutting;
 mod draft;
+mod greedy;
+mod loops;
 mod refusal;
 mod upgrader;
 
-pub use cutter::cut;
+pub use cutter::{cut, cut_by};
+pub use cutting::Cutting;
 pub use refusal::CutRefusal;
 pub use upgrader::upgrade;
 

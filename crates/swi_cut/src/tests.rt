@@ -102,3 +102,83 @@ fn version_2_is_upgraded_to_itself(rt: HostRuntime) -> Result<(), Fail> {
     assert_eq!(rt; again.bytes(), image.bytes());
     Ok(())
 }
+
+/// ADDI x5, x5, 1; LR.W x5, (x11); SC.W x6, x5, (x11); BNE x5, x7, 16.
+const ADDI: u32 = 0x00128293;
+
+const LR: u32 = 0x1005A2AF;
+
+const SC: u32 = 0x1855A32F;
+
+const BNE: u32 = 0x00729863;
+
+/// With which text words the blocks begin.
+fn starts_of(alloc: Global, text: &[u32], most: u32, cutting: Cutting) -> Result<Vec<u32>, Fail>
+    requires some { 0 < length text.now }
+    requires few { length text.now ≤ 32 }
+    requires least { 2 ≤ most }
+    requires most { most ≤ 1024 }
+{
+    let text = bytes_of(alloc, text)?;
+    let program = one_text(alloc, 0x10000, &text)?;
+    let mut starts = Vec::new(alloc);
+    let Ok(image) = cut_by(alloc, &program, most, cutting) else {
+        return Err(Fail::from("no image"));
+    };
+    let view = image.view();
+    for block in 0..view.blocks() {
+        starts.push(view.first(block))?;
+    }
+    Ok(starts)
+}
+
+#[test]
+fn sequences_stay_in_one_block(rt: HostRuntime) -> Result<(), Fail> {
+    const A: u32 = ADDI;
+    let table: [(&[u32], u32, &[u32], &[u32]); 14] = [
+        // An LR.W three words before the cut.
+        (&[A, A, A, LR, A, A, A, SC, A], 8, &[0, 6], &[0, 3]),
+        // Longer than a block; exactly a block.
+        (&[A, LR, A, A, A, A, A, SC, A], 8, &[0, 6], &[0, 6]),
+        (&[A, LR, A, A, A, A, SC, A], 8, &[0, 6], &[0, 1, 7]),
+        (&[LR, A, A, A, A, A, SC, A], 8, &[0, 6], &[0, 6]),
+        // Two sequences.
+        (&[A, LR, SC, LR, SC, A, A, A], 8, &[0, 6], &[0, 6]),
+        (&[A, A, LR, SC, A, LR, SC, A], 8, &[0, 6], &[0, 5]),
+        (&[A, LR, A, A, A, LR, SC, LR, SC], 7, &[0, 5], &[0, 5]),
+        // No SC.W within 16 words, or one in the last of them.
+        (&[A, A, A, LR, A, A, A, A, A], 8, &[0, 6], &[0, 6]),
+        (
+            &[
+                A, A, A, A, A, A, A, A, LR, A, A, A, A, A, A, A, A, A, A, A, A, A, A, A, SC,
+            ],
+            24,
+            &[0, 22],
+            &[0, 22],
+        ),
+        (
+            &[
+                A, A, A, A, A, A, A, A, LR, A, A, A, A, A, A, A, A, A, A, A, A, A, A, SC,
+            ],
+            24,
+            &[0, 22],
+            &[0, 8],
+        ),
+        // A branch out of the loop.
+        (&[A, A, A, LR, BNE, SC, A], 8, &[0, 4], &[0, 3]),
+        // An SC.W before an LR.W; an LR.W behind an LR.W.
+        (&[A, A, A, A, SC, LR, A, A], 8, &[0, 6], &[0, 6]),
+        (&[A, A, A, A, A, LR, LR, SC], 8, &[0, 6], &[0, 6]),
+        (&[A, A, A, LR, LR, A, SC, A], 8, &[0, 6], &[0, 4]),
+    ];
+    for (text, most, greedy, whole) in table {
+        if text.is_empty() || text.len() > 32 || most < 2 || most > 1024 {
+            return Err(Fail::from("no row"));
+        }
+        let got = starts_of(rt.alloc(), text, most, Cutting::Greedy)?;
+        assert_eq!(rt; got.as_slice(), greedy);
+        let got = starts_of(rt.alloc(), text, most, Cutting::WholeLoops)?;
+        assert_eq!(rt; got.as_slice(), whole);
+    }
+    Ok(())
+}

@@ -1,11 +1,11 @@
 -- Words that are as they are asked.
-use Rattle.std.proofs.Common.{◌≡◌, ◌==◌, ◌%◌, Bool, Option, Some, None, ℕ, ◌+◌, ◌<◌, List, [], ◌∷◌, length, get_or, zero, suc, true, false, inl, inr, if◌then◌else◌, length-append, append-nil, refl, arith}
+use Rattle.std.proofs.Common.{◌≡◌, ◌==◌, ◌%◌, Bool, Option, Some, None, ℕ, ◌+◌, ◌<◌, ◌≤◌, List, [], ◌∷◌, length, get_or, zero, suc, true, false, inl, inr, if◌then◌else◌, length-append, append-nil, refl, arith}
 use Rattle.std.proofs.lemmas.Bool.{cases_Bool}
 use Rattle.swi_isa.specs.declared.instr.Instr.{Instr}
 use Rattle.swi_isa.specs.declared.instr.Instr.TheVariants.{Auipc, Jal, Jalr, Branch, Ebreak}
 use Rattle.swi_isa.specs.Decode.{decoded}
 use Rattle.swi_render.specs.ImageOf.{pad}
-use Rattle.swi_render.specs.Rendering.{jump, sum, rendering, rendering_of, falls, falls_of, ending, needs, len, fall_exit, parts_of, Slot, AreAs, AreThe, AreWords, IsThe}
+use Rattle.swi_render.specs.Rendering.{jump, sum, rendering, rendering_of, falls, falls_of, ending, ending_of, needs, len, fall_exit, parts_of, Slot, AreAs, AreThe, AreWords, IsThe}
 
 pub the_as : (ss : List Slot) (xs : List ℕ) → AreThe ss xs → AreAs ss xs
 the_as [] [] t = tt
@@ -60,6 +60,25 @@ some_of (Some (Jal rd off)) w a = jump_some (sum a off % 4 == 0) (rd == 0) rd (s
 some_of (Some (Branch op rs1 rs2 off)) w a = omega arith
 some_of (Some (Jalr rd rs1 imm)) w a = omega arith
 some_of (Some i) w a = omega arith
+
+jump_least : (m l : Bool) (rd t a : ℕ) → 2 ≤ length (jump m l rd t a)
+jump_least false l rd t a = omega arith
+jump_least true true rd t a = omega arith
+jump_least true false rd t a = omega arith
+
+least_of : (i : Option Instr) (w a : ℕ) → 2 ≤ length (ending_of i w a)
+least_of None w a = omega arith
+least_of (Some Ebreak) w a = omega arith
+least_of (Some (Auipc rd imm)) w a = omega arith
+least_of (Some (Jal rd off)) w a = rw (append-nil (jump (sum a off % 4 == 0) (rd == 0) rd (sum a off) a)) (jump_least (sum a off % 4 == 0) (rd == 0) rd (sum a off) a)
+least_of (Some (Branch op rs1 rs2 off)) w a = omega arith
+least_of (Some (Jalr rd rs1 imm)) w a = omega arith
+least_of (Some i) w a = omega arith
+
+-- the last text word of a block takes two words at least
+pub ending_least : (w a : ℕ) → 2 ≤ needs w a
+unfolding ending
+ending_least w a = least_of (decoded w) w a
 
 pub rendering_some : (w a : ℕ) → 0 < len w a
 unfolding rendering

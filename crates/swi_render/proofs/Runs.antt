@@ -1,12 +1,13 @@
 -- The renderings of consecutive text words, with one word more, and the block of them.
-use Rattle.std.proofs.Common.{◌≡◌, ℕ, ◌+◌, ◌-◌, ◌*◌, ◌<◌, ◌≤◌, zero, suc, Bool, List, [], ◌∷◌, ◌++◌, length, get_or, take, drop, arith, refl, ap, ◌∙◌, sym, add-one, true, false, if◌then◌else◌, append_assoc, append-nil, length-append, length-take, length-drop, get_or-drop, get_or-take}
+use Rattle.std.proofs.Common.{◌≡◌, ℕ, ◌+◌, ◌-◌, ◌*◌, ◌<◌, ◌≤◌, zero, suc, Bool, List, [], ◌∷◌, ◌++◌, length, get_or, take, drop, arith, refl, ap, ◌∙◌, sym, add-one, true, false, if◌then◌else◌, append_assoc, append-nil, length-append, length-take, length-drop, get_or-drop, get_or-take, inl, inr}
+use Rattle.std.proofs.lemmas.Bool.{cases_eq}
 use Rattle.std.proofs.Math.Seq.{take-suc}
 use Rattle.swi_program.specs.Text.{TextData}
 use Rattle.swi_image.specs.Words.{part}
 use Rattle.swi_render.specs.Rendering.{Slot, rendering, falls, fall_exit}
 use Rattle.swi_render.specs.ImageOf.{address_of, rendering_at, falls_at, renderings, exit_behind, block_of_words, renderings_between, block_between, offset_in}
 use Rattle.swi_render.specs.Cut.{needs_of}
-use Rattle.swi_render.proofs.Lists.{ending_length, rendering_some}
+use Rattle.swi_render.proofs.Lists.{ending_length, ending_least, rendering_some}
 
 pub renderings_append : (a : ℕ) (xs ys : List ℕ) → renderings a (xs ++ ys) ≡ renderings a xs ++ renderings (a + 4 * length xs) ys
 unfolding renderings
@@ -92,6 +93,10 @@ exit_length : (f : Bool) (a : ℕ) → length (if f then fall_exit a else []) �
 exit_length true a = refl
 exit_length false a = refl
 
+exit_most : (f : Bool) → (if f then 2 else 0) ≤ 2
+exit_most true = omega arith
+exit_most false = omega arith
+
 block_next : (t : TextData) (first k : ℕ) → first ≤ k → k < length t.words →
     block_between t first (k + 1) ≡ renderings_between t first (k + 1) ++ (if falls_at t k then fall_exit (address_of t k) else [])
 unfolding block_of_words
@@ -110,6 +115,20 @@ block_length t first k low within =
     let exit : List Slot = if falls_at t k then fall_exit (address_of t k) else [] in
     let all : length (block_between t first (k + 1)) ≡ length r + length exit = ap length (block_next t first k low within) ∙ length-append r exit in
     omega (arith, exit_length (falls_at t k) (address_of t k), offset_next t first k low within, ending_length (get_or t.words k 0) (address_of t k))
+
+-- with more text words it has no fewer words
+pub block_longer : (t : TextData) (first k end : ℕ) → first < k → k ≤ end → end ≤ length t.words → length (block_between t first k) ≤ length (block_between t first end)
+block_longer t first k end some high within = elim (cases_eq k end) [
+  | inl same ↦ rw same (omega arith)
+  | inr less ↦
+      let before : k - 1 + 1 ≡ k = omega arith in
+      let last : end - 1 + 1 ≡ end = omega arith in
+      let here = rw before at (block_length t first (k - 1) (omega arith) (omega arith)) in
+      let there = rw last at (block_length t first (end - 1) (omega arith) (omega arith)) in
+      let next = rw before at (offset_next t first (k - 1) (omega arith) (omega arith)) in
+      let up = offset_up t first k (end - 1) (omega arith) (omega arith) (omega arith) in
+      omega (arith, ending_length (get_or t.words (k - 1) 0) (address_of t (k - 1)), exit_most (falls_at t (k - 1)), ending_least (get_or t.words (end - 1) 0) (address_of t (end - 1)))
+]
 
 -- the parts of a block
 pub block_parts : (t : TextData) (first end : ℕ) → first < end → end ≤ length t.words →

@@ -3,7 +3,7 @@ use Rattle.swi_render.specs.ImageOf.{offset_in}
 use Rattle.swi_render.specs.Cut.{needs_of}
 use Rattle.swi_render.proofs.Runs.{offset_first}
 use Rattle.swi_cut.proofs.Runs.{growing_start, growing_next, growing_stops}
-use Rattle.swi_cut.proofs.cutter.block_end.Goals as goal
+use Rattle.swi_cut.proofs.greedy.longest_end.Goals as goal
 
 pub loop-k-init : goal.loop-k-init
 loop-k-init c = (growing_start c.args.text.now c.args.most c.args.first c.requires.first, omega arith)
