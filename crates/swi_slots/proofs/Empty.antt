@@ -64,10 +64,7 @@ kept_empty s next filled turn targets counts =
 
 -- with one program its image is that of all
 pub alone : {T E : Type 0} (view : T → Slots) (result : Result T E) (size slots : ℕ) → IfOk result (λ (s : T). view s ≡ empty_slots slots size 1) →
-    IfOk result (λ (s : T). (vs : Images) (words : List ℕ) → ((p : ℕ) → IsImage (vs p)) → ((p : ℕ) → (vs p).block_words ≤ size) → slots * size ≤ length words → SlotsServe (view s) vs words) →
+    IfOk result (λ (s : T). (vs : Images) (words : List ℕ) → ((p : ℕ) → IsImage (vs p)) → ((p : ℕ) → (vs p).block_words ≤ size) → slots * size ≤ length words → Serves (view s) (vs 0) vs words) →
     IfOk result (λ (s : T). (v : ImageData) (words : List ℕ) → IsImage v → v.block_words ≤ size → slots * size ≤ length words → SlotsSound (view s) v words)
-alone view (Ok s) size slots empty serves = λ v words image most fits. ((λ (p : ℕ). v), alone_serves v words image most fits)
-  where
-    alone_serves : (v : ImageData) (words : List ℕ) → IsImage v → v.block_words ≤ size → slots * size ≤ length words → Serves (view s) v (λ (p : ℕ). v) words
-    alone_serves v words image most fits = (refl, serves (λ (p : ℕ). v) words (λ p. image) (λ p. most) fits)
+alone view (Ok s) size slots empty serves = λ v words image most fits. ((λ (p : ℕ). v), serves (λ (p : ℕ). v) words (λ p. image) (λ p. most) fits)
 alone view (Err e) size slots empty serves = tt

@@ -71,10 +71,6 @@ goes_place vs k t to q e = place_key (owner_of k) (place_of (vs (owner_of k)) t)
 pub place_small : (vs : Images) (p t b q : ℕ) → IsImage (vs p) → place_of (vs p) t ≡ Some (b, q) → b < 2 ^ 19
 place_small vs p t b q image e = known_few (vs p) b image (place_inside (vs p) image t b q e).0
 
--- the number of a block that stands, of the program in turn
-pub number_small : (s : Slots) (vs : Images) (words : List ℕ) (n : ℕ) → SlotsServe s vs words → n < s.filled → number_of (slice_index s.blocks n) < 2 ^ 19
-number_small s vs words n sound lt = known_few (vs (owner_of (slice_index s.blocks n))) (number_of (slice_index s.blocks n)) (sound.images (owner_of (slice_index s.blocks n))) (sound.known n lt)
-
 -- a link stays in its program
 pub target_owner : (s : Slots) (vs : Images) (words : List ℕ) (m o : ℕ) → SlotsServe s vs words → LinkStands s vs words m o → owner_of (slice_index s.blocks (slice_index s.targets (m * s.size + o))) ≡ owner_of (slice_index s.blocks m)
 target_owner s vs words m o sound link =

@@ -1,8 +1,7 @@
 -- What the readers show.
 use Rattle.std.proofs.Common.{◌≡◌, ℕ, suc, zero, ◌+◌, ◌-◌, ◌*◌, ◌/◌, ◌%◌, ◌<◌, ◌≤◌, ◌==◌, ◌&&◌, Bool, true, false, List, [], ◌∷◌, filter, drop, Option, Some, None, slice_index, slice_index_or, slice_get, nat_lt, if◌then◌else◌, arith, refl, sym, ◌∙◌, ap, subst, inl, inr}
-use Rattle.std.proofs.lemmas.Bool.{cases_lt, ltb-true, lt-ltb, le-ltb, both_ways, and_parts, and_from, eq-eqb, eqb-true, ne_eqb}
+use Rattle.std.proofs.lemmas.Bool.{cases_lt, ltb-true, lt-ltb, both_ways, and_parts, and_from, eq-eqb, eqb-true, ne_eqb}
 use Rattle.std.proofs.lemmas.List.{drop_more, drop_all, get_or_read}
-use Rattle.std.proofs.lemmas.Nat.{mod-mul-add, div-add-mod', le-div}
 use Rattle.swi_image.specs.Format.{ImageData}
 use Rattle.swi_image.specs.Place.{length_at}
 use Rattle.swi_rom.specs.Record.{Placement}
@@ -10,7 +9,7 @@ use Rattle.swi_rom.specs.Coherent.{StandsAt, resident_of, pair_of}
 use Rattle.swi_slots.specs.Slots.{Slots, InShape, queue_of, kept_by, shown_by}
 use Rattle.swi_slots.specs.Keys.{Images, key_of, owner_of, number_of, key_owner, key_parts, number_below, words_in}
 use Rattle.swi_slots.specs.Sound.{SlotsServe, SlotsSound}
-use Rattle.swi_slots.specs.Queue.{spot, placed_slot, slot_placed, next_free, length_queue}
+use Rattle.swi_slots.specs.Queue.{spot, placed_slot, slot_placed, length_queue}
 use Rattle.swi_slots.specs.SlotLinks.{word_is, word_slot}
 use Rattle.swi_slots.specs.Order.{slot_at, slot_at_filled, queue_at}
 use Rattle.swi_slots.specs.Coheres.{placed_most, key_words}
@@ -56,29 +55,6 @@ unfolding shown_by
 shown_stands s v words sound i =
     subst (λ (w : ImageData). StandsAt w (kept_by s) i (shown_by s i)) sound.1.0
     (shown_in s sound.0 words i (nat_lt (i / s.size) s.filled && (owner_of (slice_index s.blocks (i / s.size)) == s.turn && nat_lt (i % s.size) (slice_index s.lengths (i / s.size)))) sound.1.1 refl)
-
-turn_at : (m q n k r : ℕ) → m ≡ (q + 1) * n + r → r < n → k < n → (m - n + k) % n ≡ (if nat_lt (r + k) n then r + k else r + k - n)
-turn_at m q n k r e lt lt' = elim (cases_lt (r + k) n) [
-  | inl below ↦ (let up : m - n + k ≡ q * n + (r + k) = grind arith in rw (lt-ltb (r + k) n below, up) (mod-mul-add q n (r + k) below))
-  | inr past ↦ (let up : m - n + k ≡ (q + 1) * n + (r + k - n) = grind arith in rw (le-ltb (r + k) n past, up) (mod-mul-add (q + 1) n (r + k - n) (omega arith)))
-]
-
--- the k-th oldest of q blocks stands in slot (misses - q + k) mod slots
-pub slot_at_is : (s : Slots) (k : ℕ) → InShape s → k < s.filled → slot_at s k ≡ (s.counts.misses - s.filled + k) % s.slots
-slot_at_is s k shape lt = elim (cases_lt s.filled s.slots) [
-  | inl free ↦ (
-      let next : s.next ≡ s.filled = next_free s shape free in
-      let all : s.counts.misses ≡ s.filled = omega (arith, shape.filled_is) in
-      let here : (s.counts.misses - s.filled + k) % s.slots ≡ k = ap (λ (x : ℕ). x % s.slots) (omega arith) ∙ mod-mul-add 0 s.slots k (omega arith) in
-      rw (here, le-ltb (s.next + k) s.filled (omega arith)) (omega arith))
-  | inr full ↦ (
-      let is : s.filled ≡ s.slots = omega (arith, shape.filled_most) in
-      let more : s.slots ≤ s.counts.misses = omega (arith, shape.filled_is) in
-      let split : s.counts.misses / s.slots * s.slots + s.counts.misses % s.slots ≡ s.counts.misses = div-add-mod' s.counts.misses s.slots in
-      let some : 1 ≤ s.counts.misses / s.slots = le-div 1 s.counts.misses s.slots shape.some_slot (omega arith) in
-      let e : s.counts.misses ≡ (s.counts.misses / s.slots - 1 + 1) * s.slots + s.next = sym split ∙ ap (λ (x : ℕ). s.counts.misses / s.slots * s.slots + x) (sym shape.next_is) ∙ ap (λ (x : ℕ). x * s.slots + s.next) (omega arith) in
-      rw is (sym (turn_at s.counts.misses (s.counts.misses / s.slots - 1) s.slots k s.next e shape.next_below (omega arith))))
-]
 
 -- the program's own among the placed blocks from the n-th oldest on
 abbrev pub own_from : Slots → ℕ → List Placement

@@ -130,9 +130,6 @@ linked_in : (s : Slots) (n o : ℕ) (t : Bool) → Tidy s → n < s.filled → o
 linked_in s n o true tidy lt lt' t = word_linked s n o tidy.shape (omega (arith, tidy.shape.filled_most)) lt' (ltb-true _ _ t)
 linked_in s n o false tidy lt lt' t = never_link s n o (link_of s n o) tidy lt (link_key s n o (link_of s n o) refl) refl (ltb-false _ _ t)
 
-pub linked_is : (s : Slots) (n o : ℕ) → Tidy s → n < s.filled → o < s.size → has_link (links_of s) (link_of s n o) ≡ nat_lt (slice_index s.targets (n * s.size + o)) s.slots
-linked_is s n o tidy lt lt' = linked_in s n o (nat_lt (slice_index s.targets (n * s.size + o)) s.slots) tidy lt lt' refl
-
 -- the word of an exit that is linked
 abbrev pub LinkedAt : Slots → ℕ → ℕ → ℕ → Type 0
 LinkedAt s p b o = (n : ℕ) × (n < s.filled) × (o < s.size) × (slice_index s.blocks n ≡ key_of p b) × (slice_index s.targets (n * s.size + o) < s.slots) × (b < 2 ^ 19)

@@ -7,7 +7,7 @@ ghost use Rattle.swi_image.specs.Sound.{IsImage};
 ghost use Rattle.swi_rom.specs.Record.{empty_record, reaches};
 ghost use Rattle.swi_rom.specs.Coherent.{resident_of};
 ghost use Rattle.swi_slots.specs.Slots.{Slots, InShape, kept_by, setting_of, empty_slots};
-ghost use Rattle.swi_slots.specs.Sound.{SlotsServe, SlotsSound, Serves};
+ghost use Rattle.swi_slots.specs.Sound.{SlotsSound, Serves};
 ghost use Rattle.swi_slots.specs.Keys.{key_of, owner_of, number_of};
 ghost use Rattle.swi_rom.specs.Writing.{FailedBelow};
 ghost use Rattle.swi_slots.specs.Steps.{MadeRoom, Filled, Linked, MaybeLinked, can_link, IsAbsent, LinksInside, settled, counted_slots, wrapped};
@@ -157,7 +157,7 @@ impl<T: LinkTable> SlotRom<T> {
         ensures kept { IfOk result (λ s. kept_by s ≡ empty_record) }
         ensures serves { IfOk result (λ s. (images : ℕ → ImageData) (words : List ℕ) → ((p : ℕ) → IsImage (images p)) →
             ((p : ℕ) → (images p).block_words ≤ block_words) →
-            cache_bytes / 4 / block_words * block_words ≤ length words → SlotsServe s images words) }
+            cache_bytes / 4 / block_words * block_words ≤ length words → Serves s (images 0) images words) }
     {
         let slots = cache_bytes / 4 / block_words;
         let blocks = vec![in alloc; 0u32; slots as usize].map_err(|_| Memory)?;

@@ -6,33 +6,35 @@ use Rattle.swi_slots.proofs.slots.SlotRom.shared.Goals as goal
 
 pub returns-clause-serves : goal.returns-clause-serves
 returns-clause-serves g c = λ vs words images sizes fits.
-    let slots = c.args.cache_bytes / 4 / c.args.block_words in
-    empty_serves _ vs words (record {
-      shape = record {
-        some_slot = le-div 1 (c.args.cache_bytes / 4) c.args.block_words (omega (arith, c.requires.least)) (omega (arith, c.requires.bytes));
-        size_least = c.requires.least;
-        size_most = c.requires.most;
-        words_few = omega (arith, div-add-mod' (c.args.cache_bytes / 4) c.args.block_words, c.requires.limit);
-        turn_below = c.requires.programs;
-        programs_most = c.requires.few;
-        next_below = le-div 1 (c.args.cache_bytes / 4) c.args.block_words (omega (arith, c.requires.least)) (omega (arith, c.requires.bytes));
-        filled_most = omega arith;
-        blocks_long = grind (arith, common_steps);
-        lengths_long = grind (arith, common_steps);
-        targets_long = grind (arith, common_steps);
-        goals_long = grind (arith, common_steps);
-        next_is = omega arith;
-        filled_is = omega arith;
-      };
-      filled = refl;
-      targets = grind (arith, common_steps);
-      services = refl;
-      misses = refl;
-      evictions = refl;
-      links = refl;
-      unlinks = refl;
-      copied = refl;
-    }) images sizes fits
+    let slots = c.args.cache_bytes / 4 / c.args.block_words in (
+      refl,
+      empty_serves _ vs words (record {
+        shape = record {
+          some_slot = le-div 1 (c.args.cache_bytes / 4) c.args.block_words (omega (arith, c.requires.least)) (omega (arith, c.requires.bytes));
+          size_least = c.requires.least;
+          size_most = c.requires.most;
+          words_few = omega (arith, div-add-mod' (c.args.cache_bytes / 4) c.args.block_words, c.requires.limit);
+          turn_below = c.requires.programs;
+          programs_most = c.requires.few;
+          next_below = le-div 1 (c.args.cache_bytes / 4) c.args.block_words (omega (arith, c.requires.least)) (omega (arith, c.requires.bytes));
+          filled_most = omega arith;
+          blocks_long = grind (arith, common_steps);
+          lengths_long = grind (arith, common_steps);
+          targets_long = grind (arith, common_steps);
+          goals_long = grind (arith, common_steps);
+          next_is = omega arith;
+          filled_is = omega arith;
+        };
+        filled = refl;
+        targets = grind (arith, common_steps);
+        services = refl;
+        misses = refl;
+        evictions = refl;
+        links = refl;
+        unlinks = refl;
+        copied = refl;
+      }) images sizes fits,
+    )
 
 pub returns-clause-kept : goal.returns-clause-kept
 returns-clause-kept g c = kept_empty _ refl refl refl (grind (arith, common_steps)) refl
