@@ -57,7 +57,7 @@ void end_program(uint32_t status)
     if (has(OPTION_STATS))
         put_counts();
     if (has(OPTION_TIMER))
-        put_count(STREAM_ERR, "alarms", alarms);
+        put_count(STREAM_ERR, "native: alarms", alarms);
     if (has(OPTION_DUMP)) {
         host_dump("cache.bin", (const void *)CACHE, slot_count * slot_bytes);
         host_dump("slots.bin", (const void *)SERVICE_MEMORY, slot_count * sizeof(struct slot));
