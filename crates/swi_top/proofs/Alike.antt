@@ -28,7 +28,7 @@ use Rattle.swi_answer.specs.Lines.{ending_line}
 use Rattle.swi_top.specs.Devices.{Devices}
 use Rattle.swi_top.specs.Checks.{Check, OfImage, IsShort, IsAcceptedElf, HasRoom, HasImage, IsAcceptedImage, IsOwnImage, FitsBlocks, FitsUnlessImage, HoldsBlock, FitsMade, HoldsWords, Fails, Passes, IsAccepted, IsRefusedBy, cache_refusal, checks_of, text_in}
 use Rattle.swi_top.specs.Runs.{Ran, report, start_of}
-use Rattle.swi_top.specs.Answers.{Answers, AnswersWithLine, cached_run, shown_end, shown_error, plain_report, plain_run, telling_of, work_of}
+use Rattle.swi_top.specs.Answers.{Answers, AnswersWithLine, cache_for, cached_run, shown_end, shown_error, plain_report, plain_run, telling_of, work_of}
 use Rattle.swi_top.specs.Alike.{IsFree, LeavesAlike}
 use Rattle.swi_top.proofs.Lines.{take_all}
 
@@ -142,7 +142,7 @@ ended_alike name cache o file input before plain cached e f one free other free'
     let ran = one.answers.done file free.told input told in
     let does = other.answers.done file free'.told in
     let runs = does.3 input told in
-    let c = cached_run cache o does.0 (start_of o file input) in
+    let c = cached_run (cache_for cache does.0) o does.0 (start_of o file input) in
     let flat = runs.cached.flat o.limits.steps never in
     both_ran o (plain_run o file input o.limits.steps) (shown_end o c) (work_of c) before plain cached e f one.shown other.shown (ap (λ (q : FlatState). record q { error = shown_error o.reports.trace c }) flat)
     (λ off. ap (λ (q : FlatState). q.error) (shown_is o.reports.trace c off ∙ flat)) ran (one.whole free.quiet.err) runs.ran (other.whole free'.quiet.err)

@@ -23,6 +23,7 @@ use Rattle.swi_calls.specs.declared.machine.Machine.{Machine}
 use Rattle.swi_calls.specs.Flat.{flat_start}
 use Rattle.swi_calls.specs.State.{FlatState}
 use Rattle.swi_rom.specs.Record.{Record, writes}
+use Rattle.swi_rom.specs.Service.{Cache}
 use Rattle.swi_report.specs.declared.stats.Work.{Work}
 use Rattle.swi_hart.specs.Hart.{HartData}
 use Rattle.swi_cached.specs.declared.run.CachedStop.{CachedStop}
@@ -34,13 +35,13 @@ use Rattle.swi_hart.specs.Faults as board
 use Rattle.swi_memory.specs.Bus.{AreaData}
 use Rattle.std.proofs.Math.Seq.{take-append_seam, take-length}
 use Rattle.std.proofs.lemmas.List.{take-append-drop}
-use Rattle.swi_cached.specs.Cached.{CachedRun, IsCounted, run_of, slots_of, end_of, program_after, told_after, instructions_after, fetches_after, record_after, unfetched}
+use Rattle.swi_cached.specs.Cached.{CachedRun, IsCounted, run_of, end_of, program_after, told_after, instructions_after, fetches_after, record_after, unfetched}
 use Rattle.swi_cached.proofs.Failed.{is_flat_run, stops_before_store}
 use Rattle.swi_answer.specs.declared.answer.Ending.{Ending}
 use Rattle.swi_answer.specs.declared.answer.Refusal.{Refusal}
 use Rattle.swi_answer.specs.declared.answer.Refusal.TheVariants as refusal
-use Rattle.swi_top.specs.Answers.{Answers, BrokeIn, CachedFailed, Does, IsCachedRun, IsChecked, IsImageFor, IsRunFault, IsSizeRefusal, Leaves, RamCounted, RunsCached, cached_report, cached_run, held_next, last_lines, last_told, shown_error, telling_of, work_of}
-use Rattle.swi_top.specs.Caching.{AnswersFile, IsCachedErr, IsFileErr, RunsOnCache, board_work, refusal_of}
+use Rattle.swi_top.specs.Answers.{Answers, BrokeIn, CachedFailed, Does, IsCachedRun, IsChecked, IsImageFor, IsRunFault, IsSizeRefusal, Leaves, RamCounted, RunsCached, cache_for, cached_report, cached_run, held_next, last_lines, last_told, shown_error, telling_of, work_of}
+use Rattle.swi_top.specs.Caching.{AnswersFile, IsCachedErr, IsFileErr, IsRunErr, RunsOnCache, RunsOver, board_work, refusal_of}
 use Rattle.swi_top.specs.Causes.{HasCauses}
 use Rattle.swi_top.specs.Checks.{Check, FitsUnlessImage, HoldsBlock, Fails, ImageFails, ImagePasses, IsAccepted, IsLong, IsRefusedBy, IsRefusedOr, Passes, block_words, cache_refusal, checks_of, file_limit, room_in, size_refusal, text_in}
 use Rattle.swi_top.specs.Devices.{Devices, Faults}
@@ -59,17 +60,16 @@ ran_all d i o e ram source out err =
     record d { input = i; output = o; error = e; ram = ram; faults = record d.faults { input = source; out = out; err = err; ram = ram.faults } }
 
 -- the cached run of a program with this input
-abbrev pub run_with : RunOptions → CacheOptions → ImageData → ProgramData → Layout → List ℕ → CachedRun
+abbrev pub run_with : RunOptions → Cache → ImageData → ProgramData → Layout → List ℕ → CachedRun
 run_with o cache v p l input = cached_run cache o v (flat_start p l o.reports.calls input)
 
 keeps_all : (n : ℕ) (r : RamState) → KeepsBeyond n r r
 keeps_all n r = record { same_length = refl; beyond = λ i h. refl; reached = omega arith }
 
-no_memory : (o : RunOptions) (cache : CacheOptions) (v : ImageData) (p : ProgramData) (l : Layout) (d : Devices) →
-    RunsOnCache o cache v p l d d (Err refusal.Memory)
+no_memory : (o : RunOptions) (cache : Cache) (v : ImageData) (p : ProgramData) (l : Layout) (d : Devices) →
+    RunsOver o cache v p l d d (Err refusal.Memory)
 no_memory o cache v p l d = record {
   done = tt;
-  holds = tt;
   refused = tt;
   quiet = λ _. refl;
   failed = λ f. absurd f;
@@ -85,15 +85,15 @@ BoardCauses d ram source out err r =
 same_count : {P : Type 0} (n m : ℕ) → DeviceCause n m P → (P → ⊥) → m ≡ n
 same_count n m h never = elim h.told [ inl e ↦ e | inr p ↦ absurd (never p) ]
 
-memory_after : {T : Type 0} (o : RunOptions) (cache : CacheOptions) (v : ImageData) (p : ProgramData) (l : Layout) (d : Devices) (i out e : Option (List ℕ)) (ram : RamState) (fi fo fe : ℕ) →
+memory_after : {T : Type 0} (o : RunOptions) (cache : Cache) (v : ImageData) (p : ProgramData) (l : Layout) (d : Devices) (i out e : Option (List ℕ)) (ram : RamState) (fi fo fe : ℕ) →
     d.ram.faults ≡ d.faults.ram → (ram ≡ d.ram) × (i ≡ d.input) × (out ≡ d.output) × (e ≡ d.error) → BoardCauses {T = T} d ram.faults fi fo fe (Err stop.Memory) →
-    RunsOnCache o cache v p l d (ran_all d i out e ram fi fo fe) (Err refusal.Memory)
+    RunsOver o cache v p l d (ran_all d i out e ram fi fo fe) (Err refusal.Memory)
 memory_after o cache v p l d i out e ram fi fo fe tied same h =
     let fi_is : fi ≡ d.faults.input = same_count d.faults.input fi h.source (λ x. let bad : ⊥ = cc in bad) in
     let fo_is : fo ≡ d.faults.out = elim h.sinks.one_told [ inl q ↦ q | inr x ↦ absurd (let bad : ⊥ = cc in bad) ] in
     let fe_is : fe ≡ d.faults.err = elim h.sinks.other_told [ inl q ↦ q | inr x ↦ absurd (let bad : ⊥ = cc in bad) ] in
     let Goal : Option (List ℕ) → Option (List ℕ) → Option (List ℕ) → RamState → ℕ → ℕ → ℕ → ℕ → Type 0 = λ a b x r k m n s.
-    RunsOnCache o cache v p l d (record d { input = a; output = b; error = x; ram = r; faults = record d.faults { input = k; out = m; err = n; ram = s } }) (Err refusal.Memory) in
+    RunsOver o cache v p l d (record d { input = a; output = b; error = x; ram = r; faults = record d.faults { input = k; out = m; err = n; ram = s } }) (Err refusal.Memory) in
     let ram_is : ram.faults ≡ d.faults.ram = ap (λ (r : RamState). r.faults) same.0 ∙ tied in
     subst (λ (a : Option (List ℕ)). Goal a out e ram fi fo fe ram.faults) (sym same.1)
     (subst (λ (b : Option (List ℕ)). Goal d.input b e ram fi fo fe ram.faults) (sym same.2)
@@ -150,34 +150,30 @@ failed_so o c d m r last broke = record { broke = broke; flat = is_flat_run c; s
 to_nil : (a b : Option (List ℕ)) (x : List ℕ) → Appends a b x → Appends a b (x ++ [])
 to_nil a b x h = subst (λ (y : List ℕ). Appends a b y) (sym (append-nil x)) h
 
-ram_failed : {T : Type 0} (o : RunOptions) (cache : CacheOptions) (v : ImageData) (p : ProgramData) (l : Layout) (d : Devices) (i out e : Option (List ℕ)) (ram : RamState) (fi fo fe : ℕ) →
-    4 * v.block_words ≤ cache.cache_bytes → KeepsBeyond (slots_of cache.cache_bytes v * v.block_words) d.ram ram →
+ram_failed : {T : Type 0} (o : RunOptions) (cache : Cache) (v : ImageData) (p : ProgramData) (l : Layout) (d : Devices) (i out e : Option (List ℕ)) (ram : RamState) (fi fo fe : ℕ) →
+    KeepsBeyond cache.span d.ram ram →
     ((left : List ℕ) → d.input ≡ Some left → run.RamFailed (run_with o cache v p l left) d.ram ram i d.output out d.error e) →
-    BoardCauses {T = T} d ram.faults fi fo fe (Err stop.RamFault) → RunsOnCache o cache v p l d (ran_all d i out e ram fi fo fe) (Err refusal.RamFault)
-ram_failed o cache v p l d i out e ram fi fo fe held kept broke h = record {
+    BoardCauses {T = T} d ram.faults fi fo fe (Err stop.RamFault) → RunsOver o cache v p l d (ran_all d i out e ram fi fo fe) (Err refusal.RamFault)
+ram_failed o cache v p l d i out e ram fi fo fe kept broke h = record {
   done = tt;
-  holds = tt;
   refused = tt;
   quiet = λ never. absurd (never tt);
-  failed = λ _. (
-    held,
-    λ left told.
-        let b = broke left told in
-        let c = run_with o cache v p l left in
-        failed_so o c d (ran_all d i out e ram fi fo fe) refusal.RamFault [] (inl (record {
-          fault = refl;
-          fetched = b.fetched;
-          fetches = b.fetches;
-          steps = b.steps;
-          within = b.within;
-          enough = b.enough;
-          longest = b.longest;
-          output = b.output;
-          begun = b.begun;
-          error = to_nil d.error e ((told_after c b.steps).error ++ (if b.begun then told_line c.trace (program_after c b.steps).machine else [])) b.error;
-          input = b.input;
-        })),
-  );
+  failed = λ _ left told.
+      let b = broke left told in
+      let c = run_with o cache v p l left in
+      failed_so o c d (ran_all d i out e ram fi fo fe) refusal.RamFault [] (inl (record {
+        fault = refl;
+        fetched = b.fetched;
+        fetches = b.fetches;
+        steps = b.steps;
+        within = b.within;
+        enough = b.enough;
+        longest = b.longest;
+        output = b.output;
+        begun = b.begun;
+        error = to_nil d.error e ((told_after c b.steps).error ++ (if b.begun then told_line c.trace (program_after c b.steps).machine else [])) b.error;
+        input = b.input;
+      }));
   beyond = kept;
   causes = ram_causes d ram.faults fi fo fe h;
 }
@@ -187,113 +183,105 @@ front_none a b x y n zero h =
     let all : Appends a b (x ++ []) = subst (λ (k : ℕ). Appends a b (x ++ take k y)) zero h in
     subst (λ (z : List ℕ). Appends a b z) (append-nil x) all
 
-source_failed : {T : Type 0} (o : RunOptions) (cache : CacheOptions) (v : ImageData) (p : ProgramData) (l : Layout) (d : Devices) (i out e : Option (List ℕ)) (ram : RamState) (fi fo fe : ℕ) →
-    4 * v.block_words ≤ cache.cache_bytes → KeepsBeyond (slots_of cache.cache_bytes v * v.block_words) d.ram ram →
+source_failed : {T : Type 0} (o : RunOptions) (cache : Cache) (v : ImageData) (p : ProgramData) (l : Layout) (d : Devices) (i out e : Option (List ℕ)) (ram : RamState) (fi fo fe : ℕ) →
+    KeepsBeyond cache.span d.ram ram →
     ((left : List ℕ) → d.input ≡ Some left → run.StepFailed {T = T} (run_with o cache v p l left) (Err stop.SourceFault) i d.output out d.error e) →
-    BoardCauses {T = T} d ram.faults fi fo fe (Err stop.SourceFault) → RunsOnCache o cache v p l d (ran_all d i out e ram fi fo fe) (Err refusal.SourceFault)
-source_failed o cache v p l d i out e ram fi fo fe held kept broke h = record {
+    BoardCauses {T = T} d ram.faults fi fo fe (Err stop.SourceFault) → RunsOver o cache v p l d (ran_all d i out e ram fi fo fe) (Err refusal.SourceFault)
+source_failed o cache v p l d i out e ram fi fo fe kept broke h = record {
   done = tt;
-  holds = tt;
   refused = tt;
   quiet = λ never. absurd (never tt);
-  failed = λ _. (
-    held,
-    λ left told.
-        let b = broke left told in
-        let c = run_with o cache v p l left in
-        let none = b.unwritten refl in
-        failed_so o c d (ran_all d i out e ram fi fo fe) refusal.SourceFault [] (inr (inl (record {
-          steps = b.steps;
-          fewer = b.fewer;
-          failed = record {
-            fault = inl refl;
-            going = b.going;
-            output = (b.output_front, b.output);
-            error_front = b.error_front;
-            error = to_nil d.error e _ b.error;
-            source = λ _. (
-              front_none d.output out _ _ b.output_front none.0 b.output,
-              to_nil d.error e _ (subst (λ (x : List ℕ). Appends d.error e ((told_after c b.steps).error ++ x))
-                  (ap (λ (k : ℕ). take k (next_error c.trace (program_after c b.steps))) none.1
-                  ∙ take-append_seam (told_line c.trace (program_after c b.steps).machine) (held_next (program_after c b.steps)).error) b.error),
-            );
-            taken = b.taken;
-            no_more = let few : length b.taken + length (held_next (program_after c b.steps)).input ≤ length (program_after c b.steps).input = b.few in omega arith;
-            input = b.input;
-          };
-        }))),
-  );
+  failed = λ _ left told.
+      let b = broke left told in
+      let c = run_with o cache v p l left in
+      let none = b.unwritten refl in
+      failed_so o c d (ran_all d i out e ram fi fo fe) refusal.SourceFault [] (inr (inl (record {
+        steps = b.steps;
+        fewer = b.fewer;
+        failed = record {
+          fault = inl refl;
+          going = b.going;
+          output = (b.output_front, b.output);
+          error_front = b.error_front;
+          error = to_nil d.error e _ b.error;
+          source = λ _. (
+            front_none d.output out _ _ b.output_front none.0 b.output,
+            to_nil d.error e _ (subst (λ (x : List ℕ). Appends d.error e ((told_after c b.steps).error ++ x))
+                (ap (λ (k : ℕ). take k (next_error c.trace (program_after c b.steps))) none.1
+                ∙ take-append_seam (told_line c.trace (program_after c b.steps).machine) (held_next (program_after c b.steps)).error) b.error),
+          );
+          taken = b.taken;
+          no_more = let few : length b.taken + length (held_next (program_after c b.steps)).input ≤ length (program_after c b.steps).input = b.few in omega arith;
+          input = b.input;
+        };
+      })));
   beyond = kept;
   causes = source_causes d ram.faults fi fo fe h;
 }
 
-sink_failed : {T : Type 0} (o : RunOptions) (cache : CacheOptions) (v : ImageData) (p : ProgramData) (l : Layout) (d : Devices) (i out e : Option (List ℕ)) (ram : RamState) (fi fo fe : ℕ) →
-    4 * v.block_words ≤ cache.cache_bytes → KeepsBeyond (slots_of cache.cache_bytes v * v.block_words) d.ram ram →
+sink_failed : {T : Type 0} (o : RunOptions) (cache : Cache) (v : ImageData) (p : ProgramData) (l : Layout) (d : Devices) (i out e : Option (List ℕ)) (ram : RamState) (fi fo fe : ℕ) →
+    KeepsBeyond cache.span d.ram ram →
     ((left : List ℕ) → d.input ≡ Some left → run.StepFailed {T = T} (run_with o cache v p l left) (Err stop.SinkFault) i d.output out d.error e) →
-    BoardCauses {T = T} d ram.faults fi fo fe (Err stop.SinkFault) → RunsOnCache o cache v p l d (ran_all d i out e ram fi fo fe) (Err refusal.SinkFault)
-sink_failed o cache v p l d i out e ram fi fo fe held kept broke h = record {
+    BoardCauses {T = T} d ram.faults fi fo fe (Err stop.SinkFault) → RunsOver o cache v p l d (ran_all d i out e ram fi fo fe) (Err refusal.SinkFault)
+sink_failed o cache v p l d i out e ram fi fo fe kept broke h = record {
   done = tt;
-  holds = tt;
   refused = tt;
   quiet = λ never. absurd (never tt);
-  failed = λ _. (
-    held,
-    λ left told.
-        let b = broke left told in
-        let c = run_with o cache v p l left in
-        failed_so o c d (ran_all d i out e ram fi fo fe) refusal.SinkFault [] (inr (inl (record {
-          steps = b.steps;
-          fewer = b.fewer;
-          failed = record {
-            fault = inr refl;
-            going = b.going;
-            output = (b.output_front, b.output);
-            error_front = b.error_front;
-            error = to_nil d.error e _ b.error;
-            source = λ x. absurd (let bad : ⊥ = cc in bad);
-            taken = b.taken;
-            no_more = let few : length b.taken + length (held_next (program_after c b.steps)).input ≤ length (program_after c b.steps).input = b.few in omega arith;
-            input = b.input;
-          };
-        }))),
-  );
+  failed = λ _ left told.
+      let b = broke left told in
+      let c = run_with o cache v p l left in
+      failed_so o c d (ran_all d i out e ram fi fo fe) refusal.SinkFault [] (inr (inl (record {
+        steps = b.steps;
+        fewer = b.fewer;
+        failed = record {
+          fault = inr refl;
+          going = b.going;
+          output = (b.output_front, b.output);
+          error_front = b.error_front;
+          error = to_nil d.error e _ b.error;
+          source = λ x. absurd (let bad : ⊥ = cc in bad);
+          taken = b.taken;
+          no_more = let few : length b.taken + length (held_next (program_after c b.steps)).input ≤ length (program_after c b.steps).input = b.few in omega arith;
+          input = b.input;
+        };
+      })));
   beyond = kept;
   causes = sink_causes d ram.faults fi fo fe h;
 }
 
 -- the run as its caller names it
-abbrev pub asked : RunOptions → CacheOptions → ImageData → ProgramData → Layout → Telling → List ℕ → CachedRun
-asked o cache v p l t left = run_of v cache.cache_bytes p l o.reports.calls t o.limits.steps left
+abbrev pub asked : RunOptions → Cache → ImageData → ProgramData → Layout → Telling → List ℕ → CachedRun
+asked o cache v p l t left = run_of v cache p l o.reports.calls t o.limits.steps left
 
-as_run : (P : CachedRun → Type 0) (t : Telling) (o : RunOptions) (cache : CacheOptions) (v : ImageData) (p : ProgramData) (l : Layout) (left : List ℕ) → t ≡ telling_of o.reports.trace →
+as_run : (P : CachedRun → Type 0) (t : Telling) (o : RunOptions) (cache : Cache) (v : ImageData) (p : ProgramData) (l : Layout) (left : List ℕ) → t ≡ telling_of o.reports.trace →
     P (asked o cache v p l t left) → P (run_with o cache v p l left)
 as_run P t o cache v p l left is h = subst (λ (x : Telling). P (asked o cache v p l x left)) is h
 
 -- it stopped before its end
-pub run_stopped : {T : Type 0} {o : RunOptions} {cache : CacheOptions} {v : ImageData} {p : ProgramData} {l : Layout} {d : Devices} {t : Telling} {i out e : Option (List ℕ)} {ram : RamState} {fi fo fe : ℕ}
-    (f : CachedStop) (r : Refusal) → r ≡ refusal_of f → t ≡ telling_of o.reports.trace → 4 * v.block_words ≤ cache.cache_bytes → d.ram.faults ≡ d.faults.ram → KeepsBeyond (slots_of cache.cache_bytes v * v.block_words) d.ram ram →
+pub run_stopped : {T : Type 0} {o : RunOptions} {cache : Cache} {v : ImageData} {p : ProgramData} {l : Layout} {d : Devices} {t : Telling} {i out e : Option (List ℕ)} {ram : RamState} {fi fo fe : ℕ}
+    (f : CachedStop) (r : Refusal) → r ≡ refusal_of f → t ≡ telling_of o.reports.trace → d.ram.faults ≡ d.faults.ram → KeepsBeyond cache.span d.ram ram →
     (IsErrOf {T = T} (Err f) stop.Memory → (ram ≡ d.ram) × (i ≡ d.input) × (out ≡ d.output) × (e ≡ d.error)) →
     (IsErrOf {T = T} (Err f) stop.RamFault → (left : List ℕ) → d.input ≡ Some left → run.RamFailed (asked o cache v p l t left) d.ram ram i d.output out d.error e) →
     (IsErrOf {T = T} (Err f) stop.SourceFault ⊎ IsErrOf {T = T} (Err f) stop.SinkFault → (left : List ℕ) → d.input ≡ Some left →
     run.StepFailed {T = T} (asked o cache v p l t left) (Err f) i d.output out d.error e) →
-    BoardCauses {T = T} d ram.faults fi fo fe (Err f) → RunsOnCache o cache v p l d (ran_all d i out e ram fi fo fe) (Err r)
-run_stopped {T} {o} {cache} {v} {p} {l} {d} {t} {i} {out} {e} {ram} {fi} {fo} {fe} f r is t_is held tied kept memory ram_broke broke causes =
-    subst (λ (x : Refusal). RunsOnCache o cache v p l d (ran_all d i out e ram fi fo fe) (Err x)) (sym is) (by f memory ram_broke broke causes)
+    BoardCauses {T = T} d ram.faults fi fo fe (Err f) → RunsOver o cache v p l d (ran_all d i out e ram fi fo fe) (Err r)
+run_stopped {T} {o} {cache} {v} {p} {l} {d} {t} {i} {out} {e} {ram} {fi} {fo} {fe} f r is t_is tied kept memory ram_broke broke causes =
+    subst (λ (x : Refusal). RunsOver o cache v p l d (ran_all d i out e ram fi fo fe) (Err x)) (sym is) (by f memory ram_broke broke causes)
   where
     by : (f : CachedStop) → (IsErrOf {T = T} (Err f) stop.Memory → (ram ≡ d.ram) × (i ≡ d.input) × (out ≡ d.output) × (e ≡ d.error)) →
         (IsErrOf {T = T} (Err f) stop.RamFault → (left : List ℕ) → d.input ≡ Some left → run.RamFailed (asked o cache v p l t left) d.ram ram i d.output out d.error e) →
         (IsErrOf {T = T} (Err f) stop.SourceFault ⊎ IsErrOf {T = T} (Err f) stop.SinkFault → (left : List ℕ) → d.input ≡ Some left →
         run.StepFailed {T = T} (asked o cache v p l t left) (Err f) i d.output out d.error e) →
-        BoardCauses {T = T} d ram.faults fi fo fe (Err f) → RunsOnCache o cache v p l d (ran_all d i out e ram fi fo fe) (Err (refusal_of f))
+        BoardCauses {T = T} d ram.faults fi fo fe (Err f) → RunsOver o cache v p l d (ran_all d i out e ram fi fo fe) (Err (refusal_of f))
     by stop.Memory memory ram_broke broke causes = memory_after {T = T} o cache v p l d i out e ram fi fo fe tied (memory refl) causes
     by stop.RamFault memory ram_broke broke causes =
-        ram_failed {T = T} o cache v p l d i out e ram fi fo fe held kept
+        ram_failed {T = T} o cache v p l d i out e ram fi fo fe kept
         (λ left told. as_run (λ (k : CachedRun). run.RamFailed k d.ram ram i d.output out d.error e) t o cache v p l left t_is (ram_broke refl left told)) causes
     by stop.SourceFault memory ram_broke broke causes =
-        source_failed {T = T} o cache v p l d i out e ram fi fo fe held kept
+        source_failed {T = T} o cache v p l d i out e ram fi fo fe kept
         (λ left told. as_run (λ (k : CachedRun). run.StepFailed {T = T} k (Err stop.SourceFault) i d.output out d.error e) t o cache v p l left t_is (broke (inl refl) left told)) causes
     by stop.SinkFault memory ram_broke broke causes =
-        sink_failed {T = T} o cache v p l d i out e ram fi fo fe held kept
+        sink_failed {T = T} o cache v p l d i out e ram fi fo fe kept
         (λ left told. as_run (λ (k : CachedRun). run.StepFailed {T = T} k (Err stop.SinkFault) i d.output out d.error e) t o cache v p l left t_is (broke (inr refl) left told)) causes
 
 -- what stopped a run whose refusal `map_err(refusal_of)?` hands on
@@ -355,14 +343,14 @@ ending_is {x} {e} {f} {a} {b} {n} {m} is ends pc steps =
     is ∙ ap (λ (k : Option End). ending_by k a n) ends ∙ ap (λ (k : ℕ). ending_by f k n) pc ∙ ap (λ (k : ℕ). ending_by f b k) steps
 
 -- a run that came to its end, on a board with this hart and this record of its service, and with this history
-pub record IsEnded (o : RunOptions) (cache : CacheOptions) (v : ImageData) (p : ProgramData) (l : Layout) (d : Devices) (h : HartData) (r : Record) (i mid em : Option (List ℕ)) (ram : RamState) (history : Option (List ℕ)) : Type 0 where
+pub record IsEnded (o : RunOptions) (cache : Cache) (v : ImageData) (p : ProgramData) (l : Layout) (d : Devices) (h : HartData) (r : Record) (i mid em : Option (List ℕ)) (ram : RamState) (history : Option (List ℕ)) : Type 0 where
   pub ended : (left : List ℕ) → d.input ≡ Some left → run.Ended (run_with o cache v p l left) h r i d.output mid d.error em
   pub told : (left : List ℕ) → d.input ≡ Some left → history ≡ history_of (telling_of o.reports.trace) (addresses o.limits.steps (flat_start p l o.reports.calls left))
   pub short : (left : List ℕ) → d.input ≡ Some left → run.IsShort h
   pub after : (left : List ℕ) → d.input ≡ Some left → run.RamAfter (run_with o cache v p l left) d.ram ram
   pub counted : (left : List ℕ) → IsCounted (run_with o cache v p l left)
 
-pub is_ended : {o : RunOptions} {cache : CacheOptions} {v : ImageData} {p : ProgramData} {l : Layout} {d : Devices} {h : HartData} {r : Record} {i mid em : Option (List ℕ)} {ram : RamState} {history : Option (List ℕ)} {t : Telling} →
+pub is_ended : {o : RunOptions} {cache : Cache} {v : ImageData} {p : ProgramData} {l : Layout} {d : Devices} {h : HartData} {r : Record} {i mid em : Option (List ℕ)} {ram : RamState} {history : Option (List ℕ)} {t : Telling} →
     t ≡ telling_of o.reports.trace →
     ((left : List ℕ) → d.input ≡ Some left → run.Ended (asked o cache v p l t left) h r i d.output mid d.error em) →
     ((left : List ℕ) → d.input ≡ Some left → history ≡ history_of t (addresses o.limits.steps (flat_start p l o.reports.calls left))) →
@@ -377,8 +365,8 @@ is_ended {o} {cache} {v} {p} {l} {d} {h} {r} {i} {mid} {em} {ram} {history} {t} 
 }
 
 -- Behind it the output gains the report, from `mid` on, and the errors the last lines, from `em` on.
-module _ {o : RunOptions} {cache : CacheOptions} {v : ImageData} {p : ProgramData} {l : Layout} {d : Devices} {h : HartData} {r : Record} {i mid em : Option (List ℕ)} {ram : RamState} {history : Option (List ℕ)} {fi mo me : ℕ}
-    (a : IsEnded o cache v p l d h r i mid em ram history) (held : 4 * v.block_words ≤ cache.cache_bytes) (kept : KeepsBeyond (slots_of cache.cache_bytes v * v.block_words) d.ram ram)
+module _ {o : RunOptions} {cache : Cache} {v : ImageData} {p : ProgramData} {l : Layout} {d : Devices} {h : HartData} {r : Record} {i mid em : Option (List ℕ)} {ram : RamState} {history : Option (List ℕ)} {fi mo me : ℕ}
+    (a : IsEnded o cache v p l d h r i mid em ram history) (kept : KeepsBeyond cache.span d.ram ram)
     (quiet : IsQuiet d ram.faults fi mo me) where
   abbrev of : List ℕ → CachedRun
   of left = run_with o cache v p l left
@@ -387,13 +375,12 @@ module _ {o : RunOptions} {cache : CacheOptions} {v : ImageData} {p : ProgramDat
   behind : (out e : Option (List ℕ)) (fo fe : ℕ) → HasCauses {T = Ending} d.faults (record d.faults { out = fo; err = fe }) (Err refusal.SinkFault) →
       ((left : List ℕ) → d.input ≡ Some left →
       FailedAfterRun (told_after (of left) (of left).limit) (cached_report o (of left)) (last_lines o.reports.trace (of left)) d (ran_all d i out e ram fi fo fe) refusal.SinkFault []) →
-      RunsOnCache o cache v p l d (ran_all d i out e ram fi fo fe) (Err refusal.SinkFault)
+      RunsOver o cache v p l d (ran_all d i out e ram fi fo fe) (Err refusal.SinkFault)
   behind out e fo fe causes broke = record {
     done = tt;
-    holds = tt;
     refused = tt;
     quiet = λ never. absurd (never tt);
-    failed = λ _. (held, λ left told. failed_so o (of left) d (ran_all d i out e ram fi fo fe) refusal.SinkFault [] (inr (inr (broke left told, a.after left told))));
+    failed = λ _ left told. failed_so o (of left) d (ran_all d i out e ram fi fo fe) refusal.SinkFault [] (inr (inr (broke left told, a.after left told)));
     beyond = kept;
     causes = subst (λ (n : ℕ). HasCauses {T = Ending} d.faults (record d.faults { input = n; out = fo; err = fe; ram = ram.faults }) (Err refusal.SinkFault)) (sym (ap (λ (x : board.Faults). x.input) quiet))
         (subst (λ (n : ℕ). HasCauses {T = Ending} d.faults (record d.faults { out = fo; err = fe; ram = n }) (Err refusal.SinkFault)) (sym (ap (λ (x : board.Faults). x.ram) quiet)) causes);
@@ -402,7 +389,7 @@ module _ {o : RunOptions} {cache : CacheOptions} {v : ImageData} {p : ProgramDat
   wrote : (left : List ℕ) → d.input ≡ Some left → board_report o h r ≡ cached_report o (of left)
   wrote left told = let b = a.ended left told in report_is o (of left) h r b.machine b.count b.record_is (a.counted left)
 
-  pub report_broke : {out : Option (List ℕ)} {fo : ℕ} → AppendsPrefix mid out (board_report o h r) → (board_report o h r ≡ [] → ⊥) → mo ≤ fo → Rose mo fo → RunsOnCache o cache v p l d (ran_all d i out em ram fi fo me) (Err refusal.SinkFault)
+  pub report_broke : {out : Option (List ℕ)} {fo : ℕ} → AppendsPrefix mid out (board_report o h r) → (board_report o h r ≡ [] → ⊥) → mo ≤ fo → Rose mo fo → RunsOver o cache v p l d (ran_all d i out em ram fi fo me) (Err refusal.SinkFault)
   report_broke {out} {fo} part due later rose =
       let first : mo ≡ d.faults.out = ap (λ (x : board.Faults). x.out) quiet in
       behind out em fo me
@@ -422,7 +409,7 @@ module _ {o : RunOptions} {cache : CacheOptions} {v : ImageData} {p : ProgramDat
 
   -- the report was written, and of the last lines a front
   pub lines_broke : {out e : Option (List ℕ)} {fo fe : ℕ} {bus : List AreaData} → Appends mid out (board_report o h r) → fo ≡ mo → bus ≡ h.machine.bus →
-      AppendsPrefix em e (last_told o.reports.trace bus (addresses_in history)) → (last_told o.reports.trace bus (addresses_in history) ≡ [] → ⊥) → me ≤ fe → Rose me fe → RunsOnCache o cache v p l d (ran_all d i out e ram fi fo fe) (Err refusal.SinkFault)
+      AppendsPrefix em e (last_told o.reports.trace bus (addresses_in history)) → (last_told o.reports.trace bus (addresses_in history) ≡ [] → ⊥) → me ≤ fe → Rose me fe → RunsOver o cache v p l d (ran_all d i out e ram fi fo fe) (Err refusal.SinkFault)
   lines_broke {out} {e} {fo} {fe} {bus} written same_out bus_is part due later rose =
       let first : me ≡ d.faults.err = ap (λ (x : board.Faults). x.err) quiet in
       behind out e fo fe
@@ -468,7 +455,7 @@ module _ {o : RunOptions} {cache : CacheOptions} {v : ImageData} {p : ProgramDat
   -- both were written
   pub run_ended : {out e : Option (List ℕ)} {fo fe : ℕ} {bus : List AreaData} {x : Ending} → Appends mid out (board_report o h r) → fo ≡ mo → bus ≡ h.machine.bus →
       Appends em e (last_told o.reports.trace bus (addresses_in history)) → fe ≡ me → x ≡ ending_by h.machine.ending h.machine.pc h.machine.steps →
-      RunsOnCache o cache v p l d (ran_all d i out e ram fi fo fe) (Ok x)
+      RunsOver o cache v p l d (ran_all d i out e ram fi fo fe) (Ok x)
   run_ended {out} {e} {fo} {fe} {bus} {x} written same_out bus_is shown same_err ending = record {
     done = λ left told.
         let b = a.ended left told in record {
@@ -480,7 +467,6 @@ module _ {o : RunOptions} {cache : CacheOptions} {v : ImageData} {p : ProgramDat
           };
           cached = cached_run_is (of left) h r i d.output mid d.error em d.ram ram b (a.short left told) (a.after left told) (a.counted left);
         };
-    holds = held;
     refused = tt;
     quiet = tt;
     failed = tt;
@@ -505,6 +491,26 @@ span_within n b =
     let whole : n / (4 * b) * (4 * b) ≤ n = div-mul-le_self n (4 * b) in
     let apart : n / (4 * b) * (4 * b) ≡ 4 * (n / (4 * b) * b) = omega arith in
     omega arith
+
+-- a run over a service is one in the cache that the options name, where it is that cache and that holds a block
+run_err : (cache : CacheOptions) (v : ImageData) (r : Refusal) → IsRunErr r → IsCachedErr cache v r
+run_err cache v refusal.SourceFault h = tt
+run_err cache v refusal.SinkFault h = tt
+run_err cache v refusal.RamFault h = tt
+run_err cache v refusal.Memory h = tt
+run_err cache v _ h = absurd h
+
+pub in_cache : (o : RunOptions) (cache : CacheOptions) (v : ImageData) (p : ProgramData) (l : Layout) (d m : Devices) (r : Result Ending Refusal) (k : Cache) → k ≡ cache_for cache v →
+    4 * v.block_words ≤ cache.cache_bytes → RunsOver o k v p l d m r → RunsOnCache o cache v p l d m r
+in_cache o cache v p l d m r k is held run = by r (subst (λ (x : Cache). RunsOver o x v p l d m r) is run)
+  where
+    by : (r : Result Ending Refusal) → RunsOver o (cache_for cache v) v p l d m r → RunsOnCache o cache v p l d m r
+    by (Ok e) run = record { done = run.done; holds = held; refused = tt; quiet = tt; failed = tt; beyond = run.beyond; causes = run.causes }
+    by (Err e) run = record { done = tt; holds = tt; refused = run_err cache v e run.refused; quiet = run.quiet; failed = λ f. (held, run.failed f); beyond = run.beyond; causes = run.causes }
+
+-- where there was no memory for a service nothing has changed
+pub no_service : (o : RunOptions) (cache : CacheOptions) (v : ImageData) (p : ProgramData) (l : Layout) (d : Devices) → 4 * v.block_words ≤ cache.cache_bytes → RunsOnCache o cache v p l d d (Err refusal.Memory)
+no_service o cache v p l d held = in_cache o cache v p l d d (Err refusal.Memory) (cache_for cache v) refl held (no_memory o (cache_for cache v) v p l d)
 
 pub last_fails : (file : List ℕ) (cs : List Check) (c : Check) (r : Refusal) → IsAccepted file cs → Fails file c r → IsRefusedBy file (cs ++ (c ∷ [])) r
 last_fails file [] c r passed fails = inl fails
@@ -565,7 +571,7 @@ cached_kind cache v refusal.Memory h = tt
 cached_kind cache v (refusal.CacheSmall bytes least) h = tt
 cached_kind cache v _ h = absurd h
 
-pub keeps_run : (cache : CacheOptions) (v : ImageData) (r s : RamState) → KeepsBeyond (slots_of cache.cache_bytes v * v.block_words) r s → KeepsBeyond (cache.cache_bytes / 4) r s
+pub keeps_run : (cache : CacheOptions) (v : ImageData) (r s : RamState) → KeepsBeyond (cache_for cache v).span r s → KeepsBeyond (cache.cache_bytes / 4) r s
 keeps_run cache v r s k = keeps_less _ _ r s (span_within cache.cache_bytes v.block_words) k
 
 pub file_answer : (cache : CacheOptions) (o : RunOptions) (file : List ℕ) (v : ImageData) (l : Layout) (d m : Devices) (r : Result Ending Refusal) →
@@ -573,7 +579,7 @@ pub file_answer : (cache : CacheOptions) (o : RunOptions) (file : List ℕ) (v :
     room_in file o.limits ≡ Ok l → RunsOnCache o cache v (program_of_file file) l d m r → AnswersFile (RunCached [] cache o) file d m r
 file_answer cache o file v l d m (Ok e) front size is_for room run = record {
   checked = λ last. last_passes file (front_of cache o) (HoldsBlock cache) front (let b : 4 * v.block_words ≤ cache.cache_bytes = run.holds in omega arith);
-  done = (v, is_for, run.beyond, λ input told. subst (λ (s : FlatState). RunsCached o (cached_run cache o v s) d m e []) (start_is o file input l room) (run.done input told));
+  done = (v, is_for, run.beyond, λ input told. subst (λ (s : FlatState). RunsCached o (cached_run (cache_for cache v) o v s) d m e []) (start_is o file input l room) (run.done input told));
   failed = tt;
   refused = tt;
   kind = tt;
@@ -583,7 +589,7 @@ file_answer cache o file v l d m (Ok e) front size is_for room run = record {
 file_answer cache o file v l d m (Err r) front size is_for room run = record {
   checked = λ last. err_checked file cache o v last r front size run.refused (λ f. (run.failed f).0);
   done = tt;
-  failed = λ f. (v, is_for, run.beyond, λ input told. subst (λ (s : FlatState). CachedFailed o (cached_run cache o v s) d m r []) (start_is o file input l room) ((run.failed f).1 input told));
+  failed = λ f. (v, is_for, run.beyond, λ input told. subst (λ (s : FlatState). CachedFailed o (cached_run (cache_for cache v) o v s) d m r []) (start_is o file input l room) ((run.failed f).1 input told));
   refused = run.quiet;
   kind = cached_kind cache v r run.refused;
   ram = keeps_run cache v d.ram m.ram run.beyond;

@@ -22,7 +22,7 @@ use Rattle.swi_top.specs.Devices.{Devices, Faults, ShowsLine}
 use Rattle.swi_top.specs.Causes.{HasCauses}
 use Rattle.swi_top.specs.Checks.{cache_refusal}
 use Rattle.swi_top.specs.Runs.{Ran, StepFailed, FailedAtStep, FailedAfterRun, FailedBehind, ending_of, start_of}
-use Rattle.swi_top.specs.Answers.{Answers, AnswersWithLine, Does, IsRefusedAtOnce, IsEndingOf, IsSized, Leaves, RamBroke, cached_run, last_lines, shown_error, made_ending, made_run, made_summary, output_name, plain_report, plain_run}
+use Rattle.swi_top.specs.Answers.{Answers, AnswersWithLine, Does, IsRefusedAtOnce, IsEndingOf, IsSized, Leaves, RamBroke, cache_for, cached_run, last_lines, shown_error, made_ending, made_run, made_summary, output_name, plain_report, plain_run}
 use Rattle.swi_top.proofs.Due.{right_empty}
 use Rattle.swi_top.proofs.Refusals.{contents_stay, quiet_cause}
 
@@ -130,9 +130,9 @@ leaves_line (RunCached name cache o) file d m r error err line later h p = (
   h.2,
   λ input is. let f = h.3 input is in record {
     broke = elim f.broke [
-      | inl a ↦ inl (ram_line (cached_run cache o h.0 (start_of o file input)) d m r error err line a p)
+      | inl a ↦ inl (ram_line (cached_run (cache_for cache h.0) o h.0 (start_of o file input)) d m r error err line a p)
       | inr b ↦ inr (elim b [
-        | inl a ↦ inl (at_step_line (told_after (cached_run cache o h.0 (start_of o file input))) _ _ _ o.limits.steps d m r error err line a p)
+        | inl a ↦ inl (at_step_line (told_after (cached_run (cache_for cache h.0) o h.0 (start_of o file input))) _ _ _ o.limits.steps d m r error err line a p)
         | inr a ↦ inr (after_run_line _ _ _ d m r error err line later a.0 p, a.1)
       ])
     ];
@@ -310,10 +310,10 @@ leaves_ending (RunCached name cache o) file d m e error err is h p never same ro
   h.2,
   λ input left.
       let r = h.3 input left in
-      let c = cached_run cache o h.0 (start_of o file input) in record { broke = inr (inr (after_line (told_after c c.limit) (shown_error o.reports.trace c) _ (last_lines o.reports.trace c) d m e error err (shown_split o.reports.trace c) r.ran p never same rose, r.cached.ram)); flat = r.cached.flat; stops = r.cached.stops },
+      let c = cached_run (cache_for cache h.0) o h.0 (start_of o file input) in record { broke = inr (inr (after_line (told_after c c.limit) (shown_error o.reports.trace c) _ (last_lines o.reports.trace c) d m e error err (shown_split o.reports.trace c) r.ran p never same rose, r.cached.ram)); flat = r.cached.flat; stops = r.cached.stops },
 )
 leaves_ending (MeasureMade seed functions cache) file d m e error err is h p never same rose =
-    let c = made_run cache h.program h.layout h.image in
+    let c = made_run (cache_for cache h.image) h.program h.layout h.image in
     let summary : List ℕ = made_summary functions h.program h.image c in record {
       program = h.program;
       layout = h.layout;

@@ -25,12 +25,12 @@ use Rattle.swi_calls.specs.declared.machine.Machine.{Machine}
 use Rattle.swi_rom.specs.Record.{Record}
 use Rattle.swi_hart.specs.Hart.{HartData}
 use Rattle.swi_report.specs.declared.stats.Work.{Work}
-use Rattle.swi_cached.specs.Cached.{CachedRun, IsCounted, end_of, instructions_after, slots_of}
+use Rattle.swi_cached.specs.Cached.{CachedRun, IsCounted, end_of, instructions_after}
 use Rattle.swi_cached.specs.Answers as run
 use Rattle.swi_answer.specs.declared.answer.Ending.{Ending}
 use Rattle.swi_answer.specs.declared.answer.Refusal.{Refusal}
 use Rattle.swi_answer.specs.declared.answer.Refusal.TheVariants as refusal
-use Rattle.swi_top.specs.Answers.{Answers, IsMadeRun, made_run, made_summary}
+use Rattle.swi_top.specs.Answers.{Answers, IsMadeRun, cache_for, made_run, made_summary}
 use Rattle.swi_top.specs.Caching.{MadeRan, board_summary, board_work}
 use Rattle.swi_top.specs.Causes.{HasCauses}
 use Rattle.swi_top.specs.Checks.{size_refusal}
@@ -101,11 +101,11 @@ measured_to d out ram fo = record d { output = out; ram = ram; faults = record d
 
 pub made_done : (seed functions : ℕ) (cache : CacheOptions) (p : ProgramData) (l : Layout) (v : ImageData) (d : Devices) (out : Option (List ℕ)) (ram : RamState) (fo : ℕ) (h : HartData) (r : Record) (e : Ending) →
     size_refusal cache.cache_bytes (length d.ram.words) ≡ None → IsMadeRun seed functions cache p l v → Fits (text_of p.segments) cache.block_words →
-    4 * cache.block_words ≤ cache.cache_bytes → MadeRan (made_run cache p l v) h r d.ram ram → KeepsBeyond (slots_of cache.cache_bytes v * v.block_words) d.ram ram →
+    4 * cache.block_words ≤ cache.cache_bytes → MadeRan (made_run (cache_for cache v) p l v) h r d.ram ram → KeepsBeyond (cache_for cache v).span d.ram ram →
     ram.faults ≡ d.faults.ram → e ≡ made_ending_by h.machine.ending h.machine.pc h.machine.steps → Appends d.output out (board_summary functions p v h r) → fo ≡ d.faults.out →
     Answers (MeasureMade seed functions cache) d (measured_to d out ram fo) (Ok e) []
 made_done seed functions cache p l v d out ram fo h r e size is fits held ran beyond ram_is ending written fo_is =
-    let c = made_run cache p l v in record {
+    let c = made_run (cache_for cache v) p l v in record {
       asked = λ x. let bad : ⊥ = cc in bad;
       sized = sized_along _ _ size (sized_ok e);
       checked = λ _ _. (fits_made seed functions cache.block_words p is.made fits, (held, tt));
@@ -133,11 +133,11 @@ made_done seed functions cache p l v d out ram fo h r e size is fits held ran be
 -- the summary was not written whole
 pub summary_broke : (seed functions : ℕ) (cache : CacheOptions) (p : ProgramData) (l : Layout) (v : ImageData) (d : Devices) (out : Option (List ℕ)) (ram : RamState) (fo : ℕ) (h : HartData) (r : Record) →
     size_refusal cache.cache_bytes (length d.ram.words) ≡ None → IsMadeRun seed functions cache p l v → Fits (text_of p.segments) cache.block_words →
-    4 * cache.block_words ≤ cache.cache_bytes → MadeRan (made_run cache p l v) h r d.ram ram → KeepsBeyond (slots_of cache.cache_bytes v * v.block_words) d.ram ram →
+    4 * cache.block_words ≤ cache.cache_bytes → MadeRan (made_run (cache_for cache v) p l v) h r d.ram ram → KeepsBeyond (cache_for cache v).span d.ram ram →
     ram.faults ≡ d.faults.ram → AppendsPrefix d.output out (board_summary functions p v h r) → (board_summary functions p v h r ≡ [] → ⊥) → d.faults.out ≤ fo → Rose d.faults.out fo →
     Answers (MeasureMade seed functions cache) d (measured_to d out ram fo) (Err refusal.SinkFault) []
 summary_broke seed functions cache p l v d out ram fo h r size is fits held ran beyond ram_is part due later rose =
-    let c = made_run cache p l v in record {
+    let c = made_run (cache_for cache v) p l v in record {
       asked = λ x. let bad : ⊥ = cc in bad;
       sized = sized_along _ _ size (sized_err refusal.SinkFault (λ x. x));
       checked = λ _ _. (fits_made seed functions cache.block_words p is.made fits, (held, tt));
@@ -183,7 +183,7 @@ ram_causes f n later rose = record {
 -- the ram failed in the run
 pub made_run_broke : (seed functions : ℕ) (cache : CacheOptions) (p : ProgramData) (l : Layout) (v : ImageData) (d : Devices) (ram : RamState) →
     size_refusal cache.cache_bytes (length d.ram.words) ≡ None → IsMadeRun seed functions cache p l v → Fits (text_of p.segments) cache.block_words →
-    4 * cache.block_words ≤ cache.cache_bytes → KeepsBeyond (slots_of cache.cache_bytes v * v.block_words) d.ram ram →
+    4 * cache.block_words ≤ cache.cache_bytes → KeepsBeyond (cache_for cache v).span d.ram ram →
     d.faults.ram ≤ ram.faults → Rose d.faults.ram ram.faults →
     Answers (MeasureMade seed functions cache) d (record d { ram = ram; faults = record d.faults { ram = ram.faults } }) (Err refusal.RamFault) []
 made_run_broke seed functions cache p l v d ram size is fits held beyond later rose = record {
@@ -218,7 +218,7 @@ small_refused seed functions cache p d size made fits less =
 -- the run was refused, or the ram failed in it
 pub run_refused : {T : Type 0} (seed functions : ℕ) (cache : CacheOptions) (p : ProgramData) (l : Layout) (v : ImageData) (d : Devices) (ram : RamState) (r : Refusal) →
     size_refusal cache.cache_bytes (length d.ram.words) ≡ None → IsMadeRun seed functions cache p l v → Fits (text_of p.segments) cache.block_words →
-    4 * cache.block_words ≤ cache.cache_bytes → KeepsBeyond (slots_of cache.cache_bytes v * v.block_words) d.ram ram → d.ram.faults ≡ d.faults.ram →
+    4 * cache.block_words ≤ cache.cache_bytes → KeepsBeyond (cache_for cache v).span d.ram ram → d.ram.faults ≡ d.faults.ram →
     ((r ≡ refusal.Memory) × (ram ≡ d.ram)) ⊎ (r ≡ refusal.RamFault) → DeviceCause d.faults.ram ram.faults (IsErrOf {T = T} (Err r) refusal.RamFault) →
     Answers (MeasureMade seed functions cache) d (record d { ram = ram; faults = record d.faults { ram = ram.faults } }) (Err r) []
 run_refused {T} seed functions cache p l v d ram r size is fits held beyond same why cause =
@@ -235,7 +235,7 @@ run_refused {T} seed functions cache p l v d ram r size is fits held beyond same
 -- the run came to its end, and the summary was written, or not
 pub summarized : (seed functions : ℕ) (cache : CacheOptions) (p : ProgramData) (l : Layout) (v : ImageData) (d : Devices) (out : Option (List ℕ)) (ram : RamState) (fo : ℕ) (h : HartData) (k : Record) (r : Result Ending Refusal) →
     size_refusal cache.cache_bytes (length d.ram.words) ≡ None → IsMadeRun seed functions cache p l v → Fits (text_of p.segments) cache.block_words →
-    4 * cache.block_words ≤ cache.cache_bytes → MadeRan (made_run cache p l v) h k d.ram ram → KeepsBeyond (slots_of cache.cache_bytes v * v.block_words) d.ram ram →
+    4 * cache.block_words ≤ cache.cache_bytes → MadeRan (made_run (cache_for cache v) p l v) h k d.ram ram → KeepsBeyond (cache_for cache v).span d.ram ram →
     ram.faults ≡ d.faults.ram → IfOk r (λ e. (e ≡ made_ending_by h.machine.ending h.machine.pc h.machine.steps) × Appends d.output out (board_summary functions p v h k)) →
     IfErr r (λ e. (e ≡ refusal.SinkFault) × AppendsPrefix d.output out (board_summary functions p v h k)) → OnErr r (board_summary functions p v h k ≡ [] → ⊥) →
     HasCause d.faults.out fo r →

@@ -30,8 +30,10 @@ use Rattle.swi_outside.specs.Causes.{risen}
 use Rattle.swi_calls.specs.Held.{held_made}
 use Rattle.swi_calls.specs.Flat.{Made}
 use Rattle.swi_rom.specs.Record.{writes}
+use Rattle.swi_rom.specs.Service.{Cache}
 use Rattle.swi_cached.specs.Answers.{RamAfter}
-use Rattle.swi_cached.specs.Cached.{CachedRun, IsCounted, IsFlatRun, StopsBeforeStore, run_of, slots_of, end_of, program_after, told_after, instructions_after, fetches_after, record_after}
+use Rattle.swi_cached.specs.Cached.{CachedRun, IsCounted, IsFlatRun, StopsBeforeStore, run_of, end_of, program_after, told_after, instructions_after, fetches_after, record_after}
+use Rattle.swi_cached.specs.Slotted.{slotted}
 use Rattle.swi_cached.specs.declared.told.Telling.{Telling}
 use Rattle.swi_cached.specs.declared.told.Telling.TheVariants as telling
 use Rattle.swi_cached.specs.Told.{addresses, is_each, lines_at, next_error, told_line}
@@ -139,9 +141,13 @@ telling_of trace.Off = telling.Nothing
 telling_of trace.Last = telling.Last
 telling_of trace.Each = telling.Each
 
--- `cached`: the same program's run, through the cache ram; and `trace`, with lines of its steps
-abbrev pub cached_run : CacheOptions → RunOptions → ImageData → FlatState → CachedRun
-cached_run cache o v s = record { image = v; slots = slots_of cache.cache_bytes v; start = s; limit = o.limits.steps; trace = is_each (telling_of o.reports.trace) }
+-- the cache that the options name: slots of a block each, first in, first out
+abbrev pub cache_for : CacheOptions → ImageData → Cache
+cache_for cache v = slotted cache.cache_bytes v
+
+-- `cached`: the same program's run, out of a cache; and `trace`, with lines of its steps
+abbrev pub cached_run : Cache → RunOptions → ImageData → FlatState → CachedRun
+cached_run k o v s = record { image = v; cache = k; start = s; limit = o.limits.steps; trace = is_each (telling_of o.reports.trace) }
 
 -- what the counts of a run tell: its machine instructions, and the words that were fetched and written for it, as numbers of 64 bits
 abbrev pub work_of : CachedRun → Work
@@ -197,8 +203,8 @@ pub record RunsCached (o : RunOptions) (c : CachedRun) (before after : Devices) 
   pub cached : IsCachedRun c before.ram after.ram
 
 -- `measure`: the run, with no input, of the program that is made of the seed, in the blocks of its greedy cut
-abbrev pub made_run : CacheOptions → ProgramData → Layout → ImageData → CachedRun
-made_run cache p l v = run_of v cache.cache_bytes p l false telling.Nothing (2 ^ 48) []
+abbrev pub made_run : Cache → ProgramData → Layout → ImageData → CachedRun
+made_run k p l v = run_of v k p l false telling.Nothing (2 ^ 48) []
 
 pub record IsMadeRun (seed functions : ℕ) (cache : CacheOptions) (p : ProgramData) (l : Layout) (v : ImageData) : Type 0 where
   pub made : IsMade seed functions p
@@ -217,12 +223,12 @@ pub record Measures (seed functions : ℕ) (cache : CacheOptions) (before after 
   pub layout : Layout
   pub image : ImageData
   pub is : IsMadeRun seed functions cache program layout image
-  pub ending : e ≡ made_ending (end_of (made_run cache program layout image))
-  pub output : Appends before.output after.output (made_summary functions program image (made_run cache program layout image))
+  pub ending : e ≡ made_ending (end_of (made_run (cache_for cache image) program layout image))
+  pub output : Appends before.output after.output (made_summary functions program image (made_run (cache_for cache image) program layout image))
   pub error : Appends before.error after.error last
   pub input : after.input ≡ before.input
-  pub ran : IsCachedRun (made_run cache program layout image) before.ram after.ram
-  pub beyond : KeepsBeyond (slots_of cache.cache_bytes image * image.block_words) before.ram after.ram
+  pub ran : IsCachedRun (made_run (cache_for cache image) program layout image) before.ram after.ram
+  pub beyond : KeepsBeyond (cache_for cache image).span before.ram after.ram
 
 -- the image that a command uses: that of the file, or, where it has none, the greedy cut of its text
 abbrev pub IsImageFor : List ℕ → ℕ → Option (List ℕ) → ImageData → Type 0
@@ -245,8 +251,8 @@ Does (ListFile name block) file before after e last = Lists file block before af
 Does (CheckFile name) file before after e last = Confirms file before after e
 Does (RunPlain name o) file before after e last = (input : List ℕ) → before.input ≡ Some input → Runs o file input before after e last
 Does (RunCached name cache o) file before after e last = (v : ImageData) × IsImageFor file cache.block_words (image_in file) v
-    × KeepsBeyond (slots_of cache.cache_bytes v * v.block_words) before.ram after.ram
-    × ((input : List ℕ) → before.input ≡ Some input → RunsCached o (cached_run cache o v (start_of o file input)) before after e last)
+    × KeepsBeyond (cache_for cache v).span before.ram after.ram
+    × ((input : List ℕ) → before.input ≡ Some input → RunsCached o (cached_run (cache_for cache v) o v (start_of o file input)) before after e last)
 Does (MeasureMade seed functions cache) file before after e last = Measures seed functions cache before after e last
 
 -- ---- what stands where a device failed in a command that isn't refused
@@ -336,10 +342,10 @@ pub record MeasureFailed (seed functions : ℕ) (cache : CacheOptions) (before a
   pub image : ImageData
   pub is : IsMadeRun seed functions cache program layout image
   pub broke : MadeRunBroke before after r last
-      ⊎ (SummaryBroke (made_ending (end_of (made_run cache program layout image))) (made_summary functions program image (made_run cache program layout image)) before after r last
-      × IsCachedRun (made_run cache program layout image) before.ram after.ram)
+      ⊎ (SummaryBroke (made_ending (end_of (made_run (cache_for cache image) program layout image))) (made_summary functions program image (made_run (cache_for cache image) program layout image)) before after r last
+      × IsCachedRun (made_run (cache_for cache image) program layout image) before.ram after.ram)
   pub input : after.input ≡ before.input
-  pub beyond : KeepsBeyond (slots_of cache.cache_bytes image * image.block_words) before.ram after.ram
+  pub beyond : KeepsBeyond (cache_for cache image).span before.ram after.ram
 
 abbrev pub Leaves : Request → List ℕ → Devices → Devices → Refusal → List ℕ → Type 0
 Leaves (RewriteFile input output block) file before after r last = ⊥
@@ -348,8 +354,8 @@ Leaves (ListFile name block) file before after r last = ListFailed file block be
 Leaves (CheckFile name) file before after r last = ConfirmFailed file before after r last
 Leaves (RunPlain name o) file before after r last = (input : List ℕ) → before.input ≡ Some input → RunFailed o file input before after r last
 Leaves (RunCached name cache o) file before after r last = (v : ImageData) × IsImageFor file cache.block_words (image_in file) v
-    × KeepsBeyond (slots_of cache.cache_bytes v * v.block_words) before.ram after.ram
-    × ((input : List ℕ) → before.input ≡ Some input → CachedFailed o (cached_run cache o v (start_of o file input)) before after r last)
+    × KeepsBeyond (cache_for cache v).span before.ram after.ram
+    × ((input : List ℕ) → before.input ≡ Some input → CachedFailed o (cached_run (cache_for cache v) o v (start_of o file input)) before after r last)
 Leaves (MeasureMade seed functions cache) file before after r last = MeasureFailed seed functions cache before after r last
 
 -- ---- which answer comes

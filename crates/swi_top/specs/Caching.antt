@@ -9,6 +9,7 @@ use Rattle.swi_command.specs.declared.command.RunOptions.{RunOptions}
 use Rattle.swi_calls.specs.Flat.{flat_start}
 use Rattle.swi_calls.specs.declared.end.End.{End}
 use Rattle.swi_rom.specs.Record.{Record, writes}
+use Rattle.swi_rom.specs.Service.{Cache}
 use Rattle.swi_hart.specs.Hart.{HartData}
 use Rattle.swi_report.specs.declared.stats.Work.{Work}
 use Rattle.swi_answer.specs.declared.answer.Ending.{Ending}
@@ -16,8 +17,8 @@ use Rattle.swi_answer.specs.declared.answer.Refusal.{Refusal}
 use Rattle.swi_answer.specs.declared.answer.Refusal.TheVariants as refusal
 use Rattle.swi_cached.specs.declared.run.CachedStop.{CachedStop}
 use Rattle.swi_cached.specs.declared.run.CachedStop.TheVariants as stop
-use Rattle.swi_cached.specs.Cached.{CachedRun, end_of, instructions_after, record_after, slots_of, unfetched}
-use Rattle.swi_top.specs.Answers.{CachedFailed, Does, IsChecked, IsRunFault, KeepsRam, Leaves, IsCachedRun, RunsCached, cached_run}
+use Rattle.swi_cached.specs.Cached.{CachedRun, end_of, instructions_after, record_after, unfetched}
+use Rattle.swi_top.specs.Answers.{CachedFailed, Does, IsChecked, IsRunFault, KeepsRam, Leaves, IsCachedRun, RunsCached, cache_for, cached_run}
 use Rattle.swi_top.specs.Checks.{checks_of}
 use Rattle.swi_top.specs.Measuring.{summary_by}
 use Rattle.swi_command.specs.CommandLine.{Request}
@@ -62,15 +63,33 @@ IsCachedErr cache v refusal.Memory = ⊤
 IsCachedErr cache v (refusal.CacheSmall bytes least) = (bytes ≡ cache.cache_bytes) × (least ≡ 4 * v.block_words) × (bytes < least)
 IsCachedErr cache v _ = ⊥
 
--- what a run does: it comes to its end, or a device fails in it or behind it; or the cache holds no block, or there was no memory
+-- why a run over a service is refused
+abbrev pub IsRunErr : Refusal → Type 0
+IsRunErr refusal.SourceFault = ⊤
+IsRunErr refusal.SinkFault = ⊤
+IsRunErr refusal.RamFault = ⊤
+IsRunErr refusal.Memory = ⊤
+IsRunErr _ = ⊥
+
+-- what such a run does: it comes to its end, or a device fails in it or behind it; or there was no memory
+pub record RunsOver (o : RunOptions) (k : Cache) (v : ImageData) (p : ProgramData) (l : Layout) (before after : Devices) (result : Result Ending Refusal) : Type 0 where
+  pub done : IfOk result (λ e. (input : List ℕ) → before.input ≡ Some input → RunsCached o (cached_run k o v (flat_start p l o.reports.calls input)) before after e [])
+  pub refused : IfErr result IsRunErr
+  pub quiet : IfErr result (λ r. (IsRunFault r → ⊥) → after ≡ before)
+  pub failed : IfErr result (λ r. IsRunFault r → (input : List ℕ) → before.input ≡ Some input →
+      CachedFailed o (cached_run k o v (flat_start p l o.reports.calls input)) before after r [])
+  pub beyond : KeepsBeyond k.span before.ram after.ram
+  pub causes : HasCauses before.faults after.faults result
+
+-- what a run does in the cache that the options name: the same, or the cache holds no block
 pub record RunsOnCache (o : RunOptions) (cache : CacheOptions) (v : ImageData) (p : ProgramData) (l : Layout) (before after : Devices) (result : Result Ending Refusal) : Type 0 where
-  pub done : IfOk result (λ e. (input : List ℕ) → before.input ≡ Some input → RunsCached o (cached_run cache o v (flat_start p l o.reports.calls input)) before after e [])
+  pub done : IfOk result (λ e. (input : List ℕ) → before.input ≡ Some input → RunsCached o (cached_run (cache_for cache v) o v (flat_start p l o.reports.calls input)) before after e [])
   pub holds : OnOk result (4 * v.block_words ≤ cache.cache_bytes)
   pub refused : IfErr result (IsCachedErr cache v)
   pub quiet : IfErr result (λ r. (IsRunFault r → ⊥) → after ≡ before)
   pub failed : IfErr result (λ r. IsRunFault r → (4 * v.block_words ≤ cache.cache_bytes)
-      × ((input : List ℕ) → before.input ≡ Some input → CachedFailed o (cached_run cache o v (flat_start p l o.reports.calls input)) before after r []))
-  pub beyond : KeepsBeyond (slots_of cache.cache_bytes v * v.block_words) before.ram after.ram
+      × ((input : List ℕ) → before.input ≡ Some input → CachedFailed o (cached_run (cache_for cache v) o v (flat_start p l o.reports.calls input)) before after r []))
+  pub beyond : KeepsBeyond (cache_for cache v).span before.ram after.ram
   pub causes : HasCauses before.faults after.faults result
 
 -- a refusal by a check of the file or in the run, or want of memory

@@ -8,9 +8,10 @@ ghost use Rattle.swi_command.specs.CommandLine.{IsCacheInRange, IsInRange, RunCa
 ghost use Rattle.swi_program.specs.Layout.{IsLayoutOf};
 ghost use Rattle.swi_program.specs.Text.{text_of};
 ghost use Rattle.swi_render.specs.ImageOf.{IsImageOf};
-ghost use Rattle.swi_rom.specs.Slots.{kept_by};
+ghost use Rattle.swi_rom.specs.Service.{cache_of};
+ghost use Rattle.swi_cached.specs.Cached.{IsFresh};
 ghost use Rattle.swi_top.specs.Answers.{Answers};
-ghost use Rattle.swi_top.specs.Caching.{AnswersFile, RunsOnCache, board_work, refusal_of};
+ghost use Rattle.swi_top.specs.Caching.{AnswersFile, RunsOnCache, RunsOver, board_work, refusal_of};
 ghost use Rattle.swi_top.specs.Checks.{file_limit};
 ghost use Rattle.swi_top.specs.Devices.{Devices};
 ghost use Rattle.swi_top.specs.Runs.{report};
@@ -24,20 +25,19 @@ use crate::trace::{telling_of, write_last};
 use std::alloc::Global;
 use swi_answer::{Ending, Refusal};
 use swi_board::Board;
-use swi_cached::{CachedStop, run_cached};
+use swi_cached::{CachedStop, run_cached, slots_for};
 use swi_calls::End;
 use swi_command::{CacheOptions, Reports, RunOptions};
 use swi_elf_read::{image_bytes, read_elf};
 use swi_exec::FaultKind;
-use swi_fifo::FifoRom;
 use swi_image::ImageView;
 use swi_outside::{CacheRam, Failed, Shelf, Sink, Source};
 use swi_report::Work;
 use swi_rom::CacheRom;
 
 /// What a board has done besides the steps of its program.
-pub(crate) fn work_of(board: &Board<FifoRom>) -> Work
-    ensures { result ≡ board_work board.now.hart.count board.now.hart.machine.ending (kept_by board.now.rom) }
+pub(crate) fn work_of<S: CacheRom>(board: &Board<S>) -> Work
+    ensures { result ≡ board_work board.now.hart.count board.now.hart.machine.ending (S.service.kept board.now.rom) }
 {
     let counts = board.rom().counts();
     let unfetched = match board.ending() {
@@ -59,16 +59,16 @@ pub(crate) fn work_of(board: &Board<FifoRom>) -> Work
 }
 
 /// Writes what is asked for of a board's end.
-pub(crate) fn report_board<O: Sink>(
+pub(crate) fn report_board<O: Sink, S: CacheRom>(
     reports: &Reports,
-    board: &Board<FifoRom>,
+    board: &Board<S>,
     out: &mut O,
 ) -> Result<(), Failed>
     ensures bytes { WritesPiece (O.held out.old) (O.held out.new) result (report reports.now board.now.hart.machine
-        (Some (board_work board.now.hart.count board.now.hart.machine.ending (kept_by board.now.rom)))) }
+        (Some (board_work board.now.hart.count board.now.hart.machine.ending (S.service.kept board.now.rom)))) }
     ensures cause { HasCause (O.faults out.old) (O.faults out.new) result }
     ensures asked { OnErr result (report reports.now board.now.hart.machine
-        (Some (board_work board.now.hart.count board.now.hart.machine.ending (kept_by board.now.rom))) ≡ [] → ⊥) }
+        (Some (board_work board.now.hart.count board.now.hart.machine.ending (S.service.kept board.now.rom))) ≡ [] → ⊥) }
 {
     let work = work_of(board);
     let (pc, steps) = (board.origin_pc(), board.steps());
@@ -88,7 +88,68 @@ fn refusal_of(stop: CachedStop) -> Refusal
     }
 }
 
-/// Runs a program on the cached machine, and writes what is asked for of its steps and of its end.
+/// Runs a program on the cached machine over a service that has done nothing yet, and writes what is asked for of its steps
+/// and of its end.
+fn run_over<I: Source, O: Sink, E: Sink, R: CacheRam, S: CacheRom>(
+    alloc: Global,
+    image: &ImageView<'_>,
+    prepared: &Prepared<'_>,
+    rom: S,
+    options: &RunOptions,
+    input: &mut I,
+    out: &mut O,
+    err: &mut E,
+    ram: &mut R,
+) -> Result<Ending, Refusal>
+    requires ranges { IsInRange options.now.limits }
+    requires sound { S.service.sound rom image.now (R.state ram.old).words }
+    requires fresh { IsFresh (S.service.kept rom) }
+    requires laid_out { IsLayoutOf prepared.now.program.segments prepared.now.layout }
+    requires own { IsImageOf (text_of prepared.now.program.segments) image.now }
+    ensures { (d : Devices) → RunsOver options.now (cache_of S.service rom) image.now prepared.now.program prepared.now.layout
+        (record d {
+          input = I.left input.old;
+          output = O.held out.old;
+          error = E.held err.old;
+          ram = R.state ram.old;
+          faults = record d.faults {
+            input = I.faults input.old;
+            out = O.faults out.old;
+            err = E.faults err.old;
+            ram = (R.state ram.old).faults;
+          };
+        })
+        (record d {
+          input = I.left input.new;
+          output = O.held out.new;
+          error = E.held err.new;
+          ram = R.state ram.new;
+          faults = record d.faults {
+            input = I.faults input.new;
+            out = O.faults out.new;
+            err = E.faults err.new;
+            ram = (R.state ram.new).faults;
+          };
+        }) result }
+{
+    let (program, layout) = (&prepared.program, &prepared.layout);
+    let (reports, steps) = (&options.reports, options.limits.steps);
+    let (calls, telling) = (reports.calls, telling_of(reports.trace));
+    let ended = run_cached(
+        alloc, image, program, layout, rom, calls, telling, steps, input, out, err, ram,
+    )
+    .map_err(refusal_of)?;
+    let (board, history) = (&ended.0, &ended.1);
+    let Ok(()) = report_board(reports, board, out) else {
+        return Err(Refusal::SinkFault);
+    };
+    match write_last(reports.trace, history, board.bus(), err) {
+        Ok(()) => Ok(ending_of(board.ending(), board.origin_pc(), board.steps())),
+        Err(_) => Err(Refusal::SinkFault),
+    }
+}
+
+/// Runs a program on the cached machine, in the cache that the options name.
 fn run_program<I: Source, O: Sink, E: Sink, R: CacheRam>(
     alloc: Global,
     image: &ImageView<'_>,
@@ -135,21 +196,10 @@ fn run_program<I: Source, O: Sink, E: Sink, R: CacheRam>(
     if bytes < least {
         return Err(Refusal::CacheSmall { bytes, least });
     }
-    let (program, layout) = (&prepared.program, &prepared.layout);
-    let (reports, steps) = (&options.reports, options.limits.steps);
-    let (calls, telling) = (reports.calls, telling_of(reports.trace));
-    let ended = run_cached(
-        alloc, image, program, layout, bytes, calls, telling, steps, input, out, err, ram,
-    )
-    .map_err(refusal_of)?;
-    let (board, history) = (&ended.0, &ended.1);
-    let Ok(()) = report_board(reports, board, out) else {
-        return Err(Refusal::SinkFault);
+    let Ok(rom) = slots_for(alloc, image, bytes) else {
+        return Err(Refusal::Memory);
     };
-    match write_last(reports.trace, history, board.bus(), err) {
-        Ok(()) => Ok(ending_of(board.ending(), board.origin_pc(), board.steps())),
-        Err(_) => Err(Refusal::SinkFault),
-    }
+    run_over(alloc, image, prepared, rom, options, input, out, err, ram)
 }
 
 /// Runs the program of a file on the cached machine: by the image that the file has, or else by the greedy cut of its

@@ -6,14 +6,14 @@ ghost use Rattle.std.specs.Io.KnownBytes.{Appends};
 ghost use Rattle.swi_outside.specs.CacheRam.{KeepsBeyond};
 ghost use Rattle.swi_outside.specs.Causes.{DeviceCause, HasCause};
 ghost use Rattle.swi_outside.specs.Sink.{AppendsPrefix};
-ghost use Rattle.swi_cached.specs.Cached.{slots_of};
+ghost use Rattle.swi_cached.specs.Cached.{IsFresh};
 ghost use Rattle.swi_command.specs.CommandLine.{IsCacheInRange, IsFunctionCount, MeasureMade};
 ghost use Rattle.swi_make.specs.Made.{IsMade};
 ghost use Rattle.swi_program.specs.Layout.{IsLayoutOf, laid_out};
 ghost use Rattle.swi_program.specs.ProgramOf.{program_of_text};
 ghost use Rattle.swi_program.specs.Text.{text_of};
 ghost use Rattle.swi_render.specs.ImageOf.{IsImageOf};
-ghost use Rattle.swi_rom.specs.Slots.{kept_by};
+ghost use Rattle.swi_rom.specs.Service.{cache_of};
 ghost use Rattle.swi_top.specs.Answers.{Answers, made_run};
 ghost use Rattle.swi_top.specs.Caching.{MadeRan, board_summary};
 ghost use Rattle.swi_top.specs.Devices.{Devices};
@@ -28,15 +28,15 @@ use crate::sizes::check_sizes;
 use std::alloc::Global;
 use swi_answer::{Ending, Refusal};
 use swi_board::Board;
-use swi_cached::{CachedStop, Telling, run_cached};
+use swi_cached::{CachedStop, Telling, run_cached, slots_for};
 use swi_calls::End;
 use swi_command::CacheOptions;
-use swi_fifo::FifoRom;
 use swi_image::ImageView;
 use swi_make::{BASE, make};
 use swi_outside::{CacheRam, Sink};
 use swi_program::{Program, lay_out, one_text};
 use swi_report::{Measured, summary_text};
+use swi_rom::CacheRom;
 
 /// The bytes of the heap and of the stack.
 const HEAP: u32 = 1 << 20;
@@ -78,26 +78,25 @@ fn prepare_text<'a>(alloc: Global, text: &'a [u8]) -> Result<Prepared<'a>, Refus
     }
 }
 
-/// Runs a made program on the cached machine. It has no input, and nobody sees what it writes.
-fn run_made<R: CacheRam>(
+/// Runs a made program on the cached machine over a service that has done nothing yet. It has no input, and nobody sees what
+/// it writes.
+fn run_made<R: CacheRam, S: CacheRom>(
     alloc: Global,
     image: &ImageView<'_>,
     prepared: &Prepared<'_>,
-    cache: &CacheOptions,
+    rom: S,
     ram: &mut R,
-) -> Result<Board<FifoRom>, Refusal>
+) -> Result<Board<S>, Refusal>
     requires laid_out { IsLayoutOf prepared.now.program.segments prepared.now.layout }
     requires own { IsImageOf (text_of prepared.now.program.segments) image.now }
-    requires least { 4 * image.now.block_words ≤ cache.now.cache_bytes }
-    requires most { cache.now.cache_bytes ≤ 2 ^ 23 }
-    requires held { cache.now.cache_bytes ≤ 4 * length (R.state ram.old).words }
+    requires sound { S.service.sound rom image.now (R.state ram.old).words }
+    requires fresh { IsFresh (S.service.kept rom) }
     ensures ran { IfOk result (λ b. MadeRan
-        (made_run cache.now prepared.now.program prepared.now.layout image.now) b.hart (kept_by b.rom)
+        (made_run (cache_of S.service rom) prepared.now.program prepared.now.layout image.now) b.hart (S.service.kept b.rom)
         (R.state ram.old) (R.state ram.new)) }
     ensures refused { IfErr result
         (λ r. ((r ≡ Refusal.Memory) × (R.state ram.new ≡ R.state ram.old)) ⊎ (r ≡ Refusal.RamFault)) }
-    ensures kept { KeepsBeyond (slots_of cache.now.cache_bytes image.now * image.now.block_words) (R.state ram.old)
-        (R.state ram.new) }
+    ensures kept { KeepsBeyond (cache_of S.service rom).span (R.state ram.old) (R.state ram.new) }
     ensures cause { DeviceCause (R.state ram.old).faults (R.state ram.new).faults (IsErrOf result Refusal.RamFault) }
 {
     let (program, layout) = (&prepared.program, &prepared.layout);
@@ -107,7 +106,7 @@ fn run_made<R: CacheRam>(
         image,
         program,
         layout,
-        cache.cache_bytes,
+        rom,
         false,
         Telling::Nothing,
         STEPS,
@@ -127,22 +126,22 @@ fn run_made<R: CacheRam>(
 
 /// Writes the summary of a made program that exited, or answers how else it ended.
 #[tactic(auto, using(crate::proofs::Due::summary_due))]
-fn summarize<O: Sink>(
+fn summarize<O: Sink, S: CacheRom>(
     functions: u32,
     program: &Program<'_>,
     image: &ImageView<'_>,
-    board: &Board<FifoRom>,
+    board: &Board<S>,
     out: &mut O,
 ) -> Result<Ending, Refusal>
     ensures done { IfOk result (λ e.
         (e ≡ made_ending_by board.now.hart.machine.ending board.now.hart.machine.pc board.now.hart.machine.steps)
         × Appends (O.held out.old) (O.held out.new)
-        (board_summary functions program.now image.now board.now.hart (kept_by board.now.rom))) }
+        (board_summary functions program.now image.now board.now.hart (S.service.kept board.now.rom))) }
     ensures failed { IfErr result (λ r. (r ≡ Refusal.SinkFault)
         × AppendsPrefix (O.held out.old) (O.held out.new)
-        (board_summary functions program.now image.now board.now.hart (kept_by board.now.rom))) }
+        (board_summary functions program.now image.now board.now.hart (S.service.kept board.now.rom))) }
     ensures cause { HasCause (O.faults out.old) (O.faults out.new) result }
-    ensures asked { OnErr result (board_summary functions program.now image.now board.now.hart (kept_by board.now.rom) ≡ [] → ⊥) }
+    ensures asked { OnErr result (board_summary functions program.now image.now board.now.hart (S.service.kept board.now.rom) ≡ [] → ⊥) }
 {
     let Some(End::Exited(exit)) = board.ending() else {
         return Ok(ending_of(board.ending(), board.origin_pc(), board.steps()));
@@ -192,6 +191,9 @@ pub(crate) fn measure<O: Sink, R: CacheRam>(
         return Err(Refusal::CacheSmall { bytes, least });
     }
     let view = image.view();
-    let board = run_made(alloc, &view, &prepared, cache, ram)?;
+    let Ok(rom) = slots_for(alloc, &view, bytes) else {
+        return Err(Refusal::Memory);
+    };
+    let board = run_made(alloc, &view, &prepared, rom, ram)?;
     summarize(functions, &prepared.program, &view, &board, out)
 }

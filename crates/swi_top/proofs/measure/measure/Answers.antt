@@ -1,7 +1,10 @@
-use Rattle.std.proofs.Common.{◌≤◌, ◌<◌, ◌*◌, refl, arith}
+use Rattle.std.proofs.Common.{◌≤◌, ◌<◌, ◌*◌, refl, subst, arith}
 use Rattle.std.proofs.lemmas.Result.{err_from_is_err_and}
 use Rattle.swi_make.specs.Made.{IsMade}
-use Rattle.swi_top.specs.Answers.{IsMadeRun}
+use Rattle.swi_outside.specs.CacheRam.{KeepsBeyond}
+use Rattle.swi_rom.specs.Service.{Cache}
+use Rattle.swi_top.specs.Answers.{IsMadeRun, made_run}
+use Rattle.swi_top.specs.Caching.{MadeRan}
 use Rattle.swi_top.specs.Devices.{Devices}
 use Rattle.swi_top.proofs.Measuring.{made_of, run_refused, small_refused, summarized, unfailed}
 use Rattle.swi_top.proofs.measure.measure.Goals as goal
@@ -34,7 +37,7 @@ returns-in_err-board g c =
       faults = record d.faults { out = g.O.Sink.faults c.args.out.now; ram = (g.R.CacheRam.state c.args.ram.now).faults };
     } in
     run_refused c.args.seed c.args.functions c.args.cache.now c.in_ok-prepared.prepared.program c.in_ok-prepared.prepared.layout c.view-view.result before
-    (g.R.CacheRam.state c.run_made.new.ram) c.in_err-board.field-0.0 c.in_ok-check_sizes.ensures.ok is c.in_ok-image.ensures.fits held c.in_err-board.ensures.kept refl
+    (g.R.CacheRam.state c.run_made.new.ram) c.in_err-board.field-0.0 c.in_ok-check_sizes.ensures.ok is c.in_ok-image.ensures.fits held (subst (λ (k : Cache). KeepsBeyond k.span (g.R.CacheRam.state c.args.ram.now) (g.R.CacheRam.state c.run_made.new.ram)) c.in-Ok.ensures.cache c.in_err-board.ensures.kept) refl
     c.in_err-board.ensures.refused c.in_err-board.ensures.cause)
 
 pub returns : goal.returns
@@ -52,5 +55,6 @@ returns g c =
     } in
     summarized c.args.seed c.args.functions c.args.cache.now c.in_ok-prepared.prepared.program c.in_ok-prepared.prepared.layout c.view-view.result before
     (g.O.Sink.held c.summarize.new.out) (g.R.CacheRam.state c.run_made.new.ram) (g.O.Sink.faults c.summarize.new.out) _ _ c.summarize.result
-    c.in_ok-check_sizes.ensures.ok is c.in_ok-image.ensures.fits held c.in_ok-board.ensures.ran c.in_ok-board.ensures.kept
+    c.in_ok-check_sizes.ensures.ok is c.in_ok-image.ensures.fits held (subst (λ (k : Cache). MadeRan (made_run k c.in_ok-prepared.prepared.program c.in_ok-prepared.prepared.layout c.view-view.result) c.in_ok-board.board.hart _ (g.R.CacheRam.state c.args.ram.now) (g.R.CacheRam.state c.run_made.new.ram)) c.in-Ok.ensures.cache c.in_ok-board.ensures.ran)
+    (subst (λ (k : Cache). KeepsBeyond k.span (g.R.CacheRam.state c.args.ram.now) (g.R.CacheRam.state c.run_made.new.ram)) c.in-Ok.ensures.cache c.in_ok-board.ensures.kept)
     (unfailed _ _ _ c.in_ok-board.ensures.cause) c.summarize.ensures.done c.summarize.ensures.failed c.summarize.ensures.asked c.summarize.ensures.cause
