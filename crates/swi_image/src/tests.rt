@@ -1,9 +1,5 @@
-ghost use Rattle.std.specs.Prelude.{◌≡◌, ◌<◌};
-
 use super::*;
 use std::alloc::Global;
-use std::marker::Brand;
-use std::sync::ledger::{Blank, Ledger};
 use std::test::Fail;
 
 /// Three text words in one block of 8 words, version 1: by hand from the format's table.
@@ -232,16 +228,6 @@ fn both_versions_say_their_blocks(rt: HostRuntime) -> Result<(), Fail> {
     Ok(())
 }
 
-/// The place of an address, by the search that is counted.
-fn place_counted<L: Ledger>(view: &ImageView, a: u32, blank: Blank) -> Option<(u32, u32)>
-    requires name { blank.name ≡ L.name }
-    requires parts { blank.parts ≡ L.parts }
-    requires some { 0 < blank.parts }
-{
-    let mut steps = Steps::<L>::new(blank);
-    view.place_steps(a, &mut steps)
-}
-
 #[test]
 fn text_words_have_their_places_and_origins(rt: HostRuntime) -> Result<(), Fail> {
     let places = [
@@ -271,8 +257,6 @@ fn text_words_have_their_places_and_origins(rt: HostRuntime) -> Result<(), Fail>
         let view = read_image(&bytes[1..]).ok().expect(&rt, "accepted");
         for (address, want) in places {
             assert_eq!(rt; view.place(address), want, "{address}");
-            let counted = place_counted::<Brand>(&view, address, Blank::new(1));
-            assert_eq!(rt; counted, want, "{address}");
         }
         for ((block, offset), want) in origins {
             assert!(rt; block < view.blocks() && offset < view.length(block));
