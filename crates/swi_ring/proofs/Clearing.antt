@@ -12,7 +12,7 @@ use Rattle.swi_rom.specs.Record.{Has as HasPlacement}
 use Rattle.swi_rom.specs.Policy.{evicted}
 use Rattle.swi_rom.specs.Rams.{wrote_none, failed_more}
 use Rattle.swi_rom.specs.Writing.{FailedBelow}
-use Rattle.swi_ring.specs.Fifo.{meets, is_free, cleared}
+use Rattle.swi_ring.specs.Fifo.{meets, cleared}
 use Rattle.swi_ring.specs.Ring.{Ring, first_at, spot, queue_of, kept_by, stands_at}
 use Rattle.swi_ring.specs.Sound.{RingSound, IsOwned}
 use Rattle.swi_ring.specs.Steps.{Left, Receded, MadeRoom}

@@ -12,7 +12,7 @@ use Rattle.swi_rom.specs.Coherent.{IsExit}
 use Rattle.swi_slots.specs.Collected.{length_with_all}
 use Rattle.swi_slots.proofs.Policy.{first_in_has}
 use Rattle.swi_chain.specs.Holders.{holder_of}
-use Rattle.swi_ring.specs.Ring.{Ring, first_at, target_at, queue_of, exit_of, link_at, links_of, kept_by}
+use Rattle.swi_ring.specs.Ring.{Ring, first_at, target_at, queue_of, link_at, links_of, kept_by}
 use Rattle.swi_ring.specs.Sound.{RingSound}
 use Rattle.swi_ring.specs.Steps.{Linked}
 use Rattle.swi_ring.specs.Coheres.{Tidy, placed_has, has_placed, word_below, some_link_at, none_link_at, differ_at, exit_is, same_word, linked_is}

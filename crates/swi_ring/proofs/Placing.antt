@@ -17,7 +17,7 @@ use Rattle.swi_slots.specs.Steps.{more_service}
 use Rattle.swi_rom.specs.Rams.{wrote_none, wrote_more, wrote_wider}
 use Rattle.swi_rom.specs.declared.rom.Counts.{Counts}
 use Rattle.swi_ring.specs.Fifo.{appended, placed, arrived, first_for}
-use Rattle.swi_ring.specs.Ring.{Ring, first_at, target_at, spot, queue_of, exit_of, link_at, links_of, behind, kept_by, setting_of}
+use Rattle.swi_ring.specs.Ring.{Ring, first_at, target_at, spot, queue_of, exit_of, link_at, links_of, behind, kept_by}
 use Rattle.swi_ring.specs.Sound.{RingSound, LinkStands}
 use Rattle.swi_ring.specs.Steps.{marked, Receded, MadeRoom, settled, first_in, Filled, counted_ring, Arrived}
 use Rattle.swi_ring.specs.Coheres.{spots_have, have_spots, found_at}

@@ -8,7 +8,7 @@ use Rattle.swi_outside.specs.CacheRam.{RamState}
 use Rattle.swi_chain.specs.Chains.{ChainsData, Has, Distinct}
 use Rattle.swi_rom.specs.Record.{Record, Placement, Link, has_link, ebreak, IsJump}
 use Rattle.swi_rom.specs.Record.{Has as HasPlacement}
-use Rattle.swi_rom.specs.Policy.{is_from, leads_to, is_undone, is_kept, evicted}
+use Rattle.swi_rom.specs.Policy.{is_undone, is_kept, evicted}
 use Rattle.swi_rom.specs.Writing.{Wrote}
 use Rattle.swi_rom.specs.Rams.{wrote_more}
 use Rattle.swi_slots.specs.Collected.{has_filter, length_collected, passing, passes}

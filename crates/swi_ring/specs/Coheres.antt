@@ -6,7 +6,7 @@ use Rattle.swi_image.specs.Format.{ImageData}
 use Rattle.swi_image.specs.Place.{word_at, length_at}
 use Rattle.swi_image.specs.Sound.{IsImage}
 use Rattle.swi_chain.specs.Chains.{Has, Distinct}
-use Rattle.swi_rom.specs.Record.{Placement, Link, has_link, exit_among, is_linked, Placed, IsJump}
+use Rattle.swi_rom.specs.Record.{Placement, Link, has_link, is_linked, Placed, IsJump}
 use Rattle.swi_rom.specs.Record.{Has as HasPlacement}
 use Rattle.swi_rom.specs.Coherent.{Coherent, TargetAt, StandsAt, resident_of, pair_of}
 use Rattle.swi_slots.specs.Collected.{Differ, collected_has, has_collected, collected_ascending}

@@ -1,6 +1,4 @@
 -- What a ring is as a service.
-use Rattle.std.specs.Prelude.{ℕ, List}
-use Rattle.swi_image.specs.Format.{ImageData}
 use Rattle.swi_rom.specs.Service.{ServiceOf}
 use Rattle.swi_ring.specs.Fifo.{ring, extent_of, span_of}
 use Rattle.swi_ring.specs.Ring.{Ring, kept_by, setting_of, shown_by, goals_by}
