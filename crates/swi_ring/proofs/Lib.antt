@@ -1,0 +1,13 @@
+mod Turning
+mod Gathered
+mod Receding
+mod Shapes
+mod Evicting
+mod Clearing
+mod Placing
+mod Empty
+mod Linking
+mod Crossing
+mod Exits
+mod Seen
+mod Rows

@@ -1,0 +1,9 @@
+pub mod Queue
+pub mod Fifo
+pub mod Ring
+pub mod Sound
+pub mod Service
+pub mod Steps
+pub mod Coheres
+pub mod Chained
+pub mod Laws
