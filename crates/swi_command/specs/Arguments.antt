@@ -32,6 +32,8 @@ flag_name flag_named.State = codes "state"
 flag_name flag_named.Calls = codes "calls"
 flag_name flag_named.Stats = codes "stats"
 flag_name flag_named.Last = codes "last"
+flag_name flag_named.Ring = codes "ring"
+flag_name flag_named.WholeLoops = codes "whole-loops"
 
 abbrev pub argument_name : Argument → Text
 argument_name (argument.Positional p) = positional_name p

@@ -9,6 +9,8 @@ use Rattle.clap.specs.Words.{App, Row, Rule, Text, new_app, new_rule, with_rule,
 use Rattle.clap.specs.Simple.{on_top}
 use Rattle.clap.specs.Kinds.{Kinds}
 use Rattle.clap.specs.declared.builder.action.ArgAction.TheVariants.{Set, SetTrue}
+use Rattle.swi_command.specs.declared.command.CacheKind.{CacheKind}
+use Rattle.swi_command.specs.declared.command.CacheKind.TheVariants.{Slots, Ring}
 use Rattle.swi_command.specs.declared.command.CacheOptions.{CacheOptions}
 use Rattle.swi_command.specs.declared.command.Command.{Command}
 use Rattle.swi_command.specs.declared.command.Command.TheVariants.{Rewrite, Cached, Plain, Listing, Check, Upgrade, Measure}
@@ -110,11 +112,16 @@ trace_options_of rows = option_map (λ l. record {
   reports = record { state = false; calls = false; stats = false; trace = trace_of rows };
 }) (limits_of rows)
 
--- the sizes of the cache and of its blocks
+-- how blocks stand in the cache
+abbrev pub kind_of : List Row → CacheKind
+kind_of rows = if is_set (codes "ring") rows then Ring else Slots
+
+-- the cache: its sizes, and how blocks stand in it
 abbrev pub cache_of : List Row → Option CacheOptions
 cache_of rows = option_and_then (λ c. option_map (λ b. record {
   cache_bytes = c;
   block_words = b;
+  kind = kind_of rows;
 }) (number_of block_form rows)) (number_of cache_form rows)
 
 -- the seed of a program that is made, and how many functions it has
@@ -128,7 +135,7 @@ count_of rows = number_at (codes "COUNT") 1 4096 rows
 
 -- a command with the names of its files and its options
 pub data Request : Type 0 where
-  RewriteFile : (input : Text) (output : Text) (block_words : ℕ) → Request
+  RewriteFile : (input : Text) (output : Text) (block_words : ℕ) (whole_loops : Bool) → Request
   RunCached : (file : Text) (cache : CacheOptions) (options : RunOptions) → Request
   RunPlain : (file : Text) (options : RunOptions) → Request
   ListFile : (file : Text) (block_words : ℕ) → Request
@@ -138,7 +145,7 @@ pub data Request : Type 0 where
 
 abbrev pub rewrite_request : List Row → Option Request
 rewrite_request rows = option_and_then (λ i. option_and_then (λ o.
-    option_map (λ b. RewriteFile i o b) (number_of block_form rows))
+    option_map (λ b. RewriteFile i o b (is_set (codes "whole-loops") rows)) (number_of block_form rows))
     (first_of (codes "OUT") rows)) (first_of (codes "IN") rows)
 
 abbrev pub cached_request : List Row → Option Request
@@ -201,21 +208,22 @@ pub record Form : Type 0 where
   pub rules : List Rule
   pub request : List Row → Option Request
 
--- IN OUT --block n
+-- IN OUT --block n --whole-loops
 abbrev pub rewrite_form : Form
 rewrite_form = record {
   name = codes "rewrite";
-  rules = positional (codes "IN") ∷ positional (codes "OUT") ∷ option (codes "block") ∷ [];
+  rules = positional (codes "IN") ∷ positional (codes "OUT") ∷ option (codes "block")
+      ∷ flag (codes "whole-loops") ∷ [];
   request = rewrite_request;
 }
 
--- FILE --steps n --cache n --block n --heap n --stack n --state --calls --stats
+-- FILE --steps n --cache n --block n --heap n --stack n --ring --state --calls --stats
 abbrev pub cached_form : Form
 cached_form = record {
   name = codes "cached";
   rules = positional (codes "FILE") ∷ option (codes "steps") ∷ option (codes "cache")
       ∷ option (codes "block") ∷ option (codes "heap") ∷ option (codes "stack")
-      ∷ flag (codes "state") ∷ flag (codes "calls") ∷ flag (codes "stats") ∷ [];
+      ∷ flag (codes "ring") ∷ flag (codes "state") ∷ flag (codes "calls") ∷ flag (codes "stats") ∷ [];
   request = cached_request;
 }
 
@@ -229,13 +237,13 @@ plain_form = record {
   request = plain_request;
 }
 
--- FILE --steps n --cache n --block n --heap n --stack n --last
+-- FILE --steps n --cache n --block n --heap n --stack n --ring --last
 abbrev pub trace_form : Form
 trace_form = record {
   name = codes "trace";
   rules = positional (codes "FILE") ∷ option (codes "steps") ∷ option (codes "cache")
       ∷ option (codes "block") ∷ option (codes "heap") ∷ option (codes "stack")
-      ∷ flag (codes "last") ∷ [];
+      ∷ flag (codes "ring") ∷ flag (codes "last") ∷ [];
   request = trace_request;
 }
 
@@ -263,12 +271,12 @@ upgrade_form = record {
   request = upgrade_request;
 }
 
--- SEED COUNT --cache n --block n
+-- SEED COUNT --cache n --block n --ring
 abbrev pub measure_form : Form
 measure_form = record {
   name = codes "measure";
   rules = positional (codes "SEED") ∷ positional (codes "COUNT") ∷ option (codes "cache")
-      ∷ option (codes "block") ∷ [];
+      ∷ option (codes "block") ∷ flag (codes "ring") ∷ [];
   request = measure_request;
 }
 
@@ -308,8 +316,8 @@ command_of words = option_and_then (request_by words) (form_first words)
 
 -- what a command asks for
 abbrev pub request_of : Command → Request
-request_of (Rewrite input output block_words) =
-    RewriteFile (string_bytes input) (string_bytes output) block_words
+request_of (Rewrite input output block_words whole_loops) =
+    RewriteFile (string_bytes input) (string_bytes output) block_words whole_loops
 request_of (Cached file cache options) = RunCached (string_bytes file) cache options
 request_of (Plain file options) = RunPlain (string_bytes file) options
 request_of (Listing file block_words) = ListFile (string_bytes file) block_words
@@ -345,7 +353,7 @@ pub record IsFunctionCount (functions : ℕ) : Type 0 where
 
 -- and so do those of a command
 abbrev pub HasLimitsInRange : Command → Type 0
-HasLimitsInRange (Rewrite input output block_words) = IsBlockSize block_words
+HasLimitsInRange (Rewrite input output block_words whole_loops) = IsBlockSize block_words
 HasLimitsInRange (Cached file cache options) = IsCacheInRange cache × IsInRange options.limits
 HasLimitsInRange (Plain file options) = IsInRange options.limits
 HasLimitsInRange (Listing file block_words) = IsBlockSize block_words

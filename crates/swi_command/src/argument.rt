@@ -32,6 +32,8 @@ pub enum Flag {
     Calls,
     Stats,
     Last,
+    Ring,
+    WholeLoops,
 }
 
 /// What a command takes behind its name.
@@ -127,6 +129,8 @@ impl Flag {
             Flag::Calls => "calls",
             Flag::Stats => "stats",
             Flag::Last => "last",
+            Flag::Ring => "ring",
+            Flag::WholeLoops => "whole-loops",
         }
     }
 }

@@ -42,23 +42,35 @@ pub struct RunOptions {
     pub reports: Reports,
 }
 
-/// The sizes of a cache.
+/// How blocks stand in a cache.
+#[derive(Clone, Copy, Debug, PartialEq, Eq)]
+pub enum CacheKind {
+    /// In slots of the longest block's words, one block in each.
+    Slots,
+    /// One behind the other, each with its own words; the oldest leave where a block is to stand.
+    Ring,
+}
+
+/// A cache: its sizes, and how blocks stand in it.
 #[derive(Clone, Copy, Debug, PartialEq, Eq)]
 pub struct CacheOptions {
     /// The cache's size in bytes, 8 to 2^32 - 1.
     pub cache_bytes: u32,
     /// The size of a block in words, 2 to 1024.
     pub block_words: u32,
+    pub kind: CacheKind,
 }
 
 /// What the words ask for. Each file is a name.
 #[derive(Debug, Drop, PartialEq, Eq)]
 pub enum Command {
-    /// The input's program, cut into blocks of so many words (2 to 1024), is put under the output's name.
+    /// The input's program, cut into blocks of so many words (2 to 1024), is put under the output's name. With
+    /// `whole_loops` LR.W and its SC.W stand in one block where a block has room for them.
     Rewrite {
         input: String,
         output: String,
         block_words: u32,
+        whole_loops: bool,
     },
     /// A run of the file's program on the cached machine, with a trace or without one.
     Cached {

@@ -15,7 +15,9 @@ mod number;
 mod read;
 mod syntax;
 
-pub use command::{CacheOptions, Command, CommandError, Reports, RunLimits, RunOptions, Trace};
+pub use command::{
+    CacheKind, CacheOptions, Command, CommandError, Reports, RunLimits, RunOptions, Trace,
+};
 use name::CommandName;
 use read::command_from;
 use std::alloc::Global;
@@ -26,14 +28,14 @@ use syntax::command_matches;
 ///
 /// | Command | Words |
 /// |---|---|
-/// | `rewrite` | IN OUT `--block` |
-/// | `cached` | FILE `--steps` `--cache` `--block` `--heap` `--stack` `--state` `--calls` `--stats` |
+/// | `rewrite` | IN OUT `--block` `--whole-loops` |
+/// | `cached` | FILE `--steps` `--cache` `--block` `--heap` `--stack` `--ring` `--state` `--calls` `--stats` |
 /// | `plain` | FILE `--steps` `--heap` `--stack` `--state` `--calls` `--stats` |
-/// | `trace` | FILE `--steps` `--cache` `--block` `--heap` `--stack` `--last` |
+/// | `trace` | FILE `--steps` `--cache` `--block` `--heap` `--stack` `--ring` `--last` |
 /// | `list` | FILE `--block` |
 /// | `check` | FILE |
 /// | `upgrade` | IN OUT |
-/// | `measure` | SEED COUNT `--cache` `--block` |
+/// | `measure` | SEED COUNT `--cache` `--block` `--ring` |
 ///
 /// | Option | Range | Where not given |
 /// |---|---|---|
@@ -44,7 +46,7 @@ use syntax::command_matches;
 /// | `--stack` in bytes | 4096 to 16777216, a multiple of 16 | 65536 |
 ///
 /// SEED is a number from 0 to 2^32 - 1, COUNT one from 1 to 4096; the other words by place are names of files.
-/// `--state`, `--calls`, `--stats` and `--last` are flags. Options may stand before, between and after the
+/// `--ring`, `--whole-loops`, `--state`, `--calls`, `--stats` and `--last` are flags. Options may stand before, between and after the
 /// files, as `--x v` or `--x=v`, each at most once. An option's value that begins with `-` is taken
 /// only as `--x=v`. `--` ends the options; a file that begins with `-` is `-` itself or stands
 /// behind it. A number is 1 to 19 decimal digits.

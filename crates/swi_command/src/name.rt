@@ -11,6 +11,7 @@ const REWRITE: &[Argument] = &[
     Argument::Positional(Positional::Input),
     Argument::Positional(Positional::Output),
     Argument::Number(NumberOption::Block),
+    Argument::Flag(Flag::WholeLoops),
 ];
 
 const CACHED: &[Argument] = &[
@@ -20,6 +21,7 @@ const CACHED: &[Argument] = &[
     Argument::Number(NumberOption::Block),
     Argument::Number(NumberOption::Heap),
     Argument::Number(NumberOption::Stack),
+    Argument::Flag(Flag::Ring),
     Argument::Flag(Flag::State),
     Argument::Flag(Flag::Calls),
     Argument::Flag(Flag::Stats),
@@ -42,6 +44,7 @@ const TRACE: &[Argument] = &[
     Argument::Number(NumberOption::Block),
     Argument::Number(NumberOption::Heap),
     Argument::Number(NumberOption::Stack),
+    Argument::Flag(Flag::Ring),
     Argument::Flag(Flag::Last),
 ];
 
@@ -62,6 +65,7 @@ const MEASURE: &[Argument] = &[
     Argument::Positional(Positional::Count),
     Argument::Number(NumberOption::Cache),
     Argument::Number(NumberOption::Block),
+    Argument::Flag(Flag::Ring),
 ];
 
 #[derive(Clone, Copy)]

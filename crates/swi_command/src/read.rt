@@ -3,12 +3,14 @@
 ghost use Rattle.std.specs.Prelude.{◌≡◌, ◌≤◌, ◌%◌, IfSome, IfOk, Some, None, option_map, string_bytes};
 ghost use Rattle.clap.specs.Words.{rows_of, found_of, first_of};
 ghost use Rattle.swi_command.specs.Arguments.{positional_name, form_of_number, flag_name, form_of};
-ghost use Rattle.swi_command.specs.CommandLine.{number_of, number_at, seed_of, count_of, is_set, limits_of, reports_of, options_of, trace_options_of, cache_of, request_of, IsBlockSize, IsFunctionCount, IsCacheInRange, IsInRange, HasLimitsInRange};
+ghost use Rattle.swi_command.specs.CommandLine.{number_of, number_at, seed_of, count_of, is_set, limits_of, reports_of, options_of, trace_options_of, kind_of, cache_of, request_of, IsBlockSize, IsFunctionCount, IsCacheInRange, IsInRange, HasLimitsInRange};
 
 use crate::argument::{Flag, NumberOption, Positional};
 use crate::name::CommandName;
 use crate::number::{NumberRule, read_number_in};
-use crate::{CacheOptions, Command, CommandError, Reports, RunLimits, RunOptions, Trace};
+use crate::{
+    CacheKind, CacheOptions, Command, CommandError, Reports, RunLimits, RunOptions, Trace,
+};
 use clap::ArgMatches;
 use std::alloc::Global;
 
@@ -133,6 +135,16 @@ fn block_words(matches: &ArgMatches<'_>) -> Option<u32>
     Some(words as u32)
 }
 
+fn cache_kind(matches: &ArgMatches<'_>) -> CacheKind
+    ensures { result ≡ kind_of (rows_of (found_of matches.now)) }
+{
+    if is_given(matches, Flag::Ring) {
+        CacheKind::Ring
+    } else {
+        CacheKind::Slots
+    }
+}
+
 fn cache_options(matches: &ArgMatches<'_>) -> Option<CacheOptions>
     ensures value { result ≡ cache_of (rows_of (found_of matches.now)) }
     ensures ranges { IfSome result IsCacheInRange }
@@ -141,6 +153,7 @@ fn cache_options(matches: &ArgMatches<'_>) -> Option<CacheOptions>
     Some(CacheOptions {
         cache_bytes: cache as u32,
         block_words: block_words(matches)?,
+        kind: cache_kind(matches),
     })
 }
 
@@ -177,6 +190,7 @@ pub fn command_from(
             input: file_name(alloc, matches, Positional::Input)?,
             output: file_name(alloc, matches, Positional::Output)?,
             block_words: block_words(matches).ok_or(usage)?,
+            whole_loops: is_given(matches, Flag::WholeLoops),
         }),
         CommandName::Cached => Ok(Command::Cached {
             file: file_name(alloc, matches, Positional::File)?,

@@ -1,4 +1,6 @@
-use crate::{CacheOptions, Command, Reports, RunLimits, RunOptions, Trace, parse_command};
+use crate::{
+    CacheKind, CacheOptions, Command, Reports, RunLimits, RunOptions, Trace, parse_command,
+};
 use std::alloc::Global;
 use std::process::Abort;
 use std::test::Fail;
@@ -35,6 +37,20 @@ fn run_text(alloc: Global, options: RunOptions) -> Result<String, Fail> {
     Ok(format!(in alloc; "{steps} {heap} {stack}{state}{calls}{stats}{trace}")?)
 }
 
+/// A cache as its sizes, and its kind where it is a ring.
+fn cache_text(alloc: Global, cache: CacheOptions) -> Result<String, Fail> {
+    let CacheOptions {
+        cache_bytes,
+        block_words,
+        kind,
+    } = cache;
+    let kind = match kind {
+        CacheKind::Slots => "",
+        CacheKind::Ring => " ring",
+    };
+    Ok(format!(in alloc; "{cache_bytes} {block_words}{kind}")?)
+}
+
 /// A command as its name, its files in brackets and its options.
 fn command_text(alloc: Global, command: &Command) -> Result<String, Fail> {
     match command {
@@ -42,18 +58,19 @@ fn command_text(alloc: Global, command: &Command) -> Result<String, Fail> {
             input,
             output,
             block_words,
-        } => Ok(format!(in alloc; "rewrite [{input}] [{output}] {block_words}")?),
+            whole_loops,
+        } => {
+            let cut = if *whole_loops { " whole loops" } else { "" };
+            Ok(format!(in alloc; "rewrite [{input}] [{output}] {block_words}{cut}")?)
+        }
         Command::Cached {
             file,
             cache,
             options,
         } => {
-            let CacheOptions {
-                cache_bytes,
-                block_words,
-            } = cache;
+            let cache = cache_text(alloc, *cache)?;
             let run = run_text(alloc, *options)?;
-            Ok(format!(in alloc; "cached [{file}] {cache_bytes} {block_words} {run}")?)
+            Ok(format!(in alloc; "cached [{file}] {cache} {run}")?)
         }
         Command::Plain { file, options } => {
             let run = run_text(alloc, *options)?;
@@ -71,11 +88,8 @@ fn command_text(alloc: Global, command: &Command) -> Result<String, Fail> {
             functions,
             cache,
         } => {
-            let CacheOptions {
-                cache_bytes,
-                block_words,
-            } = cache;
-            Ok(format!(in alloc; "measure {seed} {functions} {cache_bytes} {block_words}")?)
+            let cache = cache_text(alloc, *cache)?;
+            Ok(format!(in alloc; "measure {seed} {functions} {cache}")?)
         }
     }
 }
@@ -274,6 +288,40 @@ fn a_trace_takes_the_limits_and_its_flag(rt: HostRuntime) -> Result<(), Fail> {
         ("trace A --stats", USAGE),
         ("cached A --last", USAGE),
         ("plain A --last", USAGE),
+    ];
+    lines_are_read(&rt, rt.alloc(), &cases)
+}
+
+#[test]
+fn a_ring_and_whole_loops_are_flags(rt: HostRuntime) -> Result<(), Fail> {
+    let cases = [
+        (
+            "cached A --ring",
+            "cached [A] 4096 64 ring 1000000000 1048576 65536",
+        ),
+        (
+            "trace --ring A --last",
+            "cached [A] 4096 64 ring 1000000000 1048576 65536 last steps",
+        ),
+        (
+            "measure 1 2 --ring --cache 64 --block 8",
+            "measure 1 2 64 8 ring",
+        ),
+        (
+            "rewrite A B --whole-loops",
+            "rewrite [A] [B] 64 whole loops",
+        ),
+        (
+            "rewrite --whole-loops --block 8 A B",
+            "rewrite [A] [B] 8 whole loops",
+        ),
+        ("cached A --ring --ring", USAGE),
+        ("cached A --ring=1", USAGE),
+        ("cached A --whole-loops", USAGE),
+        ("rewrite A B --whole-loops --whole-loops", USAGE),
+        ("rewrite A B --ring", USAGE),
+        ("plain A --ring", USAGE),
+        ("list A --ring", USAGE),
     ];
     lines_are_read(&rt, rt.alloc(), &cases)
 }
