@@ -1,5 +1,6 @@
 mod Boot
 pub mod Slotted
+mod Ringed
 mod Ended
 mod Services
 pub mod Failed

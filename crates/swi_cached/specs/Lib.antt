@@ -1,5 +1,6 @@
 pub mod Cached
 pub mod Slotted
+pub mod Ringed
 pub mod Told
 pub mod Traced
 pub mod Booted

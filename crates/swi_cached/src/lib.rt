@@ -1,10 +1,12 @@
 //! A run of a program on the cached machine, with its steps told or not.
 #![tactic(auto)]
 
+mod ring;
 mod run;
 mod slots;
 mod told;
 
+pub use ring::ring_for;
 pub use run::{CachedStop, run_cached};
 pub use slots::slots_for;
 pub use told::Telling;

@@ -16,6 +16,8 @@ use Rattle.swi_program.specs.ProgramOf.{program_of_file}
 use Rattle.swi_image.specs.Format.{ImageData, image_of}
 use Rattle.swi_render.specs.Cut.{Fits, IsCut}
 use Rattle.swi_command.specs.CommandLine.{Request, RunCached}
+use Rattle.swi_command.specs.declared.command.CacheKind.{CacheKind}
+use Rattle.swi_command.specs.declared.command.CacheKind.TheVariants as kind
 use Rattle.swi_command.specs.declared.command.CacheOptions.{CacheOptions}
 use Rattle.swi_command.specs.declared.command.RunOptions.{RunOptions}
 use Rattle.swi_calls.specs.declared.end.End.{End}
@@ -29,6 +31,8 @@ use Rattle.swi_hart.specs.Hart.{HartData}
 use Rattle.swi_cached.specs.declared.run.CachedStop.{CachedStop}
 use Rattle.swi_cached.specs.declared.run.CachedStop.TheVariants as stop
 use Rattle.swi_cached.specs.Answers as run
+use Rattle.swi_cached.specs.Ringed.{ringed}
+use Rattle.swi_cached.specs.Slotted.{slotted}
 use Rattle.swi_cached.specs.declared.told.Telling.{Telling}
 use Rattle.swi_cached.specs.Told.{addresses, history_of, next_error, told_line}
 use Rattle.swi_hart.specs.Faults as board
@@ -40,7 +44,7 @@ use Rattle.swi_cached.proofs.Failed.{is_flat_run, stops_before_store}
 use Rattle.swi_answer.specs.declared.answer.Ending.{Ending}
 use Rattle.swi_answer.specs.declared.answer.Refusal.{Refusal}
 use Rattle.swi_answer.specs.declared.answer.Refusal.TheVariants as refusal
-use Rattle.swi_top.specs.Answers.{Answers, BrokeIn, CachedFailed, Does, IsCachedRun, IsChecked, IsImageFor, IsRunFault, IsSizeRefusal, Leaves, RamCounted, RunsCached, cache_for, cached_report, cached_run, held_next, last_lines, last_told, shown_error, telling_of, work_of}
+use Rattle.swi_top.specs.Answers.{Answers, BrokeIn, CachedFailed, Does, IsCachedRun, IsChecked, IsImageFor, IsRunFault, IsSizeRefusal, Leaves, RamCounted, RunsCached, cache_by, cache_for, cached_report, cached_run, held_next, last_lines, last_told, shown_error, telling_of, work_of}
 use Rattle.swi_top.specs.Caching.{AnswersFile, IsCachedErr, IsFileErr, IsRunErr, RunsOnCache, RunsOver, board_work, refusal_of}
 use Rattle.swi_top.specs.Causes.{HasCauses}
 use Rattle.swi_top.specs.Checks.{Check, FitsUnlessImage, HoldsBlock, Fails, ImageFails, ImagePasses, IsAccepted, IsLong, IsRefusedBy, IsRefusedOr, Passes, block_words, cache_refusal, checks_of, file_limit, room_in, size_refusal, text_in}
@@ -500,6 +504,13 @@ run_err cache v refusal.RamFault h = tt
 run_err cache v refusal.Memory h = tt
 run_err cache v _ h = absurd h
 
+-- the service that is made is that of the kind which the options name
+pub slots_chosen : (cache : CacheOptions) (v : ImageData) (k : Cache) → cache.kind ≡ kind.Slots → k ≡ slotted cache.cache_bytes v → k ≡ cache_for cache v
+slots_chosen cache v k is same = same ∙ sym (ap (λ (x : CacheKind). cache_by x cache.cache_bytes v) is)
+
+pub ring_chosen : (cache : CacheOptions) (v : ImageData) (k : Cache) → cache.kind ≡ kind.Ring → k ≡ ringed cache.cache_bytes → k ≡ cache_for cache v
+ring_chosen cache v k is same = same ∙ sym (ap (λ (x : CacheKind). cache_by x cache.cache_bytes v) is)
+
 pub in_cache : (o : RunOptions) (cache : CacheOptions) (v : ImageData) (p : ProgramData) (l : Layout) (d m : Devices) (r : Result Ending Refusal) (k : Cache) → k ≡ cache_for cache v →
     4 * v.block_words ≤ cache.cache_bytes → RunsOver o k v p l d m r → RunsOnCache o cache v p l d m r
 in_cache o cache v p l d m r k is held run = by r (subst (λ (x : Cache). RunsOver o x v p l d m r) is run)
@@ -507,10 +518,6 @@ in_cache o cache v p l d m r k is held run = by r (subst (λ (x : Cache). RunsOv
     by : (r : Result Ending Refusal) → RunsOver o (cache_for cache v) v p l d m r → RunsOnCache o cache v p l d m r
     by (Ok e) run = record { done = run.done; holds = held; refused = tt; quiet = tt; failed = tt; beyond = run.beyond; causes = run.causes }
     by (Err e) run = record { done = tt; holds = tt; refused = run_err cache v e run.refused; quiet = run.quiet; failed = λ f. (held, run.failed f); beyond = run.beyond; causes = run.causes }
-
--- where there was no memory for a service nothing has changed
-pub no_service : (o : RunOptions) (cache : CacheOptions) (v : ImageData) (p : ProgramData) (l : Layout) (d : Devices) → 4 * v.block_words ≤ cache.cache_bytes → RunsOnCache o cache v p l d d (Err refusal.Memory)
-no_service o cache v p l d held = in_cache o cache v p l d d (Err refusal.Memory) (cache_for cache v) refl held (no_memory o (cache_for cache v) v p l d)
 
 pub last_fails : (file : List ℕ) (cs : List Check) (c : Check) (r : Refusal) → IsAccepted file cs → Fails file c r → IsRefusedBy file (cs ++ (c ∷ [])) r
 last_fails file [] c r passed fails = inl fails
@@ -571,8 +578,13 @@ cached_kind cache v refusal.Memory h = tt
 cached_kind cache v (refusal.CacheSmall bytes least) h = tt
 cached_kind cache v _ h = absurd h
 
+-- either cache lies in its bytes
+span_of_kind : (k : CacheKind) (bytes : ℕ) (v : ImageData) → (cache_by k bytes v).span ≤ bytes / 4
+span_of_kind kind.Slots bytes v = span_within bytes v.block_words
+span_of_kind kind.Ring bytes v = omega arith
+
 pub keeps_run : (cache : CacheOptions) (v : ImageData) (r s : RamState) → KeepsBeyond (cache_for cache v).span r s → KeepsBeyond (cache.cache_bytes / 4) r s
-keeps_run cache v r s k = keeps_less _ _ r s (span_within cache.cache_bytes v.block_words) k
+keeps_run cache v r s k = keeps_less _ _ r s (span_of_kind cache.kind cache.cache_bytes v) k
 
 pub file_answer : (cache : CacheOptions) (o : RunOptions) (file : List ℕ) (v : ImageData) (l : Layout) (d m : Devices) (r : Result Ending Refusal) →
     IsAccepted file (front_of cache o) → block_words (image_in file) cache.block_words ≡ v.block_words → IsImageFor file cache.block_words (image_in file) v →

@@ -114,7 +114,7 @@ ram_line c d m r error err line h p = record {
 
 leaves_line : (q : Request) (file : List ℕ) (d m : Devices) (r : Refusal) (error : Option (List ℕ)) (err : ℕ) (line : List ℕ) → m.faults.err ≤ err →
     Leaves q file d m r [] → Appends m.error error line → Leaves q file d (told_to m error err) r line
-leaves_line (RewriteFile input output block) file d m r error err line later h p = h
+leaves_line (RewriteFile input output block whole) file d m r error err line later h p = h
 leaves_line (UpgradeFile input output) file d m r error err line later h p = h
 leaves_line (ListFile name block) file d m r error err line later h p =
     record { image = h.image; own = h.own; output = h.output; error = Appends-append d.error m.error error [] line h.error p; fault = h.fault; cause = h.cause }
@@ -205,8 +205,8 @@ no_line e is = subst (λ (x : Ending). ending_line x ≡ []) (sym is) refl
 
 done_line : (q : Request) (file : List ℕ) (d m : Devices) (e : Ending) (error : Option (List ℕ)) → IsEndingOf q e → Does q file d m e [] →
     Appends m.error error (ending_line e) → (ending_line e ≡ [] → error ≡ m.error) → Does q file d (record m { error = error }) e (ending_line e)
-done_line (RewriteFile input output block) file d m e error is h p same =
-    subst (λ (x : Option (List ℕ)). Does (RewriteFile input output block) file d (record m { error = x }) e (ending_line e)) (sym (same (no_line e is))) h
+done_line (RewriteFile input output block whole) file d m e error is h p same =
+    subst (λ (x : Option (List ℕ)). Does (RewriteFile input output block whole) file d (record m { error = x }) e (ending_line e)) (sym (same (no_line e is))) h
 done_line (UpgradeFile input output) file d m e error is h p same =
     subst (λ (x : Option (List ℕ)). Does (UpgradeFile input output) file d (record m { error = x }) e (ending_line e)) (sym (same (no_line e is))) h
 done_line (ListFile name block) file d m e error is h p same =
@@ -299,7 +299,7 @@ no_done e is never = never (no_line e is)
 leaves_ending : (q : Request) (file : List ℕ) (d m : Devices) (e : Ending) (error : Option (List ℕ)) (err : ℕ) → IsEndingOf q e → Does q file d m e [] →
     AppendsPrefix m.error error (ending_line e) → (ending_line e ≡ [] → ⊥) → m.faults ≡ d.faults → Rose m.faults.err err →
     Leaves q file d (told_to m error err) refusal.SinkFault []
-leaves_ending (RewriteFile input output block) file d m e error err is h p never same rose = no_done e is never
+leaves_ending (RewriteFile input output block whole) file d m e error err is h p never same rose = no_done e is never
 leaves_ending (UpgradeFile input output) file d m e error err is h p never same rose = no_done e is never
 leaves_ending (ListFile name block) file d m e error err is h p never same rose = absurd (no_done e is never)
 leaves_ending (CheckFile name) file d m e error err is h p never same rose = absurd (no_done e is never)
@@ -337,7 +337,7 @@ leaves_ending (MeasureMade seed functions cache) file d m e error err is h p nev
     }
 
 none_named : (q : Request) (e : Ending) (name : List ℕ) → IsEndingOf q e → (ending_line e ≡ [] → ⊥) → output_name q ≡ Some name → ⊥
-none_named (RewriteFile input output block) e name is never named = no_done e is never
+none_named (RewriteFile input output block whole) e name is never named = no_done e is never
 none_named (UpgradeFile input output) e name is never named = no_done e is never
 none_named (ListFile name block) e out is never named = no_done e is never
 none_named (CheckFile name) e out is never named = no_done e is never

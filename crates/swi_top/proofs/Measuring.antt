@@ -19,10 +19,11 @@ use Rattle.swi_make.specs.Made.{IsMade, IsWordOf}
 use Rattle.swi_make.specs.Numbers.{all_additions}
 use Rattle.swi_image.specs.Format.{ImageData}
 use Rattle.swi_render.specs.Cut.{Fits}
-use Rattle.swi_command.specs.CommandLine.{Request, MeasureMade}
+use Rattle.swi_command.specs.CommandLine.{MeasureMade}
 use Rattle.swi_command.specs.declared.command.CacheOptions.{CacheOptions}
 use Rattle.swi_calls.specs.declared.machine.Machine.{Machine}
 use Rattle.swi_rom.specs.Record.{Record}
+use Rattle.swi_rom.specs.Service.{Cache}
 use Rattle.swi_hart.specs.Hart.{HartData}
 use Rattle.swi_report.specs.declared.stats.Work.{Work}
 use Rattle.swi_cached.specs.Cached.{CachedRun, IsCounted, end_of, instructions_after}
@@ -30,13 +31,13 @@ use Rattle.swi_cached.specs.Answers as run
 use Rattle.swi_answer.specs.declared.answer.Ending.{Ending}
 use Rattle.swi_answer.specs.declared.answer.Refusal.{Refusal}
 use Rattle.swi_answer.specs.declared.answer.Refusal.TheVariants as refusal
-use Rattle.swi_top.specs.Answers.{Answers, IsMadeRun, cache_for, made_run, made_summary}
-use Rattle.swi_top.specs.Caching.{MadeRan, board_summary, board_work}
+use Rattle.swi_top.specs.Answers.{Answers, IsCachedRun, IsMadeRun, MadeRunBroke, SummaryBroke, cache_for, made_ending, made_run, made_summary}
+use Rattle.swi_top.specs.Caching.{MadeRan, MeasuresOver, board_summary, board_work}
 use Rattle.swi_top.specs.Causes.{HasCauses}
 use Rattle.swi_top.specs.Checks.{size_refusal}
 use Rattle.swi_top.specs.Devices.{Devices, Faults}
 use Rattle.swi_top.specs.Measuring.{made_ending_by, summary_by}
-use Rattle.swi_top.proofs.Refusals.{check_refused, contents_stay, late, ok_causes, quiet_cause, rose_cause, sized_along, sized_err, sized_ok}
+use Rattle.swi_top.proofs.Refusals.{check_refused, contents_stay, late, late_causes, ok_causes, quiet_cause, rose_cause, sized_along, sized_err, sized_ok}
 use Rattle.swi_top.proofs.Confirming.{out_causes}
 use Rattle.swi_top.proofs.Caching.{cached_run_is, keeps_run, work_is}
 
@@ -99,72 +100,42 @@ summary_is functions p v c h r before after a =
 abbrev pub measured_to : Devices → Option (List ℕ) → RamState → ℕ → Devices
 measured_to d out ram fo = record d { output = out; ram = ram; faults = record d.faults { out = fo; ram = ram.faults } }
 
-pub made_done : (seed functions : ℕ) (cache : CacheOptions) (p : ProgramData) (l : Layout) (v : ImageData) (d : Devices) (out : Option (List ℕ)) (ram : RamState) (fo : ℕ) (h : HartData) (r : Record) (e : Ending) →
-    size_refusal cache.cache_bytes (length d.ram.words) ≡ None → IsMadeRun seed functions cache p l v → Fits (text_of p.segments) cache.block_words →
-    4 * cache.block_words ≤ cache.cache_bytes → MadeRan (made_run (cache_for cache v) p l v) h r d.ram ram → KeepsBeyond (cache_for cache v).span d.ram ram →
-    ram.faults ≡ d.faults.ram → e ≡ made_ending_by h.machine.ending h.machine.pc h.machine.steps → Appends d.output out (board_summary functions p v h r) → fo ≡ d.faults.out →
-    Answers (MeasureMade seed functions cache) d (measured_to d out ram fo) (Ok e) []
-made_done seed functions cache p l v d out ram fo h r e size is fits held ran beyond ram_is ending written fo_is =
-    let c = made_run (cache_for cache v) p l v in record {
-      asked = λ x. let bad : ⊥ = cc in bad;
-      sized = sized_along _ _ size (sized_ok e);
-      checked = λ _ _. (fits_made seed functions cache.block_words p is.made fits, (held, tt));
-      ended = tt;
-      done = λ _ _. record {
-        program = p;
-        layout = l;
-        image = v;
-        is = is;
-        ending = ending ∙ ap (λ (m : Machine). made_ending_by m.ending m.pc m.steps) ran.machine;
-        output = subst (λ (x : List ℕ). Appends d.output out x) (summary_is functions p v c h r d.ram ram ran) written;
-        error = Appends-none d.error;
-        input = refl;
-        ran = ran.ran;
-        beyond = beyond;
-      };
-      failed = tt;
+-- what a run over a service does where it came to its end, and the summary was written
+over_done : (functions : ℕ) (k : Cache) (p : ProgramData) (l : Layout) (v : ImageData) (d : Devices) (out : Option (List ℕ)) (ram : RamState) (fo : ℕ) (h : HartData) (r : Record) (e : Ending) →
+    MadeRan (made_run k p l v) h r d.ram ram → KeepsBeyond k.span d.ram ram → ram.faults ≡ d.faults.ram → e ≡ made_ending_by h.machine.ending h.machine.pc h.machine.steps →
+    Appends d.output out (board_summary functions p v h r) → fo ≡ d.faults.out → MeasuresOver functions k v p l d (measured_to d out ram fo) (Ok e)
+over_done functions k p l v d out ram fo h r e ran beyond ram_is ending written fo_is =
+    let c = made_run k p l v in record {
+      ending = ending ∙ ap (λ (m : Machine). made_ending_by m.ending m.pc m.steps) ran.machine;
+      output = subst (λ (x : List ℕ). Appends d.output out x) (summary_is functions p v c h r d.ram ram ran) written;
+      ran = ran.ran;
       refused = tt;
-      shelf = record { others = λ x _. contents_stay d x; refused = tt; quiet = λ _. refl; failed = λ x. absurd (let never : ⊥ = cc in never) };
-      ram = keeps_run cache v d.ram ram beyond;
+      beyond = beyond;
       causes = subst (λ (n : ℕ). HasCauses d.faults (record d.faults { out = n; ram = ram.faults }) (Ok e)) (sym fo_is)
           (subst (λ (n : ℕ). HasCauses d.faults (record d.faults { ram = n }) (Ok e)) (sym ram_is) (ok_causes d.faults e));
     }
 
--- the summary was not written whole
-pub summary_broke : (seed functions : ℕ) (cache : CacheOptions) (p : ProgramData) (l : Layout) (v : ImageData) (d : Devices) (out : Option (List ℕ)) (ram : RamState) (fo : ℕ) (h : HartData) (r : Record) →
-    size_refusal cache.cache_bytes (length d.ram.words) ≡ None → IsMadeRun seed functions cache p l v → Fits (text_of p.segments) cache.block_words →
-    4 * cache.block_words ≤ cache.cache_bytes → MadeRan (made_run (cache_for cache v) p l v) h r d.ram ram → KeepsBeyond (cache_for cache v).span d.ram ram →
-    ram.faults ≡ d.faults.ram → AppendsPrefix d.output out (board_summary functions p v h r) → (board_summary functions p v h r ≡ [] → ⊥) → d.faults.out ≤ fo → Rose d.faults.out fo →
-    Answers (MeasureMade seed functions cache) d (measured_to d out ram fo) (Err refusal.SinkFault) []
-summary_broke seed functions cache p l v d out ram fo h r size is fits held ran beyond ram_is part due later rose =
-    let c = made_run (cache_for cache v) p l v in record {
-      asked = λ x. let bad : ⊥ = cc in bad;
-      sized = sized_along _ _ size (sized_err refusal.SinkFault (λ x. x));
-      checked = λ _ _. (fits_made seed functions cache.block_words p is.made fits, (held, tt));
-      ended = tt;
-      done = tt;
-      failed = λ _ _ _. record {
-        program = p;
-        layout = l;
-        image = v;
-        is = is;
-        broke = inr (
-          record {
-            fault = refl;
-            output_front = part.0;
-            output = subst (λ (x : List ℕ). Appends d.output out (take part.0 x)) (summary_is functions p v c h r d.ram ram ran) part.1;
-            error_front = 0;
-            error = Appends-none d.error;
-            behind = inl (refl, (λ none. due (summary_is functions p v c h r d.ram ram ran ∙ none)), rose);
-          },
-          ran.ran,
-        );
-        input = refl;
-        beyond = beyond;
-      };
-      refused = λ never. absurd (never tt);
-      shelf = record { others = λ x _. contents_stay d x; refused = λ _. contents_stay d; quiet = λ _. refl; failed = λ x. absurd (let never : ⊥ = cc in never) };
-      ram = keeps_run cache v d.ram ram beyond;
+-- where the summary was not written whole
+over_summary_broke : (functions : ℕ) (k : Cache) (p : ProgramData) (l : Layout) (v : ImageData) (d : Devices) (out : Option (List ℕ)) (ram : RamState) (fo : ℕ) (h : HartData) (r : Record) →
+    MadeRan (made_run k p l v) h r d.ram ram → KeepsBeyond k.span d.ram ram → ram.faults ≡ d.faults.ram → AppendsPrefix d.output out (board_summary functions p v h r) →
+    (board_summary functions p v h r ≡ [] → ⊥) → d.faults.out ≤ fo → Rose d.faults.out fo → MeasuresOver functions k v p l d (measured_to d out ram fo) (Err refusal.SinkFault)
+over_summary_broke functions k p l v d out ram fo h r ran beyond ram_is part due later rose =
+    let c = made_run k p l v in record {
+      ending = tt;
+      output = tt;
+      ran = tt;
+      refused = inr (inr (
+        record {
+          fault = refl;
+          output_front = part.0;
+          output = subst (λ (x : List ℕ). Appends d.output out (take part.0 x)) (summary_is functions p v c h r d.ram ram ran) part.1;
+          error_front = 0;
+          error = Appends-none d.error;
+          behind = inl (refl, (λ none. due (summary_is functions p v c h r d.ram ram ran ∙ none)), rose);
+        },
+        ran.ran,
+      ));
+      beyond = beyond;
       causes = subst (λ (n : ℕ). HasCauses {T = Ending} d.faults (record d.faults { out = fo; ram = n }) (Err refusal.SinkFault)) (sym ram_is) (out_causes d.faults fo later rose);
     }
 
@@ -180,32 +151,50 @@ ram_causes f n later rose = record {
   quiet = tt;
 }
 
--- the ram failed in the run
-pub made_run_broke : (seed functions : ℕ) (cache : CacheOptions) (p : ProgramData) (l : Layout) (v : ImageData) (d : Devices) (ram : RamState) →
-    size_refusal cache.cache_bytes (length d.ram.words) ≡ None → IsMadeRun seed functions cache p l v → Fits (text_of p.segments) cache.block_words →
-    4 * cache.block_words ≤ cache.cache_bytes → KeepsBeyond (cache_for cache v).span d.ram ram →
-    d.faults.ram ≤ ram.faults → Rose d.faults.ram ram.faults →
-    Answers (MeasureMade seed functions cache) d (record d { ram = ram; faults = record d.faults { ram = ram.faults } }) (Err refusal.RamFault) []
-made_run_broke seed functions cache p l v d ram size is fits held beyond later rose = record {
-  asked = λ x. let bad : ⊥ = cc in bad;
-  sized = sized_along _ _ size (sized_err refusal.RamFault (λ x. x));
-  checked = λ _ _. (fits_made seed functions cache.block_words p is.made fits, (held, tt));
-  ended = tt;
-  done = tt;
-  failed = λ _ _ _. record {
-    program = p;
-    layout = l;
-    image = v;
-    is = is;
-    broke = inl (record { fault = refl; output = refl; error = Appends-none d.error });
-    input = refl;
-    beyond = beyond;
-  };
-  refused = λ never. absurd (never tt);
-  shelf = record { others = λ x _. contents_stay d x; refused = λ _. contents_stay d; quiet = λ _. refl; failed = λ x. absurd (let never : ⊥ = cc in never) };
-  ram = keeps_run cache v d.ram ram beyond;
+-- where the ram failed in it
+over_run_broke : (functions : ℕ) (k : Cache) (p : ProgramData) (l : Layout) (v : ImageData) (d : Devices) (ram : RamState) → KeepsBeyond k.span d.ram ram → d.faults.ram ≤ ram.faults →
+    Rose d.faults.ram ram.faults → MeasuresOver functions k v p l d (record d { ram = ram; faults = record d.faults { ram = ram.faults } }) (Err refusal.RamFault)
+over_run_broke functions k p l v d ram beyond later rose = record {
+  ending = tt;
+  output = tt;
+  ran = tt;
+  refused = inr (inl (record { fault = refl; output = refl; error = Appends-none d.error }));
+  beyond = beyond;
   causes = ram_causes d.faults ram.faults later rose;
 }
+
+-- where there was no memory
+over_memory : (functions : ℕ) (k : Cache) (p : ProgramData) (l : Layout) (v : ImageData) (d : Devices) → KeepsBeyond k.span d.ram d.ram → MeasuresOver functions k v p l d d (Err refusal.Memory)
+over_memory functions k p l v d beyond = record { ending = tt; output = tt; ran = tt; refused = inl (refl, refl); beyond = beyond; causes = late_causes d.faults refusal.Memory tt }
+
+-- where it was refused
+pub over_refused : {T : Type 0} (functions : ℕ) (k : Cache) (p : ProgramData) (l : Layout) (v : ImageData) (d : Devices) (ram : RamState) (r : Refusal) →
+    KeepsBeyond k.span d.ram ram → d.ram.faults ≡ d.faults.ram → ((r ≡ refusal.Memory) × (ram ≡ d.ram)) ⊎ (r ≡ refusal.RamFault) →
+    DeviceCause d.faults.ram ram.faults (IsErrOf {T = T} (Err r) refusal.RamFault) → MeasuresOver functions k v p l d (record d { ram = ram; faults = record d.faults { ram = ram.faults } }) (Err r)
+over_refused functions k p l v d ram r beyond same why cause =
+    let Goal : RamState → ℕ → Refusal → Type 0 = λ s n x. MeasuresOver functions k v p l d (record d { ram = s; faults = record d.faults { ram = n } }) (Err x) in
+    elim why [
+      | inl m ↦ subst (λ (x : Refusal). Goal ram ram.faults x) (sym m.0)
+          (subst (λ (n : ℕ). Goal ram n refusal.Memory) (sym (ap (λ (s : RamState). s.faults) m.1 ∙ same))
+          (subst (λ (s : RamState). Goal s d.faults.ram refusal.Memory) (sym m.1)
+          (over_memory functions k p l v d (subst (λ (s : RamState). KeepsBeyond k.span d.ram s) m.1 beyond))))
+      | inr e ↦ subst (λ (x : Refusal). Goal ram ram.faults x) (sym e)
+          (over_run_broke functions k p l v d ram beyond cause.later (cause.cause (ap (λ (x : Refusal). Err x) e)))
+    ]
+
+-- where it came to its end, and the summary was written, or not
+pub over_summarized : (functions : ℕ) (k : Cache) (p : ProgramData) (l : Layout) (v : ImageData) (d : Devices) (out : Option (List ℕ)) (ram : RamState) (fo : ℕ) (h : HartData) (m : Record) (r : Result Ending Refusal) →
+    MadeRan (made_run k p l v) h m d.ram ram → KeepsBeyond k.span d.ram ram → ram.faults ≡ d.faults.ram →
+    IfOk r (λ e. (e ≡ made_ending_by h.machine.ending h.machine.pc h.machine.steps) × Appends d.output out (board_summary functions p v h m)) →
+    IfErr r (λ e. (e ≡ refusal.SinkFault) × AppendsPrefix d.output out (board_summary functions p v h m)) → OnErr r (board_summary functions p v h m ≡ [] → ⊥) →
+    HasCause d.faults.out fo r → MeasuresOver functions k v p l d (measured_to d out ram fo) r
+over_summarized functions k p l v d out ram fo h m (Ok e) ran beyond ram_is done failed due cause =
+    over_done functions k p l v d out ram fo h m e ran beyond ram_is done.0 done.1 cause.quiet
+over_summarized functions k p l v d out ram fo h m (Err r) ran beyond ram_is done failed due cause =
+    subst (λ (x : Refusal). MeasuresOver functions k v p l d (measured_to d out ram fo) (Err x)) (sym failed.0)
+    (over_summary_broke functions k p l v d out ram fo h m ran beyond ram_is failed.1 due cause.later cause.failed)
+
+-- ---- from the run over a service to what the command answers
 
 -- the cache holds no block
 pub small_refused : (seed functions : ℕ) (cache : CacheOptions) (p : ProgramData) (d : Devices) → size_refusal cache.cache_bytes (length d.ram.words) ≡ None →
@@ -215,36 +204,85 @@ small_refused seed functions cache p d size made fits less =
     check_refused (MeasureMade seed functions cache) d d.contents [] (refusal.CacheSmall cache.cache_bytes (4 * cache.block_words)) size (contents_stay d) refl
     (inr (inr (fits_made seed functions cache.block_words p made fits, inl (less, refl))))
 
--- the run was refused, or the ram failed in it
-pub run_refused : {T : Type 0} (seed functions : ℕ) (cache : CacheOptions) (p : ProgramData) (l : Layout) (v : ImageData) (d : Devices) (ram : RamState) (r : Refusal) →
+made_done : (seed functions : ℕ) (cache : CacheOptions) (p : ProgramData) (l : Layout) (v : ImageData) (d : Devices) (out : Option (List ℕ)) (ram : RamState) (fo : ℕ) (e : Ending) →
     size_refusal cache.cache_bytes (length d.ram.words) ≡ None → IsMadeRun seed functions cache p l v → Fits (text_of p.segments) cache.block_words →
-    4 * cache.block_words ≤ cache.cache_bytes → KeepsBeyond (cache_for cache v).span d.ram ram → d.ram.faults ≡ d.faults.ram →
-    ((r ≡ refusal.Memory) × (ram ≡ d.ram)) ⊎ (r ≡ refusal.RamFault) → DeviceCause d.faults.ram ram.faults (IsErrOf {T = T} (Err r) refusal.RamFault) →
-    Answers (MeasureMade seed functions cache) d (record d { ram = ram; faults = record d.faults { ram = ram.faults } }) (Err r) []
-run_refused {T} seed functions cache p l v d ram r size is fits held beyond same why cause =
-    let q : Request = MeasureMade seed functions cache in
-    elim why [
-      | inl m ↦ subst (λ (x : Refusal). Answers q d (record d { ram = ram; faults = record d.faults { ram = ram.faults } }) (Err x) []) (sym m.0)
-          (subst (λ (x : RamState). Answers q d (record d { ram = x; faults = record d.faults { ram = x.faults } }) (Err refusal.Memory) []) (sym m.1)
-          (subst (λ (n : ℕ). Answers q d (record d { faults = record d.faults { ram = n } }) (Err refusal.Memory) []) (sym same)
-          (late q d d.contents refusal.Memory tt size (contents_stay d) (λ _ _. tt))))
-      | inr e ↦ subst (λ (x : Refusal). Answers q d (record d { ram = ram; faults = record d.faults { ram = ram.faults } }) (Err x) []) (sym e)
-          (made_run_broke seed functions cache p l v d ram size is fits held beyond cause.later (cause.cause (ap (λ (x : Refusal). Err x) e)))
-    ]
+    4 * cache.block_words ≤ cache.cache_bytes → MeasuresOver functions (cache_for cache v) v p l d (measured_to d out ram fo) (Ok e) →
+    Answers (MeasureMade seed functions cache) d (measured_to d out ram fo) (Ok e) []
+made_done seed functions cache p l v d out ram fo e size is fits held run = record {
+  asked = λ x. let bad : ⊥ = cc in bad;
+  sized = sized_along _ _ size (sized_ok e);
+  checked = λ _ _. (fits_made seed functions cache.block_words p is.made fits, (held, tt));
+  ended = tt;
+  done = λ _ _. record {
+    program = p;
+    layout = l;
+    image = v;
+    is = is;
+    ending = run.ending;
+    output = run.output;
+    error = Appends-none d.error;
+    input = refl;
+    ran = run.ran;
+    beyond = run.beyond;
+  };
+  failed = tt;
+  refused = tt;
+  shelf = record { others = λ x _. contents_stay d x; refused = tt; quiet = λ _. refl; failed = λ x. absurd (let never : ⊥ = cc in never) };
+  ram = keeps_run cache v d.ram ram run.beyond;
+  causes = run.causes;
+}
 
--- the run came to its end, and the summary was written, or not
-pub summarized : (seed functions : ℕ) (cache : CacheOptions) (p : ProgramData) (l : Layout) (v : ImageData) (d : Devices) (out : Option (List ℕ)) (ram : RamState) (fo : ℕ) (h : HartData) (k : Record) (r : Result Ending Refusal) →
+-- a device failed, in the run or behind it
+made_failed : (seed functions : ℕ) (cache : CacheOptions) (p : ProgramData) (l : Layout) (v : ImageData) (d : Devices) (out : Option (List ℕ)) (ram : RamState) (fo : ℕ) (r : Refusal) → (r ≡ refusal.RamFault) ⊎ (r ≡ refusal.SinkFault) →
     size_refusal cache.cache_bytes (length d.ram.words) ≡ None → IsMadeRun seed functions cache p l v → Fits (text_of p.segments) cache.block_words →
-    4 * cache.block_words ≤ cache.cache_bytes → MadeRan (made_run (cache_for cache v) p l v) h k d.ram ram → KeepsBeyond (cache_for cache v).span d.ram ram →
-    ram.faults ≡ d.faults.ram → IfOk r (λ e. (e ≡ made_ending_by h.machine.ending h.machine.pc h.machine.steps) × Appends d.output out (board_summary functions p v h k)) →
-    IfErr r (λ e. (e ≡ refusal.SinkFault) × AppendsPrefix d.output out (board_summary functions p v h k)) → OnErr r (board_summary functions p v h k ≡ [] → ⊥) →
-    HasCause d.faults.out fo r →
-    Answers (MeasureMade seed functions cache) d (measured_to d out ram fo) r []
-summarized seed functions cache p l v d out ram fo h k (Ok e) size is fits held ran beyond ram_is done failed due cause =
-    made_done seed functions cache p l v d out ram fo h k e size is fits held ran beyond ram_is done.0 done.1 cause.quiet
-summarized seed functions cache p l v d out ram fo h k (Err r) size is fits held ran beyond ram_is done failed due cause =
-    subst (λ (x : Refusal). Answers (MeasureMade seed functions cache) d (measured_to d out ram fo) (Err x) []) (sym failed.0)
-    (summary_broke seed functions cache p l v d out ram fo h k size is fits held ran beyond ram_is failed.1 due cause.later cause.failed)
+    4 * cache.block_words ≤ cache.cache_bytes → KeepsBeyond (cache_for cache v).span d.ram ram → HasCauses {T = Ending} d.faults (measured_to d out ram fo).faults (Err r) →
+    (let c = made_run (cache_for cache v) p l v in
+    MadeRunBroke d (measured_to d out ram fo) r [] ⊎ (SummaryBroke (made_ending (end_of c)) (made_summary functions p v c) d (measured_to d out ram fo) r [] × IsCachedRun c d.ram ram)) →
+    Answers (MeasureMade seed functions cache) d (measured_to d out ram fo) (Err r) []
+made_failed seed functions cache p l v d out ram fo refusal.RamFault kind size is fits held beyond causes broke = record {
+  asked = λ x. let bad : ⊥ = cc in bad;
+  sized = sized_along _ _ size (sized_err refusal.RamFault (λ x. x));
+  checked = λ _ _. (fits_made seed functions cache.block_words p is.made fits, (held, tt));
+  ended = tt;
+  done = tt;
+  failed = λ _ _ _. record { program = p; layout = l; image = v; is = is; broke = broke; input = refl; beyond = beyond };
+  refused = λ never. absurd (never tt);
+  shelf = record { others = λ x _. contents_stay d x; refused = λ _. contents_stay d; quiet = λ _. refl; failed = λ x. absurd (let never : ⊥ = cc in never) };
+  ram = keeps_run cache v d.ram ram beyond;
+  causes = causes;
+}
+made_failed seed functions cache p l v d out ram fo refusal.SinkFault kind size is fits held beyond causes broke = record {
+  asked = λ x. let bad : ⊥ = cc in bad;
+  sized = sized_along _ _ size (sized_err refusal.SinkFault (λ x. x));
+  checked = λ _ _. (fits_made seed functions cache.block_words p is.made fits, (held, tt));
+  ended = tt;
+  done = tt;
+  failed = λ _ _ _. record { program = p; layout = l; image = v; is = is; broke = broke; input = refl; beyond = beyond };
+  refused = λ never. absurd (never tt);
+  shelf = record { others = λ x _. contents_stay d x; refused = λ _. contents_stay d; quiet = λ _. refl; failed = λ x. absurd (let never : ⊥ = cc in never) };
+  ram = keeps_run cache v d.ram ram beyond;
+  causes = causes;
+}
+made_failed seed functions cache p l v d out ram fo _ kind size is fits held beyond causes broke = absurd (elim kind [ inl e ↦ let bad : ⊥ = cc in bad | inr e ↦ let bad : ⊥ = cc in bad ])
+
+-- where there was no memory nothing has changed
+no_measure : (seed functions : ℕ) (cache : CacheOptions) (d : Devices) → size_refusal cache.cache_bytes (length d.ram.words) ≡ None →
+    Answers (MeasureMade seed functions cache) d d (Err refusal.Memory) []
+no_measure seed functions cache d size = late (MeasureMade seed functions cache) d d.contents refusal.Memory tt size (contents_stay d) (λ _ _. tt)
+
+-- the command answers what the run over its cache does
+pub measured_so : (seed functions : ℕ) (cache : CacheOptions) (p : ProgramData) (l : Layout) (v : ImageData) (d : Devices) (out : Option (List ℕ)) (ram : RamState) (fo : ℕ) (r : Result Ending Refusal) (k : Cache) → k ≡ cache_for cache v →
+    size_refusal cache.cache_bytes (length d.ram.words) ≡ None → IsMadeRun seed functions cache p l v → Fits (text_of p.segments) cache.block_words →
+    4 * cache.block_words ≤ cache.cache_bytes → MeasuresOver functions k v p l d (measured_to d out ram fo) r → Answers (MeasureMade seed functions cache) d (measured_to d out ram fo) r []
+measured_so seed functions cache p l v d out ram fo r k same size is fits held run = by r (subst (λ (x : Cache). MeasuresOver functions x v p l d (measured_to d out ram fo) r) same run)
+  where
+    by : (r : Result Ending Refusal) → MeasuresOver functions (cache_for cache v) v p l d (measured_to d out ram fo) r → Answers (MeasureMade seed functions cache) d (measured_to d out ram fo) r []
+    by (Ok e) run = made_done seed functions cache p l v d out ram fo e size is fits held run
+    by (Err e) run = elim run.refused [
+      | inl m ↦ subst (λ (x : Refusal). Answers (MeasureMade seed functions cache) d (measured_to d out ram fo) (Err x) []) (sym m.0)
+          (subst (λ (x : Devices). Answers (MeasureMade seed functions cache) d x (Err refusal.Memory) []) (sym m.1) (no_measure seed functions cache d size))
+      | inr broke ↦ made_failed seed functions cache p l v d out ram fo e (elim broke [ inl b ↦ inl b.fault | inr b ↦ inr b.0.fault ]) size is fits held run.beyond run.causes broke
+    ]
 
 pub unfailed : {T : Type 0} (n m : ℕ) (x : T) → DeviceCause n m (IsErrOf {T = T} (Ok x) refusal.RamFault) → m ≡ n
 unfailed n m x cause = elim cause.told [ inl e ↦ e | inr never ↦ absurd (let bad : ⊥ = cc in bad) ]

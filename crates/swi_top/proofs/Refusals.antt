@@ -154,7 +154,7 @@ untouched d c l f = record { input = refl; output = refl; ram = refl }
 
 pub keeps_ram : (q : Request) (r : RamState) → KeepsRam q r r
 keeps_ram (RunCached name cache o) r = record { beyond = λ i h. refl; same_length = refl; reached = omega arith }
-keeps_ram (RewriteFile input output block) r = refl
+keeps_ram (RewriteFile input output block whole) r = refl
 keeps_ram (RunPlain name o) r = refl
 keeps_ram (ListFile name block) r = refl
 keeps_ram (CheckFile name) r = refl
@@ -229,7 +229,7 @@ read_failed q name d c s is size same later rose = record {
 }
 
 long_refused : (q : Request) (name file : List ℕ) → input_name q ≡ Some name → file_limit < length file → IsRefusedBy file (checks_of q) (refusal.FileLong file_limit)
-long_refused (RewriteFile input output block) x file is h = inl (h, refl)
+long_refused (RewriteFile input output block whole) x file is h = inl (h, refl)
 long_refused (RunCached name cache o) x file is h = inl (h, refl)
 long_refused (RunPlain name o) x file is h = inl (h, refl)
 long_refused (ListFile name block) x file is h = inl (h, refl)

@@ -1,5 +1,5 @@
 -- What a command does, and what stands where it is refused or a device fails. Own rule.
-use Rattle.std.specs.Prelude.{◌≡◌, ◌⊎◌, ℕ, ◌+◌, ◌-◌, ◌*◌, ◌/◌, ◌^◌, ◌<◌, ◌≤◌, min, List, [], ◌++◌, length, take, Bool, false, if◌then◌else◌, Option, Some, None, Result, Ok, Err, IfOk, IfErr, OnErr, IsErrOf, ⊤}
+use Rattle.std.specs.Prelude.{◌≡◌, ◌⊎◌, ℕ, ◌+◌, ◌-◌, ◌*◌, ◌/◌, ◌^◌, ◌<◌, ◌≤◌, min, List, [], ◌++◌, length, take, Bool, true, false, if◌then◌else◌, Option, Some, None, Result, Ok, Err, IfOk, IfErr, OnErr, IsErrOf, ⊤}
 use Rattle.std.specs.Io.KnownBytes.{Appends}
 use Rattle.swi_outside.specs.CacheRam.{KeepsBeyond, RamState}
 use Rattle.swi_outside.specs.Causes.{Rose}
@@ -16,8 +16,13 @@ use Rattle.swi_program.specs.ProgramOf.{program_of_file}
 use Rattle.swi_program.specs.Text.{text_of}
 use Rattle.swi_make.specs.Made.{IsMade}
 use Rattle.swi_render.specs.Cut.{IsCut}
+use Rattle.swi_cut.specs.Cuts.{IsCutBy}
 use Rattle.swi_cut.specs.Upgrades.{IsUpgrade}
+use Rattle.swi_cut.specs.declared.cutting.Cutting.{Cutting}
+use Rattle.swi_cut.specs.declared.cutting.Cutting.TheVariants as cutting
 use Rattle.swi_elf_write.specs.Rewritten.{rewritten_file}
+use Rattle.swi_command.specs.declared.command.CacheKind.{CacheKind}
+use Rattle.swi_command.specs.declared.command.CacheKind.TheVariants as kind
 use Rattle.swi_command.specs.declared.command.CacheOptions.{CacheOptions}
 use Rattle.swi_command.specs.declared.command.RunOptions.{RunOptions}
 use Rattle.swi_command.specs.CommandLine.{Request, RewriteFile, RunCached, RunPlain, ListFile, CheckFile, UpgradeFile, MeasureMade}
@@ -34,6 +39,7 @@ use Rattle.swi_rom.specs.Service.{Cache}
 use Rattle.swi_cached.specs.Answers.{RamAfter}
 use Rattle.swi_cached.specs.Cached.{CachedRun, IsCounted, IsFlatRun, StopsBeforeStore, run_of, end_of, program_after, told_after, instructions_after, fetches_after, record_after}
 use Rattle.swi_cached.specs.Slotted.{slotted}
+use Rattle.swi_cached.specs.Ringed.{ringed}
 use Rattle.swi_cached.specs.declared.told.Telling.{Telling}
 use Rattle.swi_cached.specs.declared.told.Telling.TheVariants as telling
 use Rattle.swi_cached.specs.Told.{addresses, is_each, lines_at, next_error, told_line}
@@ -57,7 +63,7 @@ use Rattle.swi_top.specs.Runs.{Ran, FailedAtStep, FailedAfterRun, FailedBehind, 
 
 -- the name of the file that is read
 abbrev pub input_name : Request → Option (List ℕ)
-input_name (RewriteFile input output block) = Some input
+input_name (RewriteFile input output block whole) = Some input
 input_name (RunCached name cache o) = Some name
 input_name (RunPlain name o) = Some name
 input_name (ListFile name block) = Some name
@@ -67,7 +73,7 @@ input_name (MeasureMade seed functions cache) = None
 
 -- the name of the file that is written
 abbrev pub output_name : Request → Option (List ℕ)
-output_name (RewriteFile input output block) = Some output
+output_name (RewriteFile input output block whole) = Some output
 output_name (RunCached name cache o) = None
 output_name (RunPlain name o) = None
 output_name (ListFile name block) = None
@@ -87,11 +93,16 @@ IsTold contents (Some name) file = Tells contents name file
 
 -- ---- what a command does where it isn't refused and no device fails
 
--- the bytes are the file's program with the image of the greedy cut of its text; an image that the file has is dropped, unread
-pub record IsRewritten (file : List ℕ) (block : ℕ) (bytes : List ℕ) : Type 0 where
+-- how a text is cut whose loops are to stay whole, or not
+abbrev pub cutting_of : Bool → Cutting
+cutting_of true = cutting.WholeLoops
+cutting_of false = cutting.Greedy
+
+-- the bytes are the file's program with the image of a cut of its text; an image that the file has is dropped, unread
+pub record IsRewritten (file : List ℕ) (block : ℕ) (whole : Bool) (bytes : List ℕ) : Type 0 where
   pub image : List ℕ
   pub accepted : first_refusal image ≡ None
-  pub cut : IsCut (text_in file) block (image_of image)
+  pub cut : IsCutBy (cutting_of whole) (text_in file) block (image_of image)
   pub made : bytes ≡ rewritten_file (program_of_file file) image
 
 -- the bytes are the file's program with the version 2 image that has the same blocks as the file's image
@@ -141,9 +152,14 @@ telling_of trace.Off = telling.Nothing
 telling_of trace.Last = telling.Last
 telling_of trace.Each = telling.Each
 
--- the cache that the options name: slots of a block each, first in, first out
+-- the cache of a kind, of so many bytes: slots of a block each, or a ring of blocks of their own length; first in, first out
+abbrev pub cache_by : CacheKind → ℕ → ImageData → Cache
+cache_by kind.Slots bytes v = slotted bytes v
+cache_by kind.Ring bytes v = ringed bytes
+
+-- the cache that the options name
 abbrev pub cache_for : CacheOptions → ImageData → Cache
-cache_for cache v = slotted cache.cache_bytes v
+cache_for cache v = cache_by cache.kind cache.cache_bytes v
 
 -- `cached`: the same program's run, out of a cache; and `trace`, with lines of its steps
 abbrev pub cached_run : Cache → RunOptions → ImageData → FlatState → CachedRun
@@ -245,7 +261,7 @@ pub record Lists (file : List ℕ) (most : ℕ) (before after : Devices) (e : En
 
 -- what a command does; `last` is what the errors gain behind all else
 abbrev pub Does : Request → List ℕ → Devices → Devices → Ending → List ℕ → Type 0
-Does (RewriteFile input output block) file before after e last = Puts (IsRewritten file block) output before after e
+Does (RewriteFile input output block whole) file before after e last = Puts (IsRewritten file block whole) output before after e
 Does (UpgradeFile input output) file before after e last = Puts (IsUpgraded file) output before after e
 Does (ListFile name block) file before after e last = Lists file block before after e
 Does (CheckFile name) file before after e last = Confirms file before after e
@@ -348,7 +364,7 @@ pub record MeasureFailed (seed functions : ℕ) (cache : CacheOptions) (before a
   pub beyond : KeepsBeyond (cache_for cache image).span before.ram after.ram
 
 abbrev pub Leaves : Request → List ℕ → Devices → Devices → Refusal → List ℕ → Type 0
-Leaves (RewriteFile input output block) file before after r last = ⊥
+Leaves (RewriteFile input output block whole) file before after r last = ⊥
 Leaves (UpgradeFile input output) file before after r last = ⊥
 Leaves (ListFile name block) file before after r last = ListFailed file block before after r last
 Leaves (CheckFile name) file before after r last = ConfirmFailed file before after r last
@@ -407,7 +423,7 @@ IsRunFault _ = ⊥
 
 -- a command that runs no program ends by being done
 abbrev pub IsEndingOf : Request → Ending → Type 0
-IsEndingOf (RewriteFile input output block) e = e ≡ ending.Done
+IsEndingOf (RewriteFile input output block whole) e = e ≡ ending.Done
 IsEndingOf (UpgradeFile input output) e = e ≡ ending.Done
 IsEndingOf (ListFile name block) e = e ≡ ending.Done
 IsEndingOf (CheckFile name) e = e ≡ ending.Done
@@ -432,7 +448,7 @@ pub record KeepsShelf (q : Request) (before after : Devices) (result : Result En
 -- a command other than `cached` and `measure` leaves the ram alone
 abbrev pub KeepsRam : Request → RamState → RamState → Type 0
 KeepsRam (RunCached name cache o) before after = KeepsBeyond (cache.cache_bytes / 4) before after
-KeepsRam (RewriteFile input output block) before after = after ≡ before
+KeepsRam (RewriteFile input output block whole) before after = after ≡ before
 KeepsRam (RunPlain name o) before after = after ≡ before
 KeepsRam (ListFile name block) before after = after ≡ before
 KeepsRam (CheckFile name) before after = after ≡ before

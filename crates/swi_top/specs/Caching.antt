@@ -1,5 +1,6 @@
 -- A run on the cached machine, as its functions say it. Own rule.
-use Rattle.std.specs.Prelude.{◌≡◌, ℕ, ◌-◌, ◌*◌, ◌^◌, ◌<◌, ◌≤◌, min, List, [], Option, Some, Result, IfOk, IfErr, OnOk, ⊤}
+use Rattle.std.specs.Prelude.{◌≡◌, ◌⊎◌, ℕ, ◌-◌, ◌*◌, ◌^◌, ◌<◌, ◌≤◌, min, List, [], Option, Some, Result, IfOk, IfErr, OnOk, ⊤}
+use Rattle.std.specs.Io.KnownBytes.{Appends}
 use Rattle.swi_outside.specs.CacheRam.{KeepsBeyond, RamState}
 use Rattle.swi_memory.specs.declared.layout.Layout.{Layout}
 use Rattle.swi_program.specs.Program.{ProgramData}
@@ -18,7 +19,7 @@ use Rattle.swi_answer.specs.declared.answer.Refusal.TheVariants as refusal
 use Rattle.swi_cached.specs.declared.run.CachedStop.{CachedStop}
 use Rattle.swi_cached.specs.declared.run.CachedStop.TheVariants as stop
 use Rattle.swi_cached.specs.Cached.{CachedRun, end_of, instructions_after, record_after, unfetched}
-use Rattle.swi_top.specs.Answers.{CachedFailed, Does, IsChecked, IsRunFault, KeepsRam, Leaves, IsCachedRun, RunsCached, cache_for, cached_run}
+use Rattle.swi_top.specs.Answers.{CachedFailed, Does, IsChecked, IsRunFault, KeepsRam, Leaves, IsCachedRun, MadeRunBroke, RunsCached, SummaryBroke, cache_for, cached_run, made_ending, made_run, made_summary}
 use Rattle.swi_top.specs.Checks.{checks_of}
 use Rattle.swi_top.specs.Measuring.{summary_by}
 use Rattle.swi_command.specs.CommandLine.{Request}
@@ -46,6 +47,22 @@ pub record MadeRan (c : CachedRun) (h : HartData) (r : Record) (before after : R
 -- what is written of it
 abbrev pub board_summary : ℕ → ProgramData → ImageData → HartData → Record → List ℕ
 board_summary functions p v h r = summary_by functions p v (board_work h.count h.machine.ending r) h.machine.ending h.machine.steps
+
+-- why a made program's run over a service has no ending: there was no memory, and nothing changed; or a device failed in it, or behind it
+abbrev pub IsMeasureErr : ℕ → ProgramData → ImageData → CachedRun → Devices → Devices → Refusal → Type 0
+IsMeasureErr functions p v c before after r =
+    ((r ≡ refusal.Memory) × (after ≡ before))
+    ⊎ (MadeRunBroke before after r []
+    ⊎ (SummaryBroke (made_ending (end_of c)) (made_summary functions p v c) before after r [] × IsCachedRun c before.ram after.ram))
+
+-- what such a run does: it comes to its end, and its summary is written; or it is refused
+pub record MeasuresOver (functions : ℕ) (k : Cache) (v : ImageData) (p : ProgramData) (l : Layout) (before after : Devices) (result : Result Ending Refusal) : Type 0 where
+  pub ending : IfOk result (λ e. e ≡ made_ending (end_of (made_run k p l v)))
+  pub output : OnOk result (Appends before.output after.output (made_summary functions p v (made_run k p l v)))
+  pub ran : OnOk result (IsCachedRun (made_run k p l v) before.ram after.ram)
+  pub refused : IfErr result (IsMeasureErr functions p v (made_run k p l v) before after)
+  pub beyond : KeepsBeyond k.span before.ram after.ram
+  pub causes : HasCauses before.faults after.faults result
 
 -- what a run is refused with that stopped so
 abbrev pub refusal_of : CachedStop → Refusal

@@ -36,7 +36,7 @@ size_refusal bytes words =
 -- the refusal of a cache that is too large, or larger than a ram of so many words
 abbrev pub cache_refusal : Request → ℕ → Option Refusal
 cache_refusal (RunCached name cache o) words = size_refusal cache.cache_bytes words
-cache_refusal (RewriteFile input output block) words = None
+cache_refusal (RewriteFile input output block whole) words = None
 cache_refusal (RunPlain name o) words = None
 cache_refusal (ListFile name block) words = None
 cache_refusal (CheckFile name) words = None
@@ -71,7 +71,7 @@ pub data Check : Type 0 where
 
 -- the checks of each command, in their order
 abbrev pub checks_of : Request → List Check
-checks_of (RewriteFile input output block) = IsShort ∷ IsAcceptedElf ∷ FitsBlocks block ∷ []
+checks_of (RewriteFile input output block whole) = IsShort ∷ IsAcceptedElf ∷ FitsBlocks block ∷ []
 checks_of (RunCached name cache o) =
     IsShort ∷ IsAcceptedElf ∷ HasRoom o.limits ∷ IsAcceptedImage ∷ IsOwnImage ∷ FitsUnlessImage cache.block_words ∷ HoldsBlock cache ∷ []
 checks_of (RunPlain name o) = IsShort ∷ IsAcceptedElf ∷ HasRoom o.limits ∷ IsAcceptedImage ∷ IsOwnImage ∷ []

@@ -25,9 +25,9 @@ use crate::trace::{telling_of, write_last};
 use std::alloc::Global;
 use swi_answer::{Ending, Refusal};
 use swi_board::Board;
-use swi_cached::{CachedStop, run_cached, slots_for};
+use swi_cached::{CachedStop, ring_for, run_cached, slots_for};
 use swi_calls::End;
-use swi_command::{CacheOptions, Reports, RunOptions};
+use swi_command::{CacheKind, CacheOptions, Reports, RunOptions};
 use swi_elf_read::{image_bytes, read_elf};
 use swi_exec::FaultKind;
 use swi_image::ImageView;
@@ -196,10 +196,20 @@ fn run_program<I: Source, O: Sink, E: Sink, R: CacheRam>(
     if bytes < least {
         return Err(Refusal::CacheSmall { bytes, least });
     }
-    let Ok(rom) = slots_for(alloc, image, bytes) else {
-        return Err(Refusal::Memory);
-    };
-    run_over(alloc, image, prepared, rom, options, input, out, err, ram)
+    match cache.kind {
+        CacheKind::Slots => {
+            let Ok(rom) = slots_for(alloc, image, bytes) else {
+                return Err(Refusal::Memory);
+            };
+            run_over(alloc, image, prepared, rom, options, input, out, err, ram)
+        }
+        CacheKind::Ring => {
+            let Ok(rom) = ring_for(alloc, image, bytes) else {
+                return Err(Refusal::Memory);
+            };
+            run_over(alloc, image, prepared, rom, options, input, out, err, ram)
+        }
+    }
 }
 
 /// Runs the program of a file on the cached machine: by the image that the file has, or else by the greedy cut of its

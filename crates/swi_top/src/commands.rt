@@ -41,7 +41,17 @@ pub(crate) fn perform<F: Shelf, I: Source, O: Sink, E: Sink, R: CacheRam>(
             input: from,
             output: to,
             block_words,
-        } => rewrite(alloc, from.as_str(), to.as_str(), *block_words, shelf),
+            whole_loops,
+        } => {
+            rewrite(
+                alloc,
+                from.as_str(),
+                to.as_str(),
+                *block_words,
+                *whole_loops,
+                shelf,
+            )
+        }
         Command::Cached {
             file,
             cache,

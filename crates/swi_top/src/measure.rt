@@ -15,7 +15,7 @@ ghost use Rattle.swi_program.specs.Text.{text_of};
 ghost use Rattle.swi_render.specs.ImageOf.{IsImageOf};
 ghost use Rattle.swi_rom.specs.Service.{cache_of};
 ghost use Rattle.swi_top.specs.Answers.{Answers, made_run};
-ghost use Rattle.swi_top.specs.Caching.{MadeRan, board_summary};
+ghost use Rattle.swi_top.specs.Caching.{MadeRan, MeasuresOver, board_summary};
 ghost use Rattle.swi_top.specs.Devices.{Devices};
 ghost use Rattle.swi_top.specs.Measuring.{made_ending_by};
 
@@ -28,9 +28,9 @@ use crate::sizes::check_sizes;
 use std::alloc::Global;
 use swi_answer::{Ending, Refusal};
 use swi_board::Board;
-use swi_cached::{CachedStop, Telling, run_cached, slots_for};
+use swi_cached::{CachedStop, Telling, ring_for, run_cached, slots_for};
 use swi_calls::End;
-use swi_command::CacheOptions;
+use swi_command::{CacheKind, CacheOptions};
 use swi_image::ImageView;
 use swi_make::{BASE, make};
 use swi_outside::{CacheRam, Sink};
@@ -158,6 +158,37 @@ fn summarize<O: Sink, S: CacheRom>(
     }
 }
 
+/// Runs a made program of so many functions on the cached machine over a service that has done nothing yet, and writes
+/// its summary where it exits.
+fn measure_over<O: Sink, R: CacheRam, S: CacheRom>(
+    alloc: Global,
+    functions: u32,
+    image: &ImageView<'_>,
+    prepared: &Prepared<'_>,
+    rom: S,
+    out: &mut O,
+    ram: &mut R,
+) -> Result<Ending, Refusal>
+    requires laid_out { IsLayoutOf prepared.now.program.segments prepared.now.layout }
+    requires own { IsImageOf (text_of prepared.now.program.segments) image.now }
+    requires sound { S.service.sound rom image.now (R.state ram.old).words }
+    requires fresh { IsFresh (S.service.kept rom) }
+    ensures { (d : Devices) → MeasuresOver functions (cache_of S.service rom) image.now prepared.now.program prepared.now.layout
+        (record d {
+          output = O.held out.old;
+          ram = R.state ram.old;
+          faults = record d.faults { out = O.faults out.old; ram = (R.state ram.old).faults };
+        })
+        (record d {
+          output = O.held out.new;
+          ram = R.state ram.new;
+          faults = record d.faults { out = O.faults out.new; ram = (R.state ram.new).faults };
+        }) result }
+{
+    let board = run_made(alloc, image, prepared, rom, ram)?;
+    summarize(functions, &prepared.program, image, &board, out)
+}
+
 /// Makes a program of a seed with so many functions (1 to 4096), runs it on the cached machine to its end, and writes
 /// the summary where it exits.
 pub(crate) fn measure<O: Sink, R: CacheRam>(
@@ -191,9 +222,18 @@ pub(crate) fn measure<O: Sink, R: CacheRam>(
         return Err(Refusal::CacheSmall { bytes, least });
     }
     let view = image.view();
-    let Ok(rom) = slots_for(alloc, &view, bytes) else {
-        return Err(Refusal::Memory);
-    };
-    let board = run_made(alloc, &view, &prepared, rom, ram)?;
-    summarize(functions, &prepared.program, &view, &board, out)
+    match cache.kind {
+        CacheKind::Slots => {
+            let Ok(rom) = slots_for(alloc, &view, bytes) else {
+                return Err(Refusal::Memory);
+            };
+            measure_over(alloc, functions, &view, &prepared, rom, out, ram)
+        }
+        CacheKind::Ring => {
+            let Ok(rom) = ring_for(alloc, &view, bytes) else {
+                return Err(Refusal::Memory);
+            };
+            measure_over(alloc, functions, &view, &prepared, rom, out, ram)
+        }
+    }
 }

@@ -342,7 +342,7 @@ const COUNTS: [&str; 9] = [
 
 /// A command on the cached machine and its text; and then the answer and the counts, worked by hand from
 /// the rules of the cache.
-static COUNTED: [(&str, &[u32], Ending, [u64; 9]); 14] = [
+static COUNTED: [(&str, &[u32], Ending, [u64; 9]); 16] = [
     (
         "--block 8",
         SEVEN,
@@ -377,6 +377,19 @@ static COUNTED: [(&str, &[u32], Ending, [u64; 9]); 14] = [
     ),
     (
         "--block 5 --cache 40",
+        COUNT,
+        Exited(0, 9),
+        [9, 16, 3, 3, 1, 3, 1, 15, 17],
+    ),
+    // the same blocks in a ring, also in one that has no room for two of 5 words
+    (
+        "--block 5 --cache 40 --ring",
+        COUNT,
+        Exited(0, 9),
+        [9, 16, 3, 3, 1, 3, 1, 15, 17],
+    ),
+    (
+        "--ring --block 5 --cache 36",
         COUNT,
         Exited(0, 9),
         [9, 16, 3, 3, 1, 3, 1, 15, 17],
@@ -458,7 +471,7 @@ fn cached_runs_have_their_counts(rt: HostRuntime) -> Result<(), Fail> {
 
 /// Options of a cached run, its text and the failing call of its ram; and the words that then stand in
 /// the ram, with zeros behind.
-static RAMS: [(&str, &[u32], u32, &[u32]); 4] = [
+static RAMS: [(&str, &[u32], u32, &[u32]); 5] = [
     (
         "--block 8 --cache 64",
         SEVEN,
@@ -492,6 +505,16 @@ static RAMS: [(&str, &[u32], u32, &[u32]); 4] = [
         &[
             0x05D00893, 0x00000073, 0x00100073, 0x00010014, 0, 0x00028663, 0x00100073, 0x00010004,
             0xFE1FF06F, 0x0001000C,
+        ],
+    ),
+    // in a ring the blocks stand one behind the other
+    (
+        "--block 5 --cache 40 --ring",
+        COUNT,
+        0,
+        &[
+            0x05D00893, 0x00000073, 0x00100073, 0x00010014, 0x00028663, 0x00100073, 0x00010004,
+            0xFE5FF06F, 0x0001000C,
         ],
     ),
 ];
@@ -535,6 +558,45 @@ fn files_are_rewritten_and_upgraded(rt: HostRuntime) -> Result<(), Fail> {
     for file in [&FIRST[..], &SECOND[..]] {
         let row = row!(words: "check A", answer: Ok(Done), out: "ok: 1 blocks of 8 words\n");
         assert!(rt; holds(alloc, &row, bytes_of(alloc, file)?)?);
+    }
+    Ok(())
+}
+
+/// An LR.W at the fourth word and its SC.W at the seventh; exits with what the SC.W says, 0 for a success.
+const ATOMIC: &[u32] = &[
+    0x00500613, 0x00000013, 0x00000013, 0x1001252F, 0x00000013, 0x00000013, 0x18C125AF, 0x00058513,
+    0x05D00893, 0x00000073,
+];
+
+/// How a text is cut, what `check` then says of it, and where `list` shows its LR.W.
+static CUTS: [(&str, &str, &str); 2] = [
+    (
+        "rewrite A B --block 8",
+        "ok: 2 blocks of 8 words\n",
+        "\n0 3 1001252f 0001000c ",
+    ),
+    (
+        "rewrite A B --block 8 --whole-loops",
+        "ok: 3 blocks of 8 words\n",
+        "\n1 0 1001252f 0001000c ",
+    ),
+];
+
+#[test]
+fn a_loop_of_lr_and_sc_stays_whole_where_that_is_asked(rt: HostRuntime) -> Result<(), Fail> {
+    let alloc = rt.alloc();
+    for (words, line, shown) in CUTS.into_iter() {
+        let done = run_words(alloc, words, &QUIET, file_of(alloc, ATOMIC, 5, 0x10000)?)?;
+        let Some(held) = done.shelf.held("B") else {
+            return Err(Fail::from("no file was written"));
+        };
+        let row = row!(words: "check A", answer: Ok(Done), out: line);
+        assert!(rt; holds(alloc, &row, held.to_vec(alloc)?)?, "{words}");
+        let row = row!(words: "cached A --cache 32", answer: Ok(Exited(0, 10)));
+        assert!(rt; holds(alloc, &row, held.to_vec(alloc)?)?, "{words}");
+        let listed = run_words(alloc, "list A", &QUIET, held.to_vec(alloc)?)?;
+        let out = str::from_utf8(listed.out.held()).expect(&rt, "text");
+        assert!(rt; out.contains(shown), "{words}: {out}");
     }
     Ok(())
 }

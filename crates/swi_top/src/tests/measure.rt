@@ -12,7 +12,7 @@ const SUMMARY: &str =
     evictions 0\nlinks 3\nunlinks 0\nfetches 123\nwrites 27\n";
 
 /// Summaries, and what is refused. No shelf and no input is asked.
-static ROWS: [Row; 14] = [
+static ROWS: [Row; 15] = [
     Row {
         words: "measure 1 1",
         shelf_fails: 1,
@@ -24,6 +24,12 @@ static ROWS: [Row; 14] = [
     Row {
         words: "measure --cache=256 1 1",
         ram: 64,
+        answer: Ok(Done),
+        out: SUMMARY,
+        ..QUIET
+    },
+    Row {
+        words: "measure 1 1 --ring",
         answer: Ok(Done),
         out: SUMMARY,
         ..QUIET

@@ -15,11 +15,12 @@ const SPENT_LINES: &str =
     "00010000 00300293 addi t0, zero, 3\n00010004 fff28293 addi t0, t0, -1\nspent: 2 steps, pc 00010008\n";
 
 /// Lines of each step, or of the last ones, behind the run: whole runs, and runs that end before their text does.
-static TRACES: [Row; 14] = [
+static TRACES: [Row; 15] = [
     row!(words: "trace A --block 8", err: SEVEN_LINES),
     row!(words: "trace A --block 8 --last", err: SEVEN_LINES),
     row!(words: "trace A --block 16 --steps 2 --last", text: COUNT, answer: Ok(Spent(2, 0x10008)), err: SPENT_LINES),
     row!(words: "trace A --block 16 --steps 2", text: COUNT, answer: Ok(Spent(2, 0x10008)), err: SPENT_LINES),
+    row!(words: "trace A --block 5 --cache 36 --ring --steps 2", text: COUNT, answer: Ok(Spent(2, 0x10008)), err: SPENT_LINES),
     row!(words: "trace A --steps 0", text: COUNT, answer: Ok(Spent(0, 0x10000)), err: "spent: 0 steps, pc 00010000\n"),
     row!(words: "trace A --steps 0 --last", text: COUNT, answer: Ok(Spent(0, 0x10000)), err: "spent: 0 steps, pc 00010000\n"),
     // a step that would store into the text has its line, and is not made; at the limit it isn't told

@@ -15,7 +15,7 @@ pub returns-in_err-bytes : goal.returns-in_err-bytes
 returns-in_err-bytes g c =
     let p = err_from_is_err_and c.from_residual-in_err-bytes.result c.from_residual-in_err-bytes.ensures.1 in
     let quiet = read_quiet _ _ _ _ _ _ c.in_ok-file.ensures.cause in
-    let q : Request = RewriteFile c.args.input.now c.args.output.now c.args.block_words in
+    let q : Request = RewriteFile c.args.input.now c.args.output.now c.args.block_words c.args.whole_loops in
     rw (p.1, p.2) (λ d.
     let before : Devices = record d {
       contents = g.F.Shelf.contents c.args.shelf.now;
@@ -30,7 +30,7 @@ pub returns-in_err-write_file : goal.returns-in_err-write_file
 returns-in_err-write_file g c =
     let p = err_from_is_err_and c.from_residual-in_err-write_file.result c.from_residual-in_err-write_file.ensures.1 in
     let quiet = read_quiet _ _ _ _ _ _ c.in_ok-file.ensures.cause in
-    let q : Request = RewriteFile c.args.input.now c.args.output.now c.args.block_words in
+    let q : Request = RewriteFile c.args.input.now c.args.output.now c.args.block_words c.args.whole_loops in
     rw (p.1, p.2) (λ d.
     let before : Devices = record d {
       contents = g.F.Shelf.contents c.args.shelf.now;
@@ -45,7 +45,7 @@ pub returns : goal.returns
 returns g c =
     let quiet = read_quiet _ _ _ _ _ _ c.in_ok-file.ensures.cause in
     let written = read_quiet _ _ _ _ _ _ c.in_ok-write_file.ensures.cause in
-    let q : Request = RewriteFile c.args.input.now c.args.output.now c.args.block_words in
+    let q : Request = RewriteFile c.args.input.now c.args.output.now c.args.block_words c.args.whole_loops in
     λ d.
     let before : Devices = record d {
       contents = g.F.Shelf.contents c.args.shelf.now;
