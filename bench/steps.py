@@ -1,6 +1,6 @@
 """Nanoseconds a step of a built program: steps.py PROGRAM SECONDS.
 
-The first 4,000,000 steps of each guest by plain and by cached, in turn for so many seconds; the best of each counts, less the best
+The first 4,000,000 steps of each guest by plain, by cached and through a ring, in turn for so many seconds; the best of each counts, less the best
 of a run of no steps. Short runs meet the quiet moments of a machine that others share, where whole runs don't."""
 import subprocess
 import sys
@@ -12,6 +12,8 @@ MACHINES = {
     "plain": ["plain"],
     "cached 4096": ["cached", "--cache", "4096", "--block", "64"],
     "cached 1024": ["cached", "--cache", "1024", "--block", "32"],
+    "ring 4096": ["cached", "--ring", "--cache", "4096", "--block", "64"],
+    "ring 1024": ["cached", "--ring", "--cache", "1024", "--block", "32"],
 }
 
 
