@@ -212,9 +212,17 @@ fn execute_plain(index: u32, stage: Stage, x: &Instr, regs: &mut Regs, bus: &mut
 }
 
 /// Executes a branch, or a word that only changes a register or stores outside the text. Each kind has its own `exec`
-/// right behind the decoder. Any other word, one that faults, and a LUI that stands for a branch change nothing.
+/// right behind the decoder. Any other word, one that faults, and a LUI that stands for a branch change nothing. Each
+/// service has a copy of its own, which is joined with its loop: one for all would be called, at twice the time.
 #[inline(always)]
-fn execute(index: u32, stage: Stage, pc: u32, x: &Instr, regs: &mut Regs, bus: &mut Bus) -> Next
+fn execute<R: CacheRom>(
+    index: u32,
+    stage: Stage,
+    pc: u32,
+    x: &Instr,
+    regs: &mut Regs,
+    bus: &mut Bus,
+) -> Next
     requires small { index < 2 ^ 22 }
     ensures step { is_stop result ≡ false → (m : Machine) (b o : ℕ) (input : List ℕ) →
         m.ending ≡ None → word_stepped (role_by result) index b o stage
@@ -325,7 +333,7 @@ fn one<R: CacheRom, M: CacheRam>(
             true
         }
         _ => {
-            let next = execute(
+            let next = execute::<R>(
                 walk.index,
                 walk.stage,
                 walk.pc(),
