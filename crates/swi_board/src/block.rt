@@ -181,7 +181,13 @@ fn is_stop(next: Next) -> bool
 /// Executes an operation on two registers, a load, or a store outside the text. Any other word, and one that faults,
 /// changes nothing.
 #[inline(always)]
-fn execute_plain(index: u32, stage: Stage, x: &Instr, regs: &mut Regs, bus: &mut Bus) -> Next
+fn execute_plain<R: CacheRom>(
+    index: u32,
+    stage: Stage,
+    x: &Instr,
+    regs: &mut Regs,
+    bus: &mut Bus,
+) -> Next
     requires small { index < 2 ^ 22 }
     ensures step { is_stop result ≡ false → (m : Machine) (b o : ℕ) (input : List ℕ) →
         m.ending ≡ None → word_stepped (role_by result) index b o stage
@@ -213,7 +219,8 @@ fn execute_plain(index: u32, stage: Stage, x: &Instr, regs: &mut Regs, bus: &mut
 
 /// Executes a branch, or a word that only changes a register or stores outside the text. Each kind has its own `exec`
 /// right behind the decoder. Any other word, one that faults, and a LUI that stands for a branch change nothing. Each
-/// service has a copy of its own, which is joined with its loop: one for all would be called, at twice the time.
+/// service has a copy of its own, as of `execute_plain`, which is joined with its loop: one for all would be called, at
+/// twice the time.
 #[inline(always)]
 fn execute<R: CacheRom>(
     index: u32,
@@ -264,7 +271,7 @@ fn execute<R: CacheRom>(
             },
             Role::Over => Next::Stop,
         },
-        _ => execute_plain(index, stage, x, regs, bus),
+        _ => execute_plain::<R>(index, stage, x, regs, bus),
     }
 }
 
