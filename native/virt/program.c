@@ -127,7 +127,8 @@ static void warn_at(uint32_t address)
 {
     put_text(STREAM_ERR, "native: warning: the block of the LR.W at ");
     put_hex(STREAM_ERR, address);
-    put_text(STREAM_ERR, " ends before its SC.W, which may fail each time in a small cache: see native/README.md\n");
+    put_text(STREAM_ERR, " ends before its SC.W, which may fail each time in a small cache: rewrite the program with"
+                         " --whole-loops, in blocks that have room for both\n");
 }
 
 void program_warn(const struct image *image)

@@ -2,6 +2,8 @@
 
 COLOURS = ["0072b2", "d55e00", "009e73", "cc79a7", "e69f00", "56b4e9", "000000", "999999"]
 MARKS = [5, 6, 7, 8, 9, 13, 11, 12]
+MARKED = {"smallest": ("circle", "pt 6 ps 2.2"), "recommended": ("square", "pt 4 ps 2.4")}
+COST = 4  # the column of the cost, behind size, misses and work
 
 
 def size_label(size):
@@ -31,12 +33,12 @@ def block_of(name, lines):
 
 
 def sweep(report):
-    """Curves of the misses, the work, and with weights the cost, against the size of the cache; one for each length of blocks."""
+    """Curves of the misses, the work, and with weights the cost, against the size of the cache; one for each form of caches."""
     panels = [(f"{plain(report.runs.name)}: misses for each 1000 steps", lambda counts: counts.of_thousand("misses")),
               ("words fetched and written, for each step", lambda counts: counts.work)]
     if report.weights:
-        panels.append((f"cost beside no cache, weights {plain(report.weights.named.replace(',', ' '))}", report.sweep.value))
-    sizes = sorted({row.size for row in report.rows})
+        panels.append((cost_title(report.weights), report.sweep.value))
+    sizes = sorted({row.cache.size for row in report.rows})
     lines = [f"set terminal svg size {480 * len(panels)},480 font 'sans-serif,13' background '#ffffff'", "set output '@OUT@'"]
     lines += data(report, [value for _, value in panels])
     lines += [f"set multiplot layout 1,{len(panels)}", f"set logscale xy; set xtics ({tics(sizes)}) rotate by -45; set ytics ({tens()}); set mytics 1",
@@ -47,36 +49,65 @@ def sweep(report):
     lines += marks(report)
     for column, (title, value) in enumerate(panels, 2):
         values = [value(row.counts) for row in report.rows] + [value(row.jump) for row in report.rows if row.jump]
-        low, high = decade_steps(min(values), max(values))
-        lines.append(f"set title '{title}' noenhanced offset 0,1.6; set yrange [{low:g}:{high:g}]; plot {curves(report, column)}")
+        is_cost = column == COST
+        low, high = decade_steps(min(values + [1.0] * is_cost), max(values + [1.0] * is_cost))
+        beside = ", 1 with lines dt 3 lw 2 lc rgb '#000000' notitle" if is_cost else ""
+        lines.append(f"set title '{title}' noenhanced offset 0,1.6; set yrange [{low:g}:{high:g}]; plot {curves(report, column)}{beside}")
     return "\n".join([*lines, "unset multiplot"]) + "\n"
 
 
+def cost_title(weights):
+    """What the cost is beside: the program without a cache, and what a load from slow memory costs more there."""
+    title = f"cost beside no cache, weights {plain(weights.named.replace(',', ' '))}"
+    return f"{title}, load {weights.load:g}" if weights.load else title
+
+
 def data(report, values):
-    """A block of points for each curve, one of what jumps, one of what is marked."""
+    """A block of points for each curve, one of what jumps, and those of what is marked."""
     lines = []
-    for block in sorted({row.block for row in report.rows}):
-        lines += block_of(f"b{block}", [point(row.size, row.counts, values) for row in report.rows if row.block == block])
-    jumped = [row for row in report.rows if row.jump]
-    lines += block_of("jumps", [f"{point(row.size, row.counts, values)} {point('', row.jump, values)}" for row in jumped])
-    lines += block_of("knee", [point(report.knee.size, report.knee.counts, values)])
-    if report.recommended:
-        lines += block_of("recommended", [point(report.recommended.size, report.recommended.counts, values)])
+    for block, ring in forms_of(report):
+        lines += block_of(curve_name(block, ring), [point(row, values) for row in report.rows if row.cache.form == (block, ring)])
+    lines += block_of("jumps", [f"{point(row, values)} {values_of(row.jump, values)}" for row in report.rows if row.jump])
+    for name, rows in marked(report).items():
+        lines += block_of(name, [point(row, values) for row in rows])
     return lines
 
 
-def point(size, counts, values):
-    return f"{size} " + " ".join(f"{value(counts):.6g}" for value in values)
+def forms_of(report):
+    return sorted({row.cache.form for row in report.rows})
+
+
+def curve_name(block, ring):
+    return f"ring{block}" if ring else f"slots{block}"
+
+
+def marked(report):
+    """The rows that are marked, in slots and of rings."""
+    rows = {name: [choice.rows()[name] for choice in report.choices if name in choice.rows()] for name in MARKED}
+    return {name: found for name, found in rows.items() if found}
+
+
+def point(row, values):
+    return f"{row.cache.size} {values_of(row.counts, values)}"
+
+
+def values_of(counts, values):
+    return " ".join(f"{value(counts):.6g}" for value in values)
 
 
 def curves(report, column):
+    """The curves of a panel: a colour for each length of blocks, and broken lines for rings."""
     count = 3 if report.weights else 2
-    shown = [f"$b{block} using 1:{column} with linespoints ls {k % len(COLOURS) + 1} title '{block}'" for k, block in enumerate(sorted({row.block for row in report.rows}))]
+    blocks = sorted({row.cache.block for row in report.rows})
+    shown = []
+    for block, ring in forms_of(report):
+        style, name = blocks.index(block) % len(COLOURS) + 1, "dt 2 notitle" if ring else f"title '{block}'"
+        shown.append(f"${curve_name(block, ring)} using 1:{column} with linespoints ls {style} {name}")
+    if report.has_rings:
+        shown.append("NaN with lines dt 2 lw 2 lc rgb '#888888' title 'rings'")
     if any(row.jump for row in report.rows):
         shown.append(f"$jumps using 1:{column}:(0):(${column + count}-${column}) with vectors filled head size graph 0.02,18 lc rgb '#cc0000' lw 1.5 notitle")
-    shown.append(f"$knee using 1:{column} with points pt 6 ps 2.2 lw 2 lc rgb '#000000' notitle")
-    if report.recommended:
-        shown.append(f"$recommended using 1:{column} with points pt 4 ps 2.4 lw 2 lc rgb '#000000' notitle")
+    shown += [f"${name} using 1:{column} with points {MARKED[name][1]} lw 2 lc rgb '#000000' notitle" for name in marked(report)]
     return ", ".join(shown)
 
 
@@ -88,16 +119,31 @@ def tics(sizes):
 
 
 def marks(report):
-    """A line at the smallest cache within the percents, and one at the cache that is recommended; what they are stands above."""
-    red = "; red: one slot less, or moved" if any(row.jump for row in report.rows) else ""
-    shown = [(report.knee, f"ring: the smallest, {size_label(report.knee.size)} in blocks of {report.knee.block}{red}")]
-    if report.recommended:
-        shown.append((report.recommended, f"square: recommended, {size_label(report.recommended.size)} in blocks of {report.recommended.block}"))
+    """A line at each cache that is marked; what they are stands above."""
     lines = []
-    for k, (row, text) in enumerate(shown, 1):
-        lines.append(f"set arrow {k} from {row.size}, graph 0 to {row.size}, graph 1 nohead dt 2 lc rgb '#888888'")
+    for k, row in enumerate([row for rows in marked(report).values() for row in rows], 1):
+        lines.append(f"set arrow {k} from {row.cache.size}, graph 0 to {row.cache.size}, graph 1 nohead dt 2 lc rgb '#888888'")
+    for k, text in enumerate(legend(report), 1):
         lines.append(f"set label {k} '{text}' at graph 0.5, graph {1.15 - 0.06 * k} center font 'sans-serif,11' tc rgb '#444444'")
     return lines
+
+
+def legend(report):
+    """Names what is marked: the smallest and the recommended cache in a line each, or with rings a line for each kind."""
+    if report.has_rings:
+        for choice in report.choices:
+            found = [f"{name} {size_label(row.cache.size)}/{row.cache.block} ({MARKED[name][0]})" for name, row in choice.rows().items()]
+            yield f"{'ring' if choice.ring else 'slots'}: {', '.join(found) or 'none'}"
+        return
+    (choice,) = report.choices
+    red = "; red: one slot less, or moved" if any(row.jump for row in report.rows) else ""
+    for name, row in choice.rows().items():
+        what = f"the smallest, {place_of(row)}{red}" if name == "smallest" else f"{name}, {place_of(row)}"
+        yield f"{MARKED[name][0]}: {what}"
+
+
+def place_of(row):
+    return f"{size_label(row.cache.size)} in blocks of {row.cache.block}"
 
 
 def why(found, name, options):

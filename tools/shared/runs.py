@@ -30,6 +30,38 @@ class Stopped(Exception):
         self.status = 128 + number
 
 
+@dataclasses.dataclass(frozen=True, order=True)
+class Cache:
+    """A cache: its bytes, the most words of a block, and whether it is a ring, without slots."""
+    size: int
+    block: int
+    ring: bool = False
+
+    @property
+    def form(self):
+        """What caches have in common that differ in their bytes alone."""
+        return self.block, self.ring
+
+    @property
+    def slots(self):
+        """How many blocks of full length it has room for."""
+        return self.size // (4 * self.block)
+
+    def used(self):
+        """The smallest cache with the same runs: slots are whole, and a ring has whole words."""
+        return dataclasses.replace(self, size=self.size // 4 * 4 if self.ring else 4 * self.block * self.slots)
+
+    def less(self):
+        """The cache with one slot less; of a ring, with as many bytes less."""
+        return dataclasses.replace(self, size=self.size - 4 * self.block)
+
+    def words(self):
+        return ["--cache", str(self.size), "--block", str(self.block), *(["--ring"] if self.ring else [])]
+
+    def __str__(self):
+        return f"{self.size} bytes in blocks of {self.block} words"
+
+
 @dataclasses.dataclass(frozen=True)
 class Counts:
     """The nine counts of `--stats`, in its order."""
@@ -47,6 +79,11 @@ class Counts:
     def work(self):
         """The words that the cache RAM gives and takes, for each step."""
         return (self.fetches + self.writes) / max(self.steps, 1)
+
+    @property
+    def copied(self):
+        """The words of the blocks that were copied."""
+        return self.writes - self.links - self.unlinks
 
     def of_thousand(self, name):
         return 1000 * getattr(self, name) / max(self.steps, 1)
@@ -116,8 +153,9 @@ def built_program():
     """The program that is built. `./swic` is asked once, since it builds where a source is newer; SWIC names another program."""
     if named := os.environ.get("SWIC"):
         return pathlib.Path(named).absolute()
-    asked = subprocess.run([TOP / "swic", "check", "/dev/null"], stdin=subprocess.DEVNULL, stdout=subprocess.DEVNULL)
-    if asked.returncode == 254:
+    # a run that takes no time, and writes no errors of its own
+    asked = subprocess.run([TOP / "swic", "measure", "1", "1"], stdin=subprocess.DEVNULL, stdout=subprocess.DEVNULL)
+    if asked.returncode:
         raise Wrong("swic isn't built, and can't be")
     return BUILT
 

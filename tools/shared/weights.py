@@ -17,9 +17,11 @@ EVENTS = {
     "unlink": lambda c, r: c.unlinks,
     "miss": lambda c, r: c.misses - 1,  # the first block is the boot's
     "eviction": lambda c, r: c.evictions,
-    "word": lambda c, r: c.writes - c.links - c.unlinks,
+    "word": lambda c, r: c.copied,
     "write": lambda c, r: c.writes,
 }
+STEP = "step"  # in a file the weight of a step without a cache; else that of an instruction
+NAMES = [STEP, *EVENTS]
 
 
 @dataclasses.dataclass(frozen=True)
@@ -27,11 +29,15 @@ class Weights:
     """What each event costs, in any unit, with the loads from slow memory that it makes; and how the user named the whole."""
     named: str
     of: dict
+    step: tuple  # the same of a step of the program without a cache
     load: float = 0.0  # what such a load costs more
 
-    def weight(self, event):
-        cost, loads = self.of.get(event, (0.0, 0.0))
+    def with_loads(self, weight):
+        cost, loads = weight
         return cost + loads * self.load
+
+    def weight(self, event):
+        return self.with_loads(self.of.get(event, (0.0, 0.0)))
 
     @property
     def apart(self):
@@ -42,8 +48,8 @@ class Weights:
         return sum(self.weight(event) * EVENTS[event](counts, registers) for event in self.of)
 
     def alone(self, counts):
-        """The cost without a cache, where each step is an instruction."""
-        return self.weight("instruction") * max(counts.steps, 1)
+        """The cost without a cache."""
+        return self.with_loads(self.step) * max(counts.steps, 1)
 
     def ratio(self, counts, registers):
         return self.cost(counts, registers) / self.alone(counts)
@@ -56,9 +62,10 @@ def weights_of(text):
         of = dict(zip(["instruction", "service", "write"] if len(numbers) == 3 else ["instruction", "register", "direct", "write"], numbers))
     else:
         of = {"instruction": (1.0, 0.0), **read_weights(text)}
-    if not of["instruction"][0]:
-        raise Wrong("--weights: a machine instruction that costs nothing gives nothing to compare with")
-    return Weights(text, of)
+    step = of.pop(STEP, of["instruction"])
+    if not step[0]:
+        raise Wrong("--weights: a step that costs nothing gives nothing to compare with")
+    return Weights(text, of, step)
 
 
 def read_weights(name):
@@ -72,8 +79,8 @@ def read_weights(name):
         words = line.partition("#")[0].split()
         if not words:
             continue
-        if len(words) not in (2, 3) or words[0] not in EVENTS or not all(re.fullmatch(NUMBER, word) for word in words[1:]):
-            raise Wrong(f"{name}, line {at}: not one of {', '.join(EVENTS)}, and one or two numbers")
+        if len(words) not in (2, 3) or words[0] not in NAMES or not all(re.fullmatch(NUMBER, word) for word in words[1:]):
+            raise Wrong(f"{name}, line {at}: not one of {', '.join(NAMES)}, and one or two numbers")
         if words[0] in of:
             raise Wrong(f"{name}, line {at}: {words[0]} is given twice")
         of[words[0]] = float(words[1]), float(words[2]) if len(words) == 3 else 0.0
