@@ -43,6 +43,7 @@ use Rattle.swi_board.proofs.Progressing.{progress, start_not_fall}
 use Rattle.swi_hart.proofs.Stepping.{two_places}
 use Rattle.swi_board.proofs.Progress.{Progress, made_step, lead, fall, beside, Completes}
 use Rattle.swi_board.proofs.Counting.{cost_more, cost_none, plain_cost}
+use Rattle.swi_hart.proofs.Steps.{ram_fetches}
 use Rattle.swi_hart.proofs.Standing.{slots_are, linked_leads}
 use Rattle.swi_hart.proofs.Taking.{input_shrinks}
 use Rattle.swi_board.proofs.Running.{Goes, Point, Course, Running}
@@ -521,5 +522,5 @@ module _ {run : Course} {now : Point} (so_far : Running run now) (more : now.har
           RamBrokeOff run.image (run.limit - run.from.hart.machine.steps) s0 run.from.hart h' run.from.ram ram' now.left run.from.out now.out run.from.err now.err
       by_control {s0} goes (At i b o stage) e =
           ram_breaks_off run.policy run.image run.limit s0 run.from.hart now.hart run.from.kept now.kept now.left run.from.out now.out run.from.err now.err
-          goes more running h' run.from.ram now.ram ram' i b o stage e word (ap (λ (k : HartData). k.machine.steps) is) so_far.ram_ran.fetches failed.fetches
+          goes more running h' run.from.ram now.ram ram' i b o stage e word (ap (λ (k : HartData). k.machine.steps) is) so_far.ram_ran.fetches (ram_fetches failed)
       by_control {s0} goes Outside e = absurd (failed.inside e)

@@ -10,3 +10,4 @@ pub mod Settling
 pub mod Turning
 pub mod Walking
 pub mod Blocks
+pub mod Along

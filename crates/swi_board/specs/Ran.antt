@@ -1,9 +1,10 @@
 -- What a run of the board does, from any state where a flat machine stands. Own rule.
-use Rattle.std.specs.Prelude.{◌≡◌, ℕ, ◌+◌, ◌<◌, ◌≤◌, List, ◌++◌, length, take, Option, Some, None, Result, IsErrOf}
+use Rattle.std.specs.Prelude.{◌≡◌, ℕ, ◌+◌, ◌<◌, ◌≤◌, List, [], ◌++◌, length, take, Option, Some, None, Result, IsErrOf}
 use Rattle.std.specs.Io.KnownBytes.{Appends, Consumes}
 use Rattle.swi_calls.specs.State.{FlatState}
 use Rattle.swi_outside.specs.Causes.{risen}
 use Rattle.swi_outside.specs.CacheRam.{RamState, KeepsBeyond}
+use Rattle.swi_outside.specs.Devices.{Faults}
 use Rattle.swi_calls.specs.Flat.{Made}
 use Rattle.swi_image.specs.Format.{ImageData}
 use Rattle.swi_rom.specs.Record.{Record, Transfer}
@@ -39,6 +40,11 @@ pub record Ran (policy : Record → ImageData → Transfer → Record) (v : Imag
 -- the flat machine's next step, over the fixed text
 abbrev pub next_of : FlatState → Made
 next_of s = held_made s.machine s.input
+
+-- a sink to which a step gives nothing is not asked by it: its count of faults stays
+pub record Unasked (next : Made) (before after : Faults) : Type 0 where
+  pub output : next.output ≡ [] → after.output ≡ before.output
+  pub error : next.error ≡ [] → after.error ≡ before.error
 
 -- The input or a sink broke off a step of a run. So many steps were made before it; each sink has gained what they wrote, and then a front
 -- of what the next one writes; and of the input no more was taken than they take and the next one takes.

@@ -1,32 +1,29 @@
 //! A hart with its service.
 #![tactic(auto)]
 
-ghost use Rattle.std.specs.Prelude.{◌≡◌, ◌⊎◌, ◌+◌, ◌-◌, ◌^◌, ◌<◌, ◌≤◌, ℕ, IfOk, OnOk, OnErr, IsErrOf, Some, None, is_some, true, false};
+ghost use Rattle.std.specs.Prelude.{◌≡◌, ◌⊎◌, ◌+◌, ◌^◌, ◌<◌, ◌≤◌, ℕ, IfOk, OnOk, OnErr, IsErrOf, Some, None, true, false};
+ghost use Rattle.std.specs.Option.{ForSome};
+ghost use Rattle.swi_outside.specs.CacheRam.{RamState};
 ghost use Rattle.swi_memory.specs.Bus.{fetched};
-ghost use Rattle.swi_calls.specs.Flat.{machine_of, started};
+ghost use Rattle.swi_calls.specs.declared.machine.Machine.{Machine};
+ghost use Rattle.swi_calls.specs.Flat.{machine_of};
 ghost use Rattle.swi_program.specs.Layout.{IsLayoutOf};
 ghost use Rattle.swi_program.specs.Text.{text_of, word_of};
+ghost use Rattle.swi_image.specs.Format.{ImageData};
 ghost use Rattle.swi_image.specs.Place.{place_of};
 ghost use Rattle.swi_render.specs.Carried.{Carries};
-ghost use Rattle.swi_rom.specs.Record.{Record, indirect, writes};
-ghost use Rattle.swi_hart.specs.Hart.{is_between, index_of, place_under, next_made, role_of, original};
+ghost use Rattle.swi_rom.specs.Record.{Record, indirect};
+ghost use Rattle.swi_hart.specs.Hart.{is_between, index_of, place_under, next_made, role_of, original, unbooted};
 ghost use Rattle.swi_hart.specs.Exchanged.{Exchanged, PlainAt, ExecutesHeld};
+ghost use Rattle.swi_hart.specs.Leaving.{RamFailed};
+ghost use Rattle.swi_hart.specs.MachineStep.{BoardStepped, ReadyToStep};
 ghost use Rattle.swi_hart.specs.Matching.{Arrives, Fits, Matches};
-ghost use Rattle.swi_hart.specs.Staying.{StaysUnder};
-ghost use Rattle.swi_image.specs.Format.{ImageData};
-ghost use Rattle.swi_board.specs.Board.{BoardOf, entry_transfer, entries};
-ghost use Rattle.swi_rom.specs.Served.{SameFrom, WordsMove, Keeps};
-ghost use Rattle.swi_hart.specs.Leaving.{RamServed, RamFailed, moved, RamStepped, RamBroken, broken, transfer_at};
-ghost use Rattle.swi_board.specs.Ran.{RamRan, Ran, BrokeOff, RamBrokeOff, Followed};
-ghost use Rattle.swi_board.specs.Transfers.{here_of, spent_run};
-ghost use Rattle.std.specs.Option.{ForSome};
-ghost use Rattle.swi_calls.specs.declared.machine.Machine.{Machine};
-ghost use Rattle.swi_hart.specs.Calling.{Made, BrokenStep, OnDevice, with_memory};
-ghost use Rattle.swi_hart.specs.Faults.{HasCauses};
-ghost use Rattle.swi_outside.specs.CacheRam.{KeepsBeyond};
 ghost use Rattle.swi_hart.specs.Service.{TransferServed};
-ghost use Rattle.swi_hart.specs.Bounds.{most, Grown};
-ghost use Rattle.swi_board.specs.Runs.{fetched_by};
+ghost use Rattle.swi_hart.specs.Staying.{StaysUnder};
+ghost use Rattle.swi_board.specs.Board.{BoardOf, entry_transfer, entries};
+ghost use Rattle.swi_board.specs.BoardRan.{BoardRan};
+ghost use Rattle.swi_board.specs.Entered.{Entered};
+ghost use Rattle.swi_board.specs.Ran.{Followed};
 
 use crate::block::{block_place, run_block};
 use std::alloc::Global;
@@ -86,6 +83,8 @@ fn enter<R: CacheRom, M: CacheRam>(
     ensures served { TransferServed R.service image.now (entry_transfer image.now hart.old.machine.pc)
         (record { rom = rom.old; ram = M.state ram.old })
         (record { rom = rom.new; ram = M.state ram.new }) result }
+    ensures outside { place_of image.now hart.old.machine.pc ≡ None →
+        (rom.new ≡ rom.old) × (M.state ram.new ≡ M.state ram.old) }
 {
     let pc = hart.origin_pc();
     if image.place(pc).is_some() {
@@ -101,7 +100,7 @@ fn enter<R: CacheRom, M: CacheRam>(
 
 impl<R: CacheRom> Board<R> {
     /// A board of a hart and a service, at the hart's address: where a text word stands there, one service enters it,
-    /// and that is a machine instruction; else neither service nor ram is called. The image is one of the text that the
+    /// and that is a machine instruction; else neither service nor ram is called, and nothing fails. The image is one of the text that the
     /// hart holds, the service is sound for it and the ram, and the hart has not ended, and is between two
     /// instructions. No device has failed, and fewer than 2^56 machine instructions and 2^50 services are counted.
     ///
@@ -121,32 +120,11 @@ impl<R: CacheRom> Board<R> {
         requires count { hart.count < 2 ^ 56 }
         requires sound { R.service.sound rom image.now (M.state ram.old).words }
         requires services { (R.service.kept rom).counts.services < 2 ^ 50 }
-        ensures hart { IfOk result (λ b. b.hart
-            ≡ record hart {
-              control = b.hart.control;
-              count = hart.count + entries image.now hart.machine.pc;
-              booted = true;
-            }) }
-        ensures matches { IfOk result (λ b. Matches image.now
-            (R.service.kept b.rom) hart.machine b.hart.machine b.hart.control) }
-        ensures fits { IfOk result (λ b. Fits image.now (R.service.kept b.rom) b.hart) }
-        ensures here { IfOk result (λ b. here_of image.now hart.machine b.hart.control
-            ≡ place_of image.now hart.machine.pc) }
-        ensures spent { IfOk result (λ b. spent_run hart.machine b.hart.control ≡ 0) }
-        ensures between { IfOk result (λ b. is_between b.hart.control ≡ true) }
-        ensures policy { IfOk result (λ b. R.service.kept b.rom ≡ moved (R.service.policy (R.service.setting rom))
-            (R.service.kept rom) image.now (entry_transfer image.now hart.machine.pc)) }
-        ensures setting { IfOk result (λ b. R.service.setting b.rom ≡ R.service.setting rom) }
-        ensures sound { IfOk result (λ b. R.service.sound b.rom image.now (M.state ram.new).words) }
-        ensures keeps { IfOk result (λ b. Keeps R.service image.now rom b.rom
-            (M.state ram.old).words (M.state ram.new).words) }
-        ensures unused { IfOk result (λ b. SameFrom (R.service.extent (R.service.setting rom) (R.service.kept b.rom))
-            (M.state ram.old).words (M.state ram.new).words) }
-        ensures words { IfOk result (λ b. WordsMove image.now (R.service.kept rom) (R.service.kept b.rom)
-            (M.state ram.old) (M.state ram.new)) }
-        ensures ram { IfOk result (λ b. RamServed (R.service.span (R.service.setting rom))
-            (writes (R.service.kept b.rom) - writes (R.service.kept rom)) (M.state ram.old) (M.state ram.new)) }
+        ensures entered { IfOk result (λ b. Entered R.service image.now hart
+            (record { rom = rom; ram = M.state ram.old })
+            (record { hart = b.hart; rom = b.rom; ram = M.state ram.new })) }
         ensures failed { OnErr result (RamFailed (R.service.span (R.service.setting rom)) (M.state ram.old) (M.state ram.new)) }
+        ensures placed { OnErr result (place_of image.now hart.machine.pc ≡ None → ⊥) }
     {
         let mut hart = hart;
         let mut rom = rom;
@@ -172,29 +150,12 @@ impl<R: CacheRom> Board<R> {
         requires carries { Carries (word_of (text_of p.now.segments)) image.now }
         requires sound { R.service.sound rom image.now (M.state ram.old).words }
         requires services { (R.service.kept rom).counts.services < 2 ^ 50 }
-        ensures machine { IfOk result (λ b. b.hart.machine ≡ machine_of p.now l.now log) }
+        ensures entered { IfOk result (λ b. Entered R.service image.now (unbooted (machine_of p.now l.now log))
+            (record { rom = rom; ram = M.state ram.old })
+            (record { hart = b.hart; rom = b.rom; ram = M.state ram.new })) }
         ensures count { IfOk result (λ b. b.hart.count ≡ 1) }
-        ensures unfailed { IfOk result (λ b. b.hart.failed ≡ false) }
-        ensures booted { IfOk result (λ b. b.hart.booted ≡ true) }
-        ensures between { IfOk result (λ b. is_between b.hart.control ≡ true) }
-        ensures matches { IfOk result (λ b. Matches image.now (R.service.kept b.rom)
-            (machine_of p.now l.now log) b.hart.machine b.hart.control) }
-        ensures fits { IfOk result (λ b. Fits image.now (R.service.kept b.rom) b.hart) }
-        ensures here { IfOk result (λ b. here_of image.now (machine_of p.now l.now log) b.hart.control
-            ≡ place_of image.now p.now.entry) }
-        ensures spent { IfOk result (λ b. spent_run (machine_of p.now l.now log) b.hart.control ≡ 0) }
         ensures policy { IfOk result (λ b. R.service.kept b.rom ≡ R.service.policy (R.service.setting rom)
             (R.service.kept rom) image.now (indirect p.now.entry)) }
-        ensures setting { IfOk result (λ b. R.service.setting b.rom ≡ R.service.setting rom) }
-        ensures sound { IfOk result (λ b. R.service.sound b.rom image.now (M.state ram.new).words) }
-        ensures keeps { IfOk result (λ b. Keeps R.service image.now rom b.rom
-            (M.state ram.old).words (M.state ram.new).words) }
-        ensures unused { IfOk result (λ b. SameFrom (R.service.extent (R.service.setting rom) (R.service.kept b.rom))
-            (M.state ram.old).words (M.state ram.new).words) }
-        ensures words { IfOk result (λ b. WordsMove image.now (R.service.kept rom) (R.service.kept b.rom)
-            (M.state ram.old) (M.state ram.new)) }
-        ensures ram { IfOk result (λ b. RamServed (R.service.span (R.service.setting rom))
-            (writes (R.service.kept b.rom) - writes (R.service.kept rom)) (M.state ram.old) (M.state ram.new)) }
         ensures failed { IsErrOf result BootStop.RamFault →
             RamFailed (R.service.span (R.service.setting rom)) (M.state ram.old) (M.state ram.new) }
         ensures untouched { IsErrOf result BootStop.Memory → M.state ram.new ≡ M.state ram.old }
@@ -218,12 +179,13 @@ impl<R: CacheRom> Board<R> {
         (self.hart, self.rom)
     }
 
-    /// A board of a hart that is booted and a service that shows the hart's place at the index under its control.
+    /// A board of a hart that is booted and has not failed, and a service that shows the hart's place at the index under its control.
     /// Nothing changes or is counted. That the service is sound for the hart's image and the ram is asked by the next
     /// `step` or `run`. Where control's block stands as it did in the service's record before, the board matches the same
     /// flat machines, and the image fits it as before.
     pub fn join(hart: Hart, rom: R) -> Board<R>
         requires booted { hart.booted ≡ true }
+        requires unfailed { hart.failed ≡ false }
         requires shown { (i : ℕ) → index_of hart.machine.ending hart.control ≡ Some i → R.service.shown rom i
             ≡ place_under hart.machine.ending hart.control }
         ensures hart { result.hart ≡ hart }
@@ -247,8 +209,12 @@ impl<R: CacheRom> Board<R> {
     /// step goes on as over the image's.
     ///
     /// It follows each flat machine that the board matches: by a step, or by none where the word completes no
-    /// instruction. A word of the ram that changes is of a newly placed block, or a link that was made or undone. After an
-    /// error `failed` is true, and no step is counted.
+    /// instruction. A word of the ram that changes is of a newly placed block, or a link that was made or undone.
+    ///
+    /// After an error `failed` is true, and the hart is as it was but for that. The input or a sink fails at a system
+    /// call alone: a front of the buffer of a read may be filled then, the service is as it was, and a sink to which the
+    /// call gives nothing was not asked. After a failed fetch nothing was done to the ram, and after a failed set nothing
+    /// was fetched.
     pub fn step<M: CacheRam, I: Source, O: Sink, E: Sink>(
         &mut self,
         image: &ImageView<'_>,
@@ -257,83 +223,31 @@ impl<R: CacheRom> Board<R> {
         out: &mut O,
         err: &mut E,
     ) -> Result<(), BoardFault>
-        requires running { self.old.hart.machine.ending ≡ None }
+        requires ready { ReadyToStep image.now (R.service.kept self.old.rom) self.old.hart }
         requires unfailed { self.old.hart.failed ≡ false }
-        requires few { self.old.hart.machine.steps < 2 ^ 48 }
-        requires count { self.old.hart.count < 2 ^ 56 }
-        requires services { (R.service.kept self.old.rom).counts.services < 2 ^ 50 }
-        requires fits { Fits image.now (R.service.kept self.old.rom) self.old.hart }
         requires sound { R.service.sound self.old.rom image.now (M.state ram.old).words
             ⊎ Exchanged (λ words. R.service.sound self.old.rom image.now words) image.now
             (M.state ram.old).words self.old.hart.control }
         ensures follows { R.service.sound self.old.rom image.now (M.state ram.old).words →
-            OnOk result (ForSome (I.left input.old) (λ left. (f : Machine) → Carries (fetched f.bus) image.now →
+            OnOk result (ForSome (I.state input.old).left (λ left. (f : Machine) → Carries (fetched f.bus) image.now →
             Matches image.now (R.service.kept self.old.rom) f self.old.hart.machine self.old.hart.control →
             Followed image.now (R.service.kept self.new.rom) self.new.hart
             (next_made image.now self.old.hart.machine self.old.hart.control f left)
-            (I.left input.new) (O.held out.old) (O.held out.new) (E.held err.old) (E.held err.new))) }
-        ensures made { R.service.sound self.old.rom image.now (M.state ram.old).words →
-            OnOk result (ForSome (I.left input.old)
-            (λ left. Made image.now (R.service.kept self.new.rom) self.old.hart self.new.hart left
-            (I.left input.new) (O.held out.old) (O.held out.new) (E.held err.old) (E.held err.new))) }
+            (I.state input.new).left (O.state out.old).held (O.state out.new).held (E.state err.old).held (E.state err.new).held)) }
         ensures executes { OnOk result ((i b o : ℕ) (stage : Stage) →
             PlainAt image.now (M.state ram.old).words self.old.hart.control i b o stage →
             ExecutesHeld self.old.hart self.new.hart self.old.rom self.new.rom i b o stage (M.state ram.old).words
             (M.state ram.new).words
-            (I.left input.old) (I.left input.new) (O.held out.old) (O.held out.new) (E.held err.old) (E.held err.new)) }
+            (I.state input.old).left (I.state input.new).left (O.state out.old).held (O.state out.new).held (E.state err.old).held (E.state err.new).held) }
         ensures whole { OnOk result ((i b o : ℕ) (stage : Stage) →
             PlainAt image.now (M.state ram.old).words self.old.hart.control i b o stage →
             role_of stage (original self.old.hart.machine) ≡ Role.Whole →
             Fits image.now (R.service.kept self.new.rom) self.new.hart) }
-        ensures unfailed { OnOk result (self.new.hart.failed ≡ false) }
-        ensures booted { OnOk result (self.new.hart.booted ≡ self.old.hart.booted) }
-        ensures fits { R.service.sound self.old.rom image.now (M.state ram.old).words →
-            OnOk result (Fits image.now (R.service.kept self.new.rom) self.new.hart) }
-        ensures policy { OnOk result (R.service.kept self.new.rom ≡ moved (R.service.policy (R.service.setting self.old.rom))
-            (R.service.kept self.old.rom) image.now
-            (transfer_at image.now self.old.hart.machine self.old.hart.control)) }
-        ensures setting { R.service.setting self.new.rom ≡ R.service.setting self.old.rom }
-        ensures sound { R.service.sound self.old.rom image.now (M.state ram.old).words →
-            OnOk result (R.service.sound self.new.rom image.now (M.state ram.new).words) }
-        ensures keeps { R.service.sound self.old.rom image.now (M.state ram.old).words →
-            OnOk result (Keeps R.service image.now self.old.rom self.new.rom
-            (M.state ram.old).words (M.state ram.new).words) }
-        ensures unused { OnOk result (SameFrom (R.service.extent (R.service.setting self.old.rom) (R.service.kept self.new.rom))
-            (M.state ram.old).words (M.state ram.new).words) }
-        ensures words { OnOk result (WordsMove image.now (R.service.kept self.old.rom) (R.service.kept self.new.rom)
-            (M.state ram.old) (M.state ram.new)) }
-        ensures ram { OnOk result (RamStepped (R.service.span (R.service.setting self.old.rom))
-            (writes (R.service.kept self.new.rom) - writes (R.service.kept self.old.rom)) self.old.hart.control
-            (M.state ram.old) (M.state ram.new)) }
-        ensures grown { R.service.sound self.old.rom image.now (M.state ram.old).words →
-            OnOk result (Grown image.now (R.service.kept self.old.rom) (R.service.kept self.new.rom) self.old.hart self.new.hart) }
-        ensures stopped { OnErr result (self.new.hart ≡ broken (with_memory self.old.hart self.new.hart.machine.bus)) }
-        ensures broke { R.service.sound self.old.rom image.now (M.state ram.old).words →
-            OnDevice result (ForSome (I.left input.old)
-            (λ left. BrokenStep image.now (R.service.kept self.old.rom) self.old.hart left
-            (I.left input.new) (O.held out.old) (O.held out.new) (E.held err.old) (E.held err.new))) }
-        ensures unwritten { IsErrOf result BoardFault.SourceFault → (O.held out.new ≡ O.held out.old)
-            × (E.held err.new ≡ E.held err.old) }
-        ensures others_stay { IsErrOf result BoardFault.RamFault →
-            (I.left input.new ≡ I.left input.old) × ((O.held out.new ≡ O.held out.old) × (E.held err.new
-            ≡ E.held err.old)) }
-        ensures ram_failed { IsErrOf result BoardFault.RamFault →
-            RamBroken image.now self.old.hart.machine self.old.hart.control
-            (R.service.span (R.service.setting self.old.rom)) (M.state ram.old) (M.state ram.new) }
-        ensures kept { KeepsBeyond (R.service.span (R.service.setting self.old.rom)) (M.state ram.old) (M.state ram.new) }
-        ensures causes { HasCauses
-            (record {
-              ram = (M.state ram.old).faults;
-              input = I.faults input.old;
-              out = O.faults out.old;
-              err = E.faults err.old;
-            })
-            (record {
-              ram = (M.state ram.new).faults;
-              input = I.faults input.new;
-              out = O.faults out.new;
-              err = E.faults err.new;
-            }) result }
+        ensures stepped { BoardStepped R.service image.now
+            (record { hart = self.old.hart; rom = self.old.rom; ram = M.state ram.old })
+            (record { hart = self.new.hart; rom = self.new.rom; ram = M.state ram.new })
+            (record { input = I.state input.old; output = O.state out.old; error = E.state err.old })
+            (record { input = I.state input.new; output = O.state out.new; error = E.state err.new }) result }
     {
         let Board { hart, rom } = self;
         if let Some((at, own)) = plain_place(hart, image) {
@@ -350,7 +264,10 @@ impl<R: CacheRom> Board<R> {
     /// alone: along a run a block can come and leave again.
     ///
     /// Each fault comes only where its device's count rose. After one `failed` is true, and the step that it broke off
-    /// is not counted.
+    /// is not counted. The board is where the steps made have brought it, in registers, pc, break and the count of
+    /// machine instructions, and in the ram but for the call that failed; memory is theirs too, but that a read's
+    /// buffer may have a front of the bytes that were taken, where the input or a sink failed. A sink to which the next
+    /// step gives nothing was not asked.
     pub fn run<M: CacheRam, I: Source, O: Sink, E: Sink>(
         &mut self,
         image: &ImageView<'_>,
@@ -367,58 +284,18 @@ impl<R: CacheRom> Board<R> {
         requires limit { n ≤ 2 ^ 48 }
         requires count { self.old.hart.count ≤ 2 ^ 55 }
         requires services { (R.service.kept self.old.rom).counts.services ≤ 2 ^ 49 }
-        ensures ran { OnOk result (ForSome (I.left input.old) (λ left. (f : Machine) →
-            Carries (fetched f.bus) image.now →
-            Matches image.now (R.service.kept self.old.rom) f self.old.hart.machine self.old.hart.control →
-            Ran (R.service.policy (R.service.setting self.old.rom)) image.now (n - self.old.hart.machine.steps)
-            (started f left) self.old.hart (R.service.kept self.old.rom) self.new.hart (R.service.kept self.new.rom) (I.left input.new)
-            (O.held out.old) (O.held out.new) (E.held err.old) (E.held err.new))) }
-        ensures count { OnOk result
-            (self.new.hart.count + most image.now self.old.hart.machine self.old.hart.control
-            ≤ self.old.hart.count + most image.now self.new.hart.machine self.new.hart.control) }
-        ensures fits { OnOk result (Fits image.now (R.service.kept self.new.rom) self.new.hart) }
-        ensures setting { R.service.setting self.new.rom ≡ R.service.setting self.old.rom }
-        ensures sound { OnOk result (R.service.sound self.new.rom image.now (M.state ram.new).words) }
-        ensures keeps { OnOk result (Keeps R.service image.now self.old.rom self.new.rom
-            (M.state ram.old).words (M.state ram.new).words) }
-        ensures unused { OnOk result (SameFrom (R.service.extent (R.service.setting self.old.rom) (R.service.kept self.new.rom))
-            (M.state ram.old).words (M.state ram.new).words) }
-        ensures unfailed { OnOk result (self.new.hart.failed ≡ false) }
-        ensures booted { OnOk result (self.new.hart.booted ≡ self.old.hart.booted) }
-        ensures done { OnOk result ((self.new.hart.machine.steps ≡ n) ⊎ (is_some self.new.hart.machine.ending ≡ true)) }
-        ensures settled { OnOk result (ForSome (I.left input.old) (λ left. is_between self.old.hart.control ≡ true →
-            self.new.hart.machine.ending ≡ None → is_between self.new.hart.control ≡ true)) }
-        ensures ram { OnOk result (RamRan (R.service.span (R.service.setting self.old.rom)) (fetched_by self.old.hart self.new.hart)
-            (writes (R.service.kept self.new.rom) - writes (R.service.kept self.old.rom))
-            (M.state ram.old) (M.state ram.new)) }
-        ensures kept { KeepsBeyond (R.service.span (R.service.setting self.old.rom)) (M.state ram.old) (M.state ram.new) }
-        ensures failed { OnErr result (self.new.hart.failed ≡ true) }
-        ensures going { OnErr result (self.new.hart.machine.ending ≡ None) }
-        ensures uncounted { OnErr result (self.new.hart.machine.steps < n) }
-        ensures broke { OnDevice result (ForSome (I.left input.old) (λ left. (f : Machine) →
-            Carries (fetched f.bus) image.now →
-            Matches image.now (R.service.kept self.old.rom) f self.old.hart.machine self.old.hart.control →
-            BrokeOff result (n - self.old.hart.machine.steps)
-            (started f left) self.old.hart self.new.hart (I.left input.new)
-            (O.held out.old) (O.held out.new) (E.held err.old) (E.held err.new))) }
-        ensures ram_broke { IsErrOf result BoardFault.RamFault → ForSome (I.left input.old) (λ left. (f : Machine) →
-            Carries (fetched f.bus) image.now →
-            Matches image.now (R.service.kept self.old.rom) f self.old.hart.machine self.old.hart.control →
-            RamBrokeOff image.now (n - self.old.hart.machine.steps)
-            (started f left) self.old.hart self.new.hart (M.state ram.old) (M.state ram.new) (I.left input.new)
-            (O.held out.old) (O.held out.new) (E.held err.old) (E.held err.new)) }
-        ensures causes { HasCauses
+        ensures { BoardRan R.service image.now n
             (record {
-              ram = (M.state ram.old).faults;
-              input = I.faults input.old;
-              out = O.faults out.old;
-              err = E.faults err.old;
+              hart = self.old.hart;
+              rom = self.old.rom;
+              ram = M.state ram.old;
+              devices = record { input = I.state input.old; output = O.state out.old; error = E.state err.old };
             })
             (record {
-              ram = (M.state ram.new).faults;
-              input = I.faults input.new;
-              out = O.faults out.new;
-              err = E.faults err.new;
+              hart = self.new.hart;
+              rom = self.new.rom;
+              ram = M.state ram.new;
+              devices = record { input = I.state input.new; output = O.state out.new; error = E.state err.new };
             }) result }
     {
         let Board { hart, rom } = self;

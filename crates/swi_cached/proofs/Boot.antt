@@ -1,33 +1,17 @@
 -- The laws of a cache, and the board before its first step.
-use Rattle.std.proofs.Common.{◌≡◌, ◌+◌, ◌-◌, ◌≤◌, true, [], Option, Some, None, refl, sym, ap, subst, ◌∙◌, arith}
-use Rattle.std.proofs.lemmas.Bool.{false≢true}
+use Rattle.std.proofs.Common.{◌≡◌, ◌+◌, ◌-◌, ◌≤◌, true, [], sym, ap, subst, ◌∙◌, arith}
 use Rattle.swi_memory.specs.Bus.{fetched}
 use Rattle.swi_outside.specs.CacheRam.{RamState}
-use Rattle.swi_calls.specs.declared.end.End.{End}
 use Rattle.swi_calls.specs.declared.machine.Machine.{Machine}
 use Rattle.swi_image.specs.Format.{ImageData}
 use Rattle.swi_render.specs.Carried.{Carries}
 use Rattle.swi_rom.specs.Record.{Record, Transfer, indirect, writes}
-use Rattle.swi_hart.specs.declared.hart.Stage.TheVariants.{Start, Low, Return, Leave}
-use Rattle.swi_hart.specs.declared.hart.Control.{Control}
-use Rattle.swi_hart.specs.declared.hart.Control.TheVariants.{At, Outside}
 use Rattle.swi_hart.specs.Hart.{HartData, is_between}
-use Rattle.swi_hart.specs.Matching.{Agrees, Matches, Fits}
+use Rattle.swi_hart.specs.Matching.{Fits}
 use Rattle.swi_rom.specs.Service.{ServiceOf, IsService, Cache, cache_of}
+use Rattle.swi_board.proofs.Along.{same_between}
 use Rattle.swi_cached.specs.Cached.{CachedRun, IsFresh, record_at_boot}
 use Rattle.swi_cached.specs.Booted.{Booted}
-
--- between two instructions the board's machine is the one that it matches
-pub same_between : (v : ImageData) (r : Record) (f m : Machine) (c : Control) → (m.ending ≡ None → is_between c ≡ true) → Matches v r f m c → m ≡ f
-same_between v r f m c = by m.ending c
-  where
-    by : (e : Option End) (c : Control) → (e ≡ None → is_between c ≡ true) → Agrees e v r f m c → m ≡ f
-    by (Some e) c between a = a
-    by None (At i b o Start) between a = a.1.0
-    by None (At i b o Low) between a = absurd (false≢true (between refl))
-    by None (At i b o Return) between a = absurd (false≢true (between refl))
-    by None (At i b o Leave) between a = absurd (false≢true (between refl))
-    by None Outside between a = a.0
 
 -- the image is one of what its machine fetches
 pub carries_booted : (v : ImageData) (r : Record) (h : HartData) (m : Machine) → h.machine ≡ m → is_between h.control ≡ true → Fits v r h → Carries (fetched m.bus) v

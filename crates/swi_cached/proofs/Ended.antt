@@ -28,7 +28,8 @@ use Rattle.swi_cached.specs.Answers.{Ended, IsShort, RamAfter}
 use Rattle.swi_cached.specs.Booted.{Booted}
 use Rattle.swi_hart.proofs.Growing.{depth_most}
 use Rattle.swi_board.proofs.Running.{kept_both}
-use Rattle.swi_cached.proofs.Boot.{Lawful, same_between}
+use Rattle.swi_board.proofs.Along.{same_between}
+use Rattle.swi_cached.proofs.Boot.{Lawful}
 
 -- between two instructions nothing of the next is made
 spent_settled : (f : Machine) (c : Control) → (f.ending ≡ None → is_between c ≡ true) → spent_run f c ≡ 0

@@ -20,7 +20,9 @@ use Rattle.swi_cached.specs.declared.run.CachedStop.{CachedStop}
 use Rattle.swi_cached.specs.declared.run.CachedStop.TheVariants.{SourceFault}
 use Rattle.swi_cached.specs.Cached.{CachedRun, fetches_after, told_after, program_after, IsFlatRun, StopsBeforeStore}
 use Rattle.swi_cached.specs.Told.{error_by, of_steps, told_line}
-use Rattle.swi_cached.specs.Answers.{RamFailed, StepFailed, step_after}
+use Rattle.swi_outside.specs.Devices.{Faults}
+use Rattle.swi_board.specs.Ran.{Unasked}
+use Rattle.swi_cached.specs.Answers.{RamFailed, StepBroke, StepFailed, step_after}
 use Rattle.swi_cached.specs.Booted.{Booted}
 
 -- the ram failed in the run
@@ -106,6 +108,18 @@ step_failed c h0 h' r result left' out out' err err' e e' same broke front told 
   taken = broke.taken;
   input = broke.input;
   few = broke.few;
+}
+
+pub step_broke : {S T : Type 0} (c : CachedRun) (h0 h' : HartData) (r : Result S BoardFault) (result : Result T CachedStop) (left' out out' err err' e e' : Option (List ℕ)) →
+    (IsErrOf result SourceFault → IsErrOf r board_source) → (broke : BrokeOff r c.limit c.start h0 h' left' out out' e e') → (front : ℕ) →
+    Appends err err' ((told_after c broke.steps).error ++ take front (step_after c broke.steps).error) →
+    (IsErrOf r board_source → front ≡ length (told_line c.trace (program_after c broke.steps).machine)) → {faults faults_after : Faults} →
+    h0.machine.steps ≡ 0 → Unasked (step_after c h'.machine.steps) faults faults_after → StepBroke c result left' out out' err err' faults faults_after
+unfolding step_failed
+step_broke c h0 h' r result left' out out' err err' e e' same broke front told unwritten {faults} {faults_after} none unasked = record {
+  failed = step_failed c h0 h' r result left' out out' err err' e e' same broke front told unwritten;
+  unasked = (let counted = broke.counted in let steps : h'.machine.steps ≡ broke.steps = omega (arith, none, counted) in
+      subst (λ (n : ℕ). Unasked (step_after c n) faults faults_after) steps unasked);
 }
 
 pub is_flat_run : (c : CachedRun) → IsFlatRun c

@@ -10,3 +10,4 @@ mod Foreign
 pub mod Quiet
 pub mod Tells
 pub mod Stopping
+mod Unasked

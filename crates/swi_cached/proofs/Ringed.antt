@@ -1,5 +1,5 @@
 -- The cache of a ring, from what a ring tells that was just made.
-use Rattle.std.proofs.Common.{◌≡◌, ℕ, ◌/◌, ◌*◌, ◌≤◌, ap, ◌∙◌}
+use Rattle.std.proofs.Common.{◌≡◌, ℕ, ◌/◌, ap, ◌∙◌}
 use Rattle.swi_rom.specs.Record.{Record, empty_record}
 use Rattle.swi_rom.specs.Service.{Setting, Cache, cache_of}
 use Rattle.swi_ring.specs.Fifo.{ring, span_of, extent_of}

@@ -6,7 +6,7 @@ use Rattle.std.proofs.lemmas.List.{length-append, take-append-drop}
 use Rattle.std.proofs.Math.Seq.{take-append_seam, take-append-add}
 use Rattle.std.specs.Io.KnownBytes.{Appends, Consumes}
 use Rattle.swi_outside.specs.CacheRam.{RamState}
-use Rattle.swi_outside.specs.Laws.{Appends-append, Appends-none}
+use Rattle.swi_outside.specs.Laws.{Appends-append, Appends-none, causes_from}
 use Rattle.swi_outside.specs.Sink.{AppendsPrefix}
 use Rattle.swi_memory.specs.Bus.{AreaData}
 use Rattle.swi_calls.specs.declared.end.End.{End}
@@ -25,11 +25,12 @@ use Rattle.swi_board.specs.Runs.{fetched_by}
 use Rattle.swi_hart.specs.declared.hart.Control.TheVariants.{At, Outside}
 use Rattle.swi_outside.specs.Causes.{risen}
 use Rattle.swi_board.specs.Ran.{Ran, BrokeOff, RamBrokeOff}
-use Rattle.swi_hart.specs.Faults.{Faults, HasCauses}
+use Rattle.swi_outside.specs.Devices.{Faults, HasCauses}
 use Rattle.swi_hart.specs.Bounds.{Grown, most, most_by}
 use Rattle.swi_outside.specs.Causes.{Rose}
 use Rattle.swi_calls.specs.declared.end.End.TheVariants as end
 use Rattle.swi_hart.specs.declared.hart.Control.{Control}
+use Rattle.swi_hart.proofs.Steps.{ram_fetches}
 use Rattle.swi_hart.proofs.Growing.{depth_most}
 use Rattle.swi_board.proofs.Breaking.{device_broke, ram_breaks_off}
 use Rattle.swi_board.proofs.Held.{same_steps, run_snoc}
@@ -141,7 +142,7 @@ take_nil (suc n) = refl
 
 pub unknown_step : (v : ImageData) (r : Record) (h : HartData) (input : List ℕ) (left' out out' err err' : Option (List ℕ)) → BrokenStep v r h input left' out out' err err' → BrokenStep v r h input left' out out' None None
 unknown_step v r h input left' out out' err err' b =
-    record { stepped = b.stepped; step = b.step; output = b.output; error = (0, tt); taken = b.taken; input = b.input; few = b.few }
+    record { stepped = b.stepped; step = b.step; output = b.output; error = (0, tt); taken = b.taken; input = b.input; few = b.few; calls = b.calls }
 
 module _ (each : Bool) (policy : Record → ImageData → Transfer → Record) (v : ImageData) (n : ℕ) (s0 : FlatState) (h0 h : HartData) (r0 r : Record) (left out0 out err0 err : Option (List ℕ)) (history : List ℕ)
     (goes : Goes policy v r0 n s0 h0 h r left out0 out None None) (more : h.machine.steps < n) (running : h.machine.ending ≡ None) (steps_none : h0.machine.steps ≡ 0) (none : s0.error ≡ []) where
@@ -265,18 +266,17 @@ tells_first each n s h err0 history running steps_none empty =
 pub now_at : (h0 h : HartData) (now s : FlatState) → now ≡ held_run (h.machine.steps - h0.machine.steps) s → h0.machine.steps ≡ 0 → now ≡ held_run h.machine.steps s
 now_at h0 h now s is steps_none = let same : h.machine.steps - h0.machine.steps ≡ h.machine.steps = omega (arith, steps_none) in is ∙ ap (λ (k : ℕ). held_run k s) same
 
-pub quiet_on : (a b : Faults) (ram input out err err' : ℕ) → a ≡ record { ram = ram; input = input; out = out; err = err' } → err' ≡ err → ◌≡◌ {A = Faults} (record { ram = ram; input = input; out = out; err = err }) b → a ≡ b
-quiet_on a b ram input out err err' p q r = p ∙ ap (λ (n : ℕ). record { ram = ram; input = input; out = out; err = n }) q ∙ r
+pub quiet_on : {first : Faults} (input out err err' : ℕ) → err' ≡ err → ◌≡◌ {A = Faults} (record { input = input; output = out; error = err }) first →
+    ◌≡◌ {A = Faults} (record { input = input; output = out; error = err' }) first
+quiet_on input out err err' same quiet = ap (λ (n : ℕ). record { input = input; output = out; error = n }) same ∙ quiet
 
 -- the error sink failed at a line
-pub causes_line : {T : Type 0} (first : Faults) (ram input out err err' : ℕ) → ◌≡◌ {A = Faults} (record { ram = ram; input = input; out = out; err = err }) first → err ≤ err' → Rose err err' →
-    HasCauses {T = T} first (record { ram = ram; input = input; out = out; err = err' }) (Err SinkFault)
-causes_line {T} first ram input out err err' same later rose =
-    subst (λ (f : Faults). HasCauses {T = T} f (record { ram = ram; input = input; out = out; err = err' }) (Err SinkFault)) same (record {
-      ram = record { later = omega arith; cause = λ e. cc; told = inl refl };
-      source = record { later = omega arith; cause = λ e. cc; told = inl refl };
+pub causes_line : {T : Type 0} (first : Faults) (input out err err' : ℕ) → ◌≡◌ {A = Faults} (record { input = input; output = out; error = err }) first → err ≤ err' → Rose err err' →
+    HasCauses first (record { input = input; output = out; error = err' }) (IsErrOf {T = T} (Err SinkFault) SourceFault) (IsErrOf {T = T} (Err SinkFault) SinkFault)
+causes_line {T} first input out err err' same later rose =
+    causes_from same (record {
+      input = record { later = omega arith; cause = λ e. cc; told = inl refl };
       sinks = record { one_later = omega arith; other_later = later; cause = λ e. inr rose; one_told = inl refl; other_told = inr refl };
-      quiet = tt;
     })
 
 most_at : (v : ImageData) (m : Machine) (c : Control) → most v m c ≤ 3 * m.steps + 3
@@ -342,5 +342,5 @@ ram_off policy v n span s0 h0 h h' r0 r left out0 out first before after goes mo
   where
     by : (c : Control) → h.control ≡ c → RamBrokeOff v (n - h0.machine.steps) s0 h0 h' first after left out0 out (Some []) (Some goes.now.error)
     by (At i b o stage) e =
-        ram_breaks_off policy v n s0 h0 h r0 r left out0 out (Some []) (Some goes.now.error) (virtual policy v r0 n s0 h0 h r left out0 out goes) more running h' first before after i b o stage e word same total failed.fetches
+        ram_breaks_off policy v n s0 h0 h r0 r left out0 out (Some []) (Some goes.now.error) (virtual policy v r0 n s0 h0 h r left out0 out goes) more running h' first before after i b o stage e word same total (ram_fetches failed)
     by Outside e = absurd (failed.inside e)

@@ -1,21 +1,21 @@
 -- What a run on the cached machine leaves: where it came to its end, and where a device failed. Own rule.
-use Rattle.std.specs.Prelude.{◌≡◌, ℕ, ◌+◌, ◌*◌, ◌<◌, ◌≤◌, Bool, List, [], ◌++◌, length, slice_index, take, Option, Some, None, Result, OnOk, IsErrOf, if◌then◌else◌}
+use Rattle.std.specs.Prelude.{◌≡◌, ℕ, ◌+◌, ◌*◌, ◌<◌, ◌≤◌, Bool, List, [], ◌++◌, length, slice_index, take, Option, Some, None, Result, IsErrOf, if◌then◌else◌}
 use Rattle.std.specs.Io.KnownBytes.{Appends, Consumes}
-use Rattle.swi_outside.specs.Causes.{DeviceCause, PairCause, risen}
+use Rattle.swi_outside.specs.Causes.{risen}
 use Rattle.swi_outside.specs.CacheRam.{RamState}
+use Rattle.swi_outside.specs.Devices.{Faults}
 use Rattle.swi_calls.specs.Flat.{Made}
-use Rattle.swi_calls.specs.Held.{held_made}
 use Rattle.swi_calls.specs.declared.end.End.TheVariants.{StoreText}
 use Rattle.swi_rom.specs.Coherent.{Coherent}
 use Rattle.swi_rom.specs.Record.{Record, writes}
 use Rattle.swi_hart.specs.declared.fault.BoardFault.{BoardFault}
 use Rattle.swi_hart.specs.declared.fault.BoardFault.TheVariants as board
-use Rattle.swi_hart.specs.Faults.{Faults}
 use Rattle.swi_hart.specs.Hart.{HartData}
+use Rattle.swi_board.specs.Ran.{Unasked}
 use Rattle.swi_cached.specs.declared.run.CachedStop.{CachedStop}
 use Rattle.swi_cached.specs.declared.run.CachedStop.TheVariants.{RamFault, SourceFault, SinkFault}
 use Rattle.swi_cached.specs.Cached.{CachedRun, span_of, program_after, told_after, end_of, instructions_after, fetches_after, record_after, used_after}
-use Rattle.swi_cached.specs.Told.{next_error, told_line}
+use Rattle.swi_cached.specs.Told.{next_told, told_line}
 
 -- A run that came to its end: as the program did, with so many machine instructions, and the service as its policy
 -- leads. Of the input just what the program took is gone, and the sinks gained what it wrote.
@@ -61,7 +61,7 @@ pub record RamFailed (c : CachedRun) (before after : RamState)
 
 -- the step that comes after so many, which writes its line first where steps are told
 abbrev pub step_after : CachedRun → ℕ → Made
-step_after c n = record (held_made (program_after c n).machine (program_after c n).input) { error = next_error c.trace (program_after c n) }
+step_after c n = next_told c.trace (program_after c n)
 
 -- The input or a sink failed at a step: so many were made before it; each sink gained what they wrote, and then a front
 -- of what the next one writes: where the input failed, nothing but its line. Of the input no more is gone than what they took, and a
@@ -80,16 +80,14 @@ pub record StepFailed {T : Type 0} (c : CachedRun) (result : Result T CachedStop
   pub input : Consumes (Some (program_after c steps).input) left' taken
   pub few : length taken + length (step_after c steps).input ≤ length (program_after c steps).input
 
+-- and a sink to which that step gives nothing was not asked by it
+pub record StepBroke {T : Type 0} (c : CachedRun) (result : Result T CachedStop)
+    (left' out out' err err' : Option (List ℕ)) (faults faults_after : Faults) : Type 0 where
+  pub failed : StepFailed c result left' out out' err err'
+  pub unasked : Unasked (step_after c failed.steps) faults faults_after
+
 -- a fault of the board in a step stops the run
 abbrev pub stop_of : BoardFault → CachedStop
 stop_of board.RamFault = RamFault
 stop_of board.SourceFault = SourceFault
 stop_of board.SinkFault = SinkFault
-
--- each fault is answered only where its device's count rose, a count that rose is answered, none falls, and without a
--- fault none rises
-pub record HasCauses {T : Type 0} (before after : Faults) (result : Result T CachedStop) : Type 0 where
-  pub ram : DeviceCause before.ram after.ram (IsErrOf result RamFault)
-  pub source : DeviceCause before.input after.input (IsErrOf result SourceFault)
-  pub sinks : PairCause before.out after.out before.err after.err (IsErrOf result SinkFault)
-  pub quiet : OnOk result (after ≡ before)

@@ -3,6 +3,7 @@ use Rattle.std.specs.Prelude.{ℕ, zero, suc, Bool, true, false, List, [], ◌�
 use Rattle.swi_memory.specs.Bus.{AreaData, fetched}
 use Rattle.swi_calls.specs.declared.machine.Machine.{Machine}
 use Rattle.swi_calls.specs.State.{FlatState}
+use Rattle.swi_calls.specs.Flat.{Made}
 use Rattle.swi_calls.specs.Held.{held_made, held_run}
 use Rattle.swi_trace.specs.History.{last_of}
 use Rattle.swi_trace.specs.Text.{trace_line_of}
@@ -31,6 +32,10 @@ told_line true m = step_line m
 -- what the next step writes to the errors, behind its line where steps are told
 abbrev pub next_error : Bool → FlatState → List ℕ
 next_error trace s = told_line trace s.machine ++ (held_made s.machine s.input).error
+
+-- the next step, with that
+abbrev pub next_told : Bool → FlatState → Made
+next_told trace s = record (held_made s.machine s.input) { error = next_error trace s }
 
 -- what is listed of the next step, where one is made or stopped: a run that has ended makes none
 abbrev pub of_step : (FlatState → List ℕ) → FlatState → List ℕ

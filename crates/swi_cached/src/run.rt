@@ -5,6 +5,8 @@ ghost use Rattle.std.specs.Prelude.{◌≡◌, ◌⊎◌, ◌+◌, ◌*◌, ◌^
 ghost use Rattle.std.specs.Option.{ForSome};
 ghost use Rattle.swi_image.specs.Place.{place_of};
 ghost use Rattle.swi_outside.specs.CacheRam.{KeepsBeyond};
+ghost use Rattle.swi_outside.specs.Causes.{DeviceCause};
+ghost use Rattle.swi_outside.specs.Devices.{HasCauses, faults_of};
 ghost use Rattle.swi_program.specs.Layout.{IsLayoutOf};
 ghost use Rattle.swi_program.specs.Text.{text_of, word_of};
 ghost use Rattle.swi_render.specs.Carried.{Carries};
@@ -15,7 +17,7 @@ ghost use Rattle.swi_hart.specs.Matching.{Fits};
 ghost use Rattle.swi_hart.specs.Leaving.{RamFailed as ServiceFailed};
 ghost use Rattle.swi_cached.specs.Cached.{run_of, IsFresh, IsCounted, IsFlatRun, StopsBeforeStore};
 ghost use Rattle.swi_cached.specs.Told.{addresses, history_of};
-ghost use Rattle.swi_cached.specs.Answers.{Ended, IsShort, RamAfter, RamFailed, StepFailed, HasCauses, stop_of};
+ghost use Rattle.swi_cached.specs.Answers.{Ended, IsShort, RamAfter, RamFailed, StepBroke, stop_of};
 ghost use Rattle.swi_cached.specs.Booted.{Booted};
 
 use crate::told::{Telling, first_history, run_steps};
@@ -113,8 +115,8 @@ fn boot<R: CacheRam, S: CacheRom>(
 /// up to a step that would store into the text: the run ends before it.
 ///
 /// After `Memory` nothing has changed. After `RamFault` the sinks hold just what the steps wrote whose fetches were
-/// made; after `SourceFault` what the steps made have written; with `Each` the error sink then holds the line of the
-/// step that was broken off too. After `SinkFault` they hold what the steps made have written, and a front of what the
+/// made; with `Each` the line of the next step may stand behind it. After `SourceFault` they hold what the steps made
+/// have written, with `Each` the line of the step that was broken off too. After `SinkFault` they hold what the steps made have written, and a front of what the
 /// next step writes, its line first. The words of the ram behind those of the service never change. Own rule.
 pub fn run_cached<I: Source, O: Sink, E: Sink, R: CacheRam, S: CacheRom>(
     alloc: Global,
@@ -135,13 +137,13 @@ pub fn run_cached<I: Source, O: Sink, E: Sink, R: CacheRam, S: CacheRom>(
     requires sound { S.service.sound rom image.now (R.state ram.old).words }
     requires fresh { IsFresh (S.service.kept rom) }
     requires limit { limit ≤ 2 ^ 48 }
-    ensures ended { IfOk result (λ p. ForSome (I.left input.old) (λ left.
+    ensures ended { IfOk result (λ p. ForSome (I.state input.old).left (λ left.
         Ended (run_of image.now (cache_of S.service rom) program.now layout.now log telling limit left) p.0.hart
-        (S.service.kept p.0.rom) (I.left input.new) (O.held out.old) (O.held out.new) (E.held err.old) (E.held err.new))) }
-    ensures told { IfOk result (λ p. ForSome (I.left input.old) (λ left.
+        (S.service.kept p.0.rom) (I.state input.new).left (O.state out.old).held (O.state out.new).held (E.state err.old).held (E.state err.new).held)) }
+    ensures told { IfOk result (λ p. ForSome (I.state input.old).left (λ left.
         p.1 ≡ history_of telling (addresses limit (flat_start program.now layout.now log left)))) }
     ensures unfailed { IfOk result (λ p. p.0.hart.failed ≡ false) }
-    ensures short { IfOk result (λ p. ForSome (I.left input.old) (λ left. IsShort p.0.hart)) }
+    ensures short { IfOk result (λ p. ForSome (I.state input.old).left (λ left. IsShort p.0.hart)) }
     ensures done { IfOk result (λ p. (p.0.hart.machine.steps ≡ limit) ⊎ (is_some p.0.hart.machine.ending ≡ true)) }
     // What `Board::run` asks of a board that has not ended, and that it is booted, with the setting of its service.
     ensures booted { IfOk result (λ p. p.0.hart.booted ≡ true) }
@@ -149,38 +151,32 @@ pub fn run_cached<I: Source, O: Sink, E: Sink, R: CacheRam, S: CacheRom>(
     ensures sound { IfOk result (λ p. S.service.sound p.0.rom image.now (R.state ram.new).words) }
     ensures setting { IfOk result (λ p. S.service.setting p.0.rom ≡ S.service.setting rom) }
     ensures count { IfOk result (λ p. p.0.hart.count ≤ 3 * p.0.hart.machine.steps + 3) }
-    ensures services { IfOk result (λ p. ForSome (I.left input.old) (λ left.
+    ensures services { IfOk result (λ p. ForSome (I.state input.old).left (λ left.
         (S.service.kept p.0.rom).counts.services ≤ 2 * limit)) }
-    ensures ram { OnOk result (ForSome (I.left input.old) (λ left.
+    ensures ram { OnOk result (ForSome (I.state input.old).left (λ left.
         RamAfter (run_of image.now (cache_of S.service rom) program.now layout.now log telling limit left)
         (R.state ram.old) (R.state ram.new))) }
     ensures counted { OnOk result ((left : List ℕ) →
         IsCounted (run_of image.now (cache_of S.service rom) program.now layout.now log telling limit left)) }
     ensures kept { KeepsBeyond (S.service.span (S.service.setting rom)) (R.state ram.old) (R.state ram.new) }
     ensures memory { IsErrOf result CachedStop.Memory →
-        (R.state ram.new ≡ R.state ram.old) × (I.left input.new ≡ I.left input.old)
-        × (O.held out.new ≡ O.held out.old) × (E.held err.new ≡ E.held err.old) }
-    ensures ram_failed { IsErrOf result CachedStop.RamFault → ForSome (I.left input.old) (λ left.
+        (R.state ram.new ≡ R.state ram.old) × (I.state input.new ≡ I.state input.old)
+        × (O.state out.new ≡ O.state out.old) × (E.state err.new ≡ E.state err.old) }
+    ensures ram_failed { IsErrOf result CachedStop.RamFault → ForSome (I.state input.old).left (λ left.
         RamFailed (run_of image.now (cache_of S.service rom) program.now layout.now log telling limit left)
         (R.state ram.old) (R.state ram.new)
-        (I.left input.new) (O.held out.old) (O.held out.new) (E.held err.old) (E.held err.new)) }
+        (I.state input.new).left (O.state out.old).held (O.state out.new).held (E.state err.old).held (E.state err.new).held) }
     ensures step_failed { IsErrOf result CachedStop.SourceFault ⊎ IsErrOf result CachedStop.SinkFault →
-        ForSome (I.left input.old) (λ left.
-        StepFailed (run_of image.now (cache_of S.service rom) program.now layout.now log telling limit left) result
-        (I.left input.new) (O.held out.old) (O.held out.new) (E.held err.old) (E.held err.new)) }
+        ForSome (I.state input.old).left (λ left.
+        StepBroke (run_of image.now (cache_of S.service rom) program.now layout.now log telling limit left) result
+        (I.state input.new).left (O.state out.old).held (O.state out.new).held (E.state err.old).held (E.state err.new).held
+        (faults_of (record { input = I.state input.old; output = O.state out.old; error = E.state err.old }))
+        (faults_of (record { input = I.state input.new; output = O.state out.new; error = E.state err.new }))) }
     ensures causes { HasCauses
-        (record {
-          ram = (R.state ram.old).faults;
-          input = I.faults input.old;
-          out = O.faults out.old;
-          err = E.faults err.old;
-        })
-        (record {
-          ram = (R.state ram.new).faults;
-          input = I.faults input.new;
-          out = O.faults out.new;
-          err = E.faults err.new;
-        }) result }
+        (faults_of (record { input = I.state input.old; output = O.state out.old; error = E.state err.old }))
+        (faults_of (record { input = I.state input.new; output = O.state out.new; error = E.state err.new }))
+        (IsErrOf result CachedStop.SourceFault) (IsErrOf result CachedStop.SinkFault) }
+    ensures ram_cause { DeviceCause (R.state ram.old).faults (R.state ram.new).faults (IsErrOf result CachedStop.RamFault) }
     // The program's run is the flat machine's, up to the first store into the text.
     ensures flat { (left : List ℕ) → IsFlatRun
         (run_of image.now (cache_of S.service rom) program.now layout.now log telling limit left) }

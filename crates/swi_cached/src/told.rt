@@ -5,7 +5,8 @@ ghost use Rattle.std.specs.Prelude.{◌≡◌, ◌⊎◌, ◌+◌, ◌-◌, ◌^
 ghost use Rattle.std.specs.Io.KnownBytes.{Appends};
 ghost use Rattle.std.specs.Option.{ForSome};
 ghost use Rattle.swi_outside.specs.CacheRam.{KeepsBeyond};
-ghost use Rattle.swi_outside.specs.Causes.{HasCause};
+ghost use Rattle.swi_outside.specs.Causes.{DeviceCause, HasCause};
+ghost use Rattle.swi_outside.specs.Devices.{HasCauses, faults_of};
 ghost use Rattle.swi_outside.specs.Sink.{AppendsPrefix};
 ghost use Rattle.swi_trace.specs.History.{IsLastOf};
 ghost use Rattle.swi_calls.specs.declared.machine.Machine.{Machine};
@@ -16,12 +17,12 @@ ghost use Rattle.swi_rom.specs.Record.{writes};
 ghost use Rattle.swi_rom.specs.Served.{SameFrom};
 ghost use Rattle.swi_hart.specs.Matching.{Fits, Matches};
 ghost use Rattle.swi_hart.specs.Calling.{OnDevice};
-ghost use Rattle.swi_hart.specs.Faults.{HasCauses};
 ghost use Rattle.swi_hart.specs.Hart.{is_between};
-ghost use Rattle.swi_board.specs.Ran.{RamRan};
+ghost use Rattle.swi_calls.specs.Held.{held_run};
+ghost use Rattle.swi_board.specs.Ran.{RamRan, Unasked};
 ghost use Rattle.swi_hart.specs.Bounds.{most};
 ghost use Rattle.swi_board.specs.Runs.{fetched_by};
-ghost use Rattle.swi_cached.specs.Told.{history_of, is_each, told_line};
+ghost use Rattle.swi_cached.specs.Told.{history_of, is_each, next_told, told_line};
 ghost use Rattle.swi_cached.specs.Traced.{ToldRun, ToldBroke, ToldRamBroke};
 
 use std::alloc::Global;
@@ -66,15 +67,16 @@ fn tell<E: Sink, S: CacheRom>(
     ensures word { board.now.hart.machine.pc < 2 ^ 32 }
     ensures count { IfOk result (λ n. n ≡ board.now.hart.machine.steps + 1) }
     ensures line { lines ≡ board.now.hart.machine.steps →
-        OnOk result (Appends (E.held err.old) (E.held err.new) (told_line (is_each telling) board.now.hart.machine)) }
-    ensures front { OnErr result (AppendsPrefix (E.held err.old) (E.held err.new)
+        OnOk result (Appends (E.state err.old).held (E.state err.new).held (told_line (is_each telling) board.now.hart.machine)) }
+    ensures front { OnErr result (AppendsPrefix (E.state err.old).held (E.state err.new).held
         (told_line (is_each telling) board.now.hart.machine)) }
     ensures noted { lines ≡ board.now.hart.machine.steps → (pushed : List ℕ) → IsLastOf pushed history.old →
         IsLastOf (pushed ++ board.now.hart.machine.pc ∷ []) history.new }
     ensures told { lines ≡ board.now.hart.machine.steps + 1 →
-        (E.held err.new ≡ E.held err.old) × (history.new ≡ history.old) }
+        ((E.state err.new).held ≡ (E.state err.old).held) × (history.new ≡ history.old) }
     ensures first { OnErr result (lines ≡ board.now.hart.machine.steps) }
-    ensures cause { HasCause (E.faults err.old) (E.faults err.new) result }
+    ensures asked { OnErr result (is_each telling ≡ true) }
+    ensures cause { HasCause (E.state err.old).faults (E.state err.new).faults result }
 {
     let (steps, a) = (board.steps(), board.origin_pc());
     if lines != steps {
@@ -110,13 +112,13 @@ pub(crate) fn run_steps<I: Source, O: Sink, E: Sink, R: CacheRam, S: CacheRom>(
     requires count { board.old.hart.count ≤ 2 ^ 55 }
     requires services { (S.service.kept board.old.rom).counts.services ≤ 2 ^ 49 }
     requires empty { history ≡ history_of telling [] }
-    ensures ran { IfOk result (λ told. ForSome (I.left input.old) (λ left. (f : Machine) →
+    ensures ran { IfOk result (λ told. ForSome (I.state input.old).left (λ left. (f : Machine) →
         Carries (fetched f.bus) image.now →
         Matches image.now (S.service.kept board.old.rom) f board.old.hart.machine board.old.hart.control →
         ToldRun telling (S.service.policy (S.service.setting board.old.rom)) image.now limit
         (started f left) board.old.hart (S.service.kept board.old.rom) board.new.hart (S.service.kept board.new.rom)
-        (I.left input.new)
-        (O.held out.old) (O.held out.new) (E.held err.old) (E.held err.new) told)) }
+        (I.state input.new).left
+        (O.state out.old).held (O.state out.new).held (E.state err.old).held (E.state err.new).held told)) }
     ensures count { OnOk result (board.new.hart.count + most image.now board.old.hart.machine board.old.hart.control
         ≤ board.old.hart.count + most image.now board.new.hart.machine board.new.hart.control) }
     ensures fits { OnOk result (Fits image.now (S.service.kept board.new.rom) board.new.hart) }
@@ -128,36 +130,34 @@ pub(crate) fn run_steps<I: Source, O: Sink, E: Sink, R: CacheRam, S: CacheRom>(
     ensures unfailed { OnOk result (board.new.hart.failed ≡ false) }
     ensures done { OnOk result ((board.new.hart.machine.steps ≡ limit)
         ⊎ (is_some board.new.hart.machine.ending ≡ true)) }
-    ensures settled { OnOk result (ForSome (I.left input.old) (λ left. is_between board.old.hart.control ≡ true →
+    ensures settled { OnOk result (ForSome (I.state input.old).left (λ left. is_between board.old.hart.control ≡ true →
         board.new.hart.machine.ending ≡ None → is_between board.new.hart.control ≡ true)) }
     ensures ram { OnOk result (RamRan (S.service.span (S.service.setting board.old.rom)) (fetched_by board.old.hart board.new.hart)
         (writes (S.service.kept board.new.rom) - writes (S.service.kept board.old.rom))
         (R.state ram.old) (R.state ram.new)) }
     ensures kept { KeepsBeyond (S.service.span (S.service.setting board.old.rom)) (R.state ram.old) (R.state ram.new) }
-    ensures broke { OnDevice result (ForSome (I.left input.old) (λ left. (f : Machine) →
+    ensures broke { OnDevice result (ForSome (I.state input.old).left (λ left. (f : Machine) →
         Carries (fetched f.bus) image.now →
         Matches image.now (S.service.kept board.old.rom) f board.old.hart.machine board.old.hart.control →
-        ToldBroke (is_each telling) result limit (started f left) board.old.hart board.new.hart (I.left input.new)
-        (O.held out.old) (O.held out.new) (E.held err.old) (E.held err.new))) }
-    ensures ram_broke { IsErrOf result BoardFault.RamFault → ForSome (I.left input.old) (λ left. (f : Machine) →
+        ToldBroke (is_each telling) result limit (started f left) board.old.hart board.new.hart (I.state input.new).left
+        (O.state out.old).held (O.state out.new).held (E.state err.old).held (E.state err.new).held)) }
+    ensures unasked { OnDevice result (ForSome (I.state input.old).left (λ left. (f : Machine) →
+        Carries (fetched f.bus) image.now →
+        Matches image.now (S.service.kept board.old.rom) f board.old.hart.machine board.old.hart.control →
+        Unasked (next_told (is_each telling) (held_run board.new.hart.machine.steps (started f left)))
+        (faults_of (record { input = I.state input.old; output = O.state out.old; error = E.state err.old }))
+        (faults_of (record { input = I.state input.new; output = O.state out.new; error = E.state err.new })))) }
+    ensures ram_broke { IsErrOf result BoardFault.RamFault → ForSome (I.state input.old).left (λ left. (f : Machine) →
         Carries (fetched f.bus) image.now →
         Matches image.now (S.service.kept board.old.rom) f board.old.hart.machine board.old.hart.control →
         ToldRamBroke (is_each telling) image.now limit (started f left) board.old.hart board.new.hart (R.state ram.old)
-        (R.state ram.new) (I.left input.new)
-        (O.held out.old) (O.held out.new) (E.held err.old) (E.held err.new)) }
+        (R.state ram.new) (I.state input.new).left
+        (O.state out.old).held (O.state out.new).held (E.state err.old).held (E.state err.new).held) }
     ensures causes { HasCauses
-        (record {
-          ram = (R.state ram.old).faults;
-          input = I.faults input.old;
-          out = O.faults out.old;
-          err = E.faults err.old;
-        })
-        (record {
-          ram = (R.state ram.new).faults;
-          input = I.faults input.new;
-          out = O.faults out.new;
-          err = E.faults err.new;
-        }) result }
+        (faults_of (record { input = I.state input.old; output = O.state out.old; error = E.state err.old }))
+        (faults_of (record { input = I.state input.new; output = O.state out.new; error = E.state err.new }))
+        (IsErrOf result BoardFault.SourceFault) (IsErrOf result BoardFault.SinkFault) }
+    ensures ram_cause { DeviceCause (R.state ram.old).faults (R.state ram.new).faults (IsErrOf result BoardFault.RamFault) }
 {
     let Some(mut last) = history else {
         board.run(image, ram, input, out, err, limit)?;

@@ -1,18 +1,19 @@
 -- What a system call does with the devices.
-use Rattle.std.proofs.Common.{◌≡◌, ℕ, Bool, true, false, List, [], ◌∷◌, ◌++◌, refl, ap, ◌∙◌, Option, Some, None, Result, Ok, Err, is_err, rules}
+use Rattle.std.proofs.Common.{◌≡◌, ℕ, Bool, true, false, List, [], ◌∷◌, ◌++◌, refl, ap, ◌∙◌, Option, Some, None, Result, Ok, Err, is_err, IsErrOf, rules}
 use Rattle.std.specs.Io.KnownBytes.{Appends}
 use Rattle.swi_outside.specs.Causes.{HasCause}
-use Rattle.swi_outside.specs.Sink.{AppendsPrefix}
+use Rattle.swi_outside.specs.Sink.{SinkState, AppendsPrefix}
+use Rattle.swi_outside.specs.Devices.{Devices, Faults, HasCauses}
+use Rattle.swi_outside.specs.Laws.{unmoved, named_as}
 use Rattle.swi_outside.specs.Laws.{Appends-none, Appends-append}
 use Rattle.swi_outside.proofs.SinkLemmas.{prefix_first, prefix_whole, prefix_last}
 use Rattle.swi_calls.specs.declared.end.CallFault.{CallFault}
-use Rattle.swi_calls.specs.declared.end.CallFault.TheVariants.{SinkFault}
+use Rattle.swi_calls.specs.declared.end.CallFault.TheVariants.{SourceFault, SinkFault}
 use Rattle.swi_calls.specs.declared.machine.Machine.{Machine}
 use Rattle.swi_calls.specs.declared.request.Called.{Called}
 use Rattle.swi_calls.specs.declared.request.Request.{Request}
 use Rattle.swi_calls.specs.Call.{answer_of, called, called_of, exchange_of_call, request_of, served, told, told_by}
-use Rattle.swi_calls.specs.Causes.{Faults, HasCauses}
-use Rattle.swi_calls.specs.Exchange.{Devices, Exchange, Exchanged}
+use Rattle.swi_calls.specs.Exchange.{Exchange, Exchanged}
 use Rattle.swi_calls.specs.Flat.{call_made, exchange_of}
 
 -- a sink that gained nothing has gained a prefix of anything
@@ -39,10 +40,11 @@ line_as P log r None c is h = rw is at h
 line_as P log r (Some v) c is h = rw is at h
 
 -- the same fault, whatever the call would have answered
-causes_as : {T U : Type 0} (f : CallFault) (d e : Faults) → HasCauses {T = T} d e (Err f) → HasCauses {T = U} d e (Err f)
-causes_as f d e h = search rules
+causes_as : {T U : Type 0} (f : CallFault) (d e : Faults) → HasCauses d e (IsErrOf {T = T} (Err f) SourceFault) (IsErrOf {T = T} (Err f) SinkFault) →
+    HasCauses d e (IsErrOf {T = U} (Err f) SourceFault) (IsErrOf {T = U} (Err f) SinkFault)
+causes_as f d e h = named_as h (λ n. cc) (λ n. cc) (λ n. cc) (λ n. cc)
 
-module _ (m : Machine) (d e : Devices) (p q : Faults) where
+module _ (m : Machine) (d e : Devices) where
   abbrev call_does : List ℕ → Exchange
   call_does left = exchange_of_call (served m.regs m.bus m.heap left)
 
@@ -53,37 +55,37 @@ module _ (m : Machine) (d e : Devices) (p q : Faults) where
   step_does left = exchange_of (call_made m left)
 
   -- the call failed
-  pub call_failed : {T U : Type 0} (f : CallFault) → Exchanged {T = T} call_does d e p q (Err f) → Exchanged {T = U} step_does d e p q (Err f)
+  pub call_failed : {T U : Type 0} (f : CallFault) → Exchanged {T = T} call_does d e (Err f) → Exchanged {T = U} step_does d e (Err f)
   unfolding called
   call_failed f h = search (rules, prefix_first, none_first, causes_as)
 
   -- it didn't, and its line, or a part of it, went to the errors
-  module _ {T : Type 0} (v : T) (x : Option (List ℕ)) (n : ℕ) (h : Exchanged call_does d e p q (Ok v)) (unasked : m.log ≡ false → (x ≡ e.error) × (n ≡ q.err)) where
-    line_unasked : (left : List ℕ) → (call_does left).error ++ line left ≡ [] → (x ≡ d.error) × (n ≡ p.err)
+  module _ {T : Type 0} (v : T) (x : SinkState) (h : Exchanged call_does d e (Ok v)) (unasked : m.log ≡ false → x ≡ e.error) where
+    line_unasked : (left : List ℕ) → (call_does left).error ++ line left ≡ [] → x ≡ d.error
     line_unasked left none =
         let first = h.unasked_error left (none_first (call_does left).error (line left) none) in
         let last = unasked (no_line m.log (request_of m.regs) (served m.regs m.bus m.heap left).answer (none_last (call_does left).error (line left) none)) in
-        (last.0 ∙ first.0, last.1 ∙ first.1)
+        last ∙ first
 
-    pub line_failed : {U V : Type 0} (t : Result V U) → is_err t ≡ true → ((left : List ℕ) → d.input ≡ Some left → AppendsPrefix e.error x (line left)) →
-        HasCause q.err n t → Exchanged {T = Unit {0}} step_does d (record e { error = x }) p (record q { err = n }) (Err SinkFault)
+    pub line_failed : {U V : Type 0} (t : Result V U) → is_err t ≡ true → ((left : List ℕ) → d.input.left ≡ Some left → AppendsPrefix e.error.held x.held (line left)) →
+        HasCause e.error.faults x.faults t → Exchanged {T = Unit {0}} step_does d (record e { error = x }) (Err SinkFault)
     unfolding called
     line_failed (Ok u) failed gained cause = cc
     line_failed (Err f) failed gained cause = record {
       input = tt;
       output = tt;
       error = tt;
-      output_prefix = λ left told. prefix_whole d.output e.output (call_does left).output (h.output left told);
-      error_prefix = λ left told. prefix_last d.error e.error x (call_does left).error (line left) (h.error left told) (gained left told);
+      output_prefix = λ left told. prefix_whole d.output.held e.output.held (call_does left).output (h.output left told);
+      error_prefix = λ left told. prefix_last d.error.held e.error.held x.held (call_does left).error (line left) (h.error left told) (gained left told);
       failed_input = λ other. let never : ⊥ = cc in absurd never;
-      failed_output = λ rose. absurd (rose (ap (λ (f : Faults). f.out) h.causes.quiet));
+      failed_output = λ rose. absurd (rose (ap (λ (f : Faults). f.output) (unmoved h.causes (λ e. cc) (λ e. cc))));
       failed_error = λ rose. h.output;
       unasked_output = h.unasked_output;
       unasked_error = line_unasked;
       causes = search rules;
     }
 
-    pub line_told : n ≡ q.err → ((left : List ℕ) → d.input ≡ Some left → Appends e.error x (line left)) →
-        Exchanged {T = Unit {0}} step_does d (record e { error = x }) p (record q { err = n }) (Ok tt)
+    pub line_told : x.faults ≡ e.error.faults → ((left : List ℕ) → d.input.left ≡ Some left → Appends e.error.held x.held (line left)) →
+        Exchanged {T = Unit {0}} step_does d (record e { error = x }) (Ok tt)
     unfolding called
     line_told same gained = search (rules, Appends-append, line_unasked)

@@ -84,22 +84,20 @@ impl Machine {
         err: &mut E,
     ) -> Result<(), CallFault>
         requires few { self.old.steps < 2 ^ 48 }
-        ensures machine { OnOk result (ForSome (I.left input.old) (λ left.
+        ensures machine { OnOk result (ForSome (I.state input.old).left (λ left.
             self.new ≡ (call_made self.old left).machine)) }
         ensures counted { OnOk result (self.new.steps ≡ self.old.steps + 1) }
         ensures goes_on { OnOk result (self.new.ending ≡ None → self.new.pc ≡ (self.old.pc + 4) % 2 ^ 32) }
         ensures aligned { self.old.pc % 4 ≡ 0 → self.new.pc % 4 ≡ 0 }
         ensures stays { OnErr result (self.new ≡ record self.old { bus = self.new.bus }) }
         ensures moved { (k : ℕ) × (k ≤ room_of_call self.old.regs self.old.bus) ×
-            ReadsInto self.old.bus self.new.bus (I.left input.old) (I.left input.new)
+            ReadsInto self.old.bus self.new.bus (I.state input.old).left (I.state input.new).left
             (second_argument self.old.regs) k }
         ensures text { read_into_text self.old.regs self.old.bus ≡ None → (a : ℕ) →
             fetched self.new.bus a ≡ fetched self.old.bus a }
         ensures devices { Exchanged (λ left. exchange_of (call_made self.old left))
-            (record { input = I.left input.old; output = O.held out.old; error = E.held err.old })
-            (record { input = I.left input.new; output = O.held out.new; error = E.held err.new })
-            (record { input = I.faults input.old; out = O.faults out.old; err = E.faults err.old })
-            (record { input = I.faults input.new; out = O.faults out.new; err = E.faults err.new }) result }
+            (record { input = I.state input.old; output = O.state out.old; error = E.state err.old })
+            (record { input = I.state input.new; output = O.state out.new; error = E.state err.new }) result }
     {
         let request = Request::of(&self.regs);
         let called = serve(request, &mut self.bus, self.heap, input, out, err)?;

@@ -2,9 +2,9 @@
 #![tactic(auto)]
 
 ghost use Rattle.std.specs.Prelude.{◌≡◌, ◌≤◌, ◌<◌, ◌+◌, ℕ, true, IfOk, OnOk, OnErr, length, []};
-ghost use Rattle.std.specs.Io.KnownBytes.{Appends, IsAtEnd};
+ghost use Rattle.std.specs.Io.KnownBytes.{IsAtEnd};
 ghost use Rattle.swi_outside.specs.Causes.{HasCause};
-ghost use Rattle.swi_outside.specs.Sink.{AppendsPrefix};
+ghost use Rattle.swi_outside.specs.Sink.{WasWritten};
 ghost use Rattle.swi_memory.specs.declared.right.Right.TheVariants.{Read, Write};
 ghost use Rattle.swi_memory.specs.Bus.{holds, bytes_at, with_bytes};
 ghost use Rattle.swi_calls.specs.Moves.{ReadsInto};
@@ -40,11 +40,11 @@ fn read_piece<I: Source>(
     requires held { holds bus.old Write a count ≡ true }
     requires more { done < count }
     ensures within { IfOk result (λ k. done + k ≤ count) }
-    ensures reads { IfOk result (λ k. ReadsInto bus.old bus.new (I.left input.old) (I.left input.new) (a + done) k) }
-    ensures at_end { IfOk result (λ k. k ≡ 0 → IsAtEnd (I.left input.new)) }
+    ensures reads { IfOk result (λ k. ReadsInto bus.old bus.new (I.state input.old).left (I.state input.new).left (a + done) k) }
+    ensures at_end { IfOk result (λ k. k ≡ 0 → IsAtEnd (I.state input.new).left) }
     ensures held_still { holds bus.new Write a count ≡ true }
-    ensures failed { OnErr result (ReadsInto bus.old bus.new (I.left input.old) (I.left input.new) (a + done) 0) }
-    ensures cause { HasCause (I.faults input.old) (I.faults input.new) result }
+    ensures failed { OnErr result (ReadsInto bus.old bus.new (I.state input.old).left (I.state input.new).left (a + done) 0) }
+    ensures cause { HasCause (I.state input.old).faults (I.state input.new).faults result }
 {
     let mut piece = [0u8; PIECE];
     let room = (count - done).min(PIECE as u32) as usize;
@@ -62,11 +62,11 @@ pub(crate) fn read_into<I: Source>(
 ) -> Result<u32, Failed>
     requires held { holds bus.old Write a count ≡ true }
     ensures within { IfOk result (λ k. k ≤ count) }
-    ensures reads { IfOk result (λ k. ReadsInto bus.old bus.new (I.left input.old) (I.left input.new) a k) }
-    ensures at_end { IfOk result (λ k. k < count → IsAtEnd (I.left input.new)) }
+    ensures reads { IfOk result (λ k. ReadsInto bus.old bus.new (I.state input.old).left (I.state input.new).left a k) }
+    ensures at_end { IfOk result (λ k. k < count → IsAtEnd (I.state input.new).left) }
     ensures failed { OnErr result ((k : ℕ) × (k ≤ count)
-        × ReadsInto bus.old bus.new (I.left input.old) (I.left input.new) a k) }
-    ensures cause { HasCause (I.faults input.old) (I.faults input.new) result }
+        × ReadsInto bus.old bus.new (I.state input.old).left (I.state input.new).left a k) }
+    ensures cause { HasCause (I.state input.old).faults (I.state input.new).faults result }
 {
     let mut done = 0;
     while done < count {
@@ -94,11 +94,8 @@ fn piece_at(bus: &Bus, a: u32, count: u32, done: u32) -> &[u8]
 /// Writes `count` bytes of memory from `a` on to the sink, in pieces that end where a segment or region does.
 pub(crate) fn write_from<S: Sink>(bus: &Bus, a: u32, count: u32, sink: &mut S) -> Result<(), Failed>
     requires held { holds bus.now Read a count ≡ true }
-    ensures ok { OnOk result (Appends (S.held sink.old) (S.held sink.new) (bytes_at bus.now a count)) }
-    ensures prefix { OnErr result (AppendsPrefix (S.held sink.old) (S.held sink.new) (bytes_at bus.now a count)) }
-    ensures unasked { bytes_at bus.now a count ≡ [] → (S.held sink.new ≡ S.held sink.old)
-        × (S.faults sink.new ≡ S.faults sink.old) }
-    ensures cause { HasCause (S.faults sink.old) (S.faults sink.new) result }
+    ensures written { WasWritten (S.state sink.old) (S.state sink.new) result (bytes_at bus.now a count) }
+    ensures unasked { bytes_at bus.now a count ≡ [] → S.state sink.new ≡ S.state sink.old }
 {
     let mut done = 0;
     while done < count {

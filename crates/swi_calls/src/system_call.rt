@@ -5,7 +5,7 @@ ghost use Rattle.std.specs.Prelude.{◌≡◌, ◌≤◌, ℕ, Some, [], IfOk, I
 ghost use Rattle.std.specs.Option.{ForSome};
 ghost use Rattle.std.specs.Io.KnownBytes.{Appends};
 ghost use Rattle.swi_outside.specs.Causes.{HasCause};
-ghost use Rattle.swi_outside.specs.Sink.{AppendsPrefix, WritesPiece};
+ghost use Rattle.swi_outside.specs.Sink.{AppendsPrefix, WasWritten};
 ghost use Rattle.swi_calls.specs.Call.{IsServed, answer_of, brk_heap, exchange_of_call, heap_by, read_room, read_served, room_by, served_by, told_by, write_answer, written};
 ghost use Rattle.swi_calls.specs.Exchange.{Exchanged};
 ghost use Rattle.swi_calls.specs.Moves.{ReadsInto};
@@ -39,16 +39,16 @@ const UNKNOWN_CALL: u32 = u32::MAX - 37;
 
 /// read(descriptor, buffer, count), which takes bytes of the input.
 fn read<I: Source>(request: Request, bus: &mut Bus, input: &mut I) -> Result<u32, CallFault>
-    ensures answered { IfOk result (λ v. ForSome (I.left input.old) (λ left.
+    ensures answered { IfOk result (λ v. ForSome (I.state input.old).left (λ left.
         Some v ≡ (read_served request.first request.second request.third bus.old left).answer)) }
-    ensures bus { OnOk result (ForSome (I.left input.old) (λ left.
+    ensures bus { OnOk result (ForSome (I.state input.old).left (λ left.
         bus.new ≡ (read_served request.first request.second request.third bus.old left).bus)) }
-    ensures input { OnOk result (ForSome (I.left input.old) (λ left.
-        I.left input.new ≡ Some (read_served request.first request.second request.third bus.old left).input)) }
+    ensures input { OnOk result (ForSome (I.state input.old).left (λ left.
+        (I.state input.new).left ≡ Some (read_served request.first request.second request.third bus.old left).input)) }
     ensures moved { (k : ℕ) × (k ≤ read_room request.first request.second request.third bus.old)
-        × ReadsInto bus.old bus.new (I.left input.old) (I.left input.new) request.second k }
+        × ReadsInto bus.old bus.new (I.state input.old).left (I.state input.new).left request.second k }
     ensures fault { IfErr result (λ fault. fault ≡ CallFault.SourceFault) }
-    ensures cause { HasCause (I.faults input.old) (I.faults input.new) result }
+    ensures cause { HasCause (I.state input.old).faults (I.state input.new).faults result }
 {
     if request.first != 0 {
         return Ok(BAD_DESCRIPTOR);
@@ -63,12 +63,11 @@ fn read<I: Source>(request: Request, bus: &mut Bus, input: &mut I) -> Result<u32
 fn write<S: Sink>(request: Request, bus: &Bus, sink: &mut S) -> Result<u32, CallFault>
     ensures answered { IfOk result (λ v. v ≡ write_answer request.second request.third bus.now) }
     ensures bytes { MatchResult result
-        (λ _. Appends (S.held sink.old) (S.held sink.new) (written request.second request.third bus.now))
-        (λ _. AppendsPrefix (S.held sink.old) (S.held sink.new) (written request.second request.third bus.now)) }
-    ensures unasked { written request.second request.third bus.now ≡ [] → (S.held sink.new ≡ S.held sink.old)
-        × (S.faults sink.new ≡ S.faults sink.old) }
+        (λ _. Appends (S.state sink.old).held (S.state sink.new).held (written request.second request.third bus.now))
+        (λ _. AppendsPrefix (S.state sink.old).held (S.state sink.new).held (written request.second request.third bus.now)) }
+    ensures unasked { written request.second request.third bus.now ≡ [] → S.state sink.new ≡ S.state sink.old }
     ensures fault { IfErr result (λ fault. fault ≡ CallFault.SinkFault) }
-    ensures cause { HasCause (S.faults sink.old) (S.faults sink.new) result }
+    ensures cause { HasCause (S.state sink.old).faults (S.state sink.new).faults result }
 {
     if !bus.readable(request.second, request.third) {
         return Ok(BAD_ADDRESS);
@@ -109,15 +108,13 @@ pub(crate) fn serve<I: Source, O: Sink, E: Sink>(
     out: &mut O,
     err: &mut E,
 ) -> Result<Called, CallFault>
-    ensures served { IfOk result (λ called. ForSome (I.left input.old) (λ left.
+    ensures served { IfOk result (λ called. ForSome (I.state input.old).left (λ left.
         IsServed request (served_by request bus.old heap left) called bus.new)) }
     ensures moved { (k : ℕ) × (k ≤ room_by request bus.old)
-        × ReadsInto bus.old bus.new (I.left input.old) (I.left input.new) request.second k }
+        × ReadsInto bus.old bus.new (I.state input.old).left (I.state input.new).left request.second k }
     ensures devices { Exchanged (λ left. exchange_of_call (served_by request bus.old heap left))
-        (record { input = I.left input.old; output = O.held out.old; error = E.held err.old })
-        (record { input = I.left input.new; output = O.held out.new; error = E.held err.new })
-        (record { input = I.faults input.old; out = O.faults out.old; err = E.faults err.old })
-        (record { input = I.faults input.new; out = O.faults out.new; err = E.faults err.new }) result }
+        (record { input = I.state input.old; output = O.state out.old; error = E.state err.old })
+        (record { input = I.state input.new; output = O.state out.new; error = E.state err.new }) result }
 {
     match request.number {
         READ => Ok(Called::Returned(read(request, bus, input)?)),
@@ -170,9 +167,8 @@ pub(crate) fn tell<E: Sink>(
     called: Called,
     err: &mut E,
 ) -> Result<(), Failed>
-    ensures bytes { WritesPiece (E.held err.old) (E.held err.new) result (told_by log request (answer_of called)) }
-    ensures unasked { log ≡ false → (E.held err.new ≡ E.held err.old) × (E.faults err.new ≡ E.faults err.old) }
-    ensures cause { HasCause (E.faults err.old) (E.faults err.new) result }
+    ensures written { WasWritten (E.state err.old) (E.state err.new) result (told_by log request (answer_of called)) }
+    ensures unasked { log ≡ false → E.state err.new ≡ E.state err.old }
 {
     if log {
         err.write(call_line(request, called).as_bytes())

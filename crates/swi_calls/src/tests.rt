@@ -362,9 +362,7 @@ struct Trickle<'a> {
 }
 
 impl Source for Trickle<'_> {
-    ghost left = { λ _. None };
-
-    ghost faults = { λ s. s.faults };
+    ghost state = { λ s. record { left = None; faults = s.faults } };
 
     fn read(&mut self, buf: &mut [u8]) -> Result<usize, Failed> {
         let count = buf.len().min(self.most).min(self.rest.len());

@@ -137,19 +137,17 @@ impl Flat {
         requires going { self.old.machine.ending ≡ None }
         requires few { self.old.machine.steps < 2 ^ 48 }
         requires unfailed { self.old.failed ≡ false }
-        ensures machine { OnOk result (ForSome (I.left input.old) (λ left.
+        ensures machine { OnOk result (ForSome (I.state input.old).left (λ left.
             self.new ≡ unfailed (made self.old.machine left).machine)) }
         ensures counted { OnOk result (self.new.machine.steps ≡ self.old.machine.steps + 1) }
         ensures failed { self.new.failed ≡ is_err result }
         ensures stays { OnErr result (self.new ≡ stopped self.old.machine self.new.machine.bus) }
         ensures moved { OnErr result ((k : ℕ) × (k ≤ room_of_call self.old.machine.regs self.old.machine.bus) ×
-            ReadsInto self.old.machine.bus self.new.machine.bus (I.left input.old) (I.left input.new)
+            ReadsInto self.old.machine.bus self.new.machine.bus (I.state input.old).left (I.state input.new).left
             (second_argument self.old.machine.regs) k) }
         ensures devices { Exchanged (λ left. exchange_of (made self.old.machine left))
-            (record { input = I.left input.old; output = O.held out.old; error = E.held err.old })
-            (record { input = I.left input.new; output = O.held out.new; error = E.held err.new })
-            (record { input = I.faults input.old; out = O.faults out.old; err = E.faults err.old })
-            (record { input = I.faults input.new; out = O.faults out.new; err = E.faults err.new }) result }
+            (record { input = I.state input.old; output = O.state out.old; error = E.state err.old })
+            (record { input = I.state input.new; output = O.state out.new; error = E.state err.new }) result }
     {
         let machine = &mut self.machine;
         let Some(word) = machine.bus.fetch(machine.pc) else {
@@ -206,10 +204,8 @@ impl Flat {
         requires few { limit ≤ 2 ^ 48 }
         requires unfailed { self.old.failed ≡ false }
         ensures { Ran self.old.machine limit self.new
-            (record { input = I.left input.old; output = O.held out.old; error = E.held err.old })
-            (record { input = I.left input.new; output = O.held out.new; error = E.held err.new })
-            (record { input = I.faults input.old; out = O.faults out.old; err = E.faults err.old })
-            (record { input = I.faults input.new; out = O.faults out.new; err = E.faults err.new }) result }
+            (record { input = I.state input.old; output = O.state out.old; error = E.state err.old })
+            (record { input = I.state input.new; output = O.state out.new; error = E.state err.new }) result }
     {
         while self.machine.steps < limit && self.machine.ending.is_none() {
             advance(&mut self.machine, limit);

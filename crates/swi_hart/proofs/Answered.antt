@@ -1,9 +1,8 @@
 -- A step that the ram broke off.
-use Rattle.std.proofs.Common.{◌≡◌, ℕ, List, Err, refl, sym, ap, ◌∙◌}
+use Rattle.std.proofs.Common.{◌≡◌, ℕ, List, Err, refl, sym, ap, ◌∙◌, inr}
 use Rattle.swi_memory.specs.Bus.{AreaData}
 use Rattle.swi_outside.specs.CacheRam.{RamState}
-use Rattle.swi_calls.specs.Causes as calls
-use Rattle.swi_calls.specs.Exchange.{Devices}
+use Rattle.swi_outside.specs.Devices.{Devices}
 use Rattle.swi_image.specs.Format.{ImageData}
 use Rattle.swi_rom.specs.Service.{Setting}
 use Rattle.swi_rom.specs.Record.{Record, Transfer}
@@ -12,12 +11,12 @@ use Rattle.swi_hart.specs.Hart.{HartData}
 use Rattle.swi_hart.specs.Calling.{with_memory}
 use Rattle.swi_hart.specs.Leaving.{RamBroken, broken}
 use Rattle.swi_hart.specs.MachineStep.{BoardState, MachineStepped}
-use Rattle.swi_hart.proofs.Causing.{causes_ram}
+use Rattle.swi_hart.proofs.Causing.{ram_causes}
 
-pub ram_stopped : {policy : Setting → Record → ImageData → Transfer → Record} {extent : Setting → Record → ℕ} {span : Setting → ℕ} {v : ImageData} {WasSound IsSound : Type 0} (s : BoardState) (d : Devices) (f : calls.Faults)
+pub ram_stopped : {policy : Setting → Record → ImageData → Transfer → Record} {extent : Setting → Record → ℕ} {span : Setting → ℕ} {v : ImageData} {WasSound IsSound : Type 0} (s : BoardState) (d : Devices)
     (h' : HartData) (kept' : Record) (setting' : Setting) (ram' : RamState) → h' ≡ broken s.hart → setting' ≡ s.setting → RamBroken v s.hart.machine s.hart.control (span s.setting) s.ram ram' →
-    MachineStepped policy extent span v WasSound IsSound s (record s { hart = h'; kept = kept'; setting = setting'; ram = ram' }) d d f f (Err RamFault)
-ram_stopped s d f h' kept' setting' ram' is stays failed = record {
+    MachineStepped policy extent span v WasSound IsSound s (record s { hart = h'; kept = kept'; setting = setting'; ram = ram' }) d d (Err RamFault)
+ram_stopped s d h' kept' setting' ram' is stays failed = record {
   made = λ sound. tt;
   fits = λ sound. tt;
   counted = tt;
@@ -30,9 +29,13 @@ ram_stopped s d f h' kept' setting' ram' is stays failed = record {
   grown = λ sound. tt;
   stopped = is ∙ ap (λ (bus : List AreaData). broken (with_memory s.hart bus)) (sym (ap (λ (h : HartData). h.machine.bus) is));
   broke = λ sound. tt;
+  call = tt;
+  unserved = tt;
+  unmoved = λ e. is;
   unwritten = λ e. absurd (cc);
-  others_stay = λ e. (refl, (refl, refl));
+  others_stay = λ e. refl;
   ram_failed = λ e. failed;
   kept = failed.kept;
-  causes = causes_ram s.ram.faults ram'.faults f.input f.out f.err failed.later failed.rose;
+  causes = ram_causes refl;
+  ram_cause = record { later = failed.later; cause = λ e. failed.rose; told = inr refl };
 }

@@ -100,6 +100,15 @@ leave_at v r words m w i b o stage home at block got four = record {
 }
 
 -- where the service was not called
+pub ram_none : (span : ℕ) (ram : RamState) → RamServed span 0 ram ram
+ram_none span ram = record {
+  quiet = refl;
+  fetches_stay = refl;
+  last_stays = refl;
+  sets_rise = grind arith;
+  kept = record { same_length = refl; beyond = λ i le. refl; reached = grind arith };
+}
+
 pub ram_same : (span : ℕ) (r : Record) (ram : RamState) → RamServed span (writes r - writes r) ram ram
 ram_same span r ram = record {
   quiet = refl;

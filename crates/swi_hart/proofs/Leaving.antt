@@ -79,7 +79,7 @@ module _ {policy : Setting → Record → ImageData → Transfer → Record} {ex
     unused = tt;
     words = tt;
     ram = tt;
-    failed = record { rose = d.failed refl; later = d.spared.later; fetches_stay = d.spared.fetches_stay; kept = beyond d.spared };
+    failed = record { rose = d.failed refl; later = d.spared.later; fetches_stay = d.spared.fetches_stay; last_stays = d.spared.last_stays; kept = beyond d.spared };
     placed = λ none. let e : ◌≡◌ {A = Result ℕ RomStop} (Err RamFault) (Err Outside) = d.only_outside none in cc;
   }
 

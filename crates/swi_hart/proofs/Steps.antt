@@ -1,7 +1,8 @@
 -- Steps at exits and at other words, for the hart.
-use Rattle.std.proofs.Common.{if◌then◌else◌, ◌≡◌, ◌==◌, ℕ, ◌+◌, ◌-◌, ◌^◌, ◌<◌, ◌≤◌, max, Bool, Option, Some, None, List, [], length, slice_index, refl, sym, ap, subst, ◌∙◌, inl, inr, arith}
+use Rattle.std.proofs.Common.{if◌then◌else◌, ◌≡◌, ◌⊎◌, ◌==◌, ℕ, ◌+◌, ◌-◌, ◌^◌, ◌<◌, ◌≤◌, max, Bool, true, Option, Some, None, List, [], length, slice_index, refl, sym, ap, subst, ◌∙◌, inl, inr, arith}
 use Rattle.std.proofs.lemmas.Bool.{false≢true}
 use Rattle.swi_isa.specs.declared.instr.Instr.{Instr}
+use Rattle.swi_isa.specs.declared.instr.Instr.TheVariants as instr
 use Rattle.swi_outside.specs.CacheRam.{RamState, KeepsBeyond}
 use Rattle.swi_outside.specs.Causes.{Rose, counted, risen}
 use Rattle.swi_calls.specs.StoresText.{text_store_of}
@@ -18,14 +19,14 @@ use Rattle.swi_hart.specs.declared.hart.Stage.TheVariants.{Start}
 use Rattle.swi_hart.specs.declared.hart.Role.{Role}
 use Rattle.swi_hart.specs.declared.hart.Control.{Control}
 use Rattle.swi_hart.specs.declared.hart.Control.TheVariants.{At, Outside}
-use Rattle.swi_hart.specs.Hart.{HartData, Stepped, word_stepped, call_stepped, original, exit_kind}
+use Rattle.swi_hart.specs.Hart.{HartData, Stepped, word_stepped, call_stepped, original, exit_kind, is_between}
 use Rattle.swi_hart.specs.Matching.{ExitStep, HomeStep, BoardStep, Fits}
 use Rattle.swi_calls.specs.Call.{room_of_call}
 use Rattle.swi_memory.specs.Bus.{AreaData}
 use Rattle.swi_outside.specs.Sink.{AppendsPrefix}
 use Rattle.swi_hart.specs.Calling.{Did, Made, WordWent, Called, Moved, BrokenStep}
 use Rattle.swi_hart.proofs.Taking.{taken_few}
-use Rattle.swi_hart.specs.Leaving.{ExitHome, WordHome, Counted, quick_role, step_to, exit_transfer, transfer_at, HasPlace, RamServed, RamFailed, RamStepped, RamBroken}
+use Rattle.swi_hart.specs.Leaving.{ExitHome, WordHome, Counted, quick_role, step_to, exit_transfer, transfer_at, last_after, HasPlace, RamServed, RamFailed, RamStepped, RamBroken}
 use Rattle.swi_hart.proofs.Fetching.{at_exit_step, at_word_step, exit_test, counted_hart, did_quiet}
 use Rattle.swi_hart.proofs.Midway.{at_exit}
 use Rattle.swi_hart.proofs.Kept.{fits_step, fits_call}
@@ -84,7 +85,15 @@ broken_word v r h bus i b o stage control x role left left' out out' err err' w 
   input = moved.2.consumed;
   few = subst (λ (s : Stepped). length moved.2.bytes + length s.made.input ≤ length left) (sym (asked left))
       (taken_few h.machine left moved.2.bytes left' (subst (λ n. n ≤ room_of_call h.machine.regs h.machine.bus) (sym moved.2.number) moved.1) moved.2.consumed);
+  calls = ap (λ (s : Stepped). s.made) (asked left);
 }
+
+-- a system call comes between two instructions
+pub between_call : (v : ImageData) (m : Machine) (c : Control) (i b o : ℕ) (stage : Stage) → c ≡ At i b o stage → (x : Instr) →
+    ((w : WordHome v m b o stage) × (w.instruction ≡ x)) → x ≡ instr.Ecall → is_between c ≡ true
+between_call v m c i b o stage control x w call =
+    let first = (w.0.goes (w.1 ∙ call)).0 in
+    ap (λ (k : Control). is_between k) control ∙ ap (λ (k : Stage). is_between (At i b o k)) first
 
 -- what a fetch and then a call of the service leave alone
 pub kept_after : (span i : ℕ) (first before after : RamState) → i < span → before ≡ record first { fetches = counted first.fetches; reach = max first.reach (i + 1); last = i } → KeepsBeyond span before after → KeepsBeyond span first after
@@ -104,7 +113,7 @@ ram_unfetched v m c span i b o stage first after control below failed = record {
   inside = λ e. (let k : At i b o stage ≡ Outside = sym control ∙ e in cc);
   rose = failed.0;
   later = failed.1;
-  fetches = inl (ap (λ (k : RamState). k.fetches) failed.2);
+  asked = inl (failed.2 ∙ ap (λ (n : ℕ). record first { faults = after.faults; reach = n }) (sym (ap (λ (k : RamState). k.reach) failed.2)));
   kept = record {
     same_length = ap (λ (k : RamState). length k.words) failed.2;
     beyond = λ n le. ap (λ (k : RamState). slice_index k.words n) failed.2;
@@ -122,9 +131,21 @@ ram_unserved v m c span i b o stage first before after control below fetched fai
   inside = λ e. (let k : At i b o stage ≡ Outside = sym control ∙ e in cc);
   rose = subst (λ n. Rose n after.faults) (ap (λ (k : RamState). k.faults) fetched) failed.rose;
   later = subst (λ n. n ≤ after.faults) (ap (λ (k : RamState). k.faults) fetched) failed.later;
-  fetches = inr (failed.fetches_stay ∙ ap (λ (k : RamState). k.fetches) fetched, placed);
+  asked = inr ((failed.fetches_stay ∙ ap (λ (k : RamState). k.fetches) fetched, failed.last_stays ∙ last), placed);
   kept = kept_after span i first before after below fetched failed.kept;
 }
+  where
+    last : before.last ≡ last_after c first.last
+    last = ap (λ (k : RamState). k.last) fetched ∙ sym (ap (λ (k : Control). last_after k first.last) control)
+
+-- how many words such a ram has fetched
+pub ram_fetches : {v : ImageData} {m : Machine} {c : Control} {span : ℕ} {before after : RamState} → RamBroken v m c span before after →
+    (after.fetches ≡ before.fetches) ⊎ ((after.fetches ≡ counted before.fetches) × HasPlace v (transfer_at v m c))
+ram_fetches {v} {m} {c} {span} {before} {after} broken =
+    elim broken.asked [
+      | inl failed ↦ inl (ap (λ (k : RamState). k.fetches) failed)
+      | inr made ↦ inr (made.0.0, made.1)
+    ]
 
 -- the ram after a fetch and a call of the service
 pub ram_exit : (span more : ℕ) (i b o : ℕ) (stage : Stage) (c : Control) (first before after : RamState) → c ≡ At i b o stage → i < span → before ≡ record first { fetches = counted first.fetches; reach = max first.reach (i + 1); last = i } → RamServed span more before after →

@@ -1,5 +1,5 @@
 -- What a word leaves that asks for a system call. Own rule.
-use Rattle.std.specs.Prelude.{◌≡◌, ◌⊎◌, ℕ, ◌+◌, ◌≤◌, ◌<◌, ◌^◌, List, [], length, Option, Some, None, Result, Ok, Err, OnOk, OnErr, ⊤}
+use Rattle.std.specs.Prelude.{◌≡◌, ◌⊎◌, ℕ, ◌+◌, ◌≤◌, ◌<◌, ◌^◌, true, List, [], length, Option, Some, None, Result, Ok, Err, OnOk, OnErr, ⊤}
 use Rattle.std.specs.Option.{ForSome}
 use Rattle.std.specs.Io.KnownBytes.{Appends, Consumes}
 use Rattle.swi_outside.specs.Sink.{AppendsPrefix}
@@ -10,10 +10,10 @@ use Rattle.swi_exec.specs.Arithmetic.{sum_of}
 use Rattle.swi_calls.specs.Call.{room_of_call, second_argument}
 use Rattle.swi_isa.specs.declared.instr.Instr.{Instr}
 use Rattle.swi_isa.specs.declared.instr.Instr.TheVariants as instr
-use Rattle.swi_calls.specs.Causes.{Faults}
 use Rattle.swi_calls.specs.declared.end.CallFault.{CallFault}
-use Rattle.swi_calls.specs.Exchange.{Devices, Exchanged}
-use Rattle.swi_calls.specs.Flat.{exchange_of}
+use Rattle.swi_outside.specs.Devices.{Devices}
+use Rattle.swi_calls.specs.Exchange.{Exchanged}
+use Rattle.swi_calls.specs.Flat.{call_made, exchange_of}
 use Rattle.swi_calls.specs.StoresText.{text_store_of}
 use Rattle.swi_calls.specs.Moves.{ReadsInto}
 use Rattle.swi_calls.specs.declared.machine.Machine.{Machine}
@@ -23,7 +23,7 @@ use Rattle.swi_hart.specs.declared.hart.Control.TheVariants.{At}
 use Rattle.swi_image.specs.Format.{ImageData}
 use Rattle.swi_rom.specs.Record.{Record}
 use Rattle.swi_hart.specs.Matching.{BoardStep}
-use Rattle.swi_hart.specs.Hart.{HartData, Stepped, hart_after, behind, call_stepped}
+use Rattle.swi_hart.specs.Hart.{HartData, Stepped, hart_after, behind, call_stepped, is_between}
 
 -- where control is after a call, whatever was read
 pub record Called (i b o : ℕ) (stage : Stage) (h h' : HartData) : Type 0 where
@@ -66,11 +66,11 @@ pub record QuietWord (word : List ℕ → Stepped) (h h' : HartData) : Type 0 wh
   pub error : (input : List ℕ) → (word input).made.error ≡ []
 
 -- a word that leads to this step, by the answer: it was executed, or a device broke it off and only the memory can have changed
-pub record WordExecuted {T : Type 0} (word : List ℕ → Stepped) (h h' : HartData) (before after : Devices) (faults faults_after : Faults)
+pub record WordExecuted {T : Type 0} (word : List ℕ → Stepped) (h h' : HartData) (before after : Devices)
     (result : Result T CallFault) : Type 0 where
-  pub hart : OnOk result (ForSome before.input (λ left. h' ≡ hart_after h (word left)))
+  pub hart : OnOk result (ForSome before.input.left (λ left. h' ≡ hart_after h (word left)))
   pub stays : OnErr result (h' ≡ with_memory h h'.machine.bus)
-  pub devices : Exchanged (λ left. exchange_of (word left).made) before after faults faults_after result
+  pub devices : Exchanged (λ left. exchange_of (word left).made) before after result
 
 -- How control went on from a word, whatever was read: as the word says, or over a system call that reads into no text.
 abbrev pub WordWent : Instr → (List ℕ → Stepped) → (List ℕ → Stepped) → ℕ → ℕ → ℕ → Stage → HartData → HartData → Option (List ℕ) → Option (List ℕ) → Type 0
@@ -82,11 +82,12 @@ WordWent x word call i b o stage h h' left left' =
 -- a word at this place that leads to this step, by the answer: how control went on from it; and a device breaks off only a system call,
 -- of which a front of the buffer may be filled
 pub record WordStepped {T : Type 0} (x : Instr) (i b o : ℕ) (stage : Stage) (word : List ℕ → Stepped) (h h' : HartData)
-    (before after : Devices) (faults faults_after : Faults) (result : Result T CallFault) : Type 0 where
-  pub executed : WordExecuted word h h' before after faults faults_after result
-  pub went : OnOk result (WordWent x word (λ left. call_stepped i b o stage h.machine left) i b o stage h h' before.input after.input)
+    (before after : Devices) (result : Result T CallFault) : Type 0 where
+  pub executed : WordExecuted word h h' before after result
+  pub went : OnOk result (WordWent x word (λ left. call_stepped i b o stage h.machine left) i b o stage h h' before.input.left after.input.left)
+  pub call : OnErr result (x ≡ instr.Ecall)
   pub asked : OnErr result ((input : List ℕ) → word input ≡ call_stepped i b o stage h.machine input)
-  pub moved : OnErr result (Moved h.machine h'.machine.bus before.input after.input)
+  pub moved : OnErr result (Moved h.machine h'.machine.bus before.input.left after.input.left)
 
 -- a step of the board that was made so over this input
 pub record Made (v : ImageData) (new : Record) (h h' : HartData) (left : List ℕ) (left' out out' err err' : Option (List ℕ)) : Type 0 where
@@ -94,7 +95,8 @@ pub record Made (v : ImageData) (new : Record) (h h' : HartData) (left : List �
   pub step : BoardStep v new h.machine h.control stepped left
   pub did : Did h h' stepped left' out out' err err'
 
--- a step that the input or a sink broke off: each sink has gained a front of what the step writes, and no more of the input was taken
+-- a step that the input or a sink broke off, which is a system call: each sink has gained a front of what the step writes, and no more of
+-- the input was taken
 pub record BrokenStep (v : ImageData) (r : Record) (h : HartData) (left : List ℕ) (left' out out' err err' : Option (List ℕ)) : Type 0 where
   pub stepped : Stepped
   pub step : BoardStep v r h.machine h.control stepped left
@@ -103,6 +105,15 @@ pub record BrokenStep (v : ImageData) (r : Record) (h : HartData) (left : List �
   pub taken : List ℕ
   pub input : Consumes (Some left) left' taken
   pub few : length taken + length stepped.made.input ≤ length left
+  pub calls : stepped.made ≡ call_made h.machine left
+
+-- What such a step leaves besides. It comes between two instructions, a front of the buffer of a read may be filled, and a sink to which
+-- the call gives nothing is not asked.
+pub record BrokenCall (h h' : HartData) (before after : Devices) : Type 0 where
+  pub between : is_between h.control ≡ true
+  pub moved : Moved h.machine h'.machine.bus before.input.left after.input.left
+  pub unasked_output : (left : List ℕ) → (call_made h.machine left).output ≡ [] → after.output ≡ before.output
+  pub unasked_error : (left : List ℕ) → (call_made h.machine left).error ≡ [] → after.error ≡ before.error
 
 -- the fact holds where the input or a sink failed
 abbrev pub OnDevice : {T : Type 0} → Result T BoardFault → Type 0 → Type 0

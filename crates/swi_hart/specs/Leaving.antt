@@ -51,6 +51,7 @@ pub record RamFailed (span : ℕ) (before after : RamState) : Type 0 where
   pub rose : Rose before.faults after.faults
   pub later : before.faults ≤ after.faults
   pub fetches_stay : after.fetches ≡ before.fetches
+  pub last_stays : after.last ≡ before.last
   pub kept : KeepsBeyond span before after
 
 -- the transfer that an exit makes
@@ -207,11 +208,12 @@ abbrev pub HasPlace : ImageData → Option Transfer → Type 0
 HasPlace v None = ⊥
 HasPlace v (Some t) = place_of v (target_of t) ≡ None → ⊥
 
--- The ram after a step that it broke off: the fetch failed, or it was made, and a set of the service failed, which serves no transfer
--- whose target has no place.
+-- The ram after a step that it broke off. The fetch failed, and nothing more was done to it; or one was made, of the word under control, and
+-- a set of the service failed, which serves no transfer whose target has no place.
 pub record RamBroken (v : ImageData) (m : Machine) (c : Control) (span : ℕ) (before after : RamState) : Type 0 where
   pub inside : c ≡ Outside → ⊥
   pub rose : Rose before.faults after.faults
   pub later : before.faults ≤ after.faults
-  pub fetches : (after.fetches ≡ before.fetches) ⊎ ((after.fetches ≡ counted before.fetches) × HasPlace v (transfer_at v m c))
+  pub asked : (after ≡ record before { faults = after.faults; reach = after.reach })
+      ⊎ (((after.fetches ≡ counted before.fetches) × (after.last ≡ last_after c before.last)) × HasPlace v (transfer_at v m c))
   pub kept : KeepsBeyond span before after

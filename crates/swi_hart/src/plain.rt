@@ -82,14 +82,12 @@ pub fn plain_step<R: CacheRom, M: CacheRam, I: Source, O: Sink, E: Sink>(
     ensures stepped { BoardStepped R.service image.now
         (record { hart = hart.old; rom = rom.old; ram = M.state ram.old })
         (record { hart = hart.new; rom = rom.new; ram = M.state ram.new })
-        (record { input = I.left input.old; output = O.held out.old; error = E.held err.old })
-        (record { input = I.left input.new; output = O.held out.new; error = E.held err.new })
-        (record { input = I.faults input.old; out = O.faults out.old; err = E.faults err.old })
-        (record { input = I.faults input.new; out = O.faults out.new; err = E.faults err.new }) result }
+        (record { input = I.state input.old; output = O.state out.old; error = E.state err.old })
+        (record { input = I.state input.new; output = O.state out.new; error = E.state err.new }) result }
     ensures executes { OnOk result ((i b o : ℕ) (stage : Stage) →
         PlainAt image.now (M.state ram.old).words hart.old.control i b o stage →
         ExecutesHeld hart.old hart.new rom.old rom.new i b o stage (M.state ram.old).words (M.state ram.new).words
-        (I.left input.old) (I.left input.new) (O.held out.old) (O.held out.new) (E.held err.old) (E.held err.new)) }
+        (I.state input.old).left (I.state input.new).left (O.state out.old).held (O.state out.new).held (E.state err.old).held (E.state err.new).held) }
     ensures whole { OnOk result ((i b o : ℕ) (stage : Stage) →
         PlainAt image.now (M.state ram.old).words hart.old.control i b o stage →
         role_of stage (original hart.old.machine) ≡ Role.Whole → Fits image.now (R.service.kept rom.new) hart.new) }

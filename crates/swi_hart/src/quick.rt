@@ -62,10 +62,8 @@ pub fn at_word<R: CacheRom, M: CacheRam, I: Source, O: Sink, E: Sink>(
         BoardStepped R.service image.now
         (record { hart = hart.old; rom = rom.old; ram = before })
         (record { hart = hart.new; rom = rom.new; ram = M.state ram.new })
-        (record { input = I.left input.old; output = O.held out.old; error = E.held err.old })
-        (record { input = I.left input.new; output = O.held out.new; error = E.held err.new })
-        (record { input = I.faults input.old; out = O.faults out.old; err = E.faults err.old })
-        (record { input = I.faults input.new; out = O.faults out.new; err = E.faults err.new }) result }
+        (record { input = I.state input.old; output = O.state out.old; error = E.state err.old })
+        (record { input = I.state input.new; output = O.state out.new; error = E.state err.new }) result }
 {
     let Some(x) = decode(got) else { unreachable!() };
     if leaves(&x) {
@@ -108,10 +106,8 @@ fn at_step<R: CacheRom, M: CacheRam, I: Source, O: Sink, E: Sink>(
     ensures { BoardStepped R.service image.now
         (record { hart = hart.old; rom = rom.old; ram = M.state ram.old })
         (record { hart = hart.new; rom = rom.new; ram = M.state ram.new })
-        (record { input = I.left input.old; output = O.held out.old; error = E.held err.old })
-        (record { input = I.left input.new; output = O.held out.new; error = E.held err.new })
-        (record { input = I.faults input.old; out = O.faults out.old; err = E.faults err.old })
-        (record { input = I.faults input.new; out = O.faults out.new; err = E.faults err.new }) result }
+        (record { input = I.state input.old; output = O.state out.old; error = E.state err.old })
+        (record { input = I.state input.new; output = O.state out.new; error = E.state err.new }) result }
 {
     let got = match ram.fetch(at.0) {
         Ok(got) => got,
@@ -141,10 +137,8 @@ pub fn quick_step<R: CacheRom, M: CacheRam, I: Source, O: Sink, E: Sink>(
     ensures stepped { BoardStepped R.service image.now
         (record { hart = hart.old; rom = rom.old; ram = M.state ram.old })
         (record { hart = hart.new; rom = rom.new; ram = M.state ram.new })
-        (record { input = I.left input.old; output = O.held out.old; error = E.held err.old })
-        (record { input = I.left input.new; output = O.held out.new; error = E.held err.new })
-        (record { input = I.faults input.old; out = O.faults out.old; err = E.faults err.old })
-        (record { input = I.faults input.new; out = O.faults out.new; err = E.faults err.new }) result }
+        (record { input = I.state input.old; output = O.state out.old; error = E.state err.old })
+        (record { input = I.state input.new; output = O.state out.new; error = E.state err.new }) result }
 {
     let pc = hart.origin_pc();
     match hart.control.control() {

@@ -160,12 +160,10 @@ pub(crate) fn call_word<I: Source, O: Sink, E: Sink>(
 ) -> Result<(), CallFault>
     requires { ReadyAt hart.old at.0 at.1 at.2 at.3 }
     ensures word { WordExecuted (λ left. call_stepped at.0 at.1 at.2 at.3 hart.old.machine left) hart.old hart.new
-        (record { input = I.left input.old; output = O.held out.old; error = E.held err.old })
-        (record { input = I.left input.new; output = O.held out.new; error = E.held err.new })
-        (record { input = I.faults input.old; out = O.faults out.old; err = E.faults err.old })
-        (record { input = I.faults input.new; out = O.faults out.new; err = E.faults err.new }) result }
+        (record { input = I.state input.old; output = O.state out.old; error = E.state err.old })
+        (record { input = I.state input.new; output = O.state out.new; error = E.state err.new }) result }
     ensures goes { OnOk result (CalledAt at.0 at.1 at.2 at.3 hart.old hart.new) }
-    ensures moved { Moved hart.old.machine hart.new.machine.bus (I.left input.old) (I.left input.new) }
+    ensures moved { Moved hart.old.machine hart.new.machine.bus (I.state input.old).left (I.state input.new).left }
 {
     hart.machine.call_step(input, out, err)?;
     if hart.machine.ending.is_none() {
@@ -189,10 +187,8 @@ pub(crate) fn word_step<I: Source, O: Sink, E: Sink>(
     requires { ReadyAt hart.old at.0 at.1 at.2 at.3 }
     ensures { WordStepped x.now at.0 at.1 at.2 at.3
         (λ left. word_stepped role at.0 at.1 at.2 at.3 hart.old.machine x.now left) hart.old hart.new
-        (record { input = I.left input.old; output = O.held out.old; error = E.held err.old })
-        (record { input = I.left input.new; output = O.held out.new; error = E.held err.new })
-        (record { input = I.faults input.old; out = O.faults out.old; err = E.faults err.old })
-        (record { input = I.faults input.new; out = O.faults out.new; err = E.faults err.new }) result }
+        (record { input = I.state input.old; output = O.state out.old; error = E.state err.old })
+        (record { input = I.state input.new; output = O.state out.new; error = E.state err.new }) result }
 {
     if run_word(hart, at, x, role) {
         call_word(hart, (at.0, at.1, at.2, at.3), input, out, err)
@@ -217,10 +213,8 @@ pub(crate) fn role_step<I: Source, O: Sink, E: Sink>(
     ensures { WordStepped x.now at.0 at.1 at.2 at.3
         (λ left. word_stepped (quick_role at.3 x.now (original hart.old.machine))
         at.0 at.1 at.2 at.3 hart.old.machine x.now left) hart.old hart.new
-        (record { input = I.left input.old; output = O.held out.old; error = E.held err.old })
-        (record { input = I.left input.new; output = O.held out.new; error = E.held err.new })
-        (record { input = I.faults input.old; out = O.faults out.old; err = E.faults err.old })
-        (record { input = I.faults input.new; out = O.faults out.new; err = E.faults err.new }) result }
+        (record { input = I.state input.old; output = O.state out.old; error = E.state err.old })
+        (record { input = I.state input.new; output = O.state out.new; error = E.state err.new }) result }
 {
     let (_, _, _, stage) = at;
     if let Instr::Branch { .. } = *x {

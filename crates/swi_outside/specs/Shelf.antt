@@ -1,10 +1,10 @@
 -- Contents under names, and the last call that failed. Own rule.
-use Rattle.std.specs.Prelude.{◌≡◌, ◌≢◌, ℕ, ◌<◌, ◌≤◌, List, [], ◌∷◌, length, Option, Some, None, ⊤, Result, Err, if◌then◌else◌, String, string_bytes, Vec}
+use Rattle.std.specs.Prelude.{◌≡◌, ◌≢◌, ℕ, ◌<◌, ◌≤◌, List, [], ◌∷◌, length, Option, Some, None, ⊤, Result, Err, IfOk, OnOk, if◌then◌else◌, String, string_bytes, Vec}
 use Rattle.std.specs.declared.alloc.Global.{Global}
 use Rattle.std.specs.Str.{bytes_eq}
-use Rattle.swi_outside.specs.Causes.{Rose}
+use Rattle.swi_outside.specs.Causes.{Rose, counted}
 use Rattle.swi_outside.specs.declared.shelf.ShelfError.{ShelfError}
-use Rattle.swi_outside.specs.declared.shelf.ShelfError.TheVariants.{Failed}
+use Rattle.swi_outside.specs.declared.shelf.ShelfError.TheVariants.{Failed, Long, Memory}
 use Rattle.swi_outside.specs.declared.shelf_call.ShelfCall.{ShelfCall}
 use Rattle.swi_outside.specs.declared.shelf_call.ShelfCall.TheVariants.{Get, Put}
 
@@ -58,12 +58,38 @@ Keeps None new name written = new ≡ None
 Keeps (Some m) new name None = ⊤
 Keeps (Some m) new name (Some bytes) = Stands new name bytes
 
+-- a shelf, as far as it tells: its contents, how often it was asked, its count of faults, and the last call that answered `Failed`; the
+-- counts stand still at 2^64 - 1
+pub record ShelfState : Type 0 where
+  pub contents : Option Contents
+  pub calls : ℕ
+  pub faults : ℕ
+  pub last_failed : Option Asked
+
 -- the count never falls, `Failed` comes only where it rose, and only `Failed` raises it and changes
 -- what is told of the last failed call, to this call
-pub record ShelfCause {T : Type 0} (before now : ℕ) (last_before last_now : Option Asked) (asked : Asked) (result : Result T ShelfError) : Type 0 where
-  pub later : before ≤ now
-  pub failed : result ≡ Err Failed → Rose before now × (last_now ≡ Some asked)
-  pub quiet : (result ≡ Err Failed → ⊥) → (now ≡ before) × (last_now ≡ last_before)
+pub record ShelfCause {T : Type 0} (old new : ShelfState) (asked : Asked) (result : Result T ShelfError) : Type 0 where
+  pub later : old.faults ≤ new.faults
+  pub failed : result ≡ Err Failed → Rose old.faults new.faults × (new.last_failed ≡ Some asked)
+  pub quiet : (result ≡ Err Failed → ⊥) → (new.faults ≡ old.faults) × (new.last_failed ≡ old.last_failed)
+
+-- A get of a name, by its answer: it changes no content. `Long` comes only where the content has more bytes than the limit.
+pub record WasGot (old new : ShelfState) (name : List ℕ) (limit : ℕ) (result : Result (Vec ℕ Global) ShelfError) : Type 0 where
+  pub same : Same old.contents new.contents
+  pub content : IfOk result (λ bytes. Stands old.contents name bytes.items)
+  pub within : IfOk result (λ bytes. length bytes.items ≤ limit)
+  pub long : result ≡ Err Long → IsLonger old.contents name limit
+  pub asked : new.calls ≡ counted old.calls
+  pub cause : ShelfCause old new (get_of name) result
+
+-- A put under a name, by its answer: all others stay, and after `Memory` every content. It never answers `Long`.
+pub record WasPut (old new : ShelfState) (name bytes : List ℕ) (result : Result Unit ShelfError) : Type 0 where
+  pub others : SameElsewhere old.contents new.contents name
+  pub stands : OnOk result (Stands new.contents name bytes)
+  pub not_long : result ≡ Err Long → ⊥
+  pub memory : result ≡ Err Memory → Same old.contents new.contents
+  pub asked : new.calls ≡ counted old.calls
+  pub cause : ShelfCause old new (put_of name) result
 
 -- a call as a shelf keeps it
 abbrev pub asked_of : ShelfCall → List ℕ → Asked
@@ -76,7 +102,7 @@ last_asked (Some p) = Some (asked_of p.0 (string_bytes p.1))
 
 -- a shelf in memory: its entries of a name and a content, the numbers of the calls that fail, from 1,
 -- the calls so far, the faults so far, and the last call that failed
-pub record ShelfState : Type 0 where
+pub record StoredShelf : Type 0 where
   pub entries : List (List ℕ × List ℕ)
   pub failing : List ℕ
   pub calls : ℕ
@@ -90,3 +116,7 @@ lookup (e ∷ es) name = if bytes_eq e.0 name then Some e.1 else lookup es name
 
 abbrev pub entry_of : String Global × Vec ℕ Global → List ℕ × List ℕ
 entry_of e = (string_bytes e.0, e.1.items)
+
+-- a shelf in memory as a shelf
+abbrev pub told_of : StoredShelf → ShelfState
+told_of s = record { contents = Some (lookup s.entries); calls = s.calls; faults = s.faults; last_failed = s.last }

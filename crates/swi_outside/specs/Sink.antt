@@ -1,6 +1,13 @@
--- What a sink does with a piece, where it tells what it holds. Own rule.
+-- A sink: its bytes, and its count of faults, and what it does with a piece, where it tells what it holds. Own rule.
 use Rattle.std.specs.Prelude.{ℕ, List, ◌++◌, take, Option, Result, MatchResult}
 use Rattle.std.specs.Io.KnownBytes.{Appends}
+use Rattle.swi_outside.specs.Causes.{HasCause}
+
+pub record SinkState : Type 0 where
+  -- the bytes that it holds, where the sink tells them
+  pub held : Option (List ℕ)
+  -- a count of failed calls
+  pub faults : ℕ
 
 -- some prefix of the piece is appended
 abbrev pub AppendsPrefix : Option (List ℕ) → Option (List ℕ) → List ℕ → Type 0
@@ -14,9 +21,14 @@ AppendsThenPrefix old new piece next = (k : ℕ) × Appends old new (piece ++ ta
 abbrev pub WritesPiece : {E : Type 0} → Option (List ℕ) → Option (List ℕ) → Result Unit E → List ℕ → Type 0
 WritesPiece old new result piece = MatchResult result (λ _. Appends old new piece) (λ _. AppendsPrefix old new piece)
 
+-- A write of a piece, by its answer. The count of faults never falls, and rises with a failure alone, unless it stands at 2^64 - 1 or above.
+pub record WasWritten {E : Type 0} (old new : SinkState) (result : Result Unit E) (piece : List ℕ) : Type 0 where
+  pub bytes : WritesPiece old.held new.held result piece
+  pub cause : HasCause old.faults new.faults result
+
 -- a sink in memory: what it holds and the most bytes that it holds, the numbers of the calls that
 -- fail, from 1, the calls so far, and the faults so far
-pub record SinkState : Type 0 where
+pub record StoredSink : Type 0 where
   pub held : List ℕ
   pub room : ℕ
   pub failing : List ℕ

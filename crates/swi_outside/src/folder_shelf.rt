@@ -16,6 +16,7 @@ use std::io::Read;
 #[derive(Drop)]
 pub struct FolderShelf<D> {
     folder: D,
+    calls: u64,
     faults: u64,
     last: Option<(ShelfCall, String)>,
 }
@@ -23,12 +24,12 @@ pub struct FolderShelf<D> {
 impl<D: Folder> FolderShelf<D> {
     /// A shelf over a folder, as `SystemFolder::new(rt)`, without a fault.
     pub fn new(folder: D) -> FolderShelf<D>
-        ensures contents { ⟦<FolderShelf<D> as Shelf>⟧.contents result ≡ D.contents folder }
-        ensures faults { ⟦<FolderShelf<D> as Shelf>⟧.faults result ≡ 0 }
-        ensures last_failed { ⟦<FolderShelf<D> as Shelf>⟧.last_failed result ≡ None }
+        ensures { ⟦<FolderShelf<D> as Shelf>⟧.state result
+            ≡ record { contents = D.contents folder; calls = 0; faults = 0; last_failed = None } }
     {
         FolderShelf {
             folder,
+            calls: 0,
             faults: 0,
             last: None,
         }
@@ -38,13 +39,15 @@ impl<D: Folder> FolderShelf<D> {
 impl<D: Folder> Shelf for FolderShelf<D> {
     ghost use Rattle.swi_outside.specs.Shelf.{last_asked};
 
-    ghost contents = { λ s. D.contents s.folder };
-
-    ghost faults = { λ s. s.faults };
-
-    ghost last_failed = { λ s. last_asked s.last };
+    ghost state = { λ s. record {
+      contents = D.contents s.folder;
+      calls = s.calls;
+      faults = s.faults;
+      last_failed = last_asked s.last;
+    } };
 
     fn get(&mut self, alloc: Global, name: &str, limit: u32) -> Result<Vec<u8>, ShelfError> {
+        self.calls = self.calls.saturating_add(1);
         let key = key_of(alloc, name)?;
         match read_file(&mut self.folder, alloc, name, limit) {
             Err(ShelfError::Failed) => {
@@ -57,6 +60,7 @@ impl<D: Folder> Shelf for FolderShelf<D> {
     }
 
     fn put(&mut self, alloc: Global, name: &str, bytes: &[u8]) -> Result<(), ShelfError> {
+        self.calls = self.calls.saturating_add(1);
         let key = key_of(alloc, name)?;
         match write_file(&mut self.folder, name, bytes) {
             Ok(()) => Ok(()),

@@ -1,7 +1,7 @@
 ghost use Rattle.std.specs.Prelude.{◌≡◌, ◌≤◌, ◌<◌, ◌⊎◌, ℕ, length, Option, None, Some, IfOk, OnOk, OnErr, Contains, MatchOption, map, position, string_bytes};
 ghost use Rattle.std.specs.Str.{bytes_eq};
 ghost use Rattle.swi_outside.specs.Causes.{counted};
-ghost use Rattle.swi_outside.specs.Shelf.{get_of, put_of, Same, SameElsewhere, Stands, IsLonger, ShelfCause, lookup, entry_of};
+ghost use Rattle.swi_outside.specs.Shelf.{SameElsewhere, WasGot, WasPut, told_of, lookup, entry_of};
 
 use crate::fault_plan::FaultPlan;
 use crate::shelf_call::{ShelfCall, key_of};
@@ -19,9 +19,9 @@ pub struct MemShelf {
 
 impl Model for MemShelf {
     ghost use Rattle.std.specs.Prelude.{map};
-    ghost use Rattle.swi_outside.specs.Shelf.{ShelfState, entry_of, last_asked};
+    ghost use Rattle.swi_outside.specs.Shelf.{StoredShelf, entry_of, last_asked};
 
-    ghost Value = { ShelfState };
+    ghost Value = { StoredShelf };
 
     ghost view = { λ s. record {
       entries = map entry_of s.entries.items;
@@ -103,19 +103,10 @@ fn put_entry(
 }
 
 impl Shelf for MemShelf {
-    ghost contents = { λ s. Some (lookup s.entries) };
-
-    ghost faults = { λ s. s.faults };
-
-    ghost last_failed = { λ s. s.last };
+    ghost state = { told_of };
 
     fn get(&mut self, alloc: Global, name: &str, limit: u32) -> Result<Vec<u8>, ShelfError>
-        ensures same { Same (Some (lookup self.old.entries)) (Some (lookup self.new.entries)) }
-        ensures content { IfOk result (λ bytes. Stands (Some (lookup self.old.entries)) name.now bytes.items) }
-        ensures within { IfOk result (λ bytes. length bytes.items ≤ limit) }
-        ensures long { result ≡ Err ShelfError.Long → IsLonger (Some (lookup self.old.entries)) name.now limit }
-        ensures cause { ShelfCause self.old.faults self.new.faults self.old.last self.new.last
-            (get_of name.now) result }
+        ensures got { WasGot (told_of self.old) (told_of self.new) name.now limit result }
 
         // A listed call fails, and one of a name that is not there. No other call fails.
         ensures listed { Contains self.old.failing (counted self.old.calls) →
@@ -141,13 +132,7 @@ impl Shelf for MemShelf {
     }
 
     fn put(&mut self, alloc: Global, name: &str, bytes: &[u8]) -> Result<(), ShelfError>
-        ensures others { SameElsewhere (Some (lookup self.old.entries)) (Some (lookup self.new.entries)) name.now }
-        ensures stands { OnOk result (Stands (Some (lookup self.new.entries)) name.now bytes.now) }
-        ensures not_long { result ≡ Err ShelfError.Long → ⊥ }
-        ensures memory { result ≡ Err ShelfError.Memory →
-            Same (Some (lookup self.old.entries)) (Some (lookup self.new.entries)) }
-        ensures cause { ShelfCause self.old.faults self.new.faults self.old.last self.new.last
-            (put_of name.now) result }
+        ensures put { WasPut (told_of self.old) (told_of self.new) name.now bytes.now result }
 
         // A listed call fails, and no other. A failed one changes no content.
         ensures listed { Contains self.old.failing (counted self.old.calls) →

@@ -1,6 +1,6 @@
 ghost use Rattle.std.specs.Prelude.{◌≡◌, ◌+◌, ◌-◌, ◌<◌, ◌≤◌, ◌⊎◌, ◌↔◌, ◌++◌, [], length, min, take, IfOk, IsErr, Contains, Some};
-ghost use Rattle.swi_outside.specs.Causes.{HasCause, counted};
-ghost use Rattle.swi_outside.specs.Sink.{WritesPiece};
+ghost use Rattle.swi_outside.specs.Causes.{counted};
+ghost use Rattle.swi_outside.specs.Sink.{WasWritten};
 
 use crate::fault_plan::FaultPlan;
 use crate::{Failed, Memory, Sink};
@@ -17,9 +17,9 @@ pub struct MemSink {
 
 impl Model for MemSink {
     ghost use Rattle.std.specs.Prelude.{◌≤◌, take, length};
-    ghost use Rattle.swi_outside.specs.Sink.{SinkState};
+    ghost use Rattle.swi_outside.specs.Sink.{StoredSink};
 
-    ghost Value = { SinkState };
+    ghost Value = { StoredSink };
 
     ghost view = { λ s. record {
       held = take s.len s.bytes.items;
@@ -69,13 +69,11 @@ fn copy_behind(bytes: &mut [u8], len: usize, piece: &[u8]) -> usize
 }
 
 impl Sink for MemSink {
-    ghost held = { λ s. Some s.held };
-
-    ghost faults = { λ s. s.faults };
+    ghost state = { λ s. record { held = Some s.held; faults = s.faults } };
 
     fn write(&mut self, piece: &[u8]) -> Result<(), Failed>
-        ensures bytes { WritesPiece (Some self.old.held) (Some self.new.held) result piece.now }
-        ensures cause { HasCause self.old.faults self.new.faults result }
+        ensures written { WasWritten (record { held = Some self.old.held; faults = self.old.faults })
+            (record { held = Some self.new.held; faults = self.new.faults }) result piece.now }
 
         // No other call fails.
         ensures fails { IsErr result ↔

@@ -1,7 +1,7 @@
 ghost use Rattle.std.specs.Prelude.{◌≡◌, ◌+◌, ◌<◌, ◌≤◌, ◌-◌, ◌↔◌, ◌++◌, length, min, take, drop, IfOk, IsErr, OnErr, Contains, Some};
 ghost use Rattle.std.specs.Io.{ReadsAtMost};
-ghost use Rattle.std.specs.Io.KnownBytes.{ReadConsumes};
-ghost use Rattle.swi_outside.specs.Causes.{HasCause, counted};
+ghost use Rattle.swi_outside.specs.Causes.{counted};
+ghost use Rattle.swi_outside.specs.Source.{WasRead};
 
 use crate::fault_plan::FaultPlan;
 use crate::{Failed, Source};
@@ -17,9 +17,9 @@ pub struct MemSource {
 
 impl Model for MemSource {
     ghost use Rattle.std.specs.Prelude.{◌≤◌, drop, length};
-    ghost use Rattle.swi_outside.specs.Source.{SourceState};
+    ghost use Rattle.swi_outside.specs.Source.{StoredSource};
 
-    ghost Value = { SourceState };
+    ghost Value = { StoredSource };
 
     ghost view = { λ s. record {
       left = drop s.taken s.bytes.items;
@@ -65,15 +65,13 @@ fn copy_front(bytes: &[u8], taken: usize, buf: &mut [u8]) -> usize
 }
 
 impl Source for MemSource {
-    ghost left = { λ s. Some s.left };
-
-    ghost faults = { λ s. s.faults };
+    ghost state = { λ s. record { left = Some s.left; faults = s.faults } };
 
     fn read(&mut self, buf: &mut [u8]) -> Result<usize, Failed>
         requires { 0 < length buf.old }
         ensures bound { ReadsAtMost result buf.new }
-        ensures bytes { ReadConsumes (Some self.old.left) (Some self.new.left) result buf.new }
-        ensures cause { HasCause self.old.faults self.new.faults result }
+        ensures read { WasRead (record { left = Some self.old.left; faults = self.old.faults })
+            (record { left = Some self.new.left; faults = self.new.faults }) result buf.new }
 
         // No other call fails, and an answer is as many bytes as there are and fit.
         ensures listed { IsErr result ↔ Contains self.old.failing (counted self.old.calls) }

@@ -17,17 +17,14 @@ pub struct RealSource<R> {
 impl<R: Read> RealSource<R> {
     /// A source over a reader, as `rt.stdin()`, without a fault.
     pub fn new(reader: R) -> RealSource<R>
-        ensures left { ⟦<RealSource<R> as Source>⟧.left result ≡ R.remaining reader }
-        ensures faults { ⟦<RealSource<R> as Source>⟧.faults result ≡ 0 }
+        ensures { ⟦<RealSource<R> as Source>⟧.state result ≡ record { left = R.remaining reader; faults = 0 } }
     {
         RealSource { reader, faults: 0 }
     }
 }
 
 impl<R: Read> Source for RealSource<R> {
-    ghost left = { λ s. R.remaining s.reader };
-
-    ghost faults = { λ s. s.faults };
+    ghost state = { λ s. record { left = R.remaining s.reader; faults = s.faults } };
 
     fn read(&mut self, buf: &mut [u8]) -> Result<usize, Failed> {
         count_failure(&mut self.faults, self.reader.read(buf))
@@ -48,17 +45,14 @@ pub struct RealSink<W> {
 impl<W: Write> RealSink<W> {
     /// A sink over a writer, as `rt.stdout()`, without a fault.
     pub fn new(writer: W) -> RealSink<W>
-        ensures held { ⟦<RealSink<W> as Sink>⟧.held result ≡ W.contents writer }
-        ensures faults { ⟦<RealSink<W> as Sink>⟧.faults result ≡ 0 }
+        ensures { ⟦<RealSink<W> as Sink>⟧.state result ≡ record { held = W.contents writer; faults = 0 } }
     {
         RealSink { writer, faults: 0 }
     }
 }
 
 impl<W: Write> Sink for RealSink<W> {
-    ghost held = { λ s. W.contents s.writer };
-
-    ghost faults = { λ s. s.faults };
+    ghost state = { λ s. record { held = W.contents s.writer; faults = s.faults } };
 
     fn write(&mut self, piece: &[u8]) -> Result<(), Failed> {
         count_failure(&mut self.faults, write_whole(&mut self.writer, piece))

@@ -1,25 +1,13 @@
 -- Texts that are written piece by piece, a piece for each element of a list.
-use Rattle.std.proofs.Common.{◌≡◌, ℕ, zero, suc, ◌+◌, ◌-◌, ◌<◌, List, [], ◌∷◌, ◌++◌, take, drop, slice_get, arith, refl, sym, ap, subst, Option, Some, Result, Ok, Err}
+use Rattle.std.proofs.Common.{◌≡◌, ℕ, zero, suc, ◌+◌, ◌-◌, ◌<◌, List, [], ◌∷◌, ◌++◌, take, drop, slice_get, arith, refl, sym, ap, subst, Option, Some}
 use Rattle.std.proofs.lemmas.List.{append-nil}
 use Rattle.std.proofs.lemmas.Grind.{flat_map-append}
 use Rattle.std.specs.Io.KnownBytes.{Appends}
 use Rattle.std.specs.List.{flat_map}
-use Rattle.std.specs.Result.{IsErr}
-use Rattle.swi_outside.specs.Sink.{AppendsPrefix, WritesPiece}
+use Rattle.swi_outside.specs.Sink.{AppendsPrefix}
 use Rattle.swi_outside.specs.Laws.{Appends-none, Appends-append}
-use Rattle.swi_outside.proofs.SinkLemmas.{prefix_behind, prefix_last}
+use Rattle.swi_outside.proofs.SinkLemmas.{prefix_behind}
 use Rattle.swi_report.specs.State.{numbers}
-
--- a write that failed
-pub writes_part : {E : Type 0} (o p : Option (List ℕ)) (r : Result Unit E) (x : List ℕ) → IsErr r → AppendsPrefix o p x → WritesPiece o p r x
-writes_part o p (Ok u) x err part = cc
-writes_part o p (Err e) x err part = part
-
--- a write behind one that did not fail
-pub writes_then : {E : Type 0} (o p q : Option (List ℕ)) (r : Result Unit E) (x y : List ℕ)
-    → Appends o p x → WritesPiece p q r y → WritesPiece o q r (x ++ y)
-writes_then o p q (Ok u) x y written last = Appends-append o p q x y written last
-writes_then o p q (Err e) x y written last = prefix_last o p q x y written last
 
 -- one more piece
 pieces_more : {X : Type 0} (f : X → List ℕ) (front : List X) (x : X) (o p q : Option (List ℕ))

@@ -4,8 +4,7 @@ ghost use Rattle.std.specs.Prelude.{◌≡◌, ◌+◌, ◌*◌, ◌<◌, ◌≤
 ghost use Rattle.std.specs.List.{flat_map, list_any};
 ghost use Rattle.swi_memory.specs.Bus.{grants};
 ghost use Rattle.swi_memory.specs.declared.right.Right.TheVariants.{Write};
-ghost use Rattle.swi_outside.specs.Causes.{HasCause};
-ghost use Rattle.swi_outside.specs.Sink.{WritesPiece};
+ghost use Rattle.swi_outside.specs.Sink.{WasWritten};
 ghost use Rattle.swi_report.specs.State.{byte_in, is_nonzero, row_at, row_line, row_text, rows_text, area_text};
 
 use swi_line::Line;
@@ -67,9 +66,8 @@ fn row_line(address: u32, row: &[Option<u8>; 16]) -> Line
 /// Writes the line of sixteen bytes, unless all are zero or outside.
 fn write_row<S: Sink>(area: &Area<'_>, address: u32, sink: &mut S) -> Result<(), Failed>
     requires { address + 16 ≤ 2 ^ 32 }
-    ensures bytes { WritesPiece (S.held sink.old) (S.held sink.new) result
+    ensures { WasWritten (S.state sink.old) (S.state sink.new) result
         (row_text address (row_at area.now.base area.now.bytes.now address)) }
-    ensures cause { HasCause (S.faults sink.old) (S.faults sink.new) result }
 {
     let row = row_at(area, address);
     if has_nonzero(&row) {
@@ -82,9 +80,8 @@ fn write_row<S: Sink>(area: &Area<'_>, address: u32, sink: &mut S) -> Result<(),
 /// Writes the lines of an area's bytes.
 fn write_rows<S: Sink>(area: &Area<'_>, sink: &mut S) -> Result<(), Failed>
     requires { area.now.base + length area.now.bytes.now ≤ 2 ^ 32 }
-    ensures bytes { WritesPiece (S.held sink.old) (S.held sink.new) result
+    ensures { WasWritten (S.state sink.old) (S.state sink.new) result
         (rows_text area.now.base area.now.bytes.now) }
-    ensures cause { HasCause (S.faults sink.old) (S.faults sink.new) result }
 {
     let first = area.base / 16;
     let end = u64::from(area.base) + area.bytes.len() as u64;
@@ -97,9 +94,8 @@ fn write_rows<S: Sink>(area: &Area<'_>, sink: &mut S) -> Result<(), Failed>
 /// Writes the lines of an area, where it can be written.
 fn write_area<S: Sink>(area: &Area<'_>, sink: &mut S) -> Result<(), Failed>
     requires { area.now.base + length area.now.bytes.now ≤ 2 ^ 32 }
-    ensures bytes { WritesPiece (S.held sink.old) (S.held sink.new) result
+    ensures { WasWritten (S.state sink.old) (S.state sink.new) result
         (if grants Write area.now.flags then rows_text area.now.base area.now.bytes.now else []) }
-    ensures cause { HasCause (S.faults sink.old) (S.faults sink.new) result }
 {
     if Right::Write.grants(area.flags) {
         write_rows(area, sink)
@@ -110,8 +106,7 @@ fn write_area<S: Sink>(area: &Area<'_>, sink: &mut S) -> Result<(), Failed>
 
 /// Writes the lines of the areas that can be written.
 pub fn write_memory<S: Sink>(bus: &Bus, sink: &mut S) -> Result<(), Failed>
-    ensures bytes { WritesPiece (S.held sink.old) (S.held sink.new) result (flat_map area_text bus.now) }
-    ensures cause { HasCause (S.faults sink.old) (S.faults sink.new) result }
+    ensures { WasWritten (S.state sink.old) (S.state sink.new) result (flat_map area_text bus.now) }
 {
     for k in 0..bus.areas() {
         write_area(&bus.area(k), sink)?;

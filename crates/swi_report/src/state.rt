@@ -2,8 +2,7 @@
 
 ghost use Rattle.std.specs.Prelude.{◌≡◌, ◌<◌};
 ghost use Rattle.std.specs.List.{flat_map};
-ghost use Rattle.swi_outside.specs.Causes.{HasCause};
-ghost use Rattle.swi_outside.specs.Sink.{WritesPiece};
+ghost use Rattle.swi_outside.specs.Sink.{WasWritten};
 ghost use Rattle.swi_report.specs.State.{numbers, pc_line, register_line, break_line, state_text_of};
 
 use crate::memory::write_memory;
@@ -49,9 +48,8 @@ fn break_line(now: u32) -> Line
 
 /// Writes the lines of the 32 registers.
 fn write_registers<S: Sink>(regs: &Regs, sink: &mut S) -> Result<(), Failed>
-    ensures bytes { WritesPiece (S.held sink.old) (S.held sink.new) result
+    ensures { WasWritten (S.state sink.old) (S.state sink.new) result
         (flat_map (register_line regs.now) (numbers 0 32)) }
-    ensures cause { HasCause (S.faults sink.old) (S.faults sink.new) result }
 {
     for number in 0..32 {
         sink.write(register_line(regs, number).as_bytes())?;
@@ -73,9 +71,8 @@ pub fn state_text<S: Sink>(
     heap: &Heap,
     sink: &mut S,
 ) -> Result<(), Failed>
-    ensures bytes { WritesPiece (S.held sink.old) (S.held sink.new) result
+    ensures { WasWritten (S.state sink.old) (S.state sink.new) result
         (state_text_of pc regs.now bus.now heap.entry.now.now) }
-    ensures cause { HasCause (S.faults sink.old) (S.faults sink.new) result }
 {
     sink.write(pc_line(pc).as_bytes())?;
     write_registers(regs, sink)?;

@@ -3,8 +3,7 @@
 ghost use Rattle.std.specs.Prelude.{◌≡◌, ◌≤◌, All, length};
 ghost use Rattle.std.specs.List.{flat_map};
 ghost use Rattle.std.specs.Option.{option_copied};
-ghost use Rattle.swi_outside.specs.Causes.{HasCause};
-ghost use Rattle.swi_outside.specs.Sink.{WritesPiece};
+ghost use Rattle.swi_outside.specs.Sink.{WasWritten};
 ghost use Rattle.swi_report.specs.Stats.{count_line, work_text, stats_text_of};
 
 use swi_line::Line;
@@ -39,9 +38,8 @@ fn count_line(name: &str, count: u64) -> Line
 /// Writes counts with their names, a line each.
 pub(crate) fn write_counts<S: Sink>(counts: &[(&str, u64)], sink: &mut S) -> Result<(), Failed>
     requires { All (λ c. length c.0.now ≤ 16) counts.now }
-    ensures bytes { WritesPiece (S.held sink.old) (S.held sink.new) result
+    ensures { WasWritten (S.state sink.old) (S.state sink.new) result
         (flat_map (λ c. count_line c.0.now c.1) counts.now) }
-    ensures cause { HasCause (S.faults sink.old) (S.faults sink.new) result }
 {
     for (name, count) in counts {
         sink.write(count_line(name, *count).as_bytes())?;
@@ -52,8 +50,7 @@ pub(crate) fn write_counts<S: Sink>(counts: &[(&str, u64)], sink: &mut S) -> Res
 /// Writes what the cached machine has done.
 #[tactic(auto, unfolding(crate::specs::Stats::work_counts))]
 fn write_work<S: Sink>(work: &Work, sink: &mut S) -> Result<(), Failed>
-    ensures bytes { WritesPiece (S.held sink.old) (S.held sink.new) result (work_text work.now) }
-    ensures cause { HasCause (S.faults sink.old) (S.faults sink.new) result }
+    ensures { WasWritten (S.state sink.old) (S.state sink.new) result (work_text work.now) }
 {
     let counts = work.counts;
     let lines = [
@@ -75,9 +72,8 @@ fn write_work<S: Sink>(work: &Work, sink: &mut S) -> Result<(), Failed>
 ///
 /// Failed only where the sink's count of faults rose; it then holds a front of the text.
 pub fn stats_text<S: Sink>(steps: u64, work: Option<&Work>, sink: &mut S) -> Result<(), Failed>
-    ensures bytes { WritesPiece (S.held sink.old) (S.held sink.new) result
+    ensures { WasWritten (S.state sink.old) (S.state sink.new) result
         (stats_text_of steps (option_copied work.entry)) }
-    ensures cause { HasCause (S.faults sink.old) (S.faults sink.new) result }
 {
     sink.write(count_line("steps", steps).as_bytes())?;
     match work {

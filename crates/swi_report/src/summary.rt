@@ -1,7 +1,6 @@
 //! The summary of a run of a program that was made from a number.
 
-ghost use Rattle.swi_outside.specs.Causes.{HasCause};
-ghost use Rattle.swi_outside.specs.Sink.{WritesPiece};
+ghost use Rattle.swi_outside.specs.Sink.{WasWritten};
 ghost use Rattle.swi_report.specs.Summary.{head_text, summary_text_of};
 
 use crate::stats::{Work, stats_text, write_counts};
@@ -23,8 +22,7 @@ pub struct Measured {
 /// Writes what the program is, and what it exited with.
 #[tactic(auto, unfolding(crate::specs::Summary::head_counts))]
 fn write_head<S: Sink>(measured: &Measured, sink: &mut S) -> Result<(), Failed>
-    ensures bytes { WritesPiece (S.held sink.old) (S.held sink.new) result (head_text measured.now) }
-    ensures cause { HasCause (S.faults sink.old) (S.faults sink.new) result }
+    ensures { WasWritten (S.state sink.old) (S.state sink.new) result (head_text measured.now) }
 {
     let lines = [
         ("functions", u64::from(measured.functions)),
@@ -46,9 +44,8 @@ pub fn summary_text<S: Sink>(
     work: &Work,
     sink: &mut S,
 ) -> Result<(), Failed>
-    ensures bytes { WritesPiece (S.held sink.old) (S.held sink.new) result
+    ensures { WasWritten (S.state sink.old) (S.state sink.new) result
         (summary_text_of measured.now steps work.now) }
-    ensures cause { HasCause (S.faults sink.old) (S.faults sink.new) result }
 {
     write_head(measured, sink)?;
     stats_text(steps, Some(work), sink)

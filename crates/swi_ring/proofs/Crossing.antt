@@ -14,10 +14,10 @@ use Rattle.swi_rom.specs.Coherent.{TargetAt, ExitAt, IsExit}
 use Rattle.swi_rom.specs.Policy.{served_by, went, linked, is_over_link, counted, is_placed, first_of, with_link}
 use Rattle.swi_rom.specs.Served.{Served, WordsMove, SameFrom}
 use Rattle.swi_rom.specs.Writing.{Wrote, FailedBelow}
-use Rattle.swi_slots.specs.Steps.{more_service}
+use Rattle.swi_rom.specs.Policy.{more_service}
 use Rattle.swi_rom.specs.declared.rom.RomStop.TheVariants.{Outside, RamFault}
 use Rattle.swi_rom.specs.Rams.{wrote_more, spared_none, failed_more}
-use Rattle.swi_slots.specs.Links.{has_with, same_is, same_same, among_has, has_among}
+use Rattle.swi_rom.specs.Links.{has_with, same_is, same_same, among_has, has_among}
 use Rattle.swi_rom.specs.Service.{Setting}
 use Rattle.swi_ring.specs.Fifo.{span_of, arrived, ring, extent_of, ring_extent}
 use Rattle.swi_ring.specs.Ring.{Ring, InShape, first_at, target_at, queue_of, links_of, behind, kept_by, setting_of}

@@ -4,7 +4,7 @@ use Rattle.std.proofs.lemmas.List.{length-replicate, get_or-replicate}
 use Rattle.swi_image.specs.Format.{ImageData}
 use Rattle.swi_image.specs.Sound.{IsImage}
 use Rattle.swi_rom.specs.Record.{Link, empty_record}
-use Rattle.swi_slots.specs.Slots.{collected}
+use Rattle.swi_rom.specs.Collected.{collected}
 use Rattle.swi_chain.specs.Chains.{ChainsData}
 use Rattle.swi_ring.specs.Queue.{QueueData}
 use Rattle.swi_ring.specs.Ring.{Ring, InShape, target_at, queue_of, link_at, links_of, kept_by}

@@ -3,10 +3,10 @@ use Rattle.std.proofs.Common.{◌≡◌, ℕ, suc, zero, ◌<◌, Bool, true, fa
 use Rattle.std.proofs.lemmas.Bool.{cases_eq, or_cases, or_right, or_left, and_parts, and_from, false_from_ne_true}
 use Rattle.swi_rom.specs.Record.{Link, same_link, has_link}
 use Rattle.swi_rom.specs.Policy.{with_link}
-use Rattle.swi_slots.specs.Slots.{collected}
-use Rattle.swi_slots.specs.Links.{Ascending, has_with, same_is, same_same, same_ascending, with_ascending}
-use Rattle.swi_slots.specs.Collected.{Differ, has_filter, filter_ascending, collected_has, has_collected, collected_ascending}
-use Rattle.swi_slots.proofs.MissLinks.{same_tests}
+use Rattle.swi_rom.specs.Collected.{collected}
+use Rattle.swi_rom.specs.Links.{Ascending, has_with, same_is, same_same, same_ascending, with_ascending}
+use Rattle.swi_rom.specs.Collected.{Differ, has_filter, filter_ascending, collected_has, has_collected, collected_ascending}
+use Rattle.swi_rom.specs.Links.{same_tests}
 
 pub some_link : (k l : Link) → Some k ≡ Some l → k ≡ l
 some_link k l e = cc

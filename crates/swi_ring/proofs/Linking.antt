@@ -9,8 +9,8 @@ use Rattle.swi_chain.specs.Chains.{Has}
 use Rattle.swi_rom.specs.Record.{Link, Placed, is_linked, IsJump}
 use Rattle.swi_rom.specs.Policy.{with_link, first_of}
 use Rattle.swi_rom.specs.Coherent.{IsExit}
-use Rattle.swi_slots.specs.Collected.{length_with_all}
-use Rattle.swi_slots.proofs.Policy.{first_in_has}
+use Rattle.swi_rom.specs.Collected.{length_with_all}
+use Rattle.swi_rom.specs.Found.{first_in_has}
 use Rattle.swi_chain.specs.Holders.{holder_of}
 use Rattle.swi_ring.specs.Ring.{Ring, first_at, target_at, queue_of, link_at, links_of, kept_by}
 use Rattle.swi_ring.specs.Sound.{RingSound}

@@ -13,7 +13,7 @@ use Rattle.swi_rom.specs.Record.{Has as HasPlacement}
 use Rattle.swi_rom.specs.Policy.{is_placed, counted, more_services}
 use Rattle.swi_rom.specs.Served.{WordsMove, NewlyPlaced, LinkChanged}
 use Rattle.swi_rom.specs.Writing.{Wrote, Copied}
-use Rattle.swi_slots.specs.Steps.{more_service}
+use Rattle.swi_rom.specs.Policy.{more_service}
 use Rattle.swi_rom.specs.Rams.{wrote_none, wrote_more, wrote_wider}
 use Rattle.swi_rom.specs.declared.rom.Counts.{Counts}
 use Rattle.swi_ring.specs.Fifo.{appended, placed, arrived, first_for}

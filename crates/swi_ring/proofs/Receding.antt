@@ -11,8 +11,8 @@ use Rattle.swi_rom.specs.Record.{Has as HasPlacement}
 use Rattle.swi_rom.specs.Policy.{is_undone, is_kept, evicted}
 use Rattle.swi_rom.specs.Writing.{Wrote}
 use Rattle.swi_rom.specs.Rams.{wrote_more}
-use Rattle.swi_slots.specs.Collected.{has_filter, length_collected, passing, passes}
-use Rattle.swi_slots.proofs.MissLinks.{undone_apart}
+use Rattle.swi_rom.specs.Collected.{has_filter, length_collected, passing, passes}
+use Rattle.swi_rom.specs.Collected.{undone_apart}
 use Rattle.swi_rom.specs.declared.rom.Counts.{Counts}
 use Rattle.swi_chain.specs.Holders.{holder_of}
 use Rattle.swi_undo.specs.Undone.{is_own, comes_in, coming_in, is_dropped}

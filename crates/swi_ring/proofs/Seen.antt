@@ -8,7 +8,7 @@ use Rattle.swi_ring.specs.Ring.{Ring, first_at, target_at, links_of, kept_by}
 use Rattle.swi_ring.specs.Sound.{RingSound}
 use Rattle.swi_ring.specs.Chained.{LinkTo}
 use Rattle.swi_ring.specs.Coheres.{placed_has, has_placed, link_of, has_found, link_found}
-use Rattle.swi_slots.specs.Links.{has_among}
+use Rattle.swi_rom.specs.Links.{has_among}
 use Rattle.swi_chain.specs.Lists.{holder_has}
 use Rattle.swi_chain.specs.Lists.{holder_is}
 

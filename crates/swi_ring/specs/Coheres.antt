@@ -9,8 +9,8 @@ use Rattle.swi_chain.specs.Chains.{Has, Distinct}
 use Rattle.swi_rom.specs.Record.{Placement, Link, has_link, is_linked, Placed, IsJump}
 use Rattle.swi_rom.specs.Record.{Has as HasPlacement}
 use Rattle.swi_rom.specs.Coherent.{Coherent, TargetAt, StandsAt, resident_of, pair_of}
-use Rattle.swi_slots.specs.Collected.{Differ, collected_has, has_collected, collected_ascending}
-use Rattle.swi_slots.specs.Links.{Ascending, among_has, has_among}
+use Rattle.swi_rom.specs.Collected.{Differ, collected_has, has_collected, collected_ascending}
+use Rattle.swi_rom.specs.Links.{Ascending, among_has, has_among}
 use Rattle.swi_ring.specs.Ring.{Ring, InShape, first_at, target_at, spot, queue_of, exit_of, link_at, links_of, kept_by, setting_of, goals_by, stands_at, shown_by}
 use Rattle.swi_ring.specs.Fifo.{span_of}
 use Rattle.swi_ring.specs.Sound.{RingSound, LinkStands, IsOwned}

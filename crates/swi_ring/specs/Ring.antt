@@ -2,7 +2,7 @@
 use Rattle.std.specs.Prelude.{◌≡◌, ℕ, suc, zero, ◌+◌, ◌-◌, ◌<◌, ◌≤◌, ◌&&◌, ◌^◌, List, [], ◌∷◌, map, length, Option, Some, None, if◌then◌else◌, slice_index, nat_le, nat_lt, Bool}
 use Rattle.swi_rom.specs.Record.{Record, Placement, Link}
 use Rattle.swi_rom.specs.Service.{Setting}
-use Rattle.swi_slots.specs.Slots.{collected}
+use Rattle.swi_rom.specs.Collected.{collected}
 use Rattle.swi_chain.specs.Chains.{ChainsData, Has, Distinct}
 use Rattle.swi_rom.specs.declared.rom.Counts.{Counts}
 use Rattle.swi_chain.specs.Holders.{holder_of}

@@ -5,7 +5,7 @@ use Rattle.swi_image.specs.Place.{place_of, word_at, length_at}
 use Rattle.swi_image.specs.Sound.{IsImage}
 use Rattle.swi_rom.specs.Record.{IsJump}
 use Rattle.swi_rom.specs.Coherent.{IsExit}
-use Rattle.swi_slots.specs.Steps.{more_service}
+use Rattle.swi_rom.specs.Policy.{more_service}
 use Rattle.swi_chain.specs.Chains.{Has}
 use Rattle.swi_ring.specs.Ring.{Ring, InShape, first_at, target_at, links_of, goals_by}
 

@@ -7,7 +7,7 @@ use Rattle.swi_rom.specs.Record.{ebreak, IsJump, reaches, has_link, writes, Link
 use Rattle.swi_rom.specs.Record.{Has as HasPlacement}
 use Rattle.swi_rom.specs.Served.{WordsMove}
 use Rattle.swi_rom.specs.Writing.{Wrote, Copied}
-use Rattle.swi_slots.specs.Steps.{more_service}
+use Rattle.swi_rom.specs.Policy.{more_service}
 use Rattle.swi_chain.specs.Chains.{Has, list_of}
 use Rattle.swi_undo.specs.Undone.{comes_in, coming_in, is_dropped}
 use Rattle.swi_ring.specs.Fifo.{cleared, arrived, first_for}

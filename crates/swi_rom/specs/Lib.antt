@@ -2,6 +2,10 @@ pub mod Record
 pub mod Coherent
 pub mod Service
 pub mod Policy
+pub mod Found
+pub mod Links
+pub mod Collected
 pub mod Served
 pub mod Writing
 pub mod Rams
+pub mod Blocks

@@ -1,6 +1,6 @@
 -- The policy of a service: what a transfer of control does to the record. Policies differ in how a block arrives and in where a
 -- link is put in the list; all else is the same, and its laws are proved once.
-use Rattle.std.specs.Prelude.{◌≡◌, ◌≤◌, ℕ, ◌+◌, ◌==◌, ◌&&◌, ◌||◌, Bool, true, false, not, List, [], ◌∷◌, length, filter, Option, Some, None, if◌then◌else◌, nat_lt}
+use Rattle.std.specs.Prelude.{◌≡◌, ◌≤◌, ℕ, suc, zero, ◌+◌, ◌==◌, ◌&&◌, ◌||◌, Bool, true, false, not, List, [], ◌∷◌, length, filter, Option, Some, None, if◌then◌else◌, nat_lt}
 use Rattle.std.specs.List.{list_any}
 use Rattle.swi_image.specs.Format.{ImageData}
 use Rattle.swi_image.specs.Place.{place_of}
@@ -37,10 +37,13 @@ evicted r (e ∷ es) = record r {
 unfoldable pub is_placed : Record → ℕ → Bool
 is_placed r b = list_any (λ e. e.program == r.turn && e.block == b) r.placed
 
--- one more service, but for the boot, when nothing is placed
+-- one more service, but for the boot, when no block is placed
+abbrev pub more_service : ℕ → ℕ
+more_service zero = 0
+more_service (suc placed) = 1
+
 abbrev pub more_services : List Placement → ℕ
-more_services [] = 0
-more_services (e ∷ es) = 1
+more_services es = more_service (length es)
 
 unfoldable pub counted : Record → Record
 counted r = record r { counts = record r.counts { services = r.counts.services + more_services r.placed } }

@@ -32,7 +32,8 @@ pub struct Counts {
 pub enum RomStop {
     /// The target is no text address; nothing has changed.
     Outside,
-    /// The ram failed. Only its words outside the service's are known, and no further call is allowed.
+    /// The ram failed. Only its words outside the service's are known, and no further call is allowed. What the service keeps is
+    /// not claimed: counts, queue and links may have moved before the call of the ram that failed.
     RamFault,
 }
 

@@ -15,7 +15,8 @@ use Rattle.swi_slots.specs.Slots.{Slots, InShape, links_of, link_at, queue_of, k
 use Rattle.swi_slots.specs.Keys.{Images, key_of, key_parts, word_in}
 use Rattle.swi_slots.specs.Sound.{SlotsServe, SlotsSound, Serves}
 use Rattle.swi_rom.specs.Writing.{Wrote, Copied}
-use Rattle.swi_slots.specs.Steps.{IsAbsent, counted_slots, more_service, is_dropped, leads_in}
+use Rattle.swi_slots.specs.Steps.{IsAbsent, counted_slots, is_dropped, leads_in}
+use Rattle.swi_rom.specs.Policy.{more_service}
 use Rattle.swi_slots.specs.Arrived.{Arrived}
 use Rattle.swi_rom.specs.declared.rom.Counts.{Counts}
 use Rattle.swi_rom.specs.Rams.{wrote_none}

@@ -24,7 +24,7 @@ use Rattle.swi_slots.proofs.Policy.{counted_forward}
 use Rattle.swi_slots.proofs.Crossing.{ExitIn, exit_in, free_stays, exit_same, entered, fault_served, crossed, crossed_sound}
 use Rattle.swi_image.specs.Sound.{IsImage}
 use Rattle.swi_image.specs.Laws.{place_inside}
-use Rattle.swi_slots.specs.Inside.{block_short, known_few}
+use Rattle.swi_rom.specs.Blocks.{block_short, known_few}
 use Rattle.swi_slots.proofs.Arriving.{hit_arrived}
 
 -- an arrival, for all images that the programs may have

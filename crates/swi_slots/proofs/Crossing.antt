@@ -21,7 +21,7 @@ use Rattle.swi_slots.specs.Steps.{Linked, MaybeLinked, can_link}
 use Rattle.swi_slots.specs.Arrived.{Arrived}
 use Rattle.swi_rom.specs.declared.rom.RomStop.TheVariants.{Outside, RamFault}
 use Rattle.swi_rom.specs.Rams.{wrote_more, spared_none}
-use Rattle.swi_slots.specs.Links.{has_with, same_is, same_same}
+use Rattle.swi_rom.specs.Links.{has_with, same_is, same_same}
 use Rattle.swi_slots.specs.Queue.{has_slot, slot_has, placed_slot, slot_placed, length_queue}
 use Rattle.swi_slots.specs.SlotLinks.{Tidy, link_of, link_key, link_target, never_link, linked_word, word_linked, among_is, word_slot}
 use Rattle.swi_slots.specs.Coheres.{tidy_of, length_most, placed_most, exit_key, key_word}

@@ -5,7 +5,8 @@ use Rattle.std.proofs.lemmas.Bool.{le-ltb}
 use Rattle.swi_image.specs.Format.{ImageData}
 use Rattle.swi_image.specs.Sound.{IsImage}
 use Rattle.swi_rom.specs.Record.{empty_record}
-use Rattle.swi_slots.specs.Slots.{Slots, InShape, kept_by, queue_of, numbered, links_of, link_at, collected, empty_slots}
+use Rattle.swi_slots.specs.Slots.{Slots, InShape, kept_by, queue_of, numbered, links_of, link_at, empty_slots}
+use Rattle.swi_rom.specs.Collected.{collected}
 use Rattle.swi_slots.specs.Keys.{Images}
 use Rattle.swi_slots.specs.Sound.{SlotsServe, SlotsSound, Serves}
 

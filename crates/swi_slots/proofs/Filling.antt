@@ -7,7 +7,7 @@ use Rattle.swi_image.specs.Format.{ImageData}
 use Rattle.swi_image.specs.Place.{length_at}
 use Rattle.swi_image.specs.Sound.{IsImage}
 use Rattle.swi_slots.specs.Keys.{Images}
-use Rattle.swi_slots.specs.Inside.{block_short, block_known, block_few}
+use Rattle.swi_rom.specs.Blocks.{block_short, block_known, block_few}
 use Rattle.swi_outside.specs.CacheRam.{RamState}
 use Rattle.swi_slots.specs.Slots.{Slots, InShape}
 use Rattle.swi_rom.specs.Writing.{FailedBelow, Wrote}

@@ -10,13 +10,13 @@ use Rattle.swi_rom.specs.Policy.{with_link, first_of}
 use Rattle.swi_slots.specs.Slots.{Slots, InShape, links_of, queue_of, kept_by}
 use Rattle.swi_slots.specs.Sound.{SlotsServe, LinkStands}
 use Rattle.swi_slots.specs.Steps.{Linked}
-use Rattle.swi_slots.specs.Links.{same_ascending, with_ascending, has_with, same_same, same_is}
-use Rattle.swi_slots.specs.Collected.{length_with_all}
+use Rattle.swi_rom.specs.Links.{same_ascending, with_ascending, has_with, same_same, same_is}
+use Rattle.swi_rom.specs.Collected.{length_with_all}
 use Rattle.swi_slots.specs.Queue.{placed_slot, slot_placed}
 use Rattle.swi_slots.specs.SlotLinks.{Tidy, link_of, linked_word, word_linked, word_below, word_slot, links_ascending, never_link}
 use Rattle.swi_slots.specs.Coheres.{tidy_of}
-use Rattle.swi_slots.proofs.MissLinks.{same_tests}
-use Rattle.swi_slots.proofs.Policy.{first_in_has}
+use Rattle.swi_rom.specs.Links.{same_tests}
+use Rattle.swi_rom.specs.Found.{first_in_has}
 
 -- the first word of a slot's block
 pub first_of_slot : (s : Slots) (n b : ℕ) → Tidy s → n < s.filled → b < 2 ^ 19 → slice_index s.blocks n ≡ key_of s.turn b → first_of (kept_by s) b ≡ n * s.size

@@ -11,17 +11,11 @@ use Rattle.swi_slots.specs.Sound.{SlotsServe, LinkStands}
 use Rattle.swi_slots.specs.Steps.{is_dropped, leads_in, leading_in, IsAbsent}
 use Rattle.swi_rom.specs.declared.rom.Counts.{Counts}
 use Rattle.swi_slots.specs.Queue.{spot, next_free}
-use Rattle.swi_slots.specs.Links.{same_ascending}
-use Rattle.swi_slots.specs.Collected.{has_filter, filter_ascending, length_collected, passing, passes, length_apart}
+use Rattle.swi_rom.specs.Links.{same_ascending, same_tests}
+use Rattle.swi_rom.specs.Collected.{has_filter, filter_ascending, length_collected, passing, passes, length_apart}
 use Rattle.swi_slots.specs.SlotLinks.{link_of, link_here, here_of_word, linked_word, word_linked, word_slot, word_is, word_below, links_ascending}
 use Rattle.swi_slots.specs.Coheres.{tidy_of, target_owner}
 use Rattle.swi_slots.proofs.Missing.{Roomy, CountsMove, filled_slots, target_left, other_block, moved_tidy}
-
-pub same_tests : (x y : Bool) → (x ≡ true → y ≡ true) → (y ≡ true → x ≡ true) → x ≡ y
-same_tests true true f g = refl
-same_tests true false f g = sym (f refl)
-same_tests false true f g = g refl
-same_tests false false f g = refl
 
 -- a link that was and is neither from the slot nor to it
 abbrev pub Elsewhere : Slots → Link → Type 0
@@ -192,12 +186,3 @@ unfolding links_of
 undone_count s vs words sound full =
     sym (length_collected (is_undone (entry s s.next)) (link_at s) (s.slots * s.size)
     ∙ passing_leading _ (link_at s) s.size s.next s.targets (s.slots * s.size) (λ i below. undone_at s vs words i sound full below))
-
-pub undone_apart : (e : Placement) (ls : List Link) → length (filter (is_undone e) ls) + length (filter (is_kept e) ls) ≤ length ls
-unfolding is_undone is_kept
-undone_apart e ls = length_apart (is_undone e) (is_kept e) (λ l p q. never (is_from e l) (leads_to e l) p q) ls
-  where
-    never : (x y : Bool) → (not x && y) ≡ true → not (x || y) ≡ true → ⊥
-    never true y p q = both_ways false refl p
-    never false true p q = both_ways false refl q
-    never false false p q = both_ways false refl p

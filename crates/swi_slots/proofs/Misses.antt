@@ -19,9 +19,11 @@ use Rattle.swi_rom.specs.Rams.{wrote_more, wrote_wider}
 use Rattle.swi_slots.proofs.Filling.{slot_fits}
 use Rattle.swi_slots.specs.Queue.{spot, length_queue, queue_free, queue_full}
 use Rattle.swi_slots.proofs.Missing.{Roomy, roomy_free, roomy_full, CountsMove, filled_slots, next_filled, here_block, moved_sound}
-use Rattle.swi_slots.proofs.MissLinks.{entry, links_full, links_free, undone_count, undone_apart}
+use Rattle.swi_slots.proofs.MissLinks.{entry, links_full, links_free, undone_count}
+use Rattle.swi_rom.specs.Collected.{undone_apart}
 use Rattle.swi_slots.proofs.Arriving.{absent_not_placed, counted_is, counted_sound, counted_few, same_links, miss_words}
-use Rattle.swi_slots.specs.Inside.{known_short, known_few}
+use Rattle.swi_slots.specs.Inside.{known_short}
+use Rattle.swi_rom.specs.Blocks.{known_few}
 use Rattle.swi_slots.specs.Coheres.{key_word, key_words}
 
 -- what a miss comes to, the service having been counted

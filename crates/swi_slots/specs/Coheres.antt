@@ -14,7 +14,8 @@ use Rattle.swi_slots.specs.Sound.{SlotsServe, SlotsSound, LinkStands}
 use Rattle.swi_slots.specs.SlotLinks.{Tidy, among_word, among_is}
 use Rattle.swi_slots.specs.Order.{queue_distinct}
 use Rattle.swi_slots.specs.Queue.{placed_slot, slot_placed}
-use Rattle.swi_slots.specs.Inside.{known_short, known_few}
+use Rattle.swi_slots.specs.Inside.{known_short}
+use Rattle.swi_rom.specs.Blocks.{known_few}
 
 pub tidy_of : (s : Slots) (vs : Images) (words : List ℕ) → SlotsServe s vs words → Tidy s
 tidy_of s vs words sound = record { shape = sound.shape; distinct = sound.distinct; stands = sound.stands }

@@ -7,8 +7,6 @@ pub mod Service
 pub mod Steps
 pub mod Tells
 pub mod Arrived
-pub mod Links
-pub mod Collected
 pub mod Queue
 pub mod Order
 pub mod SlotLinks

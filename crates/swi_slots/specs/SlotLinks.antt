@@ -5,8 +5,8 @@ use Rattle.std.proofs.lemmas.Nat.{mod-mul-add, div-mul-add, div-add-mod', mod_be
 use Rattle.swi_rom.specs.Record.{Link, has_link, exit_among}
 use Rattle.swi_slots.specs.Keys.{key_of, owner_of, number_of, key_owner, key_number, key_parts, number_below}
 use Rattle.swi_slots.specs.Slots.{Slots, InShape, link_at, links_of}
-use Rattle.swi_slots.specs.Collected.{Differ, collected_has, has_collected, collected_ascending}
-use Rattle.swi_slots.specs.Links.{Ascending, among_has, has_among}
+use Rattle.swi_rom.specs.Collected.{Differ, collected_has, has_collected, collected_ascending}
+use Rattle.swi_rom.specs.Links.{Ascending, among_has, has_among}
 
 -- no block stands twice, and only words of filled slots are links
 pub record Tidy (s : Slots) : Type 0 where

@@ -2,7 +2,7 @@
 use Rattle.std.specs.Prelude.{◌≡◌, ℕ, suc, zero, ◌+◌, ◌*◌, ◌/◌, ◌%◌, ◌<◌, ◌≤◌, ◌==◌, ◌&&◌, ◌^◌, min, List, [], ◌∷◌, ◌++◌, take, drop, length, replicate, Option, Some, None, if◌then◌else◌, slice_index, nat_lt}
 use Rattle.swi_rom.specs.Record.{Record, Placement, Link}
 use Rattle.swi_rom.specs.Service.{Setting}
-use Rattle.swi_rom.specs.Policy.{with_link}
+use Rattle.swi_rom.specs.Collected.{collected}
 use Rattle.swi_slots.specs.Keys.{owner_of, number_of}
 use Rattle.swi_rom.specs.declared.rom.Counts.{Counts}
 
@@ -72,15 +72,6 @@ link_at s i =
       into = number_of (slice_index s.blocks (slice_index s.targets i));
     })
     else None
-
-abbrev pub add_link : Option Link → List Link → List Link
-add_link None ls = ls
-add_link (Some k) ls = with_link k ls
-
--- the links among the first n words, in ascending order
-unfoldable pub collected : (ℕ → Option Link) → ℕ → List Link
-collected f zero = []
-collected f (suc n) = add_link (f n) (collected f n)
 
 unfoldable pub links_of : Slots → List Link
 links_of s = collected (link_at s) (s.slots * s.size)

@@ -4,6 +4,7 @@ use Rattle.swi_image.specs.Format.{ImageData}
 use Rattle.swi_image.specs.Place.{word_at, length_at}
 use Rattle.swi_outside.specs.CacheRam.{RamState}
 use Rattle.swi_rom.specs.Record.{ebreak, IsJump, reaches}
+use Rattle.swi_rom.specs.Policy.{more_service}
 use Rattle.swi_rom.specs.Writing.{Wrote, Copied}
 use Rattle.swi_slots.specs.Table.{NotAmong}
 use Rattle.swi_slots.specs.Slots.{Slots}
@@ -62,11 +63,6 @@ pub record Linked (s t : Slots) (at slot to goal : ℕ) (before after : RamState
   pub jumps : IsJump at to (slice_index after.words at)
   pub others : (i : ℕ) → (i ≡ at → ⊥) → slice_index after.words i ≡ slice_index before.words i
   pub wrote : Wrote (s.slots * s.size) 1 before after
-
--- one more service, but for the boot
-abbrev pub more_service : ℕ → ℕ
-more_service zero = 0
-more_service (suc n) = 1
 
 abbrev pub counted_slots : Slots → Slots
 counted_slots s = record s { counts = record s.counts { services = s.counts.services + more_service s.filled } }

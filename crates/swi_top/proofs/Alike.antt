@@ -13,7 +13,7 @@ use Rattle.swi_render.specs.ImageOf.{IsImageOf}
 use Rattle.swi_command.specs.declared.command.CacheOptions.{CacheOptions}
 use Rattle.swi_command.specs.declared.command.RunOptions.{RunOptions}
 use Rattle.swi_command.specs.declared.command.Reports.{Reports}
-use Rattle.swi_command.specs.CommandLine.{Request, RunCached, RunPlain}
+use Rattle.swi_command.specs.CommandLine.{Request}
 use Rattle.swi_report.specs.declared.stats.Work.{Work}
 use Rattle.swi_report.specs.State.{state_text_of}
 use Rattle.swi_report.specs.Stats.{stats_text_of, work_text}
@@ -26,9 +26,14 @@ use Rattle.swi_answer.specs.declared.answer.Refusal.{Refusal}
 use Rattle.swi_answer.specs.declared.answer.Refusal.TheVariants as refusal
 use Rattle.swi_answer.specs.Lines.{ending_line}
 use Rattle.swi_top.specs.Devices.{Devices}
-use Rattle.swi_top.specs.Checks.{Check, OfImage, IsShort, IsAcceptedElf, HasRoom, HasImage, IsAcceptedImage, IsOwnImage, FitsBlocks, FitsUnlessImage, HoldsBlock, FitsMade, HoldsWords, Fails, Passes, IsAccepted, IsRefusedBy, cache_refusal, checks_of, text_in}
+use Rattle.swi_top.specs.Checks.{Check, OfImage, IsShort, IsAcceptedElf, HasRoom, HasImage, IsAcceptedImage, IsOwnImage, FitsBlocks, FitsUnlessImage, FitsMade, HoldsBlock, Fails, Passes, IsAccepted, IsRefusedBy, cache_refusal, text_in}
 use Rattle.swi_top.specs.Runs.{Ran, report, start_of}
-use Rattle.swi_top.specs.Answers.{Answers, AnswersWithLine, cache_for, cached_run, shown_end, shown_error, plain_report, plain_run, telling_of, work_of}
+use Rattle.swi_top.specs.Answers.{Answers, AnswersWithLine}
+use Rattle.swi_top.specs.Caching.{cache_for, work_of}
+use Rattle.swi_top.specs.RunCached.{cached_run, cached_task, shown_end, shown_error, telling_of}
+use Rattle.swi_top.specs.RunPlain.{plain_report, plain_run, plain_task}
+use Rattle.swi_top.specs.Task.{Task}
+use Rattle.swi_top.specs.Tasks.{task_of}
 use Rattle.swi_top.specs.Alike.{IsFree, LeavesAlike}
 use Rattle.swi_top.proofs.Lines.{take_all}
 
@@ -37,52 +42,51 @@ use Rattle.swi_top.proofs.Lines.{take_all}
 image_fact : (x : Option (List ℕ)) (P : List ℕ → Type 0) (bytes : List ℕ) → x ≡ Some bytes → OfImage x P → P bytes
 image_fact x P bytes e h = subst (λ (y : Option (List ℕ)). OfImage y P) e h
 
-fails_not : (file : List ℕ) (c : Check) (r : Refusal) → Passes file c → Fails file c r → ⊥
-fails_not file IsShort r p f = let long = f.0 in omega (arith, p, long)
-fails_not file IsAcceptedElf r p f = let bad : ⊥ = cc in bad
-fails_not file (HasRoom limits) r p f = let ok = p.1 in let err = f.1 in let bad : ⊥ = cc in bad
-fails_not file HasImage r p f = let some = p.1 in let none = f.0 in let bad : ⊥ = cc in bad
-fails_not file IsAcceptedImage r p f =
+fails_not : (c : Check) (r : Refusal) → Passes c → Fails c r → ⊥
+fails_not (IsShort file) r p f = let long = f.0 in omega (arith, p, long)
+fails_not (IsAcceptedElf file) r p f = let bad : ⊥ = cc in bad
+fails_not (HasRoom file limits) r p f = let ok = p.1 in let err = f.1 in let bad : ⊥ = cc in bad
+fails_not (HasImage file) r p f = let some = p.1 in let none = f.0 in let bad : ⊥ = cc in bad
+fails_not (IsAcceptedImage file) r p f =
     let none = image_fact (image_in file) (λ bytes. image.first_refusal bytes ≡ None) f.0 f.1 p in let some = f.2 in let bad : ⊥ = cc in bad
-fails_not file IsOwnImage r p f =
+fails_not (IsOwnImage file) r p f =
     err_not (text_in file) (image_of f.0) (Err f.2.0) f.2.1 (image_fact (image_in file) (λ bytes. IsImageOf (text_in file) (image_of bytes)) f.0 f.1 p)
-fails_not file (FitsBlocks most) r p f = let few = p f.0 f.1.within in let long = f.1.long in omega (arith, few, long)
-fails_not file (FitsUnlessImage most) r p f = let few = p f.0 f.1.0 f.1.1.within in let long = f.1.1.long in omega (arith, few, long)
-fails_not file (HoldsBlock cache) r p f = let less = f.0 in omega (arith, p, less)
-fails_not file (FitsMade seed functions most) r p f = let few = p f.0 f.1 f.2.0 f.2.1.within in let long = f.2.1.long in omega (arith, few, long)
-fails_not file (HoldsWords cache) r p f = let less = f.0 in omega (arith, p, less)
+fails_not (FitsBlocks file most) r p f = let few = p f.0 f.1.within in let long = f.1.long in omega (arith, few, long)
+fails_not (FitsUnlessImage file most) r p f = let few = p f.0 f.1.0 f.1.1.within in let long = f.1.1.long in omega (arith, few, long)
+fails_not (FitsMade seed functions most) r p f = let few = p f.0 f.1 f.2.0 f.2.1.within in let long = f.2.1.long in omega (arith, few, long)
+fails_not (HoldsBlock bytes least) r p f = let less = f.0 in omega (arith, p, less)
 
-not_both : (file : List ℕ) (cs : List Check) (r : Refusal) → IsAccepted file cs → IsRefusedBy file cs r → ⊥
-not_both file [] r passed h = h
-not_both file (c ∷ cs) r passed h = elim h [ inl f ↦ fails_not file c r passed.0 f | inr rest ↦ not_both file cs r passed.1 rest.1 ]
+not_both : (cs : List Check) (r : Refusal) → IsAccepted cs → IsRefusedBy cs r → ⊥
+not_both [] r passed h = h
+not_both (c ∷ cs) r passed h = elim h [ inl f ↦ fails_not c r passed.0 f | inr rest ↦ not_both cs r passed.1 rest.1 ]
 
 -- ---- a command ends
 
 size_not : (x : Option Refusal) (r : Refusal) → x ≡ None → x ≡ Some r → ⊥
 size_not x r none some = cc
 
-not_refused : (q : Request) (file : List ℕ) (before after : Devices) (r : Refusal) (last : List ℕ) → Answers q before after (Err r) last → IsFree q file before after (Err r) → ⊥
-not_refused q file before after refusal.Usage last a free = a.asked refl
-not_refused q file before after refusal.Memory last a free = free.memory refl
-not_refused q file before after refusal.ShelfFault last a free = free.quiet.shelf (a.causes.shelf.cause refl)
-not_refused q file before after refusal.SourceFault last a free = free.quiet.input (a.causes.source.cause refl)
-not_refused q file before after refusal.SinkFault last a free = elim (a.causes.sink refl) [ inl out ↦ free.quiet.out out | inr err ↦ free.quiet.err err ]
-not_refused q file before after refusal.RamFault last a free = free.quiet.ram (a.causes.ram.cause refl)
-not_refused q file before after (refusal.CacheLarge bytes) last a free = size_not (cache_refusal q (length before.ram.words)) (refusal.CacheLarge bytes) free.sized (a.sized.only tt)
-not_refused q file before after (refusal.RamSmall bytes held) last a free = size_not (cache_refusal q (length before.ram.words)) (refusal.RamSmall bytes held) free.sized (a.sized.only tt)
-not_refused q file before after (refusal.FileLong limit) last a free = not_both file (checks_of q) (refusal.FileLong limit) free.accepted (a.checked file free.told)
-not_refused q file before after (refusal.Elf r) last a free = not_both file (checks_of q) (refusal.Elf r) free.accepted (a.checked file free.told)
-not_refused q file before after (refusal.Room end) last a free = not_both file (checks_of q) (refusal.Room end) free.accepted (a.checked file free.told)
-not_refused q file before after refusal.NoImage last a free = not_both file (checks_of q) refusal.NoImage free.accepted (a.checked file free.told)
-not_refused q file before after (refusal.Image r) last a free = not_both file (checks_of q) (refusal.Image r) free.accepted (a.checked file free.told)
-not_refused q file before after (refusal.Mismatch m) last a free = not_both file (checks_of q) (refusal.Mismatch m) free.accepted (a.checked file free.told)
-not_refused q file before after (refusal.Long address needs) last a free = not_both file (checks_of q) (refusal.Long address needs) free.accepted (a.checked file free.told)
-not_refused q file before after (refusal.CacheSmall bytes least) last a free = not_both file (checks_of q) (refusal.CacheSmall bytes least) free.accepted (a.checked file free.told)
+not_refused : (t : Task) (files : t.Files) (before after : Devices) (r : Refusal) (last : List ℕ) → Answers t before after (Err r) last → IsFree t files before after (Err r) → ⊥
+not_refused t files before after refusal.Usage last a free = a.asked refl
+not_refused t files before after refusal.Memory last a free = free.memory refl
+not_refused t files before after refusal.ShelfFault last a free = free.quiet.shelf (a.causes.shelf.cause refl)
+not_refused t files before after refusal.SourceFault last a free = free.quiet.input (a.causes.source.cause refl)
+not_refused t files before after refusal.SinkFault last a free = elim (a.causes.sink refl) [ inl out ↦ free.quiet.out out | inr err ↦ free.quiet.err err ]
+not_refused t files before after refusal.RamFault last a free = free.quiet.ram (a.causes.ram.cause refl)
+not_refused t files before after (refusal.CacheLarge bytes) last a free = size_not (cache_refusal t.cache (length before.ram.words)) (refusal.CacheLarge bytes) free.sized (a.sized.only tt)
+not_refused t files before after (refusal.RamSmall bytes held) last a free = size_not (cache_refusal t.cache (length before.ram.words)) (refusal.RamSmall bytes held) free.sized (a.sized.only tt)
+not_refused t files before after (refusal.FileLong limit) last a free = not_both (t.checks files) (refusal.FileLong limit) free.accepted (a.checked files free.told)
+not_refused t files before after (refusal.Elf r) last a free = not_both (t.checks files) (refusal.Elf r) free.accepted (a.checked files free.told)
+not_refused t files before after (refusal.Room end) last a free = not_both (t.checks files) (refusal.Room end) free.accepted (a.checked files free.told)
+not_refused t files before after refusal.NoImage last a free = not_both (t.checks files) refusal.NoImage free.accepted (a.checked files free.told)
+not_refused t files before after (refusal.Image r) last a free = not_both (t.checks files) (refusal.Image r) free.accepted (a.checked files free.told)
+not_refused t files before after (refusal.Mismatch m) last a free = not_both (t.checks files) (refusal.Mismatch m) free.accepted (a.checked files free.told)
+not_refused t files before after (refusal.Long address needs) last a free = not_both (t.checks files) (refusal.Long address needs) free.accepted (a.checked files free.told)
+not_refused t files before after (refusal.CacheSmall bytes least) last a free = not_both (t.checks files) (refusal.CacheSmall bytes least) free.accepted (a.checked files free.told)
 
-pub completes : (q : Request) (file : List ℕ) (before after : Devices) (result : Result Ending Refusal) →
-    AnswersWithLine q before after result → IsFree q file before after result → (e : Ending) × (result ≡ Ok e)
-completes q file before after (Ok e) a free = (e, refl)
-completes q file before after (Err r) a free = absurd (not_refused q file before after r _ a.answers free)
+pub completes : (q : Request) (files : (task_of q).Files) (before after : Devices) (result : Result Ending Refusal) →
+    AnswersWithLine (task_of q) before after result → IsFree (task_of q) files before after result → (e : Ending) × (result ≡ Ok e)
+completes q files before after (Ok e) a free = (e, refl)
+completes q files before after (Err r) a free = absurd (not_refused (task_of q) files before after r _ a.answers free)
 
 -- ---- both machines
 
@@ -135,8 +139,8 @@ shown_is trace.Each c off = cc
 shown_is trace.Last c off = cc
 
 ended_alike : (name : List ℕ) (cache : CacheOptions) (o : RunOptions) (file input : List ℕ) (before plain cached : Devices) (e f : Ending) →
-    AnswersWithLine (RunPlain name o) before plain (Ok e) → IsFree (RunPlain name o) file before plain (Ok e) →
-    AnswersWithLine (RunCached name cache o) before cached (Ok f) → IsFree (RunCached name cache o) file before cached (Ok f) →
+    AnswersWithLine (plain_task name o) before plain (Ok e) → IsFree (plain_task name o) file before plain (Ok e) →
+    AnswersWithLine (cached_task name cache o) before cached (Ok f) → IsFree (cached_task name cache o) file before cached (Ok f) →
     before.input ≡ Some input → ((j : ℕ) → j < o.limits.steps → StoresAt (start_of o file input) j → ⊥) → (f ≡ e) × LeavesAlike o before plain cached
 ended_alike name cache o file input before plain cached e f one free other free' told never =
     let ran = one.answers.done file free.told input told in
@@ -148,11 +152,11 @@ ended_alike name cache o file input before plain cached e f one free other free'
     (λ off. ap (λ (q : FlatState). q.error) (shown_is o.reports.trace c off ∙ flat)) ran (one.whole free.quiet.err) runs.ran (other.whole free'.quiet.err)
 
 pub ends_alike : (name : List ℕ) (cache : CacheOptions) (o : RunOptions) (file input : List ℕ) (before plain cached : Devices) (one other : Result Ending Refusal) →
-    AnswersWithLine (RunPlain name o) before plain one → IsFree (RunPlain name o) file before plain one →
-    AnswersWithLine (RunCached name cache o) before cached other → IsFree (RunCached name cache o) file before cached other →
+    AnswersWithLine (plain_task name o) before plain one → IsFree (plain_task name o) file before plain one →
+    AnswersWithLine (cached_task name cache o) before cached other → IsFree (cached_task name cache o) file before cached other →
     before.input ≡ Some input → ((j : ℕ) → j < o.limits.steps → StoresAt (start_of o file input) j → ⊥) →
     (e : Ending) × (one ≡ Ok e) × (other ≡ Ok e) × LeavesAlike o before plain cached
 ends_alike name cache o file input before plain cached (Ok e) (Ok f) a free b free' told never =
     let both = ended_alike name cache o file input before plain cached e f a free b free' told never in (e, refl, ap (λ (x : Ending). Ok x) both.0, both.1)
-ends_alike name cache o file input before plain cached (Err r) other a free b free' told never = absurd (not_refused (RunPlain name o) file before plain r _ a.answers free)
-ends_alike name cache o file input before plain cached (Ok e) (Err r) a free b free' told never = absurd (not_refused (RunCached name cache o) file before cached r _ b.answers free')
+ends_alike name cache o file input before plain cached (Err r) other a free b free' told never = absurd (not_refused (plain_task name o) file before plain r _ a.answers free)
+ends_alike name cache o file input before plain cached (Ok e) (Err r) a free b free' told never = absurd (not_refused (cached_task name cache o) file before cached r _ b.answers free')

@@ -5,7 +5,8 @@ use Rattle.std.proofs.lemmas.List.{append-nil}
 use Rattle.std.specs.Io.KnownBytes.{Appends}
 use Rattle.swi_outside.specs.Causes.{DeviceCause, Rose, risen}
 use Rattle.swi_outside.specs.CacheRam.{KeepsBeyond, RamState}
-use Rattle.swi_outside.specs.Laws.{Appends-append, Appends-none}
+use Rattle.swi_outside.specs.Devices as outside
+use Rattle.swi_outside.specs.Laws.{Appends-append, Appends-none, ok_unmoved}
 use Rattle.swi_outside.specs.Shelf.{Asked, Contents, Same, Stands}
 use Rattle.swi_outside.specs.Sink.{AppendsPrefix}
 use Rattle.swi_elf_read.specs.Elf as elf
@@ -13,12 +14,11 @@ use Rattle.swi_elf_read.specs.Loaded.{image_of as image_in}
 use Rattle.swi_memory.specs.declared.layout.Layout.{Layout}
 use Rattle.swi_program.specs.Program.{ProgramData}
 use Rattle.swi_program.specs.ProgramOf.{program_of_file}
-use Rattle.swi_image.specs.Format.{ImageData, image_of}
-use Rattle.swi_render.specs.Cut.{Fits, IsCut}
-use Rattle.swi_command.specs.CommandLine.{Request, RunCached}
+use Rattle.swi_image.specs.Format.{ImageData}
 use Rattle.swi_command.specs.declared.command.CacheKind.{CacheKind}
 use Rattle.swi_command.specs.declared.command.CacheKind.TheVariants as kind
 use Rattle.swi_command.specs.declared.command.CacheOptions.{CacheOptions}
+use Rattle.swi_command.specs.declared.command.RunLimits.{RunLimits}
 use Rattle.swi_command.specs.declared.command.RunOptions.{RunOptions}
 use Rattle.swi_calls.specs.declared.end.End.{End}
 use Rattle.swi_calls.specs.declared.machine.Machine.{Machine}
@@ -35,7 +35,6 @@ use Rattle.swi_cached.specs.Ringed.{ringed}
 use Rattle.swi_cached.specs.Slotted.{slotted}
 use Rattle.swi_cached.specs.declared.told.Telling.{Telling}
 use Rattle.swi_cached.specs.Told.{addresses, history_of, next_error, told_line}
-use Rattle.swi_hart.specs.Faults as board
 use Rattle.swi_memory.specs.Bus.{AreaData}
 use Rattle.std.proofs.Math.Seq.{take-append_seam, take-length}
 use Rattle.std.proofs.lemmas.List.{take-append-drop}
@@ -44,19 +43,22 @@ use Rattle.swi_cached.proofs.Failed.{is_flat_run, stops_before_store}
 use Rattle.swi_answer.specs.declared.answer.Ending.{Ending}
 use Rattle.swi_answer.specs.declared.answer.Refusal.{Refusal}
 use Rattle.swi_answer.specs.declared.answer.Refusal.TheVariants as refusal
-use Rattle.swi_top.specs.Answers.{Answers, BrokeIn, CachedFailed, Does, IsCachedRun, IsChecked, IsImageFor, IsRunFault, IsSizeRefusal, Leaves, RamCounted, RunsCached, cache_by, cache_for, cached_report, cached_run, held_next, last_lines, last_told, shown_error, telling_of, work_of}
-use Rattle.swi_top.specs.Caching.{AnswersFile, IsCachedErr, IsFileErr, IsRunErr, RunsOnCache, RunsOver, board_work, refusal_of}
+use Rattle.swi_answer.specs.Lines.{ending_line}
+use Rattle.swi_top.specs.Answers.{Answers, IsChecked, IsSizeRefusal}
+use Rattle.swi_top.specs.Caching.{IsCachedRun, RamCounted, board_work, cache_by, cache_for, work_of}
 use Rattle.swi_top.specs.Causes.{HasCauses}
-use Rattle.swi_top.specs.Checks.{Check, FitsUnlessImage, HoldsBlock, Fails, ImageFails, ImagePasses, IsAccepted, IsLong, IsRefusedBy, IsRefusedOr, Passes, block_words, cache_refusal, checks_of, file_limit, room_in, size_refusal, text_in}
+use Rattle.swi_top.specs.Checks.{Check, HoldsBlock, Fails, IsAccepted, IsRefusedOr, block_words, file_limit, least_cache, room_in, size_refusal, subject_checks}
 use Rattle.swi_top.specs.Devices.{Devices, Faults}
-use Rattle.swi_top.specs.Runs.{FailedAfterRun, ending_by, report}
-use Rattle.swi_top.specs.Tracing.{addresses_in}
+use Rattle.swi_top.specs.RunCached.{BrokeIn, CachedFailed, IsRunErr, RamBroke, RunsCached, RunsOver, addresses_in, cached_checks, cached_report, cached_run, held_next, last_lines, last_told, refusal_of, cached_task, shown_error, telling_of}
+use Rattle.swi_top.specs.Runs.{FailedAfterRun, ending_by, report, start_of}
+use Rattle.swi_top.specs.Subject.{IsImageFor}
 use Rattle.swi_top.proofs.Due.{left_empty}
-use Rattle.swi_top.proofs.Tracing.{all_shown, last_is, some_shown}
-use Rattle.swi_top.proofs.Refusals.{IsLate, checked_by, keeps_ram, late_causes, late_run, ok_causes, quiet_cause, refused_late, sized_along, sized_err, sized_ok, told_is}
+use Rattle.swi_top.proofs.Tracing.{all_shown, last_is, shown_split, some_shown}
+use Rattle.swi_top.proofs.Refusals.{late_causes, ok_causes, quiet_cause, sized_along, sized_err, sized_ok, told_is}
 use Rattle.swi_top.proofs.Confirming.{out_causes}
-use Rattle.swi_top.proofs.Images.{fails_some, of_none, passes_none, passes_some, run_checks}
+use Rattle.swi_top.proofs.Images.{front_refused, last_fails, last_passes, run_passes, run_refused, size_is}
 use Rattle.swi_top.proofs.Flats.{start_is}
+use Rattle.swi_top.proofs.Lines.{IsLined, after_line, after_run_line, appends_last, at_step_line, ran_line, told_to}
 
 -- the devices after a run
 abbrev pub ran_all : Devices → Option (List ℕ) → Option (List ℕ) → Option (List ℕ) → RamState → ℕ → ℕ → ℕ → Devices
@@ -81,10 +83,11 @@ no_memory o cache v p l d = record {
   causes = late_causes d.faults refusal.Memory tt;
 }
 
--- the counts of the board's devices
-abbrev pub BoardCauses : {T : Type 0} → Devices → ℕ → ℕ → ℕ → ℕ → Result T CachedStop → Type 0
-BoardCauses d ram source out err r =
-    run.HasCauses (record { ram = d.faults.ram; input = d.faults.input; out = d.faults.out; err = d.faults.err }) (record { ram = ram; input = source; out = out; err = err }) r
+-- the counts of the board's devices, by the run's answer
+pub record BoardCauses {T : Type 0} (d : Devices) (ram source out err : ℕ) (r : Result T CachedStop) : Type 0 where
+  pub devices : outside.HasCauses (record { input = d.faults.input; output = d.faults.out; error = d.faults.err }) (record { input = source; output = out; error = err })
+      (IsErrOf r stop.SourceFault) (IsErrOf r stop.SinkFault)
+  pub ram_cause : DeviceCause d.faults.ram ram (IsErrOf r stop.RamFault)
 
 same_count : {P : Type 0} (n m : ℕ) → DeviceCause n m P → (P → ⊥) → m ≡ n
 same_count n m h never = elim h.told [ inl e ↦ e | inr p ↦ absurd (never p) ]
@@ -93,9 +96,9 @@ memory_after : {T : Type 0} (o : RunOptions) (cache : Cache) (v : ImageData) (p 
     d.ram.faults ≡ d.faults.ram → (ram ≡ d.ram) × (i ≡ d.input) × (out ≡ d.output) × (e ≡ d.error) → BoardCauses {T = T} d ram.faults fi fo fe (Err stop.Memory) →
     RunsOver o cache v p l d (ran_all d i out e ram fi fo fe) (Err refusal.Memory)
 memory_after o cache v p l d i out e ram fi fo fe tied same h =
-    let fi_is : fi ≡ d.faults.input = same_count d.faults.input fi h.source (λ x. let bad : ⊥ = cc in bad) in
-    let fo_is : fo ≡ d.faults.out = elim h.sinks.one_told [ inl q ↦ q | inr x ↦ absurd (let bad : ⊥ = cc in bad) ] in
-    let fe_is : fe ≡ d.faults.err = elim h.sinks.other_told [ inl q ↦ q | inr x ↦ absurd (let bad : ⊥ = cc in bad) ] in
+    let fi_is : fi ≡ d.faults.input = same_count d.faults.input fi h.devices.input (λ x. let bad : ⊥ = cc in bad) in
+    let fo_is : fo ≡ d.faults.out = elim h.devices.sinks.one_told [ inl q ↦ q | inr x ↦ absurd (let bad : ⊥ = cc in bad) ] in
+    let fe_is : fe ≡ d.faults.err = elim h.devices.sinks.other_told [ inl q ↦ q | inr x ↦ absurd (let bad : ⊥ = cc in bad) ] in
     let Goal : Option (List ℕ) → Option (List ℕ) → Option (List ℕ) → RamState → ℕ → ℕ → ℕ → ℕ → Type 0 = λ a b x r k m n s.
     RunsOver o cache v p l d (record d { input = a; output = b; error = x; ram = r; faults = record d.faults { input = k; out = m; err = n; ram = s } }) (Err refusal.Memory) in
     let ram_is : ram.faults ≡ d.faults.ram = ap (λ (r : RamState). r.faults) same.0 ∙ tied in
@@ -112,12 +115,12 @@ ram_causes : {T : Type 0} (d : Devices) (ram source out err : ℕ) → BoardCaus
     HasCauses {T = Ending} d.faults (record d.faults { input = source; out = out; err = err; ram = ram }) (Err refusal.RamFault)
 ram_causes d ram source out err h = record {
   shelf = quiet_cause d.faults.shelf _ (λ x. let bad : ⊥ = cc in bad);
-  source = record { later = h.source.later; cause = λ x. absurd (let bad : ⊥ = cc in bad); told = inl (same_count _ _ h.source (λ x. let bad : ⊥ = cc in bad)) };
-  ram = record { later = h.ram.later; cause = λ _. h.ram.cause refl; told = inr refl };
-  out_later = h.sinks.one_later;
-  err_later = h.sinks.other_later;
+  source = record { later = h.devices.input.later; cause = λ x. absurd (let bad : ⊥ = cc in bad); told = inl (same_count _ _ h.devices.input (λ x. let bad : ⊥ = cc in bad)) };
+  ram = record { later = h.ram_cause.later; cause = λ _. h.ram_cause.cause refl; told = inr refl };
+  out_later = h.devices.sinks.one_later;
+  err_later = h.devices.sinks.other_later;
   sink = λ x. absurd (let bad : ⊥ = cc in bad);
-  out_told = inl (elim h.sinks.one_told [ inl q ↦ q | inr x ↦ absurd (let bad : ⊥ = cc in bad) ]);
+  out_told = inl (elim h.devices.sinks.one_told [ inl q ↦ q | inr x ↦ absurd (let bad : ⊥ = cc in bad) ]);
   quiet = tt;
 }
 
@@ -125,12 +128,12 @@ source_causes : {T : Type 0} (d : Devices) (ram source out err : ℕ) → BoardC
     HasCauses {T = Ending} d.faults (record d.faults { input = source; out = out; err = err; ram = ram }) (Err refusal.SourceFault)
 source_causes d ram source out err h = record {
   shelf = quiet_cause d.faults.shelf _ (λ x. let bad : ⊥ = cc in bad);
-  source = record { later = h.source.later; cause = λ _. h.source.cause refl; told = inr refl };
-  ram = record { later = h.ram.later; cause = λ x. absurd (let bad : ⊥ = cc in bad); told = inl (same_count _ _ h.ram (λ x. let bad : ⊥ = cc in bad)) };
-  out_later = h.sinks.one_later;
-  err_later = h.sinks.other_later;
+  source = record { later = h.devices.input.later; cause = λ _. h.devices.input.cause refl; told = inr refl };
+  ram = record { later = h.ram_cause.later; cause = λ x. absurd (let bad : ⊥ = cc in bad); told = inl (same_count _ _ h.ram_cause (λ x. let bad : ⊥ = cc in bad)) };
+  out_later = h.devices.sinks.one_later;
+  err_later = h.devices.sinks.other_later;
   sink = λ x. absurd (let bad : ⊥ = cc in bad);
-  out_told = inl (elim h.sinks.one_told [ inl q ↦ q | inr x ↦ absurd (let bad : ⊥ = cc in bad) ]);
+  out_told = inl (elim h.devices.sinks.one_told [ inl q ↦ q | inr x ↦ absurd (let bad : ⊥ = cc in bad) ]);
   quiet = tt;
 }
 
@@ -138,11 +141,11 @@ sink_causes : {T : Type 0} (d : Devices) (ram source out err : ℕ) → BoardCau
     HasCauses {T = Ending} d.faults (record d.faults { input = source; out = out; err = err; ram = ram }) (Err refusal.SinkFault)
 sink_causes d ram source out err h = record {
   shelf = quiet_cause d.faults.shelf _ (λ x. let bad : ⊥ = cc in bad);
-  source = record { later = h.source.later; cause = λ x. absurd (let bad : ⊥ = cc in bad); told = inl (same_count _ _ h.source (λ x. let bad : ⊥ = cc in bad)) };
-  ram = record { later = h.ram.later; cause = λ x. absurd (let bad : ⊥ = cc in bad); told = inl (same_count _ _ h.ram (λ x. let bad : ⊥ = cc in bad)) };
-  out_later = h.sinks.one_later;
-  err_later = h.sinks.other_later;
-  sink = λ _. h.sinks.cause refl;
+  source = record { later = h.devices.input.later; cause = λ x. absurd (let bad : ⊥ = cc in bad); told = inl (same_count _ _ h.devices.input (λ x. let bad : ⊥ = cc in bad)) };
+  ram = record { later = h.ram_cause.later; cause = λ x. absurd (let bad : ⊥ = cc in bad); told = inl (same_count _ _ h.ram_cause (λ x. let bad : ⊥ = cc in bad)) };
+  out_later = h.devices.sinks.one_later;
+  err_later = h.devices.sinks.other_later;
+  sink = λ _. h.devices.sinks.cause refl;
   out_told = inr refl;
   quiet = tt;
 }
@@ -337,9 +340,22 @@ cached_run_is c h r i o p e f before after b s ram counted = record {
 }
 
 -- the counts of the board's devices, where none rose
-abbrev pub IsQuiet : Devices → ℕ → ℕ → ℕ → ℕ → Type 0
-IsQuiet d ram source out err =
-    ◌≡◌ {A = board.Faults} (record { ram = ram; input = source; out = out; err = err }) (record { ram = d.faults.ram; input = d.faults.input; out = d.faults.out; err = d.faults.err })
+pub record IsQuiet (d : Devices) (ram source out err : ℕ) : Type 0 where
+  pub input : source ≡ d.faults.input
+  pub output : out ≡ d.faults.out
+  pub error : err ≡ d.faults.err
+  pub ram_same : ram ≡ d.faults.ram
+
+pub quiet_run : {T : Type 0} {d : Devices} {ram source out err : ℕ} (r : Result T CachedStop) (y : T) → BoardCauses d ram source out err r →
+    MatchResult r (λ x. ◌≡◌ {A = Result T Refusal} (Ok y) (Ok x)) (λ _. ⊥) → IsQuiet d ram source out err
+quiet_run (Ok x) y h is =
+    let same = ok_unmoved h.devices in record {
+      input = ap (λ (f : outside.Faults). f.input) same;
+      output = ap (λ (f : outside.Faults). f.output) same;
+      error = ap (λ (f : outside.Faults). f.error) same;
+      ram_same = same_count _ _ h.ram_cause (λ e. let bad : ⊥ = cc in bad);
+    }
+quiet_run (Err f) y h is = absurd is
 
 -- how it ended, as its board says it
 pub ending_is : {x : Ending} {e f : Option End} {a b n m : ℕ} → x ≡ ending_by e a n → e ≡ f → a ≡ b → n ≡ m → x ≡ ending_by f b m
@@ -386,8 +402,8 @@ module _ {o : RunOptions} {cache : Cache} {v : ImageData} {p : ProgramData} {l :
     quiet = λ never. absurd (never tt);
     failed = λ _ left told. failed_so o (of left) d (ran_all d i out e ram fi fo fe) refusal.SinkFault [] (inr (inr (broke left told, a.after left told)));
     beyond = kept;
-    causes = subst (λ (n : ℕ). HasCauses {T = Ending} d.faults (record d.faults { input = n; out = fo; err = fe; ram = ram.faults }) (Err refusal.SinkFault)) (sym (ap (λ (x : board.Faults). x.input) quiet))
-        (subst (λ (n : ℕ). HasCauses {T = Ending} d.faults (record d.faults { out = fo; err = fe; ram = n }) (Err refusal.SinkFault)) (sym (ap (λ (x : board.Faults). x.ram) quiet)) causes);
+    causes = subst (λ (n : ℕ). HasCauses {T = Ending} d.faults (record d.faults { input = n; out = fo; err = fe; ram = ram.faults }) (Err refusal.SinkFault)) (sym (quiet.input))
+        (subst (λ (n : ℕ). HasCauses {T = Ending} d.faults (record d.faults { out = fo; err = fe; ram = n }) (Err refusal.SinkFault)) (sym (quiet.ram_same)) causes);
   }
 
   wrote : (left : List ℕ) → d.input ≡ Some left → board_report o h r ≡ cached_report o (of left)
@@ -395,9 +411,9 @@ module _ {o : RunOptions} {cache : Cache} {v : ImageData} {p : ProgramData} {l :
 
   pub report_broke : {out : Option (List ℕ)} {fo : ℕ} → AppendsPrefix mid out (board_report o h r) → (board_report o h r ≡ [] → ⊥) → mo ≤ fo → Rose mo fo → RunsOver o cache v p l d (ran_all d i out em ram fi fo me) (Err refusal.SinkFault)
   report_broke {out} {fo} part due later rose =
-      let first : mo ≡ d.faults.out = ap (λ (x : board.Faults). x.out) quiet in
+      let first : mo ≡ d.faults.out = quiet.output in
       behind out em fo me
-      (subst (λ (n : ℕ). HasCauses {T = Ending} d.faults (record d.faults { out = fo; err = n }) (Err refusal.SinkFault)) (sym (ap (λ (x : board.Faults). x.err) quiet))
+      (subst (λ (n : ℕ). HasCauses {T = Ending} d.faults (record d.faults { out = fo; err = n }) (Err refusal.SinkFault)) (sym (quiet.error))
       (out_causes d.faults fo (subst (λ (n : ℕ). n ≤ fo) first later) (subst (λ (n : ℕ). Rose n fo) first rose)))
       (λ left told.
       let b = a.ended left told in record {
@@ -415,9 +431,9 @@ module _ {o : RunOptions} {cache : Cache} {v : ImageData} {p : ProgramData} {l :
   pub lines_broke : {out e : Option (List ℕ)} {fo fe : ℕ} {bus : List AreaData} → Appends mid out (board_report o h r) → fo ≡ mo → bus ≡ h.machine.bus →
       AppendsPrefix em e (last_told o.reports.trace bus (addresses_in history)) → (last_told o.reports.trace bus (addresses_in history) ≡ [] → ⊥) → me ≤ fe → Rose me fe → RunsOver o cache v p l d (ran_all d i out e ram fi fo fe) (Err refusal.SinkFault)
   lines_broke {out} {e} {fo} {fe} {bus} written same_out bus_is part due later rose =
-      let first : me ≡ d.faults.err = ap (λ (x : board.Faults). x.err) quiet in
+      let first : me ≡ d.faults.err = quiet.error in
       behind out e fo fe
-      (subst (λ (n : ℕ). HasCauses {T = Ending} d.faults (record d.faults { out = n; err = fe }) (Err refusal.SinkFault)) (sym (same_out ∙ ap (λ (x : board.Faults). x.out) quiet))
+      (subst (λ (n : ℕ). HasCauses {T = Ending} d.faults (record d.faults { out = n; err = fe }) (Err refusal.SinkFault)) (sym (same_out ∙ quiet.output))
       (err_causes d.faults fe (subst (λ (n : ℕ). n ≤ fe) first later) (subst (λ (n : ℕ). Rose n fe) first rose)))
       (λ left told.
       let b = a.ended left told in
@@ -432,7 +448,7 @@ module _ {o : RunOptions} {cache : Cache} {v : ImageData} {p : ProgramData} {l :
         behind = inr (
           refl,
           (λ none. due (last_is o.reports.trace (of left) h.machine bus history bus_is b.machine (a.told left told) ∙ left_empty lines _ none)),
-          same_out ∙ ap (λ (x : board.Faults). x.out) quiet,
+          same_out ∙ quiet.output,
           subst (λ (n : ℕ). Rose n fe) first rose,
         );
         input = b.input;
@@ -475,13 +491,13 @@ module _ {o : RunOptions} {cache : Cache} {v : ImageData} {p : ProgramData} {l :
     quiet = tt;
     failed = tt;
     beyond = kept;
-    causes = subst (λ (n : ℕ). HasCauses d.faults (record d.faults { input = n; out = fo; err = fe; ram = ram.faults }) (Ok x)) (sym (ap (λ (x : board.Faults). x.input) quiet))
-        (subst (λ (n : ℕ). HasCauses d.faults (record d.faults { out = n; err = fe; ram = ram.faults }) (Ok x)) (sym (same_out ∙ ap (λ (x : board.Faults). x.out) quiet))
-        (subst (λ (n : ℕ). HasCauses d.faults (record d.faults { err = n; ram = ram.faults }) (Ok x)) (sym (same_err ∙ ap (λ (x : board.Faults). x.err) quiet))
-        (subst (λ (n : ℕ). HasCauses d.faults (record d.faults { ram = n }) (Ok x)) (sym (ap (λ (x : board.Faults). x.ram) quiet)) (ok_causes d.faults x))));
+    causes = subst (λ (n : ℕ). HasCauses d.faults (record d.faults { input = n; out = fo; err = fe; ram = ram.faults }) (Ok x)) (sym (quiet.input))
+        (subst (λ (n : ℕ). HasCauses d.faults (record d.faults { out = n; err = fe; ram = ram.faults }) (Ok x)) (sym (same_out ∙ quiet.output))
+        (subst (λ (n : ℕ). HasCauses d.faults (record d.faults { err = n; ram = ram.faults }) (Ok x)) (sym (same_err ∙ quiet.error))
+        (subst (λ (n : ℕ). HasCauses d.faults (record d.faults { ram = n }) (Ok x)) (sym (quiet.ram_same)) (ok_causes d.faults x))));
   }
 
--- ---- from the run of a file's program to what is said of its file
+-- ---- from the run of a file's program to the command's answer
 
 keeps_less : (a b : ℕ) (r s : RamState) → a ≤ b → KeepsBeyond a r s → KeepsBeyond b r s
 keeps_less a b r s h k = record {
@@ -496,14 +512,6 @@ span_within n b =
     let apart : n / (4 * b) * (4 * b) ≡ 4 * (n / (4 * b) * b) = omega arith in
     omega arith
 
--- a run over a service is one in the cache that the options name, where it is that cache and that holds a block
-run_err : (cache : CacheOptions) (v : ImageData) (r : Refusal) → IsRunErr r → IsCachedErr cache v r
-run_err cache v refusal.SourceFault h = tt
-run_err cache v refusal.SinkFault h = tt
-run_err cache v refusal.RamFault h = tt
-run_err cache v refusal.Memory h = tt
-run_err cache v _ h = absurd h
-
 -- the service that is made is that of the kind which the options name
 pub slots_chosen : (cache : CacheOptions) (v : ImageData) (k : Cache) → cache.kind ≡ kind.Slots → k ≡ slotted cache.cache_bytes v → k ≡ cache_for cache v
 slots_chosen cache v k is same = same ∙ sym (ap (λ (x : CacheKind). cache_by x cache.cache_bytes v) is)
@@ -511,72 +519,37 @@ slots_chosen cache v k is same = same ∙ sym (ap (λ (x : CacheKind). cache_by 
 pub ring_chosen : (cache : CacheOptions) (v : ImageData) (k : Cache) → cache.kind ≡ kind.Ring → k ≡ ringed cache.cache_bytes → k ≡ cache_for cache v
 ring_chosen cache v k is same = same ∙ sym (ap (λ (x : CacheKind). cache_by x cache.cache_bytes v) is)
 
+-- the run over it is the run in the cache that the options name
 pub in_cache : (o : RunOptions) (cache : CacheOptions) (v : ImageData) (p : ProgramData) (l : Layout) (d m : Devices) (r : Result Ending Refusal) (k : Cache) → k ≡ cache_for cache v →
-    4 * v.block_words ≤ cache.cache_bytes → RunsOver o k v p l d m r → RunsOnCache o cache v p l d m r
-in_cache o cache v p l d m r k is held run = by r (subst (λ (x : Cache). RunsOver o x v p l d m r) is run)
-  where
-    by : (r : Result Ending Refusal) → RunsOver o (cache_for cache v) v p l d m r → RunsOnCache o cache v p l d m r
-    by (Ok e) run = record { done = run.done; holds = held; refused = tt; quiet = tt; failed = tt; beyond = run.beyond; causes = run.causes }
-    by (Err e) run = record { done = tt; holds = tt; refused = run_err cache v e run.refused; quiet = run.quiet; failed = λ f. (held, run.failed f); beyond = run.beyond; causes = run.causes }
+    RunsOver o k v p l d m r → RunsOver o (cache_for cache v) v p l d m r
+in_cache o cache v p l d m r k is run = subst (λ (x : Cache). RunsOver o x v p l d m r) is run
 
-pub last_fails : (file : List ℕ) (cs : List Check) (c : Check) (r : Refusal) → IsAccepted file cs → Fails file c r → IsRefusedBy file (cs ++ (c ∷ [])) r
-last_fails file [] c r passed fails = inl fails
-last_fails file (x ∷ xs) c r passed fails = inr (passed.0, last_fails file xs c r passed.1 fails)
+-- ---- a file whose program is placed passes every check
 
-pub last_passes : (file : List ℕ) (cs : List Check) (c : Check) → IsAccepted file cs → Passes file c → IsAccepted file (cs ++ (c ∷ []))
-last_passes file [] c passed passes = (passes, tt)
-last_passes file (x ∷ xs) c passed passes = (passed.0, last_passes file xs c passed.1 passes)
+pub placed_checks : (file : List ℕ) (limits : RunLimits) (cache : CacheOptions) (l : Layout) (v : ImageData) → length file ≤ file_limit → elf.first_refusal file ≡ None →
+    room_in file limits ≡ Ok l → IsAccepted (subject_checks cache.block_words file) → IsImageFor file cache.block_words (image_in file) v →
+    4 * v.block_words ≤ cache.cache_bytes → IsAccepted (cached_checks limits cache file)
+placed_checks file limits cache l v short accepted room passed own holds =
+    let size : block_words (image_in file) cache.block_words ≡ v.block_words = size_is file cache.block_words (image_in file) v own in
+    run_passes file limits l (subject_checks cache.block_words file ++ (HoldsBlock cache.cache_bytes (least_cache file cache) ∷ [])) short accepted room
+    (last_passes (subject_checks cache.block_words file) (HoldsBlock cache.cache_bytes (least_cache file cache)) passed (omega arith))
 
-late_file : (r : Refusal) → IsLate r → IsFileErr r
-late_file refusal.Usage h = h
-late_file refusal.ShelfFault h = h
-late_file (refusal.CacheLarge bytes) h = h
-late_file (refusal.RamSmall bytes held) h = h
-late_file _ h = tt
+pub subject_refused : (file : List ℕ) (limits : RunLimits) (cache : CacheOptions) (l : Layout) (r : Refusal) → length file ≤ file_limit → elf.first_refusal file ≡ None →
+    room_in file limits ≡ Ok l → IsRefusedOr (subject_checks cache.block_words file) r → IsRefusedOr (cached_checks limits cache file) r
+subject_refused file limits cache l r short accepted room why =
+    run_refused file limits l (subject_checks cache.block_words file ++ (HoldsBlock cache.cache_bytes (least_cache file cache) ∷ [])) r short accepted room
+    (front_refused (subject_checks cache.block_words file) (HoldsBlock cache.cache_bytes (least_cache file cache) ∷ []) r why)
 
-late_answer : (q : Request) (file : List ℕ) (d : Devices) (r : Refusal) → IsLate r → ((last : Option Asked) → IsChecked file (checks_of q) last (Err r)) → AnswersFile q file d d (Err r)
-late_answer q file d r late checked = record {
-  checked = checked;
-  done = tt;
-  failed = λ f. absurd (late_run r late f);
-  refused = λ _. refl;
-  kind = late_file r late;
-  ram = keeps_ram q d.ram;
-  causes = late_causes d.faults r late;
-}
+pub block_refused : (file : List ℕ) (limits : RunLimits) (cache : CacheOptions) (l : Layout) (v : ImageData) (r : Refusal) → length file ≤ file_limit → elf.first_refusal file ≡ None →
+    room_in file limits ≡ Ok l → IsAccepted (subject_checks cache.block_words file) → IsImageFor file cache.block_words (image_in file) v →
+    Fails (HoldsBlock cache.cache_bytes (4 * v.block_words)) r → IsRefusedOr (cached_checks limits cache file) r
+block_refused file limits cache l v r short accepted room passed own fails =
+    let size : 4 * v.block_words ≡ least_cache file cache = ap (λ (n : ℕ). 4 * n) (sym (size_is file cache.block_words (image_in file) v own)) in
+    run_refused file limits l (subject_checks cache.block_words file ++ (HoldsBlock cache.cache_bytes (least_cache file cache) ∷ [])) r short accepted room
+    (inr (last_fails (subject_checks cache.block_words file) (HoldsBlock cache.cache_bytes (least_cache file cache)) r passed
+    (subst (λ (n : ℕ). Fails (HoldsBlock cache.cache_bytes n) r) size fails)))
 
--- the file fails a check, or there was no memory
-pub file_refused : (q : Request) (file : List ℕ) (d : Devices) (r : Refusal) → IsRefusedOr file (checks_of q) r → AnswersFile q file d d (Err r)
-file_refused q file d r why = elim why [
-  | inl e ↦ subst (λ (x : Refusal). AnswersFile q file d d (Err x)) (sym e) (late_answer q file d refusal.Memory tt (λ _. tt))
-  | inr by ↦ late_answer q file d r (refused_late file (checks_of q) r by) (λ last. checked_by file (checks_of q) last r by)
-]
-
--- the checks before that of the cache
-abbrev pub front_of : CacheOptions → RunOptions → List Check
-front_of cache o = run_checks o.limits (FitsUnlessImage cache.block_words ∷ [])
-
-err_checked : (file : List ℕ) (cache : CacheOptions) (o : RunOptions) (v : ImageData) (last : Option Asked) (r : Refusal) →
-    IsAccepted file (front_of cache o) → block_words (image_in file) cache.block_words ≡ v.block_words → IsCachedErr cache v r →
-    (IsRunFault r → 4 * v.block_words ≤ cache.cache_bytes) → IsChecked file (checks_of (RunCached [] cache o)) last (Err r)
-err_checked file cache o v last refusal.SourceFault front size h held = last_passes file (front_of cache o) (HoldsBlock cache) front (let b : 4 * v.block_words ≤ cache.cache_bytes = held tt in omega arith)
-err_checked file cache o v last refusal.SinkFault front size h held = last_passes file (front_of cache o) (HoldsBlock cache) front (let b : 4 * v.block_words ≤ cache.cache_bytes = held tt in omega arith)
-err_checked file cache o v last refusal.RamFault front size h held = last_passes file (front_of cache o) (HoldsBlock cache) front (let b : 4 * v.block_words ≤ cache.cache_bytes = held tt in omega arith)
-err_checked file cache o v last refusal.Memory front size h held = tt
-err_checked file cache o v last (refusal.CacheSmall bytes least) front size h held =
-    let bytes_is : bytes ≡ cache.cache_bytes = h.0 in
-    let least_is : least ≡ 4 * block_words (image_in file) cache.block_words = omega (arith, h.1) in
-    last_fails file (front_of cache o) (HoldsBlock cache) (refusal.CacheSmall bytes least) front
-    (omega (arith, h.2), ap (λ (x : ℕ). refusal.CacheSmall x least) bytes_is ∙ ap (λ (x : ℕ). refusal.CacheSmall cache.cache_bytes x) least_is)
-err_checked file cache o v last _ front size h held = absurd h
-
-cached_kind : (cache : CacheOptions) (v : ImageData) (r : Refusal) → IsCachedErr cache v r → IsFileErr r
-cached_kind cache v refusal.SourceFault h = tt
-cached_kind cache v refusal.SinkFault h = tt
-cached_kind cache v refusal.RamFault h = tt
-cached_kind cache v refusal.Memory h = tt
-cached_kind cache v (refusal.CacheSmall bytes least) h = tt
-cached_kind cache v _ h = absurd h
+-- ---- what the command answers
 
 -- either cache lies in its bytes
 span_of_kind : (k : CacheKind) (bytes : ℕ) (v : ImageData) → (cache_by k bytes v).span ≤ bytes / 4
@@ -585,63 +558,6 @@ span_of_kind kind.Ring bytes v = omega arith
 
 pub keeps_run : (cache : CacheOptions) (v : ImageData) (r s : RamState) → KeepsBeyond (cache_for cache v).span r s → KeepsBeyond (cache.cache_bytes / 4) r s
 keeps_run cache v r s k = keeps_less _ _ r s (span_of_kind cache.kind cache.cache_bytes v) k
-
-pub file_answer : (cache : CacheOptions) (o : RunOptions) (file : List ℕ) (v : ImageData) (l : Layout) (d m : Devices) (r : Result Ending Refusal) →
-    IsAccepted file (front_of cache o) → block_words (image_in file) cache.block_words ≡ v.block_words → IsImageFor file cache.block_words (image_in file) v →
-    room_in file o.limits ≡ Ok l → RunsOnCache o cache v (program_of_file file) l d m r → AnswersFile (RunCached [] cache o) file d m r
-file_answer cache o file v l d m (Ok e) front size is_for room run = record {
-  checked = λ last. last_passes file (front_of cache o) (HoldsBlock cache) front (let b : 4 * v.block_words ≤ cache.cache_bytes = run.holds in omega arith);
-  done = (v, is_for, run.beyond, λ input told. subst (λ (s : FlatState). RunsCached o (cached_run (cache_for cache v) o v s) d m e []) (start_is o file input l room) (run.done input told));
-  failed = tt;
-  refused = tt;
-  kind = tt;
-  ram = keeps_run cache v d.ram m.ram run.beyond;
-  causes = run.causes;
-}
-file_answer cache o file v l d m (Err r) front size is_for room run = record {
-  checked = λ last. err_checked file cache o v last r front size run.refused (λ f. (run.failed f).0);
-  done = tt;
-  failed = λ f. (v, is_for, run.beyond, λ input told. subst (λ (s : FlatState). CachedFailed o (cached_run (cache_for cache v) o v s) d m r []) (start_is o file input l room) ((run.failed f).1 input told));
-  refused = run.quiet;
-  kind = cached_kind cache v r run.refused;
-  ram = keeps_run cache v d.ram m.ram run.beyond;
-  causes = run.causes;
-}
-
--- by the greedy cut, where the file has no image
-pub by_cut : (cache : CacheOptions) (o : RunOptions) (file : List ℕ) (v : ImageData) (l : Layout) (d m : Devices) (r : Result Ending Refusal) → length file ≤ file_limit →
-    elf.first_refusal file ≡ None → room_in file o.limits ≡ Ok l → image_in file ≡ None → Fits (text_in file) cache.block_words → IsCut (text_in file) cache.block_words v →
-    RunsOnCache o cache v (program_of_file file) l d m r → AnswersFile (RunCached [] cache o) file d m r
-by_cut cache o file v l d m r short accepted room none fits cut run =
-    file_answer cache o file v l d m r (passes_none file o.limits l (FitsUnlessImage cache.block_words ∷ []) short accepted room none (λ _. fits, tt))
-    (subst (λ (x : Option (List ℕ)). block_words x cache.block_words ≡ v.block_words) (sym none) (sym cut.most_words))
-    (subst (λ (x : Option (List ℕ)). IsImageFor file cache.block_words x v) (sym none) cut) room run
-
-pub cut_refused : (cache : CacheOptions) (o : RunOptions) (file : List ℕ) (l : Layout) (d : Devices) (r : Refusal) → length file ≤ file_limit →
-    elf.first_refusal file ≡ None → room_in file o.limits ≡ Ok l → image_in file ≡ None → (r ≡ refusal.Memory) ⊎ IsLong (text_in file) cache.block_words r →
-    AnswersFile (RunCached [] cache o) file d d (Err r)
-cut_refused cache o file l d r short accepted room none why = file_refused (RunCached [] cache o) file d r (elim why [
-  | inl e ↦ inl e
-  | inr long ↦ inr (inr (short, inr (accepted, inr ((l, room), inr (of_none (image_in file) _ none, inr (of_none (image_in file) _ none, inl (none, long)))))))
-])
-
--- by the file's own image
-pub by_image : (cache : CacheOptions) (o : RunOptions) (file bytes : List ℕ) (v : ImageData) (l : Layout) (d m : Devices) (r : Result Ending Refusal) → length file ≤ file_limit →
-    elf.first_refusal file ≡ None → room_in file o.limits ≡ Ok l → image_in file ≡ Some bytes → ImagePasses (text_in file) bytes → v ≡ image_of bytes →
-    RunsOnCache o cache v (program_of_file file) l d m r → AnswersFile (RunCached [] cache o) file d m r
-by_image cache o file bytes v l d m r short accepted room has passes view run =
-    file_answer cache o file v l d m r
-    (passes_some file o.limits l (FitsUnlessImage cache.block_words ∷ []) bytes short accepted room has passes (λ none. absurd (let bad : ⊥ = cc in bad), tt))
-    (subst (λ (x : Option (List ℕ)). block_words x cache.block_words ≡ v.block_words) (sym has) (ap (λ (x : ImageData). x.block_words) (sym view)))
-    (subst (λ (x : Option (List ℕ)). IsImageFor file cache.block_words x v) (sym has) view) room run
-
-pub image_refused : (cache : CacheOptions) (o : RunOptions) (file bytes : List ℕ) (l : Layout) (d : Devices) (r : Refusal) → length file ≤ file_limit →
-    elf.first_refusal file ≡ None → room_in file o.limits ≡ Ok l → image_in file ≡ Some bytes → ImageFails (text_in file) bytes r →
-    AnswersFile (RunCached [] cache o) file d d (Err r)
-image_refused cache o file bytes l d r short accepted room has fails = file_refused (RunCached [] cache o) file d r
-    (inr (fails_some file o.limits l (FitsUnlessImage cache.block_words ∷ HoldsBlock cache ∷ []) bytes r short accepted room has fails))
-
--- ---- from what is said of the file to the command's answer
 
 -- the devices after the command
 abbrev pub cached_to : Devices → Option Contents → Option (List ℕ) → Option (List ℕ) → Option (List ℕ) → RamState → ℕ → ℕ → ℕ → Devices
@@ -688,59 +604,119 @@ left_again o k d m c r h = failed_so o k d m r [] (elim h.broke [
   ])
 ])
 
-pub file_size : (r : Refusal) → IsFileErr r → IsSizeRefusal r → ⊥
-file_size (refusal.CacheLarge bytes) h f = h
-file_size (refusal.RamSmall bytes held) h f = h
-file_size _ h f = f
+run_err_not : (r s : Refusal) → IsRunErr r → (IsRunErr s → ⊥) → IsErrOf {T = Ending} (Err r) s → ⊥
+run_err_not r s h never e = never (let p : r ≡ s = cc in subst IsRunErr p h)
 
-pub file_not : (r s : Refusal) → IsFileErr r → (IsFileErr s → ⊥) → IsErrOf {T = Ending} (Err r) s → ⊥
-file_not r s h never e = never (let p : r ≡ s = cc in subst IsFileErr p h)
+run_err_size : (r : Refusal) → IsRunErr r → IsSizeRefusal r → ⊥
+run_err_size (refusal.CacheLarge bytes) h f = h
+run_err_size (refusal.RamSmall bytes held) h f = h
+run_err_size _ h f = f
 
-cached_ok : (name : List ℕ) (cache : CacheOptions) (o : RunOptions) (d : Devices) (c : Option Contents) (i out e : Option (List ℕ)) (ram : RamState) (fi fo fe : ℕ) (bytes : List ℕ) (x : Ending) →
-    size_refusal cache.cache_bytes (length d.ram.words) ≡ None → Same d.contents c → Stands d.contents name bytes →
-    AnswersFile (RunCached [] cache o) bytes (record d { contents = c }) (cached_to d c i out e ram fi fo fe) (Ok x) →
-    Answers (RunCached name cache o) d (cached_to d c i out e ram fi fo fe) (Ok x) []
-cached_ok name cache o d c i out e ram fi fo fe bytes x size same stands a =
+run_err_checked : (checks : List Check) (last : Option Asked) (r : Refusal) → IsRunErr r → IsAccepted checks → IsChecked checks last (Err r)
+run_err_checked checks last refusal.SourceFault h passed = passed
+run_err_checked checks last refusal.SinkFault h passed = passed
+run_err_checked checks last refusal.RamFault h passed = passed
+run_err_checked checks last refusal.Memory h passed = tt
+run_err_checked checks last _ h passed = absurd h
+
+-- either way
+pub cached_answers : (name : List ℕ) (cache : CacheOptions) (o : RunOptions) (d : Devices) (c : Option Contents) (i out e : Option (List ℕ)) (ram : RamState) (fi fo fe : ℕ) (bytes : List ℕ) (v : ImageData) (l : Layout) (r : Result Ending Refusal) →
+    size_refusal cache.cache_bytes (length d.ram.words) ≡ None → Same d.contents c → Stands d.contents name bytes → IsAccepted (cached_checks o.limits cache bytes) →
+    IsImageFor bytes cache.block_words (image_in bytes) v → room_in bytes o.limits ≡ Ok l →
+    RunsOver o (cache_for cache v) v (program_of_file bytes) l (record d { contents = c }) (cached_to d c i out e ram fi fo fe) r →
+    Answers (cached_task name cache o) d (cached_to d c i out e ram fi fo fe) r []
+cached_answers name cache o d c i out e ram fi fo fe bytes v l (Ok x) size same stands accepted own room run =
     let m : Devices = cached_to d c i out e ram fi fo fe in record {
       asked = λ y. let bad : ⊥ = cc in bad;
-      sized = sized_along (cache_refusal (RunCached name cache o) (length d.ram.words)) (Ok x) size (sized_ok x);
-      checked = λ file told. subst (λ (f : List ℕ). IsAccepted f (checks_of (RunCached name cache o))) (told_is d.contents name file bytes told stands) (a.checked d.last_failed);
+      sized = sized_along (size_refusal cache.cache_bytes (length d.ram.words)) (Ok x) size (sized_ok x);
+      checked = λ file told. subst (λ (f : List ℕ). IsAccepted (cached_checks o.limits cache f)) (told_is d.contents name file bytes told stands) accepted;
       ended = tt;
-      done = λ file told. subst (λ (f : List ℕ). Does (RunCached name cache o) f d m x []) (told_is d.contents name file bytes told stands)
-          (let h = a.done in (h.0, h.1, h.2, λ input left. done_again o _ d m c x (h.3 input left)));
+      done = λ file told. subst (λ (f : List ℕ). (cached_task name cache o).does f d m x []) (told_is d.contents name file bytes told stands) (
+        v,
+        own,
+        run.beyond,
+        λ input left. done_again o _ d m c x
+            (subst (λ (s : FlatState). RunsCached o (cached_run (cache_for cache v) o v s) (record d { contents = c }) m x []) (start_is o bytes input l room) (run.done input left)),
+      );
       failed = tt;
       refused = tt;
       shelf = record { others = λ n _. same n; refused = tt; quiet = λ _. refl; failed = λ y. absurd (let never : ⊥ = cc in never) };
-      ram = a.ram;
-      causes = a.causes;
+      ram = keeps_run cache v d.ram ram run.beyond;
+      causes = run.causes;
     }
-
-cached_refused : (name : List ℕ) (cache : CacheOptions) (o : RunOptions) (d : Devices) (c : Option Contents) (i out e : Option (List ℕ)) (ram : RamState) (fi fo fe : ℕ) (bytes : List ℕ) (r : Refusal) →
-    size_refusal cache.cache_bytes (length d.ram.words) ≡ None → Same d.contents c → Stands d.contents name bytes →
-    AnswersFile (RunCached [] cache o) bytes (record d { contents = c }) (cached_to d c i out e ram fi fo fe) (Err r) →
-    Answers (RunCached name cache o) d (cached_to d c i out e ram fi fo fe) (Err r) []
-cached_refused name cache o d c i out e ram fi fo fe bytes r size same stands a =
+cached_answers name cache o d c i out e ram fi fo fe bytes v l (Err r) size same stands accepted own room run =
     let m : Devices = cached_to d c i out e ram fi fo fe in record {
-      asked = file_not r refusal.Usage a.kind (λ x. x);
-      sized = sized_along (cache_refusal (RunCached name cache o) (length d.ram.words)) (Err r) size (sized_err r (file_size r a.kind));
-      checked = λ file told. subst (λ (f : List ℕ). IsChecked f (checks_of (RunCached name cache o)) d.last_failed (Err r)) (told_is d.contents name file bytes told stands) (a.checked d.last_failed);
+      asked = run_err_not r refusal.Usage run.refused (λ x. x);
+      sized = sized_along (size_refusal cache.cache_bytes (length d.ram.words)) (Err r) size (sized_err r (run_err_size r run.refused));
+      checked = λ file told. subst (λ (f : List ℕ). IsChecked (cached_checks o.limits cache f) d.last_failed (Err r)) (told_is d.contents name file bytes told stands)
+          (run_err_checked (cached_checks o.limits cache bytes) d.last_failed r run.refused accepted);
       ended = tt;
       done = tt;
-      failed = λ fault file told. subst (λ (f : List ℕ). Leaves (RunCached name cache o) f d m r []) (told_is d.contents name file bytes told stands)
-          (let h = a.failed fault in (h.0, h.1, h.2, λ input left. left_again o _ d m c r (h.3 input left)));
-      refused = λ never. let same_all : m ≡ record d { contents = c } = a.refused never in (
+      failed = λ fault file told. subst (λ (f : List ℕ). (cached_task name cache o).fails f d m r []) (told_is d.contents name file bytes told stands) (
+        v,
+        own,
+        run.beyond,
+        λ input left. left_again o _ d m c r
+            (subst (λ (s : FlatState). CachedFailed o (cached_run (cache_for cache v) o v s) (record d { contents = c }) m r []) (start_is o bytes input l room) (run.failed fault input left)),
+      );
+      refused = λ never. let same_all : m ≡ record d { contents = c } = run.quiet never in (
         record { input = ap (λ (y : Devices). y.input) same_all; output = ap (λ (y : Devices). y.output) same_all; ram = ap (λ (y : Devices). y.ram) same_all },
         subst (λ (y : Option (List ℕ)). Appends d.error y []) (sym (ap (λ (y : Devices). y.error) same_all)) (Appends-none d.error),
       );
-      shelf = record { others = λ n _. same n; refused = λ _. same; quiet = λ _. refl; failed = λ y. absurd (file_not r refusal.ShelfFault a.kind (λ x. x) y) };
-      ram = a.ram;
-      causes = a.causes;
+      shelf = record { others = λ n _. same n; refused = λ _. same; quiet = λ _. refl; failed = λ y. absurd (run_err_not r refusal.ShelfFault run.refused (λ x. x) y) };
+      ram = keeps_run cache v d.ram ram run.beyond;
+      causes = run.causes;
     }
 
--- either way
-pub cached_answers : (name : List ℕ) (cache : CacheOptions) (o : RunOptions) (d : Devices) (c : Option Contents) (i out e : Option (List ℕ)) (ram : RamState) (fi fo fe : ℕ) (bytes : List ℕ) (r : Result Ending Refusal) →
-    size_refusal cache.cache_bytes (length d.ram.words) ≡ None → Same d.contents c → Stands d.contents name bytes →
-    AnswersFile (RunCached [] cache o) bytes (record d { contents = c }) (cached_to d c i out e ram fi fo fe) r →
-    Answers (RunCached name cache o) d (cached_to d c i out e ram fi fo fe) r []
-cached_answers name cache o d c i out e ram fi fo fe bytes (Ok x) size same stands a = cached_ok name cache o d c i out e ram fi fo fe bytes x size same stands a
-cached_answers name cache o d c i out e ram fi fo fe bytes (Err r) size same stands a = cached_refused name cache o d c i out e ram fi fo fe bytes r size same stands a
+-- ---- the last line behind it
+
+ram_line : (c : CachedRun) (d m : Devices) (r : Refusal) (error : Option (List ℕ)) (err : ℕ) (line : List ℕ) →
+    RamBroke c d m r [] → Appends m.error error line → RamBroke c d (told_to m error err) r line
+ram_line c d m r error err line h p = record {
+  fault = h.fault;
+  fetched = h.fetched;
+  fetches = h.fetches;
+  steps = h.steps;
+  within = h.within;
+  enough = h.enough;
+  longest = h.longest;
+  output = h.output;
+  begun = h.begun;
+  error = appends_last d.error m.error error ((told_after c h.steps).error ++ (if h.begun then told_line c.trace (program_after c h.steps).machine else [])) line h.error p;
+  input = h.input;
+}
+
+pub cached_lined : (name : List ℕ) (cache : CacheOptions) (o : RunOptions) → IsLined (cached_task name cache o)
+cached_lined name cache o = record {
+  done = λ file d m e error is h p same. (
+    h.0,
+    h.1,
+    h.2,
+    λ input left. let r = h.3 input left in record { ran = ran_line _ _ d m e error (ending_line e) r.ran p; cached = r.cached },
+  );
+  failed = λ file d m r error err line later h p. (
+    h.0,
+    h.1,
+    h.2,
+    λ input is. let f = h.3 input is in record {
+      broke = elim f.broke [
+        | inl a ↦ inl (ram_line (cached_run (cache_for cache h.0) o h.0 (start_of o file input)) d m r error err line a p)
+        | inr b ↦ inr (elim b [
+          | inl a ↦ inl (at_step_line (told_after (cached_run (cache_for cache h.0) o h.0 (start_of o file input))) _ _ _ o.limits.steps d m r error err line a p)
+          | inr a ↦ inr (after_run_line _ _ _ d m r error err line later a.0 p, a.1)
+        ])
+      ];
+      flat = f.flat;
+      stops = f.stops;
+    },
+  );
+  unended = λ file d m e error err is h p never same rose. (
+    h.0,
+    h.1,
+    h.2,
+    λ input left.
+        let r = h.3 input left in
+        let c = cached_run (cache_for cache h.0) o h.0 (start_of o file input) in record { broke = inr (inr (after_line (told_after c c.limit) (shown_error o.reports.trace c) _ (last_lines o.reports.trace c) d m e error err (shown_split o.reports.trace c) r.ran p never same rose, r.cached.ram)); flat = r.cached.flat; stops = r.cached.stops },
+  );
+  unwritten = λ e out is never named. let bad : ⊥ = cc in bad;
+}

@@ -1,23 +1,25 @@
 -- What `plain` answers, from what the run of its file's program does.
 use Rattle.std.proofs.Common.{◌≡◌, ◌⊎◌, inl, inr, ℕ, List, [], Option, None, Result, Ok, Err, IsErrOf, refl, sym, subst, ap}
+use Rattle.std.proofs.lemmas.List.{append-nil}
 use Rattle.std.specs.Io.KnownBytes.{Appends}
 use Rattle.swi_outside.specs.Laws.{Appends-none}
 use Rattle.swi_outside.specs.Shelf.{Asked, Contents, Same, Stands}
 use Rattle.swi_memory.specs.declared.layout.Layout.{Layout}
-use Rattle.swi_command.specs.CommandLine.{RunPlain}
 use Rattle.swi_command.specs.declared.command.RunOptions.{RunOptions}
 use Rattle.swi_calls.specs.Flat.{flat_run, flat_start}
 use Rattle.swi_calls.specs.State.{FlatState}
 use Rattle.swi_flat.specs.FlatData.{next_made}
 use Rattle.swi_program.specs.ProgramOf.{program_of_file}
 use Rattle.swi_answer.specs.declared.answer.Ending.{Ending}
+use Rattle.swi_answer.specs.Lines.{ending_line}
 use Rattle.swi_answer.specs.declared.answer.Refusal.{Refusal}
 use Rattle.swi_answer.specs.declared.answer.Refusal.TheVariants as refusal
 use Rattle.swi_top.specs.Devices.{Devices}
-use Rattle.swi_top.specs.Checks.{IsAccepted, checks_of, room_in}
+use Rattle.swi_top.specs.Answers.{Answers, IsChecked, IsRunFault, IsSized}
+use Rattle.swi_top.specs.Checks.{Check, IsAccepted, room_in}
+use Rattle.swi_top.specs.RunPlain.{RunsPlain, plain_checks, plain_report, plain_run, read_room_of, plain_task}
 use Rattle.swi_top.specs.Runs.{Ran, FailedAtStep, FailedAfterRun, layout_in, start_of}
-use Rattle.swi_top.specs.Answers.{Answers, Does, IsChecked, IsRunFault, IsSized, Leaves, plain_report, read_room_of}
-use Rattle.swi_top.specs.Plain.{RunsPlain}
+use Rattle.swi_top.proofs.Lines.{IsLined, after_line, after_run_line, at_step_line, ran_line}
 use Rattle.swi_top.proofs.Refusals.{sized_err, sized_ok, told_is}
 
 pub start_is : (o : RunOptions) (file input : List ℕ) (l : Layout) → room_in file o.limits ≡ Ok l →
@@ -39,11 +41,10 @@ FailedFrom o s before after r =
 abbrev pub ran_to : Devices → Option Contents → Option (List ℕ) → Option (List ℕ) → Option (List ℕ) → ℕ → ℕ → ℕ → Devices
 ran_to d c i o e source out err = record d { contents = c; input = i; output = o; error = e; faults = record d.faults { input = source; out = out; err = err } }
 
-plain_err_checked : (bytes : List ℕ) (name : List ℕ) (o : RunOptions) (last : Option Asked) (r : Refusal) →
-    (r ≡ refusal.SourceFault) ⊎ ((r ≡ refusal.SinkFault) ⊎ (r ≡ refusal.Memory)) → IsAccepted bytes (checks_of (RunPlain name o)) →
-    IsChecked bytes (checks_of (RunPlain name o)) last (Err r)
-plain_err_checked bytes name o last r kind accepted =
-    let Goal : Refusal → Type 0 = λ x. IsChecked bytes (checks_of (RunPlain name o)) last (Err x) in
+plain_err_checked : (checks : List Check) (last : Option Asked) (r : Refusal) →
+    (r ≡ refusal.SourceFault) ⊎ ((r ≡ refusal.SinkFault) ⊎ (r ≡ refusal.Memory)) → IsAccepted checks → IsChecked checks last (Err r)
+plain_err_checked checks last r kind accepted =
+    let Goal : Refusal → Type 0 = λ x. IsChecked checks last (Err x) in
     elim kind [
       | inl e ↦ subst Goal (sym e) accepted
       | inr k ↦ elim k [ inl e ↦ subst Goal (sym e) accepted | inr e ↦ subst Goal (sym e) tt ]
@@ -80,15 +81,15 @@ run_not_memory : (r : Refusal) → IsRunFault r → r ≡ refusal.Memory → ⊥
 run_not_memory r f e = subst IsRunFault e f
 
 pub plain_ok : (name : List ℕ) (o : RunOptions) (d : Devices) (c : Option Contents) (i out e : Option (List ℕ)) (fi fo fe : ℕ) (bytes : List ℕ) (l : Layout) (x : Ending) →
-    Same d.contents c → Stands d.contents name bytes → IsAccepted bytes (checks_of (RunPlain name o)) → room_in bytes o.limits ≡ Ok l →
+    Same d.contents c → Stands d.contents name bytes → IsAccepted (plain_checks o.limits bytes) → room_in bytes o.limits ≡ Ok l →
     RunsPlain o (program_of_file bytes) l (record d { contents = c }) (ran_to d c i out e fi fo fe) (Ok x) →
-    Answers (RunPlain name o) d (ran_to d c i out e fi fo fe) (Ok x) []
+    Answers (plain_task name o) d (ran_to d c i out e fi fo fe) (Ok x) []
 plain_ok name o d c i out e fi fo fe bytes l x same stands accepted room run = record {
   asked = λ y. let bad : ⊥ = cc in bad;
   sized = sized_ok x;
-  checked = λ file told. subst (λ (f : List ℕ). IsAccepted f (checks_of (RunPlain name o))) (told_is d.contents name file bytes told stands) accepted;
+  checked = λ file told. subst (λ (f : List ℕ). IsAccepted (plain_checks o.limits f)) (told_is d.contents name file bytes told stands) accepted;
   ended = tt;
-  done = λ file told. subst (λ (f : List ℕ). Does (RunPlain name o) f d (ran_to d c i out e fi fo fe) x []) (told_is d.contents name file bytes told stands)
+  done = λ file told. subst (λ (f : List ℕ). (plain_task name o).does f d (ran_to d c i out e fi fo fe) x []) (told_is d.contents name file bytes told stands)
       (λ input left. subst (λ (s : FlatState). RanFrom o s d (ran_to d c i out e fi fo fe) x) (start_is o bytes input l room)
       (let r = run.done input left in record { ending = r.ending; input = r.input; output = r.output; error = r.error }));
   failed = tt;
@@ -119,18 +120,18 @@ failed_again o s d m c r h = elim h [
 ]
 
 pub plain_refused : (name : List ℕ) (o : RunOptions) (d : Devices) (c : Option Contents) (i out e : Option (List ℕ)) (fi fo fe : ℕ) (bytes : List ℕ) (l : Layout) (r : Refusal) →
-    Same d.contents c → Stands d.contents name bytes → IsAccepted bytes (checks_of (RunPlain name o)) → room_in bytes o.limits ≡ Ok l →
+    Same d.contents c → Stands d.contents name bytes → IsAccepted (plain_checks o.limits bytes) → room_in bytes o.limits ≡ Ok l →
     RunsPlain o (program_of_file bytes) l (record d { contents = c }) (ran_to d c i out e fi fo fe) (Err r) →
-    Answers (RunPlain name o) d (ran_to d c i out e fi fo fe) (Err r) []
+    Answers (plain_task name o) d (ran_to d c i out e fi fo fe) (Err r) []
 plain_refused name o d c i out e fi fo fe bytes l r same stands accepted room run =
     let kind = plain_err r run.refused in record {
       asked = λ y. let p : r ≡ refusal.Usage = cc in subst IsPlainErr p kind;
       sized = plain_size r kind;
-      checked = λ file told. subst (λ (f : List ℕ). IsChecked f (checks_of (RunPlain name o)) d.last_failed (Err r)) (told_is d.contents name file bytes told stands)
-          (plain_err_checked bytes name o d.last_failed r run.refused accepted);
+      checked = λ file told. subst (λ (f : List ℕ). IsChecked (plain_checks o.limits f) d.last_failed (Err r)) (told_is d.contents name file bytes told stands)
+          (plain_err_checked (plain_checks o.limits bytes) d.last_failed r run.refused accepted);
       ended = tt;
       done = tt;
-      failed = λ fault file told. subst (λ (f : List ℕ). Leaves (RunPlain name o) f d (ran_to d c i out e fi fo fe) r []) (told_is d.contents name file bytes told stands)
+      failed = λ fault file told. subst (λ (f : List ℕ). (plain_task name o).fails f d (ran_to d c i out e fi fo fe) r []) (told_is d.contents name file bytes told stands)
           (λ input left. subst (λ (s : FlatState). FailedFrom o s d (ran_to d c i out e fi fo fe) r) (start_is o bytes input l room)
           (failed_again o _ d (ran_to d c i out e fi fo fe) c r (run.failed (run_not_memory r fault) input left)));
       refused = λ never. let same_all : ran_to d c i out e fi fo fe ≡ record d { contents = c } = run.memory (ap (λ (y : Refusal). Err y) (plain_memory r kind never)) in (
@@ -144,8 +145,21 @@ plain_refused name o d c i out e fi fo fe bytes l r same stands accepted room ru
 
 -- either way
 pub plain_answers : (name : List ℕ) (o : RunOptions) (d : Devices) (c : Option Contents) (i out e : Option (List ℕ)) (fi fo fe : ℕ) (bytes : List ℕ) (l : Layout) (r : Result Ending Refusal) →
-    Same d.contents c → Stands d.contents name bytes → IsAccepted bytes (checks_of (RunPlain name o)) → room_in bytes o.limits ≡ Ok l →
+    Same d.contents c → Stands d.contents name bytes → IsAccepted (plain_checks o.limits bytes) → room_in bytes o.limits ≡ Ok l →
     RunsPlain o (program_of_file bytes) l (record d { contents = c }) (ran_to d c i out e fi fo fe) r →
-    Answers (RunPlain name o) d (ran_to d c i out e fi fo fe) r []
+    Answers (plain_task name o) d (ran_to d c i out e fi fo fe) r []
 plain_answers name o d c i out e fi fo fe bytes l (Ok x) same stands accepted room run = plain_ok name o d c i out e fi fo fe bytes l x same stands accepted room run
 plain_answers name o d c i out e fi fo fe bytes l (Err r) same stands accepted room run = plain_refused name o d c i out e fi fo fe bytes l r same stands accepted room run
+
+-- the last line behind it
+pub plain_lined : (name : List ℕ) (o : RunOptions) → IsLined (plain_task name o)
+plain_lined name o = record {
+  done = λ file d m e error is h p same input left. ran_line _ _ d m e error (ending_line e) (h input left) p;
+  failed = λ file d m r error err line later h p input is. elim (h input is) [
+    | inl a ↦ inl (at_step_line (plain_run o file input) _ _ _ o.limits.steps d m r error err line a p)
+    | inr a ↦ inr (after_run_line (plain_run o file input o.limits.steps) (plain_report o (plain_run o file input o.limits.steps)) [] d m r error err line later a p)
+  ];
+  unended = λ file d m e error err is h p never same rose input left.
+      inr (after_line (plain_run o file input o.limits.steps) (plain_run o file input o.limits.steps).error _ [] d m e error err (sym (append-nil _)) (h input left) p never same rose);
+  unwritten = λ e name is never named. let bad : ⊥ = cc in bad;
+}

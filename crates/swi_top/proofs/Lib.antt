@@ -11,3 +11,4 @@ pub mod Listings
 pub mod Measuring
 pub mod Alike
 pub mod Tracing
+pub mod Lined

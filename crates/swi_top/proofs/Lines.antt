@@ -1,28 +1,24 @@
 -- The last line, behind what a command answered before it.
-use Rattle.std.proofs.Common.{◌≡◌, inl, inr, ℕ, ◌+◌, ◌≤◌, if◌then◌else◌, append_assoc, List, [], ◌∷◌, ◌++◌, length, take, Option, Some, Result, Ok, Err, IsErrOf, refl, sym, ◌∙◌, subst, ap, arith}
+use Rattle.std.proofs.Common.{◌≡◌, inl, inr, ℕ, ◌+◌, ◌≤◌, append_assoc, List, [], ◌∷◌, ◌++◌, length, take, Option, Some, Result, Ok, Err, IsErrOf, refl, sym, ◌∙◌, subst, ap, arith}
 use Rattle.std.proofs.lemmas.List.{append-nil}
 use Rattle.std.specs.Io.KnownBytes.{Appends}
 use Rattle.swi_outside.specs.Causes.{DeviceCause, HasCause, Rose}
 use Rattle.swi_outside.specs.Laws.{Appends-append}
 use Rattle.swi_outside.specs.Sink.{AppendsPrefix, WritesPiece}
-use Rattle.swi_command.specs.CommandLine.{Request, RewriteFile, RunCached, RunPlain, ListFile, CheckFile, UpgradeFile, MeasureMade}
 use Rattle.swi_answer.specs.declared.answer.Ending.{Ending}
 use Rattle.swi_answer.specs.declared.answer.Ending.TheVariants as ending
 use Rattle.swi_answer.specs.declared.answer.Refusal.{Refusal}
 use Rattle.swi_answer.specs.declared.answer.Refusal.TheVariants as refusal
 use Rattle.swi_answer.specs.Lines.{ending_line, refusal_line}
-use Rattle.swi_cached.specs.Cached.{CachedRun, end_of, program_after, told_after}
-use Rattle.swi_cached.specs.Told.{told_line}
-use Rattle.swi_command.specs.declared.command.Trace.{Trace}
-use Rattle.swi_command.specs.declared.command.Trace.TheVariants as trace
 use Rattle.std.proofs.Math.Seq.{take-append-add}
 use Rattle.swi_calls.specs.State.{FlatState}
 use Rattle.swi_calls.specs.Flat.{Made}
 use Rattle.swi_top.specs.Devices.{Devices, Faults, ShowsLine}
 use Rattle.swi_top.specs.Causes.{HasCauses}
 use Rattle.swi_top.specs.Checks.{cache_refusal}
-use Rattle.swi_top.specs.Runs.{Ran, StepFailed, FailedAtStep, FailedAfterRun, FailedBehind, ending_of, start_of}
-use Rattle.swi_top.specs.Answers.{Answers, AnswersWithLine, Does, IsRefusedAtOnce, IsEndingOf, IsSized, Leaves, RamBroke, cache_for, cached_run, last_lines, shown_error, made_ending, made_run, made_summary, output_name, plain_report, plain_run}
+use Rattle.swi_top.specs.Runs.{Ran, StepFailed, FailedAtStep, FailedAfterRun, FailedBehind, ending_of}
+use Rattle.swi_top.specs.Answers.{Answers, AnswersWithLine, IsRefusedAtOnce, IsSized}
+use Rattle.swi_top.specs.Task.{Task}
 use Rattle.swi_top.proofs.Due.{right_empty}
 use Rattle.swi_top.proofs.Refusals.{contents_stay, quiet_cause}
 
@@ -69,7 +65,7 @@ step_line s begun next most d m r error err line h p = record {
   input = h.input;
 }
 
-at_step_line : (run : ℕ → FlatState) (begun : FlatState → List ℕ) (next : FlatState → Made) (most : FlatState → ℕ) (limit : ℕ) (d m : Devices) (r : Refusal) (error : Option (List ℕ)) (err : ℕ) (line : List ℕ) →
+pub at_step_line : (run : ℕ → FlatState) (begun : FlatState → List ℕ) (next : FlatState → Made) (most : FlatState → ℕ) (limit : ℕ) (d m : Devices) (r : Refusal) (error : Option (List ℕ)) (err : ℕ) (line : List ℕ) →
     FailedAtStep run begun next most limit d m r [] → Appends m.error error line → FailedAtStep run begun next most limit d (told_to m error err) r line
 at_step_line run begun next most limit d m r error err line h p = record {
   steps = h.steps;
@@ -77,14 +73,14 @@ at_step_line run begun next most limit d m r error err line h p = record {
   failed = step_line (run h.steps) (begun (run h.steps)) (next (run h.steps)) (most (run h.steps)) d m r error err line h.failed p;
 }
 
-behind_line : (report lines : List ℕ) (i j : ℕ) (f m : Faults) (n : ℕ) → m.err ≤ n → FailedBehind report i lines j f m →
+pub behind_line : (report lines : List ℕ) (i j : ℕ) (f m : Faults) (n : ℕ) → m.err ≤ n → FailedBehind report i lines j f m →
     FailedBehind report i lines j f (record m { err = n })
 behind_line report lines i j f m n later h = elim h [
   | inl a ↦ inl a
   | inr a ↦ inr (a.0, a.1, a.2, rose_above f.err m.err n later a.3)
 ]
 
-after_run_line : (s : FlatState) (report tail : List ℕ) (d m : Devices) (r : Refusal) (error : Option (List ℕ)) (err : ℕ) (line : List ℕ) → m.faults.err ≤ err →
+pub after_run_line : (s : FlatState) (report tail : List ℕ) (d m : Devices) (r : Refusal) (error : Option (List ℕ)) (err : ℕ) (line : List ℕ) → m.faults.err ≤ err →
     FailedAfterRun s report tail d m r [] → Appends m.error error line → FailedAfterRun s report tail d (told_to m error err) r line
 after_run_line s report tail d m r error err line later h p = record {
   output_front = h.output_front;
@@ -96,81 +92,25 @@ after_run_line s report tail d m r error err line later h p = record {
   fault = h.fault;
 }
 
-ram_line : (c : CachedRun) (d m : Devices) (r : Refusal) (error : Option (List ℕ)) (err : ℕ) (line : List ℕ) →
-    RamBroke c d m r [] → Appends m.error error line → RamBroke c d (told_to m error err) r line
-ram_line c d m r error err line h p = record {
-  fault = h.fault;
-  fetched = h.fetched;
-  fetches = h.fetches;
-  steps = h.steps;
-  within = h.within;
-  enough = h.enough;
-  longest = h.longest;
-  output = h.output;
-  begun = h.begun;
-  error = appends_last d.error m.error error ((told_after c h.steps).error ++ (if h.begun then told_line c.trace (program_after c h.steps).machine else [])) line h.error p;
-  input = h.input;
-}
-
-leaves_line : (q : Request) (file : List ℕ) (d m : Devices) (r : Refusal) (error : Option (List ℕ)) (err : ℕ) (line : List ℕ) → m.faults.err ≤ err →
-    Leaves q file d m r [] → Appends m.error error line → Leaves q file d (told_to m error err) r line
-leaves_line (RewriteFile input output block whole) file d m r error err line later h p = h
-leaves_line (UpgradeFile input output) file d m r error err line later h p = h
-leaves_line (ListFile name block) file d m r error err line later h p =
-    record { image = h.image; own = h.own; output = h.output; error = Appends-append d.error m.error error [] line h.error p; fault = h.fault; cause = h.cause }
-leaves_line (CheckFile name) file d m r error err line later h p =
-    record { held = h.held; has = h.has; output = h.output; error = Appends-append d.error m.error error [] line h.error p; fault = h.fault; cause = h.cause }
-leaves_line (RunPlain name o) file d m r error err line later h p = λ input is. elim (h input is) [
-  | inl a ↦ inl (at_step_line (plain_run o file input) _ _ _ o.limits.steps d m r error err line a p)
-  | inr a ↦ inr (after_run_line (plain_run o file input o.limits.steps) (plain_report o (plain_run o file input o.limits.steps)) [] d m r error err line later a p)
-]
-leaves_line (RunCached name cache o) file d m r error err line later h p = (
-  h.0,
-  h.1,
-  h.2,
-  λ input is. let f = h.3 input is in record {
-    broke = elim f.broke [
-      | inl a ↦ inl (ram_line (cached_run (cache_for cache h.0) o h.0 (start_of o file input)) d m r error err line a p)
-      | inr b ↦ inr (elim b [
-        | inl a ↦ inl (at_step_line (told_after (cached_run (cache_for cache h.0) o h.0 (start_of o file input))) _ _ _ o.limits.steps d m r error err line a p)
-        | inr a ↦ inr (after_run_line _ _ _ d m r error err line later a.0 p, a.1)
-      ])
-    ];
-    flat = f.flat;
-    stops = f.stops;
-  },
-)
-leaves_line (MeasureMade seed functions cache) file d m r error err line later h p = record {
-  program = h.program;
-  layout = h.layout;
-  image = h.image;
-  is = h.is;
-  broke = elim h.broke [
-    | inl a ↦ inl (record {
-      fault = a.fault;
-      output = a.output;
-      error = Appends-append d.error m.error error [] line a.error p;
-    })
-    | inr a ↦ inr (
-      record {
-        fault = a.0.fault;
-        output_front = a.0.output_front;
-        output = a.0.output;
-        error_front = a.0.error_front;
-        error = appends_last d.error m.error error _ line a.0.error p;
-        behind = behind_line _ _ a.0.output_front a.0.error_front d.faults m.faults err later a.0.behind;
-      },
-      a.1,
-    )
-  ];
-  input = h.input;
-  beyond = h.beyond;
-}
+-- how the last line stands behind what a command did, or left: what is asked of each command
+pub record IsLined (t : Task) : Type 0 where
+  -- the line of an ending
+  pub done : (files : t.Files) (d m : Devices) (e : Ending) (error : Option (List ℕ)) → t.ends e → t.does files d m e [] →
+      Appends m.error error (ending_line e) → (ending_line e ≡ [] → error ≡ m.error) → t.does files d (record m { error = error }) e (ending_line e)
+  -- that of a refusal
+  pub failed : (files : t.Files) (d m : Devices) (r : Refusal) (error : Option (List ℕ)) (err : ℕ) (line : List ℕ) → m.faults.err ≤ err →
+      t.fails files d m r [] → Appends m.error error line → t.fails files d (told_to m error err) r line
+  -- the line of an ending that could not be written
+  pub unended : (files : t.Files) (d m : Devices) (e : Ending) (error : Option (List ℕ)) (err : ℕ) → t.ends e → t.does files d m e [] →
+      AppendsPrefix m.error error (ending_line e) → (ending_line e ≡ [] → ⊥) → m.faults ≡ d.faults → Rose m.faults.err err →
+      t.fails files d (told_to m error err) refusal.SinkFault []
+  -- a command that writes a file ends without a line
+  pub unwritten : (e : Ending) (name : List ℕ) → t.ends e → (ending_line e ≡ [] → ⊥) → t.writes ≡ Some name → ⊥
 
 -- the line of a refusal
-pub refused_line : (q : Request) (d m : Devices) (r : Refusal) (error : Option (List ℕ)) (err : ℕ) → Answers q d m (Err r) [] →
-    ShowsLine m.error error m.faults.err err (refusal_line r) → m.faults.err ≤ err → AnswersWithLine q d (told_to m error err) (Err r)
-refused_line q d m r error err a line later = record {
+pub refused_line : (t : Task) (lined : IsLined t) (d m : Devices) (r : Refusal) (error : Option (List ℕ)) (err : ℕ) → Answers t d m (Err r) [] →
+    ShowsLine m.error error m.faults.err err (refusal_line r) → m.faults.err ≤ err → AnswersWithLine t d (told_to m error err) (Err r)
+refused_line t lined d m r error err a line later = record {
   shown = line.shown;
   whole = λ never. line.whole (λ rose. never (let before : d.faults.err ≤ m.faults.err = a.causes.err_later in rose_below d.faults.err m.faults.err err before rose));
   answers = record {
@@ -179,7 +119,7 @@ refused_line q d m r error err a line later = record {
     checked = a.checked;
     ended = tt;
     done = tt;
-    failed = λ f file told. leaves_line q file d m r error err (take line.shown (refusal_line r)) later (a.failed f file told) line.bytes;
+    failed = λ f files told. lined.failed files d m r error err (take line.shown (refusal_line r)) later (a.failed f files told) line.bytes;
     refused = λ never. let u = a.refused never in (
       record { input = u.0.input; output = u.0.output; ram = u.0.ram },
       Appends-append d.error m.error error [] (take line.shown (refusal_line r)) u.1 line.bytes,
@@ -194,7 +134,7 @@ pub take_all : (xs : List ℕ) → xs ≡ take (length xs) xs
 take_all [] = refl
 take_all (x ∷ xs) = ap (λ (ys : List ℕ). x ∷ ys) (take_all xs)
 
-ran_line : (s : FlatState) (report : List ℕ) (d m : Devices) (e : Ending) (error : Option (List ℕ)) (line : List ℕ) →
+pub ran_line : (s : FlatState) (report : List ℕ) (d m : Devices) (e : Ending) (error : Option (List ℕ)) (line : List ℕ) →
     Ran s report d m e [] → Appends m.error error line → Ran s report d (record m { error = error }) e line
 ran_line s report d m e error line h p =
     record { ending = h.ending; input = h.input; output = h.output; error = appends_last d.error m.error error s.error line h.error p }
@@ -203,45 +143,26 @@ ran_line s report d m e error line h p =
 no_line : (e : Ending) → e ≡ ending.Done → ending_line e ≡ []
 no_line e is = subst (λ (x : Ending). ending_line x ≡ []) (sym is) refl
 
-done_line : (q : Request) (file : List ℕ) (d m : Devices) (e : Ending) (error : Option (List ℕ)) → IsEndingOf q e → Does q file d m e [] →
-    Appends m.error error (ending_line e) → (ending_line e ≡ [] → error ≡ m.error) → Does q file d (record m { error = error }) e (ending_line e)
-done_line (RewriteFile input output block whole) file d m e error is h p same =
-    subst (λ (x : Option (List ℕ)). Does (RewriteFile input output block whole) file d (record m { error = x }) e (ending_line e)) (sym (same (no_line e is))) h
-done_line (UpgradeFile input output) file d m e error is h p same =
-    subst (λ (x : Option (List ℕ)). Does (UpgradeFile input output) file d (record m { error = x }) e (ending_line e)) (sym (same (no_line e is))) h
-done_line (ListFile name block) file d m e error is h p same =
-    subst (λ (x : Option (List ℕ)). Does (ListFile name block) file d (record m { error = x }) e (ending_line e)) (sym (same (no_line e is))) h
-done_line (CheckFile name) file d m e error is h p same =
-    subst (λ (x : Option (List ℕ)). Does (CheckFile name) file d (record m { error = x }) e (ending_line e)) (sym (same (no_line e is))) h
-done_line (RunPlain name o) file d m e error is h p same = λ input left. ran_line _ _ d m e error (ending_line e) (h input left) p
-done_line (RunCached name cache o) file d m e error is h p same = (
-  h.0,
-  h.1,
-  h.2,
-  λ input left.
-      let r = h.3 input left in
-      record {
-        ran = ran_line _ _ d m e error (ending_line e) r.ran p;
-        cached = r.cached;
-      },
-)
-done_line (MeasureMade seed functions cache) file d m e error is h p same = record {
-  program = h.program;
-  layout = h.layout;
-  image = h.image;
-  is = h.is;
-  ending = h.ending;
-  output = h.output;
-  error = Appends-append d.error m.error error [] (ending_line e) h.error p;
-  input = h.input;
-  ran = h.ran;
-  beyond = h.beyond;
+no_done : (e : Ending) → e ≡ ending.Done → (ending_line e ≡ [] → ⊥) → ⊥
+no_done e is never = never (no_line e is)
+
+-- a command that is done has no such line
+pub done_lined : (t : Task) → ((e : Ending) → t.ends e → e ≡ ending.Done) →
+    ((files : t.Files) (d m : Devices) (r : Refusal) (error : Option (List ℕ)) (err : ℕ) (line : List ℕ) → m.faults.err ≤ err →
+    t.fails files d m r [] → Appends m.error error line → t.fails files d (told_to m error err) r line) → IsLined t
+done_lined t only failed = record {
+  done = λ files d m e error is h p same.
+      subst (λ (l : List ℕ). t.does files d (record m { error = error }) e l) (sym (no_line e (only e is)))
+      (subst (λ (x : Option (List ℕ)). t.does files d (record m { error = x }) e []) (sym (same (no_line e (only e is)))) h);
+  failed = failed;
+  unended = λ files d m e error err is h p never same rose. absurd (no_done e (only e is) never);
+  unwritten = λ e name is never named. no_done e (only e is) never;
 }
 
 -- the line of an ending
-pub ended_line : (q : Request) (d m : Devices) (e : Ending) (error : Option (List ℕ)) → Answers q d m (Ok e) [] →
-    Appends m.error error (ending_line e) → (ending_line e ≡ [] → error ≡ m.error) → AnswersWithLine q d (record m { error = error }) (Ok e)
-ended_line q d m e error a p same = record {
+pub ended_line : (t : Task) (lined : IsLined t) (d m : Devices) (e : Ending) (error : Option (List ℕ)) → Answers t d m (Ok e) [] →
+    Appends m.error error (ending_line e) → (ending_line e ≡ [] → error ≡ m.error) → AnswersWithLine t d (record m { error = error }) (Ok e)
+ended_line t lined d m e error a p same = record {
   shown = length (ending_line e);
   whole = λ _. refl;
   answers = record {
@@ -249,8 +170,8 @@ ended_line q d m e error a p same = record {
     sized = a.sized;
     checked = a.checked;
     ended = a.ended;
-    done = λ file told. subst (λ (l : List ℕ). Does q file d (record m { error = error }) e l) (take_all (ending_line e))
-        (done_line q file d m e error a.ended (a.done file told) p same);
+    done = λ files told. subst (λ (l : List ℕ). t.does files d (record m { error = error }) e l) (take_all (ending_line e))
+        (lined.done files d m e error a.ended (a.done files told) p same);
     failed = tt;
     refused = tt;
     shelf = record { others = a.shelf.others; refused = tt; quiet = a.shelf.quiet; failed = a.shelf.failed };
@@ -259,14 +180,8 @@ ended_line q d m e error a p same = record {
   };
 }
 
--- all that the errors have gained, with the last lines behind the rest
-pub shown_split : (t : Trace) (c : CachedRun) → shown_error t c ≡ (told_after c c.limit).error ++ last_lines t c
-shown_split trace.Off c = sym (append-nil (told_after c c.limit).error)
-shown_split trace.Each c = sym (append-nil (told_after c c.limit).error)
-shown_split trace.Last c = refl
-
 -- the error sink failed at lines that end with one that has bytes
-behind_ending : (report tail : List ℕ) (j : ℕ) (e x : Ending) (f m : Faults) (n : ℕ) → e ≡ x → (ending_line e ≡ [] → ⊥) → m ≡ f → Rose m.err n →
+pub behind_ending : (report tail : List ℕ) (j : ℕ) (e x : Ending) (f m : Faults) (n : ℕ) → e ≡ x → (ending_line e ≡ [] → ⊥) → m ≡ f → Rose m.err n →
     FailedBehind report (length report) (tail ++ ending_line x) j f (record m { err = n })
 behind_ending report tail j e x f m n is never same rose = inr (
   refl,
@@ -276,7 +191,7 @@ behind_ending report tail j e x f m n is never same rose = inr (
 )
 
 -- the line of an ending could not be written
-after_line : (s : FlatState) (all report tail : List ℕ) (d m : Devices) (e : Ending) (error : Option (List ℕ)) (err : ℕ) → all ≡ s.error ++ tail →
+pub after_line : (s : FlatState) (all report tail : List ℕ) (d m : Devices) (e : Ending) (error : Option (List ℕ)) (err : ℕ) → all ≡ s.error ++ tail →
     Ran (record s { error = all }) report d m e [] → AppendsPrefix m.error error (ending_line e) → (ending_line e ≡ [] → ⊥) → m.faults ≡ d.faults → Rose m.faults.err err →
     FailedAfterRun s report tail d (told_to m error err) refusal.SinkFault []
 after_line s all report tail d m e error err split h p never same rose = record {
@@ -292,58 +207,6 @@ after_line s all report tail d m e error err split h p never same rose = record 
   input = h.input;
   fault = refl;
 }
-
-no_done : (e : Ending) → e ≡ ending.Done → (ending_line e ≡ [] → ⊥) → ⊥
-no_done e is never = never (no_line e is)
-
-leaves_ending : (q : Request) (file : List ℕ) (d m : Devices) (e : Ending) (error : Option (List ℕ)) (err : ℕ) → IsEndingOf q e → Does q file d m e [] →
-    AppendsPrefix m.error error (ending_line e) → (ending_line e ≡ [] → ⊥) → m.faults ≡ d.faults → Rose m.faults.err err →
-    Leaves q file d (told_to m error err) refusal.SinkFault []
-leaves_ending (RewriteFile input output block whole) file d m e error err is h p never same rose = no_done e is never
-leaves_ending (UpgradeFile input output) file d m e error err is h p never same rose = no_done e is never
-leaves_ending (ListFile name block) file d m e error err is h p never same rose = absurd (no_done e is never)
-leaves_ending (CheckFile name) file d m e error err is h p never same rose = absurd (no_done e is never)
-leaves_ending (RunPlain name o) file d m e error err is h p never same rose = λ input left. inr (after_line (plain_run o file input o.limits.steps) (plain_run o file input o.limits.steps).error _ [] d m e error err (sym (append-nil _)) (h input left) p never same rose)
-leaves_ending (RunCached name cache o) file d m e error err is h p never same rose = (
-  h.0,
-  h.1,
-  h.2,
-  λ input left.
-      let r = h.3 input left in
-      let c = cached_run (cache_for cache h.0) o h.0 (start_of o file input) in record { broke = inr (inr (after_line (told_after c c.limit) (shown_error o.reports.trace c) _ (last_lines o.reports.trace c) d m e error err (shown_split o.reports.trace c) r.ran p never same rose, r.cached.ram)); flat = r.cached.flat; stops = r.cached.stops },
-)
-leaves_ending (MeasureMade seed functions cache) file d m e error err is h p never same rose =
-    let c = made_run (cache_for cache h.image) h.program h.layout h.image in
-    let summary : List ℕ = made_summary functions h.program h.image c in record {
-      program = h.program;
-      layout = h.layout;
-      image = h.image;
-      is = h.is;
-      broke = inr (
-        record {
-          fault = refl;
-          output_front = length summary;
-          output = appends_as d.output m.output summary (take (length summary) summary) (take_all summary) h.output;
-          error_front = p.0;
-          error = appends_as d.error error (take p.0 (ending_line (made_ending (end_of c)))) (take p.0 (ending_line (made_ending (end_of c))) ++ []) (sym (append-nil _))
-              (Appends-append d.error m.error error [] (take p.0 (ending_line (made_ending (end_of c)))) h.error
-              (subst (λ (x : Ending). Appends m.error error (take p.0 (ending_line x))) h.ending p.1));
-          behind = behind_ending summary [] p.0 e (made_ending (end_of c)) d.faults m.faults err h.ending never same rose;
-        },
-        h.ran,
-      );
-      input = h.input;
-      beyond = h.beyond;
-    }
-
-none_named : (q : Request) (e : Ending) (name : List ℕ) → IsEndingOf q e → (ending_line e ≡ [] → ⊥) → output_name q ≡ Some name → ⊥
-none_named (RewriteFile input output block whole) e name is never named = no_done e is never
-none_named (UpgradeFile input output) e name is never named = no_done e is never
-none_named (ListFile name block) e out is never named = no_done e is never
-none_named (CheckFile name) e out is never named = no_done e is never
-none_named (RunPlain name o) e out is never named = let bad : ⊥ = cc in bad
-none_named (RunCached name cache o) e out is never named = let bad : ⊥ = cc in bad
-none_named (MeasureMade seed functions cache) e out is never named = let bad : ⊥ = cc in bad
 
 err_causes : (f m : Faults) (n : ℕ) (e : Ending) → HasCauses f m (Ok e) → m.err ≤ n → Rose m.err n → HasCauses {T = Ending} f (record m { err = n }) (Err refusal.SinkFault)
 err_causes f m n e h later rose = let same : m ≡ f = h.quiet in record {
@@ -366,20 +229,20 @@ sized_fault x e h = record {
   only = λ f. absurd f;
 }
 
-pub ending_failed : (q : Request) (d m : Devices) (e : Ending) (error : Option (List ℕ)) (err : ℕ) → Answers q d m (Ok e) [] →
+pub ending_failed : (t : Task) (lined : IsLined t) (d m : Devices) (e : Ending) (error : Option (List ℕ)) (err : ℕ) → Answers t d m (Ok e) [] →
     AppendsPrefix m.error error (ending_line e) → (ending_line e ≡ [] → ⊥) → m.faults.err ≤ err → Rose m.faults.err err →
-    Answers q d (told_to m error err) (Err refusal.SinkFault) []
-ending_failed q d m e error err a p never later rose = record {
+    Answers t d (told_to m error err) (Err refusal.SinkFault) []
+ending_failed t lined d m e error err a p never later rose = record {
   asked = λ x. let bad : ⊥ = cc in bad;
-  sized = sized_fault (cache_refusal q (length d.ram.words)) e a.sized;
+  sized = sized_fault (cache_refusal t.cache (length d.ram.words)) e a.sized;
   checked = a.checked;
   ended = tt;
   done = tt;
-  failed = λ _ file told. leaves_ending q file d m e error err a.ended (a.done file told) p never a.causes.quiet rose;
+  failed = λ _ files told. lined.unended files d m e error err a.ended (a.done files told) p never a.causes.quiet rose;
   refused = λ run. absurd (run tt);
   shelf = record {
     others = a.shelf.others;
-    refused = λ _ name. a.shelf.others name (λ named. none_named q e name a.ended never named);
+    refused = λ _ name. a.shelf.others name (λ named. lined.unwritten e name a.ended never named);
     quiet = λ _. a.shelf.quiet (λ x. let bad : ⊥ = cc in bad);
     failed = λ x. absurd (let bad : ⊥ = cc in bad);
   };
@@ -402,10 +265,10 @@ shows_line o p (Err f) x line before now e w h = record {
 }
 
 -- the error sink did not fail
-pub ended_line_still : (q : Request) (d m : Devices) (e : Ending) (error : Option (List ℕ)) (err : ℕ) → err ≡ m.faults.err → Answers q d m (Ok e) [] →
-    Appends m.error error (ending_line e) → (ending_line e ≡ [] → error ≡ m.error) → AnswersWithLine q d (told_to m error err) (Ok e)
-ended_line_still q d m e error err same a p unasked =
-    subst (λ (n : ℕ). AnswersWithLine q d (told_to m error n) (Ok e)) (sym same) (ended_line q d m e error a p unasked)
+pub ended_line_still : (t : Task) (lined : IsLined t) (d m : Devices) (e : Ending) (error : Option (List ℕ)) (err : ℕ) → err ≡ m.faults.err → Answers t d m (Ok e) [] →
+    Appends m.error error (ending_line e) → (ending_line e ≡ [] → error ≡ m.error) → AnswersWithLine t d (told_to m error err) (Ok e)
+ended_line_still t lined d m e error err same a p unasked =
+    subst (λ (n : ℕ). AnswersWithLine t d (told_to m error n) (Ok e)) (sym same) (ended_line t lined d m e error a p unasked)
 
 -- a refusal before anything was asked for
 pub refused_at_once : (d : Devices) (r : Refusal) (error : Option (List ℕ)) (err : ℕ) → HasCauses {T = Ending} d.faults d.faults (Err r) →

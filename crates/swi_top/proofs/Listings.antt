@@ -1,5 +1,5 @@
 -- A listing that is written block by block, and what a command answers that writes it.
-use Rattle.std.proofs.Common.{◌≡◌, inl, inr, ℕ, zero, suc, ◌+◌, ◌<◌, ◌≤◌, List, [], ◌++◌, Option, None, Result, Ok, Err, IfErr, refl, sym, ◌∙◌, subst, ap, arith}
+use Rattle.std.proofs.Common.{◌≡◌, inl, inr, ℕ, zero, suc, ◌+◌, ◌<◌, ◌≤◌, List, [], ◌++◌, Option, Result, Ok, Err, IfOk, IfErr, refl, sym, ◌∙◌, subst, ap, arith}
 use Rattle.std.proofs.lemmas.Bool.{cases_eq}
 use Rattle.std.proofs.lemmas.List.{append-nil, append_assoc}
 use Rattle.std.specs.Io.KnownBytes.{Appends}
@@ -9,23 +9,21 @@ use Rattle.swi_outside.specs.Shelf.{Contents, Same, Stands}
 use Rattle.swi_outside.specs.Sink.{AppendsPrefix}
 use Rattle.swi_outside.proofs.SinkLemmas.{prefix_behind}
 use Rattle.swi_elf_read.specs.Loaded.{image_of as image_in}
-use Rattle.swi_program.specs.Program.{ProgramData}
-use Rattle.swi_program.specs.ProgramOf.{program_of_file}
-use Rattle.swi_program.specs.Text.{TextData, text_of}
-use Rattle.swi_render.specs.Cut.{IsCut}
+use Rattle.swi_program.specs.Text.{TextData}
 use Rattle.swi_image.specs.Format.{ImageData}
-use Rattle.swi_command.specs.CommandLine.{ListFile}
 use Rattle.swi_answer.specs.declared.answer.Ending.{Ending}
+use Rattle.swi_answer.specs.declared.answer.Ending.TheVariants as ending
 use Rattle.swi_answer.specs.declared.answer.Refusal.{Refusal}
 use Rattle.swi_answer.specs.declared.answer.Refusal.TheVariants as refusal
 use Rattle.swi_trace.specs.Block.{block_lines}
-use Rattle.swi_top.specs.Listing.{first_blocks, listing}
-use Rattle.swi_top.specs.Answers.{Answers, IsChecked, IsImageFor, IsRunFault, Lists, ListFailed}
-use Rattle.swi_top.specs.Caching.{AnswersFile}
-use Rattle.swi_top.specs.Checks.{IsAccepted, checks_of}
+use Rattle.swi_top.specs.Answers.{Answers}
+use Rattle.swi_top.specs.Checks.{IsAccepted, text_in}
 use Rattle.swi_top.specs.Devices.{Devices}
-use Rattle.swi_top.proofs.Refusals.{sized_err, sized_ok, told_is}
-use Rattle.swi_top.proofs.Caching.{file_not, file_size}
+use Rattle.swi_top.specs.ListFile.{Lists, ListFailed, first_blocks, list_checks, list_task, listing}
+use Rattle.swi_top.specs.Subject.{IsImageFor}
+use Rattle.swi_top.proofs.Confirming.{out_causes}
+use Rattle.swi_top.proofs.Lines.{IsLined, done_lined}
+use Rattle.swi_top.proofs.Refusals.{ok_causes, sized_err, sized_ok, told_is}
 
 -- ---- block by block
 
@@ -64,56 +62,45 @@ block_broken t v k n o p q within written front =
     rest.1 ∙ append_assoc (first_blocks t v k) (block_lines t v k) rest.0 in
     rw all (prefix_behind o p q (first_blocks t v k) (block_lines t v k) rest.0 written front)
 
--- the listing of a greedy cut was not written whole
-pub cut_listed : (most : ℕ) (file : List ℕ) (p : ProgramData) (d : Devices) (out : Option (List ℕ)) (n : ℕ) (v : ImageData) (r : Result Ending Refusal) →
-    p ≡ program_of_file file → image_in file ≡ None → IsCut (text_of p.segments) most v →
-    IfErr r (λ x. (x ≡ refusal.SinkFault) × AppendsPrefix d.output out (listing (text_of p.segments) v)) → HasCause d.faults.out n r →
-    IfErr r (λ x. IsRunFault x → ListFailed file most d (record d { output = out; faults = record d.faults { out = n } }) x [])
-cut_listed most file p d out n v (Ok e) is none cut failed cause = tt
-cut_listed most file p d out n v (Err x) is none cut failed cause = λ _. record {
-  image = v;
-  own = subst (λ (i : Option (List ℕ)). IsImageFor file most i v) (sym none) (subst (λ (q : ProgramData). IsCut (text_of q.segments) most v) is cut);
-  output = subst (λ (q : ProgramData). AppendsPrefix d.output out (listing (text_of q.segments) v)) is failed.1;
-  error = Appends-none d.error;
-  fault = failed.0;
-  cause = cause.failed;
-}
+-- ---- what a command answers that writes it
 
--- ---- from what is said of the file to the command's answer
-
-pub list_answers : (name : List ℕ) (most : ℕ) (d : Devices) (c : Option Contents) (out : Option (List ℕ)) (n : ℕ) (bytes : List ℕ) (r : Result Ending Refusal) →
-    Same d.contents c → Stands d.contents name bytes →
-    AnswersFile (ListFile [] most) bytes (record d { contents = c }) (record d { contents = c; output = out; faults = record d.faults { out = n } }) r →
-    Answers (ListFile name most) d (record d { contents = c; output = out; faults = record d.faults { out = n } }) r []
-list_answers name most d c out n bytes (Ok e) same stands a =
-    let m : Devices = record d { contents = c; output = out; faults = record d.faults { out = n } } in
-    let h = a.done in record {
+pub listed : (name : List ℕ) (most : ℕ) (d : Devices) (c : Option Contents) (out : Option (List ℕ)) (n : ℕ) (bytes : List ℕ) (v : ImageData) (r : Result Ending Refusal) →
+    Same d.contents c → Stands d.contents name bytes → IsAccepted (list_checks most bytes) → IsImageFor bytes most (image_in bytes) v →
+    IfOk r (λ e. (e ≡ ending.Done) × Appends d.output out (listing (text_in bytes) v)) →
+    IfErr r (λ x. (x ≡ refusal.SinkFault) × AppendsPrefix d.output out (listing (text_in bytes) v)) → HasCause d.faults.out n r →
+    Answers (list_task name most) d (record d { contents = c; output = out; faults = record d.faults { out = n } }) r []
+listed name most d c out n bytes v (Ok e) same stands accepted own written broke cause =
+    let still : n ≡ d.faults.out = cause.quiet in
+    subst (λ (k : ℕ). Answers (list_task name most) d (record d { contents = c; output = out; faults = record d.faults { out = k } }) (Ok e) []) (sym still) (record {
       asked = λ x. let bad : ⊥ = cc in bad;
       sized = sized_ok e;
-      checked = λ file told. subst (λ (f : List ℕ). IsAccepted f (checks_of (ListFile name most))) (told_is d.contents name file bytes told stands) (a.checked d.last_failed);
-      ended = h.ending;
-      done = λ file told. subst (λ (f : List ℕ). Lists f most d m e) (told_is d.contents name file bytes told stands)
-          (record { ending = h.ending; image = h.image; own = h.own; output = h.output; others = h.others });
+      checked = λ file told. subst (λ (f : List ℕ). IsAccepted (list_checks most f)) (told_is d.contents name file bytes told stands) accepted;
+      ended = written.0;
+      done = λ file told. subst (λ (f : List ℕ). Lists f most d (record d { contents = c; output = out }) e) (told_is d.contents name file bytes told stands)
+          (record { ending = written.0; image = v; own = own; output = written.1; others = refl });
       failed = tt;
       refused = tt;
       shelf = record { others = λ x _. same x; refused = tt; quiet = λ _. refl; failed = λ x. absurd (let never : ⊥ = cc in never) };
-      ram = a.ram;
-      causes = a.causes;
-    }
-list_answers name most d c out n bytes (Err r) same stands a =
-    let m : Devices = record d { contents = c; output = out; faults = record d.faults { out = n } } in record {
-      asked = file_not r refusal.Usage a.kind (λ x. x);
-      sized = sized_err r (file_size r a.kind);
-      checked = λ file told. subst (λ (f : List ℕ). IsChecked f (checks_of (ListFile name most)) d.last_failed (Err r)) (told_is d.contents name file bytes told stands) (a.checked d.last_failed);
+      ram = refl;
+      causes = ok_causes d.faults e;
+    })
+listed name most d c out n bytes v (Err r) same stands accepted own written broke cause =
+    let m : Devices = record d { contents = c; output = out; faults = record d.faults { out = n } } in
+    subst (λ (x : Refusal). Answers (list_task name most) d m (Err x) []) (sym broke.0) (record {
+      asked = λ e. let bad : ⊥ = cc in bad;
+      sized = sized_err refusal.SinkFault (λ x. x);
+      checked = λ file told. subst (λ (f : List ℕ). IsAccepted (list_checks most f)) (told_is d.contents name file bytes told stands) accepted;
       ended = tt;
       done = tt;
-      failed = λ fault file told. subst (λ (f : List ℕ). ListFailed f most d m r []) (told_is d.contents name file bytes told stands)
-          (let h = a.failed fault in record { image = h.image; own = h.own; output = h.output; error = h.error; fault = h.fault; cause = h.cause });
-      refused = λ never. let all : m ≡ record d { contents = c } = a.refused never in (
-        record { input = ap (λ (x : Devices). x.input) all; output = ap (λ (x : Devices). x.output) all; ram = ap (λ (x : Devices). x.ram) all },
-        subst (λ (x : Option (List ℕ)). Appends d.error x []) (sym (ap (λ (x : Devices). x.error) all)) (Appends-none d.error),
-      );
-      shelf = record { others = λ x _. same x; refused = λ _. same; quiet = λ _. refl; failed = λ x. absurd (file_not r refusal.ShelfFault a.kind (λ y. y) x) };
-      ram = a.ram;
-      causes = a.causes;
-    }
+      failed = λ _ file told. subst (λ (f : List ℕ). ListFailed f most d m refusal.SinkFault []) (told_is d.contents name file bytes told stands)
+          (record { image = v; own = own; output = broke.1; error = Appends-none d.error; fault = refl; cause = cause.failed });
+      refused = λ never. absurd (never tt);
+      shelf = record { others = λ x _. same x; refused = λ _. same; quiet = λ _. refl; failed = λ e. absurd (let never : ⊥ = cc in never) };
+      ram = refl;
+      causes = out_causes d.faults n cause.later cause.failed;
+    })
+
+-- no line stands behind it
+pub list_lined : (name : List ℕ) (most : ℕ) → IsLined (list_task name most)
+list_lined name most = done_lined (list_task name most) (λ e is. is) (λ files d m r error err line later h p.
+    record { image = h.image; own = h.own; output = h.output; error = Appends-append d.error m.error error [] line h.error p; fault = h.fault; cause = h.cause })

@@ -1,11 +1,12 @@
 -- The run of a made program, and what a command answers that measures it.
-use Rattle.std.proofs.Common.{◌≡◌, ◌⊎◌, inl, inr, ℕ, ◌*◌, ◌^◌, ◌<◌, ◌≤◌, List, [], ◌∷◌, length, take, Option, None, Result, Ok, Err, IfOk, IfErr, OnErr, IsErrOf, refl, sym, ◌∙◌, subst, ap, arith, nat_lt, false}
+use Rattle.std.proofs.Common.{◌≡◌, ◌⊎◌, inl, inr, ℕ, ◌*◌, ◌^◌, ◌≤◌, List, [], ◌∷◌, ◌++◌, length, take, Option, None, Result, Ok, Err, IfOk, IfErr, OnErr, IsErrOf, refl, sym, ◌∙◌, subst, ap, arith, nat_lt, false}
 use Rattle.std.proofs.lemmas.Bool.Decides.{nat_tests}
+use Rattle.std.proofs.lemmas.List.{append-nil}
 use Rattle.std.specs.List.{AllZip}
 use Rattle.std.specs.Io.KnownBytes.{Appends}
 use Rattle.swi_outside.specs.Causes.{DeviceCause, HasCause, Rose}
 use Rattle.swi_outside.specs.CacheRam.{KeepsBeyond, RamState}
-use Rattle.swi_outside.specs.Laws.{Appends-none}
+use Rattle.swi_outside.specs.Laws.{Appends-append, Appends-none}
 use Rattle.swi_outside.specs.Sink.{AppendsPrefix}
 use Rattle.swi_isa.specs.declared.instr.Instr.{Instr}
 use Rattle.swi_memory.specs.declared.layout.Layout.{Layout}
@@ -19,7 +20,6 @@ use Rattle.swi_make.specs.Made.{IsMade, IsWordOf}
 use Rattle.swi_make.specs.Numbers.{all_additions}
 use Rattle.swi_image.specs.Format.{ImageData}
 use Rattle.swi_render.specs.Cut.{Fits}
-use Rattle.swi_command.specs.CommandLine.{MeasureMade}
 use Rattle.swi_command.specs.declared.command.CacheOptions.{CacheOptions}
 use Rattle.swi_calls.specs.declared.machine.Machine.{Machine}
 use Rattle.swi_rom.specs.Record.{Record}
@@ -31,15 +31,17 @@ use Rattle.swi_cached.specs.Answers as run
 use Rattle.swi_answer.specs.declared.answer.Ending.{Ending}
 use Rattle.swi_answer.specs.declared.answer.Refusal.{Refusal}
 use Rattle.swi_answer.specs.declared.answer.Refusal.TheVariants as refusal
-use Rattle.swi_top.specs.Answers.{Answers, IsCachedRun, IsMadeRun, MadeRunBroke, SummaryBroke, cache_for, made_ending, made_run, made_summary}
-use Rattle.swi_top.specs.Caching.{MadeRan, MeasuresOver, board_summary, board_work}
+use Rattle.swi_answer.specs.Lines.{ending_line}
+use Rattle.swi_top.specs.Answers.{Answers}
+use Rattle.swi_top.specs.Caching.{IsCachedRun, board_work, cache_for}
 use Rattle.swi_top.specs.Causes.{HasCauses}
-use Rattle.swi_top.specs.Checks.{size_refusal}
+use Rattle.swi_top.specs.Checks.{HoldsBlock, Fails, size_refusal}
 use Rattle.swi_top.specs.Devices.{Devices, Faults}
-use Rattle.swi_top.specs.Measuring.{made_ending_by, summary_by}
-use Rattle.swi_top.proofs.Refusals.{check_refused, contents_stay, late, late_causes, ok_causes, quiet_cause, rose_cause, sized_along, sized_err, sized_ok}
+use Rattle.swi_top.specs.MeasureMade.{IsMadeRun, MadeRan, MadeRunBroke, MeasuresOver, SummaryBroke, board_summary, made_ending, made_ending_by, made_run, made_summary, measure_checks, measure_task, summary_by}
+use Rattle.swi_top.proofs.Refusals.{checked_by, contents_stay, late, late_causes, ok_causes, quiet_cause, refused_late, rose_cause, sized_along, sized_err, sized_ok}
 use Rattle.swi_top.proofs.Confirming.{out_causes}
 use Rattle.swi_top.proofs.Caching.{cached_run_is, keeps_run, work_is}
+use Rattle.swi_top.proofs.Lines.{IsLined, appends_as, appends_last, behind_ending, behind_line, take_all}
 
 -- ---- a seed and a number make one program
 
@@ -197,17 +199,18 @@ over_summarized functions k p l v d out ram fo h m (Err r) ran beyond ram_is don
 -- ---- from the run over a service to what the command answers
 
 -- the cache holds no block
-pub small_refused : (seed functions : ℕ) (cache : CacheOptions) (p : ProgramData) (d : Devices) → size_refusal cache.cache_bytes (length d.ram.words) ≡ None →
-    IsMade seed functions p → Fits (text_of p.segments) cache.block_words → cache.cache_bytes < 4 * cache.block_words →
-    Answers (MeasureMade seed functions cache) d d (Err (refusal.CacheSmall cache.cache_bytes (4 * cache.block_words))) []
-small_refused seed functions cache p d size made fits less =
-    check_refused (MeasureMade seed functions cache) d d.contents [] (refusal.CacheSmall cache.cache_bytes (4 * cache.block_words)) size (contents_stay d) refl
-    (inr (inr (fits_made seed functions cache.block_words p made fits, inl (less, refl))))
+pub small_refused : (seed functions : ℕ) (cache : CacheOptions) (p : ProgramData) (d : Devices) (r : Refusal) → size_refusal cache.cache_bytes (length d.ram.words) ≡ None →
+    IsMade seed functions p → Fits (text_of p.segments) cache.block_words → Fails (HoldsBlock cache.cache_bytes (4 * cache.block_words)) r →
+    Answers (measure_task seed functions cache) d d (Err r) []
+small_refused seed functions cache p d r size made fits fails =
+    let by = inr (fits_made seed functions cache.block_words p made fits, inl fails) in
+    late (measure_task seed functions cache) d d.contents r (refused_late (measure_checks seed functions cache) r by) size (contents_stay d)
+    (λ _ _. checked_by (measure_checks seed functions cache) d.last_failed r by)
 
 made_done : (seed functions : ℕ) (cache : CacheOptions) (p : ProgramData) (l : Layout) (v : ImageData) (d : Devices) (out : Option (List ℕ)) (ram : RamState) (fo : ℕ) (e : Ending) →
     size_refusal cache.cache_bytes (length d.ram.words) ≡ None → IsMadeRun seed functions cache p l v → Fits (text_of p.segments) cache.block_words →
     4 * cache.block_words ≤ cache.cache_bytes → MeasuresOver functions (cache_for cache v) v p l d (measured_to d out ram fo) (Ok e) →
-    Answers (MeasureMade seed functions cache) d (measured_to d out ram fo) (Ok e) []
+    Answers (measure_task seed functions cache) d (measured_to d out ram fo) (Ok e) []
 made_done seed functions cache p l v d out ram fo e size is fits held run = record {
   asked = λ x. let bad : ⊥ = cc in bad;
   sized = sized_along _ _ size (sized_ok e);
@@ -238,7 +241,7 @@ made_failed : (seed functions : ℕ) (cache : CacheOptions) (p : ProgramData) (l
     4 * cache.block_words ≤ cache.cache_bytes → KeepsBeyond (cache_for cache v).span d.ram ram → HasCauses {T = Ending} d.faults (measured_to d out ram fo).faults (Err r) →
     (let c = made_run (cache_for cache v) p l v in
     MadeRunBroke d (measured_to d out ram fo) r [] ⊎ (SummaryBroke (made_ending (end_of c)) (made_summary functions p v c) d (measured_to d out ram fo) r [] × IsCachedRun c d.ram ram)) →
-    Answers (MeasureMade seed functions cache) d (measured_to d out ram fo) (Err r) []
+    Answers (measure_task seed functions cache) d (measured_to d out ram fo) (Err r) []
 made_failed seed functions cache p l v d out ram fo refusal.RamFault kind size is fits held beyond causes broke = record {
   asked = λ x. let bad : ⊥ = cc in bad;
   sized = sized_along _ _ size (sized_err refusal.RamFault (λ x. x));
@@ -265,24 +268,96 @@ made_failed seed functions cache p l v d out ram fo refusal.SinkFault kind size 
 }
 made_failed seed functions cache p l v d out ram fo _ kind size is fits held beyond causes broke = absurd (elim kind [ inl e ↦ let bad : ⊥ = cc in bad | inr e ↦ let bad : ⊥ = cc in bad ])
 
+-- a cache that is not refused lies in the ram
+pub ram_holds : (bytes words : ℕ) → size_refusal bytes words ≡ None → bytes ≤ 4 * words
+ram_holds bytes words e = grind (arith, nat_tests)
+
 -- where there was no memory nothing has changed
 no_measure : (seed functions : ℕ) (cache : CacheOptions) (d : Devices) → size_refusal cache.cache_bytes (length d.ram.words) ≡ None →
-    Answers (MeasureMade seed functions cache) d d (Err refusal.Memory) []
-no_measure seed functions cache d size = late (MeasureMade seed functions cache) d d.contents refusal.Memory tt size (contents_stay d) (λ _ _. tt)
+    Answers (measure_task seed functions cache) d d (Err refusal.Memory) []
+no_measure seed functions cache d size = late (measure_task seed functions cache) d d.contents refusal.Memory tt size (contents_stay d) (λ _ _. tt)
 
 -- the command answers what the run over its cache does
 pub measured_so : (seed functions : ℕ) (cache : CacheOptions) (p : ProgramData) (l : Layout) (v : ImageData) (d : Devices) (out : Option (List ℕ)) (ram : RamState) (fo : ℕ) (r : Result Ending Refusal) (k : Cache) → k ≡ cache_for cache v →
     size_refusal cache.cache_bytes (length d.ram.words) ≡ None → IsMadeRun seed functions cache p l v → Fits (text_of p.segments) cache.block_words →
-    4 * cache.block_words ≤ cache.cache_bytes → MeasuresOver functions k v p l d (measured_to d out ram fo) r → Answers (MeasureMade seed functions cache) d (measured_to d out ram fo) r []
+    4 * cache.block_words ≤ cache.cache_bytes → MeasuresOver functions k v p l d (measured_to d out ram fo) r → Answers (measure_task seed functions cache) d (measured_to d out ram fo) r []
 measured_so seed functions cache p l v d out ram fo r k same size is fits held run = by r (subst (λ (x : Cache). MeasuresOver functions x v p l d (measured_to d out ram fo) r) same run)
   where
-    by : (r : Result Ending Refusal) → MeasuresOver functions (cache_for cache v) v p l d (measured_to d out ram fo) r → Answers (MeasureMade seed functions cache) d (measured_to d out ram fo) r []
+    by : (r : Result Ending Refusal) → MeasuresOver functions (cache_for cache v) v p l d (measured_to d out ram fo) r → Answers (measure_task seed functions cache) d (measured_to d out ram fo) r []
     by (Ok e) run = made_done seed functions cache p l v d out ram fo e size is fits held run
     by (Err e) run = elim run.refused [
-      | inl m ↦ subst (λ (x : Refusal). Answers (MeasureMade seed functions cache) d (measured_to d out ram fo) (Err x) []) (sym m.0)
-          (subst (λ (x : Devices). Answers (MeasureMade seed functions cache) d x (Err refusal.Memory) []) (sym m.1) (no_measure seed functions cache d size))
+      | inl m ↦ subst (λ (x : Refusal). Answers (measure_task seed functions cache) d (measured_to d out ram fo) (Err x) []) (sym m.0)
+          (subst (λ (x : Devices). Answers (measure_task seed functions cache) d x (Err refusal.Memory) []) (sym m.1) (no_measure seed functions cache d size))
       | inr broke ↦ made_failed seed functions cache p l v d out ram fo e (elim broke [ inl b ↦ inl b.fault | inr b ↦ inr b.0.fault ]) size is fits held run.beyond run.causes broke
     ]
 
 pub unfailed : {T : Type 0} (n m : ℕ) (x : T) → DeviceCause n m (IsErrOf {T = T} (Ok x) refusal.RamFault) → m ≡ n
 unfailed n m x cause = elim cause.told [ inl e ↦ e | inr never ↦ absurd (let bad : ⊥ = cc in bad) ]
+
+-- ---- the last line behind it
+
+pub measure_lined : (seed functions : ℕ) (cache : CacheOptions) → IsLined (measure_task seed functions cache)
+measure_lined seed functions cache = record {
+  done = λ files d m e error is h p same. record {
+    program = h.program;
+    layout = h.layout;
+    image = h.image;
+    is = h.is;
+    ending = h.ending;
+    output = h.output;
+    error = Appends-append d.error m.error error [] (ending_line e) h.error p;
+    input = h.input;
+    ran = h.ran;
+    beyond = h.beyond;
+  };
+  failed = λ files d m r error err line later h p. record {
+    program = h.program;
+    layout = h.layout;
+    image = h.image;
+    is = h.is;
+    broke = elim h.broke [
+      | inl a ↦ inl (record {
+        fault = a.fault;
+        output = a.output;
+        error = Appends-append d.error m.error error [] line a.error p;
+      })
+      | inr a ↦ inr (
+        record {
+          fault = a.0.fault;
+          output_front = a.0.output_front;
+          output = a.0.output;
+          error_front = a.0.error_front;
+          error = appends_last d.error m.error error _ line a.0.error p;
+          behind = behind_line _ _ a.0.output_front a.0.error_front d.faults m.faults err later a.0.behind;
+        },
+        a.1,
+      )
+    ];
+    input = h.input;
+    beyond = h.beyond;
+  };
+  unended = λ files d m e error err is h p never same rose.
+      let c = made_run (cache_for cache h.image) h.program h.layout h.image in
+      let summary : List ℕ = made_summary functions h.program h.image c in record {
+        program = h.program;
+        layout = h.layout;
+        image = h.image;
+        is = h.is;
+        broke = inr (
+          record {
+            fault = refl;
+            output_front = length summary;
+            output = appends_as d.output m.output summary (take (length summary) summary) (take_all summary) h.output;
+            error_front = p.0;
+            error = appends_as d.error error (take p.0 (ending_line (made_ending (end_of c)))) (take p.0 (ending_line (made_ending (end_of c))) ++ []) (sym (append-nil _))
+                (Appends-append d.error m.error error [] (take p.0 (ending_line (made_ending (end_of c)))) h.error
+                (subst (λ (x : Ending). Appends m.error error (take p.0 (ending_line x))) h.ending p.1));
+            behind = behind_ending summary [] p.0 e (made_ending (end_of c)) d.faults m.faults err h.ending never same rose;
+          },
+          h.ran,
+        );
+        input = h.input;
+        beyond = h.beyond;
+      };
+  unwritten = λ e out is never named. let bad : ⊥ = cc in bad;
+}

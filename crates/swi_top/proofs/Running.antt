@@ -10,7 +10,7 @@ use Rattle.swi_memory.specs.Bus.{AreaData}
 use Rattle.swi_calls.specs.declared.machine.Machine.{Machine}
 use Rattle.swi_calls.specs.declared.end.CallFault.{CallFault}
 use Rattle.swi_calls.specs.declared.end.CallFault.TheVariants as call
-use Rattle.swi_calls.specs.Causes as calls
+use Rattle.swi_outside.specs.Devices as outside
 use Rattle.swi_calls.specs.Flat.{flat_run, machine_of, started}
 use Rattle.swi_calls.specs.State.{FlatState}
 use Rattle.swi_flat.specs.FlatData.{FlatData, FillsFront, next_made, state_at, stopped, unfailed}
@@ -22,8 +22,7 @@ use Rattle.swi_answer.specs.declared.answer.Refusal.{Refusal}
 use Rattle.swi_answer.specs.declared.answer.Refusal.TheVariants as refusal
 use Rattle.swi_top.specs.Devices.{Devices, Faults}
 use Rattle.swi_top.specs.Causes.{HasCauses}
-use Rattle.swi_top.specs.Answers.{plain_report, read_room_of}
-use Rattle.swi_top.specs.Plain.{RunsPlain, run_from}
+use Rattle.swi_top.specs.RunPlain.{RunsPlain, plain_report, read_room_of, run_from}
 use Rattle.swi_top.specs.Runs.{FailedAfterRun, Ran, StepFailed, ending_by, report}
 use Rattle.swi_top.proofs.Refusals.{ok_causes, quiet_cause}
 use Rattle.swi_top.proofs.Confirming.{out_causes}
@@ -66,11 +65,12 @@ step_failed {T} f s bus before after going output error source front = record {
 
 -- causes of a run, beside devices that it isn't handed
 pub run_causes : {T U : Type 0} (f : CallFault) (g : Faults) (i o e : ℕ) →
-    calls.HasCauses {T = T} (record { input = g.input; out = g.out; err = g.err }) (record { input = i; out = o; err = e }) (Err f) →
+    outside.HasCauses (record { input = g.input; output = g.out; error = g.err }) (record { input = i; output = o; error = e })
+    (IsErrOf {T = T} (Err f) call.SourceFault) (IsErrOf {T = T} (Err f) call.SinkFault) →
     HasCauses {T = U} g (record g { input = i; out = o; err = e }) (Err (refusal_of f))
 run_causes {T} {U} call.SourceFault g i o e h = record {
   shelf = quiet_cause g.shelf _ (λ x. let never : ⊥ = cc in never);
-  source = record { later = h.source.later; cause = λ _. h.source.cause refl; told = inr refl };
+  source = record { later = h.input.later; cause = λ _. h.input.cause refl; told = inr refl };
   ram = quiet_cause g.ram _ (λ x. let never : ⊥ = cc in never);
   out_later = h.sinks.one_later;
   err_later = h.sinks.other_later;
@@ -81,9 +81,9 @@ run_causes {T} {U} call.SourceFault g i o e h = record {
 run_causes {T} {U} call.SinkFault g i o e h = record {
   shelf = quiet_cause g.shelf _ (λ x. let never : ⊥ = cc in never);
   source = record {
-    later = h.source.later;
+    later = h.input.later;
     cause = λ x. absurd (let never : ⊥ = cc in never);
-    told = elim h.source.told [ inl p ↦ inl p | inr p ↦ absurd (let never : ⊥ = cc in never) ];
+    told = elim h.input.told [ inl p ↦ inl p | inr p ↦ absurd (let never : ⊥ = cc in never) ];
   };
   ram = quiet_cause g.ram _ (λ x. let never : ⊥ = cc in never);
   out_later = h.sinks.one_later;
@@ -119,7 +119,8 @@ pub run_failed : {T : Type 0} (f : CallFault) (o : RunOptions) (p : ProgramData)
     ForSome d.input (λ left. AppendsThenPrefix d.error e (state_at new.machine.steps first.machine left).error (next_made (state_at new.machine.steps first.machine left)).error) →
     (IsErrOf {T = T} (Err f) call.SourceFault → ForSome d.input (λ left.
     Appends d.output out (state_at new.machine.steps first.machine left).output × Appends d.error e (state_at new.machine.steps first.machine left).error)) →
-    calls.HasCauses {T = T} (record { input = d.faults.input; out = d.faults.out; err = d.faults.err }) (record { input = fi; out = fo; err = fe }) (Err f) →
+    outside.HasCauses (record { input = d.faults.input; output = d.faults.out; error = d.faults.err }) (record { input = fi; output = fo; error = fe })
+    (IsErrOf {T = T} (Err f) call.SourceFault) (IsErrOf {T = T} (Err f) call.SinkFault) →
     RunsPlain o p l d (run_to d i out e fi fo fe) (Err (refusal_of f))
 run_failed {T} f o p l first new d i out e fi fo fe first_is going fewer stays front output error source causes = record {
   done = tt;

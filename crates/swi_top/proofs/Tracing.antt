@@ -1,6 +1,6 @@
 -- The lines of a history.
 use Rattle.std.proofs.Common.{◌≡◌, ℕ, zero, suc, ◌+◌, List, [], ◌∷◌, ◌++◌, length, take, drop, slice_get, Option, refl, sym, ap, ◌∙◌, subst, arith, append_assoc}
-use Rattle.std.proofs.lemmas.List.{take-append-drop}
+use Rattle.std.proofs.lemmas.List.{append-nil, take-append-drop}
 use Rattle.std.proofs.Math.Seq.{take-length}
 use Rattle.std.specs.Io.KnownBytes.{Appends}
 use Rattle.swi_outside.specs.Laws.{Appends-append}
@@ -13,9 +13,7 @@ use Rattle.swi_cached.specs.Cached.{CachedRun, end_of, told_after}
 use Rattle.swi_calls.specs.declared.machine.Machine.{Machine}
 use Rattle.swi_command.specs.declared.command.Trace.{Trace}
 use Rattle.swi_command.specs.declared.command.Trace.TheVariants as trace
-use Rattle.swi_top.specs.Answers.{last_lines, last_told, shown_error, telling_of}
-use Rattle.swi_top.proofs.Lines.{shown_split}
-use Rattle.swi_top.specs.Tracing.{addresses_in, one_of}
+use Rattle.swi_top.specs.RunCached.{addresses_in, last_lines, last_told, one_of, shown_error, telling_of}
 
 pub lines_both : (bus : List AreaData) (xs ys : List ℕ) → lines_at bus (xs ++ ys) ≡ lines_at bus xs ++ lines_at bus ys
 lines_both bus [] ys = refl
@@ -52,6 +50,12 @@ all_lines bus xs n old new all h =
     subst (λ (l : List ℕ). Appends old new (lines_at bus l)) (ap (λ (k : ℕ). take k xs) all ∙ take-length xs) h
 
 -- ---- what is told behind a run
+
+-- all that the errors have gained, with the last lines behind the rest
+pub shown_split : (t : Trace) (c : CachedRun) → shown_error t c ≡ (told_after c c.limit).error ++ last_lines t c
+shown_split trace.Off c = sym (append-nil (told_after c c.limit).error)
+shown_split trace.Each c = sym (append-nil (told_after c c.limit).error)
+shown_split trace.Last c = refl
 
 pub last_is : (t : Trace) (c : CachedRun) (m : Machine) (bus : List AreaData) (history : Option (List ℕ)) → bus ≡ m.bus → m ≡ (end_of c).machine → history ≡ history_of (telling_of t) (addresses c.limit c.start) →
     last_told t bus (addresses_in history) ≡ last_lines t c

@@ -6,14 +6,18 @@ use Rattle.swi_calls.specs.FirstStore.{StoresAt}
 use Rattle.swi_command.specs.declared.command.CacheOptions.{CacheOptions}
 use Rattle.swi_command.specs.declared.command.RunOptions.{RunOptions}
 use Rattle.swi_command.specs.declared.command.Trace.TheVariants.{Off}
-use Rattle.swi_command.specs.CommandLine.{Request, RunCached, RunPlain}
+use Rattle.swi_command.specs.CommandLine.{Request}
 use Rattle.swi_answer.specs.declared.answer.Ending.{Ending}
 use Rattle.swi_answer.specs.declared.answer.Refusal.{Refusal}
 use Rattle.swi_answer.specs.declared.answer.Refusal.TheVariants as refusal
 use Rattle.swi_top.specs.Devices.{Devices, Faults}
-use Rattle.swi_top.specs.Checks.{IsAccepted, cache_refusal, checks_of}
+use Rattle.swi_top.specs.Checks.{IsAccepted, cache_refusal}
 use Rattle.swi_top.specs.Runs.{start_of}
-use Rattle.swi_top.specs.Answers.{AnswersWithLine, IsTold, input_name}
+use Rattle.swi_top.specs.Answers.{AnswersWithLine}
+use Rattle.swi_top.specs.RunCached.{cached_task}
+use Rattle.swi_top.specs.RunPlain.{plain_task}
+use Rattle.swi_top.specs.Task.{Task}
+use Rattle.swi_top.specs.Tasks.{task_of}
 
 -- no device's count of faults rose
 pub record NoneRose (before after : Faults) : Type 0 where
@@ -23,19 +27,19 @@ pub record NoneRose (before after : Faults) : Type 0 where
   pub err : Rose before.err after.err → ⊥
   pub ram : Rose before.ram after.ram → ⊥
 
--- nothing stood in a command's way: the shelf tells the file, which passes every check; the cache, where there is one, is neither too large
--- nor larger than the ram; no device failed, and there was memory
-pub record IsFree (q : Request) (file : List ℕ) (before after : Devices) (result : Result Ending Refusal) : Type 0 where
-  pub told : IsTold before.contents (input_name q) file
-  pub accepted : IsAccepted file (checks_of q)
-  pub sized : cache_refusal q (length before.ram.words) ≡ None
+-- nothing stood in a command's way: the shelf tells its files, all checks pass; its cache, where it has one, is neither too large nor larger
+-- than the ram; no device failed, and there was memory
+pub record IsFree (t : Task) (files : t.Files) (before after : Devices) (result : Result Ending Refusal) : Type 0 where
+  pub told : t.told before.contents files
+  pub accepted : IsAccepted (t.checks files)
+  pub sized : cache_refusal t.cache (length before.ram.words) ≡ None
   pub quiet : NoneRose before.faults after.faults
   pub memory : IsErrOf result refusal.Memory → ⊥
 
 -- then it ends
 abbrev pub Completes : Type 0
-Completes = (q : Request) (file : List ℕ) (before after : Devices) (result : Result Ending Refusal) →
-    AnswersWithLine q before after result → IsFree q file before after result → (e : Ending) × (result ≡ Ok e)
+Completes = (q : Request) (files : (task_of q).Files) (before after : Devices) (result : Result Ending Refusal) →
+    AnswersWithLine (task_of q) before after result → IsFree (task_of q) files before after result → (e : Ending) × (result ≡ Ok e)
 
 -- what two runs leave that began over the same devices
 pub record LeavesAlike (o : RunOptions) (before plain cached : Devices) : Type 0 where
@@ -56,7 +60,7 @@ pub record LeavesAlike (o : RunOptions) (before plain cached : Devices) : Type 0
 -- with the same limits, reports and input.
 abbrev pub EndsAlike : Type 0
 EndsAlike = (name : List ℕ) (cache : CacheOptions) (o : RunOptions) (file input : List ℕ) (before plain cached : Devices) (one other : Result Ending Refusal) →
-    AnswersWithLine (RunPlain name o) before plain one → IsFree (RunPlain name o) file before plain one →
-    AnswersWithLine (RunCached name cache o) before cached other → IsFree (RunCached name cache o) file before cached other →
+    AnswersWithLine (plain_task name o) before plain one → IsFree (plain_task name o) file before plain one →
+    AnswersWithLine (cached_task name cache o) before cached other → IsFree (cached_task name cache o) file before cached other →
     before.input ≡ Some input → ((j : ℕ) → j < o.limits.steps → StoresAt (start_of o file input) j → ⊥) →
     (e : Ending) × (one ≡ Ok e) × (other ≡ Ok e) × LeavesAlike o before plain cached

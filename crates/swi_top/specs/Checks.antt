@@ -1,8 +1,7 @@
--- The checks of a command, which come before it does anything, in their order; what each refuses with. Own rule.
+-- The checks that a command makes before it does anything: what each asks, and what it refuses with. Own rule.
 use Rattle.std.specs.Prelude.{◌≡◌, ◌⊎◌, ℕ, ◌+◌, ◌*◌, ◌^◌, ◌<◌, ◌≤◌, nat_lt, List, [], ◌∷◌, length, Option, Some, None, option_map, Result, Ok, Err, ⊤, if◌then◌else◌}
 use Rattle.swi_command.specs.declared.command.CacheOptions.{CacheOptions}
 use Rattle.swi_command.specs.declared.command.RunLimits.{RunLimits}
-use Rattle.swi_command.specs.CommandLine.{Request, RewriteFile, RunCached, RunPlain, ListFile, CheckFile, UpgradeFile, MeasureMade}
 use Rattle.swi_elf_read.specs.Elf as elf
 use Rattle.swi_elf_read.specs.Loaded.{image_of as image_in}
 use Rattle.swi_image.specs.Checks as image
@@ -33,52 +32,34 @@ size_refusal bytes words =
     else if nat_lt (4 * words) bytes then Some (refusal.RamSmall bytes (4 * words))
     else None
 
--- the refusal of a cache that is too large, or larger than a ram of so many words
-abbrev pub cache_refusal : Request → ℕ → Option Refusal
-cache_refusal (RunCached name cache o) words = size_refusal cache.cache_bytes words
-cache_refusal (RewriteFile input output block whole) words = None
-cache_refusal (RunPlain name o) words = None
-cache_refusal (ListFile name block) words = None
-cache_refusal (CheckFile name) words = None
-cache_refusal (UpgradeFile input output) words = None
-cache_refusal (MeasureMade seed functions cache) words = size_refusal cache.cache_bytes words
+-- the refusal of a cache, where there is one, that is too large, or larger than a ram of so many words
+abbrev pub cache_refusal : Option ℕ → ℕ → Option Refusal
+cache_refusal None words = None
+cache_refusal (Some bytes) words = size_refusal bytes words
 
 -- ---- the checks of a file
 
 pub data Check : Type 0 where
   -- the file has at most 2^26 bytes
-  IsShort : Check
+  IsShort : (file : List ℕ) → Check
   -- it is an ELF file that is accepted
-  IsAcceptedElf : Check
+  IsAcceptedElf : (file : List ℕ) → Check
   -- heap and stack find room behind its program
-  HasRoom : RunLimits → Check
+  HasRoom : (file : List ℕ) → RunLimits → Check
   -- it has an image
-  HasImage : Check
+  HasImage : (file : List ℕ) → Check
   -- the image that it has is accepted
-  IsAcceptedImage : Check
+  IsAcceptedImage : (file : List ℕ) → Check
   -- and is one of its text
-  IsOwnImage : Check
+  IsOwnImage : (file : List ℕ) → Check
   -- each instruction fits into a block of so many words
-  FitsBlocks : ℕ → Check
+  FitsBlocks : (file : List ℕ) (most : ℕ) → Check
   -- or the file has an image
-  FitsUnlessImage : ℕ → Check
-  -- the cache holds a block, of the file's image or of so many words
-  HoldsBlock : CacheOptions → Check
+  FitsUnlessImage : (file : List ℕ) (most : ℕ) → Check
   -- each instruction of the program that is made of the seed, with so many functions, fits into a block of so many words
-  FitsMade : ℕ → ℕ → ℕ → Check
-  -- the cache holds a block of so many words
-  HoldsWords : CacheOptions → Check
-
--- the checks of each command, in their order
-abbrev pub checks_of : Request → List Check
-checks_of (RewriteFile input output block whole) = IsShort ∷ IsAcceptedElf ∷ FitsBlocks block ∷ []
-checks_of (RunCached name cache o) =
-    IsShort ∷ IsAcceptedElf ∷ HasRoom o.limits ∷ IsAcceptedImage ∷ IsOwnImage ∷ FitsUnlessImage cache.block_words ∷ HoldsBlock cache ∷ []
-checks_of (RunPlain name o) = IsShort ∷ IsAcceptedElf ∷ HasRoom o.limits ∷ IsAcceptedImage ∷ IsOwnImage ∷ []
-checks_of (ListFile name block) = IsShort ∷ IsAcceptedElf ∷ IsAcceptedImage ∷ IsOwnImage ∷ FitsUnlessImage block ∷ []
-checks_of (CheckFile name) = IsShort ∷ IsAcceptedElf ∷ HasImage ∷ IsAcceptedImage ∷ IsOwnImage ∷ []
-checks_of (UpgradeFile input output) = IsShort ∷ IsAcceptedElf ∷ HasImage ∷ IsAcceptedImage ∷ IsOwnImage ∷ []
-checks_of (MeasureMade seed functions cache) = FitsMade seed functions cache.block_words ∷ HoldsWords cache ∷ []
+  FitsMade : (seed functions most : ℕ) → Check
+  -- a cache of so many bytes has at least those of a block
+  HoldsBlock : (bytes least : ℕ) → Check
 
 -- the most bytes that a file may have
 abbrev pub file_limit : ℕ
@@ -119,48 +100,52 @@ ImageFails t bytes r =
 abbrev pub ImagePasses : TextData → List ℕ → Type 0
 ImagePasses t bytes = (image.first_refusal bytes ≡ None) × IsImageOf t (image_of bytes)
 
--- the file fails a check, which refuses it so
-abbrev pub Fails : List ℕ → Check → Refusal → Type 0
-Fails file IsShort r = (file_limit < length file) × (r ≡ refusal.FileLong file_limit)
-Fails file IsAcceptedElf r = option_map (λ e. refusal.Elf e) (elf.first_refusal file) ≡ Some r
-Fails file (HasRoom limits) r = (room : Room) × (room_in file limits ≡ Err room) × (r ≡ refusal.Room room.end)
-Fails file HasImage r = (image_in file ≡ None) × (r ≡ refusal.NoImage)
-Fails file IsAcceptedImage r =
+-- a check fails, and refuses so
+abbrev pub Fails : Check → Refusal → Type 0
+Fails (IsShort file) r = (file_limit < length file) × (r ≡ refusal.FileLong file_limit)
+Fails (IsAcceptedElf file) r = option_map (λ e. refusal.Elf e) (elf.first_refusal file) ≡ Some r
+Fails (HasRoom file limits) r = (room : Room) × (room_in file limits ≡ Err room) × (r ≡ refusal.Room room.end)
+Fails (HasImage file) r = (image_in file ≡ None) × (r ≡ refusal.NoImage)
+Fails (IsAcceptedImage file) r =
     (bytes : List ℕ) × (image_in file ≡ Some bytes) × (option_map (λ e. refusal.Image e) (image.first_refusal bytes) ≡ Some r)
-Fails file IsOwnImage r =
+Fails (IsOwnImage file) r =
     (bytes : List ℕ) × (image_in file ≡ Some bytes) × ((m : Mismatch) × IsMismatch (text_in file) (image_of bytes) m × (r ≡ refusal.Mismatch m))
-Fails file (FitsBlocks most) r = IsLong (text_in file) most r
-Fails file (FitsUnlessImage most) r = (image_in file ≡ None) × IsLong (text_in file) most r
-Fails file (HoldsBlock cache) r =
-    (cache.cache_bytes < least_cache file cache) × (r ≡ refusal.CacheSmall cache.cache_bytes (least_cache file cache))
-Fails file (FitsMade seed functions most) r = (p : ProgramData) × IsMade seed functions p × IsLong (text_of p.segments) most r
-Fails file (HoldsWords cache) r =
-    (cache.cache_bytes < 4 * cache.block_words) × (r ≡ refusal.CacheSmall cache.cache_bytes (4 * cache.block_words))
+Fails (FitsBlocks file most) r = IsLong (text_in file) most r
+Fails (FitsUnlessImage file most) r = (image_in file ≡ None) × IsLong (text_in file) most r
+Fails (FitsMade seed functions most) r = (p : ProgramData) × IsMade seed functions p × IsLong (text_of p.segments) most r
+Fails (HoldsBlock bytes least) r = (bytes < least) × (r ≡ refusal.CacheSmall bytes least)
 
--- it passes the check
-abbrev pub Passes : List ℕ → Check → Type 0
-Passes file IsShort = length file ≤ file_limit
-Passes file IsAcceptedElf = elf.first_refusal file ≡ None
-Passes file (HasRoom limits) = (l : Layout) × (room_in file limits ≡ Ok l)
-Passes file HasImage = (bytes : List ℕ) × (image_in file ≡ Some bytes)
-Passes file IsAcceptedImage = OfImage (image_in file) (λ bytes. image.first_refusal bytes ≡ None)
-Passes file IsOwnImage = OfImage (image_in file) (λ bytes. IsImageOf (text_in file) (image_of bytes))
-Passes file (FitsBlocks most) = Fits (text_in file) most
-Passes file (FitsUnlessImage most) = image_in file ≡ None → Fits (text_in file) most
-Passes file (HoldsBlock cache) = least_cache file cache ≤ cache.cache_bytes
-Passes file (FitsMade seed functions most) = (p : ProgramData) → IsMade seed functions p → Fits (text_of p.segments) most
-Passes file (HoldsWords cache) = 4 * cache.block_words ≤ cache.cache_bytes
+-- it passes
+abbrev pub Passes : Check → Type 0
+Passes (IsShort file) = length file ≤ file_limit
+Passes (IsAcceptedElf file) = elf.first_refusal file ≡ None
+Passes (HasRoom file limits) = (l : Layout) × (room_in file limits ≡ Ok l)
+Passes (HasImage file) = (bytes : List ℕ) × (image_in file ≡ Some bytes)
+Passes (IsAcceptedImage file) = OfImage (image_in file) (λ bytes. image.first_refusal bytes ≡ None)
+Passes (IsOwnImage file) = OfImage (image_in file) (λ bytes. IsImageOf (text_in file) (image_of bytes))
+Passes (FitsBlocks file most) = Fits (text_in file) most
+Passes (FitsUnlessImage file most) = image_in file ≡ None → Fits (text_in file) most
+Passes (FitsMade seed functions most) = (p : ProgramData) → IsMade seed functions p → Fits (text_of p.segments) most
+Passes (HoldsBlock bytes least) = least ≤ bytes
 
--- it is refused by the first check that it fails
-abbrev pub IsRefusedBy : List ℕ → List Check → Refusal → Type 0
-IsRefusedBy file [] r = ⊥
-IsRefusedBy file (c ∷ cs) r = Fails file c r ⊎ (Passes file c × IsRefusedBy file cs r)
+-- a command is refused by the first check that fails
+abbrev pub IsRefusedBy : List Check → Refusal → Type 0
+IsRefusedBy [] r = ⊥
+IsRefusedBy (c ∷ cs) r = Fails c r ⊎ (Passes c × IsRefusedBy cs r)
 
--- or passes them all
-abbrev pub IsAccepted : List ℕ → List Check → Type 0
-IsAccepted file [] = ⊤
-IsAccepted file (c ∷ cs) = Passes file c × IsAccepted file cs
+-- or all pass
+abbrev pub IsAccepted : List Check → Type 0
+IsAccepted [] = ⊤
+IsAccepted (c ∷ cs) = Passes c × IsAccepted cs
 
--- a command was refused by the first check that its file fails, or for want of memory
-abbrev pub IsRefusedOr : List ℕ → List Check → Refusal → Type 0
-IsRefusedOr file checks r = (r ≡ refusal.Memory) ⊎ IsRefusedBy file checks r
+-- a command was refused by the first check that fails, or for want of memory
+abbrev pub IsRefusedOr : List Check → Refusal → Type 0
+IsRefusedOr checks r = (r ≡ refusal.Memory) ⊎ IsRefusedBy checks r
+
+-- the file has an image, which is one of its text
+abbrev pub image_checks : List ℕ → List Check
+image_checks file = IsShort file ∷ IsAcceptedElf file ∷ HasImage file ∷ IsAcceptedImage file ∷ IsOwnImage file ∷ []
+
+-- the image that the file has is one of its text; where it has none, each instruction fits into a block of so many words
+abbrev pub subject_checks : ℕ → List ℕ → List Check
+subject_checks most file = IsAcceptedImage file ∷ IsOwnImage file ∷ FitsUnlessImage file most ∷ []

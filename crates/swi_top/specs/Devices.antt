@@ -3,7 +3,9 @@ use Rattle.std.specs.Prelude.{◌≡◌, ℕ, List, length, take, Option}
 use Rattle.std.specs.Io.KnownBytes.{Appends}
 use Rattle.swi_outside.specs.CacheRam.{RamState}
 use Rattle.swi_outside.specs.Causes.{Rose}
-use Rattle.swi_outside.specs.Shelf.{Asked, Contents}
+use Rattle.swi_outside.specs.Shelf.{Asked, Contents, ShelfState}
+use Rattle.swi_outside.specs.Sink.{SinkState}
+use Rattle.swi_outside.specs.Source.{SourceState}
 
 -- the counts of faults of the shelf, the input, the output, the error sink and the ram
 pub record Faults : Type 0 where
@@ -24,16 +26,29 @@ pub record Devices : Type 0 where
   pub ram : RamState
   pub faults : Faults
 
--- the devices as they are seen by what their traits tell
-abbrev pub seen : Option Contents → Option Asked → ℕ → Option (List ℕ) → ℕ → Option (List ℕ) → ℕ → Option (List ℕ) → ℕ → RamState → Devices
-seen contents last_failed shelf input source output out error err ram = record {
-  contents = contents;
-  last_failed = last_failed;
-  input = input;
-  output = output;
-  error = error;
-  ram = ram;
-  faults = record { shelf = shelf; input = source; out = out; err = err; ram = ram.faults };
+-- devices, of which one is as it tells, or the streams of a run are
+abbrev pub with_shelf : Devices → ShelfState → Devices
+with_shelf d s = record d { contents = s.contents; last_failed = s.last_failed; faults = record d.faults { shelf = s.faults } }
+
+abbrev pub with_output : Devices → SinkState → Devices
+with_output d o = record d { output = o.held; faults = record d.faults { out = o.faults } }
+
+abbrev pub with_streams : Devices → SourceState → SinkState → SinkState → Devices
+with_streams d i o e = record d { input = i.left; output = o.held; error = e.held; faults = record d.faults { input = i.faults; out = o.faults; err = e.faults } }
+
+abbrev pub with_ram : Devices → RamState → Devices
+with_ram d r = record d { ram = r; faults = record d.faults { ram = r.faults } }
+
+-- the devices as they tell
+abbrev pub seen : ShelfState → SourceState → SinkState → SinkState → RamState → Devices
+seen s i o e r = record {
+  contents = s.contents;
+  last_failed = s.last_failed;
+  input = i.left;
+  output = o.held;
+  error = e.held;
+  ram = r;
+  faults = record { shelf = s.faults; input = i.faults; out = o.faults; err = e.faults; ram = r.faults };
 }
 
 -- no input was taken, nothing was written to the output, and the ram is as it was

@@ -8,6 +8,7 @@ ghost use Rattle.swi_answer.specs.Lines.{ending_line, refusal_line};
 ghost use Rattle.swi_command.specs.CommandLine.{HasLimitsInRange, Request, command_of, request_of};
 ghost use Rattle.swi_top.specs.Answers.{AnswersWithLine, IsRefusedAtOnce};
 ghost use Rattle.swi_top.specs.Devices.{ShowsLine, seen};
+ghost use Rattle.swi_top.specs.Tasks.{task_of};
 
 use crate::commands::perform;
 use std::alloc::Global;
@@ -17,10 +18,10 @@ use swi_outside::{CacheRam, Failed, Shelf, Sink, Source};
 
 /// Writes the line of an ending, where it has one.
 fn write_ending<E: Sink>(ending: &Ending, err: &mut E) -> Result<(), Failed>
-    ensures bytes { WritesPiece (E.held err.old) (E.held err.new) result (ending_line ending.now) }
-    ensures cause { HasCause (E.faults err.old) (E.faults err.new) result }
-    ensures unasked { ending_line ending.now ≡ [] → (E.held err.new ≡ E.held err.old)
-        × (E.faults err.new ≡ E.faults err.old) }
+    ensures bytes { WritesPiece (E.state err.old).held (E.state err.new).held result (ending_line ending.now) }
+    ensures cause { HasCause (E.state err.old).faults (E.state err.new).faults result }
+    ensures unasked { ending_line ending.now ≡ [] → ((E.state err.new).held ≡ (E.state err.old).held)
+        × ((E.state err.new).faults ≡ (E.state err.old).faults) }
     ensures asked { OnErr result (ending_line ending.now ≡ [] → ⊥) }
 {
     let line = line_of_ending(ending);
@@ -33,9 +34,9 @@ fn write_ending<E: Sink>(ending: &Ending, err: &mut E) -> Result<(), Failed>
 /// Writes the line of a refusal, and hands the refusal on. Where the write fails, the refusal stays the answer.
 fn refuse<E: Sink>(refusal: Refusal, err: &mut E) -> Refusal
     ensures same { result ≡ refusal }
-    ensures line { ShowsLine (E.held err.old) (E.held err.new) (E.faults err.old) (E.faults err.new)
+    ensures line { ShowsLine (E.state err.old).held (E.state err.new).held (E.state err.old).faults (E.state err.new).faults
         (refusal_line refusal) }
-    ensures later { E.faults err.old ≤ E.faults err.new }
+    ensures later { (E.state err.old).faults ≤ (E.state err.new).faults }
 {
     let _ = err.write(line_of_refusal(&refusal).as_bytes());
     refusal
@@ -52,13 +53,9 @@ fn run_command<F: Shelf, I: Source, O: Sink, E: Sink, R: CacheRam>(
     ram: &mut R,
 ) -> Result<Ending, Refusal>
     requires limits { HasLimitsInRange command.now }
-    ensures { AnswersWithLine (request_of command.now)
-        (seen (F.contents shelf.old) (F.last_failed shelf.old) (F.faults shelf.old) (I.left input.old)
-        (I.faults input.old)
-        (O.held out.old) (O.faults out.old) (E.held err.old) (E.faults err.old) (R.state ram.old))
-        (seen (F.contents shelf.new) (F.last_failed shelf.new) (F.faults shelf.new) (I.left input.new)
-        (I.faults input.new)
-        (O.held out.new) (O.faults out.new) (E.held err.new) (E.faults err.new) (R.state ram.new)) result }
+    ensures { AnswersWithLine (task_of (request_of command.now))
+        (seen (F.state shelf.old) (I.state input.old) (O.state out.old) (E.state err.old) (R.state ram.old))
+        (seen (F.state shelf.new) (I.state input.new) (O.state out.new) (E.state err.new) (R.state ram.new)) result }
 {
     match perform(alloc, command, shelf, input, out, err, ram) {
         Ok(ending) => match write_ending(&ending, err) {
@@ -85,22 +82,14 @@ pub fn top<F: Shelf, I: Source, O: Sink, E: Sink, R: CacheRam>(
     ensures no_command { command_of (map (λ w. string_bytes w) words.now) ≡ None → IsErrOf result Refusal.Usage
         ⊎ IsErrOf result Refusal.Memory }
     ensures unasked { command_of (map (λ w. string_bytes w) words.now) ≡ None → IsRefusedAtOnce
-        (seen (F.contents shelf.old) (F.last_failed shelf.old) (F.faults shelf.old) (I.left input.old)
-        (I.faults input.old)
-        (O.held out.old) (O.faults out.old) (E.held err.old) (E.faults err.old) (R.state ram.old))
-        (seen (F.contents shelf.new) (F.last_failed shelf.new) (F.faults shelf.new) (I.left input.new)
-        (I.faults input.new)
-        (O.held out.new) (O.faults out.new) (E.held err.new) (E.faults err.new) (R.state ram.new)) result }
+        (seen (F.state shelf.old) (I.state input.old) (O.state out.old) (E.state err.old) (R.state ram.old))
+        (seen (F.state shelf.new) (I.state input.new) (O.state out.new) (E.state err.new) (R.state ram.new)) result }
 
     // A command is checked, and then done as it says.
     ensures answers { (request : Request) → command_of (map (λ w. string_bytes w) words.now) ≡ Some request →
-        AnswersWithLine request
-        (seen (F.contents shelf.old) (F.last_failed shelf.old) (F.faults shelf.old) (I.left input.old)
-        (I.faults input.old)
-        (O.held out.old) (O.faults out.old) (E.held err.old) (E.faults err.old) (R.state ram.old))
-        (seen (F.contents shelf.new) (F.last_failed shelf.new) (F.faults shelf.new) (I.left input.new)
-        (I.faults input.new)
-        (O.held out.new) (O.faults out.new) (E.held err.new) (E.faults err.new) (R.state ram.new)) result }
+        AnswersWithLine (task_of request)
+        (seen (F.state shelf.old) (I.state input.old) (O.state out.old) (E.state err.old) (R.state ram.old))
+        (seen (F.state shelf.new) (I.state input.new) (O.state out.new) (E.state err.new) (R.state ram.new)) result }
 {
     match parse_command(alloc, words) {
         Ok(command) => run_command(alloc, &command, shelf, input, out, err, ram),

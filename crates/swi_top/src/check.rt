@@ -2,18 +2,18 @@
 #![tactic(auto)]
 
 ghost use Rattle.std.specs.Prelude.{◌≡◌, ◌≤◌, ℕ, List, IfOk, IfErr, OnOk, Some, [], length};
-ghost use Rattle.swi_command.specs.CommandLine.{CheckFile};
 ghost use Rattle.swi_elf_read.specs.Loaded.{image_of as image_in};
 ghost use Rattle.swi_image.specs.Format.{image_of};
 ghost use Rattle.swi_top.specs.Answers.{Answers};
-ghost use Rattle.swi_top.specs.Checks.{IsAccepted, IsRefusedOr, checks_of, file_limit};
-ghost use Rattle.swi_top.specs.Devices.{Devices};
+ghost use Rattle.swi_top.specs.CheckFile.{check_task};
+ghost use Rattle.swi_top.specs.Checks.{IsAccepted, IsRefusedOr, file_limit, image_checks};
+ghost use Rattle.swi_top.specs.Devices.{Devices, with_output, with_shelf};
 
 use crate::file::read_file;
-use crate::image::{load, own_image};
+use crate::subject::{accept, load, own_image};
 use std::alloc::Global;
 use swi_answer::{Ending, Refusal, image_line};
-use swi_elf_read::{image_bytes, read_elf};
+use swi_elf_read::image_bytes;
 use swi_image::ImageView;
 use swi_outside::{Shelf, Sink};
 
@@ -21,10 +21,10 @@ use swi_outside::{Shelf, Sink};
 pub(crate) fn confirmed<'a>(alloc: Global, file: &'a [u8]) -> Result<ImageView<'a>, Refusal>
     requires within { length file.now ≤ file_limit }
     ensures view { IfOk result (λ v. (bytes : List ℕ) × (image_in file.now ≡ Some bytes) × (v ≡ image_of bytes)) }
-    ensures accepted { OnOk result (IsAccepted file.now (checks_of (CheckFile []))) }
-    ensures refused { IfErr result (IsRefusedOr file.now (checks_of (CheckFile []))) }
+    ensures accepted { OnOk result (IsAccepted (image_checks file.now)) }
+    ensures refused { IfErr result (IsRefusedOr (image_checks file.now)) }
 {
-    let elf = read_elf(file).map_err(Refusal::Elf)?;
+    let elf = accept(file)?;
     let program = load(alloc, &elf)?;
     match image_bytes(&elf) {
         Some(bytes) => own_image(&program, bytes),
@@ -39,19 +39,9 @@ pub(crate) fn check<F: Shelf, O: Sink>(
     shelf: &mut F,
     out: &mut O,
 ) -> Result<Ending, Refusal>
-    ensures { (d : Devices) → Answers (CheckFile name.now)
-        (record d {
-          contents = F.contents shelf.old;
-          last_failed = F.last_failed shelf.old;
-          output = O.held out.old;
-          faults = record d.faults { shelf = F.faults shelf.old; out = O.faults out.old };
-        })
-        (record d {
-          contents = F.contents shelf.new;
-          last_failed = F.last_failed shelf.new;
-          output = O.held out.new;
-          faults = record d.faults { shelf = F.faults shelf.new; out = O.faults out.new };
-        }) result [] }
+    ensures { (d : Devices) → Answers (check_task name.now)
+        (with_output (with_shelf d (F.state shelf.old)) (O.state out.old))
+        (with_output (with_shelf d (F.state shelf.new)) (O.state out.new)) result [] }
 {
     let file = read_file(alloc, shelf, name)?;
     let view = confirmed(alloc, &file)?;

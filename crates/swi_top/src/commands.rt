@@ -5,13 +5,15 @@ ghost use Rattle.std.specs.Prelude.{[]};
 ghost use Rattle.swi_command.specs.CommandLine.{HasLimitsInRange, request_of};
 ghost use Rattle.swi_top.specs.Answers.{Answers};
 ghost use Rattle.swi_top.specs.Devices.{seen};
+ghost use Rattle.swi_top.specs.Tasks.{task_of};
 
 use crate::cached::cached;
 use crate::check::check;
 use crate::list::list;
 use crate::measure::measure;
 use crate::plain::plain;
-use crate::rewrite::{rewrite, upgrade};
+use crate::rewrite::rewrite;
+use crate::upgrade::upgrade;
 use std::alloc::Global;
 use swi_answer::{Ending, Refusal};
 use swi_command::Command;
@@ -28,13 +30,9 @@ pub(crate) fn perform<F: Shelf, I: Source, O: Sink, E: Sink, R: CacheRam>(
     ram: &mut R,
 ) -> Result<Ending, Refusal>
     requires limits { HasLimitsInRange command.now }
-    ensures { Answers (request_of command.now)
-        (seen (F.contents shelf.old) (F.last_failed shelf.old) (F.faults shelf.old) (I.left input.old)
-        (I.faults input.old)
-        (O.held out.old) (O.faults out.old) (E.held err.old) (E.faults err.old) (R.state ram.old))
-        (seen (F.contents shelf.new) (F.last_failed shelf.new) (F.faults shelf.new) (I.left input.new)
-        (I.faults input.new)
-        (O.held out.new) (O.faults out.new) (E.held err.new) (E.faults err.new) (R.state ram.new)) result [] }
+    ensures { Answers (task_of (request_of command.now))
+        (seen (F.state shelf.old) (I.state input.old) (O.state out.old) (E.state err.old) (R.state ram.old))
+        (seen (F.state shelf.new) (I.state input.new) (O.state out.new) (E.state err.new) (R.state ram.new)) result [] }
 {
     match command {
         Command::Rewrite {

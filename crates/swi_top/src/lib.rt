@@ -1,12 +1,12 @@
 //! The commands of `swic`, as one call over the devices that are handed in.
 #![tactic(auto)]
 
+mod cache;
 mod cached;
 mod call;
 mod check;
 mod commands;
 mod file;
-mod image;
 mod laws;
 mod list;
 mod measure;
@@ -14,10 +14,9 @@ mod nowhere;
 mod plain;
 mod report;
 mod rewrite;
-mod sizes;
-#[cfg(test)]
-mod tests;
+mod subject;
 mod trace;
+mod upgrade;
 
 pub use call::top;
 pub use laws::laws_of_top;

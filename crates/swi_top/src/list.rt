@@ -1,25 +1,23 @@
 //! The command `list`.
 #![tactic(auto)]
 
-ghost use Rattle.std.specs.Prelude.{◌≡◌, ◌≤◌, IfOk, IfErr, [], length};
+ghost use Rattle.std.specs.Prelude.{◌≡◌, ◌≤◌, IfOk, IfErr, OnOk, [], length};
 ghost use Rattle.std.specs.Io.KnownBytes.{Appends};
 ghost use Rattle.swi_outside.specs.Causes.{HasCause};
 ghost use Rattle.swi_outside.specs.Sink.{AppendsPrefix};
-ghost use Rattle.swi_command.specs.CommandLine.{IsBlockSize, ListFile};
+ghost use Rattle.swi_command.specs.CommandLine.{IsBlockSize};
 ghost use Rattle.swi_program.specs.Text.{text_of};
 ghost use Rattle.swi_render.specs.ImageOf.{IsImageOf};
 ghost use Rattle.swi_top.specs.Answers.{Answers};
-ghost use Rattle.swi_top.specs.Caching.{AnswersFile};
-ghost use Rattle.swi_top.specs.Checks.{file_limit};
-ghost use Rattle.swi_top.specs.Devices.{Devices};
-ghost use Rattle.swi_top.specs.Listing.{listing};
+ghost use Rattle.swi_top.specs.Checks.{IsAccepted, IsRefusedOr, file_limit};
+ghost use Rattle.swi_top.specs.Devices.{Devices, with_output, with_shelf};
+ghost use Rattle.swi_top.specs.ListFile.{list_checks, list_task, listing};
+ghost use Rattle.swi_top.specs.Subject.{IsSubject, view_of};
 
 use crate::file::read_file;
-use crate::image::{load, own_image};
-use crate::rewrite::cut_image;
+use crate::subject::{Subject, SubjectImage, accept, load, subject_of};
 use std::alloc::Global;
 use swi_answer::{Ending, Refusal};
-use swi_elf_read::{image_bytes, read_elf};
 use swi_image::ImageView;
 use swi_outside::{Shelf, Sink};
 use swi_program::Program;
@@ -33,10 +31,10 @@ fn list_blocks<O: Sink>(
 ) -> Result<Ending, Refusal>
     requires own { IsImageOf (text_of program.now.segments) image.now }
     ensures done { IfOk result (λ e. (e ≡ Ending.Done)
-        × Appends (O.held out.old) (O.held out.new) (listing (text_of program.now.segments) image.now)) }
+        × Appends (O.state out.old).held (O.state out.new).held (listing (text_of program.now.segments) image.now)) }
     ensures failed { IfErr result (λ r. (r ≡ Refusal.SinkFault)
-        × AppendsPrefix (O.held out.old) (O.held out.new) (listing (text_of program.now.segments) image.now)) }
-    ensures cause { HasCause (O.faults out.old) (O.faults out.new) result }
+        × AppendsPrefix (O.state out.old).held (O.state out.new).held (listing (text_of program.now.segments) image.now)) }
+    ensures cause { HasCause (O.state out.old).faults (O.state out.new).faults result }
 {
     for block in 0..image.blocks() {
         if list_block(program, image, block, out).is_err() {
@@ -46,28 +44,32 @@ fn list_blocks<O: Sink>(
     Ok(Ending::Done)
 }
 
-/// Lists the blocks of a file's program: those of the image that the file has, or else those of the greedy cut of its
-/// text.
-fn list_file<O: Sink>(
-    alloc: Global,
-    file: &[u8],
-    block_words: u32,
-    out: &mut O,
-) -> Result<Ending, Refusal>
+/// Lists the blocks of a subject.
+fn list_subject<O: Sink>(subject: &Subject<'_>, out: &mut O) -> Result<Ending, Refusal>
+    requires own { IsImageOf (text_of subject.now.program.segments) (view_of subject.now.image) }
+    ensures done { IfOk result (λ e. (e ≡ Ending.Done)
+        × Appends (O.state out.old).held (O.state out.new).held (listing (text_of subject.now.program.segments) (view_of subject.now.image))) }
+    ensures failed { IfErr result (λ r. (r ≡ Refusal.SinkFault)
+        × AppendsPrefix (O.state out.old).held (O.state out.new).held (listing (text_of subject.now.program.segments) (view_of subject.now.image))) }
+    ensures cause { HasCause (O.state out.old).faults (O.state out.new).faults result }
+{
+    match &subject.image {
+        SubjectImage::Own(view) => list_blocks(&subject.program, view, out),
+        SubjectImage::Cut(image) => list_blocks(&subject.program, &image.view(), out),
+    }
+}
+
+/// The program of a file, with the image that the file has or else the greedy cut of its text.
+fn listed<'a>(alloc: Global, file: &'a [u8], block_words: u32) -> Result<Subject<'a>, Refusal>
     requires within { length file.now ≤ file_limit }
     requires size { IsBlockSize block_words }
-    ensures { (d : Devices) → AnswersFile (ListFile [] block_words) file.now
-        (record d { output = O.held out.old; faults = record d.faults { out = O.faults out.old } })
-        (record d { output = O.held out.new; faults = record d.faults { out = O.faults out.new } }) result }
+    ensures subject { IfOk result (IsSubject file.now block_words) }
+    ensures accepted { OnOk result (IsAccepted (list_checks block_words file.now)) }
+    ensures refused { IfErr result (IsRefusedOr (list_checks block_words file.now)) }
 {
-    let elf = read_elf(file).map_err(Refusal::Elf)?;
+    let elf = accept(file)?;
     let program = load(alloc, &elf)?;
-    let Some(bytes) = image_bytes(&elf) else {
-        let image = cut_image(alloc, &program, block_words)?;
-        return list_blocks(&program, &image.view(), out);
-    };
-    let view = own_image(&program, bytes)?;
-    list_blocks(&program, &view, out)
+    subject_of(alloc, &elf, program, block_words)
 }
 
 /// Lists the blocks of the program of a file.
@@ -79,20 +81,11 @@ pub(crate) fn list<F: Shelf, O: Sink>(
     out: &mut O,
 ) -> Result<Ending, Refusal>
     requires size { IsBlockSize block_words }
-    ensures { (d : Devices) → Answers (ListFile name.now block_words)
-        (record d {
-          contents = F.contents shelf.old;
-          last_failed = F.last_failed shelf.old;
-          output = O.held out.old;
-          faults = record d.faults { shelf = F.faults shelf.old; out = O.faults out.old };
-        })
-        (record d {
-          contents = F.contents shelf.new;
-          last_failed = F.last_failed shelf.new;
-          output = O.held out.new;
-          faults = record d.faults { shelf = F.faults shelf.new; out = O.faults out.new };
-        }) result [] }
+    ensures { (d : Devices) → Answers (list_task name.now block_words)
+        (with_output (with_shelf d (F.state shelf.old)) (O.state out.old))
+        (with_output (with_shelf d (F.state shelf.new)) (O.state out.new)) result [] }
 {
     let file = read_file(alloc, shelf, name)?;
-    list_file(alloc, &file, block_words, out)
+    let subject = listed(alloc, &file, block_words)?;
+    list_subject(&subject, out)
 }

@@ -7,24 +7,21 @@ ghost use Rattle.swi_outside.specs.CacheRam.{KeepsBeyond};
 ghost use Rattle.swi_outside.specs.Causes.{DeviceCause, HasCause};
 ghost use Rattle.swi_outside.specs.Sink.{AppendsPrefix};
 ghost use Rattle.swi_cached.specs.Cached.{IsFresh};
-ghost use Rattle.swi_command.specs.CommandLine.{IsCacheInRange, IsFunctionCount, MeasureMade};
+ghost use Rattle.swi_command.specs.CommandLine.{IsCacheInRange, IsFunctionCount};
 ghost use Rattle.swi_make.specs.Made.{IsMade};
 ghost use Rattle.swi_program.specs.Layout.{IsLayoutOf, laid_out};
 ghost use Rattle.swi_program.specs.ProgramOf.{program_of_text};
 ghost use Rattle.swi_program.specs.Text.{text_of};
 ghost use Rattle.swi_render.specs.ImageOf.{IsImageOf};
 ghost use Rattle.swi_rom.specs.Service.{cache_of};
-ghost use Rattle.swi_top.specs.Answers.{Answers, made_run};
-ghost use Rattle.swi_top.specs.Caching.{MadeRan, MeasuresOver, board_summary};
-ghost use Rattle.swi_top.specs.Devices.{Devices};
-ghost use Rattle.swi_top.specs.Measuring.{made_ending_by};
+ghost use Rattle.swi_top.specs.Answers.{Answers};
+ghost use Rattle.swi_top.specs.Devices.{Devices, with_output, with_ram};
+ghost use Rattle.swi_top.specs.MeasureMade.{MadeRan, MeasuresOver, board_summary, made_ending_by, made_run, measure_task};
 
-use crate::cached::work_of;
-use crate::image::Prepared;
+use crate::cache::{check_block, check_size};
 use crate::nowhere::Nowhere;
-use crate::report::ending_of;
-use crate::rewrite::cut_image;
-use crate::sizes::check_sizes;
+use crate::report::{board_work, ending_by};
+use crate::subject::{Prepared, cut_image};
 use std::alloc::Global;
 use swi_answer::{Ending, Refusal};
 use swi_board::Board;
@@ -135,16 +132,16 @@ fn summarize<O: Sink, S: CacheRom>(
 ) -> Result<Ending, Refusal>
     ensures done { IfOk result (λ e.
         (e ≡ made_ending_by board.now.hart.machine.ending board.now.hart.machine.pc board.now.hart.machine.steps)
-        × Appends (O.held out.old) (O.held out.new)
+        × Appends (O.state out.old).held (O.state out.new).held
         (board_summary functions program.now image.now board.now.hart (S.service.kept board.now.rom))) }
     ensures failed { IfErr result (λ r. (r ≡ Refusal.SinkFault)
-        × AppendsPrefix (O.held out.old) (O.held out.new)
+        × AppendsPrefix (O.state out.old).held (O.state out.new).held
         (board_summary functions program.now image.now board.now.hart (S.service.kept board.now.rom))) }
-    ensures cause { HasCause (O.faults out.old) (O.faults out.new) result }
+    ensures cause { HasCause (O.state out.old).faults (O.state out.new).faults result }
     ensures asked { OnErr result (board_summary functions program.now image.now board.now.hart (S.service.kept board.now.rom) ≡ [] → ⊥) }
 {
     let Some(End::Exited(exit)) = board.ending() else {
-        return Ok(ending_of(board.ending(), board.origin_pc(), board.steps()));
+        return Ok(ending_by(board.ending(), board.origin_pc(), board.steps()));
     };
     let measured = Measured {
         functions,
@@ -152,7 +149,7 @@ fn summarize<O: Sink, S: CacheRom>(
         blocks: image.blocks(),
         exit,
     };
-    match summary_text(&measured, board.steps(), &work_of(board), out) {
+    match summary_text(&measured, board.steps(), &board_work(board), out) {
         Ok(()) => Ok(Ending::Done),
         Err(_) => Err(Refusal::SinkFault),
     }
@@ -174,16 +171,8 @@ fn measure_over<O: Sink, R: CacheRam, S: CacheRom>(
     requires sound { S.service.sound rom image.now (R.state ram.old).words }
     requires fresh { IsFresh (S.service.kept rom) }
     ensures { (d : Devices) → MeasuresOver functions (cache_of S.service rom) image.now prepared.now.program prepared.now.layout
-        (record d {
-          output = O.held out.old;
-          ram = R.state ram.old;
-          faults = record d.faults { out = O.faults out.old; ram = (R.state ram.old).faults };
-        })
-        (record d {
-          output = O.held out.new;
-          ram = R.state ram.new;
-          faults = record d.faults { out = O.faults out.new; ram = (R.state ram.new).faults };
-        }) result }
+        (with_ram (with_output d (O.state out.old)) (R.state ram.old))
+        (with_ram (with_output d (O.state out.new)) (R.state ram.new)) result }
 {
     let board = run_made(alloc, image, prepared, rom, ram)?;
     summarize(functions, &prepared.program, image, &board, out)
@@ -201,36 +190,25 @@ pub(crate) fn measure<O: Sink, R: CacheRam>(
 ) -> Result<Ending, Refusal>
     requires count { IsFunctionCount functions }
     requires sizes { IsCacheInRange cache.now }
-    ensures { (d : Devices) → Answers (MeasureMade seed functions cache.now)
-        (record d {
-          output = O.held out.old;
-          ram = R.state ram.old;
-          faults = record d.faults { out = O.faults out.old; ram = (R.state ram.old).faults };
-        })
-        (record d {
-          output = O.held out.new;
-          ram = R.state ram.new;
-          faults = record d.faults { out = O.faults out.new; ram = (R.state ram.new).faults };
-        }) result [] }
+    ensures { (d : Devices) → Answers (measure_task seed functions cache.now)
+        (with_ram (with_output d (O.state out.old)) (R.state ram.old))
+        (with_ram (with_output d (O.state out.new)) (R.state ram.new)) result [] }
 {
-    check_sizes(cache.cache_bytes, ram)?;
+    check_size(cache.cache_bytes, ram)?;
     let text = made_text(alloc, seed, functions)?;
     let prepared = prepare_text(alloc, &text)?;
     let image = cut_image(alloc, &prepared.program, cache.block_words)?;
-    let (bytes, least) = (cache.cache_bytes, 4 * cache.block_words);
-    if bytes < least {
-        return Err(Refusal::CacheSmall { bytes, least });
-    }
+    check_block(cache.cache_bytes, cache.block_words)?;
     let view = image.view();
     match cache.kind {
         CacheKind::Slots => {
-            let Ok(rom) = slots_for(alloc, &view, bytes) else {
+            let Ok(rom) = slots_for(alloc, &view, cache.cache_bytes) else {
                 return Err(Refusal::Memory);
             };
             measure_over(alloc, functions, &view, &prepared, rom, out, ram)
         }
         CacheKind::Ring => {
-            let Ok(rom) = ring_for(alloc, &view, bytes) else {
+            let Ok(rom) = ring_for(alloc, &view, cache.cache_bytes) else {
                 return Err(Refusal::Memory);
             };
             measure_over(alloc, functions, &view, &prepared, rom, out, ram)

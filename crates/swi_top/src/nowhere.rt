@@ -10,9 +10,7 @@ use swi_outside::{Failed, Sink, Source};
 pub(crate) struct Nowhere;
 
 impl Source for Nowhere {
-    ghost left = { λ s. Some [] };
-
-    ghost faults = { λ s. 0 };
+    ghost state = { λ s. record { left = Some []; faults = 0 } };
 
     fn read(&mut self, _: &mut [u8]) -> Result<usize, Failed> {
         Ok(0)
@@ -20,9 +18,7 @@ impl Source for Nowhere {
 }
 
 impl Sink for Nowhere {
-    ghost held = { λ s. None };
-
-    ghost faults = { λ s. 0 };
+    ghost state = { λ s. record { held = None; faults = 0 } };
 
     fn write(&mut self, _: &[u8]) -> Result<(), Failed> {
         Ok(())

@@ -2,21 +2,22 @@
 #![tactic(auto)]
 
 ghost use Rattle.std.specs.Prelude.{◌≤◌, IfOk, IfErr, OnOk, [], length};
-ghost use Rattle.swi_command.specs.CommandLine.{IsInRange, RunPlain};
+ghost use Rattle.swi_command.specs.CommandLine.{IsInRange};
 ghost use Rattle.swi_program.specs.Layout.{IsLayoutOf};
 ghost use Rattle.swi_top.specs.Answers.{Answers};
-ghost use Rattle.swi_top.specs.Checks.{IsAccepted, IsRefusedOr, checks_of, file_limit};
-ghost use Rattle.swi_top.specs.Devices.{Devices};
-ghost use Rattle.swi_top.specs.Plain.{IsPrepared, RunsPlain};
+ghost use Rattle.swi_top.specs.Checks.{IsAccepted, IsRefusedOr, file_limit};
+ghost use Rattle.swi_top.specs.Devices.{Devices, with_shelf, with_streams};
+ghost use Rattle.swi_top.specs.RunPlain.{RunsPlain, plain_checks, plain_task};
+ghost use Rattle.swi_top.specs.Subject.{IsPrepared};
 
 use crate::file::read_file;
-use crate::image::{Prepared, own_image, prepare};
-use crate::report::{ending_of, write_report};
+use crate::report::{ending_by, write_report};
+use crate::subject::{Prepared, accept, own_image, prepare};
 use std::alloc::Global;
 use swi_answer::{Ending, Refusal};
 use swi_calls::CallFault;
 use swi_command::RunOptions;
-use swi_elf_read::{image_bytes, read_elf};
+use swi_elf_read::image_bytes;
 use swi_flat::Flat;
 use swi_outside::{Shelf, Sink, Source};
 
@@ -32,18 +33,8 @@ fn run_plain<I: Source, O: Sink, E: Sink>(
     requires ranges { IsInRange options.now.limits }
     requires laid_out { IsLayoutOf prepared.now.program.segments prepared.now.layout }
     ensures { (d : Devices) → RunsPlain options.now prepared.now.program prepared.now.layout
-        (record d {
-          input = I.left input.old;
-          output = O.held out.old;
-          error = E.held err.old;
-          faults = record d.faults { input = I.faults input.old; out = O.faults out.old; err = E.faults err.old };
-        })
-        (record d {
-          input = I.left input.new;
-          output = O.held out.new;
-          error = E.held err.new;
-          faults = record d.faults { input = I.faults input.new; out = O.faults out.new; err = E.faults err.new };
-        }) result }
+        (with_streams d (I.state input.old) (O.state out.old) (E.state err.old))
+        (with_streams d (I.state input.new) (O.state out.new) (E.state err.new)) result }
 {
     let Ok(mut machine) = Flat::start(
         alloc,
@@ -61,7 +52,7 @@ fn run_plain<I: Source, O: Sink, E: Sink>(
     let (pc, steps) = (machine.pc(), machine.steps());
     let (regs, bus, heap) = (machine.regs(), machine.bus(), machine.heap());
     match write_report(&options.reports, pc, regs, bus, &heap, steps, None, out) {
-        Ok(()) => Ok(ending_of(machine.ending(), pc, steps)),
+        Ok(()) => Ok(ending_by(machine.ending(), pc, steps)),
         Err(_) => Err(Refusal::SinkFault),
     }
 }
@@ -75,10 +66,10 @@ fn accepted<'a>(
     requires within { length file.now ≤ file_limit }
     requires ranges { IsInRange options.now.limits }
     ensures prepared { IfOk result (IsPrepared file.now options.now.limits) }
-    ensures accepted { OnOk result (IsAccepted file.now (checks_of (RunPlain [] options.now))) }
-    ensures refused { IfErr result (IsRefusedOr file.now (checks_of (RunPlain [] options.now))) }
+    ensures accepted { OnOk result (IsAccepted (plain_checks options.now.limits file.now)) }
+    ensures refused { IfErr result (IsRefusedOr (plain_checks options.now.limits file.now)) }
 {
-    let elf = read_elf(file).map_err(Refusal::Elf)?;
+    let elf = accept(file)?;
     let prepared = prepare(alloc, &elf, &options.limits)?;
     let Some(bytes) = image_bytes(&elf) else {
         return Ok(prepared);
@@ -98,33 +89,9 @@ pub(crate) fn plain<F: Shelf, I: Source, O: Sink, E: Sink>(
     err: &mut E,
 ) -> Result<Ending, Refusal>
     requires ranges { IsInRange options.now.limits }
-    ensures { (d : Devices) → Answers (RunPlain name.now options.now)
-        (record d {
-          contents = F.contents shelf.old;
-          last_failed = F.last_failed shelf.old;
-          input = I.left input.old;
-          output = O.held out.old;
-          error = E.held err.old;
-          faults = record d.faults {
-            shelf = F.faults shelf.old;
-            input = I.faults input.old;
-            out = O.faults out.old;
-            err = E.faults err.old;
-          };
-        })
-        (record d {
-          contents = F.contents shelf.new;
-          last_failed = F.last_failed shelf.new;
-          input = I.left input.new;
-          output = O.held out.new;
-          error = E.held err.new;
-          faults = record d.faults {
-            shelf = F.faults shelf.new;
-            input = I.faults input.new;
-            out = O.faults out.new;
-            err = E.faults err.new;
-          };
-        }) result [] }
+    ensures { (d : Devices) → Answers (plain_task name.now options.now)
+        (with_streams (with_shelf d (F.state shelf.old)) (I.state input.old) (O.state out.old) (E.state err.old))
+        (with_streams (with_shelf d (F.state shelf.new)) (I.state input.new) (O.state out.new) (E.state err.new)) result [] }
 {
     let file = read_file(alloc, shelf, name)?;
     let prepared = accepted(alloc, &file, options)?;

@@ -5,8 +5,7 @@ ghost use Rattle.std.specs.Prelude.{◌≡◌, OnErr, [], slice_get};
 ghost use Rattle.swi_outside.specs.Causes.{HasCause};
 ghost use Rattle.swi_outside.specs.Sink.{WritesPiece};
 ghost use Rattle.swi_cached.specs.Told.{lines_at};
-ghost use Rattle.swi_top.specs.Answers.{last_told, telling_of};
-ghost use Rattle.swi_top.specs.Tracing.{addresses_in, one_of};
+ghost use Rattle.swi_top.specs.RunCached.{addresses_in, last_told, one_of, telling_of};
 
 use swi_cached::Telling;
 use swi_command::Trace;
@@ -27,9 +26,9 @@ pub(crate) fn telling_of(trace: Trace) -> Telling
 
 /// Writes the line of the step at one of a history's addresses.
 fn write_step<E: Sink>(history: &History, k: u32, bus: &Bus, err: &mut E) -> Result<(), Failed>
-    ensures bytes { WritesPiece (E.held err.old) (E.held err.new) result
+    ensures bytes { WritesPiece (E.state err.old).held (E.state err.new).held result
         (lines_at bus.now (one_of (slice_get history.now k))) }
-    ensures cause { HasCause (E.faults err.old) (E.faults err.new) result }
+    ensures cause { HasCause (E.state err.old).faults (E.state err.new).faults result }
 {
     match history.get(k) {
         Some(a) => err.write(trace_line(a, bus.fetch(a)).as_bytes()),
@@ -40,8 +39,8 @@ fn write_step<E: Sink>(history: &History, k: u32, bus: &Bus, err: &mut E) -> Res
 /// Writes the lines of the steps at a history's addresses.
 #[tactic(auto, using(crate::proofs::Due::lines_due))]
 fn write_history<E: Sink>(history: &History, bus: &Bus, err: &mut E) -> Result<(), Failed>
-    ensures bytes { WritesPiece (E.held err.old) (E.held err.new) result (lines_at bus.now history.now) }
-    ensures cause { HasCause (E.faults err.old) (E.faults err.new) result }
+    ensures bytes { WritesPiece (E.state err.old).held (E.state err.new).held result (lines_at bus.now history.now) }
+    ensures cause { HasCause (E.state err.old).faults (E.state err.new).faults result }
     ensures asked { OnErr result (lines_at bus.now history.now ≡ [] → ⊥) }
 {
     for k in 0..history.len() {
@@ -59,9 +58,9 @@ pub(crate) fn write_last<E: Sink>(
     bus: &Bus,
     err: &mut E,
 ) -> Result<(), Failed>
-    ensures bytes { WritesPiece (E.held err.old) (E.held err.new) result
+    ensures bytes { WritesPiece (E.state err.old).held (E.state err.new).held result
         (last_told trace bus.now (addresses_in history.now)) }
-    ensures cause { HasCause (E.faults err.old) (E.faults err.new) result }
+    ensures cause { HasCause (E.state err.old).faults (E.state err.new).faults result }
     ensures asked { OnErr result (last_told trace bus.now (addresses_in history.now) ≡ [] → ⊥) }
 {
     match trace {

@@ -1,12 +1,11 @@
 -- A listing that is written line by line.
-use Rattle.std.proofs.Common.{inl, inr, ◌≡◌, ℕ, zero, suc, ◌+◌, ◌<◌, ◌≤◌, List, [], ◌++◌, arith, sym, ap, ◌∙◌, Option, Result, Ok, Err}
+use Rattle.std.proofs.Common.{inl, inr, ◌≡◌, ℕ, zero, suc, ◌+◌, ◌<◌, ◌≤◌, List, [], ◌++◌, arith, sym, ap, ◌∙◌, Option}
 use Rattle.std.proofs.lemmas.Bool.{cases_eq}
 use Rattle.std.proofs.lemmas.List.{append_assoc, append-nil}
 use Rattle.std.specs.Io.KnownBytes.{Appends}
-use Rattle.std.specs.Result.{IsErr}
 use Rattle.swi_image.specs.Format.{ImageData}
 use Rattle.swi_outside.specs.Laws.{Appends-none, Appends-append}
-use Rattle.swi_outside.specs.Sink.{AppendsPrefix, WritesPiece}
+use Rattle.swi_outside.specs.Sink.{AppendsPrefix}
 use Rattle.swi_outside.proofs.SinkLemmas.{prefix_behind}
 use Rattle.swi_program.specs.Text.{TextData}
 use Rattle.swi_trace.specs.Block.{first_lines, list_line}
@@ -45,8 +44,3 @@ line_broken t v b k n o p q within written front =
     let all : first_lines t v b n ≡ first_lines t v b k ++ (list_line t v b k ++ rest.0) =
     rest.1 ∙ append_assoc (first_lines t v b k) (list_line t v b k) rest.0 in
     rw all (prefix_behind o p q (first_lines t v b k) (list_line t v b k) rest.0 written front)
-
--- a write that failed
-pub writes_part : {E : Type 0} (o p : Option (List ℕ)) (r : Result Unit E) (x : List ℕ) → IsErr r → AppendsPrefix o p x → WritesPiece o p r x
-writes_part o p (Ok u) x err front = cc
-writes_part o p (Err e) x err front = front

@@ -2,8 +2,7 @@
 #![tactic(auto)]
 
 ghost use Rattle.std.specs.Prelude.{◌≡◌, ◌+◌, ◌<◌, ◌≤◌, ◌++◌, length};
-ghost use Rattle.swi_outside.specs.Causes.{HasCause};
-ghost use Rattle.swi_outside.specs.Sink.{WritesPiece};
+ghost use Rattle.swi_outside.specs.Sink.{WasWritten};
 ghost use Rattle.swi_program.specs.Text.{text_of};
 ghost use Rattle.swi_image.specs.Place.{block_at};
 ghost use Rattle.swi_image.specs.Sound.{IsImage};
@@ -110,9 +109,8 @@ pub fn list_block<S: Sink>(
 ) -> Result<(), Failed>
     requires image { IsImageOf (text_of p.now.segments) image.now }
     requires block { block < length image.now.starts }
-    ensures bytes { WritesPiece (S.held sink.old) (S.held sink.new) result
+    ensures written { WasWritten (S.state sink.old) (S.state sink.new) result
         (block_lines (text_of p.now.segments) image.now block) }
-    ensures cause { HasCause (S.faults sink.old) (S.faults sink.new) result }
     // which text word a line tells of, in terms of the renderings
     ensures words { ListsTextWords (text_of p.now.segments) image.now block }
 {

@@ -15,8 +15,9 @@ use Rattle.swi_cached.proofs.Boot.{lawful, carries_booted, services_booted}
 use Rattle.swi_cached.proofs.Ended.{has_ended, record_is, is_short, few_more, ram_after, ran_told, kept_on}
 use Rattle.swi_cached.proofs.Fetched.{is_counted}
 use Rattle.swi_cached.proofs.Services.{services_few}
-use Rattle.swi_cached.proofs.Failed.{ram_failed, boot_failed, step_failed, is_flat_run, stops_before_store}
-use Rattle.swi_cached.proofs.Causing.{causes_quiet, causes_run, as_stop, as_stops, is_ram, is_source, on_device, never_memory, err_as}
+use Rattle.swi_cached.proofs.Failed.{ram_failed, boot_failed, step_broke, is_flat_run, stops_before_store}
+use Rattle.swi_outside.specs.Laws.{cause_from, no_cause, ok_causes, ok_unmoved}
+use Rattle.swi_cached.proofs.Causing.{stop_cause, stop_causes, as_stop, as_stops, is_ram, is_source, on_device, never_memory, err_as}
 use Rattle.swi_cached.proofs.run.run_cached.Goals as goal
 
 pub returns-in_default-clause-flat : goal.returns-in_default-clause-flat
@@ -47,7 +48,7 @@ pub returns-in_err-board-clause-ram_failed : goal.returns-in_err-board-clause-ra
 returns-in_err-board-clause-ram_failed g c =
     let p = err_from_is_err_and c.from_residual.result c.from_residual.ensures.1 in
     rw (p.1, p.2) (λ e x told.
-    boot_failed (run_of c.args.image.now (cache_of g.S.CacheRom.service c.args.rom) c.args.program.now c.args.layout.now c.args.log c.args.telling c.args.limit x) (g.R.CacheRam.state c.args.ram.now) (g.R.CacheRam.state c.boot.new.ram) (g.I.Source.left c.args.input.now) (g.O.Sink.held c.args.out.now) (g.E.Sink.held c.args.err.now)
+    boot_failed (run_of c.args.image.now (cache_of g.S.CacheRom.service c.args.rom) c.args.program.now c.args.layout.now c.args.log c.args.telling c.args.limit x) (g.R.CacheRam.state c.args.ram.now) (g.R.CacheRam.state c.boot.new.ram) (g.I.Source.state c.args.input.now).left (g.O.Sink.state c.args.out.now).held (g.E.Sink.state c.args.err.now).held
     refl refl refl told c.in_err-board.ensures.placed (c.in_err-board.ensures.failed (err_as c.in_err-board.field-0.0 stop.RamFault e)).fetches_stay)
 
 pub run_steps-requires-clause-fits : goal.run_steps-requires-clause-fits
@@ -92,7 +93,7 @@ returns-in-Ok-run_steps-clause-services g c = λ x told.
     let carries = carries_booted c.args.image.now (g.S.CacheRom.service.kept c.in_ok-board.board.rom) c.in_ok-board.board.hart (machine_of c.args.program.now c.args.layout.now c.args.log) booted.machine booted.between booted.fits in
     let whole = c.in-Ok-run_steps.ensures.ran x told (machine_of c.args.program.now c.args.layout.now c.args.log) carries booted.matches in
     let ran = ran_told g.S.CacheRom.service.policy _ _ _ _ _ _ _ _ _ _ _ _ _ _ c.in_ok-board.ensures.setting whole.ran in
-    let is = record_is k c.in_ok-board.board.hart c.run_steps.new.board.hart (g.S.CacheRom.service.kept c.in_ok-board.board.rom) (g.S.CacheRom.service.kept c.run_steps.new.board.rom) (g.R.CacheRam.state c.args.ram.now) (g.R.CacheRam.state c.boot.new.ram) (g.R.CacheRam.state c.run_steps.new.ram) (g.I.Source.left c.run_steps.new.input) (g.O.Sink.held c.args.out.now) (g.O.Sink.held c.run_steps.new.out) None None booted ran (c.in-Ok-run_steps.ensures.settled x told booted.between) in
+    let is = record_is k c.in_ok-board.board.hart c.run_steps.new.board.hart (g.S.CacheRom.service.kept c.in_ok-board.board.rom) (g.S.CacheRom.service.kept c.run_steps.new.board.rom) (g.R.CacheRam.state c.args.ram.now) (g.R.CacheRam.state c.boot.new.ram) (g.R.CacheRam.state c.run_steps.new.ram) (g.I.Source.state c.run_steps.new.input).left (g.O.Sink.state c.args.out.now).held (g.O.Sink.state c.run_steps.new.out).held None None booted ran (c.in-Ok-run_steps.ensures.settled x told booted.between) in
     let laws = lawful g.S.CacheRom.service g.met.S.CacheRom.laws c.args.rom in
     subst (λ (r : Record). r.counts.services ≤ 2 * c.args.limit) (sym is) (services_few k c.args.limit laws c.requires.fresh)
 
@@ -103,7 +104,7 @@ returns-in-Ok-run_steps-clause-ended g c = λ x told.
     let carries = carries_booted c.args.image.now (g.S.CacheRom.service.kept c.in_ok-board.board.rom) c.in_ok-board.board.hart (machine_of c.args.program.now c.args.layout.now c.args.log) booted.machine booted.between booted.fits in
     let whole = c.in-Ok-run_steps.ensures.ran x told (machine_of c.args.program.now c.args.layout.now c.args.log) carries booted.matches in
     let ran = ran_told g.S.CacheRom.service.policy _ _ _ _ _ _ _ _ _ _ _ _ _ _ c.in_ok-board.ensures.setting whole.ran in
-    has_ended k c.in_ok-board.board.hart c.run_steps.new.board.hart (g.S.CacheRom.service.kept c.in_ok-board.board.rom) (g.S.CacheRom.service.kept c.run_steps.new.board.rom) (g.R.CacheRam.state c.args.ram.now) (g.R.CacheRam.state c.boot.new.ram) (g.R.CacheRam.state c.run_steps.new.ram) (g.I.Source.left c.run_steps.new.input) (g.O.Sink.held c.args.out.now) (g.O.Sink.held c.run_steps.new.out) None None booted ran (c.in-Ok-run_steps.ensures.settled x told booted.between) (g.E.Sink.held c.args.err.now) (g.E.Sink.held c.run_steps.new.err) whole.error
+    has_ended k c.in_ok-board.board.hart c.run_steps.new.board.hart (g.S.CacheRom.service.kept c.in_ok-board.board.rom) (g.S.CacheRom.service.kept c.run_steps.new.board.rom) (g.R.CacheRam.state c.args.ram.now) (g.R.CacheRam.state c.boot.new.ram) (g.R.CacheRam.state c.run_steps.new.ram) (g.I.Source.state c.run_steps.new.input).left (g.O.Sink.state c.args.out.now).held (g.O.Sink.state c.run_steps.new.out).held None None booted ran (c.in-Ok-run_steps.ensures.settled x told booted.between) (g.E.Sink.state c.args.err.now).held (g.E.Sink.state c.run_steps.new.err).held whole.error
 
 pub returns-in-Ok-run_steps-clause-told : goal.returns-in-Ok-run_steps-clause-told
 returns-in-Ok-run_steps-clause-told g c = λ x told.
@@ -127,7 +128,7 @@ returns-in-Ok-run_steps-clause-ram g c = λ x told.
     let whole = c.in-Ok-run_steps.ensures.ran x told (machine_of c.args.program.now c.args.layout.now c.args.log) carries booted.matches in
     let ran = ran_told g.S.CacheRom.service.policy _ _ _ _ _ _ _ _ _ _ _ _ _ _ c.in_ok-board.ensures.setting whole.ran in
     let laws = lawful g.S.CacheRom.service g.met.S.CacheRom.laws c.args.rom in
-    ram_after k c.in_ok-board.board.hart c.run_steps.new.board.hart (g.S.CacheRom.service.kept c.in_ok-board.board.rom) (g.S.CacheRom.service.kept c.run_steps.new.board.rom) (g.R.CacheRam.state c.args.ram.now) (g.R.CacheRam.state c.boot.new.ram) (g.R.CacheRam.state c.run_steps.new.ram) (g.I.Source.left c.run_steps.new.input) (g.O.Sink.held c.args.out.now) (g.O.Sink.held c.run_steps.new.out) None None booted ran (c.in-Ok-run_steps.ensures.settled x told booted.between)
+    ram_after k c.in_ok-board.board.hart c.run_steps.new.board.hart (g.S.CacheRom.service.kept c.in_ok-board.board.rom) (g.S.CacheRom.service.kept c.run_steps.new.board.rom) (g.R.CacheRam.state c.args.ram.now) (g.R.CacheRam.state c.boot.new.ram) (g.R.CacheRam.state c.run_steps.new.ram) (g.I.Source.state c.run_steps.new.input).left (g.O.Sink.state c.args.out.now).held (g.O.Sink.state c.run_steps.new.out).held None None booted ran (c.in-Ok-run_steps.ensures.settled x told booted.between)
     laws
     (subst (λ (m : Setting). Coherent c.args.image.now (g.S.CacheRom.service.kept c.run_steps.new.board.rom) (g.S.CacheRom.service.span m) (g.R.CacheRam.state c.run_steps.new.ram).words) (c.in-Ok-run_steps.ensures.setting ∙ c.in_ok-board.ensures.setting)
     (g.met.S.CacheRom.laws.coherent c.run_steps.new.board.rom c.args.image.now (g.R.CacheRam.state c.run_steps.new.ram).words c.in-Ok-run_steps.ensures.sound))
@@ -150,14 +151,17 @@ returns-in-Err-clause-kept g c = kept_on (run_of c.args.image.now (cache_of g.S.
     (subst (λ (m : Setting). KeepsBeyond (g.S.CacheRom.service.span m) (g.R.CacheRam.state c.boot.new.ram) (g.R.CacheRam.state c.run_steps.new.ram)) c.in_ok-board.ensures.setting c.in-Err.ensures.kept)
 
 pub returns-in-Ok-run_steps-clause-causes : goal.returns-in-Ok-run_steps-clause-causes
-returns-in-Ok-run_steps-clause-causes g c =
-    causes_quiet _ (g.R.CacheRam.state c.args.ram.now).faults (g.R.CacheRam.state c.boot.new.ram).faults (g.I.Source.faults c.args.input.now) (g.O.Sink.faults c.args.out.now) (g.E.Sink.faults c.args.err.now)
-    _ c.in-Ok-run_steps.ensures.causes.quiet (c.in_ok-board.ensures.booted c.args.telling c.args.limit []).ram.quiet
+returns-in-Ok-run_steps-clause-causes g c = ok_causes (ok_unmoved c.in-Ok-run_steps.ensures.causes)
+
+pub returns-in-Ok-run_steps-clause-ram_cause : goal.returns-in-Ok-run_steps-clause-ram_cause
+returns-in-Ok-run_steps-clause-ram_cause g c = no_cause (c.in-Ok-run_steps.ensures.ram.quiet ∙ (c.in_ok-board.ensures.booted c.args.telling c.args.limit []).ram.quiet) (λ e. cc)
 
 pub returns-in-Err-clause-causes : goal.returns-in-Err-clause-causes
-returns-in-Err-clause-causes g c =
-    causes_run c.in-Err.fault c.stop_of.result (g.R.CacheRam.state c.args.ram.now).faults (g.R.CacheRam.state c.boot.new.ram).faults (g.I.Source.faults c.args.input.now) (g.O.Sink.faults c.args.out.now) (g.E.Sink.faults c.args.err.now)
-    _ c.stop_of.ensures (c.in_ok-board.ensures.booted c.args.telling c.args.limit []).ram.quiet c.in-Err.ensures.causes
+returns-in-Err-clause-causes g c = stop_causes {S = Option (List ℕ)} c.in-Err.fault c.stop_of.result c.stop_of.ensures c.in-Err.ensures.causes
+
+pub returns-in-Err-clause-ram_cause : goal.returns-in-Err-clause-ram_cause
+returns-in-Err-clause-ram_cause g c =
+    stop_cause {S = Option (List ℕ)} c.in-Err.fault c.stop_of.result c.stop_of.ensures (cause_from (c.in_ok-board.ensures.booted c.args.telling c.args.limit []).ram.quiet c.in-Err.ensures.ram_cause)
 
 pub returns-in-Err-clause-memory : goal.returns-in-Err-clause-memory
 returns-in-Err-clause-memory g c = λ e. absurd (never_memory c.in-Err.fault (as_stop c.in-Err.fault c.stop_of.result stop.Memory c.stop_of.ensures e))
@@ -168,7 +172,7 @@ returns-in-Err-clause-ram_failed g c = λ e x told.
     let booted = c.in_ok-board.ensures.booted c.args.telling c.args.limit x in
     let carries = carries_booted c.args.image.now (g.S.CacheRom.service.kept c.in_ok-board.board.rom) c.in_ok-board.board.hart (machine_of c.args.program.now c.args.layout.now c.args.log) booted.machine booted.between booted.fits in
     let broke = c.in-Err.ensures.ram_broke (is_ram c.in-Err.fault (as_stop c.in-Err.fault c.stop_of.result stop.RamFault c.stop_of.ensures e)) x told (machine_of c.args.program.now c.args.layout.now c.args.log) carries booted.matches in
-    ram_failed k c.in_ok-board.board.hart c.run_steps.new.board.hart (g.S.CacheRom.service.kept c.in_ok-board.board.rom) (g.R.CacheRam.state c.args.ram.now) (g.R.CacheRam.state c.boot.new.ram) (g.R.CacheRam.state c.run_steps.new.ram) (g.I.Source.left c.run_steps.new.input) (g.O.Sink.held c.args.out.now) (g.O.Sink.held c.run_steps.new.out) (g.E.Sink.held c.args.err.now) (g.E.Sink.held c.run_steps.new.err) None None booted broke.broke broke.begun broke.error
+    ram_failed k c.in_ok-board.board.hart c.run_steps.new.board.hart (g.S.CacheRom.service.kept c.in_ok-board.board.rom) (g.R.CacheRam.state c.args.ram.now) (g.R.CacheRam.state c.boot.new.ram) (g.R.CacheRam.state c.run_steps.new.ram) (g.I.Source.state c.run_steps.new.input).left (g.O.Sink.state c.args.out.now).held (g.O.Sink.state c.run_steps.new.out).held (g.E.Sink.state c.args.err.now).held (g.E.Sink.state c.run_steps.new.err).held None None booted broke.broke broke.begun broke.error
 
 pub returns-in-Err-clause-step_failed : goal.returns-in-Err-clause-step_failed
 returns-in-Err-clause-step_failed g c = λ e x told.
@@ -176,5 +180,7 @@ returns-in-Err-clause-step_failed g c = λ e x told.
     let booted = c.in_ok-board.ensures.booted c.args.telling c.args.limit x in
     let carries = carries_booted c.args.image.now (g.S.CacheRom.service.kept c.in_ok-board.board.rom) c.in_ok-board.board.hart (machine_of c.args.program.now c.args.layout.now c.args.log) booted.machine booted.between booted.fits in
     let broken = on_device (Option (List ℕ)) _ _ c.in-Err.fault (as_stops c.in-Err.fault c.stop_of.result stop.SourceFault stop.SinkFault c.stop_of.ensures e) c.in-Err.ensures.broke x told (machine_of c.args.program.now c.args.layout.now c.args.log) carries booted.matches in
-    step_failed k c.in_ok-board.board.hart c.run_steps.new.board.hart (Err c.in-Err.fault) (Err c.stop_of.result) (g.I.Source.left c.run_steps.new.input) (g.O.Sink.held c.args.out.now) (g.O.Sink.held c.run_steps.new.out) (g.E.Sink.held c.args.err.now) (g.E.Sink.held c.run_steps.new.err) None None
-    (λ s. is_source c.in-Err.fault (as_stop c.in-Err.fault c.stop_of.result stop.SourceFault c.stop_of.ensures s)) broken.broke broken.front broken.error broken.unwritten
+    let none = ap (λ (m : Machine). m.steps) booted.machine in
+    let unasked = on_device (Option (List ℕ)) _ _ c.in-Err.fault (as_stops c.in-Err.fault c.stop_of.result stop.SourceFault stop.SinkFault c.stop_of.ensures e) c.in-Err.ensures.unasked x told (machine_of c.args.program.now c.args.layout.now c.args.log) carries booted.matches in
+    step_broke k c.in_ok-board.board.hart c.run_steps.new.board.hart (Err c.in-Err.fault) (Err c.stop_of.result) (g.I.Source.state c.run_steps.new.input).left (g.O.Sink.state c.args.out.now).held (g.O.Sink.state c.run_steps.new.out).held (g.E.Sink.state c.args.err.now).held (g.E.Sink.state c.run_steps.new.err).held None None
+    (λ s. is_source c.in-Err.fault (as_stop c.in-Err.fault c.stop_of.result stop.SourceFault c.stop_of.ensures s)) broken.broke broken.front broken.error broken.unwritten none unasked

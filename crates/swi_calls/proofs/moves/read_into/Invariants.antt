@@ -7,9 +7,9 @@ use Rattle.swi_calls.proofs.moves.read_into.Given as goal
 abbrev pub invariant-loop-done : goal.invariant-loop-done
 invariant-loop-done g l = record {
   within : l.done ≤ l.count;
-  reads : ReadsInto l.fn.bus l.bus (g.I.Source.left l.fn.input) (g.I.Source.left l.input) l.a l.done;
+  reads : ReadsInto l.fn.bus l.bus (g.I.Source.state l.fn.input).left (g.I.Source.state l.input).left l.a l.done;
   held : holds l.bus Write l.a l.count ≡ true;
-  still : g.I.Source.faults l.input ≡ g.I.Source.faults l.fn.input;
+  still : (g.I.Source.state l.input).faults ≡ (g.I.Source.state l.fn.input).faults;
 }
 
 abbrev pub decreases-loop-done : goal.decreases-loop-done

@@ -5,7 +5,7 @@ use Rattle.swi_hart.specs.Hart.{HartData, role_of, original}
 use Rattle.swi_hart.specs.Exchanged.{is_plain}
 use Rattle.swi_hart.specs.Leaving.{broken}
 use Rattle.swi_hart.proofs.Answered.{ram_stopped}
-use Rattle.swi_hart.proofs.Causing.{causes_none}
+use Rattle.swi_outside.specs.Laws.{no_cause, none_named}
 use Rattle.swi_hart.proofs.Exchanging.{plain_home, put_back, own_word, plain_below, plain_held, no_call, made_plain, fits_plain, grown_plain, executes_plain, whole_plain, same_at, stage_same}
 use Rattle.swi_hart.proofs.Falls.{ram_same, words_same}
 use Rattle.swi_hart.proofs.Fetching.{offset_small, word_moves}
@@ -24,7 +24,7 @@ returns-in-Err g c =
     let plain = ap (λ (w : ℕ). is_plain (decoded w)) (sym c.requires.own) ∙ c.requires.plain in
     let below = plain_below v r h.machine span ram.words c.args.at.0 c.args.at.1 c.args.at.2 c.args.at.3 sound coherent c.requires.home h.control c.requires.control plain c.requires.sound in
     let failed = ram_unfetched v h.machine h.control _ c.args.at.0 c.args.at.1 c.args.at.2 c.args.at.3 _ _ c.requires.control below c.in-Err.ensures.fetched in
-    record { stepped = ram_stopped _ _ _ _ _ _ _ (ap broken c.hart.view_is) refl failed; executes = tt; whole = tt }
+    record { stepped = ram_stopped _ _ _ _ _ _ (ap broken c.hart.view_is) refl failed; executes = tt; whole = tt }
 
 pub run_word-requires : goal.run_word-requires
 run_word-requires g c =
@@ -82,11 +82,15 @@ returns g c =
         grown = λ s. grown_plain v r h c.run_word.new.hart ram.words c.args.at.0 c.args.at.1 c.args.at.2 c.args.at.3 c.requires.home c.requires.control plain c.in-Some-Some.image_word c.in-Some-Some.x c.role-role.result own_is held_is c.role-role.ensures ((c.run_word.ensures.ran runs).ran) (own_word v r h.machine span ram.words c.args.at.0 c.args.at.1 c.args.at.2 c.args.at.3 sound coherent c.requires.home h.control c.requires.control plain s) (sym c.requires.ready.running);
         stopped = tt;
         broke = λ s. tt;
+        call = tt;
+        unserved = tt;
+        unmoved = λ e. absurd (cc);
         unwritten = λ e. absurd (cc);
         others_stay = λ e. absurd (cc);
         ram_failed = λ e. absurd (cc);
         kept = (ram_exit _ _ c.args.at.0 c.args.at.1 c.args.at.2 c.args.at.3 h.control _ _ _ c.requires.control below fetched same).kept;
-        causes = causes_none _ _ _ (ap (λ (k : RamState). record { ram = k.faults; input = g.I.Source.faults c.args.input.now; out = g.O.Sink.faults c.args.out.now; err = g.E.Sink.faults c.args.err.now }) fetched);
+        causes = none_named refl (λ e. cc) (λ e. cc);
+        ram_cause = no_cause (ap (λ (k : RamState). k.faults) fetched) (λ e. cc);
       };
       executes = λ i b o stage p. same_at h c.run_word.new.hart c.args.rom.now ram.words (g.M.CacheRam.state c.fetch.new.self).words c.args.at.0 c.args.at.1 c.args.at.2 c.args.at.3 i b o stage _ _ _ (sym c.requires.control ∙ p.control) (ap (λ (k : RamState). k.words) fetched)
           (λ y is. executes_plain v r h c.run_word.new.hart ram.words c.args.at.0 c.args.at.1 c.args.at.2 c.args.at.3 c.requires.home c.requires.control plain c.in-Some-Some.image_word c.in-Some-Some.x c.role-role.result own_is held_is c.role-role.ensures (c.run_word.ensures.ran runs).ran y is);

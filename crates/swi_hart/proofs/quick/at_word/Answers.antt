@@ -2,16 +2,16 @@ use Rattle.std.proofs.Common.{◌≡◌, Option, ap, subst, ◌+◌, ℕ, List, 
 use Rattle.swi_outside.specs.CacheRam.{RamState}
 use Rattle.swi_image.specs.Place.{word_at}
 use Rattle.swi_memory.specs.Bus.{AreaData}
-use Rattle.swi_calls.specs.Causes as calls
 use Rattle.swi_hart.specs.Calling.{Moved, with_memory}
-use Rattle.swi_hart.specs.Hart.{HartData, exit_kind, original}
+use Rattle.swi_hart.specs.Hart.{HartData, Stepped, exit_kind, original}
 use Rattle.swi_hart.specs.Leaving.{exit_transfer, quick_role, broken}
 use Rattle.swi_hart.proofs.Answered.{ram_stopped}
-use Rattle.swi_hart.proofs.Causing.{causes_none, causes_answer, on_device, source_failed, ram_unfailed}
-use Rattle.swi_hart.proofs.Falls.{ram_same, words_same, words_after}
+use Rattle.swi_outside.specs.Laws.{no_cause, none_named, unmoved}
+use Rattle.swi_hart.proofs.Causing.{causes_answer, on_device, source_failed, ram_unfailed}
+use Rattle.swi_hart.proofs.Falls.{ram_same, ram_none, words_same, words_after}
 use Rattle.swi_hart.proofs.Fetching.{got_some, index_below, exit_home, word_home, exit_moves, word_moves}
 use Rattle.swi_hart.proofs.Grown.{grown_exit, grown_word, moved_services}
-use Rattle.swi_hart.proofs.Steps.{made_exit, fits_exit, made_word, fits_word, exit_placed, broken_word, ram_exit, ram_unserved, kept_after}
+use Rattle.swi_hart.proofs.Steps.{made_exit, fits_exit, made_word, fits_word, exit_placed, broken_word, between_call, ram_exit, ram_unserved, kept_after}
 use Rattle.swi_hart.proofs.quick.at_word.Goals as goal
 
 pub unreachable-requires : goal.unreachable-requires
@@ -51,11 +51,15 @@ returns-in-Ok g c = λ before fetched.
       grown = λ sound. grown_exit v r new h c.exit_step.new.hart c.args.at.0 c.args.at.1 c.args.at.2 c.args.at.3 c.requires.control (sym c.requires.ready.running) e s.step s.counted more;
       stopped = tt;
       broke = λ sound. tt;
+      call = tt;
+      unserved = tt;
+      unmoved = λ is. absurd (cc);
       unwritten = λ is. absurd (cc);
       others_stay = λ is. absurd (cc);
       ram_failed = λ is. absurd (cc);
       kept = kept_after _ c.args.at.0 before _ _ below fetched.1 s.served.ram.kept;
-      causes = causes_none _ _ _ (ap (λ (n : ℕ). record { ram = n; input = g.I.Source.faults c.args.input.now; out = g.O.Sink.faults c.args.out.now; err = g.E.Sink.faults c.args.err.now }) (s.served.ram.quiet ∙ ap (λ (k : RamState). k.faults) fetched.1));
+      causes = none_named refl (λ e. cc) (λ e. cc);
+      ram_cause = no_cause (s.served.ram.quiet ∙ ap (λ (k : RamState). k.faults) fetched.1) (λ e. cc);
     }
 
 pub returns-in-Err : goal.returns-in-Err
@@ -68,7 +72,7 @@ returns-in-Err g c = λ before fetched.
     coherent c.requires.home c.args.got c.in-Some.x c.requires.got (sym c.in-Some.is ∙ c.decode.ensures) (sym c.leaves.ensures ∙ c.if-leaves.true) in
     let below = index_below v r h.machine _ _ c.args.at.0 c.args.at.1 c.args.at.2 c.args.at.3 coherent c.requires.home in
     let s = c.in-Err.ensures in
-    ram_stopped _ _ _ _ _ _ _ (ap broken (c.hart.view_is ∙ s.stays)) s.served.setting
+    ram_stopped _ _ _ _ _ _ (ap broken (c.hart.view_is ∙ s.stays)) s.served.setting
     (ram_unserved v h.machine h.control _ c.args.at.0 c.args.at.1 c.args.at.2 c.args.at.3 before _ _ c.requires.control below fetched.1 s.served.failed
     (exit_placed v h.machine h.control c.args.at.0 c.args.at.1 c.args.at.2 c.args.at.3 c.requires.control e s.served.placed))
 
@@ -101,12 +105,15 @@ returns-in-Ok-role_step g c = λ before fetched.
       grown = λ sound. grows;
       stopped = tt;
       broke = λ sound. tt;
+      call = tt;
+      unserved = tt;
+      unmoved = λ is. absurd (cc);
       unwritten = λ is. absurd (cc);
       others_stay = λ is. absurd (cc);
       ram_failed = λ is. absurd (cc);
       kept = kept_after _ c.args.at.0 before _ _ below fetched.1 same.kept;
-      causes = causes_none _ _ _ (ap (λ (n : ℕ). record { ram = n; input = g.I.Source.faults c.role_step.new.input; out = g.O.Sink.faults c.role_step.new.out; err = g.E.Sink.faults c.role_step.new.err }) (ap (λ (k : RamState). k.faults) fetched.1)
-          ∙ ap (λ (f : calls.Faults). record { ram = before.faults; input = f.input; out = f.out; err = f.err }) s.executed.devices.causes.quiet);
+      causes = none_named (unmoved s.executed.devices.causes (λ e. cc) (λ e. cc)) (λ e. cc) (λ e. cc);
+      ram_cause = no_cause (ap (λ (k : RamState). k.faults) fetched.1) (λ e. cc);
     }
 
 pub returns-in-Err-role_step : goal.returns-in-Err-role_step
@@ -119,7 +126,6 @@ returns-in-Err-role_step g c = λ before fetched.
     let w = word_home v r h.machine _ _ c.args.at.0 c.args.at.1 c.args.at.2 c.args.at.3
     coherent c.requires.home c.args.got c.in-Some.x c.requires.got (sym c.in-Some.is ∙ c.decode.ensures) (sym c.leaves.ensures ∙ c.if-leaves.false) in
     let s = c.in-Err-role_step.ensures in
-    let same : (g.M.CacheRam.state c.args.ram.now).faults ≡ before.faults = ap (λ (k : RamState). k.faults) fetched.1 in
     record {
       made = λ sound. tt;
       fits = λ sound. tt;
@@ -135,11 +141,20 @@ returns-in-Err-role_step g c = λ before fetched.
       broke = λ sound. on_device Unit _ c.in-Err-role_step.fault c.fault_of.result c.fault_of.ensures (λ left told.
           broken_word v r h c.role_step.new.hart.machine.bus c.args.at.0 c.args.at.1 c.args.at.2 c.args.at.3 c.requires.control
           c.in-Some.x (quick_role c.args.at.3 c.in-Some.x (original h.machine)) left _ _ _ _ _ w refl s.asked
-          (subst (λ (k : Option (List ℕ)). Moved h.machine c.role_step.new.hart.machine.bus k (g.I.Source.left c.role_step.new.input)) told s.moved)
+          (subst (λ (k : Option (List ℕ)). Moved h.machine c.role_step.new.hart.machine.bus k (g.I.Source.state c.role_step.new.input).left) told s.moved)
           (s.executed.devices.output_prefix left told) (s.executed.devices.error_prefix left told));
+      call = on_device Unit _ c.in-Err-role_step.fault c.fault_of.result c.fault_of.ensures (record {
+        between = between_call v h.machine h.control c.args.at.0 c.args.at.1 c.args.at.2 c.args.at.3 c.requires.control c.in-Some.x w s.call;
+        moved = subst (λ (k : List AreaData). Moved h.machine k (g.I.Source.state c.args.input.now).left (g.I.Source.state c.role_step.new.input).left) (sym (ap (λ (k : HartData). k.machine.bus) c.hart-2.view_is)) s.moved;
+        unasked_output = λ left none. s.executed.devices.unasked_output left (ap (λ (k : Stepped). k.made.output) (s.asked left) ∙ none);
+        unasked_error = λ left none. s.executed.devices.unasked_error left (ap (λ (k : Stepped). k.made.error) (s.asked left) ∙ none);
+      });
+      unserved = on_device Unit _ c.in-Err-role_step.fault c.fault_of.result c.fault_of.ensures (refl, ram_exit _ _ c.args.at.0 c.args.at.1 c.args.at.2 c.args.at.3 h.control before _ _ c.requires.control below fetched.1 (ram_none _ _));
+      unmoved = λ is. absurd (ram_unfailed c.in-Err-role_step.fault c.fault_of.result c.fault_of.ensures is);
       unwritten = λ is. s.executed.devices.failed_input (source_failed c.in-Err-role_step.fault c.fault_of.result c.fault_of.ensures is);
       others_stay = λ is. absurd (ram_unfailed c.in-Err-role_step.fault c.fault_of.result c.fault_of.ensures is);
       ram_failed = λ is. absurd (ram_unfailed c.in-Err-role_step.fault c.fault_of.result c.fault_of.ensures is);
       kept = kept_after _ c.args.at.0 before _ _ below fetched.1 (ram_same (g.R.CacheRom.service.span (g.R.CacheRom.service.setting c.args.rom.now)) r (g.M.CacheRam.state c.args.ram.now)).kept;
-      causes = rw same (causes_answer before.faults _ _ c.in-Err-role_step.fault c.fault_of.result c.fault_of.ensures s.executed.devices.causes);
+      causes = causes_answer c.in-Err-role_step.fault c.fault_of.result c.fault_of.ensures s.executed.devices.causes;
+      ram_cause = no_cause (ap (λ (k : RamState). k.faults) fetched.1) (ram_unfailed c.in-Err-role_step.fault c.fault_of.result c.fault_of.ensures);
     }

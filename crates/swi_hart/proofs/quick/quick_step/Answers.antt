@@ -7,7 +7,7 @@ use Rattle.swi_hart.specs.declared.hart.Control.{Control}
 use Rattle.swi_hart.specs.declared.hart.Control.TheVariants.{Outside}
 use Rattle.swi_hart.specs.Matching.{Matches}
 use Rattle.swi_hart.specs.Leaving.{transfer_at, moved}
-use Rattle.swi_hart.proofs.Causing.{causes_none}
+use Rattle.swi_outside.specs.Laws.{no_cause, none_named}
 use Rattle.swi_hart.proofs.Falls.{ram_same, words_same}
 use Rattle.swi_hart.proofs.Homes.{home}
 use Rattle.swi_hart.proofs.Grown.{grown_outside}
@@ -43,9 +43,13 @@ returns-in-Outside-clause-stepped g c =
       grown = λ sound. grows;
       stopped = tt;
       broke = λ sound. tt;
+      call = tt;
+      unserved = tt;
+      unmoved = λ e. absurd (cc);
       unwritten = λ e. absurd (cc);
       others_stay = λ e. absurd (cc);
       ram_failed = λ e. absurd (cc);
       kept = (ram_same span r (g.M.CacheRam.state c.args.ram.now)).kept;
-      causes = causes_none _ _ _ refl;
+      causes = none_named refl (λ e. cc) (λ e. cc);
+      ram_cause = no_cause refl (λ e. cc);
     }

@@ -6,6 +6,6 @@ use Rattle.swi_report.proofs.memory.write_memory.Given as goal
 
 abbrev pub invariant-loop-k : goal.invariant-loop-k
 invariant-loop-k g l = record {
-  written : Appends (g.S.Sink.held l.fn.sink) (g.S.Sink.held l.sink) (flat_map area_text (take l.k l.bus));
-  still : g.S.Sink.faults l.sink ≡ g.S.Sink.faults l.fn.sink;
+  written : Appends (g.S.Sink.state l.fn.sink).held (g.S.Sink.state l.sink).held (flat_map area_text (take l.k l.bus));
+  still : (g.S.Sink.state l.sink).faults ≡ (g.S.Sink.state l.fn.sink).faults;
 }

@@ -7,7 +7,7 @@ use Rattle.swi_report.proofs.memory.write_rows.Given as goal
 abbrev pub invariant-loop-row : goal.invariant-loop-row
 invariant-loop-row g l = record {
   from : l.area.base / 16 ≤ l.row;
-  written : Appends (g.S.Sink.held l.fn.sink) (g.S.Sink.held l.sink)
+  written : Appends (g.S.Sink.state l.fn.sink).held (g.S.Sink.state l.sink).held
       (flat_map (numbered_row l.area.base l.area.bytes.now) (numbers (l.area.base / 16) (l.row - l.area.base / 16)));
-  still : g.S.Sink.faults l.sink ≡ g.S.Sink.faults l.fn.sink;
+  still : (g.S.Sink.state l.sink).faults ≡ (g.S.Sink.state l.fn.sink).faults;
 }

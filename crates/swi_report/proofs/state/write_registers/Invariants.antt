@@ -6,6 +6,6 @@ use Rattle.swi_report.proofs.state.write_registers.Given as goal
 
 abbrev pub invariant-loop-number : goal.invariant-loop-number
 invariant-loop-number g l = record {
-  written : Appends (g.S.Sink.held l.fn.sink) (g.S.Sink.held l.sink) (flat_map (register_line l.regs) (numbers 0 l.number));
-  still : g.S.Sink.faults l.sink ≡ g.S.Sink.faults l.fn.sink;
+  written : Appends (g.S.Sink.state l.fn.sink).held (g.S.Sink.state l.sink).held (flat_map (register_line l.regs) (numbers 0 l.number));
+  still : (g.S.Sink.state l.sink).faults ≡ (g.S.Sink.state l.fn.sink).faults;
 }

@@ -6,6 +6,6 @@ use Rattle.swi_report.proofs.stats.write_counts.Given as goal
 
 abbrev pub invariant-loop-name : goal.invariant-loop-name
 invariant-loop-name g l = record {
-  written : Appends (g.S.Sink.held l.fn.sink) (g.S.Sink.held l.sink) (flat_map line_of (take l.name-index l.counts));
-  still : g.S.Sink.faults l.sink ≡ g.S.Sink.faults l.fn.sink;
+  written : Appends (g.S.Sink.state l.fn.sink).held (g.S.Sink.state l.sink).held (flat_map line_of (take l.name-index l.counts));
+  still : (g.S.Sink.state l.sink).faults ≡ (g.S.Sink.state l.fn.sink).faults;
 }

@@ -5,51 +5,45 @@ use Rattle.swi_command.specs.declared.command.CommandError.{CommandError}
 use Rattle.swi_command.specs.CommandLine.{Request, command_of, request_of}
 use Rattle.swi_top.specs.Answers.{AnswersWithLine}
 use Rattle.swi_top.specs.Devices.{Devices, seen}
+use Rattle.swi_top.specs.Tasks.{task_of}
+use Rattle.swi_top.proofs.Lined.{lined}
 use Rattle.swi_top.proofs.Refusals.{clash, late_causes, memory_at_once, same_request, usage_causes}
 use Rattle.swi_top.proofs.Lines.{refused_at_once, refused_line}
 use Rattle.swi_top.proofs.call.top.Goals as goal
 
 pub returns-in-Ok : goal.returns-in-Ok
 returns-in-Ok g c =
-    let before : Devices = seen (g.F.Shelf.contents c.args.shelf.now) (g.F.Shelf.last_failed c.args.shelf.now) (g.F.Shelf.faults c.args.shelf.now)
-    (g.I.Source.left c.args.input.now) (g.I.Source.faults c.args.input.now) (g.O.Sink.held c.args.out.now) (g.O.Sink.faults c.args.out.now)
-    (g.E.Sink.held c.args.err.now) (g.E.Sink.faults c.args.err.now) (g.R.CacheRam.state c.args.ram.now) in
-    let after : Devices = seen (g.F.Shelf.contents c.run_command.new.shelf) (g.F.Shelf.last_failed c.run_command.new.shelf) (g.F.Shelf.faults c.run_command.new.shelf)
-    (g.I.Source.left c.run_command.new.input) (g.I.Source.faults c.run_command.new.input) (g.O.Sink.held c.run_command.new.out) (g.O.Sink.faults c.run_command.new.out)
-    (g.E.Sink.held c.run_command.new.err) (g.E.Sink.faults c.run_command.new.err) (g.R.CacheRam.state c.run_command.new.ram) in
+    let before : Devices = seen (g.F.Shelf.state c.args.shelf.now) (g.I.Source.state c.args.input.now) (g.O.Sink.state c.args.out.now) (g.E.Sink.state c.args.err.now) (g.R.CacheRam.state c.args.ram.now) in
+    let after : Devices = seen (g.F.Shelf.state c.run_command.new.shelf) (g.I.Source.state c.run_command.new.input) (g.O.Sink.state c.run_command.new.out) (g.E.Sink.state c.run_command.new.err) (g.R.CacheRam.state c.run_command.new.ram) in
     let asked = command_of (map (λ w. string_bytes w) c.args.words.now) in record {
       usage = λ e. absurd (c.run_command.ensures.answers.asked e);
       no_command = λ none. absurd (clash asked (request_of c.in-Ok.command) c.in-Ok.ensures.ok none);
       unasked = λ none. absurd (clash asked (request_of c.in-Ok.command) c.in-Ok.ensures.ok none);
-      answers = λ request is. subst (λ (q : Request). AnswersWithLine q before after c.run_command.result)
+      answers = λ request is. subst (λ (q : Request). AnswersWithLine (task_of q) before after c.run_command.result)
           (same_request asked (request_of c.in-Ok.command) request c.in-Ok.ensures.ok is) c.run_command.ensures;
     }
 
 pub returns-in-Err-Usage : goal.returns-in-Err-Usage
 returns-in-Err-Usage g c =
-    let before : Devices = seen (g.F.Shelf.contents c.args.shelf.now) (g.F.Shelf.last_failed c.args.shelf.now) (g.F.Shelf.faults c.args.shelf.now)
-    (g.I.Source.left c.args.input.now) (g.I.Source.faults c.args.input.now) (g.O.Sink.held c.args.out.now) (g.O.Sink.faults c.args.out.now)
-    (g.E.Sink.held c.args.err.now) (g.E.Sink.faults c.args.err.now) (g.R.CacheRam.state c.args.ram.now) in
+    let before : Devices = seen (g.F.Shelf.state c.args.shelf.now) (g.I.Source.state c.args.input.now) (g.O.Sink.state c.args.out.now) (g.E.Sink.state c.args.err.now) (g.R.CacheRam.state c.args.ram.now) in
     let asked = command_of (map (λ w. string_bytes w) c.args.words.now) in
     let none = c.in-Err-Usage.ensures.usage (ap (λ (x : CommandError). Err x) c.in-Err-Usage.field-0-is) in
     rw c.refuse.ensures.same (record {
       usage = λ _. none;
       no_command = λ _. inl refl;
-      unasked = λ _. refused_at_once before refusal.Usage (g.E.Sink.held c.refuse.new.err) (g.E.Sink.faults c.refuse.new.err) (usage_causes before.faults)
+      unasked = λ _. refused_at_once before refusal.Usage (g.E.Sink.state c.refuse.new.err).held (g.E.Sink.state c.refuse.new.err).faults (usage_causes before.faults)
           c.refuse.ensures.line c.refuse.ensures.later;
       answers = λ request is. absurd (clash asked request is none);
     })
 
 pub returns-in-Err-Memory : goal.returns-in-Err-Memory
 returns-in-Err-Memory g c =
-    let before : Devices = seen (g.F.Shelf.contents c.args.shelf.now) (g.F.Shelf.last_failed c.args.shelf.now) (g.F.Shelf.faults c.args.shelf.now)
-    (g.I.Source.left c.args.input.now) (g.I.Source.faults c.args.input.now) (g.O.Sink.held c.args.out.now) (g.O.Sink.faults c.args.out.now)
-    (g.E.Sink.held c.args.err.now) (g.E.Sink.faults c.args.err.now) (g.R.CacheRam.state c.args.ram.now) in
+    let before : Devices = seen (g.F.Shelf.state c.args.shelf.now) (g.I.Source.state c.args.input.now) (g.O.Sink.state c.args.out.now) (g.E.Sink.state c.args.err.now) (g.R.CacheRam.state c.args.ram.now) in
     rw c.refuse-in-Err-Memory.ensures.same (record {
       usage = λ e. absurd (let bad : ⊥ = cc in bad);
       no_command = λ _. inr refl;
-      unasked = λ _. refused_at_once before refusal.Memory (g.E.Sink.held c.refuse-in-Err-Memory.new.err) (g.E.Sink.faults c.refuse-in-Err-Memory.new.err)
+      unasked = λ _. refused_at_once before refusal.Memory (g.E.Sink.state c.refuse-in-Err-Memory.new.err).held (g.E.Sink.state c.refuse-in-Err-Memory.new.err).faults
           (late_causes before.faults refusal.Memory tt) c.refuse-in-Err-Memory.ensures.line c.refuse-in-Err-Memory.ensures.later;
-      answers = λ request _. refused_line request before before refusal.Memory (g.E.Sink.held c.refuse-in-Err-Memory.new.err) (g.E.Sink.faults c.refuse-in-Err-Memory.new.err)
-          (memory_at_once request before) c.refuse-in-Err-Memory.ensures.line c.refuse-in-Err-Memory.ensures.later;
+      answers = λ request _. refused_line (task_of request) (lined request) before before refusal.Memory (g.E.Sink.state c.refuse-in-Err-Memory.new.err).held (g.E.Sink.state c.refuse-in-Err-Memory.new.err).faults
+          (memory_at_once (task_of request) before) c.refuse-in-Err-Memory.ensures.line c.refuse-in-Err-Memory.ensures.later;
     })

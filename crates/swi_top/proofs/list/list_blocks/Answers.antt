@@ -7,7 +7,7 @@ use Rattle.swi_top.proofs.list.list_blocks.Goals as goal
 
 pub loop-block-init : goal.loop-block-init
 loop-block-init g c = record {
-  written = no_blocks (text_of c.args.program.now.segments) c.args.image.now (g.O.Sink.held c.args.out.now);
+  written = no_blocks (text_of c.args.program.now.segments) c.args.image.now (g.O.Sink.state c.args.out.now).held;
   still = search rules;
 }
 
@@ -16,16 +16,16 @@ returns-then-is_err-clause-failed g c =
     let within : c.loop-block.block < length c.args.image.now.starts = omega arith in (
       refl,
       block_broken (text_of c.args.program.now.segments) c.args.image.now c.loop-block.block (length c.args.image.now.starts)
-          (g.O.Sink.held c.args.out.now) (g.O.Sink.held c.loop-block.out) (g.O.Sink.held c.list_block.new.sink) within c.loop-block.invariant.written
-          (write_failed (g.O.Sink.held c.loop-block.out) (g.O.Sink.held c.list_block.new.sink) c.list_block.result
-          (block_lines (text_of c.args.program.now.segments) c.args.image.now c.loop-block.block) (search rules) c.list_block.ensures.bytes),
+          (g.O.Sink.state c.args.out.now).held (g.O.Sink.state c.loop-block.out).held (g.O.Sink.state c.list_block.new.sink).held within c.loop-block.invariant.written
+          (write_failed (g.O.Sink.state c.loop-block.out).held (g.O.Sink.state c.list_block.new.sink).held c.list_block.result
+          (block_lines (text_of c.args.program.now.segments) c.args.image.now c.loop-block.block) (search rules) c.list_block.ensures.written.bytes),
     )
 
 pub loop-block-preserved : goal.loop-block-preserved
 loop-block-preserved g c = record {
   written = block_more (text_of c.args.program.now.segments) c.args.image.now c.loop-block.block
-      (g.O.Sink.held c.args.out.now) (g.O.Sink.held c.loop-block.out) (g.O.Sink.held c.list_block.new.sink) c.loop-block.invariant.written
-      (write_done (g.O.Sink.held c.loop-block.out) (g.O.Sink.held c.list_block.new.sink) c.list_block.result
-      (block_lines (text_of c.args.program.now.segments) c.args.image.now c.loop-block.block) (search rules) c.list_block.ensures.bytes);
+      (g.O.Sink.state c.args.out.now).held (g.O.Sink.state c.loop-block.out).held (g.O.Sink.state c.list_block.new.sink).held c.loop-block.invariant.written
+      (write_done (g.O.Sink.state c.loop-block.out).held (g.O.Sink.state c.list_block.new.sink).held c.list_block.result
+      (block_lines (text_of c.args.program.now.segments) c.args.image.now c.loop-block.block) (search rules) c.list_block.ensures.written.bytes);
   still = search rules;
 }

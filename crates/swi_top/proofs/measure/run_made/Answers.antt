@@ -1,6 +1,6 @@
 use Rattle.std.proofs.Common.{[], refl}
 use Rattle.swi_rom.specs.Service.{cache_of}
-use Rattle.swi_top.specs.Answers.{made_run}
+use Rattle.swi_top.specs.MeasureMade.{made_run}
 use Rattle.swi_top.proofs.Measuring.{made_ran}
 use Rattle.swi_top.proofs.measure.run_made.Goals as goal
 

@@ -5,6 +5,6 @@ use Rattle.swi_top.proofs.trace.write_history.Given as goal
 
 abbrev pub invariant-loop-k : goal.invariant-loop-k
 invariant-loop-k g l = record {
-  written : Appends (g.E.Sink.held l.fn.err) (g.E.Sink.held l.err) (lines_at l.bus (take l.k l.history));
-  still : g.E.Sink.faults l.err ≡ g.E.Sink.faults l.fn.err;
+  written : Appends (g.E.Sink.state l.fn.err).held (g.E.Sink.state l.err).held (lines_at l.bus (take l.k l.history));
+  still : (g.E.Sink.state l.err).faults ≡ (g.E.Sink.state l.fn.err).faults;
 }

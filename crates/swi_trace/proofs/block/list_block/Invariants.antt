@@ -6,6 +6,6 @@ use Rattle.swi_trace.proofs.block.list_block.Given as goal
 
 abbrev pub invariant-loop-offset : goal.invariant-loop-offset
 invariant-loop-offset g l = record {
-  written : Appends (g.S.Sink.held l.fn.sink) (g.S.Sink.held l.sink) (first_lines (text_of l.p.segments) l.image l.block l.offset);
-  still : g.S.Sink.faults l.sink ≡ g.S.Sink.faults l.fn.sink;
+  written : Appends (g.S.Sink.state l.fn.sink).held (g.S.Sink.state l.sink).held (first_lines (text_of l.p.segments) l.image l.block l.offset);
+  still : (g.S.Sink.state l.sink).faults ≡ (g.S.Sink.state l.fn.sink).faults;
 }

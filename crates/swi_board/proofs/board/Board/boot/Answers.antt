@@ -15,11 +15,11 @@ resume-requires-clause-carries g c =
 
 pub returns-in-Ok-resume-clause-count : goal.returns-in-Ok-resume-clause-count
 returns-in-Ok-resume-clause-count g c =
-    ap (λ (h : HartData). h.count) c.in-Ok-resume.ensures.hart ∙ ap (λ (h : HartData). h.count + entries c.args.image.now h.machine.pc) c.in-Ok.ensures.hart
+    ap (λ (h : HartData). h.count) c.in-Ok-resume.ensures.entered.hart ∙ ap (λ (h : HartData). h.count + entries c.args.image.now h.machine.pc) c.in-Ok.ensures.hart
     ∙ ap (λ n. 0 + n) (text_place (text_of c.args.p.now.segments) c.args.image.now c.args.p.now.entry c.requires.carries c.start.ensures.entry)
 
 pub returns-in-Ok-resume-clause-policy : goal.returns-in-Ok-resume-clause-policy
 returns-in-Ok-resume-clause-policy g c =
-    c.in-Ok-resume.ensures.policy
+    c.in-Ok-resume.ensures.entered.policy
     ∙ ap (λ (h : HartData). moved (g.R.CacheRom.service.policy (g.R.CacheRom.service.setting c.args.rom)) (g.R.CacheRom.service.kept c.args.rom) c.args.image.now (entry_transfer c.args.image.now h.machine.pc)) c.in-Ok.ensures.hart
     ∙ ap (λ (q : Bool). moved (g.R.CacheRom.service.policy (g.R.CacheRom.service.setting c.args.rom)) (g.R.CacheRom.service.kept c.args.rom) c.args.image.now (if q then Some (indirect c.args.p.now.entry) else None)) (text_some (text_of c.args.p.now.segments) c.args.image.now c.args.p.now.entry c.requires.carries c.start.ensures.entry)

@@ -10,14 +10,14 @@ use Rattle.swi_board.proofs.board.Board.step.Goals as goal
 
 pub plain_step-requires-clause-home : goal.plain_step-requires-clause-home
 plain_step-requires-clause-home g c =
-    let f = subst (λ (b : BoardOf g.row.R.Denot). Fits c.args.image.now (g.R.CacheRom.service.kept b.rom) b.hart) (sym c.self.view_is) c.requires.fits in
-    let running : c.self.inside.hart.machine.ending ≡ None = ap (λ (b : BoardOf g.row.R.Denot). b.hart.machine.ending) c.self.view_is ∙ c.requires.running in
+    let f = subst (λ (b : BoardOf g.row.R.Denot). Fits c.args.image.now (g.R.CacheRom.service.kept b.rom) b.hart) (sym c.self.view_is) c.requires.ready.fits in
+    let running : c.self.inside.hart.machine.ending ≡ None = ap (λ (b : BoardOf g.row.R.Denot). b.hart.machine.ending) c.self.view_is ∙ c.requires.ready.running in
     home c.args.image.now (g.R.CacheRom.service.kept c.self.inside.rom) f.flat c.self.inside.hart.machine c.in-Some.at.0 c.in-Some.at.1 c.in-Some.at.2 c.in-Some.at.3 f.image
     (subst (λ (k : Control). Matches c.args.image.now (g.R.CacheRom.service.kept c.self.inside.rom) f.flat c.self.inside.hart.machine k) c.in-Some.ensures.place.0 f.matches) running c.plain_place.ensures.word
 
 pub returns-clause-follows : goal.returns-clause-follows
 returns-clause-follows g c =
-    let running : c.self.inside.hart.machine.ending ≡ None = ap (λ (b : BoardOf g.row.R.Denot). b.hart.machine.ending) c.self.view_is ∙ c.requires.running in
+    let running : c.self.inside.hart.machine.ending ≡ None = ap (λ (b : BoardOf g.row.R.Denot). b.hart.machine.ending) c.self.view_is ∙ c.requires.ready.running in
     rw (← c.self.view_is) (λ sound.
     ok_map_2 c.quick_step.result
     (λ made moves. λ left told f image same. followed (g.R.CacheRom.service.policy (g.R.CacheRom.service.setting c.self.inside.rom)) c.args.image.now (g.R.CacheRom.service.kept c.self.inside.rom) (g.R.CacheRom.service.kept c.quick_step.new.rom) c.self.inside.hart c.quick_step.new.hart f left _ _ _ _ _
@@ -50,9 +50,12 @@ returns-in-Some-clause-whole g c =
 
 pub returns-in-Some-clause-follows : goal.returns-in-Some-clause-follows
 returns-in-Some-clause-follows g c =
-    let running : c.self.inside.hart.machine.ending ≡ None = ap (λ (b : BoardOf g.row.R.Denot). b.hart.machine.ending) c.self.view_is ∙ c.requires.running in
+    let running : c.self.inside.hart.machine.ending ≡ None = ap (λ (b : BoardOf g.row.R.Denot). b.hart.machine.ending) c.self.view_is ∙ c.requires.ready.running in
     rw (← c.self.view_is) (λ sound.
     ok_map_2 c.plain_step.result
     (λ made moves. λ left told f image same. followed (g.R.CacheRom.service.policy (g.R.CacheRom.service.setting c.self.inside.rom)) c.args.image.now (g.R.CacheRom.service.kept c.self.inside.rom) (g.R.CacheRom.service.kept c.plain_step.new.rom) c.self.inside.hart c.plain_step.new.hart f left _ _ _ _ _
     running c.plain_place.ensures.word image same moves (made left told))
     (c.plain_step.ensures.stepped.made sound) c.plain_step.ensures.stepped.policy)
+
+pub returns-in-Some-clause-stepped : goal.returns-in-Some-clause-stepped
+returns-in-Some-clause-stepped g c = rw (← c.self.view_is) c.plain_step.ensures.stepped

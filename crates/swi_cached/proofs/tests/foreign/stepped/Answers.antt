@@ -8,14 +8,14 @@ use Rattle.swi_cached.proofs.tests.foreign.stepped.Goals as goal
 pub join-board-requires-clause-booted : goal.join-board-requires-clause-booted
 join-board-requires-clause-booted g c =
     ap (λ (x : HartData). x.booted) c.part-hart.ensures.hart
-    ∙ on_ok c.run.result (sym c.is_err.ensures.value ∙ c.if-is_err.false) c.run.ensures.booted ∙ c.in-Ok.ensures.booted
+    ∙ c.run.ensures.booted ∙ ap (λ (x : HartData). x.booted) c.in-Ok.ensures.entered.hart
 
 pub steps_over-requires-clause-between : goal.steps_over-requires-clause-between
 steps_over-requires-clause-between g c =
     let going = none_of c.run.new.self.hart.machine.ending
     (ap (λ (x : Option End). is_some x) (sym c.ending.ensures) ∙ sym c.is_some.ensures ∙ c.if-is_some.false) in
     ap (λ (x : HartData). is_between x.control) (c.join-board.ensures.hart ∙ c.part-hart.ensures.hart)
-    ∙ on_ok c.run.result (sym c.is_err.ensures.value ∙ c.if-is_err.false) c.run.ensures.settled _ refl c.in-Ok.ensures.between going
+    ∙ on_ok c.run.result (sym c.is_err.ensures.value ∙ c.if-is_err.false) c.run.ensures.settled _ refl c.in-Ok.ensures.entered.between going
 
 pub steps_over-requires-clause-fits : goal.steps_over-requires-clause-fits
 steps_over-requires-clause-fits g c =

@@ -10,46 +10,46 @@ use Rattle.swi_calls.proofs.machine.Machine.call_step.Goals as goal
 
 pub returns-in_err-called-clause-text : goal.returns-in_err-called-clause-text
 returns-in_err-called-clause-text g c =
-    moved_text c.args.self.now.regs c.args.self.now.bus c.serve.new.bus (g.I.Source.left c.args.input.now) (g.I.Source.left c.serve.new.input) (rw c.of-request.ensures at c.serve.ensures.moved)
+    moved_text c.args.self.now.regs c.args.self.now.bus c.serve.new.bus (g.I.Source.state c.args.input.now).left (g.I.Source.state c.serve.new.input).left (rw c.of-request.ensures at c.serve.ensures.moved)
 
 pub returns-then-is_err-clause-text : goal.returns-then-is_err-clause-text
 returns-then-is_err-clause-text g c =
-    moved_text c.args.self.now.regs c.args.self.now.bus c.serve.new.bus (g.I.Source.left c.args.input.now) (g.I.Source.left c.serve.new.input) (rw c.of-request.ensures at c.serve.ensures.moved)
+    moved_text c.args.self.now.regs c.args.self.now.bus c.serve.new.bus (g.I.Source.state c.args.input.now).left (g.I.Source.state c.serve.new.input).left (rw c.of-request.ensures at c.serve.ensures.moved)
 
 pub returns-in-Returned-clause-text : goal.returns-in-Returned-clause-text
 returns-in-Returned-clause-text g c =
-    moved_text c.args.self.now.regs c.args.self.now.bus c.serve.new.bus (g.I.Source.left c.args.input.now) (g.I.Source.left c.serve.new.input) (rw c.of-request.ensures at c.serve.ensures.moved)
+    moved_text c.args.self.now.regs c.args.self.now.bus c.serve.new.bus (g.I.Source.state c.args.input.now).left (g.I.Source.state c.serve.new.input).left (rw c.of-request.ensures at c.serve.ensures.moved)
 
 pub returns-in-Exited-clause-text : goal.returns-in-Exited-clause-text
 returns-in-Exited-clause-text g c =
-    rw c.end.ensures (moved_text c.args.self.now.regs c.args.self.now.bus c.serve.new.bus (g.I.Source.left c.args.input.now) (g.I.Source.left c.serve.new.input) (rw c.of-request.ensures at c.serve.ensures.moved))
+    rw c.end.ensures (moved_text c.args.self.now.regs c.args.self.now.bus c.serve.new.bus (g.I.Source.state c.args.input.now).left (g.I.Source.state c.serve.new.input).left (rw c.of-request.ensures at c.serve.ensures.moved))
 
 pub returns-in_err-called-clause-devices : goal.returns-in_err-called-clause-devices
 returns-in_err-called-clause-devices g c =
     let p = err_from_is_err_and c.from_residual.result c.from_residual.ensures.1 in
-    rw (p.1, p.2) (call_failed c.args.self.now _ _ _ _ _ (rw c.of-request.ensures at c.in_err-called.ensures.devices))
+    rw (p.1, p.2) (call_failed c.args.self.now _ _ _ (rw c.of-request.ensures at c.in_err-called.ensures.devices))
 
 pub returns-then-is_err-clause-devices : goal.returns-then-is_err-clause-devices
 returns-then-is_err-clause-devices g c =
-    line_failed c.args.self.now _ _ _ _ c.in_ok-called.called (g.E.Sink.held c.tell.new.err) (g.E.Sink.faults c.tell.new.err) (rw c.of-request.ensures at c.in_ok-called.ensures.devices) c.tell.ensures.unasked
+    line_failed c.args.self.now _ _ c.in_ok-called.called (g.E.Sink.state c.tell.new.err) (rw c.of-request.ensures at c.in_ok-called.ensures.devices) c.tell.ensures.unasked
     c.tell.result (sym c.is_err.ensures.value ∙ c.if-is_err.true)
-    (λ left told. line_as (AppendsPrefix (g.E.Sink.held c.serve.new.err) (g.E.Sink.held c.tell.new.err)) c.args.self.now.log (request_of c.args.self.now.regs) _ c.in_ok-called.called
+    (λ left told. line_as (AppendsPrefix (g.E.Sink.state c.serve.new.err).held (g.E.Sink.state c.tell.new.err).held) c.args.self.now.log (request_of c.args.self.now.regs) _ c.in_ok-called.called
     (rw c.of-request.ensures at (c.in_ok-called.ensures.served left told).answered)
-    (write_failed (g.E.Sink.held c.serve.new.err) (g.E.Sink.held c.tell.new.err) c.tell.result _ (sym c.is_err.ensures.value ∙ c.if-is_err.true) (rw c.of-request.ensures at c.tell.ensures.bytes)))
-    c.tell.ensures.cause
+    (write_failed (g.E.Sink.state c.serve.new.err).held (g.E.Sink.state c.tell.new.err).held c.tell.result _ (sym c.is_err.ensures.value ∙ c.if-is_err.true) (rw c.of-request.ensures at c.tell.ensures.written.bytes)))
+    c.tell.ensures.written.cause
 
 pub returns-in-Returned-clause-devices : goal.returns-in-Returned-clause-devices
 returns-in-Returned-clause-devices g c =
-    line_told c.args.self.now _ _ _ _ c.in_ok-called.called (g.E.Sink.held c.tell.new.err) (g.E.Sink.faults c.tell.new.err) (rw c.of-request.ensures at c.in_ok-called.ensures.devices) c.tell.ensures.unasked
+    line_told c.args.self.now _ _ c.in_ok-called.called (g.E.Sink.state c.tell.new.err) (rw c.of-request.ensures at c.in_ok-called.ensures.devices) c.tell.ensures.unasked
     (search rules)
-    (λ left told. line_as (Appends (g.E.Sink.held c.serve.new.err) (g.E.Sink.held c.tell.new.err)) c.args.self.now.log (request_of c.args.self.now.regs) _ c.in_ok-called.called
+    (λ left told. line_as (Appends (g.E.Sink.state c.serve.new.err).held (g.E.Sink.state c.tell.new.err).held) c.args.self.now.log (request_of c.args.self.now.regs) _ c.in_ok-called.called
     (rw c.of-request.ensures at (c.in_ok-called.ensures.served left told).answered)
-    (write_done (g.E.Sink.held c.serve.new.err) (g.E.Sink.held c.tell.new.err) c.tell.result _ (sym c.is_err.ensures.value ∙ c.if-is_err.false) (rw c.of-request.ensures at c.tell.ensures.bytes)))
+    (write_done (g.E.Sink.state c.serve.new.err).held (g.E.Sink.state c.tell.new.err).held c.tell.result _ (sym c.is_err.ensures.value ∙ c.if-is_err.false) (rw c.of-request.ensures at c.tell.ensures.written.bytes)))
 
 pub returns-in-Exited-clause-devices : goal.returns-in-Exited-clause-devices
 returns-in-Exited-clause-devices g c =
-    line_told c.args.self.now _ _ _ _ c.in_ok-called.called (g.E.Sink.held c.tell.new.err) (g.E.Sink.faults c.tell.new.err) (rw c.of-request.ensures at c.in_ok-called.ensures.devices) c.tell.ensures.unasked
+    line_told c.args.self.now _ _ c.in_ok-called.called (g.E.Sink.state c.tell.new.err) (rw c.of-request.ensures at c.in_ok-called.ensures.devices) c.tell.ensures.unasked
     (search rules)
-    (λ left told. line_as (Appends (g.E.Sink.held c.serve.new.err) (g.E.Sink.held c.tell.new.err)) c.args.self.now.log (request_of c.args.self.now.regs) _ c.in_ok-called.called
+    (λ left told. line_as (Appends (g.E.Sink.state c.serve.new.err).held (g.E.Sink.state c.tell.new.err).held) c.args.self.now.log (request_of c.args.self.now.regs) _ c.in_ok-called.called
     (rw c.of-request.ensures at (c.in_ok-called.ensures.served left told).answered)
-    (write_done (g.E.Sink.held c.serve.new.err) (g.E.Sink.held c.tell.new.err) c.tell.result _ (sym c.is_err.ensures.value ∙ c.if-is_err.false) (rw c.of-request.ensures at c.tell.ensures.bytes)))
+    (write_done (g.E.Sink.state c.serve.new.err).held (g.E.Sink.state c.tell.new.err).held c.tell.result _ (sym c.is_err.ensures.value ∙ c.if-is_err.false) (rw c.of-request.ensures at c.tell.ensures.written.bytes)))

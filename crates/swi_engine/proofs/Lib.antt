@@ -1,0 +1,12 @@
+pub mod Shapes
+pub mod Views
+pub mod Standing
+pub mod Eventing
+pub mod Working
+pub mod Reading
+pub mod Counting
+pub mod Clearing
+pub mod Arriving
+pub mod Filling
+pub mod Crossing
+pub mod Exits

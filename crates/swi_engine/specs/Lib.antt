@@ -1,0 +1,11 @@
+pub mod Engine
+pub mod State
+pub mod Sound
+pub mod Service
+pub mod Moves
+pub mod Worked
+pub mod Seats
+pub mod Laws
+pub mod Events
+pub mod Cleared
+pub mod Arrived

@@ -1,0 +1,9 @@
+pub mod Boarding
+pub mod Making
+pub mod Few
+pub mod Others
+pub mod Breaking
+pub mod Turning
+pub mod Starting
+pub mod Scheduling
+pub mod Bounds

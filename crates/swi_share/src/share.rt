@@ -1,0 +1,209 @@
+//! Programs that share one cache.
+#![tactic(auto)]
+
+ghost use Rattle.std.specs.Prelude.{◌≡◌, ◌*◌, ◌^◌, ◌<◌, ◌≤◌, ℕ, List, not, length, slice_get, slice_index_or, Some, None, is_some, IfOk, OnOk, OnErr, IsErrOf};
+ghost use Rattle.swi_slots.specs.Slots.{span_of};
+ghost use Rattle.swi_share.specs.Shared.{shared_event, shared_run};
+ghost use Rattle.swi_share.specs.Run.{CanRun, RunCame, RunStopped};
+ghost use Rattle.swi_share.specs.Sharing.{seen, Came, IsSharing, HasRoom, HasEnded, Stopped, CountsTold, Tells, input_faults};
+ghost use Rattle.swi_share.specs.Starting.{AreGuests, most_words, shared_start};
+ghost use Rattle.swi_outside.specs.CacheRam.{KeepsBeyond};
+ghost use Rattle.swi_outside.specs.Causes.{DeviceCause, PairCause};
+ghost use Rattle.swi_outside.specs.Devices.{HasCauses};
+
+use crate::event::make_event;
+use crate::process::{Guest, Process, most_words, start_all};
+use std::alloc::Global;
+use std::marker::Model;
+use swi_fifo::FifoRom;
+use swi_hart::{BoardFault, Hart};
+use swi_outside::{CacheRam, Memory, Sink};
+use swi_rom::CacheRom;
+
+/// What the cache has done for all programs.
+#[derive(Clone, Copy, Debug, PartialEq, Eq)]
+pub struct ShareCounts {
+    /// Blocks that were copied into the ram.
+    pub misses: u64,
+    /// Blocks that made room for another.
+    pub evictions: u64,
+    /// Exits that became jumps to their target's place.
+    pub links: u64,
+    /// Links that became exits again, since their target's block was evicted.
+    pub unlinks: u64,
+    /// Words that the misses copied.
+    pub copied: u64,
+}
+
+/// Two to eight programs over one cache ram, which holds blocks of all of them in one queue. A program that has ended takes
+/// no more of it.
+#[derive(Drop)]
+pub struct Share<'a> {
+    processes: Vec<Process<'a>>,
+    // None once a device has failed.
+    rom: Option<FifoRom>,
+}
+
+impl<'a> Model for Share<'a> {
+    ghost use Rattle.swi_share.specs.Sharing.{ShareData, IsWhole};
+
+    ghost Value = { ShareData };
+
+    ghost view = { λ s. record { processes = s.processes.items; rom = s.rom } };
+
+    ghost invariant = { λ s. IsWhole s.rom s.processes.items };
+}
+
+impl<'a> Share<'a> {
+    /// Two to eight programs before their first events, over an empty cache of up to `cache_bytes` bytes, in slots of the
+    /// most words that a block of a guest has. The cache holds a block, and has at most 2^23 bytes. Each image is one of
+    /// its program's text, and each layout its program's. No system call is told in a line.
+    ///
+    /// The only error is want of memory. All the memory of a run is taken here.
+    pub fn new(alloc: Global, cache_bytes: u32, guests: Vec<Guest<'a>>) -> Result<Share<'a>, Memory>
+        requires some { 2 ≤ length guests.items }
+        requires few { length guests.items ≤ 8 }
+        requires guests { AreGuests guests.items }
+        requires bytes { 4 * most_words guests.items ≤ cache_bytes }
+        requires limit { cache_bytes ≤ 2 ^ 23 }
+        ensures programs { IfOk result (λ s. length s.processes ≡ length guests.entry.items) }
+        ensures start { IfOk result (λ s. seen s ≡ shared_start cache_bytes guests.entry.items) }
+        ensures sharing { IfOk result (λ s. (words : List ℕ) → cache_bytes ≤ 4 * length words → IsSharing s words) }
+    {
+        let rom = FifoRom::shared(alloc, cache_bytes, most_words(&guests), guests.len() as u32)?;
+        let processes = start_all(alloc, guests)?;
+        Ok(Share {
+            processes,
+            rom: Some(rom),
+        })
+    }
+
+    /// One original instruction of program `g`, with its services; nothing where the program has ended. A program that had
+    /// no event yet, or whose block has left the ram, first enters the ram at its address, by one service.
+    ///
+    /// `g` is a guest's number. No device has failed, the ram is as the last call left it, and holds the cache; the program
+    /// has made fewer than 2^44 steps. The bytes of both sinks are those of the events in order.
+    ///
+    /// Each fault comes only where its device's count rose; that of the input is the program's own. After an error `failed`
+    /// is true. Own rule.
+    pub fn event<M: CacheRam, O: Sink, E: Sink>(
+        &mut self,
+        g: u32,
+        ram: &mut M,
+        out: &mut O,
+        err: &mut E,
+    ) -> Result<(), BoardFault>
+        requires guest { g < length self.old.processes }
+        requires sharing { IsSharing self.old (M.state ram.old).words }
+        requires room { HasRoom (seen self.old) g }
+        ensures came { OnOk result (Came (shared_event g (seen self.old))
+            (record { share = self.old; ram = M.state ram.old; out = (O.state out.old).held; err = (E.state err.old).held })
+            (record { share = self.new; ram = M.state ram.new; out = (O.state out.new).held; err = (E.state err.new).held })) }
+        ensures sharing { OnOk result (IsSharing self.new (M.state ram.new).words) }
+        ensures idle { HasEnded self.old g → (self.new ≡ self.old) × ((M.state ram.new ≡ M.state ram.old)
+            × (((O.state out.new).held ≡ (O.state out.old).held) × ((E.state err.new).held ≡ (E.state err.old).held))) }
+        ensures programs { length self.new.processes ≡ length self.old.processes }
+        ensures others { (k : ℕ) → (k ≡ g → ⊥) → slice_get self.new.processes k ≡ slice_get self.old.processes k }
+        ensures stopped { OnErr result (Stopped result g
+            (record { share = self.old; ram = M.state ram.old; out = (O.state out.old).held; err = (E.state err.old).held })
+            (record { share = self.new; ram = M.state ram.new; out = (O.state out.new).held; err = (E.state err.new).held })) }
+        ensures kept { KeepsBeyond (span_of (seen self.old).setting) (M.state ram.old) (M.state ram.new) }
+        ensures causes { HasCauses
+            (record { input = input_faults self.old g; output = (O.state out.old).faults; error = (E.state err.old).faults })
+            (record { input = input_faults self.new g; output = (O.state out.new).faults; error = (E.state err.new).faults })
+            (IsErrOf result BoardFault.SourceFault) (IsErrOf result BoardFault.SinkFault) }
+        ensures ram_cause { DeviceCause (M.state ram.old).faults (M.state ram.new).faults
+            (IsErrOf result BoardFault.RamFault) }
+    {
+        let Some(mut rom) = self.rom.take() else {
+            unreachable!()
+        };
+        let process = &mut self.processes[g as usize];
+        let Some(hart) = process.hart.take() else {
+            unreachable!()
+        };
+        if hart.ending().is_some() {
+            process.hart = Some(hart);
+            self.rom = Some(rom);
+            return Ok(());
+        }
+        rom.turn_to(g);
+        match make_event(&process.image, hart, rom, ram, &mut process.input, out, err) {
+            Ok((hart, rom)) => {
+                process.hart = Some(hart);
+                self.rom = Some(rom);
+                Ok(())
+            }
+            Err(fault) => Err(fault),
+        }
+    }
+
+    /// Events in order, each of a guest's number, under the conditions of `event`. After an error the events before the one
+    /// that a device broke off are made, and `failed` is true.
+    ///
+    /// Each fault comes only where its device's count rose; that of an input is the input of the program whose event was
+    /// broken off. Own rule.
+    pub fn run<M: CacheRam, O: Sink, E: Sink>(
+        &mut self,
+        order: &[u32],
+        ram: &mut M,
+        out: &mut O,
+        err: &mut E,
+    ) -> Result<(), BoardFault>
+        requires sharing { IsSharing self.old (M.state ram.old).words }
+        requires room { CanRun order.now (seen self.old) }
+        ensures came { OnOk result (RunCame (shared_run order.now (seen self.old))
+            (record { share = self.old; ram = M.state ram.old; out = (O.state out.old).held; err = (E.state err.old).held })
+            (record { share = self.new; ram = M.state ram.new; out = (O.state out.new).held; err = (E.state err.new).held })) }
+        ensures sharing { OnOk result (IsSharing self.new (M.state ram.new).words) }
+        ensures programs { length self.new.processes ≡ length self.old.processes }
+        ensures stopped { OnErr result (RunStopped result order.now
+            (record { share = self.old; ram = M.state ram.old; out = (O.state out.old).held; err = (E.state err.old).held })
+            (record { share = self.new; ram = M.state ram.new; out = (O.state out.new).held; err = (E.state err.new).held })) }
+        ensures kept { KeepsBeyond (span_of (seen self.old).setting) (M.state ram.old) (M.state ram.new) }
+        ensures sink_cause { PairCause (O.state out.old).faults (O.state out.new).faults (E.state err.old).faults
+            (E.state err.new).faults (IsErrOf result BoardFault.SinkFault) }
+        ensures ram_cause { DeviceCause (M.state ram.old).faults (M.state ram.new).faults
+            (IsErrOf result BoardFault.RamFault) }
+    {
+        for g in order {
+            self.event(*g, ram, out, err)?;
+        }
+        Ok(())
+    }
+
+    /// Whether a device has failed.
+    pub fn failed(&self) -> bool
+        ensures { result ≡ not (is_some self.now.rom) }
+    {
+        self.rom.is_none()
+    }
+
+    /// The hart of program `g`. No device has failed.
+    pub fn hart(&self, g: u32) -> &Hart
+        requires guest { g < length self.now.processes }
+        requires unfailed { self.now.rom ≡ None → ⊥ }
+        ensures { Tells result.now (slice_index_or (seen self.now).contexts g None) }
+    {
+        match &self.processes[g as usize].hart {
+            Some(hart) => hart,
+            None => unreachable!(),
+        }
+    }
+
+    /// What the cache has done. No device has failed.
+    pub fn counts(&self) -> ShareCounts
+        requires unfailed { self.now.rom ≡ None → ⊥ }
+        ensures { CountsTold result (seen self.now).kept.counts }
+    {
+        let Some(rom) = &self.rom else { unreachable!() };
+        let counts = rom.counts();
+        ShareCounts {
+            misses: counts.misses,
+            evictions: counts.evictions,
+            links: counts.links,
+            unlinks: counts.unlinks,
+            copied: counts.copied,
+        }
+    }
+}

@@ -1,0 +1,48 @@
+-- The command `check`. Own rule.
+use Rattle.std.specs.Prelude.{◌≡◌, ℕ, List, [], ◌∷◌, length, Some, None}
+use Rattle.std.specs.Io.KnownBytes.{Appends}
+use Rattle.swi_outside.specs.Causes.{Rose}
+use Rattle.swi_outside.specs.Sink.{AppendsPrefix}
+use Rattle.swi_elf_read.specs.Loaded.{image_of as image_in}
+use Rattle.swi_image.specs.Format.{ImageData, image_of}
+use Rattle.swi_answer.specs.Lines.{image_line}
+use Rattle.swi_answer.specs.declared.answer.Ending.{Ending}
+use Rattle.swi_answer.specs.declared.answer.Ending.TheVariants as ending
+use Rattle.swi_answer.specs.declared.answer.Refusal.{Refusal}
+use Rattle.swi_answer.specs.declared.answer.Refusal.TheVariants as refusal
+use Rattle.swi_top.specs.Checks.{image_checks}
+use Rattle.swi_top.specs.Devices.{Devices}
+use Rattle.swi_top.specs.Task.{Task, Tells}
+
+-- a line says how many blocks the image has, and of how many words
+abbrev pub checked_line : ImageData → List ℕ
+checked_line v = image_line (length v.starts) v.block_words
+
+pub record Confirms (file : List ℕ) (before after : Devices) (e : Ending) : Type 0 where
+  pub ending : e ≡ ending.Done
+  pub own : List ℕ
+  pub has : image_in file ≡ Some own
+  pub output : Appends before.output after.output (checked_line (image_of own))
+  pub others : after ≡ record before { contents = after.contents; output = after.output }
+
+-- the output failed
+pub record ConfirmFailed (file : List ℕ) (before after : Devices) (r : Refusal) (last : List ℕ) : Type 0 where
+  pub own : List ℕ
+  pub has : image_in file ≡ Some own
+  pub output : AppendsPrefix before.output after.output (checked_line (image_of own))
+  pub error : Appends before.error after.error last
+  pub fault : r ≡ refusal.SinkFault
+  pub cause : Rose before.faults.out after.faults.out
+
+abbrev pub check_task : List ℕ → Task
+check_task name = record {
+  reads = name ∷ [];
+  Files = List ℕ;
+  told = λ contents file. Tells contents name file;
+  writes = None;
+  cache = None;
+  checks = image_checks;
+  ends = λ e. e ≡ ending.Done;
+  does = λ file before after e last. Confirms file before after e;
+  fails = ConfirmFailed;
+}

@@ -1,0 +1,52 @@
+//! The command `upgrade`.
+#![tactic(auto)]
+
+ghost use Rattle.std.specs.Prelude.{◌≤◌, IfOk, IfErr, OnOk, [], length};
+ghost use Rattle.swi_top.specs.Answers.{Answers};
+ghost use Rattle.swi_top.specs.Checks.{IsAccepted, IsRefusedOr, file_limit, image_checks};
+ghost use Rattle.swi_top.specs.Devices.{Devices, with_shelf};
+ghost use Rattle.swi_top.specs.UpgradeFile.{IsUpgraded, upgrade_task};
+
+use crate::file::{file_with, read_file, write_file};
+use crate::subject::{accept, load, own_image};
+use std::alloc::Global;
+use swi_answer::{Ending, Refusal};
+use swi_cut::upgrade as upgrade_image;
+use swi_elf_read::image_bytes;
+use swi_outside::Shelf;
+
+/// The file of the program of another, with its image in version 2.
+fn upgraded(alloc: Global, file: &[u8]) -> Result<Vec<u8>, Refusal>
+    requires within { length file.now ≤ file_limit }
+    ensures file { IfOk result (λ v. IsUpgraded file.now v.items) }
+    ensures accepted { OnOk result (IsAccepted (image_checks file.now)) }
+    ensures refused { IfErr result (IsRefusedOr (image_checks file.now)) }
+{
+    let elf = accept(file)?;
+    let program = load(alloc, &elf)?;
+    let Some(bytes) = image_bytes(&elf) else {
+        return Err(Refusal::NoImage);
+    };
+    let view = own_image(&program, bytes)?;
+    match upgrade_image(alloc, &program, &view) {
+        Ok(image) => file_with(alloc, &program, &image),
+        Err(_) => Err(Refusal::Memory),
+    }
+}
+
+/// Puts the program of a file under another name, with the file's image in version 2.
+pub(crate) fn upgrade<F: Shelf>(
+    alloc: Global,
+    input: &str,
+    output: &str,
+    shelf: &mut F,
+) -> Result<Ending, Refusal>
+    ensures { (d : Devices) → Answers (upgrade_task input.now output.now)
+        (with_shelf d (F.state shelf.old))
+        (with_shelf d (F.state shelf.new)) result [] }
+{
+    let file = read_file(alloc, shelf, input)?;
+    let bytes = upgraded(alloc, &file)?;
+    write_file(alloc, shelf, output, &bytes)?;
+    Ok(Ending::Done)
+}
