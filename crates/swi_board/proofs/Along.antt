@@ -1,5 +1,5 @@
 -- A run over whole boards: what holds all along, and what stands at its end.
-use Rattle.std.proofs.Common.{if◌then◌else◌, ◌≡◌, ◌⊎◌, ℕ, ◌-◌, ◌^◌, ◌<◌, ◌≤◌, Bool, List, [], Option, Some, None, is_some, true, false, Ok, Err, slice_index, refl, sym, ap, subst, ◌∙◌, inl, inr, arith}
+use Rattle.std.proofs.Common.{if◌then◌else◌, ◌≡◌, ◌⊎◌, ℕ, ◌-◌, ◌^◌, ◌<◌, ◌≤◌, Bool, List, [], Option, Some, None, is_some, true, false, Ok, Err, IsErrOf, slice_index, refl, sym, ap, subst, ◌∙◌, inl, inr, arith}
 use Rattle.std.proofs.lemmas.Bool.{false≢true}
 use Rattle.swi_outside.specs.CacheRam.{RamState}
 use Rattle.swi_outside.specs.Devices.{Devices, Faults, faults_of}
@@ -28,7 +28,10 @@ use Rattle.swi_hart.specs.MachineStep.{BoardWithRam, BoardStepped}
 use Rattle.swi_hart.proofs.Midway.{step_follows}
 use Rattle.swi_board.specs.Ran.{Unasked, next_of}
 use Rattle.swi_board.specs.BoardRan.{BoardWithDevices, BoardRan, Stopped}
-use Rattle.swi_board.proofs.Running.{Course, Goes, Point, Running, point, started_run, runs_on, no_less, goes_out, kept_both}
+use Rattle.swi_hart.proofs.Fitting.{own_matches}
+use Rattle.swi_board.proofs.Running.{Course, Goes, Point, Running, point, started_run, runs_on, fetched_broken, no_less, goes_out, nothing_ahead, kept_both}
+use Rattle.swi_board.proofs.Fetching.{fetched_all}
+use Rattle.swi_hart.specs.Leaving.{RamBroken, RamStepped, indexes_after}
 use Rattle.swi_board.proofs.Breaking.{device_run, ram_run}
 use Rattle.swi_board.proofs.Settling.{settles_on, stays_between}
 use Rattle.swi_board.proofs.Blocks.{Stretch, begins}
@@ -122,6 +125,16 @@ always_device {P} RamFault p = tt
 always_device {P} SourceFault p = p
 always_device {P} SinkFault p = p
 
+-- the word of a step that was broken off was fetched, or its fetch failed
+pub maybe_fetched : (P : Type 0) {v : ImageData} {m : Machine} {c : Control} {span : ℕ} {before after : RamState} (fault : BoardFault) → OnDevice {T = Unit} (Err fault) (P × RamStepped span 0 c before after) →
+    (IsErrOf {T = Unit} (Err fault) RamFault → RamBroken v m c span before after) → (after.fetched_at ≡ before.fetched_at) ⊎ (after.fetched_at ≡ indexes_after c before.fetched_at)
+maybe_fetched P {v} {m} {c} {span} {before} {after} RamFault on_device on_ram = elim (on_ram refl).asked [
+  | inl none ↦ inl (ap (λ (ram : RamState). ram.fetched_at) none)
+  | inr one ↦ inr one.0.1
+]
+maybe_fetched P {v} {m} {c} {span} {before} {after} SourceFault on_device on_ram = inr on_device.1.fetched_at
+maybe_fetched P {v} {m} {c} {span} {before} {after} SinkFault on_device on_ram = inr on_device.1.fetched_at
+
 module _ {S : Type 0} {k : ServiceOf S} {v : ImageData} {n : ℕ} {old : BoardWithDevices S} where
   pub along_start : Fits v (k.kept old.rom) old.hart → old.hart.machine.steps ≤ n → k.sound old.rom v old.ram.words → Along k v n old old
   along_start fits le sound = record {
@@ -145,9 +158,10 @@ module _ {S : Type 0} {k : ServiceOf S} {v : ImageData} {n : ℕ} {old : BoardWi
       let grows = no_less was.running moves (λ r. k.extent (k.setting old.rom) r) (λ r v t. laws.extent_rises (k.setting old.rom) r v t) in
       let unused = rw was.setting at s.unused in
       record {
-        running = runs_on was.running more running word limit {next = point_of k next} stepped rises (s.fits was.sound) (s.grown was.sound) moves (s.made was.sound);
+        running = runs_on was.running more running word limit {next = point_of k next} stepped rises s.fits (s.grown was.sound) moves (s.made was.sound)
+            (laws.coherent now.rom v now.ram.words was.sound).once;
         settles = λ l told between going.
-            let goes = was.running.goes l told fits.flat fits.image fits.matches in
+            let goes = was.running.goes l told old.hart.machine fits.image (own_matches v (k.kept old.rom) old.hart.machine old.hart.control between fits.place) in
             settles_on more (s.made was.sound goes.now.input goes.left_is) going;
         setting = s.setting ∙ was.setting;
         sound = (s.sound was.sound).0;
@@ -207,6 +221,9 @@ module _ {S : Type 0} {k : ServiceOf S} {v : ImageData} {n : ℕ} {old : BoardWi
     ram_broke = λ e. absurd (cc);
     causes = ok_causes was.quiet;
     ram_cause = no_cause was.running.ram_ran.quiet (λ e. cc);
+    fetched_at = λ left told f image same.
+        fetched_all (was.running.words left told f image same) (nothing_ahead _ _ _ _ _ _ _ _ _ _ _ _ _ (was.running.goes left told f image same) over);
+    last_failed = λ e. absurd (cc);
   }
     where
       settled : (n ≤ now.hart.machine.steps) ⊎ (is_some now.hart.machine.ending ≡ true) →
@@ -215,7 +232,7 @@ module _ {S : Type 0} {k : ServiceOf S} {v : ImageData} {n : ℕ} {old : BoardWi
       settled (inr ended) stays going = absurd (false≢true (ap (λ (e : Option End). is_some e) (sym going) ∙ ended))
 
   -- a step that a device broke off
-  module _ {now next : BoardWithDevices S} {fault : BoardFault} (was : Along k v n old now) (more : now.hart.machine.steps < n)
+  module _ {now next : BoardWithDevices S} {fault : BoardFault} (was : Along k v n old now) (laws : IsService k) (more : now.hart.machine.steps < n)
       (running : now.hart.machine.ending ≡ None) (word : now.hart.machine.pc < 2 ^ 32)
       (s : BoardStepped k v (with_ram now) (with_ram next) now.devices next.devices (Err fault)) where
     stopped : (l : List ℕ) → old.devices.input.left ≡ Some l → (f : Machine) → Carries (fetched f.bus) v → Matches v (k.kept old.rom) f old.hart.machine old.hart.control →
@@ -237,6 +254,7 @@ module _ {S : Type 0} {k : ServiceOf S} {v : ImageData} {n : ℕ} {old : BoardWi
           count_left = goes.cost_left;
           record_left = goes.records_left;
           ram_ran = was.running.ram_ran;
+          words_left = was.running.words l told f image same;
           ram_failed = λ e. (s.unmoved e, (let failed = rw was.setting at (s.ram_failed e) in failed));
           between = on_device fault machine s.call;
           stays = always_device fault s.stopped;
@@ -279,4 +297,7 @@ module _ {S : Type 0} {k : ServiceOf S} {v : ImageData} {n : ℕ} {old : BoardWi
               ram_run was.running more running word s.stopped failed (ap (λ (d : Devices). d.input.left) same) (ap (λ (d : Devices). d.output.held) same) (ap (λ (d : Devices). d.error.held) same);
           causes = causes_from was.quiet s.causes;
           ram_cause = cause_from was.running.ram_ran.quiet s.ram_cause;
+          fetched_at = λ l told f image same. fetched_broken was.running more running (laws.coherent now.rom v now.ram.words was.sound).once
+              (maybe_fetched _ fault s.unserved s.ram_failed) l told f image same;
+          last_failed = λ e. (s.ram_failed e).last_failed;
         }

@@ -17,11 +17,12 @@ use Rattle.swi_hart.specs.Hart.{HartData, Stepped, exit_kind, hart_after, word_s
 use Rattle.swi_hart.specs.declared.hart.ExitKind.{ExitKind}
 use Rattle.swi_hart.specs.declared.hart.ExitKind.TheVariants.{Direct}
 use Rattle.swi_hart.specs.Bounds.{Grown, most, depth}
-use Rattle.swi_hart.specs.Matching.{ExitStep, Matches, Fits}
+use Rattle.swi_hart.specs.Matching.{ExitStep, Fits}
 use Rattle.swi_hart.specs.Calling.{Did, Made}
 use Rattle.swi_hart.specs.Leaving.{ExitHome, Home, exit_transfer, leaves, quick_role, step_to, transfer_at, moved, RamServed}
 use Rattle.swi_board.specs.Walked.{WordOn, LinkOn, JumpOn, StepOn, WalkedOn, Walked, StandsInside, StoppedAt, BlockRan}
 use Rattle.swi_hart.proofs.Homes.{home}
+use Rattle.swi_hart.proofs.Fitting.{own_matches}
 use Rattle.swi_hart.proofs.Fetching.{placed, got_some, index_below, index_fits, exit_home, exit_moves, word_home, word_moves, counted_hart, did_quiet}
 use Rattle.swi_hart.proofs.Steps.{made_exit, fits_exit, made_word, fits_word, ram_exit}
 use Rattle.swi_hart.proofs.Falls.{leave_at}
@@ -40,7 +41,7 @@ unserved : (span : ℕ) (r : Record) (ram : RamState) → RamServed span (writes
 unserved span r ram = record {
   quiet = refl;
   fetches_stay = refl;
-  last_stays = refl;
+  fetched_at_stays = refl;
   sets_rise = none ram.sets (writes r);
   kept = record { same_length = refl; beyond = λ i le. refl; reached = grind arith };
 }
@@ -86,9 +87,7 @@ module _ {run : Course} {first : Point} where
   pub home_at : {r : Record} {h : HartData} {ram : RamState} {i b o : ℕ} {stage : Stage} → Stretch run first r h ram → h.control ≡ At i b o stage →
       Home run.image r h.machine i b o stage
   home_at {r} {h} {ram} {i} {b} {o} {stage} s control =
-      let f = s.running.fits in
-      home run.image r f.flat h.machine i b o stage f.image
-      (subst (λ (k : Control). Matches run.image r f.flat h.machine k) control f.matches) s.going s.short
+      home run.image r h i b o stage s.running.fits control s.going s.short
 
   -- the word under control lies in the part of the ram that the service uses
   pub used : {r : Record} {h : HartData} {ram : RamState} {i b o : ℕ} {stage : Stage} → Stretch run first r h ram → h.control ≡ At i b o stage → i < run.span
@@ -214,9 +213,10 @@ module _ {run : Course} {first : Point} where
         below = s.below;
         went = s.went;
         running = runs_on s.running below s.going s.short s.small {next = record first { hart = h'; kept = r'; ram = ram' }} stepped
-            (no_less s.running all.moves (λ n. writes n) s.laws.written) all.fits all.grown all.moves all.made;
+            (no_less s.running all.moves (λ n. writes n) s.laws.written) all.fits all.grown all.moves all.made s.coherent.once;
         settles = λ l told between going.
-            let now = s.running.goes l told s.fits.flat s.fits.image s.fits.matches in
+            let now = s.running.goes l told run.from.hart.machine s.fits.image
+            (own_matches run.image run.from.kept run.from.hart.machine run.from.hart.control between s.fits.place) in
             settles_on below (all.made now.now.input now.left_is) going;
         words = ap (λ (k : RamState). k.words) w.fetched ∙ s.words;
         quiet = ap (λ (k : RamState). k.faults) w.fetched ∙ s.quiet;

@@ -64,7 +64,7 @@ after_append : (policy : Record → ImageData → Transfer → Record) (v : Imag
 after_append policy v r [] ys = refl
 after_append policy v r (x ∷ xs) ys = after_append policy v (policy r v x) xs ys
 
-place_not_fall : (v : ImageData) (f : Machine) → at_fall v f (place_of v f.pc) ≡ false
+pub place_not_fall : (v : ImageData) (f : Machine) → at_fall v f (place_of v f.pc) ≡ false
 place_not_fall v f = by (place_of v f.pc) refl
   where
     by : (p : Option (ℕ × ℕ)) → place_of v f.pc ≡ p → at_fall v f p ≡ false

@@ -16,6 +16,7 @@ use Rattle.swi_hart.specs.Hart.{HartData, is_between}
 use Rattle.swi_hart.specs.Matching.{Arrives, Stands, Agrees, Matches, Fits}
 use Rattle.swi_board.specs.Board.{entries}
 use Rattle.swi_board.specs.Transfers.{here_of, spent, spent_by, spent_run}
+use Rattle.swi_hart.proofs.Fitting.{matched_fits}
 use Rattle.swi_hart.proofs.Kept.{image_same}
 
 stands_entered : (v : ImageData) (r : Record) (f : Machine) (c : Control) → Arrives v r f.pc c → Stands v r f f c
@@ -58,11 +59,9 @@ entered_between v r t Outside at = refl
 
 -- a hart that has entered the ram fits the image of what it fetches
 pub entered_fits : (v : ImageData) (r : Record) (h h' : HartData) (text : ℕ → Option ℕ) → Carries text v → ((a : ℕ) → fetched h.machine.bus a ≡ text a) → h.machine.ending ≡ None → h'.machine ≡ h.machine → Arrives v r h.machine.pc h'.control → Fits v r h'
-entered_fits v r h h' text carries same running is at = record {
-  flat = h.machine;
-  image = image_same v text (λ a. fetched h.machine.bus a) same carries;
-  matches = subst (λ (m : Machine). Matches v r h.machine m h'.control) (sym is) (entered_matches v r h.machine h'.control running at);
-}
+entered_fits v r h h' text carries same running is at =
+    matched_fits v r h.machine h' (image_same v text (λ a. fetched h.machine.bus a) same carries)
+    (subst (λ (m : Machine). Matches v r h.machine m h'.control) (sym is) (entered_matches v r h.machine h'.control running at))
 
 le_test : (a b : ℕ) → a ≤ b → nat_le a b ≡ true
 le_test a b le = grind (arith, nat_tests)

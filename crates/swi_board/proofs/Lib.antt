@@ -2,6 +2,7 @@ pub mod Held
 pub mod Progress
 pub mod Progressing
 pub mod Counting
+pub mod Fetching
 pub mod Running
 pub mod Breaking
 pub mod Entering

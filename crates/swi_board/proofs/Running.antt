@@ -11,7 +11,7 @@ use Rattle.swi_image.specs.Format.{ImageData}
 use Rattle.swi_render.specs.Carried.{Carries}
 use Rattle.swi_outside.specs.Causes.{risen}
 use Rattle.swi_outside.specs.CacheRam.{RamState, KeepsBeyond}
-use Rattle.swi_rom.specs.Record.{Record, Transfer, writes}
+use Rattle.swi_rom.specs.Record.{Record, Transfer, Placed, writes}
 use Rattle.swi_outside.specs.Laws.{Appends-append, Appends-none}
 use Rattle.swi_hart.specs.declared.hart.Control.{Control}
 use Rattle.swi_hart.specs.declared.hart.Control.TheVariants.{At, Outside}
@@ -19,7 +19,7 @@ use Rattle.swi_calls.specs.Held.{held_made, held_step, held_run}
 use Rattle.swi_hart.specs.Hart.{HartData, next_made, completes}
 use Rattle.swi_hart.specs.Matching.{Matches, Follows, Fits}
 use Rattle.swi_hart.specs.Calling.{Made}
-use Rattle.swi_hart.specs.Leaving.{transfer_at, moved, RamStepped, fetches_after}
+use Rattle.swi_hart.specs.Leaving.{transfer_at, moved, RamStepped, fetches_after, indexes_after}
 use Rattle.swi_board.specs.Ran.{RamRan, Ran}
 use Rattle.swi_board.specs.Runs.{weight, unfetched, fetched_by}
 use Rattle.swi_hart.specs.Bounds.{is_outside, depth, most, most_by, most_calls, Grown}
@@ -27,12 +27,14 @@ use Rattle.swi_hart.proofs.Midway.{step_follows}
 use Rattle.swi_hart.proofs.Kept.{next_text, image_same}
 use Rattle.swi_hart.proofs.Growing.{depth_most, calls_most}
 use Rattle.swi_hart.proofs.Grown.{moved_rises}
+use Rattle.swi_board.specs.Fetching.{FetchedFront, FetchedTo, words_ahead}
 use Rattle.swi_board.specs.Transfers.{transfers, cost, size, here_of, here_run, spent, spent_by, spent_run, after_all}
 use Rattle.swi_calls.specs.Laws.{held_run_none, held_run_over, held_run_more}
 use Rattle.swi_board.proofs.Held.{same_steps, held_steps, run_snoc, no_exit_no_transfer, next_state}
 use Rattle.swi_board.proofs.Progress.{Progress}
 use Rattle.swi_board.proofs.Progressing.{progress}
 use Rattle.swi_board.proofs.Counting.{progress_left, progress_here, progress_spent, Left, HereLeft, here_none, transfers_none, cost_none, over_transfers, over_cost}
+use Rattle.swi_board.proofs.Fetching.{WordsLeft, ahead_none, ahead_over, fetched_no_more, fetched_none_yet, fetched_one_more, progress_words, under_is, under_next}
 
 -- where a run from one state of the flat machine has come
 pub record Goes (policy : Record → ImageData → Transfer → Record) (v : ImageData) (r0 : Record) (n : ℕ) (s0 : FlatState) (h0 h : HartData) (r : Record) (left out0 out err0 err : Option (List ℕ)) : Type 0 where
@@ -275,6 +277,19 @@ module _ {policy : Record → ImageData → Transfer → Record} {v : ImageData}
         cost_left = (left_is_by moved_on).1;
       }
 
+  -- the word under control is fetched, and is the next of those of the run
+  pub words_on : {whole : List ℕ} {first before after : RamState} → ((b f g : ℕ) → Placed r b f → Placed r b g → f ≡ g) → after.fetched_at ≡ indexes_after h.control before.fetched_at →
+      FetchedTo whole (words_ahead policy v (n - h.machine.steps) goes.now h.control r) first before → FetchedTo whole (words_ahead policy v (n - h'.machine.steps) goes_on.now h'.control new) first after
+  unfolding goes_on WordsLeft
+  words_on {whole} {first} {before} {after} once more_fetched was =
+      let matches : Matches v new (next_state (completes v h.machine h.control) goes.now).machine h'.machine h'.control = goes_on.matches in
+      let left = progress_words policy v n goes.now r new h.machine h.control step.stepped h.machine.steps h'.machine.steps flat_running more (same_steps v r goes.now.machine h.machine h.control goes.matches).0 progressed
+      (sym (same_steps v new (next_state (completes v h.machine h.control) goes.now).machine h'.machine h'.control matches).0) in
+      let under = under_is v r goes.now.machine h.machine h.control once running goes.matches in
+      fetched_one_more was h.control
+      (ap (λ (c : Control). indexes_after h.control [] ++ words_ahead policy v (n - h'.machine.steps) (next_state (completes v h.machine h.control) goes.now) c new) control_is
+      ∙ ap (λ (l : List ℕ). l ++ words_ahead policy v (n - h'.machine.steps) (next_state (completes v h.machine h.control) goes.now) step.stepped.control new) (sym under) ∙ left) more_fetched
+
 -- the end of a run: no step is left, or it has ended
 module _ (policy : Record → ImageData → Transfer → Record) (v : ImageData) (r0 : Record) (n : ℕ) (s0 : FlatState) (h0 h : HartData) (r : Record)
     (left out0 out err0 err : Option (List ℕ)) (goes : Goes policy v r0 n s0 h0 h r left out0 out err0 err) where
@@ -327,6 +342,13 @@ module _ (policy : Record → ImageData → Transfer → Record) (v : ImageData)
         | inr ended ↦ over_cost outside v (n - h.machine.steps) goes.now (here_of v goes.now.machine h.control) (ended_now ended)
       ]
 
+  -- then no word is ahead
+  pub nothing_ahead : (n ≤ h.machine.steps) ⊎ (is_some h.machine.ending ≡ true) → words_ahead policy v (n - h.machine.steps) goes.now h.control r ≡ []
+  nothing_ahead over = elim over [
+    | inl done ↦ let none : n - h.machine.steps ≡ 0 = omega arith in ap (λ k. words_ahead policy v k goes.now h.control r) none ∙ ahead_none policy v goes.now h.control r
+    | inr ended ↦ ahead_over policy v (n - h.machine.steps) goes.now h.control r (ap (λ (e : Option End). is_some e) (sym (same_steps v r goes.now.machine h.machine h.control goes.matches).1) ∙ ended)
+  ]
+
 -- what stands at a point of a run: the hart, the service's record, the ram, what is left to read, and what the sinks hold
 pub record Point : Type 0 where
   pub hart : HartData
@@ -363,6 +385,11 @@ pub record Running (run : Course) (now : Point) : Type 0 where
   pub goes : (l : List ℕ) → run.from.left ≡ Some l → (f : Machine) → Carries (fetched f.bus) run.image →
       Matches run.image run.from.kept f run.from.hart.machine run.from.hart.control →
       Goes run.policy run.image run.from.kept run.limit (started f l) run.from.hart now.hart now.kept now.left run.from.out now.out run.from.err now.err
+  -- a front of the run's words was fetched, and the others are those that are to come from here on
+  pub words : (l : List ℕ) (told : run.from.left ≡ Some l) (f : Machine) (image : Carries (fetched f.bus) run.image)
+      (same : Matches run.image run.from.kept f run.from.hart.machine run.from.hart.control) →
+      FetchedTo (words_ahead run.policy run.image (run.limit - run.from.hart.machine.steps) (started f l) run.from.hart.control run.from.kept)
+      (words_ahead run.policy run.image (run.limit - now.hart.machine.steps) (goes l told f image same).now now.hart.control now.kept) run.from.ram now.ram
 
 less_self : (n : ℕ) → n - n ≡ 0
 less_self n = omega arith
@@ -422,6 +449,7 @@ started_run {run} fits le = record {
     fetch_left = λ n' ahead. none_yet _ _ _ (fetched_none run.from.hart);
     enough = λ on. none_enough run.image f l run.from.hart run.from.kept on same;
   };
+  words = λ l told f image same. fetched_none_yet _ run.from.ram;
 }
 
 pub most_running : (v : ImageData) (m : Machine) (c : Control) → m.ending ≡ None → most v m c ≡ 3 * m.steps + depth v m c
@@ -494,8 +522,9 @@ module _ {run : Course} {now : Point} (so_far : Running run now) (more : now.har
   pub runs_on : {next : Point} → RamStepped run.span (writes next.kept - writes now.kept) now.hart.control now.ram next.ram → writes now.kept ≤ writes next.kept →
       Fits run.image next.kept next.hart → Grown run.image now.kept next.kept now.hart next.hart →
       next.kept ≡ moved run.policy now.kept run.image (transfer_at run.image now.hart.machine now.hart.control) →
-      ((l : List ℕ) → now.left ≡ Some l → Made run.image next.kept now.hart next.hart l next.left now.out next.out now.err next.err) → Running run next
-  runs_on {next} stepped rises fits grown moves step = record {
+      ((l : List ℕ) → now.left ≡ Some l → Made run.image next.kept now.hart next.hart l next.left now.out next.out now.err next.err) →
+      ((b f g : ℕ) → Placed now.kept b f → Placed now.kept b g → f ≡ g) → Running run next
+  runs_on {next} stepped rises fits grown moves step once = record {
     steps = let g = grown.one in omega (arith, g, more);
     failed = grown.failed ∙ so_far.failed;
     booted = grown.booted ∙ so_far.booted;
@@ -518,4 +547,22 @@ module _ {run : Course} {now : Point} (so_far : Running run now) (more : now.har
     goes = λ l told f image same.
         let old = so_far.goes l told f image same in
         goes_on old more running word moves (step old.now.input old.left_is) grown.outside;
+    words = λ l told f image same.
+        let old = so_far.goes l told f image same in
+        words_on old more running word moves (step old.now.input old.left_is) grown.outside once stepped.fetched_at (so_far.words l told f image same);
   }
+
+-- a step was broken off: its word is the next one, if it was fetched
+pub fetched_broken : {run : Course} {now : Point} {ram : RamState} (so_far : Running run now) → now.hart.machine.steps < run.limit → now.hart.machine.ending ≡ None →
+    ((b f g : ℕ) → Placed now.kept b f → Placed now.kept b g → f ≡ g) → (ram.fetched_at ≡ now.ram.fetched_at) ⊎ (ram.fetched_at ≡ indexes_after now.hart.control now.ram.fetched_at) →
+    (l : List ℕ) → run.from.left ≡ Some l → (f : Machine) → Carries (fetched f.bus) run.image → Matches run.image run.from.kept f run.from.hart.machine run.from.hart.control →
+    FetchedFront (words_ahead run.policy run.image (run.limit - run.from.hart.machine.steps) (started f l) run.from.hart.control run.from.kept) run.from.ram ram
+fetched_broken {run} {now} {ram} so_far more running once (inl none) l told f image same = (
+  words_ahead run.policy run.image (run.limit - now.hart.machine.steps) (so_far.goes l told f image same).now now.hart.control now.kept,
+  fetched_no_more (so_far.words l told f image same) none,
+)
+fetched_broken {run} {now} {ram} so_far more running once (inr one) l told f image same =
+    let goes = so_far.goes l told f image same in
+    let next = under_next run.policy run.image run.limit now.hart.machine.steps goes.now now.kept now.hart.machine now.hart.control once
+    (ap (λ (e : Option End). is_some e) (sym (same_steps run.image now.kept goes.now.machine now.hart.machine now.hart.control goes.matches).1 ∙ running)) running more goes.matches in
+    (next.0, fetched_one_more (so_far.words l told f image same) now.hart.control next.1 one)

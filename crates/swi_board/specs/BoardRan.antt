@@ -22,6 +22,7 @@ use Rattle.swi_hart.specs.Calling.{Moved, OnDevice, with_memory}
 use Rattle.swi_hart.specs.Leaving.{RamStepped, RamBroken, broken}
 use Rattle.swi_hart.specs.Bounds.{most}
 use Rattle.swi_board.specs.Ran.{Ran, RamRan, Unasked, BrokeOff, RamBrokeOff, next_of}
+use Rattle.swi_board.specs.Fetching.{FetchedBy, FetchedTo, words_ahead}
 use Rattle.swi_board.specs.Runs.{fetched_by}
 use Rattle.swi_board.specs.Transfers.{transfers, cost, here_of, spent_run, after_all}
 
@@ -52,6 +53,9 @@ pub record Stopped {S : Type 0} (k : ServiceOf S) (v : ImageData) (n : ℕ) (s :
   pub record_left : after_all (k.policy (k.setting old.rom)) v kept (transfers v (n - hart.machine.steps) made (here_of v made.machine hart.control))
       ≡ after_all (k.policy (k.setting old.rom)) v (k.kept old.rom) (transfers v (n - old.hart.machine.steps) s (here_of v s.machine old.hart.control))
   pub ram_ran : RamRan (k.span (k.setting old.rom)) (fetched_by old.hart hart) (writes kept - writes (k.kept old.rom)) old.ram ram
+  -- the words fetched are a front of those of the whole run, and the others are ahead of the board
+  pub words_left : FetchedTo (words_ahead (k.policy (k.setting old.rom)) v (n - old.hart.machine.steps) s old.hart.control (k.kept old.rom))
+      (words_ahead (k.policy (k.setting old.rom)) v (n - hart.machine.steps) made hart.control kept) old.ram ram
   pub ram_failed : IsErrOf result RamFault → (new.hart ≡ broken hart)
       × RamBroken v hart.machine hart.control (k.span (k.setting old.rom)) ram new.ram
   pub between : OnDevice result (hart.machine ≡ made.machine)
@@ -80,6 +84,13 @@ pub record BoardRan {S : Type 0} (k : ServiceOf S) (v : ImageData) (n : ℕ) (ol
   pub ram : OnOk result (RamRan (k.span (k.setting old.rom)) (fetched_by old.hart new.hart) (writes (k.kept new.rom) - writes (k.kept old.rom))
       old.ram new.ram)
   pub kept : KeepsBeyond (k.span (k.setting old.rom)) old.ram new.ram
+  -- the words fetched are in order those that the run executes, and where a device failed a front of them
+  pub fetched_at : ForSome old.devices.input.left (λ left. (f : Machine) → Carries (fetched f.bus) v →
+      Matches v (k.kept old.rom) f old.hart.machine old.hart.control →
+      FetchedBy result (words_ahead (k.policy (k.setting old.rom)) v (n - old.hart.machine.steps) (started f left) old.hart.control (k.kept old.rom))
+      old.ram new.ram)
+  -- no call of the ram comes behind the one that failed
+  pub last_failed : IsErrOf result RamFault → new.ram.last_failed ≡ true
   pub failed : OnErr result (new.hart.failed ≡ true)
   pub going : OnErr result (new.hart.machine.ending ≡ None)
   pub uncounted : OnErr result (new.hart.machine.steps < n)

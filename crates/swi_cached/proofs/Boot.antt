@@ -1,5 +1,5 @@
 -- The laws of a cache, and the board before its first step.
-use Rattle.std.proofs.Common.{◌≡◌, ◌+◌, ◌-◌, ◌≤◌, true, [], sym, ap, subst, ◌∙◌, arith}
+use Rattle.std.proofs.Common.{◌≡◌, ◌+◌, ◌-◌, ◌≤◌, true, [], ap, subst, ◌∙◌, arith}
 use Rattle.swi_memory.specs.Bus.{fetched}
 use Rattle.swi_outside.specs.CacheRam.{RamState}
 use Rattle.swi_calls.specs.declared.machine.Machine.{Machine}
@@ -9,15 +9,12 @@ use Rattle.swi_rom.specs.Record.{Record, Transfer, indirect, writes}
 use Rattle.swi_hart.specs.Hart.{HartData, is_between}
 use Rattle.swi_hart.specs.Matching.{Fits}
 use Rattle.swi_rom.specs.Service.{ServiceOf, IsService, Cache, cache_of}
-use Rattle.swi_board.proofs.Along.{same_between}
 use Rattle.swi_cached.specs.Cached.{CachedRun, IsFresh, record_at_boot}
 use Rattle.swi_cached.specs.Booted.{Booted}
 
 -- the image is one of what its machine fetches
 pub carries_booted : (v : ImageData) (r : Record) (h : HartData) (m : Machine) → h.machine ≡ m → is_between h.control ≡ true → Fits v r h → Carries (fetched m.bus) v
-carries_booted v r h m is between fits =
-    let same = same_between v r fits.flat h.machine h.control (λ _. between) fits.matches in
-    subst (λ (f : Machine). Carries (fetched f.bus) v) (sym same ∙ is) fits.image
+carries_booted v r h m is between fits = subst (λ (f : Machine). Carries (fetched f.bus) v) is fits.image
 
 -- the laws of a cache's policy, as those of a service
 pub record Lawful (k : Cache) : Type 0 where

@@ -1,5 +1,5 @@
 -- A run that came to its end.
-use Rattle.std.proofs.Common.{◌≡◌, ◌==◌, ℕ, ◌+◌, ◌-◌, ◌*◌, ◌≤◌, true, not, ◌&&◌, if◌then◌else◌, List, [], ◌∷◌, Option, Some, None, refl, sym, ap, subst, ◌∙◌, arith}
+use Rattle.std.proofs.Common.{◌≡◌, ◌==◌, ℕ, ◌+◌, ◌-◌, ◌*◌, ◌≤◌, true, not, ◌&&◌, if◌then◌else◌, List, [], ◌∷◌, ◌++◌, drop, reverse, Option, Some, None, refl, sym, ap, subst, ◌∙◌, arith}
 use Rattle.std.proofs.lemmas.Bool.{false≢true}
 use Rattle.swi_outside.specs.Causes.{risen}
 use Rattle.swi_outside.specs.CacheRam.{RamState, KeepsBeyond}
@@ -21,9 +21,10 @@ use Rattle.swi_hart.specs.Hart.{HartData, is_between, is_place}
 use Rattle.swi_board.specs.Ran.{RamRan, Ran}
 use Rattle.swi_hart.specs.Bounds.{depth, most, most_by}
 use Rattle.swi_board.specs.Runs.{fetched_by}
-use Rattle.swi_board.specs.Transfers.{transfers, cost, fetches, here_of, spent_by, spent_run, after_all}
+use Rattle.swi_board.specs.Fetching.{HasFetched, words_ahead, words_run}
+use Rattle.swi_board.specs.Transfers.{transfers, cost, fetches, here_of, here_run, spent_by, spent_run, after_all}
 use Rattle.std.specs.Io.KnownBytes.{Appends}
-use Rattle.swi_cached.specs.Cached.{CachedRun, span_of, end_of, told_after, fetches_after, policy_of, record_after, record_at_boot}
+use Rattle.swi_cached.specs.Cached.{CachedRun, span_of, end_of, told_after, fetches_after, words_after, policy_of, record_after, record_at_boot}
 use Rattle.swi_cached.specs.Answers.{Ended, IsShort, RamAfter}
 use Rattle.swi_cached.specs.Booted.{Booted}
 use Rattle.swi_hart.proofs.Growing.{depth_most}
@@ -45,6 +46,13 @@ spent_settled f c = by f.ending c
 
 none_left : (a b x y : ℕ) → x ≡ 0 → y ≡ 0 → a + x ≡ b + y → a ≡ b
 none_left a b x y p q e = omega (arith, p, q, e)
+
+-- behind the boot the words of the whole run are ahead
+pub words_booted : (c : CachedRun) (h0 : HartData) (k0 : Record) (before mid : RamState) → Booted c h0 k0 before mid → words_ahead (policy_of c) c.image c.limit c.start h0.control k0 ≡ words_after c c.limit
+words_booted c h0 k0 before mid booted =
+    ap (λ (n : ℕ). drop n (words_run (policy_of c) c.image c.limit c.start (here_of c.image c.start.machine h0.control) k0)) booted.spent
+    ∙ ap (λ (k : Option (ℕ × ℕ)). words_run (policy_of c) c.image c.limit c.start k k0) booted.here
+    ∙ ap (λ (k : Record). words_run (policy_of c) c.image c.limit c.start (place_of c.image c.start.machine.pc) k) booted.kept
 
 module _ (c : CachedRun) (h0 h : HartData) (k0 : Record) (r : Record) (before mid after : RamState) (left' out out' e e' : Option (List ℕ))
     (booted : Booted c h0 k0 before mid) (ran : Ran (policy_of c) c.image c.limit c.start h0 k0 h r left' out out' e e')
@@ -73,6 +81,8 @@ module _ (c : CachedRun) (h0 h : HartData) (k0 : Record) (r : Record) (before mi
     input = ran.input;
     output = ran.output;
     error = told;
+    between = settled;
+    here = λ going. ran.here_is going ∙ ap (λ (k : Option (ℕ × ℕ)). here_run c.image c.limit c.start k) booted.here;
   }
 
   fetched : fetched_by h0 h ≡ fetches_after c c.limit
@@ -91,10 +101,13 @@ module _ (c : CachedRun) (h0 h : HartData) (k0 : Record) (r : Record) (before mi
   sum_is a b n le e = omega (arith, le, e)
 
   pub ram_after : Lawful c.cache → Coherent c.image r (span_of c) after.words →
-      RamRan (span_of c) (fetched_by h0 h) (writes r - writes k0) mid after → SameFrom (c.cache.extent r) mid.words after.words → RamAfter c before after
-  ram_after laws coherent ram unused = record {
+      RamRan (span_of c) (fetched_by h0 h) (writes r - writes k0) mid after → SameFrom (c.cache.extent r) mid.words after.words →
+      HasFetched (words_ahead (policy_of c) c.image c.limit c.start h0.control k0) mid after → RamAfter c before after
+  ram_after laws coherent ram unused words = record {
     coherent = subst (λ (q : Record). Coherent c.image q (span_of c) after.words) record_is coherent;
     fetches = ram.fetches ∙ ap (λ n. risen n (fetched_by h0 h)) booted.ram.fetches_stay ∙ ap (λ n. risen before.fetches n) fetched;
+    fetched_at = words ∙ ap (λ (l : List ℕ). reverse (words_ahead (policy_of c) c.image c.limit c.start h0.control k0) ++ l) booted.ram.fetched_at_stays
+        ∙ ap (λ (l : List ℕ). reverse l ++ before.fetched_at) (words_booted c h0 k0 before mid booted);
     sets =
         ram.sets ∙ ap (λ n. risen n (writes r - writes k0)) booted.ram.sets_rise
         ∙ risen_more before.sets (writes (record_at_boot c)) (writes r - writes k0)

@@ -1,5 +1,5 @@
 -- A run that a device broke off, and the two laws of its program.
-use Rattle.std.proofs.Common.{◌≡◌, ℕ, suc, ◌+◌, ◌-◌, ◌<◌, ◌≤◌, Bool, true, false, List, [], ◌++◌, length, take, Option, Some, None, is_some, Result, IsErrOf, if◌then◌else◌, refl, sym, ap, subst, ◌∙◌, arith}
+use Rattle.std.proofs.Common.{◌≡◌, ℕ, suc, ◌+◌, ◌-◌, ◌<◌, ◌≤◌, Bool, true, false, List, [], ◌++◌, length, reverse, take, Option, Some, None, is_some, Result, Err, IsErrOf, if◌then◌else◌, refl, sym, ap, subst, ◌∙◌, arith}
 use Rattle.std.proofs.lemmas.Bool.{false≢true}
 use Rattle.std.specs.Io.KnownBytes.{Appends}
 use Rattle.swi_outside.specs.Causes.{risen}
@@ -17,8 +17,12 @@ use Rattle.swi_hart.specs.Hart.{HartData}
 use Rattle.swi_board.specs.Ran.{RamBrokeOff, BrokeOff}
 use Rattle.swi_board.specs.Transfers.{size, fetches, spent_run, at_fall, settled, step_size, here_after}
 use Rattle.swi_cached.specs.declared.run.CachedStop.{CachedStop}
-use Rattle.swi_cached.specs.declared.run.CachedStop.TheVariants.{SourceFault}
-use Rattle.swi_cached.specs.Cached.{CachedRun, fetches_after, told_after, program_after, IsFlatRun, StopsBeforeStore}
+use Rattle.swi_cached.specs.declared.run.CachedStop.TheVariants.{Memory, RamFault, SourceFault, SinkFault}
+use Rattle.swi_hart.specs.Leaving.{RamFailed as ServiceFailed}
+use Rattle.swi_board.specs.Fetching.{FetchedFront, words_ahead}
+use Rattle.swi_board.proofs.Fetching.{words_many}
+use Rattle.swi_cached.proofs.Ended.{words_booted}
+use Rattle.swi_cached.specs.Cached.{CachedRun, AreCounted, fetches_after, words_after, policy_of, record_at_boot, told_after, program_after, IsFlatRun, StopsBeforeStore}
 use Rattle.swi_cached.specs.Told.{error_by, of_steps, told_line}
 use Rattle.swi_outside.specs.Devices.{Faults}
 use Rattle.swi_board.specs.Ran.{Unasked}
@@ -28,8 +32,8 @@ use Rattle.swi_cached.specs.Booted.{Booted}
 -- the ram failed in the run
 pub ram_failed : (c : CachedRun) (h0 h' : HartData) (k0 : Record) (before mid after : RamState) (left' out out' err err' e e' : Option (List ℕ)) → Booted c h0 k0 before mid →
     (broke : RamBrokeOff c.image c.limit c.start h0 h' mid after left' out out' e e') → (begun : Bool) →
-    Appends err err' ((told_after c broke.steps).error ++ (if begun then told_line c.trace (program_after c broke.steps).machine else [])) → RamFailed c before after left' out out' err err'
-ram_failed c h0 h' k0 before mid after left' out out' err err' e e' booted broke begun told =
+    Appends err err' ((told_after c broke.steps).error ++ (if begun then told_line c.trace (program_after c broke.steps).machine else [])) → after.last_failed ≡ true → RamFailed c before after left' out out' err err'
+ram_failed c h0 h' k0 before mid after left' out out' err err' e e' booted broke begun told last =
     let fetched : ℕ = broke.fetched in
     let no_rest = booted.spent in
     let least : fetches_after c broke.steps ≤ broke.fetched + spent_run c.start.machine h0.control =
@@ -48,6 +52,7 @@ ram_failed c h0 h' k0 before mid after left' out out' err err' e e' booted broke
       begun = begun;
       error = told;
       input = broke.input;
+      last_failed = last;
     }
 
 -- the first step of a program fetches a word
@@ -72,8 +77,8 @@ told_none true s none = ap (λ (l : List ℕ). l ++ []) none
 
 -- or before the first step
 pub boot_failed : (c : CachedRun) (before after : RamState) (left out err : Option (List ℕ)) → c.start.machine.ending ≡ None → c.start.output ≡ [] → c.start.error ≡ [] →
-    left ≡ Some c.start.input → is_some (place_of c.image c.start.machine.pc) ≡ true → after.fetches ≡ before.fetches → RamFailed c before after left out out err err
-boot_failed c before after left out err going no_output no_error told placed same =
+    left ≡ Some c.start.input → is_some (place_of c.image c.start.machine.pc) ≡ true → after.fetches ≡ before.fetches → after.last_failed ≡ true → RamFailed c before after left out out err err
+boot_failed c before after left out err going no_output no_error told placed same last =
     let first = held_run_none c.start in
     record {
       fetched = 0;
@@ -86,6 +91,7 @@ boot_failed c before after left out err going no_output no_error told placed sam
       begun = false;
       error = subst (λ (piece : List ℕ). Appends err err piece) (sym (ap (λ (l : List ℕ). l ++ []) (told_none c.trace c.start no_error))) (Appends-none err);
       input = told ∙ ap (λ (s : FlatState). Some s.input) (sym first);
+      last_failed = last;
     }
   where
     risen_none : (n : ℕ) → n ≡ risen n 0
@@ -130,3 +136,32 @@ stops_before_store c = λ n k less never at.
     let stop = held_stops k c.start never at (n - k - 1) in
     let all : suc k + (n - k - 1) ≡ n = omega (arith, less) in
     (stop.0, stop.1, ap (λ n. held_run n c.start) (sym all) ∙ stop.2)
+
+-- ---- the words that were fetched
+
+-- the words of the boot's board are those of the run
+pub words_failed : (c : CachedRun) (h0 : HartData) (k0 : Record) (before mid after : RamState) → Booted c h0 k0 before mid →
+    FetchedFront (words_ahead (policy_of c) c.image c.limit c.start h0.control k0) mid after → FetchedFront (words_after c c.limit) before after
+words_failed c h0 k0 before mid after booted front = (
+  front.0,
+  record {
+    fetched = front.1.fetched;
+    are = front.1.are ∙ ap (λ (l : List ℕ). reverse front.1.fetched ++ l) booted.ram.fetched_at_stays;
+    front = front.1.front ∙ words_booted c h0 k0 before mid booted;
+  },
+)
+
+-- and before it none is fetched
+pub words_unbooted : (c : CachedRun) (before after : RamState) → after.fetched_at ≡ before.fetched_at → FetchedFront (words_after c c.limit) before after
+words_unbooted c before after same = (words_after c c.limit, record { fetched = []; are = same; front = refl })
+
+pub are_counted : (c : CachedRun) → AreCounted c
+are_counted c n = words_many (policy_of c) c.image n c.start (place_of c.image c.start.machine.pc) (record_at_boot c)
+
+-- a boot that stopped fetched nothing
+pub boot_fetches : {T : Type 0} {span : ℕ} {before after : RamState} (stop : CachedStop) → (IsErrOf {T = T} (Err stop) Memory → after ≡ before) → (IsErrOf {T = T} (Err stop) RamFault → ServiceFailed span before after) →
+    (IsErrOf {T = T} (Err stop) SourceFault → ⊥) → (IsErrOf {T = T} (Err stop) SinkFault → ⊥) → after.fetched_at ≡ before.fetched_at
+boot_fetches {T} {span} {before} {after} Memory untouched failed not_source not_sink = ap (λ (ram : RamState). ram.fetched_at) (untouched refl)
+boot_fetches {T} {span} {before} {after} RamFault untouched failed not_source not_sink = (failed refl).fetched_at_stays
+boot_fetches {T} {span} {before} {after} SourceFault untouched failed not_source not_sink = absurd (not_source refl)
+boot_fetches {T} {span} {before} {after} SinkFault untouched failed not_source not_sink = absurd (not_sink refl)

@@ -2,16 +2,13 @@
 use Rattle.std.proofs.Common.{◌≡◌, ℕ, ◌<◌, true, false, List, length, slice_index, slice_set, Option, Some, None, Result, Ok, Err, is_err, is_some, OnOk, refl, sym, ap, subst, ◌∙◌, get_or-set_same}
 use Rattle.std.proofs.lemmas.List.{set-get_or, set-set}
 use Rattle.swi_isa.specs.Decode.{decoded, decoded_by}
-use Rattle.swi_memory.specs.Bus.{fetched}
 use Rattle.swi_calls.specs.declared.end.End.{End}
-use Rattle.swi_calls.specs.declared.machine.Machine.{Machine}
 use Rattle.swi_image.specs.Format.{ImageData}
 use Rattle.swi_image.specs.Place.{word_at}
 use Rattle.swi_hart.specs.declared.hart.Stage.TheVariants.{Start, Low, Return, Leave}
 use Rattle.swi_hart.specs.declared.hart.Control.{Control}
 use Rattle.swi_hart.specs.declared.hart.Control.TheVariants.{At, Outside}
-use Rattle.swi_hart.specs.declared.hart.Role.TheVariants.{Whole}
-use Rattle.swi_hart.specs.Hart.{index_of, place_under, is_between, instruction, original, first_role, role_of}
+use Rattle.swi_hart.specs.Hart.{index_of, place_under, is_between}
 use Rattle.swi_hart.specs.Exchanged.{Exchanged, PlainAt, is_plain}
 
 held_or : {X : Type 0} → Option X → X → X
@@ -43,13 +40,6 @@ own_plain = refl
 other_plain : is_plain (decoded 0x00800513) ≡ true
 unfolding decoded decoded_by
 other_plain = refl
-
-own_whole : first_role (decoded 0x00700513) ≡ Whole
-unfolding decoded decoded_by
-own_whole = refl
-
-pub own_role : (m : Machine) → fetched m.bus m.pc ≡ Some 0x00700513 → role_of Start (original m) ≡ Whole
-own_role m is = ap (λ (x : Option ℕ). first_role (instruction x)) is ∙ own_whole
 
 pub plain_at : (v : ImageData) (words new : List ℕ) (c : Control) (i b o : ℕ) → c ≡ At i b o Start → i < length words →
     word_at v b o ≡ 0x00700513 → new ≡ slice_set words i 0x00800513 → PlainAt v new c i b o Start

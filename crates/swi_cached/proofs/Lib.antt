@@ -10,4 +10,5 @@ mod Foreign
 pub mod Quiet
 pub mod Tells
 pub mod Stopping
+pub mod Words
 mod Unasked

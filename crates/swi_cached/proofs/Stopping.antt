@@ -37,7 +37,7 @@ use Rattle.swi_board.proofs.Held.{same_steps, run_snoc}
 use Rattle.swi_hart.proofs.Midway.{step_follows}
 use Rattle.swi_board.proofs.Running.{Goes, goes_out}
 use Rattle.swi_hart.proofs.Taking.{input_shrinks}
-use Rattle.swi_cached.specs.declared.told.Telling.{Telling}
+use Rattle.swi_trace.specs.declared.trace.Trace.{Trace}
 use Rattle.swi_cached.specs.Told.{addresses, error_by, history_of, is_each, next_error, of_steps, told_line}
 use Rattle.swi_cached.specs.Traced.{ToldRun, ToldBroke, ToldRamBroke}
 use Rattle.swi_cached.proofs.Quiet.{history_is}
@@ -308,7 +308,7 @@ all_told None each n k lines s err0 err history (inl done) (inl same) (inr (is, 
 all_told None each n k lines s err0 err history (inl done) (inr (same, inl more)) (inr (is, begun)) = absurd (omega (arith, done, more))
 all_told None each n k lines s err0 err history (inl done) (inr (same, inr over)) (inr (is, begun)) = cc
 
-pub told_run : (t : Telling) (first : List ℕ) → Some first ≡ history_of t [] → (policy : Record → ImageData → Transfer → Record) (v : ImageData) (r0 : Record) (n : ℕ) (s0 : FlatState) (h0 h : HartData) (r : Record) (left out0 out err0 err : Option (List ℕ)) (history : List ℕ) →
+pub told_run : (t : Trace) (first : List ℕ) → Some first ≡ history_of t [] → (policy : Record → ImageData → Transfer → Record) (v : ImageData) (r0 : Record) (n : ℕ) (s0 : FlatState) (h0 h : HartData) (r : Record) (left out0 out err0 err : Option (List ℕ)) (history : List ℕ) →
     Goes policy v r0 n s0 h0 h r left out0 out None None → h0.machine.steps ≡ 0 → s0.error ≡ [] → (n ≤ h.machine.steps) ⊎ (is_some h.machine.ending ≡ true) → Before (is_each t) n s0 err0 err history →
     ToldRun t policy v n s0 h0 r0 h r left out0 out err0 err (Some history)
 told_run t first kept policy v r0 n s0 h0 h r left out0 out err0 err history goes steps_none none over before =

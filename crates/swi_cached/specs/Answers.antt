@@ -1,5 +1,5 @@
 -- What a run on the cached machine leaves: where it came to its end, and where a device failed. Own rule.
-use Rattle.std.specs.Prelude.{◌≡◌, ℕ, ◌+◌, ◌*◌, ◌<◌, ◌≤◌, Bool, List, [], ◌++◌, length, slice_index, take, Option, Some, None, Result, IsErrOf, if◌then◌else◌}
+use Rattle.std.specs.Prelude.{◌≡◌, ℕ, ◌+◌, ◌*◌, ◌<◌, ◌≤◌, Bool, List, [], ◌++◌, length, slice_index, take, Option, Some, None, Result, IsErrOf, true, if◌then◌else◌}
 use Rattle.std.specs.Io.KnownBytes.{Appends, Consumes}
 use Rattle.swi_outside.specs.Causes.{risen}
 use Rattle.swi_outside.specs.CacheRam.{RamState}
@@ -10,11 +10,13 @@ use Rattle.swi_rom.specs.Coherent.{Coherent}
 use Rattle.swi_rom.specs.Record.{Record, writes}
 use Rattle.swi_hart.specs.declared.fault.BoardFault.{BoardFault}
 use Rattle.swi_hart.specs.declared.fault.BoardFault.TheVariants as board
-use Rattle.swi_hart.specs.Hart.{HartData}
+use Rattle.swi_hart.specs.Hart.{HartData, is_between}
+use Rattle.swi_board.specs.Fetching.{HasFetched}
 use Rattle.swi_board.specs.Ran.{Unasked}
+use Rattle.swi_board.specs.Transfers.{here_of}
 use Rattle.swi_cached.specs.declared.run.CachedStop.{CachedStop}
 use Rattle.swi_cached.specs.declared.run.CachedStop.TheVariants.{RamFault, SourceFault, SinkFault}
-use Rattle.swi_cached.specs.Cached.{CachedRun, span_of, program_after, told_after, end_of, instructions_after, fetches_after, record_after, used_after}
+use Rattle.swi_cached.specs.Cached.{CachedRun, span_of, program_after, told_after, end_of, instructions_after, fetches_after, words_after, place_after, record_after, used_after}
 use Rattle.swi_cached.specs.Told.{next_told, told_line}
 
 -- A run that came to its end: as the program did, with so many machine instructions, and the service as its policy
@@ -27,6 +29,9 @@ pub record Ended (c : CachedRun) (h : HartData) (kept : Record)
   pub input : left' ≡ Some (end_of c).input
   pub output : Appends out out' (end_of c).output
   pub error : Appends err err' (told_after c c.limit).error
+  -- while it goes on, control is between two instructions, where the program's steps lead
+  pub between : h.machine.ending ≡ None → is_between h.control ≡ true
+  pub here : (end_of c).machine.ending ≡ None → here_of c.image (end_of c).machine h.control ≡ place_after c c.limit
 
 -- at most three machine instructions for each step, and one for the boot; one more where the run stopped before a store
 -- into the text
@@ -40,12 +45,15 @@ pub record RamAfter (c : CachedRun) (before after : RamState) : Type 0 where
   pub coherent : Coherent c.image (record_after c c.limit) (span_of c) after.words
   -- so many words were fetched, and so many written: the copied blocks, the links, and the links undone
   pub fetches : after.fetches ≡ risen before.fetches (fetches_after c c.limit)
+  -- these words, in this order
+  pub fetched_at : HasFetched (words_after c c.limit) before after
   pub sets : after.sets ≡ risen before.sets (writes (record_after c c.limit))
   -- the words of slots that no block ever used, and those behind the slots, are as before
   pub unused : (i : ℕ) → used_after c c.limit ≤ i → slice_index after.words i ≡ slice_index before.words i
 
 -- The ram failed: both sinks hold just what the most steps wrote, and of the input is gone just what they took, whose
--- fetches were made. Where steps are told, the line of the next one may stand behind it.
+-- fetches were made. Where steps are told, the line of the next one may stand behind it. No call of the ram comes behind the one that
+-- failed.
 pub record RamFailed (c : CachedRun) (before after : RamState)
     (left' out out' err err' : Option (List ℕ)) : Type 0 where
   pub fetched : ℕ
@@ -58,6 +66,7 @@ pub record RamFailed (c : CachedRun) (before after : RamState)
   pub begun : Bool
   pub error : Appends err err' ((told_after c steps).error ++ (if begun then told_line c.trace (program_after c steps).machine else []))
   pub input : left' ≡ Some (program_after c steps).input
+  pub last_failed : after.last_failed ≡ true
 
 -- the step that comes after so many, which writes its line first where steps are told
 abbrev pub step_after : CachedRun → ℕ → Made

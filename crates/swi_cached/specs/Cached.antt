@@ -1,5 +1,5 @@
 -- A run on the cached machine, as data: what it does besides what its program does. Own rule.
-use Rattle.std.specs.Prelude.{◌≡◌, ℕ, ◌+◌, ◌<◌, Bool, List, [], Option, Some}
+use Rattle.std.specs.Prelude.{◌≡◌, ℕ, ◌+◌, ◌<◌, Bool, List, [], length, Option, Some}
 use Rattle.swi_exec.specs.declared.done.FaultKind.TheVariants.{FetchAccess}
 use Rattle.swi_calls.specs.declared.end.End.{End}
 use Rattle.swi_calls.specs.declared.end.End.TheVariants.{Faulted}
@@ -14,8 +14,9 @@ use Rattle.swi_memory.specs.declared.layout.Layout.{Layout}
 use Rattle.swi_program.specs.Program.{ProgramData}
 use Rattle.swi_rom.specs.Record.{Record, Transfer, indirect, writes}
 use Rattle.swi_rom.specs.Service.{Cache}
-use Rattle.swi_board.specs.Transfers.{transfers, cost, fetches, after_all}
-use Rattle.swi_cached.specs.declared.told.Telling.{Telling}
+use Rattle.swi_board.specs.Transfers.{Here, transfers, cost, fetches, here_run, after_all}
+use Rattle.swi_cached.specs.declared.run.AskedRun.{AskedRun}
+use Rattle.swi_board.specs.Fetching.{words_run}
 use Rattle.swi_cached.specs.Told.{error_by, is_each}
 
 -- a run: its image, its cache, the program before its first step, the most steps, and whether the errors have a line of each
@@ -26,14 +27,14 @@ pub record CachedRun : Type 0 where
   pub limit : ℕ
   pub trace : Bool
 
--- the run of a program out of a cache, with this input, and with lines of its steps or without them
-abbrev pub run_of : ImageData → Cache → ProgramData → Layout → Bool → Telling → ℕ → List ℕ → CachedRun
-run_of v cache p l log telling limit input = record {
+-- the run of a program out of a cache that is asked for so, with this input
+abbrev pub run_of : ImageData → Cache → ProgramData → Layout → AskedRun → List ℕ → CachedRun
+run_of v cache p l asked input = record {
   image = v;
   cache = cache;
-  start = flat_start p l log input;
-  limit = limit;
-  trace = is_each telling;
+  start = flat_start p l asked.calls input;
+  limit = asked.limit;
+  trace = is_each asked.trace;
 }
 
 -- the words of the ram that the cache uses
@@ -98,6 +99,18 @@ record_at_boot c = policy_of c c.cache.empty c.image (indirect c.start.machine.p
 abbrev pub record_after : CachedRun → ℕ → Record
 record_after c n = after_all (policy_of c) c.image (record_at_boot c)
     (transfers c.image n c.start (place_of c.image c.start.machine.pc))
+
+-- the indexes of the words of the ram that those fetch, in order: each where its block stands by then
+abbrev pub words_after : CachedRun → ℕ → List ℕ
+words_after c n = words_run (policy_of c) c.image n c.start (place_of c.image c.start.machine.pc) (record_at_boot c)
+
+-- where the run stands by then: at the block and offset of a text word's first word, or of an exit behind a block, or outside
+abbrev pub place_after : CachedRun → ℕ → Here
+place_after c n = here_run c.image n c.start (place_of c.image c.start.machine.pc)
+
+-- however many steps are made: they are as many as are counted
+abbrev pub AreCounted : CachedRun → Type 0
+AreCounted c = (n : ℕ) → length (words_after c n) ≡ fetches_after c n
 
 -- the words of the cache that can have been written within the first n steps
 abbrev pub used_after : CachedRun → ℕ → ℕ

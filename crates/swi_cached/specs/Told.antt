@@ -7,17 +7,17 @@ use Rattle.swi_calls.specs.Flat.{Made}
 use Rattle.swi_calls.specs.Held.{held_made, held_run}
 use Rattle.swi_trace.specs.History.{last_of}
 use Rattle.swi_trace.specs.Text.{trace_line_of}
-use Rattle.swi_cached.specs.declared.told.Telling.{Telling}
-use Rattle.swi_cached.specs.declared.told.Telling.TheVariants as telling
+use Rattle.swi_trace.specs.declared.trace.Trace.{Trace}
+use Rattle.swi_trace.specs.declared.trace.Trace.TheVariants as trace
 
 -- whether each step has its line
-abbrev pub is_each : Telling → Bool
-is_each telling.Each = true
+abbrev pub is_each : Trace → Bool
+is_each trace.Each = true
 is_each _ = false
 
 -- the history that is kept of these addresses: none where nothing is told, else the last 32
-abbrev pub history_of : Telling → List ℕ → Option (List ℕ)
-history_of telling.Nothing pushed = None
+abbrev pub history_of : Trace → List ℕ → Option (List ℕ)
+history_of trace.Off pushed = None
 history_of _ pushed = Some (last_of 32 pushed)
 
 -- the line of the step that a machine makes next: its address, and the original text word that stands there

@@ -10,11 +10,11 @@ use Rattle.swi_hart.specs.declared.fault.BoardFault.{BoardFault}
 use Rattle.swi_hart.specs.declared.fault.BoardFault.TheVariants.{SourceFault}
 use Rattle.swi_hart.specs.Hart.{HartData}
 use Rattle.swi_board.specs.Ran.{Ran, BrokeOff, RamBrokeOff}
-use Rattle.swi_cached.specs.declared.told.Telling.{Telling}
+use Rattle.swi_trace.specs.declared.trace.Trace.{Trace}
 use Rattle.swi_cached.specs.Told.{addresses, error_by, history_of, is_each, next_error, told_line}
 
 -- a whole run: what the board did besides its errors, and these with the lines of the steps
-pub record ToldRun (telling : Telling) (policy : Record → ImageData → Transfer → Record) (v : ImageData) (n : ℕ) (s : FlatState) (h0 : HartData) (r0 : Record) (h : HartData) (r : Record)
+pub record ToldRun (telling : Trace) (policy : Record → ImageData → Transfer → Record) (v : ImageData) (n : ℕ) (s : FlatState) (h0 : HartData) (r0 : Record) (h : HartData) (r : Record)
     (left' out out' err err' history : Option (List ℕ)) : Type 0 where
   pub ran : Ran policy v n s h0 r0 h r left' out out' None None
   pub error : Appends err err' (error_by (is_each telling) n s)

@@ -7,9 +7,8 @@ mod slots;
 mod told;
 
 pub use ring::ring_for;
-pub use run::{CachedStop, run_cached};
+pub use run::{AskedRun, CachedStop, run_cached};
 pub use slots::slots_for;
-pub use told::Telling;
 
 #[cfg(test)]
 mod tests;

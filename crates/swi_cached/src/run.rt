@@ -1,7 +1,7 @@
 //! The run over a cache service: the boot, and the steps.
 #![tactic(auto)]
 
-ghost use Rattle.std.specs.Prelude.{◌≡◌, ◌⊎◌, ◌+◌, ◌*◌, ◌^◌, ◌<◌, ◌≤◌, ◌∷◌, [], List, ℕ, length, IfOk, OnOk, IsErrOf, Some, None, true, false, is_some};
+ghost use Rattle.std.specs.Prelude.{◌≡◌, ◌⊎◌, ◌+◌, ◌*◌, ◌^◌, ◌<◌, ◌≤◌, ◌∷◌, [], List, ℕ, length, IfOk, OnErr, OnOk, IsErrOf, Some, None, true, false, is_some};
 ghost use Rattle.std.specs.Option.{ForSome};
 ghost use Rattle.swi_image.specs.Place.{place_of};
 ghost use Rattle.swi_outside.specs.CacheRam.{KeepsBeyond};
@@ -15,12 +15,13 @@ ghost use Rattle.swi_rom.specs.Service.{cache_of};
 ghost use Rattle.swi_calls.specs.Flat.{flat_start};
 ghost use Rattle.swi_hart.specs.Matching.{Fits};
 ghost use Rattle.swi_hart.specs.Leaving.{RamFailed as ServiceFailed};
-ghost use Rattle.swi_cached.specs.Cached.{run_of, IsFresh, IsCounted, IsFlatRun, StopsBeforeStore};
+ghost use Rattle.swi_cached.specs.Cached.{run_of, words_after, AreCounted, IsFresh, IsCounted, IsFlatRun, StopsBeforeStore};
+ghost use Rattle.swi_board.specs.Fetching.{FetchedFront};
 ghost use Rattle.swi_cached.specs.Told.{addresses, history_of};
 ghost use Rattle.swi_cached.specs.Answers.{Ended, IsShort, RamAfter, RamFailed, StepBroke, stop_of};
 ghost use Rattle.swi_cached.specs.Booted.{Booted};
 
-use crate::told::{Telling, first_history, run_steps};
+use crate::told::{first_history, run_steps};
 use std::alloc::Global;
 use swi_board::{Board, BoardFault, BootStop};
 use swi_image::ImageView;
@@ -28,7 +29,18 @@ use swi_memory::Layout;
 use swi_outside::{CacheRam, Memory, Sink, Source};
 use swi_program::Program;
 use swi_rom::CacheRom;
-use swi_trace::History;
+use swi_trace::{History, Trace};
+
+/// A run that is asked for.
+#[derive(Clone, Copy, Debug, PartialEq, Eq)]
+pub struct AskedRun {
+    /// The most steps, at most 2^48.
+    pub limit: u64,
+    /// Whether each system call is told in a line on the error sink.
+    pub calls: bool,
+    /// What is told of the steps.
+    pub trace: Trace,
+}
 
 /// What stops a run on the cached machine.
 #[derive(Clone, Copy, Debug, PartialEq, Eq)]
@@ -73,15 +85,15 @@ fn boot<R: CacheRam, S: CacheRom>(
     program: &Program<'_>,
     layout: &Layout,
     rom: S,
-    log: bool,
+    asked: AskedRun,
     ram: &mut R,
 ) -> Result<Board<S>, CachedStop>
     requires laid_out { IsLayoutOf program.now.segments layout.now }
     requires own { IsImageOf (text_of program.now.segments) image.now }
     requires sound { S.service.sound rom image.now (R.state ram.old).words }
     requires fresh { IsFresh (S.service.kept rom) }
-    ensures booted { IfOk result (λ b. (telling : Telling) (limit : ℕ) (left : List ℕ) →
-        Booted (run_of image.now (cache_of S.service rom) program.now layout.now log telling limit left) b.hart
+    ensures booted { IfOk result (λ b. (left : List ℕ) →
+        Booted (run_of image.now (cache_of S.service rom) program.now layout.now asked left) b.hart
         (S.service.kept b.rom) (R.state ram.old) (R.state ram.new)) }
     ensures setting { IfOk result (λ b. S.service.setting b.rom ≡ S.service.setting rom) }
     ensures sound { IfOk result (λ b. S.service.sound b.rom image.now (R.state ram.new).words) }
@@ -94,7 +106,7 @@ fn boot<R: CacheRam, S: CacheRom>(
     ensures not_sink { IsErrOf result CachedStop.SinkFault → ⊥ }
 {
     carry(image, program);
-    match Board::boot(alloc, image, program, layout, log, rom, ram) {
+    match Board::boot(alloc, image, program, layout, asked.calls, rom, ram) {
         Ok(board) => Ok(board),
         Err(BootStop::RamFault) => Err(CachedStop::RamFault),
         Err(BootStop::Memory) => Err(CachedStop::Memory),
@@ -102,14 +114,13 @@ fn boot<R: CacheRam, S: CacheRom>(
 }
 
 /// Runs a program out of a cache ram: a service copies the blocks of its image there on demand, and evicts them by its
-/// policy; `limit` original steps are made, or fewer where the program ends. The board that is answered has the service. It
-/// tells how the program ended, and what it cost; where it has not ended, `Board::run` runs it on.
+/// policy; as many original steps are made as are asked for, or fewer where the program ends. The board that is answered
+/// has the service. It tells how the program ended, and what it cost; where it has not ended, `Board::run` runs it on.
 ///
 /// The image is one of the program's text, and the layout is the program's. The service is sound for the image and the
-/// ram, and has done nothing yet; `limit` is at most 2^48. With `log` each system call is told in a
-/// line on the error sink. `telling` says what is told of the steps: the history, where there is one, has the addresses
-/// of the last 32, and with `Each` a step has its line before its first word is fetched, also one that ends the run
-/// by a fault, and one that would store into the text, which isn't made.
+/// ram, and has done nothing yet. The history, where there is one, has the addresses of the last 32 steps, and with
+/// `Each` a step has its line before its first word is fetched, also one that ends the run by a fault, and one that
+/// would store into the text, which isn't made.
 ///
 /// The program's steps, its registers and memory and the bytes that it reads and writes are those of the flat machine,
 /// up to a step that would store into the text: the run ends before it.
@@ -124,9 +135,7 @@ pub fn run_cached<I: Source, O: Sink, E: Sink, R: CacheRam, S: CacheRom>(
     program: &Program<'_>,
     layout: &Layout,
     rom: S,
-    log: bool,
-    telling: Telling,
-    limit: u64,
+    asked: AskedRun,
     input: &mut I,
     out: &mut O,
     err: &mut E,
@@ -136,15 +145,15 @@ pub fn run_cached<I: Source, O: Sink, E: Sink, R: CacheRam, S: CacheRom>(
     requires own { IsImageOf (text_of program.now.segments) image.now }
     requires sound { S.service.sound rom image.now (R.state ram.old).words }
     requires fresh { IsFresh (S.service.kept rom) }
-    requires limit { limit ≤ 2 ^ 48 }
+    requires limit { asked.limit ≤ 2 ^ 48 }
     ensures ended { IfOk result (λ p. ForSome (I.state input.old).left (λ left.
-        Ended (run_of image.now (cache_of S.service rom) program.now layout.now log telling limit left) p.0.hart
+        Ended (run_of image.now (cache_of S.service rom) program.now layout.now asked left) p.0.hart
         (S.service.kept p.0.rom) (I.state input.new).left (O.state out.old).held (O.state out.new).held (E.state err.old).held (E.state err.new).held)) }
     ensures told { IfOk result (λ p. ForSome (I.state input.old).left (λ left.
-        p.1 ≡ history_of telling (addresses limit (flat_start program.now layout.now log left)))) }
+        p.1 ≡ history_of asked.trace (addresses asked.limit (flat_start program.now layout.now asked.calls left)))) }
     ensures unfailed { IfOk result (λ p. p.0.hart.failed ≡ false) }
     ensures short { IfOk result (λ p. ForSome (I.state input.old).left (λ left. IsShort p.0.hart)) }
-    ensures done { IfOk result (λ p. (p.0.hart.machine.steps ≡ limit) ⊎ (is_some p.0.hart.machine.ending ≡ true)) }
+    ensures done { IfOk result (λ p. (p.0.hart.machine.steps ≡ asked.limit) ⊎ (is_some p.0.hart.machine.ending ≡ true)) }
     // What `Board::run` asks of a board that has not ended, and that it is booted, with the setting of its service.
     ensures booted { IfOk result (λ p. p.0.hart.booted ≡ true) }
     ensures fits { IfOk result (λ p. Fits image.now (S.service.kept p.0.rom) p.0.hart) }
@@ -152,23 +161,28 @@ pub fn run_cached<I: Source, O: Sink, E: Sink, R: CacheRam, S: CacheRom>(
     ensures setting { IfOk result (λ p. S.service.setting p.0.rom ≡ S.service.setting rom) }
     ensures count { IfOk result (λ p. p.0.hart.count ≤ 3 * p.0.hart.machine.steps + 3) }
     ensures services { IfOk result (λ p. ForSome (I.state input.old).left (λ left.
-        (S.service.kept p.0.rom).counts.services ≤ 2 * limit)) }
+        (S.service.kept p.0.rom).counts.services ≤ 2 * asked.limit)) }
     ensures ram { OnOk result (ForSome (I.state input.old).left (λ left.
-        RamAfter (run_of image.now (cache_of S.service rom) program.now layout.now log telling limit left)
+        RamAfter (run_of image.now (cache_of S.service rom) program.now layout.now asked left)
         (R.state ram.old) (R.state ram.new))) }
     ensures counted { OnOk result ((left : List ℕ) →
-        IsCounted (run_of image.now (cache_of S.service rom) program.now layout.now log telling limit left)) }
+        IsCounted (run_of image.now (cache_of S.service rom) program.now layout.now asked left)) }
+    ensures fetched_at { OnErr result (ForSome (I.state input.old).left (λ left.
+        FetchedFront (words_after (run_of image.now (cache_of S.service rom) program.now layout.now asked left) asked.limit)
+        (R.state ram.old) (R.state ram.new))) }
+    ensures words { (left : List ℕ) →
+        AreCounted (run_of image.now (cache_of S.service rom) program.now layout.now asked left) }
     ensures kept { KeepsBeyond (S.service.span (S.service.setting rom)) (R.state ram.old) (R.state ram.new) }
     ensures memory { IsErrOf result CachedStop.Memory →
         (R.state ram.new ≡ R.state ram.old) × (I.state input.new ≡ I.state input.old)
         × (O.state out.new ≡ O.state out.old) × (E.state err.new ≡ E.state err.old) }
     ensures ram_failed { IsErrOf result CachedStop.RamFault → ForSome (I.state input.old).left (λ left.
-        RamFailed (run_of image.now (cache_of S.service rom) program.now layout.now log telling limit left)
+        RamFailed (run_of image.now (cache_of S.service rom) program.now layout.now asked left)
         (R.state ram.old) (R.state ram.new)
         (I.state input.new).left (O.state out.old).held (O.state out.new).held (E.state err.old).held (E.state err.new).held) }
     ensures step_failed { IsErrOf result CachedStop.SourceFault ⊎ IsErrOf result CachedStop.SinkFault →
         ForSome (I.state input.old).left (λ left.
-        StepBroke (run_of image.now (cache_of S.service rom) program.now layout.now log telling limit left) result
+        StepBroke (run_of image.now (cache_of S.service rom) program.now layout.now asked left) result
         (I.state input.new).left (O.state out.old).held (O.state out.new).held (E.state err.old).held (E.state err.new).held
         (faults_of (record { input = I.state input.old; output = O.state out.old; error = E.state err.old }))
         (faults_of (record { input = I.state input.new; output = O.state out.new; error = E.state err.new }))) }
@@ -179,16 +193,24 @@ pub fn run_cached<I: Source, O: Sink, E: Sink, R: CacheRam, S: CacheRom>(
     ensures ram_cause { DeviceCause (R.state ram.old).faults (R.state ram.new).faults (IsErrOf result CachedStop.RamFault) }
     // The program's run is the flat machine's, up to the first store into the text.
     ensures flat { (left : List ℕ) → IsFlatRun
-        (run_of image.now (cache_of S.service rom) program.now layout.now log telling limit left) }
+        (run_of image.now (cache_of S.service rom) program.now layout.now asked left) }
     ensures stops { (left : List ℕ) →
-        StopsBeforeStore (run_of image.now (cache_of S.service rom) program.now layout.now log telling limit left) }
+        StopsBeforeStore (run_of image.now (cache_of S.service rom) program.now layout.now asked left) }
 {
-    let Ok(history) = first_history(alloc, telling) else {
+    let Ok(history) = first_history(alloc, asked.trace) else {
         return Err(CachedStop::Memory);
     };
-    let mut board = boot(alloc, image, program, layout, rom, log, ram)?;
+    let mut board = boot(alloc, image, program, layout, rom, asked, ram)?;
     match run_steps(
-        &mut board, image, limit, telling, history, input, out, err, ram,
+        &mut board,
+        image,
+        asked.limit,
+        asked.trace,
+        history,
+        input,
+        out,
+        err,
+        ram,
     ) {
         Ok(told) => Ok((board, told)),
         Err(fault) => Err(stop_of(fault)),

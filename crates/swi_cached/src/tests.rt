@@ -12,7 +12,7 @@ use swi_fifo::FifoRom;
 use swi_outside::{CacheRam, FaultRam, MemSink, MemSource};
 use swi_program::{Program, lay_out, program_of};
 use swi_rom::CacheRom;
-use swi_trace::History;
+use swi_trace::{History, Trace};
 
 mod board;
 mod foreign;
@@ -59,7 +59,7 @@ struct Run {
     rights: u32,
     block_words: u32,
     cache_bytes: u32,
-    telling: Telling,
+    trace: Trace,
     limit: u64,
     ram_fails: u32,
     input_fails: u32,
@@ -72,7 +72,7 @@ const PLAIN: Run = Run {
     rights: 5,
     block_words: 16,
     cache_bytes: 4096,
-    telling: Telling::Nothing,
+    trace: Trace::Off,
     limit: 1000,
     ram_fails: 0,
     input_fails: 0,
@@ -145,9 +145,11 @@ fn stands_after(alloc: Global, run: &Run, words: u32) -> Result<Stands, Fail> {
         &program,
         &layout,
         rom,
-        false,
-        run.telling,
-        run.limit,
+        AskedRun {
+            limit: run.limit,
+            calls: false,
+            trace: run.trace,
+        },
         &mut input,
         &mut out,
         &mut err,
@@ -398,9 +400,11 @@ fn boards_run_on(rt: HostRuntime) -> Result<(), Fail> {
             &program,
             &layout,
             rom,
-            false,
-            Telling::Nothing,
-            limit,
+            AskedRun {
+                limit,
+                calls: false,
+                trace: Trace::Off,
+            },
             &mut input,
             &mut out,
             &mut err,
@@ -423,11 +427,11 @@ fn boards_run_on(rt: HostRuntime) -> Result<(), Fail> {
 }
 
 /// What is told of the run of `SEVEN`: nothing; the addresses of its steps; these, and their lines.
-static TOLD: [(Telling, &[u32], &[u8]); 3] = [
-    (Telling::Nothing, &[], b""),
-    (Telling::Last, &[0x10000, 0x10004, 0x10008], b""),
+static TOLD: [(Trace, &[u32], &[u8]); 3] = [
+    (Trace::Off, &[], b""),
+    (Trace::Last, &[0x10000, 0x10004, 0x10008], b""),
     (
-        Telling::Each,
+        Trace::Each,
         &[0x10000, 0x10004, 0x10008],
         b"00010000 05d00893 addi a7, zero, 93\n00010004 00700513 addi a0, zero, 7\n00010008 00000073 ecall\n",
     ),
@@ -435,12 +439,12 @@ static TOLD: [(Telling, &[u32], &[u8]); 3] = [
 
 #[test]
 fn steps_are_told_as_is_asked(rt: HostRuntime) -> Result<(), Fail> {
-    for (telling, addresses, lines) in TOLD {
-        let done = stands_after(rt.alloc(), &Run { telling, ..PLAIN }, 2048)?;
+    for (trace, addresses, lines) in TOLD {
+        let done = stands_after(rt.alloc(), &Run { trace, ..PLAIN }, 2048)?;
         let Ok(ended) = &done.answer else {
             return Err(Fail::from("no run"));
         };
-        assert_eq!(rt; ended.1.is_some(), telling != Telling::Nothing);
+        assert_eq!(rt; ended.1.is_some(), trace != Trace::Off);
         if let Some(history) = &ended.1 {
             assert_eq!(rt; history.len() as usize, addresses.len());
             for (k, a) in addresses.iter().enumerate() {

@@ -22,6 +22,7 @@ ghost use Rattle.swi_calls.specs.Held.{held_run};
 ghost use Rattle.swi_board.specs.Ran.{RamRan, Unasked};
 ghost use Rattle.swi_hart.specs.Bounds.{most};
 ghost use Rattle.swi_board.specs.Runs.{fetched_by};
+ghost use Rattle.swi_board.specs.Fetching.{FetchedBy, words_ahead};
 ghost use Rattle.swi_cached.specs.Told.{history_of, is_each, next_told, told_line};
 ghost use Rattle.swi_cached.specs.Traced.{ToldRun, ToldBroke, ToldRamBroke};
 
@@ -30,26 +31,15 @@ use swi_board::{Board, BoardFault};
 use swi_image::ImageView;
 use swi_outside::{CacheRam, Failed, Memory, Sink, Source};
 use swi_rom::CacheRom;
-use swi_trace::{History, trace_line};
-
-/// What is told of a run's steps.
-#[derive(Clone, Copy, Debug, PartialEq, Eq)]
-pub enum Telling {
-    /// Nothing.
-    Nothing,
-    /// The addresses of the last 32.
-    Last,
-    /// These, and of each step a line on the error sink, before it is made.
-    Each,
-}
+use swi_trace::{History, Trace, trace_line};
 
 /// A history of no steps, where any are told.
-pub(crate) fn first_history(alloc: Global, telling: Telling) -> Result<Option<History>, Memory>
+pub(crate) fn first_history(alloc: Global, telling: Trace) -> Result<Option<History>, Memory>
     ensures { IfOk result (λ history. history ≡ history_of telling []) }
 {
     match telling {
-        Telling::Nothing => Ok(None),
-        Telling::Last | Telling::Each => Ok(Some(History::new(alloc)?)),
+        Trace::Off => Ok(None),
+        Trace::Last | Trace::Each => Ok(Some(History::new(alloc)?)),
     }
 }
 
@@ -58,7 +48,7 @@ pub(crate) fn first_history(alloc: Global, telling: Telling) -> Result<Option<Hi
 fn tell<E: Sink, S: CacheRom>(
     board: &Board<S>,
     lines: u64,
-    telling: Telling,
+    telling: Trace,
     history: &mut History,
     err: &mut E,
 ) -> Result<u64, Failed>
@@ -84,8 +74,8 @@ fn tell<E: Sink, S: CacheRom>(
     }
     history.push(a);
     match telling {
-        Telling::Each => err.write(trace_line(a, board.bus().fetch(a)).as_bytes())?,
-        Telling::Nothing | Telling::Last => {}
+        Trace::Each => err.write(trace_line(a, board.bus().fetch(a)).as_bytes())?,
+        Trace::Off | Trace::Last => {}
     }
     Ok(steps + 1)
 }
@@ -96,7 +86,7 @@ pub(crate) fn run_steps<I: Source, O: Sink, E: Sink, R: CacheRam, S: CacheRom>(
     board: &mut Board<S>,
     image: &ImageView<'_>,
     limit: u64,
-    telling: Telling,
+    telling: Trace,
     history: Option<History>,
     input: &mut I,
     out: &mut O,
@@ -153,6 +143,12 @@ pub(crate) fn run_steps<I: Source, O: Sink, E: Sink, R: CacheRam, S: CacheRom>(
         ToldRamBroke (is_each telling) image.now limit (started f left) board.old.hart board.new.hart (R.state ram.old)
         (R.state ram.new) (I.state input.new).left
         (O.state out.old).held (O.state out.new).held (E.state err.old).held (E.state err.new).held) }
+    ensures fetched_at { ForSome (I.state input.old).left (λ left. (f : Machine) →
+        Carries (fetched f.bus) image.now →
+        Matches image.now (S.service.kept board.old.rom) f board.old.hart.machine board.old.hart.control →
+        FetchedBy result (words_ahead (S.service.policy (S.service.setting board.old.rom)) image.now limit (started f left)
+        board.old.hart.control (S.service.kept board.old.rom)) (R.state ram.old) (R.state ram.new)) }
+    ensures last_failed { IsErrOf result BoardFault.RamFault → (R.state ram.new).last_failed ≡ true }
     ensures causes { HasCauses
         (faults_of (record { input = I.state input.old; output = O.state out.old; error = E.state err.old }))
         (faults_of (record { input = I.state input.new; output = O.state out.new; error = E.state err.new }))

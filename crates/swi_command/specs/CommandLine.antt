@@ -17,8 +17,8 @@ use Rattle.swi_command.specs.declared.command.Command.TheVariants.{Rewrite, Cach
 use Rattle.swi_command.specs.declared.command.Reports.{Reports}
 use Rattle.swi_command.specs.declared.command.RunLimits.{RunLimits}
 use Rattle.swi_command.specs.declared.command.RunOptions.{RunOptions}
-use Rattle.swi_command.specs.declared.command.Trace.{Trace}
-use Rattle.swi_command.specs.declared.command.Trace.TheVariants.{Off, Each, Last}
+use Rattle.swi_trace.specs.declared.trace.Trace.{Trace}
+use Rattle.swi_trace.specs.declared.trace.Trace.TheVariants.{Off, Each, Last}
 
 -- ---- numbers
 

@@ -1,5 +1,7 @@
 //! What words can ask for.
 
+use swi_trace::Trace;
+
 /// The most that a run takes.
 #[derive(Clone, Copy, Debug, PartialEq, Eq)]
 pub struct RunLimits {
@@ -9,17 +11,6 @@ pub struct RunLimits {
     pub heap: u32,
     /// The stack's size in bytes, 4096 to 16777216 and a multiple of 16.
     pub stack: u32,
-}
-
-/// Which steps of a run are told, each in a line.
-#[derive(Clone, Copy, Debug, PartialEq, Eq)]
-pub enum Trace {
-    /// None.
-    Off,
-    /// Each one, before it is made.
-    Each,
-    /// The last 32, behind the run.
-    Last,
 }
 
 /// What is written of a run.

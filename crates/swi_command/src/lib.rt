@@ -15,9 +15,7 @@ mod number;
 mod read;
 mod syntax;
 
-pub use command::{
-    CacheKind, CacheOptions, Command, CommandError, Reports, RunLimits, RunOptions, Trace,
-};
+pub use command::{CacheKind, CacheOptions, Command, CommandError, Reports, RunLimits, RunOptions};
 use name::CommandName;
 use read::command_from;
 use std::alloc::Global;

@@ -8,11 +8,10 @@ ghost use Rattle.swi_command.specs.CommandLine.{number_of, number_at, seed_of, c
 use crate::argument::{Flag, NumberOption, Positional};
 use crate::name::CommandName;
 use crate::number::{NumberRule, read_number_in};
-use crate::{
-    CacheKind, CacheOptions, Command, CommandError, Reports, RunLimits, RunOptions, Trace,
-};
+use crate::{CacheKind, CacheOptions, Command, CommandError, Reports, RunLimits, RunOptions};
 use clap::ArgMatches;
 use std::alloc::Global;
+use swi_trace::Trace;
 
 /// The first value that the words give the argument.
 fn value_of<'a>(matches: &ArgMatches<'a>, name: &str) -> Option<&'a str>

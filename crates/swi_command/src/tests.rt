@@ -1,9 +1,7 @@
-use crate::{
-    CacheKind, CacheOptions, Command, Reports, RunLimits, RunOptions, Trace, parse_command,
-};
+use crate::{CacheKind, CacheOptions, Command, Reports, RunLimits, RunOptions, parse_command};
 use std::alloc::Global;
-use std::process::Abort;
 use std::test::Fail;
+use swi_trace::Trace;
 
 const USAGE: &str = "Usage";
 
@@ -102,286 +100,236 @@ fn answer_to(alloc: Global, line: &str) -> Result<String, Fail> {
     }
 }
 
-/// That each line is read as the text beside it says.
-fn lines_are_read(rt: &impl Abort, alloc: Global, cases: &[(&str, &str)]) -> Result<(), Fail> {
-    for (line, wanted) in cases {
-        let answer = answer_to(alloc, line)?;
+/// Lines of words, and how each is read.
+static LINES: [(&str, &str); 143] = [
+    // Options stand before and after the file, in both forms.
+    (
+        "cached --steps 4 A --state",
+        "cached [A] 4096 64 4 1048576 65536 state",
+    ),
+    (
+        "cached A --state --steps=4",
+        "cached [A] 4096 64 4 1048576 65536 state",
+    ),
+    (
+        "plain --heap 0 A --calls --stack=4096",
+        "plain [A] 1000000000 0 4096 calls",
+    ),
+    ("cached A", "cached [A] 4096 64 1000000000 1048576 65536"),
+    ("plain A", "plain [A] 1000000000 1048576 65536"),
+    (
+        "plain A --stack 4112 --calls --state",
+        "plain [A] 1000000000 1048576 4112 state calls",
+    ),
+    // Nothing may be given twice.
+    ("cached A --steps 4 --steps 5", USAGE),
+    ("cached A --steps 4 --steps=4", USAGE),
+    ("cached A --state --state", USAGE),
+    ("cached A B", USAGE),
+    // A number is 1 to 19 decimal digits in its range.
+    ("cached A --steps +4", USAGE),
+    ("cached A --steps 0x4", USAGE),
+    ("cached A --steps 4k", USAGE),
+    ("cached A --steps EMPTY", USAGE),
+    ("cached A --steps=", USAGE),
+    (
+        "cached A --steps 0000000000000000004",
+        "cached [A] 4096 64 4 1048576 65536",
+    ),
+    ("cached A --steps 00000000000000000004", USAGE),
+    ("cached A --steps 9999999999999999999", USAGE),
+    (
+        "cached A --steps 281474976710656",
+        "cached [A] 4096 64 281474976710656 1048576 65536",
+    ),
+    ("cached A --steps 281474976710657", USAGE),
+    (
+        "cached A --heap 67108864",
+        "cached [A] 4096 64 1000000000 67108864 65536",
+    ),
+    ("cached A --heap 67108865", USAGE),
+    ("cached A --stack 4104", USAGE),
+    ("cached A --stack 4080", USAGE),
+    (
+        "cached A --stack 16777216",
+        "cached [A] 4096 64 1000000000 1048576 16777216",
+    ),
+    ("cached A --stack 16777232", USAGE),
+    // The cache and its blocks.
+    (
+        "cached A --cache 8 --block=2 --stats",
+        "cached [A] 8 2 1000000000 1048576 65536 stats",
+    ),
+    (
+        "cached --cache=4294967295 A --block 1024",
+        "cached [A] 4294967295 1024 1000000000 1048576 65536",
+    ),
+    ("cached A --cache 7", USAGE),
+    ("cached A --cache 4294967296", USAGE),
+    ("cached A --block 1", USAGE),
+    ("cached A --block 1025", USAGE),
+    ("cached A --cache 8 --cache 8", USAGE),
+    ("cached A --stats --stats", USAGE),
+    ("cached A --stats=1", USAGE),
+    (
+        "plain --stats A --state",
+        "plain [A] 1000000000 1048576 65536 state stats",
+    ),
+    ("plain A --cache 4096", USAGE),
+    ("plain A --block 64", USAGE),
+    // Two files stand in their order.
+    ("rewrite A B", "rewrite [A] [B] 64"),
+    ("rewrite --block 8 A B", "rewrite [A] [B] 8"),
+    ("rewrite B --block=1024 A", "rewrite [B] [A] 1024"),
+    ("rewrite A -- --block", "rewrite [A] [--block] 64"),
+    ("rewrite A", USAGE),
+    ("rewrite A B C", USAGE),
+    ("rewrite A B --block 8 --block 8", USAGE),
+    ("rewrite A B --block=1", USAGE),
+    ("rewrite A B --cache 4096", USAGE),
+    ("rewrite A B --state", USAGE),
+    ("upgrade A B", "upgrade [A] [B]"),
+    ("upgrade -- -A EMPTY", "upgrade [-A] []"),
+    ("upgrade A", USAGE),
+    ("upgrade A B --block 64", USAGE),
+    // Two numbers stand in their order, each in its range.
+    ("measure 1 2", "measure 1 2 4096 64"),
+    ("measure 7 2048 --cache 2048", "measure 7 2048 2048 64"),
+    ("measure --block=5 0 0001", "measure 0 1 4096 5"),
+    ("measure 4294967295 4096", "measure 4294967295 4096 4096 64"),
+    ("measure -- 1 2", "measure 1 2 4096 64"),
+    ("measure 4294967296 1", USAGE),
+    ("measure 1 0", USAGE),
+    ("measure 1 4097", USAGE),
+    ("measure 1", USAGE),
+    ("measure", USAGE),
+    ("measure 1 2 3", USAGE),
+    ("measure +1 2", USAGE),
+    ("measure -1 2", USAGE),
+    ("measure -- -1 2", USAGE),
+    ("measure 0x1 2", USAGE),
+    ("measure 1 A", USAGE),
+    ("measure 1 EMPTY", USAGE),
+    ("measure 1 2 --cache 7", USAGE),
+    ("measure 1 2 --block 1", USAGE),
+    ("measure 1 2 --steps 4", USAGE),
+    ("measure 1 2 --stats", USAGE),
+    // A command may take no option.
+    ("check A", "check [A]"),
+    ("check -- -A", "check [-A]"),
+    ("check A B", USAGE),
+    ("check", USAGE),
+    ("check A --steps 4", USAGE),
+    ("check A --stats", USAGE),
+    ("list A", "list [A] 64"),
+    ("list --block 8 A", "list [A] 8"),
+    ("list A --block 1025", USAGE),
+    ("list A --cache 64", USAGE),
+    ("list", USAGE),
+    // A trace takes the limits and its flag.
+    (
+        "trace A",
+        "cached [A] 4096 64 1000000000 1048576 65536 each step",
+    ),
+    (
+        "trace --last A --steps 2 --block=16",
+        "cached [A] 4096 16 2 1048576 65536 last steps",
+    ),
+    (
+        "trace A --cache 8 --heap 0 --stack 4096",
+        "cached [A] 8 64 1000000000 0 4096 each step",
+    ),
+    ("trace", USAGE),
+    ("trace A B", USAGE),
+    ("trace A --last --last", USAGE),
+    ("trace A --last=1", USAGE),
+    ("trace A --steps +1", USAGE),
+    ("trace A --state", USAGE),
+    ("trace A --calls", USAGE),
+    ("trace A --stats", USAGE),
+    ("cached A --last", USAGE),
+    ("plain A --last", USAGE),
+    // A ring and whole loops are flags.
+    (
+        "cached A --ring",
+        "cached [A] 4096 64 ring 1000000000 1048576 65536",
+    ),
+    (
+        "trace --ring A --last",
+        "cached [A] 4096 64 ring 1000000000 1048576 65536 last steps",
+    ),
+    (
+        "measure 1 2 --ring --cache 64 --block 8",
+        "measure 1 2 64 8 ring",
+    ),
+    (
+        "rewrite A B --whole-loops",
+        "rewrite [A] [B] 64 whole loops",
+    ),
+    (
+        "rewrite --whole-loops --block 8 A B",
+        "rewrite [A] [B] 8 whole loops",
+    ),
+    ("cached A --ring --ring", USAGE),
+    ("cached A --ring=1", USAGE),
+    ("cached A --whole-loops", USAGE),
+    ("rewrite A B --whole-loops --whole-loops", USAGE),
+    ("rewrite A B --ring", USAGE),
+    ("plain A --ring", USAGE),
+    ("list A --ring", USAGE),
+    // A value that begins with `-` is taken only behind `=`, and then is no number.
+    ("cached A --steps -4", USAGE),
+    ("cached A --steps=-4", USAGE),
+    ("cached A --steps", USAGE),
+    ("cached A --steps --", USAGE),
+    ("cached A --steps --state", USAGE),
+    ("cached A --state=true", USAGE),
+    ("cached A --state true", USAGE),
+    // `--` ends the options.
+    ("plain -- A", "plain [A] 1000000000 1048576 65536"),
+    (
+        "plain --state -- --calls",
+        "plain [--calls] 1000000000 1048576 65536 state",
+    ),
+    ("plain -- -- ", "plain [--] 1000000000 1048576 65536"),
+    ("plain -- A --state", USAGE),
+    ("plain --", USAGE),
+    // `-` and the empty word are names of files; other words with a dash are options.
+    ("cached -", "cached [-] 4096 64 1000000000 1048576 65536"),
+    ("cached EMPTY", "cached [] 4096 64 1000000000 1048576 65536"),
+    ("cached -A", USAGE),
+    ("cached A -1", USAGE),
+    // An option's name is written whole.
+    ("cached A --step 4", USAGE),
+    ("cached A --stat", USAGE),
+    ("cached A --STEPS 4", USAGE),
+    // There is no help and no version.
+    ("cached -h", USAGE),
+    ("cached --help", USAGE),
+    ("cached A --help", USAGE),
+    ("cached A -V", USAGE),
+    ("cached A --version", USAGE),
+    (
+        "cached help",
+        "cached [help] 4096 64 1000000000 1048576 65536",
+    ),
+    ("--help", USAGE),
+    ("help", USAGE),
+    // The first word is the name of a command, written whole.
+    ("", USAGE),
+    ("EMPTY A", USAGE),
+    ("cache A", USAGE),
+    ("Cached A", USAGE),
+    ("--state cached A", USAGE),
+    ("cached", USAGE),
+    ("plain --state", USAGE),
+];
+
+#[test]
+fn lines_are_read_or_refused(rt: HostRuntime) -> Result<(), Fail> {
+    for (line, wanted) in LINES.iter() {
+        let answer = answer_to(rt.alloc(), line)?;
         assert_eq!(rt; answer.as_str(), *wanted, "{line}");
     }
     Ok(())
-}
-
-#[test]
-fn options_of_a_run_stand_before_and_after_the_file_and_once(rt: HostRuntime) -> Result<(), Fail> {
-    let cases = [
-        // Options stand before and after the file, in both forms.
-        (
-            "cached --steps 4 A --state",
-            "cached [A] 4096 64 4 1048576 65536 state",
-        ),
-        (
-            "cached A --state --steps=4",
-            "cached [A] 4096 64 4 1048576 65536 state",
-        ),
-        (
-            "plain --heap 0 A --calls --stack=4096",
-            "plain [A] 1000000000 0 4096 calls",
-        ),
-        ("cached A", "cached [A] 4096 64 1000000000 1048576 65536"),
-        ("plain A", "plain [A] 1000000000 1048576 65536"),
-        (
-            "plain A --stack 4112 --calls --state",
-            "plain [A] 1000000000 1048576 4112 state calls",
-        ),
-        // Nothing may be given twice.
-        ("cached A --steps 4 --steps 5", USAGE),
-        ("cached A --steps 4 --steps=4", USAGE),
-        ("cached A --state --state", USAGE),
-        ("cached A B", USAGE),
-        // A number is 1 to 19 decimal digits in its range.
-        ("cached A --steps +4", USAGE),
-        ("cached A --steps 0x4", USAGE),
-        ("cached A --steps 4k", USAGE),
-        ("cached A --steps EMPTY", USAGE),
-        ("cached A --steps=", USAGE),
-        (
-            "cached A --steps 0000000000000000004",
-            "cached [A] 4096 64 4 1048576 65536",
-        ),
-        ("cached A --steps 00000000000000000004", USAGE),
-        ("cached A --steps 9999999999999999999", USAGE),
-        (
-            "cached A --steps 281474976710656",
-            "cached [A] 4096 64 281474976710656 1048576 65536",
-        ),
-        ("cached A --steps 281474976710657", USAGE),
-        (
-            "cached A --heap 67108864",
-            "cached [A] 4096 64 1000000000 67108864 65536",
-        ),
-        ("cached A --heap 67108865", USAGE),
-        ("cached A --stack 4104", USAGE),
-        ("cached A --stack 4080", USAGE),
-        (
-            "cached A --stack 16777216",
-            "cached [A] 4096 64 1000000000 1048576 16777216",
-        ),
-        ("cached A --stack 16777232", USAGE),
-    ];
-    lines_are_read(&rt, rt.alloc(), &cases)
-}
-
-#[test]
-fn cache_and_blocks_have_their_ranges(rt: HostRuntime) -> Result<(), Fail> {
-    let cases = [
-        // The cache and its blocks.
-        (
-            "cached A --cache 8 --block=2 --stats",
-            "cached [A] 8 2 1000000000 1048576 65536 stats",
-        ),
-        (
-            "cached --cache=4294967295 A --block 1024",
-            "cached [A] 4294967295 1024 1000000000 1048576 65536",
-        ),
-        ("cached A --cache 7", USAGE),
-        ("cached A --cache 4294967296", USAGE),
-        ("cached A --block 1", USAGE),
-        ("cached A --block 1025", USAGE),
-        ("cached A --cache 8 --cache 8", USAGE),
-        ("cached A --stats --stats", USAGE),
-        ("cached A --stats=1", USAGE),
-        (
-            "plain --stats A --state",
-            "plain [A] 1000000000 1048576 65536 state stats",
-        ),
-        ("plain A --cache 4096", USAGE),
-        ("plain A --block 64", USAGE),
-    ];
-    lines_are_read(&rt, rt.alloc(), &cases)
-}
-
-#[test]
-fn commands_take_their_files_and_numbers(rt: HostRuntime) -> Result<(), Fail> {
-    let cases = [
-        // Two files stand in their order.
-        ("rewrite A B", "rewrite [A] [B] 64"),
-        ("rewrite --block 8 A B", "rewrite [A] [B] 8"),
-        ("rewrite B --block=1024 A", "rewrite [B] [A] 1024"),
-        ("rewrite A -- --block", "rewrite [A] [--block] 64"),
-        ("rewrite A", USAGE),
-        ("rewrite A B C", USAGE),
-        ("rewrite A B --block 8 --block 8", USAGE),
-        ("rewrite A B --block=1", USAGE),
-        ("rewrite A B --cache 4096", USAGE),
-        ("rewrite A B --state", USAGE),
-        ("upgrade A B", "upgrade [A] [B]"),
-        ("upgrade -- -A EMPTY", "upgrade [-A] []"),
-        ("upgrade A", USAGE),
-        ("upgrade A B --block 64", USAGE),
-        // Two numbers stand in their order, each in its range.
-        ("measure 1 2", "measure 1 2 4096 64"),
-        ("measure 7 2048 --cache 2048", "measure 7 2048 2048 64"),
-        ("measure --block=5 0 0001", "measure 0 1 4096 5"),
-        ("measure 4294967295 4096", "measure 4294967295 4096 4096 64"),
-        ("measure -- 1 2", "measure 1 2 4096 64"),
-        ("measure 4294967296 1", USAGE),
-        ("measure 1 0", USAGE),
-        ("measure 1 4097", USAGE),
-        ("measure 1", USAGE),
-        ("measure", USAGE),
-        ("measure 1 2 3", USAGE),
-        ("measure +1 2", USAGE),
-        ("measure -1 2", USAGE),
-        ("measure -- -1 2", USAGE),
-        ("measure 0x1 2", USAGE),
-        ("measure 1 A", USAGE),
-        ("measure 1 EMPTY", USAGE),
-        ("measure 1 2 --cache 7", USAGE),
-        ("measure 1 2 --block 1", USAGE),
-        ("measure 1 2 --steps 4", USAGE),
-        ("measure 1 2 --stats", USAGE),
-    ];
-    lines_are_read(&rt, rt.alloc(), &cases)
-}
-
-#[test]
-fn commands_without_a_run_take_few_options(rt: HostRuntime) -> Result<(), Fail> {
-    let cases = [
-        // A command may take no option.
-        ("check A", "check [A]"),
-        ("check -- -A", "check [-A]"),
-        ("check A B", USAGE),
-        ("check", USAGE),
-        ("check A --steps 4", USAGE),
-        ("check A --stats", USAGE),
-        ("list A", "list [A] 64"),
-        ("list --block 8 A", "list [A] 8"),
-        ("list A --block 1025", USAGE),
-        ("list A --cache 64", USAGE),
-        ("list", USAGE),
-    ];
-    lines_are_read(&rt, rt.alloc(), &cases)
-}
-
-#[test]
-fn a_trace_takes_the_limits_and_its_flag(rt: HostRuntime) -> Result<(), Fail> {
-    let cases = [
-        (
-            "trace A",
-            "cached [A] 4096 64 1000000000 1048576 65536 each step",
-        ),
-        (
-            "trace --last A --steps 2 --block=16",
-            "cached [A] 4096 16 2 1048576 65536 last steps",
-        ),
-        (
-            "trace A --cache 8 --heap 0 --stack 4096",
-            "cached [A] 8 64 1000000000 0 4096 each step",
-        ),
-        ("trace", USAGE),
-        ("trace A B", USAGE),
-        ("trace A --last --last", USAGE),
-        ("trace A --last=1", USAGE),
-        ("trace A --steps +1", USAGE),
-        ("trace A --state", USAGE),
-        ("trace A --calls", USAGE),
-        ("trace A --stats", USAGE),
-        ("cached A --last", USAGE),
-        ("plain A --last", USAGE),
-    ];
-    lines_are_read(&rt, rt.alloc(), &cases)
-}
-
-#[test]
-fn a_ring_and_whole_loops_are_flags(rt: HostRuntime) -> Result<(), Fail> {
-    let cases = [
-        (
-            "cached A --ring",
-            "cached [A] 4096 64 ring 1000000000 1048576 65536",
-        ),
-        (
-            "trace --ring A --last",
-            "cached [A] 4096 64 ring 1000000000 1048576 65536 last steps",
-        ),
-        (
-            "measure 1 2 --ring --cache 64 --block 8",
-            "measure 1 2 64 8 ring",
-        ),
-        (
-            "rewrite A B --whole-loops",
-            "rewrite [A] [B] 64 whole loops",
-        ),
-        (
-            "rewrite --whole-loops --block 8 A B",
-            "rewrite [A] [B] 8 whole loops",
-        ),
-        ("cached A --ring --ring", USAGE),
-        ("cached A --ring=1", USAGE),
-        ("cached A --whole-loops", USAGE),
-        ("rewrite A B --whole-loops --whole-loops", USAGE),
-        ("rewrite A B --ring", USAGE),
-        ("plain A --ring", USAGE),
-        ("list A --ring", USAGE),
-    ];
-    lines_are_read(&rt, rt.alloc(), &cases)
-}
-
-#[test]
-fn values_and_files_may_begin_with_a_dash(rt: HostRuntime) -> Result<(), Fail> {
-    let cases = [
-        // A value that begins with `-` is taken only behind `=`, and then is no number.
-        ("cached A --steps -4", USAGE),
-        ("cached A --steps=-4", USAGE),
-        ("cached A --steps", USAGE),
-        ("cached A --steps --", USAGE),
-        ("cached A --steps --state", USAGE),
-        ("cached A --state=true", USAGE),
-        ("cached A --state true", USAGE),
-        // `--` ends the options.
-        ("plain -- A", "plain [A] 1000000000 1048576 65536"),
-        (
-            "plain --state -- --calls",
-            "plain [--calls] 1000000000 1048576 65536 state",
-        ),
-        ("plain -- -- ", "plain [--] 1000000000 1048576 65536"),
-        ("plain -- A --state", USAGE),
-        ("plain --", USAGE),
-        // `-` and the empty word are names of files; other words with a dash are options.
-        ("cached -", "cached [-] 4096 64 1000000000 1048576 65536"),
-        ("cached EMPTY", "cached [] 4096 64 1000000000 1048576 65536"),
-        ("cached -A", USAGE),
-        ("cached A -1", USAGE),
-    ];
-    lines_are_read(&rt, rt.alloc(), &cases)
-}
-
-#[test]
-fn names_are_written_whole(rt: HostRuntime) -> Result<(), Fail> {
-    let cases = [
-        // An option's name is written whole.
-        ("cached A --step 4", USAGE),
-        ("cached A --stat", USAGE),
-        ("cached A --STEPS 4", USAGE),
-        // There is no help and no version.
-        ("cached -h", USAGE),
-        ("cached --help", USAGE),
-        ("cached A --help", USAGE),
-        ("cached A -V", USAGE),
-        ("cached A --version", USAGE),
-        (
-            "cached help",
-            "cached [help] 4096 64 1000000000 1048576 65536",
-        ),
-        ("--help", USAGE),
-        ("help", USAGE),
-        // The first word is the name of a command, written whole.
-        ("", USAGE),
-        ("EMPTY A", USAGE),
-        ("cache A", USAGE),
-        ("Cached A", USAGE),
-        ("--state cached A", USAGE),
-        ("cached", USAGE),
-        ("plain --state", USAGE),
-    ];
-    lines_are_read(&rt, rt.alloc(), &cases)
 }

@@ -14,7 +14,8 @@ use Rattle.swi_rom.specs.Policy.{served_by, went, linked, is_over_link, counted,
 use Rattle.swi_rom.specs.Served.{Served, WordsMove, SameFrom}
 use Rattle.swi_rom.specs.Writing.{Wrote, FailedBelow}
 use Rattle.swi_rom.specs.declared.rom.RomStop.TheVariants.{Outside, RamFault}
-use Rattle.swi_rom.specs.Rams.{wrote_one, wrote_more, spared_none, failed_more}
+use Rattle.swi_rom.specs.Rams.{wrote_one, wrote_more, failed_more}
+use Rattle.swi_rom.specs.Serving.{served, fault_served, none_served}
 use Rattle.swi_rom.specs.Service.{Setting}
 use Rattle.swi_rom.specs.Links.{has_next, has_first, same_is}
 use Rattle.swi_engine.specs.declared.joints.Joint.{Joint}
@@ -45,53 +46,13 @@ arrived_target v e t c q n target x y arr is = record {
   index = ap (λ (s : ℕ). n * s + q) (sym (sizes v c n e t x y arr));
 }
 
-served : (v : ImageData) (span target i k : ℕ) (c : ℕ × ℕ) (old next new : Record) (a b : RamState) → place_of v target ≡ Some c → new ≡ next → TargetAt v new target i → Wrote span k a b → k ≡ writes new - writes old → WordsMove v old new a b →
-    Served v span target old next new a b (Ok i)
-served v span target i k c old next new a b is moves at wrote number words = record {
-  moves = moves;
-  answer = at;
-  outside = λ e. cc;
-  only_outside = λ e. cc;
-  nothing_changes = λ e. cc;
-  failed = λ e. cc;
-  quiet = wrote.quiet;
-  spared = wrote.spared;
-  sets_rise = wrote.sets_rise ∙ ap (λ (n : ℕ). risen a.sets n) number;
-  words = words;
-}
-
-pub fault_served : (v : ImageData) (span target : ℕ) (c : ℕ × ℕ) (old next new : Record) (a b : RamState) → place_of v target ≡ Some c → FailedBelow span a b → Served v span target old next new a b (Err RamFault)
-fault_served v span target c old next new a b is f = record {
-  moves = tt;
-  answer = tt;
-  outside = λ e. cc;
-  only_outside = λ e. cc;
-  nothing_changes = λ e. cc;
-  failed = λ e. f.rose;
-  quiet = tt;
-  spared = f.spared;
-  sets_rise = tt;
-  words = tt;
-}
-
 outside_moves : (by : Setting) (v : ImageData) (r : Record) (t : Transfer) → is_over_link r t ≡ false → place_of v (target_of t) ≡ None → r ≡ beside by r v t
 unfolding served_by went
 outside_moves by v r t over none = rw (over, none) refl
 
 pub outside_served : (v : ImageData) (e : EngineData) (t : Transfer) (a : RamState) → is_over_link (kept_by e) t ≡ false → place_of v (target_of t) ≡ None →
     Served v (span_of (setting_of e)) (target_of t) (kept_by e) (beside (setting_of e) (kept_by e) v t) (kept_by e) a a (Err Outside)
-outside_served v e t a over none = record {
-  moves = outside_moves (setting_of e) v (kept_by e) t over none;
-  answer = tt;
-  outside = λ e. none;
-  only_outside = λ e. refl;
-  nothing_changes = λ e. refl;
-  failed = λ e. cc;
-  quiet = refl;
-  spared = spared_none (e.slots * e.size) a;
-  sets_rise = omega arith;
-  words = record { changes = λ i. inl refl; restored = λ k f was is h h'. absurd (both_ways _ is was) };
-}
+outside_served v e t a over none = none_served v _ _ _ _ a none (outside_moves (setting_of e) v (kept_by e) t over none)
 
 indirect_moves : (v : ImageData) (e : EngineData) (target c q : ℕ) → place_of v target ≡ Some (c, q) → arrived (setting_of e) v (counted (kept_by e)) c ≡ beside (setting_of e) (kept_by e) v (indirect target)
 unfolding served_by went

@@ -3,7 +3,7 @@ use Rattle.std.specs.Prelude.{◌≡◌, ℕ, ◌+◌, ◌-◌, ◌<◌, ◌≤�
 use Rattle.swi_image.specs.Format.{ImageData}
 use Rattle.swi_image.specs.Place.{word_at}
 use Rattle.swi_outside.specs.Causes.{counted}
-use Rattle.swi_outside.specs.CacheRam.{RamState}
+use Rattle.swi_outside.specs.CacheRam.{RamState, with_set}
 use Rattle.swi_rom.specs.Record.{Has, reaches}
 use Rattle.swi_rom.specs.Writing.{Wrote}
 use Rattle.swi_engine.specs.declared.copying.Copying.{Copying}
@@ -17,7 +17,7 @@ leads_in j b = not (j.block == b) && j.into == b
 -- one word is set
 abbrev pub OneSet : ℕ → ℕ → RamState → RamState → Type 0
 OneSet i w before after =
-    after ≡ record before { words = slice_set before.words i w; sets = counted before.sets; reach = max before.reach (i + 1) }
+    after ≡ with_set before i w
 
 -- a block's words from one to n stand from an index on, and no other word has changed
 pub record CopiedOn (v : ImageData) (b first from n : ℕ) (before after : RamState) : Type 0 where

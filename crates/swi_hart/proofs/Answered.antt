@@ -1,24 +1,24 @@
 -- A step that the ram broke off.
-use Rattle.std.proofs.Common.{◌≡◌, ℕ, List, Err, refl, sym, ap, ◌∙◌, inr}
+use Rattle.std.proofs.Common.{◌≡◌, List, Err, refl, sym, ap, ◌∙◌, inr}
 use Rattle.swi_memory.specs.Bus.{AreaData}
 use Rattle.swi_outside.specs.CacheRam.{RamState}
-use Rattle.swi_outside.specs.Devices.{Devices}
 use Rattle.swi_image.specs.Format.{ImageData}
 use Rattle.swi_rom.specs.Service.{Setting}
-use Rattle.swi_rom.specs.Record.{Record, Transfer}
+use Rattle.swi_rom.specs.Record.{Record}
 use Rattle.swi_hart.specs.declared.fault.BoardFault.TheVariants.{RamFault}
 use Rattle.swi_hart.specs.Hart.{HartData}
 use Rattle.swi_hart.specs.Calling.{with_memory}
 use Rattle.swi_hart.specs.Leaving.{RamBroken, broken}
+use Rattle.swi_hart.specs.Service.{ServiceRules}
 use Rattle.swi_hart.specs.MachineStep.{BoardState, MachineStepped}
 use Rattle.swi_hart.proofs.Causing.{ram_causes}
 
-pub ram_stopped : {policy : Setting → Record → ImageData → Transfer → Record} {extent : Setting → Record → ℕ} {span : Setting → ℕ} {v : ImageData} {WasSound IsSound : Type 0} (s : BoardState) (d : Devices)
-    (h' : HartData) (kept' : Record) (setting' : Setting) (ram' : RamState) → h' ≡ broken s.hart → setting' ≡ s.setting → RamBroken v s.hart.machine s.hart.control (span s.setting) s.ram ram' →
-    MachineStepped policy extent span v WasSound IsSound s (record s { hart = h'; kept = kept'; setting = setting'; ram = ram' }) d d (Err RamFault)
-ram_stopped s d h' kept' setting' ram' is stays failed = record {
+pub ram_stopped : {rules : ServiceRules} {v : ImageData} {WasSound IsSound : Type 0} (s : BoardState)
+    (h' : HartData) (kept' : Record) (setting' : Setting) (ram' : RamState) → h' ≡ broken s.hart → setting' ≡ s.setting → RamBroken v s.hart.machine s.hart.control (rules.span s.setting) s.ram ram' →
+    MachineStepped rules v WasSound IsSound s (record s { hart = h'; kept = kept'; setting = setting'; ram = ram' }) (Err RamFault)
+ram_stopped s h' kept' setting' ram' is stays failed = record {
   made = λ sound. tt;
-  fits = λ sound. tt;
+  fits = tt;
   counted = tt;
   policy = tt;
   setting = stays;

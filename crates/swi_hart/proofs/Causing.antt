@@ -1,5 +1,5 @@
 -- Which faults a step answers.
-use Rattle.std.proofs.Common.{◌≡◌, ℕ, ◌≤◌, Err, IsErrOf, refl, sym, subst, inl, inr, arith}
+use Rattle.std.proofs.Common.{◌≡◌, Err, IsErrOf, refl, sym, subst}
 use Rattle.swi_outside.specs.Devices.{Faults, HasCauses}
 use Rattle.swi_outside.specs.Laws.{named_as, none_named}
 use Rattle.swi_calls.specs.declared.end.CallFault.{CallFault}

@@ -1,32 +1,27 @@
 -- A step over a plain word, which need not be the image's.
-use Rattle.std.proofs.Common.{◌≡◌, ◌⊎◌, ℕ, ◌+◌, ◌^◌, ◌<◌, Bool, true, false, Option, Some, None, List, [], slice_index, slice_set, refl, sym, ap, subst, ◌∙◌, inl, inr, arith}
+use Rattle.std.proofs.Common.{◌≡◌, ◌⊎◌, ℕ, ◌^◌, ◌<◌, Bool, true, false, Option, Some, None, List, [], slice_index, slice_set, refl, sym, ap, subst, ◌∙◌, inl, inr, arith}
 use Rattle.std.proofs.lemmas.Bool.{false≢true}
 use Rattle.std.proofs.lemmas.List.{set-get_or}
 use Rattle.swi_isa.specs.declared.instr.Instr.{Instr}
 use Rattle.swi_isa.specs.declared.instr.Instr.TheVariants as instr
 use Rattle.swi_isa.specs.Decode.{decoded}
 use Rattle.swi_isa.specs.Laws.{ebreak_decodes}
-use Rattle.swi_exec.specs.Arithmetic.{sum_of}
 use Rattle.swi_exec.specs.Registers.{Registers}
 use Rattle.std.specs.Io.KnownBytes.{Appends}
-use Rattle.swi_memory.specs.Bus.{AreaData, fetched}
 use Rattle.swi_outside.specs.Laws.{Appends-none}
-use Rattle.swi_calls.specs.declared.end.End.{End}
 use Rattle.swi_calls.specs.declared.machine.Machine.{Machine}
 use Rattle.swi_calls.specs.Flat.{quiet}
 use Rattle.swi_image.specs.Format.{ImageData}
 use Rattle.swi_image.specs.Place.{word_at, length_at}
-use Rattle.swi_render.specs.Carried.{GoesOn, Carries}
 use Rattle.swi_rom.specs.Record.{Record}
 use Rattle.swi_rom.specs.Coherent.{Coherent}
 use Rattle.swi_hart.specs.declared.hart.Stage.{Stage}
-use Rattle.swi_hart.specs.declared.hart.Stage.TheVariants.{Start}
 use Rattle.swi_hart.specs.declared.hart.Role.{Role}
-use Rattle.swi_hart.specs.declared.hart.Role.TheVariants.{Whole}
+use Rattle.swi_hart.specs.declared.hart.Role.TheVariants.{Lead, Whole, Over}
 use Rattle.swi_hart.specs.declared.hart.Control.{Control}
 use Rattle.swi_hart.specs.declared.hart.Control.TheVariants.{At, Outside}
-use Rattle.swi_hart.specs.Hart.{HartData, Stepped, stepped, hart_after, behind, word_stepped, whole_made, role_of, original}
-use Rattle.swi_hart.specs.Matching.{Agrees, Fits, Stands}
+use Rattle.swi_hart.specs.Hart.{HartData, Stepped, hart_after, word_stepped, role_of, original}
+use Rattle.swi_hart.specs.Matching.{Fits}
 use Rattle.swi_hart.specs.Calling.{Made}
 use Rattle.swi_hart.specs.Bounds.{Grown}
 use Rattle.swi_hart.specs.Leaving.{WordHome, Home, quick_role}
@@ -34,6 +29,8 @@ use Rattle.swi_hart.specs.Exchanged.{Exchanged, ExecutesHeld, is_plain}
 use Rattle.swi_hart.proofs.Fetching.{got_word, index_below}
 use Rattle.swi_hart.proofs.Steps.{made_word, fits_word}
 use Rattle.swi_hart.proofs.Grown.{grown_word}
+use Rattle.swi_hart.proofs.Plainly.{plain_left, plain_by}
+use Rattle.swi_hart.proofs.Fitting.{with_registers}
 
 -- a plain word under control is no exit
 pub plain_home : (v : ImageData) (r : Record) (m : Machine) (i b o : ℕ) (stage : Stage) → Home v r m i b o stage → is_plain (decoded (word_at v b o)) ≡ true → WordHome v m b o stage
@@ -75,29 +72,6 @@ module _ (v : ImageData) (r : Record) (m : Machine) (span : ℕ) (words : List �
       let same = same_place i b o x.index x.block x.offset stage x.stage (sym control ∙ x.plain.control) in
       subst (λ (k : ℕ). is_plain (decoded (slice_index words k)) ≡ true) same.0 x.plain.held
 
--- what a plain word that completes its instruction leaves
-abbrev Whole_of : ℕ → ℕ → ℕ → Stage → Machine → Instr → Type 0
-Whole_of i b o stage m x =
-    (regs : Registers) × ((input : List ℕ) → word_stepped Whole i b o stage m x input ≡ stepped (At (i + 1) b (o + 1) Start) (quiet (record m { pc = sum_of m.pc 4; regs = regs; steps = m.steps + 1 }) input))
-
-plain_whole : (i b o : ℕ) (stage : Stage) (m : Machine) (x : Instr) → is_plain (Some x) ≡ true → m.ending ≡ None → Whole_of i b o stage m x
-plain_whole i b o stage m (instr.Lui rd imm) plain running =
-    (_, λ input. ap (λ (e : Option End). stepped (behind e (At (i + 1) b (o + 1) Start) (At i b o stage)) (whole_made i m (instr.Lui rd imm) input)) running)
-plain_whole i b o stage m (instr.Alu op rd rs1 imm) plain running =
-    (_, λ input. ap (λ (e : Option End). stepped (behind e (At (i + 1) b (o + 1) Start) (At i b o stage)) (whole_made i m (instr.Alu op rd rs1 imm) input)) running)
-plain_whole i b o stage m (instr.Op op rd rs1 rs2) plain running =
-    (_, λ input. ap (λ (e : Option End). stepped (behind e (At (i + 1) b (o + 1) Start) (At i b o stage)) (whole_made i m (instr.Op op rd rs1 rs2) input)) running)
-plain_whole i b o stage m (instr.Auipc rd imm) plain running = absurd (false≢true plain)
-plain_whole i b o stage m (instr.Jal rd off) plain running = absurd (false≢true plain)
-plain_whole i b o stage m (instr.Jalr rd rs1 imm) plain running = absurd (false≢true plain)
-plain_whole i b o stage m (instr.Branch op rs1 rs2 off) plain running = absurd (false≢true plain)
-plain_whole i b o stage m (instr.Load op rd rs1 imm) plain running = absurd (false≢true plain)
-plain_whole i b o stage m (instr.Store op rs1 rs2 imm) plain running = absurd (false≢true plain)
-plain_whole i b o stage m (instr.Atomic op rd rs1 rs2) plain running = absurd (false≢true plain)
-plain_whole i b o stage m instr.Fence plain running = absurd (false≢true plain)
-plain_whole i b o stage m instr.Ecall plain running = absurd (false≢true plain)
-plain_whole i b o stage m instr.Ebreak plain running = absurd (false≢true plain)
-
 -- a plain word is no system call
 pub no_call : {P : Type 0} (x : Instr) (t : Bool) → is_plain (Some x) ≡ true → (t ≡ true → (x ≡ instr.Ecall) × P) → t ≡ false
 no_call {P} x true plain asks = absurd (false≢true (ap (λ (k : Instr). is_plain (Some k)) (sym (asks refl).0) ∙ plain))
@@ -107,6 +81,18 @@ some_instr : (x y : Instr) → Some x ≡ Some y → x ≡ y
 some_instr x y e = cc
 
 -- the step, by the words of the image and of the ram
+-- what a plain word leaves is the same whatever is read
+other_registers : (role : Role) (i b o : ℕ) (h : HartData) (regs : Registers) (input more : List ℕ) → hart_after h (plain_left role i b o h.machine regs input) ≡ hart_after h (plain_left role i b o h.machine regs more)
+other_registers Whole i b o h regs input more = refl
+other_registers (Lead next) i b o h regs input more = refl
+other_registers Over i b o h regs input more = refl
+
+-- and fits with any registers
+any_registers : (role : Role) (v : ImageData) (r : Record) (h : HartData) (i b o : ℕ) (regs regs' : Registers) → Fits v r (hart_after h (plain_left role i b o h.machine regs [])) → Fits v r (hart_after h (plain_left role i b o h.machine regs' []))
+any_registers Whole v r h i b o regs regs' fits = with_registers v r _ regs' fits
+any_registers (Lead next) v r h i b o regs regs' fits = with_registers v r _ regs' fits
+any_registers Over v r h i b o regs regs' fits = with_registers v r _ regs' fits
+
 module _ (v : ImageData) (r : Record) (h h' : HartData) (words : List ℕ) (i b o : ℕ) (stage : Stage) (home : Home v r h.machine i b o stage) (control : h.control ≡ At i b o stage) (plain : is_plain (decoded (word_at v b o)) ≡ true)
     (own x : Instr) (role : Role) (own_is : Some own ≡ decoded (word_at v b o)) (held_is : Some x ≡ decoded (slice_index words i)) (by : role ≡ quick_role stage own (original h.machine))
     (ran : (input : List ℕ) → h' ≡ hart_after h (word_stepped role i b o stage h.machine x input)) where
@@ -131,10 +117,6 @@ module _ (v : ImageData) (r : Record) (h h' : HartData) (words : List ℕ) (i b 
         error = subst (λ (l : List ℕ). Appends err err l) (sym (quiet left)) (Appends-none err);
       })
 
-  pub fits_plain : slice_index words i ≡ word_at v b o → Fits v r h → None ≡ h.machine.ending → h.machine.pc < 2 ^ 32 → Fits v r h'
-  fits_plain e fits running word =
-      fits_word v r r h h' i b o stage control x role None None refl fits running word (own_home.0, own_home.1 ∙ same e) (by ∙ ap (λ (k : Instr). quick_role stage k (original h.machine)) (same e)) (inl ran)
-
   pub grown_plain : slice_index words i ≡ word_at v b o → None ≡ h.machine.ending → Grown v r r h h'
   grown_plain e running =
       grown_word v r r h h' i b o stage control running x role None None refl (own_home.0, own_home.1 ∙ same e) (by ∙ ap (λ (k : Instr). quick_role stage k (original h.machine)) (same e)) (inl ran)
@@ -144,24 +126,15 @@ module _ (v : ImageData) (r : Record) (h h' : HartData) (words : List ℕ) (i b 
       ran [] ∙ ap (λ (k : Role). hart_after h (word_stepped k i b o stage h.machine x [])) role_is
       ∙ ap (λ (k : Instr). hart_after h (word_stepped (role_of stage (original h.machine)) i b o stage h.machine k [])) (some_instr x y (held_is ∙ is))
 
-  pub whole_plain : is_plain (Some x) ≡ true → role_of stage (original h.machine) ≡ Whole → Fits v r h → h.machine.ending ≡ None → h.machine.pc < 2 ^ 32 → Fits v r h'
-  whole_plain held whole fits running word =
-      let first = plain_whole i b o stage h.machine own (ap is_plain own_is ∙ plain) running in
-      let other = plain_whole i b o stage h.machine x held running in
-      let m : Machine = record h.machine { pc = sum_of h.machine.pc 4; regs = first.0; steps = h.machine.steps + 1 } in
-      let n : Machine = record h.machine { pc = sum_of h.machine.pc 4; regs = other.0; steps = h.machine.steps + 1 } in
-      let there : Control = At (i + 1) b (o + 1) Start in
-      let before : HartData = record h { control = there; machine = m; count = h.count + 1 } in
-      let after : HartData = record h { control = there; machine = n; count = h.count + 1 } in
-      let fitted : Fits v r before =
-      fits_word v r r h before i b o stage control own Whole None None refl fits (sym running) word own_home (sym whole ∙ sym role_is ∙ by) (inl (λ input. sym (ap (λ (s : Stepped). hart_after h s) (first.1 input)))) in
-      let stands : Stands v r fitted.flat m there = subst (λ (e : Option End). Agrees e v r fitted.flat m there) running fitted.matches in
-      let is : h' ≡ after = ran [] ∙ ap (λ (k : Role). hart_after h (word_stepped k i b o stage h.machine x [])) (role_is ∙ whole) ∙ ap (λ (s : Stepped). hart_after h s) (other.1 []) in
-      subst (λ (k : HartData). Fits v r k) (sym is) (record {
-        flat = n;
-        image = subst (λ (bus : List AreaData). Carries (fetched bus) v) (sym (ap (λ (k : Machine). k.bus) stands.1.0)) fitted.image;
-        matches = subst (λ (e : Option End). Agrees e v r n n there) (sym running) (stands.0, (refl, subst (λ (pc : ℕ). GoesOn v pc b (o + 1)) (sym (ap (λ (k : Machine). k.pc) stands.1.0)) stands.1.1));
-      })
+  -- the image fits again: control is where the image's word would have led
+  pub fits_plain : is_plain (Some x) ≡ true → Fits v r h → h.machine.ending ≡ None → h.machine.pc < 2 ^ 32 → Fits v r h'
+  fits_plain held fits running word =
+      let image = plain_by i b o stage h.machine running role own (ap is_plain own_is ∙ plain) in
+      let ram = plain_by i b o stage h.machine running role x held in
+      let fitted : Fits v r (hart_after h (plain_left role i b o h.machine image.regs [])) =
+      fits_word v r r h (hart_after h (plain_left role i b o h.machine image.regs [])) i b o stage control own role None None refl fits (sym running) word own_home by
+      (inl (λ input. other_registers role i b o h image.regs [] input ∙ sym (ap (λ (s : Stepped). hart_after h s) (image.step input)))) in
+      subst (λ (k : HartData). Fits v r k) (sym (ran [] ∙ ap (λ (s : Stepped). hart_after h s) (ram.step []))) (any_registers role v r h i b o image.regs ram.regs fitted)
 
 -- the same at any name of the place
 pub stage_same : (i b o : ℕ) (stage : Stage) (j c p : ℕ) (t : Stage) → At i b o stage ≡ At j c p t → stage ≡ t

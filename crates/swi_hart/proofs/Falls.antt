@@ -104,7 +104,7 @@ pub ram_none : (span : ℕ) (ram : RamState) → RamServed span 0 ram ram
 ram_none span ram = record {
   quiet = refl;
   fetches_stay = refl;
-  last_stays = refl;
+  fetched_at_stays = refl;
   sets_rise = grind arith;
   kept = record { same_length = refl; beyond = λ i le. refl; reached = grind arith };
 }
@@ -113,7 +113,7 @@ pub ram_same : (span : ℕ) (r : Record) (ram : RamState) → RamServed span (wr
 ram_same span r ram = record {
   quiet = refl;
   fetches_stay = refl;
-  last_stays = refl;
+  fetched_at_stays = refl;
   sets_rise = grind arith;
   kept = record { same_length = refl; beyond = λ i le. refl; reached = grind arith };
 }

@@ -7,13 +7,12 @@ use Rattle.swi_isa.specs.declared.instr.Instr.TheVariants as instr
 use Rattle.swi_isa.specs.Decode.{decoded}
 use Rattle.swi_memory.specs.Bus.{fetched}
 use Rattle.swi_exec.specs.Arithmetic.{sum_of}
-use Rattle.swi_calls.specs.declared.end.End.{End}
 use Rattle.swi_calls.specs.declared.machine.Machine.{Machine}
 use Rattle.swi_image.specs.Format.{ImageData}
 use Rattle.swi_image.specs.Place.{place_of, word_at, length_at}
 use Rattle.swi_render.specs.declared.parts.Part.TheVariants as part
 use Rattle.swi_render.specs.Rendering.{ebreak, opposite, upper, lower, slot, Is, trap, jump, rendering_of, falls_of}
-use Rattle.swi_hart.specs.Hart.{instruction, original, exit_kind, is_fall, is_place, role_of}
+use Rattle.swi_hart.specs.Hart.{HartData, instruction, original, exit_kind, is_fall, is_place, role_of}
 use Rattle.swi_render.specs.Carried.{GoesOn, FallAt, StandAt, Carries}
 use Rattle.swi_rom.specs.Record.{Record}
 use Rattle.swi_hart.specs.declared.hart.Stage.{Stage}
@@ -21,11 +20,12 @@ use Rattle.swi_hart.specs.declared.hart.Stage.TheVariants.{Start, Low, Return, L
 use Rattle.swi_hart.specs.declared.hart.Control.TheVariants.{At}
 use Rattle.swi_hart.specs.declared.hart.ExitKind.{ExitKind}
 use Rattle.swi_hart.specs.declared.hart.ExitKind.TheVariants.{Direct, Misaligned, Trap, Indirect}
-use Rattle.swi_hart.specs.Matching.{AtTaken, StageAt, Agrees, Matches}
+use Rattle.swi_hart.specs.Matching.{Behind, BehindJal, BehindBranch, PlaceAt, Fits}
 use Rattle.swi_hart.specs.Leaving.{ExitHome, WordHome, Home, quick_role, leaves}
 use Rattle.swi_hart.proofs.Table.{jal_half, branch_half}
 use Rattle.swi_hart.proofs.Stepping.{direct_kind, half_kind, trap_is, same_place}
 use Rattle.swi_image.specs.Laws.{place_inside}
+use Rattle.swi_hart.proofs.Fitting.{place_under_control}
 use Rattle.swi_hart.proofs.Standing.{stands_for, linked_jump, plain_jump, plain_within, are_within}
 
 one_kind : (d : ℕ) (k e : ExitKind) → exit_kind d ≡ k → exit_kind d ≡ e → k ≡ e
@@ -141,54 +141,72 @@ module _ (v : ImageData) (f : Machine) (b o : ℕ) (image : Carries (fetched f.b
   start_block (inl start) = place_block v f b o image start
   start_block (inr fall) = fall.known
 
-  stage_block : (stage : Stage) (m : Machine) → StageAt stage v b o f m → b < length v.blocks
-  stage_block Start m here = start_block here.1
-  stage_block Low m a = place_block v f b a.at image a.start
-  stage_block Return m a = place_block v f b a.at image a.start
-  stage_block Leave m (inl a) = place_block v f b a.at image a.start
-  stage_block Leave m (inr a) = place_block v f b a.at image a.start
+  stage_block : (stage : Stage) → PlaceAt stage v b o f → b < length v.blocks
+  stage_block Start here = start_block here
+  stage_block Low a = place_block v f b a.behind.at image a.behind.start
+  stage_block Return a = place_block v f b a.behind.at image a.behind.start
+  stage_block Leave (inl a) = place_block v f b a.behind.at image a.behind.start
+  stage_block Leave (inr a) = place_block v f b a.behind.at image a.behind.start
 
-  taken_home : (m : Machine) (a : AtTaken v b o f m) → ExitHome v m b o Leave
-  taken_home m a =
-      let st = stands_for v f a.w b a.at (Some (instr.Branch a.op a.rs1 a.rs2 a.off)) image a.fetch a.is a.start in
-      let here = st.words in
-      let within : a.at + 3 ≤ length_at v b = are_within v b a.at (rendering_of (Some (instr.Branch a.op a.rs1 a.rs2 a.off)) a.w f.pc) here in
-      let is_exit : word_at v b o ≡ ebreak = ap (λ n. word_at v b n) a.offset ∙ here.1.0 in
-      let leads : word_at v b (o + 1) ≡ sum_of f.pc a.off = ap (λ n. word_at v b (n + 1)) a.offset ∙ here.1.1.0 in
+  -- what stands for the instruction behind whose first words control is
+  rendered : (x : Instr) (words : ℕ) (k : Behind x words v b o f) → StandAt v b k.at (rendering_of (Some x) k.w f.pc)
+  rendered x words k = (stands_for v f k.w b k.at (Some x) image k.fetch k.is k.start).words
+
+  -- an ADDI behind a LUI
+  low_home : (stage : Stage) (rd value at : ℕ) → o ≡ at + 1 → decoded (word_at v b (at + 1)) ≡ Some (instr.Alu Addi rd rd value) → at + 2 ≤ length_at v b →
+      quick_role stage (instr.Alu Addi rd rd value) (original f) ≡ role_of stage (original f) → (stage ≡ Leave → ⊥) → WordHome v f b o stage
+  low_home stage rd value at offset is within role no_exit = record {
+    instruction = instr.Alu Addi rd rd value;
+    is = ap (λ n. decoded (word_at v b n)) offset ∙ is;
+    inside = omega (arith, within, offset);
+    stays = refl;
+    role = role;
+    no_exit = no_exit;
+    low = λ e. refl;
+    goes = λ e. cc;
+  }
+
+  branch_home : BehindBranch v b o f → ExitHome v f b o Leave
+  branch_home a =
+      let k = a.behind in
+      let here = rendered (instr.Branch a.op a.rs1 a.rs2 a.off) 1 k in
+      let within : k.at + 3 ≤ length_at v b = are_within v b k.at (rendering_of (Some (instr.Branch a.op a.rs1 a.rs2 a.off)) k.w f.pc) here in
+      let is_exit : word_at v b o ≡ ebreak = ap (λ n. word_at v b n) k.offset ∙ here.1.0 in
+      let leads : word_at v b (o + 1) ≡ sum_of f.pc a.off = ap (λ n. word_at v b (n + 1)) k.offset ∙ here.1.1.0 in
       elim (cases_Bool (sum_of f.pc a.off % 4 == 0)) [
-        | inl four ↦ plain_exit v f b o m Leave Direct _ is_exit leads (direct_kind _ (eqb-true _ _ four)) (λ e. cc) (omega (arith, within, a.offset)) (λ e. absurd (false≢true e))
-        | inr no_four ↦ plain_exit v f b o m Leave Misaligned _ is_exit leads (half_kind _ (branch_half a.w a.op a.rs1 a.rs2 a.off f.pc a.is (image.aligned f.pc b a.at a.start) no_four)) (λ e. cc) (omega (arith, within, a.offset)) (λ e. absurd (false≢true e))
+        | inl four ↦ plain_exit v f b o f Leave Direct _ is_exit leads (direct_kind _ (eqb-true _ _ four)) (λ e. cc) (omega (arith, within, k.offset)) (λ e. absurd (false≢true e))
+        | inr no_four ↦ plain_exit v f b o f Leave Misaligned _ is_exit leads (half_kind _ (branch_half k.w a.op a.rs1 a.rs2 a.off f.pc k.is (image.aligned f.pc b k.at k.start) no_four)) (λ e. cc) (omega (arith, within, k.offset)) (λ e. absurd (false≢true e))
       ]
 
-  stage_home : (stage : Stage) (m : Machine) → m.pc < 2 ^ 32 → StageAt stage v b o f m → ExitHome v m b o stage ⊎ WordHome v m b o stage
-  stage_home Start m word here =
-      subst (λ (k : Machine). ExitHome v k b o Start ⊎ WordHome v k b o Start) (sym here.0) (start_home (fetched f.bus f.pc) (subst (λ (k : Machine). k.pc < 2 ^ 32) here.0 word) refl here.1)
-  stage_home Low m word a =
-      let st = stands_for v f a.w b a.at (Some (instr.Auipc a.rd a.imm)) image a.fetch a.is a.start in
-      let here = st.words in
-      let within : a.at + 2 ≤ length_at v b = are_within v b a.at (rendering_of (Some (instr.Auipc a.rd a.imm)) a.w f.pc) here in
-      inr (record { instruction = instr.Alu Addi a.rd a.rd (lower (sum_of f.pc a.imm)); is = ap (λ n. decoded (word_at v b n)) a.offset ∙ here.1.0; inside = omega (arith, within, a.offset); stays = refl; role = refl; no_exit = λ e. cc; low = λ e. refl; goes = λ e. cc })
-  stage_home Return m word a =
-      let st = stands_for v f a.w b a.at (Some (instr.Jal a.rd a.off)) image a.fetch a.is a.start in
-      let here = linked_jump v b a.at (sum_of f.pc a.off % 4 == 0) (a.rd == 0) a.rd (sum_of f.pc a.off) f.pc a.linking st.words in
-      let within : a.at + 4 ≤ length_at v b = are_within v b a.at (jump true false a.rd (sum_of f.pc a.off) f.pc) here in
-      inr (record { instruction = instr.Alu Addi a.rd a.rd (lower (sum_of f.pc 4)); is = ap (λ n. decoded (word_at v b n)) a.offset ∙ here.1.0; inside = omega (arith, within, a.offset); stays = refl; role = refl; no_exit = λ e. cc; low = λ e. refl; goes = λ e. cc })
-  stage_home Leave m word (inl a) =
-      let st = stands_for v f a.w b a.at (Some (instr.Jal a.rd a.off)) image a.fetch a.is a.start in
-      let here = linked_jump v b a.at (sum_of f.pc a.off % 4 == 0) (a.rd == 0) a.rd (sum_of f.pc a.off) f.pc a.linking st.words in
-      let within : a.at + 4 ≤ length_at v b = are_within v b a.at (jump true false a.rd (sum_of f.pc a.off) f.pc) here in
-      let two : o ≡ a.at + 1 + 1 = omega (arith, a.offset) in
-      let both = and_parts (sum_of f.pc a.off % 4 == 0) (not (a.rd == 0)) a.linking in
-      inl (plain_exit v f b o m Leave Direct (sum_of f.pc a.off) (ap (λ n. word_at v b n) two ∙ here.1.1.0) (ap (λ n. word_at v b (n + 1)) two ∙ here.1.1.1.0) (direct_kind _ (eqb-true _ _ both.0)) (λ e. cc) (omega (arith, within, a.offset)) (λ e. absurd (false≢true e)))
-  stage_home Leave m word (inr a) = inl (taken_home m a)
+  -- what stands for a JAL that keeps its return address
+  linked : (words : ℕ) (a : BehindJal words v b o f) → StandAt v b a.behind.at (jump true false a.rd (sum_of f.pc a.off) f.pc)
+  linked words a = linked_jump v b a.behind.at (sum_of f.pc a.off % 4 == 0) (a.rd == 0) a.rd (sum_of f.pc a.off) f.pc a.linking (rendered (instr.Jal a.rd a.off) words a.behind)
 
-pub home : (v : ImageData) (r : Record) (f m : Machine) (i b o : ℕ) (stage : Stage) → Carries (fetched f.bus) v → Matches v r f m (At i b o stage) → m.ending ≡ None → m.pc < 2 ^ 32 → Home v r m i b o stage
-home v r f m i b o stage image same running word =
-    let stands = subst (λ (e : Option End). Agrees e v r f m (At i b o stage)) running same in
+  stage_home : (stage : Stage) → f.pc < 2 ^ 32 → PlaceAt stage v b o f → ExitHome v f b o stage ⊎ WordHome v f b o stage
+  stage_home Start word here = start_home (fetched f.bus f.pc) word refl here
+  stage_home Low word a =
+      let here = rendered (instr.Auipc a.rd a.imm) 1 a.behind in
+      inr (low_home Low a.rd (lower (sum_of f.pc a.imm)) a.behind.at a.behind.offset here.1.0 (are_within v b a.behind.at (rendering_of (Some (instr.Auipc a.rd a.imm)) a.behind.w f.pc) here) refl (λ e. cc))
+  stage_home Return word a =
+      let here = linked 1 a in
+      let within : a.behind.at + 4 ≤ length_at v b = are_within v b a.behind.at (jump true false a.rd (sum_of f.pc a.off) f.pc) here in
+      inr (low_home Return a.rd (lower (sum_of f.pc 4)) a.behind.at a.behind.offset here.1.0 (omega (arith, within)) refl (λ e. cc))
+  stage_home Leave word (inl a) =
+      let here = linked 2 a in
+      let within : a.behind.at + 4 ≤ length_at v b = are_within v b a.behind.at (jump true false a.rd (sum_of f.pc a.off) f.pc) here in
+      let two : o ≡ a.behind.at + 1 + 1 = omega (arith, a.behind.offset) in
+      let both = and_parts (sum_of f.pc a.off % 4 == 0) (not (a.rd == 0)) a.linking in
+      inl (plain_exit v f b o f Leave Direct (sum_of f.pc a.off) (ap (λ n. word_at v b n) two ∙ here.1.1.0) (ap (λ n. word_at v b (n + 1)) two ∙ here.1.1.1.0) (direct_kind _ (eqb-true _ _ both.0)) (λ e. cc) (omega (arith, within, a.behind.offset)) (λ e. absurd (false≢true e)))
+  stage_home Leave word (inr a) = inl (branch_home a)
+
+-- what is known of the word under control of a hart that the image fits
+pub home : (v : ImageData) (r : Record) (h : HartData) (i b o : ℕ) (stage : Stage) → Fits v r h → h.control ≡ At i b o stage → h.machine.ending ≡ None → h.machine.pc < 2 ^ 32 → Home v r h.machine i b o stage
+home v r h i b o stage fits control running word =
+    let place = place_under_control v r h i b o stage fits control running in
     record {
-      first = stands.0.0;
-      is_placed = stands.0.1;
-      index = stands.0.2;
-      known = subst (λ n. b < n) image.image.blocks (stage_block v f b o image stage m stands.1);
-      kind = stage_home v f b o image stage m word stands.1;
+      first = place.0.0;
+      is_placed = place.0.1;
+      index = place.0.2;
+      known = subst (λ n. b < n) fits.image.image.blocks (stage_block v h.machine b o fits.image stage place.1);
+      kind = stage_home v h.machine b o fits.image stage word place.1;
     }

@@ -9,7 +9,6 @@ use Rattle.swi_isa.specs.declared.instr.Instr.TheVariants as instr
 use Rattle.swi_isa.specs.Decode.{decoded}
 use Rattle.swi_outside.specs.CacheRam.{RamState, KeepsBeyond}
 use Rattle.swi_render.specs.Rendering.{ebreak}
-use Rattle.swi_rom.specs.Service.{Setting}
 use Rattle.swi_rom.specs.Record.{Record, Transfer, target_of, IsJump, jump_offset, is_linked, writes, Placed}
 use Rattle.swi_rom.specs.Coherent.{Coherent, TargetAt, StandsAt}
 use Rattle.swi_rom.specs.Served.{Served, Spared, SameFrom}
@@ -19,7 +18,7 @@ use Rattle.swi_hart.specs.declared.hart.Stage.TheVariants.{Start}
 use Rattle.swi_hart.specs.declared.hart.Control.TheVariants.{At}
 use Rattle.swi_hart.specs.Matching.{Arrives}
 use Rattle.swi_hart.specs.Leaving.{LeaveAt, PlacedAt, RamServed}
-use Rattle.swi_hart.specs.Service.{ServiceState, Transferred}
+use Rattle.swi_hart.specs.Service.{ServiceRules, ServiceState, Transferred}
 use Rattle.swi_isa.specs.Laws.{ebreak_decodes}
 
 -- what the service shows at the target's index is the target's place
@@ -43,35 +42,35 @@ beyond d = record { same_length = d.length_stays; beyond = d.beyond; reached = d
 
 -- the ram after a service that gave an index
 pub ram_answered : {v : ImageData} {span t i : ℕ} {old next new : Record} {before after : RamState} → Served v span t old next new before after (Ok i) → RamServed span (writes new - writes old) before after
-ram_answered d = record { quiet = d.quiet; fetches_stay = d.spared.fetches_stay; last_stays = d.spared.last_stays; sets_rise = d.sets_rise; kept = beyond d.spared }
+ram_answered d = record { quiet = d.quiet; fetches_stay = d.spared.fetches_stay; fetched_at_stays = d.spared.fetched_at_stays; sets_rise = d.sets_rise; kept = beyond d.spared }
 
 -- the transfer, by the service's answer
-module _ {policy : Setting → Record → ImageData → Transfer → Record} {extent : Setting → Record → ℕ} {span : Setting → ℕ} {v : ImageData} {t : Transfer} {IsSound : Type 0} {s s' : ServiceState} (stays : s'.setting ≡ s.setting) where
-  pub served_at : {T E : Type 0} (x : T) (i : ℕ) → Served v (span s.setting) (target_of t) s.kept (policy s.setting s.kept v t) s'.kept s.ram s'.ram (Ok i) → SameFrom (extent s.setting s'.kept) s.ram.words s'.ram.words → IsSound → Transferred {T = T} {E = E} policy extent span v (Some t) IsSound s s' (Ok x)
+module _ {rules : ServiceRules} {v : ImageData} {t : Transfer} {IsSound : Type 0} {s s' : ServiceState} (stays : s'.setting ≡ s.setting) where
+  pub served_at : {T E : Type 0} (x : T) (i : ℕ) → Served v (rules.span s.setting) (target_of t) s.kept (rules.policy s.setting s.kept v t) s'.kept s.ram s'.ram (Ok i) → SameFrom (rules.extent s.setting s'.kept) s.ram.words s'.ram.words → IsSound → Transferred {T = T} {E = E} rules v (Some t) IsSound s s' (Ok x)
   served_at x i d unused sound = record {
     policy = d.moves;
     setting = stays;
     sound = sound;
     unused = unused;
     words = d.words;
-    ram = record { quiet = d.quiet; fetches_stay = d.spared.fetches_stay; last_stays = d.spared.last_stays; sets_rise = d.sets_rise; kept = beyond d.spared };
+    ram = record { quiet = d.quiet; fetches_stay = d.spared.fetches_stay; fetched_at_stays = d.spared.fetched_at_stays; sets_rise = d.sets_rise; kept = beyond d.spared };
     failed = tt;
     placed = tt;
   }
 
-  pub served_outside : {T E : Type 0} (x : T) → Served v (span s.setting) (target_of t) s.kept (policy s.setting s.kept v t) s'.kept s.ram s'.ram (Err Outside) → SameFrom (extent s.setting s'.kept) s.ram.words s'.ram.words → IsSound → Transferred {T = T} {E = E} policy extent span v (Some t) IsSound s s' (Ok x)
+  pub served_outside : {T E : Type 0} (x : T) → Served v (rules.span s.setting) (target_of t) s.kept (rules.policy s.setting s.kept v t) s'.kept s.ram s'.ram (Err Outside) → SameFrom (rules.extent s.setting s'.kept) s.ram.words s'.ram.words → IsSound → Transferred {T = T} {E = E} rules v (Some t) IsSound s s' (Ok x)
   served_outside x d unused sound = record {
     policy = d.moves;
     setting = stays;
     sound = sound;
     unused = unused;
     words = d.words;
-    ram = record { quiet = d.quiet; fetches_stay = d.spared.fetches_stay; last_stays = d.spared.last_stays; sets_rise = d.sets_rise; kept = beyond d.spared };
+    ram = record { quiet = d.quiet; fetches_stay = d.spared.fetches_stay; fetched_at_stays = d.spared.fetched_at_stays; sets_rise = d.sets_rise; kept = beyond d.spared };
     failed = tt;
     placed = tt;
   }
 
-  pub served_not : {T E : Type 0} (e : E) → Served v (span s.setting) (target_of t) s.kept (policy s.setting s.kept v t) s'.kept s.ram s'.ram (Err RamFault) → Transferred {T = T} {E = E} policy extent span v (Some t) IsSound s s' (Err e)
+  pub served_not : {T E : Type 0} (e : E) → Served v (rules.span s.setting) (target_of t) s.kept (rules.policy s.setting s.kept v t) s'.kept s.ram s'.ram (Err RamFault) → Transferred {T = T} {E = E} rules v (Some t) IsSound s s' (Err e)
   served_not e d = record {
     policy = tt;
     setting = stays;
@@ -79,7 +78,7 @@ module _ {policy : Setting → Record → ImageData → Transfer → Record} {ex
     unused = tt;
     words = tt;
     ram = tt;
-    failed = record { rose = d.failed refl; later = d.spared.later; fetches_stay = d.spared.fetches_stay; last_stays = d.spared.last_stays; kept = beyond d.spared };
+    failed = record { rose = d.failed refl; last_failed = d.last_failed refl; later = d.spared.later; fetches_stay = d.spared.fetches_stay; fetched_at_stays = d.spared.fetched_at_stays; kept = beyond d.spared };
     placed = λ none. let e : ◌≡◌ {A = Result ℕ RomStop} (Err RamFault) (Err Outside) = d.only_outside none in cc;
   }
 

@@ -5,11 +5,13 @@ pub mod Standing
 pub mod Stepping
 pub mod Midway
 pub mod Leaving
+pub mod Fitting
 pub mod Homes
 pub mod Falls
 pub mod Results
 pub mod Calls
 pub mod Texts
+pub mod Plainly
 pub mod Kept
 pub mod Fetching
 pub mod Steps

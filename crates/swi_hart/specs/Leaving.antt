@@ -1,5 +1,5 @@
 -- Exits and transfers of a board. Own rule.
-use Rattle.std.specs.Prelude.{◌≡◌, ◌⊎◌, ◌==◌, ℕ, ◌+◌, ◌*◌, ◌/◌, ◌%◌, ◌<◌, ◌≤◌, Bool, true, false, not, ◌&&◌, List, Option, Some, None, length, slice_index, if◌then◌else◌}
+use Rattle.std.specs.Prelude.{◌≡◌, ◌⊎◌, ◌==◌, ℕ, ◌+◌, ◌*◌, ◌/◌, ◌%◌, ◌<◌, ◌≤◌, Bool, true, false, not, ◌&&◌, List, ◌∷◌, Option, Some, None, length, slice_index, if◌then◌else◌}
 use Rattle.swi_isa.specs.declared.instr.ImmOp.{ImmOp}
 use Rattle.swi_isa.specs.declared.instr.ImmOp.TheVariants.{Addi}
 use Rattle.swi_isa.specs.declared.instr.Instr.{Instr}
@@ -42,16 +42,17 @@ pub record LeaveAt (v : ImageData) (r : Record) (words : List ℕ) (w i b o : �
 pub record RamServed (span more : ℕ) (before after : RamState) : Type 0 where
   pub quiet : after.faults ≡ before.faults
   pub fetches_stay : after.fetches ≡ before.fetches
-  pub last_stays : after.last ≡ before.last
+  pub fetched_at_stays : after.fetched_at ≡ before.fetched_at
   pub sets_rise : after.sets ≡ risen before.sets more
   pub kept : KeepsBeyond span before after
 
--- and after one that failed
+-- and after one that failed: nothing was asked of the ram behind the call of it that failed
 pub record RamFailed (span : ℕ) (before after : RamState) : Type 0 where
   pub rose : Rose before.faults after.faults
   pub later : before.faults ≤ after.faults
+  pub last_failed : after.last_failed ≡ true
   pub fetches_stay : after.fetches ≡ before.fetches
-  pub last_stays : after.last ≡ before.last
+  pub fetched_at_stays : after.fetched_at ≡ before.fetched_at
   pub kept : KeepsBeyond span before after
 
 -- the transfer that an exit makes
@@ -109,13 +110,6 @@ quick_role stage (instr.Lui rd imm) original = upper_quick stage original
 quick_role stage (instr.Branch op rs1 rs2 off) original = Over
 quick_role stage (instr.Alu op rd rs1 imm) original = immediate_quick stage op
 quick_role stage _ original = Whole
-
--- words that only change a register
-abbrev pub changes_register : Instr → Bool
-changes_register (instr.Load op rd rs1 imm) = true
-changes_register (instr.Alu op rd rs1 imm) = true
-changes_register (instr.Op op rd rs1 rs2) = true
-changes_register _ = false
 
 -- the offset of a JAL, and else 0
 abbrev pub offset_of : Option Instr → ℕ
@@ -191,15 +185,15 @@ abbrev pub fetches_after : Control → ℕ → ℕ
 fetches_after (At i b o stage) n = counted n
 fetches_after Outside n = n
 
--- the index of the last word fetched
-abbrev pub last_after : Control → ℕ → ℕ
-last_after (At i b o stage) n = i
-last_after Outside n = n
+-- the indexes that were fetched, the newest first
+abbrev pub indexes_after : Control → List ℕ → List ℕ
+indexes_after (At i b o stage) l = i ∷ l
+indexes_after Outside l = l
 
 pub record RamStepped (span more : ℕ) (c : Control) (before after : RamState) : Type 0 where
   pub quiet : after.faults ≡ before.faults
   pub fetches : after.fetches ≡ fetches_after c before.fetches
-  pub last : after.last ≡ last_after c before.last
+  pub fetched_at : after.fetched_at ≡ indexes_after c before.fetched_at
   pub sets : after.sets ≡ risen before.sets more
   pub kept : KeepsBeyond span before after
 
@@ -214,6 +208,8 @@ pub record RamBroken (v : ImageData) (m : Machine) (c : Control) (span : ℕ) (b
   pub inside : c ≡ Outside → ⊥
   pub rose : Rose before.faults after.faults
   pub later : before.faults ≤ after.faults
-  pub asked : (after ≡ record before { faults = after.faults; reach = after.reach })
-      ⊎ (((after.fetches ≡ counted before.fetches) × (after.last ≡ last_after c before.last)) × HasPlace v (transfer_at v m c))
+  -- no call of it comes behind the one that failed
+  pub last_failed : after.last_failed ≡ true
+  pub asked : (after ≡ record before { faults = after.faults; reach = after.reach; last_failed = true })
+      ⊎ (((after.fetches ≡ counted before.fetches) × (after.fetched_at ≡ indexes_after c before.fetched_at)) × HasPlace v (transfer_at v m c))
   pub kept : KeepsBeyond span before after

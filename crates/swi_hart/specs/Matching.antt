@@ -1,5 +1,5 @@
 -- The machine that runs out of a cache ram, against the flat one. Own rule.
-use Rattle.std.specs.Prelude.{◌≡◌, ◌⊎◌, ◌==◌, ℕ, ◌+◌, ◌*◌, ◌/◌, ◌%◌, Bool, true, false, List, Option, Some, None}
+use Rattle.std.specs.Prelude.{◌≡◌, ◌⊎◌, ◌==◌, ℕ, ◌+◌, ◌*◌, ◌/◌, ◌%◌, Bool, true, false, List, Option, Some, None, ⊤}
 use Rattle.swi_isa.specs.declared.instr.Instr.{Instr}
 use Rattle.swi_isa.specs.declared.instr.Instr.TheVariants as instr
 use Rattle.swi_isa.specs.declared.instr.BranchOp.{BranchOp}
@@ -151,8 +151,48 @@ pub record Follows (v : ImageData) (new : Record) (s : Stepped) (next : Made) : 
   pub output : s.made.output ≡ next.output
   pub error : s.made.error ≡ next.error
 
--- the image fits the hart: it is one of the text that a flat machine fetches, and the hart stands where that machine does
+-- control is so many words behind the first that stands for this instruction, which is the one at the machine's pc
+pub record Behind (x : Instr) (words : ℕ) (v : ImageData) (b o : ℕ) (m : Machine) : Type 0 where
+  pub at : ℕ
+  pub w : ℕ
+  pub fetch : fetched m.bus m.pc ≡ Some w
+  pub is : decoded w ≡ Some x
+  pub start : place_of v m.pc ≡ Some (b, at)
+  pub offset : o ≡ at + words
+
+-- behind the first words of an AUIPC, of a JAL that keeps its return address, and of a branch
+pub record BehindAuipc (v : ImageData) (b o : ℕ) (m : Machine) : Type 0 where
+  pub rd : ℕ
+  pub imm : ℕ
+  pub behind : Behind (instr.Auipc rd imm) 1 v b o m
+
+pub record BehindJal (words : ℕ) (v : ImageData) (b o : ℕ) (m : Machine) : Type 0 where
+  pub rd : ℕ
+  pub off : ℕ
+  pub linking : links rd (sum_of m.pc off) ≡ true
+  pub behind : Behind (instr.Jal rd off) words v b o m
+
+pub record BehindBranch (v : ImageData) (b o : ℕ) (m : Machine) : Type 0 where
+  pub op : BranchOp
+  pub rs1 : ℕ
+  pub rs2 : ℕ
+  pub off : ℕ
+  pub behind : Behind (instr.Branch op rs1 rs2 off) 1 v b o m
+
+-- where control is by its stage, in what stands for the instruction at the machine's pc
+abbrev pub PlaceAt : Stage → ImageData → ℕ → ℕ → Machine → Type 0
+PlaceAt Start v b o m = GoesOn v m.pc b o
+PlaceAt Low v b o m = BehindAuipc v b o m
+PlaceAt Return v b o m = BehindJal 1 v b o m
+PlaceAt Leave v b o m = BehindJal 2 v b o m ⊎ BehindBranch v b o m
+
+abbrev pub StandsBy : Option End → ImageData → Record → Machine → Control → Type 0
+StandsBy None v r m (At i b o stage) = IsIn r i b o × PlaceAt stage v b o m
+StandsBy None v r m Outside = place_of v m.pc ≡ None
+StandsBy (Some e) v r m c = ⊤
+
+-- The image fits the hart: it is one of the text that the hart fetches, and while the hart goes on, control is in what stands for the
+-- instruction at its pc. Nothing is asked of the registers.
 pub record Fits (v : ImageData) (r : Record) (h : HartData) : Type 0 where
-  pub flat : Machine
-  pub image : Carries (fetched flat.bus) v
-  pub matches : Matches v r flat h.machine h.control
+  pub image : Carries (fetched h.machine.bus) v
+  pub place : StandsBy h.machine.ending v r h.machine h.control

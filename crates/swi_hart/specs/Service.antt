@@ -13,19 +13,28 @@ pub record ServiceState : Type 0 where
   pub setting : Setting
   pub ram : RamState
 
--- A transfer that is served, or none where there is none, by the answer. Policy, extent and span go by the service's setting, and
--- whether the service is sound afterwards is said by the caller.
-pub record Transferred {T E : Type 0} (policy_of : Setting → Record → ImageData → Transfer → Record) (extent_of : Setting → Record → ℕ)
-    (span_of : Setting → ℕ) (v : ImageData) (t : Option Transfer) (IsSound : Type 0) (before after : ServiceState) (result : Result T E) : Type 0 where
-  pub policy : OnOk result (after.kept ≡ moved (policy_of before.setting) before.kept v t)
+-- what goes by a service's setting: its policy, how many words can have been written until a record stands, and how many it uses
+pub record ServiceRules : Type 0 where
+  pub policy : Setting → Record → ImageData → Transfer → Record
+  pub extent : Setting → Record → ℕ
+  pub span : Setting → ℕ
+
+-- A transfer that is served, or none where there is none, by the answer. Whether the service is sound afterwards is said by the caller.
+pub record Transferred {T E : Type 0} (rules : ServiceRules) (v : ImageData) (t : Option Transfer) (IsSound : Type 0) (before after : ServiceState)
+    (result : Result T E) : Type 0 where
+  pub policy : OnOk result (after.kept ≡ moved (rules.policy before.setting) before.kept v t)
   pub setting : after.setting ≡ before.setting
   pub sound : OnOk result IsSound
-  pub unused : OnOk result (SameFrom (extent_of before.setting after.kept) before.ram.words after.ram.words)
+  pub unused : OnOk result (SameFrom (rules.extent before.setting after.kept) before.ram.words after.ram.words)
   -- a word that changed is of a newly placed block, or a link that was made or undone
   pub words : OnOk result (WordsMove v before.kept after.kept before.ram after.ram)
-  pub ram : OnOk result (RamServed (span_of before.setting) (writes after.kept - writes before.kept) before.ram after.ram)
-  pub failed : OnErr result (RamFailed (span_of before.setting) before.ram after.ram)
+  pub ram : OnOk result (RamServed (rules.span before.setting) (writes after.kept - writes before.kept) before.ram after.ram)
+  pub failed : OnErr result (RamFailed (rules.span before.setting) before.ram after.ram)
   pub placed : OnErr result (HasPlace v t)
+
+-- the rules of a service
+abbrev pub rules_of : {S : Type 0} → ServiceOf S → ServiceRules
+rules_of k = record { policy = k.policy; extent = k.extent; span = k.span }
 
 -- a service with its ram, whole
 pub record ServiceWithRam (S : Type 0) : Type 0 where
@@ -42,4 +51,4 @@ StaysSound k v before after = k.sound after.rom v after.ram.words × Keeps k v b
 
 -- a transfer, over whole services
 abbrev pub TransferServed : {S T E : Type 0} → ServiceOf S → ImageData → Option Transfer → ServiceWithRam S → ServiceWithRam S → Result T E → Type 0
-TransferServed k v t before after result = Transferred k.policy k.extent k.span v t (StaysSound k v before after) (service_told k before) (service_told k after) result
+TransferServed k v t before after result = Transferred (rules_of k) v t (StaysSound k v before after) (service_told k before) (service_told k after) result

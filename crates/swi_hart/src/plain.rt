@@ -7,7 +7,6 @@ ghost use Rattle.swi_memory.specs.Bus.{fetched};
 ghost use Rattle.swi_image.specs.Place.{word_at};
 ghost use Rattle.swi_rom.specs.Record.{Record};
 ghost use Rattle.swi_hart.specs.Matching.{Fits};
-ghost use Rattle.swi_hart.specs.Hart.{role_of, original};
 ghost use Rattle.swi_hart.specs.Exchanged.{Exchanged, PlainAt, ExecutesHeld, is_plain};
 ghost use Rattle.swi_hart.specs.Leaving.{Home};
 ghost use Rattle.swi_hart.specs.MachineStep.{BoardStepped, ReadyToStep};
@@ -88,9 +87,6 @@ pub fn plain_step<R: CacheRom, M: CacheRam, I: Source, O: Sink, E: Sink>(
         PlainAt image.now (M.state ram.old).words hart.old.control i b o stage →
         ExecutesHeld hart.old hart.new rom.old rom.new i b o stage (M.state ram.old).words (M.state ram.new).words
         (I.state input.old).left (I.state input.new).left (O.state out.old).held (O.state out.new).held (E.state err.old).held (E.state err.new).held) }
-    ensures whole { OnOk result ((i b o : ℕ) (stage : Stage) →
-        PlainAt image.now (M.state ram.old).words hart.old.control i b o stage →
-        role_of stage (original hart.old.machine) ≡ Role.Whole → Fits image.now (R.service.kept rom.new) hart.new) }
 {
     let (i, _, _, stage) = at;
     let got = match ram.fetch(i) {

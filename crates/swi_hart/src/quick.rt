@@ -8,8 +8,8 @@ ghost use Rattle.swi_hart.specs.Leaving.{Home, leaves, offset_of};
 
 use crate::fault::{BoardFault, fault_of};
 use crate::hart::{Control, Hart, Stage};
-use crate::step::exit_step;
-use crate::word::{end, role_step};
+use crate::step::{exit_step, role};
+use crate::word::{end, word_step};
 use swi_calls::End;
 use swi_exec::FaultKind;
 use swi_image::ImageView;
@@ -77,7 +77,8 @@ pub fn at_word<R: CacheRom, M: CacheRam, I: Source, O: Sink, E: Sink>(
             }
         };
     }
-    match role_step(hart, at, &x, input, out, err) {
+    let role = role(hart, at.3, &x);
+    match word_step(hart, at, &x, role, input, out, err) {
         Ok(_) => Ok(()),
         Err(fault) => {
             hart.failed = true;

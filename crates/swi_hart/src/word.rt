@@ -4,12 +4,10 @@
 ghost use Rattle.std.specs.Prelude.{◌≡◌, ◌+◌, ◌^◌, ◌<◌, ℕ, List, None, Some, true, false, OnOk};
 ghost use Rattle.swi_calls.specs.StoresText.{text_store_of};
 ghost use Rattle.swi_calls.specs.Flat.{ended};
-ghost use Rattle.swi_hart.specs.Hart.{word_stepped, call_stepped, original};
-ghost use Rattle.swi_hart.specs.Leaving.{quick_role, changes_register};
+ghost use Rattle.swi_hart.specs.Hart.{word_stepped, call_stepped};
 ghost use Rattle.swi_hart.specs.Calling.{Called as CalledAt, Moved, QuietWord, ReadyAt, WordExecuted, WordStepped};
 
 use crate::hart::{Hart, Role, Stage};
-use crate::step::role;
 use swi_calls::{CallFault, End, text_store};
 use swi_exec::{Done, FaultKind, exec};
 use swi_isa::Instr;
@@ -99,17 +97,6 @@ pub(crate) fn run_word(hart: &mut Hart, at: (u32, u32, u32, Stage), x: &Instr, r
     }
 }
 
-/// Whether a word only changes a register.
-#[inline(always)]
-fn changes_register(x: &Instr) -> bool
-    ensures { result ≡ changes_register x.now }
-{
-    matches!(
-        *x,
-        Instr::Alu { .. } | Instr::Op { .. } | Instr::Load { .. }
-    )
-}
-
 /// Executes a branch, which stands over an exit.
 #[inline(always)]
 fn over_word(hart: &mut Hart, at: (u32, u32, u32, Stage), x: &Instr)
@@ -127,26 +114,6 @@ fn over_word(hart: &mut Hart, at: (u32, u32, u32, Stage), x: &Instr)
         hart.control.advance(at, 1, Stage::Leave);
     }
     hart.count += 1;
-}
-
-/// Executes a word that completes its instruction, and that only changes a register.
-#[inline(always)]
-fn register_word(hart: &mut Hart, at: (u32, u32, u32, Stage), x: &Instr)
-    requires ready { ReadyAt hart.old at.0 at.1 at.2 at.3 }
-    requires register { changes_register x.now ≡ true }
-    ensures { QuietWord (λ input. word_stepped Role.Whole at.0 at.1 at.2 at.3 hart.old.machine x.now input)
-        hart.old hart.new }
-{
-    match exec(x, 4 * at.0, &mut hart.machine.regs, &mut hart.machine.bus) {
-        Done::Next(_) => {
-            hart.control.advance(at, 1, Stage::Start);
-            hart.machine.pc = hart.machine.pc.wrapping_add(4);
-            hart.machine.steps += 1;
-            hart.count += 1;
-        }
-        Done::Fault(kind, address) => end(hart, End::Faulted(kind, address)),
-        Done::Call | Done::Break => unreachable!(),
-    }
 }
 
 /// The step of a system call.
@@ -173,7 +140,7 @@ pub(crate) fn call_word<I: Source, O: Sink, E: Sink>(
     Ok(())
 }
 
-/// A step at a word that is no exit.
+/// A step at a word that is no exit, by its role.
 #[inline(always)]
 pub(crate) fn word_step<I: Source, O: Sink, E: Sink>(
     hart: &mut Hart,
@@ -195,36 +162,4 @@ pub(crate) fn word_step<I: Source, O: Sink, E: Sink>(
     } else {
         Ok(())
     }
-}
-
-/// A step at a word that is no exit, by the role that it has. Each kind of word that programs execute most comes to its
-/// own `exec` right behind the decoder, so that the compiler joins the two, without a jump through a table between
-/// them.
-#[inline(always)]
-pub(crate) fn role_step<I: Source, O: Sink, E: Sink>(
-    hart: &mut Hart,
-    at: (u32, u32, u32, Stage),
-    x: &Instr,
-    input: &mut I,
-    out: &mut O,
-    err: &mut E,
-) -> Result<(), CallFault>
-    requires { ReadyAt hart.old at.0 at.1 at.2 at.3 }
-    ensures { WordStepped x.now at.0 at.1 at.2 at.3
-        (λ left. word_stepped (quick_role at.3 x.now (original hart.old.machine))
-        at.0 at.1 at.2 at.3 hart.old.machine x.now left) hart.old hart.new
-        (record { input = I.state input.old; output = O.state out.old; error = E.state err.old })
-        (record { input = I.state input.new; output = O.state out.new; error = E.state err.new }) result }
-{
-    let (_, _, _, stage) = at;
-    if let Instr::Branch { .. } = *x {
-        over_word(hart, at, x);
-        return Ok(());
-    }
-    if stage != Stage::Return && changes_register(x) {
-        register_word(hart, at, x);
-        return Ok(());
-    }
-    let role = role(hart, stage, x);
-    word_step(hart, at, x, role, input, out, err)
 }

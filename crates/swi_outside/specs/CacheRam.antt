@@ -1,5 +1,5 @@
 -- A cache ram: its words, and what was done to it. Own rule.
-use Rattle.std.specs.Prelude.{◌≡◌, ◌⊎◌, ℕ, ◌+◌, ◌≤◌, max, List, length, slice_index, slice_set, Result, Ok, Err}
+use Rattle.std.specs.Prelude.{◌≡◌, ◌⊎◌, ℕ, ◌+◌, ◌≤◌, max, Bool, true, false, List, [], ◌∷◌, length, slice_index, slice_set, Result, Ok, Err}
 use Rattle.swi_outside.specs.Causes.{Rose, counted}
 
 pub record RamState : Type 0 where
@@ -12,27 +12,34 @@ pub record RamState : Type 0 where
   pub faults : ℕ
   -- the least number above every index that was given to a fetch or a set
   pub reach : ℕ
-  -- the index of the last fetch that answered `Ok`, 0 before the first
-  pub last : ℕ
+  -- the indexes of the fetches that answered `Ok`, the newest first
+  pub fetched_at : List ℕ
+  -- whether the last call answered `Failed`
+  pub last_failed : Bool
+
+-- after a fetch of word i, and a set of it to w, that answered `Ok`
+abbrev pub with_fetch : RamState → ℕ → RamState
+with_fetch s i = record s { fetches = counted s.fetches; reach = max s.reach (i + 1); fetched_at = i ∷ s.fetched_at; last_failed = false }
+
+abbrev pub with_set : RamState → ℕ → ℕ → RamState
+with_set s i w = record s { words = slice_set s.words i w; sets = counted s.sets; reach = max s.reach (i + 1); last_failed = false }
 
 -- A fetch of word i, by its answer: no fetch changes a word.
 abbrev pub Fetched : {E : Type 0} → RamState → ℕ → Result ℕ E → RamState → Type 0
-Fetched old i (Ok w) new = (w ≡ slice_index old.words i)
-    × (new ≡ record old { fetches = counted old.fetches; reach = max old.reach (i + 1); last = i })
+Fetched old i (Ok w) new = (w ≡ slice_index old.words i) × (new ≡ with_fetch old i)
 Fetched old i (Err e) new = Rose old.faults new.faults × (old.faults ≤ new.faults)
-    × (new ≡ record old { faults = new.faults; reach = max old.reach (i + 1) })
+    × (new ≡ record old { faults = new.faults; reach = max old.reach (i + 1); last_failed = true })
 
 -- A set of word i to w, by its answer: a failed one leaves word i old or new, and every other as it was.
 abbrev pub WordSet : {E : Type 0} → RamState → ℕ → ℕ → Result Unit E → RamState → Type 0
-WordSet old i w (Ok u) new =
-    new ≡ record old { words = slice_set old.words i w; sets = counted old.sets; reach = max old.reach (i + 1) }
+WordSet old i w (Ok u) new = new ≡ with_set old i w
 WordSet old i w (Err e) new = Rose old.faults new.faults × (old.faults ≤ new.faults)
     × ((new.words ≡ old.words) ⊎ (new.words ≡ slice_set old.words i w))
-    × (new ≡ record old { words = new.words; faults = new.faults; reach = max old.reach (i + 1) })
+    × (new ≡ record old { words = new.words; faults = new.faults; reach = max old.reach (i + 1); last_failed = true })
 
 -- a ram that was just made
 abbrev pub new_ram : List ℕ → RamState
-new_ram words = record { words = words; fetches = 0; sets = 0; faults = 0; reach = 0; last = 0 }
+new_ram words = record { words = words; fetches = 0; sets = 0; faults = 0; reach = 0; fetched_at = []; last_failed = false }
 
 -- a ram whose calls fail by a list of their numbers, from 1, fetches and sets counted together
 pub record FaultyRam : Type 0 where

@@ -1,5 +1,5 @@
 -- What the calls to a ram that never fails come to. Own rule.
-use Rattle.std.specs.Prelude.{ℕ, ◌+◌, max}
+use Rattle.std.specs.Prelude.{ℕ, ◌+◌, max, List, [], ◌∷◌}
 use Rattle.swi_outside.specs.Causes.{counted}
 use Rattle.swi_outside.specs.declared.ram_calls.RamCalls.{RamCalls}
 use Rattle.swi_outside.specs.declared.ram_calls.RamCalls.TheVariants.{None, Fetched', Set'}
@@ -20,7 +20,8 @@ reach_of None = 0
 reach_of (Fetched' _ _ before i) = max (reach_of before) (i + 1)
 reach_of (Set' _ _ before i) = max (reach_of before) (i + 1)
 
-abbrev pub last_fetch : RamCalls → ℕ
-last_fetch None = 0
-last_fetch (Fetched' _ _ before i) = i
-last_fetch (Set' _ _ before i) = last_fetch before
+-- the indexes that were fetched, the newest first
+abbrev pub indexes_in : RamCalls → List ℕ
+indexes_in None = []
+indexes_in (Fetched' _ _ before i) = i ∷ indexes_in before
+indexes_in (Set' _ _ before i) = indexes_in before

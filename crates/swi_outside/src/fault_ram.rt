@@ -3,9 +3,11 @@ ghost use Rattle.swi_outside.specs.CacheRam.{Fetched, WordSet, new_ram};
 ghost use Rattle.swi_outside.specs.Causes.{counted};
 
 use crate::fault_plan::FaultPlan;
+use crate::ram_calls::RamCalls;
 use crate::{CacheRam, Failed, Memory};
 use std::alloc::Global;
 use std::marker::Model;
+use std::snapshot::Snapshot;
 
 /// A ram whose calls fail where a list says so.
 #[derive(Drop)]
@@ -14,13 +16,15 @@ pub struct FaultRam {
     fetches: u64,
     sets: u64,
     reach: u32,
-    last: u32,
+    fetched: Snapshot<RamCalls>,
+    last_failed: bool,
     plan: FaultPlan,
 }
 
 impl Model for FaultRam {
     ghost use Rattle.std.specs.Prelude.{◌^◌, ◌<◌, length};
     ghost use Rattle.swi_outside.specs.CacheRam.{FaultyRam};
+    ghost use Rattle.swi_outside.specs.RamCalls.{indexes_in};
 
     ghost Value = { FaultyRam };
 
@@ -31,7 +35,8 @@ impl Model for FaultRam {
         sets = r.sets;
         faults = r.plan.faults;
         reach = r.reach;
-        last = r.last;
+        fetched_at = indexes_in r.fetched.value;
+        last_failed = r.last_failed;
       };
       failing = r.plan.failing.items;
       calls = r.plan.calls;
@@ -53,7 +58,8 @@ impl FaultRam {
             fetches: 0,
             sets: 0,
             reach: 0,
-            last: 0,
+            fetched: Snapshot::of(&RamCalls::None),
+            last_failed: false,
             plan: FaultPlan::new(failing),
         })
     }
@@ -97,9 +103,11 @@ impl CacheRam for FaultRam {
         ensures counted { self.new ≡ record self.old { ram = self.new.ram; calls = counted self.old.calls } }
     {
         self.reach = self.reach.max(i + 1);
+        self.last_failed = true;
         self.plan.try_call()?;
+        self.last_failed = false;
         self.fetches = self.fetches.saturating_add(1);
-        self.last = i;
+        self.fetched = Snapshot::of(&RamCalls::Fetched(Snapshot::of(&self.fetched), i));
         Ok(self.words[i as usize])
     }
 
@@ -113,7 +121,9 @@ impl CacheRam for FaultRam {
         ensures counted { self.new ≡ record self.old { ram = self.new.ram; calls = counted self.old.calls } }
     {
         self.reach = self.reach.max(i + 1);
+        self.last_failed = true;
         self.plan.try_call()?;
+        self.last_failed = false;
         self.words[i as usize] = w;
         self.sets = self.sets.saturating_add(1);
         Ok(())

@@ -15,9 +15,9 @@ pub struct VecRam {
 }
 
 impl Model for VecRam {
-    ghost use Rattle.std.specs.Prelude.{◌^◌, ◌<◌, length};
+    ghost use Rattle.std.specs.Prelude.{◌^◌, ◌<◌, length, false};
     ghost use Rattle.swi_outside.specs.CacheRam.{RamState};
-    ghost use Rattle.swi_outside.specs.RamCalls.{fetches_in, sets_in, reach_of, last_fetch};
+    ghost use Rattle.swi_outside.specs.RamCalls.{fetches_in, sets_in, reach_of, indexes_in};
 
     ghost Value = { RamState };
 
@@ -27,7 +27,8 @@ impl Model for VecRam {
       sets = sets_in r.calls.value;
       faults = 0;
       reach = reach_of r.calls.value;
-      last = last_fetch r.calls.value;
+      fetched_at = indexes_in r.calls.value;
+      last_failed = false;
     } };
 
     ghost invariant = { λ r. length r.words.items < 2 ^ 32 };

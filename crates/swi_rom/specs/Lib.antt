@@ -8,4 +8,5 @@ pub mod Collected
 pub mod Served
 pub mod Writing
 pub mod Rams
+pub mod Serving
 pub mod Blocks

@@ -54,7 +54,7 @@ Keeps k v s t before after = (images : ℕ → ImageData) → k.serves s v image
 pub record Spared (span : ℕ) (before after : RamState) : Type 0 where
   pub later : before.faults ≤ after.faults
   pub fetches_stay : after.fetches ≡ before.fetches
-  pub last_stays : after.last ≡ before.last
+  pub fetched_at_stays : after.fetched_at ≡ before.fetched_at
   pub length_stays : length after.words ≡ length before.words
   pub beyond : (i : ℕ) → span ≤ i → slice_index after.words i ≡ slice_index before.words i
   pub reached : after.reach ≤ max before.reach span
@@ -69,6 +69,8 @@ pub record Served (v : ImageData) (span target : ℕ) (old next new : Record) (b
   pub nothing_changes : IsErrOf result Outside → after ≡ before
   -- a fault comes only where the ram's count rose, and nothing else comes then
   pub failed : IsErrOf result RamFault → Rose before.faults after.faults
+  -- and no call of the ram comes behind the one that failed
+  pub last_failed : IsErrOf result RamFault → after.last_failed ≡ true
   pub quiet : OnServed result (after.faults ≡ before.faults)
   -- nothing is fetched, and words beyond the span stay, whatever the answer
   pub spared : Spared span before after

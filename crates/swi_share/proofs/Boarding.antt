@@ -12,9 +12,7 @@ use Rattle.swi_render.specs.Carried.{GoesOn}
 use Rattle.swi_rom.specs.Record.{Record, Placement, Has, Placed}
 use Rattle.swi_rom.specs.Coherent.{Coherent, StandsAt}
 use Rattle.swi_rom.specs.Policy.{is_placed}
-use Rattle.swi_slots.specs.Fifo.{fifo}
 use Rattle.swi_slots.specs.Slots.{Slots, kept_by, setting_of}
-use Rattle.swi_hart.specs.Leaving.{moved}
 use Rattle.swi_outside.specs.CacheRam.{RamState}
 use Rattle.swi_slots.specs.Service.{slots_service}
 use Rattle.swi_board.specs.Board.{BoardOf, entries}
@@ -22,9 +20,10 @@ use Rattle.swi_board.specs.Entered.{Entered}
 use Rattle.swi_hart.specs.declared.hart.Stage.TheVariants.{Start, Low, Return, Leave}
 use Rattle.swi_hart.specs.declared.hart.Control.{Control}
 use Rattle.swi_hart.specs.declared.hart.Control.TheVariants.{At, Outside}
-use Rattle.swi_hart.specs.Hart.{HartData, is_between, is_place, index_of, place_under}
-use Rattle.swi_hart.specs.Matching.{Agrees, Stands, Matches, Fits}
-use Rattle.swi_board.specs.Transfers.{Here, here_of, spent, spent_by, spent_run}
+use Rattle.swi_hart.specs.Hart.{HartData, is_place, index_of, place_under}
+use Rattle.swi_hart.specs.Matching.{Agrees, Stands, Matches}
+use Rattle.swi_board.specs.Transfers.{Here, here_of, spent, spent_by}
+use Rattle.swi_hart.proofs.Fitting.{matched_fits}
 use Rattle.swi_share.specs.Waiting.{WaitsAt, Holds, Waits, shows_place}
 use Rattle.swi_share.specs.Shared.{Context, has_left, enters, entered_if, begun_if}
 use Rattle.swi_share.specs.Event.{context, Boarded}
@@ -132,7 +131,7 @@ joined v b shown waits running booted law shows =
     record {
       hart = ap (λ (t : Bool). let x : HartData = record h { booted = t } in x) booted;
       matches = matches;
-      fits = record { flat = h.machine; image = waits.image; matches = matches };
+      fits = matched_fits v r h.machine h waits.image matches;
       begun = λ left. begun_on (enters r (context h v left)) (context h v left) (here_of v h.machine h.control) (stays_in r h v left running booted g.stays) booted
           (g.here ∙ ap (λ (e : Option End). place_under e h.control) (sym running));
       spent = subst (λ (e : Option End). spent_by e h.machine h.control ≡ 0) (sym running) g.spent_none;

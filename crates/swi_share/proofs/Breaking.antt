@@ -74,8 +74,8 @@ fetched_case v s here (suc zero) n more none le enough longest = inr (refl, le-l
 fetched_case v s here (suc (suc k)) n more none le enough longest = absurd (omega (arith, le))
 
 pub ram_broke_event : (v : ImageData) (left : List ℕ) (old b : BoardOf Slots) (h' : HartData) (before after : EventDevices) (mid : RamState) (k : ℕ) → k ≡ 1 → Boarded v old b → mid.fetches ≡ before.ram.fetches →
-    RamBrokeOff v k (started old.hart.machine left) b.hart h' mid after.ram after.input before.out after.out before.err after.err → EventRamBroke (event_at old v left) left before after
-ram_broke_event v left old b h' before after mid k one is same q =
+    RamBrokeOff v k (started old.hart.machine left) b.hart h' mid after.ram after.input before.out after.out before.err after.err → after.ram.last_failed ≡ true → EventRamBroke (event_at old v left) left before after
+ram_broke_event v left old b h' before after mid k one is same q last =
     subst (λ (e : Event). EventRamBroke e left before after) (sym (event_is v left old b is)) at_step
   where
     s : FlatState
@@ -98,6 +98,7 @@ ram_broke_event v left old b h' before after mid k one is same q =
         output = subst (λ (t : Bool). Appends before.out after.out (if t then e.output else [])) (sym w.1) (subst (λ (x : FlatState). Appends before.out after.out x.output) (run_zero q.steps s w.0) q.output);
         error = subst (λ (t : Bool). Appends before.err after.err (if t then e.error else [])) (sym w.1) (subst (λ (x : FlatState). Appends before.err after.err x.error) (run_zero q.steps s w.0) q.error);
         input = q.input ∙ ap (λ (x : FlatState). Some x.input) (run_zero q.steps s w.0) ∙ ap (λ (t : Bool). Some (if t then e.context.input else left)) (sym w.1);
+        last_failed = last;
       }
       | inr w ↦ record {
         fetched = q.fetched;
@@ -105,6 +106,7 @@ ram_broke_event v left old b h' before after mid k one is same q =
         output = subst (λ (t : Bool). Appends before.out after.out (if t then e.output else [])) (sym w.1) (subst (λ (n : ℕ). Appends before.out after.out (held_run n s).output) w.0 q.output);
         error = subst (λ (t : Bool). Appends before.err after.err (if t then e.error else [])) (sym w.1) (subst (λ (n : ℕ). Appends before.err after.err (held_run n s).error) w.0 q.error);
         input = q.input ∙ ap (λ (n : ℕ). Some (held_run n s).input) w.0 ∙ ap (λ (t : Bool). Some (if t then e.context.input else left)) (sym w.1);
+        last_failed = last;
       }
     ]
 
@@ -157,8 +159,8 @@ same_if true xs ys (inr e) = e
 same_if false xs ys e = refl
 
 pub entry_broke : (v : ImageData) (left : List ℕ) (old : BoardOf Slots) (ram : RamState) (before : EventDevices) → Waits v (kept_by old.rom) old.hart → old.hart.machine.ending ≡ None →
-    ((l : List ℕ) → enters (kept_by old.rom) (context old.hart v l) ≡ true) → ram.fetches ≡ before.ram.fetches → before.input ≡ Some left → EventRamBroke (event_at old v left) left before (record before { ram = ram })
-entry_broke v left old ram before waits going anew fetches_stay told =
+    ((l : List ℕ) → enters (kept_by old.rom) (context old.hart v l) ≡ true) → ram.fetches ≡ before.ram.fetches → ram.last_failed ≡ true → before.input ≡ Some left → EventRamBroke (event_at old v left) left before (record before { ram = ram })
+entry_broke v left old ram before waits going anew fetches_stay last told =
     let r = kept_by old.rom in
     let c = context old.hart v left in
     let s : FlatState = started old.hart.machine left in
@@ -176,6 +178,7 @@ entry_broke v left old ram before waits going anew fetches_stay told =
       error = subst (λ (l : List ℕ). Appends before.err before.err l)
           (sym (none_if (nat_le e.fetches 0) e.error (elim cases [ inl t ↦ inl (no_word t) | inr q ↦ inr (ap (λ (x : FlatState). x.error) (flat ∙ q)) ]))) (Appends-none before.err);
       input = told ∙ ap (λ (l : List ℕ). Some l) (sym (same_if (nat_le e.fetches 0) e.context.input left (elim cases [ inl t ↦ inl (no_word t) | inr q ↦ inr (ap (λ (x : FlatState). x.input) (flat ∙ q)) ])));
+      last_failed = last;
     }
   where
     risen_none : (n : ℕ) → n ≡ risen n 0

@@ -1,7 +1,6 @@
 -- A run of one step makes an event.
-use Rattle.std.proofs.Common.{◌≡◌, ℕ, ◌+◌, ◌-◌, ◌*◌, ◌<◌, ◌≤◌, ◌^◌, Bool, true, false, not, List, [], Option, Some, None, is_some, if◌then◌else◌, Result, Ok, Err, IsErrOf, arith, refl, sym, ◌∙◌, ap, subst, inl, inr}
+use Rattle.std.proofs.Common.{◌≡◌, ℕ, ◌+◌, ◌-◌, ◌*◌, ◌<◌, ◌≤◌, ◌^◌, Bool, true, false, not, List, [], Option, Some, None, is_some, if◌then◌else◌, Result, Ok, Err, IsErrOf, arith, refl, sym, ◌∙◌, ap, subst}
 use Rattle.std.proofs.lemmas.Bool.{false≢true, and_from, eq-eqb}
-use Rattle.swi_memory.specs.Bus.{fetched}
 use Rattle.swi_calls.specs.declared.end.End.{End}
 use Rattle.swi_calls.specs.declared.machine.Machine.{Machine}
 use Rattle.swi_calls.specs.Flat.{started}
@@ -9,7 +8,6 @@ use Rattle.swi_calls.specs.Held.{held_run}
 use Rattle.swi_calls.specs.State.{FlatState}
 use Rattle.swi_image.specs.Format.{ImageData}
 use Rattle.swi_image.specs.Place.{place_of}
-use Rattle.swi_render.specs.Carried.{Carries}
 use Rattle.swi_rom.specs.Record.{Record, writes}
 use Rattle.swi_rom.specs.Coherent.{Coherent}
 use Rattle.swi_rom.specs.Rams.{risen_more}
@@ -27,7 +25,7 @@ use Rattle.swi_outside.specs.Devices.{Faults, HasCauses}
 use Rattle.swi_outside.specs.Laws.{cause_as, named_as}
 use Rattle.swi_hart.specs.declared.fault.BoardFault.TheVariants.{RamFault, SourceFault, SinkFault}
 use Rattle.swi_hart.specs.declared.fault.BoardFault.{BoardFault}
-use Rattle.swi_hart.specs.Matching.{Agrees, Stands, Matches, Fits}
+use Rattle.swi_hart.specs.Matching.{Agrees, StandsBy, Matches, Fits}
 use Rattle.swi_board.specs.Board.{BoardOf, entries}
 use Rattle.swi_board.specs.Ran.{Ran, RamRan}
 use Rattle.swi_board.specs.Runs.{fetched_by}
@@ -77,33 +75,33 @@ place_told None v m Outside here between is = is refl
 
 -- ---- where control waits
 
-waits_at : (v : ImageData) (r : Record) (f m : Machine) (c : Control) → is_between c ≡ true → Stands v r f m c → WaitsAt v m.pc c
-waits_at v r f m (At i b o Start) t s = subst (λ (k : Machine). WaitsAt v k.pc (At i b o Start)) (sym s.1.0) s.1.1
-waits_at v r f m (At i b o Low) t s = absurd (false≢true t)
-waits_at v r f m (At i b o Return) t s = absurd (false≢true t)
-waits_at v r f m (At i b o Leave) t s = absurd (false≢true t)
-waits_at v r f m Outside t s = subst (λ (k : Machine). place_of v k.pc ≡ None) (sym s.0) s.1
+waits_at : (v : ImageData) (r : Record) (m : Machine) (c : Control) → is_between c ≡ true → StandsBy None v r m c → WaitsAt v m.pc c
+waits_at v r m (At i b o Start) t s = s.1
+waits_at v r m (At i b o Low) t s = absurd (false≢true t)
+waits_at v r m (At i b o Return) t s = absurd (false≢true t)
+waits_at v r m (At i b o Leave) t s = absurd (false≢true t)
+waits_at v r m Outside t s = s
 
-holds_at : (v : ImageData) (r : Record) (span : ℕ) (words : List ℕ) (f m : Machine) (c : Control) → Coherent v r span words → is_between c ≡ true → Stands v r f m c → Holds r c
-holds_at v r span words f m (At i b o Start) coherent t s = λ g h. s.0.2 ∙ ap (λ (x : ℕ). x + o) (coherent.once b s.0.0 g s.0.1 h)
-holds_at v r span words f m (At i b o Low) coherent t s = absurd (false≢true t)
-holds_at v r span words f m (At i b o Return) coherent t s = absurd (false≢true t)
-holds_at v r span words f m (At i b o Leave) coherent t s = absurd (false≢true t)
-holds_at v r span words f m Outside coherent t s = tt
+holds_at : (v : ImageData) (r : Record) (span : ℕ) (words : List ℕ) (m : Machine) (c : Control) → Coherent v r span words → is_between c ≡ true → StandsBy None v r m c → Holds r c
+holds_at v r span words m (At i b o Start) coherent t s = λ g h. s.0.2 ∙ ap (λ (x : ℕ). x + o) (coherent.once b s.0.0 g s.0.1 h)
+holds_at v r span words m (At i b o Low) coherent t s = absurd (false≢true t)
+holds_at v r span words m (At i b o Return) coherent t s = absurd (false≢true t)
+holds_at v r span words m (At i b o Leave) coherent t s = absurd (false≢true t)
+holds_at v r span words m Outside coherent t s = tt
 
-running : (e : Option End) (v : ImageData) (r : Record) (f m : Machine) (c : Control) → e ≡ None → Agrees e v r f m c → Stands v r f m c
-running None v r f m c is a = a
-running (Some x) v r f m c is a = absurd (cc)
+going_on : (e : Option End) (v : ImageData) (r : Record) (m : Machine) (c : Control) → e ≡ None → StandsBy e v r m c → StandsBy None v r m c
+going_on None v r m c is a = a
+going_on (Some x) v r m c is a = absurd (cc)
 
 -- a hart that fits its image waits for its next event
 waits : (v : ImageData) (r : Record) (span : ℕ) (words : List ℕ) (h : HartData) → Coherent v r span words → (h.machine.ending ≡ None → is_between h.control ≡ true) → Fits v r h → h.failed ≡ false →
     h.booted ≡ true → h.count ≤ most_steps h.machine.ending h.machine.steps → Waits v r h
 waits v r span words h coherent between fits unfailed booted bounded = record {
-  image = subst (λ (m : Machine). Carries (fetched m.bus) v) (sym (same_between v r fits.flat h.machine h.control between fits.matches)) fits.image;
+  image = fits.image;
   unfailed = unfailed;
   between = between;
-  stands = λ _ going. waits_at v r fits.flat h.machine h.control (between going) (running h.machine.ending v r fits.flat h.machine h.control going fits.matches);
-  holds = λ _ going. holds_at v r span words fits.flat h.machine h.control coherent (between going) (running h.machine.ending v r fits.flat h.machine h.control going fits.matches);
+  stands = λ _ going. waits_at v r h.machine h.control (between going) (going_on h.machine.ending v r h.machine h.control going fits.place);
+  holds = λ _ going. holds_at v r span words h.machine h.control coherent (between going) (going_on h.machine.ending v r h.machine h.control going fits.place);
   bounded = bounded;
   unbooted = λ no. absurd (false≢true (sym no ∙ booted));
 }

@@ -71,6 +71,8 @@ pub record EventRamBroke (e : Event) (left : List ℕ) (before after : EventDevi
   pub output : Appends before.out after.out (if nat_le e.fetches fetched then e.output else [])
   pub error : Appends before.err after.err (if nat_le e.fetches fetched then e.error else [])
   pub input : after.input ≡ Some (if nat_le e.fetches fetched then e.context.input else left)
+  -- no call of the ram comes behind the one that failed
+  pub last_failed : after.ram.last_failed ≡ true
 
 -- a hart that is to make a step: it has entered the ram anew, or it goes on where it stands
 pub record Boarded (v : ImageData) (old new : BoardOf Slots) : Type 0 where

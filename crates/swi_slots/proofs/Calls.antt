@@ -21,7 +21,8 @@ use Rattle.swi_slots.specs.Queue.{length_queue, placed_slot}
 use Rattle.swi_slots.specs.SlotLinks.{word_slot}
 use Rattle.swi_rom.specs.Rams.{failed_more}
 use Rattle.swi_slots.proofs.Policy.{counted_forward}
-use Rattle.swi_slots.proofs.Crossing.{ExitIn, exit_in, free_stays, exit_same, entered, fault_served, crossed, crossed_sound}
+use Rattle.swi_rom.specs.Serving.{fault_served}
+use Rattle.swi_slots.proofs.Crossing.{ExitIn, exit_in, free_stays, exit_same, entered, crossed, crossed_sound}
 use Rattle.swi_image.specs.Sound.{IsImage}
 use Rattle.swi_image.specs.Laws.{place_inside}
 use Rattle.swi_rom.specs.Blocks.{block_short, known_few}

@@ -2,7 +2,7 @@
 use Rattle.std.proofs.Common.{◌≡◌, ℕ, ◌+◌, ◌*◌, ◌<◌, true, false, max, if◌then◌else◌, length, slice_index, slice_set, List, arith, refl, sym, ◌∙◌, ap, subst, inl, inr}
 use Rattle.std.proofs.lemmas.List.{length-set, get_or-set_same, get_or-set_other}
 use Rattle.std.proofs.lemmas.Bool.{cases_eq}
-use Rattle.swi_outside.specs.CacheRam.{RamState}
+use Rattle.swi_outside.specs.CacheRam.{RamState, with_set}
 use Rattle.swi_outside.specs.Causes.{counted}
 use Rattle.swi_rom.specs.Record.{ebreak}
 use Rattle.swi_rom.specs.Writing.{Wrote}
@@ -61,7 +61,7 @@ cleared_drop slots size slot n old mid a b c lt drops quiet = record {
 -- the word is a link from another slot, and it has been undone
 pub cleared_undo : (slots size slot n : ℕ) (old mid : List ℕ) (a b d : RamState) → Cleared slots size slot n old mid a b → n < length old → length old ≡ slots * size → n < length b.words →
     is_dropped size slot old n ≡ true → leads_in size slot old n ≡ true →
-    d ≡ record b { words = slice_set b.words n ebreak; sets = counted b.sets; reach = max b.reach (n + 1) } →
+    d ≡ with_set b n ebreak →
     Cleared slots size slot (n + 1) old (slice_set mid n slots) a d
 cleared_undo slots size slot n old mid a b d c lt long fits drops leads e =
     let words : d.words ≡ slice_set b.words n ebreak = ap (λ (s : RamState). s.words) e in

@@ -20,7 +20,8 @@ use Rattle.swi_rom.specs.Writing.{Wrote, FailedBelow}
 use Rattle.swi_slots.specs.Steps.{Linked, MaybeLinked, can_link}
 use Rattle.swi_slots.specs.Arrived.{Arrived}
 use Rattle.swi_rom.specs.declared.rom.RomStop.TheVariants.{Outside, RamFault}
-use Rattle.swi_rom.specs.Rams.{wrote_more, spared_none}
+use Rattle.swi_rom.specs.Rams.{wrote_more}
+use Rattle.swi_rom.specs.Serving.{served, fault_served, none_served}
 use Rattle.swi_rom.specs.Links.{has_with, same_is, same_same}
 use Rattle.swi_slots.specs.Queue.{has_slot, slot_has, placed_slot, slot_placed, length_queue}
 use Rattle.swi_slots.specs.SlotLinks.{Tidy, link_of, link_key, link_target, never_link, linked_word, word_linked, among_is, word_slot}
@@ -40,53 +41,13 @@ arrived_target vs s t c q slot target a b arr is = record {
   index = ap (λ (x : ℕ). slot * x + q) (sym arr.size_stays);
 }
 
-served : (v : ImageData) (span target i k : ℕ) (c : ℕ × ℕ) (old next new : Record) (a b : RamState) → place_of v target ≡ Some c → new ≡ next → TargetAt v new target i → Wrote span k a b → k ≡ writes new - writes old → WordsMove v old new a b →
-    Served v span target old next new a b (Ok i)
-served v span target i k c old next new a b is moves at wrote number words = record {
-  moves = moves;
-  answer = at;
-  outside = λ e. cc;
-  only_outside = λ e. cc;
-  nothing_changes = λ e. cc;
-  failed = λ e. cc;
-  quiet = wrote.quiet;
-  spared = wrote.spared;
-  sets_rise = wrote.sets_rise ∙ ap (λ (n : ℕ). risen a.sets n) number;
-  words = words;
-}
-
-pub fault_served : (v : ImageData) (span target : ℕ) (c : ℕ × ℕ) (old next new : Record) (a b : RamState) → place_of v target ≡ Some c → FailedBelow span a b → Served v span target old next new a b (Err RamFault)
-fault_served v span target c old next new a b is f = record {
-  moves = tt;
-  answer = tt;
-  outside = λ e. cc;
-  only_outside = λ e. cc;
-  nothing_changes = λ e. cc;
-  failed = λ e. f.rose;
-  quiet = tt;
-  spared = f.spared;
-  sets_rise = tt;
-  words = tt;
-}
-
 outside_moves : (by : Setting) (v : ImageData) (r : Record) (t : Transfer) → is_over_link r t ≡ false → place_of v (target_of t) ≡ None → r ≡ fifo by r v t
 unfolding served_by went
 outside_moves by v r t over none = rw (over, none) refl
 
 pub outside_served : (v : ImageData) (s : Slots) (t : Transfer) (a : RamState) → is_over_link (kept_by s) t ≡ false → place_of v (target_of t) ≡ None →
     Served v (span_of (setting_of s)) (target_of t) (kept_by s) (fifo (setting_of s) (kept_by s) v t) (kept_by s) a a (Err Outside)
-outside_served v s t a over none = record {
-  moves = outside_moves (setting_of s) v (kept_by s) t over none;
-  answer = tt;
-  outside = λ e. none;
-  only_outside = λ e. refl;
-  nothing_changes = λ e. refl;
-  failed = λ e. cc;
-  quiet = refl;
-  spared = spared_none (s.slots * s.size) a;
-  sets_rise = omega arith;
-  words = record { changes = λ i. inl refl; restored = λ k f was is h h'. absurd (both_ways (has_link (links_of s) k) is was) };
-}
+outside_served v s t a over none = none_served v _ _ _ _ a none (outside_moves (setting_of s) v (kept_by s) t over none)
 
 indirect_moves : (v : ImageData) (s : Slots) (target c q : ℕ) → place_of v target ≡ Some (c, q) → arrived (setting_of s) v (counted (kept_by s)) c ≡ fifo (setting_of s) (kept_by s) v (indirect target)
 unfolding served_by went

@@ -19,23 +19,23 @@ use Rattle.swi_report.specs.State.{state_text_of}
 use Rattle.swi_report.specs.Stats.{stats_text_of, work_text}
 use Rattle.swi_cached.specs.Cached.{CachedRun, end_of, program_after}
 use Rattle.swi_cached.specs.Told.{is_each}
-use Rattle.swi_command.specs.declared.command.Trace.{Trace}
-use Rattle.swi_command.specs.declared.command.Trace.TheVariants as trace
+use Rattle.swi_trace.specs.declared.trace.Trace.{Trace}
+use Rattle.swi_trace.specs.declared.trace.Trace.TheVariants as trace
 use Rattle.swi_answer.specs.declared.answer.Ending.{Ending}
 use Rattle.swi_answer.specs.declared.answer.Refusal.{Refusal}
 use Rattle.swi_answer.specs.declared.answer.Refusal.TheVariants as refusal
 use Rattle.swi_answer.specs.Lines.{ending_line}
-use Rattle.swi_top.specs.Devices.{Devices}
+use Rattle.swi_top.specs.Devices.{Devices, with_error_faults}
 use Rattle.swi_top.specs.Checks.{Check, OfImage, IsShort, IsAcceptedElf, HasRoom, HasImage, IsAcceptedImage, IsOwnImage, FitsBlocks, FitsUnlessImage, FitsMade, HoldsBlock, Fails, Passes, IsAccepted, IsRefusedBy, cache_refusal, text_in}
 use Rattle.swi_top.specs.Runs.{Ran, report, start_of}
-use Rattle.swi_top.specs.Answers.{Answers, AnswersWithLine}
+use Rattle.swi_top.specs.Answers.{AnswersWithLine}
 use Rattle.swi_top.specs.Caching.{cache_for, work_of}
-use Rattle.swi_top.specs.RunCached.{cached_run, cached_task, shown_end, shown_error, telling_of}
+use Rattle.swi_top.specs.RunCached.{cached_run, cached_task, shown_end, shown_error}
 use Rattle.swi_top.specs.RunPlain.{plain_report, plain_run, plain_task}
 use Rattle.swi_top.specs.Task.{Task}
 use Rattle.swi_top.specs.Tasks.{task_of}
 use Rattle.swi_top.specs.Alike.{IsFree, LeavesAlike}
-use Rattle.swi_top.proofs.Lines.{take_all}
+use Rattle.swi_top.proofs.Lines.{errors_later, rose_above, rose_below, take_all}
 
 -- ---- a file does not both pass a check and fail it
 
@@ -65,28 +65,31 @@ not_both (c ∷ cs) r passed h = elim h [ inl f ↦ fails_not c r passed.0 f | i
 size_not : (x : Option Refusal) (r : Refusal) → x ≡ None → x ≡ Some r → ⊥
 size_not x r none some = cc
 
-not_refused : (t : Task) (files : t.Files) (before after : Devices) (r : Refusal) (last : List ℕ) → Answers t before after (Err r) last → IsFree t files before after (Err r) → ⊥
-not_refused t files before after refusal.Usage last a free = a.asked refl
-not_refused t files before after refusal.Memory last a free = free.memory refl
-not_refused t files before after refusal.ShelfFault last a free = free.quiet.shelf (a.causes.shelf.cause refl)
-not_refused t files before after refusal.SourceFault last a free = free.quiet.input (a.causes.source.cause refl)
-not_refused t files before after refusal.SinkFault last a free = elim (a.causes.sink refl) [ inl out ↦ free.quiet.out out | inr err ↦ free.quiet.err err ]
-not_refused t files before after refusal.RamFault last a free = free.quiet.ram (a.causes.ram.cause refl)
-not_refused t files before after (refusal.CacheLarge bytes) last a free = size_not (cache_refusal t.cache (length before.ram.words)) (refusal.CacheLarge bytes) free.sized (a.sized.only tt)
-not_refused t files before after (refusal.RamSmall bytes held) last a free = size_not (cache_refusal t.cache (length before.ram.words)) (refusal.RamSmall bytes held) free.sized (a.sized.only tt)
-not_refused t files before after (refusal.FileLong limit) last a free = not_both (t.checks files) (refusal.FileLong limit) free.accepted (a.checked files free.told)
-not_refused t files before after (refusal.Elf r) last a free = not_both (t.checks files) (refusal.Elf r) free.accepted (a.checked files free.told)
-not_refused t files before after (refusal.Room end) last a free = not_both (t.checks files) (refusal.Room end) free.accepted (a.checked files free.told)
-not_refused t files before after refusal.NoImage last a free = not_both (t.checks files) refusal.NoImage free.accepted (a.checked files free.told)
-not_refused t files before after (refusal.Image r) last a free = not_both (t.checks files) (refusal.Image r) free.accepted (a.checked files free.told)
-not_refused t files before after (refusal.Mismatch m) last a free = not_both (t.checks files) (refusal.Mismatch m) free.accepted (a.checked files free.told)
-not_refused t files before after (refusal.Long address needs) last a free = not_both (t.checks files) (refusal.Long address needs) free.accepted (a.checked files free.told)
-not_refused t files before after (refusal.CacheSmall bytes least) last a free = not_both (t.checks files) (refusal.CacheSmall bytes least) free.accepted (a.checked files free.told)
+not_refused : (t : Task) (files : t.Files) (before after : Devices) (r : Refusal) → AnswersWithLine t before after (Err r) → IsFree t files before after (Err r) → ⊥
+not_refused t files before after refusal.Usage a free = a.answers.asked refl
+not_refused t files before after refusal.Memory a free = free.memory refl
+not_refused t files before after refusal.ShelfFault a free = free.quiet.shelf (a.answers.causes.shelf.cause refl)
+not_refused t files before after refusal.SourceFault a free = free.quiet.input (a.answers.causes.streams.input.cause refl)
+not_refused t files before after refusal.SinkFault a free = elim (a.answers.causes.streams.sinks.cause refl) [
+  | inl rose ↦ free.quiet.output rose
+  | inr rose ↦ free.quiet.error (rose_above before.error.faults a.untold after.error.faults a.later rose)
+]
+not_refused t files before after refusal.RamFault a free = free.quiet.ram (a.answers.causes.ram.cause refl)
+not_refused t files before after (refusal.CacheLarge bytes) a free = size_not (cache_refusal t.cache (length before.ram.words)) (refusal.CacheLarge bytes) free.sized (a.answers.sized.only tt)
+not_refused t files before after (refusal.RamSmall bytes held) a free = size_not (cache_refusal t.cache (length before.ram.words)) (refusal.RamSmall bytes held) free.sized (a.answers.sized.only tt)
+not_refused t files before after (refusal.FileLong limit) a free = not_both (t.checks files) (refusal.FileLong limit) free.accepted (a.answers.checked files free.told)
+not_refused t files before after (refusal.Elf r) a free = not_both (t.checks files) (refusal.Elf r) free.accepted (a.answers.checked files free.told)
+not_refused t files before after (refusal.Room end) a free = not_both (t.checks files) (refusal.Room end) free.accepted (a.answers.checked files free.told)
+not_refused t files before after refusal.NoImage a free = not_both (t.checks files) refusal.NoImage free.accepted (a.answers.checked files free.told)
+not_refused t files before after (refusal.Image r) a free = not_both (t.checks files) (refusal.Image r) free.accepted (a.answers.checked files free.told)
+not_refused t files before after (refusal.Mismatch m) a free = not_both (t.checks files) (refusal.Mismatch m) free.accepted (a.answers.checked files free.told)
+not_refused t files before after (refusal.Long address needs) a free = not_both (t.checks files) (refusal.Long address needs) free.accepted (a.answers.checked files free.told)
+not_refused t files before after (refusal.CacheSmall bytes least) a free = not_both (t.checks files) (refusal.CacheSmall bytes least) free.accepted (a.answers.checked files free.told)
 
 pub completes : (q : Request) (files : (task_of q).Files) (before after : Devices) (result : Result Ending Refusal) →
     AnswersWithLine (task_of q) before after result → IsFree (task_of q) files before after result → (e : Ending) × (result ≡ Ok e)
 completes q files before after (Ok e) a free = (e, refl)
-completes q files before after (Err r) a free = absurd (not_refused (task_of q) files before after r _ a.answers free)
+completes q files before after (Err r) a free = absurd (not_refused (task_of q) files before after r a free)
 
 -- ---- both machines
 
@@ -121,42 +124,46 @@ both_ran o s t w before plain cached e f n k same quiet one whole other whole' =
         bytes = s.output ++ plain_report o s;
         counts = counts;
         plain_output = one.output;
-        cached_output = subst (λ (l : List ℕ). Appends before.output cached.output l)
+        cached_output = subst (λ (l : List ℕ). Appends before.output.held cached.output.held l)
             (ap (λ (l : List ℕ). s.output ++ l) (report_more o.reports s.machine w) ∙ sym (append_assoc s.output (plain_report o s) counts)) ran.output;
         uncounted = no_counts o.reports.stats (work_text w);
         lines = s.error ++ ending_line e;
-        plain_error = whole_line before.error plain.error s.error (ending_line e) n whole one.error;
-        cached_error = λ off. subst (λ (l : List ℕ). Appends before.error cached.error (l ++ ending_line e)) (quiet off)
-            (subst (λ (x : Ending). Appends before.error cached.error (t.error ++ ending_line x)) ends
-            (whole_line before.error cached.error t.error (ending_line f) k whole' ran.error));
+        plain_error = whole_line before.error.held plain.error.held s.error (ending_line e) n whole one.error;
+        cached_error = λ off. subst (λ (l : List ℕ). Appends before.error.held cached.error.held (l ++ ending_line e)) (quiet off)
+            (subst (λ (x : Ending). Appends before.error.held cached.error.held (t.error ++ ending_line x)) ends
+            (whole_line before.error.held cached.error.held t.error (ending_line f) k whole' ran.error));
       },
     )
 
 -- without lines of steps the errors are the program's own
-shown_is : (t : Trace) (c : CachedRun) → t ≡ trace.Off → record (program_after c c.limit) { error = shown_error t (record c { trace = is_each (telling_of t) }) } ≡ end_of c
+shown_is : (t : Trace) (c : CachedRun) → t ≡ trace.Off → record (program_after c c.limit) { error = shown_error t (record c { trace = is_each t }) } ≡ end_of c
 shown_is trace.Off c off = refl
 shown_is trace.Each c off = cc
 shown_is trace.Last c off = cc
 
+-- whatever the error sink's count
+ran_seen : (s : FlatState) (report : List ℕ) (d m : Devices) (n : ℕ) (e : Ending) (last : List ℕ) → Ran s report d (with_error_faults m n) e last → Ran s report d m e last
+ran_seen s report d m n e last h = record { ending = h.ending; input = h.input; output = h.output; error = h.error }
+
 ended_alike : (name : List ℕ) (cache : CacheOptions) (o : RunOptions) (file input : List ℕ) (before plain cached : Devices) (e f : Ending) →
     AnswersWithLine (plain_task name o) before plain (Ok e) → IsFree (plain_task name o) file before plain (Ok e) →
     AnswersWithLine (cached_task name cache o) before cached (Ok f) → IsFree (cached_task name cache o) file before cached (Ok f) →
-    before.input ≡ Some input → ((j : ℕ) → j < o.limits.steps → StoresAt (start_of o file input) j → ⊥) → (f ≡ e) × LeavesAlike o before plain cached
+    before.input.left ≡ Some input → ((j : ℕ) → j < o.limits.steps → StoresAt (start_of o file input) j → ⊥) → (f ≡ e) × LeavesAlike o before plain cached
 ended_alike name cache o file input before plain cached e f one free other free' told never =
-    let ran = one.answers.done file free.told input told in
+    let ran = ran_seen _ _ before plain one.untold e _ (one.answers.done file free.told input told) in
     let does = other.answers.done file free'.told in
     let runs = does.3 input told in
     let c = cached_run (cache_for cache does.0) o does.0 (start_of o file input) in
     let flat = runs.cached.flat o.limits.steps never in
     both_ran o (plain_run o file input o.limits.steps) (shown_end o c) (work_of c) before plain cached e f one.shown other.shown (ap (λ (q : FlatState). record q { error = shown_error o.reports.trace c }) flat)
-    (λ off. ap (λ (q : FlatState). q.error) (shown_is o.reports.trace c off ∙ flat)) ran (one.whole free.quiet.err) runs.ran (other.whole free'.quiet.err)
+    (λ off. ap (λ (q : FlatState). q.error) (shown_is o.reports.trace c off ∙ flat)) ran (one.whole (λ rose. free.quiet.error (rose_below before.error.faults one.untold plain.error.faults (errors_later before (with_error_faults plain one.untold) (Ok e) one.answers.causes) rose))) (ran_seen _ _ before cached other.untold f _ runs.ran) (other.whole (λ rose. free'.quiet.error (rose_below before.error.faults other.untold cached.error.faults (errors_later before (with_error_faults cached other.untold) (Ok f) other.answers.causes) rose)))
 
 pub ends_alike : (name : List ℕ) (cache : CacheOptions) (o : RunOptions) (file input : List ℕ) (before plain cached : Devices) (one other : Result Ending Refusal) →
     AnswersWithLine (plain_task name o) before plain one → IsFree (plain_task name o) file before plain one →
     AnswersWithLine (cached_task name cache o) before cached other → IsFree (cached_task name cache o) file before cached other →
-    before.input ≡ Some input → ((j : ℕ) → j < o.limits.steps → StoresAt (start_of o file input) j → ⊥) →
+    before.input.left ≡ Some input → ((j : ℕ) → j < o.limits.steps → StoresAt (start_of o file input) j → ⊥) →
     (e : Ending) × (one ≡ Ok e) × (other ≡ Ok e) × LeavesAlike o before plain cached
 ends_alike name cache o file input before plain cached (Ok e) (Ok f) a free b free' told never =
     let both = ended_alike name cache o file input before plain cached e f a free b free' told never in (e, refl, ap (λ (x : Ending). Ok x) both.0, both.1)
-ends_alike name cache o file input before plain cached (Err r) other a free b free' told never = absurd (not_refused (plain_task name o) file before plain r _ a.answers free)
-ends_alike name cache o file input before plain cached (Ok e) (Err r) a free b free' told never = absurd (not_refused (cached_task name cache o) file before cached r _ b.answers free')
+ends_alike name cache o file input before plain cached (Err r) other a free b free' told never = absurd (not_refused (plain_task name o) file before plain r a free)
+ends_alike name cache o file input before plain cached (Ok e) (Err r) a free b free' told never = absurd (not_refused (cached_task name cache o) file before cached r b free')

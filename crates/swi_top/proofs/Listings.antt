@@ -5,8 +5,8 @@ use Rattle.std.proofs.lemmas.List.{append-nil, append_assoc}
 use Rattle.std.specs.Io.KnownBytes.{Appends}
 use Rattle.swi_outside.specs.Causes.{HasCause}
 use Rattle.swi_outside.specs.Laws.{Appends-append, Appends-none}
-use Rattle.swi_outside.specs.Shelf.{Contents, Same, Stands}
-use Rattle.swi_outside.specs.Sink.{AppendsPrefix}
+use Rattle.swi_outside.specs.Shelf.{ShelfState}
+use Rattle.swi_outside.specs.Sink.{AppendsPrefix, SinkState}
 use Rattle.swi_outside.proofs.SinkLemmas.{prefix_behind}
 use Rattle.swi_elf_read.specs.Loaded.{image_of as image_in}
 use Rattle.swi_program.specs.Text.{TextData}
@@ -18,12 +18,12 @@ use Rattle.swi_answer.specs.declared.answer.Refusal.TheVariants as refusal
 use Rattle.swi_trace.specs.Block.{block_lines}
 use Rattle.swi_top.specs.Answers.{Answers}
 use Rattle.swi_top.specs.Checks.{IsAccepted, text_in}
-use Rattle.swi_top.specs.Devices.{Devices}
+use Rattle.swi_top.specs.Devices.{Devices, stream_faults}
 use Rattle.swi_top.specs.ListFile.{Lists, ListFailed, first_blocks, list_checks, list_task, listing}
 use Rattle.swi_top.specs.Subject.{IsImageFor}
-use Rattle.swi_top.proofs.Confirming.{out_causes}
+use Rattle.swi_top.proofs.Confirming.{keeps_read, out_causes}
 use Rattle.swi_top.proofs.Lines.{IsLined, done_lined}
-use Rattle.swi_top.proofs.Refusals.{ok_causes, sized_err, sized_ok, told_is}
+use Rattle.swi_top.proofs.Refusals.{IsRead, calm_causes, sized_err, sized_ok, told_is}
 
 -- ---- block by block
 
@@ -64,43 +64,42 @@ block_broken t v k n o p q within written front =
 
 -- ---- what a command answers that writes it
 
-pub listed : (name : List ℕ) (most : ℕ) (d : Devices) (c : Option Contents) (out : Option (List ℕ)) (n : ℕ) (bytes : List ℕ) (v : ImageData) (r : Result Ending Refusal) →
-    Same d.contents c → Stands d.contents name bytes → IsAccepted (list_checks most bytes) → IsImageFor bytes most (image_in bytes) v →
-    IfOk r (λ e. (e ≡ ending.Done) × Appends d.output out (listing (text_in bytes) v)) →
-    IfErr r (λ x. (x ≡ refusal.SinkFault) × AppendsPrefix d.output out (listing (text_in bytes) v)) → HasCause d.faults.out n r →
-    Answers (list_task name most) d (record d { contents = c; output = out; faults = record d.faults { out = n } }) r []
-listed name most d c out n bytes v (Ok e) same stands accepted own written broke cause =
-    let still : n ≡ d.faults.out = cause.quiet in
-    subst (λ (k : ℕ). Answers (list_task name most) d (record d { contents = c; output = out; faults = record d.faults { out = k } }) (Ok e) []) (sym still) (record {
+pub listed : (name : List ℕ) (most : ℕ) (d : Devices) (s : ShelfState) (out : SinkState) (bytes : List ℕ) (v : ImageData) (r : Result Ending Refusal) →
+    IsRead d.shelf s name bytes → IsAccepted (list_checks most bytes) → IsImageFor bytes most (image_in bytes) v →
+    IfOk r (λ e. (e ≡ ending.Done) × Appends d.output.held out.held (listing (text_in bytes) v)) →
+    IfErr r (λ x. (x ≡ refusal.SinkFault) × AppendsPrefix d.output.held out.held (listing (text_in bytes) v)) → HasCause d.output.faults out.faults r →
+    Answers (list_task name most) d (record d { shelf = s; output = out }) r []
+listed name most d s out bytes v (Ok e) read accepted own written broke cause =
+    let m : Devices = record d { shelf = s; output = out } in record {
       asked = λ x. let bad : ⊥ = cc in bad;
       sized = sized_ok e;
-      checked = λ file told. subst (λ (f : List ℕ). IsAccepted (list_checks most f)) (told_is d.contents name file bytes told stands) accepted;
+      checked = λ file told. subst (λ (f : List ℕ). IsAccepted (list_checks most f)) (told_is d.shelf.contents name file bytes told read.stands) accepted;
       ended = written.0;
-      done = λ file told. subst (λ (f : List ℕ). Lists f most d (record d { contents = c; output = out }) e) (told_is d.contents name file bytes told stands)
+      done = λ file told. subst (λ (f : List ℕ). Lists f most d m e) (told_is d.shelf.contents name file bytes told read.stands)
           (record { ending = written.0; image = v; own = own; output = written.1; others = refl });
       failed = tt;
       refused = tt;
-      shelf = record { others = λ x _. same x; refused = tt; quiet = λ _. refl; failed = λ x. absurd (let never : ⊥ = cc in never) };
+      shelf = keeps_read (list_task name most) d.shelf s name bytes (Ok e) refl read (refl, refl) (λ x. let never : ⊥ = cc in never);
       ram = refl;
-      causes = ok_causes d.faults e;
-    })
-listed name most d c out n bytes v (Err r) same stands accepted own written broke cause =
-    let m : Devices = record d { contents = c; output = out; faults = record d.faults { out = n } } in
+      causes = calm_causes d m (Ok e) tt read.faults refl (ap (λ (n : ℕ). record (stream_faults d) { output = n }) cause.quiet);
+    }
+listed name most d s out bytes v (Err r) read accepted own written broke cause =
+    let m : Devices = record d { shelf = s; output = out } in
     subst (λ (x : Refusal). Answers (list_task name most) d m (Err x) []) (sym broke.0) (record {
       asked = λ e. let bad : ⊥ = cc in bad;
       sized = sized_err refusal.SinkFault (λ x. x);
-      checked = λ file told. subst (λ (f : List ℕ). IsAccepted (list_checks most f)) (told_is d.contents name file bytes told stands) accepted;
+      checked = λ file told. subst (λ (f : List ℕ). IsAccepted (list_checks most f)) (told_is d.shelf.contents name file bytes told read.stands) accepted;
       ended = tt;
       done = tt;
-      failed = λ _ file told. subst (λ (f : List ℕ). ListFailed f most d m refusal.SinkFault []) (told_is d.contents name file bytes told stands)
-          (record { image = v; own = own; output = broke.1; error = Appends-none d.error; fault = refl; cause = cause.failed });
+      failed = λ _ file told. subst (λ (f : List ℕ). ListFailed f most d m refusal.SinkFault []) (told_is d.shelf.contents name file bytes told read.stands)
+          (record { image = v; own = own; output = broke.1; error = Appends-none d.error.held; fault = refl; cause = cause.failed });
       refused = λ never. absurd (never tt);
-      shelf = record { others = λ x _. same x; refused = λ _. same; quiet = λ _. refl; failed = λ e. absurd (let never : ⊥ = cc in never) };
+      shelf = keeps_read (list_task name most) d.shelf s name bytes (Err refusal.SinkFault) refl read (refl, refl) (λ x. let never : ⊥ = cc in never);
       ram = refl;
-      causes = out_causes d.faults n cause.later cause.failed;
+      causes = out_causes d m read.faults refl refl refl cause.later cause.failed;
     })
 
 -- no line stands behind it
 pub list_lined : (name : List ℕ) (most : ℕ) → IsLined (list_task name most)
-list_lined name most = done_lined (list_task name most) (λ e is. is) (λ files d m r error err line later h p.
-    record { image = h.image; own = h.own; output = h.output; error = Appends-append d.error m.error error [] line h.error p; fault = h.fault; cause = h.cause })
+list_lined name most = done_lined (list_task name most) (λ e is. is) (λ files d m r held line h p.
+    record { image = h.image; own = h.own; output = h.output; error = Appends-append d.error.held m.error.held held [] line h.error p; fault = h.fault; cause = h.cause })

@@ -6,8 +6,9 @@ use Rattle.std.specs.List.{AllZip}
 use Rattle.std.specs.Io.KnownBytes.{Appends}
 use Rattle.swi_outside.specs.Causes.{DeviceCause, HasCause, Rose}
 use Rattle.swi_outside.specs.CacheRam.{KeepsBeyond, RamState}
-use Rattle.swi_outside.specs.Laws.{Appends-append, Appends-none}
-use Rattle.swi_outside.specs.Sink.{AppendsPrefix}
+use Rattle.swi_outside.specs.Laws.{Appends-append, Appends-none, no_cause, none_named}
+use Rattle.swi_outside.specs.Shelf.{ShelfState}
+use Rattle.swi_outside.specs.Sink.{AppendsPrefix, SinkState}
 use Rattle.swi_isa.specs.declared.instr.Instr.{Instr}
 use Rattle.swi_memory.specs.declared.layout.Layout.{Layout}
 use Rattle.swi_program.specs.declared.placement.Room.{Room}
@@ -32,16 +33,17 @@ use Rattle.swi_answer.specs.declared.answer.Ending.{Ending}
 use Rattle.swi_answer.specs.declared.answer.Refusal.{Refusal}
 use Rattle.swi_answer.specs.declared.answer.Refusal.TheVariants as refusal
 use Rattle.swi_answer.specs.Lines.{ending_line}
-use Rattle.swi_top.specs.Answers.{Answers}
+use Rattle.swi_top.specs.Answers.{Answers, IsAskedFor, KeepsShelf, writes_in}
+use Rattle.swi_top.specs.Task.{Task}
 use Rattle.swi_top.specs.Caching.{IsCachedRun, board_work, cache_for}
 use Rattle.swi_top.specs.Causes.{HasCauses}
-use Rattle.swi_top.specs.Checks.{HoldsBlock, Fails, size_refusal}
-use Rattle.swi_top.specs.Devices.{Devices, Faults}
-use Rattle.swi_top.specs.MeasureMade.{IsMadeRun, MadeRan, MadeRunBroke, MeasuresOver, SummaryBroke, board_summary, made_ending, made_ending_by, made_run, made_summary, measure_checks, measure_task, summary_by}
-use Rattle.swi_top.proofs.Refusals.{checked_by, contents_stay, late, late_causes, ok_causes, quiet_cause, refused_late, rose_cause, sized_along, sized_err, sized_ok}
+use Rattle.swi_top.specs.Checks.{HoldsBlock, Fails, IsLong, IsRefusedBy, size_refusal}
+use Rattle.swi_top.specs.Devices.{Devices, stream_faults}
+use Rattle.swi_top.specs.MeasureMade.{IsMadeRun, MadeRamFailed, MadeRan, MadeRunBroke, MeasuresOver, SummaryBroke, board_summary, made_ending, made_ending_by, made_run, made_summary, measure_checks, measure_task, summary_by}
+use Rattle.swi_top.proofs.Refusals.{asked_none, calm_causes, causes_of, checked_by, contents_stay, late, refused_late, rose_cause, same_all, sized_along, sized_err, sized_ok}
 use Rattle.swi_top.proofs.Confirming.{out_causes}
 use Rattle.swi_top.proofs.Caching.{cached_run_is, keeps_run, work_is}
-use Rattle.swi_top.proofs.Lines.{IsLined, appends_as, appends_last, behind_ending, behind_line, take_all}
+use Rattle.swi_top.proofs.Lines.{IsLined, appends_as, appends_last, behind_ending, take_all}
 
 -- ---- a seed and a number make one program
 
@@ -99,29 +101,28 @@ summary_is functions p v c h r before after a =
     ∙ ap (λ (w : Work). summary_by functions p v w (end_of c).machine.ending (end_of c).machine.steps) (work_is c a.ran.each)
 
 -- the devices after the command
-abbrev pub measured_to : Devices → Option (List ℕ) → RamState → ℕ → Devices
-measured_to d out ram fo = record d { output = out; ram = ram; faults = record d.faults { out = fo; ram = ram.faults } }
+abbrev pub measured_to : Devices → SinkState → RamState → Devices
+measured_to d out ram = record d { output = out; ram = ram }
 
 -- what a run over a service does where it came to its end, and the summary was written
-over_done : (functions : ℕ) (k : Cache) (p : ProgramData) (l : Layout) (v : ImageData) (d : Devices) (out : Option (List ℕ)) (ram : RamState) (fo : ℕ) (h : HartData) (r : Record) (e : Ending) →
-    MadeRan (made_run k p l v) h r d.ram ram → KeepsBeyond k.span d.ram ram → ram.faults ≡ d.faults.ram → e ≡ made_ending_by h.machine.ending h.machine.pc h.machine.steps →
-    Appends d.output out (board_summary functions p v h r) → fo ≡ d.faults.out → MeasuresOver functions k v p l d (measured_to d out ram fo) (Ok e)
-over_done functions k p l v d out ram fo h r e ran beyond ram_is ending written fo_is =
+over_done : (functions : ℕ) (k : Cache) (p : ProgramData) (l : Layout) (v : ImageData) (d : Devices) (out : SinkState) (ram : RamState) (h : HartData) (r : Record) (e : Ending) →
+    MadeRan (made_run k p l v) h r d.ram ram → KeepsBeyond k.span d.ram ram → ram.faults ≡ d.ram.faults → e ≡ made_ending_by h.machine.ending h.machine.pc h.machine.steps →
+    Appends d.output.held out.held (board_summary functions p v h r) → out.faults ≡ d.output.faults → MeasuresOver functions k v p l d (measured_to d out ram) (Ok e)
+over_done functions k p l v d out ram h r e ran beyond ram_is ending written still =
     let c = made_run k p l v in record {
       ending = ending ∙ ap (λ (m : Machine). made_ending_by m.ending m.pc m.steps) ran.machine;
-      output = subst (λ (x : List ℕ). Appends d.output out x) (summary_is functions p v c h r d.ram ram ran) written;
+      output = subst (λ (x : List ℕ). Appends d.output.held out.held x) (summary_is functions p v c h r d.ram ram ran) written;
       ran = ran.ran;
       refused = tt;
       beyond = beyond;
-      causes = subst (λ (n : ℕ). HasCauses d.faults (record d.faults { out = n; ram = ram.faults }) (Ok e)) (sym fo_is)
-          (subst (λ (n : ℕ). HasCauses d.faults (record d.faults { ram = n }) (Ok e)) (sym ram_is) (ok_causes d.faults e));
+      causes = calm_causes d (measured_to d out ram) (Ok e) tt refl ram_is (ap (λ (n : ℕ). record (stream_faults d) { output = n }) still);
     }
 
 -- where the summary was not written whole
-over_summary_broke : (functions : ℕ) (k : Cache) (p : ProgramData) (l : Layout) (v : ImageData) (d : Devices) (out : Option (List ℕ)) (ram : RamState) (fo : ℕ) (h : HartData) (r : Record) →
-    MadeRan (made_run k p l v) h r d.ram ram → KeepsBeyond k.span d.ram ram → ram.faults ≡ d.faults.ram → AppendsPrefix d.output out (board_summary functions p v h r) →
-    (board_summary functions p v h r ≡ [] → ⊥) → d.faults.out ≤ fo → Rose d.faults.out fo → MeasuresOver functions k v p l d (measured_to d out ram fo) (Err refusal.SinkFault)
-over_summary_broke functions k p l v d out ram fo h r ran beyond ram_is part due later rose =
+over_summary_broke : (functions : ℕ) (k : Cache) (p : ProgramData) (l : Layout) (v : ImageData) (d : Devices) (out : SinkState) (ram : RamState) (h : HartData) (r : Record) →
+    MadeRan (made_run k p l v) h r d.ram ram → KeepsBeyond k.span d.ram ram → ram.faults ≡ d.ram.faults → AppendsPrefix d.output.held out.held (board_summary functions p v h r) →
+    (board_summary functions p v h r ≡ [] → ⊥) → d.output.faults ≤ out.faults → Rose d.output.faults out.faults → MeasuresOver functions k v p l d (measured_to d out ram) (Err refusal.SinkFault)
+over_summary_broke functions k p l v d out ram h r ran beyond ram_is part due later rose =
     let c = made_run k p l v in record {
       ending = tt;
       output = tt;
@@ -130,71 +131,63 @@ over_summary_broke functions k p l v d out ram fo h r ran beyond ram_is part due
         record {
           fault = refl;
           output_front = part.0;
-          output = subst (λ (x : List ℕ). Appends d.output out (take part.0 x)) (summary_is functions p v c h r d.ram ram ran) part.1;
+          output = subst (λ (x : List ℕ). Appends d.output.held out.held (take part.0 x)) (summary_is functions p v c h r d.ram ram ran) part.1;
           error_front = 0;
-          error = Appends-none d.error;
+          error = Appends-none d.error.held;
           behind = inl (refl, (λ none. due (summary_is functions p v c h r d.ram ram ran ∙ none)), rose);
         },
         ran.ran,
       ));
       beyond = beyond;
-      causes = subst (λ (n : ℕ). HasCauses {T = Ending} d.faults (record d.faults { out = fo; ram = n }) (Err refusal.SinkFault)) (sym ram_is) (out_causes d.faults fo later rose);
+      causes = out_causes d (measured_to d out ram) refl ram_is refl refl later rose;
     }
 
-ram_causes : (f : Faults) (n : ℕ) → f.ram ≤ n → Rose f.ram n → HasCauses {T = Ending} f (record f { ram = n }) (Err refusal.RamFault)
-ram_causes f n later rose = record {
-  shelf = quiet_cause f.shelf _ (λ x. let never : ⊥ = cc in never);
-  source = quiet_cause f.input _ (λ x. let never : ⊥ = cc in never);
-  ram = rose_cause f.ram n _ refl later rose;
-  out_later = omega arith;
-  err_later = omega arith;
-  sink = λ x. absurd (let never : ⊥ = cc in never);
-  out_told = inl refl;
-  quiet = tt;
-}
+ram_causes : (d : Devices) (ram : RamState) → d.ram.faults ≤ ram.faults → Rose d.ram.faults ram.faults → HasCauses {T = Ending} d (record d { ram = ram }) (Err refusal.RamFault)
+ram_causes d ram later rose =
+    causes_of d (record d { ram = ram }) (Err refusal.RamFault) (no_cause refl (λ x. let never : ⊥ = cc in never)) (rose_cause d.ram.faults ram.faults _ refl later rose)
+    (none_named refl (λ x. let never : ⊥ = cc in never) (λ x. let never : ⊥ = cc in never))
 
 -- where the ram failed in it
-over_run_broke : (functions : ℕ) (k : Cache) (p : ProgramData) (l : Layout) (v : ImageData) (d : Devices) (ram : RamState) → KeepsBeyond k.span d.ram ram → d.faults.ram ≤ ram.faults →
-    Rose d.faults.ram ram.faults → MeasuresOver functions k v p l d (record d { ram = ram; faults = record d.faults { ram = ram.faults } }) (Err refusal.RamFault)
-over_run_broke functions k p l v d ram beyond later rose = record {
+over_run_broke : (functions : ℕ) (k : Cache) (p : ProgramData) (l : Layout) (v : ImageData) (d : Devices) (ram : RamState) → KeepsBeyond k.span d.ram ram → d.ram.faults ≤ ram.faults →
+    Rose d.ram.faults ram.faults → MadeRamFailed (made_run k p l v) d.ram ram → MeasuresOver functions k v p l d (record d { ram = ram }) (Err refusal.RamFault)
+over_run_broke functions k p l v d ram beyond later rose failed = record {
   ending = tt;
   output = tt;
   ran = tt;
-  refused = inr (inl (record { fault = refl; output = refl; error = Appends-none d.error }));
+  refused = inr (inl (record { fault = refl; ram = failed; output = refl; error = Appends-none d.error.held }));
   beyond = beyond;
-  causes = ram_causes d.faults ram.faults later rose;
+  causes = ram_causes d ram later rose;
 }
 
 -- where there was no memory
 over_memory : (functions : ℕ) (k : Cache) (p : ProgramData) (l : Layout) (v : ImageData) (d : Devices) → KeepsBeyond k.span d.ram d.ram → MeasuresOver functions k v p l d d (Err refusal.Memory)
-over_memory functions k p l v d beyond = record { ending = tt; output = tt; ran = tt; refused = inl (refl, refl); beyond = beyond; causes = late_causes d.faults refusal.Memory tt }
+over_memory functions k p l v d beyond = record { ending = tt; output = tt; ran = tt; refused = inl (refl, refl); beyond = beyond; causes = calm_causes d d (Err refusal.Memory) tt refl refl refl }
 
 -- where it was refused
 pub over_refused : {T : Type 0} (functions : ℕ) (k : Cache) (p : ProgramData) (l : Layout) (v : ImageData) (d : Devices) (ram : RamState) (r : Refusal) →
-    KeepsBeyond k.span d.ram ram → d.ram.faults ≡ d.faults.ram → ((r ≡ refusal.Memory) × (ram ≡ d.ram)) ⊎ (r ≡ refusal.RamFault) →
-    DeviceCause d.faults.ram ram.faults (IsErrOf {T = T} (Err r) refusal.RamFault) → MeasuresOver functions k v p l d (record d { ram = ram; faults = record d.faults { ram = ram.faults } }) (Err r)
-over_refused functions k p l v d ram r beyond same why cause =
-    let Goal : RamState → ℕ → Refusal → Type 0 = λ s n x. MeasuresOver functions k v p l d (record d { ram = s; faults = record d.faults { ram = n } }) (Err x) in
+    KeepsBeyond k.span d.ram ram → ((r ≡ refusal.Memory) × (ram ≡ d.ram)) ⊎ ((r ≡ refusal.RamFault) × MadeRamFailed (made_run k p l v) d.ram ram) →
+    DeviceCause d.ram.faults ram.faults (IsErrOf {T = T} (Err r) refusal.RamFault) → MeasuresOver functions k v p l d (record d { ram = ram }) (Err r)
+over_refused functions k p l v d ram r beyond why cause =
+    let Goal : RamState → Refusal → Type 0 = λ s x. MeasuresOver functions k v p l d (record d { ram = s }) (Err x) in
     elim why [
-      | inl m ↦ subst (λ (x : Refusal). Goal ram ram.faults x) (sym m.0)
-          (subst (λ (n : ℕ). Goal ram n refusal.Memory) (sym (ap (λ (s : RamState). s.faults) m.1 ∙ same))
-          (subst (λ (s : RamState). Goal s d.faults.ram refusal.Memory) (sym m.1)
-          (over_memory functions k p l v d (subst (λ (s : RamState). KeepsBeyond k.span d.ram s) m.1 beyond))))
-      | inr e ↦ subst (λ (x : Refusal). Goal ram ram.faults x) (sym e)
-          (over_run_broke functions k p l v d ram beyond cause.later (cause.cause (ap (λ (x : Refusal). Err x) e)))
+      | inl m ↦ subst (λ (x : Refusal). Goal ram x) (sym m.0)
+          (subst (λ (s : RamState). Goal s refusal.Memory) (sym m.1)
+          (over_memory functions k p l v d (subst (λ (s : RamState). KeepsBeyond k.span d.ram s) m.1 beyond)))
+      | inr e ↦ subst (λ (x : Refusal). Goal ram x) (sym e.0)
+          (over_run_broke functions k p l v d ram beyond cause.later (cause.cause (ap (λ (x : Refusal). Err x) e.0)) e.1)
     ]
 
 -- where it came to its end, and the summary was written, or not
-pub over_summarized : (functions : ℕ) (k : Cache) (p : ProgramData) (l : Layout) (v : ImageData) (d : Devices) (out : Option (List ℕ)) (ram : RamState) (fo : ℕ) (h : HartData) (m : Record) (r : Result Ending Refusal) →
-    MadeRan (made_run k p l v) h m d.ram ram → KeepsBeyond k.span d.ram ram → ram.faults ≡ d.faults.ram →
-    IfOk r (λ e. (e ≡ made_ending_by h.machine.ending h.machine.pc h.machine.steps) × Appends d.output out (board_summary functions p v h m)) →
-    IfErr r (λ e. (e ≡ refusal.SinkFault) × AppendsPrefix d.output out (board_summary functions p v h m)) → OnErr r (board_summary functions p v h m ≡ [] → ⊥) →
-    HasCause d.faults.out fo r → MeasuresOver functions k v p l d (measured_to d out ram fo) r
-over_summarized functions k p l v d out ram fo h m (Ok e) ran beyond ram_is done failed due cause =
-    over_done functions k p l v d out ram fo h m e ran beyond ram_is done.0 done.1 cause.quiet
-over_summarized functions k p l v d out ram fo h m (Err r) ran beyond ram_is done failed due cause =
-    subst (λ (x : Refusal). MeasuresOver functions k v p l d (measured_to d out ram fo) (Err x)) (sym failed.0)
-    (over_summary_broke functions k p l v d out ram fo h m ran beyond ram_is failed.1 due cause.later cause.failed)
+pub over_summarized : (functions : ℕ) (k : Cache) (p : ProgramData) (l : Layout) (v : ImageData) (d : Devices) (out : SinkState) (ram : RamState) (h : HartData) (m : Record) (r : Result Ending Refusal) →
+    MadeRan (made_run k p l v) h m d.ram ram → KeepsBeyond k.span d.ram ram → ram.faults ≡ d.ram.faults →
+    IfOk r (λ e. (e ≡ made_ending_by h.machine.ending h.machine.pc h.machine.steps) × Appends d.output.held out.held (board_summary functions p v h m)) →
+    IfErr r (λ e. (e ≡ refusal.SinkFault) × AppendsPrefix d.output.held out.held (board_summary functions p v h m)) → OnErr r (board_summary functions p v h m ≡ [] → ⊥) →
+    HasCause d.output.faults out.faults r → MeasuresOver functions k v p l d (measured_to d out ram) r
+over_summarized functions k p l v d out ram h m (Ok e) ran beyond ram_is done failed due cause =
+    over_done functions k p l v d out ram h m e ran beyond ram_is done.0 done.1 cause.quiet
+over_summarized functions k p l v d out ram h m (Err r) ran beyond ram_is done failed due cause =
+    subst (λ (x : Refusal). MeasuresOver functions k v p l d (measured_to d out ram) (Err x)) (sym failed.0)
+    (over_summary_broke functions k p l v d out ram h m ran beyond ram_is failed.1 due cause.later cause.failed)
 
 -- ---- from the run over a service to what the command answers
 
@@ -204,14 +197,33 @@ pub small_refused : (seed functions : ℕ) (cache : CacheOptions) (p : ProgramDa
     Answers (measure_task seed functions cache) d d (Err r) []
 small_refused seed functions cache p d r size made fits fails =
     let by = inr (fits_made seed functions cache.block_words p made fits, inl fails) in
-    late (measure_task seed functions cache) d d.contents r (refused_late (measure_checks seed functions cache) r by) size (contents_stay d)
-    (λ _ _. checked_by (measure_checks seed functions cache) d.last_failed r by)
+    late (measure_task seed functions cache) d d.shelf r 0 0 (refused_late (measure_checks seed functions cache) r by) size (contents_stay d) refl refl
+    (λ _ _. checked_by (measure_checks seed functions cache) d.shelf.last_failed r by) (asked_none d.shelf.calls)
+    (subst (λ (x : Refusal). IsAskedFor 0 0 d.shelf.last_failed (Err x) 0 0) (sym fails.1) (refl, refl))
 
-made_done : (seed functions : ℕ) (cache : CacheOptions) (p : ProgramData) (l : Layout) (v : ImageData) (d : Devices) (out : Option (List ℕ)) (ram : RamState) (fo : ℕ) (e : Ending) →
+-- it leaves the shelf alone
+keeps_shelf : (t : Task) (s : ShelfState) (r : Result Ending Refusal) → length t.reads ≡ 0 → IsAskedFor 0 (writes_in t.writes) s.last_failed r 0 0 →
+    (IsErrOf r refusal.ShelfFault → ⊥) → KeepsShelf t s s r
+keeps_shelf t s r none asked never = record {
+  others = λ x _. same_all s.contents x;
+  refused = on_err r (λ _. same_all s.contents);
+  quiet = λ _. refl;
+  failed = λ e. absurd (never e);
+  gets = 0;
+  puts = 0;
+  calls = asked_none s.calls;
+  asked = subst (λ (n : ℕ). IsAskedFor n (writes_in t.writes) s.last_failed r 0 0) (sym none) asked;
+}
+  where
+    on_err : {P : Type 0} (r : Result Ending Refusal) → P → OnErr r P
+    on_err (Ok v) p = tt
+    on_err (Err e) p = p
+
+made_done : (seed functions : ℕ) (cache : CacheOptions) (p : ProgramData) (l : Layout) (v : ImageData) (d : Devices) (out : SinkState) (ram : RamState) (e : Ending) →
     size_refusal cache.cache_bytes (length d.ram.words) ≡ None → IsMadeRun seed functions cache p l v → Fits (text_of p.segments) cache.block_words →
-    4 * cache.block_words ≤ cache.cache_bytes → MeasuresOver functions (cache_for cache v) v p l d (measured_to d out ram fo) (Ok e) →
-    Answers (measure_task seed functions cache) d (measured_to d out ram fo) (Ok e) []
-made_done seed functions cache p l v d out ram fo e size is fits held run = record {
+    4 * cache.block_words ≤ cache.cache_bytes → MeasuresOver functions (cache_for cache v) v p l d (measured_to d out ram) (Ok e) →
+    Answers (measure_task seed functions cache) d (measured_to d out ram) (Ok e) []
+made_done seed functions cache p l v d out ram e size is fits held run = record {
   asked = λ x. let bad : ⊥ = cc in bad;
   sized = sized_along _ _ size (sized_ok e);
   checked = λ _ _. (fits_made seed functions cache.block_words p is.made fits, (held, tt));
@@ -223,26 +235,26 @@ made_done seed functions cache p l v d out ram fo e size is fits held run = reco
     is = is;
     ending = run.ending;
     output = run.output;
-    error = Appends-none d.error;
+    error = Appends-none d.error.held;
     input = refl;
     ran = run.ran;
     beyond = run.beyond;
   };
   failed = tt;
   refused = tt;
-  shelf = record { others = λ x _. contents_stay d x; refused = tt; quiet = λ _. refl; failed = λ x. absurd (let never : ⊥ = cc in never) };
+  shelf = keeps_shelf (measure_task seed functions cache) d.shelf (Ok e) refl (refl, refl) (λ x. let never : ⊥ = cc in never);
   ram = keeps_run cache v d.ram ram run.beyond;
   causes = run.causes;
 }
 
 -- a device failed, in the run or behind it
-made_failed : (seed functions : ℕ) (cache : CacheOptions) (p : ProgramData) (l : Layout) (v : ImageData) (d : Devices) (out : Option (List ℕ)) (ram : RamState) (fo : ℕ) (r : Refusal) → (r ≡ refusal.RamFault) ⊎ (r ≡ refusal.SinkFault) →
+made_failed : (seed functions : ℕ) (cache : CacheOptions) (p : ProgramData) (l : Layout) (v : ImageData) (d : Devices) (out : SinkState) (ram : RamState) (r : Refusal) → (r ≡ refusal.RamFault) ⊎ (r ≡ refusal.SinkFault) →
     size_refusal cache.cache_bytes (length d.ram.words) ≡ None → IsMadeRun seed functions cache p l v → Fits (text_of p.segments) cache.block_words →
-    4 * cache.block_words ≤ cache.cache_bytes → KeepsBeyond (cache_for cache v).span d.ram ram → HasCauses {T = Ending} d.faults (measured_to d out ram fo).faults (Err r) →
+    4 * cache.block_words ≤ cache.cache_bytes → KeepsBeyond (cache_for cache v).span d.ram ram → HasCauses {T = Ending} d (measured_to d out ram) (Err r) →
     (let c = made_run (cache_for cache v) p l v in
-    MadeRunBroke d (measured_to d out ram fo) r [] ⊎ (SummaryBroke (made_ending (end_of c)) (made_summary functions p v c) d (measured_to d out ram fo) r [] × IsCachedRun c d.ram ram)) →
-    Answers (measure_task seed functions cache) d (measured_to d out ram fo) (Err r) []
-made_failed seed functions cache p l v d out ram fo refusal.RamFault kind size is fits held beyond causes broke = record {
+    MadeRunBroke c d (measured_to d out ram) r [] ⊎ (SummaryBroke (made_ending (end_of c)) (made_summary functions p v c) d (measured_to d out ram) r [] × IsCachedRun c d.ram ram)) →
+    Answers (measure_task seed functions cache) d (measured_to d out ram) (Err r) []
+made_failed seed functions cache p l v d out ram refusal.RamFault kind size is fits held beyond causes broke = record {
   asked = λ x. let bad : ⊥ = cc in bad;
   sized = sized_along _ _ size (sized_err refusal.RamFault (λ x. x));
   checked = λ _ _. (fits_made seed functions cache.block_words p is.made fits, (held, tt));
@@ -250,11 +262,11 @@ made_failed seed functions cache p l v d out ram fo refusal.RamFault kind size i
   done = tt;
   failed = λ _ _ _. record { program = p; layout = l; image = v; is = is; broke = broke; input = refl; beyond = beyond };
   refused = λ never. absurd (never tt);
-  shelf = record { others = λ x _. contents_stay d x; refused = λ _. contents_stay d; quiet = λ _. refl; failed = λ x. absurd (let never : ⊥ = cc in never) };
+  shelf = keeps_shelf (measure_task seed functions cache) d.shelf (Err refusal.RamFault) refl (refl, refl) (λ x. let never : ⊥ = cc in never);
   ram = keeps_run cache v d.ram ram beyond;
   causes = causes;
 }
-made_failed seed functions cache p l v d out ram fo refusal.SinkFault kind size is fits held beyond causes broke = record {
+made_failed seed functions cache p l v d out ram refusal.SinkFault kind size is fits held beyond causes broke = record {
   asked = λ x. let bad : ⊥ = cc in bad;
   sized = sized_along _ _ size (sized_err refusal.SinkFault (λ x. x));
   checked = λ _ _. (fits_made seed functions cache.block_words p is.made fits, (held, tt));
@@ -262,11 +274,11 @@ made_failed seed functions cache p l v d out ram fo refusal.SinkFault kind size 
   done = tt;
   failed = λ _ _ _. record { program = p; layout = l; image = v; is = is; broke = broke; input = refl; beyond = beyond };
   refused = λ never. absurd (never tt);
-  shelf = record { others = λ x _. contents_stay d x; refused = λ _. contents_stay d; quiet = λ _. refl; failed = λ x. absurd (let never : ⊥ = cc in never) };
+  shelf = keeps_shelf (measure_task seed functions cache) d.shelf (Err refusal.SinkFault) refl (refl, refl) (λ x. let never : ⊥ = cc in never);
   ram = keeps_run cache v d.ram ram beyond;
   causes = causes;
 }
-made_failed seed functions cache p l v d out ram fo _ kind size is fits held beyond causes broke = absurd (elim kind [ inl e ↦ let bad : ⊥ = cc in bad | inr e ↦ let bad : ⊥ = cc in bad ])
+made_failed seed functions cache p l v d out ram _ kind size is fits held beyond causes broke = absurd (elim kind [ inl e ↦ let bad : ⊥ = cc in bad | inr e ↦ let bad : ⊥ = cc in bad ])
 
 -- a cache that is not refused lies in the ram
 pub ram_holds : (bytes words : ℕ) → size_refusal bytes words ≡ None → bytes ≤ 4 * words
@@ -275,24 +287,42 @@ ram_holds bytes words e = grind (arith, nat_tests)
 -- where there was no memory nothing has changed
 no_measure : (seed functions : ℕ) (cache : CacheOptions) (d : Devices) → size_refusal cache.cache_bytes (length d.ram.words) ≡ None →
     Answers (measure_task seed functions cache) d d (Err refusal.Memory) []
-no_measure seed functions cache d size = late (measure_task seed functions cache) d d.contents refusal.Memory tt size (contents_stay d) (λ _ _. tt)
+no_measure seed functions cache d size =
+    late (measure_task seed functions cache) d d.shelf refusal.Memory 0 0 tt size (contents_stay d) refl refl (λ _ _. tt) (asked_none d.shelf.calls) (omega arith, omega arith, λ _. refl)
+
+pub refusal_is : {T : Type 0} {r q : Refusal} → ◌≡◌ {A = Result T Refusal} (Err r) (Err q) → r ≡ q
+refusal_is e = cc
+
+pub made_memory : (seed functions : ℕ) (cache : CacheOptions) (d : Devices) (r : Refusal) → size_refusal cache.cache_bytes (length d.ram.words) ≡ None → r ≡ refusal.Memory →
+    Answers (measure_task seed functions cache) d d (Err r) []
+made_memory seed functions cache d r size is = subst (λ (x : Refusal). Answers (measure_task seed functions cache) d d (Err x) []) (sym is) (no_measure seed functions cache d size)
+
+-- or an instruction does not fit into a block
+pub made_long : (seed functions : ℕ) (cache : CacheOptions) (p : ProgramData) (d : Devices) (r : Refusal) → size_refusal cache.cache_bytes (length d.ram.words) ≡ None →
+    IsMade seed functions p → (r ≡ refusal.Memory) ⊎ IsLong (text_of p.segments) cache.block_words r → Answers (measure_task seed functions cache) d d (Err r) []
+made_long seed functions cache p d r size made why = elim why [
+  | inl e ↦ made_memory seed functions cache d r size e
+  | inr long ↦ by (inl (p, made, long)) (subst (λ (x : Refusal). IsAskedFor 0 0 d.shelf.last_failed (Err x) 0 0) (sym long.2) (refl, refl))
+]
+  where
+    by : IsRefusedBy (measure_checks seed functions cache) r → IsAskedFor 0 0 d.shelf.last_failed (Err r) 0 0 → Answers (measure_task seed functions cache) d d (Err r) []
+    by fails asked =
+        late (measure_task seed functions cache) d d.shelf r 0 0 (refused_late (measure_checks seed functions cache) r fails) size (contents_stay d) refl refl
+        (λ _ _. checked_by (measure_checks seed functions cache) d.shelf.last_failed r fails) (asked_none d.shelf.calls) asked
 
 -- the command answers what the run over its cache does
-pub measured_so : (seed functions : ℕ) (cache : CacheOptions) (p : ProgramData) (l : Layout) (v : ImageData) (d : Devices) (out : Option (List ℕ)) (ram : RamState) (fo : ℕ) (r : Result Ending Refusal) (k : Cache) → k ≡ cache_for cache v →
+pub measured_so : (seed functions : ℕ) (cache : CacheOptions) (p : ProgramData) (l : Layout) (v : ImageData) (d : Devices) (out : SinkState) (ram : RamState) (r : Result Ending Refusal) (k : Cache) → k ≡ cache_for cache v →
     size_refusal cache.cache_bytes (length d.ram.words) ≡ None → IsMadeRun seed functions cache p l v → Fits (text_of p.segments) cache.block_words →
-    4 * cache.block_words ≤ cache.cache_bytes → MeasuresOver functions k v p l d (measured_to d out ram fo) r → Answers (measure_task seed functions cache) d (measured_to d out ram fo) r []
-measured_so seed functions cache p l v d out ram fo r k same size is fits held run = by r (subst (λ (x : Cache). MeasuresOver functions x v p l d (measured_to d out ram fo) r) same run)
+    4 * cache.block_words ≤ cache.cache_bytes → MeasuresOver functions k v p l d (measured_to d out ram) r → Answers (measure_task seed functions cache) d (measured_to d out ram) r []
+measured_so seed functions cache p l v d out ram r k same size is fits held run = by r (subst (λ (x : Cache). MeasuresOver functions x v p l d (measured_to d out ram) r) same run)
   where
-    by : (r : Result Ending Refusal) → MeasuresOver functions (cache_for cache v) v p l d (measured_to d out ram fo) r → Answers (measure_task seed functions cache) d (measured_to d out ram fo) r []
-    by (Ok e) run = made_done seed functions cache p l v d out ram fo e size is fits held run
+    by : (r : Result Ending Refusal) → MeasuresOver functions (cache_for cache v) v p l d (measured_to d out ram) r → Answers (measure_task seed functions cache) d (measured_to d out ram) r []
+    by (Ok e) run = made_done seed functions cache p l v d out ram e size is fits held run
     by (Err e) run = elim run.refused [
-      | inl m ↦ subst (λ (x : Refusal). Answers (measure_task seed functions cache) d (measured_to d out ram fo) (Err x) []) (sym m.0)
+      | inl m ↦ subst (λ (x : Refusal). Answers (measure_task seed functions cache) d (measured_to d out ram) (Err x) []) (sym m.0)
           (subst (λ (x : Devices). Answers (measure_task seed functions cache) d x (Err refusal.Memory) []) (sym m.1) (no_measure seed functions cache d size))
-      | inr broke ↦ made_failed seed functions cache p l v d out ram fo e (elim broke [ inl b ↦ inl b.fault | inr b ↦ inr b.0.fault ]) size is fits held run.beyond run.causes broke
+      | inr broke ↦ made_failed seed functions cache p l v d out ram e (elim broke [ inl b ↦ inl b.fault | inr b ↦ inr b.0.fault ]) size is fits held run.beyond run.causes broke
     ]
-
-pub unfailed : {T : Type 0} (n m : ℕ) (x : T) → DeviceCause n m (IsErrOf {T = T} (Ok x) refusal.RamFault) → m ≡ n
-unfailed n m x cause = elim cause.told [ inl e ↦ e | inr never ↦ absurd (let bad : ⊥ = cc in bad) ]
 
 -- ---- the last line behind it
 
@@ -305,12 +335,12 @@ measure_lined seed functions cache = record {
     is = h.is;
     ending = h.ending;
     output = h.output;
-    error = Appends-append d.error m.error error [] (ending_line e) h.error p;
+    error = Appends-append d.error.held m.error.held error.held [] (ending_line e) h.error p;
     input = h.input;
     ran = h.ran;
     beyond = h.beyond;
   };
-  failed = λ files d m r error err line later h p. record {
+  failed = λ files d m r held line h p. record {
     program = h.program;
     layout = h.layout;
     image = h.image;
@@ -318,8 +348,9 @@ measure_lined seed functions cache = record {
     broke = elim h.broke [
       | inl a ↦ inl (record {
         fault = a.fault;
+        ram = a.ram;
         output = a.output;
-        error = Appends-append d.error m.error error [] line a.error p;
+        error = Appends-append d.error.held m.error.held held [] line a.error p;
       })
       | inr a ↦ inr (
         record {
@@ -327,8 +358,8 @@ measure_lined seed functions cache = record {
           output_front = a.0.output_front;
           output = a.0.output;
           error_front = a.0.error_front;
-          error = appends_last d.error m.error error _ line a.0.error p;
-          behind = behind_line _ _ a.0.output_front a.0.error_front d.faults m.faults err later a.0.behind;
+          error = appends_last d.error.held m.error.held held _ line a.0.error p;
+          behind = a.0.behind;
         },
         a.1,
       )
@@ -336,7 +367,7 @@ measure_lined seed functions cache = record {
     input = h.input;
     beyond = h.beyond;
   };
-  unended = λ files d m e error err is h p never same rose.
+  unended = λ files d m e error is h p never same rose.
       let c = made_run (cache_for cache h.image) h.program h.layout h.image in
       let summary : List ℕ = made_summary functions h.program h.image c in record {
         program = h.program;
@@ -347,12 +378,12 @@ measure_lined seed functions cache = record {
           record {
             fault = refl;
             output_front = length summary;
-            output = appends_as d.output m.output summary (take (length summary) summary) (take_all summary) h.output;
+            output = appends_as d.output.held m.output.held summary (take (length summary) summary) (take_all summary) h.output;
             error_front = p.0;
-            error = appends_as d.error error (take p.0 (ending_line (made_ending (end_of c)))) (take p.0 (ending_line (made_ending (end_of c))) ++ []) (sym (append-nil _))
-                (Appends-append d.error m.error error [] (take p.0 (ending_line (made_ending (end_of c)))) h.error
-                (subst (λ (x : Ending). Appends m.error error (take p.0 (ending_line x))) h.ending p.1));
-            behind = behind_ending summary [] p.0 e (made_ending (end_of c)) d.faults m.faults err h.ending never same rose;
+            error = appends_as d.error.held error.held (take p.0 (ending_line (made_ending (end_of c)))) (take p.0 (ending_line (made_ending (end_of c))) ++ []) (sym (append-nil _))
+                (Appends-append d.error.held m.error.held error.held [] (take p.0 (ending_line (made_ending (end_of c)))) h.error
+                (subst (λ (x : Ending). Appends m.error.held error.held (take p.0 (ending_line x))) h.ending p.1));
+            behind = behind_ending summary [] p.0 e (made_ending (end_of c)) d m error h.ending never same rose;
           },
           h.ran,
         );

@@ -1,10 +1,14 @@
 -- What stands after a refusal that changes nothing but the errors, for any command.
-use Rattle.std.proofs.Common.{◌≡◌, ◌⊎◌, inl, inr, ℕ, ◌≤◌, ◌<◌, List, [], ◌∷◌, length, Option, Some, None, Result, Ok, Err, IsErrOf, refl, sym, subst, ap, arith}
-use Rattle.std.specs.Prelude.{option_map, Contains}
+use Rattle.std.proofs.Common.{◌*◌, Bool, true, false, nat_lt, if◌then◌else◌, ◌≡◌, inl, inr, ℕ, ◌+◌, ◌≤◌, ◌<◌, List, [], ◌∷◌, length, Option, Some, None, Result, Ok, Err, IsErrOf, refl, sym, subst, ap, arith}
+use Rattle.std.specs.Prelude.{option_map, Contains, Vec}
+use Rattle.std.specs.declared.alloc.Global.{Global}
 use Rattle.swi_outside.specs.CacheRam.{RamState}
-use Rattle.swi_outside.specs.Causes.{DeviceCause, Rose}
-use Rattle.swi_outside.specs.Laws.{Appends-none}
-use Rattle.swi_outside.specs.Shelf.{Asked, Contents, Same, Stands, IsLonger, get_of}
+use Rattle.swi_outside.specs.Causes.{DeviceCause, Rose, counted, risen}
+use Rattle.swi_outside.specs.Devices as outside
+use Rattle.swi_outside.specs.Laws.{Appends-none, cause_from, no_cause, none_named}
+use Rattle.swi_outside.specs.Shelf.{Asked, Contents, Same, ShelfState, Stands, IsLonger, WasGot, get_of}
+use Rattle.swi_outside.specs.declared.shelf.ShelfError.{ShelfError}
+use Rattle.swi_outside.specs.declared.shelf.ShelfError.TheVariants as error
 use Rattle.swi_command.specs.CommandLine.{Request}
 use Rattle.swi_elf_read.specs.declared.refusal.ElfRefusal.{ElfRefusal}
 use Rattle.swi_elf_read.specs.Elf as elf
@@ -13,10 +17,11 @@ use Rattle.swi_image.specs.Checks as image
 use Rattle.swi_answer.specs.declared.answer.Ending.{Ending}
 use Rattle.swi_answer.specs.declared.answer.Refusal.{Refusal}
 use Rattle.swi_answer.specs.declared.answer.Refusal.TheVariants as refusal
-use Rattle.swi_top.specs.Devices.{Devices, Faults, IsUntouched}
-use Rattle.swi_top.specs.Causes.{HasCauses, ShelfCause}
-use Rattle.swi_top.specs.Checks.{Check, IsShort, IsAcceptedElf, HasRoom, HasImage, IsAcceptedImage, IsOwnImage, FitsBlocks, FitsUnlessImage, FitsMade, HoldsBlock, Fails, IsRefusedBy, IsRefusedOr, cache_refusal, file_limit}
-use Rattle.swi_top.specs.Answers.{Answers, IsChecked, IsSized, IsSizeRefusal, IsRunFault, KeepsRam}
+use Rattle.swi_top.specs.Devices.{Devices, IsUntouched, stream_faults}
+use Rattle.swi_top.specs.Causes.{HasCauses}
+use Rattle.swi_top.specs.Checks.{Check, IsShort, IsAcceptedElf, HasRoom, HasImage, IsAcceptedImage, IsOwnImage, FitsBlocks, FitsUnlessImage, FitsMade, HoldsBlock, Fails, IsRefusedBy, IsRefusedOr, cache_limit, cache_refusal, file_limit, size_refusal}
+use Rattle.swi_top.specs.Answers.{Answers, IsAskedFor, IsChecked, IsSized, IsSizeRefusal, IsRunFault, KeepsRam, writes_in}
+use Rattle.swi_top.specs.Files.{FileRead, answer_by}
 use Rattle.swi_top.specs.Task.{Task, Tells}
 
 -- a refusal by a check of the file, or want of memory
@@ -106,51 +111,59 @@ sized_late r h = sized_err r (late_size r h)
 pub sized_along : (x : Option Refusal) (result : Result Ending Refusal) → x ≡ None → IsSized None result → IsSized x result
 sized_along x result e h = subst (λ (o : Option Refusal). IsSized o result) (sym e) h
 
--- a device that did not fail, and one that did
-pub quiet_cause : (n : ℕ) (P : Type 0) → (P → ⊥) → DeviceCause n n P
-quiet_cause n P never = record { later = omega arith; cause = λ p. absurd (never p); told = inl refl }
+-- ---- the causes of an answer
 
+-- a device that failed
 pub rose_cause : (n m : ℕ) (P : Type 0) → P → n ≤ m → Rose n m → DeviceCause n m P
 rose_cause n m P p later rose = record { later = later; cause = λ _. rose; told = inr p }
 
-pub late_causes : (f : Faults) (r : Refusal) → IsLate r → HasCauses {T = Ending} f f (Err r)
-late_causes f r h = record {
-  shelf = quiet_cause f.shelf _ (late_not r refusal.ShelfFault h (λ x. x));
-  source = quiet_cause f.input _ (late_not r refusal.SourceFault h (λ x. x));
-  ram = quiet_cause f.ram _ (late_not r refusal.RamFault h (λ x. x));
-  out_later = omega arith;
-  err_later = omega arith;
-  sink = λ e. absurd (late_not r refusal.SinkFault h (λ x. x) e);
-  out_told = inl refl;
-  quiet = tt;
-}
+-- one whose fault is not the answer did not fail
+pub same_count : {n m : ℕ} {P : Type 0} → DeviceCause n m P → (P → ⊥) → m ≡ n
+same_count h never = elim h.told [ inl e ↦ e | inr p ↦ absurd (never p) ]
 
-pub ok_causes : (f : Faults) (e : Ending) → HasCauses f f (Ok e)
-ok_causes f e = record {
-  shelf = quiet_cause f.shelf _ (λ x. let never : ⊥ = cc in never);
-  source = quiet_cause f.input _ (λ x. let never : ⊥ = cc in never);
-  ram = quiet_cause f.ram _ (λ x. let never : ⊥ = cc in never);
-  out_later = omega arith;
-  err_later = omega arith;
-  sink = λ x. absurd (let never : ⊥ = cc in never);
-  out_told = inl refl;
-  quiet = refl;
-}
+pub causes_of : {T : Type 0} (d m : Devices) (r : Result T Refusal) → DeviceCause d.shelf.faults m.shelf.faults (IsErrOf r refusal.ShelfFault) →
+    DeviceCause d.ram.faults m.ram.faults (IsErrOf r refusal.RamFault) →
+    outside.HasCauses (stream_faults d) (stream_faults m) (IsErrOf r refusal.SourceFault) (IsErrOf r refusal.SinkFault) → HasCauses d m r
+causes_of d m r shelf ram streams = record { shelf = shelf; ram = ram; streams = streams }
 
-pub shelf_causes : (f : Faults) (s : ℕ) → f.shelf ≤ s → Rose f.shelf s → HasCauses {T = Ending} f (record f { shelf = s }) (Err refusal.ShelfFault)
-shelf_causes f s later rose = record {
-  shelf = rose_cause f.shelf s _ refl later rose;
-  source = quiet_cause f.input _ (λ x. let never : ⊥ = cc in never);
-  ram = quiet_cause f.ram _ (λ x. let never : ⊥ = cc in never);
-  out_later = omega arith;
-  err_later = omega arith;
-  sink = λ x. absurd (let never : ⊥ = cc in never);
-  out_told = inl refl;
-  quiet = tt;
-}
+-- an answer that no device gave
+abbrev pub IsOwn : {T : Type 0} → Result T Refusal → Type 0
+IsOwn (Ok v) = Unit {0}
+IsOwn (Err refusal.ShelfFault) = ⊥
+IsOwn (Err refusal.SourceFault) = ⊥
+IsOwn (Err refusal.SinkFault) = ⊥
+IsOwn (Err refusal.RamFault) = ⊥
+IsOwn (Err _) = Unit {0}
 
-pub untouched : (d : Devices) (c : Option Contents) (l : Option Asked) (f : Faults) → IsUntouched d (record d { contents = c; last_failed = l; faults = f })
-untouched d c l f = record { input = refl; output = refl; ram = refl }
+own_not : (T : Type 0) (r : Result T Refusal) (f : Refusal) → IsOwn r → (IsOwn {T = T} (Err f) → ⊥) → IsErrOf r f → ⊥
+own_not T (Ok v) f own never e = cc
+own_not T (Err r) f own never e = never (let p : r ≡ f = cc in subst (λ (x : Refusal). IsOwn {T = T} (Err x)) p own)
+
+-- then no count rose
+pub calm_causes : {T : Type 0} (d m : Devices) (r : Result T Refusal) → IsOwn r → m.shelf.faults ≡ d.shelf.faults → m.ram.faults ≡ d.ram.faults →
+    stream_faults m ≡ stream_faults d → HasCauses d m r
+calm_causes {T} d m r own shelf ram streams =
+    causes_of d m r (no_cause shelf (own_not T r refusal.ShelfFault own (λ x. x))) (no_cause ram (own_not T r refusal.RamFault own (λ x. x)))
+    (none_named streams (own_not T r refusal.SourceFault own (λ x. x)) (own_not T r refusal.SinkFault own (λ x. x)))
+
+late_own : (r : Refusal) → IsLate r → IsOwn {T = Ending} (Err r)
+late_own refusal.ShelfFault h = h
+late_own refusal.SourceFault h = h
+late_own refusal.SinkFault h = h
+late_own refusal.RamFault h = h
+late_own _ h = tt
+
+-- the shelf failed
+pub shelf_causes : (d : Devices) (s : ShelfState) → d.shelf.faults ≤ s.faults → Rose d.shelf.faults s.faults →
+    HasCauses {T = Ending} d (record d { shelf = s }) (Err refusal.ShelfFault)
+shelf_causes d s later rose =
+    causes_of d (record d { shelf = s }) (Err refusal.ShelfFault) (rose_cause d.shelf.faults s.faults _ refl later rose) (no_cause refl (λ x. let never : ⊥ = cc in never))
+    (none_named refl (λ x. let never : ⊥ = cc in never) (λ x. let never : ⊥ = cc in never))
+
+-- ---- what stays
+
+pub untouched : (d : Devices) (s : ShelfState) → IsUntouched d (record d { shelf = s })
+untouched d s = record { input = refl; output = refl; ram = refl }
 
 pub keeps_ram : (cache : Option ℕ) (r : RamState) → KeepsRam cache r r
 keeps_ram None r = refl
@@ -164,58 +177,130 @@ told_is (Some m) name file bytes told stands = cc
 pub reads_one : (name : List ℕ) → Contains (name ∷ []) name
 reads_one name = (0, omega arith, refl)
 
+-- ---- how often the shelf was asked
+
+pub asked_none : (n : ℕ) → n ≡ risen n 0
+asked_none n = grind arith
+
+pub asked_twice : (n m k : ℕ) → m ≡ counted n → k ≡ counted m → k ≡ risen n 2
+asked_twice n m k e f = grind arith
+
+-- one file is read, and at most one written
+pub one_late : (writes : ℕ) (failed : Option Asked) (r : Refusal) → IsLate r → IsAskedFor 1 writes failed (Err r) 1 0
+one_late writes failed (refusal.FileLong limit) h = (omega arith, omega arith, refl)
+one_late writes failed refusal.Memory h = (omega arith, omega arith, λ never. refl)
+one_late writes failed (refusal.Elf r) h = (refl, refl)
+one_late writes failed (refusal.Room end) h = (refl, refl)
+one_late writes failed refusal.NoImage h = (refl, refl)
+one_late writes failed (refusal.Image r) h = (refl, refl)
+one_late writes failed (refusal.Mismatch m) h = (refl, refl)
+one_late writes failed (refusal.Long address needs) h = (refl, refl)
+one_late writes failed (refusal.CacheSmall bytes least) h = (refl, refl)
+one_late writes failed _ h = absurd h
+
+-- ---- the file was read
+
+-- the causes of what was done behind it
+pub causes_behind : {T : Type 0} (d : Devices) (s : ShelfState) (m : Devices) (r : Result T Refusal) → s.faults ≡ d.shelf.faults → HasCauses (record d { shelf = s }) m r → HasCauses d m r
+causes_behind d s m r same h = record { shelf = cause_from same h.shelf; ram = h.ram; streams = h.streams }
+
+pub record IsRead (before after : ShelfState) (name bytes : List ℕ) : Type 0 where
+  pub same : Same before.contents after.contents
+  pub stands : Stands before.contents name bytes
+  pub asked : after.calls ≡ counted before.calls
+  pub faults : after.faults ≡ before.faults
+  pub last_failed : after.last_failed ≡ before.last_failed
+
+pub was_read : {before after : ShelfState} {name : List ℕ} {v : Vec ℕ Global} → FileRead before after name (Ok v) → IsRead before after name v.items
+was_read {before} {after} {name} {v} h = by h.answer h.got h.handed_on
+  where
+    by : (answer : Result (Vec ℕ Global) ShelfError) → WasGot before after name file_limit answer → Ok v ≡ answer_by answer → IsRead before after name v.items
+    by (Ok w) got is =
+        let calm = got.cause.quiet (λ e. let never : ⊥ = cc in never) in
+        let same : w ≡ v = cc in
+        subst (λ (x : Vec ℕ Global). IsRead before after name x.items) same
+        (record { same = got.same; stands = got.content; asked = got.asked; faults = calm.0; last_failed = calm.1 })
+    by (Err e) got is = absurd (let never : ⊥ = cc in never)
+
 -- ---- a refusal that is none by a device
 
-pub refused : (t : Task) (d : Devices) (c : Option Contents) (r : Refusal) →
+pub refused : (t : Task) (d : Devices) (s : ShelfState) (r : Refusal) (gets puts : ℕ) →
     (IsErrOf {T = Ending} (Err r) refusal.Usage → ⊥) → IsSized (cache_refusal t.cache (length d.ram.words)) (Err r) → (IsRunFault r → ⊥) → (IsErrOf {T = Ending} (Err r) refusal.ShelfFault → ⊥) →
-    HasCauses {T = Ending} d.faults d.faults (Err r) → Same d.contents c →
-    ((files : t.Files) → t.told d.contents files → IsChecked (t.checks files) d.last_failed (Err r)) →
-    Answers t d (record d { contents = c }) (Err r) []
-refused t d c r asked sized calm shelf causes same checked = record {
+    HasCauses {T = Ending} d (record d { shelf = s }) (Err r) → Same d.shelf.contents s.contents → s.last_failed ≡ d.shelf.last_failed →
+    ((files : t.Files) → t.told d.shelf.contents files → IsChecked (t.checks files) s.last_failed (Err r)) →
+    s.calls ≡ risen d.shelf.calls (gets + puts) → IsAskedFor (length t.reads) (writes_in t.writes) s.last_failed (Err r) gets puts →
+    Answers t d (record d { shelf = s }) (Err r) []
+refused t d s r gets puts asked sized calm shelf causes same last checked calls asks = record {
   asked = asked;
   sized = sized;
   checked = checked;
   ended = tt;
   done = tt;
   failed = λ f. absurd (calm f);
-  refused = λ _. (untouched d c d.last_failed d.faults, Appends-none d.error);
-  shelf = record { others = λ name _. same name; refused = λ _. same; quiet = λ _. refl; failed = λ e. absurd (shelf e) };
+  refused = λ _. (untouched d s, Appends-none d.error.held);
+  shelf = record {
+    others = λ name _. same name;
+    refused = λ _. same;
+    quiet = λ _. last;
+    failed = λ e. absurd (shelf e);
+    gets = gets;
+    puts = puts;
+    calls = calls;
+    asked = asks;
+  };
   ram = keeps_ram t.cache d.ram;
   causes = causes;
 }
 
-pub late : (t : Task) (d : Devices) (c : Option Contents) (r : Refusal) → IsLate r → cache_refusal t.cache (length d.ram.words) ≡ None → Same d.contents c →
-    ((files : t.Files) → t.told d.contents files → IsChecked (t.checks files) d.last_failed (Err r)) →
-    Answers t d (record d { contents = c }) (Err r) []
-late t d c r h size same checked =
-    refused t d c r (late_not r refusal.Usage h (λ x. x)) (sized_along _ _ size (sized_late r h)) (late_run r h) (late_shelf r h) (late_causes d.faults r h) same checked
+pub late : (t : Task) (d : Devices) (s : ShelfState) (r : Refusal) (gets puts : ℕ) → IsLate r → cache_refusal t.cache (length d.ram.words) ≡ None →
+    Same d.shelf.contents s.contents → s.faults ≡ d.shelf.faults → s.last_failed ≡ d.shelf.last_failed →
+    ((files : t.Files) → t.told d.shelf.contents files → IsChecked (t.checks files) s.last_failed (Err r)) →
+    s.calls ≡ risen d.shelf.calls (gets + puts) → IsAskedFor (length t.reads) (writes_in t.writes) s.last_failed (Err r) gets puts →
+    Answers t d (record d { shelf = s }) (Err r) []
+late t d s r gets puts h size same faults last checked calls asks =
+    refused t d s r gets puts (late_not r refusal.Usage h (λ x. x)) (sized_along _ _ size (sized_late r h)) (late_run r h) (late_shelf r h)
+    (calm_causes d (record d { shelf = s }) (Err r) (late_own r h) faults refl refl) same last checked calls asks
 
--- by a check of the files that were read, or for want of memory
-pub check_refused : (t : Task) (d : Devices) (c : Option Contents) (files : t.Files) (r : Refusal) → cache_refusal t.cache (length d.ram.words) ≡ None →
-    Same d.contents c → ((told : t.Files) → t.told d.contents told → files ≡ told) → IsRefusedOr (t.checks files) r → Answers t d (record d { contents = c }) (Err r) []
-check_refused t d c files r size same only why = elim why [
-  | inl e ↦ subst (λ (s : Refusal). Answers t d (record d { contents = c }) (Err s) []) (sym e) (late t d c refusal.Memory tt size same (λ _ _. tt))
-  | inr by ↦ late t d c r (refused_late (t.checks files) r by) size same (λ other told.
-      subst (λ (f : t.Files). IsChecked (t.checks f) d.last_failed (Err r)) (only other told) (checked_by (t.checks files) d.last_failed r by))
+-- by a check of the file that was read, or for want of memory
+pub check_refused : (t : Task) (d : Devices) (s : ShelfState) (name bytes : List ℕ) (files : t.Files) (r : Refusal) → cache_refusal t.cache (length d.ram.words) ≡ None →
+    length t.reads ≡ 1 → IsRead d.shelf s name bytes → ((told : t.Files) → t.told d.shelf.contents told → files ≡ told) → IsRefusedOr (t.checks files) r → Answers t d (record d { shelf = s }) (Err r) []
+check_refused t d s name bytes files r size one read only why = elim why [
+  | inl e ↦ subst (λ (x : Refusal). Answers t d (record d { shelf = s }) (Err x) []) (sym e) (so refusal.Memory tt (λ _ _. tt))
+  | inr by ↦ so r (refused_late (t.checks files) r by) (λ other told.
+      subst (λ (f : t.Files). IsChecked (t.checks f) s.last_failed (Err r)) (only other told) (checked_by (t.checks files) s.last_failed r by))
 ]
+  where
+    so : (x : Refusal) → IsLate x → ((files : t.Files) → t.told d.shelf.contents files → IsChecked (t.checks files) s.last_failed (Err x)) → Answers t d (record d { shelf = s }) (Err x) []
+    so x h checked = late t d s x 1 0 h size read.same read.faults read.last_failed checked read.asked
+        (subst (λ (n : ℕ). IsAskedFor n (writes_in t.writes) s.last_failed (Err x) 1 0) (sym one) (one_late (writes_in t.writes) s.last_failed x h))
 
--- ---- the shelf failed in reading
+-- ---- the file was not read
 
-pub read_failed : (t : Task) (name : List ℕ) (d : Devices) (c : Option Contents) (s : ℕ) → Contains t.reads name → cache_refusal t.cache (length d.ram.words) ≡ None → Same d.contents c →
-    d.faults.shelf ≤ s → Rose d.faults.shelf s →
-    Answers t d (record d { contents = c; last_failed = Some (get_of name); faults = record d.faults { shelf = s } }) (Err refusal.ShelfFault) []
-read_failed t name d c s is size same later rose = record {
-  asked = λ e. let bad : ⊥ = cc in bad;
-  sized = sized_along _ _ size (sized_err refusal.ShelfFault (λ x. x));
-  checked = λ _ _ put. absurd put;
-  ended = tt;
-  done = tt;
-  failed = λ f. absurd f;
-  refused = λ _. (untouched d c (Some (get_of name)) (record d.faults { shelf = s }), Appends-none d.error);
-  shelf = record { others = λ x _. same x; refused = λ never. absurd (never refl); quiet = λ never. absurd (never refl); failed = λ _. inl (name, is, refl, same) };
-  ram = keeps_ram t.cache d.ram;
-  causes = shelf_causes d.faults s later rose;
-}
+pub read_failed : (t : Task) (name : List ℕ) (d : Devices) (s : ShelfState) → t.reads ≡ name ∷ [] → cache_refusal t.cache (length d.ram.words) ≡ None →
+    WasGot d.shelf s name file_limit (Err error.Failed) → Answers t d (record d { shelf = s }) (Err refusal.ShelfFault) []
+read_failed t name d s is size got =
+    let failed = got.cause.failed refl in record {
+      asked = λ e. let bad : ⊥ = cc in bad;
+      sized = sized_along _ _ size (sized_err refusal.ShelfFault (λ x. x));
+      checked = λ files told. subst (λ (x : Option Asked). IsChecked (t.checks files) x (Err refusal.ShelfFault)) (sym failed.1) (λ put. absurd put);
+      ended = tt;
+      done = tt;
+      failed = λ f. absurd f;
+      refused = λ _. (untouched d s, Appends-none d.error.held);
+      shelf = record {
+        others = λ x _. got.same x;
+        refused = λ never. absurd (never refl);
+        quiet = λ never. absurd (never refl);
+        failed = λ _. inl (name, subst (λ (l : List (List ℕ)). Contains l name) (sym is) (reads_one name), failed.1, got.same);
+        gets = 1;
+        puts = 0;
+        calls = got.asked;
+        asked = subst (λ (x : Option Asked). IsAskedFor (length t.reads) (writes_in t.writes) x (Err refusal.ShelfFault) 1 0) (sym failed.1)
+            (subst (λ (l : List (List ℕ)). IsAskedFor (length l) (writes_in t.writes) (Some (get_of name)) (Err refusal.ShelfFault) 1 0) (sym is) (omega arith, omega arith, refl));
+      };
+      ram = keeps_ram t.cache d.ram;
+      causes = shelf_causes d s got.cause.later failed.0;
+    }
 
 longer_is : (c : Option Contents) (name file : List ℕ) (limit : ℕ) → Tells c name file → IsLonger c name limit → limit < length file
 longer_is None name file limit told longer = absurd told
@@ -226,71 +311,78 @@ longer_is (Some m) name file limit told longer =
 pub too_long : (c : Option Contents) (name file : List ℕ) → IsLonger c name file_limit → Tells c name file → Fails (IsShort file) (refusal.FileLong file_limit)
 too_long c name file longer told = (longer_is c name file file_limit told longer, refl)
 
--- the file could not be read, was too long, or there was no memory for it
-pub read_refused : {T : Type 0} (t : Task) (name : List ℕ) (d : Devices) (c : Option Contents) (l : Option Asked) (s : ℕ) (r : Refusal) →
-    Contains t.reads name → (IsLonger d.contents name file_limit → (files : t.Files) → t.told d.contents files → IsRefusedBy (t.checks files) (refusal.FileLong file_limit)) → cache_refusal t.cache (length d.ram.words) ≡ None → Same d.contents c →
-    (r ≡ refusal.ShelfFault) ⊎ ((r ≡ refusal.Memory) ⊎ ((r ≡ refusal.FileLong file_limit) × IsLonger d.contents name file_limit)) →
-    ShelfCause {T = T} d.faults.shelf s d.last_failed l (get_of name) (Err r) →
-    Answers t d (record d { contents = c; last_failed = l; faults = record d.faults { shelf = s } }) (Err r) []
-read_refused {T} t name d c l s r is long size same why cause =
-    let Goal : Refusal → Type 0 = λ x. Answers t d (record d { contents = c; last_failed = l; faults = record d.faults { shelf = s } }) (Err x) [] in
-    let quiet : IsLate r → Answers t d (record d { contents = c }) (Err r) [] → Goal r = λ h a.
-    let calm = cause.quiet (λ e. late_shelf r h (let p : r ≡ refusal.ShelfFault = cc in ap (λ (x : Refusal). Err x) p)) in
-    subst (λ (k : Option Asked). Answers t d (record d { contents = c; last_failed = k; faults = record d.faults { shelf = s } }) (Err r) []) (sym calm.1)
-    (subst (λ (k : ℕ). Answers t d (record d { contents = c; faults = record d.faults { shelf = k } }) (Err r) []) (sym calm.0) a) in
-    elim why [
-      | inl e ↦ let failed = cause.failed (ap (λ (x : Refusal). Err x) e) in
-          subst Goal (sym e) (subst (λ (k : Option Asked). Answers t d (record d { contents = c; last_failed = k; faults = record d.faults { shelf = s } }) (Err refusal.ShelfFault) [])
-          (sym failed.1) (read_failed t name d c s is size same cause.later failed.0))
-      | inr w ↦ elim w [
-        | inl e ↦ quiet (late_along e tt) (late t d c r (late_along e tt) size same (λ files told.
-            subst (λ (x : Refusal). IsChecked (t.checks files) d.last_failed (Err x)) (sym e) tt))
-        | inr p ↦ quiet (late_along p.0 tt) (late t d c r (late_along p.0 tt) size same (λ files told.
-            subst (λ (x : Refusal). IsChecked (t.checks files) d.last_failed (Err x)) (sym p.0) (long p.1 files told)))
-      ]
-    ]
+-- the shelf failed, it was too long, or there was no memory for it
+pub read_refused : (t : Task) (name : List ℕ) (d : Devices) (s : ShelfState) (r : Refusal) → t.reads ≡ name ∷ [] → cache_refusal t.cache (length d.ram.words) ≡ None →
+    (IsLonger d.shelf.contents name file_limit → (files : t.Files) → t.told d.shelf.contents files → IsRefusedBy (t.checks files) (refusal.FileLong file_limit)) →
+    FileRead d.shelf s name (Err r) → Answers t d (record d { shelf = s }) (Err r) []
+read_refused t name d s r is size long h = by h.answer h.got h.handed_on
+  where
+    one : length t.reads ≡ 1
+    one = ap (λ (l : List (List ℕ)). length l) is
 
--- what the shelf tells of its failures is as it was
-pub still : (t : Task) (d m : Devices) (l : Option Asked) (s : ℕ) (r : Result Ending Refusal) (last : List ℕ) → l ≡ m.last_failed → s ≡ m.faults.shelf →
-    Answers t d m r last → Answers t d (record m { last_failed = l; faults = record m.faults { shelf = s } }) r last
-still t d m l s r last l_is s_is a =
-    subst (λ (k : Option Asked). Answers t d (record m { last_failed = k; faults = record m.faults { shelf = s } }) r last) (sym l_is)
-    (subst (λ (k : ℕ). Answers t d (record m { faults = record m.faults { shelf = k } }) r last) (sym s_is) a)
+    calm : (e : ShelfError) → (e ≡ error.Failed → ⊥) → IsLate r → WasGot d.shelf s name file_limit (Err e) →
+        ((files : t.Files) → t.told d.shelf.contents files → IsChecked (t.checks files) s.last_failed (Err r)) → Answers t d (record d { shelf = s }) (Err r) []
+    calm e never h got checked =
+        let quiet = got.cause.quiet (λ x. never (let same : e ≡ error.Failed = cc in same)) in
+        late t d s r 1 0 h size got.same quiet.0 quiet.1 checked got.asked
+        (subst (λ (n : ℕ). IsAskedFor n (writes_in t.writes) s.last_failed (Err r) 1 0) (sym one) (one_late (writes_in t.writes) s.last_failed r h))
 
--- after a read that answered Ok
-pub read_quiet : {T : Type 0} (n m : ℕ) (k l : Option Asked) (a : Asked) (x : T) → ShelfCause n m k l a (Ok x) → (m ≡ n) × (l ≡ k)
-read_quiet n m k l a x h = h.quiet (λ e. let never : ⊥ = cc in never)
+    by : (answer : Result (Vec ℕ Global) ShelfError) → WasGot d.shelf s name file_limit answer → Err r ≡ answer_by answer → Answers t d (record d { shelf = s }) (Err r) []
+    by (Ok v) got same = absurd (let never : ⊥ = cc in never)
+    by (Err error.Failed) got same =
+        let e : r ≡ refusal.ShelfFault = cc in
+        subst (λ (x : Refusal). Answers t d (record d { shelf = s }) (Err x) []) (sym e) (read_failed t name d s is size got)
+    by (Err error.Long) got same =
+        let e : r ≡ refusal.FileLong file_limit = cc in
+        calm error.Long (λ x. let never : ⊥ = cc in never) (late_along e tt) got (λ files told.
+        subst (λ (x : Refusal). IsChecked (t.checks files) s.last_failed (Err x)) (sym e) (long (got.long refl) files told))
+    by (Err error.Memory) got same =
+        let e : r ≡ refusal.Memory = cc in
+        calm error.Memory (λ x. let never : ⊥ = cc in never) (late_along e tt) got (λ files told.
+        subst (λ (x : Refusal). IsChecked (t.checks files) s.last_failed (Err x)) (sym e) tt)
 
--- and so are the failures of the output
-pub still_out : (t : Task) (d m : Devices) (l : Option Asked) (s n : ℕ) (r : Result Ending Refusal) (last : List ℕ) → l ≡ m.last_failed → s ≡ m.faults.shelf →
-    n ≡ m.faults.out → Answers t d m r last → Answers t d (record m { last_failed = l; faults = record m.faults { shelf = s; out = n } }) r last
-still_out t d m l s n r last l_is s_is n_is a =
-    subst (λ (k : ℕ). Answers t d (record m { last_failed = l; faults = record m.faults { shelf = s; out = k } }) r last) (sym n_is)
-    (still t d m l s r last l_is s_is a)
+-- ---- nothing happened yet
 
--- nothing happened yet
-same_all : (c : Option Contents) → Same c c
+pub same_all : (c : Option Contents) → Same c c
 same_all None name = tt
 same_all (Some m) name = refl
 
+pub contents_stay : (d : Devices) → Same d.shelf.contents d.shelf.contents
+contents_stay d = same_all d.shelf.contents
+
 pub memory_at_once : (t : Task) (d : Devices) → Answers t d d (Err refusal.Memory) []
-memory_at_once t d = refused t d d.contents refusal.Memory (late_not refusal.Memory refusal.Usage tt (λ x. x))
-    (record { refused = λ r _. inr refl; only = λ f. absurd f }) (λ f. f) (late_shelf refusal.Memory tt) (late_causes d.faults refusal.Memory tt) (same_all d.contents) (λ _ _. tt)
+memory_at_once t d = refused t d d.shelf refusal.Memory 0 0 (late_not refusal.Memory refusal.Usage tt (λ x. x))
+    (record { refused = λ r _. inr refl; only = λ f. absurd f }) (λ f. f) (late_shelf refusal.Memory tt) (calm_causes d d (Err refusal.Memory) tt refl refl refl) (contents_stay d) refl (λ _ _. tt)
+    (asked_none d.shelf.calls) (omega arith, omega arith, λ some. absurd (omega (arith, some)))
 
-pub contents_stay : (d : Devices) → Same d.contents d.contents
-contents_stay d = same_all d.contents
+-- a size is refused
+size_is : (bytes words : ℕ) (r : Refusal) → size_refusal bytes words ≡ Some r → IsSizeRefusal r
+size_is bytes words r e = by (nat_lt cache_limit bytes) (nat_lt (4 * words) bytes) e
+  where
+    by : (large small : Bool) →
+        (if large then Some (refusal.CacheLarge bytes) else if small then Some (refusal.RamSmall bytes (4 * words)) else None) ≡ Some r → IsSizeRefusal r
+    by true small e = let p : refusal.CacheLarge bytes ≡ r = cc in subst IsSizeRefusal p tt
+    by false true e = let p : refusal.RamSmall bytes (4 * words) ≡ r = cc in subst IsSizeRefusal p tt
+    by false false e = absurd (let never : ⊥ = cc in never)
 
-pub usage_causes : (f : Faults) → HasCauses {T = Ending} f f (Err refusal.Usage)
-usage_causes f = record {
-  shelf = quiet_cause f.shelf _ (λ e. let bad : ⊥ = cc in bad);
-  source = quiet_cause f.input _ (λ e. let bad : ⊥ = cc in bad);
-  ram = quiet_cause f.ram _ (λ e. let bad : ⊥ = cc in bad);
-  out_later = omega arith;
-  err_later = omega arith;
-  sink = λ e. absurd (let bad : ⊥ = cc in bad);
-  out_told = inl refl;
-  quiet = tt;
-}
+sized_so : (x : Option Refusal) (r : Refusal) → x ≡ Some r → IsSized x (Err r)
+sized_so x r e = record { refused = λ s is. inl (let same : r ≡ s = cc in ap (λ (y : Refusal). Err y) same); only = λ _. e }
+
+cache_is : (x : Option ℕ) (words : ℕ) (r : Refusal) → cache_refusal x words ≡ Some r → IsSizeRefusal r
+cache_is None words r e = absurd (let never : ⊥ = cc in never)
+cache_is (Some bytes) words r e = size_is bytes words r e
+
+pub size_refused : (t : Task) (d : Devices) (r : Refusal) → cache_refusal t.cache (length d.ram.words) ≡ Some r → Answers t d d (Err r) []
+size_refused t d r e = by r (cache_is t.cache (length d.ram.words) r e) e
+  where
+    by : (r : Refusal) → IsSizeRefusal r → cache_refusal t.cache (length d.ram.words) ≡ Some r → Answers t d d (Err r) []
+    by (refusal.CacheLarge bytes) h e =
+        refused t d d.shelf (refusal.CacheLarge bytes) 0 0 (λ x. let never : ⊥ = cc in never) (sized_so _ _ e) (λ x. x) (λ x. let never : ⊥ = cc in never)
+        (calm_causes d d (Err (refusal.CacheLarge bytes)) tt refl refl refl) (contents_stay d) refl (λ _ _. tt) (asked_none d.shelf.calls) (refl, refl)
+    by (refusal.RamSmall bytes held) h e =
+        refused t d d.shelf (refusal.RamSmall bytes held) 0 0 (λ x. let never : ⊥ = cc in never) (sized_so _ _ e) (λ x. x) (λ x. let never : ⊥ = cc in never)
+        (calm_causes d d (Err (refusal.RamSmall bytes held)) tt refl refl refl) (contents_stay d) refl (λ _ _. tt) (asked_none d.shelf.calls) (refl, refl)
+    by _ h e = absurd h
 
 -- the words are one command at most
 pub clash : (x : Option Request) (q : Request) → x ≡ Some q → x ≡ None → ⊥

@@ -3,9 +3,10 @@ use Rattle.std.proofs.Common.{◌≡◌, ◌⊎◌, inl, inr, ℕ, ◌-◌, ◌<
 use Rattle.std.proofs.lemmas.List.{append-nil}
 use Rattle.std.specs.Option.{ForSome}
 use Rattle.std.specs.Io.KnownBytes.{Appends}
-use Rattle.swi_outside.specs.Laws.{Appends-append}
+use Rattle.swi_outside.specs.Laws.{Appends-append, named_as, no_cause}
 use Rattle.swi_outside.specs.Causes.{Rose}
-use Rattle.swi_outside.specs.Sink.{AppendsPrefix, AppendsThenPrefix}
+use Rattle.swi_outside.specs.Sink.{AppendsPrefix, AppendsThenPrefix, SinkState}
+use Rattle.swi_outside.specs.Source.{SourceState}
 use Rattle.swi_memory.specs.Bus.{AreaData}
 use Rattle.swi_calls.specs.declared.machine.Machine.{Machine}
 use Rattle.swi_calls.specs.declared.end.CallFault.{CallFault}
@@ -13,6 +14,7 @@ use Rattle.swi_calls.specs.declared.end.CallFault.TheVariants as call
 use Rattle.swi_outside.specs.Devices as outside
 use Rattle.swi_calls.specs.Flat.{flat_run, machine_of, started}
 use Rattle.swi_calls.specs.State.{FlatState}
+use Rattle.swi_board.specs.Ran.{Unasked}
 use Rattle.swi_flat.specs.FlatData.{FlatData, FillsFront, next_made, state_at, stopped, unfailed}
 use Rattle.swi_memory.specs.declared.layout.Layout.{Layout}
 use Rattle.swi_program.specs.Program.{ProgramData}
@@ -20,11 +22,11 @@ use Rattle.swi_command.specs.declared.command.RunOptions.{RunOptions}
 use Rattle.swi_answer.specs.declared.answer.Ending.{Ending}
 use Rattle.swi_answer.specs.declared.answer.Refusal.{Refusal}
 use Rattle.swi_answer.specs.declared.answer.Refusal.TheVariants as refusal
-use Rattle.swi_top.specs.Devices.{Devices, Faults}
+use Rattle.swi_top.specs.Devices.{Devices, stream_faults}
 use Rattle.swi_top.specs.Causes.{HasCauses}
 use Rattle.swi_top.specs.RunPlain.{RunsPlain, plain_report, read_room_of, run_from}
 use Rattle.swi_top.specs.Runs.{FailedAfterRun, Ran, StepFailed, ending_by, report}
-use Rattle.swi_top.proofs.Refusals.{ok_causes, quiet_cause}
+use Rattle.swi_top.proofs.Refusals.{calm_causes, causes_of}
 use Rattle.swi_top.proofs.Confirming.{out_causes}
 
 -- as many steps as are counted, from a machine that has made none
@@ -46,56 +48,38 @@ source_is call.SinkFault e = let never : ⊥ = cc in absurd never
 
 -- the step that failed
 pub step_failed : {T : Type 0} (f : CallFault) (s : FlatState) (bus : List AreaData) (before after : Devices) →
-    s.machine.ending ≡ None → AppendsThenPrefix before.output after.output s.output (next_made s).output →
-    AppendsThenPrefix before.error after.error s.error (next_made s).error →
-    (IsErrOf {T = T} (Err f) call.SourceFault → Appends before.output after.output s.output × Appends before.error after.error s.error) →
-    FillsFront s bus after.input → StepFailed s s.error (next_made s) (read_room_of s) before after (refusal_of f) []
-step_failed {T} f s bus before after going output error source front = record {
+    s.machine.ending ≡ None → AppendsThenPrefix before.output.held after.output.held s.output (next_made s).output →
+    AppendsThenPrefix before.error.held after.error.held s.error (next_made s).error →
+    (IsErrOf {T = T} (Err f) call.SourceFault → Appends before.output.held after.output.held s.output × Appends before.error.held after.error.held s.error) →
+    FillsFront s bus after.input.left → Unasked (next_made s) (stream_faults before) (stream_faults after) → StepFailed s s.error (next_made s) (read_room_of s) before after (refusal_of f) []
+step_failed {T} f s bus before after going output error source front unasked = record {
   fault = named f;
   going = going;
   output = output;
   error_front = error.0;
-  error = subst (λ (x : List ℕ). Appends before.error after.error x) (sym (append-nil (s.error ++ take error.0 (next_made s).error))) error.1;
+  error = subst (λ (x : List ℕ). Appends before.error.held after.error.held x) (sym (append-nil (s.error ++ take error.0 (next_made s).error))) error.1;
   source = λ e. let both = source (let same : f ≡ call.SourceFault = source_is f e in subst (λ (x : CallFault). IsErrOf {T = T} (Err x) call.SourceFault) (sym same) refl) in
-      (both.0, subst (λ (x : List ℕ). Appends before.error after.error x) (sym (append-nil s.error)) both.1);
+      (both.0, subst (λ (x : List ℕ). Appends before.error.held after.error.held x) (sym (append-nil s.error)) both.1);
+  unasked = unasked;
   taken = front.2.bytes;
   no_more = let size : length front.2.bytes ≡ front.0 = front.2.number in let room : front.0 ≤ read_room_of s = front.1 in omega arith;
   input = front.2.consumed;
 }
 
--- causes of a run, beside devices that it isn't handed
-pub run_causes : {T U : Type 0} (f : CallFault) (g : Faults) (i o e : ℕ) →
-    outside.HasCauses (record { input = g.input; output = g.out; error = g.err }) (record { input = i; output = o; error = e })
-    (IsErrOf {T = T} (Err f) call.SourceFault) (IsErrOf {T = T} (Err f) call.SinkFault) →
-    HasCauses {T = U} g (record g { input = i; out = o; err = e }) (Err (refusal_of f))
-run_causes {T} {U} call.SourceFault g i o e h = record {
-  shelf = quiet_cause g.shelf _ (λ x. let never : ⊥ = cc in never);
-  source = record { later = h.input.later; cause = λ _. h.input.cause refl; told = inr refl };
-  ram = quiet_cause g.ram _ (λ x. let never : ⊥ = cc in never);
-  out_later = h.sinks.one_later;
-  err_later = h.sinks.other_later;
-  sink = λ x. absurd (let never : ⊥ = cc in never);
-  out_told = elim h.sinks.one_told [ inl p ↦ inl p | inr p ↦ absurd (let never : ⊥ = cc in never) ];
-  quiet = tt;
-}
-run_causes {T} {U} call.SinkFault g i o e h = record {
-  shelf = quiet_cause g.shelf _ (λ x. let never : ⊥ = cc in never);
-  source = record {
-    later = h.input.later;
-    cause = λ x. absurd (let never : ⊥ = cc in never);
-    told = elim h.input.told [ inl p ↦ inl p | inr p ↦ absurd (let never : ⊥ = cc in never) ];
-  };
-  ram = quiet_cause g.ram _ (λ x. let never : ⊥ = cc in never);
-  out_later = h.sinks.one_later;
-  err_later = h.sinks.other_later;
-  sink = λ _. h.sinks.cause refl;
-  out_told = inr refl;
-  quiet = tt;
-}
-
 -- the devices after a run: all but what it isn't handed
-abbrev pub run_to : Devices → Option (List ℕ) → Option (List ℕ) → Option (List ℕ) → ℕ → ℕ → ℕ → Devices
-run_to d i o e source out err = record d { input = i; output = o; error = e; faults = record d.faults { input = source; out = out; err = err } }
+abbrev pub run_to : Devices → SourceState → SinkState → SinkState → Devices
+run_to d i o e = record d { input = i; output = o; error = e }
+
+-- causes of a run, beside devices that it isn't handed
+pub run_causes : {T U : Type 0} (f : CallFault) (d : Devices) (i : SourceState) (o e : SinkState) →
+    outside.HasCauses (stream_faults d) (stream_faults (run_to d i o e)) (IsErrOf {T = T} (Err f) call.SourceFault) (IsErrOf {T = T} (Err f) call.SinkFault) →
+    HasCauses {T = U} d (run_to d i o e) (Err (refusal_of f))
+run_causes {T} {U} call.SourceFault d i o e h =
+    causes_of d (run_to d i o e) (Err refusal.SourceFault) (no_cause refl (λ x. let never : ⊥ = cc in never)) (no_cause refl (λ x. let never : ⊥ = cc in never))
+    (named_as h (λ _. refl) (λ _. refl) (λ x. let never : ⊥ = cc in absurd never) (λ x. let never : ⊥ = cc in absurd never))
+run_causes {T} {U} call.SinkFault d i o e h =
+    causes_of d (run_to d i o e) (Err refusal.SinkFault) (no_cause refl (λ x. let never : ⊥ = cc in never)) (no_cause refl (λ x. let never : ⊥ = cc in never))
+    (named_as h (λ x. let never : ⊥ = cc in absurd never) (λ x. let never : ⊥ = cc in absurd never) (λ _. refl) (λ _. refl))
 
 -- a run that is not begun yet, by its machine
 start_same : (o : RunOptions) (p : ProgramData) (l : Layout) (f : FlatData) (n : ℕ) (left : List ℕ) → f ≡ unfailed (machine_of p l o.reports.calls) →
@@ -111,18 +95,20 @@ not_memory : {T : Type 0} (f : CallFault) → IsErrOf {T = T} (Err (refusal_of f
 not_memory call.SourceFault e = let bad : ⊥ = cc in bad
 not_memory call.SinkFault e = let bad : ⊥ = cc in bad
 
-pub run_failed : {T : Type 0} (f : CallFault) (o : RunOptions) (p : ProgramData) (l : Layout) (first new : FlatData) (d : Devices) (i out e : Option (List ℕ)) (fi fo fe : ℕ) →
+pub run_failed : {T : Type 0} (f : CallFault) (o : RunOptions) (p : ProgramData) (l : Layout) (first new : FlatData) (d : Devices) (i : SourceState) (out e : SinkState) →
     first ≡ unfailed (machine_of p l o.reports.calls) → new.machine.ending ≡ None → new.machine.steps < o.limits.steps →
-    ForSome d.input (λ left. new ≡ stopped (state_at new.machine.steps first.machine left).machine new.machine.bus) →
-    ForSome d.input (λ left. FillsFront (state_at new.machine.steps first.machine left) new.machine.bus i) →
-    ForSome d.input (λ left. AppendsThenPrefix d.output out (state_at new.machine.steps first.machine left).output (next_made (state_at new.machine.steps first.machine left)).output) →
-    ForSome d.input (λ left. AppendsThenPrefix d.error e (state_at new.machine.steps first.machine left).error (next_made (state_at new.machine.steps first.machine left)).error) →
-    (IsErrOf {T = T} (Err f) call.SourceFault → ForSome d.input (λ left.
-    Appends d.output out (state_at new.machine.steps first.machine left).output × Appends d.error e (state_at new.machine.steps first.machine left).error)) →
-    outside.HasCauses (record { input = d.faults.input; output = d.faults.out; error = d.faults.err }) (record { input = fi; output = fo; error = fe })
+    ForSome d.input.left (λ left. new ≡ stopped (state_at new.machine.steps first.machine left).machine new.machine.bus) →
+    ForSome d.input.left (λ left. FillsFront (state_at new.machine.steps first.machine left) new.machine.bus i.left) →
+    ForSome d.input.left (λ left. AppendsThenPrefix d.output.held out.held (state_at new.machine.steps first.machine left).output (next_made (state_at new.machine.steps first.machine left)).output) →
+    ForSome d.input.left (λ left. AppendsThenPrefix d.error.held e.held (state_at new.machine.steps first.machine left).error (next_made (state_at new.machine.steps first.machine left)).error) →
+    (IsErrOf {T = T} (Err f) call.SourceFault → ForSome d.input.left (λ left.
+    Appends d.output.held out.held (state_at new.machine.steps first.machine left).output × Appends d.error.held e.held (state_at new.machine.steps first.machine left).error)) →
+    ForSome d.input.left (λ left. (next_made (state_at new.machine.steps first.machine left)).output ≡ [] → out.faults ≡ d.output.faults) →
+    ForSome d.input.left (λ left. (next_made (state_at new.machine.steps first.machine left)).error ≡ [] → e.faults ≡ d.error.faults) →
+    outside.HasCauses (stream_faults d) (stream_faults (run_to d i out e))
     (IsErrOf {T = T} (Err f) call.SourceFault) (IsErrOf {T = T} (Err f) call.SinkFault) →
-    RunsPlain o p l d (run_to d i out e fi fo fe) (Err (refusal_of f))
-run_failed {T} f o p l first new d i out e fi fo fe first_is going fewer stays front output error source causes = record {
+    RunsPlain o p l d (run_to d i out e) (Err (refusal_of f))
+run_failed {T} f o p l first new d i out e first_is going fewer stays front output error source unasked_output unasked_error causes = record {
   done = tt;
   refused = kind_of f;
   memory = λ x. absurd (not_memory f x);
@@ -132,68 +118,66 @@ run_failed {T} f o p l first new d i out e fi fo fe first_is going fewer stays f
     failed =
         let state = state_at new.machine.steps first.machine input in
         let ended : state.machine.ending ≡ None = sym (ap (λ (x : FlatData). x.machine.ending) (stays input left)) ∙ going in
-        subst (λ (s : FlatState). StepFailed s s.error (next_made s) (read_room_of s) d (run_to d i out e fi fo fe) (refusal_of f) [])
+        subst (λ (s : FlatState). StepFailed s s.error (next_made s) (read_room_of s) d (run_to d i out e) (refusal_of f) [])
         (start_same o p l first new.machine.steps input first_is)
-        (step_failed {T = T} f state new.machine.bus d (run_to d i out e fi fo fe) ended (output input left) (error input left) (λ x. source x input left) (front input left));
+        (step_failed {T = T} f state new.machine.bus d (run_to d i out e) ended (output input left) (error input left) (λ x. source x input left) (front input left)
+        (record { output = unasked_output input left; error = unasked_error input left }));
   });
-  causes = run_causes {T = T} {U = Ending} f d.faults fi fo fe causes;
+  causes = run_causes {T = T} {U = Ending} f d i out e causes;
 }
 
 -- the run came to its end, and the report was written
-pub run_done : (o : RunOptions) (p : ProgramData) (l : Layout) (first new : FlatData) (d : Devices) (i mid out e : Option (List ℕ)) (fi fo fe : ℕ) (x : Ending) →
+pub run_done : (o : RunOptions) (p : ProgramData) (l : Layout) (first new : FlatData) (d : Devices) (i : SourceState) (mid : Option (List ℕ)) (out e : SinkState) (x : Ending) →
     first ≡ unfailed (machine_of p l o.reports.calls) →
-    ForSome d.input (λ left. new ≡ unfailed (state_at o.limits.steps first.machine left).machine) →
-    ForSome d.input (λ left. i ≡ Some (state_at o.limits.steps first.machine left).input) →
-    ForSome d.input (λ left. Appends d.output mid (state_at o.limits.steps first.machine left).output) →
-    ForSome d.input (λ left. Appends d.error e (state_at o.limits.steps first.machine left).error) →
-    x ≡ ending_by new.machine.ending new.machine.pc new.machine.steps → Appends mid out (report o.reports new.machine None) →
-    fi ≡ d.faults.input → fo ≡ d.faults.out → fe ≡ d.faults.err → RunsPlain o p l d (run_to d i out e fi fo fe) (Ok x)
-run_done o p l first new d i mid out e fi fo fe x first_is machine input output error ending written fi_is fo_is fe_is = record {
+    ForSome d.input.left (λ left. new ≡ unfailed (state_at o.limits.steps first.machine left).machine) →
+    ForSome d.input.left (λ left. i.left ≡ Some (state_at o.limits.steps first.machine left).input) →
+    ForSome d.input.left (λ left. Appends d.output.held mid (state_at o.limits.steps first.machine left).output) →
+    ForSome d.input.left (λ left. Appends d.error.held e.held (state_at o.limits.steps first.machine left).error) →
+    x ≡ ending_by new.machine.ending new.machine.pc new.machine.steps → Appends mid out.held (report o.reports new.machine None) →
+    stream_faults (run_to d i out e) ≡ stream_faults d → RunsPlain o p l d (run_to d i out e) (Ok x)
+run_done o p l first new d i mid out e x first_is machine input output error ending written still = record {
   done = λ left told.
       let state = state_at o.limits.steps first.machine left in
       let same : new.machine ≡ state.machine = ap (λ (y : FlatData). y.machine) (machine left told) in
-      subst (λ (s : FlatState). Ran s (plain_report o s) d (run_to d i out e fi fo fe) x []) (start_same o p l first o.limits.steps left first_is) (record {
+      subst (λ (s : FlatState). Ran s (plain_report o s) d (run_to d i out e) x []) (start_same o p l first o.limits.steps left first_is) (record {
         ending = ending ∙ ap (λ (m : Machine). ending_by m.ending m.pc m.steps) same;
         input = input left told;
-        output = Appends-append d.output mid out state.output (plain_report o state) (output left told)
-            (subst (λ (m : Machine). Appends mid out (report o.reports m None)) same written);
-        error = subst (λ (y : List ℕ). Appends d.error e y) (sym (append-nil state.error)) (error left told);
+        output = Appends-append d.output.held mid out.held state.output (plain_report o state) (output left told)
+            (subst (λ (m : Machine). Appends mid out.held (report o.reports m None)) same written);
+        error = subst (λ (y : List ℕ). Appends d.error.held e.held y) (sym (append-nil state.error)) (error left told);
       });
   refused = tt;
   memory = λ y. let bad : ⊥ = cc in absurd bad;
   failed = tt;
-  causes = subst (λ (n : ℕ). HasCauses d.faults (record d.faults { input = n; out = fo; err = fe }) (Ok x)) (sym fi_is)
-      (subst (λ (n : ℕ). HasCauses d.faults (record d.faults { out = n; err = fe }) (Ok x)) (sym fo_is)
-      (subst (λ (n : ℕ). HasCauses d.faults (record d.faults { err = n }) (Ok x)) (sym fe_is) (ok_causes d.faults x)));
+  causes = calm_causes d (run_to d i out e) (Ok x) tt refl refl still;
 }
 
 -- or not to its end
-pub report_failed : (o : RunOptions) (p : ProgramData) (l : Layout) (first new : FlatData) (d : Devices) (i mid out e : Option (List ℕ)) (fi fo fe : ℕ) →
+pub report_failed : (o : RunOptions) (p : ProgramData) (l : Layout) (first new : FlatData) (d : Devices) (i : SourceState) (mid : Option (List ℕ)) (out e : SinkState) →
     first ≡ unfailed (machine_of p l o.reports.calls) →
-    ForSome d.input (λ left. new ≡ unfailed (state_at o.limits.steps first.machine left).machine) →
-    ForSome d.input (λ left. i ≡ Some (state_at o.limits.steps first.machine left).input) →
-    ForSome d.input (λ left. Appends d.output mid (state_at o.limits.steps first.machine left).output) →
-    ForSome d.input (λ left. Appends d.error e (state_at o.limits.steps first.machine left).error) →
-    AppendsPrefix mid out (report o.reports new.machine None) → (report o.reports new.machine None ≡ [] → ⊥) →
-    fi ≡ d.faults.input → d.faults.out ≤ fo → Rose d.faults.out fo → fe ≡ d.faults.err → RunsPlain o p l d (run_to d i out e fi fo fe) (Err refusal.SinkFault)
-report_failed o p l first new d i mid out e fi fo fe first_is machine input output error part due fi_is later rose fe_is = record {
+    ForSome d.input.left (λ left. new ≡ unfailed (state_at o.limits.steps first.machine left).machine) →
+    ForSome d.input.left (λ left. i.left ≡ Some (state_at o.limits.steps first.machine left).input) →
+    ForSome d.input.left (λ left. Appends d.output.held mid (state_at o.limits.steps first.machine left).output) →
+    ForSome d.input.left (λ left. Appends d.error.held e.held (state_at o.limits.steps first.machine left).error) →
+    AppendsPrefix mid out.held (report o.reports new.machine None) → (report o.reports new.machine None ≡ [] → ⊥) →
+    i.faults ≡ d.input.faults → e.faults ≡ d.error.faults → d.output.faults ≤ out.faults → Rose d.output.faults out.faults → RunsPlain o p l d (run_to d i out e) (Err refusal.SinkFault)
+report_failed o p l first new d i mid out e first_is machine input output error part due input_is error_is later rose = record {
   done = tt;
   refused = inr (inl refl);
   memory = λ y. let bad : ⊥ = cc in absurd bad;
   failed = λ _ left told. inr (
       let state = state_at o.limits.steps first.machine left in
       let same : new.machine ≡ state.machine = ap (λ (y : FlatData). y.machine) (machine left told) in
-      subst (λ (s : FlatState). FailedAfterRun s (plain_report o s) [] d (run_to d i out e fi fo fe) refusal.SinkFault []) (start_same o p l first o.limits.steps left first_is) (record {
+      subst (λ (s : FlatState). FailedAfterRun s (plain_report o s) [] d (run_to d i out e) refusal.SinkFault []) (start_same o p l first o.limits.steps left first_is) (record {
         output_front = part.0;
-        output = Appends-append d.output mid out state.output (take part.0 (plain_report o state)) (output left told)
-            (subst (λ (m : Machine). Appends mid out (take part.0 (report o.reports m None))) same part.1);
+        output = Appends-append d.output.held mid out.held state.output (take part.0 (plain_report o state)) (output left told)
+            (subst (λ (m : Machine). Appends mid out.held (take part.0 (report o.reports m None))) same part.1);
         error_front = 0;
-        error = subst (λ (y : List ℕ). Appends d.error e y) (sym (append-nil (state.error ++ [])))
-            (subst (λ (y : List ℕ). Appends d.error e y) (sym (append-nil state.error)) (error left told));
+        error = subst (λ (y : List ℕ). Appends d.error.held e.held y) (sym (append-nil (state.error ++ [])))
+            (subst (λ (y : List ℕ). Appends d.error.held e.held y) (sym (append-nil state.error)) (error left told));
         behind = inl (refl, subst (λ (m : Machine). report o.reports m None ≡ [] → ⊥) same due, rose);
         input = input left told;
         fault = refl;
       }));
-  causes = subst (λ (n : ℕ). HasCauses {T = Ending} d.faults (record d.faults { input = n; out = fo; err = fe }) (Err refusal.SinkFault)) (sym fi_is)
-      (subst (λ (n : ℕ). HasCauses {T = Ending} d.faults (record d.faults { out = fo; err = n }) (Err refusal.SinkFault)) (sym fe_is) (out_causes d.faults fo later rose));
+  causes = out_causes d (run_to d i out e) refl refl input_is error_is later rose;
 }

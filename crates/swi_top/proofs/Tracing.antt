@@ -11,9 +11,9 @@ use Rattle.swi_trace.specs.Text.{trace_line_of}
 use Rattle.swi_cached.specs.Told.{addresses, history_of, lines_at}
 use Rattle.swi_cached.specs.Cached.{CachedRun, end_of, told_after}
 use Rattle.swi_calls.specs.declared.machine.Machine.{Machine}
-use Rattle.swi_command.specs.declared.command.Trace.{Trace}
-use Rattle.swi_command.specs.declared.command.Trace.TheVariants as trace
-use Rattle.swi_top.specs.RunCached.{addresses_in, last_lines, last_told, one_of, shown_error, telling_of}
+use Rattle.swi_trace.specs.declared.trace.Trace.{Trace}
+use Rattle.swi_trace.specs.declared.trace.Trace.TheVariants as trace
+use Rattle.swi_top.specs.RunCached.{addresses_in, last_lines, last_told, one_of, shown_error}
 
 pub lines_both : (bus : List AreaData) (xs ys : List ℕ) → lines_at bus (xs ++ ys) ≡ lines_at bus xs ++ lines_at bus ys
 lines_both bus [] ys = refl
@@ -57,22 +57,22 @@ shown_split trace.Off c = sym (append-nil (told_after c c.limit).error)
 shown_split trace.Each c = sym (append-nil (told_after c c.limit).error)
 shown_split trace.Last c = refl
 
-pub last_is : (t : Trace) (c : CachedRun) (m : Machine) (bus : List AreaData) (history : Option (List ℕ)) → bus ≡ m.bus → m ≡ (end_of c).machine → history ≡ history_of (telling_of t) (addresses c.limit c.start) →
+pub last_is : (t : Trace) (c : CachedRun) (m : Machine) (bus : List AreaData) (history : Option (List ℕ)) → bus ≡ m.bus → m ≡ (end_of c).machine → history ≡ history_of t (addresses c.limit c.start) →
     last_told t bus (addresses_in history) ≡ last_lines t c
 last_is t c m bus history same machine last =
     ap (λ (x : List AreaData). last_told t x (addresses_in history)) (same ∙ ap (λ (x : Machine). x.bus) machine) ∙ ap (λ (x : Option (List ℕ)). last_told t (end_of c).machine.bus (addresses_in x)) last ∙ by t
   where
-    by : (t : Trace) → last_told t (end_of c).machine.bus (addresses_in (history_of (telling_of t) (addresses c.limit c.start))) ≡ last_lines t c
+    by : (t : Trace) → last_told t (end_of c).machine.bus (addresses_in (history_of t (addresses c.limit c.start))) ≡ last_lines t c
     by trace.Off = refl
     by trace.Last = refl
     by trace.Each = refl
 
 pub all_shown : (t : Trace) (c : CachedRun) (old mid new : Option (List ℕ)) (m : Machine) (bus : List AreaData) (history : Option (List ℕ)) → bus ≡ m.bus → m ≡ (end_of c).machine →
-    history ≡ history_of (telling_of t) (addresses c.limit c.start) → Appends old mid (told_after c c.limit).error → Appends mid new (last_told t bus (addresses_in history)) → Appends old new (shown_error t c)
+    history ≡ history_of t (addresses c.limit c.start) → Appends old mid (told_after c c.limit).error → Appends mid new (last_told t bus (addresses_in history)) → Appends old new (shown_error t c)
 all_shown t c old mid new m bus history same machine last h i =
     subst (λ (l : List ℕ). Appends old new l) (sym (shown_split t c))
     (Appends-append old mid new (told_after c c.limit).error (last_lines t c) h (subst (λ (l : List ℕ). Appends mid new l) (last_is t c m bus history same machine last) i))
 
 pub some_shown : (t : Trace) (c : CachedRun) (mid new : Option (List ℕ)) (m : Machine) (bus : List AreaData) (history : Option (List ℕ)) → bus ≡ m.bus → m ≡ (end_of c).machine →
-    history ≡ history_of (telling_of t) (addresses c.limit c.start) → AppendsPrefix mid new (last_told t bus (addresses_in history)) → AppendsPrefix mid new (last_lines t c)
+    history ≡ history_of t (addresses c.limit c.start) → AppendsPrefix mid new (last_told t bus (addresses_in history)) → AppendsPrefix mid new (last_lines t c)
 some_shown t c mid new m bus history same machine last i = subst (λ (l : List ℕ). AppendsPrefix mid new l) (last_is t c m bus history same machine last) i

@@ -11,7 +11,7 @@ use Rattle.swi_calls.specs.declared.end.End.TheVariants as end
 use Rattle.swi_rom.specs.Record.{Record, writes}
 use Rattle.swi_rom.specs.Service.{Cache}
 use Rattle.swi_cached.specs.Answers.{RamAfter}
-use Rattle.swi_cached.specs.Cached.{CachedRun, IsCounted, IsFlatRun, StopsBeforeStore, end_of, instructions_after, fetches_after, record_after, unfetched}
+use Rattle.swi_cached.specs.Cached.{CachedRun, AreCounted, IsCounted, IsFlatRun, StopsBeforeStore, end_of, instructions_after, fetches_after, record_after, unfetched}
 use Rattle.swi_cached.specs.Slotted.{slotted}
 use Rattle.swi_cached.specs.Ringed.{ringed}
 use Rattle.swi_report.specs.declared.stats.Work.{Work}
@@ -49,7 +49,7 @@ board_work instructions ending r = record {
   counts = r.counts;
 }
 
--- what a cached run is, and what it leaves of the ram, however it was asked for
+-- What a cached run is, and what it leaves of the ram, however it was asked for: also which words were fetched, in their order.
 pub record IsCachedRun (c : CachedRun) (before after : RamState) : Type 0 where
   -- it is the flat machine's run, up to the first step that would store into the text, before which it ends
   pub flat : IsFlatRun c
@@ -62,3 +62,5 @@ pub record IsCachedRun (c : CachedRun) (before after : RamState) : Type 0 where
   pub fewer : ((a : ℕ) → (end_of c).machine.ending ≡ Some (end.StoreText a) → ⊥) → instructions_after c c.limit ≤ 3 * (end_of c).machine.steps + 1
   -- each of them but the boot has fetched a word, but for one at an address without a text word
   pub each : IsCounted c
+  -- by the definitions the words of the ram that a run fetches are as many as are counted
+  pub words : AreCounted c

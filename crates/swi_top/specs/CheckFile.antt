@@ -22,17 +22,17 @@ pub record Confirms (file : List ℕ) (before after : Devices) (e : Ending) : Ty
   pub ending : e ≡ ending.Done
   pub own : List ℕ
   pub has : image_in file ≡ Some own
-  pub output : Appends before.output after.output (checked_line (image_of own))
-  pub others : after ≡ record before { contents = after.contents; output = after.output }
+  pub output : Appends before.output.held after.output.held (checked_line (image_of own))
+  pub others : after ≡ record before { shelf = after.shelf; output = after.output }
 
 -- the output failed
 pub record ConfirmFailed (file : List ℕ) (before after : Devices) (r : Refusal) (last : List ℕ) : Type 0 where
   pub own : List ℕ
   pub has : image_in file ≡ Some own
-  pub output : AppendsPrefix before.output after.output (checked_line (image_of own))
-  pub error : Appends before.error after.error last
+  pub output : AppendsPrefix before.output.held after.output.held (checked_line (image_of own))
+  pub error : Appends before.error.held after.error.held last
   pub fault : r ≡ refusal.SinkFault
-  pub cause : Rose before.faults.out after.faults.out
+  pub cause : Rose before.output.faults after.output.faults
 
 abbrev pub check_task : List ℕ → Task
 check_task name = record {

@@ -1,6 +1,7 @@
 pub mod Devices
 pub mod Causes
 pub mod Checks
+pub mod Files
 pub mod Task
 pub mod Answers
 pub mod Subject

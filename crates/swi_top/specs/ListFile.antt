@@ -30,17 +30,17 @@ pub record Lists (file : List ℕ) (most : ℕ) (before after : Devices) (e : En
   pub ending : e ≡ ending.Done
   pub image : ImageData
   pub own : IsImageFor file most (image_in file) image
-  pub output : Appends before.output after.output (listing (text_in file) image)
-  pub others : after ≡ record before { contents = after.contents; output = after.output }
+  pub output : Appends before.output.held after.output.held (listing (text_in file) image)
+  pub others : after ≡ record before { shelf = after.shelf; output = after.output }
 
 -- the output failed
 pub record ListFailed (file : List ℕ) (most : ℕ) (before after : Devices) (r : Refusal) (last : List ℕ) : Type 0 where
   pub image : ImageData
   pub own : IsImageFor file most (image_in file) image
-  pub output : AppendsPrefix before.output after.output (listing (text_in file) image)
-  pub error : Appends before.error after.error last
+  pub output : AppendsPrefix before.output.held after.output.held (listing (text_in file) image)
+  pub error : Appends before.error.held after.error.held last
   pub fault : r ≡ refusal.SinkFault
-  pub cause : Rose before.faults.out after.faults.out
+  pub cause : Rose before.output.faults after.output.faults
 
 abbrev pub list_checks : ℕ → List ℕ → List Check
 list_checks most file = IsShort file ∷ IsAcceptedElf file ∷ IsAcceptedImage file ∷ IsOwnImage file ∷ FitsUnlessImage file most ∷ []

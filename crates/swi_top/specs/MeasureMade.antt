@@ -1,5 +1,5 @@
 -- The command `measure`: the run of a program that is made from a number. Own rule.
-use Rattle.std.specs.Prelude.{◌≡◌, ◌⊎◌, ℕ, ◌*◌, ◌^◌, List, [], ◌∷◌, ◌++◌, length, take, false, Option, Some, None, Result, Ok, IfOk, IfErr, OnOk, ⊤}
+use Rattle.std.specs.Prelude.{◌≡◌, ◌⊎◌, ℕ, ◌*◌, ◌^◌, List, [], ◌∷◌, ◌++◌, length, take, true, false, Option, Some, None, Result, Ok, IfOk, IfErr, OnOk, ⊤}
 use Rattle.std.specs.Io.KnownBytes.{Appends}
 use Rattle.swi_outside.specs.CacheRam.{KeepsBeyond, RamState}
 use Rattle.swi_memory.specs.declared.layout.Layout.{Layout}
@@ -16,8 +16,9 @@ use Rattle.swi_calls.specs.State.{FlatState}
 use Rattle.swi_rom.specs.Record.{Record}
 use Rattle.swi_rom.specs.Service.{Cache}
 use Rattle.swi_hart.specs.Hart.{HartData}
-use Rattle.swi_cached.specs.Cached.{CachedRun, run_of, end_of, instructions_after, record_after}
-use Rattle.swi_cached.specs.declared.told.Telling.TheVariants as telling
+use Rattle.swi_cached.specs.Cached.{CachedRun, run_of, end_of, instructions_after, record_after, words_after}
+use Rattle.swi_trace.specs.declared.trace.Trace.TheVariants as trace
+use Rattle.swi_board.specs.Fetching.{FetchedFront}
 use Rattle.swi_report.specs.declared.stats.Work.{Work}
 use Rattle.swi_report.specs.declared.summary.Measured.{Measured}
 use Rattle.swi_report.specs.Summary.{summary_text_of}
@@ -52,7 +53,7 @@ summary_by functions p v w _ steps = []
 
 -- the run, with no input, of the program that is made of the seed, in the blocks of its greedy cut
 abbrev pub made_run : Cache → ProgramData → Layout → ImageData → CachedRun
-made_run k p l v = run_of v k p l false telling.Nothing (2 ^ 48) []
+made_run k p l v = run_of v k p l (record { limit = 2 ^ 48; calls = false; trace = trace.Off }) []
 
 pub record IsMadeRun (seed functions : ℕ) (cache : CacheOptions) (p : ProgramData) (l : Layout) (v : ImageData) : Type 0 where
   pub made : IsMade seed functions p
@@ -72,33 +73,39 @@ pub record Measures (seed functions : ℕ) (cache : CacheOptions) (before after 
   pub image : ImageData
   pub is : IsMadeRun seed functions cache program layout image
   pub ending : e ≡ made_ending (end_of (made_run (cache_for cache image) program layout image))
-  pub output : Appends before.output after.output (made_summary functions program image (made_run (cache_for cache image) program layout image))
-  pub error : Appends before.error after.error last
+  pub output : Appends before.output.held after.output.held (made_summary functions program image (made_run (cache_for cache image) program layout image))
+  pub error : Appends before.error.held after.error.held last
   pub input : after.input ≡ before.input
   pub ran : IsCachedRun (made_run (cache_for cache image) program layout image) before.ram after.ram
   pub beyond : KeepsBeyond (cache_for cache image).span before.ram after.ram
 
--- the ram failed in the run, and nothing was written
-pub record MadeRunBroke (before after : Devices) (r : Refusal) (last : List ℕ) : Type 0 where
+-- the ram failed in the run: the words that were fetched are a front of the run's, and no call of the ram comes behind the one that failed
+pub record MadeRamFailed (c : CachedRun) (before after : RamState) : Type 0 where
+  pub fetched_at : FetchedFront (words_after c c.limit) before after
+  pub last_failed : after.last_failed ≡ true
+
+-- and nothing was written
+pub record MadeRunBroke (c : CachedRun) (before after : Devices) (r : Refusal) (last : List ℕ) : Type 0 where
   pub fault : r ≡ refusal.RamFault
+  pub ram : MadeRamFailed c before.ram after.ram
   pub output : after.output ≡ before.output
-  pub error : Appends before.error after.error last
+  pub error : Appends before.error.held after.error.held last
 
 -- or a sink failed behind the run: the output at the summary, or the errors at the ending's line
 pub record SummaryBroke (e : Ending) (summary : List ℕ) (before after : Devices) (r : Refusal) (last : List ℕ) : Type 0 where
   pub fault : r ≡ refusal.SinkFault
   pub output_front : ℕ
-  pub output : Appends before.output after.output (take output_front summary)
+  pub output : Appends before.output.held after.output.held (take output_front summary)
   pub error_front : ℕ
-  pub error : Appends before.error after.error (take error_front (ending_line e) ++ last)
-  pub behind : FailedBehind summary output_front (ending_line e) error_front before.faults after.faults
+  pub error : Appends before.error.held after.error.held (take error_front (ending_line e) ++ last)
+  pub behind : FailedBehind summary output_front (ending_line e) error_front before after
 
 pub record MeasureFailed (seed functions : ℕ) (cache : CacheOptions) (before after : Devices) (r : Refusal) (last : List ℕ) : Type 0 where
   pub program : ProgramData
   pub layout : Layout
   pub image : ImageData
   pub is : IsMadeRun seed functions cache program layout image
-  pub broke : MadeRunBroke before after r last
+  pub broke : MadeRunBroke (made_run (cache_for cache image) program layout image) before after r last
       ⊎ (SummaryBroke (made_ending (end_of (made_run (cache_for cache image) program layout image))) (made_summary functions program image (made_run (cache_for cache image) program layout image)) before after r last
       × IsCachedRun (made_run (cache_for cache image) program layout image) before.ram after.ram)
   pub input : after.input ≡ before.input
@@ -137,14 +144,14 @@ board_summary functions p v h r = summary_by functions p v (board_work h.count h
 abbrev pub IsMeasureErr : ℕ → ProgramData → ImageData → CachedRun → Devices → Devices → Refusal → Type 0
 IsMeasureErr functions p v c before after r =
     ((r ≡ refusal.Memory) × (after ≡ before))
-    ⊎ (MadeRunBroke before after r []
+    ⊎ (MadeRunBroke c before after r []
     ⊎ (SummaryBroke (made_ending (end_of c)) (made_summary functions p v c) before after r [] × IsCachedRun c before.ram after.ram))
 
 -- what such a run does: it comes to its end, and its summary is written; or it is refused
 pub record MeasuresOver (functions : ℕ) (k : Cache) (v : ImageData) (p : ProgramData) (l : Layout) (before after : Devices) (result : Result Ending Refusal) : Type 0 where
   pub ending : IfOk result (λ e. e ≡ made_ending (end_of (made_run k p l v)))
-  pub output : OnOk result (Appends before.output after.output (made_summary functions p v (made_run k p l v)))
+  pub output : OnOk result (Appends before.output.held after.output.held (made_summary functions p v (made_run k p l v)))
   pub ran : OnOk result (IsCachedRun (made_run k p l v) before.ram after.ram)
   pub refused : IfErr result (IsMeasureErr functions p v (made_run k p l v) before after)
   pub beyond : KeepsBeyond k.span before.ram after.ram
-  pub causes : HasCauses before.faults after.faults result
+  pub causes : HasCauses before after result

@@ -10,5 +10,5 @@ pub record Puts (IsMade : List ℕ → Type 0) (output : List ℕ) (before after
   pub ending : e ≡ ending.Done
   pub bytes : List ℕ
   pub made : IsMade bytes
-  pub stands : Stands after.contents output bytes
-  pub others : after ≡ record before { contents = after.contents }
+  pub stands : Stands after.shelf.contents output bytes
+  pub others : after ≡ record before { shelf = after.shelf }

@@ -1,5 +1,5 @@
 -- The commands `cached` and `trace`: a run on the cached machine. Own rule.
-use Rattle.std.specs.Prelude.{◌≡◌, ◌⊎◌, ℕ, ◌+◌, ◌-◌, ◌*◌, ◌<◌, ◌≤◌, List, [], ◌∷◌, ◌++◌, length, Bool, if◌then◌else◌, Option, Some, None, Result, Ok, IfOk, IfErr, ⊤}
+use Rattle.std.specs.Prelude.{◌≡◌, ◌⊎◌, ℕ, ◌+◌, ◌-◌, ◌*◌, ◌<◌, ◌≤◌, List, [], ◌∷◌, ◌++◌, length, Bool, true, if◌then◌else◌, Option, Some, None, Result, Ok, IfOk, IfErr, ⊤}
 use Rattle.std.specs.Io.KnownBytes.{Appends}
 use Rattle.swi_outside.specs.CacheRam.{KeepsBeyond}
 use Rattle.swi_outside.specs.Causes.{risen}
@@ -12,17 +12,16 @@ use Rattle.swi_image.specs.Format.{ImageData}
 use Rattle.swi_command.specs.declared.command.CacheOptions.{CacheOptions}
 use Rattle.swi_command.specs.declared.command.RunLimits.{RunLimits}
 use Rattle.swi_command.specs.declared.command.RunOptions.{RunOptions}
-use Rattle.swi_command.specs.declared.command.Trace.{Trace}
-use Rattle.swi_command.specs.declared.command.Trace.TheVariants as trace
+use Rattle.swi_trace.specs.declared.trace.Trace.{Trace}
+use Rattle.swi_trace.specs.declared.trace.Trace.TheVariants as trace
 use Rattle.swi_calls.specs.State.{FlatState}
 use Rattle.swi_calls.specs.Flat.{Made, flat_start}
 use Rattle.swi_calls.specs.Held.{held_made}
 use Rattle.swi_rom.specs.Service.{Cache}
 use Rattle.swi_trace.specs.History.{last_of}
 use Rattle.swi_cached.specs.Answers.{RamAfter}
-use Rattle.swi_cached.specs.Cached.{CachedRun, IsFlatRun, StopsBeforeStore, end_of, program_after, told_after, fetches_after}
-use Rattle.swi_cached.specs.declared.told.Telling.{Telling}
-use Rattle.swi_cached.specs.declared.told.Telling.TheVariants as telling
+use Rattle.swi_cached.specs.Cached.{CachedRun, IsFlatRun, StopsBeforeStore, end_of, program_after, told_after, fetches_after, words_after}
+use Rattle.swi_board.specs.Fetching.{FetchedFront}
 use Rattle.swi_cached.specs.Told.{addresses, is_each, lines_at, next_error, told_line}
 use Rattle.swi_cached.specs.declared.run.CachedStop.{CachedStop}
 use Rattle.swi_cached.specs.declared.run.CachedStop.TheVariants as stop
@@ -39,15 +38,9 @@ use Rattle.swi_top.specs.Runs.{Ran, FailedAtStep, FailedAfterRun, report, start_
 use Rattle.swi_top.specs.Subject.{IsImageFor, IsSubject, view_of}
 use Rattle.swi_top.specs.Task.{Task, Tells}
 
--- what is told of the steps
-abbrev pub telling_of : Trace → Telling
-telling_of trace.Off = telling.Nothing
-telling_of trace.Last = telling.Last
-telling_of trace.Each = telling.Each
-
 -- the same program's run, out of a cache; `trace` tells its steps too
 abbrev pub cached_run : Cache → RunOptions → ImageData → FlatState → CachedRun
-cached_run k o v s = record { image = v; cache = k; start = s; limit = o.limits.steps; trace = is_each (telling_of o.reports.trace) }
+cached_run k o v s = record { image = v; cache = k; start = s; limit = o.limits.steps; trace = is_each o.reports.trace }
 
 abbrev pub cached_report : RunOptions → CachedRun → List ℕ
 cached_report o c = report o.reports (end_of c).machine (Some (work_of c))
@@ -84,10 +77,12 @@ pub record RamBroke (c : CachedRun) (before after : Devices) (r : Refusal) (last
   pub within : steps ≤ c.limit
   pub enough : fetches_after c steps ≤ fetched
   pub longest : steps < c.limit → fetched < fetches_after c (steps + 1)
-  pub output : Appends before.output after.output (program_after c steps).output
+  pub output : Appends before.output.held after.output.held (program_after c steps).output
   pub begun : Bool
-  pub error : Appends before.error after.error (((told_after c steps).error ++ (if begun then told_line c.trace (program_after c steps).machine else [])) ++ last)
-  pub input : after.input ≡ Some (program_after c steps).input
+  pub error : Appends before.error.held after.error.held (((told_after c steps).error ++ (if begun then told_line c.trace (program_after c steps).machine else [])) ++ last)
+  pub input : after.input.left ≡ Some (program_after c steps).input
+  -- no call of the ram comes behind the one that failed
+  pub last_failed : after.ram.last_failed ≡ true
 
 -- the next step over the fixed text, and the most bytes that it takes
 abbrev pub held_next : FlatState → Made
@@ -109,6 +104,8 @@ BrokeIn o c before after r last =
 
 pub record CachedFailed (o : RunOptions) (c : CachedRun) (before after : Devices) (r : Refusal) (last : List ℕ) : Type 0 where
   pub broke : BrokeIn o c before after r last
+  -- the words that were fetched are a front of those of the whole run
+  pub fetched_at : FetchedFront (words_after c c.limit) before.ram after.ram
   -- the run so far is the flat machine's, as above
   pub flat : IsFlatRun c
   pub stops : StopsBeforeStore c
@@ -129,10 +126,10 @@ cached_task name cache o = record {
   ends = λ e. ⊤;
   does = λ file before after e last. (v : ImageData) × IsImageFor file cache.block_words (image_in file) v
       × KeepsBeyond (cache_for cache v).span before.ram after.ram
-      × ((input : List ℕ) → before.input ≡ Some input → RunsCached o (cached_run (cache_for cache v) o v (start_of o file input)) before after e last);
+      × ((input : List ℕ) → before.input.left ≡ Some input → RunsCached o (cached_run (cache_for cache v) o v (start_of o file input)) before after e last);
   fails = λ file before after r last. (v : ImageData) × IsImageFor file cache.block_words (image_in file) v
       × KeepsBeyond (cache_for cache v).span before.ram after.ram
-      × ((input : List ℕ) → before.input ≡ Some input → CachedFailed o (cached_run (cache_for cache v) o v (start_of o file input)) before after r last);
+      × ((input : List ℕ) → before.input.left ≡ Some input → CachedFailed o (cached_run (cache_for cache v) o v (start_of o file input)) before after r last);
 }
 
 -- ---- as its functions say it
@@ -154,13 +151,13 @@ IsRunErr _ = ⊥
 
 -- what such a run does: it comes to its end, or a device fails in it or behind it; or there was no memory
 pub record RunsOver (o : RunOptions) (k : Cache) (v : ImageData) (p : ProgramData) (l : Layout) (before after : Devices) (result : Result Ending Refusal) : Type 0 where
-  pub done : IfOk result (λ e. (input : List ℕ) → before.input ≡ Some input → RunsCached o (cached_run k o v (flat_start p l o.reports.calls input)) before after e [])
+  pub done : IfOk result (λ e. (input : List ℕ) → before.input.left ≡ Some input → RunsCached o (cached_run k o v (flat_start p l o.reports.calls input)) before after e [])
   pub refused : IfErr result IsRunErr
   pub quiet : IfErr result (λ r. (IsRunFault r → ⊥) → after ≡ before)
-  pub failed : IfErr result (λ r. IsRunFault r → (input : List ℕ) → before.input ≡ Some input →
+  pub failed : IfErr result (λ r. IsRunFault r → (input : List ℕ) → before.input.left ≡ Some input →
       CachedFailed o (cached_run k o v (flat_start p l o.reports.calls input)) before after r [])
   pub beyond : KeepsBeyond k.span before.ram after.ram
-  pub causes : HasCauses before.faults after.faults result
+  pub causes : HasCauses before after result
 
 -- the file's program with its image and its layout, and the cache holds a block of it
 pub record IsPlaced (file : List ℕ) (limits : RunLimits) (cache : CacheOptions) (p : Placed) : Type 0 where

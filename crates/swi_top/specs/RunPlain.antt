@@ -49,8 +49,8 @@ plain_task name o = record {
   cache = None;
   checks = plain_checks o.limits;
   ends = λ e. ⊤;
-  does = λ file before after e last. (input : List ℕ) → before.input ≡ Some input → Runs o file input before after e last;
-  fails = λ file before after r last. (input : List ℕ) → before.input ≡ Some input → RunFailed o file input before after r last;
+  does = λ file before after e last. (input : List ℕ) → before.input.left ≡ Some input → Runs o file input before after e last;
+  fails = λ file before after r last. (input : List ℕ) → before.input.left ≡ Some input → RunFailed o file input before after r last;
 }
 
 -- ---- as its functions say it
@@ -60,11 +60,11 @@ run_from o p l input n = flat_run n (flat_start p l o.reports.calls input)
 
 -- what a run does: it comes to its end, or a device fails in it or behind it, or there was no memory
 pub record RunsPlain (o : RunOptions) (p : ProgramData) (l : Layout) (before after : Devices) (result : Result Ending Refusal) : Type 0 where
-  pub done : IfOk result (λ e. (input : List ℕ) → before.input ≡ Some input →
+  pub done : IfOk result (λ e. (input : List ℕ) → before.input.left ≡ Some input →
       Ran (run_from o p l input o.limits.steps) (plain_report o (run_from o p l input o.limits.steps)) before after e [])
   pub refused : IfErr result (λ r. (r ≡ refusal.SourceFault) ⊎ ((r ≡ refusal.SinkFault) ⊎ (r ≡ refusal.Memory)))
   pub memory : IsErrOf result refusal.Memory → after ≡ before
-  pub failed : IfErr result (λ r. (r ≡ refusal.Memory → ⊥) → (input : List ℕ) → before.input ≡ Some input →
+  pub failed : IfErr result (λ r. (r ≡ refusal.Memory → ⊥) → (input : List ℕ) → before.input.left ≡ Some input →
       FailedAtStep (run_from o p l input) (λ s. s.error) next_made read_room_of o.limits.steps before after r []
       ⊎ FailedAfterRun (run_from o p l input o.limits.steps) (plain_report o (run_from o p l input o.limits.steps)) [] before after r [])
-  pub causes : HasCauses before.faults after.faults result
+  pub causes : HasCauses before after result

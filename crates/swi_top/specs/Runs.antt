@@ -15,6 +15,7 @@ use Rattle.swi_calls.specs.declared.end.End.TheVariants as end
 use Rattle.swi_calls.specs.declared.machine.Machine.{Machine}
 use Rattle.swi_calls.specs.State.{FlatState}
 use Rattle.swi_calls.specs.Flat.{Made, flat_start}
+use Rattle.swi_board.specs.Ran.{Unasked}
 use Rattle.swi_report.specs.declared.stats.Work.{Work}
 use Rattle.swi_report.specs.State.{state_text_of}
 use Rattle.swi_report.specs.Stats.{stats_text_of}
@@ -23,7 +24,7 @@ use Rattle.swi_answer.specs.declared.answer.Ending.TheVariants as ending
 use Rattle.swi_answer.specs.declared.answer.Refusal.{Refusal}
 use Rattle.swi_answer.specs.declared.answer.Refusal.TheVariants as refusal
 use Rattle.swi_answer.specs.Lines.{ending_line}
-use Rattle.swi_top.specs.Devices.{Devices, Faults}
+use Rattle.swi_top.specs.Devices.{Devices, stream_faults}
 use Rattle.swi_top.specs.Checks.{room_in}
 
 abbrev pub layout_in : Result Layout Room → Layout
@@ -57,10 +58,10 @@ report r m work = report_of r m.pc m.regs m.bus m.heap.now m.steps work
 pub record Ran (s : FlatState) (report : List ℕ) (before after : Devices) (e : Ending) (last : List ℕ) : Type 0 where
   pub ending : e ≡ ending_of s
   -- of the input just what the program took is gone
-  pub input : after.input ≡ Some s.input
+  pub input : after.input.left ≡ Some s.input
   -- the output gained what the program wrote, and then the report; the errors what it wrote there, and then the last line
-  pub output : Appends before.output after.output (s.output ++ report)
-  pub error : Appends before.error after.error (s.error ++ last)
+  pub output : Appends before.output.held after.output.held (s.output ++ report)
+  pub error : Appends before.error.held after.error.held (s.error ++ last)
 
 -- A source or a sink failed in a state, at the step that would come next, which takes so many bytes of the input at most. Where the source
 -- fails, the errors hold `begun`.
@@ -68,15 +69,17 @@ pub record StepFailed (s : FlatState) (begun : List ℕ) (next : Made) (most : �
   pub fault : (r ≡ refusal.SourceFault) ⊎ (r ≡ refusal.SinkFault)
   pub going : s.machine.ending ≡ None
   -- the sinks gained what the steps so far wrote, and then a front of what the next one writes
-  pub output : AppendsThenPrefix before.output after.output s.output next.output
+  pub output : AppendsThenPrefix before.output.held after.output.held s.output next.output
   pub error_front : ℕ
-  pub error : Appends before.error after.error ((s.error ++ take error_front next.error) ++ last)
+  pub error : Appends before.error.held after.error.held ((s.error ++ take error_front next.error) ++ last)
   -- and nothing of that but what was told of it before, where the source failed
-  pub source : r ≡ refusal.SourceFault → Appends before.output after.output s.output × Appends before.error after.error (begun ++ last)
+  pub source : r ≡ refusal.SourceFault → Appends before.output.held after.output.held s.output × Appends before.error.held after.error.held (begun ++ last)
+  -- a sink to which that step gives nothing was not asked by it
+  pub unasked : Unasked next (stream_faults before) (stream_faults after)
   -- of the input what those steps took is gone, and a front of what the next one reads
   pub taken : List ℕ
   pub no_more : length taken ≤ most
-  pub input : Consumes (Some s.input) after.input taken
+  pub input : Consumes (Some s.input) after.input.left taken
 
 -- A source or a sink failed in a run: after so many steps, fewer than its limit.
 pub record FailedAtStep (run : ℕ → FlatState) (begun : FlatState → List ℕ) (next : FlatState → Made) (most : FlatState → ℕ) (limit : ℕ) (before after : Devices) (r : Refusal) (last : List ℕ) : Type 0 where
@@ -86,17 +89,17 @@ pub record FailedAtStep (run : ℕ → FlatState) (begun : FlatState → List �
 
 -- Which sink failed behind a run: the output, at a report that has bytes; or, where the report is whole, the error sink, at lines that have
 -- bytes.
-abbrev pub FailedBehind : List ℕ → ℕ → List ℕ → ℕ → Faults → Faults → Type 0
+abbrev pub FailedBehind : List ℕ → ℕ → List ℕ → ℕ → Devices → Devices → Type 0
 FailedBehind report output_front lines error_front before after =
-    ((error_front ≡ 0) × (report ≡ [] → ⊥) × Rose before.out after.out)
-    ⊎ ((output_front ≡ length report) × (lines ≡ [] → ⊥) × (after.out ≡ before.out) × Rose before.err after.err)
+    ((error_front ≡ 0) × (report ≡ [] → ⊥) × Rose before.output.faults after.output.faults)
+    ⊎ ((output_front ≡ length report) × (lines ≡ [] → ⊥) × (after.output.faults ≡ before.output.faults) × Rose before.error.faults after.error.faults)
 
 -- A sink failed behind the run: at the report, or, where that is whole, at what is told of the last steps and the ending's line.
 pub record FailedAfterRun (s : FlatState) (report tail : List ℕ) (before after : Devices) (r : Refusal) (last : List ℕ) : Type 0 where
   pub output_front : ℕ
-  pub output : Appends before.output after.output (s.output ++ take output_front report)
+  pub output : Appends before.output.held after.output.held (s.output ++ take output_front report)
   pub error_front : ℕ
-  pub error : Appends before.error after.error ((s.error ++ take error_front (tail ++ ending_line (ending_of s))) ++ last)
-  pub behind : FailedBehind report output_front (tail ++ ending_line (ending_of s)) error_front before.faults after.faults
-  pub input : after.input ≡ Some s.input
+  pub error : Appends before.error.held after.error.held ((s.error ++ take error_front (tail ++ ending_line (ending_of s))) ++ last)
+  pub behind : FailedBehind report output_front (tail ++ ending_line (ending_of s)) error_front before after
+  pub input : after.input.left ≡ Some s.input
   pub fault : r ≡ refusal.SinkFault

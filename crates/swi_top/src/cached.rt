@@ -11,7 +11,7 @@ ghost use Rattle.swi_cached.specs.Cached.{IsFresh};
 ghost use Rattle.swi_top.specs.Answers.{Answers};
 ghost use Rattle.swi_top.specs.Caching.{cache_for};
 ghost use Rattle.swi_top.specs.Checks.{IsAccepted, IsRefusedOr, file_limit};
-ghost use Rattle.swi_top.specs.Devices.{Devices, with_ram, with_shelf, with_streams};
+ghost use Rattle.swi_top.specs.Devices.{Devices, seen};
 ghost use Rattle.swi_top.specs.RunCached.{IsPlaced, RunsOver, cached_checks, refusal_of, cached_task};
 ghost use Rattle.swi_top.specs.Subject.{view_of};
 
@@ -19,10 +19,10 @@ use crate::cache::{check_block, check_size};
 use crate::file::read_file;
 use crate::report::{ending_by, report_board};
 use crate::subject::{Prepared, Subject, SubjectImage, accept, prepare, subject_of};
-use crate::trace::{telling_of, write_last};
+use crate::trace::write_last;
 use std::alloc::Global;
 use swi_answer::{Ending, Refusal};
-use swi_cached::{CachedStop, ring_for, run_cached, slots_for};
+use swi_cached::{AskedRun, CachedStop, ring_for, run_cached, slots_for};
 use swi_command::{CacheKind, CacheOptions, RunLimits, RunOptions};
 use swi_image::ImageView;
 use swi_memory::Layout;
@@ -62,13 +62,17 @@ fn run_over<I: Source, O: Sink, E: Sink, R: CacheRam, S: CacheRom>(
     requires laid_out { IsLayoutOf program.now.segments layout.now }
     requires own { IsImageOf (text_of program.now.segments) image.now }
     ensures { (d : Devices) → RunsOver options.now (cache_of S.service rom) image.now program.now layout.now
-        (with_ram (with_streams d (I.state input.old) (O.state out.old) (E.state err.old)) (R.state ram.old))
-        (with_ram (with_streams d (I.state input.new) (O.state out.new) (E.state err.new)) (R.state ram.new)) result }
+        (record d { input = I.state input.old; output = O.state out.old; error = E.state err.old; ram = R.state ram.old })
+        (record d { input = I.state input.new; output = O.state out.new; error = E.state err.new; ram = R.state ram.new }) result }
 {
-    let (reports, steps) = (&options.reports, options.limits.steps);
-    let (calls, telling) = (reports.calls, telling_of(reports.trace));
+    let reports = &options.reports;
+    let asked = AskedRun {
+        limit: options.limits.steps,
+        calls: reports.calls,
+        trace: reports.trace,
+    };
     let ended = run_cached(
-        alloc, image, program, layout, rom, calls, telling, steps, input, out, err, ram,
+        alloc, image, program, layout, rom, asked, input, out, err, ram,
     )
     .map_err(refusal_of)?;
     let (board, history) = (&ended.0, &ended.1);
@@ -101,8 +105,8 @@ fn run_program<I: Source, O: Sink, E: Sink, R: CacheRam>(
     requires laid_out { IsLayoutOf program.now.segments layout.now }
     requires own { IsImageOf (text_of program.now.segments) image.now }
     ensures { (d : Devices) → RunsOver options.now (cache_for cache.now image.now) image.now program.now layout.now
-        (with_ram (with_streams d (I.state input.old) (O.state out.old) (E.state err.old)) (R.state ram.old))
-        (with_ram (with_streams d (I.state input.new) (O.state out.new) (E.state err.new)) (R.state ram.new)) result }
+        (record d { input = I.state input.old; output = O.state out.old; error = E.state err.old; ram = R.state ram.old })
+        (record d { input = I.state input.new; output = O.state out.new; error = E.state err.new; ram = R.state ram.new }) result }
 {
     match cache.kind {
         CacheKind::Slots => {
@@ -171,8 +175,8 @@ fn run_placed<I: Source, O: Sink, E: Sink, R: CacheRam>(
     requires laid_out { IsLayoutOf placed.now.subject.program.segments placed.now.layout }
     requires own { IsImageOf (text_of placed.now.subject.program.segments) (view_of placed.now.subject.image) }
     ensures { (d : Devices) → RunsOver options.now (cache_for cache.now (view_of placed.now.subject.image)) (view_of placed.now.subject.image) placed.now.subject.program placed.now.layout
-        (with_ram (with_streams d (I.state input.old) (O.state out.old) (E.state err.old)) (R.state ram.old))
-        (with_ram (with_streams d (I.state input.new) (O.state out.new) (E.state err.new)) (R.state ram.new)) result }
+        (record d { input = I.state input.old; output = O.state out.old; error = E.state err.old; ram = R.state ram.old })
+        (record d { input = I.state input.new; output = O.state out.new; error = E.state err.new; ram = R.state ram.new }) result }
 {
     let (program, layout) = (&placed.subject.program, &placed.layout);
     match &placed.subject.image {
@@ -208,9 +212,9 @@ pub(crate) fn cached<F: Shelf, I: Source, O: Sink, E: Sink, R: CacheRam>(
 ) -> Result<Ending, Refusal>
     requires ranges { IsInRange options.now.limits }
     requires sizes { IsCacheInRange cache.now }
-    ensures { (d : Devices) → Answers (cached_task name.now cache.now options.now)
-        (with_ram (with_streams (with_shelf d (F.state shelf.old)) (I.state input.old) (O.state out.old) (E.state err.old)) (R.state ram.old))
-        (with_ram (with_streams (with_shelf d (F.state shelf.new)) (I.state input.new) (O.state out.new) (E.state err.new)) (R.state ram.new)) result [] }
+    ensures { Answers (cached_task name.now cache.now options.now)
+        (seen (F.state shelf.old) (I.state input.old) (O.state out.old) (E.state err.old) (R.state ram.old))
+        (seen (F.state shelf.new) (I.state input.new) (O.state out.new) (E.state err.new) (R.state ram.new)) result [] }
 {
     check_size(cache.cache_bytes, ram)?;
     let file = read_file(alloc, shelf, name)?;

@@ -20,8 +20,7 @@ use swi_outside::{CacheRam, Failed, Shelf, Sink, Source};
 fn write_ending<E: Sink>(ending: &Ending, err: &mut E) -> Result<(), Failed>
     ensures bytes { WritesPiece (E.state err.old).held (E.state err.new).held result (ending_line ending.now) }
     ensures cause { HasCause (E.state err.old).faults (E.state err.new).faults result }
-    ensures unasked { ending_line ending.now ≡ [] → ((E.state err.new).held ≡ (E.state err.old).held)
-        × ((E.state err.new).faults ≡ (E.state err.old).faults) }
+    ensures unasked { ending_line ending.now ≡ [] → E.state err.new ≡ E.state err.old }
     ensures asked { OnErr result (ending_line ending.now ≡ [] → ⊥) }
 {
     let line = line_of_ending(ending);
@@ -34,8 +33,7 @@ fn write_ending<E: Sink>(ending: &Ending, err: &mut E) -> Result<(), Failed>
 /// Writes the line of a refusal, and hands the refusal on. Where the write fails, the refusal stays the answer.
 fn refuse<E: Sink>(refusal: Refusal, err: &mut E) -> Refusal
     ensures same { result ≡ refusal }
-    ensures line { ShowsLine (E.state err.old).held (E.state err.new).held (E.state err.old).faults (E.state err.new).faults
-        (refusal_line refusal) }
+    ensures line { ShowsLine (E.state err.old) (E.state err.new) (refusal_line refusal) }
     ensures later { (E.state err.old).faults ≤ (E.state err.new).faults }
 {
     let _ = err.write(line_of_refusal(&refusal).as_bytes());

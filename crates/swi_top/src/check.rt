@@ -7,7 +7,7 @@ ghost use Rattle.swi_image.specs.Format.{image_of};
 ghost use Rattle.swi_top.specs.Answers.{Answers};
 ghost use Rattle.swi_top.specs.CheckFile.{check_task};
 ghost use Rattle.swi_top.specs.Checks.{IsAccepted, IsRefusedOr, file_limit, image_checks};
-ghost use Rattle.swi_top.specs.Devices.{Devices, with_output, with_shelf};
+ghost use Rattle.swi_top.specs.Devices.{Devices};
 
 use crate::file::read_file;
 use crate::subject::{accept, load, own_image};
@@ -40,8 +40,8 @@ pub(crate) fn check<F: Shelf, O: Sink>(
     out: &mut O,
 ) -> Result<Ending, Refusal>
     ensures { (d : Devices) → Answers (check_task name.now)
-        (with_output (with_shelf d (F.state shelf.old)) (O.state out.old))
-        (with_output (with_shelf d (F.state shelf.new)) (O.state out.new)) result [] }
+        (record d { shelf = F.state shelf.old; output = O.state out.old })
+        (record d { shelf = F.state shelf.new; output = O.state out.new }) result [] }
 {
     let file = read_file(alloc, shelf, name)?;
     let view = confirmed(alloc, &file)?;

@@ -1,11 +1,10 @@
 //! The files of a command: some are read, and one may be written.
 #![tactic(auto)]
 
-ghost use Rattle.std.specs.Prelude.{◌≡◌, ◌⊎◌, ◌≤◌, IfOk, IfErr, OnOk, OnErr, Err, length};
-ghost use Rattle.swi_outside.specs.Shelf.{Same, SameElsewhere, Stands, IsLonger, get_of, put_of};
+ghost use Rattle.std.specs.Prelude.{◌≡◌, ◌≤◌, IfOk, OnErr, Err, length};
 ghost use Rattle.swi_elf_write.specs.Rewritten.{rewritten_file};
-ghost use Rattle.swi_top.specs.Causes.{ShelfCause};
 ghost use Rattle.swi_top.specs.Checks.{file_limit};
+ghost use Rattle.swi_top.specs.Files.{FileRead, FileWritten, refusal_by};
 
 use std::alloc::Global;
 use swi_answer::Refusal;
@@ -17,25 +16,29 @@ use swi_program::Program;
 /// The most bytes that a file may have.
 const FILE_LIMIT: u32 = 1 << 26;
 
+/// What a command is refused with, for such an answer of the shelf.
+fn refusal_by(error: ShelfError) -> Refusal
+    ensures { result ≡ refusal_by error }
+{
+    match error {
+        ShelfError::Failed => Refusal::ShelfFault,
+        ShelfError::Long => Refusal::FileLong { limit: FILE_LIMIT },
+        ShelfError::Memory => Refusal::Memory,
+    }
+}
+
 /// The content of the file.
 pub(crate) fn read_file<F: Shelf>(
     alloc: Global,
     shelf: &mut F,
     name: &str,
 ) -> Result<Vec<u8>, Refusal>
-    ensures same { Same (F.state shelf.old).contents (F.state shelf.new).contents }
-    ensures content { IfOk result (λ bytes. Stands (F.state shelf.old).contents name.now bytes.items) }
+    ensures read { FileRead (F.state shelf.old) (F.state shelf.new) name.now result }
     ensures within { IfOk result (λ bytes. length bytes.items ≤ file_limit) }
-    ensures refused { IfErr result (λ r. (r ≡ Refusal.ShelfFault) ⊎ ((r ≡ Refusal.Memory) ⊎
-        ((r ≡ Refusal.FileLong file_limit) × IsLonger (F.state shelf.old).contents name.now file_limit))) }
-    ensures cause { ShelfCause (F.state shelf.old).faults (F.state shelf.new).faults (F.state shelf.old).last_failed
-        (F.state shelf.new).last_failed (get_of name.now) result }
 {
     match shelf.get(alloc, name, FILE_LIMIT) {
         Ok(bytes) => Ok(bytes),
-        Err(ShelfError::Failed) => Err(Refusal::ShelfFault),
-        Err(ShelfError::Long) => Err(Refusal::FileLong { limit: FILE_LIMIT }),
-        Err(ShelfError::Memory) => Err(Refusal::Memory),
+        Err(error) => Err(refusal_by(error)),
     }
 }
 
@@ -46,17 +49,11 @@ pub(crate) fn write_file<F: Shelf>(
     name: &str,
     bytes: &[u8],
 ) -> Result<(), Refusal>
-    ensures others { SameElsewhere (F.state shelf.old).contents (F.state shelf.new).contents name.now }
-    ensures stands { OnOk result (Stands (F.state shelf.new).contents name.now bytes.now) }
-    ensures refused { IfErr result (λ r. (r ≡ Refusal.ShelfFault) ⊎
-        ((r ≡ Refusal.Memory) × Same (F.state shelf.old).contents (F.state shelf.new).contents)) }
-    ensures cause { ShelfCause (F.state shelf.old).faults (F.state shelf.new).faults (F.state shelf.old).last_failed
-        (F.state shelf.new).last_failed (put_of name.now) result }
+    ensures written { FileWritten (F.state shelf.old) (F.state shelf.new) name.now bytes.now result }
 {
     match shelf.put(alloc, name, bytes) {
         Ok(()) => Ok(()),
-        Err(ShelfError::Failed) => Err(Refusal::ShelfFault),
-        Err(ShelfError::Long | ShelfError::Memory) => Err(Refusal::Memory),
+        Err(error) => Err(refusal_by(error)),
     }
 }
 

@@ -10,7 +10,7 @@ ghost use Rattle.swi_program.specs.Text.{text_of};
 ghost use Rattle.swi_render.specs.ImageOf.{IsImageOf};
 ghost use Rattle.swi_top.specs.Answers.{Answers};
 ghost use Rattle.swi_top.specs.Checks.{IsAccepted, IsRefusedOr, file_limit};
-ghost use Rattle.swi_top.specs.Devices.{Devices, with_output, with_shelf};
+ghost use Rattle.swi_top.specs.Devices.{Devices};
 ghost use Rattle.swi_top.specs.ListFile.{list_checks, list_task, listing};
 ghost use Rattle.swi_top.specs.Subject.{IsSubject, view_of};
 
@@ -82,8 +82,8 @@ pub(crate) fn list<F: Shelf, O: Sink>(
 ) -> Result<Ending, Refusal>
     requires size { IsBlockSize block_words }
     ensures { (d : Devices) → Answers (list_task name.now block_words)
-        (with_output (with_shelf d (F.state shelf.old)) (O.state out.old))
-        (with_output (with_shelf d (F.state shelf.new)) (O.state out.new)) result [] }
+        (record d { shelf = F.state shelf.old; output = O.state out.old })
+        (record d { shelf = F.state shelf.new; output = O.state out.new }) result [] }
 {
     let file = read_file(alloc, shelf, name)?;
     let subject = listed(alloc, &file, block_words)?;

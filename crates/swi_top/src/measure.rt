@@ -15,8 +15,8 @@ ghost use Rattle.swi_program.specs.Text.{text_of};
 ghost use Rattle.swi_render.specs.ImageOf.{IsImageOf};
 ghost use Rattle.swi_rom.specs.Service.{cache_of};
 ghost use Rattle.swi_top.specs.Answers.{Answers};
-ghost use Rattle.swi_top.specs.Devices.{Devices, with_output, with_ram};
-ghost use Rattle.swi_top.specs.MeasureMade.{MadeRan, MeasuresOver, board_summary, made_ending_by, made_run, measure_task};
+ghost use Rattle.swi_top.specs.Devices.{Devices};
+ghost use Rattle.swi_top.specs.MeasureMade.{MadeRan, MeasuresOver, board_summary, made_ending_by, made_run, measure_task, MadeRamFailed};
 
 use crate::cache::{check_block, check_size};
 use crate::nowhere::Nowhere;
@@ -25,7 +25,7 @@ use crate::subject::{Prepared, cut_image};
 use std::alloc::Global;
 use swi_answer::{Ending, Refusal};
 use swi_board::Board;
-use swi_cached::{CachedStop, Telling, ring_for, run_cached, slots_for};
+use swi_cached::{AskedRun, CachedStop, ring_for, run_cached, slots_for};
 use swi_calls::End;
 use swi_command::{CacheKind, CacheOptions};
 use swi_image::ImageView;
@@ -34,14 +34,19 @@ use swi_outside::{CacheRam, Sink};
 use swi_program::{Program, lay_out, one_text};
 use swi_report::{Measured, summary_text};
 use swi_rom::CacheRom;
+use swi_trace::Trace;
 
 /// The bytes of the heap and of the stack.
 const HEAP: u32 = 1 << 20;
 
 const STACK: u32 = 1 << 16;
 
-/// The most steps of a run.
-const STEPS: u64 = 1 << 48;
+/// The run of a made program: of its steps nothing is told.
+const UNTOLD: AskedRun = AskedRun {
+    limit: 1 << 48,
+    calls: false,
+    trace: Trace::Off,
+};
 
 /// The text of the program that is made of a seed.
 fn made_text(alloc: Global, seed: u32, functions: u32) -> Result<Vec<u8>, Refusal>
@@ -92,32 +97,24 @@ fn run_made<R: CacheRam, S: CacheRom>(
         (made_run (cache_of S.service rom) prepared.now.program prepared.now.layout image.now) b.hart (S.service.kept b.rom)
         (R.state ram.old) (R.state ram.new)) }
     ensures refused { IfErr result
-        (λ r. ((r ≡ Refusal.Memory) × (R.state ram.new ≡ R.state ram.old)) ⊎ (r ≡ Refusal.RamFault)) }
+        (λ r. ((r ≡ Refusal.Memory) × (R.state ram.new ≡ R.state ram.old))
+        ⊎ ((r ≡ Refusal.RamFault) × MadeRamFailed
+        (made_run (cache_of S.service rom) prepared.now.program prepared.now.layout image.now)
+        (R.state ram.old) (R.state ram.new))) }
     ensures kept { KeepsBeyond (cache_of S.service rom).span (R.state ram.old) (R.state ram.new) }
     ensures cause { DeviceCause (R.state ram.old).faults (R.state ram.new).faults (IsErrOf result Refusal.RamFault) }
 {
     let (program, layout) = (&prepared.program, &prepared.layout);
     let (mut input, mut out, mut err) = (Nowhere, Nowhere, Nowhere);
     match run_cached(
-        alloc,
-        image,
-        program,
-        layout,
-        rom,
-        false,
-        Telling::Nothing,
-        STEPS,
-        &mut input,
-        &mut out,
-        &mut err,
-        ram,
+        alloc, image, program, layout, rom, UNTOLD, &mut input, &mut out, &mut err, ram,
     ) {
         Ok((board, _history)) => Ok(board),
         Err(CachedStop::Memory) => Err(Refusal::Memory),
+        Err(CachedStop::RamFault) => Err(Refusal::RamFault),
         // No other device fails.
-        Err(CachedStop::RamFault | CachedStop::SourceFault | CachedStop::SinkFault) => Err(
-            Refusal::RamFault,
-        ),
+        Err(CachedStop::SourceFault) => unreachable!(),
+        Err(CachedStop::SinkFault) => unreachable!(),
     }
 }
 
@@ -171,8 +168,8 @@ fn measure_over<O: Sink, R: CacheRam, S: CacheRom>(
     requires sound { S.service.sound rom image.now (R.state ram.old).words }
     requires fresh { IsFresh (S.service.kept rom) }
     ensures { (d : Devices) → MeasuresOver functions (cache_of S.service rom) image.now prepared.now.program prepared.now.layout
-        (with_ram (with_output d (O.state out.old)) (R.state ram.old))
-        (with_ram (with_output d (O.state out.new)) (R.state ram.new)) result }
+        (record d { output = O.state out.old; ram = R.state ram.old })
+        (record d { output = O.state out.new; ram = R.state ram.new }) result }
 {
     let board = run_made(alloc, image, prepared, rom, ram)?;
     summarize(functions, &prepared.program, image, &board, out)
@@ -191,8 +188,8 @@ pub(crate) fn measure<O: Sink, R: CacheRam>(
     requires count { IsFunctionCount functions }
     requires sizes { IsCacheInRange cache.now }
     ensures { (d : Devices) → Answers (measure_task seed functions cache.now)
-        (with_ram (with_output d (O.state out.old)) (R.state ram.old))
-        (with_ram (with_output d (O.state out.new)) (R.state ram.new)) result [] }
+        (record d { output = O.state out.old; ram = R.state ram.old })
+        (record d { output = O.state out.new; ram = R.state ram.new }) result [] }
 {
     check_size(cache.cache_bytes, ram)?;
     let text = made_text(alloc, seed, functions)?;

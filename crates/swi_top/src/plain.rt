@@ -6,7 +6,7 @@ ghost use Rattle.swi_command.specs.CommandLine.{IsInRange};
 ghost use Rattle.swi_program.specs.Layout.{IsLayoutOf};
 ghost use Rattle.swi_top.specs.Answers.{Answers};
 ghost use Rattle.swi_top.specs.Checks.{IsAccepted, IsRefusedOr, file_limit};
-ghost use Rattle.swi_top.specs.Devices.{Devices, with_shelf, with_streams};
+ghost use Rattle.swi_top.specs.Devices.{Devices};
 ghost use Rattle.swi_top.specs.RunPlain.{RunsPlain, plain_checks, plain_task};
 ghost use Rattle.swi_top.specs.Subject.{IsPrepared};
 
@@ -33,8 +33,8 @@ fn run_plain<I: Source, O: Sink, E: Sink>(
     requires ranges { IsInRange options.now.limits }
     requires laid_out { IsLayoutOf prepared.now.program.segments prepared.now.layout }
     ensures { (d : Devices) → RunsPlain options.now prepared.now.program prepared.now.layout
-        (with_streams d (I.state input.old) (O.state out.old) (E.state err.old))
-        (with_streams d (I.state input.new) (O.state out.new) (E.state err.new)) result }
+        (record d { input = I.state input.old; output = O.state out.old; error = E.state err.old })
+        (record d { input = I.state input.new; output = O.state out.new; error = E.state err.new }) result }
 {
     let Ok(mut machine) = Flat::start(
         alloc,
@@ -90,8 +90,8 @@ pub(crate) fn plain<F: Shelf, I: Source, O: Sink, E: Sink>(
 ) -> Result<Ending, Refusal>
     requires ranges { IsInRange options.now.limits }
     ensures { (d : Devices) → Answers (plain_task name.now options.now)
-        (with_streams (with_shelf d (F.state shelf.old)) (I.state input.old) (O.state out.old) (E.state err.old))
-        (with_streams (with_shelf d (F.state shelf.new)) (I.state input.new) (O.state out.new) (E.state err.new)) result [] }
+        (record d { shelf = F.state shelf.old; input = I.state input.old; output = O.state out.old; error = E.state err.old })
+        (record d { shelf = F.state shelf.new; input = I.state input.new; output = O.state out.new; error = E.state err.new }) result [] }
 {
     let file = read_file(alloc, shelf, name)?;
     let prepared = accepted(alloc, &file, options)?;

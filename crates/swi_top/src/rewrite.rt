@@ -5,7 +5,7 @@ ghost use Rattle.std.specs.Prelude.{◌≡◌, ◌≤◌, IfOk, IfErr, OnOk, [],
 ghost use Rattle.swi_command.specs.CommandLine.{IsBlockSize};
 ghost use Rattle.swi_top.specs.Answers.{Answers};
 ghost use Rattle.swi_top.specs.Checks.{IsAccepted, IsRefusedOr, file_limit};
-ghost use Rattle.swi_top.specs.Devices.{Devices, with_shelf};
+ghost use Rattle.swi_top.specs.Devices.{Devices};
 ghost use Rattle.swi_top.specs.RewriteFile.{IsRewritten, cutting_of, rewrite_checks, rewrite_task};
 
 use crate::file::{file_with, read_file, write_file};
@@ -58,8 +58,8 @@ pub(crate) fn rewrite<F: Shelf>(
 ) -> Result<Ending, Refusal>
     requires size { IsBlockSize block_words }
     ensures { (d : Devices) → Answers (rewrite_task input.now output.now block_words whole_loops)
-        (with_shelf d (F.state shelf.old))
-        (with_shelf d (F.state shelf.new)) result [] }
+        (record d { shelf = F.state shelf.old })
+        (record d { shelf = F.state shelf.new }) result [] }
 {
     let file = read_file(alloc, shelf, input)?;
     let bytes = rewritten(alloc, &file, block_words, whole_loops)?;

@@ -5,24 +5,11 @@ ghost use Rattle.std.specs.Prelude.{◌≡◌, OnErr, [], slice_get};
 ghost use Rattle.swi_outside.specs.Causes.{HasCause};
 ghost use Rattle.swi_outside.specs.Sink.{WritesPiece};
 ghost use Rattle.swi_cached.specs.Told.{lines_at};
-ghost use Rattle.swi_top.specs.RunCached.{addresses_in, last_told, one_of, telling_of};
+ghost use Rattle.swi_top.specs.RunCached.{addresses_in, last_told, one_of};
 
-use swi_cached::Telling;
-use swi_command::Trace;
 use swi_memory::Bus;
 use swi_outside::{Failed, Sink};
-use swi_trace::{History, trace_line};
-
-/// What is told of the steps, in the words of the run.
-pub(crate) fn telling_of(trace: Trace) -> Telling
-    ensures { result ≡ telling_of trace }
-{
-    match trace {
-        Trace::Off => Telling::Nothing,
-        Trace::Last => Telling::Last,
-        Trace::Each => Telling::Each,
-    }
-}
+use swi_trace::{History, Trace, trace_line};
 
 /// Writes the line of the step at one of a history's addresses.
 fn write_step<E: Sink>(history: &History, k: u32, bus: &Bus, err: &mut E) -> Result<(), Failed>

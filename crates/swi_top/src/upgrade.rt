@@ -4,7 +4,7 @@
 ghost use Rattle.std.specs.Prelude.{◌≤◌, IfOk, IfErr, OnOk, [], length};
 ghost use Rattle.swi_top.specs.Answers.{Answers};
 ghost use Rattle.swi_top.specs.Checks.{IsAccepted, IsRefusedOr, file_limit, image_checks};
-ghost use Rattle.swi_top.specs.Devices.{Devices, with_shelf};
+ghost use Rattle.swi_top.specs.Devices.{Devices};
 ghost use Rattle.swi_top.specs.UpgradeFile.{IsUpgraded, upgrade_task};
 
 use crate::file::{file_with, read_file, write_file};
@@ -42,8 +42,8 @@ pub(crate) fn upgrade<F: Shelf>(
     shelf: &mut F,
 ) -> Result<Ending, Refusal>
     ensures { (d : Devices) → Answers (upgrade_task input.now output.now)
-        (with_shelf d (F.state shelf.old))
-        (with_shelf d (F.state shelf.new)) result [] }
+        (record d { shelf = F.state shelf.old })
+        (record d { shelf = F.state shelf.new }) result [] }
 {
     let file = read_file(alloc, shelf, input)?;
     let bytes = upgraded(alloc, &file)?;

@@ -11,7 +11,7 @@ use Rattle.swi_hart.specs.declared.hart.Stage.{Stage}
 use Rattle.swi_hart.specs.declared.hart.Control.{Control}
 use Rattle.swi_hart.specs.declared.hart.Control.TheVariants.{At, Outside}
 use Rattle.swi_hart.specs.Hart.{HartData, index_of, place_under}
-use Rattle.swi_hart.specs.Matching.{Matches, Agrees, Fits}
+use Rattle.swi_hart.specs.Matching.{StandsBy, Fits}
 use Rattle.swi_hart.specs.Leaving.{Home}
 use Rattle.swi_hart.specs.MachineStep.{BoardWithRam}
 use Rattle.swi_hart.specs.Service.{ServiceWithRam}
@@ -26,9 +26,9 @@ use Rattle.swi_hart.proofs.Leaving.{shown_place}
 
 -- the block under control is placed
 pub under_placed : (v : ImageData) (r : Record) (h : HartData) (p : ℕ × ℕ) → Fits v r h → place_under h.machine.ending h.control ≡ Some p → (f : ℕ) × Placed r p.0 f
-under_placed v r h p fits under = by_parts h.machine.ending h.control fits.matches under
+under_placed v r h p fits under = by_parts h.machine.ending h.control fits.place under
   where
-    by_parts : (e : Option End) (c : Control) → Agrees e v r fits.flat h.machine c → place_under e c ≡ Some p → (f : ℕ) × Placed r p.0 f
+    by_parts : (e : Option End) (c : Control) → StandsBy e v r h.machine c → place_under e c ≡ Some p → (f : ℕ) × Placed r p.0 f
     by_parts None (At i b o stage) is under = let same : b ≡ p.0 = ap (λ (q : Option (ℕ × ℕ)). first q) under in (is.0.0, subst (λ (x : ℕ). Placed r x is.0.0) same is.0.1)
       where
         first : Option (ℕ × ℕ) → ℕ
@@ -43,20 +43,19 @@ inside_of v r m i b o stage at = elim at.kind [ inl x ↦ omega (arith, x.inside
 -- the service shows the place under control
 pub shown_under : (v : ImageData) (r : Record) (span : ℕ) (words : List ℕ) (shown : ℕ → Option (ℕ × ℕ)) (h : HartData) → Fits v r h → h.machine.pc < 2 ^ 32 → Coherent v r span words → ((i : ℕ) → StandsAt v r i (shown i)) →
     (i : ℕ) → index_of h.machine.ending h.control ≡ Some i → shown i ≡ place_under h.machine.ending h.control
-shown_under v r span words shown h fits short coherent shows i at = by_parts h.machine.ending h.control refl fits.matches at
+shown_under v r span words shown h fits short coherent shows i at = by_parts h.machine.ending h.control refl refl fits.place at
   where
     number : Option ℕ → ℕ
     number None = 0
     number (Some n) = n
 
-    by_parts : (e : Option End) (c : Control) → h.machine.ending ≡ e → Agrees e v r fits.flat h.machine c → index_of e c ≡ Some i → shown i ≡ place_under e c
-    by_parts None (At j b o stage) none is at =
+    by_parts : (e : Option End) (c : Control) → h.machine.ending ≡ e → h.control ≡ c → StandsBy e v r h.machine c → index_of e c ≡ Some i → shown i ≡ place_under e c
+    by_parts None (At j b o stage) none here is at =
         let same : j ≡ i = ap number at in
-        let matches : Matches v r fits.flat h.machine (At j b o stage) = subst (λ (x : Option End). Agrees x v r fits.flat h.machine (At j b o stage)) (sym none) is in
-        let place = home v r fits.flat h.machine j b o stage fits.image matches none short in
+        let place = home v r h j b o stage fits here none short in
         shown_place v r span words i b o (shown i) coherent (is.0.0, is.0.1, inside_of v r h.machine j b o stage place, sym same ∙ is.0.2) (shows i)
-    by_parts None Outside none is at = absurd cc
-    by_parts (Some e) c none is at = absurd cc
+    by_parts None Outside none here is at = absurd cc
+    by_parts (Some e) c none here is at = absurd cc
 
 -- the run has ended, or control is at no text word, and so at no index
 pub none_under : (e : Option End) (c : Control) (i : ℕ) → place_under e c ≡ None → index_of e c ≡ Some i → ⊥

@@ -3,7 +3,7 @@ use Rattle.std.proofs.Common.{◌≡◌, ◌⊎◌, ℕ, ◌+◌, ◌-◌, ◌<�
 use Rattle.std.proofs.lemmas.Bool.{cases_Bool, cases_eq, cases_lt, both_ways}
 use Rattle.std.proofs.lemmas.List.{length-map, get_or-set_same, get_or-set_other}
 use Rattle.swi_outside.specs.Causes.{counted}
-use Rattle.swi_outside.specs.CacheRam.{RamState}
+use Rattle.swi_outside.specs.CacheRam.{RamState, with_set}
 use Rattle.swi_chain.specs.Chains.{ChainsData, Has, IsApart, IsFree, list_of, without}
 use Rattle.swi_chain.specs.Holders.{holder_of}
 use Rattle.swi_chain.specs.Lists.{first_has, holder_is, holder_has, holder_free, unlinked_lists, unlinked_here, unlinked_other}
@@ -88,7 +88,7 @@ undone_own list first n k at old now a b u below is own = record {
 }
 
 undone_foreign : (list first n k at : ℕ) (old now : ChainsData) (a b c : RamState) → Undone list first n k old now a b → list < length old.lists → at < now.words → holder_of now.lists at ≡ list → is_own first n at ≡ false → at < length b.words →
-    c ≡ record b { words = slice_set b.words at ebreak; sets = counted b.sets; reach = max b.reach (at + 1) } → Undone list first n (k + 1) old (taken now at) a c
+    c ≡ with_set b at ebreak → Undone list first n (k + 1) old (taken now at) a c
 undone_foreign list first n k at old now a b c u below small is foreign fits e =
     let words : c.words ≡ slice_set b.words at ebreak = ap (λ (r : RamState). r.words) e in
     let others : (j : ℕ) → (j ≡ at → ⊥) → slice_index c.words j ≡ slice_index b.words j = λ j ne. ap (λ (ws : List ℕ). slice_index ws j) words ∙ get_or-set_other b.words at j ebreak 0 ne in
@@ -106,7 +106,7 @@ undone_foreign list first n k at old now a b c u below small is foreign fits e =
 -- the word that stands first in the list leaves
 pub undone_more : (list first n k m at : ℕ) (old now next : ChainsData) (a b c : RamState) → Undone list first n k old now a b → list < length old.lists → IsApart now → Some at ≡ slice_get (list_of now list) 0 → at < length b.words →
     (is_own first n at ≡ true → (m ≡ 0) × (c ≡ b)) →
-    (is_own first n at ≡ false → (m ≡ 1) × (c ≡ record b { words = slice_set b.words at ebreak; sets = counted b.sets; reach = max b.reach (at + 1) })) →
+    (is_own first n at ≡ false → (m ≡ 1) × (c ≡ with_set b at ebreak)) →
     next ≡ taken now at → Undone list first n (k + m) old next a c
 undone_more list first n k m at old now next a b c u below apart front fits own foreign e =
     let h = first_has (list_of now list) at front in

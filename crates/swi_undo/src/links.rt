@@ -1,8 +1,8 @@
 //! How links leave their lists.
 #![tactic(auto)]
 
-ghost use Rattle.std.specs.Prelude.{◌≡◌, ◌+◌, ◌<◌, ◌≤◌, ◌^◌, ℕ, true, false, length, IfOk, OnOk, OnErr, slice_set, max};
-ghost use Rattle.swi_outside.specs.Causes.{counted};
+ghost use Rattle.std.specs.Prelude.{◌≡◌, ◌+◌, ◌<◌, ◌≤◌, ◌^◌, ℕ, true, false, length, IfOk, OnOk, OnErr};
+ghost use Rattle.swi_outside.specs.CacheRam.{with_set};
 ghost use Rattle.swi_rom.specs.Record.{ebreak};
 ghost use Rattle.swi_rom.specs.Writing.{FailedBelow};
 ghost use Rattle.swi_undo.specs.Undone.{is_own, coming_in, Undone, IsEmptied, Released};
@@ -71,11 +71,7 @@ fn restore<M: CacheRam>(ram: &mut M, at: u32, first: u32, size: u32) -> Result<u
     requires small { first + size < 2 ^ 32 }
     ensures own { IfOk result (λ k. is_own first size at ≡ true → (k ≡ 0) × (M.state ram.new ≡ M.state ram.old)) }
     ensures foreign { IfOk result (λ k. is_own first size at ≡ false → (k ≡ 1)
-        × (M.state ram.new ≡ record (M.state ram.old) {
-          words = slice_set (M.state ram.old).words at ebreak;
-          sets = counted (M.state ram.old).sets;
-          reach = max (M.state ram.old).reach (at + 1);
-        })) }
+        × (M.state ram.new ≡ with_set (M.state ram.old) at ebreak)) }
     ensures failed { OnErr result (FailedBelow (at + 1) (M.state ram.old) (M.state ram.new)) }
 {
     if first <= at && at < first + size {

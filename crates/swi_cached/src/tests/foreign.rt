@@ -6,7 +6,6 @@ ghost use Rattle.swi_hart.specs.Hart.{index_of, place_under, is_between};
 ghost use Rattle.swi_image.specs.Format.{ImageData};
 ghost use Rattle.swi_image.specs.Place.{word_at};
 ghost use Rattle.swi_image.specs.Sound.{IsImage};
-ghost use Rattle.swi_memory.specs.Bus.{fetched};
 ghost use Rattle.swi_outside.specs.CacheRam.{Fetched, WordSet};
 ghost use Rattle.swi_program.specs.Layout.{IsLayoutOf};
 ghost use Rattle.swi_program.specs.Text.{text_of};
@@ -99,16 +98,6 @@ fn under<R: CacheRom>(hart: &Hart, rom: &R) -> Option<(u32, (u32, u32))>
     Some((i, place))
 }
 
-/// Whether the instruction under control is the text's second.
-fn is_own(hart: &Hart) -> bool
-    ensures { result ≡ true → fetched hart.now.machine.bus hart.now.machine.pc ≡ Some 0x00700513 }
-{
-    match hart.bus().fetch(hart.origin_pc()) {
-        Some(word) => word == OWN,
-        None => false,
-    }
-}
-
 /// Sets a word of a ram.
 fn put(ram: &mut Counted, i: u32, word: u32) -> Result<(), Failed>
     requires { i < length ram.old.words }
@@ -135,7 +124,6 @@ fn steps_over<R: CacheRom>(
     requires inside { i < length ram.old.words }
     requires own { word_at image.now place.0 place.1 ≡ 0x00700513 }
     requires held { slice_index ram.old.words i ≡ 0x00700513 }
-    requires original { fetched board.old.hart.machine.bus board.old.hart.machine.pc ≡ Some 0x00700513 }
 {
     let mut input = MemSource::new(Vec::new(alloc), Vec::new(alloc));
     let mut out = MemSink::new(alloc, 16, Vec::new(alloc))?;
@@ -218,7 +206,6 @@ fn stepped<R: CacheRom>(
         || place.0 >= image.blocks()
         || place.1 >= image.length(place.0)
         || image.word(place.0, place.1) != OWN
-        || !is_own(&hart)
         || ram.words() != 8
         || ram.ram.word(i) != OWN
     {

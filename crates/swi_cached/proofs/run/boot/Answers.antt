@@ -7,7 +7,7 @@ use Rattle.swi_cached.proofs.Boot.{wrote_at_boot}
 use Rattle.swi_cached.proofs.run.boot.Goals as goal
 
 pub returns-in-Ok-clause-booted : goal.returns-in-Ok-clause-booted
-returns-in-Ok-clause-booted g c = λ telling limit left.
+returns-in-Ok-clause-booted g c = λ left.
     let b = c.in-Ok.ensures.entered in
     record {
       machine = ap (λ (h : HartData). h.machine) b.hart;

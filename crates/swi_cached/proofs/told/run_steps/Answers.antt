@@ -12,6 +12,7 @@ use Rattle.swi_hart.specs.Leaving.{moved, transfer_at, RamStepped}
 use Rattle.swi_board.specs.Ran.{Followed}
 use Rattle.swi_cached.specs.Traced.{ToldRamBroke}
 use Rattle.swi_board.proofs.Held.{same_steps}
+use Rattle.swi_hart.proofs.Fitting.{own_matches}
 use Rattle.swi_board.proofs.Running.{started_run, runs_on, falls, kept_both, count_small, calls_small}
 use Rattle.swi_hart.proofs.Grown.{moved_rises}
 use Rattle.swi_board.proofs.Settling.{settles_on}
@@ -26,7 +27,9 @@ use Rattle.swi_cached.proofs.Tells.{Tells, same_at, line_is, begins, goes_on, te
 use Rattle.swi_cached.proofs.Stopping.{told_device, told_line_broke, told_ram, told_run, with_device, to_device, ram_off, all_told, unknown_made, causes_line, quiet_on, lines_on, tells_first, now_at}
 use Rattle.swi_outside.specs.Devices.{Faults}
 use Rattle.swi_calls.specs.Held.{held_run}
-use Rattle.swi_board.proofs.Along.{call_unasked}
+use Rattle.swi_board.proofs.Along.{call_unasked, maybe_fetched}
+use Rattle.swi_cached.proofs.Words.{all_steps, broken_words, ended_words, words_so_far}
+use Rattle.swi_board.specs.Fetching.{FetchedFront, HasFetched, words_ahead}
 use Rattle.swi_cached.proofs.Unasked.{both_device, line_unasked, stopped_unasked, told_unasked}
 use Rattle.swi_cached.proofs.told.run_steps.Goals as goal
 
@@ -67,10 +70,11 @@ loop-telling-preserved g c =
     let made = s.made c.loop-telling.invariant.sound in
     let grown = s.grown c.loop-telling.invariant.sound in
     record {
-      running = runs_on c.loop-telling.invariant.running more running c.in-Ok.ensures.word c.requires.limit stepped rises (s.fits c.loop-telling.invariant.sound) grown moves
-          (λ l told. unknown_made c.args.image.now (g.S.CacheRom.service.kept c.step.new.self.rom) c.loop-telling.board.hart c.step.new.self.hart l _ _ _ _ _ (made l told));
+      running = runs_on c.loop-telling.invariant.running more running c.in-Ok.ensures.word c.requires.limit stepped rises s.fits grown moves
+          (λ l told. unknown_made c.args.image.now (g.S.CacheRom.service.kept c.step.new.self.rom) c.loop-telling.board.hart c.step.new.self.hart l _ _ _ _ _ (made l told))
+          (g.met.S.CacheRom.laws.coherent c.loop-telling.board.rom c.args.image.now (g.R.CacheRam.state c.loop-telling.ram).words c.loop-telling.invariant.sound).once;
       settles = λ left told between going.
-          let goes = c.loop-telling.invariant.running.goes left told c.requires.fits.flat c.requires.fits.image c.requires.fits.matches in
+          let goes = c.loop-telling.invariant.running.goes left told c.args.board.now.hart.machine c.requires.fits.image (own_matches c.args.image.now (g.S.CacheRom.service.kept c.args.board.now.rom) c.args.board.now.hart.machine c.args.board.now.hart.control between c.requires.fits.place) in
           settles_on more (made goes.now.input goes.left_is) going;
       setting = s.setting ∙ c.loop-telling.invariant.setting;
       sound = (s.sound c.loop-telling.invariant.sound).0;
@@ -267,3 +271,48 @@ returns-in_err-run-clause-unasked g c =
     let p = err_from_is_err_and c.from_residual.result c.from_residual.ensures.1 in
     rw (p.1, p.2) (with_device Unit (Option (List ℕ)) c.in_err-run.field-0.0 _ _ c.in_err-run.ensures.broke (λ broke out. λ left told f image same.
     stopped_unasked (is_each c.args.telling) c.in_err-run.field-0.0 out c.requires.first (c.in_err-run.ensures.stopped left told f image same)))
+
+-- ---- the words that were fetched
+
+pub returns-in_default-clause-fetched_at : goal.returns-in_default-clause-fetched_at
+returns-in_default-clause-fetched_at g c = λ left told f image same. subst (λ (k : ℕ). HasFetched (words_ahead (g.S.CacheRom.service.policy (g.S.CacheRom.service.setting c.args.board.now.rom)) c.args.image.now k (started f left) c.args.board.now.hart.control (g.S.CacheRom.service.kept c.args.board.now.rom)) (g.R.CacheRam.state c.args.ram.now) (g.R.CacheRam.state c.run.new.ram)) (all_steps c.args.limit c.args.board.now.hart.machine.steps c.requires.first)
+    (c.in_ok-run.ensures.fetched_at left told f image same)
+
+pub returns-in_err-run-clause-fetched_at : goal.returns-in_err-run-clause-fetched_at
+returns-in_err-run-clause-fetched_at g c =
+    let p = err_from_is_err_and c.from_residual.result c.from_residual.ensures.1 in
+    rw p.1 (λ left told f image same. subst (λ (k : ℕ). FetchedFront (words_ahead (g.S.CacheRom.service.policy (g.S.CacheRom.service.setting c.args.board.now.rom)) c.args.image.now k (started f left) c.args.board.now.hart.control (g.S.CacheRom.service.kept c.args.board.now.rom)) (g.R.CacheRam.state c.args.ram.now) (g.R.CacheRam.state c.run.new.ram)) (all_steps c.args.limit c.args.board.now.hart.machine.steps c.requires.first)
+    (c.in_err-run.ensures.fetched_at left told f image same))
+
+pub returns-in_err-run-clause-last_failed : goal.returns-in_err-run-clause-last_failed
+returns-in_err-run-clause-last_failed g c =
+    let p = err_from_is_err_and c.from_residual.result c.from_residual.ensures.1 in
+    rw (p.1, p.2) (λ fault. c.in_err-run.ensures.last_failed (fault_as {S = Option (List ℕ)} {T = Unit} c.in_err-run.field-0.0 RamFault fault))
+
+pub returns-in-Some-ending-clause-fetched_at : goal.returns-in-Some-ending-clause-fetched_at
+returns-in-Some-ending-clause-fetched_at g c = λ left told f image same.
+    let ended : is_some c.loop-telling.board.hart.machine.ending ≡ true = ap (λ (e : Option End). is_some e) (sym c.ending.ensures ∙ c.in-Some-ending.is) in
+    ended_words c.loop-telling.invariant.running c.requires.first left told f image same (inr ended)
+
+pub returns-clause-fetched_at : goal.returns-clause-fetched_at
+returns-clause-fetched_at g c = λ left told f image same.
+    let least : c.args.limit ≤ c.loop-telling.board.hart.machine.steps = omega (arith, c.loop-telling-test.false, c.steps.ensures) in
+    ended_words c.loop-telling.invariant.running c.requires.first left told f image same (inl least)
+
+pub returns-in-Err-clause-fetched_at : goal.returns-in-Err-clause-fetched_at
+returns-in-Err-clause-fetched_at g c = λ left told f image same. words_so_far c.loop-telling.invariant.running c.requires.first left told f image same
+
+pub returns-in_err-step-clause-fetched_at : goal.returns-in_err-step-clause-fetched_at
+returns-in_err-step-clause-fetched_at g c =
+    let p = err_from_is_err_and c.from_residual-in_err-step.result c.from_residual-in_err-step.ensures.1 in
+    let s = c.in_err-step.ensures.stepped in
+    let more : c.loop-telling.board.hart.machine.steps < c.args.limit = omega (arith, c.loop-telling-test.true, c.steps.ensures) in
+    let running : c.loop-telling.board.hart.machine.ending ≡ None = sym c.ending.ensures ∙ c.in-None.is in
+    let once = (g.met.S.CacheRom.laws.coherent c.loop-telling.board.rom c.args.image.now (g.R.CacheRam.state c.loop-telling.ram).words c.loop-telling.invariant.sound).once in
+    rw p.1 (λ left told f image same.
+    broken_words c.loop-telling.invariant.running c.requires.first left told f image same {ram = g.R.CacheRam.state c.step.new.ram} more running once (maybe_fetched _ c.in_err-step.field-0.0 s.unserved s.ram_failed))
+
+pub returns-in_err-step-clause-last_failed : goal.returns-in_err-step-clause-last_failed
+returns-in_err-step-clause-last_failed g c =
+    let p = err_from_is_err_and c.from_residual-in_err-step.result c.from_residual-in_err-step.ensures.1 in
+    rw (p.1, p.2) (λ fault. (c.in_err-step.ensures.stepped.ram_failed (fault_as {S = Option (List ℕ)} {T = Unit} c.in_err-step.field-0.0 RamFault fault)).last_failed)

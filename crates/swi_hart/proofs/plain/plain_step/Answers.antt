@@ -1,12 +1,12 @@
 use Rattle.std.proofs.Common.{ℕ, List, [], refl, sym, ap, ◌∙◌, slice_index, arith}
 use Rattle.swi_isa.specs.Decode.{decoded}
 use Rattle.swi_outside.specs.CacheRam.{RamState}
-use Rattle.swi_hart.specs.Hart.{HartData, role_of, original}
+use Rattle.swi_hart.specs.Hart.{HartData}
 use Rattle.swi_hart.specs.Exchanged.{is_plain}
 use Rattle.swi_hart.specs.Leaving.{broken}
 use Rattle.swi_hart.proofs.Answered.{ram_stopped}
 use Rattle.swi_outside.specs.Laws.{no_cause, none_named}
-use Rattle.swi_hart.proofs.Exchanging.{plain_home, put_back, own_word, plain_below, plain_held, no_call, made_plain, fits_plain, grown_plain, executes_plain, whole_plain, same_at, stage_same}
+use Rattle.swi_hart.proofs.Exchanging.{plain_home, put_back, own_word, plain_below, plain_held, no_call, made_plain, fits_plain, grown_plain, executes_plain, same_at}
 use Rattle.swi_hart.proofs.Falls.{ram_same, words_same}
 use Rattle.swi_hart.proofs.Fetching.{offset_small, word_moves}
 use Rattle.swi_hart.proofs.Steps.{ram_exit, ram_unfetched}
@@ -24,7 +24,7 @@ returns-in-Err g c =
     let plain = ap (λ (w : ℕ). is_plain (decoded w)) (sym c.requires.own) ∙ c.requires.plain in
     let below = plain_below v r h.machine span ram.words c.args.at.0 c.args.at.1 c.args.at.2 c.args.at.3 sound coherent c.requires.home h.control c.requires.control plain c.requires.sound in
     let failed = ram_unfetched v h.machine h.control _ c.args.at.0 c.args.at.1 c.args.at.2 c.args.at.3 _ _ c.requires.control below c.in-Err.ensures.fetched in
-    record { stepped = ram_stopped _ _ _ _ _ _ (ap broken c.hart.view_is) refl failed; executes = tt; whole = tt }
+    record { stepped = ram_stopped _ _ _ _ _ (ap broken c.hart.view_is) refl failed; executes = tt }
 
 pub run_word-requires : goal.run_word-requires
 run_word-requires g c =
@@ -71,7 +71,7 @@ returns g c =
     record {
       stepped = record {
         made = λ s left told. made_plain v r h c.run_word.new.hart ram.words c.args.at.0 c.args.at.1 c.args.at.2 c.args.at.3 c.requires.home c.requires.control plain c.in-Some-Some.image_word c.in-Some-Some.x c.role-role.result own_is held_is c.role-role.ensures ((c.run_word.ensures.ran runs).ran) (own_word v r h.machine span ram.words c.args.at.0 c.args.at.1 c.args.at.2 c.args.at.3 sound coherent c.requires.home h.control c.requires.control plain s) (c.run_word.ensures.ran runs).took (c.run_word.ensures.ran runs).output (c.run_word.ensures.ran runs).error left _ _ _ told;
-        fits = λ s. fits_plain v r h c.run_word.new.hart ram.words c.args.at.0 c.args.at.1 c.args.at.2 c.args.at.3 c.requires.home c.requires.control plain c.in-Some-Some.image_word c.in-Some-Some.x c.role-role.result own_is held_is c.role-role.ensures ((c.run_word.ensures.ran runs).ran) (own_word v r h.machine span ram.words c.args.at.0 c.args.at.1 c.args.at.2 c.args.at.3 sound coherent c.requires.home h.control c.requires.control plain s) c.requires.ready.fits (sym c.requires.ready.running) c.requires.word;
+        fits = fits_plain v r h c.run_word.new.hart ram.words c.args.at.0 c.args.at.1 c.args.at.2 c.args.at.3 c.requires.home c.requires.control plain c.in-Some-Some.image_word c.in-Some-Some.x c.role-role.result own_is held_is c.role-role.ensures ((c.run_word.ensures.ran runs).ran) (ap is_plain held_is ∙ held) c.requires.ready.fits c.requires.ready.running c.requires.word;
         counted = record { count = ap (λ (k : HartData). k.count) ran; failed = ap (λ (k : HartData). k.failed) ran; booted = ap (λ (k : HartData). k.booted) ran };
         policy = rw c.requires.control (word_moves v r h.machine c.args.at.0 c.args.at.1 c.args.at.2 c.args.at.3 policy r w);
         setting = refl;
@@ -94,7 +94,4 @@ returns g c =
       };
       executes = λ i b o stage p. same_at h c.run_word.new.hart c.args.rom.now ram.words (g.M.CacheRam.state c.fetch.new.self).words c.args.at.0 c.args.at.1 c.args.at.2 c.args.at.3 i b o stage _ _ _ (sym c.requires.control ∙ p.control) (ap (λ (k : RamState). k.words) fetched)
           (λ y is. executes_plain v r h c.run_word.new.hart ram.words c.args.at.0 c.args.at.1 c.args.at.2 c.args.at.3 c.requires.home c.requires.control plain c.in-Some-Some.image_word c.in-Some-Some.x c.role-role.result own_is held_is c.role-role.ensures (c.run_word.ensures.ran runs).ran y is);
-      whole = λ i b o stage p whole.
-          let stage_is = stage_same c.args.at.0 c.args.at.1 c.args.at.2 c.args.at.3 i b o stage (sym c.requires.control ∙ p.control) in
-          whole_plain v r h c.run_word.new.hart ram.words c.args.at.0 c.args.at.1 c.args.at.2 c.args.at.3 c.requires.home c.requires.control plain c.in-Some-Some.image_word c.in-Some-Some.x c.role-role.result own_is held_is c.role-role.ensures (c.run_word.ensures.ran runs).ran (ap is_plain held_is ∙ held) (ap (λ k. role_of k (original h.machine)) stage_is ∙ whole) c.requires.ready.fits c.requires.ready.running c.requires.word;
     }

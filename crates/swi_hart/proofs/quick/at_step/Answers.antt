@@ -12,5 +12,5 @@ pub returns-in-Err : goal.returns-in-Err
 returns-in-Err g c =
     let below = index_below c.args.image.now (g.R.CacheRom.service.kept c.args.rom.now) c.args.hart.now.machine _ _ c.args.at.0 c.args.at.1 c.args.at.2 c.args.at.3
     (g.met.R.CacheRom.laws.coherent _ _ _ c.requires.sound) c.requires.home in
-    ram_stopped _ _ _ _ _ _ (ap broken c.hart.view_is) refl
+    ram_stopped _ _ _ _ _ (ap broken c.hart.view_is) refl
     (ram_unfetched c.args.image.now c.args.hart.now.machine c.args.hart.now.control _ c.args.at.0 c.args.at.1 c.args.at.2 c.args.at.3 _ _ c.requires.control below c.in-Err.ensures.fetched)

@@ -1,10 +1,10 @@
-use Rattle.std.proofs.Common.{◌≡◌, Option, ap, subst, ◌+◌, ℕ, List, slice_index, sym, ◌∙◌, refl}
+use Rattle.std.proofs.Common.{Option, ap, subst, ◌+◌, ℕ, List, slice_index, sym, ◌∙◌, refl}
 use Rattle.swi_outside.specs.CacheRam.{RamState}
 use Rattle.swi_image.specs.Place.{word_at}
 use Rattle.swi_memory.specs.Bus.{AreaData}
 use Rattle.swi_hart.specs.Calling.{Moved, with_memory}
-use Rattle.swi_hart.specs.Hart.{HartData, Stepped, exit_kind, original}
-use Rattle.swi_hart.specs.Leaving.{exit_transfer, quick_role, broken}
+use Rattle.swi_hart.specs.Hart.{HartData, Stepped, exit_kind}
+use Rattle.swi_hart.specs.Leaving.{exit_transfer, broken}
 use Rattle.swi_hart.proofs.Answered.{ram_stopped}
 use Rattle.swi_outside.specs.Laws.{no_cause, none_named, unmoved}
 use Rattle.swi_hart.proofs.Causing.{causes_answer, on_device, source_failed, ram_unfailed}
@@ -40,7 +40,7 @@ returns-in-Ok g c = λ before fetched.
     (exit_transfer (exit_kind (word_at v c.args.at.1 (c.args.at.2 + 1))) v h.machine c.args.at.1 c.args.at.2) s.served.policy in
     record {
       made = λ sound left told. made_exit v r new h c.exit_step.new.hart c.args.at.0 c.args.at.1 c.args.at.2 c.args.at.3 c.requires.control left _ _ _ e s.step s.counted told;
-      fits = λ sound. fits_exit v r new h c.exit_step.new.hart c.args.at.0 c.args.at.1 c.args.at.2 c.args.at.3 c.requires.control c.requires.ready.fits (sym c.requires.ready.running) c.requires.word e s.step s.counted;
+      fits = fits_exit v r new h c.exit_step.new.hart c.args.at.0 c.args.at.1 c.args.at.2 c.args.at.3 c.requires.control c.requires.ready.fits (sym c.requires.ready.running) c.requires.word e s.step s.counted;
       counted = s.counted;
       policy = rw c.requires.control (exit_moves v new h.machine c.args.at.0 c.args.at.1 c.args.at.2 c.args.at.3 policy r e s.served.policy);
       setting = s.served.setting;
@@ -72,12 +72,12 @@ returns-in-Err g c = λ before fetched.
     coherent c.requires.home c.args.got c.in-Some.x c.requires.got (sym c.in-Some.is ∙ c.decode.ensures) (sym c.leaves.ensures ∙ c.if-leaves.true) in
     let below = index_below v r h.machine _ _ c.args.at.0 c.args.at.1 c.args.at.2 c.args.at.3 coherent c.requires.home in
     let s = c.in-Err.ensures in
-    ram_stopped _ _ _ _ _ _ (ap broken (c.hart.view_is ∙ s.stays)) s.served.setting
+    ram_stopped _ _ _ _ _ (ap broken (c.hart.view_is ∙ s.stays)) s.served.setting
     (ram_unserved v h.machine h.control _ c.args.at.0 c.args.at.1 c.args.at.2 c.args.at.3 before _ _ c.requires.control below fetched.1 s.served.failed
     (exit_placed v h.machine h.control c.args.at.0 c.args.at.1 c.args.at.2 c.args.at.3 c.requires.control e s.served.placed))
 
-pub returns-in-Ok-role_step : goal.returns-in-Ok-role_step
-returns-in-Ok-role_step g c = λ before fetched.
+pub returns-in-Ok-word_step : goal.returns-in-Ok-word_step
+returns-in-Ok-word_step g c = λ before fetched.
     let v = c.args.image.now in
     let r = g.R.CacheRom.service.kept c.args.rom.now in
     let h = c.args.hart.now in
@@ -86,15 +86,15 @@ returns-in-Ok-role_step g c = λ before fetched.
     coherent c.requires.home c.args.got c.in-Some.x c.requires.got (sym c.in-Some.is ∙ c.decode.ensures) (sym c.leaves.ensures ∙ c.if-leaves.false) in
     let below = index_below v r h.machine _ _ c.args.at.0 c.args.at.1 c.args.at.2 c.args.at.3 coherent c.requires.home in
     let same = ram_same (g.R.CacheRom.service.span (g.R.CacheRom.service.setting c.args.rom.now)) r (g.M.CacheRam.state c.args.ram.now) in
-    let s = c.in-Ok-role_step.ensures in
-    let grows = grown_word v r r h c.role_step.new.hart c.args.at.0 c.args.at.1 c.args.at.2 c.args.at.3 c.requires.control
-    (sym c.requires.ready.running) c.in-Some.x (quick_role c.args.at.3 c.in-Some.x (original h.machine)) _ _ refl w refl s.went in
+    let s = c.in-Ok-word_step.ensures in
+    let grows = grown_word v r r h c.word_step.new.hart c.args.at.0 c.args.at.1 c.args.at.2 c.args.at.3 c.requires.control
+    (sym c.requires.ready.running) c.in-Some.x c.role-role.result _ _ refl w c.role-role.ensures s.went in
     record {
-      made = λ sound left told. made_word v r r h c.role_step.new.hart c.args.at.0 c.args.at.1 c.args.at.2 c.args.at.3 c.requires.control
-          c.in-Some.x (quick_role c.args.at.3 c.in-Some.x (original h.machine)) left _ _ _ _ _ w refl
+      made = λ sound left told. made_word v r r h c.word_step.new.hart c.args.at.0 c.args.at.1 c.args.at.2 c.args.at.3 c.requires.control
+          c.in-Some.x c.role-role.result left _ _ _ _ _ w c.role-role.ensures
           (record { hart = s.executed.hart left told; input = s.executed.devices.input left told; output = s.executed.devices.output left told; error = s.executed.devices.error left told });
-      fits = λ sound. fits_word v r r h c.role_step.new.hart c.args.at.0 c.args.at.1 c.args.at.2 c.args.at.3 c.requires.control
-          c.in-Some.x (quick_role c.args.at.3 c.in-Some.x (original h.machine)) _ _ refl c.requires.ready.fits (sym c.requires.ready.running) c.requires.word w refl s.went;
+      fits = fits_word v r r h c.word_step.new.hart c.args.at.0 c.args.at.1 c.args.at.2 c.args.at.3 c.requires.control
+          c.in-Some.x c.role-role.result _ _ refl c.requires.ready.fits (sym c.requires.ready.running) c.requires.word w c.role-role.ensures s.went;
       counted = record { count = grows.count; failed = grows.failed; booted = grows.booted };
       policy = rw c.requires.control (word_moves v r h.machine c.args.at.0 c.args.at.1 c.args.at.2 c.args.at.3 (g.R.CacheRom.service.policy (g.R.CacheRom.service.setting c.args.rom.now)) r w.0);
       setting = refl;
@@ -116,8 +116,8 @@ returns-in-Ok-role_step g c = λ before fetched.
       ram_cause = no_cause (ap (λ (k : RamState). k.faults) fetched.1) (λ e. cc);
     }
 
-pub returns-in-Err-role_step : goal.returns-in-Err-role_step
-returns-in-Err-role_step g c = λ before fetched.
+pub returns-in-Err-word_step : goal.returns-in-Err-word_step
+returns-in-Err-word_step g c = λ before fetched.
     let v = c.args.image.now in
     let r = g.R.CacheRom.service.kept c.args.rom.now in
     let h = c.args.hart.now in
@@ -125,10 +125,10 @@ returns-in-Err-role_step g c = λ before fetched.
     let below = index_below v r h.machine _ _ c.args.at.0 c.args.at.1 c.args.at.2 c.args.at.3 coherent c.requires.home in
     let w = word_home v r h.machine _ _ c.args.at.0 c.args.at.1 c.args.at.2 c.args.at.3
     coherent c.requires.home c.args.got c.in-Some.x c.requires.got (sym c.in-Some.is ∙ c.decode.ensures) (sym c.leaves.ensures ∙ c.if-leaves.false) in
-    let s = c.in-Err-role_step.ensures in
+    let s = c.in-Err-word_step.ensures in
     record {
       made = λ sound. tt;
-      fits = λ sound. tt;
+      fits = tt;
       counted = tt;
       policy = tt;
       setting = refl;
@@ -138,23 +138,23 @@ returns-in-Err-role_step g c = λ before fetched.
       ram = tt;
       grown = λ sound. tt;
       stopped = ap broken (c.hart-2.view_is ∙ s.executed.stays) ∙ ap (λ (bus : List AreaData). broken (with_memory h bus)) (sym (ap (λ (k : HartData). k.machine.bus) c.hart-2.view_is));
-      broke = λ sound. on_device Unit _ c.in-Err-role_step.fault c.fault_of.result c.fault_of.ensures (λ left told.
-          broken_word v r h c.role_step.new.hart.machine.bus c.args.at.0 c.args.at.1 c.args.at.2 c.args.at.3 c.requires.control
-          c.in-Some.x (quick_role c.args.at.3 c.in-Some.x (original h.machine)) left _ _ _ _ _ w refl s.asked
-          (subst (λ (k : Option (List ℕ)). Moved h.machine c.role_step.new.hart.machine.bus k (g.I.Source.state c.role_step.new.input).left) told s.moved)
+      broke = λ sound. on_device Unit _ c.in-Err-word_step.fault c.fault_of.result c.fault_of.ensures (λ left told.
+          broken_word v r h c.word_step.new.hart.machine.bus c.args.at.0 c.args.at.1 c.args.at.2 c.args.at.3 c.requires.control
+          c.in-Some.x c.role-role.result left _ _ _ _ _ w c.role-role.ensures s.asked
+          (subst (λ (k : Option (List ℕ)). Moved h.machine c.word_step.new.hart.machine.bus k (g.I.Source.state c.word_step.new.input).left) told s.moved)
           (s.executed.devices.output_prefix left told) (s.executed.devices.error_prefix left told));
-      call = on_device Unit _ c.in-Err-role_step.fault c.fault_of.result c.fault_of.ensures (record {
+      call = on_device Unit _ c.in-Err-word_step.fault c.fault_of.result c.fault_of.ensures (record {
         between = between_call v h.machine h.control c.args.at.0 c.args.at.1 c.args.at.2 c.args.at.3 c.requires.control c.in-Some.x w s.call;
-        moved = subst (λ (k : List AreaData). Moved h.machine k (g.I.Source.state c.args.input.now).left (g.I.Source.state c.role_step.new.input).left) (sym (ap (λ (k : HartData). k.machine.bus) c.hart-2.view_is)) s.moved;
+        moved = subst (λ (k : List AreaData). Moved h.machine k (g.I.Source.state c.args.input.now).left (g.I.Source.state c.word_step.new.input).left) (sym (ap (λ (k : HartData). k.machine.bus) c.hart-2.view_is)) s.moved;
         unasked_output = λ left none. s.executed.devices.unasked_output left (ap (λ (k : Stepped). k.made.output) (s.asked left) ∙ none);
         unasked_error = λ left none. s.executed.devices.unasked_error left (ap (λ (k : Stepped). k.made.error) (s.asked left) ∙ none);
       });
-      unserved = on_device Unit _ c.in-Err-role_step.fault c.fault_of.result c.fault_of.ensures (refl, ram_exit _ _ c.args.at.0 c.args.at.1 c.args.at.2 c.args.at.3 h.control before _ _ c.requires.control below fetched.1 (ram_none _ _));
-      unmoved = λ is. absurd (ram_unfailed c.in-Err-role_step.fault c.fault_of.result c.fault_of.ensures is);
-      unwritten = λ is. s.executed.devices.failed_input (source_failed c.in-Err-role_step.fault c.fault_of.result c.fault_of.ensures is);
-      others_stay = λ is. absurd (ram_unfailed c.in-Err-role_step.fault c.fault_of.result c.fault_of.ensures is);
-      ram_failed = λ is. absurd (ram_unfailed c.in-Err-role_step.fault c.fault_of.result c.fault_of.ensures is);
+      unserved = on_device Unit _ c.in-Err-word_step.fault c.fault_of.result c.fault_of.ensures (refl, ram_exit _ _ c.args.at.0 c.args.at.1 c.args.at.2 c.args.at.3 h.control before _ _ c.requires.control below fetched.1 (ram_none _ _));
+      unmoved = λ is. absurd (ram_unfailed c.in-Err-word_step.fault c.fault_of.result c.fault_of.ensures is);
+      unwritten = λ is. s.executed.devices.failed_input (source_failed c.in-Err-word_step.fault c.fault_of.result c.fault_of.ensures is);
+      others_stay = λ is. absurd (ram_unfailed c.in-Err-word_step.fault c.fault_of.result c.fault_of.ensures is);
+      ram_failed = λ is. absurd (ram_unfailed c.in-Err-word_step.fault c.fault_of.result c.fault_of.ensures is);
       kept = kept_after _ c.args.at.0 before _ _ below fetched.1 (ram_same (g.R.CacheRom.service.span (g.R.CacheRom.service.setting c.args.rom.now)) r (g.M.CacheRam.state c.args.ram.now)).kept;
-      causes = causes_answer c.in-Err-role_step.fault c.fault_of.result c.fault_of.ensures s.executed.devices.causes;
-      ram_cause = no_cause (ap (λ (k : RamState). k.faults) fetched.1) (ram_unfailed c.in-Err-role_step.fault c.fault_of.result c.fault_of.ensures);
+      causes = causes_answer c.in-Err-word_step.fault c.fault_of.result c.fault_of.ensures s.executed.devices.causes;
+      ram_cause = no_cause (ap (λ (k : RamState). k.faults) fetched.1) (ram_unfailed c.in-Err-word_step.fault c.fault_of.result c.fault_of.ensures);
     }

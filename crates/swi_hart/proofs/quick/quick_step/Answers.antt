@@ -5,7 +5,6 @@ use Rattle.swi_calls.specs.Flat.{ended}
 use Rattle.swi_hart.specs.Hart.{HartData}
 use Rattle.swi_hart.specs.declared.hart.Control.{Control}
 use Rattle.swi_hart.specs.declared.hart.Control.TheVariants.{Outside}
-use Rattle.swi_hart.specs.Matching.{Matches}
 use Rattle.swi_hart.specs.Leaving.{transfer_at, moved}
 use Rattle.swi_outside.specs.Laws.{no_cause, none_named}
 use Rattle.swi_hart.proofs.Falls.{ram_same, words_same}
@@ -16,9 +15,8 @@ use Rattle.swi_hart.proofs.quick.quick_step.Goals as goal
 
 pub at_step-requires-clause-home : goal.at_step-requires-clause-home
 at_step-requires-clause-home g c =
-    let f = c.requires.ready.fits in
-    home c.args.image.now (g.R.CacheRom.service.kept c.args.rom.now) f.flat c.args.hart.now.machine c.in-At.i c.in-At.b c.in-At.o c.in-At.stage f.image
-    (subst (λ (k : Control). Matches c.args.image.now (g.R.CacheRom.service.kept c.args.rom.now) f.flat c.args.hart.now.machine k) (sym (ap (λ (h : HartData). h.control) c.hart.view_is) ∙ sym c.control.ensures ∙ c.in-At.is) f.matches) c.requires.ready.running c.origin_pc-pc.ensures.word
+    home c.args.image.now (g.R.CacheRom.service.kept c.args.rom.now) c.args.hart.now c.in-At.i c.in-At.b c.in-At.o c.in-At.stage c.requires.ready.fits
+    (sym (ap (λ (h : HartData). h.control) c.hart.view_is) ∙ sym c.control.ensures ∙ c.in-At.is) c.requires.ready.running c.origin_pc-pc.ensures.word
 
 pub returns-in-Outside-clause-stepped : goal.returns-in-Outside-clause-stepped
 returns-in-Outside-clause-stepped g c =
@@ -32,7 +30,7 @@ returns-in-Outside-clause-stepped g c =
     let grows = grown_outside v r r h c.end.new.hart kind.FetchAccess h.machine.pc outside refl is in
     record {
       made = λ sound left told. made_outside v r h c.end.new.hart left _ _ _ outside is told;
-      fits = λ sound. fits_outside v r h c.end.new.hart c.requires.ready.fits (sym c.requires.ready.running) c.origin_pc-pc.ensures.word outside is;
+      fits = fits_outside v r h c.end.new.hart c.requires.ready.fits is;
       counted = record { count = grows.count; failed = grows.failed; booted = grows.booted };
       policy = sym (ap (λ (k : Control). moved policy r v (transfer_at v h.machine k)) outside);
       setting = refl;

@@ -1,4 +1,4 @@
-use Rattle.std.proofs.Common.{ℕ, arith, refl, ap, subst, ◌∙◌, inr}
+use Rattle.std.proofs.Common.{arith, refl, ap, subst, ◌∙◌, inr}
 use Rattle.swi_outside.specs.CacheRam.{KeepsBeyond}
 use Rattle.swi_calls.specs.declared.machine.Machine.{Machine}
 use Rattle.swi_rom.specs.Service.{Setting}
@@ -23,7 +23,7 @@ returns-in-Err-clause-ram_broke g c = λ fault left told.
       out = (g.O.Sink.state c.args.out.now).held;
       err = (g.E.Sink.state c.args.err.now).held;
     } in
-    entry_broke c.args.image.now left old _ before c.requires.waits c.requires.running c.in-Err.ensures.entering c.in-Err.ensures.failed.fetches_stay told
+    entry_broke c.args.image.now left old _ before c.requires.waits c.requires.running c.in-Err.ensures.entering c.in-Err.ensures.failed.fetches_stay c.in-Err.ensures.failed.last_failed told
 
 pub run-requires-clause-count : goal.run-requires-clause-count
 run-requires-clause-count g c =
@@ -95,6 +95,7 @@ returns-in-Err-run-clause-ram_broke g c = λ is left told.
     let at = ap (λ (m : Machine). m.steps) (ready c.args.image.now old c.in-Ok.board b.boarded).0 in
     ram_broke_event c.args.image.now left old c.in-Ok.board c.run.new.self.hart _ _ (g.M.CacheRam.state c.board_of.new.ram) _ (omega (arith, c.steps-n.ensures, at)) b.boarded b.ram.fetches_stay
     (c.in-Err-run.ensures.ram_broke (err_as {U = Unit} c.in-Err-run.fault RamFault is) left told c.args.hart.machine c.requires.waits.image b.boarded.matches)
+    (c.in-Err-run.ensures.last_failed (err_as {U = Unit} c.in-Err-run.fault RamFault is))
 
 pub returns-in-Ok-run-clause-causes : goal.returns-in-Ok-run-clause-causes
 returns-in-Ok-run-clause-causes g c = ok_causes (ok_unmoved c.in-Ok-run.ensures.causes)

@@ -1,8 +1,5 @@
-use Rattle.std.proofs.Common.{refl, ap}
-use Rattle.swi_outside.specs.Sink.{SinkState}
-use Rattle.swi_outside.specs.Source.{SourceState}
 use Rattle.std.proofs.lemmas.Result.{err_from_is_err_and}
-use Rattle.swi_top.proofs.Caching.{ending_is, handed_on, is_ended, lines_broke, quiet_run, report_broke, run_ended, run_stopped}
+use Rattle.swi_top.proofs.Caching.{ending_is, handed_on, lines_broke, quiet_run, report_broke, run_ended, run_stopped}
 use Rattle.swi_top.proofs.Images.{let_through}
 use Rattle.swi_top.proofs.cached.run_over.Goals as goal
 
@@ -13,18 +10,22 @@ returns-in_err-ended g c =
     let e = c.run_cached.ensures in
     let broke = rw stopped.1 at e.step_failed in
     rw (p.1, p.2) (λ d.
-    run_stopped stopped.0 c.in_err-ended.field-0.0 stopped.2 c.telling_of-telling.ensures refl e.kept (λ m.
-    let same = (rw stopped.1 at e.memory) m in
-    (same.0, ap (λ (k : SourceState). k.left) same.1, ap (λ (k : SinkState). k.held) same.2, ap (λ (k : SinkState). k.held) same.3)) (rw stopped.1 at e.ram_failed)
-    (λ is left told. (broke is left told).failed) (record { devices = rw stopped.1 at e.causes; ram_cause = rw stopped.1 at e.ram_cause }))
+    run_stopped stopped.0 c.in_err-ended.field-0.0 stopped.2 e.kept (rw stopped.1 at e.fetched_at) (rw stopped.1 at e.memory) (rw stopped.1 at e.ram_failed)
+    broke (record { streams = rw stopped.1 at e.causes; ram_cause = rw stopped.1 at e.ram_cause }))
 
 pub returns-in_default : goal.returns-in_default
 returns-in_default g c = λ d.
     let e = c.run_cached.ensures in
     let is = c.in_ok-ended.ensures.cases in
     let broke = c.in_default.ensures in
-    report_broke (is_ended c.telling_of-telling.ensures (let_through _ _ _ e.ended is) (let_through _ _ _ e.told is) (let_through _ _ _ e.short is) (let_through _ _ _ e.ram is) (let_through _ _ _ e.counted is))
-    e.kept (quiet_run _ _ (record { devices = e.causes; ram_cause = e.ram_cause }) is) broke.bytes broke.asked broke.cause.later broke.cause.failed
+    report_broke (record {
+      ended = let_through _ _ _ e.ended is;
+      told = let_through _ _ _ e.told is;
+      short = let_through _ _ _ e.short is;
+      after = let_through _ _ _ e.ram is;
+      counted = let_through _ _ _ e.counted is;
+    })
+    e.kept (quiet_run _ _ (record { streams = e.causes; ram_cause = e.ram_cause }) is) broke.bytes broke.asked broke.cause.later broke.cause.failed
 
 pub returns-in-Ok-write_last : goal.returns-in-Ok-write_last
 returns-in-Ok-write_last g c = λ d.
@@ -32,8 +33,14 @@ returns-in-Ok-write_last g c = λ d.
     let is = c.in_ok-ended.ensures.cases in
     let wrote = c.in-Ok.ensures in
     let shown = c.in-Ok-write_last.ensures in
-    run_ended (is_ended c.telling_of-telling.ensures (let_through _ _ _ e.ended is) (let_through _ _ _ e.told is) (let_through _ _ _ e.short is) (let_through _ _ _ e.ram is) (let_through _ _ _ e.counted is))
-    e.kept (quiet_run _ _ (record { devices = e.causes; ram_cause = e.ram_cause }) is) wrote.bytes wrote.cause.quiet c.bus.ensures shown.bytes shown.cause.quiet
+    run_ended (record {
+      ended = let_through _ _ _ e.ended is;
+      told = let_through _ _ _ e.told is;
+      short = let_through _ _ _ e.short is;
+      after = let_through _ _ _ e.ram is;
+      counted = let_through _ _ _ e.counted is;
+    })
+    e.kept (quiet_run _ _ (record { streams = e.causes; ram_cause = e.ram_cause }) is) wrote.bytes wrote.cause.quiet c.bus.ensures shown.bytes shown.cause.quiet
     (ending_is c.ending_by.ensures c.ending.ensures c.origin_pc.ensures c.steps.ensures)
 
 pub returns : goal.returns
@@ -42,5 +49,11 @@ returns g c = λ d.
     let is = c.in_ok-ended.ensures.cases in
     let wrote = c.in-Ok.ensures in
     let broke = c.in-Err.ensures in
-    lines_broke (is_ended c.telling_of-telling.ensures (let_through _ _ _ e.ended is) (let_through _ _ _ e.told is) (let_through _ _ _ e.short is) (let_through _ _ _ e.ram is) (let_through _ _ _ e.counted is))
-    e.kept (quiet_run _ _ (record { devices = e.causes; ram_cause = e.ram_cause }) is) wrote.bytes wrote.cause.quiet c.bus.ensures broke.bytes broke.asked broke.cause.later broke.cause.failed
+    lines_broke (record {
+      ended = let_through _ _ _ e.ended is;
+      told = let_through _ _ _ e.told is;
+      short = let_through _ _ _ e.short is;
+      after = let_through _ _ _ e.ram is;
+      counted = let_through _ _ _ e.counted is;
+    })
+    e.kept (quiet_run _ _ (record { streams = e.causes; ram_cause = e.ram_cause }) is) wrote.bytes wrote.cause.quiet c.bus.ensures broke.bytes broke.asked broke.cause.later broke.cause.failed

@@ -5,5 +5,5 @@ use Rattle.swi_top.proofs.call.refuse.Goals as goal
 
 pub returns-clause-line : goal.returns-clause-line
 returns-clause-line g c =
-    shows_line (g.E.Sink.state c.args.err.now).held (g.E.Sink.state c.write.new.self).held c.write.result c.as_bytes.result.now (refusal_line c.args.refusal)
-    (g.E.Sink.state c.args.err.now).faults (g.E.Sink.state c.write.new.self).faults (c.as_bytes.ensures ∙ c.line_of_refusal.ensures) c.write.ensures.written.bytes c.write.ensures.written.cause
+    shows_line (g.E.Sink.state c.args.err.now) (g.E.Sink.state c.write.new.self) c.write.result c.as_bytes.result.now (refusal_line c.args.refusal)
+    (c.as_bytes.ensures ∙ c.line_of_refusal.ensures) c.write.ensures.written

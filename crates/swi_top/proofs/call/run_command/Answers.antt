@@ -3,22 +3,22 @@ use Rattle.swi_answer.specs.declared.answer.Refusal.TheVariants as refusal
 use Rattle.swi_top.specs.Devices.{Devices, seen}
 use Rattle.swi_top.specs.Tasks.{task_of}
 use Rattle.swi_top.proofs.Lined.{lined}
-use Rattle.swi_top.proofs.Lines.{ended_line_still, ending_failed, refused_line, told_to}
+use Rattle.swi_top.proofs.Lines.{ended_line, ending_failed, refused_line, told_to}
 use Rattle.swi_top.proofs.call.run_command.Goals as goal
 
 pub returns-in-Ok-write_ending : goal.returns-in-Ok-write_ending
 returns-in-Ok-write_ending g c =
     let middle : Devices = seen (g.F.Shelf.state c.perform.new.shelf) (g.I.Source.state c.perform.new.input) (g.O.Sink.state c.perform.new.out) (g.E.Sink.state c.perform.new.err) (g.R.CacheRam.state c.perform.new.ram) in
-    ended_line_still (task_of (request_of c.args.command.now)) (lined (request_of c.args.command.now)) _ middle c.in-Ok.ending (g.E.Sink.state c.write_ending.new.err).held (g.E.Sink.state c.write_ending.new.err).faults
-    c.in-Ok-write_ending.ensures.cause.quiet c.in-Ok.ensures c.in-Ok-write_ending.ensures.bytes (λ e. (c.in-Ok-write_ending.ensures.unasked e).0)
+    ended_line (task_of (request_of c.args.command.now)) (lined (request_of c.args.command.now)) _ middle c.in-Ok.ending (g.E.Sink.state c.write_ending.new.err)
+    c.in-Ok-write_ending.ensures.cause.quiet c.in-Ok.ensures c.in-Ok-write_ending.ensures.bytes c.in-Ok-write_ending.ensures.unasked
 
 pub returns-in-Err-write_ending : goal.returns-in-Err-write_ending
 returns-in-Err-write_ending g c =
     let middle : Devices = seen (g.F.Shelf.state c.perform.new.shelf) (g.I.Source.state c.perform.new.input) (g.O.Sink.state c.perform.new.out) (g.E.Sink.state c.perform.new.err) (g.R.CacheRam.state c.perform.new.ram) in
     rw c.refuse.ensures.same
-    (refused_line (task_of (request_of c.args.command.now)) (lined (request_of c.args.command.now)) _ (told_to middle (g.E.Sink.state c.write_ending.new.err).held (g.E.Sink.state c.write_ending.new.err).faults) refusal.SinkFault
-    (g.E.Sink.state c.refuse.new.err).held (g.E.Sink.state c.refuse.new.err).faults
-    (ending_failed (task_of (request_of c.args.command.now)) (lined (request_of c.args.command.now)) _ middle c.in-Ok.ending (g.E.Sink.state c.write_ending.new.err).held (g.E.Sink.state c.write_ending.new.err).faults
+    (refused_line (task_of (request_of c.args.command.now)) (lined (request_of c.args.command.now)) _ (told_to middle (g.E.Sink.state c.write_ending.new.err)) refusal.SinkFault
+    (g.E.Sink.state c.refuse.new.err)
+    (ending_failed (task_of (request_of c.args.command.now)) (lined (request_of c.args.command.now)) _ middle c.in-Ok.ending (g.E.Sink.state c.write_ending.new.err)
     c.in-Ok.ensures c.in-Err-write_ending.ensures.bytes c.in-Err-write_ending.ensures.asked c.in-Err-write_ending.ensures.cause.later c.in-Err-write_ending.ensures.cause.failed)
     c.refuse.ensures.line c.refuse.ensures.later)
 
@@ -26,5 +26,5 @@ pub returns-in-Err : goal.returns-in-Err
 returns-in-Err g c =
     let middle : Devices = seen (g.F.Shelf.state c.perform.new.shelf) (g.I.Source.state c.perform.new.input) (g.O.Sink.state c.perform.new.out) (g.E.Sink.state c.perform.new.err) (g.R.CacheRam.state c.perform.new.ram) in
     rw c.refuse-in-Err.ensures.same
-    (refused_line (task_of (request_of c.args.command.now)) (lined (request_of c.args.command.now)) _ middle c.in-Err.refusal (g.E.Sink.state c.refuse-in-Err.new.err).held (g.E.Sink.state c.refuse-in-Err.new.err).faults
+    (refused_line (task_of (request_of c.args.command.now)) (lined (request_of c.args.command.now)) _ middle c.in-Err.refusal (g.E.Sink.state c.refuse-in-Err.new.err)
     c.in-Err.ensures c.refuse-in-Err.ensures.line c.refuse-in-Err.ensures.later)

@@ -7,7 +7,7 @@ use Rattle.swi_top.specs.Answers.{AnswersWithLine}
 use Rattle.swi_top.specs.Devices.{Devices, seen}
 use Rattle.swi_top.specs.Tasks.{task_of}
 use Rattle.swi_top.proofs.Lined.{lined}
-use Rattle.swi_top.proofs.Refusals.{clash, late_causes, memory_at_once, same_request, usage_causes}
+use Rattle.swi_top.proofs.Refusals.{clash, memory_at_once, same_request}
 use Rattle.swi_top.proofs.Lines.{refused_at_once, refused_line}
 use Rattle.swi_top.proofs.call.top.Goals as goal
 
@@ -31,7 +31,7 @@ returns-in-Err-Usage g c =
     rw c.refuse.ensures.same (record {
       usage = λ _. none;
       no_command = λ _. inl refl;
-      unasked = λ _. refused_at_once before refusal.Usage (g.E.Sink.state c.refuse.new.err).held (g.E.Sink.state c.refuse.new.err).faults (usage_causes before.faults)
+      unasked = λ _. refused_at_once before refusal.Usage (g.E.Sink.state c.refuse.new.err)
           c.refuse.ensures.line c.refuse.ensures.later;
       answers = λ request is. absurd (clash asked request is none);
     })
@@ -42,8 +42,7 @@ returns-in-Err-Memory g c =
     rw c.refuse-in-Err-Memory.ensures.same (record {
       usage = λ e. absurd (let bad : ⊥ = cc in bad);
       no_command = λ _. inr refl;
-      unasked = λ _. refused_at_once before refusal.Memory (g.E.Sink.state c.refuse-in-Err-Memory.new.err).held (g.E.Sink.state c.refuse-in-Err-Memory.new.err).faults
-          (late_causes before.faults refusal.Memory tt) c.refuse-in-Err-Memory.ensures.line c.refuse-in-Err-Memory.ensures.later;
-      answers = λ request _. refused_line (task_of request) (lined request) before before refusal.Memory (g.E.Sink.state c.refuse-in-Err-Memory.new.err).held (g.E.Sink.state c.refuse-in-Err-Memory.new.err).faults
+      unasked = λ _. refused_at_once before refusal.Memory (g.E.Sink.state c.refuse-in-Err-Memory.new.err) c.refuse-in-Err-Memory.ensures.line c.refuse-in-Err-Memory.ensures.later;
+      answers = λ request _. refused_line (task_of request) (lined request) before before refusal.Memory (g.E.Sink.state c.refuse-in-Err-Memory.new.err)
           (memory_at_once (task_of request) before) c.refuse-in-Err-Memory.ensures.line c.refuse-in-Err-Memory.ensures.later;
     })

@@ -4,10 +4,10 @@ use Rattle.std.specs.Io.KnownBytes.{Appends}
 use Rattle.swi_outside.specs.Sink.{AppendsPrefix}
 use Rattle.swi_answer.specs.Lines.{image_line}
 use Rattle.swi_image.specs.Format.{ImageData}
-use Rattle.swi_top.specs.Devices.{Devices, with_output, with_shelf}
+use Rattle.swi_top.specs.Devices.{Devices}
 use Rattle.swi_top.specs.CheckFile.{check_task, checked_line}
 use Rattle.swi_top.specs.Task.{Task}
-use Rattle.swi_top.proofs.Refusals.{check_refused, read_quiet, read_refused, reads_one, still, still_out, told_is, too_long}
+use Rattle.swi_top.proofs.Refusals.{check_refused, read_refused, told_is, too_long, was_read}
 use Rattle.swi_top.proofs.Confirming.{confirmed, confirm_failed}
 use Rattle.swi_top.proofs.check.check.Goals as goal
 
@@ -15,45 +15,39 @@ pub returns-in_err-file : goal.returns-in_err-file
 returns-in_err-file g c =
     let p = err_from_is_err_and c.from_residual.result c.from_residual.ensures.1 in
     let t : Task = check_task c.args.name.now in
-    rw (p.1, p.2) (λ d. read_refused t _ _ _ _ _ _ (reads_one c.args.name.now) (λ longer file told. inl (too_long _ c.args.name.now file longer told)) refl
-    c.in_err-file.ensures.same c.in_err-file.ensures.refused c.in_err-file.ensures.cause)
+    rw (p.1, p.2) (λ d. read_refused t c.args.name.now _ _ _ refl refl (λ longer file told. inl (too_long _ c.args.name.now file longer told)) c.in_err-file.ensures.read)
 
 pub returns-in_err-view : goal.returns-in_err-view
 returns-in_err-view g c =
     let p = err_from_is_err_and c.from_residual-in_err-view.result c.from_residual-in_err-view.ensures.1 in
-    let quiet = read_quiet _ _ _ _ _ _ c.in_ok-file.ensures.cause in
+    let read = was_read c.in_ok-file.ensures.read in
     let t : Task = check_task c.args.name.now in
     rw (p.1, p.2) (λ d.
-    let before : Devices = with_output (with_shelf d (g.F.Shelf.state c.args.shelf.now)) (g.O.Sink.state c.args.out.now) in
-    still t before _ _ _ _ _ quiet.1 quiet.0
-    (check_refused t before (g.F.Shelf.state c.read_file.new.shelf).contents c.in_ok-file.file.items c.in_err-view.field-0.0 refl c.in_ok-file.ensures.same
-    (λ file told. told_is _ c.args.name.now file _ told c.in_ok-file.ensures.content) (rw c.deref.ensures.value at c.in_err-view.ensures.refused)))
+    let before : Devices = record d { shelf = g.F.Shelf.state c.args.shelf.now; output = g.O.Sink.state c.args.out.now } in
+    check_refused t before (g.F.Shelf.state c.read_file.new.shelf) c.args.name.now c.in_ok-file.file.items c.in_ok-file.file.items c.in_err-view.field-0.0 refl refl read
+    (λ file told. told_is _ c.args.name.now file _ told read.stands) (rw c.deref.ensures.value at c.in_err-view.ensures.refused))
 
 pub returns-in-Ok : goal.returns-in-Ok
 returns-in-Ok g c =
-    let quiet = read_quiet _ _ _ _ _ _ c.in_ok-file.ensures.cause in
-    let t : Task = check_task c.args.name.now in
+    let read = was_read c.in_ok-file.ensures.read in
     let view = rw c.deref.ensures.value at c.in_ok-view.ensures.view in
     let text = c.as_bytes.ensures ∙ c.image_line.ensures ∙ ap (λ (n : ℕ). image_line n c.block_words.result) c.blocks-2.ensures.value
     ∙ ap (λ (n : ℕ). image_line (length c.in_ok-view.view.starts) n) c.block_words.ensures.value ∙ ap (λ (v : ImageData). checked_line v) view.2 in
     λ d.
-    let before : Devices = with_output (with_shelf d (g.F.Shelf.state c.args.shelf.now)) (g.O.Sink.state c.args.out.now) in
-    still_out t before _ _ _ _ _ _ quiet.1 quiet.0 c.in-Ok.ensures.written.cause.quiet
-    (confirmed before (g.F.Shelf.state c.read_file.new.shelf).contents (g.O.Sink.state c.write.new.self).held c.args.name.now c.in_ok-file.file.items view.0 c.in_ok-file.ensures.same
-    c.in_ok-file.ensures.content (rw c.deref.ensures.value at c.in_ok-view.ensures.accepted) view.1
-    (subst (λ (x : List ℕ). Appends (g.O.Sink.state c.args.out.now).held (g.O.Sink.state c.write.new.self).held x) text c.in-Ok.ensures.written.bytes))
+    let before : Devices = record d { shelf = g.F.Shelf.state c.args.shelf.now; output = g.O.Sink.state c.args.out.now } in
+    confirmed before (g.F.Shelf.state c.read_file.new.shelf) (g.O.Sink.state c.write.new.self) c.args.name.now c.in_ok-file.file.items view.0 read
+    (rw c.deref.ensures.value at c.in_ok-view.ensures.accepted) view.1
+    (subst (λ (x : List ℕ). Appends (g.O.Sink.state c.args.out.now).held (g.O.Sink.state c.write.new.self).held x) text c.in-Ok.ensures.written.bytes) c.in-Ok.ensures.written.cause.quiet
 
 pub returns : goal.returns
 returns g c =
-    let quiet = read_quiet _ _ _ _ _ _ c.in_ok-file.ensures.cause in
-    let t : Task = check_task c.args.name.now in
+    let read = was_read c.in_ok-file.ensures.read in
     let view = rw c.deref.ensures.value at c.in_ok-view.ensures.view in
     let text = c.as_bytes.ensures ∙ c.image_line.ensures ∙ ap (λ (n : ℕ). image_line n c.block_words.result) c.blocks-2.ensures.value
     ∙ ap (λ (n : ℕ). image_line (length c.in_ok-view.view.starts) n) c.block_words.ensures.value ∙ ap (λ (v : ImageData). checked_line v) view.2 in
     λ d.
-    let before : Devices = with_output (with_shelf d (g.F.Shelf.state c.args.shelf.now)) (g.O.Sink.state c.args.out.now) in
-    still t before _ _ _ _ _ quiet.1 quiet.0
-    (confirm_failed before (g.F.Shelf.state c.read_file.new.shelf).contents (g.O.Sink.state c.write.new.self).held (g.O.Sink.state c.write.new.self).faults c.args.name.now c.in_ok-file.file.items view.0
-    c.in_ok-file.ensures.same c.in_ok-file.ensures.content (rw c.deref.ensures.value at c.in_ok-view.ensures.accepted) view.1
+    let before : Devices = record d { shelf = g.F.Shelf.state c.args.shelf.now; output = g.O.Sink.state c.args.out.now } in
+    confirm_failed before (g.F.Shelf.state c.read_file.new.shelf) (g.O.Sink.state c.write.new.self) c.args.name.now c.in_ok-file.file.items view.0 read
+    (rw c.deref.ensures.value at c.in_ok-view.ensures.accepted) view.1
     (subst (λ (x : List ℕ). AppendsPrefix (g.O.Sink.state c.args.out.now).held (g.O.Sink.state c.write.new.self).held x) text c.in-Err.ensures.written.bytes)
-    c.in-Err.ensures.written.cause.later c.in-Err.ensures.written.cause.failed)
+    c.in-Err.ensures.written.cause.later c.in-Err.ensures.written.cause.failed

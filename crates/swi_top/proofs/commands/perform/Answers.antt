@@ -33,8 +33,7 @@ returns-in-Upgrade g c =
 
 pub returns-in-Cached : goal.returns-in-Cached
 returns-in-Cached g c =
-    let before : Devices = seen (g.F.Shelf.state c.args.shelf.now) (g.I.Source.state c.args.input.now) (g.O.Sink.state c.args.out.now) (g.E.Sink.state c.args.err.now) (g.R.CacheRam.state c.args.ram.now) in
-    let answers = rw c.as_str-in-Cached.ensures.value at (c.cached.ensures before) in
+    let answers = rw c.as_str-in-Cached.ensures.value at c.cached.ensures in
     rw c.in-Cached.is answers
 
 pub returns-in-Measure : goal.returns-in-Measure

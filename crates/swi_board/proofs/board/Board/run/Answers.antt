@@ -38,7 +38,7 @@ returns-in_err-quick_step g c =
     let p = err_from_is_err_and c.from_residual.result c.from_residual.ensures.1 in
     let more = subst (λ (h : HartData). h.machine.steps < c.args.n) c.hart.view_is c.loop-hart-test.true in
     let running : c.loop-hart.hart.machine.ending ≡ None = search rules in
-    rw (p.1, p.2) (run_broken c.loop-hart.invariant more running c.in_err-quick_step.ensures.word c.in_err-quick_step.ensures.stepped)
+    rw (p.1, p.2) (run_broken c.loop-hart.invariant g.met.R.CacheRom.laws more running c.in_err-quick_step.ensures.word c.in_err-quick_step.ensures.stepped)
 
 pub returns-else-is_none : goal.returns-else-is_none
 returns-else-is_none g c =
@@ -104,8 +104,8 @@ returns-in-Err g c =
     (subst (λ (k : List ℕ). Keeps g.R.CacheRom.service c.args.image.now c.loop-hart.rom c.run_block.new.rom (g.M.CacheRam.state c.loop-hart.ram).words k) words c.run_block.ensures.keeps) in
     let failed = ram_unfetched c.args.image.now c.run_block.new.hart.machine c.run_block.new.hart.control _ _ _ _ _ ended.before
     (g.M.CacheRam.state c.run_block.new.ram) ended.control (used s ended.control) ended.answered in
-    run_broken mid ended.below s.going s.short
-    (ram_stopped _ _ _ _ _ _ (ap (λ (h : HartData). record h { failed = true }) c.hart-in-Err.view_is) refl (subst (λ (m : Setting). RamBroken c.args.image.now c.run_block.new.hart.machine c.run_block.new.hart.control (g.R.CacheRom.service.span m) ended.before (g.M.CacheRam.state c.run_block.new.ram)) (sym mid.setting) failed))
+    run_broken mid g.met.R.CacheRom.laws ended.below s.going s.short
+    (ram_stopped _ _ _ _ _ (ap (λ (h : HartData). record h { failed = true }) c.hart-in-Err.view_is) refl (subst (λ (m : Setting). RamBroken c.args.image.now c.run_block.new.hart.machine c.run_block.new.hart.control (g.R.CacheRom.service.span m) ended.before (g.M.CacheRam.state c.run_block.new.ram)) (sym mid.setting) failed))
 
 pub at_word-requires : goal.at_word-requires
 at_word-requires g c =
@@ -178,4 +178,4 @@ returns-in_err-at_word g c =
     let sound = subst (λ (k : List ℕ). g.R.CacheRom.service.sound c.run_block.new.rom c.args.image.now k) words c.run_block.ensures.sound in
     let mid = along_stretch {ram = ended.before} was g.met.R.CacheRom.laws s c.run_block.ensures.setting sound
     (subst (λ (k : List ℕ). Keeps g.R.CacheRom.service c.args.image.now c.loop-hart.rom c.run_block.new.rom (g.M.CacheRam.state c.loop-hart.ram).words k) words c.run_block.ensures.keeps) in
-    rw (p.1, p.2) (run_broken mid ended.below s.going s.short (c.in_err-at_word.ensures ended.before answered))
+    rw (p.1, p.2) (run_broken mid g.met.R.CacheRom.laws ended.below s.going s.short (c.in_err-at_word.ensures ended.before answered))

@@ -1,8 +1,7 @@
 use Rattle.std.proofs.Common.{◌≡◌, sym, ◌∙◌, ap, subst, None, inl, inr}
 use Rattle.std.proofs.lemmas.Bool.{false≢true}
-use Rattle.swi_hart.specs.declared.hart.Control.{Control}
 use Rattle.swi_board.specs.Board.{BoardOf}
-use Rattle.swi_hart.specs.Matching.{Fits, Matches}
+use Rattle.swi_hart.specs.Matching.{Fits}
 use Rattle.swi_board.proofs.Following.{followed}
 use Rattle.swi_hart.proofs.Homes.{home}
 use Rattle.swi_hart.proofs.Results.{ok_map, ok_map_2}
@@ -12,8 +11,8 @@ pub plain_step-requires-clause-home : goal.plain_step-requires-clause-home
 plain_step-requires-clause-home g c =
     let f = subst (λ (b : BoardOf g.row.R.Denot). Fits c.args.image.now (g.R.CacheRom.service.kept b.rom) b.hart) (sym c.self.view_is) c.requires.ready.fits in
     let running : c.self.inside.hart.machine.ending ≡ None = ap (λ (b : BoardOf g.row.R.Denot). b.hart.machine.ending) c.self.view_is ∙ c.requires.ready.running in
-    home c.args.image.now (g.R.CacheRom.service.kept c.self.inside.rom) f.flat c.self.inside.hart.machine c.in-Some.at.0 c.in-Some.at.1 c.in-Some.at.2 c.in-Some.at.3 f.image
-    (subst (λ (k : Control). Matches c.args.image.now (g.R.CacheRom.service.kept c.self.inside.rom) f.flat c.self.inside.hart.machine k) c.in-Some.ensures.place.0 f.matches) running c.plain_place.ensures.word
+    home c.args.image.now (g.R.CacheRom.service.kept c.self.inside.rom) c.self.inside.hart c.in-Some.at.0 c.in-Some.at.1 c.in-Some.at.2 c.in-Some.at.3 f
+    c.in-Some.ensures.place.0 running c.plain_place.ensures.word
 
 pub returns-clause-follows : goal.returns-clause-follows
 returns-clause-follows g c =
@@ -28,10 +27,6 @@ pub returns-clause-executes : goal.returns-clause-executes
 returns-clause-executes g c =
     rw (← c.self.view_is) (ok_map c.quick_step.result (λ made. λ i b o stage p. absurd (false≢true (sym (c.in_default.ensures.place i b o stage p.control) ∙ p.own))) c.quick_step.ensures.stepped.policy)
 
-pub returns-clause-whole : goal.returns-clause-whole
-returns-clause-whole g c =
-    rw (← c.self.view_is) (ok_map c.quick_step.result (λ policy. λ i b o stage p whole. absurd (false≢true (sym (c.in_default.ensures.place i b o stage p.control) ∙ p.own))) c.quick_step.ensures.stepped.policy)
-
 pub quick_step-requires-clause-sound : goal.quick_step-requires-clause-sound
 quick_step-requires-clause-sound g c =
     let rom : c.self.inside.rom ≡ c.args.self.now.rom = ap (λ (b : BoardOf g.row.R.Denot). b.rom) c.self.view_is in
@@ -43,10 +38,6 @@ quick_step-requires-clause-sound g c =
 pub returns-in-Some-clause-executes : goal.returns-in-Some-clause-executes
 returns-in-Some-clause-executes g c =
     rw (← c.self.view_is) c.plain_step.ensures.executes
-
-pub returns-in-Some-clause-whole : goal.returns-in-Some-clause-whole
-returns-in-Some-clause-whole g c =
-    rw (← c.self.view_is) c.plain_step.ensures.whole
 
 pub returns-in-Some-clause-follows : goal.returns-in-Some-clause-follows
 returns-in-Some-clause-follows g c =

@@ -1,6 +1,6 @@
 use Rattle.std.proofs.Common.{List, ℕ, sym, inl, inr, ◌∙◌, rules, arith}
 use Rattle.swi_hart.specs.declared.hart.Stage.TheVariants.{Start}
-use Rattle.swi_cached.proofs.Foreign.{control_is, own_role, plain_at, exchanged, still_sound, on_ok}
+use Rattle.swi_cached.proofs.Foreign.{control_is, plain_at, exchanged, still_sound, on_ok}
 use Rattle.swi_cached.proofs.tests.foreign.steps_over.Goals as goal
 
 pub step-requires-clause-sound : goal.step-requires-clause-sound
@@ -14,10 +14,7 @@ pub step-requires-2-clause-ready : goal.step-requires-2-clause-ready
 step-requires-2-clause-ready g c =
     let h = c.args.board.now.hart in
     let stands = control_is h.machine.ending h.control c.args.i c.args.place.0 c.args.place.1 c.requires.at c.requires.place c.requires.between in
-    let plain = plain_at c.args.image.now c.args.ram.now.words c.put.new.ram.words h.control c.args.i c.args.place.0 c.args.place.1 stands
-    c.requires.inside c.requires.own c.put.ensures.words in
-    let fits = on_ok c.step.result (sym c.is_err-2.ensures.value ∙ c.if-is_err-2.false) c.step.ensures.whole
-    c.args.i c.args.place.0 c.args.place.1 Start plain (own_role h.machine c.requires.original) in
+    let fits = on_ok c.step.result (sym c.is_err-2.ensures.value ∙ c.if-is_err-2.false) c.step.ensures.stepped.fits in
     record { running = search rules; few = search (rules, arith); count = search (rules, arith); services = search (rules, arith); fits = fits }
 
 pub step-requires-2-clause-sound : goal.step-requires-2-clause-sound

@@ -1,0 +1,17 @@
+use Rattle.std.proofs.Common.{◌≡◌, ◌<◌, ◌^◌, Some, rules}
+use Rattle.swi_outside.specs.Devices.{Devices}
+use Rattle.swi_prefetch.specs.Prefetching.{HartEvent, PrefetchState}
+use Rattle.swi_prefetch.proofs.Leading.{PcShort, leads_hart, short_of}
+use Rattle.swi_prefetch.proofs.prefetch.Prefetch.hart.Goals as goal
+
+pub returns-clause-leads : goal.returns-clause-leads
+returns-clause-leads g c =
+    let before : Devices = record { input = g.I.Source.state c.args.input.now; output = g.O.Sink.state c.args.out.now; error = g.E.Sink.state c.args.err.now } in
+    let after : Devices = record { input = g.I.Source.state c.step.new.input; output = g.O.Sink.state c.step.new.out; error = g.E.Sink.state c.step.new.err } in
+    let old : PrefetchState = record { board = c.args.self.now.board; ram = g.M.CacheRam.state c.args.ram.now } in
+    let new : PrefetchState = record { board = Some c.step.new.board; ram = g.M.CacheRam.state c.step.new.ram } in
+    let is : c.args.self.now.board ≡ Some c.in-Some.board = search rules in
+    let bound : c.in-Some.board.hart.machine.pc < 2 ^ 32 = search rules in
+    let short : PcShort c.args.self.now.board = short_of c.args.self.now.board c.in-Some.board is bound in
+    let turned : HartEvent c.args.image.now old new before after c.step.result = search rules in
+    leads_hart c.args.image.now old new before after c.step.result c.requires.takes_turns short turned

@@ -1,0 +1,5 @@
+pub mod Prefetching
+pub mod Moments
+pub mod Tracking
+pub mod Laws
+pub mod Running

@@ -1,0 +1,104 @@
+-- A run: rounds of one event of the hart and so many of the engine, up to a limit of original steps. Own rule.
+use Rattle.std.specs.Prelude.{◌≡◌, ◌⊎◌, ℕ, ◌+◌, ◌<◌, ◌≤◌, not, ◌&&◌, nat_lt, Bool, false, List, ◌∷◌, ◌++◌, length, replicate, Option, Some, None, is_some, Result, IsErrOf}
+use Rattle.swi_outside.specs.Devices.{faults_of}
+use Rattle.swi_image.specs.Format.{ImageData}
+use Rattle.swi_hart.specs.Bounds.{most}
+use Rattle.swi_hart.specs.Hart.{HartData}
+use Rattle.swi_hart.specs.declared.fault.BoardFault.{BoardFault}
+use Rattle.swi_hart.specs.declared.fault.BoardFault.TheVariants.{RamFault}
+use Rattle.swi_board.specs.Board.{BoardOf}
+use Rattle.swi_engine.specs.Engine.{engine_words}
+use Rattle.swi_engine.specs.State.{EngineData, kept_by, setting_of}
+use Rattle.swi_prefetch.specs.Moments.{Moment, Turn, of_hart, of_engine, rounds, turned_all}
+use Rattle.swi_prefetch.specs.Prefetching.{GivenUp, HartEvent, OfBoards, TakesTurns}
+use Rattle.swi_prefetch.specs.Tracking.{Around, Leads, Tracks, board_around}
+
+-- the machine, whole
+pub record Whole : Type 0 where
+  pub board : Option (BoardOf EngineData)
+  pub around : Around
+
+-- a fact of the board, which is there
+abbrev pub OfBoard : Option (BoardOf EngineData) → (BoardOf EngineData → Type 0) → Type 0
+OfBoard None P = ⊥
+OfBoard (Some b) P = P b
+
+abbrev pub StepsUpTo : ℕ → Option (BoardOf EngineData) → Type 0
+StepsUpTo n o = OfBoard o (λ b. b.hart.machine.steps ≤ n)
+
+abbrev pub WordsUpTo : ℕ → Option (BoardOf EngineData) → Type 0
+WordsUpTo n o = OfBoard o (λ b. engine_words (kept_by b.rom) ≤ n)
+
+-- the run goes on, and fewer than so many original steps are made
+abbrev pub goes_below : ℕ → Option (BoardOf EngineData) → Bool
+goes_below n None = false
+goes_below n (Some b) = not (is_some b.hart.machine.ending) && nat_lt b.hart.machine.steps n
+
+-- and of a moment
+abbrev pub GoesOn : ℕ → Moment → Type 0
+GoesOn n s = (s.flat.machine.ending ≡ None) × (s.flat.machine.steps < n)
+
+-- Events were made in a row, and no device has failed.
+pub record CameOn (v : ImageData) (ts : List Turn) (old new : Whole) : Type 0 where
+  pub led : Leads v ts old.board new.board old.around new.around
+  pub turns : TakesTurns v new.board new.around.ram
+  -- each wrote at most one word ahead
+  pub words : OfBoards old.board new.board (λ a b. engine_words (kept_by b.rom) ≤ engine_words (kept_by a.rom) + length ts)
+  pub quiet : faults_of new.around.devices ≡ faults_of old.around.devices
+  pub ram_quiet : new.around.ram.faults ≡ old.around.ram.faults
+
+-- the engine's events leave the hart as it was
+abbrev pub SameHart : Option (BoardOf EngineData) → Option (BoardOf EngineData) → Type 0
+SameHart old new = OfBoards old new (λ a b. b.hart ≡ a.hart)
+
+-- a round brings the hart on, by one machine step and at most one original step
+pub record Rises (v : ImageData) (old new : HartData) : Type 0 where
+  pub most : most v old.machine old.control + 1 ≤ most v new.machine new.control
+  pub steps : new.machine.steps ≤ old.machine.steps + 1
+
+abbrev pub RoundRises : ImageData → Option (BoardOf EngineData) → Option (BoardOf EngineData) → Type 0
+RoundRises v old new = OfBoards old new (λ a b. a.hart.machine.ending ≡ None → Rises v a.hart b.hart)
+
+abbrev pub whole : Option (BoardOf EngineData) → Around → Whole
+whole b a = record { board = b; around = a }
+
+-- a word of the engine failed, behind so many of its events
+pub record AheadFailed (v : ImageData) (rate : ℕ) (old new : Whole) : Type 0 where
+  pub made : ℕ
+  pub fewer : made < rate
+  pub mid : Whole
+  pub came : CameOn v (replicate made of_engine) old mid
+  pub same : SameHart old.board mid.board
+  pub failed : GivenUp mid.board (record { board = new.board; ram = new.around.ram }) mid.around.ram
+  pub devices : new.around.devices ≡ mid.around.devices
+
+-- a device broke off the hart's event of a round, or one of the engine's
+pub record HartBroke (v : ImageData) (ts : List Turn) (old new : Whole) (result : Result Unit BoardFault) : Type 0 where
+  pub mid : Whole
+  pub came : CameOn v ts old mid
+  pub broke : HartEvent v (record { board = mid.board; ram = mid.around.ram }) (record { board = new.board; ram = new.around.ram }) mid.around.devices new.around.devices result
+
+pub record EngineBroke (v : ImageData) (ts : List Turn) (rate : ℕ) (old new : Whole) (result : Result Unit BoardFault) : Type 0 where
+  pub made : ℕ
+  pub fewer : made < rate
+  pub mid : Whole
+  pub came : CameOn v (ts ++ of_hart ∷ replicate made of_engine) old mid
+  pub failed : GivenUp mid.board (record { board = new.board; ram = new.around.ram }) mid.around.ram
+  pub devices : new.around.devices ≡ mid.around.devices
+  pub told : IsErrOf result RamFault
+
+abbrev pub BrokeIn : ImageData → List Turn → ℕ → Whole → Whole → Result Unit BoardFault → Type 0
+BrokeIn v ts rate old new result = HartBroke v ts old new result ⊎ EngineBroke v ts rate old new result
+
+-- the run came to its limit, or it ended; each round began before that
+pub record RanTo (v : ImageData) (limit rate : ℕ) (old new : Whole) : Type 0 where
+  pub made : ℕ
+  pub came : CameOn v (rounds rate made) old new
+  pub going : (j : ℕ) → j < made → OfBoard old.board (λ b. (s : Moment) → (before : Around) → Tracks v s before (board_around b old.around) →
+      GoesOn limit (turned_all (setting_of b.rom) v (rounds rate j) s))
+  pub done : goes_below limit new.board ≡ false
+
+-- a device broke off a round, behind so many
+pub record RunBroke (v : ImageData) (rate : ℕ) (old new : Whole) (result : Result Unit BoardFault) : Type 0 where
+  pub made : ℕ
+  pub broke : BrokeIn v (rounds rate made) rate old new result
