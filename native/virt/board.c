@@ -197,7 +197,7 @@ static enum protection protection_for(const uint8_t *file)
     return has(OPTION_PAGES) || !program_is_for_board(file) ? PROTECTION_PAGES : PROTECTION_PMP;
 }
 
-/* Heap and stack, as docs/guide.md has them (What a program finds); answers the program's sp. */
+/* Heap and stack, as docs/reference.md has them (What a program finds); answers the program's sp. */
 static uint32_t add_heap_and_stack(uint32_t heap)
 {
     uint32_t heap_bytes = parameters->heap_bytes, stack_bytes = parameters->stack_bytes;

@@ -22,7 +22,7 @@ struct parameters {
 
 enum option { OPTION_PAGES = 1, OPTION_STATS = 2, OPTION_DUMP = 4, OPTION_MACHINE = 8, OPTION_TIMER = 16 };
 
-/* The statuses of swic (docs/guide.md, Results), and two of the runtime's own. */
+/* The statuses of swic (docs/reference.md, Results), and two of the runtime's own. */
 enum status {
     STATUS_FAULT = 241,
     STATUS_STORE_TEXT = 242,

@@ -1,4 +1,4 @@
-/* The program's system calls: those of docs/guide.md, with Linux's numbers. */
+/* The program's system calls: those of docs/reference.md, with Linux's numbers. */
 #include "board.h"
 
 enum { CALL_READ = 63, CALL_WRITE = 64, CALL_EXIT = 93, CALL_EXIT_GROUP = 94, CALL_BRK = 214 };
