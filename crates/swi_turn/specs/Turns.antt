@@ -20,7 +20,7 @@ use Rattle.swi_engine.specs.Engine.{Event}
 use Rattle.swi_engine.specs.Worked.{GoesTo}
 use Rattle.swi_turn.specs.Engines.{EngineOf}
 
--- What stands between any two turns. The image fits the hart: it stands where a flat machine does, or midway to its next step. The service
+-- What stands between any two turns. The image fits the hart: control is in what stands for the instruction at its pc. The service
 -- is sound for image and ram. Machine steps and services are within their bounds: of machine steps three for each original one, and what
 -- the one under control has taken.
 pub record Beside {S : Type 0} (k : ServiceOf S) (v : ImageData) (b : BoardWithRam S) : Type 0 where
