@@ -39,9 +39,8 @@ use Rattle.swi_board.specs.Transfers.{Here, spent_by, at_fall, settled, before_l
 use Rattle.swi_board.specs.Ran.{BrokeOff, RamBrokeOff, next_of}
 use Rattle.swi_board.proofs.Held.{same_steps, run_snoc}
 use Rattle.swi_hart.proofs.Midway.{step_follows, at_exit}
-use Rattle.swi_board.proofs.Progressing.{progress, start_not_fall}
-use Rattle.swi_hart.proofs.Stepping.{two_places}
-use Rattle.swi_board.proofs.Progress.{Progress, made_step, lead, fall, beside, Completes}
+use Rattle.swi_hart.proofs.Stepping.{no_fall, two_places}
+use Rattle.swi_board.proofs.Progress.{Progress, made_step, lead, fall, beside, Completes, progress}
 use Rattle.swi_board.proofs.Counting.{cost_more, cost_none, plain_cost}
 use Rattle.swi_hart.proofs.Steps.{ram_fetches}
 use Rattle.swi_hart.proofs.Standing.{slots_are, linked_leads}
@@ -178,19 +177,7 @@ module _ (v : ImageData) (r : Record) (m : Machine) (i b o : ℕ) (stage : Stage
                 (ap (λ (q : Option Instr). jump_transfer q m) x_is ∙ ap (λ (q : Bool). if q then Some (indirect (address_of m.regs rs1 imm / 2 * 2)) else None) e);
             quiet_is = (refl, (refl, refl));
           })
-  would_jump None x_is is kind placed = absurd placed
-  would_jump (Some (instr.Lui rd imm)) x_is is kind placed = absurd placed
-  would_jump (Some (instr.Auipc rd imm)) x_is is kind placed = absurd placed
-  would_jump (Some (instr.Jal rd off)) x_is is kind placed = absurd placed
-  would_jump (Some (instr.Branch op rs1 rs2 off)) x_is is kind placed = absurd placed
-  would_jump (Some (instr.Load op rd rs1 imm)) x_is is kind placed = absurd placed
-  would_jump (Some (instr.Store op rs1 rs2 imm)) x_is is kind placed = absurd placed
-  would_jump (Some (instr.Alu op rd rs1 imm)) x_is is kind placed = absurd placed
-  would_jump (Some (instr.Op op rd rs1 rs2)) x_is is kind placed = absurd placed
-  would_jump (Some (instr.Atomic op rd rs1 rs2)) x_is is kind placed = absurd placed
-  would_jump (Some instr.Fence) x_is is kind placed = absurd placed
-  would_jump (Some instr.Ecall) x_is is kind placed = absurd placed
-  would_jump (Some instr.Ebreak) x_is is kind placed = absurd placed
+  would_jump x x_is is kind placed = absurd placed
 
   would_exit : (k : ExitKind) → (word_at v b o == ebreak) ≡ true → exit_kind (word_at v b (o + 1)) ≡ k → HasPlace v (exit_transfer k v m b o) → Would v r m (At i b o stage) input
   would_exit Direct is kind placed =
@@ -263,7 +250,7 @@ to_come v r s m c i b o stage going is stands =
     -- midway, at the place of the first word
     midway : (at n : ℕ) → place_of v s.machine.pc ≡ Some (b, at) → n ≤ before_last s.machine (original s.machine) (slots s.machine) → n + 1 ≤ size 0 v 1 s (place_of v s.machine.pc)
     midway at n start few =
-        let plain : at_fall v s.machine (Some (b, at)) ≡ false = start_not_fall v s.machine b at start in
+        let plain : at_fall v s.machine (Some (b, at)) ≡ false = no_fall v s.machine b at start in
         let words = plain_words v 0 s (b, at) going plain in
         let here : size 0 v 1 s (place_of v s.machine.pc) ≡ size 0 v 1 s (Some (b, at)) = ap (λ (h : Here). size 0 v 1 s h) start in
         omega (arith, words, here, few)

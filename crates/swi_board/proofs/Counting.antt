@@ -1,6 +1,7 @@
 -- The transfers and the cost that are still to come, from step to step.
-use Rattle.std.proofs.Common.{◌≡◌, ◌⊎◌, if◌then◌else◌, ℕ, zero, suc, ◌+◌, ◌-◌, ◌<◌, ◌≤◌, Bool, true, false, not, Option, Some, None, is_some, List, [], ◌∷◌, ◌++◌, refl, sym, ap, subst, ◌∙◌, inl, inr, arith}
+use Rattle.std.proofs.Common.{◌≡◌, ◌⊎◌, if◌then◌else◌, ℕ, zero, suc, ◌+◌, ◌-◌, ◌*◌, ◌<◌, ◌≤◌, Bool, true, false, not, ◌&&◌, Option, Some, None, is_some, List, [], ◌∷◌, ◌++◌, length, refl, sym, ap, subst, ◌∙◌, inl, inr, arith}
 use Rattle.std.proofs.lemmas.Bool.{false≢true}
+use Rattle.std.proofs.lemmas.List.{length-append}
 use Rattle.swi_calls.specs.declared.end.End.{End}
 use Rattle.swi_calls.specs.declared.machine.Machine.{Machine}
 use Rattle.swi_calls.specs.State.{FlatState}
@@ -12,9 +13,9 @@ use Rattle.swi_hart.specs.declared.hart.Control.TheVariants.{At, Outside}
 use Rattle.swi_calls.specs.Held.{held_made, held_step}
 use Rattle.swi_hart.specs.Hart.{Stepped, original, slots, is_place, completes}
 use Rattle.swi_board.specs.Runs.{weight}
-use Rattle.swi_board.specs.Transfers.{Here, at_fall, settled, step_transfers, here_after, here_run, fall_transfers, transfers, step_size, size, after_all, here_of, spent, spent_run, spent_by}
+use Rattle.swi_board.specs.Transfers.{Here, at_fall, settled, jumps_as, leaves_by, step_transfers, here_after, here_run, fall_transfers, transfers, step_size, size, after_all, here_of, spent, spent_run, spent_by}
 use Rattle.swi_hart.proofs.Stepping.{same_place}
-use Rattle.swi_board.proofs.Progress.{Progress, made_step, lead, fall, beside, Completes}
+use Rattle.swi_board.proofs.Progress.{Progress, made_step, lead, fall, beside, Completes, leaves_are}
 use Rattle.swi_board.proofs.Held.{next_state, held_steps}
 
 transfers_over : (v : ImageData) (k : ℕ) (s : FlatState) (here : Here) → is_some s.machine.ending ≡ true → transfers v k s here ≡ []
@@ -49,10 +50,42 @@ pub here_none : (v : ImageData) (s : FlatState) (here : Here) → here_run v 0 s
 unfolding here_run
 here_none v s here = refl
 
-here_more : (v : ImageData) (k : ℕ) (s : FlatState) (here : Here) → is_some s.machine.ending ≡ false →
+pub here_more : (v : ImageData) (k : ℕ) (s : FlatState) (here : Here) → is_some s.machine.ending ≡ false →
     here_run v (suc k) s here ≡ here_run v k (held_step s) (here_after v s.machine (settled v s.machine here) (held_step s).machine)
 unfolding here_run
 here_more v k s here going = rw going refl
+
+few_if : (t : Bool) (xs : List Transfer) → length xs ≡ 1 → length (if t then xs else []) ≤ 1
+few_if true xs one = omega (arith, one)
+few_if false xs one = omega arith
+
+-- a step makes two transfers at most
+fall_few : (v : ImageData) (f : Machine) (here : Here) → length (fall_transfers v f here) ≤ 1
+fall_few v f None = omega arith
+fall_few v f (Some p) = few_if (at_fall v f (Some p)) (direct p.0 p.1 f.pc ∷ []) refl
+
+step_few : (f : Machine) (here : Here) (next : Machine) → length (step_transfers f here next) ≤ 1
+step_few f None next = omega arith
+step_few f (Some p) next =
+    few_if (jumps_as f (original f) && not (is_some next.ending)) (leaves_by f (original f) (slots f) p next.pc)
+    (ap (λ (l : List Transfer). length l) (leaves_are f (original f) (slots f) p next.pc))
+
+two_more : (t : Bool) (xs ys zs : List Transfer) (k : ℕ) → length xs ≤ 1 → length ys ≤ 1 → length zs ≤ 2 * k →
+    length (if t then [] else xs ++ (ys ++ zs)) ≤ 2 * suc k
+two_more true xs ys zs k a b c = omega arith
+two_more false xs ys zs k a b c =
+    let first = length-append xs (ys ++ zs) in
+    let second = length-append ys zs in
+    omega (arith, first, second, a, b, c)
+
+pub transfers_few : (v : ImageData) (k : ℕ) (s : FlatState) (here : Here) → length (transfers v k s here) ≤ 2 * k
+unfolding transfers
+transfers_few v zero s here = omega arith
+transfers_few v (suc k) s here =
+    two_more (is_some s.machine.ending) (fall_transfers v s.machine here) (step_transfers s.machine (settled v s.machine here) (held_step s).machine)
+    (transfers v k (held_step s) (here_after v s.machine (settled v s.machine here) (held_step s).machine)) k
+    (fall_few v s.machine here) (step_few s.machine (settled v s.machine here) (held_step s).machine)
+    (transfers_few v k (held_step s) (here_after v s.machine (settled v s.machine here) (held_step s).machine))
 
 pub over_transfers : (v : ImageData) (k : ℕ) (s : FlatState) (here : Here) → is_some s.machine.ending ≡ true → transfers v k s here ≡ []
 over_transfers v k s here over = transfers_over v k s here over

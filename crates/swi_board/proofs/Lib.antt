@@ -1,6 +1,5 @@
 pub mod Held
 pub mod Progress
-pub mod Progressing
 pub mod Counting
 pub mod Fetching
 pub mod Running

@@ -31,8 +31,7 @@ use Rattle.swi_board.specs.Fetching.{FetchedFront, FetchedTo, words_ahead}
 use Rattle.swi_board.specs.Transfers.{transfers, cost, size, here_of, here_run, spent, spent_by, spent_run, after_all}
 use Rattle.swi_calls.specs.Laws.{held_run_none, held_run_over, held_run_more}
 use Rattle.swi_board.proofs.Held.{same_steps, held_steps, run_snoc, no_exit_no_transfer, next_state}
-use Rattle.swi_board.proofs.Progress.{Progress}
-use Rattle.swi_board.proofs.Progressing.{progress}
+use Rattle.swi_board.proofs.Progress.{Progress, progress}
 use Rattle.swi_board.proofs.Counting.{progress_left, progress_here, progress_spent, Left, HereLeft, here_none, transfers_none, cost_none, over_transfers, over_cost}
 use Rattle.swi_board.proofs.Fetching.{WordsLeft, ahead_none, ahead_over, fetched_no_more, fetched_none_yet, fetched_one_more, progress_words, under_is, under_next}
 

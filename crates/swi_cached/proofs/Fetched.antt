@@ -89,7 +89,7 @@ module _ (p : ℕ) (regs : Registers) (bus : List AreaData) where
 
 -- ---- a step of the program
 
-abbrev IsFound : Machine → Type 0
+abbrev pub IsFound : Machine → Type 0
 IsFound m = (m.pc < 2 ^ 32) × (unfetched m.ending ≡ 0)
 
 call_found : (m : Machine) (c : CallEffect) (code : Option ℕ) → IsFound m → IsFound (past_call (with_call m c) code)
@@ -117,13 +117,13 @@ unfolding made
 made_is m input k e = ap (λ (x : Option ℕ). with_word m x input) e
 
 -- a step at a text word
-step_found : (m : Machine) (input : List ℕ) (w : ℕ) → fetched m.bus m.pc ≡ Some w → IsFound m → IsFound (held_made m input).machine
+pub step_found : (m : Machine) (input : List ℕ) (w : ℕ) → fetched m.bus m.pc ≡ Some w → IsFound m → IsFound (held_made m input).machine
 step_found m input w e found =
     held_found m (next_store m) (made m input) input found
     (subst (λ (M : Made). IsFound M.machine) (sym (made_is m input (Some w) e)) (instruction_found m (decoded w) input found))
 
 -- a step at an address without one
-step_lost : (m : Machine) (input : List ℕ) → fetched m.bus m.pc ≡ None → (held_made m input).machine.ending ≡ Some (Faulted kind.FetchAccess m.pc)
+pub step_lost : (m : Machine) (input : List ℕ) → fetched m.bus m.pc ≡ None → (held_made m input).machine.ending ≡ Some (Faulted kind.FetchAccess m.pc)
 step_lost m input e =
     ap (λ (a : Option ℕ). (held m a (made m input) input).machine.ending) (ap (λ (k : Option ℕ). word_store m k) e)
     ∙ ap (λ (M : Made). M.machine.ending) (made_is m input None e)
@@ -134,21 +134,21 @@ none_of : (e : Option End) → is_some e ≡ false → e ≡ None
 none_of None h = refl
 none_of (Some x) h = absurd (false≢true (sym h))
 
-lost_text : (v : ImageData) (text : ℕ → Option ℕ) (a : ℕ) → Carries text v → place_of v a ≡ None → text a ≡ None
+pub lost_text : (v : ImageData) (text : ℕ → Option ℕ) (a : ℕ) → Carries text v → place_of v a ≡ None → text a ≡ None
 lost_text v text a image none = by (text a) refl
   where
     by : (k : Option ℕ) → text a ≡ k → text a ≡ None
     by None e = e
     by (Some w) e = absurd (let some = image.stands a w e in let is = some.2 in let bad : ⊥ = cc in bad)
 
-found_text : (v : ImageData) (text : ℕ → Option ℕ) (a : ℕ) (q : ℕ × ℕ) → Carries text v → a < 2 ^ 32 → place_of v a ≡ Some q → (w : ℕ) × (text a ≡ Some w)
+pub found_text : (v : ImageData) (text : ℕ → Option ℕ) (a : ℕ) (q : ℕ × ℕ) → Carries text v → a < 2 ^ 32 → place_of v a ≡ Some q → (w : ℕ) × (text a ≡ Some w)
 found_text v text a q image word some = by (text a) refl
   where
     by : (k : Option ℕ) → text a ≡ k → (w : ℕ) × (text a ≡ Some w)
     by None e = absurd (let none = image.nowhere a word e in let bad : ⊥ = cc in bad)
     by (Some w) e = (w, e)
 
-place_is : (p : Option (ℕ × ℕ)) (b o : ℕ) → is_place p b o ≡ true → p ≡ Some (b, o)
+pub place_is : (p : Option (ℕ × ℕ)) (b o : ℕ) → is_place p b o ≡ true → p ≡ Some (b, o)
 place_is None b o e = absurd (false≢true e)
 place_is (Some (x, y)) b o e =
     let parts = and_parts (x == b) (y == o) e in
@@ -165,7 +165,7 @@ settled_place v m (Some (b, o)) known =
       | inr fall ↦ ap (λ (t : Bool). if not t then place_of v m.pc else Some (b, o)) fall
     ]
 
-next_known : (v : ImageData) (m : Machine) (q : ℕ × ℕ) (next : Machine) → here_after v m (Some q) next ≡ None → place_of v next.pc ≡ None
+pub next_known : (v : ImageData) (m : Machine) (q : ℕ × ℕ) (next : Machine) → here_after v m (Some q) next ≡ None → place_of v next.pc ≡ None
 next_known v m q next = by (jumps_as m (original m))
   where
     by : (t : Bool) → (if t then place_of v next.pc else Some (q.0, q.1 + length (slots m))) ≡ None → place_of v next.pc ≡ None

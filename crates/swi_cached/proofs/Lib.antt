@@ -5,7 +5,7 @@ mod Ended
 mod Services
 pub mod Failed
 mod Causing
-mod Fetched
+pub mod Fetched
 mod Foreign
 pub mod Quiet
 pub mod Tells

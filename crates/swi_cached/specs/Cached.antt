@@ -63,7 +63,8 @@ abbrev pub StopsBeforeStore : CachedRun → Type 0
 StopsBeforeStore c = (n k : ℕ) → k < n → ((j : ℕ) → j < k → StoresAt c.start j → ⊥) → StoresAt c.start k →
     (a : ℕ) × (next_store (flat_run k c.start).machine ≡ Some a) × (program_after c n ≡ stopped_at (flat_run k c.start) a)
 
--- the machine instructions of the first n steps: one for the boot, and for each step one to three
+-- the machine instructions of the first n steps: one for the boot, for each step one to three, and one for each exit
+-- behind a block's last text word that is made before one of them
 abbrev pub instructions_after : CachedRun → ℕ → ℕ
 instructions_after c n = 1 + cost c.image n c.start (place_of c.image c.start.machine.pc)
 

@@ -15,6 +15,8 @@ use Rattle.swi_engine.specs.Seats.{joint_below}
 use Rattle.swi_engine.specs.Moves.{leads_in, undone_data, OneSet}
 use Rattle.swi_engine.specs.Cleared.{Clearing}
 use Rattle.std.specs.List.{position_from}
+use Rattle.swi_engine.specs.Joints.{NewestInto}
+use Rattle.swi_engine.proofs.Joining.{set_now}
 use Rattle.swi_engine.proofs.Eventing.{found}
 use Rattle.swi_engine.proofs.Shapes.{has_get, remove_has, has_remove, removed_apart, length_filter}
 use Rattle.swi_engine.proofs.Standing.{undone_stands}
@@ -95,10 +97,10 @@ found_joint e b k at =
     let w = found (λ j. leads_in j b) 0 k e.joints at in
     (w.2.0, subst (λ (x : ℕ). slice_get e.joints x ≡ Some w.2.0) (less_none k) w.2.1, w.2.2)
 
-pub clearing_step : (v : ImageData) (b k : ℕ) (e f g : EngineData) (a c d : RamState) → Clearing v b e f a c → position_from (λ j. leads_in j b) 0 f.joints ≡ Some k → g ≡ undone_data f k → ((j : Joint) → slice_get f.joints k ≡ Some j → OneSet j.at ebreak c d) → Clearing v b e g a d
-clearing_step v b k e f g a c d u at is set =
-    let w = found_joint f b k at in
-    clearing_more v b k e f g w.0 a c d u w.1 w.2 is (set w.0 w.1)
+pub clearing_step : (v : ImageData) (b at : ℕ) (e f g : EngineData) (a c d : RamState) → Clearing v b e f a c → (w : NewestInto f.joints b at) → g ≡ undone_data f w.0 → OneSet at ebreak c d → Clearing v b e g a d
+clearing_step v b at e f g a c d u w is set =
+    let j = found_joint f b w.0 w.1 in
+    clearing_more v b w.0 e f g j.0 a c d u j.1 j.2 is (set_now f.joints w.0 at c d w.2 set j.0 j.1)
 
 pub clearing_few : (v : ImageData) (b : ℕ) (e f : EngineData) (a c : RamState) → Clearing v b e f a c → f.counts.unlinks ≤ e.counts.unlinks + length e.joints
 clearing_few v b e f a c u = omega (arith, u.number, length_filter (λ (j : Joint). leads_in j b) e.joints)

@@ -1,12 +1,9 @@
 -- A whole call: an arrival, and after a direct exit the link.
-use Rattle.std.proofs.Common.{◌≡◌, ◌⊎◌, ℕ, suc, ◌+◌, ◌-◌, ◌*◌, ◌/◌, ◌%◌, ◌<◌, ◌≤◌, ◌^◌, ◌&&◌, ◌||◌, ◌==◌, Bool, true, false, List, [], ◌∷◌, map, Some, None, Ok, Err, length, slice_index, slice_index_or, slice_set, nat_lt, arith, refl, sym, ◌∙◌, ap, subst, inl, inr}
-use Rattle.std.specs.List.{AllByRecursion, IsDistinct, list_any}
-use Rattle.std.proofs.lemmas.Map.Steps.{length-le_from_distinct_below}
-use Rattle.std.proofs.lemmas.Bool.{cases_Bool, cases_eq, lt-ltb, ltb-true, both_ways, and_left, and_parts, or_parts, or_cases, eqb-true, ne_eqb, false_from_ne_true}
+use Rattle.std.proofs.Common.{◌≡◌, ℕ, ◌+◌, ◌-◌, ◌*◌, ◌/◌, ◌%◌, ◌<◌, ◌≤◌, ◌^◌, ◌&&◌, ◌||◌, Bool, true, false, List, [], ◌∷◌, map, Some, None, Ok, Err, length, slice_index, slice_index_or, slice_set, nat_lt, arith, refl, sym, ◌∙◌, ap, subst, inl, inr}
+use Rattle.std.proofs.lemmas.Bool.{cases_Bool, cases_eq, lt-ltb, ltb-true, both_ways, and_left, and_parts, or_parts, false_from_ne_true}
 use Rattle.std.proofs.lemmas.List.{get_or_read, get_or-set_other}
 use Rattle.swi_image.specs.Format.{ImageData}
 use Rattle.swi_image.specs.Place.{place_of, word_at, length_at}
-use Rattle.swi_outside.specs.Causes.{risen}
 use Rattle.swi_outside.specs.CacheRam.{RamState}
 use Rattle.swi_rom.specs.Record.{Record, Link, Transfer, direct, indirect, target_of, Has, Placed, has_link, same_link, is_linked, writes, reaches, IsJump}
 use Rattle.swi_rom.specs.Coherent.{TargetAt, ExitAt, IsExit}
@@ -21,8 +18,8 @@ use Rattle.swi_rom.specs.Links.{has_next, has_first, same_is}
 use Rattle.swi_engine.specs.declared.joints.Joint.{Joint}
 use Rattle.swi_engine.specs.Engine.{span_of, arrived, beside, newest_first}
 use Rattle.swi_engine.specs.State.{EngineData, kept_by, setting_of, link_of}
-use Rattle.swi_engine.specs.Sound.{Standing, EngineSound, Few, NoJoint, Apart}
-use Rattle.swi_engine.specs.Seats.{in_joints, placed_slot, slot_placed, joint_at, joint_below, joint_linked, length_most, slot_within}
+use Rattle.swi_engine.specs.Sound.{Standing, EngineSound, Few, NoJoint}
+use Rattle.swi_engine.specs.Seats.{in_joints, placed_slot, slot_placed, joint_at, joint_linked, length_most, slot_within}
 use Rattle.swi_engine.specs.Laws.{not_linked_none, word_slot}
 use Rattle.swi_engine.specs.Moves.{OneSet, IsAbsent, linked_data, can_link, more_service}
 use Rattle.swi_engine.specs.Arrived.{Arrived, Linked, MaybeLinked}
@@ -128,39 +125,6 @@ none_before v e words at target stands x = λ j h is.
 
 none_after : (v : ImageData) (e t : EngineData) (c n at target : ℕ) (a b : RamState) → EngineSound e v a.words → Arrived v c n e t a b → ExitIn v e at target → NoJoint t at
 none_after v e t c n at target a b sound arr x = λ j h is. none_before v e a.words at target sound.stands x j (arr.joints_left j h) is
-
--- fewer links than words stand, then
-lacking : (i : ℕ) (js : List Joint) → ((k : Joint) → Has js k → k.at ≡ i → ⊥) → AllByRecursion (λ (y : ℕ). (i == y) ≡ false) (map (λ k. k.at) js)
-lacking i [] none = tt
-lacking i (j ∷ js) none = (ne_eqb i j.at (λ (s : i ≡ j.at). none j (inl refl) (sym s)), lacking i js (λ k h. none k (inr h)))
-
-distinct_at : (js : List Joint) → Apart js → IsDistinct (λ (x y : ℕ). x == y) (map (λ k. k.at) js)
-unfolding IsDistinct
-distinct_at [] d = tt
-distinct_at (j ∷ js) d = (lacking j.at js d.0, distinct_at js d.1)
-
-any_at : (js : List Joint) (q : ℕ) → list_any (λ (y : ℕ). q == y) (map (λ k. k.at) js) ≡ true → (j : Joint) × Has js j × (j.at ≡ q)
-any_at [] q h = absurd (both_ways false refl h)
-any_at (j ∷ js) q h = elim (or_cases (q == j.at) (list_any (λ (z : ℕ). q == z) (map (λ k. k.at) js)) h) [
-  | inl e ↦ (j, inl refl, sym (eqb-true q j.at e))
-  | inr i ↦ (let w = any_at js q i in (w.0, inr w.1, w.2))
-]
-
-map_long : (js : List Joint) → length (map (λ k. k.at) js) ≡ length js
-map_long [] = refl
-map_long (j ∷ js) = ap suc (map_long js)
-
-pub room_left : (e : EngineData) (v : ImageData) (words : List ℕ) (j : Joint) → Standing e v words → NoJoint e j.at → j.at < e.slots * e.size → length e.joints < e.slots * e.size
-unfolding IsDistinct
-room_left e v words j stands none lt =
-    let all : length (map (λ k. k.at) (j ∷ e.joints)) ≤ e.slots * e.size =
-    length-le_from_distinct_below (map (λ k. k.at) (j ∷ e.joints)) (e.slots * e.size) (lacking j.at e.joints none, distinct_at e.joints stands.apart)
-    (λ q h. let w = any_at (j ∷ e.joints) q h in below w.0 q w.1 w.2) in
-    omega (arith, all, map_long e.joints)
-  where
-    below : (k : Joint) (q : ℕ) → (j ≡ k) ⊎ Has e.joints k → k.at ≡ q → q < e.slots * e.size
-    below k q (inl s) is = omega (arith, lt, ap (λ (x : Joint). x.at) s, is)
-    below k q (inr h) is = omega (arith, joint_below e v words k stands (stands.linked k h), is)
 
 -- where a block stands that the table of slots has
 home_stands : (e : EngineData) (v : ImageData) (words : List ℕ) (b : ℕ) → Standing e v words → b < length e.homes → nat_lt (slice_index e.homes b) e.slots ≡ true → Has e.queue (slice_index e.homes b) × (slice_index e.blocks (slice_index e.homes b) ≡ b)
@@ -385,7 +349,8 @@ pub record LinkNeeds (t : EngineData) (j : Joint) (words : List ℕ) : Type 0 wh
   pub small : t.slots * t.size ≤ 2 ^ 21
   pub fits : t.slots * t.size ≤ length words
   pub links : t.counts.links < 2 ^ 60
-  pub room : length t.joints < t.slots * t.size
+  pub into : j.into < length t.homes
+  pub free : NoJoint t j.at
 
 pub link_needs : (v : ImageData) (e r t : EngineData) (c n at target block : ℕ) (x y : RamState) → r ≡ e → EngineSound e v x.words → ExitAt v (kept_by e) at target → Arrived v c n e t x y → block ≡ slice_index_or r.blocks (at / r.size) block →
     LinkNeeds t (record { block = block; offset = at % r.size; at = at; into = c }) y.words
@@ -402,7 +367,8 @@ link_needs v e r t c n at target block x y same sound ex arr read =
       small = stands.shape.words_few;
       fits = stands.fits;
       links = omega (arith, arr.sound.few.links_few, arr.sound.few.services_few);
-      room = room_left t v y.words (record { block = block; offset = at % r.size; at = at; into = c }) stands (none_after v e t c n at target x y sound arr i) (omega (arith, w.2, span));
+      into = omega (arith, subst (λ (b : ℕ). b < length v.blocks) arr.block_is (stands.known n arr.stands), stands.blocks_most);
+      free = none_after v e t c n at target x y sound arr i;
     }
 
 -- where the code reads the exit's own block

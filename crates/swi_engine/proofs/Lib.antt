@@ -1,4 +1,5 @@
 pub mod Shapes
+pub mod Joining
 pub mod Views
 pub mod Standing
 pub mod Eventing

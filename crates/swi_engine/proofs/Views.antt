@@ -30,3 +30,11 @@ word_in e now n o same lt lt' = subst (λ (t : EngineData). n * t.size + o < now
 pub word_fits : (e now : EngineData) (n o : ℕ) → e ≡ now → InShape e → n < now.slots → o < now.size → n * e.size + o < 2 ^ 32
 word_fits e now n o same shape lt lt' =
     omega (arith, word_in e now n o same lt lt', subst (λ (t : EngineData). t.slots * t.size ≤ 2 ^ 21) same shape.words_few)
+
+-- its words lie within those of all slots
+pub leaves_within : (e now : EngineData) (k n : ℕ) → e ≡ now → InShape e → k < length now.queue → n ≡ slice_index_or e.queue k n → (n < length e.lengths) × (n * e.size + e.size ≤ e.slots * e.size)
+leaves_within e now k n same shape lt n_is =
+    let below : k < length e.queue = subst (λ (t : EngineData). k < length t.queue) (sym same) lt in
+    let at : n ≡ slice_index e.queue k = get_or_read e.queue k n below n_is 0 in
+    let here : n < e.slots = shape.below n (subst (λ (m : ℕ). Has e.queue m) (sym at) (has_index e.queue k below)) in
+    (omega (arith, here, shape.lengths_long), row_fits n e.size e.slots e.size here (omega arith))

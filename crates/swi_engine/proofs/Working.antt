@@ -17,7 +17,9 @@ use Rattle.swi_engine.specs.State.{EngineData, kept_by, setting_of, spot, link_o
 use Rattle.swi_engine.specs.Sound.{Standing, EngineSound, Few, CopyStands, CopyIs, InShape}
 use Rattle.swi_engine.specs.Seats.{slot_within, placed_slot, joint_below}
 use Rattle.swi_engine.specs.Moves.{leads_in, is_block_in, OneSet, undone_data, left_data, placed_data, wrote_data, IsAbsent}
+use Rattle.swi_engine.specs.Joints.{NewestInto}
 use Rattle.swi_engine.specs.Worked.{Worked, GoesTo}
+use Rattle.swi_engine.proofs.Joining.{set_now}
 use Rattle.swi_engine.proofs.Shapes.{has_left, has_index, has_get, has_filter, has_remove, remove_has, removed_distinct, get_index, length_filter}
 use Rattle.swi_engine.proofs.Standing.{copy_short, undone_stands, begun_stands, left_stands, wrote_stands, placed_stands, recounted}
 use Rattle.swi_engine.proofs.Eventing.{copy_kept, words_kept, joint_first, wrote_kept, placed_is, found, missing, any_true, any_false, free_is, free_none, oldest_is, oldest_none, newest_is, newest_none, undone_kept, left_kept}
@@ -235,7 +237,7 @@ few_undone e k few lt = record {
 }
 
 -- a link into it is undone
-pub undone_worked : (e f : EngineData) (v : ImageData) (h k i : ℕ) (a b : RamState) → EngineSound e v a.words → e.copy ≡ None → h + 1 < length v.starts → IsAbsent e (h + 1) → e.slots ≤ length e.queue →
+undone_worked : (e f : EngineData) (v : ImageData) (h k i : ℕ) (a b : RamState) → EngineSound e v a.words → e.copy ≡ None → h + 1 < length v.starts → IsAbsent e (h + 1) → e.slots ≤ length e.queue →
     position_from (λ n. not (is_block_in e.blocks h n)) 0 e.queue ≡ Some k → position_from (λ j. leads_in j (slice_index e.blocks (slice_index e.queue k))) 0 e.joints ≡ Some i →
     f ≡ undone_data e i → ((j : Joint) → slice_get e.joints i ≡ Some j → OneSet j.at ebreak a b) → Worked v h e f true a b
 unfolding Placed
@@ -361,11 +363,6 @@ oldest_now e now q b x r s same qs bs is rs =
     subst (λ (t : EngineData). position_from (λ n. not (is_block_in t.blocks x n)) 0 t.queue ≡ s) same
     (subst (λ (ns : List ℕ). position_from (λ n. not (is_block_in e.blocks x n)) 0 ns ≡ s) qs (subst (λ (ns : List ℕ). position_from (λ n. not (is_block_in ns x n)) 0 q ≡ s) bs (sym is ∙ rs)))
 
-pub newest_now : (e now : EngineData) (js : List Joint) (x y : ℕ) (r s : Option ℕ) → e ≡ now → js ≡ e.joints → x ≡ y → r ≡ position_from (λ j. leads_in j x) 0 js → r ≡ s → position_from (λ j. leads_in j y) 0 now.joints ≡ s
-newest_now e now js x y r s same jss xy is rs =
-    subst (λ (t : EngineData). position_from (λ j. leads_in j y) 0 t.joints ≡ s) same
-    (subst (λ (ls : List Joint). position_from (λ j. leads_in j y) 0 ls ≡ s) jss (subst (λ (z : ℕ). position_from (λ j. leads_in j z) 0 js ≡ s) xy (sym is ∙ rs)))
-
 -- the block that is read
 pub victim_now : (e now : EngineData) (k n b : ℕ) → e ≡ now → InShape e → k < length e.queue → n ≡ slice_index_or e.queue k n → b ≡ slice_index_or e.blocks n b → (n < length e.blocks) × (n ≡ slice_index now.queue k) × (b ≡ slice_index now.blocks (slice_index now.queue k))
 victim_now e now k n b same shape lt n_is b_is =
@@ -386,6 +383,11 @@ left_call e f g v h first k n a b sound none lt here known absent full at into g
     left_worked e f v h first k a b sound none lt here known absent full at into
     (subst (λ (m : ℕ). f ≡ wrote_data (left_data e k) (record { block = h + 1; slot = m; done = 0 }) (length_at v (h + 1))) is (subst (λ (x : EngineData). f ≡ wrote_data x (record { block = h + 1; slot = n; done = 0 }) (length_at v (h + 1))) g_is f_is))
     (subst (λ (m : ℕ). OneSet (m * e.size + 0) (word_at v (h + 1) 0) a b) is (subst (λ (x : EngineData). OneSet (n * x.size + 0) (word_at v (h + 1) 0) a b) g_is set))
+
+pub undone_call : (e f : EngineData) (v : ImageData) (h k at : ℕ) (a b : RamState) → EngineSound e v a.words → e.copy ≡ None → h + 1 < length v.starts → IsAbsent e (h + 1) → e.slots ≤ length e.queue →
+    position_from (λ n. not (is_block_in e.blocks h n)) 0 e.queue ≡ Some k → (w : NewestInto e.joints (slice_index e.blocks (slice_index e.queue k)) at) → f ≡ undone_data e w.0 → OneSet at ebreak a b → Worked v h e f true a b
+undone_call e f v h k at a b sound none known absent full oldest w f_is set =
+    undone_worked e f v h k w.0 a b sound none known absent full oldest w.1 f_is (set_now e.joints w.0 at a b w.2 set)
 
 -- what the call needs of its parts
 pub joint_bound : (e : EngineData) (v : ImageData) (words : List ℕ) (i : ℕ) (j : Joint) → Standing e v words → slice_get e.joints i ≡ Some j → j.at < e.slots * e.size

@@ -1,6 +1,5 @@
 -- The links into a block from others are undone, one after the other, before it leaves by a miss.
-use Rattle.std.specs.Prelude.{◌≡◌, ◌⊎◌, ℕ, ◌+◌, ◌-◌, ◌*◌, ◌≤◌, filter, not, length, slice_index, None}
-use Rattle.std.specs.List.{position_from}
+use Rattle.std.specs.Prelude.{◌≡◌, ◌⊎◌, ℕ, ◌+◌, ◌-◌, ◌*◌, ◌≤◌, ◌==◌, filter, not, length, slice_index}
 use Rattle.swi_image.specs.Format.{ImageData}
 use Rattle.swi_outside.specs.CacheRam.{RamState}
 use Rattle.swi_rom.specs.Record.{Has, ebreak}
@@ -8,6 +7,8 @@ use Rattle.swi_rom.specs.Writing.{Wrote}
 use Rattle.swi_engine.specs.declared.joints.Joint.{Joint}
 use Rattle.swi_engine.specs.State.{EngineData}
 use Rattle.swi_engine.specs.Sound.{Standing}
+use Rattle.swi_undo.specs.Undone.{is_own}
+use Rattle.swi_engine.specs.Joints.{NoneInto}
 use Rattle.swi_engine.specs.Moves.{leads_in, left_data}
 
 -- a word is as before, or a link stood there that is gone
@@ -29,10 +30,15 @@ pub record Clearing (v : ImageData) (b : ℕ) (e f : EngineData) (before after :
   pub gone : (j : Joint) → Has e.joints j → Has f.joints j ⊎ (slice_index after.words j.at ≡ ebreak)
   pub wrote : Wrote (e.slots * e.size) (f.counts.unlinks - e.counts.unlinks) before after
 
+-- the links from the block at a place of the queue are those at its words, which lie in its slot
+pub record OwnsLinks (e : EngineData) (k : ℕ) : Type 0 where
+  pub inside : slice_index e.lengths (slice_index e.queue k) ≤ e.size
+  pub owns : (j : Joint) → Has e.joints j → is_own (slice_index e.queue k * e.size) (slice_index e.lengths (slice_index e.queue k)) j.at ≡ (j.block == slice_index e.blocks (slice_index e.queue k))
+
 -- the oldest block has left its slot
 pub record MadeRoom (v : ImageData) (n : ℕ) (e f : EngineData) (before after : RamState) : Type 0 where
   pub room : EngineData
   pub clears : Clearing v (slice_index e.blocks (slice_index e.queue 0)) e room before after
-  pub all : position_from (λ j. leads_in j (slice_index e.blocks (slice_index e.queue 0))) 0 room.joints ≡ None
+  pub all : NoneInto room.joints (slice_index e.blocks (slice_index e.queue 0))
   pub leaves : f ≡ left_data room 0
   pub slot : n ≡ slice_index e.queue 0

@@ -3,6 +3,7 @@ pub mod State
 pub mod Sound
 pub mod Service
 pub mod Moves
+pub mod Joints
 pub mod Worked
 pub mod Seats
 pub mod Laws

@@ -1,8 +1,7 @@
 -- What the parts of a call do to the service and to the ram.
-use Rattle.std.specs.Prelude.{◌≡◌, ℕ, ◌+◌, ◌-◌, ◌<◌, ◌≤◌, ◌==◌, ◌&&◌, Bool, not, max, List, [], ◌∷◌, ◌++◌, filter, remove, Some, None, slice_index, slice_set, nat_lt, if◌then◌else◌}
+use Rattle.std.specs.Prelude.{◌≡◌, ℕ, ◌+◌, ◌-◌, ◌<◌, ◌≤◌, ◌==◌, ◌&&◌, Bool, not, List, [], ◌∷◌, ◌++◌, filter, remove, Some, None, slice_index, slice_set, nat_lt, if◌then◌else◌}
 use Rattle.swi_image.specs.Format.{ImageData}
 use Rattle.swi_image.specs.Place.{word_at}
-use Rattle.swi_outside.specs.Causes.{counted}
 use Rattle.swi_outside.specs.CacheRam.{RamState, with_set}
 use Rattle.swi_rom.specs.Record.{Has, reaches}
 use Rattle.swi_rom.specs.Writing.{Wrote}

@@ -1,7 +1,7 @@
 //! A service with slots beside which an engine copies.
 #![tactic(auto)]
 
-ghost use Rattle.std.specs.Prelude.{◌≡◌, ◌+◌, ◌-◌, ◌*◌, ◌/◌, ◌^◌, ◌<◌, ◌≤◌, not, ℕ, List, length, slice_get, slice_index, replicate, None, Some, IfOk, OnOk, OnErr, IsTrue, MatchOption, vec_capacity};
+ghost use Rattle.std.specs.Prelude.{◌≡◌, ◌+◌, ◌-◌, ◌*◌, ◌/◌, ◌^◌, ◌<◌, ◌≤◌, not, ℕ, List, [], length, slice_index, replicate, IfOk, OnOk, OnErr, IsTrue, MatchOption, vec_capacity};
 ghost use Rattle.std.specs.List.{position_from};
 ghost use Rattle.swi_image.specs.Format.{ImageData};
 ghost use Rattle.swi_image.specs.Place.{length_at, word_at};
@@ -11,14 +11,15 @@ ghost use Rattle.swi_rom.specs.Writing.{FailedBelow};
 ghost use Rattle.swi_engine.specs.declared.joints.Joint.{Joint};
 ghost use Rattle.swi_engine.specs.Engine.{empty_beside, engine_words, engine_copies, span_of};
 ghost use Rattle.swi_engine.specs.State.{EngineData, empty_data, kept_by, setting_of};
-ghost use Rattle.swi_engine.specs.Sound.{Distinct, EngineSound, Standing};
+ghost use Rattle.swi_engine.specs.Sound.{Apart, Distinct, EngineSound, NoJoint, Standing};
 ghost use Rattle.swi_engine.specs.Worked.{Worked};
-ghost use Rattle.swi_engine.specs.Cleared.{Clearing, MadeRoom};
+ghost use Rattle.swi_engine.specs.Cleared.{Clearing, MadeRoom, OwnsLinks};
 ghost use Rattle.swi_engine.specs.Arrived.{Ready, Filled, Arrived, MaybeLinked};
-ghost use Rattle.swi_engine.specs.Moves.{leads_in, OneSet, is_block_in, IsAbsent, counted_data, undone_data, left_data, placed_data, brought_data, wrote_data, linked_data, can_link};
+ghost use Rattle.swi_engine.specs.Joints.{LinkAt, NoneInto};
+ghost use Rattle.swi_engine.specs.Moves.{OneSet, is_block_in, IsAbsent, counted_data, undone_data, left_data, placed_data, wrote_data, linked_data, can_link};
 
 use crate::copying::{Copying, copies_to, copy_rest, used};
-use crate::joints::{Joint, drop_from, newest_into};
+use crate::joints::{Joint, Joints};
 use std::alloc::Global;
 use std::marker::Model;
 use swi_image::ImageView;
@@ -27,9 +28,9 @@ use swi_rom::{CacheRom, Counts, EBREAK, RomStop, jump, reach};
 
 /// A cache of slots of one size, each of which holds a block. While a slot is free the lowest is filled, and then
 /// the oldest block makes room. An engine copies the block behind control's beside it, word by word. After `new` no
-/// call takes memory. `revisit`, `at` and `goal` take constant time but for the search of the place; `enter`, `cross`
-/// and `work` take time linear in the words that they write, and, where a block has to leave or an exit is linked, in
-/// the number of links and slots.
+/// call takes memory. `revisit`, `at` and `goal` take constant time but for the search of the place. `enter`, `cross`
+/// and `work` take time linear in the words that they write. Where a block leaves, the time is linear in its words
+/// too, and the slots behind it in the queue, four bytes each, move up by one.
 #[derive(Drop)]
 pub struct EngineRom {
     slots: u32,
@@ -41,8 +42,8 @@ pub struct EngineRom {
     lengths: Vec<u32>,
     // Of each block its slot; where it isn't placed, the number of slots.
     homes: Vec<u32>,
-    // The links, newest first, and of each word the address to which it leads, if it is one.
-    joints: Vec<Joint>,
+    // The links, and of each word the address to which it leads, if it is one.
+    joints: Joints,
     goals: Vec<u32>,
     copy: Option<Copying>,
     counts: Counts,
@@ -52,7 +53,7 @@ pub struct EngineRom {
 }
 
 impl Model for EngineRom {
-    ghost use Rattle.std.specs.Prelude.{◌*◌, ◌≤◌, vec_capacity};
+    ghost use Rattle.std.specs.Prelude.{◌≡◌, ◌*◌, ◌≤◌, length, vec_capacity};
     ghost use Rattle.swi_engine.specs.State.{EngineData};
     ghost use Rattle.swi_engine.specs.Sound.{InShape};
 
@@ -65,7 +66,7 @@ impl Model for EngineRom {
       blocks = s.blocks.items;
       lengths = s.lengths.items;
       homes = s.homes.items;
-      joints = s.joints.items;
+      joints = s.joints.joints;
       goals = s.goals.items;
       copy = s.copy;
       counts = s.counts;
@@ -80,13 +81,13 @@ impl Model for EngineRom {
       blocks = s.blocks.items;
       lengths = s.lengths.items;
       homes = s.homes.items;
-      joints = s.joints.items;
+      joints = s.joints.joints;
       goals = s.goals.items;
       copy = s.copy;
       counts = s.counts;
       words = s.words;
       copies = s.copies;
-    }) × (s.slots ≤ vec_capacity s.queue) × (s.slots * s.size ≤ vec_capacity s.joints) };
+    }) × (s.slots ≤ vec_capacity s.queue) × (s.joints.words ≡ s.slots * s.size) × (s.joints.blocks ≡ length s.homes.items) };
 }
 
 // So many times a number.
@@ -94,6 +95,14 @@ fn all_of(alloc: Global, number: u32, count: u32) -> Result<Vec<u32>, Memory>
     ensures { IfOk result (λ xs. xs.items ≡ replicate count number) }
 {
     vec![in alloc; number; count as usize].map_err(|_| Memory)
+}
+
+// Room for so many numbers.
+fn room_for(alloc: Global, count: u32) -> Result<Vec<u32>, Memory>
+    ensures empty { IfOk result (λ xs. xs.items ≡ []) }
+    ensures room { IfOk result (λ xs. count ≤ vec_capacity xs) }
+{
+    Vec::with_capacity(alloc, count as usize).map_err(|_| Memory)
 }
 
 // The place in the queue of the oldest block other than one.
@@ -134,11 +143,11 @@ impl EngineRom {
     {
         let slots = cache_bytes / 4 / block_words;
         let words = slots * block_words;
-        let queue = Vec::with_capacity(alloc, slots as usize).map_err(|_| Memory)?;
+        let queue = room_for(alloc, slots)?;
         let of_slots = all_of(alloc, 0, slots)?;
         let lengths = all_of(alloc, 0, slots)?;
         let homes = all_of(alloc, slots, blocks)?;
-        let joints = Vec::with_capacity(alloc, words as usize).map_err(|_| Memory)?;
+        let joints = Joints::new(alloc, words, blocks)?;
         let goals = all_of(alloc, 0, words)?;
         Ok(EngineRom {
             slots,
@@ -192,22 +201,20 @@ impl EngineRom {
         }
     }
 
-    // Makes a link an exit again.
-    fn undo<M: CacheRam>(&mut self, ram: &mut M, k: usize) -> Result<(), Failed>
-        requires k { k < length self.old.joints }
-        requires at { (j : Joint) → slice_get self.old.joints k ≡ Some j → j.at < self.old.slots * self.old.size }
+    // Makes the link at a word an exit again.
+    fn undo<M: CacheRam>(&mut self, ram: &mut M, at: u32) -> Result<(), Failed>
+        requires at { at < self.old.slots * self.old.size }
+        requires apart { Apart self.old.joints }
         requires fits { self.old.slots * self.old.size ≤ length (M.state ram.old).words }
         requires few { self.old.counts.unlinks < 2 ^ 60 }
-        ensures data { OnOk result (self.new ≡ undone_data self.old k) }
-        ensures set { OnOk result ((j : Joint) → slice_get self.old.joints k ≡ Some j →
-            OneSet j.at ebreak (M.state ram.old) (M.state ram.new)) }
+        ensures data { OnOk result ((k : ℕ) → LinkAt self.old.joints k at → self.new ≡ undone_data self.old k) }
+        ensures set { OnOk result (OneSet at ebreak (M.state ram.old) (M.state ram.new)) }
         ensures failed { OnErr result (FailedBelow (self.old.slots * self.old.size)
             (M.state ram.old) (M.state ram.new)) }
         ensures same { OnErr result (self.new ≡ self.old) }
     {
-        let at = self.joints[k].at;
         ram.set(at, EBREAK)?;
-        self.joints.remove(k);
+        self.joints.unlink(at);
         self.counts.unlinks += 1;
         Ok(())
     }
@@ -216,6 +223,7 @@ impl EngineRom {
     fn leave(&mut self, k: usize) -> u32
         requires k { k < length self.old.queue }
         requires once { Distinct self.old.queue }
+        requires owned { OwnsLinks self.old k }
         requires few { self.old.counts.evictions < 2 ^ 62 }
         ensures slot { result ≡ slice_index self.old.queue k }
         ensures data { self.new ≡ left_data self.old k }
@@ -223,7 +231,9 @@ impl EngineRom {
         let slot = self.queue.remove(k);
         let block = self.blocks[slot as usize];
         self.homes[block as usize] = self.slots;
-        drop_from(&mut self.joints, block);
+        let first = slot * self.size;
+        let length = self.lengths[slot as usize];
+        self.joints.unlink_all(first, length);
         self.counts.evictions += 1;
         slot
     }
@@ -236,15 +246,16 @@ impl EngineRom {
         block: u32,
     ) -> Result<(), Failed>
         requires stands { Standing self.old _image.now (M.state ram.old).words }
+        requires block { block < length self.old.homes }
         requires few { self.old.counts.unlinks + length self.old.joints < 2 ^ 60 }
         ensures cleared { OnOk result (Clearing _image.now block self.old self.new (M.state ram.old) (M.state ram.new)) }
-        ensures all { OnOk result (position_from (λ j. leads_in j block) 0 self.new.joints ≡ None) }
+        ensures all { OnOk result (NoneInto self.new.joints block) }
         ensures failed { OnErr result (FailedBelow (self.old.slots * self.old.size)
             (M.state ram.old) (M.state ram.new)) }
         ensures setting { setting_of self.new ≡ setting_of self.old }
     {
-        while let Some(k) = newest_into(&self.joints, block) {
-            self.undo(ram, k)?;
+        while let Some(at) = self.joints.newest_into(block) {
+            self.undo(ram, at)?;
         }
         Ok(())
     }
@@ -385,7 +396,8 @@ impl EngineRom {
         requires fits { self.old.slots * self.old.size ≤ length (M.state ram.old).words }
         requires reaches { IsTrue (reaches joint.at to) }
         requires links { self.old.counts.links < 2 ^ 60 }
-        requires room { length self.old.joints < self.old.slots * self.old.size }
+        requires into { joint.into < length self.old.homes }
+        requires free { NoJoint self.old joint.at }
         ensures linked { OnOk result (self.new ≡ linked_data self.old joint goal) }
         ensures set { OnOk result ((w : ℕ) × IsJump joint.at to w
             × OneSet joint.at w (M.state ram.old) (M.state ram.new)) }
@@ -394,9 +406,7 @@ impl EngineRom {
         ensures setting { setting_of self.new ≡ setting_of self.old }
     {
         ram.set(joint.at, jump(joint.at, to))?;
-        let Ok(()) = self.joints.insert(0, joint) else {
-            unreachable!()
-        };
+        self.joints.link(joint);
         self.goals[joint.at as usize] = goal;
         self.counts.links += 1;
         Ok(())
@@ -416,7 +426,8 @@ impl EngineRom {
         requires small { self.old.slots * self.old.size ≤ 2 ^ 21 }
         requires fits { self.old.slots * self.old.size ≤ length (M.state ram.old).words }
         requires links { self.old.counts.links < 2 ^ 60 }
-        requires room { length self.old.joints < self.old.slots * self.old.size }
+        requires into { joint.into < length self.old.homes }
+        requires free { NoJoint self.old joint.at }
         ensures linked { OnOk result (MaybeLinked self.old self.new (can_link self.old joint to) joint to goal
             (M.state ram.old) (M.state ram.new)) }
         ensures failed { OnErr result (FailedBelow (self.old.slots * self.old.size)
@@ -518,8 +529,8 @@ impl EngineRom {
             return Ok(false);
         };
         let victim = self.blocks[self.queue[k] as usize];
-        if let Some(j) = newest_into(&self.joints, victim) {
-            self.undo(ram, j)?;
+        if let Some(at) = self.joints.newest_into(victim) {
+            self.undo(ram, at)?;
             return Ok(true);
         }
         let slot = self.leave(k);

@@ -1,7 +1,7 @@
 -- The step of a system call.
 use Rattle.std.proofs.Common.{◌≡◌, refl, ℕ, Bool, true, false, if◌then◌else◌, List, ◌%◌, ◌/◌, ◌*◌, ◌==◌}
 use Rattle.swi_isa.specs.declared.instr.AtomicOp.{AtomicOp}
-use Rattle.swi_isa.specs.declared.instr.AtomicOp.TheVariants.{LrW, ScW, SwapW, AddW, XorW, AndW, OrW, MinW, MaxW, MinuW, MaxuW}
+use Rattle.swi_isa.specs.declared.instr.AtomicOp.TheVariants.{LrW, ScW}
 use Rattle.swi_isa.specs.declared.instr.Instr.{Instr}
 use Rattle.swi_isa.specs.declared.instr.Instr.TheVariants as instr
 use Rattle.swi_memory.specs.Bus.{AreaData, holds}
@@ -24,28 +24,15 @@ updates_no_call op rd a k p regs bus = if_no_call (lets_update bus a) _ _ (λ e.
 atomic_no_call : (op : AtomicOp) (rd rs1 rs2 p : ℕ) (regs : Registers) (bus : List AreaData) → (executed (instr.Atomic op rd rs1 rs2) p regs bus).done ≡ done.Call → ⊥
 atomic_no_call LrW rd rs1 rs2 p regs bus = if_no_call (lets_reserve bus (reg regs rs1)) _ _ (λ e. cc) (λ e. cc)
 atomic_no_call ScW rd rs1 rs2 p regs bus = if_no_call (lets_store_word bus (reg regs rs1)) _ _ (if_no_call (is_reserved regs (reg regs rs1)) _ _ (λ e. cc) (λ e. cc)) (λ e. cc)
-atomic_no_call SwapW rd rs1 rs2 p regs bus = updates_no_call SwapW rd (reg regs rs1) (reg regs rs2) p regs bus
-atomic_no_call AddW rd rs1 rs2 p regs bus = updates_no_call AddW rd (reg regs rs1) (reg regs rs2) p regs bus
-atomic_no_call XorW rd rs1 rs2 p regs bus = updates_no_call XorW rd (reg regs rs1) (reg regs rs2) p regs bus
-atomic_no_call AndW rd rs1 rs2 p regs bus = updates_no_call AndW rd (reg regs rs1) (reg regs rs2) p regs bus
-atomic_no_call OrW rd rs1 rs2 p regs bus = updates_no_call OrW rd (reg regs rs1) (reg regs rs2) p regs bus
-atomic_no_call MinW rd rs1 rs2 p regs bus = updates_no_call MinW rd (reg regs rs1) (reg regs rs2) p regs bus
-atomic_no_call MaxW rd rs1 rs2 p regs bus = updates_no_call MaxW rd (reg regs rs1) (reg regs rs2) p regs bus
-atomic_no_call MinuW rd rs1 rs2 p regs bus = updates_no_call MinuW rd (reg regs rs1) (reg regs rs2) p regs bus
-atomic_no_call MaxuW rd rs1 rs2 p regs bus = updates_no_call MaxuW rd (reg regs rs1) (reg regs rs2) p regs bus
+atomic_no_call op rd rs1 rs2 p regs bus = updates_no_call op rd (reg regs rs1) (reg regs rs2) p regs bus
 
 -- only ECALL asks for a system call
 pub call_is : (x : Instr) (p : ℕ) (regs : Registers) (bus : List AreaData) → (executed x p regs bus).done ≡ done.Call → x ≡ instr.Ecall
-call_is (instr.Lui rd imm) p regs bus e = cc
-call_is (instr.Auipc rd imm) p regs bus e = cc
 call_is (instr.Jal rd off) p regs bus e = absurd (jumps_no_call (sum_of p off) regs (with_reg regs rd (sum_of p 4)) bus e)
 call_is (instr.Jalr rd rs1 imm) p regs bus e = absurd (jumps_no_call (address_of regs rs1 imm / 2 * 2) regs (with_reg regs rd (sum_of p 4)) bus e)
 call_is (instr.Branch op rs1 rs2 off) p regs bus e = absurd (if_no_call (is_taken op (reg regs rs1) (reg regs rs2)) _ _ (jumps_no_call (sum_of p off) regs regs bus) (λ e. cc) e)
 call_is (instr.Load op rd rs1 imm) p regs bus e = absurd (if_no_call (holds bus Read (address_of regs rs1 imm) (load_size op)) _ _ (λ e. cc) (λ e. cc) e)
 call_is (instr.Store op rs1 rs2 imm) p regs bus e = absurd (if_no_call (holds bus Write (address_of regs rs1 imm) (store_size op)) _ _ (λ e. cc) (λ e. cc) e)
-call_is (instr.Alu op rd rs1 imm) p regs bus e = cc
-call_is (instr.Op op rd rs1 rs2) p regs bus e = cc
 call_is (instr.Atomic op rd rs1 rs2) p regs bus e = absurd (atomic_no_call op rd rs1 rs2 p regs bus e)
-call_is instr.Fence p regs bus e = cc
 call_is instr.Ecall p regs bus e = refl
-call_is instr.Ebreak p regs bus e = cc
+call_is x p regs bus e = cc

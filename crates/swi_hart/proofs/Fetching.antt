@@ -23,19 +23,8 @@ use Rattle.swi_hart.proofs.Table.{not_exit, is_break}
 use Rattle.swi_isa.specs.Laws.{ebreak_decodes}
 
 break_leaves : (x : Instr) → leaves x ≡ false → is_break x ≡ false
-break_leaves (instr.Lui rd imm) e = refl
-break_leaves (instr.Auipc rd imm) e = refl
-break_leaves (instr.Jal rd off) e = refl
-break_leaves (instr.Jalr rd rs1 imm) e = refl
-break_leaves (instr.Branch op rs1 rs2 off) e = refl
-break_leaves (instr.Load op rd rs1 imm) e = refl
-break_leaves (instr.Store op rs1 rs2 imm) e = refl
-break_leaves (instr.Alu op rd rs1 imm) e = refl
-break_leaves (instr.Op op rd rs1 rs2) e = refl
-break_leaves (instr.Atomic op rd rs1 rs2) e = refl
-break_leaves instr.Fence e = refl
-break_leaves instr.Ecall e = refl
 break_leaves instr.Ebreak e = e
+break_leaves x e = refl
 
 -- what stands under control
 pub home_stands : {v : ImageData} {r : Record} {m : Machine} {i b o : ℕ} {stage : Stage} → Home v r m i b o stage → StandsAt v r i (Some (b, o))

@@ -96,20 +96,10 @@ store_low x m = by (text_store_of x m.regs m.bus)
     by (Some a) = inl (λ e. cc)
 
 roles : (x : Option Instr) → ((first_role x ≡ Whole) ⊎ (first_role x ≡ Over)) ⊎ ((first_role x ≡ Lead Low) ⊎ (first_role x ≡ Lead Return))
-roles None = inl (inl refl)
-roles (Some (instr.Lui rd imm)) = inl (inl refl)
 roles (Some (instr.Auipc rd imm)) = inr (inl refl)
 roles (Some (instr.Jal rd off)) = inr (inr refl)
-roles (Some (instr.Jalr rd rs1 imm)) = inl (inl refl)
 roles (Some (instr.Branch op rs1 rs2 off)) = inl (inr refl)
-roles (Some (instr.Load op rd rs1 imm)) = inl (inl refl)
-roles (Some (instr.Store op rs1 rs2 imm)) = inl (inl refl)
-roles (Some (instr.Alu op rd rs1 imm)) = inl (inl refl)
-roles (Some (instr.Op op rd rs1 rs2)) = inl (inl refl)
-roles (Some (instr.Atomic op rd rs1 rs2)) = inl (inl refl)
-roles (Some instr.Fence) = inl (inl refl)
-roles (Some instr.Ecall) = inl (inl refl)
-roles (Some instr.Ebreak) = inl (inl refl)
+roles x = inl (inl refl)
 
 -- what one step of the board raises: the bound of machine steps by one, and that of the services where it served
 pub record Grows (v : ImageData) (m m' : Machine) (c c' : Control) (served : ℕ) : Type 0 where
@@ -228,19 +218,7 @@ module _ (v : ImageData) (m : Machine) (i b o : ℕ) (input : List ℕ) (running
       by : (q : Bool) → Jumps q v new s input (At i b o stage) m rd return (address_of m.regs rs1 imm / 2 * 2) → Grows v m s.made.machine (At i b o stage) s.control 1
       by true j = rw j.1 (went_case stage _ s.control new running refl j.0)
       by false j = rw j (fault_case stage _ (address_of m.regs rs1 imm / 2 * 2) (At i b o stage) 1)
-  jump_case stage s new None return j = absurd j
-  jump_case stage s new (Some (instr.Lui rd imm)) return j = absurd j
-  jump_case stage s new (Some (instr.Auipc rd imm)) return j = absurd j
-  jump_case stage s new (Some (instr.Jal rd off)) return j = absurd j
-  jump_case stage s new (Some (instr.Branch op rs1 rs2 off)) return j = absurd j
-  jump_case stage s new (Some (instr.Load op rd rs1 imm)) return j = absurd j
-  jump_case stage s new (Some (instr.Store op rs1 rs2 imm)) return j = absurd j
-  jump_case stage s new (Some (instr.Alu op rd rs1 imm)) return j = absurd j
-  jump_case stage s new (Some (instr.Op op rd rs1 rs2)) return j = absurd j
-  jump_case stage s new (Some (instr.Atomic op rd rs1 rs2)) return j = absurd j
-  jump_case stage s new (Some instr.Fence) return j = absurd j
-  jump_case stage s new (Some instr.Ecall) return j = absurd j
-  jump_case stage s new (Some instr.Ebreak) return j = absurd j
+  jump_case stage s new x return j = absurd j
 
   -- an exit
   pub exit_grows : (stage : Stage) (k : ExitKind) (s : Stepped) (new : Record) → ExitHome v m b o stage → ExitStep k v new m s input i b o stage → Grows v m s.made.machine (At i b o stage) s.control 1

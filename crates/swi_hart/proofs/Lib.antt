@@ -2,6 +2,7 @@ pub mod Table
 pub mod Advancing
 pub mod Own
 pub mod Standing
+pub mod Cases
 pub mod Stepping
 pub mod Midway
 pub mod Leaving

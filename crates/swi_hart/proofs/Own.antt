@@ -5,7 +5,7 @@ use Rattle.std.proofs.lemmas.List.{get_or-set_same, set_past}
 use Rattle.swi_isa.specs.declared.instr.BranchOp.{BranchOp}
 use Rattle.swi_isa.specs.declared.instr.BranchOp.TheVariants.{Beq, Bne, Blt, Bge, Bltu, Bgeu}
 use Rattle.swi_isa.specs.declared.instr.AtomicOp.{AtomicOp}
-use Rattle.swi_isa.specs.declared.instr.AtomicOp.TheVariants.{LrW, ScW, SwapW, AddW, XorW, AndW, OrW, MinW, MaxW, MinuW, MaxuW}
+use Rattle.swi_isa.specs.declared.instr.AtomicOp.TheVariants.{LrW, ScW}
 use Rattle.swi_isa.specs.declared.instr.Instr.{Instr}
 use Rattle.swi_isa.specs.declared.instr.Instr.TheVariants as instr
 use Rattle.swi_isa.specs.Decode.{decoded}
@@ -44,31 +44,19 @@ atomic_same : (op : AtomicOp) (rd rs1 rs2 p q : ℕ) (regs : Registers) (bus : L
     at_pc (sum_of q 4) (executed (instr.Atomic op rd rs1 rs2) p regs bus) ≡ executed (instr.Atomic op rd rs1 rs2) q regs bus
 atomic_same LrW rd rs1 rs2 p q regs bus = if_at (lets_reserve bus (reg regs rs1)) (sum_of q 4) _ _ _ _ refl refl
 atomic_same ScW rd rs1 rs2 p q regs bus = if_at (lets_store_word bus (reg regs rs1)) (sum_of q 4) _ _ _ _ (if_at (is_reserved regs (reg regs rs1)) (sum_of q 4) _ _ _ _ refl refl) refl
-atomic_same SwapW rd rs1 rs2 p q regs bus = updates_same SwapW rd (reg regs rs1) (reg regs rs2) p q regs bus
-atomic_same AddW rd rs1 rs2 p q regs bus = updates_same AddW rd (reg regs rs1) (reg regs rs2) p q regs bus
-atomic_same XorW rd rs1 rs2 p q regs bus = updates_same XorW rd (reg regs rs1) (reg regs rs2) p q regs bus
-atomic_same AndW rd rs1 rs2 p q regs bus = updates_same AndW rd (reg regs rs1) (reg regs rs2) p q regs bus
-atomic_same OrW rd rs1 rs2 p q regs bus = updates_same OrW rd (reg regs rs1) (reg regs rs2) p q regs bus
-atomic_same MinW rd rs1 rs2 p q regs bus = updates_same MinW rd (reg regs rs1) (reg regs rs2) p q regs bus
-atomic_same MaxW rd rs1 rs2 p q regs bus = updates_same MaxW rd (reg regs rs1) (reg regs rs2) p q regs bus
-atomic_same MinuW rd rs1 rs2 p q regs bus = updates_same MinuW rd (reg regs rs1) (reg regs rs2) p q regs bus
-atomic_same MaxuW rd rs1 rs2 p q regs bus = updates_same MaxuW rd (reg regs rs1) (reg regs rs2) p q regs bus
+atomic_same op rd rs1 rs2 p q regs bus = updates_same op rd (reg regs rs1) (reg regs rs2) p q regs bus
 
 -- it leaves the same wherever it is executed, but for where it goes on
 pub same_effect : (x : Instr) (p q : ℕ) (regs : Registers) (bus : List AreaData) → is_own x ≡ true → at_pc (sum_of q 4) (executed x p regs bus) ≡ executed x q regs bus
-same_effect (instr.Lui rd imm) p q regs bus own = refl
 same_effect (instr.Auipc rd imm) p q regs bus own = absurd (false≢true own)
 same_effect (instr.Jal rd off) p q regs bus own = absurd (false≢true own)
 same_effect (instr.Jalr rd rs1 imm) p q regs bus own = absurd (false≢true own)
 same_effect (instr.Branch op rs1 rs2 off) p q regs bus own = absurd (false≢true own)
+same_effect instr.Ebreak p q regs bus own = absurd (false≢true own)
 same_effect (instr.Load op rd rs1 imm) p q regs bus own = if_at (holds bus Read (address_of regs rs1 imm) (load_size op)) (sum_of q 4) _ _ _ _ refl refl
 same_effect (instr.Store op rs1 rs2 imm) p q regs bus own = if_at (holds bus Write (address_of regs rs1 imm) (store_size op)) (sum_of q 4) _ _ _ _ refl refl
-same_effect (instr.Alu op rd rs1 imm) p q regs bus own = refl
-same_effect (instr.Op op rd rs1 rs2) p q regs bus own = refl
 same_effect (instr.Atomic op rd rs1 rs2) p q regs bus own = atomic_same op rd rs1 rs2 p q regs bus
-same_effect instr.Fence p q regs bus own = refl
-same_effect instr.Ecall p q regs bus own = refl
-same_effect instr.Ebreak p q regs bus own = absurd (false≢true own)
+same_effect x p q regs bus own = refl
 
 -- where the run goes on, it is at the next pc
 pc_of_call : (m : Machine) (c : CallEffect) (x : Option ℕ) → (past_call (with_call m c) x).ending ≡ None → (past_call (with_call m c) x).pc ≡ sum_of m.pc 4

@@ -47,13 +47,4 @@ module _ (i b o : ℕ) (stage : Stage) (m : Machine) (running : m.ending ≡ Non
   plain_by Whole (instr.Op op rd rs1 rs2) plain = record { regs = _; step = λ input. ap (λ (e : Option End). stepped (behind e (At (i + 1) b (o + 1) Start) (At i b o stage)) (whole_made i m (instr.Op op rd rs1 rs2) input)) running }
   plain_by (Lead next) (instr.Op op rd rs1 rs2) plain = record { regs = _; step = λ input. refl }
   plain_by Over (instr.Op op rd rs1 rs2) plain = record { regs = _; step = λ input. ap (λ (t : Bool). over_by i b o (with_left m (executed (instr.Op op rd rs1 rs2) (4 * i) m.regs m.bus)) input t) (no_skip i) }
-  plain_by role (instr.Auipc rd imm) plain = absurd (false≢true plain)
-  plain_by role (instr.Jal rd off) plain = absurd (false≢true plain)
-  plain_by role (instr.Jalr rd rs1 imm) plain = absurd (false≢true plain)
-  plain_by role (instr.Branch op rs1 rs2 off) plain = absurd (false≢true plain)
-  plain_by role (instr.Load op rd rs1 imm) plain = absurd (false≢true plain)
-  plain_by role (instr.Store op rs1 rs2 imm) plain = absurd (false≢true plain)
-  plain_by role (instr.Atomic op rd rs1 rs2) plain = absurd (false≢true plain)
-  plain_by role instr.Fence plain = absurd (false≢true plain)
-  plain_by role instr.Ecall plain = absurd (false≢true plain)
-  plain_by role instr.Ebreak plain = absurd (false≢true plain)
+  plain_by role x plain = absurd (false≢true plain)

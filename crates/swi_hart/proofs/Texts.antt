@@ -2,7 +2,7 @@
 use Rattle.std.proofs.Common.{◌≡◌, ◌==◌, if◌then◌else◌, ℕ, ◌%◌, ◌/◌, ◌*◌, Bool, true, false, ◌&&◌, Some, None, List, refl, sym, ap, ◌∙◌, inl, inr}
 use Rattle.std.proofs.lemmas.Bool.{false≢true, cases_Bool}
 use Rattle.swi_isa.specs.declared.instr.AtomicOp.{AtomicOp}
-use Rattle.swi_isa.specs.declared.instr.AtomicOp.TheVariants.{LrW, ScW, SwapW, AddW, XorW, AndW, OrW, MinW, MaxW, MinuW, MaxuW}
+use Rattle.swi_isa.specs.declared.instr.AtomicOp.TheVariants.{LrW, ScW}
 use Rattle.swi_isa.specs.declared.instr.Instr.{Instr}
 use Rattle.swi_isa.specs.declared.instr.Instr.TheVariants as instr
 use Rattle.swi_memory.specs.Bus.{AreaData, holds, fetched, touches_text, number_at}
@@ -42,20 +42,10 @@ module _ (x : ℕ) (regs : Registers) (bus : List AreaData) where
       (λ may. if_text x bus (is_reserved regs (reg regs rs1)) _ _
       (λ has. fetched_stored bus (reg regs rs1) 4 (reg regs rs2) x (untouched bus (lets_store_word bus (reg regs rs1) && is_reserved regs (reg regs rs1)) (reg regs rs1) 4 none (both_true _ _ may has))) (λ e. refl))
       (λ e. refl)
-  atomic_text SwapW rd rs1 rs2 p none = updates_text SwapW rd (reg regs rs1) (reg regs rs2) p none
-  atomic_text AddW rd rs1 rs2 p none = updates_text AddW rd (reg regs rs1) (reg regs rs2) p none
-  atomic_text XorW rd rs1 rs2 p none = updates_text XorW rd (reg regs rs1) (reg regs rs2) p none
-  atomic_text AndW rd rs1 rs2 p none = updates_text AndW rd (reg regs rs1) (reg regs rs2) p none
-  atomic_text OrW rd rs1 rs2 p none = updates_text OrW rd (reg regs rs1) (reg regs rs2) p none
-  atomic_text MinW rd rs1 rs2 p none = updates_text MinW rd (reg regs rs1) (reg regs rs2) p none
-  atomic_text MaxW rd rs1 rs2 p none = updates_text MaxW rd (reg regs rs1) (reg regs rs2) p none
-  atomic_text MinuW rd rs1 rs2 p none = updates_text MinuW rd (reg regs rs1) (reg regs rs2) p none
-  atomic_text MaxuW rd rs1 rs2 p none = updates_text MaxuW rd (reg regs rs1) (reg regs rs2) p none
+  atomic_text op rd rs1 rs2 p none = updates_text op rd (reg regs rs1) (reg regs rs2) p none
 
   -- an instruction that would not store into the text leaves what is fetched
   pub executed_text : (i : Instr) (p : ℕ) → text_store_of i regs bus ≡ None → fetched (executed i p regs bus).bus x ≡ fetched bus x
-  executed_text (instr.Lui rd imm) p none = refl
-  executed_text (instr.Auipc rd imm) p none = refl
   executed_text (instr.Jal rd off) p none = if_text x bus (sum_of p off % 4 == 0) _ _ (λ e. refl) (λ e. refl)
   executed_text (instr.Jalr rd rs1 imm) p none = if_text x bus (address_of regs rs1 imm / 2 * 2 % 4 == 0) _ _ (λ e. refl) (λ e. refl)
   executed_text (instr.Branch op rs1 rs2 off) p none = if_text x bus (is_taken op (reg regs rs1) (reg regs rs2)) _ _ (λ e. if_text x bus (sum_of p off % 4 == 0) _ _ (λ e. refl) (λ e. refl)) (λ e. refl)
@@ -63,9 +53,5 @@ module _ (x : ℕ) (regs : Registers) (bus : List AreaData) where
   executed_text (instr.Store op rs1 rs2 imm) p none =
       if_text x bus (holds bus Write (address_of regs rs1 imm) (store_size op)) _ _
       (λ may. fetched_stored bus (address_of regs rs1 imm) (store_size op) (reg regs rs2) x (untouched bus (holds bus Write (address_of regs rs1 imm) (store_size op)) (address_of regs rs1 imm) (store_size op) none may)) (λ e. refl)
-  executed_text (instr.Alu op rd rs1 imm) p none = refl
-  executed_text (instr.Op op rd rs1 rs2) p none = refl
   executed_text (instr.Atomic op rd rs1 rs2) p none = atomic_text op rd rs1 rs2 p none
-  executed_text instr.Fence p none = refl
-  executed_text instr.Ecall p none = refl
-  executed_text instr.Ebreak p none = refl
+  executed_text i p none = refl

@@ -23,8 +23,9 @@ depth v m (At i b o Return) = 2
 depth v m (At i b o Leave) = 3
 depth v m Outside = 1
 
--- A bound of the machine steps, which rises with each of them by one at least: three for each step, and what the next has taken.
--- A stop before a store into the text costs one that is no step.
+-- A bound of the machine steps, which each of them raises by one at least. While the run goes on it is three for each step, and how far
+-- control is in what stands for the next instruction. Where the run has ended it is three for each step and one more, and two more
+-- before a store into the text, which is no step.
 abbrev pub most_by : Option End → ImageData → Machine → Control → ℕ
 most_by None v m c = 3 * m.steps + depth v m c
 most_by (Some (end.Exited code)) v m c = 3 * m.steps + 1

@@ -1,5 +1,5 @@
 -- The boot comes to the first event.
-use Rattle.std.proofs.Common.{◌≡◌, ◌&&◌, is_some, if◌then◌else◌, ℕ, ◌+◌, ◌-◌, List, Option, Some, None, sym, ap, subst, ◌∙◌, arith}
+use Rattle.std.proofs.Common.{◌≡◌, ◌&&◌, is_some, if◌then◌else◌, ℕ, ◌+◌, ◌-◌, List, Option, Some, None, sym, ap, subst, ◌∙◌, zero-add, arith}
 use Rattle.swi_outside.specs.Causes.{risen}
 use Rattle.swi_outside.specs.CacheRam.{RamState}
 use Rattle.swi_outside.specs.Devices.{Devices}
@@ -25,9 +25,6 @@ use Rattle.swi_prefetch.proofs.Tracks.{with_devices}
 risen_none : (n : ℕ) → n ≡ risen n 0
 risen_none n = grind arith
 
-from_none : (n : ℕ) → n ≡ 0 + n
-from_none n = omega arith
-
 pub begins : (v : ImageData) (m : Machine) (bytes : ℕ) (before : RamState) (b : BoardWithRam EngineData) → m.ending ≡ None → BootedOn v (unbooted m) (empty_for bytes v) before b →
     kept_by b.rom ≡ beside (setting_of (empty_for bytes v)) (kept_by (empty_for bytes v)) v (indirect m.pc) →
     (d : Devices) (left : List ℕ) → d.input.left ≡ Some left → Tracks v (booted (setting_of (empty_for bytes v)) v m left) (record { ram = before; devices = d }) (with_devices b d)
@@ -36,7 +33,7 @@ begins v m bytes before b going on kept d left input =
     let same : b.hart.machine ≡ m = ap (λ (h : HartData). h.machine) e.hart in
     let running : b.hart.machine.ending ≡ None = ap (λ (x : Machine). x.ending) same ∙ going in
     let sets : writes (kept_by b.rom) - writes (kept_by (empty_for bytes v)) ≡ 0 + (writes (beside (setting_of (empty_for bytes v)) empty_beside v (indirect m.pc)) - writes empty_beside) =
-    ap (λ (r : Record). writes r - writes empty_beside) kept ∙ from_none (writes (beside (setting_of (empty_for bytes v)) empty_beside v (indirect m.pc)) - writes empty_beside) in
+    ap (λ (r : Record). writes r - writes empty_beside) kept ∙ sym (zero-add (writes (beside (setting_of (empty_for bytes v)) empty_beside v (indirect m.pc)) - writes empty_beside)) in
     record {
       image = subst (λ (x : Machine). Carries (fetched x.bus) v) same e.fits.image;
       matches = e.matches;

@@ -5,3 +5,5 @@ pub mod Working
 pub mod Beginning
 pub mod Leading
 pub mod Rounds
+pub mod Quiet
+pub mod RunLaws

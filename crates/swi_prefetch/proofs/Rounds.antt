@@ -1,53 +1,48 @@
 -- Events in a row, round by round.
-use Rattle.std.proofs.Common.{◌≡◌, ◌⊎◌, ℕ, zero, suc, ◌+◌, ◌-◌, ◌*◌, ◌^◌, ◌<◌, ◌≤◌, not, ◌&&◌, nat_lt, Bool, true, false, List, [], ◌∷◌, ◌++◌, length, replicate, Option, Some, None, is_some, Result, Ok, Err, IsErrOf, refl, sym, ap, subst, ◌∙◌, inl, inr, arith}
-use Rattle.std.proofs.lemmas.List.{length-append, length-replicate, replicate_more}
+use Rattle.std.proofs.Common.{◌≡◌, ◌⊎◌, ℕ, zero, suc, ◌+◌, ◌-◌, ◌*◌, ◌^◌, ◌<◌, ◌≤◌, not, ◌&&◌, nat_lt, Bool, true, false, List, [], ◌∷◌, ◌++◌, length, replicate, Option, Some, None, is_some, Result, Ok, Err, IsErrOf, refl, sym, ap, subst, ◌∙◌, inl, inr, append-nil, arith}
+use Rattle.std.proofs.lemmas.List.{append_assoc, length-append, length-replicate, replicate_more}
 use Rattle.std.proofs.lemmas.Bool.{ltb-true, false≢true}
 use Rattle.swi_outside.specs.Devices.{Devices, HasCauses, faults_of}
 use Rattle.swi_outside.specs.Causes.{DeviceCause}
-use Rattle.swi_outside.specs.CacheRam.{RamState}
+use Rattle.swi_outside.specs.CacheRam.{KeepsBeyond, RamState}
 use Rattle.swi_outside.specs.Laws.{cause_from, causes_from, no_cause, none_named, ok_causes, ok_unmoved}
 use Rattle.swi_calls.specs.declared.end.End.{End}
 use Rattle.swi_image.specs.Format.{ImageData}
 use Rattle.swi_rom.specs.Record.{Record, Transfer}
 use Rattle.swi_hart.specs.Bounds.{depth, most, most_by}
 use Rattle.swi_hart.specs.Hart.{HartData}
-use Rattle.swi_hart.specs.MachineStep.{BoardWithRam}
-use Rattle.swi_hart.specs.Leaving.{moved, transfer_at}
+use Rattle.swi_hart.specs.MachineStep.{BoardStepped, BoardWithRam}
+use Rattle.swi_hart.specs.Leaving.{indexes_after, moved, transfer_at}
 use Rattle.swi_hart.specs.declared.fault.BoardFault.{BoardFault}
 use Rattle.swi_hart.specs.declared.fault.BoardFault.TheVariants.{RamFault, SinkFault, SourceFault}
 use Rattle.swi_board.specs.Board.{BoardOf}
+use Rattle.swi_board.specs.Fetching.{FetchedFront, HasFetched}
 use Rattle.swi_board.proofs.Held.{same_steps}
-use Rattle.swi_engine.specs.Engine.{Event, beside, engine_words, event}
+use Rattle.swi_board.proofs.Running.{kept_both}
+use Rattle.swi_rom.specs.Rams.{wrote_one}
+use Rattle.swi_engine.specs.Engine.{Event, beside, engine_words, event, span_of}
+use Rattle.swi_engine.specs.Service.{engine_service}
 use Rattle.swi_engine.specs.State.{EngineData, kept_by, setting_of}
 use Rattle.swi_engine.specs.Worked.{GoesTo}
 use Rattle.swi_rom.specs.Service.{Setting}
 use Rattle.swi_turn.specs.Laws.{engine_laws}
-use Rattle.swi_prefetch.specs.Laws.{led_more, led_none, most_any}
-use Rattle.swi_prefetch.specs.Moments.{Moment, Turn, of_hart, of_engine, round, rounds, turned_all}
-use Rattle.swi_prefetch.specs.Prefetching.{EngineEvent, GivenUp, HartEvent, OfBoards, PrefetchState, StepsFew, TakesTurns, WordsFew}
-use Rattle.swi_prefetch.specs.Running.{AheadFailed, BrokeIn, CameOn, GoesOn, OfBoard, RanTo, Rises, RoundRises, RunBroke, SameHart, StepsUpTo, Whole, WordsUpTo, goes_below, whole}
+use Rattle.swi_turn.specs.Turns.{Beside, HartTurned}
+use Rattle.swi_prefetch.specs.Laws.{fetched_both, led_more, led_none, most_any, words_turned_more}
+use Rattle.swi_prefetch.specs.Moments.{Moment, Turn, of_hart, of_engine, round, rounds, turn_words, turned, turned_all, words_turned}
+use Rattle.swi_prefetch.specs.Prefetching.{EngineEvent, GivenUp, HartEvent, OfBoards, PcShort, PrefetchState, StepsFew, TakesTurns, WordsFew, with_ram}
+use Rattle.swi_prefetch.specs.Running.{AheadFailed, BrokeIn, CameOn, GoesOn, KeepsBehind, OfBoard, RanTo, Rises, RoundRises, RunBroke, SameHart, StepsUpTo, Whole, WordsUpTo, goes_below, whole}
 use Rattle.swi_prefetch.specs.Tracking.{Around, Leads, Tracks, board_around}
+use Rattle.swi_prefetch.proofs.Tracks.{with_devices, word_fetched}
 
 abbrev pub state_of : Whole → PrefetchState
 state_of w = record { board = w.board; ram = w.around.ram }
 
 -- ---- lists of events
 
-length_one : {X : Type 0} (x : X) → length (x ∷ []) ≡ 1
-length_one x = refl
-
-append_assoc : {X : Type 0} (xs ys zs : List X) → (xs ++ ys) ++ zs ≡ xs ++ (ys ++ zs)
-append_assoc [] ys zs = refl
-append_assoc (x ∷ xs) ys zs = ap (λ (l : List _). x ∷ l) (append_assoc xs ys zs)
-
-append_none : {X : Type 0} (xs : List X) → xs ++ [] ≡ xs
-append_none [] = refl
-append_none (x ∷ xs) = ap (λ (l : List _). x ∷ l) (append_none xs)
-
 -- one round more
-rounds_suc : (rate k : ℕ) → rounds rate (suc k) ≡ rounds rate k ++ round rate
+pub rounds_suc : (rate k : ℕ) → rounds rate (suc k) ≡ rounds rate k ++ round rate
 unfolding rounds
-rounds_suc rate zero = append_none (round rate)
+rounds_suc rate zero = append-nil (round rate)
 rounds_suc rate (suc k) = ap (λ (l : List Turn). round rate ++ l) (rounds_suc rate k) ∙ sym (append_assoc (round rate) (rounds rate k) (round rate))
 
 pub rounds_more : (rate k : ℕ) → rounds rate (k + 1) ≡ rounds rate k ++ round rate
@@ -55,12 +50,15 @@ rounds_more rate k = let next : k + 1 ≡ suc k = omega arith in ap (λ (n : ℕ
 
 -- ---- events in a row
 
+keeps_all : (n : ℕ) (r : RamState) → KeepsBeyond n r r
+keeps_all n r = record { same_length = refl; beyond = λ i h. refl; reached = omega arith }
+
 pub came_none : (v : ImageData) (w : Whole) → TakesTurns v w.board w.around.ram → CameOn v [] w w
 came_none v w turns = by w.board turns
   where
     by : (o : Option (BoardOf EngineData)) → TakesTurns v o w.around.ram → CameOn v [] (whole o w.around) (whole o w.around)
     by None t = absurd t
-    by (Some b) t = record { led = led_none v (board_around b w.around); turns = t; words = omega arith; quiet = refl; ram_quiet = refl }
+    by (Some b) t = record { led = led_none v (board_around b w.around); turns = t; words = omega arith; quiet = refl; ram_quiet = refl; kept = keeps_all (span_of (setting_of b.rom)) w.around.ram }
 
 leads_more : (v : ImageData) (ts us : List Turn) (oa ob oc : Option (BoardOf EngineData)) (x y z : Around) → Leads v ts oa ob x y → Leads v us ob oc y z → Leads v (ts ++ us) oa oc x z
 leads_more v ts us None ob oc x y z one two = absurd one
@@ -75,6 +73,12 @@ words_more m n k (Some a) None oc sum one two = absurd one
 words_more m n k (Some a) (Some b) None sum one two = absurd two
 words_more m n k (Some a) (Some b) (Some c) sum one two = omega (arith, sum, one, two)
 
+keeps_more : (v : ImageData) (ts : List Turn) (oa ob : Option (BoardOf EngineData)) (x y z : Around) → Leads v ts oa ob x y → KeepsBehind oa x.ram y.ram → KeepsBehind ob y.ram z.ram → KeepsBehind oa x.ram z.ram
+keeps_more v ts None ob x y z led one two = absurd led
+keeps_more v ts (Some a) None x y z led one two = absurd led
+keeps_more v ts (Some a) (Some b) x y z led one two =
+    kept_both (span_of (setting_of a.rom)) x.ram y.ram z.ram one (subst (λ (s : Setting). KeepsBeyond (span_of s) y.ram z.ram) led.setting two)
+
 pub came_more : (v : ImageData) (ts us : List Turn) (a b c : Whole) → CameOn v ts a b → CameOn v us b c → CameOn v (ts ++ us) a c
 came_more v ts us a b c one two = record {
   led = leads_more v ts us a.board b.board c.board a.around b.around c.around one.led two.led;
@@ -82,6 +86,7 @@ came_more v ts us a b c one two = record {
   words = words_more (length ts) (length us) (length (ts ++ us)) a.board b.board c.board (length-append ts us) one.words two.words;
   quiet = two.quiet ∙ one.quiet;
   ram_quiet = two.ram_quiet ∙ one.ram_quiet;
+  kept = keeps_more v ts a.board b.board a.around b.around c.around one.led one.kept two.kept;
 }
 
 moved_words : (by : Setting) (v : ImageData) (r new : Record) (t : Option Transfer) → new ≡ moved (beside by) r v t → engine_words new ≡ engine_words r
@@ -102,7 +107,7 @@ hart_came v old new u event leads = by old.board new.board event leads
         by_ending None running =
             let step = event.stepped running in
             let same = moved_words (setting_of a.rom) v (kept_by a.rom) (kept_by b.rom) (transfer_at v a.hart.machine a.hart.control) step.policy in
-            record { led = leads; turns = event.beside; words = omega (arith, same); quiet = ok_unmoved step.causes; ram_quiet = step.ram.quiet }
+            record { led = leads; turns = event.beside; words = omega (arith, same); quiet = ok_unmoved step.causes; ram_quiet = step.ram.quiet; kept = step.kept }
         by_ending (Some x) ended =
             let stays = event.ended x ended in
             let same : engine_words (kept_by b.rom) ≡ engine_words (kept_by a.rom) = ap (λ (k : BoardWithRam EngineData). engine_words (kept_by k.rom)) stays.1 in
@@ -112,6 +117,8 @@ hart_came v old new u event leads = by old.board new.board event leads
               words = omega (arith, same);
               quiet = ap (λ (d : Devices). faults_of d) stays.2;
               ram_quiet = ap (λ (k : BoardWithRam EngineData). k.ram.faults) stays.1;
+              kept = subst (λ (r : RamState). KeepsBeyond (span_of (setting_of a.rom)) old.around.ram r) (sym (ap (λ (k : BoardWithRam EngineData). k.ram) stays.1))
+                  (keeps_all (span_of (setting_of a.rom)) old.around.ram);
             }
 
 pub hart_rises : (v : ImageData) (old new : Whole) (u : Unit {0}) → TakesTurns v old.board old.around.ram → HartEvent v (state_of old) (state_of new) old.around.devices new.around.devices (Ok u) → RoundRises v old.board new.board
@@ -132,6 +139,12 @@ goes_quiet : (o : Option Event) (wrote : Bool) (span : ℕ) (r new : Record) (be
 goes_quiet None wrote span r new before after goes = ap (λ (k : RamState). k.faults) goes.2
 goes_quiet (Some e) wrote span r new before after goes = ap (λ (k : RamState). k.faults) goes.3
 
+goes_kept : (o : Option Event) (wrote : Bool) (span : ℕ) (r new : Record) (before after : RamState) → GoesTo o wrote span r new before after → KeepsBeyond span before after
+goes_kept None wrote span r new before after goes = subst (λ (k : RamState). KeepsBeyond span before k) (sym goes.2) (keeps_all span before)
+goes_kept (Some e) wrote span r new before after goes =
+    let wrote_it = wrote_one span e.at e.word before after goes.2 goes.3 in
+    record { same_length = wrote_it.spared.length_stays; beyond = wrote_it.spared.beyond; reached = wrote_it.spared.reached }
+
 pub engine_came : (v : ImageData) (old new : Whole) (wrote : Bool) → EngineEvent {E = BoardFault} v (state_of old) (state_of new) (Ok wrote) → new.around.devices ≡ old.around.devices → Leads v (of_engine ∷ []) old.board new.board old.around new.around →
     CameOn v (of_engine ∷ []) old new × SameHart old.board new.board
 engine_came v old new wrote event same leads = by old.board new.board event leads
@@ -147,6 +160,7 @@ engine_came v old new wrote event same leads = by old.board new.board event lead
         words = event.words_few;
         quiet = ap (λ (d : Devices). faults_of d) same;
         ram_quiet = goes_quiet _ wrote _ _ _ old.around.ram new.around.ram event.moves;
+        kept = goes_kept _ wrote _ _ _ old.around.ram new.around.ram event.moves;
       },
       event.hart,
     )
@@ -208,8 +222,8 @@ hart_few v old new came most = by old.board new.board came.words most
     by (Some a) None few most = absurd few
     by (Some a) (Some b) few most = omega (arith, few, most)
 
-pub hart_broke : (v : ImageData) (rate : ℕ) (old new : Whole) (result : Result Unit BoardFault) → TakesTurns v old.board old.around.ram → HartEvent v (state_of old) (state_of new) old.around.devices new.around.devices result → BrokeIn v [] rate old new result
-hart_broke v rate old new result turns event = inl (record { mid = old; came = came_none v old turns; broke = event })
+pub hart_broke : (v : ImageData) (rate : ℕ) (old new : Whole) (result : Result Unit BoardFault) → TakesTurns v old.board old.around.ram → PcShort old.board → HartEvent v (state_of old) (state_of new) old.around.devices new.around.devices result → BrokeIn v [] rate old new result
+hart_broke v rate old new result turns short event = inl (record { mid = old; came = came_none v old turns; short = short; broke = event })
 
 pub engine_broke : (v : ImageData) (rate : ℕ) (w0 w1 w2 : Whole) → CameOn v (of_hart ∷ []) w0 w1 → AheadFailed v rate w1 w2 → BrokeIn v [] rate w0 w2 (Err RamFault)
 engine_broke v rate w0 w1 w2 one ahead = inr (record {
@@ -258,7 +272,7 @@ ending_none (Some x) e = absurd (false≢true (sym e))
 pub goes_is : (limit : ℕ) (b : BoardOf EngineData) → goes_below limit (Some b) ≡ true → (b.hart.machine.ending ≡ None) × (b.hart.machine.steps < limit)
 goes_is limit b e = let p = going_parts (is_some b.hart.machine.ending) (nat_lt b.hart.machine.steps limit) e in (ending_none b.hart.machine.ending p.0, ltb-true b.hart.machine.steps limit p.1)
 
-goes_at : (v : ImageData) (limit : ℕ) (s : Moment) (before : Around) (b : BoardOf EngineData) (around : Around) → goes_below limit (Some b) ≡ true → Tracks v s before (board_around b around) → GoesOn limit s
+pub goes_at : (v : ImageData) (limit : ℕ) (s : Moment) (before : Around) (b : BoardOf EngineData) (around : Around) → goes_below limit (Some b) ≡ true → Tracks v s before (board_around b around) → GoesOn limit s
 goes_at v limit s before b around goes at =
     let g = goes_is limit b goes in
     let same = same_steps v (kept_by b.rom) s.flat.machine b.hart.machine b.hart.control at.matches in
@@ -293,23 +307,27 @@ module _ (v : ImageData) (limit rate : ℕ) (w0 w1 w2 : Whole) (on : RunsOn v li
       let up = (rises g.0).most in
       omega (arith, few, one, two, up)
 
+  least : (j n : ℕ) → j < n + 1 → (j < n) ⊎ (j ≡ n)
+  least j n lt = grind arith
+
+  by_last : (j : ℕ) → (j < on.made) ⊎ (j ≡ on.made) → OfBoard w0.board (λ b. (s : Moment) → (before : Around) → Tracks v s before (board_around b w0.around) →
+      GoesOn limit (turned_all (setting_of b.rom) v (rounds rate j) s))
+  by_last j (inl lt) = on.going j lt
+  by_last j (inr is) = going_more w0.board w1.board goes on.came.led j is
+
+  pub going_up : (j : ℕ) → j < on.made + 1 → OfBoard w0.board (λ b. (s : Moment) → (before : Around) → Tracks v s before (board_around b w0.around) →
+      GoesOn limit (turned_all (setting_of b.rom) v (rounds rate j) s))
+  going_up j lt = by_last j (least j on.made lt)
+
   pub runs_more : rate ≤ 1024 → CameOn v (round rate) w1 w2 → RoundRises v w1.board w2.board → RunsOn v limit rate w0 w2
   runs_more few came rises = record {
     made = on.made + 1;
     came = subst (λ (ts : List Turn). CameOn v ts w0 w2) (sym (rounds_more rate on.made)) (came_more v (rounds rate on.made) (round rate) w0 w1 w2 on.came came);
-    going = λ j lt. by_last j (least j on.made lt);
+    going = going_up;
     steps = steps_more w1.board w2.board goes rises;
     words = words_on (length (round rate)) w0.board w1.board w2.board long goes rises on.words came.words;
   }
     where
-      least : (j n : ℕ) → j < n + 1 → (j < n) ⊎ (j ≡ n)
-      least j n lt = grind arith
-
-      by_last : (j : ℕ) → (j < on.made) ⊎ (j ≡ on.made) → OfBoard w0.board (λ b. (s : Moment) → (before : Around) → Tracks v s before (board_around b w0.around) →
-          GoesOn limit (turned_all (setting_of b.rom) v (rounds rate j) s))
-      by_last j (inl lt) = on.going j lt
-      by_last j (inr is) = going_more w0.board w1.board goes on.came.led j is
-
       long : length (round rate) ≤ 1025
       long = let many = length-replicate rate of_engine in omega (arith, many, few)
 
@@ -345,27 +363,116 @@ module _ (v : ImageData) (limit rate : ℕ) (w0 w1 : Whole) (on : RunsOn v limit
 pub runs_to : (v : ImageData) (limit rate : ℕ) (w0 w1 : Whole) → RunsOn v limit rate w0 w1 → goes_below limit w1.board ≡ false → RanTo v limit rate w0 w1
 runs_to v limit rate w0 w1 on over = record { made = on.made; came = on.came; going = on.going; done = over }
 
-pub run_broke : (v : ImageData) (limit rate : ℕ) (w0 w1 w2 : Whole) (result : Result Unit BoardFault) → RunsOn v limit rate w0 w1 → BrokeIn v [] rate w1 w2 result → RunBroke v rate w0 w2 result
-run_broke v limit rate w0 w1 w2 result on (inl hart) = record {
+-- ---- the words of a round that a device broke off
+
+-- the engine fetches none
+engines_none : (by : Setting) (v : ImageData) (n : ℕ) (s : Moment) → words_turned by v (replicate n of_engine) s ≡ []
+unfolding words_turned
+engines_none by v zero s = refl
+engines_none by v (suc n) s = engines_none by v n (turned by v of_engine s)
+
+round_words : (by : Setting) (v : ImageData) (rate : ℕ) (s : Moment) → words_turned by v (round rate) s ≡ turn_words of_hart s
+unfolding words_turned
+round_words by v rate s = ap (λ (l : List ℕ). turn_words of_hart s ++ l) (engines_none by v rate (turned by v of_hart s)) ∙ append-nil (turn_words of_hart s)
+
+part_words : (by : Setting) (v : ImageData) (rate made k : ℕ) (s : Moment) →
+    words_turned by v (rounds rate made ++ round k) s ≡ words_turned by v (rounds rate made) s ++ turn_words of_hart (turned_all by v (rounds rate made) s)
+part_words by v rate made k s =
+    words_turned_more by v (rounds rate made) (round k) s
+    ∙ ap (λ (l : List ℕ). words_turned by v (rounds rate made) s ++ l) (round_words by v k (turned_all by v (rounds rate made) s))
+
+all_words : (by : Setting) (v : ImageData) (rate made : ℕ) (s : Moment) →
+    words_turned by v (rounds rate (made + 1)) s ≡ words_turned by v (rounds rate made) s ++ turn_words of_hart (turned_all by v (rounds rate made) s)
+all_words by v rate made s = ap (λ (ts : List Turn). words_turned by v ts s) (rounds_more rate made) ∙ part_words by v rate made rate s
+
+front_first : (xs ys : List ℕ) (a b : RamState) → HasFetched xs a b → FetchedFront (xs ++ ys) a b
+front_first xs ys a b are = (ys, record { fetched = xs; are = are; front = refl })
+
+front_all : (xs : List ℕ) (a b : RamState) → HasFetched xs a b → FetchedFront xs a b
+front_all xs a b are = ([], record { fetched = xs; are = are; front = append-nil xs })
+
+-- the hart's event has fetched its word, or none
+hart_front : (v : ImageData) (s : Moment) (before : Around) (a b : BoardWithRam EngineData) (d d' : Devices) (result : Result Unit BoardFault) → Beside engine_service v a → HartTurned engine_service v a b d d' result →
+    Tracks v s before (with_devices a d) → (b.ram.fetched_at ≡ a.ram.fetched_at) ⊎ HasFetched (turn_words of_hart s) a.ram b.ram
+hart_front v s before a b d d' result was turn at = by a.hart.machine.ending refl
+  where
+    word : a.hart.machine.ending ≡ None → b.ram.fetched_at ≡ indexes_after a.hart.control a.ram.fetched_at → HasFetched (turn_words of_hart s) a.ram b.ram
+    word running more = word_fetched v s before a d was.sound at running b.ram more
+
+    stepped : (r : Result Unit BoardFault) → a.hart.machine.ending ≡ None → BoardStepped engine_service v a b d d' r → (b.ram.fetched_at ≡ a.ram.fetched_at) ⊎ HasFetched (turn_words of_hart s) a.ram b.ram
+    stepped (Ok u) running step = inr (word running step.ram.fetched_at)
+    stepped (Err RamFault) running step =
+        let failed = step.ram_failed refl in
+        elim failed.asked [
+          | inl none ↦ inl (ap (λ (k : RamState). k.fetched_at) none)
+          | inr made ↦ inr (word running made.0.1)
+        ]
+    stepped (Err SourceFault) running step = inr (word running step.unserved.1.fetched_at)
+    stepped (Err SinkFault) running step = inr (word running step.unserved.1.fetched_at)
+
+    by : (e : Option End) → a.hart.machine.ending ≡ e → (b.ram.fetched_at ≡ a.ram.fetched_at) ⊎ HasFetched (turn_words of_hart s) a.ram b.ram
+    by None running = stepped result running (turn.stepped running)
+    by (Some x) ended = inl (ap (λ (k : BoardWithRam EngineData). k.ram.fetched_at) (turn.ended x ended).1)
+
+broke_words : (v : ImageData) (rate made : ℕ) (w0 w2 : Whole) (result : Result Unit BoardFault) → BrokeIn v (rounds rate made) rate w0 w2 result →
+    OfBoard w0.board (λ b. (s : Moment) → (before : Around) → Tracks v s before (board_around b w0.around) →
+    FetchedFront (words_turned (setting_of b.rom) v (rounds rate (made + 1)) s) w0.around.ram w2.around.ram)
+broke_words v rate made w0 w2 result (inl hart) = by w0.board hart.mid.board w2.board hart.came.led hart.came.turns hart.broke
+  where
+    by : (o m n : Option (BoardOf EngineData)) → Leads v (rounds rate made) o m w0.around hart.mid.around → TakesTurns v m hart.mid.around.ram →
+        HartEvent v (record { board = m; ram = hart.mid.around.ram }) (record { board = n; ram = w2.around.ram }) hart.mid.around.devices w2.around.devices result →
+        OfBoard o (λ b. (s : Moment) → (before : Around) → Tracks v s before (board_around b w0.around) →
+        FetchedFront (words_turned (setting_of b.rom) v (rounds rate (made + 1)) s) w0.around.ram w2.around.ram)
+    by None m n led turns event = absurd led
+    by (Some a) None n led turns event = absurd led
+    by (Some a) (Some b) None led turns event = absurd event
+    by (Some a) (Some b) (Some c) led turns event = λ s before at.
+        let now : Moment = turned_all (setting_of a.rom) v (rounds rate made) s in
+        let xs : List ℕ = words_turned (setting_of a.rom) v (rounds rate made) s in
+        let ys : List ℕ = turn_words of_hart (turned_all (setting_of a.rom) v (rounds rate made) s) in
+        subst (λ (l : List ℕ). FetchedFront l w0.around.ram w2.around.ram) (sym (all_words (setting_of a.rom) v rate made s))
+        (elim (hart_front v now before (with_ram b hart.mid.around.ram) (with_ram c w2.around.ram) hart.mid.around.devices w2.around.devices result turns event (led.tracks s before at)) [
+          | inl none ↦ front_first xs ys w0.around.ram w2.around.ram (none ∙ led.words s before at)
+          | inr one ↦ front_all (xs ++ ys) w0.around.ram w2.around.ram (fetched_both xs ys w0.around.ram hart.mid.around.ram w2.around.ram (led.words s before at) one)
+        ])
+broke_words v rate made w0 w2 result (inr engine) = by w0.board engine.mid.board engine.came.led engine.failed
+  where
+    by : (o m : Option (BoardOf EngineData)) → Leads v (rounds rate made ++ round engine.made) o m w0.around engine.mid.around → GivenUp m (state_of w2) engine.mid.around.ram →
+        OfBoard o (λ b. (s : Moment) → (before : Around) → Tracks v s before (board_around b w0.around) →
+        FetchedFront (words_turned (setting_of b.rom) v (rounds rate (made + 1)) s) w0.around.ram w2.around.ram)
+    by None m led failed = absurd led
+    by (Some a) None led failed = absurd led
+    by (Some a) (Some b) led failed = λ s before at.
+        let xs : List ℕ = words_turned (setting_of a.rom) v (rounds rate made) s in
+        let ys : List ℕ = turn_words of_hart (turned_all (setting_of a.rom) v (rounds rate made) s) in
+        subst (λ (l : List ℕ). FetchedFront l w0.around.ram w2.around.ram) (sym (all_words (setting_of a.rom) v rate made s))
+        (front_all (xs ++ ys) w0.around.ram w2.around.ram
+        (failed.1.spared.fetched_at_stays ∙ subst (λ (l : List ℕ). HasFetched l w0.around.ram engine.mid.around.ram) (part_words (setting_of a.rom) v rate made engine.made s) (led.words s before at)))
+
+pub run_broke : (v : ImageData) (limit rate : ℕ) (w0 w1 w2 : Whole) (result : Result Unit BoardFault) → RunsOn v limit rate w0 w1 → goes_below limit w1.board ≡ true → BrokeIn v [] rate w1 w2 result → RunBroke v limit rate w0 w2 result
+run_broke v limit rate w0 w1 w2 result on goes broke = record {
   made = on.made;
-  broke = inl (record {
-    mid = hart.mid;
-    came = subst (λ (ts : List Turn). CameOn v ts w0 hart.mid) (append_none (rounds rate on.made)) (came_more v (rounds rate on.made) [] w0 w1 hart.mid on.came hart.came);
-    broke = hart.broke;
-  });
+  going = going_up v limit rate w0 w1 w2 on goes;
+  broke = by broke;
+  words = broke_words v rate on.made w0 w2 result (by broke);
 }
-run_broke v limit rate w0 w1 w2 result on (inr engine) = record {
-  made = on.made;
-  broke = inr (record {
-    made = engine.made;
-    fewer = engine.fewer;
-    mid = engine.mid;
-    came = came_more v (rounds rate on.made) (of_hart ∷ replicate engine.made of_engine) w0 w1 engine.mid on.came engine.came;
-    failed = engine.failed;
-    devices = engine.devices;
-    told = engine.told;
-  });
-}
+  where
+    by : BrokeIn v [] rate w1 w2 result → BrokeIn v (rounds rate on.made) rate w0 w2 result
+    by (inl hart) = inl (record {
+      mid = hart.mid;
+      came = subst (λ (ts : List Turn). CameOn v ts w0 hart.mid) (append-nil (rounds rate on.made)) (came_more v (rounds rate on.made) [] w0 w1 hart.mid on.came hart.came);
+      short = hart.short;
+      broke = hart.broke;
+    })
+    by (inr engine) = inr (record {
+      made = engine.made;
+      fewer = engine.fewer;
+      mid = engine.mid;
+      came = came_more v (rounds rate on.made) (of_hart ∷ replicate engine.made of_engine) w0 w1 engine.mid on.came engine.came;
+      failed = engine.failed;
+      devices = engine.devices;
+      told = engine.told;
+    })
 
 -- ---- the faults of a run
 
@@ -414,3 +521,33 @@ broke_causes v ts rate w0 w2 result (inr engine) =
       none_named (ap (λ (d : Devices). faults_of d) engine.devices ∙ engine.came.quiet) other.0 other.1,
       cause_from engine.came.ram_quiet (given_up_cause engine.mid.board (state_of w2) engine.mid.around.ram result engine.told engine.failed),
     )
+
+-- ---- the words behind the slots
+
+pub came_kept : (v : ImageData) (ts : List Turn) (w0 w1 : Whole) → CameOn v ts w0 w1 → KeepsBehind w0.board w0.around.ram w1.around.ram
+came_kept v ts w0 w1 came = came.kept
+
+hart_kept : (v : ImageData) (old new : Whole) (result : Result Unit BoardFault) → HartEvent v (state_of old) (state_of new) old.around.devices new.around.devices result → KeepsBehind old.board old.around.ram new.around.ram
+hart_kept v old new result event = by old.board new.board event
+  where
+    by : (o n : Option (BoardOf EngineData)) → HartEvent v (record { board = o; ram = old.around.ram }) (record { board = n; ram = new.around.ram }) old.around.devices new.around.devices result → KeepsBehind o old.around.ram new.around.ram
+    by None n event = absurd event
+    by (Some a) None event = absurd event
+    by (Some a) (Some b) event = by_ending a.hart.machine.ending refl
+      where
+        by_ending : (e : Option End) → a.hart.machine.ending ≡ e → KeepsBeyond (span_of (setting_of a.rom)) old.around.ram new.around.ram
+        by_ending None running = (event.stepped running).kept
+        by_ending (Some x) ended =
+            subst (λ (r : RamState). KeepsBeyond (span_of (setting_of a.rom)) old.around.ram r) (sym (ap (λ (k : BoardWithRam EngineData). k.ram) (event.ended x ended).1))
+            (keeps_all (span_of (setting_of a.rom)) old.around.ram)
+
+given_up_kept : (o : Option (BoardOf EngineData)) (next : PrefetchState) (before : RamState) → GivenUp o next before → KeepsBehind o before next.ram
+given_up_kept None next before failed = absurd failed
+given_up_kept (Some b) next before failed = let s = failed.1.spared in record { same_length = s.length_stays; beyond = s.beyond; reached = s.reached }
+
+pub broke_kept : (v : ImageData) (ts : List Turn) (rate : ℕ) (w0 w2 : Whole) (result : Result Unit BoardFault) → BrokeIn v ts rate w0 w2 result → KeepsBehind w0.board w0.around.ram w2.around.ram
+broke_kept v ts rate w0 w2 result (inl hart) =
+    keeps_more v ts w0.board hart.mid.board w0.around hart.mid.around w2.around hart.came.led hart.came.kept (hart_kept v hart.mid w2 result hart.broke)
+broke_kept v ts rate w0 w2 result (inr engine) =
+    keeps_more v (ts ++ of_hart ∷ replicate engine.made of_engine) w0.board engine.mid.board w0.around engine.mid.around w2.around engine.came.led engine.came.kept
+    (given_up_kept engine.mid.board (state_of w2) engine.mid.around.ram engine.failed)

@@ -1,5 +1,5 @@
 -- Each event leads the board to where the definition's does.
-use Rattle.std.proofs.Common.{◌≡◌, ◌&&◌, if◌then◌else◌, ℕ, ◌+◌, ◌-◌, ◌^◌, ◌<◌, ◌≤◌, nat_lt, Bool, true, false, List, ◌++◌, Option, Some, None, is_some, Ok, refl, sym, ap, subst, ◌∙◌, arith, append-nil}
+use Rattle.std.proofs.Common.{◌≡◌, ◌&&◌, if◌then◌else◌, ℕ, ◌+◌, ◌-◌, ◌^◌, ◌<◌, ◌≤◌, nat_lt, Bool, true, false, List, [], ◌++◌, reverse, Option, Some, None, is_some, Ok, refl, sym, ap, subst, ◌∙◌, arith, append-nil}
 use Rattle.std.proofs.lemmas.Bool.{false≢true}
 use Rattle.std.proofs.lemmas.Bool.Decides.{nat_tests}
 use Rattle.std.specs.Io.KnownBytes.{Appends}
@@ -24,24 +24,27 @@ use Rattle.swi_hart.specs.declared.hart.Control.TheVariants.{At, Outside}
 use Rattle.swi_hart.specs.Bounds.{is_outside}
 use Rattle.swi_hart.specs.Hart.{HartData, completes, next_made, original, slots}
 use Rattle.swi_hart.specs.Calling.{Made}
-use Rattle.swi_hart.specs.Leaving.{RamStepped, fetches_after, moved, transfer_at}
+use Rattle.swi_hart.specs.Leaving.{RamStepped, fetches_after, indexes_after, moved, transfer_at}
 use Rattle.swi_hart.specs.MachineStep.{BoardWithRam}
 use Rattle.swi_hart.specs.Matching.{Agrees, Follows, Matches}
 use Rattle.swi_hart.proofs.Kept.{image_same, next_text}
 use Rattle.swi_hart.proofs.Midway.{step_follows}
 use Rattle.swi_board.specs.BoardRan.{BoardWithDevices}
+use Rattle.swi_board.specs.Fetching.{HasFetched}
 use Rattle.swi_board.specs.Ran.{RamRan}
 use Rattle.swi_board.specs.Runs.{weight}
 use Rattle.swi_board.specs.Transfers.{Here, after_all, at_fall, before_last, here_after, here_of, spent, spent_by, spent_run, step_transfers}
+use Rattle.swi_board.proofs.Fetching.{under_is, word_at_place}
 use Rattle.swi_board.proofs.Held.{next_state, no_exit_no_transfer, same_steps}
-use Rattle.swi_board.proofs.Progress.{Completes, Progress, made_step, lead, fall, beside as outside}
-use Rattle.swi_board.proofs.Progressing.{progress}
+use Rattle.swi_board.proofs.Progress.{Completes, Progress, made_step, lead, fall, beside as outside, progress}
 use Rattle.swi_board.proofs.Running.{kept_both}
 use Rattle.swi_engine.specs.Engine.{beside, span_of}
+use Rattle.swi_engine.specs.Laws.{engine_coherent}
 use Rattle.swi_engine.specs.Service.{engine_service}
+use Rattle.swi_engine.specs.Sound.{EngineSound}
 use Rattle.swi_engine.specs.State.{EngineData, kept_by, setting_of}
 use Rattle.swi_turn.specs.Turns.{Beside, HartTurned}
-use Rattle.swi_prefetch.specs.Moments.{Moment, completed, counted, executed, fell, hart_event, led, stepped_at}
+use Rattle.swi_prefetch.specs.Moments.{Moment, of_hart, completed, counted, executed, fell, hart_event, index_under, led, stepped_at, turn_words}
 use Rattle.swi_prefetch.specs.Tracking.{Around, Tracks}
 use Rattle.swi_prefetch.proofs.Spending.{spent_few}
 
@@ -286,3 +289,44 @@ hart_tracks v a b d d' was word turn s before at = by a.hart.machine.ending refl
         subst (λ (k : Moment). Tracks v k before (with_devices b d')) (sym idle)
         (subst (λ (k : BoardWithRam EngineData). Tracks v s before (with_devices k d')) (sym same.1)
         (subst (λ (k : Devices). Tracks v s before (with_devices a k)) (sym same.2) at))
+
+-- ---- the word under control
+
+index_is : (h : Here) (s : Moment) → word_at_place h s.kept s.spent ≡ index_under h s
+index_is None s = refl
+index_is (Some p) s = refl
+
+fetched_as : (c : Control) (ws before after : List ℕ) → indexes_after c [] ≡ ws → after ≡ indexes_after c before → after ≡ reverse ws ++ before
+fetched_as (At i b o stage) ws before after is more = more ∙ ap (λ (l : List ℕ). reverse l ++ before) is
+fetched_as Outside ws before after is more = more ∙ ap (λ (l : List ℕ). reverse l ++ before) is
+
+-- it is the one that the definition's next event fetches
+module _ (v : ImageData) (s : Moment) (before : Around) (a : BoardWithRam EngineData) (d : Devices) (sound : EngineSound a.rom v a.ram.words) (at : Tracks v s before (with_devices a d)) (running : a.hart.machine.ending ≡ None) where
+  flat_runs : s.flat.machine.ending ≡ None
+  flat_runs = sym (same_steps v (kept_by a.rom) s.flat.machine a.hart.machine a.hart.control at.matches).1 ∙ running
+
+  pub word_is : indexes_after a.hart.control [] ≡ turn_words of_hart s
+  word_is =
+      sym (under_is v (kept_by a.rom) s.flat.machine a.hart.machine a.hart.control (engine_coherent a.rom v a.ram.words sound).once running at.matches)
+      ∙ ap (λ (h : Here). word_at_place h (kept_by a.rom) (spent s.flat.machine a.hart.control)) (at.here running)
+      ∙ ap (λ (n : ℕ). word_at_place s.here (kept_by a.rom) n) (sym (running_spent s.flat.machine a.hart.control flat_runs) ∙ at.spent)
+      ∙ ap (λ (r : Record). word_at_place s.here r s.spent) at.kept
+      ∙ index_is s.here s
+      ∙ sym (ap (λ (e : Option End). if is_some e then [] else index_under s.here s) flat_runs)
+
+  pub word_fetched : (after : RamState) → after.fetched_at ≡ indexes_after a.hart.control a.ram.fetched_at → HasFetched (turn_words of_hart s) a.ram after
+  word_fetched after more = fetched_as a.hart.control (turn_words of_hart s) a.ram.fetched_at after.fetched_at word_is more
+
+-- an event of the hart fetches it, if there is something to do
+pub hart_fetched : (v : ImageData) (a b : BoardWithRam EngineData) (d d' : Devices) → Beside engine_service v a → HartTurned engine_service v a b d d' (Ok tt) →
+    (s : Moment) (before : Around) → Tracks v s before (with_devices a d) → HasFetched (turn_words of_hart s) a.ram b.ram
+hart_fetched v a b d d' was turn s before at = by a.hart.machine.ending refl
+  where
+    flat_is : a.hart.machine.ending ≡ s.flat.machine.ending
+    flat_is = (same_steps v (kept_by a.rom) s.flat.machine a.hart.machine a.hart.control at.matches).1
+
+    by : (e : Option End) → a.hart.machine.ending ≡ e → HasFetched (turn_words of_hart s) a.ram b.ram
+    by None running = word_fetched v s before a d was.sound at running b.ram (turn.stepped running).ram.fetched_at
+    by (Some x) ended =
+        let none : turn_words of_hart s ≡ [] = ap (λ (e : Option End). if is_some e then [] else index_under s.here s) (sym flat_is ∙ ended) in
+        ap (λ (k : BoardWithRam EngineData). k.ram.fetched_at) (turn.ended x ended).1 ∙ ap (λ (l : List ℕ). reverse l ++ a.ram.fetched_at) (sym none)

@@ -107,3 +107,11 @@ module _ (v : ImageData) (s : Moment) (before : Around) (a b : BoardWithRam Engi
 pub engine_tracks : (v : ImageData) (a b : BoardWithRam EngineData) (d : Devices) (wrote : Bool) → EngineTurned engine_service engine_of v a b wrote → (s : Moment) (before : Around) →
     Tracks v s before (with_devices a d) → Tracks v (engine_event (setting_of a.rom) v s) before (with_devices b d)
 engine_tracks v a b d wrote turn s before at = by_ending v s before a b d wrote at turn a.hart.machine.ending refl turn.moves
+
+-- it fetches nothing
+goes_unfetched : (o : Option Event) (wrote : Bool) (span : ℕ) (r new : Record) (before after : RamState) → GoesTo o wrote span r new before after → after.fetched_at ≡ before.fetched_at
+goes_unfetched None wrote span r new before after goes = ap (λ (k : RamState). k.fetched_at) goes.2
+goes_unfetched (Some e) wrote span r new before after goes = ap (λ (k : RamState). k.fetched_at) goes.3
+
+pub engine_unfetched : (v : ImageData) (a b : BoardWithRam EngineData) (wrote : Bool) → EngineTurned engine_service engine_of v a b wrote → b.ram.fetched_at ≡ a.ram.fetched_at
+engine_unfetched v a b wrote turn = goes_unfetched _ wrote _ _ _ a.ram b.ram turn.moves

@@ -1,8 +1,10 @@
--- Laws of schedules: what the flat machine's steps cost, and which words were set. Own rule.
-use Rattle.std.proofs.Common.{◌≡◌, ◌==◌, ◌&&◌, not, if◌then◌else◌, ℕ, zero, suc, ◌+◌, ◌*◌, ◌/◌, ◌≤◌, nat_lt, Bool, true, false, List, [], ◌∷◌, ◌++◌, length, filter, Option, Some, None, is_some, refl, sym, ap, subst, ◌∙◌, inl, inr, arith}
+-- Laws of schedules: what the flat machine's steps cost, and which words were set and fetched. Own rule.
+use Rattle.std.proofs.Common.{◌≡◌, ◌==◌, ◌&&◌, not, if◌then◌else◌, ℕ, zero, suc, ◌+◌, ◌*◌, ◌/◌, ◌≤◌, nat_lt, Bool, true, false, List, [], ◌∷◌, ◌++◌, length, filter, reverse, Option, Some, None, is_some, refl, sym, ap, subst, ◌∙◌, inl, inr, zero-add, arith}
 use Rattle.std.proofs.lemmas.Bool.{cases_Bool, false≢true}
 use Rattle.std.proofs.lemmas.Bool.Decides.{nat_tests}
+use Rattle.std.proofs.lemmas.List.{append_assoc, length-append, reverse-append}
 use Rattle.std.proofs.lemmas.Nat.{same_from_place}
+use Rattle.swi_outside.specs.CacheRam.{RamState}
 use Rattle.swi_calls.specs.declared.end.End.{End}
 use Rattle.swi_calls.specs.declared.end.End.TheVariants as end
 use Rattle.swi_calls.specs.declared.machine.Machine.{Machine}
@@ -19,11 +21,13 @@ use Rattle.swi_hart.specs.declared.hart.Stage.TheVariants.{Start, Low, Return, L
 use Rattle.swi_hart.specs.declared.hart.Control.{Control}
 use Rattle.swi_hart.specs.declared.hart.Control.TheVariants.{At, Outside}
 use Rattle.swi_hart.specs.Bounds.{depth, most, most_by}
-use Rattle.swi_hart.specs.Hart.{is_between, is_fall, is_place, original, slots}
+use Rattle.swi_hart.specs.Hart.{is_between, is_fall, original, slots}
 use Rattle.swi_hart.specs.MachineStep.{BoardWithRam}
+use Rattle.swi_hart.proofs.Growing.{depth_most, depth_start}
 use Rattle.swi_board.specs.BoardRan.{BoardWithDevices}
+use Rattle.swi_board.specs.Fetching.{HasFetched}
 use Rattle.swi_board.specs.Transfers.{Here, after_all, at_fall, before_last, cost, here_after, here_run, settled, size, step_size, step_transfers}
-use Rattle.swi_board.proofs.Counting.{cost_more, here_none}
+use Rattle.swi_board.proofs.Counting.{cost_more, here_none, here_more, place_not_fall}
 use Rattle.swi_board.proofs.Held.{run_snoc}
 use Rattle.swi_engine.specs.declared.copying.Copying.{Copying}
 use Rattle.swi_engine.specs.Engine.{Event, ahead, arrived, beside, beside_arrival, copy_of, empty_beside, engine_copies, engine_words, event, event_by, free_slot, into_free, into_oldest, made_way, newest_first, newest_into, oldest_but, numbers, others, with_block, wrote_next}
@@ -34,34 +38,19 @@ use Rattle.swi_engine.specs.State.{EngineData, kept_by, setting_of}
 use Rattle.swi_turn.specs.Laws.{engine_laws as turn_laws}
 use Rattle.swi_turn.specs.Turns.{Beside, event_at}
 use Rattle.swi_prefetch.specs.Tracking.{Led, Tracks}
-use Rattle.swi_prefetch.specs.Moments.{Moment, Turn, of_hart, of_engine, booted, completed, counted, engine_event, executed, fell, hart_event, here_behind, led, served, stepped_at, turned, turned_all, worked}
+use Rattle.swi_prefetch.specs.Moments.{Moment, Turn, of_hart, of_engine, booted, completed, counted, engine_event, executed, fell, hart_event, here_behind, index_under, led, served, stepped_at, turn_words, turned, turned_all, words_turned, worked}
 
 -- ---- bounds of the machine steps
 
-depth_few : (v : ImageData) (m : Machine) (c : Control) → depth v m c ≤ 3
-depth_few v m (At i b o Start) = by (is_fall v m b o Start)
-  where
-    by : (t : Bool) → (if t then 0 else 1) ≤ 3
-    by true = omega arith
-    by false = omega arith
-depth_few v m (At i b o Low) = omega arith
-depth_few v m (At i b o Return) = omega arith
-depth_few v m (At i b o Leave) = omega arith
-depth_few v m Outside = omega arith
-
 depth_between : (v : ImageData) (m : Machine) (c : Control) → is_between c ≡ true → depth v m c ≤ 1
-depth_between v m (At i b o Start) between = by (is_fall v m b o Start)
-  where
-    by : (t : Bool) → (if t then 0 else 1) ≤ 1
-    by true = omega arith
-    by false = omega arith
+depth_between v m (At i b o Start) between = depth_start (is_fall v m b o Start)
 depth_between v m (At i b o Low) between = absurd (false≢true between)
 depth_between v m (At i b o Return) between = absurd (false≢true between)
 depth_between v m (At i b o Leave) between = absurd (false≢true between)
 depth_between v m Outside between = omega arith
 
 pub most_any : (v : ImageData) (m : Machine) (c : Control) (e : Option End) → most_by e v m c ≤ 3 * m.steps + 3
-most_any v m c None = omega (arith, depth_few v m c)
+most_any v m c None = omega (arith, depth_most v m c)
 most_any v m c (Some (end.Exited code)) = omega arith
 most_any v m c (Some (end.Faulted k a)) = omega arith
 most_any v m c (Some (end.StoreText a)) = omega arith
@@ -83,6 +72,16 @@ few_stopped k v b a is ended =
     let few = is.steps_few in
     let same : most v b.hart.machine b.hart.control ≡ 3 * b.hart.machine.steps + 2 = ap (λ (e : Option End). most_by e v b.hart.machine b.hart.control) ended in
     omega (arith, few, same)
+
+-- and one behind any other ending
+pub few_ended : {S : Type 0} (k : ServiceOf S) (v : ImageData) (b : BoardWithRam S) (x : End) → Beside k v b → b.hart.machine.ending ≡ Some x → ((a : ℕ) → x ≡ end.StoreText a → ⊥) →
+    b.hart.count ≤ 3 * b.hart.machine.steps + 1
+few_ended k v b x is ended other = by x other (subst (λ (e : Option End). b.hart.count ≤ most_by e v b.hart.machine b.hart.control) ended is.steps_few)
+  where
+    by : (x : End) → ((a : ℕ) → x ≡ end.StoreText a → ⊥) → b.hart.count ≤ most_by (Some x) v b.hart.machine b.hart.control → b.hart.count ≤ 3 * b.hart.machine.steps + 1
+    by (end.Exited code) other few = few
+    by (end.Faulted kind a) other few = few
+    by (end.StoreText a) other few = absurd (other a refl)
 
 -- ---- the copy
 
@@ -118,17 +117,9 @@ pub record Stood (v : ImageData) (s0 s : Moment) : Type 0 where
   pub place : s.flat.machine.ending ≡ None → FallMade falls v s (here_run v steps s0.flat s0.here)
   pub spends : s.flat.machine.ending ≡ None → SpendsIn v s s.here
 
-from_none : (n : ℕ) → n ≡ 0 + n
-from_none n = omega arith
-
-here_more : (v : ImageData) (k : ℕ) (s : FlatState) (here : Here) → is_some s.machine.ending ≡ false →
-    here_run v (suc k) s here ≡ here_run v k (held_step s) (here_after v s.machine (settled v s.machine here) (held_step s).machine)
-unfolding here_run
-here_more v k s here going = rw going refl
-
 size_snoc : (o : ℕ) (v : ImageData) (k : ℕ) (s : FlatState) (h : Here) → is_some (held_run k s).machine.ending ≡ false → size o v (suc k) s h ≡ size o v k s h + size o v 1 (held_run k s) (here_run v k s h)
 unfolding size held_run here_run
-size_snoc o v zero s h going = from_none (size o v 1 s h)
+size_snoc o v zero s h going = sym (zero-add (size o v 1 s h))
 size_snoc o v (suc k) s h going = elim (cases_Bool (is_some s.machine.ending)) [
   | inl over ↦ absurd (false≢true (sym going ∙ ap (λ (q : FlatState). is_some q.machine.ending) (held_run_over (suc k) s over) ∙ over))
   | inr on ↦ (
@@ -154,16 +145,6 @@ here_snoc v (suc k) s h going = elim (cases_Bool (is_some s.machine.ending)) [
       ∙ ap (λ (q : FlatState). here_after v q.machine (settled v q.machine (here_run v k (held_step s) (here_after v s.machine (settled v s.machine h) (held_step s).machine))) (held_step q).machine) (sym one)
       ∙ ap (λ (q : Here). here_after v (held_run (suc k) s).machine (settled v (held_run (suc k) s).machine q) (held_step (held_run (suc k) s)).machine) (sym there))
 ]
-
-place_not_fall : (v : ImageData) (f : Machine) → at_fall v f (place_of v f.pc) ≡ false
-place_not_fall v f = by (place_of v f.pc) refl
-  where
-    same : (b o : ℕ) → not (b == b && o == o) ≡ false
-    same b o = grind arith
-
-    by : (p : Here) → place_of v f.pc ≡ p → at_fall v f p ≡ false
-    by None e = refl
-    by (Some q) e = ap (λ (k : Here). not (is_place k q.0 q.1)) e ∙ same q.0 q.1
 
 -- where the run stands before the word under control, and what the step costs from there
 settled_here : (n : ℕ) (v : ImageData) (s : Moment) (there : Here) → FallMade n v s there → at_fall v s.flat.machine s.here ≡ false → settled v s.flat.machine there ≡ s.here
@@ -477,6 +458,51 @@ booted_written by v m left = served_written by v (indirect m.pc ∷ []) (record 
   sets = 0;
 }) refl
 
+-- ---- the words that are fetched
+
+hart_many : (by : Setting) (v : ImageData) (s : Moment) → (hart_event by v s).fetches ≡ s.fetches + length (turn_words of_hart s)
+hart_many by v s = by_ending s.flat.machine.ending
+  where
+    by_words : (p : ℕ × ℕ) (t : Bool) → (counted 1 (if t then led s else completed by v (Some p) s)).fetches ≡ s.fetches + 1
+    by_words p true = refl
+    by_words p false = refl
+
+    by_fall : (p : ℕ × ℕ) (t : Bool) → (counted 1 (if t then fell by v p s else executed by v p s)).fetches ≡ s.fetches + 1
+    by_fall p true = refl
+    by_fall p false = by_words p (nat_lt s.spent (before_last s.flat.machine (original s.flat.machine) (slots s.flat.machine)))
+
+    by_here : (h : Here) → (stepped_at by v h s).fetches ≡ s.fetches + length (index_under h s)
+    by_here None = refl
+    by_here (Some p) = by_fall p (at_fall v s.flat.machine (Some p))
+
+    by_ending : (e : Option End) → (if is_some e then s else stepped_at by v s.here s).fetches ≡ s.fetches + length (if is_some e then [] else index_under s.here s)
+    by_ending None = by_here s.here
+    by_ending (Some x) = omega arith
+
+worked_many : (s : Moment) (o : Option Event) → (worked o s).fetches ≡ s.fetches + 0
+worked_many s None = omega arith
+worked_many s (Some e) = omega arith
+
+engine_many : (by : Setting) (v : ImageData) (s : Moment) → (engine_event by v s).fetches ≡ s.fetches + 0
+engine_many by v s = by_ending s.flat.machine.ending
+  where
+    by_ending : (e : Option End) → (if is_some e then s else worked (event_at (event by) s.kept v s.here) s).fetches ≡ s.fetches + 0
+    by_ending None = worked_many s (event_at (event by) s.kept v s.here)
+    by_ending (Some x) = omega arith
+
+pub turn_many : (by : Setting) (v : ImageData) (s : Moment) (t : Turn) → (turned by v t s).fetches ≡ s.fetches + length (turn_words t s)
+turn_many by v s of_hart = hart_many by v s
+turn_many by v s of_engine = engine_many by v s
+
+-- Whatever the schedule is, they are as many as are counted.
+pub turned_many : (by : Setting) (v : ImageData) (ts : List Turn) (s : Moment) → (turned_all by v ts s).fetches ≡ s.fetches + length (words_turned by v ts s)
+unfolding turned_all words_turned
+turned_many by v [] s = omega arith
+turned_many by v (t ∷ ts) s =
+    let rest = turned_many by v ts (turned by v t s) in
+    let all = length-append (turn_words t s) (words_turned by v ts (turned by v t s)) in
+    omega (arith, turn_many by v s t, rest, all)
+
 -- ---- a whole schedule of a board
 
 pub turned_more : (by : Setting) (v : ImageData) (ts us : List Turn) (s : Moment) → turned_all by v (ts ++ us) s ≡ turned_all by v us (turned_all by v ts s)
@@ -484,9 +510,22 @@ unfolding turned_all
 turned_more by v [] us s = refl
 turned_more by v (t ∷ ts) us s = turned_more by v ts us (turned by v t s)
 
+-- the words of one schedule after the other
+pub words_turned_more : (by : Setting) (v : ImageData) (ts us : List Turn) (s : Moment) → words_turned by v (ts ++ us) s ≡ words_turned by v ts s ++ words_turned by v us (turned_all by v ts s)
+unfolding turned_all words_turned
+words_turned_more by v [] us s = refl
+words_turned_more by v (t ∷ ts) us s =
+    ap (λ (l : List ℕ). turn_words t s ++ l) (words_turned_more by v ts us (turned by v t s))
+    ∙ sym (append_assoc (turn_words t s) (words_turned by v ts (turned by v t s)) (words_turned by v us (turned_all by v ts (turned by v t s))))
+
+pub fetched_both : (xs ys : List ℕ) (a b c : RamState) → HasFetched xs a b → HasFetched ys b c → HasFetched (xs ++ ys) a c
+fetched_both xs ys a b c one two =
+    two ∙ ap (λ (l : List ℕ). reverse ys ++ l) one ∙ sym (append_assoc (reverse ys) (reverse xs) a.fetched_at)
+    ∙ ap (λ (l : List ℕ). l ++ a.fetched_at) (sym (reverse-append xs ys))
+
 pub led_none : (v : ImageData) (w : BoardWithDevices EngineData) → Led v [] w w
-unfolding turned_all
-led_none v w = record { setting = refl; tracks = λ s before at. at }
+unfolding turned_all words_turned
+led_none v w = record { setting = refl; tracks = λ s before at. at; words = λ s before at. refl }
 
 -- one schedule after the other
 pub led_more : (v : ImageData) (ts us : List Turn) (old mid new : BoardWithDevices EngineData) → Led v ts old mid → Led v us mid new → Led v (ts ++ us) old new
@@ -495,4 +534,9 @@ led_more v ts us old mid new one two = record {
   tracks = λ s before at.
       subst (λ (k : Moment). Tracks v k before new) (sym (turned_more (setting_of old.rom) v ts us s))
       (subst (λ (by : Setting). Tracks v (turned_all by v us (turned_all (setting_of old.rom) v ts s)) before new) one.setting (two.tracks (turned_all (setting_of old.rom) v ts s) before (one.tracks s before at)));
+  words = λ s before at.
+      subst (λ (l : List ℕ). HasFetched l old.ram new.ram) (sym (words_turned_more (setting_of old.rom) v ts us s))
+      (fetched_both (words_turned (setting_of old.rom) v ts s) (words_turned (setting_of old.rom) v us (turned_all (setting_of old.rom) v ts s)) old.ram mid.ram new.ram
+      (one.words s before at)
+      (subst (λ (by : Setting). HasFetched (words_turned by v us (turned_all (setting_of old.rom) v ts s)) mid.ram new.ram) one.setting (two.words (turned_all (setting_of old.rom) v ts s) before (one.tracks s before at))));
 }

@@ -2,4 +2,6 @@ pub mod Prefetching
 pub mod Moments
 pub mod Tracking
 pub mod Laws
+pub mod Apart
 pub mod Running
+pub mod Scheduled

@@ -9,6 +9,7 @@ use Rattle.swi_image.specs.Place.{place_of}
 use Rattle.swi_rom.specs.Record.{Record, Transfer, direct, indirect, writes}
 use Rattle.swi_rom.specs.Service.{Setting}
 use Rattle.swi_hart.specs.Hart.{original, slots}
+use Rattle.swi_board.specs.Fetching.{index_in}
 use Rattle.swi_board.specs.Transfers.{Here, at_fall, step_transfers, here_after, before_last, after_all}
 use Rattle.swi_engine.specs.Engine.{Event, beside, empty_beside, event}
 use Rattle.swi_turn.specs.Turns.{event_at}
@@ -93,6 +94,21 @@ turned by v of_engine s = engine_event by v s
 unfoldable pub turned_all : Setting → ImageData → List Turn → Moment → Moment
 turned_all by v [] s = s
 turned_all by v (t ∷ ts) s = turned_all by v ts (turned by v t s)
+
+-- the index of the word under control; at an address where no text word stands, none
+abbrev pub index_under : Here → Moment → List ℕ
+index_under None s = []
+index_under (Some p) s = (index_in s.kept p + s.spent) ∷ []
+
+-- the indexes of the words that an event fetches: each stands where its block does by then
+abbrev pub turn_words : Turn → Moment → List ℕ
+turn_words of_hart s = if is_some s.flat.machine.ending then [] else index_under s.here s
+turn_words of_engine s = []
+
+-- and of those that a schedule fetches, in order
+unfoldable pub words_turned : Setting → ImageData → List Turn → Moment → List ℕ
+words_turned by v [] s = []
+words_turned by v (t ∷ ts) s = turn_words t s ++ words_turned by v ts (turned by v t s)
 
 -- the boot enters the ram at the machine's address, over an empty service; this input is left
 abbrev pub booted : Setting → ImageData → Machine → List ℕ → Moment

@@ -1,5 +1,5 @@
 -- A machine whose hart and copy engine take turns, by its events. Own rule.
-use Rattle.std.specs.Prelude.{◌≡◌, ℕ, ◌/◌, ◌<◌, ◌^◌, Bool, true, length, Option, Some, None, Result, Ok, Err}
+use Rattle.std.specs.Prelude.{◌≡◌, ℕ, ◌/◌, ◌<◌, ◌^◌, Bool, true, length, Option, Some, None, Result, Ok, Err, ⊤}
 use Rattle.swi_image.specs.Format.{ImageData}
 use Rattle.swi_outside.specs.CacheRam.{RamState}
 use Rattle.swi_outside.specs.Devices.{Devices}
@@ -41,6 +41,11 @@ StepsFew (Some b) = b.hart.machine.steps < 2 ^ 48
 abbrev pub WordsFew : Option (BoardOf EngineData) → Type 0
 WordsFew None = ⊥
 WordsFew (Some b) = engine_words (kept_by b.rom) < 2 ^ 60
+
+-- the address of the hart's next instruction has 32 bits
+abbrev pub PcShort : Option (BoardOf EngineData) → Type 0
+PcShort None = ⊤
+PcShort (Some b) = b.hart.machine.pc < 2 ^ 32
 
 abbrev pub has_failed : Option (BoardOf EngineData) → Bool
 has_failed None = true

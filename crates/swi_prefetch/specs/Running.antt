@@ -1,5 +1,6 @@
 -- A run: rounds of one event of the hart and so many of the engine, up to a limit of original steps. Own rule.
 use Rattle.std.specs.Prelude.{◌≡◌, ◌⊎◌, ℕ, ◌+◌, ◌<◌, ◌≤◌, not, ◌&&◌, nat_lt, Bool, false, List, ◌∷◌, ◌++◌, length, replicate, Option, Some, None, is_some, Result, IsErrOf}
+use Rattle.swi_outside.specs.CacheRam.{KeepsBeyond, RamState}
 use Rattle.swi_outside.specs.Devices.{faults_of}
 use Rattle.swi_image.specs.Format.{ImageData}
 use Rattle.swi_hart.specs.Bounds.{most}
@@ -7,10 +8,11 @@ use Rattle.swi_hart.specs.Hart.{HartData}
 use Rattle.swi_hart.specs.declared.fault.BoardFault.{BoardFault}
 use Rattle.swi_hart.specs.declared.fault.BoardFault.TheVariants.{RamFault}
 use Rattle.swi_board.specs.Board.{BoardOf}
-use Rattle.swi_engine.specs.Engine.{engine_words}
+use Rattle.swi_board.specs.Fetching.{FetchedFront}
+use Rattle.swi_engine.specs.Engine.{engine_words, span_of}
 use Rattle.swi_engine.specs.State.{EngineData, kept_by, setting_of}
-use Rattle.swi_prefetch.specs.Moments.{Moment, Turn, of_hart, of_engine, rounds, turned_all}
-use Rattle.swi_prefetch.specs.Prefetching.{GivenUp, HartEvent, OfBoards, TakesTurns}
+use Rattle.swi_prefetch.specs.Moments.{Moment, Turn, of_hart, of_engine, rounds, turned_all, words_turned}
+use Rattle.swi_prefetch.specs.Prefetching.{GivenUp, HartEvent, OfBoards, PcShort, TakesTurns}
 use Rattle.swi_prefetch.specs.Tracking.{Around, Leads, Tracks, board_around}
 
 -- the machine, whole
@@ -38,6 +40,10 @@ goes_below n (Some b) = not (is_some b.hart.machine.ending) && nat_lt b.hart.mac
 abbrev pub GoesOn : ℕ → Moment → Type 0
 GoesOn n s = (s.flat.machine.ending ≡ None) × (s.flat.machine.steps < n)
 
+-- the words of the ram behind a board's slots stay
+abbrev pub KeepsBehind : Option (BoardOf EngineData) → RamState → RamState → Type 0
+KeepsBehind o before after = OfBoard o (λ b. KeepsBeyond (span_of (setting_of b.rom)) before after)
+
 -- Events were made in a row, and no device has failed.
 pub record CameOn (v : ImageData) (ts : List Turn) (old new : Whole) : Type 0 where
   pub led : Leads v ts old.board new.board old.around new.around
@@ -46,6 +52,8 @@ pub record CameOn (v : ImageData) (ts : List Turn) (old new : Whole) : Type 0 wh
   pub words : OfBoards old.board new.board (λ a b. engine_words (kept_by b.rom) ≤ engine_words (kept_by a.rom) + length ts)
   pub quiet : faults_of new.around.devices ≡ faults_of old.around.devices
   pub ram_quiet : new.around.ram.faults ≡ old.around.ram.faults
+  -- the words of the ram behind the slots stay
+  pub kept : KeepsBehind old.board old.around.ram new.around.ram
 
 -- the engine's events leave the hart as it was
 abbrev pub SameHart : Option (BoardOf EngineData) → Option (BoardOf EngineData) → Type 0
@@ -76,6 +84,7 @@ pub record AheadFailed (v : ImageData) (rate : ℕ) (old new : Whole) : Type 0 w
 pub record HartBroke (v : ImageData) (ts : List Turn) (old new : Whole) (result : Result Unit BoardFault) : Type 0 where
   pub mid : Whole
   pub came : CameOn v ts old mid
+  pub short : PcShort mid.board
   pub broke : HartEvent v (record { board = mid.board; ram = mid.around.ram }) (record { board = new.board; ram = new.around.ram }) mid.around.devices new.around.devices result
 
 pub record EngineBroke (v : ImageData) (ts : List Turn) (rate : ℕ) (old new : Whole) (result : Result Unit BoardFault) : Type 0 where
@@ -98,7 +107,12 @@ pub record RanTo (v : ImageData) (limit rate : ℕ) (old new : Whole) : Type 0 w
       GoesOn limit (turned_all (setting_of b.rom) v (rounds rate j) s))
   pub done : goes_below limit new.board ≡ false
 
--- a device broke off a round, behind so many
-pub record RunBroke (v : ImageData) (rate : ℕ) (old new : Whole) (result : Result Unit BoardFault) : Type 0 where
+-- a device broke off a round, behind so many; it and each before it began while the run went on below its limit
+pub record RunBroke (v : ImageData) (limit rate : ℕ) (old new : Whole) (result : Result Unit BoardFault) : Type 0 where
   pub made : ℕ
+  pub going : (j : ℕ) → j < made + 1 → OfBoard old.board (λ b. (s : Moment) → (before : Around) → Tracks v s before (board_around b old.around) →
+      GoesOn limit (turned_all (setting_of b.rom) v (rounds rate j) s))
   pub broke : BrokeIn v (rounds rate made) rate old new result
+  -- the words that were fetched are a front of those of these rounds
+  pub words : OfBoard old.board (λ b. (s : Moment) → (before : Around) → Tracks v s before (board_around b old.around) →
+      FetchedFront (words_turned (setting_of b.rom) v (rounds rate (made + 1)) s) old.around.ram new.around.ram)

@@ -11,12 +11,13 @@ use Rattle.swi_render.specs.Carried.{Carries}
 use Rattle.swi_hart.specs.Matching.{Matches}
 use Rattle.swi_board.specs.Board.{BoardOf}
 use Rattle.swi_board.specs.BoardRan.{BoardWithDevices}
+use Rattle.swi_board.specs.Fetching.{HasFetched}
 use Rattle.swi_board.specs.Ran.{RamRan}
 use Rattle.swi_board.specs.Runs.{unfetched}
 use Rattle.swi_board.specs.Transfers.{here_of, spent_run}
 use Rattle.swi_engine.specs.Engine.{span_of}
 use Rattle.swi_engine.specs.State.{EngineData, kept_by, setting_of}
-use Rattle.swi_prefetch.specs.Moments.{Moment, Turn, booted, turned_all}
+use Rattle.swi_prefetch.specs.Moments.{Moment, Turn, booted, turned_all, words_turned}
 use Rattle.swi_prefetch.specs.Prefetching.{OfBoards, empty_for}
 
 -- the ram and the devices before the first event
@@ -48,6 +49,8 @@ pub record Tracks (v : ImageData) (s : Moment) (before : Around) (now : BoardWit
 pub record Led (v : ImageData) (ts : List Turn) (old new : BoardWithDevices EngineData) : Type 0 where
   pub setting : setting_of new.rom ≡ setting_of old.rom
   pub tracks : (s : Moment) → (before : Around) → Tracks v s before old → Tracks v (turned_all (setting_of old.rom) v ts s) before new
+  -- the words that were fetched are in order those that its events fetch
+  pub words : (s : Moment) → (before : Around) → Tracks v s before old → HasFetched (words_turned (setting_of old.rom) v ts s) old.ram new.ram
 
 abbrev pub Leads : ImageData → List Turn → Option (BoardOf EngineData) → Option (BoardOf EngineData) → Around → Around → Type 0
 Leads v ts old new before after = OfBoards old new (λ a b. Led v ts (board_around a before) (board_around b after))

@@ -14,9 +14,9 @@ ghost use Rattle.swi_engine.specs.Sound.{EngineSound};
 ghost use Rattle.swi_outside.specs.Causes.{DeviceCause};
 ghost use Rattle.swi_outside.specs.Devices.{Devices, HasCauses};
 ghost use Rattle.swi_prefetch.specs.Moments.{of_hart, of_engine, round};
-ghost use Rattle.swi_prefetch.specs.Running.{AheadFailed, BrokeIn, CameOn, RanTo, RoundRises, RunBroke, SameHart, StepsUpTo, WordsUpTo, goes_below, whole};
+ghost use Rattle.swi_prefetch.specs.Running.{AheadFailed, BrokeIn, CameOn, KeepsBehind, RanTo, RoundRises, RunBroke, SameHart, StepsUpTo, WordsUpTo, goes_below, whole};
 ghost use Rattle.swi_prefetch.specs.Tracking.{Begins, Leads};
-ghost use Rattle.swi_prefetch.specs.Prefetching.{Booted, empty_for, TakesTurns, StepsFew, WordsFew, HartEvent, EngineEvent, TellsCopied, has_failed};
+ghost use Rattle.swi_prefetch.specs.Prefetching.{Booted, empty_for, PcShort, TakesTurns, StepsFew, WordsFew, HartEvent, EngineEvent, TellsCopied, has_failed};
 
 use std::alloc::Global;
 use std::marker::Model;
@@ -114,6 +114,7 @@ impl Prefetch {
             (record { board = self.new.board; ram = M.state ram.new })
             (record { input = I.state input.old; output = O.state out.old; error = E.state err.old })
             (record { input = I.state input.new; output = O.state out.new; error = E.state err.new }) result }
+        ensures short { PcShort self.old.board }
         ensures leads { OnOk result (Leads image.now (of_hart ∷ []) self.old.board self.new.board
             (record {
               ram = M.state ram.old;
@@ -262,7 +263,7 @@ impl Prefetch {
               ram = M.state ram.new;
               devices = record { input = I.state input.new; output = O.state out.new; error = E.state err.new };
             }))) }
-        ensures broke { OnErr result (RunBroke image.now rate
+        ensures broke { OnErr result (RunBroke image.now limit rate
             (whole self.old.board (record {
               ram = M.state ram.old;
               devices = record { input = I.state input.old; output = O.state out.old; error = E.state err.old };
@@ -271,6 +272,7 @@ impl Prefetch {
               ram = M.state ram.new;
               devices = record { input = I.state input.new; output = O.state out.new; error = E.state err.new };
             })) result) }
+        ensures kept { KeepsBehind self.old.board (M.state ram.old) (M.state ram.new) }
         ensures causes { HasCauses
             (record { input = (I.state input.old).faults; output = (O.state out.old).faults; error = (E.state err.old).faults })
             (record { input = (I.state input.new).faults; output = (O.state out.new).faults; error = (E.state err.new).faults })

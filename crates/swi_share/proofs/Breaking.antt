@@ -1,10 +1,11 @@
 -- An event that a device broke off.
-use Rattle.std.proofs.Common.{◌≡◌, ◌⊎◌, ℕ, zero, suc, ◌+◌, ◌<◌, ◌≤◌, Bool, true, false, List, [], ◌++◌, length, take, Option, Some, None, is_some, nat_le, if◌then◌else◌, Err, arith, refl, sym, ◌∙◌, ap, subst, inl, inr}
+use Rattle.std.proofs.Common.{◌≡◌, ◌⊎◌, ℕ, zero, suc, ◌+◌, ◌<◌, ◌≤◌, Bool, true, false, List, [], ◌++◌, length, take, Option, Some, None, is_some, nat_le, if◌then◌else◌, Err, IsErrOf, arith, refl, sym, ◌∙◌, ap, subst, inl, inr}
 use Rattle.std.proofs.lemmas.Bool.{le-leb, lt-leb}
 use Rattle.std.specs.Io.KnownBytes.{Appends, Consumes}
 use Rattle.swi_memory.specs.Bus.{fetched}
 use Rattle.swi_outside.specs.CacheRam.{RamState}
-use Rattle.swi_outside.specs.Causes.{risen}
+use Rattle.swi_outside.specs.Causes.{PairCause, risen}
+use Rattle.swi_outside.specs.Devices.{Faults, HasCauses}
 use Rattle.swi_outside.specs.Laws.{Appends-none}
 use Rattle.swi_calls.specs.declared.end.End.{End}
 use Rattle.swi_calls.specs.declared.machine.Machine.{Machine}
@@ -21,11 +22,12 @@ use Rattle.swi_hart.proofs.Own.{held_none}
 use Rattle.swi_hart.specs.declared.fault.BoardFault.{BoardFault}
 use Rattle.swi_hart.specs.declared.fault.BoardFault.TheVariants as board
 use Rattle.swi_board.specs.Board.{BoardOf}
-use Rattle.swi_board.specs.Ran.{BrokeOff, RamBrokeOff}
+use Rattle.swi_board.specs.Fetching.{FetchedFront}
+use Rattle.swi_board.specs.Ran.{BrokeOff, RamBrokeOff, Unasked as StepUnasked, next_of}
 use Rattle.swi_board.specs.Transfers.{Here, here_of, spent_run, at_fall, step_size, fetches, size, here_after}
 use Rattle.swi_share.specs.Waiting.{Waits}
 use Rattle.swi_share.specs.Shared.{Context, Event, enters, begun_if, step_event, flat_of}
-use Rattle.swi_share.specs.Event.{Boarded, EventDevices, EventBroke, EventRamBroke, context, event_at}
+use Rattle.swi_share.specs.Event.{Boarded, EventDevices, EventBroke, EventRamBroke, Unasked, context, event_at}
 use Rattle.swi_share.proofs.Few.{run_one}
 use Rattle.swi_share.proofs.Making.{event_is, err_as}
 
@@ -43,8 +45,8 @@ unfolding held_run
 run_zero k s e = rw e refl
 
 pub broke_event : {T U : Type 0} (fault : BoardFault) (v : ImageData) (left : List ℕ) (old : BoardOf Slots) (h h' : HartData) (before after : EventDevices) (k : ℕ) → k ≡ 1 → old.hart.machine.ending ≡ None →
-    BrokeOff {T = T} (Err fault) k (started old.hart.machine left) h h' after.input before.out after.out before.err after.err → EventBroke {T = U} (Err fault) (event_at old v left) left before after
-broke_event {T} {U} fault v left old h h' before after k one going q =
+    FetchedFront (event_at old v left).words before.ram after.ram → BrokeOff {T = T} (Err fault) k (started old.hart.machine left) h h' after.input before.out after.out before.err after.err → EventBroke {T = U} (Err fault) (event_at old v left) left before after
+broke_event {T} {U} fault v left old h h' before after k one going words q =
     let s : FlatState = started old.hart.machine left in
     let c = context old.hart v left in
     let none : q.steps ≡ 0 = omega (arith, q.fewer, one) in
@@ -63,6 +65,38 @@ broke_event {T} {U} fault v left old h h' before after k one going q =
       taken = q.taken;
       input = subst (λ (x : FlatState). Consumes (Some x.input) after.input q.taken) first q.input;
       few = omega (arith, few, ap (λ (l : List ℕ). length l) taken);
+      words = words;
+    }
+
+-- a sink to which the event gives nothing
+
+pub unasked_event : {T : Type 0} (fault : BoardFault) (v : ImageData) (left : List ℕ) (old : BoardOf Slots) (made : FlatState) (k : ℕ) (before after : Faults) → old.hart.machine.ending ≡ None → k ≡ 0 →
+    made ≡ held_run k (started old.hart.machine left) → HasCauses before after (IsErrOf {T = T} (Err fault) board.SourceFault) (IsErrOf {T = T} (Err fault) board.SinkFault) →
+    OnDevice {T = T} (Err fault) (StepUnasked (next_of made) before after) → Unasked (event_at old v left) before.output after.output before.error after.error
+unasked_event {T} fault v left old made k before after going none is causes given = by fault causes given
+  where
+    stays : {a b c d : ℕ} {named : Type 0} → PairCause a b c d named → (named → ⊥) → Unasked (event_at old v left) a b c d
+    stays sinks never = record {
+      output = λ empty. elim sinks.one_told [ inl same ↦ same | inr n ↦ absurd (never n) ];
+      error = λ empty. elim sinks.other_told [ inl same ↦ same | inr n ↦ absurd (never n) ];
+    }
+
+    s : FlatState
+    s = started old.hart.machine left
+
+    step : held_run 1 (flat_of (begun_if (enters (kept_by old.rom) (context old.hart v left)) (context old.hart v left))) ≡ held_step s
+    step = ap (λ (x : FlatState). held_run 1 x) (flat_same (enters (kept_by old.rom) (context old.hart v left)) (context old.hart v left)) ∙ run_one old.hart.machine left going
+
+    first : made ≡ s
+    first = is ∙ run_zero k s none
+
+    by : (f : BoardFault) → HasCauses before after (IsErrOf {T = T} (Err f) board.SourceFault) (IsErrOf {T = T} (Err f) board.SinkFault) →
+        OnDevice {T = T} (Err f) (StepUnasked (next_of made) before after) → Unasked (event_at old v left) before.output after.output before.error after.error
+    by board.RamFault h u = stays h.sinks (λ e. cc)
+    by board.SourceFault h u = stays h.sinks (λ e. cc)
+    by board.SinkFault h u = record {
+      output = λ empty. u.output (ap (λ (x : FlatState). (next_of x).output) first ∙ sym (ap (λ (x : FlatState). x.output) step) ∙ empty);
+      error = λ empty. u.error (ap (λ (x : FlatState). (next_of x).error) first ∙ sym (ap (λ (x : FlatState). x.error) step) ∙ empty);
     }
 
 -- the ram, in the run of one step
@@ -74,8 +108,8 @@ fetched_case v s here (suc zero) n more none le enough longest = inr (refl, le-l
 fetched_case v s here (suc (suc k)) n more none le enough longest = absurd (omega (arith, le))
 
 pub ram_broke_event : (v : ImageData) (left : List ℕ) (old b : BoardOf Slots) (h' : HartData) (before after : EventDevices) (mid : RamState) (k : ℕ) → k ≡ 1 → Boarded v old b → mid.fetches ≡ before.ram.fetches →
-    RamBrokeOff v k (started old.hart.machine left) b.hart h' mid after.ram after.input before.out after.out before.err after.err → after.ram.last_failed ≡ true → EventRamBroke (event_at old v left) left before after
-ram_broke_event v left old b h' before after mid k one is same q last =
+    FetchedFront (event_at old v left).words before.ram after.ram → RamBrokeOff v k (started old.hart.machine left) b.hart h' mid after.ram after.input before.out after.out before.err after.err → after.ram.last_failed ≡ true → EventRamBroke (event_at old v left) left before after
+ram_broke_event v left old b h' before after mid k one is same words q last =
     subst (λ (e : Event). EventRamBroke e left before after) (sym (event_is v left old b is)) at_step
   where
     s : FlatState
@@ -98,6 +132,7 @@ ram_broke_event v left old b h' before after mid k one is same q last =
         output = subst (λ (t : Bool). Appends before.out after.out (if t then e.output else [])) (sym w.1) (subst (λ (x : FlatState). Appends before.out after.out x.output) (run_zero q.steps s w.0) q.output);
         error = subst (λ (t : Bool). Appends before.err after.err (if t then e.error else [])) (sym w.1) (subst (λ (x : FlatState). Appends before.err after.err x.error) (run_zero q.steps s w.0) q.error);
         input = q.input ∙ ap (λ (x : FlatState). Some x.input) (run_zero q.steps s w.0) ∙ ap (λ (t : Bool). Some (if t then e.context.input else left)) (sym w.1);
+        words = subst (λ (l : List ℕ). FetchedFront l before.ram after.ram) (ap (λ (x : Event). x.words) (event_is v left old b is)) words;
         last_failed = last;
       }
       | inr w ↦ record {
@@ -106,6 +141,7 @@ ram_broke_event v left old b h' before after mid k one is same q last =
         output = subst (λ (t : Bool). Appends before.out after.out (if t then e.output else [])) (sym w.1) (subst (λ (n : ℕ). Appends before.out after.out (held_run n s).output) w.0 q.output);
         error = subst (λ (t : Bool). Appends before.err after.err (if t then e.error else [])) (sym w.1) (subst (λ (n : ℕ). Appends before.err after.err (held_run n s).error) w.0 q.error);
         input = q.input ∙ ap (λ (n : ℕ). Some (held_run n s).input) w.0 ∙ ap (λ (t : Bool). Some (if t then e.context.input else left)) (sym w.1);
+        words = subst (λ (l : List ℕ). FetchedFront l before.ram after.ram) (ap (λ (x : Event). x.words) (event_is v left old b is)) words;
         last_failed = last;
       }
     ]
@@ -159,8 +195,8 @@ same_if true xs ys (inr e) = e
 same_if false xs ys e = refl
 
 pub entry_broke : (v : ImageData) (left : List ℕ) (old : BoardOf Slots) (ram : RamState) (before : EventDevices) → Waits v (kept_by old.rom) old.hart → old.hart.machine.ending ≡ None →
-    ((l : List ℕ) → enters (kept_by old.rom) (context old.hart v l) ≡ true) → ram.fetches ≡ before.ram.fetches → ram.last_failed ≡ true → before.input ≡ Some left → EventRamBroke (event_at old v left) left before (record before { ram = ram })
-entry_broke v left old ram before waits going anew fetches_stay last told =
+    ((l : List ℕ) → enters (kept_by old.rom) (context old.hart v l) ≡ true) → ram.fetches ≡ before.ram.fetches → ram.fetched_at ≡ before.ram.fetched_at → ram.last_failed ≡ true → before.input ≡ Some left → EventRamBroke (event_at old v left) left before (record before { ram = ram })
+entry_broke v left old ram before waits going anew fetches_stay fetched_at_stays last told =
     let r = kept_by old.rom in
     let c = context old.hart v left in
     let s : FlatState = started old.hart.machine left in
@@ -178,6 +214,7 @@ entry_broke v left old ram before waits going anew fetches_stay last told =
       error = subst (λ (l : List ℕ). Appends before.err before.err l)
           (sym (none_if (nat_le e.fetches 0) e.error (elim cases [ inl t ↦ inl (no_word t) | inr q ↦ inr (ap (λ (x : FlatState). x.error) (flat ∙ q)) ]))) (Appends-none before.err);
       input = told ∙ ap (λ (l : List ℕ). Some l) (sym (same_if (nat_le e.fetches 0) e.context.input left (elim cases [ inl t ↦ inl (no_word t) | inr q ↦ inr (ap (λ (x : FlatState). x.input) (flat ∙ q)) ])));
+      words = (e.words, record { fetched = []; are = fetched_at_stays; front = refl });
       last_failed = last;
     }
   where

@@ -1,31 +1,27 @@
 -- How far one event raises counts: of machine instructions four, and two where it ends the run before a store into the text; of services three.
-use Rattle.std.proofs.Common.{◌≡◌, ◌⊎◌, ℕ, ◌+◌, ◌*◌, ◌≤◌, Bool, true, false, not, ◌&&◌, if◌then◌else◌, List, [], ◌∷◌, ◌++◌, length, Option, Some, None, is_some, refl, ap, arith, inl, inr}
-use Rattle.std.proofs.lemmas.List.{length-append}
+use Rattle.std.proofs.Common.{◌≡◌, ◌⊎◌, ℕ, ◌+◌, ◌*◌, ◌≤◌, Bool, true, false, if◌then◌else◌, List, [], ◌∷◌, length, Option, Some, None, is_some, refl, ap, arith, inl, inr}
 use Rattle.swi_isa.specs.declared.instr.Instr.{Instr}
-use Rattle.swi_isa.specs.declared.instr.Instr.TheVariants as instr
 use Rattle.swi_isa.specs.Decode.{decoded}
 use Rattle.swi_memory.specs.Bus.{fetched}
 use Rattle.swi_exec.specs.Execute.{executed}
 use Rattle.swi_calls.specs.Flat.{Made, made, with_word, with_instruction, started}
 use Rattle.swi_calls.specs.Held.{held, held_step, held_run}
-use Rattle.swi_calls.specs.State.{FlatState}
 use Rattle.swi_calls.specs.StoresText.{next_store}
 use Rattle.swi_calls.specs.declared.end.End.{End}
 use Rattle.swi_calls.specs.declared.end.End.TheVariants as end
 use Rattle.swi_calls.specs.declared.machine.Machine.{Machine}
 use Rattle.swi_image.specs.Format.{ImageData}
 use Rattle.swi_image.specs.Place.{place_of}
-use Rattle.swi_render.specs.Rendering.{Slot}
-use Rattle.swi_rom.specs.Record.{Record, Transfer, direct, indirect, writes}
+use Rattle.swi_rom.specs.Record.{Record, Transfer, indirect, writes}
 use Rattle.swi_rom.specs.Service.{Setting}
 use Rattle.swi_rom.specs.Policy.{served_one, served_writes, with_link}
 use Rattle.swi_slots.specs.Fifo.{fifo, arrived, fifo_arrival, fifo_extent, extent_of}
 use Rattle.swi_hart.specs.Bounds.{depth, most_by}
-use Rattle.swi_hart.specs.Hart.{original, slots}
 use Rattle.swi_hart.specs.Leaving.{moved}
 use Rattle.swi_hart.specs.declared.hart.Control.{Control}
 use Rattle.swi_hart.proofs.Growing.{after_one}
-use Rattle.swi_board.specs.Transfers.{Here, at_fall, settled, jumps_as, fall_transfers, leaves_by, step_transfers, transfers, after_all}
+use Rattle.swi_board.specs.Transfers.{transfers, after_all}
+use Rattle.swi_board.proofs.Counting.{transfers_few}
 use Rattle.swi_share.specs.Shared.{Context, enters, entered_if, begun_if, event_of, flat_of}
 use Rattle.swi_share.specs.Waiting.{most_steps, most_services}
 
@@ -85,53 +81,6 @@ services_after (Some (end.Faulted f a)) m n is (inr w) = absurd (cc (is, w.1))
 services_after (Some (end.StoreText a)) m n is (inl one) = omega (arith, one)
 services_after (Some (end.StoreText a)) m n is (inr w) = omega (arith, w.2)
 
--- a step makes two transfers at most
-one_if : (t : Bool) (x : Transfer) → length (if t then x ∷ [] else []) ≤ 1
-one_if true x = omega arith
-one_if false x = omega arith
-
-fall_few : (v : ImageData) (f : Machine) (here : Here) → length (fall_transfers v f here) ≤ 1
-fall_few v f None = omega arith
-fall_few v f (Some p) = one_if (at_fall v f (Some p)) (direct p.0 p.1 f.pc)
-
-leaves_few : (f : Machine) (x : Option Instr) (ss : List Slot) (p : ℕ × ℕ) (pc : ℕ) → length (leaves_by f x ss p pc) ≡ 1
-leaves_few f None ss p pc = refl
-leaves_few f (Some (instr.Lui rd imm)) ss p pc = refl
-leaves_few f (Some (instr.Auipc rd imm)) ss p pc = refl
-leaves_few f (Some (instr.Jal rd off)) ss p pc = refl
-leaves_few f (Some (instr.Jalr rd rs1 imm)) ss p pc = refl
-leaves_few f (Some (instr.Branch op rs1 rs2 off)) ss p pc = refl
-leaves_few f (Some (instr.Load op rd rs1 imm)) ss p pc = refl
-leaves_few f (Some (instr.Store op rs1 rs2 imm)) ss p pc = refl
-leaves_few f (Some (instr.Alu op rd rs1 imm)) ss p pc = refl
-leaves_few f (Some (instr.Op op rd rs1 rs2)) ss p pc = refl
-leaves_few f (Some (instr.Atomic op rd rs1 rs2)) ss p pc = refl
-leaves_few f (Some instr.Fence) ss p pc = refl
-leaves_few f (Some instr.Ecall) ss p pc = refl
-leaves_few f (Some instr.Ebreak) ss p pc = refl
-
-few_if : (t : Bool) (xs : List Transfer) → length xs ≡ 1 → length (if t then xs else []) ≤ 1
-few_if true xs one = omega (arith, one)
-few_if false xs one = omega arith
-
-step_few : (f : Machine) (here : Here) (next : Machine) → length (step_transfers f here next) ≤ 1
-step_few f None next = omega arith
-step_few f (Some p) next =
-    few_if (jumps_as f (original f) && not (is_some next.ending)) (leaves_by f (original f) (slots f) p next.pc) (leaves_few f (original f) (slots f) p next.pc)
-
-two_if : (t : Bool) (xs ys : List Transfer) → length xs ≤ 1 → length ys ≤ 1 → length (if t then [] else xs ++ (ys ++ [])) ≤ 2
-two_if true xs ys a b = omega arith
-two_if false xs ys a b =
-    let first = length-append xs (ys ++ []) in
-    let second = length-append {A = Transfer} ys [] in
-    omega (arith, first, second, a, b)
-
-transfers_few : (v : ImageData) (s : FlatState) (here : Here) → length (transfers v 1 s here) ≤ 2
-unfolding transfers
-transfers_few v s here =
-    two_if (is_some s.machine.ending) (fall_transfers v s.machine here) (step_transfers s.machine (settled v s.machine here) (held_step s).machine)
-    (fall_few v s.machine here) (step_few s.machine (settled v s.machine here) (held_step s).machine)
-
 one_more : (by : Setting) (r : Record) (v : ImageData) (t : Transfer) → (fifo by r v t).counts.services ≤ r.counts.services + 1
 one_more by = served_one arrived with_link by fifo_arrival
 
@@ -152,7 +101,7 @@ pub event_services : (by : Setting) (r : Record) (c : Context) → (event_of by 
 event_services by r c =
     let b = begun_if (enters r c) c in
     let before = entered_services (enters r c) by r c in
-    let few = transfers_few b.image (flat_of b) b.place in
+    let few = transfers_few b.image 1 (flat_of b) b.place in
     let after = after_services by b.image (entered_if (enters r c) by r c) (transfers b.image 1 (flat_of b) b.place) in
     omega (arith, before, few, after)
 

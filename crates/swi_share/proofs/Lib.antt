@@ -4,6 +4,7 @@ pub mod Few
 pub mod Others
 pub mod Breaking
 pub mod Turning
+pub mod Seating
 pub mod Starting
 pub mod Scheduling
 pub mod Bounds

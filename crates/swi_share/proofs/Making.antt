@@ -1,5 +1,5 @@
 -- A run of one step makes an event.
-use Rattle.std.proofs.Common.{◌≡◌, ℕ, ◌+◌, ◌-◌, ◌*◌, ◌<◌, ◌≤◌, ◌^◌, Bool, true, false, not, List, [], Option, Some, None, is_some, if◌then◌else◌, Result, Ok, Err, IsErrOf, arith, refl, sym, ◌∙◌, ap, subst}
+use Rattle.std.proofs.Common.{◌≡◌, ℕ, ◌+◌, ◌-◌, ◌*◌, ◌<◌, ◌≤◌, ◌^◌, Bool, true, false, not, List, [], ◌++◌, reverse, drop, Option, Some, None, is_some, if◌then◌else◌, Result, Ok, Err, IsErrOf, arith, refl, sym, ◌∙◌, ap, subst}
 use Rattle.std.proofs.lemmas.Bool.{false≢true, and_from, eq-eqb}
 use Rattle.swi_calls.specs.declared.end.End.{End}
 use Rattle.swi_calls.specs.declared.machine.Machine.{Machine}
@@ -25,11 +25,13 @@ use Rattle.swi_outside.specs.Devices.{Faults, HasCauses}
 use Rattle.swi_outside.specs.Laws.{cause_as, named_as}
 use Rattle.swi_hart.specs.declared.fault.BoardFault.TheVariants.{RamFault, SourceFault, SinkFault}
 use Rattle.swi_hart.specs.declared.fault.BoardFault.{BoardFault}
-use Rattle.swi_hart.specs.Matching.{Agrees, StandsBy, Matches, Fits}
+use Rattle.swi_hart.specs.Matching.{StandsBy, Fits}
 use Rattle.swi_board.specs.Board.{BoardOf, entries}
+use Rattle.swi_board.specs.Fetching.{HasFetched, FetchedFront, words_ahead, words_run}
 use Rattle.swi_board.specs.Ran.{Ran, RamRan}
 use Rattle.swi_board.specs.Runs.{fetched_by}
 use Rattle.swi_board.proofs.Running.{kept_both}
+use Rattle.swi_board.proofs.Along.{same_between}
 use Rattle.swi_outside.specs.Causes.{DeviceCause, risen}
 use Rattle.swi_outside.specs.CacheRam.{RamState}
 use Rattle.swi_board.specs.Transfers.{Here, here_of, here_run, spent, spent_by, spent_run, transfers, cost, fetches, after_all}
@@ -37,19 +39,6 @@ use Rattle.swi_share.specs.Waiting.{WaitsAt, Holds, Waits, most_steps}
 use Rattle.swi_share.specs.Shared.{Context, Event, place_by, enters, begun_if, step_event}
 use Rattle.swi_share.specs.Event.{Boarded, EventDevices, EventMade, context, event_at}
 use Rattle.swi_share.proofs.Few.{Counted, run_counted, bounded_after, entered_services, entered_writes, all_writes, all_extent}
-
--- ---- between two instructions the hart's machine is the one that it matches
-
-same_by : (e : Option End) (v : ImageData) (r : Record) (f m : Machine) (c : Control) → (e ≡ None → is_between c ≡ true) → Agrees e v r f m c → m ≡ f
-same_by (Some e) v r f m c between a = a
-same_by None v r f m (At i b o Start) between a = a.1.0
-same_by None v r f m (At i b o Low) between a = absurd (false≢true (between refl))
-same_by None v r f m (At i b o Return) between a = absurd (false≢true (between refl))
-same_by None v r f m (At i b o Leave) between a = absurd (false≢true (between refl))
-same_by None v r f m Outside between a = a.0
-
-same_between : (v : ImageData) (r : Record) (f m : Machine) (c : Control) → (m.ending ≡ None → is_between c ≡ true) → Matches v r f m c → m ≡ f
-same_between v r f m c between a = same_by m.ending v r f m c between a
 
 spent_between : (f : Machine) (c : Control) → is_between c ≡ true → spent f c ≡ 0
 spent_between f (At i b o Start) t = refl
@@ -196,6 +185,25 @@ pub record OneStep (v : ImageData) (left : List ℕ) (old b new : BoardOf Slots)
   pub entered : SameFrom (extent_of (setting_of old.rom) (kept_by b.rom)) before.ram.words mid.words
   pub ram : RamRan (span_of (setting_of b.rom)) (fetched_by b.hart new.hart) (writes (kept_by new.rom) - writes (kept_by b.rom)) mid after.ram
   pub unused : SameFrom (extent_of (setting_of b.rom) (kept_by new.rom)) mid.words after.ram.words
+  pub words : HasFetched (words_ahead (fifo (setting_of b.rom)) v n (started old.hart.machine left) b.hart.control (kept_by b.rom)) mid after.ram
+
+-- the words of the event are those that are ahead of the hart in a run of one step
+pub event_words : (v : ImageData) (left : List ℕ) (old b : BoardOf Slots) (n : ℕ) → Boarded v old b → setting_of b.rom ≡ setting_of old.rom → n ≡ 1 →
+    words_ahead (fifo (setting_of b.rom)) v n (started old.hart.machine left) b.hart.control (kept_by b.rom) ≡ (event_at old v left).words
+event_words v left old b n is same one =
+    let s : FlatState = started old.hart.machine left in
+    let here : Here = here_of v old.hart.machine b.hart.control in
+    ap (λ (k : Setting). words_ahead (fifo k) v n s b.hart.control (kept_by b.rom)) same
+    ∙ ap (λ (k : ℕ). words_ahead (fifo (setting_of old.rom)) v k s b.hart.control (kept_by b.rom)) one
+    ∙ ap (λ (k : ℕ). drop k (words_run (fifo (setting_of old.rom)) v 1 s here (kept_by b.rom))) is.spent
+    ∙ sym (ap (λ (e : Event). e.words) (event_is v left old b is))
+
+-- the entry fetches nothing before them
+pub fetched_from : (words : List ℕ) (before mid after : RamState) → mid.fetched_at ≡ before.fetched_at → HasFetched words mid after → HasFetched words before after
+fetched_from words before mid after same are = are ∙ ap (λ (l : List ℕ). reverse words ++ l) same
+
+pub front_from : (words : List ℕ) (before mid after : RamState) → mid.fetched_at ≡ before.fetched_at → FetchedFront words mid after → FetchedFront words before after
+front_from words before mid after same f = (f.0, record { fetched = f.1.fetched; are = fetched_from f.1.fetched before mid after same f.1.are; front = f.1.front })
 
 made_as : (v : ImageData) (left : List ℕ) (old b new : BoardOf Slots) (before after : EventDevices) → OneStep v left old b new before after →
     EventMade v (step_event (setting_of old.rom) (kept_by b.rom) (record (context old.hart v left) { booted = true; place = here_of v old.hart.machine b.hart.control; count = b.hart.count })) old new before after
@@ -232,6 +240,8 @@ made_as v left old b new before after one =
       ram = subst (λ (r : Record). RamRan (span_of (setting_of old.rom)) (fetches v 1 s here) (writes r - writes (kept_by old.rom)) before.ram after.ram) kept
           (both_ran (span_of (setting_of old.rom)) (fetched_by b.hart new.hart) (fetches v 1 s here) (writes (kept_by old.rom)) (writes (kept_by b.rom)) (writes (kept_by new.rom)) before.ram one.mid after.ram
           number one_up two_up one.served ram);
+      words = fetched_from (words_run (fifo (setting_of old.rom)) v 1 s here (kept_by b.rom)) before.ram one.mid after.ram one.served.fetched_at_stays
+          (subst (λ (l : List ℕ). HasFetched l one.mid after.ram) (event_words v left old b one.n one.boarded one.same one.one ∙ ap (λ (e : Event). e.words) (event_is v left old b one.boarded)) one.words);
       unused = subst (λ (r : Record). SameFrom (extent_of (setting_of old.rom) r) before.ram.words after.ram.words) kept (λ i le. unused i le ∙ one.entered i (omega (arith, further, le)));
       waits = subst (λ (r : Record). Waits v r new.hart) kept (waits v (kept_by new.rom) one.span after.ram.words new.hart one.coherent between one.fits one.unfailed booted limit);
     }

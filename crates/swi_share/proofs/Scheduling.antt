@@ -1,5 +1,5 @@
 -- Events in order.
-use Rattle.std.proofs.Common.{◌≡◌, ℕ, zero, suc, ◌+◌, ◌-◌, ◌<◌, ◌≤◌, List, [], ◌∷◌, ◌++◌, length, slice_get, slice_index, slice_index_or, take, Option, Some, None, Err, IsErrOf, arith, refl, sym, ◌∙◌, ap, subst, append-nil, inl, inr}
+use Rattle.std.proofs.Common.{◌≡◌, ℕ, zero, suc, ◌+◌, ◌-◌, ◌<◌, ◌≤◌, List, [], ◌∷◌, ◌++◌, length, reverse, slice_get, slice_index, slice_index_or, take, Option, Some, None, Err, IsErrOf, arith, refl, sym, ◌∙◌, ap, subst, append_assoc, append-nil, inl, inr}
 use Rattle.std.specs.Io.KnownBytes.{Appends}
 use Rattle.swi_outside.specs.Causes.{DeviceCause, PairCause, risen}
 use Rattle.swi_outside.specs.Devices.{Faults}
@@ -13,19 +13,20 @@ use Rattle.swi_rom.specs.Served.{SameFrom}
 use Rattle.swi_slots.specs.Fifo.{extent_of}
 use Rattle.swi_slots.specs.Slots.{span_of}
 use Rattle.swi_board.specs.Ran.{RamRan}
+use Rattle.swi_board.specs.Fetching.{HasFetched}
 use Rattle.swi_board.proofs.Running.{kept_both}
 use Rattle.swi_share.specs.Shared.{Context, Shared, event_by, event_in, shared_event, shared_run}
-use Rattle.swi_share.specs.Sharing.{ShareData, ShareWith, Came, HasRoom, IsSharing, Stopped, context_of, seen, input_faults, source_faults}
-use Rattle.swi_share.specs.Run.{CanRun, RunCame, RunStopped}
+use Rattle.swi_share.specs.Sharing.{ShareData, ShareWith, Came, HasRoom, IsSharing, Stopped, UnaskedIn, context_of, seen, input_faults, source_faults}
+use Rattle.swi_share.specs.Run.{CanRun, RunCame, RunStopped, RunBroke}
 use Rattle.swi_hart.specs.declared.fault.BoardFault.{BoardFault}
 use Rattle.swi_hart.specs.declared.fault.BoardFault.TheVariants.{SourceFault}
 use Rattle.std.proofs.lemmas.Bool.{cases_eq}
-use Rattle.std.proofs.lemmas.List.{length-map}
+use Rattle.std.proofs.lemmas.List.{length-map, reverse-append}
 use Rattle.swi_share.proofs.Few.{event_writes, event_extent}
 
 -- a state whose events have written and fetched nothing yet
 abbrev pub anew : Shared → Shared
-anew s = record s { output = []; error = []; fetches = 0 }
+anew s = record s { output = []; error = []; fetches = 0; words = [] }
 
 -- an event leaves the same over what was written and fetched before it
 pub record Framed (s next own : Shared) : Type 0 where
@@ -33,6 +34,7 @@ pub record Framed (s next own : Shared) : Type 0 where
   pub output : next.output ≡ s.output ++ own.output
   pub error : next.error ≡ s.error ++ own.error
   pub fetches : next.fetches ≡ s.fetches + own.fetches
+  pub words : next.words ≡ s.words ++ own.words
   pub setting : next.setting ≡ s.setting
   pub writes_rise : writes s.kept ≤ writes next.kept
   pub extent_rises : extent_of s.setting s.kept ≤ extent_of s.setting next.kept
@@ -43,6 +45,7 @@ framed_none s = record {
   output = sym (append-nil s.output);
   error = sym (append-nil s.error);
   fetches = omega arith;
+  words = sym (append-nil s.words);
   setting = refl;
   writes_rise = omega arith;
   extent_rises = omega arith;
@@ -55,6 +58,7 @@ framed_by g s c None = record {
   output = refl;
   error = refl;
   fetches = omega arith;
+  words = refl;
   setting = refl;
   writes_rise = event_writes s.setting (record s.kept { turn = g }) c;
   extent_rises = event_extent s.setting (record s.kept { turn = g }) c;
@@ -114,6 +118,7 @@ came_none w = record {
       sets = none_risen w.ram.sets (writes (seen w.share).kept);
       kept = record { same_length = refl; beyond = λ i le. refl; reached = grind arith };
     };
+    words = refl;
     unused = λ i le. refl;
   };
   rises = omega arith;
@@ -133,6 +138,11 @@ ran_both span m n k w0 w1 w2 a b d sum one_up two_up one two = record {
   sets = two.sets ∙ ap (λ (x : ℕ). risen x (w2 - w1)) one.sets ∙ risen_more a.sets (w1 - w0) (w2 - w1) ∙ ap (λ (x : ℕ). risen a.sets x) (omega (arith, one_up, two_up));
   kept = kept_both span a b d one.kept two.kept;
 }
+
+fetched_both : (xs ys : List ℕ) (a b d : RamState) → HasFetched xs a b → HasFetched ys b d → HasFetched (xs ++ ys) a d
+fetched_both xs ys a b d one two =
+    two ∙ ap (λ (l : List ℕ). reverse ys ++ l) one ∙ sym (append_assoc (reverse ys) (reverse xs) a.fetched_at)
+    ∙ ap (λ (l : List ℕ). l ++ a.fetched_at) (sym (reverse-append xs ys))
 
 pub came_then : (done : Shared) (g : ℕ) (before mid after : ShareWith) → CameOn done before mid → Came (shared_event g (seen mid.share)) mid after → CameOn (shared_event g done) before after
 came_then done g before mid after one two' =
@@ -156,6 +166,7 @@ came_then done g before mid after one two' =
         error = subst (λ (l : List ℕ). Appends before.err after.err l) (sym f.error) (Appends-append before.err mid.err after.err done.error own.error one.came.error two.error);
         ram = subst (λ (b : Setting). RamRan (span_of b) next.fetches (writes next.kept - writes (seen before.share).kept) before.ram after.ram) (sym f.setting)
             (ran_both (span_of done.setting) done.fetches own.fetches next.fetches (writes (seen before.share).kept) (writes done.kept) (writes next.kept) before.ram mid.ram after.ram (sym f.fetches) one.rises f.writes_rise one.came.ram ram);
+        words = subst (λ (l : List ℕ). HasFetched l before.ram after.ram) (sym f.words) (fetched_both done.words own.words before.ram mid.ram after.ram one.came.words two.words);
         unused = subst (λ (b : Setting). SameFrom (extent_of b next.kept) before.ram.words after.ram.words) (sym f.setting)
             (λ i le. unused i le ∙ one.came.unused i (omega (arith, f.extent_rises, le)));
       };
@@ -253,6 +264,17 @@ run_stopped order i g first mid after fault lt is was stopped cause = record {
   came = record { came = was.came.came; quiet = was.inputs };
   stopped = subst (λ (n : ℕ). Stopped {T = Unit} (Err fault) n mid after) (sym is) stopped;
   cause = subst (λ (n : ℕ). DeviceCause (input_faults mid.share n) (input_faults after.share n) (IsErrOf {T = Unit} (Err fault) SourceFault)) (sym is) cause;
+}
+
+pub run_broke : (order : List ℕ) (i g : ℕ) (first mid after : ShareWith) (fault : BoardFault) {o o1 o2 e e1 e2 : ℕ} → i < length order → slice_index order i ≡ g →
+    Scheduled (shared_run (take i order) (seen first.share)) first mid o o1 e e1 → Stopped {T = Unit} (Err fault) g mid after →
+    DeviceCause (input_faults mid.share g) (input_faults after.share g) (IsErrOf {T = Unit} (Err fault) SourceFault) →
+    UnaskedIn g (seen mid.share) o1 o2 e1 e2 → RunBroke {T = Unit} (Err fault) order first after o o2 e e2
+unfolding run_stopped
+run_broke order i g first mid after fault {o} {o1} {o2} {e} {e1} {e2} lt is was stopped cause unasked = record {
+  run = run_stopped order i g first mid after fault lt is was stopped cause;
+  unasked = subst (λ (n : ℕ). UnaskedIn n (seen mid.share) o o2 e e2) (sym is)
+      (subst (λ (n : ℕ). UnaskedIn g (seen mid.share) n o2 e e2) was.output (subst (λ (n : ℕ). UnaskedIn g (seen mid.share) o1 o2 n e2) was.error unasked));
 }
 
 pub kept_so_far : (done : Shared) (first now : ShareWith) → CameOn done first now → KeepsBeyond (span_of (seen first.share).setting) first.ram now.ram

@@ -4,6 +4,7 @@ use Rattle.std.proofs.lemmas.Bool.{false≢true}
 use Rattle.std.proofs.lemmas.List.{drop_more, drop_all}
 use Rattle.std.proofs.lemmas.Option.{same_Some}
 use Rattle.std.proofs.Math.Nat.{div-mul-le_self}
+use Rattle.swi_outside.specs.Source.{StoredSource}
 use Rattle.swi_memory.specs.Bus.{fetched}
 use Rattle.swi_calls.specs.declared.machine.Machine.{Machine}
 use Rattle.swi_calls.specs.Flat.{machine_of}
@@ -20,8 +21,8 @@ use Rattle.swi_share.specs.declared.process.Process.{Process}
 use Rattle.swi_share.specs.Shared.{Context, Shared}
 use Rattle.swi_share.specs.Waiting.{Waits}
 use Rattle.swi_share.specs.Event.{context}
-use Rattle.swi_share.specs.Sharing.{IsSharing, IsWhole, Seated, seen, turned, context_by, context_of}
-use Rattle.swi_share.specs.Starting.{Started, AllStarted, most_words, first_context, shared_start}
+use Rattle.swi_share.specs.Sharing.{IsSharing, IsWhole, Seated, seen, turned, context_by, context_of, inputs_of}
+use Rattle.swi_share.specs.Starting.{Started, AllStarted, most_words, first_context, inputs_given, shared_start}
 use Rattle.swi_share.proofs.Turning.{share_of}
 
 pub all_more : (xs : List Guest) (ps : List Process) (x : Guest) (p : Process) → AllStarted xs ps → Started x p → AllStarted (xs ++ x ∷ []) (ps ++ p ∷ [])
@@ -35,6 +36,12 @@ long_as [] [] all = refl
 long_as [] (q ∷ qs) all = absurd all
 long_as (y ∷ ys) [] all = absurd all
 long_as (y ∷ ys) (q ∷ qs) all = ap suc (long_as ys qs all.1)
+
+pub all_inputs : (xs : List Guest) (ps : List Process) → AllStarted xs ps → inputs_of ps ≡ inputs_given xs
+all_inputs [] [] all = refl
+all_inputs [] (q ∷ qs) all = absurd all
+all_inputs (y ∷ ys) [] all = absurd all
+all_inputs (y ∷ ys) (q ∷ qs) all = ap (λ (i : StoredSource). i ∷ inputs_of qs) all.0.input ∙ ap (λ (is : List StoredSource). y.input ∷ is) (all_inputs ys qs all.1)
 
 context_first : (x : Guest) (p : Process) → Started x p → context_of p ≡ first_context x
 context_first x p s =
@@ -134,10 +141,10 @@ sharing_first (x ∷ xs) (p ∷ ps) rom bytes n words some all most is serves fi
 pub seen_first : (xs : List Guest) (ps : List Process) (rom : Slots) (bytes n : ℕ) → AllStarted xs ps → n ≡ most_words xs → rom ≡ empty_slots (bytes / 4 / n) n (length xs) → kept_by rom ≡ empty_record →
     seen (share_of ps rom) ≡ shared_start bytes xs
 seen_first xs ps rom bytes n all most is kept =
-    ap (λ (s : Setting). let y : Shared = record { setting = s; kept = kept_by rom; contexts = map context_of ps; output = []; error = []; fetches = 0 } in y)
+    ap (λ (s : Setting). let y : Shared = record { setting = s; kept = kept_by rom; contexts = map context_of ps; output = []; error = []; fetches = 0; words = [] } in y)
     (ap (λ (s : Slots). setting_of s) is ∙ ap (λ (k : ℕ). let y : Setting = record { slots = bytes / 4 / k; slot_words = k; programs = length xs } in y) most)
-    ∙ ap (λ (r : Record). let y : Shared = record { setting = record { slots = bytes / 4 / most_words xs; slot_words = most_words xs; programs = length xs }; kept = r; contexts = map context_of ps; output = []; error = []; fetches = 0 } in y) kept
-    ∙ ap (λ (cs : List (Option Context)). let y : Shared = record { setting = record { slots = bytes / 4 / most_words xs; slot_words = most_words xs; programs = length xs }; kept = empty_record; contexts = cs; output = []; error = []; fetches = 0 } in y)
+    ∙ ap (λ (r : Record). let y : Shared = record { setting = record { slots = bytes / 4 / most_words xs; slot_words = most_words xs; programs = length xs }; kept = r; contexts = map context_of ps; output = []; error = []; fetches = 0; words = [] } in y) kept
+    ∙ ap (λ (cs : List (Option Context)). let y : Shared = record { setting = record { slots = bytes / 4 / most_words xs; slot_words = most_words xs; programs = length xs }; kept = empty_record; contexts = cs; output = []; error = []; fetches = 0; words = [] } in y)
     (contexts_first xs ps all)
 
 whole_get : (xs : List Guest) (ps : List Process) → AllStarted xs ps → (g : ℕ) (p : Process) → slice_get ps g ≡ Some p → p.hart ≡ None → ⊥

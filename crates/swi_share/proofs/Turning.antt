@@ -28,7 +28,7 @@ use Rattle.swi_share.specs.declared.process.Process.{Process}
 use Rattle.swi_share.specs.Shared.{Context, Event, Shared, enters, entered_if, begun_if, flat_of, step_event, with_event, event_by, event_in, shared_event, event_of}
 use Rattle.swi_share.specs.Waiting.{Waits, most_services}
 use Rattle.swi_share.specs.Event.{EventDevices, EventMade, EventBroke, context, event_at}
-use Rattle.swi_share.specs.Sharing.{ShareData, IsSharing, Seated, Came, seen, turned, context_by, context_of, services_by, services_most, IsWhole, HasEnded, source_faults}
+use Rattle.swi_share.specs.Sharing.{ShareData, IsSharing, Seated, Came, seen, turned, context_by, context_of, services_by, services_most, HasEnded}
 use Rattle.swi_share.proofs.Few.{Counted, run_counted, services_after, event_services}
 use Rattle.swi_share.proofs.Breaking.{flat_same}
 use Rattle.swi_share.proofs.Making.{err_as, fault_on}
@@ -147,11 +147,11 @@ context_left p' h' v c hart image input is =
     ∙ ap (λ (x : Context). Some x) is
 
 shared_as : (ps : List Process) (rom rom' : Slots) (g : ℕ) (p' : Process) (e : Event) → setting_of rom' ≡ setting_of rom → kept_by rom' ≡ e.kept → context_of p' ≡ Some e.context →
-    seen (share_of (slice_set ps g p') rom') ≡ record (with_event g (seen (share_of ps rom)) e) { output = []; error = []; fetches = 0 }
+    seen (share_of (slice_set ps g p') rom') ≡ record (with_event g (seen (share_of ps rom)) e) { output = []; error = []; fetches = 0; words = [] }
 shared_as ps rom rom' g p' e setting kept left =
-    ap (λ (s : Setting). let x : Shared = record { setting = s; kept = kept_by rom'; contexts = map context_of (slice_set ps g p'); output = []; error = []; fetches = 0 } in x) setting
-    ∙ ap (λ (r : Record). let x : Shared = record { setting = setting_of rom; kept = r; contexts = map context_of (slice_set ps g p'); output = []; error = []; fetches = 0 } in x) kept
-    ∙ ap (λ (cs : List (Option Context)). let x : Shared = record { setting = setting_of rom; kept = e.kept; contexts = cs; output = []; error = []; fetches = 0 } in x)
+    ap (λ (s : Setting). let x : Shared = record { setting = s; kept = kept_by rom'; contexts = map context_of (slice_set ps g p'); output = []; error = []; fetches = 0; words = [] } in x) setting
+    ∙ ap (λ (r : Record). let x : Shared = record { setting = setting_of rom; kept = r; contexts = map context_of (slice_set ps g p'); output = []; error = []; fetches = 0; words = [] } in x) kept
+    ∙ ap (λ (cs : List (Option Context)). let x : Shared = record { setting = setting_of rom; kept = e.kept; contexts = cs; output = []; error = []; fetches = 0; words = [] } in x)
     (map-set context_of ps g p' ∙ ap (λ (c : Option Context). slice_set (map context_of ps) g c) left)
 
 pub came_of : (g : ℕ) (ps : List Process) (rom rom' : Slots) (p p' : Process) (before after : EventDevices) → Turned g ps rom rom' p p' before after →
@@ -168,6 +168,7 @@ came_of g ps rom rom' p p' before after t =
       output = t.made.output;
       error = t.made.error;
       ram = subst (λ (n : ℕ). RamRan (span_of (setting_of rom)) n (writes e.kept - writes (kept_by rom)) before.ram after.ram) (none_more e.fetches) t.made.ram;
+      words = t.made.words;
       unused = t.made.unused;
     })
   where
@@ -253,15 +254,13 @@ pub record Read (s : ShareData) (words : List ℕ) (g : ℕ) (rom : Slots) (p : 
   pub waits : Waits p.image (turned rom g) h
   pub services : rom.counts.services < 2 ^ 49
 
-pub read_at : (s : ShareData) (words : List ℕ) (items : List Process) (taken : Option Slots) (g : ℕ) (rom : Slots) (p : Process) (h : HartData) → IsSharing s words → items ≡ s.processes → taken ≡ s.rom → g < length s.processes →
-    taken ≡ Some rom → p ≡ slice_index_or items g p → p.hart ≡ Some h → Read s words g rom p h
-read_at s words items taken g rom p h q items_are rom_is below is read hart =
-    let at : slice_get s.processes g ≡ Some p = slice_get_read s.processes (length s.processes) g p refl below (read ∙ ap (λ (xs : List Process). slice_index_or xs g p) items_are) in
+pub read_at : (s : ShareData) (words : List ℕ) (g : ℕ) (rom : Slots) (p : Process) (h : HartData) → IsSharing s words → s.rom ≡ Some rom → slice_get s.processes g ≡ Some p → p.hart ≡ Some h → Read s words g rom p h
+read_at s words g rom p h q rom_is at hart =
     let w = q.seated g p at in
-    let same : q.rom ≡ rom = same_Some q.rom rom (sym q.is ∙ sym rom_is ∙ is) in
+    let same : q.rom ≡ rom = same_Some q.rom rom (sym q.is ∙ rom_is) in
     let own : w.hart ≡ h = same_Some w.hart h (sym w.is ∙ hart) in
     record {
-      share = ap (λ (r : Option Slots). let x : ShareData = record { processes = s.processes; rom = r } in x) (sym rom_is ∙ is);
+      share = ap (λ (r : Option Slots). let x : ShareData = record { processes = s.processes; rom = r } in x) rom_is;
       at = at;
       hart_is = hart;
       images = q.images;
@@ -276,24 +275,28 @@ context_read s words g rom p h r = context_at s.processes g p h r.at r.hart_is
 
 -- ---- a program that has ended
 
-pub came_idle : (s s' : ShareData) (words : List ℕ) (g : ℕ) (rom : Slots) (p : Process) (h : HartData) (ram : RamState) (out err : Option (List ℕ)) → Read s words g rom p h → is_some h.machine.ending ≡ true → s' ≡ s →
+pub came_idle : (s s' : ShareData) (words : List ℕ) (g : ℕ) (ram : RamState) (out err : Option (List ℕ)) → IsSharing s words → HasEnded s g → s' ≡ s →
     Came (shared_event g (seen s)) (record { share = s; ram = ram; out = out; err = err }) (record { share = s'; ram = ram; out = out; err = err })
-came_idle s s' words g rom p h ram out err r ended same =
+came_idle s s' words g ram out err q w same =
     subst (λ (x : Shared). Came x (record { share = s; ram = ram; out = out; err = err }) (record { share = s'; ram = ram; out = out; err = err })) (sym stays) (record {
       share = ap seen same;
       output = Appends-none out;
       error = Appends-none err;
       ram = record { quiet = refl; fetches = risen_none ram.fetches; sets = none_risen ram.sets (writes (seen s).kept); kept = record { same_length = refl; beyond = λ i le. refl; reached = reach_most ram.reach (span_of (seen s).setting) } };
+      words = refl;
       unused = λ i le. refl;
     })
   where
-    by_end : (e : Option End) → is_some e ≡ true → e ≡ h.machine.ending → shared_event g (seen s) ≡ seen s
-    by_end None t is = absurd (cc)
-    by_end (Some e) t is =
-        subst (λ (x : ShareData). shared_event g (seen x) ≡ seen x) (sym r.share) (stays_as s.processes rom g p h e r.at r.hart_is (sym is))
+    share : s ≡ share_of s.processes q.rom
+    share = ap (λ (r : Option Slots). let x : ShareData = record { processes = s.processes; rom = r } in x) q.is
+
+    by_end : (e : Option End) → (e ≡ None → ⊥) → w.hart.machine.ending ≡ e → shared_event g (seen s) ≡ seen s
+    by_end None never is = absurd (never refl)
+    by_end (Some e) never is =
+        subst (λ (x : ShareData). shared_event g (seen x) ≡ seen x) (sym share) (stays_as s.processes q.rom g w.process w.hart e w.process_is w.hart_is is)
 
     stays : shared_event g (seen s) ≡ seen s
-    stays = by_end h.machine.ending ended refl
+    stays = by_end w.hart.machine.ending w.ended refl
 
     risen_none : (n : ℕ) → n ≡ risen n 0
     risen_none n = grind arith
@@ -303,23 +306,6 @@ came_idle s s' words g rom p h ram out err r ended same =
 
     reach_most : (n m : ℕ) → n ≤ max n m
     reach_most n m = grind arith
-
--- putting back what was taken
-pub put_back : (s : ShareData) (words : List ℕ) (items : List Process) (g : ℕ) (rom : Slots) (p : Process) (h : HartData) → Read s words g rom p h → items ≡ s.processes →
-    share_of (slice_set items g (record p { hart = Some h })) rom ≡ s
-put_back s words items g rom p h r items_are =
-    ap (λ (x : Option HartData). share_of (slice_set items g (record p { hart = x })) rom) (sym r.hart_is)
-    ∙ ap (λ (xs : List Process). share_of (slice_set xs g p) rom) items_are
-    ∙ ap (λ (xs : List Process). share_of xs rom) (set_own s.processes g p r.at) ∙ sym r.share
-
--- ---- all harts are there
-
-pub whole_set : (ps : List Process) (g : ℕ) (p q : Process) (h : HartData) (rom rom' : Slots) → slice_get ps g ≡ Some p → q.hart ≡ Some h → IsWhole (Some rom) ps → IsWhole (Some rom') (slice_set ps g q)
-whole_set ps g p q h rom rom' at is whole = λ m r m_at none. elim (cases_eq m g) [
-  | inl same ↦ absurd (let own : q ≡ r = same_Some q r (sym (get_set_same ps g p q at) ∙ ap (λ (k : ℕ). slice_get (slice_set ps g q) k) (sym same) ∙ m_at) in
-      let x : ◌≡◌ {A = Option HartData} (Some h) None = sym is ∙ ap (λ (y : Process). y.hart) own ∙ none in cc)
-  | inr other ↦ whole m r (sym (get_set_other ps g m q other) ∙ m_at) none
-]
 
 -- ---- a device that failed
 
@@ -333,6 +319,7 @@ broke_on {T} {U} fault e left before after b = record {
   taken = b.taken;
   input = b.input;
   few = b.few;
+  words = b.words;
 }
 
 -- the event of a share's program is that of its hart
@@ -353,28 +340,8 @@ faults_as input output error = record { input = input; output = output; error = 
 pub faults_with : {i j output error : ℕ} → i ≡ j → faults_as i output error ≡ faults_as j output error
 faults_with {i} {j} {output} {error} e = ap (λ (n : ℕ). faults_as n output error) e
 
-pub input_after : (s : ShareData) (items : List Process) (g : ℕ) (p q : Process) → items ≡ s.processes → slice_get s.processes g ≡ Some p → source_faults (slice_get (slice_set items g q) g) ≡ q.input.faults
-input_after s items g p q is at = ap source_faults (get_set_same items g p q (ap (λ (xs : List Process). slice_get xs g) is ∙ at))
-
 pub not_ended : (s : ShareData) (words : List ℕ) (g : ℕ) (rom : Slots) (p : Process) (h : HartData) → Read s words g rom p h → h.machine.ending ≡ None → HasEnded s g → ⊥
 not_ended s words g rom p h r going w =
     let own : w.process ≡ p = same_Some w.process p (sym w.process_is ∙ r.at) in
     let same : w.hart ≡ h = same_Some w.hart h (sym w.hart_is ∙ ap (λ (x : Process). x.hart) own ∙ r.hart_is) in
     w.ended (ap (λ (k : HartData). k.machine.ending) same ∙ going)
-
--- ---- as the code has it
-
-pub came_from : (s : ShareData) (items : List Process) (g : ℕ) (rom rom' : Slots) (p p' : Process) (before after : EventDevices) → s ≡ share_of s.processes rom → items ≡ s.processes → Turned g s.processes rom rom' p p' before after →
-    Came (shared_event g (seen s)) (record { share = s; ram = before.ram; out = before.out; err = before.err })
-    (record { share = share_of (slice_set items g p') rom'; ram = after.ram; out = after.out; err = after.err })
-came_from s items g rom rom' p p' before after share is t =
-    subst (λ (xs : List Process). Came (shared_event g (seen s)) (record { share = s; ram = before.ram; out = before.out; err = before.err })
-    (record { share = share_of (slice_set xs g p') rom'; ram = after.ram; out = after.out; err = after.err })) (sym is)
-    (subst (λ (x : ShareData). Came (shared_event g (seen x)) (record { share = x; ram = before.ram; out = before.out; err = before.err })
-    (record { share = share_of (slice_set s.processes g p') rom'; ram = after.ram; out = after.out; err = after.err })) (sym share) (came_of g s.processes rom rom' p p' before after t))
-
-pub sharing_from : (s : ShareData) (items : List Process) (words words' : List ℕ) (g : ℕ) (rom rom' : Slots) (p p' : Process) (before after : EventDevices) → (q : IsSharing s words) → items ≡ s.processes → q.rom ≡ rom → Turned g s.processes rom rom' p p' before after →
-    SlotsServe rom' q.images words' → IsSharing (share_of (slice_set items g p') rom') words'
-sharing_from s items words words' g rom rom' p p' before after q is same t serves =
-    subst (λ (xs : List Process). IsSharing (share_of (slice_set xs g p') rom') words') (sym is)
-    (sharing_of s words words' g rom' p p' before after q (subst (λ (x : Slots). Turned g s.processes x rom' p p' before after) (sym same) t) serves)

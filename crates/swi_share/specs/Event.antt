@@ -13,6 +13,7 @@ use Rattle.swi_hart.specs.Matching.{Fits, Matches}
 use Rattle.swi_hart.specs.declared.fault.BoardFault.{BoardFault}
 use Rattle.swi_hart.specs.declared.fault.BoardFault.TheVariants.{SourceFault}
 use Rattle.swi_board.specs.Board.{BoardOf}
+use Rattle.swi_board.specs.Fetching.{HasFetched, FetchedFront}
 use Rattle.swi_board.specs.Transfers.{here_of, spent_run}
 use Rattle.swi_board.specs.Ran.{RamRan}
 use Rattle.swi_share.specs.Shared.{Context, Event, enters, entered_if, begun_if, event_of}
@@ -48,11 +49,12 @@ pub record EventMade (v : ImageData) (e : Event) (old new : BoardOf Slots) (befo
   pub output : Appends before.out after.out e.output
   pub error : Appends before.err after.err e.error
   pub ram : RamRan (span_of (setting_of old.rom)) e.fetches (writes e.kept - writes (kept_by old.rom)) before.ram after.ram
+  pub words : HasFetched e.words before.ram after.ram
   pub unused : SameFrom (extent_of (setting_of old.rom) e.kept) before.ram.words after.ram.words
   pub waits : Waits v e.kept new.hart
 
 -- The input or a sink broke off the event: each sink has gained a front of what the event writes, nothing where the input failed; and of the
--- input no more was taken than the event takes.
+-- input no more was taken than the event takes. The words fetched are a front of the event's.
 pub record EventBroke {T : Type 0} (result : Result T BoardFault) (e : Event) (left : List ℕ) (before after : EventDevices) : Type 0 where
   pub output_front : ℕ
   pub output : Appends before.out after.out (take output_front e.output)
@@ -62,17 +64,24 @@ pub record EventBroke {T : Type 0} (result : Result T BoardFault) (e : Event) (l
   pub taken : List ℕ
   pub input : Consumes (Some left) after.input taken
   pub few : length taken + length e.context.input ≤ length left
+  pub words : FetchedFront e.words before.ram after.ram
 
 -- The ram broke off the event, after so many fetches: the sinks have gained, and the input has lost, what the event writes and takes where
--- all its fetches were made, and else nothing.
+-- all its fetches were made, and else nothing. The words fetched are a front of the event's.
 pub record EventRamBroke (e : Event) (left : List ℕ) (before after : EventDevices) : Type 0 where
   pub fetched : ℕ
   pub fetches : after.ram.fetches ≡ risen before.ram.fetches fetched
   pub output : Appends before.out after.out (if nat_le e.fetches fetched then e.output else [])
   pub error : Appends before.err after.err (if nat_le e.fetches fetched then e.error else [])
   pub input : after.input ≡ Some (if nat_le e.fetches fetched then e.context.input else left)
+  pub words : FetchedFront e.words before.ram after.ram
   -- no call of the ram comes behind the one that failed
   pub last_failed : after.ram.last_failed ≡ true
+
+-- a sink to which the event gives nothing is not asked by it: its count of faults stays
+pub record Unasked (e : Event) (out out' err err' : ℕ) : Type 0 where
+  pub output : e.output ≡ [] → out' ≡ out
+  pub error : e.error ≡ [] → err' ≡ err
 
 -- a hart that is to make a step: it has entered the ram anew, or it goes on where it stands
 pub record Boarded (v : ImageData) (old new : BoardOf Slots) : Type 0 where

@@ -4,7 +4,7 @@ use Rattle.swi_outside.specs.Causes.{DeviceCause}
 use Rattle.swi_hart.specs.declared.fault.BoardFault.{BoardFault}
 use Rattle.swi_hart.specs.declared.fault.BoardFault.TheVariants.{SourceFault}
 use Rattle.swi_share.specs.Shared.{Shared, shared_run}
-use Rattle.swi_share.specs.Sharing.{ShareWith, Came, Stopped, HasRoom, seen, input_faults}
+use Rattle.swi_share.specs.Sharing.{ShareWith, Came, Stopped, HasRoom, UnaskedIn, seen, input_faults}
 
 -- each event is of one of the programs, which has then made fewer than 2^44 steps
 abbrev pub CanRun : List ℕ → Shared → Type 0
@@ -23,3 +23,8 @@ pub record RunStopped {T : Type 0} (result : Result T BoardFault) (order : List 
   pub came : RunCame (shared_run (take made order) (seen before.share)) before mid
   pub stopped : Stopped result (slice_index order made) mid after
   pub cause : DeviceCause (input_faults mid.share (slice_index order made)) (input_faults after.share (slice_index order made)) (IsErrOf result SourceFault)
+
+-- The same, and a sink to which that event gives nothing was not asked by it.
+pub record RunBroke {T : Type 0} (result : Result T BoardFault) (order : List ℕ) (before after : ShareWith) (out out' err err' : ℕ) : Type 0 where
+  pub run : RunStopped result order before after
+  pub unasked : UnaskedIn (slice_index order run.made) (seen run.mid.share) out out' err err'

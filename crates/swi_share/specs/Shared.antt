@@ -13,6 +13,7 @@ use Rattle.swi_rom.specs.Policy.{is_placed}
 use Rattle.swi_slots.specs.Fifo.{fifo}
 use Rattle.swi_hart.specs.Leaving.{moved}
 use Rattle.swi_board.specs.Board.{entry_transfer, entries}
+use Rattle.swi_board.specs.Fetching.{words_run}
 use Rattle.swi_board.specs.Transfers.{Here, here_run, transfers, cost, fetches, after_all}
 
 -- A program between two of its events: its image, its machine, the input that is left, whether it had an event, the block and the offset
@@ -25,13 +26,15 @@ pub record Context : Type 0 where
   pub place : Here
   pub count : ℕ
 
--- what an event leaves: queue, links and counts, the program, the bytes that it writes, and how many words it fetches
+-- what an event leaves: queue, links and counts, the program, the bytes that it writes, how many words of the ram it fetches, and which, in
+-- order
 pub record Event : Type 0 where
   pub kept : Record
   pub context : Context
   pub output : List ℕ
   pub error : List ℕ
   pub fetches : ℕ
+  pub words : List ℕ
 
 -- whether control's block has left the queue
 abbrev pub has_left : Record → Here → Bool
@@ -74,6 +77,7 @@ step_event by r c = record {
   output = (held_run 1 (flat_of c)).output;
   error = (held_run 1 (flat_of c)).error;
   fetches = fetches c.image 1 (flat_of c) c.place;
+  words = words_run (fifo by) c.image 1 (flat_of c) c.place r;
 }
 
 -- an event of the program in turn, which has not ended
@@ -81,7 +85,7 @@ abbrev pub event_of : Setting → Record → Context → Event
 event_of by r c = step_event by (entered_if (enters r c) by r c) (begun_if (enters r c) c)
 
 -- All programs with the one cache: its setting, its queue with links and counts, the contexts (none of a program whose event a device
--- broke off); and the bytes that the events have written, in their order, and how many words they have fetched.
+-- broke off); and the bytes that the events have written, in their order, how many words they have fetched, and which.
 pub record Shared : Type 0 where
   pub setting : Setting
   pub kept : Record
@@ -89,6 +93,7 @@ pub record Shared : Type 0 where
   pub output : List ℕ
   pub error : List ℕ
   pub fetches : ℕ
+  pub words : List ℕ
 
 abbrev pub with_event : ℕ → Shared → Event → Shared
 with_event g s e = record s {
@@ -97,6 +102,7 @@ with_event g s e = record s {
   output = s.output ++ e.output;
   error = s.error ++ e.error;
   fetches = s.fetches + e.fetches;
+  words = s.words ++ e.words;
 }
 
 -- an event of a program that has ended does nothing

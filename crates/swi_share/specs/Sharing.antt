@@ -2,14 +2,17 @@
 use Rattle.std.specs.Prelude.{◌≡◌, ℕ, ◌+◌, ◌-◌, ◌^◌, ◌<◌, ◌≤◌, ⊤, List, [], ◌∷◌, map, length, slice_get, slice_index_or, slice_set, Option, Some, None, Result, IsErrOf}
 use Rattle.std.specs.Io.KnownBytes.{Appends}
 use Rattle.swi_outside.specs.CacheRam.{RamState}
+use Rattle.swi_outside.specs.Source.{StoredSource}
 use Rattle.swi_image.specs.Format.{ImageData}
 use Rattle.swi_rom.specs.Record.{Record, empty_record, writes}
 use Rattle.swi_rom.specs.Service.{Setting}
 use Rattle.swi_rom.specs.Served.{SameFrom}
 use Rattle.swi_slots.specs.Fifo.{extent_of}
 use Rattle.swi_slots.specs.Slots.{Slots, kept_by, setting_of, span_of}
-use Rattle.swi_slots.specs.Sound.{SlotsServe}
+use Rattle.swi_slots.specs.Keys.{Images}
+use Rattle.swi_slots.specs.Sound.{SlotsServe, Serves}
 use Rattle.swi_hart.specs.Hart.{HartData, place_under}
+use Rattle.swi_board.specs.Fetching.{HasFetched}
 use Rattle.swi_board.specs.Ran.{RamRan}
 use Rattle.swi_rom.specs.declared.rom.Counts.{Counts}
 use Rattle.swi_share.specs.declared.share.ShareCounts.{ShareCounts}
@@ -19,7 +22,7 @@ use Rattle.swi_hart.specs.declared.fault.BoardFault.{BoardFault}
 use Rattle.swi_hart.specs.declared.fault.BoardFault.TheVariants.{RamFault}
 use Rattle.swi_share.specs.Shared.{Context, Event, Shared, event_of}
 use Rattle.swi_share.specs.Waiting.{Waits, most_services}
-use Rattle.swi_share.specs.Event.{EventDevices, EventBroke, EventRamBroke, context}
+use Rattle.swi_share.specs.Event.{EventDevices, EventBroke, EventRamBroke, Unasked, context}
 
 -- the programs, and the service, which is none once a device has failed
 pub record ShareData : Type 0 where
@@ -50,6 +53,7 @@ seen s = record {
   output = [];
   error = [];
   fetches = 0;
+  words = [];
 }
 
 -- a share with its ram and its sinks
@@ -61,10 +65,11 @@ pub record ShareWith : Type 0 where
 
 -- Events have led to a state: the share is seen so, the sinks have gained its bytes, and the ram its fetches and what was written.
 pub record Came (next : Shared) (before after : ShareWith) : Type 0 where
-  pub share : seen after.share ≡ record next { output = []; error = []; fetches = 0 }
+  pub share : seen after.share ≡ record next { output = []; error = []; fetches = 0; words = [] }
   pub output : Appends before.out after.out next.output
   pub error : Appends before.err after.err next.error
   pub ram : RamRan (span_of next.setting) next.fetches (writes next.kept - writes (seen before.share).kept) before.ram after.ram
+  pub words : HasFetched next.words before.ram after.ram
   pub unused : SameFrom (extent_of next.setting next.kept) before.ram.words after.ram.words
 
 -- the event of a program that a device broke off, with its input before it
@@ -79,12 +84,21 @@ pub record Stopped {T : Type 0} (result : Result T BoardFault) (g : ℕ) (before
   pub failed : after.share.rom ≡ None
   pub context : Context
   pub context_is : slice_index_or (seen before.share).contexts g None ≡ Some context
+  pub running : context.machine.ending ≡ None
   pub process : Process
   pub processes : after.share.processes ≡ slice_set before.share.processes g process
   pub broke : OnDevice result (EventBroke result (event_in g (seen before.share) context) context.input
       (devices_with before context.input) (devices_with after process.input.left))
   pub ram_broke : IsErrOf result RamFault → EventRamBroke (event_in g (seen before.share) context) context.input
       (devices_with before context.input) (devices_with after process.input.left)
+
+-- a sink to which an event of program g gives nothing is not asked by it
+abbrev pub UnaskedIn : ℕ → Shared → ℕ → ℕ → ℕ → ℕ → Type 0
+UnaskedIn g s out out' err err' = (c : Context) → slice_index_or s.contexts g None ≡ Some c → Unasked (event_in g s c) out out' err err'
+
+-- the programs' inputs
+abbrev pub inputs_of : List Process → List StoredSource
+inputs_of ps = map (λ (p : Process). p.input) ps
 
 -- the faults of a program's input
 abbrev pub source_faults : Option Process → ℕ
@@ -137,6 +151,32 @@ pub record IsSharing (s : ShareData) (words : List ℕ) : Type 0 where
 -- program g has made fewer than 2^44 steps
 abbrev pub HasRoom : Shared → ℕ → Type 0
 HasRoom s g = (c : Context) → slice_index_or s.contexts g None ≡ Some c → c.machine.steps < 2 ^ 44
+
+-- no input of program g has a byte left
+abbrev pub IsUnfed : Shared → ℕ → Type 0
+IsUnfed s g = (c : Context) → slice_index_or s.contexts g None ≡ Some c → c.input ≡ []
+
+-- Program g has not ended: its hart is taken out for its next event, with the service, for which it is in turn. Nothing else changes.
+pub record TakenOut (g : ℕ) (hart : HartData) (rom : Slots) (old new : ShareData) : Type 0 where
+  pub process : Process
+  pub process_is : slice_get old.processes g ≡ Some process
+  pub hart_is : process.hart ≡ Some hart
+  pub running : hart.machine.ending ≡ None
+  pub before : Slots
+  pub before_is : old.rom ≡ Some before
+  pub rom_is : rom ≡ record before { turn = g }
+  pub kept : kept_by rom ≡ turned before g
+  pub serves : (v : ImageData) (images : Images) (words : List ℕ) → Serves before v images words → Serves rom (images g) images words
+  pub left : new ≡ record { processes = slice_set old.processes g (record process { hart = None }); rom = None }
+
+-- the hart of program g and the service are there again
+abbrev pub IsPutBack : ℕ → HartData → Slots → ShareData → ShareData → Type 0
+IsPutBack g hart rom old new = (p : Process) → slice_get old.processes g ≡ Some p →
+    new ≡ record { processes = slice_set old.processes g (record p { hart = Some hart }); rom = Some rom }
+
+-- the harts of all programs but g are there
+abbrev pub OthersWhole : ℕ → List Process → Type 0
+OthersWhole g ps = (k : ℕ) (p : Process) → (k ≡ g → ⊥) → slice_get ps k ≡ Some p → p.hart ≡ None → ⊥
 
 -- where there is a service all harts are there
 abbrev pub IsWhole : Option Slots → List Process → Type 0

@@ -1,5 +1,6 @@
 -- Programs before their first events, over an empty cache. Own rule.
 use Rattle.std.specs.Prelude.{◌≡◌, ℕ, ◌/◌, ⊤, max, false, List, [], ◌∷◌, map, length, Option, Some, None}
+use Rattle.swi_outside.specs.Source.{StoredSource}
 use Rattle.swi_memory.specs.Bus.{fetched}
 use Rattle.swi_program.specs.Layout.{IsLayoutOf}
 use Rattle.swi_program.specs.Text.{text_of}
@@ -46,7 +47,12 @@ shared_start bytes guests = record {
   output = [];
   error = [];
   fetches = 0;
+  words = [];
 }
+
+-- the guests' inputs
+abbrev pub inputs_given : List Guest → List StoredSource
+inputs_given xs = map (λ (x : Guest). x.input) xs
 
 -- what stands for a guest that has started
 pub record Started (x : Guest) (p : Process) : Type 0 where

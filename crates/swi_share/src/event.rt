@@ -17,7 +17,7 @@ ghost use Rattle.swi_hart.specs.Calling.{OnDevice};
 ghost use Rattle.swi_hart.specs.Leaving.{RamFailed, RamServed};
 ghost use Rattle.swi_share.specs.Shared.{enters};
 ghost use Rattle.swi_share.specs.Waiting.{Waits, shows_place};
-ghost use Rattle.swi_share.specs.Event.{Boarded, EventMade, EventBroke, EventRamBroke, context, event_at};
+ghost use Rattle.swi_share.specs.Event.{Boarded, EventMade, EventBroke, EventRamBroke, Unasked, context, event_at};
 
 use swi_board::Board;
 use swi_fifo::FifoRom;
@@ -115,6 +115,8 @@ pub(crate) fn make_event<M: CacheRam, I: Source, O: Sink, E: Sink>(
         EventRamBroke (event_at (record { hart = hart; rom = rom }) image.now left) left
         (record { ram = M.state ram.old; input = (I.state input.old).left; out = (O.state out.old).held; err = (E.state err.old).held })
         (record { ram = M.state ram.new; input = (I.state input.new).left; out = (O.state out.new).held; err = (E.state err.new).held })) }
+    ensures unasked { ForSome (I.state input.old).left (λ left. Unasked (event_at (record { hart = hart; rom = rom }) image.now left)
+        (O.state out.old).faults (O.state out.new).faults (E.state err.old).faults (E.state err.new).faults) }
     ensures causes { HasCauses
         (faults_of (record { input = I.state input.old; output = O.state out.old; error = E.state err.old }))
         (faults_of (record { input = I.state input.new; output = O.state out.new; error = E.state err.new }))

@@ -4,6 +4,7 @@
 mod event;
 mod process;
 mod share;
+mod unfed;
 
-pub use process::Guest;
+pub use process::{Guest, most_words};
 pub use share::{Share, ShareCounts};

@@ -29,8 +29,8 @@ pub(crate) struct Process<'a> {
     pub(crate) input: MemSource,
 }
 
-/// The most words of a block: 2 to 1024.
-pub(crate) fn most_words(guests: &[Guest<'_>]) -> u32
+/// The most words of a block of these guests: 2 to 1024. There is one at least.
+pub fn most_words(guests: &[Guest<'_>]) -> u32
     requires some { 0 < length guests.now }
     ensures most { result ≡ most_words guests.now }
     ensures least { 2 ≤ result }

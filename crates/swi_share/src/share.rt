@@ -1,18 +1,19 @@
 //! Programs that share one cache.
 #![tactic(auto)]
 
-ghost use Rattle.std.specs.Prelude.{◌≡◌, ◌*◌, ◌^◌, ◌<◌, ◌≤◌, ℕ, List, not, length, slice_get, slice_index_or, Some, None, is_some, IfOk, OnOk, OnErr, IsErrOf};
+ghost use Rattle.std.specs.Prelude.{◌≡◌, ◌*◌, ◌^◌, ◌<◌, ◌≤◌, ℕ, List, not, length, slice_get, slice_index_or, Some, None, is_some, MatchOption, IfOk, OnOk, OnErr, IsErrOf};
 ghost use Rattle.swi_slots.specs.Slots.{span_of};
 ghost use Rattle.swi_share.specs.Shared.{shared_event, shared_run};
-ghost use Rattle.swi_share.specs.Run.{CanRun, RunCame, RunStopped};
-ghost use Rattle.swi_share.specs.Sharing.{seen, Came, IsSharing, HasRoom, HasEnded, Stopped, CountsTold, Tells, input_faults};
-ghost use Rattle.swi_share.specs.Starting.{AreGuests, most_words, shared_start};
+ghost use Rattle.swi_share.specs.Run.{CanRun, RunCame, RunBroke};
+ghost use Rattle.swi_share.specs.Sharing.{seen, Came, IsSharing, HasRoom, HasEnded, IsUnfed, IsPutBack, OthersWhole, Stopped, TakenOut, UnaskedIn, CountsTold, Tells, input_faults, inputs_of};
+ghost use Rattle.swi_share.specs.Starting.{AreGuests, inputs_given, most_words, shared_start};
 ghost use Rattle.swi_outside.specs.CacheRam.{KeepsBeyond};
 ghost use Rattle.swi_outside.specs.Causes.{DeviceCause, PairCause};
 ghost use Rattle.swi_outside.specs.Devices.{HasCauses};
 
 use crate::event::make_event;
 use crate::process::{Guest, Process, most_words, start_all};
+use crate::unfed::Unfed;
 use std::alloc::Global;
 use std::marker::Model;
 use swi_fifo::FifoRom;
@@ -68,6 +69,7 @@ impl<'a> Share<'a> {
         requires limit { cache_bytes ≤ 2 ^ 23 }
         ensures programs { IfOk result (λ s. length s.processes ≡ length guests.entry.items) }
         ensures start { IfOk result (λ s. seen s ≡ shared_start cache_bytes guests.entry.items) }
+        ensures inputs { IfOk result (λ s. inputs_of s.processes ≡ inputs_given guests.entry.items) }
         ensures sharing { IfOk result (λ s. (words : List ℕ) → cache_bytes ≤ 4 * length words → IsSharing s words) }
     {
         let rom = FifoRom::shared(alloc, cache_bytes, most_words(&guests), guests.len() as u32)?;
@@ -82,7 +84,8 @@ impl<'a> Share<'a> {
     /// no event yet, or whose block has left the ram, first enters the ram at its address, by one service.
     ///
     /// `g` is a guest's number. No device has failed, the ram is as the last call left it, and holds the cache; the program
-    /// has made fewer than 2^44 steps. The bytes of both sinks are those of the events in order.
+    /// has made fewer than 2^44 steps. The bytes of both sinks are those of the events in order. A sink to which the event
+    /// gives nothing is not asked.
     ///
     /// Each fault comes only where its device's count rose; that of the input is the program's own. After an error `failed`
     /// is true. Own rule.
@@ -108,6 +111,8 @@ impl<'a> Share<'a> {
             (record { share = self.old; ram = M.state ram.old; out = (O.state out.old).held; err = (E.state err.old).held })
             (record { share = self.new; ram = M.state ram.new; out = (O.state out.new).held; err = (E.state err.new).held })) }
         ensures kept { KeepsBeyond (span_of (seen self.old).setting) (M.state ram.old) (M.state ram.new) }
+        ensures sinks_unasked { UnaskedIn g (seen self.old)
+            (O.state out.old).faults (O.state out.new).faults (E.state err.old).faults (E.state err.new).faults }
         ensures causes { HasCauses
             (record { input = input_faults self.old g; output = (O.state out.old).faults; error = (E.state err.old).faults })
             (record { input = input_faults self.new g; output = (O.state out.new).faults; error = (E.state err.new).faults })
@@ -115,27 +120,56 @@ impl<'a> Share<'a> {
         ensures ram_cause { DeviceCause (M.state ram.old).faults (M.state ram.new).faults
             (IsErrOf result BoardFault.RamFault) }
     {
-        let Some(mut rom) = self.rom.take() else {
-            unreachable!()
+        let Some((hart, rom)) = self.take_turn(g) else {
+            return Ok(());
         };
         let process = &mut self.processes[g as usize];
-        let Some(hart) = process.hart.take() else {
-            unreachable!()
-        };
-        if hart.ending().is_some() {
-            process.hart = Some(hart);
-            self.rom = Some(rom);
+        let (hart, rom) = make_event(&process.image, hart, rom, ram, &mut process.input, out, err)?;
+        self.put_back(g, hart, rom);
+        Ok(())
+    }
+
+    /// The same of a program whose input has no byte left. It is not asked, so it never fails, and no input changes.
+    pub fn event_unfed<M: CacheRam, O: Sink, E: Sink>(
+        &mut self,
+        g: u32,
+        ram: &mut M,
+        out: &mut O,
+        err: &mut E,
+    ) -> Result<(), BoardFault>
+        requires guest { g < length self.old.processes }
+        requires sharing { IsSharing self.old (M.state ram.old).words }
+        requires room { HasRoom (seen self.old) g }
+        requires unfed { IsUnfed (seen self.old) g }
+        ensures came { OnOk result (Came (shared_event g (seen self.old))
+            (record { share = self.old; ram = M.state ram.old; out = (O.state out.old).held; err = (E.state err.old).held })
+            (record { share = self.new; ram = M.state ram.new; out = (O.state out.new).held; err = (E.state err.new).held })) }
+        ensures sharing { OnOk result (IsSharing self.new (M.state ram.new).words) }
+        ensures programs { length self.new.processes ≡ length self.old.processes }
+        ensures others { (k : ℕ) → (k ≡ g → ⊥) → slice_get self.new.processes k ≡ slice_get self.old.processes k }
+        ensures stopped { OnErr result (Stopped result g
+            (record { share = self.old; ram = M.state ram.old; out = (O.state out.old).held; err = (E.state err.old).held })
+            (record { share = self.new; ram = M.state ram.new; out = (O.state out.new).held; err = (E.state err.new).held })) }
+        ensures going { OnErr result (HasEnded self.old g → ⊥) }
+        ensures unfed { OnOk result (IsUnfed (seen self.new) g) }
+        ensures unasked { input_faults self.new g ≡ input_faults self.old g }
+        ensures inputs { inputs_of self.new.processes ≡ inputs_of self.old.processes }
+        ensures sinks_unasked { UnaskedIn g (seen self.old)
+            (O.state out.old).faults (O.state out.new).faults (E.state err.old).faults (E.state err.new).faults }
+        ensures unnamed { IsErrOf result BoardFault.SourceFault → ⊥ }
+        ensures kept { KeepsBeyond (span_of (seen self.old).setting) (M.state ram.old) (M.state ram.new) }
+        ensures sink_cause { PairCause (O.state out.old).faults (O.state out.new).faults (E.state err.old).faults
+            (E.state err.new).faults (IsErrOf result BoardFault.SinkFault) }
+        ensures ram_cause { DeviceCause (M.state ram.old).faults (M.state ram.new).faults
+            (IsErrOf result BoardFault.RamFault) }
+    {
+        let Some((hart, rom)) = self.take_turn(g) else {
             return Ok(());
-        }
-        rom.turn_to(g);
-        match make_event(&process.image, hart, rom, ram, &mut process.input, out, err) {
-            Ok((hart, rom)) => {
-                process.hart = Some(hart);
-                self.rom = Some(rom);
-                Ok(())
-            }
-            Err(fault) => Err(fault),
-        }
+        };
+        let image = &self.processes[g as usize].image;
+        let (hart, rom) = make_event(image, hart, rom, ram, &mut Unfed, out, err)?;
+        self.put_back(g, hart, rom);
+        Ok(())
     }
 
     /// Events in order, each of a guest's number, under the conditions of `event`. After an error the events before the one
@@ -157,9 +191,10 @@ impl<'a> Share<'a> {
             (record { share = self.new; ram = M.state ram.new; out = (O.state out.new).held; err = (E.state err.new).held })) }
         ensures sharing { OnOk result (IsSharing self.new (M.state ram.new).words) }
         ensures programs { length self.new.processes ≡ length self.old.processes }
-        ensures stopped { OnErr result (RunStopped result order.now
+        ensures stopped { OnErr result (RunBroke result order.now
             (record { share = self.old; ram = M.state ram.old; out = (O.state out.old).held; err = (E.state err.old).held })
-            (record { share = self.new; ram = M.state ram.new; out = (O.state out.new).held; err = (E.state err.new).held })) }
+            (record { share = self.new; ram = M.state ram.new; out = (O.state out.new).held; err = (E.state err.new).held })
+            (O.state out.old).faults (O.state out.new).faults (E.state err.old).faults (E.state err.new).faults) }
         ensures kept { KeepsBeyond (span_of (seen self.old).setting) (M.state ram.old) (M.state ram.new) }
         ensures sink_cause { PairCause (O.state out.old).faults (O.state out.new).faults (E.state err.old).faults
             (E.state err.new).faults (IsErrOf result BoardFault.SinkFault) }
@@ -205,5 +240,37 @@ impl<'a> Share<'a> {
             unlinks: counts.unlinks,
             copied: counts.copied,
         }
+    }
+
+    /// Takes out the hart of program `g` for its next event, and the service, for which it is then in turn. None, and
+    /// nothing is taken, where the program has ended. No device has failed.
+    fn take_turn(&mut self, g: u32) -> Option<(Hart, FifoRom)>
+        requires guest { g < length self.old.processes }
+        requires unfailed { self.old.rom ≡ None → ⊥ }
+        requires turn { g < (seen self.old).setting.programs }
+        ensures { MatchOption result ((self.new ≡ self.old) × HasEnded self.old g)
+            (λ p. TakenOut g p.0 p.1 self.old self.new) }
+    {
+        if self.hart(g).ending().is_some() {
+            return None;
+        }
+        let Some(hart) = self.processes[g as usize].hart.take() else {
+            unreachable!()
+        };
+        let Some(mut rom) = self.rom.take() else {
+            unreachable!()
+        };
+        rom.turn_to(g);
+        Some((hart, rom))
+    }
+
+    /// Puts back what `take_turn` took, as the event has left it.
+    fn put_back(&mut self, g: u32, hart: Hart, rom: FifoRom)
+        requires guest { g < length self.old.processes }
+        requires others { OthersWhole g self.old.processes }
+        ensures { IsPutBack g hart rom self.old self.new }
+    {
+        self.processes[g as usize].hart = Some(hart);
+        self.rom = Some(rom);
     }
 }

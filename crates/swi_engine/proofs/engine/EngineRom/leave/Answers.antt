@@ -1,11 +1,13 @@
 use Rattle.std.proofs.Common.{◌≡◌, ◌<◌, ℕ, List, length, remove, slice_index, slice_set, refl, arith, ap, subst, sym, ◌∙◌}
-use Rattle.std.proofs.lemmas.List.{get_or_read}
+use Rattle.std.proofs.lemmas.List.{get_or_read, length-set}
 use Rattle.std.proofs.lemmas.List.Edits.{length-remove}
 use Rattle.swi_rom.specs.Record.{Has}
+use Rattle.swi_engine.specs.Joints.{JointsData}
 use Rattle.swi_engine.specs.State.{EngineData}
 use Rattle.swi_engine.specs.Sound.{Homed, Distinct}
 use Rattle.swi_engine.proofs.Shapes.{has_index, remove_has, left_homed}
-use Rattle.swi_engine.proofs.Views.{left_view, leaving}
+use Rattle.swi_engine.proofs.Views.{left_view, leaving, leaves_within}
+use Rattle.swi_engine.proofs.Joining.{left_joints, own_short}
 use Rattle.swi_engine.proofs.engine.EngineRom.leave.Goals as goal
 
 pub index-block-requires : goal.index-block-requires
@@ -40,10 +42,36 @@ invariant_of-self c =
             (left_homed c.self.inside.slots c.self.inside.queue.items c.self.inside.blocks.items c.self.inside.homes.items c.args.k s.homed once below));
       },
       omega (arith, c.self.invariant.1, c.remove-slot.ensures.capacity),
-      omega (arith, c.self.invariant.2, c.drop_from.ensures.capacity),
+      ap (λ (d : JointsData). d.words) c.unlink_all.ensures ∙ c.self.invariant.2,
+      omega (arith, ap (λ (d : JointsData). d.blocks) c.unlink_all.ensures, c.self.invariant.3, length-set c.self.inside.homes.items c.index-block.result.now c.self.inside.slots),
     )
+
+pub index-length-requires : goal.index-length-requires
+index-length-requires c =
+    let below : c.args.k < length c.self.inside.queue.items = omega (arith, c.requires.k, ap (λ (e : EngineData). length e.queue) c.self.view_is) in
+    let s = c.self.invariant.0 in
+    let is = get_or_read _ c.args.k c.remove-slot.result below c.remove-slot.ensures.value 0 in
+    omega (arith, s.lengths_long, s.below _ (subst (λ (n : ℕ). Has c.self.inside.queue.items n) (sym is) (has_index c.self.inside.queue.items c.args.k below)))
 
 pub returns-clause-data : goal.returns-clause-data
 returns-clause-data c =
     let w = leaving _ _ c.args.k _ _ c.self.view_is c.self.invariant.0 c.requires.k c.remove-slot.ensures.value c.index-block.ensures in
-    left_view _ _ c.args.k c.index-block.result.now _ _ _ c.self.view_is c.remove-slot.ensures.items refl c.drop_from.ensures.kept (w.1 ∙ ap (λ (n : ℕ). slice_index c.self.inside.blocks.items n) w.0)
+    let lt = leaves_within _ _ c.args.k c.remove-slot.result c.self.view_is c.self.invariant.0 c.requires.k c.remove-slot.ensures.value in
+    let long = get_or_read _ c.remove-slot.result c.index-length.result.now lt.0 c.index-length.ensures 0 in
+    left_view _ _ c.args.k c.index-block.result.now _ _ _ c.self.view_is c.remove-slot.ensures.items refl
+    (left_joints _ _ c.args.k c.remove-slot.result _ c.index-length.result.now c.index-block.result.now _ c.self.view_is c.requires.owned w.0 refl long w.1 (ap (λ (d : JointsData). d.joints) c.unlink_all.ensures))
+    (w.1 ∙ ap (λ (n : ℕ). slice_index c.self.inside.blocks.items n) w.0)
+
+pub overflow_mul-first : goal.overflow_mul-first
+overflow_mul-first c =
+    let w = leaves_within _ _ c.args.k c.remove-slot.result c.self.view_is c.self.invariant.0 c.requires.k c.remove-slot.ensures.value in
+    omega (arith, w.1, c.self.invariant.0.words_few)
+
+pub unlink_all-requires-clause-within : goal.unlink_all-requires-clause-within
+unlink_all-requires-clause-within c =
+    let w = leaves_within _ _ c.args.k c.remove-slot.result c.self.view_is c.self.invariant.0 c.requires.k c.remove-slot.ensures.value in
+    let long = get_or_read _ c.remove-slot.result c.index-length.result.now w.0 c.index-length.ensures 0 in
+    omega (arith, w.1, c.self.invariant.2, long, own_short _ _ c.args.k c.remove-slot.result c.self.view_is c.requires.owned c.requires.k c.remove-slot.ensures.value)
+
+pub unlink_all-requires-clause-small : goal.unlink_all-requires-clause-small
+unlink_all-requires-clause-small c = omega (arith, c.self.invariant.2, c.self.invariant.0.words_few)

@@ -2,6 +2,8 @@ use Rattle.std.proofs.Common.{◌<◌, length, arith, ap}
 use Rattle.swi_engine.specs.State.{EngineData}
 use Rattle.swi_engine.proofs.Working.{slot_now, victim_now}
 use Rattle.swi_engine.proofs.Arriving.{room_made}
+use Rattle.swi_engine.proofs.Views.{leaving}
+use Rattle.swi_engine.proofs.Joining.{owns_links}
 use Rattle.swi_engine.proofs.engine.EngineRom.make_room.Goals as goal
 
 pub index-requires : goal.index-requires
@@ -13,6 +15,14 @@ index-block-requires g c =
 
 pub leave-requires-clause-k : goal.leave-requires-clause-k
 leave-requires-clause-k g c = omega (arith, c.requires.some, ap (λ (e : EngineData). length e.queue) c.in_ok-clear.ensures.cleared.rest)
+
+pub clear-requires-clause-block : goal.clear-requires-clause-block
+clear-requires-clause-block g c =
+    omega (arith, (leaving _ _ 0 _ _ c.self.view_is c.self.invariant.0 c.requires.some c.index.ensures c.index-block.ensures).2, ap (λ (e : EngineData). length e.homes) c.self.view_is)
+
+pub leave-requires-clause-owned : goal.leave-requires-clause-owned
+leave-requires-clause-owned g c =
+    owns_links _ _ _ 0 c.in_ok-clear.ensures.cleared.stands (omega (arith, c.requires.some, ap (λ (e : EngineData). length e.queue) c.in_ok-clear.ensures.cleared.rest))
 
 pub leave-requires-clause-once : goal.leave-requires-clause-once
 leave-requires-clause-once g c = c.in_ok-clear.ensures.cleared.stands.once

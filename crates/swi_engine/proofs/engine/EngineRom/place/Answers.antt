@@ -30,4 +30,5 @@ invariant_of-self c =
       },
       omega (arith, c.self.invariant.1, c.push.ensures.capacity),
       c.self.invariant.2,
+      omega (arith, c.self.invariant.3, length-set c.self.inside.homes.items c.args.block c.args.slot),
     )

@@ -1,6 +1,8 @@
-use Rattle.std.proofs.Common.{◌<◌, length, arith, ap, sym, ◌∙◌}
+use Rattle.std.proofs.Common.{◌<◌, length, arith, ap, refl, sym, ◌∙◌}
 use Rattle.swi_engine.specs.State.{EngineData}
-use Rattle.swi_engine.proofs.Working.{copy_worked, idle_worked, behind_last, stands_already, none_other, undone_worked, queue_below, oldest_now, newest_now, victim_now, slot_now, free_call, left_call, joint_bound, room_after, absent_after, here_small, found_oldest, found_link}
+use Rattle.swi_engine.proofs.Working.{copy_worked, idle_worked, behind_last, stands_already, none_other, undone_call, queue_below, oldest_now, victim_now, slot_now, free_call, left_call, joint_bound, room_after, absent_after, here_small, found_oldest}
+use Rattle.swi_engine.proofs.Views.{leaving}
+use Rattle.swi_engine.proofs.Joining.{newest_now, none_now, owns_links}
 use Rattle.swi_engine.proofs.Eventing.{words_kept}
 use Rattle.swi_engine.proofs.engine.EngineRom.work.Goals as goal
 
@@ -62,16 +64,19 @@ index-victim-requires g c =
     let lt : c.in-Some-oldest_but.k < length c.self.inside.queue.items = omega (arith, found_oldest c.args.self.now c.args.here c.in-Some-oldest_but.k at, long) in
     omega (arith, slot_now _ _ c.index.result.now c.self.invariant.0 lt c.index.ensures)
 
-pub undo-requires-clause-k : goal.undo-requires-clause-k
-undo-requires-clause-k g c =
+pub newest_into-requires : goal.newest_into-requires
+newest_into-requires g c =
     let long = ap (λ (e : EngineData). length e.queue) c.self.view_is in
     let at = oldest_now _ _ _ _ _ _ _ c.self.view_is c.deref.ensures.value c.deref-2.ensures.value c.oldest_but.ensures c.in-Some-oldest_but.is in
-    let lt : c.in-Some-oldest_but.k < length c.self.inside.queue.items = omega (arith, found_oldest c.args.self.now c.args.here c.in-Some-oldest_but.k at, long) in
-    let victim = victim_now _ _ _ _ _ c.self.view_is c.self.invariant.0 lt c.index.ensures c.index-victim.ensures in
-    omega (arith, found_link c.args.self.now _ c.in-Some-newest_into.j (newest_now _ _ _ _ _ _ _ c.self.view_is c.deref-3.ensures.value victim.2 c.newest_into.ensures c.in-Some-newest_into.is))
+    omega (arith, (leaving _ _ c.in-Some-oldest_but.k _ _ c.self.view_is c.self.invariant.0 (found_oldest c.args.self.now c.args.here c.in-Some-oldest_but.k at) c.index.ensures c.index-victim.ensures).2, c.self.invariant.3)
 
 pub undo-requires-clause-at : goal.undo-requires-clause-at
-undo-requires-clause-at g c = λ j get. joint_bound _ _ _ _ j c.requires.sound.stands get
+undo-requires-clause-at g c =
+    let w = newest_now _ _ _ _ _ c.self.view_is refl c.in-Some-newest_into.ensures in
+    omega (arith, joint_bound _ _ _ _ w.2.0 c.requires.sound.stands w.2.1, w.2.2)
+
+pub undo-requires-clause-apart : goal.undo-requires-clause-apart
+undo-requires-clause-apart g c = c.requires.sound.stands.apart
 
 pub undo-requires-clause-few : goal.undo-requires-clause-few
 undo-requires-clause-few g c = omega (arith, c.requires.sound.few.unlinks_few, c.requires.sound.few.links_few, c.requires.sound.few.services_few)
@@ -84,16 +89,21 @@ returns-in-Some-newest_into-clause-worked g c =
     let at = oldest_now _ _ _ _ _ _ _ c.self.view_is c.deref.ensures.value c.deref-2.ensures.value c.oldest_but.ensures c.in-Some-oldest_but.is in
     let lt : c.in-Some-oldest_but.k < length c.self.inside.queue.items = omega (arith, found_oldest c.args.self.now c.args.here c.in-Some-oldest_but.k at, long) in
     let victim = victim_now _ _ _ _ _ c.self.view_is c.self.invariant.0 lt c.index.ensures c.index-victim.ensures in
-    undone_worked _ _ _ _ _ _ _ _ c.requires.sound (sym view ∙ c.in_default.is) (omega (arith, c.if-block-blocks.false, c.blocks-2.ensures.value))
+    let w = newest_now _ _ _ _ _ c.self.view_is victim.2 c.in-Some-newest_into.ensures in
+    undone_call _ _ _ _ _ _ _ _ c.requires.sound (sym view ∙ c.in_default.is) (omega (arith, c.if-block-blocks.false, c.blocks-2.ensures.value))
     c.in_default-find.ensures
     (omega (arith, c.if-len-self.false, c.len.ensures, long, slots)) at
-    (newest_now _ _ _ _ _ _ _ c.self.view_is c.deref-3.ensures.value victim.2 c.newest_into.ensures c.in-Some-newest_into.is)
-    c.in_ok-undo.ensures.data c.in_ok-undo.ensures.set
+    w (c.in_ok-undo.ensures.data w.0 w.2) c.in_ok-undo.ensures.set
 
 pub leave-slot-requires-clause-k : goal.leave-slot-requires-clause-k
 leave-slot-requires-clause-k g c =
     let at = oldest_now _ _ _ _ _ _ _ c.self.view_is c.deref.ensures.value c.deref-2.ensures.value c.oldest_but.ensures c.in-Some-oldest_but.is in
     omega (arith, found_oldest c.args.self.now c.args.here c.in-Some-oldest_but.k at)
+
+pub leave-slot-requires-clause-owned : goal.leave-slot-requires-clause-owned
+leave-slot-requires-clause-owned g c =
+    let at = oldest_now _ _ _ _ _ _ _ c.self.view_is c.deref.ensures.value c.deref-2.ensures.value c.oldest_but.ensures c.in-Some-oldest_but.is in
+    owns_links _ _ _ _ c.requires.sound.stands (found_oldest c.args.self.now c.args.here c.in-Some-oldest_but.k at)
 
 pub leave-slot-requires-clause-few : goal.leave-slot-requires-clause-few
 leave-slot-requires-clause-few g c = omega (arith, c.requires.sound.few.evictions_few, c.requires.sound.few.misses_few, c.requires.sound.few.services_few, c.requires.sound.few.words_few)
@@ -119,7 +129,7 @@ returns-clause-worked g c =
     left_call _ _ _ _ _ c.requires.here.0 _ _ _ _ c.requires.sound (sym view ∙ c.in_default.is) (omega (arith, c.requires.few, words_kept c.args.self.now)) c.requires.here.1 (omega (arith, c.if-block-blocks.false, c.blocks-2.ensures.value))
     c.in_default-find.ensures
     (omega (arith, c.if-len-self.false, c.len.ensures, long, slots)) at
-    (newest_now _ _ _ _ _ _ _ c.self.view_is c.deref-3.ensures.value victim.2 c.newest_into.ensures c.in_default-newest_into.is)
+    (none_now _ _ _ _ c.self.view_is victim.2 c.in_default-newest_into.ensures)
     c.leave-slot.ensures.data c.leave-slot.ensures.slot c.in_ok-write_next-3.ensures.data c.in_ok-write_next-3.ensures.set
 
 pub leave-slot-requires-clause-once : goal.leave-slot-requires-clause-once

@@ -36,8 +36,11 @@ link_exit-requires-clause-to g c =
     let arr = c.in-Ok.ensures.arrived in
     (row_within _ _ _ _ _ _ _ c.in-Ok.slot c.self-2.view_is arr.sound c.in-Some.ensures.place arr.stands).2
 
-pub link_exit-requires-clause-room : goal.link_exit-requires-clause-room
-link_exit-requires-clause-room g c = (link_needs _ _ _ _ _ _ _ _ _ _ _ c.self.view_is c.requires.sound c.requires.exit c.in-Ok.ensures.arrived c.index.ensures).room
+pub link_exit-requires-clause-into : goal.link_exit-requires-clause-into
+link_exit-requires-clause-into g c = (link_needs _ _ _ _ _ _ _ _ _ _ _ c.self.view_is c.requires.sound c.requires.exit c.in-Ok.ensures.arrived c.index.ensures).into
+
+pub link_exit-requires-clause-free : goal.link_exit-requires-clause-free
+link_exit-requires-clause-free g c = (link_needs _ _ _ _ _ _ _ _ _ _ _ c.self.view_is c.requires.sound c.requires.exit c.in-Ok.ensures.arrived c.index.ensures).free
 
 pub returns-in_default-link_exit-clause-served : goal.returns-in_default-link_exit-clause-served
 returns-in_default-link_exit-clause-served g c = λ b o f h lt at.

@@ -1,8 +1,14 @@
 use Rattle.std.proofs.Common.{◌≡◌, ◌<◌, ◌^◌, Some, rules}
 use Rattle.swi_outside.specs.Devices.{Devices}
-use Rattle.swi_prefetch.specs.Prefetching.{HartEvent, PrefetchState}
-use Rattle.swi_prefetch.proofs.Leading.{PcShort, leads_hart, short_of}
+use Rattle.swi_prefetch.specs.Prefetching.{HartEvent, PcShort, PrefetchState}
+use Rattle.swi_prefetch.proofs.Leading.{leads_hart, short_of}
 use Rattle.swi_prefetch.proofs.prefetch.Prefetch.hart.Goals as goal
+
+pub returns-clause-short : goal.returns-clause-short
+returns-clause-short g c =
+    let is : c.args.self.now.board ≡ Some c.in-Some.board = search rules in
+    let bound : c.in-Some.board.hart.machine.pc < 2 ^ 32 = search rules in
+    short_of c.args.self.now.board c.in-Some.board is bound
 
 pub returns-clause-leads : goal.returns-clause-leads
 returns-clause-leads g c =

@@ -13,7 +13,7 @@ returns-in_err-hart-clause-broke g c =
     rw (p.1, p.2) (hart_broke c.args.image.now c.args.rate
     (whole c.args.self.now.board (record { ram = g.M.CacheRam.state c.args.ram.now; devices = before }))
     (whole c.hart.new.self.board (record { ram = g.M.CacheRam.state c.hart.new.ram; devices = after }))
-    (Err c.in_err-hart.field-0.0) c.requires.takes_turns c.in_err-hart.ensures.turned)
+    (Err c.in_err-hart.field-0.0) c.requires.takes_turns c.in_err-hart.ensures.short c.in_err-hart.ensures.turned)
 
 pub work_ahead-requires-clause-few : goal.work_ahead-requires-clause-few
 work_ahead-requires-clause-few g c =

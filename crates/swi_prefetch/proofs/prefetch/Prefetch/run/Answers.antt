@@ -2,7 +2,7 @@ use Rattle.std.proofs.Common.{◌≡◌, Err, true, false, rules}
 use Rattle.std.proofs.lemmas.Result.{err_from_is_err_and}
 use Rattle.swi_outside.specs.Devices.{Devices}
 use Rattle.swi_prefetch.specs.Running.{Whole, goes_below, whole}
-use Rattle.swi_prefetch.proofs.Rounds.{broke_causes, came_causes, came_ram_cause, run_broke, runs_fall, runs_more, runs_none, runs_to, steps_few, words_up_to}
+use Rattle.swi_prefetch.proofs.Rounds.{broke_causes, broke_kept, came_causes, came_ram_cause, run_broke, runs_fall, runs_more, runs_none, runs_to, steps_few, words_up_to}
 use Rattle.swi_prefetch.proofs.prefetch.Prefetch.run.Goals as goal
 
 pub loop-self-init : goal.loop-self-init
@@ -38,7 +38,8 @@ loop-self-preserved g c =
 pub returns-in_err-round-clause-broke : goal.returns-in_err-round-clause-broke
 returns-in_err-round-clause-broke g c =
     let p = err_from_is_err_and c.from_residual.result c.from_residual.ensures.1 in
-    rw (p.1, p.2) (run_broke c.args.image.now c.args.limit c.args.rate _ _ _ (Err c.in_err-round.field-0.0) c.loop-self.invariant c.in_err-round.ensures.broke)
+    let goes : goes_below c.args.limit c.loop-self.self.board ≡ true = search rules in
+    rw (p.1, p.2) (run_broke c.args.image.now c.args.limit c.args.rate _ _ _ (Err c.in_err-round.field-0.0) c.loop-self.invariant goes c.in_err-round.ensures.broke)
 
 pub returns-clause-ran : goal.returns-clause-ran
 returns-clause-ran g c =
@@ -48,13 +49,15 @@ returns-clause-ran g c =
 pub returns-in_err-round-clause-causes : goal.returns-in_err-round-clause-causes
 returns-in_err-round-clause-causes g c =
     let p = err_from_is_err_and c.from_residual.result c.from_residual.ensures.1 in
-    let broke = run_broke c.args.image.now c.args.limit c.args.rate _ _ _ (Err c.in_err-round.field-0.0) c.loop-self.invariant c.in_err-round.ensures.broke in
+    let goes : goes_below c.args.limit c.loop-self.self.board ≡ true = search rules in
+    let broke = run_broke c.args.image.now c.args.limit c.args.rate _ _ _ (Err c.in_err-round.field-0.0) c.loop-self.invariant goes c.in_err-round.ensures.broke in
     rw (p.1, p.2) (broke_causes c.args.image.now _ c.args.rate _ _ (Err c.in_err-round.field-0.0) broke.broke).0
 
 pub returns-in_err-round-clause-ram_cause : goal.returns-in_err-round-clause-ram_cause
 returns-in_err-round-clause-ram_cause g c =
     let p = err_from_is_err_and c.from_residual.result c.from_residual.ensures.1 in
-    let broke = run_broke c.args.image.now c.args.limit c.args.rate _ _ _ (Err c.in_err-round.field-0.0) c.loop-self.invariant c.in_err-round.ensures.broke in
+    let goes : goes_below c.args.limit c.loop-self.self.board ≡ true = search rules in
+    let broke = run_broke c.args.image.now c.args.limit c.args.rate _ _ _ (Err c.in_err-round.field-0.0) c.loop-self.invariant goes c.in_err-round.ensures.broke in
     rw (p.1, p.2) (broke_causes c.args.image.now _ c.args.rate _ _ (Err c.in_err-round.field-0.0) broke.broke).1
 
 pub returns-clause-causes : goal.returns-clause-causes
@@ -62,3 +65,12 @@ returns-clause-causes g c = came_causes c.args.image.now _ _ _ tt _ _ c.loop-sel
 
 pub returns-clause-ram_cause : goal.returns-clause-ram_cause
 returns-clause-ram_cause g c = came_ram_cause c.args.image.now _ _ _ tt _ c.loop-self.invariant.came
+
+pub returns-in_err-round-clause-kept : goal.returns-in_err-round-clause-kept
+returns-in_err-round-clause-kept g c =
+    let goes : goes_below c.args.limit c.loop-self.self.board ≡ true = search rules in
+    let broke = run_broke c.args.image.now c.args.limit c.args.rate _ _ _ (Err c.in_err-round.field-0.0) c.loop-self.invariant goes c.in_err-round.ensures.broke in
+    broke_kept c.args.image.now _ c.args.rate _ _ (Err c.in_err-round.field-0.0) broke.broke
+
+pub returns-clause-kept : goal.returns-clause-kept
+returns-clause-kept g c = c.loop-self.invariant.came.kept

@@ -1,7 +1,7 @@
 use Rattle.std.proofs.Common.{◌<◌, ◌≤◌, length, slice_index, rules, refl}
 use Rattle.std.proofs.lemmas.Result.{err_from_is_err_and}
 use Rattle.swi_outside.specs.Laws.{cause_from, no_cause, ok_unmoved}
-use Rattle.swi_share.proofs.Scheduling.{scheduled_none, scheduled_next, guest_next, room_at, run_came, run_stopped, kept_then, kept_so_far, pair_from, pair_none}
+use Rattle.swi_share.proofs.Scheduling.{scheduled_none, scheduled_next, guest_next, room_at, run_came, run_broke, kept_then, kept_so_far, pair_from, pair_none}
 use Rattle.swi_share.proofs.share.Share.run.Goals as goal
 
 pub loop-g-init : goal.loop-g-init
@@ -31,7 +31,7 @@ returns-in_err-event-clause-stopped g c =
     let p = err_from_is_err_and c.from_residual.result c.from_residual.ensures.1 in
     let lt : c.loop-g.g-index < length c.args.order.now = search rules in
     let e = c.in_err-event.ensures in
-    rw (p.1, p.2) (run_stopped c.args.order.now c.loop-g.g-index (slice_index c.args.order.now c.loop-g.g-index) _ _ _ c.in_err-event.field-0.0 lt refl c.loop-g.invariant e.stopped e.causes.input)
+    rw (p.1, p.2) (run_broke c.args.order.now c.loop-g.g-index (slice_index c.args.order.now c.loop-g.g-index) _ _ _ c.in_err-event.field-0.0 lt refl c.loop-g.invariant e.stopped e.causes.input e.sinks_unasked)
 
 pub returns-in_err-event-clause-kept : goal.returns-in_err-event-clause-kept
 returns-in_err-event-clause-kept g c = kept_then _ _ _
