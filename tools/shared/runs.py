@@ -32,10 +32,11 @@ class Stopped(Exception):
 
 @dataclasses.dataclass(frozen=True, order=True)
 class Cache:
-    """A cache: its bytes, the most words of a block, and whether it is a ring, without slots."""
+    """A cache: its bytes, the most words of a block, whether it is a ring, without slots, and the rate of an engine beside it, if there is one."""
     size: int
     block: int
     ring: bool = False
+    rate: int | None = None
 
     @property
     def form(self):
@@ -55,8 +56,13 @@ class Cache:
         """The cache with one slot less; of a ring, with as many bytes less."""
         return dataclasses.replace(self, size=self.size - 4 * self.block)
 
+    @property
+    def command(self):
+        return "cached" if self.rate is None else "prefetch"
+
     def words(self):
-        return ["--cache", str(self.size), "--block", str(self.block), *(["--ring"] if self.ring else [])]
+        rate = [] if self.rate is None else ["--rate", str(self.rate)]
+        return ["--cache", str(self.size), "--block", str(self.block), *(["--ring"] if self.ring else []), *rate]
 
     def __str__(self):
         return f"{self.size} bytes in blocks of {self.block} words"
@@ -89,9 +95,64 @@ class Counts:
         return 1000 * getattr(self, name) / max(self.steps, 1)
 
 
-NAMES = [field.name for field in dataclasses.fields(Counts)]
-# They stand behind the program's own output, whose last line may have no end.
-STATS = re.compile("".join(rf"{name} (\d+)\n" for name in NAMES).encode() + rb"\Z")
+@dataclasses.dataclass(frozen=True)
+class EngineCounts(Counts):
+    """Those of `prefetch --stats`: the words that the engine wrote to copy stand among the writes, and what it evicts and unlinks too."""
+    engine: int
+    prefetched: int
+
+
+@dataclasses.dataclass(frozen=True)
+class SharedCounts:
+    """The counts of `share --stats`, behind the steps of all its programs together."""
+    steps: int
+    instructions: int
+    misses: int
+    evictions: int
+    links: int
+    unlinks: int
+    writes: int
+
+    def of_thousand(self, name):
+        return 1000 * getattr(self, name) / max(self.steps, 1)
+
+
+def names_of(kind):
+    return [field.name for field in dataclasses.fields(kind)]
+
+
+def stats_of(kind):
+    """The lines of these counts. They stand behind the program's own output, whose last line may have no end."""
+    return re.compile("".join(rf"{name} (\d+)\n" for name in names_of(kind)).encode() + rb"\Z")
+
+
+NAMES = names_of(Counts)
+STATS = {kind: stats_of(kind) for kind in (Counts, EngineCounts)}
+# A line for each program stands in front of the counts of `share`.
+ENDED = rb"\d+ (?:exited|faulted|store|spent) [^\n]*\n"
+SHARED = re.compile(rb"((?:" + ENDED + rb")+)" + "".join(rf"{name} (\d+)\n" for name in names_of(SharedCounts)[1:]).encode() + rb"\Z")
+
+
+def steps_in(line):
+    """The steps of a program: the last word of its line, but that the pc stands behind them where the events were spent."""
+    words = line.split()
+    return int(words[2] if words[1] == b"spent" else words[-1])
+
+
+def counts_in(out):
+    """The counts at the end of an output, if there are any."""
+    for kind, lines in STATS.items():
+        if found := lines.search(out):
+            return kind(*map(int, found.groups()))
+    if found := SHARED.search(out):
+        return SharedCounts(sum(steps_in(line) for line in re.findall(ENDED, found[1])), *map(int, found.groups()[1:]))
+    return None
+
+
+def counts_of(numbers):
+    """The counts that were kept as their numbers."""
+    return {len(names_of(kind)): kind for kind in (*STATS, SharedCounts)}[len(numbers)](*numbers) if numbers else None
+
 
 
 @dataclasses.dataclass(frozen=True)
@@ -144,9 +205,7 @@ class Runner:
             lines = errors.read().decode(errors="replace").splitlines()
         if child.returncode < 0 and not self.stopped:
             raise Wrong(f"{command[0]} was ended by signal {-child.returncode}")
-        found = STATS.search(out)
-        counts = Counts(*map(int, found.groups())) if found else None
-        return Run(child.returncode, counts, lines[-1].replace("\t", " ") if lines else "", time.monotonic() - begun)
+        return Run(child.returncode, counts_in(out), lines[-1].replace("\t", " ") if lines else "", time.monotonic() - begun)
 
 
 def built_program():

@@ -32,6 +32,16 @@ ending_line (StoreText pc a n) =
     codes "store into text: pc " ++ hex_word pc ++ codes ", address " ++ hex_word a ++ codes ", " ++ decimal n ++ codes " steps\n"
 ending_line Done = []
 
+-- the line of a program that shared a cache with others: its number and its ending
+abbrev pub guest_line : ℕ → Ending → List ℕ
+guest_line g (Exited code n) = decimal g ++ codes " exited " ++ decimal code ++ codes " " ++ decimal n ++ codes "\n"
+guest_line g (Spent n pc) = decimal g ++ codes " spent " ++ decimal n ++ codes " " ++ hex_word pc ++ codes "\n"
+guest_line g (Faulted k pc a n) =
+    decimal g ++ codes " faulted " ++ kind_name k ++ codes " " ++ hex_word pc ++ codes " " ++ hex_word a ++ codes " " ++ decimal n ++ codes "\n"
+guest_line g (StoreText pc a n) =
+    decimal g ++ codes " store " ++ hex_word pc ++ codes " " ++ hex_word a ++ codes " " ++ decimal n ++ codes "\n"
+guest_line g Done = []
+
 -- a check of a file or an image: its number, its name and what it carries
 pub record NumberedCheck : Type 0 where
   pub number : ℕ
@@ -85,7 +95,7 @@ mismatch_line (mismatch.Word block offset held required) =
 
 -- the line of a refusal; whether the stack fits is check 19 of a file
 abbrev pub refusal_line : Refusal → List ℕ
-refusal_line Usage = codes "usage: swic rewrite, cached, plain, trace, list, check, measure, upgrade\n"
+refusal_line Usage = codes "usage: swic rewrite, cached, plain, trace, list, check, measure, upgrade, share, prefetch\n"
 refusal_line (CacheLarge bytes) = codes "cache large: " ++ decimal bytes ++ codes "\n"
 refusal_line (RamSmall bytes held) = codes "ram small: " ++ decimal bytes ++ codes " " ++ decimal held ++ codes "\n"
 refusal_line ShelfFault = codes "shelf fault\n"

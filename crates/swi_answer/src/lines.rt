@@ -2,7 +2,7 @@
 #![tactic(auto)]
 
 ghost use Rattle.std.specs.Prelude.{◌≡◌, ◌≤◌, ◌++◌, codes, decimal, length};
-ghost use Rattle.swi_answer.specs.Lines.{kind_name, ending_line, numbered, elf_check, image_check, check_line, mismatch_line, refusal_line, image_line};
+ghost use Rattle.swi_answer.specs.Lines.{kind_name, ending_line, guest_line, numbered, elf_check, image_check, check_line, mismatch_line, refusal_line, image_line};
 
 use crate::{Ending, Refusal};
 use swi_check::Mismatch;
@@ -76,6 +76,79 @@ pub fn line_of_ending(ending: &Ending) -> Line
         Ending::Spent(steps, pc) => spent_line(steps, pc),
         Ending::Faulted(kind, pc, address, steps) => fault_line(kind, pc, address, steps),
         Ending::StoreText(pc, address, steps) => store_line(pc, address, steps),
+    }
+}
+
+fn guest_exited(guest: u32, code: u32, steps: u64) -> Line
+    ensures { result ≡ guest_line guest (Ending.Exited code steps) }
+{
+    let mut line = Line::new();
+    line.push_decimal(u64::from(guest));
+    line.push_text(" exited ");
+    line.push_decimal(u64::from(code));
+    line.push_text(" ");
+    line.push_decimal(steps);
+    line.push_text("\n");
+    line
+}
+
+fn guest_spent(guest: u32, steps: u64, pc: u32) -> Line
+    ensures { result ≡ guest_line guest (Ending.Spent steps pc) }
+{
+    let mut line = Line::new();
+    line.push_decimal(u64::from(guest));
+    line.push_text(" spent ");
+    line.push_decimal(steps);
+    line.push_text(" ");
+    line.push_hex_word(pc);
+    line.push_text("\n");
+    line
+}
+
+fn guest_faulted(guest: u32, kind: FaultKind, pc: u32, address: u32, steps: u64) -> Line
+    ensures { result ≡ guest_line guest (Ending.Faulted kind pc address steps) }
+{
+    let mut line = Line::new();
+    line.push_decimal(u64::from(guest));
+    line.push_text(" faulted ");
+    line.push_text(kind_text(kind));
+    line.push_text(" ");
+    line.push_hex_word(pc);
+    line.push_text(" ");
+    line.push_hex_word(address);
+    line.push_text(" ");
+    line.push_decimal(steps);
+    line.push_text("\n");
+    line
+}
+
+fn guest_store(guest: u32, pc: u32, address: u32, steps: u64) -> Line
+    ensures { result ≡ guest_line guest (Ending.StoreText pc address steps) }
+{
+    let mut line = Line::new();
+    line.push_decimal(u64::from(guest));
+    line.push_text(" store ");
+    line.push_hex_word(pc);
+    line.push_text(" ");
+    line.push_hex_word(address);
+    line.push_text(" ");
+    line.push_decimal(steps);
+    line.push_text("\n");
+    line
+}
+
+/// The line of a program that shared a cache with others: its number among them, from 0, and its ending.
+pub fn line_of_guest(guest: u32, ending: &Ending) -> Line
+    ensures { result ≡ guest_line guest ending.now }
+{
+    match *ending {
+        Ending::Exited(code, steps) => guest_exited(guest, code, steps),
+        Ending::Spent(steps, pc) => guest_spent(guest, steps, pc),
+        Ending::Faulted(kind, pc, address, steps) => {
+            guest_faulted(guest, kind, pc, address, steps)
+        }
+        Ending::StoreText(pc, address, steps) => guest_store(guest, pc, address, steps),
+        Ending::Done => Line::new(),
     }
 }
 
@@ -292,7 +365,7 @@ pub fn line_of_refusal(refusal: &Refusal) -> Line
 {
     match *refusal {
         Refusal::Usage => text_line(
-            "usage: swic rewrite, cached, plain, trace, list, check, measure, upgrade\n",
+            "usage: swic rewrite, cached, plain, trace, list, check, measure, upgrade, share, prefetch\n",
         ),
         Refusal::CacheLarge { bytes } => number_line("cache large: ", u64::from(bytes)),
         Refusal::RamSmall { bytes, held } => numbers_line("ram small: ", u64::from(bytes), held),

@@ -12,7 +12,7 @@ use swi_image::ImageRefusal;
 static REFUSALS: [(Refusal, &str, u8); 23] = [
     (
         Refusal::Usage,
-        "usage: swic rewrite, cached, plain, trace, list, check, measure, upgrade\n",
+        "usage: swic rewrite, cached, plain, trace, list, check, measure, upgrade, share, prefetch\n",
         250,
     ),
     (
@@ -162,6 +162,31 @@ fn endings_have_their_lines_and_statuses(rt: HostRuntime) -> Result<(), Fail> {
         assert!(rt; status_of(&Ok(ending)) == status);
     }
     assert!(rt; image_line(1, 8).as_bytes() == "ok: 1 blocks of 8 words\n".as_bytes());
+    Ok(())
+}
+
+/// Endings of programs that share a cache, with their lines.
+static GUESTS: [(u32, Ending, &str); 5] = [
+    (0, Ending::Exited(65544, 5), "0 exited 65544 5\n"),
+    (7, Ending::Spent(4, 0x10008), "7 spent 4 00010008\n"),
+    (
+        1,
+        Ending::Faulted(FaultKind::StoreAccess, 0x10004, 0x30000, 3),
+        "1 faulted store-access 00010004 00030000 3\n",
+    ),
+    (
+        2,
+        Ending::StoreText(0x10004, 0x10000, 1),
+        "2 store 00010004 00010000 1\n",
+    ),
+    (3, Ending::Done, ""),
+];
+
+#[test]
+fn endings_of_guests_have_their_lines(rt: HostRuntime) -> Result<(), Fail> {
+    for (guest, ending, line) in GUESTS.into_iter() {
+        assert!(rt; line_of_guest(guest, &ending).as_bytes() == line.as_bytes());
+    }
     Ok(())
 }
 

@@ -37,9 +37,10 @@ differs a b other = go (bytes_eq a b) refl
 
 -- no command has another name than those of the table
 pub form_named-none : (w : Text) → (w ≡ codes "rewrite" → ⊥) → (w ≡ codes "cached" → ⊥) → (w ≡ codes "plain" → ⊥) → (w ≡ codes "trace" → ⊥)
-    → (w ≡ codes "list" → ⊥) → (w ≡ codes "check" → ⊥) → (w ≡ codes "upgrade" → ⊥) → (w ≡ codes "measure" → ⊥) → form_named w ≡ None
+    → (w ≡ codes "list" → ⊥) → (w ≡ codes "check" → ⊥) → (w ≡ codes "upgrade" → ⊥) → (w ≡ codes "measure" → ⊥)
+    → (w ≡ codes "share" → ⊥) → (w ≡ codes "prefetch" → ⊥) → form_named w ≡ None
 unfolding form_named
-form_named-none w rewrite cached plain trace list check upgrade measure =
+form_named-none w rewrite cached plain trace list check upgrade measure share prefetch =
     let at_rewrite = differs w (codes "rewrite") rewrite in
     let at_cached = differs w (codes "cached") cached in
     let at_plain = differs w (codes "plain") plain in
@@ -48,4 +49,6 @@ form_named-none w rewrite cached plain trace list check upgrade measure =
     let at_check = differs w (codes "check") check in
     let at_upgrade = differs w (codes "upgrade") upgrade in
     let at_measure = differs w (codes "measure") measure in
-    rw (at_rewrite, at_cached, at_plain, at_trace, at_list, at_check, at_upgrade, at_measure) refl
+    let at_share = differs w (codes "share") share in
+    let at_prefetch = differs w (codes "prefetch") prefetch in
+    rw (at_rewrite, at_cached, at_plain, at_trace, at_list, at_check, at_upgrade, at_measure, at_share, at_prefetch) refl

@@ -1,7 +1,7 @@
 -- The command line: which words ask for which command. Own rule, over the meaning that the crate `clap`
 -- states of a command without subcommands: `fault_of`, which is empty where it takes the words, and
 -- `matches_of`, the values that the words give each argument.
-use Rattle.std.specs.Prelude.{◌≡◌, ◌≤◌, ◌<◌, ◌^◌, ◌-◌, ◌%◌, ◌==◌, ◌&&◌, ℕ, Bool, true, false, List, [], ◌∷◌, length, nat_le, codes, Option, Some, None, option_map, option_and_then, find, string_bytes, if◌then◌else◌}
+use Rattle.std.specs.Prelude.{◌≡◌, ◌≤◌, ◌<◌, ◌^◌, ◌-◌, ◌%◌, ◌==◌, ◌&&◌, ℕ, Bool, true, false, List, [], ◌∷◌, length, map, nat_le, codes, Option, Some, None, option_map, option_and_then, find, string_bytes, if◌then◌else◌}
 use Rattle.std.specs.Option.{option_map_or}
 use Rattle.std.specs.Str.{all_ascii_digits, bytes_eq}
 use Rattle.std.specs.Str.Parse.{digits_value}
@@ -13,10 +13,12 @@ use Rattle.swi_command.specs.declared.command.CacheKind.{CacheKind}
 use Rattle.swi_command.specs.declared.command.CacheKind.TheVariants.{Slots, Ring}
 use Rattle.swi_command.specs.declared.command.CacheOptions.{CacheOptions}
 use Rattle.swi_command.specs.declared.command.Command.{Command}
-use Rattle.swi_command.specs.declared.command.Command.TheVariants.{Rewrite, Cached, Plain, Listing, Check, Upgrade, Measure}
+use Rattle.swi_command.specs.declared.command.Command.TheVariants.{Rewrite, Cached, Plain, Listing, Check, Upgrade, Measure, Share, Prefetch}
 use Rattle.swi_command.specs.declared.command.Reports.{Reports}
 use Rattle.swi_command.specs.declared.command.RunLimits.{RunLimits}
 use Rattle.swi_command.specs.declared.command.RunOptions.{RunOptions}
+use Rattle.swi_command.specs.declared.command.Schedule.{Schedule}
+use Rattle.swi_command.specs.declared.command.ShareOptions.{ShareOptions}
 use Rattle.swi_trace.specs.declared.trace.Trace.{Trace}
 use Rattle.swi_trace.specs.declared.trace.Trace.TheVariants.{Off, Each, Last}
 
@@ -65,6 +67,18 @@ heap_form = number_form (codes "heap") 0 67108864 1 1048576
 -- bytes of the stack
 abbrev pub stack_form : NumberForm
 stack_form = number_form (codes "stack") 4096 16777216 16 65536
+
+-- the most events of a schedule
+abbrev pub events_form : NumberForm
+events_form = number_form (codes "events") 0 (2 ^ 32 - 1) 1 1000000
+
+-- the number that a schedule is made of
+abbrev pub seed_form : NumberForm
+seed_form = number_form (codes "seed") 0 (2 ^ 32 - 1) 1 0
+
+-- events of the engine for each one of the hart
+abbrev pub rate_form : NumberForm
+rate_form = number_form (codes "rate") 0 1024 1 1
 
 -- ---- what the matches give
 
@@ -116,13 +130,17 @@ trace_options_of rows = option_map (λ l. record {
 abbrev pub kind_of : List Row → CacheKind
 kind_of rows = if is_set (codes "ring") rows then Ring else Slots
 
--- the cache: its sizes, and how blocks stand in it
-abbrev pub cache_of : List Row → Option CacheOptions
-cache_of rows = option_and_then (λ c. option_map (λ b. record {
+-- a cache in which blocks stand so, with its sizes
+abbrev pub cache_with : CacheKind → List Row → Option CacheOptions
+cache_with kind rows = option_and_then (λ c. option_map (λ b. record {
   cache_bytes = c;
   block_words = b;
-  kind = kind_of rows;
+  kind = kind;
 }) (number_of block_form rows)) (number_of cache_form rows)
+
+-- the cache: its sizes, and how blocks stand in it
+abbrev pub cache_of : List Row → Option CacheOptions
+cache_of rows = cache_with (kind_of rows) rows
 
 -- the seed of a program that is made, and how many functions it has
 abbrev pub seed_of : List Row → Option ℕ
@@ -130,6 +148,38 @@ seed_of rows = number_at (codes "SEED") 0 (2 ^ 32 - 1) rows
 
 abbrev pub count_of : List Row → Option ℕ
 count_of rows = number_at (codes "COUNT") 1 4096 rows
+
+-- the names of the places at which files may stand behind the second one
+abbrev pub more_places : List Text
+more_places = codes "FILE3" ∷ codes "FILE4" ∷ codes "FILE5" ∷ codes "FILE6" ∷ codes "FILE7" ∷ codes "FILE8" ∷ []
+
+-- a word that is given, and further ones
+abbrev pub with_given : Option Text → List Text → List Text
+with_given None others = others
+with_given (Some word) others = word ∷ others
+
+-- the words that are given at these places
+abbrev pub given_at : List Text → List Row → List Text
+given_at [] rows = []
+given_at (name ∷ names) rows = with_given (first_of name rows) (given_at names rows)
+
+-- the files of programs that share a cache: two, and up to six more
+abbrev pub shared_files : List Row → Option (List Text)
+shared_files rows = option_and_then (λ a. option_map (λ b. a ∷ b ∷ given_at more_places rows)
+    (first_of (codes "FILE2") rows)) (first_of (codes "FILE1") rows)
+
+-- the order of their events
+abbrev pub schedule_of : List Row → Option Schedule
+schedule_of rows = option_and_then (λ n. option_map (λ s. record { events = n; seed = s })
+    (number_of seed_form rows)) (number_of events_form rows)
+
+abbrev pub share_options_of : List Row → Option ShareOptions
+share_options_of rows = option_and_then (λ o. option_and_then (λ h. option_map (λ s. record {
+  schedule = o;
+  heap = h;
+  stack = s;
+  stats = is_set (codes "stats") rows;
+}) (number_of stack_form rows)) (number_of heap_form rows)) (schedule_of rows)
 
 -- ---- what words ask for
 
@@ -142,6 +192,8 @@ pub data Request : Type 0 where
   CheckFile : (file : Text) → Request
   UpgradeFile : (input : Text) (output : Text) → Request
   MeasureMade : (seed : ℕ) (functions : ℕ) (cache : CacheOptions) → Request
+  RunShared : (files : List Text) (cache : CacheOptions) (options : ShareOptions) → Request
+  RunAhead : (file : Text) (cache : CacheOptions) (options : RunOptions) (rate : ℕ) → Request
 
 abbrev pub rewrite_request : List Row → Option Request
 rewrite_request rows = option_and_then (λ i. option_and_then (λ o.
@@ -178,11 +230,26 @@ abbrev pub measure_request : List Row → Option Request
 measure_request rows = option_and_then (λ s. option_and_then (λ n.
     option_map (λ c. MeasureMade s n c) (cache_of rows)) (count_of rows)) (seed_of rows)
 
+-- the programs stand in slots, and so does the one beside which an engine copies
+abbrev pub share_request : List Row → Option Request
+share_request rows = option_and_then (λ fs. option_and_then (λ c.
+    option_map (λ o. RunShared fs c o) (share_options_of rows))
+    (cache_with Slots rows)) (shared_files rows)
+
+abbrev pub prefetch_request : List Row → Option Request
+prefetch_request rows = option_and_then (λ f. option_and_then (λ c. option_and_then (λ o.
+    option_map (λ n. RunAhead f c o n) (number_of rate_form rows)) (options_of rows))
+    (cache_with Slots rows)) (first_of (codes "FILE") rows)
+
 -- ---- the commands as `clap` takes them
 
 -- a word that must be given, by its place
 abbrev pub positional : Text → Rule
 positional name = record (new_rule name) { required = true }
+
+-- a word that may be given, by its place behind those that must be
+abbrev pub further : Text → Rule
+further name = record (new_rule name) { required = false }
 
 -- `--name value`
 abbrev pub option : Text → Rule
@@ -280,8 +347,31 @@ measure_form = record {
   request = measure_request;
 }
 
+-- FILE FILE, up to six FILE more, --events n --seed n --cache n --block n --heap n --stack n --stats
+abbrev pub share_form : Form
+share_form = record {
+  name = codes "share";
+  rules = positional (codes "FILE1") ∷ positional (codes "FILE2") ∷ further (codes "FILE3")
+      ∷ further (codes "FILE4") ∷ further (codes "FILE5") ∷ further (codes "FILE6")
+      ∷ further (codes "FILE7") ∷ further (codes "FILE8") ∷ option (codes "events")
+      ∷ option (codes "seed") ∷ option (codes "cache") ∷ option (codes "block")
+      ∷ option (codes "heap") ∷ option (codes "stack") ∷ flag (codes "stats") ∷ [];
+  request = share_request;
+}
+
+-- FILE --rate n --steps n --cache n --block n --heap n --stack n --state --calls --stats
+abbrev pub prefetch_form : Form
+prefetch_form = record {
+  name = codes "prefetch";
+  rules = positional (codes "FILE") ∷ option (codes "rate") ∷ option (codes "steps")
+      ∷ option (codes "cache") ∷ option (codes "block") ∷ option (codes "heap")
+      ∷ option (codes "stack") ∷ flag (codes "state") ∷ flag (codes "calls") ∷ flag (codes "stats") ∷ [];
+  request = prefetch_request;
+}
+
 abbrev pub forms : List Form
-forms = rewrite_form ∷ cached_form ∷ plain_form ∷ trace_form ∷ list_form ∷ check_form ∷ upgrade_form ∷ measure_form ∷ []
+forms = rewrite_form ∷ cached_form ∷ plain_form ∷ trace_form ∷ list_form ∷ check_form ∷ upgrade_form ∷ measure_form
+    ∷ share_form ∷ prefetch_form ∷ []
 
 -- the command of a name
 unfoldable pub form_named : Text → Option Form
@@ -324,6 +414,8 @@ request_of (Listing file block_words) = ListFile (string_bytes file) block_words
 request_of (Check file) = CheckFile (string_bytes file)
 request_of (Upgrade input output) = UpgradeFile (string_bytes input) (string_bytes output)
 request_of (Measure seed functions cache) = MeasureMade seed functions cache
+request_of (Share files cache options) = RunShared (map (λ f. string_bytes f) files.items) cache options
+request_of (Prefetch file cache options rate) = RunAhead (string_bytes file) cache options rate
 
 -- ---- ranges
 
@@ -351,6 +443,20 @@ pub record IsFunctionCount (functions : ℕ) : Type 0 where
   pub least : 1 ≤ functions
   pub most : functions ≤ 4096
 
+-- how many programs can share a cache
+pub record IsShareCount (programs : ℕ) : Type 0 where
+  pub least : 2 ≤ programs
+  pub most : programs ≤ 8
+
+-- the limits of programs that share a cache lie in their options' ranges
+pub record IsShareInRange (o : ShareOptions) : Type 0 where
+  pub events : o.schedule.events < 2 ^ 32
+  pub seed : o.schedule.seed < 2 ^ 32
+  pub heap : o.heap ≤ 67108864
+  pub stack_least : 4096 ≤ o.stack
+  pub stack_most : o.stack ≤ 16777216
+  pub stack_aligned : o.stack % 16 ≡ 0
+
 -- and so do those of a command
 abbrev pub HasLimitsInRange : Command → Type 0
 HasLimitsInRange (Rewrite input output block_words whole_loops) = IsBlockSize block_words
@@ -360,3 +466,7 @@ HasLimitsInRange (Listing file block_words) = IsBlockSize block_words
 HasLimitsInRange (Check file) = Unit
 HasLimitsInRange (Upgrade input output) = Unit
 HasLimitsInRange (Measure seed functions cache) = IsFunctionCount functions × IsCacheInRange cache
+HasLimitsInRange (Share files cache options) =
+    IsShareCount (length files.items) × (IsCacheInRange cache × IsShareInRange options)
+HasLimitsInRange (Prefetch file cache options rate) =
+    IsCacheInRange cache × (IsInRange options.limits × rate ≤ 1024)

@@ -5,7 +5,7 @@ ghost use Rattle.swi_command.specs.Arguments.{positional_name, form_of_number, f
 
 use crate::number::NumberRule;
 
-/// A word that must be given, by its place.
+/// A word by its place.
 #[derive(Clone, Copy)]
 pub enum Positional {
     File,
@@ -13,6 +13,15 @@ pub enum Positional {
     Output,
     Seed,
     Count,
+    /// The first of several files, and the others in their order.
+    File1,
+    File2,
+    File3,
+    File4,
+    File5,
+    File6,
+    File7,
+    File8,
 }
 
 /// An option with a number.
@@ -23,6 +32,9 @@ pub enum NumberOption {
     Block,
     Heap,
     Stack,
+    Events,
+    Seed,
+    Rate,
 }
 
 /// An option without a value.
@@ -39,7 +51,10 @@ pub enum Flag {
 /// What a command takes behind its name.
 #[derive(Clone, Copy)]
 pub enum Argument {
+    /// A word that must be given.
     Positional(Positional),
+    /// A word that may be given, behind those that must be.
+    Further(Positional),
     Number(NumberOption),
     Flag(Flag),
 }
@@ -54,6 +69,14 @@ impl Positional {
             Positional::Output => "OUT",
             Positional::Seed => "SEED",
             Positional::Count => "COUNT",
+            Positional::File1 => "FILE1",
+            Positional::File2 => "FILE2",
+            Positional::File3 => "FILE3",
+            Positional::File4 => "FILE4",
+            Positional::File5 => "FILE5",
+            Positional::File6 => "FILE6",
+            Positional::File7 => "FILE7",
+            Positional::File8 => "FILE8",
         }
     }
 }
@@ -68,10 +91,14 @@ impl NumberOption {
             NumberOption::Block => "block",
             NumberOption::Heap => "heap",
             NumberOption::Stack => "stack",
+            NumberOption::Events => "events",
+            NumberOption::Seed => "seed",
+            NumberOption::Rate => "rate",
         }
     }
 
-    /// Steps, bytes of the cache, words of a block, bytes of the heap and of the stack.
+    /// Steps, bytes of the cache, words of a block, bytes of the heap and of the stack; events, the number that their order
+    /// is made of, and events of an engine for each one of the hart.
     pub fn rule(self) -> NumberRule
         ensures least { result.least ≡ (form_of_number self).least }
         ensures most { result.most ≡ (form_of_number self).most }
@@ -103,6 +130,21 @@ impl NumberOption {
                 most: 16_777_216,
                 unit: 16,
             },
+            NumberOption::Events => NumberRule {
+                least: 0,
+                most: 4_294_967_295,
+                unit: 1,
+            },
+            NumberOption::Seed => NumberRule {
+                least: 0,
+                most: 4_294_967_295,
+                unit: 1,
+            },
+            NumberOption::Rate => NumberRule {
+                least: 0,
+                most: 1024,
+                unit: 1,
+            },
         }
     }
 
@@ -116,6 +158,9 @@ impl NumberOption {
             NumberOption::Block => 64,
             NumberOption::Heap => 1_048_576,
             NumberOption::Stack => 65_536,
+            NumberOption::Events => 1_000_000,
+            NumberOption::Seed => 0,
+            NumberOption::Rate => 1,
         }
     }
 }
@@ -140,7 +185,7 @@ impl Argument {
         ensures { result.now ≡ argument_name self }
     {
         match self {
-            Argument::Positional(place) => place.name(),
+            Argument::Positional(place) | Argument::Further(place) => place.name(),
             Argument::Number(option) => option.name(),
             Argument::Flag(flag) => flag.name(),
         }

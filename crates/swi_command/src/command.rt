@@ -33,6 +33,27 @@ pub struct RunOptions {
     pub reports: Reports,
 }
 
+/// The order in which programs that share a cache make their events, each of which is one original instruction.
+#[derive(Clone, Copy, Debug, PartialEq, Eq)]
+pub struct Schedule {
+    /// The most events of all programs together.
+    pub events: u32,
+    /// The number that the order is made of.
+    pub seed: u32,
+}
+
+/// What programs that share a cache need besides their files.
+#[derive(Clone, Copy, Debug, PartialEq, Eq)]
+pub struct ShareOptions {
+    pub schedule: Schedule,
+    /// The size of each program's heap in bytes, at most 67108864.
+    pub heap: u32,
+    /// The size of each program's stack in bytes, 4096 to 16777216 and a multiple of 16.
+    pub stack: u32,
+    /// The counts are written after the run.
+    pub stats: bool,
+}
+
 /// How blocks stand in a cache.
 #[derive(Clone, Copy, Debug, PartialEq, Eq)]
 pub enum CacheKind {
@@ -94,6 +115,20 @@ pub enum Command {
         seed: u32,
         functions: u32,
         cache: CacheOptions,
+    },
+    /// A run of the programs of two to eight files, which share a cache with slots.
+    Share {
+        files: Vec<String>,
+        cache: CacheOptions,
+        options: ShareOptions,
+    },
+    /// A run of the file's program on the cached machine, with slots, beside an engine that copies the next block: after each
+    /// machine step come so many events of the engine (0 to 1024).
+    Prefetch {
+        file: String,
+        cache: CacheOptions,
+        options: RunOptions,
+        rate: u32,
     },
 }
 

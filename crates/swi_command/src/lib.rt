@@ -15,7 +15,10 @@ mod number;
 mod read;
 mod syntax;
 
-pub use command::{CacheKind, CacheOptions, Command, CommandError, Reports, RunLimits, RunOptions};
+pub use command::{
+    CacheKind, CacheOptions, Command, CommandError, Reports, RunLimits, RunOptions, Schedule,
+    ShareOptions,
+};
 use name::CommandName;
 use read::command_from;
 use std::alloc::Global;
@@ -34,6 +37,8 @@ use syntax::command_matches;
 /// | `check` | FILE |
 /// | `upgrade` | IN OUT |
 /// | `measure` | SEED COUNT `--cache` `--block` `--ring` |
+/// | `share` | FILE FILE, up to six FILE more, `--events` `--seed` `--cache` `--block` `--heap` `--stack` `--stats` |
+/// | `prefetch` | FILE `--rate` `--steps` `--cache` `--block` `--heap` `--stack` `--state` `--calls` `--stats` |
 ///
 /// | Option | Range | Where not given |
 /// |---|---|---|
@@ -42,6 +47,9 @@ use syntax::command_matches;
 /// | `--block` in words | 2 to 1024 | 64 |
 /// | `--heap` in bytes | 0 to 67108864 | 1048576 |
 /// | `--stack` in bytes | 4096 to 16777216, a multiple of 16 | 65536 |
+/// | `--events` | 0 to 2^32 - 1 | 1000000 |
+/// | `--seed` | 0 to 2^32 - 1 | 0 |
+/// | `--rate` in events of the engine | 0 to 1024 | 1 |
 ///
 /// SEED is a number from 0 to 2^32 - 1, COUNT one from 1 to 4096; the other words by place are names of files.
 /// `--ring`, `--whole-loops`, `--state`, `--calls`, `--stats` and `--last` are flags. Options may stand before, between and after the

@@ -68,6 +68,37 @@ const MEASURE: &[Argument] = &[
     Argument::Flag(Flag::Ring),
 ];
 
+const SHARE: &[Argument] = &[
+    Argument::Positional(Positional::File1),
+    Argument::Positional(Positional::File2),
+    Argument::Further(Positional::File3),
+    Argument::Further(Positional::File4),
+    Argument::Further(Positional::File5),
+    Argument::Further(Positional::File6),
+    Argument::Further(Positional::File7),
+    Argument::Further(Positional::File8),
+    Argument::Number(NumberOption::Events),
+    Argument::Number(NumberOption::Seed),
+    Argument::Number(NumberOption::Cache),
+    Argument::Number(NumberOption::Block),
+    Argument::Number(NumberOption::Heap),
+    Argument::Number(NumberOption::Stack),
+    Argument::Flag(Flag::Stats),
+];
+
+const PREFETCH: &[Argument] = &[
+    Argument::Positional(Positional::File),
+    Argument::Number(NumberOption::Rate),
+    Argument::Number(NumberOption::Steps),
+    Argument::Number(NumberOption::Cache),
+    Argument::Number(NumberOption::Block),
+    Argument::Number(NumberOption::Heap),
+    Argument::Number(NumberOption::Stack),
+    Argument::Flag(Flag::State),
+    Argument::Flag(Flag::Calls),
+    Argument::Flag(Flag::Stats),
+];
+
 #[derive(Clone, Copy)]
 pub enum CommandName {
     Rewrite,
@@ -78,6 +109,8 @@ pub enum CommandName {
     Check,
     Upgrade,
     Measure,
+    Share,
+    Prefetch,
 }
 
 impl CommandName {
@@ -94,6 +127,8 @@ impl CommandName {
             "check" => Some(CommandName::Check),
             "upgrade" => Some(CommandName::Upgrade),
             "measure" => Some(CommandName::Measure),
+            "share" => Some(CommandName::Share),
+            "prefetch" => Some(CommandName::Prefetch),
             _ => None,
         }
     }
@@ -111,6 +146,8 @@ impl CommandName {
             CommandName::Check => "check",
             CommandName::Upgrade => "upgrade",
             CommandName::Measure => "measure",
+            CommandName::Share => "share",
+            CommandName::Prefetch => "prefetch",
         }
     }
 
@@ -127,6 +164,8 @@ impl CommandName {
             CommandName::Check => CHECK,
             CommandName::Upgrade => UPGRADE,
             CommandName::Measure => MEASURE,
+            CommandName::Share => SHARE,
+            CommandName::Prefetch => PREFETCH,
         }
     }
 }

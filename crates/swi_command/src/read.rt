@@ -1,14 +1,17 @@
 //! A command and its options, read from `clap`'s matches.
 
-ghost use Rattle.std.specs.Prelude.{◌≡◌, ◌≤◌, ◌%◌, IfSome, IfOk, Some, None, option_map, string_bytes};
+ghost use Rattle.std.specs.Prelude.{◌≡◌, ◌≤◌, ◌+◌, ◌++◌, ◌%◌, IfSome, IfOk, OnOk, OnErr, Err, Some, None, [], ◌∷◌, length, map, option_map, string_bytes};
 ghost use Rattle.clap.specs.Words.{rows_of, found_of, first_of};
 ghost use Rattle.swi_command.specs.Arguments.{positional_name, form_of_number, flag_name, form_of};
-ghost use Rattle.swi_command.specs.CommandLine.{number_of, number_at, seed_of, count_of, is_set, limits_of, reports_of, options_of, trace_options_of, kind_of, cache_of, request_of, IsBlockSize, IsFunctionCount, IsCacheInRange, IsInRange, HasLimitsInRange};
+ghost use Rattle.swi_command.specs.CommandLine.{number_of, number_at, seed_of, count_of, is_set, limits_of, reports_of, options_of, trace_options_of, kind_of, cache_of, cache_with, rate_form, more_places, given_at, shared_files, schedule_of, share_options_of, request_of, IsBlockSize, IsFunctionCount, IsShareCount, IsCacheInRange, IsInRange, IsShareInRange, HasLimitsInRange};
 
 use crate::argument::{Flag, NumberOption, Positional};
 use crate::name::CommandName;
 use crate::number::{NumberRule, read_number_in};
-use crate::{CacheKind, CacheOptions, Command, CommandError, Reports, RunLimits, RunOptions};
+use crate::{
+    CacheKind, CacheOptions, Command, CommandError, Reports, RunLimits, RunOptions, Schedule,
+    ShareOptions,
+};
 use clap::ArgMatches;
 use std::alloc::Global;
 use swi_trace::Trace;
@@ -144,16 +147,24 @@ fn cache_kind(matches: &ArgMatches<'_>) -> CacheKind
     }
 }
 
-fn cache_options(matches: &ArgMatches<'_>) -> Option<CacheOptions>
-    ensures value { result ≡ cache_of (rows_of (found_of matches.now)) }
+/// The sizes of a cache in which blocks stand so.
+fn cache_with(matches: &ArgMatches<'_>, kind: CacheKind) -> Option<CacheOptions>
+    ensures value { result ≡ cache_with kind (rows_of (found_of matches.now)) }
     ensures ranges { IfSome result IsCacheInRange }
 {
     let cache = number(matches, NumberOption::Cache)?;
     Some(CacheOptions {
         cache_bytes: cache as u32,
         block_words: block_words(matches)?,
-        kind: cache_kind(matches),
+        kind,
     })
+}
+
+fn cache_options(matches: &ArgMatches<'_>) -> Option<CacheOptions>
+    ensures value { result ≡ cache_of (rows_of (found_of matches.now)) }
+    ensures ranges { IfSome result IsCacheInRange }
+{
+    cache_with(matches, cache_kind(matches))
 }
 
 fn seed(matches: &ArgMatches<'_>) -> Option<u32>
@@ -169,6 +180,108 @@ fn function_count(matches: &ArgMatches<'_>) -> Option<u32>
 {
     let number = number_at(matches, Positional::Count, 1, 4096)?;
     Some(number as u32)
+}
+
+/// The places at which files may stand behind the second one.
+const MORE_PLACES: &[Positional] = &[
+    Positional::File3,
+    Positional::File4,
+    Positional::File5,
+    Positional::File6,
+    Positional::File7,
+    Positional::File8,
+];
+
+/// Appends the file at a place, where one is given.
+fn push_file(
+    alloc: Global,
+    matches: &ArgMatches<'_>,
+    place: Positional,
+    files: &mut Vec<String>,
+) -> Result<(), CommandError>
+    ensures files { OnOk result (map (λ s. string_bytes s) files.new.items
+        ≡ map (λ s. string_bytes s) files.old.items ++ given_at (positional_name place ∷ []) (rows_of (found_of matches.now))) }
+    ensures size { length files.new.items ≤ length files.old.items + 1 }
+    ensures memory { OnErr result (result ≡ Err CommandError.Memory) }
+{
+    let Some(text) = value_of(matches, place.name()) else {
+        return Ok(());
+    };
+    let Ok(file) = text.to_string(alloc) else {
+        return Err(CommandError::Memory);
+    };
+    if files.push(file).is_err() {
+        return Err(CommandError::Memory);
+    }
+    Ok(())
+}
+
+/// Appends the files that are given behind the second one.
+fn push_more(
+    alloc: Global,
+    matches: &ArgMatches<'_>,
+    files: &mut Vec<String>,
+) -> Result<(), CommandError>
+    ensures files { OnOk result (map (λ s. string_bytes s) files.new.items
+        ≡ map (λ s. string_bytes s) files.old.items ++ given_at more_places (rows_of (found_of matches.now))) }
+    ensures size { length files.new.items ≤ length files.old.items + 6 }
+    ensures memory { OnErr result (result ≡ Err CommandError.Memory) }
+{
+    for place in MORE_PLACES {
+        push_file(alloc, matches, *place, files)?;
+    }
+    Ok(())
+}
+
+/// The files of programs that share a cache: two to eight.
+fn shared_files(alloc: Global, matches: &ArgMatches<'_>) -> Result<Vec<String>, CommandError>
+    ensures ok { IfOk result (λ fs. shared_files (rows_of (found_of matches.now))
+        ≡ Some (map (λ s. string_bytes s) fs.items)) }
+    ensures usage { result ≡ Err CommandError.Usage → shared_files (rows_of (found_of matches.now)) ≡ None }
+    ensures ranges { IfOk result (λ fs. IsShareCount (length fs.items)) }
+{
+    let first = file_name(alloc, matches, Positional::File1)?;
+    let second = file_name(alloc, matches, Positional::File2)?;
+    let Ok(mut files) = Vec::from_array(alloc, [first, second]) else {
+        return Err(CommandError::Memory);
+    };
+    push_more(alloc, matches, &mut files)?;
+    Ok(files)
+}
+
+fn schedule(matches: &ArgMatches<'_>) -> Option<Schedule>
+    ensures { result ≡ schedule_of (rows_of (found_of matches.now)) }
+{
+    let events = number(matches, NumberOption::Events)?;
+    let seed = number(matches, NumberOption::Seed)?;
+    Some(Schedule {
+        events: events as u32,
+        seed: seed as u32,
+    })
+}
+
+fn share_options(matches: &ArgMatches<'_>) -> Option<ShareOptions>
+    ensures value { result ≡ share_options_of (rows_of (found_of matches.now)) }
+    ensures ranges { IfSome result IsShareInRange }
+{
+    let schedule = schedule(matches)?;
+    let heap = number(matches, NumberOption::Heap)?;
+    let stack = number(matches, NumberOption::Stack)?;
+    Some(ShareOptions {
+        schedule,
+        heap: heap as u32,
+        stack: stack as u32,
+        stats: is_given(matches, Flag::Stats),
+    })
+}
+
+/// The events of the engine for each one of the hart.
+fn engine_rate(matches: &ArgMatches<'_>) -> Option<u32>
+    ensures value { result ≡ number_of rate_form (rows_of (found_of matches.now)) }
+    ensures most { IfSome result (λ n. n ≤ 1024) }
+{
+    let rate = number(matches, NumberOption::Rate)?;
+    Some(rate as u32)
 }
 
 /// The command of that name with what the matches give its arguments.
@@ -220,6 +333,17 @@ pub fn command_from(
             seed: seed(matches).ok_or(usage)?,
             functions: function_count(matches).ok_or(usage)?,
             cache: cache_options(matches).ok_or(usage)?,
+        }),
+        CommandName::Share => Ok(Command::Share {
+            files: shared_files(alloc, matches)?,
+            cache: cache_with(matches, CacheKind::Slots).ok_or(usage)?,
+            options: share_options(matches).ok_or(usage)?,
+        }),
+        CommandName::Prefetch => Ok(Command::Prefetch {
+            file: file_name(alloc, matches, Positional::File)?,
+            cache: cache_with(matches, CacheKind::Slots).ok_or(usage)?,
+            options: run_options(matches).ok_or(usage)?,
+            rate: engine_rate(matches).ok_or(usage)?,
         }),
     }
 }

@@ -22,6 +22,7 @@ fn arg_of<'a>(alloc: Global, argument: Argument) -> Arg<'a>
     let arg = Arg::new(alloc, name);
     match argument {
         Argument::Positional(_) => arg.required(true),
+        Argument::Further(_) => arg.required(false),
         Argument::Number(_) => arg.long(name).action(ArgAction::Set),
         Argument::Flag(_) => arg.long(name).action(ArgAction::SetTrue),
     }

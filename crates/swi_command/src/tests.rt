@@ -1,4 +1,6 @@
-use crate::{CacheKind, CacheOptions, Command, Reports, RunLimits, RunOptions, parse_command};
+use crate::{
+    CacheKind, CacheOptions, Command, Reports, RunLimits, RunOptions, ShareOptions, parse_command,
+};
 use std::alloc::Global;
 use std::test::Fail;
 use swi_trace::Trace;
@@ -49,6 +51,28 @@ fn cache_text(alloc: Global, cache: CacheOptions) -> Result<String, Fail> {
     Ok(format!(in alloc; "{cache_bytes} {block_words}{kind}")?)
 }
 
+/// Files in brackets.
+fn names_text(alloc: Global, files: &Vec<String>) -> Result<String, Fail> {
+    let mut names = String::new(alloc);
+    for file in files {
+        names.push_str(format!(in alloc; " [{file}]")?.as_str())?;
+    }
+    Ok(names)
+}
+
+/// The options of programs that share a cache.
+fn share_text(alloc: Global, options: ShareOptions) -> Result<String, Fail> {
+    let ShareOptions {
+        schedule,
+        heap,
+        stack,
+        stats,
+    } = options;
+    let (events, seed) = (schedule.events, schedule.seed);
+    let stats = if stats { " stats" } else { "" };
+    Ok(format!(in alloc; "{events} {seed} {heap} {stack}{stats}")?)
+}
+
 /// A command as its name, its files in brackets and its options.
 fn command_text(alloc: Global, command: &Command) -> Result<String, Fail> {
     match command {
@@ -89,6 +113,26 @@ fn command_text(alloc: Global, command: &Command) -> Result<String, Fail> {
             let cache = cache_text(alloc, *cache)?;
             Ok(format!(in alloc; "measure {seed} {functions} {cache}")?)
         }
+        Command::Share {
+            files,
+            cache,
+            options,
+        } => {
+            let names = names_text(alloc, files)?;
+            let cache = cache_text(alloc, *cache)?;
+            let share = share_text(alloc, *options)?;
+            Ok(format!(in alloc; "share{names} {cache} {share}")?)
+        }
+        Command::Prefetch {
+            file,
+            cache,
+            options,
+            rate,
+        } => {
+            let cache = cache_text(alloc, *cache)?;
+            let run = run_text(alloc, *options)?;
+            Ok(format!(in alloc; "prefetch [{file}] {cache} {rate} {run}")?)
+        }
     }
 }
 
@@ -101,7 +145,7 @@ fn answer_to(alloc: Global, line: &str) -> Result<String, Fail> {
 }
 
 /// Lines of words, and how each is read.
-static LINES: [(&str, &str); 143] = [
+static LINES: [(&str, &str); 177] = [
     // Options stand before and after the file, in both forms.
     (
         "cached --steps 4 A --state",
@@ -277,6 +321,69 @@ static LINES: [(&str, &str); 143] = [
     ("rewrite A B --ring", USAGE),
     ("plain A --ring", USAGE),
     ("list A --ring", USAGE),
+    // Two to eight files, and options anywhere.
+    ("share A B", "share [A] [B] 4096 64 1000000 0 1048576 65536"),
+    (
+        "share A B C D E F G H --stats",
+        "share [A] [B] [C] [D] [E] [F] [G] [H] 4096 64 1000000 0 1048576 65536 stats",
+    ),
+    (
+        "share --events 0 A --seed=7 B --heap 0 --stack 4096 C",
+        "share [A] [B] [C] 4096 64 0 7 0 4096",
+    ),
+    (
+        "share A A --block 8 --cache 32",
+        "share [A] [A] 32 8 1000000 0 1048576 65536",
+    ),
+    (
+        "share A -- --seed",
+        "share [A] [--seed] 4096 64 1000000 0 1048576 65536",
+    ),
+    (
+        "share A B --events 4294967295 --seed 4294967295",
+        "share [A] [B] 4096 64 4294967295 4294967295 1048576 65536",
+    ),
+    ("share A B --events 4294967296", USAGE),
+    ("share A B --seed 4294967296", USAGE),
+    ("share A B --seed -1", USAGE),
+    ("share", USAGE),
+    ("share A", USAGE),
+    ("share A --stats", USAGE),
+    ("share A B C D E F G H I", USAGE),
+    ("share A B --events 1 --events 1", USAGE),
+    ("share A B --steps 4", USAGE),
+    ("share A B --ring", USAGE),
+    ("share A B --state", USAGE),
+    ("share A B --calls", USAGE),
+    ("share A B --cache 7", USAGE),
+    ("share A B --stack 4104", USAGE),
+    // An engine has a rate.
+    (
+        "prefetch A",
+        "prefetch [A] 4096 64 1 1000000000 1048576 65536",
+    ),
+    (
+        "prefetch --rate 5 A --block 5 --cache=60 --stats",
+        "prefetch [A] 60 5 5 1000000000 1048576 65536 stats",
+    ),
+    (
+        "prefetch A --rate=0 --state --calls",
+        "prefetch [A] 4096 64 0 1000000000 1048576 65536 state calls",
+    ),
+    (
+        "prefetch A --rate 1024 --steps 4",
+        "prefetch [A] 4096 64 1024 4 1048576 65536",
+    ),
+    ("prefetch A --rate 1025", USAGE),
+    ("prefetch A --rate", USAGE),
+    ("prefetch A --rate 1 --rate 1", USAGE),
+    ("prefetch A --ring", USAGE),
+    ("prefetch A --last", USAGE),
+    ("prefetch A --seed 1", USAGE),
+    ("prefetch A B", USAGE),
+    ("prefetch", USAGE),
+    ("cached A --rate 1", USAGE),
+    ("cached A --events 1", USAGE),
     // A value that begins with `-` is taken only behind `=`, and then is no number.
     ("cached A --steps -4", USAGE),
     ("cached A --steps=-4", USAGE),

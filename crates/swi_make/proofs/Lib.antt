@@ -1,4 +1,4 @@
-mod Drawn
+pub mod Drawn
 mod Encoded
 mod Functions
 mod Making

@@ -15,6 +15,7 @@ mod words;
 use crate::listing::listing;
 use crate::numbers::all_additions;
 use crate::words::words_of;
+pub use numbers::next_number;
 use std::alloc::{AllocError, Global};
 use swi_outside::Memory;
 use swi_program::append_words;

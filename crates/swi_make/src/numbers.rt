@@ -5,8 +5,8 @@ ghost use Rattle.swi_make.specs.Numbers.{all_additions};
 
 use std::alloc::{AllocError, Global};
 
-/// The number behind `x`, by a linear congruential generator modulo 2^32.
-fn next(x: u32) -> u32
+/// The number behind `x`, by a linear congruential generator modulo 2^32: of a seed, number 0 is the seed itself.
+pub fn next_number(x: u32) -> u32
     ensures { result ≡ (1664525 * x + 1013904223) % 2 ^ 32 }
 {
     x.wrapping_mul(1_664_525).wrapping_add(1_013_904_223)
@@ -21,7 +21,7 @@ pub fn all_additions(alloc: Global, seed: u32, count: u32) -> Result<Vec<u32>, A
     let mut all = Vec::new(alloc);
     let mut x = seed;
     for _ in 0..count {
-        x = next(x);
+        x = next_number(x);
         all.push(1 + (x >> 28))?;
     }
     Ok(all)

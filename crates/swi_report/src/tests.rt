@@ -217,6 +217,57 @@ fn the_summary_is_four_lines_of_the_program_and_the_nine_counts(
 }
 
 #[test]
+fn the_counts_of_an_engine_are_two_lines(rt: HostRuntime) -> Result<(), Fail> {
+    let alloc = rt.alloc();
+    let work = EngineWork {
+        words: 9,
+        copies: 2,
+    };
+    let cases = [
+        (0, true, "engine 9\nprefetched 2\n"),
+        (1, false, ""),
+        (2, false, "engine 9\n"),
+        (3, true, "engine 9\nprefetched 2\n"),
+    ];
+    for (failing, is_ok, held) in cases {
+        let mut out = sink(alloc, failing)?;
+        assert_eq!(rt; engine_text(&work, &mut out).is_ok(), is_ok, "{failing}");
+        assert_eq!(rt; out.held(), held.as_bytes(), "{failing}");
+    }
+    Ok(())
+}
+
+/// Two programs that evict each other once.
+const SHARED: SharedWork = SharedWork {
+    instructions: 16,
+    misses: 5,
+    evictions: 3,
+    links: 4,
+    unlinks: 2,
+    writes: 21,
+};
+
+#[test]
+fn the_counts_of_programs_that_share_a_cache_are_six_lines(rt: HostRuntime) -> Result<(), Fail> {
+    let alloc = rt.alloc();
+    let front = "instructions 16\nmisses 5\nevictions 3\nlinks 4\nunlinks 2\n";
+    let all = format!(in alloc; "{front}writes 21\n")?;
+    let cases = [
+        (0, true, all.as_str()),
+        (1, false, ""),
+        (2, false, "instructions 16\n"),
+        (6, false, front),
+        (7, true, all.as_str()),
+    ];
+    for (failing, is_ok, held) in cases {
+        let mut out = sink(alloc, failing)?;
+        assert_eq!(rt; shared_text(&SHARED, &mut out).is_ok(), is_ok, "{failing}");
+        assert_eq!(rt; out.held(), held.as_bytes(), "{failing}");
+    }
+    Ok(())
+}
+
+#[test]
 fn a_full_sink_holds_a_front_of_the_counts(rt: HostRuntime) -> Result<(), Fail> {
     let mut out = MemSink::new(rt.alloc(), 7, Vec::new(rt.alloc()))?;
     assert!(rt; stats_text(1, Some(&WORK), &mut out).is_err());

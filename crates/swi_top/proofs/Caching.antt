@@ -69,7 +69,7 @@ ran_all d i o e ram = record d { input = i; output = o; error = e; ram = ram }
 abbrev pub run_with : RunOptions → Cache → ImageData → ProgramData → Layout → List ℕ → CachedRun
 run_with o cache v p l input = cached_run cache o v (flat_start p l o.reports.calls input)
 
-keeps_all : (n : ℕ) (r : RamState) → KeepsBeyond n r r
+pub keeps_all : (n : ℕ) (r : RamState) → KeepsBeyond n r r
 keeps_all n r = record { same_length = refl; beyond = λ i h. refl; reached = omega arith }
 
 no_memory : (o : RunOptions) (cache : Cache) (v : ImageData) (p : ProgramData) (l : Layout) (d : Devices) →
@@ -138,7 +138,7 @@ failed_so o c d m r last broke words = record { broke = broke; fetched_at = word
 all_words : (c : CachedRun) (before after : RamState) → run.RamAfter c before after → FetchedFront (words_after c c.limit) before after
 all_words c before after h = ([], record { fetched = words_after c c.limit; are = h.fetched_at; front = append-nil (words_after c c.limit) })
 
-to_nil : (a b : Option (List ℕ)) (x : List ℕ) → Appends a b x → Appends a b (x ++ [])
+pub to_nil : (a b : Option (List ℕ)) (x : List ℕ) → Appends a b x → Appends a b (x ++ [])
 to_nil a b x h = subst (λ (y : List ℕ). Appends a b y) (sym (append-nil x)) h
 
 ram_failed : {T : Type 0} (o : RunOptions) (cache : Cache) (v : ImageData) (p : ProgramData) (l : Layout) (d : Devices) (i : SourceState) (out e : SinkState) (ram : RamState) →
@@ -171,7 +171,7 @@ ram_failed {T} o cache v p l d i out e ram kept words broke h = record {
   causes = stop_causes {T = T} stop.RamFault d (ran_all d i out e ram) refl h;
 }
 
-front_none : (a b : Option (List ℕ)) (x y : List ℕ) (n : ℕ) → n ≡ 0 → Appends a b (x ++ take n y) → Appends a b x
+pub front_none : (a b : Option (List ℕ)) (x y : List ℕ) (n : ℕ) → n ≡ 0 → Appends a b (x ++ take n y) → Appends a b x
 front_none a b x y n zero h =
     let all : Appends a b (x ++ []) = subst (λ (k : ℕ). Appends a b (x ++ take k y)) zero h in
     subst (λ (z : List ℕ). Appends a b z) (append-nil x) all
@@ -284,7 +284,7 @@ handed_on (Err f) x h = (f, refl, h)
 abbrev pub board_report : RunOptions → HartData → Record → List ℕ
 board_report o h r = report o.reports h.machine (Some (board_work h.count h.machine.ending r))
 
-fetches_are : (instructions fetches none : ℕ) → instructions ≡ 1 + fetches + none → instructions - 1 - none ≡ fetches
+pub fetches_are : (instructions fetches none : ℕ) → instructions ≡ 1 + fetches + none → instructions - 1 - none ≡ fetches
 fetches_are instructions fetches none e = omega (arith, e)
 
 -- at the end its counts are those of the run
@@ -302,7 +302,7 @@ report_is o c h r machine count kept counted =
     ∙ ap (λ (w : Work). report o.reports (end_of c).machine (Some w)) (work_is c counted)
 
 -- a count that rises by a number of 64 bits
-risen_min : (n more : ℕ) → risen n more ≡ risen n (min more (2 ^ 64 - 1))
+pub risen_min : (n more : ℕ) → risen n more ≡ risen n (min more (2 ^ 64 - 1))
 risen_min n more = grind arith
 
 ram_counted : (c : CachedRun) (before after : RamState) → run.RamAfter c before after → RamCounted (work_of c) before after
@@ -466,7 +466,7 @@ module _ {o : RunOptions} {cache : Cache} {v : ImageData} {p : ProgramData} {l :
 
 -- ---- from the run of a file's program to the command's answer
 
-keeps_less : (a b : ℕ) (r s : RamState) → a ≤ b → KeepsBeyond a r s → KeepsBeyond b r s
+pub keeps_less : (a b : ℕ) (r s : RamState) → a ≤ b → KeepsBeyond a r s → KeepsBeyond b r s
 keeps_less a b r s h k = record {
   same_length = k.same_length;
   beyond = λ i from. k.beyond i (omega arith);
@@ -573,22 +573,22 @@ left_again o k d m s r h = failed_so o k d m r [] (elim h.broke [
   ])
 ]) h.fetched_at
 
-run_err_not : (r s : Refusal) → IsRunErr r → (IsRunErr s → ⊥) → IsErrOf {T = Ending} (Err r) s → ⊥
+pub run_err_not : (r s : Refusal) → IsRunErr r → (IsRunErr s → ⊥) → IsErrOf {T = Ending} (Err r) s → ⊥
 run_err_not r s h never e = never (let p : r ≡ s = cc in subst IsRunErr p h)
 
-run_err_size : (r : Refusal) → IsRunErr r → IsSizeRefusal r → ⊥
+pub run_err_size : (r : Refusal) → IsRunErr r → IsSizeRefusal r → ⊥
 run_err_size (refusal.CacheLarge bytes) h f = h
 run_err_size (refusal.RamSmall bytes held) h f = h
 run_err_size _ h f = f
 
-run_err_asked : (failed : Option Asked) (r : Refusal) → IsRunErr r → IsAskedFor 1 0 failed (Err r) 1 0
+pub run_err_asked : (failed : Option Asked) (r : Refusal) → IsRunErr r → IsAskedFor 1 0 failed (Err r) 1 0
 run_err_asked failed refusal.SourceFault h = (refl, refl)
 run_err_asked failed refusal.SinkFault h = (refl, refl)
 run_err_asked failed refusal.RamFault h = (refl, refl)
 run_err_asked failed refusal.Memory h = (omega arith, omega arith, λ _. refl)
 run_err_asked failed _ h = absurd h
 
-run_err_checked : (checks : List Check) (last : Option Asked) (r : Refusal) → IsRunErr r → IsAccepted checks → IsChecked checks last (Err r)
+pub run_err_checked : (checks : List Check) (last : Option Asked) (r : Refusal) → IsRunErr r → IsAccepted checks → IsChecked checks last (Err r)
 run_err_checked checks last refusal.SourceFault h passed = passed
 run_err_checked checks last refusal.SinkFault h passed = passed
 run_err_checked checks last refusal.RamFault h passed = passed

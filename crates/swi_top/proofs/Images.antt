@@ -61,7 +61,7 @@ fails_some file more bytes r has fails = elim fails [
 pub behind : (c : Check) (cs : List Check) (r : Refusal) → Passes c → IsRefusedOr cs r → IsRefusedOr (c ∷ cs) r
 behind c cs r passes why = elim why [ inl e ↦ inl e | inr by ↦ inr (inr (passes, by)) ]
 
-front_fails : (cs more : List Check) (r : Refusal) → IsRefusedBy cs r → IsRefusedBy (cs ++ more) r
+pub front_fails : (cs more : List Check) (r : Refusal) → IsRefusedBy cs r → IsRefusedBy (cs ++ more) r
 front_fails [] more r h = absurd h
 front_fails (c ∷ cs) more r h = elim h [ inl f ↦ inl f | inr rest ↦ inr (rest.0, front_fails cs more r rest.1) ]
 

@@ -7,8 +7,15 @@ pub mod Lines
 pub mod Running
 pub mod Flats
 pub mod Caching
+pub mod Losing
+pub mod Ahead
 pub mod Listings
 pub mod Measuring
+pub mod Sharing
+pub mod SharedFiles
+pub mod SharedGuests
+pub mod SharedRuns
+pub mod SharedOver
 pub mod Alike
 pub mod Tracing
 pub mod Lined

@@ -1,6 +1,7 @@
 -- How the last line stands behind what each command did, or left.
-use Rattle.swi_command.specs.CommandLine.{Request, RewriteFile, RunCached, RunPlain, ListFile, CheckFile, UpgradeFile, MeasureMade}
+use Rattle.swi_command.specs.CommandLine.{Request, RewriteFile, RunAhead, RunShared, RunCached, RunPlain, ListFile, CheckFile, UpgradeFile, MeasureMade}
 use Rattle.swi_top.specs.Tasks.{task_of}
+use Rattle.swi_top.proofs.Ahead.{ahead_lined}
 use Rattle.swi_top.proofs.Caching.{cached_lined}
 use Rattle.swi_top.proofs.Confirming.{check_lined}
 use Rattle.swi_top.proofs.Flats.{plain_lined}
@@ -8,6 +9,7 @@ use Rattle.swi_top.proofs.Lines.{IsLined}
 use Rattle.swi_top.proofs.Listings.{list_lined}
 use Rattle.swi_top.proofs.Measuring.{measure_lined}
 use Rattle.swi_top.proofs.Puts.{rewrite_lined, upgrade_lined}
+use Rattle.swi_top.proofs.SharedRuns.{share_lined}
 
 pub lined : (q : Request) → IsLined (task_of q)
 lined (RewriteFile input output block whole) = rewrite_lined input output block whole
@@ -16,4 +18,6 @@ lined (CheckFile name) = check_lined name
 lined (ListFile name most) = list_lined name most
 lined (RunPlain name o) = plain_lined name o
 lined (RunCached name cache o) = cached_lined name cache o
+lined (RunAhead name cache o rate) = ahead_lined name cache o rate
 lined (MeasureMade seed functions cache) = measure_lined seed functions cache
+lined (RunShared names cache o) = share_lined names cache o

@@ -47,7 +47,7 @@ rose_above a b c h r = omega arith
 pub errors_later : {T : Type 0} (d m : Devices) (r : Result T Refusal) → HasCauses d m r → d.error.faults ≤ m.error.faults
 errors_later d m r h = h.streams.sinks.other_later
 
-step_line : (s : FlatState) (begun : List ℕ) (next : Made) (most : ℕ) (d m : Devices) (r : Refusal) (held : Option (List ℕ)) (line : List ℕ) →
+pub step_line : (s : FlatState) (begun : List ℕ) (next : Made) (most : ℕ) (d m : Devices) (r : Refusal) (held : Option (List ℕ)) (line : List ℕ) →
     StepFailed s begun next most d m r [] → Appends m.error.held held line → StepFailed s begun next most d (holds_then m held) r line
 step_line s begun next most d m r held line h p = record {
   fault = h.fault;

@@ -302,7 +302,7 @@ pub made_long : (seed functions : ℕ) (cache : CacheOptions) (p : ProgramData) 
     IsMade seed functions p → (r ≡ refusal.Memory) ⊎ IsLong (text_of p.segments) cache.block_words r → Answers (measure_task seed functions cache) d d (Err r) []
 made_long seed functions cache p d r size made why = elim why [
   | inl e ↦ made_memory seed functions cache d r size e
-  | inr long ↦ by (inl (p, made, long)) (subst (λ (x : Refusal). IsAskedFor 0 0 d.shelf.last_failed (Err x) 0 0) (sym long.2) (refl, refl))
+  | inr long ↦ by (inl (p, made, long)) (subst (λ (x : Refusal). IsAskedFor 0 0 d.shelf.last_failed (Err x) 0 0) (sym long.2) ((omega arith, λ some. omega (arith, some)), refl))
 ]
   where
     by : IsRefusedBy (measure_checks seed functions cache) r → IsAskedFor 0 0 d.shelf.last_failed (Err r) 0 0 → Answers (measure_task seed functions cache) d d (Err r) []

@@ -189,12 +189,12 @@ asked_twice n m k e f = grind arith
 pub one_late : (writes : ℕ) (failed : Option Asked) (r : Refusal) → IsLate r → IsAskedFor 1 writes failed (Err r) 1 0
 one_late writes failed (refusal.FileLong limit) h = (omega arith, omega arith, refl)
 one_late writes failed refusal.Memory h = (omega arith, omega arith, λ never. refl)
-one_late writes failed (refusal.Elf r) h = (refl, refl)
-one_late writes failed (refusal.Room end) h = (refl, refl)
-one_late writes failed refusal.NoImage h = (refl, refl)
-one_late writes failed (refusal.Image r) h = (refl, refl)
-one_late writes failed (refusal.Mismatch m) h = (refl, refl)
-one_late writes failed (refusal.Long address needs) h = (refl, refl)
+one_late writes failed (refusal.Elf r) h = ((omega arith, λ _. omega arith), refl)
+one_late writes failed (refusal.Room end) h = ((omega arith, λ _. omega arith), refl)
+one_late writes failed refusal.NoImage h = ((omega arith, λ _. omega arith), refl)
+one_late writes failed (refusal.Image r) h = ((omega arith, λ _. omega arith), refl)
+one_late writes failed (refusal.Mismatch m) h = ((omega arith, λ _. omega arith), refl)
+one_late writes failed (refusal.Long address needs) h = ((omega arith, λ _. omega arith), refl)
 one_late writes failed (refusal.CacheSmall bytes least) h = (refl, refl)
 one_late writes failed _ h = absurd h
 

@@ -65,6 +65,10 @@ abbrev pub writes_in : Option (List ℕ) → ℕ
 writes_in None = 0
 writes_in (Some name) = 1
 
+-- of so many files as many were got, or fewer, but one at least, where there is one
+abbrev pub IsGot : (reads gets : ℕ) → Type 0
+IsGot reads gets = (gets ≤ reads) × (0 < reads → 0 < gets)
+
 -- The shelf was got and put so often by a command that reads and writes so many files, whose last failed call is this. It gets each file
 -- once, up to one that is refused, and then it puts each once.
 abbrev pub IsAskedFor : (reads writes : ℕ) → Option Asked → Result Ending Refusal → (gets puts : ℕ) → Type 0
@@ -77,9 +81,16 @@ IsAskedFor reads writes failed (Err refusal.Usage) gets puts = (gets ≡ 0) × (
 IsAskedFor reads writes failed (Err (refusal.FileLong limit)) gets puts = (0 < gets) × (gets ≤ reads) × (puts ≡ 0)
 IsAskedFor reads writes (Some (put_of name)) (Err refusal.ShelfFault) gets puts = (gets ≡ reads) × (0 < puts) × (puts ≤ writes)
 IsAskedFor reads writes failed (Err refusal.ShelfFault) gets puts = (0 < gets) × (gets ≤ reads) × (puts ≡ 0)
+-- a file that a check refuses may be followed by others, which need not be got; where none is read, the check is made without one
+IsAskedFor reads writes failed (Err (refusal.Elf r)) gets puts = IsGot reads gets × (puts ≡ 0)
+IsAskedFor reads writes failed (Err (refusal.Room end)) gets puts = IsGot reads gets × (puts ≡ 0)
+IsAskedFor reads writes failed (Err refusal.NoImage) gets puts = IsGot reads gets × (puts ≡ 0)
+IsAskedFor reads writes failed (Err (refusal.Image r)) gets puts = IsGot reads gets × (puts ≡ 0)
+IsAskedFor reads writes failed (Err (refusal.Mismatch m)) gets puts = IsGot reads gets × (puts ≡ 0)
+IsAskedFor reads writes failed (Err (refusal.Long address needs)) gets puts = IsGot reads gets × (puts ≡ 0)
 -- memory may be refused at any time
 IsAskedFor reads writes failed (Err refusal.Memory) gets puts = (gets ≤ reads) × (puts ≤ writes) × (0 < puts → gets ≡ reads)
--- every other check is made, and the command runs, when all are got, and before one is put
+-- the cache is checked, and the command runs, when all are got, and before one is put
 IsAskedFor reads writes failed (Err r) gets puts = (gets ≡ reads) × (puts ≡ 0)
 
 -- of the shelf

@@ -14,6 +14,8 @@ pub mod ListFile
 pub mod RunPlain
 pub mod Caching
 pub mod RunCached
+pub mod RunAhead
 pub mod MeasureMade
+pub mod RunShared
 pub mod Tasks
 pub mod Alike

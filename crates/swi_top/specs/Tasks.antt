@@ -1,5 +1,5 @@
 -- The record of each command. Own rule.
-use Rattle.swi_command.specs.CommandLine.{Request, RewriteFile, RunCached, RunPlain, ListFile, CheckFile, UpgradeFile, MeasureMade}
+use Rattle.swi_command.specs.CommandLine.{Request, RewriteFile, RunAhead, RunShared, RunCached, RunPlain, ListFile, CheckFile, UpgradeFile, MeasureMade}
 use Rattle.swi_top.specs.Task.{Task}
 use Rattle.swi_top.specs.RewriteFile.{rewrite_task}
 use Rattle.swi_top.specs.UpgradeFile.{upgrade_task}
@@ -7,7 +7,9 @@ use Rattle.swi_top.specs.CheckFile.{check_task}
 use Rattle.swi_top.specs.ListFile.{list_task}
 use Rattle.swi_top.specs.RunPlain.{plain_task}
 use Rattle.swi_top.specs.RunCached.{cached_task}
+use Rattle.swi_top.specs.RunAhead.{ahead_task}
 use Rattle.swi_top.specs.MeasureMade.{measure_task}
+use Rattle.swi_top.specs.RunShared.{share_task}
 
 abbrev pub task_of : Request → Task
 task_of (RewriteFile input output block whole) = rewrite_task input output block whole
@@ -16,4 +18,6 @@ task_of (CheckFile name) = check_task name
 task_of (ListFile name block) = list_task name block
 task_of (RunPlain name o) = plain_task name o
 task_of (RunCached name cache o) = cached_task name cache o
+task_of (RunAhead name cache o rate) = ahead_task name cache o rate
 task_of (MeasureMade seed functions cache) = measure_task seed functions cache
+task_of (RunShared names cache o) = share_task names cache o

@@ -130,14 +130,14 @@ fn run_program<I: Source, O: Sink, E: Sink, R: CacheRam>(
 
 /// A subject with the layout of its program.
 #[derive(Drop)]
-struct Placed<'a> {
-    subject: Subject<'a>,
-    layout: Layout,
+pub(crate) struct Placed<'a> {
+    pub subject: Subject<'a>,
+    pub layout: Layout,
 }
 
 /// The program of a file with its layout, and with the image that the file has or else the greedy cut of its text: the
 /// file passes every check of a run in this cache.
-fn place<'a>(
+pub(crate) fn place<'a>(
     alloc: Global,
     file: &'a [u8],
     cache: &CacheOptions,

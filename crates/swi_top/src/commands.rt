@@ -12,7 +12,9 @@ use crate::check::check;
 use crate::list::list;
 use crate::measure::measure;
 use crate::plain::plain;
+use crate::prefetch::prefetch;
 use crate::rewrite::rewrite;
+use crate::share::share;
 use crate::upgrade::upgrade;
 use std::alloc::Global;
 use swi_answer::{Ending, Refusal};
@@ -67,6 +69,25 @@ pub(crate) fn perform<F: Shelf, I: Source, O: Sink, E: Sink, R: CacheRam>(
                 ram,
             )
         }
+        Command::Prefetch {
+            file,
+            cache,
+            options,
+            rate,
+        } => {
+            prefetch(
+                alloc,
+                file.as_str(),
+                cache,
+                options,
+                *rate,
+                shelf,
+                input,
+                out,
+                err,
+                ram,
+            )
+        }
         Command::Plain { file, options } => {
             plain(alloc, file.as_str(), options, shelf, input, out, err)
         }
@@ -83,5 +104,19 @@ pub(crate) fn perform<F: Shelf, I: Source, O: Sink, E: Sink, R: CacheRam>(
             functions,
             cache,
         } => measure(alloc, *seed, *functions, cache, out, ram),
+        Command::Share {
+            files,
+            cache,
+            options,
+        } => share(
+            alloc,
+            files.as_slice(),
+            cache,
+            options,
+            shelf,
+            out,
+            err,
+            ram,
+        ),
     }
 }

@@ -16,6 +16,8 @@ mod hostile;
 mod limits;
 mod list;
 mod measure;
+mod prefetch;
+mod share;
 mod trace;
 
 /// A file with `SEVEN` in one segment at 0x10000, by hand from the ELF document.
@@ -97,7 +99,8 @@ const SECOND: [u32; 48] = [
 /// A word that no image has at most of its places.
 const NONE: u32 = 0xFFFF_FFFF;
 
-const USAGE: &str = "usage: swic rewrite, cached, plain, trace, list, check, measure, upgrade\n";
+const USAGE: &str =
+    "usage: swic rewrite, cached, plain, trace, list, check, measure, upgrade, share, prefetch\n";
 
 /// The bytes of a file of these words.
 fn bytes_of(alloc: Global, words: &[u32]) -> Result<Vec<u8>, Fail> {

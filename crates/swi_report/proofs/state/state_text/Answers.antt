@@ -1,6 +1,5 @@
-use Rattle.std.proofs.Common.{◌∙◌, ◌++◌, ℕ, List, Ok, Err, subst}
+use Rattle.std.proofs.Common.{◌∙◌, ◌++◌}
 use Rattle.std.specs.List.{flat_map}
-use Rattle.swi_outside.specs.Sink.{WasWritten}
 use Rattle.swi_outside.proofs.SinkLemmas.{written_front, written_then}
 use Rattle.swi_report.specs.State.{numbers, pc_line, register_line, break_line, area_text, state_text_of}
 use Rattle.swi_report.proofs.state.state_text.Goals as goal

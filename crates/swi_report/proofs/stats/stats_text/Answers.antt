@@ -1,4 +1,4 @@
-use Rattle.std.proofs.Common.{◌∙◌, ℕ, List, Option, Some, None, Result, Err, codes}
+use Rattle.std.proofs.Common.{◌∙◌, ℕ, Option, Some, None, Result, Err, codes}
 use Rattle.std.specs.Option.{option_copied}
 use Rattle.std.specs.Result.{IsErr}
 use Rattle.swi_outside.specs.Sink.{SinkState, WasWritten}

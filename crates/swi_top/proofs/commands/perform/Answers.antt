@@ -36,7 +36,18 @@ returns-in-Cached g c =
     let answers = rw c.as_str-in-Cached.ensures.value at c.cached.ensures in
     rw c.in-Cached.is answers
 
+pub returns-in-Prefetch : goal.returns-in-Prefetch
+returns-in-Prefetch g c =
+    let answers = rw c.as_str-in-Prefetch.ensures.value at c.prefetch.ensures in
+    rw c.in-Prefetch.is answers
+
 pub returns-in-Measure : goal.returns-in-Measure
 returns-in-Measure g c =
     let before : Devices = seen (g.F.Shelf.state c.args.shelf.now) (g.I.Source.state c.args.input.now) (g.O.Sink.state c.args.out.now) (g.E.Sink.state c.args.err.now) (g.R.CacheRam.state c.args.ram.now) in
     rw c.in-Measure.is (c.measure.ensures before)
+
+pub returns-in-Share : goal.returns-in-Share
+returns-in-Share g c =
+    let before : Devices = seen (g.F.Shelf.state c.args.shelf.now) (g.I.Source.state c.args.input.now) (g.O.Sink.state c.args.out.now) (g.E.Sink.state c.args.err.now) (g.R.CacheRam.state c.args.ram.now) in
+    let answers = rw c.as_slice.ensures.value at (c.share.ensures before) in
+    rw c.in-Share.is answers
