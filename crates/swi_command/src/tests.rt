@@ -145,7 +145,7 @@ fn answer_to(alloc: Global, line: &str) -> Result<String, Fail> {
 }
 
 /// Lines of words, and how each is read.
-static LINES: [(&str, &str); 177] = [
+static LINES: [(&str, &str); 143] = [
     // Options stand before and after the file, in both forms.
     (
         "cached --steps 4 A --state",
@@ -321,6 +321,56 @@ static LINES: [(&str, &str); 177] = [
     ("rewrite A B --ring", USAGE),
     ("plain A --ring", USAGE),
     ("list A --ring", USAGE),
+    // A value that begins with `-` is taken only behind `=`, and then is no number.
+    ("cached A --steps -4", USAGE),
+    ("cached A --steps=-4", USAGE),
+    ("cached A --steps", USAGE),
+    ("cached A --steps --", USAGE),
+    ("cached A --steps --state", USAGE),
+    ("cached A --state=true", USAGE),
+    ("cached A --state true", USAGE),
+    // `--` ends the options.
+    ("plain -- A", "plain [A] 1000000000 1048576 65536"),
+    (
+        "plain --state -- --calls",
+        "plain [--calls] 1000000000 1048576 65536 state",
+    ),
+    ("plain -- -- ", "plain [--] 1000000000 1048576 65536"),
+    ("plain -- A --state", USAGE),
+    ("plain --", USAGE),
+    // `-` and the empty word are names of files; other words with a dash are options.
+    ("cached -", "cached [-] 4096 64 1000000000 1048576 65536"),
+    ("cached EMPTY", "cached [] 4096 64 1000000000 1048576 65536"),
+    ("cached -A", USAGE),
+    ("cached A -1", USAGE),
+    // An option's name is written whole.
+    ("cached A --step 4", USAGE),
+    ("cached A --stat", USAGE),
+    ("cached A --STEPS 4", USAGE),
+    // There is no help and no version.
+    ("cached -h", USAGE),
+    ("cached --help", USAGE),
+    ("cached A --help", USAGE),
+    ("cached A -V", USAGE),
+    ("cached A --version", USAGE),
+    (
+        "cached help",
+        "cached [help] 4096 64 1000000000 1048576 65536",
+    ),
+    ("--help", USAGE),
+    ("help", USAGE),
+    // The first word is the name of a command, written whole.
+    ("", USAGE),
+    ("EMPTY A", USAGE),
+    ("cache A", USAGE),
+    ("Cached A", USAGE),
+    ("--state cached A", USAGE),
+    ("cached", USAGE),
+    ("plain --state", USAGE),
+];
+
+/// As `LINES`, of the commands with a schedule.
+static SCHEDULES: [(&str, &str); 34] = [
     // Two to eight files, and options anywhere.
     ("share A B", "share [A] [B] 4096 64 1000000 0 1048576 65536"),
     (
@@ -384,57 +434,20 @@ static LINES: [(&str, &str); 177] = [
     ("prefetch", USAGE),
     ("cached A --rate 1", USAGE),
     ("cached A --events 1", USAGE),
-    // A value that begins with `-` is taken only behind `=`, and then is no number.
-    ("cached A --steps -4", USAGE),
-    ("cached A --steps=-4", USAGE),
-    ("cached A --steps", USAGE),
-    ("cached A --steps --", USAGE),
-    ("cached A --steps --state", USAGE),
-    ("cached A --state=true", USAGE),
-    ("cached A --state true", USAGE),
-    // `--` ends the options.
-    ("plain -- A", "plain [A] 1000000000 1048576 65536"),
-    (
-        "plain --state -- --calls",
-        "plain [--calls] 1000000000 1048576 65536 state",
-    ),
-    ("plain -- -- ", "plain [--] 1000000000 1048576 65536"),
-    ("plain -- A --state", USAGE),
-    ("plain --", USAGE),
-    // `-` and the empty word are names of files; other words with a dash are options.
-    ("cached -", "cached [-] 4096 64 1000000000 1048576 65536"),
-    ("cached EMPTY", "cached [] 4096 64 1000000000 1048576 65536"),
-    ("cached -A", USAGE),
-    ("cached A -1", USAGE),
-    // An option's name is written whole.
-    ("cached A --step 4", USAGE),
-    ("cached A --stat", USAGE),
-    ("cached A --STEPS 4", USAGE),
-    // There is no help and no version.
-    ("cached -h", USAGE),
-    ("cached --help", USAGE),
-    ("cached A --help", USAGE),
-    ("cached A -V", USAGE),
-    ("cached A --version", USAGE),
-    (
-        "cached help",
-        "cached [help] 4096 64 1000000000 1048576 65536",
-    ),
-    ("--help", USAGE),
-    ("help", USAGE),
-    // The first word is the name of a command, written whole.
-    ("", USAGE),
-    ("EMPTY A", USAGE),
-    ("cache A", USAGE),
-    ("Cached A", USAGE),
-    ("--state cached A", USAGE),
-    ("cached", USAGE),
-    ("plain --state", USAGE),
 ];
 
 #[test]
 fn lines_are_read_or_refused(rt: HostRuntime) -> Result<(), Fail> {
     for (line, wanted) in LINES.iter() {
+        let answer = answer_to(rt.alloc(), line)?;
+        assert_eq!(rt; answer.as_str(), *wanted, "{line}");
+    }
+    Ok(())
+}
+
+#[test]
+fn schedules_are_read_or_refused(rt: HostRuntime) -> Result<(), Fail> {
+    for (line, wanted) in SCHEDULES.iter() {
         let answer = answer_to(rt.alloc(), line)?;
         assert_eq!(rt; answer.as_str(), *wanted, "{line}");
     }
