@@ -8,11 +8,24 @@ macro_rules! row {
     ($($field:ident: $value:expr),*) => { Row { $($field: $value,)* ..QUIET } };
 }
 
+/// Fails where `cached` answers otherwise to a file.
+fn expect_answer(
+    alloc: Global,
+    file: Vec<u8>,
+    answer: Result<Ending, Refusal>,
+) -> Result<(), Fail> {
+    let wanted = Wanted {
+        answer: Some(answer),
+        ..ANY
+    };
+    expect_wanted(alloc, "cached A", &QUIET, file, &wanted)
+}
+
 #[test]
 fn each_front_of_a_file_has_its_refusal(rt: HostRuntime) -> Result<(), Fail> {
     let alloc = rt.alloc();
     for size in 0..=200u32 {
-        let wanted = match size {
+        let answer = match size {
             0..52 => Err(Elf(Short(size))),
             52..116 => Err(Elf(Table(28))),
             116..128 => Err(Elf(Extent(0))),
@@ -21,8 +34,7 @@ fn each_front_of_a_file_has_its_refusal(rt: HostRuntime) -> Result<(), Fail> {
         };
         let mut file = bytes_of(alloc, &FIRST)?;
         file.truncate(size as usize);
-        let done = run_words(alloc, "cached A", &QUIET, file)?;
-        answers("a front", &done, &wanted)?;
+        expect_answer(alloc, file, answer)?;
     }
     Ok(())
 }
@@ -53,8 +65,7 @@ fn each_word_of_an_image_is_checked(rt: HostRuntime) -> Result<(), Fail> {
         });
         let wanted = DAMAGED.get(at).copied().unwrap_or(word);
         let file = bytes_with(alloc, &FIRST, at.wrapping_add(32), NONE)?;
-        let done = run_words(alloc, "cached A", &QUIET, file)?;
-        answers("a word", &done, &Err(wanted))?;
+        expect_answer(alloc, file, Err(wanted))?;
     }
     Ok(())
 }
@@ -77,10 +88,9 @@ static HEADERS: [(usize, u32, Result<Ending, Refusal>); 12] = [
 
 #[test]
 fn each_field_of_a_header_is_checked(rt: HostRuntime) -> Result<(), Fail> {
-    for (at, word, wanted) in HEADERS.into_iter() {
+    for &(at, word, answer) in HEADERS.iter() {
         let file = bytes_with(rt.alloc(), &PLAIN, at, word)?;
-        let done = run_words(rt.alloc(), "cached A", &QUIET, file)?;
-        answers("a field", &done, &wanted)?;
+        expect_answer(rt.alloc(), file, answer)?;
     }
     Ok(())
 }
@@ -202,29 +212,38 @@ fn done_of(alloc: Global, row: &Row) -> Result<Stands, Fail> {
 /// Whether both sinks hold a front of what they hold after the whole run, the errors with this line behind it, and the file
 /// is as it was.
 fn has_fronts(whole: &Stands, done: &Stands, line: &str) -> bool {
-    let Some(front) = done.err.held().strip_suffix(line.as_bytes()) else {
+    let Some(front) = done.err.as_slice().strip_suffix(line.as_bytes()) else {
         return false;
     };
-    whole.out.held().starts_with(done.out.held())
-        && whole.err.held().starts_with(front)
-        && done.shelf.held("A") == whole.shelf.held("A")
+    whole.out.starts_with(&done.out)
+        && whole.err.starts_with(front)
+        && done.first.as_slice() == whole.first.as_slice()
+}
+
+/// Fails where the command does otherwise than break where one of these calls of a device fails, and than go whole where
+/// the next would.
+fn expect_breaks(alloc: Global, row: &Row, device: Device, calls: u32) -> Result<(), Fail> {
+    let (refusal, line) = device.fault();
+    let whole = done_of(alloc, row)?;
+    for call in 1..=calls {
+        let done = done_of(alloc, &device.failing(row, call))?;
+        let fact = done.answer == Err(refusal) && has_fronts(&whole, &done, line);
+        holds(row.words, fact)?;
+    }
+    let done = done_of(alloc, &device.failing(row, calls.saturating_add(1)))?;
+    let wanted = Wanted {
+        answer: Some(whole.answer),
+        out: Some(&whole.out),
+        err: Some(&whole.err),
+        ..ANY
+    };
+    agrees(row.words, &done, &wanted)
 }
 
 #[test]
 fn each_call_of_a_device_may_fail(rt: HostRuntime) -> Result<(), Fail> {
-    let alloc = rt.alloc();
     for (row, device, calls) in FAILING.iter() {
-        let (refusal, line) = device.fault();
-        let whole = done_of(alloc, row)?;
-        for call in 1..=*calls {
-            let done = done_of(alloc, &device.failing(row, call))?;
-            answers(row.words, &done, &Err(refusal))?;
-            holds(row.words, has_fronts(&whole, &done, line))?;
-        }
-        let done = done_of(alloc, &device.failing(row, calls.saturating_add(1)))?;
-        answers(row.words, &done, &whole.answer)?;
-        has(row.words, done.out.held(), whole.out.held())?;
-        has(row.words, done.err.held(), whole.err.held())?;
+        expect_breaks(rt.alloc(), row, *device, *calls)?;
     }
     Ok(())
 }
@@ -242,52 +261,49 @@ const STATE_AT_0: &str =
 #[test]
 fn a_report_has_the_state_and_then_the_counts(rt: HostRuntime) -> Result<(), Fail> {
     let alloc = rt.alloc();
-    let done = run_words(alloc, "cached A --stats", &QUIET, bytes_of(alloc, &FIRST)?)?;
-    let wanted = with_counts(alloc, "", &[3, 4, 0, 1, 0, 0, 0, 3, 8])?;
-    has("counts", done.out.held(), wanted.as_bytes())?;
+    let lines = with_counts(alloc, "", &[3, 4, 0, 1, 0, 0, 0, 3, 8])?;
+    let wanted = Wanted {
+        out: Some(lines.as_bytes()),
+        ..ANY
+    };
+    let file = bytes_of(alloc, &FIRST)?;
+    expect_wanted(alloc, "cached A --stats", &QUIET, file, &wanted)?;
+    let lines = with_counts(alloc, STATE_AT_0, &[0, 1, 0, 1, 0, 0, 0, 0, 9])?;
+    let wanted = Wanted {
+        out: Some(lines.as_bytes()),
+        ..ANY
+    };
     let words = "cached A --block 16 --cache 64 --steps 0 --stats --state";
-    let done = run_words(alloc, words, &QUIET, file_of(alloc, COUNT, 5, 0x10000)?)?;
-    let wanted = with_counts(alloc, STATE_AT_0, &[0, 1, 0, 1, 0, 0, 0, 0, 9])?;
-    has(words, done.out.held(), wanted.as_bytes())
+    let file = file_of(alloc, COUNT, 5, 0x10000)?;
+    expect_wanted(alloc, words, &QUIET, file, &wanted)
+}
+
+/// Fails where `LONG_ECHO` answers or writes otherwise over an input.
+fn expect_echo(alloc: Global, command: &str, input: &[u8], echo: &[u8]) -> Result<(), Fail> {
+    let row = row!(room: 2000);
+    let mut devices = devices_of(alloc, &row, file_of(alloc, LONG_ECHO, 5, 0x10000)?)?;
+    devices.input = MemSource::new(input.to_vec(alloc)?, Vec::new(alloc));
+    let mut ram = FaultRam::new(alloc, 1024, Vec::new(alloc))?;
+    let answer = answer_to(alloc, command, &mut devices, &mut ram)?;
+    holds(
+        command,
+        answer == Ok(Exited(0, 12)) && devices.out.held() == echo,
+    )
 }
 
 /// `LONG_ECHO` reads 1000 bytes at most, in pieces: of a longer input and of a shorter one.
 #[test]
 fn a_long_read_is_echoed(rt: HostRuntime) -> Result<(), Fail> {
-    let alloc = rt.alloc();
-    let mut given = Vec::new(alloc);
+    let mut given = Vec::new(rt.alloc());
     for _ in 0..6 {
         given.extend(0..251u8)?;
     }
-    for (words, bytes) in [
-        ("plain", 1500),
-        ("cached", 1500),
-        ("plain", 300),
-        ("cached", 300),
-    ] {
-        let input = given.get(..bytes).unwrap_or(b"").to_vec(alloc)?;
-        let command = [
-            String::from_str(alloc, words)?,
-            String::from_str(alloc, "A")?,
-        ];
-        let file = (
-            String::from_str(alloc, "A")?,
-            file_of(alloc, LONG_ECHO, 5, 0x10000)?,
-        );
-        let mut shelf = MemShelf::new(vec![in alloc; file]?, Vec::new(alloc));
-        let mut input = MemSource::new(input, Vec::new(alloc));
-        let mut out = MemSink::new(alloc, 2000, Vec::new(alloc))?;
-        let mut err = MemSink::new(alloc, 64, Vec::new(alloc))?;
-        let mut ram = FaultRam::new(alloc, 1024, Vec::new(alloc))?;
-        let answer = top(
-            alloc, &command, &mut shelf, &mut input, &mut out, &mut err, &mut ram,
-        );
-        holds(words, answer == Ok(Exited(0, 12)))?;
-        has(
-            words,
-            out.held(),
-            given.get(..bytes.min(1000)).unwrap_or(b""),
-        )?;
+    for command in ["plain A", "cached A"] {
+        for size in [1500usize, 300] {
+            let input = given.get(..size).unwrap_or(b"");
+            let echo = given.get(..size.min(1000)).unwrap_or(b"");
+            expect_echo(rt.alloc(), command, input, echo)?;
+        }
     }
     Ok(())
 }
@@ -356,10 +372,13 @@ fn texts_larger_than_a_jump_reaches_have_their_counts(rt: HostRuntime) -> Result
     let alloc = rt.alloc();
     for far in FAR.iter() {
         let row = row!(words: far.words, ram: 2_097_152);
-        let done = run(alloc, &row, far_file(alloc, far)?)?;
-        answers(far.words, &done, &Ok(far.answer))?;
-        let wanted = with_counts(alloc, "", &far.counts)?;
-        has(far.words, done.out.held(), wanted.as_bytes())?;
+        let lines = with_counts(alloc, "", &far.counts)?;
+        let wanted = Wanted {
+            answer: Some(Ok(far.answer)),
+            out: Some(lines.as_bytes()),
+            ..ANY
+        };
+        expect_wanted(alloc, far.words, &row, far_file(alloc, far)?, &wanted)?;
     }
     Ok(())
 }

@@ -1,12 +1,11 @@
 //! Commands at the greatest sizes that the guide names, with ample memory.
 #![tactic(auto)]
 
-use super::{PLAIN, SEVEN, bytes_of, has, holds};
+use super::{Devices, PLAIN, SEVEN, answer_to, bytes_of, holds};
 use std::alloc::Global;
 use std::test::Fail;
 use swi_outside::{MemShelf, MemSink, MemSource, VecRam};
 use swi_top::Ending::*;
-use swi_top::top;
 
 /// As many program headers as a file may have.
 const HEADERS: u32 = 64;
@@ -32,21 +31,19 @@ fn the_greatest_sizes_find_memory(rt: HostRuntime) -> Result<(), Fail> {
     for (command, options) in [("plain ", ""), ("cached ", " --cache 8388608 --block 1024")] {
         let limits = " --steps 281474976710656 --heap 67108864 --stack 16777216";
         let line = format!(in alloc; "{command}{name}{limits}{options}")?;
-        let mut words = Vec::new(alloc);
-        for word in line.split_whitespace() {
-            words.push(String::from_str(alloc, word)?)?;
-        }
         let file = (name.clone()?, file_of_many_segments(alloc)?);
-        let mut shelf = MemShelf::new(vec![in alloc; file]?, Vec::new(alloc));
-        let mut input = MemSource::new(Vec::new(alloc), Vec::new(alloc));
-        let mut out = MemSink::new(alloc, 64, Vec::new(alloc))?;
-        let mut err = MemSink::new(alloc, 64, Vec::new(alloc))?;
+        let mut devices = Devices {
+            shelf: MemShelf::new(vec![in alloc; file]?, Vec::new(alloc)),
+            input: MemSource::new(Vec::new(alloc), Vec::new(alloc)),
+            out: MemSink::new(alloc, 64, Vec::new(alloc))?,
+            err: MemSink::new(alloc, 64, Vec::new(alloc))?,
+        };
         let mut ram = VecRam::new(alloc, 1 << 21)?;
-        let answer = top(
-            alloc, &words, &mut shelf, &mut input, &mut out, &mut err, &mut ram,
-        );
-        holds(command, answer == Ok(Exited(7, 3)))?;
-        has(command, err.held(), b"")?;
+        let answer = answer_to(alloc, &line, &mut devices, &mut ram)?;
+        holds(
+            command,
+            answer == Ok(Exited(7, 3)) && devices.err.held().is_empty(),
+        )?;
     }
     Ok(())
 }

@@ -2,8 +2,8 @@
 #![tactic(auto)]
 
 use super::{
-    COUNT, FIRST, QUIET, Row, SECOND, SEVEN, USAGE, answers, bytes_of, counts, expect_rows,
-    file_of, has, run, run_words,
+    ANY, COUNT, FIRST, QUIET, Row, SECOND, SEVEN, USAGE, Wanted, bytes_of, expect_rows,
+    expect_wanted, file_of,
 };
 use std::test::Fail;
 use swi_elf_read::ElfRefusal::*;
@@ -98,11 +98,14 @@ fn blocks_of_a_cut_are_listed(rt: HostRuntime) -> Result<(), Fail> {
 fn a_listing_needs_no_room(rt: HostRuntime) -> Result<(), Fail> {
     let alloc = rt.alloc();
     let file = file_of(alloc, &[0x00000073], 5, 0xFFFF0000)?;
-    let done = run_words(alloc, "list A", &QUIET, file)?;
-    answers("list A", &done, &Ok(Done))?;
-    let expected =
+    let lines =
         "0 0 00000073 ffff0000 ecall\n0 1 00100073 ffff0000 fall\n0 2 ffff0004 ffff0000 .\n";
-    has("list A", done.out.held(), expected.as_bytes())
+    let wanted = Wanted {
+        answer: Some(Ok(Done)),
+        out: Some(lines.as_bytes()),
+        ..ANY
+    };
+    expect_wanted(alloc, "list A", &QUIET, file, &wanted)
 }
 
 /// The option has no effect where the file has an image: these blocks of eight words are listed as they are.
@@ -117,10 +120,13 @@ fn the_blocks_of_an_image_are_listed(rt: HostRuntime) -> Result<(), Fail> {
         ("list A", &SECOND[..], &lines),
         ("list A --block 2", &SECOND[..], &lines),
     ] {
-        let done = run_words(alloc, words, &QUIET, bytes_of(alloc, file)?)?;
-        answers(words, &done, &Ok(Done))?;
-        has(words, done.out.held(), expected.as_bytes())?;
-        counts(words, done.ram.sets(), 0)?;
+        let wanted = Wanted {
+            answer: Some(Ok(Done)),
+            out: Some(expected.as_bytes()),
+            sets: Some(0),
+            ..ANY
+        };
+        expect_wanted(alloc, words, &QUIET, bytes_of(alloc, file)?, &wanted)?;
     }
     Ok(())
 }
@@ -135,11 +141,15 @@ fn a_listing_whose_output_fails_has_its_first_lines(rt: HostRuntime) -> Result<(
             out_fails: call,
             ..QUIET
         };
-        let done = run(alloc, &row, file_of(alloc, SEVEN, 5, 0x10000)?)?;
         let written = LINES[..(call - 1) as usize].concat(alloc)?;
-        answers("list A", &done, &Err(SinkFault))?;
-        has("list A", done.out.held(), written.as_bytes())?;
-        has("list A", done.err.held(), b"sink fault\n")?;
+        let wanted = Wanted {
+            answer: Some(Err(SinkFault)),
+            out: Some(written.as_bytes()),
+            err: Some(b"sink fault\n"),
+            ..ANY
+        };
+        let file = file_of(alloc, SEVEN, 5, 0x10000)?;
+        expect_wanted(alloc, "list A", &row, file, &wanted)?;
     }
     Ok(())
 }

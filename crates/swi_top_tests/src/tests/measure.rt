@@ -1,7 +1,8 @@
 //! The command `measure`.
 #![tactic(auto)]
 
-use super::{QUIET, Row, USAGE, answers, counts, expect, has, holds, run_words};
+use super::{ANY, QUIET, Row, USAGE, Wanted, expect, expect_wanted, holds, run_words};
+use std::alloc::Global;
 use std::test::Fail;
 use swi_top::Ending::*;
 use swi_top::Refusal::*;
@@ -137,9 +138,13 @@ fn made_programs_are_measured(rt: HostRuntime) -> Result<(), Fail> {
 /// The report's counts are those that the ram has counted.
 #[test]
 fn the_ram_has_counted_the_same(rt: HostRuntime) -> Result<(), Fail> {
-    let done = run_words(rt.alloc(), "measure 1 1", &QUIET, Vec::new(rt.alloc()))?;
-    counts("fetches", done.ram.fetches(), 123)?;
-    counts("sets", done.ram.sets(), 27)
+    let alloc = rt.alloc();
+    let wanted = Wanted {
+        fetches: Some(123),
+        sets: Some(27),
+        ..ANY
+    };
+    expect_wanted(alloc, "measure 1 1", &QUIET, Vec::new(alloc), &wanted)
 }
 
 /// A seed, a number of functions and the words of the text that a script outside made of them.
@@ -157,24 +162,35 @@ const MADE: [(u32, u64, u64); 10] = [
 ];
 
 /// A text of 6 + 6 C + s words, with s additions in C functions, makes 26 + 8 (6 C + s) steps and exits with 8 s.
+fn expect_made(alloc: Global, seed: u32, functions: u64, text: u64) -> Result<(), Fail> {
+    let additions = text.saturating_sub(functions.saturating_mul(6).saturating_add(6));
+    let exit = additions.saturating_mul(8);
+    let steps = text.saturating_mul(8).saturating_sub(22);
+    let head = format!(in alloc; "functions {functions}\ntext {text}\nblocks ")?;
+    let tail = format!(in alloc; "\nexit {exit}\nsteps {steps}\ninstructions ")?;
+    let words = format!(in alloc; "measure {seed} {functions}")?;
+    expect_ends(alloc, &words, &head, &tail)
+}
+
+/// Fails where a summary does not begin with one text and have the other.
+fn expect_ends(alloc: Global, words: &str, head: &str, tail: &str) -> Result<(), Fail> {
+    let done = run_words(alloc, words, &QUIET, Vec::new(alloc))?;
+    let is_so = match str::from_utf8(&done.out) {
+        Ok(out) => out.starts_with(head) && out.contains(tail),
+        Err(_) => false,
+    };
+    holds(
+        words,
+        is_so && done.answer == Ok(Done) && done.err.is_empty(),
+    )
+}
+
 #[test]
 fn made_programs_end_after_the_steps_and_with_the_sum_that_their_text_says(
     rt: HostRuntime,
 ) -> Result<(), Fail> {
-    let alloc = rt.alloc();
     for (seed, functions, text) in MADE {
-        let words = format!(in alloc; "measure {seed} {functions}")?;
-        let done = run_words(alloc, &words, &QUIET, Vec::new(alloc))?;
-        answers(&words, &done, &Ok(Done))?;
-        let additions = text.saturating_sub(functions.saturating_mul(6).saturating_add(6));
-        let exit = additions.saturating_mul(8);
-        let steps = text.saturating_mul(8).saturating_sub(22);
-        let head = format!(in alloc; "functions {functions}\ntext {text}\nblocks ")?;
-        let tail = format!(in alloc; "\nexit {exit}\nsteps {steps}\ninstructions ")?;
-        let out = str::from_utf8(done.out.held())?;
-        holds(&words, out.starts_with(head.as_str()))?;
-        holds(&words, out.contains(tail.as_str()))?;
-        has(&words, done.err.held(), b"")?;
+        expect_made(rt.alloc(), seed, functions, text)?;
     }
     Ok(())
 }
@@ -186,15 +202,14 @@ fn a_large_program_has_its_counts(rt: HostRuntime) -> Result<(), Fail> {
     let expected =
         "functions 2048\ntext 29394\nblocks 634\nexit 136800\nsteps 235130\ninstructions 271140\n\
         services 36016\nmisses 5073\nevictions 5065\nlinks 19632\nunlinks 2320\nfetches 271139\nwrites 345590\n";
+    let wanted = Wanted {
+        answer: Some(Ok(Done)),
+        out: Some(expected.as_bytes()),
+        ..ANY
+    };
     for _ in 0..2 {
-        let done = run_words(
-            alloc,
-            "measure 7 2048 --cache 2048",
-            &QUIET,
-            Vec::new(alloc),
-        )?;
-        answers("measure", &done, &Ok(Done))?;
-        has("measure", done.out.held(), expected.as_bytes())?;
+        let words = "measure 7 2048 --cache 2048";
+        expect_wanted(alloc, words, &QUIET, Vec::new(alloc), &wanted)?;
     }
     Ok(())
 }

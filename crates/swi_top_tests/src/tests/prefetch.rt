@@ -1,7 +1,7 @@
 //! The command `prefetch`.
 #![tactic(auto)]
 
-use super::{BESIDE, COUNT, QUIET, Row, SEVEN, STATE_AFTER_4, STORE, USAGE, expect, file_of};
+use super::{BESIDE, COUNT, QUIET, Row, SEVEN, STATE_AFTER_4, STORE, USAGE, expect_rows};
 use std::test::Fail;
 use swi_exec::FaultKind::*;
 use swi_top::Ending::*;
@@ -85,9 +85,5 @@ static ROWS: [Row; 9] = [
 
 #[test]
 fn an_engine_copies_ahead_of_the_run(rt: HostRuntime) -> Result<(), Fail> {
-    let alloc = rt.alloc();
-    for row in &ROWS {
-        expect(alloc, row, file_of(alloc, row.text, row.rights, 0x10000)?)?;
-    }
-    Ok(())
+    expect_rows(rt.alloc(), &ROWS)
 }

@@ -83,9 +83,12 @@ static BROKEN: [Row; 11] = [
 fn lines_stand_where_a_device_fails(rt: HostRuntime) -> Result<(), Fail> {
     for row in BROKEN.iter() {
         let file = file_of(rt.alloc(), row.text, row.rights, 0x10000)?;
-        let done = run(rt.alloc(), row, file)?;
-        answers(row.words, &done, &row.answer)?;
-        has(row.words, done.err.held(), row.err.as_bytes())?;
+        let wanted = Wanted {
+            answer: Some(row.answer),
+            err: Some(row.err.as_bytes()),
+            ..ANY
+        };
+        expect_wanted(rt.alloc(), row.words, row, file, &wanted)?;
     }
     Ok(())
 }
@@ -98,35 +101,38 @@ const ROUND_LINES: &str =
 
 const END_LINES: &str = "0001000c 05d00893 addi a7, zero, 93\n00010010 00000073 ecall\n";
 
+/// A command on `LONG_COUNT`, and its first line, how many rounds it then tells, and its last lines.
+static ROUNDS: [(&str, &str, u32, &str); 3] = [
+    (
+        "trace A --block 5 --cache 20",
+        "00010000 01400293 addi t0, zero, 20\n",
+        20,
+        END_LINES,
+    ),
+    ("trace A --last", "", 15, END_LINES),
+    (
+        "trace A --steps 40 --last",
+        "00010008 fe029ee3 bne t0, zero, 00010004\n",
+        15,
+        "00010004 fff28293 addi t0, t0, -1\nspent: 40 steps, pc 00010008\n",
+    ),
+];
+
 #[test]
 fn the_last_lines_are_32(rt: HostRuntime) -> Result<(), Fail> {
     let alloc = rt.alloc();
-    let cases = [
-        (
-            "trace A --block 5 --cache 20",
-            "00010000 01400293 addi t0, zero, 20\n",
-            20,
-        ),
-        ("trace A --last", "", 15),
-        (
-            "trace A --steps 40 --last",
-            "00010008 fe029ee3 bne t0, zero, 00010004\n",
-            15,
-        ),
-    ];
-    for (words, first, rounds) in cases {
-        let row = row!(words: words, text: LONG_COUNT);
-        let done = run(alloc, &row, file_of(alloc, LONG_COUNT, 5, 0x10000)?)?;
-        let mut wanted = String::from_str(alloc, first)?;
+    for &(words, first, rounds, last) in ROUNDS.iter() {
+        let mut lines = String::from_str(alloc, first)?;
         for _ in 0..rounds {
-            wanted.push_str(ROUND_LINES)?;
+            lines.push_str(ROUND_LINES)?;
         }
-        if words.contains("--steps") {
-            wanted.push_str("00010004 fff28293 addi t0, t0, -1\nspent: 40 steps, pc 00010008\n")?;
-        } else {
-            wanted.push_str(END_LINES)?;
-        }
-        has(words, done.err.held(), wanted.as_bytes())?;
+        lines.push_str(last)?;
+        let wanted = Wanted {
+            err: Some(lines.as_bytes()),
+            ..ANY
+        };
+        let file = file_of(alloc, LONG_COUNT, 5, 0x10000)?;
+        expect_wanted(alloc, words, &QUIET, file, &wanted)?;
     }
     Ok(())
 }
@@ -149,50 +155,46 @@ fn the_programs_errors_stand_among_the_lines(rt: HostRuntime) -> Result<(), Fail
     let each = [TELLING, "hi\n", rest].concat(alloc)?;
     let last = ["hi\n", TELLING, rest].concat(alloc)?;
     for (words, wanted) in [("trace A", &each), ("trace A --last", &last)] {
-        let row = row!(words: words, text: TELLS);
-        let done = run(alloc, &row, file_of(alloc, TELLS, 5, 0x10000)?)?;
-        answers(words, &done, &Ok(Exited(3, 8)))?;
-        has(words, done.err.held(), wanted.as_bytes())?;
+        let wanted = Wanted {
+            answer: Some(Ok(Exited(3, 8))),
+            err: Some(wanted.as_bytes()),
+            ..ANY
+        };
+        let file = file_of(alloc, TELLS, 5, 0x10000)?;
+        expect_wanted(alloc, words, &QUIET, file, &wanted)?;
     }
     Ok(())
 }
 
-/// Fails where two rams have counted differently, or hold other words.
-fn same_ram(what: &str, one: &FaultRam, other: &FaultRam) -> Result<(), Fail> {
-    counts(what, one.fetches(), other.fetches())?;
-    counts(what, one.sets(), other.sets())?;
-    for i in 0..48 {
-        if i < one.words() && i < other.words() {
-            holds(what, one.word(i) == other.word(i))?;
-        }
-    }
-    Ok(())
+/// Fails where a command answers or writes otherwise on a text than `cached` does, but for the lines before the errors, or
+/// leaves another ram.
+fn expect_same(alloc: Global, words: &str, row: &Row, whole: &Stands) -> Result<(), Fail> {
+    let done = run_words(alloc, words, row, file_of(alloc, row.text, 7, 0x10000)?)?;
+    let wanted = Wanted {
+        answer: Some(whole.answer),
+        out: Some(&whole.out),
+        fetches: Some(whole.fetches),
+        sets: Some(whole.sets),
+        ..ANY
+    };
+    agrees(words, &done, &wanted)?;
+    holds(
+        words,
+        done.err.ends_with(&whole.err) && done.words.as_slice() == whole.words.as_slice(),
+    )
 }
 
 #[test]
 fn a_trace_is_the_run_of_cached(rt: HostRuntime) -> Result<(), Fail> {
+    let alloc = rt.alloc();
     for text in [SEVEN, COUNT, ROUND, CALL, STORE, ECHO, LONG_COUNT] {
-        let row = row!(words: "", text: text, rights: 7, input: "abc");
-        let plain = run_words(
-            rt.alloc(),
-            "cached A --steps 50 --block 6 --cache 48",
-            &row,
-            file_of(rt.alloc(), text, 7, 0x10000)?,
-        )?;
+        let row = row!(words: "cached A --steps 50 --block 6 --cache 48", text: text, input: "abc");
+        let whole = run(alloc, &row, file_of(alloc, text, 7, 0x10000)?)?;
         for words in [
             "trace A --steps 50 --block 6 --cache 48",
             "trace A --steps 50 --block 6 --cache 48 --last",
         ] {
-            let done = run_words(
-                rt.alloc(),
-                words,
-                &row,
-                file_of(rt.alloc(), text, 7, 0x10000)?,
-            )?;
-            answers(words, &done, &plain.answer)?;
-            has(words, done.out.held(), plain.out.held())?;
-            holds(words, done.err.held().ends_with(plain.err.held()))?;
-            same_ram(words, &done.ram, &plain.ram)?;
+            expect_same(alloc, words, &row, &whole)?;
         }
     }
     Ok(())
