@@ -352,16 +352,15 @@ left_worked e f v h first k a b sound none lt here known absent full at into f_i
     same_get xs k x lt e = let w : slice_get xs k ≡ Some x = subst (λ (i : ℕ). slice_get xs i ≡ Some x) (less_none k) e in let g = get_index xs k lt in cc
 
 -- the calls, as their code meets them: e is what the fields hold, now what they show
-pub queue_below : (e : EngineData) (q b : List ℕ) → InShape e → q ≡ e.queue → b ≡ e.blocks → (k : ℕ) → k < length q → slice_index q k < length b
-queue_below e q b shape qs bs k lt =
-    let lt' : k < length e.queue = subst (λ (xs : List ℕ). k < length xs) qs lt in
-    let below : slice_index e.queue k < length e.blocks = omega (arith, shape.below (slice_index e.queue k) (has_index e.queue k lt'), shape.blocks_long) in
-    subst (λ (xs : List ℕ). slice_index q k < length xs) (sym bs) (subst (λ (xs : List ℕ). slice_index xs k < length e.blocks) (sym qs) below)
+pub queue_below : (e : EngineData) (b : List ℕ) → InShape e → b ≡ e.blocks → (k : ℕ) → k < length e.queue → slice_index e.queue k < length b
+queue_below e b shape bs k lt =
+    let below : slice_index e.queue k < length e.blocks = omega (arith, shape.below (slice_index e.queue k) (has_index e.queue k lt), shape.blocks_long) in
+    subst (λ (xs : List ℕ). slice_index e.queue k < length xs) (sym bs) below
 
-pub oldest_now : (e now : EngineData) (q b : List ℕ) (x : ℕ) (r s : Option ℕ) → e ≡ now → q ≡ e.queue → b ≡ e.blocks → r ≡ position_from (λ n. not (is_block_in b x n)) 0 q → r ≡ s → position_from (λ n. not (is_block_in now.blocks x n)) 0 now.queue ≡ s
-oldest_now e now q b x r s same qs bs is rs =
+pub oldest_now : (e now : EngineData) (b : List ℕ) (x : ℕ) (r s : Option ℕ) → e ≡ now → b ≡ e.blocks → r ≡ position_from (λ n. not (is_block_in b x n)) 0 e.queue → r ≡ s → position_from (λ n. not (is_block_in now.blocks x n)) 0 now.queue ≡ s
+oldest_now e now b x r s same bs is rs =
     subst (λ (t : EngineData). position_from (λ n. not (is_block_in t.blocks x n)) 0 t.queue ≡ s) same
-    (subst (λ (ns : List ℕ). position_from (λ n. not (is_block_in e.blocks x n)) 0 ns ≡ s) qs (subst (λ (ns : List ℕ). position_from (λ n. not (is_block_in ns x n)) 0 q ≡ s) bs (sym is ∙ rs)))
+    (subst (λ (ns : List ℕ). position_from (λ n. not (is_block_in ns x n)) 0 e.queue ≡ s) bs (sym is ∙ rs))
 
 -- the block that is read
 pub victim_now : (e now : EngineData) (k n b : ℕ) → e ≡ now → InShape e → k < length e.queue → n ≡ slice_index_or e.queue k n → b ≡ slice_index_or e.blocks n b → (n < length e.blocks) × (n ≡ slice_index now.queue k) × (b ≡ slice_index now.blocks (slice_index now.queue k))

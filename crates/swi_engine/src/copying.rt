@@ -7,6 +7,7 @@ ghost use Rattle.swi_rom.specs.Writing.{FailedBelow};
 ghost use Rattle.swi_engine.specs.State.{copies_begun, is_copied_to};
 ghost use Rattle.swi_engine.specs.Moves.{CopiedOn};
 
+use std::collections::VecDeque;
 use swi_image::ImageView;
 use swi_outside::{CacheRam, Failed};
 
@@ -19,9 +20,9 @@ pub struct Copying {
 }
 
 // How many slots have a block or a copy.
-pub(crate) fn used(queue: &[u32], copy: &Option<Copying>) -> u32
-    requires { length queue.now < 2 ^ 21 }
-    ensures { result ≡ length queue.now + copies_begun copy.now }
+pub(crate) fn used(queue: &VecDeque<u32>, copy: &Option<Copying>) -> u32
+    requires { length queue.now.items < 2 ^ 21 }
+    ensures { result ≡ length queue.now.items + copies_begun copy.now }
 {
     match copy {
         Some(_) => queue.len() as u32 + 1,

@@ -1,7 +1,8 @@
 //! A service with slots beside which an engine copies.
 #![tactic(auto)]
 
-ghost use Rattle.std.specs.Prelude.{◌≡◌, ◌+◌, ◌-◌, ◌*◌, ◌/◌, ◌^◌, ◌<◌, ◌≤◌, not, ℕ, List, [], length, slice_index, replicate, IfOk, OnOk, OnErr, IsTrue, MatchOption, vec_capacity};
+ghost use Rattle.std.specs.Prelude.{◌≡◌, ◌+◌, ◌-◌, ◌*◌, ◌/◌, ◌^◌, ◌<◌, ◌≤◌, not, ℕ, List, [], length, slice_index, replicate, IfOk, OnOk, OnErr, IsTrue, MatchOption};
+ghost use Rattle.std.specs.VecDeque.{deque_capacity};
 ghost use Rattle.std.specs.List.{position_from};
 ghost use Rattle.swi_image.specs.Format.{ImageData};
 ghost use Rattle.swi_image.specs.Place.{length_at, word_at};
@@ -21,6 +22,7 @@ ghost use Rattle.swi_engine.specs.Moves.{OneSet, is_block_in, IsAbsent, counted_
 use crate::copying::{Copying, copies_to, copy_rest, used};
 use crate::joints::{Joint, Joints};
 use std::alloc::Global;
+use std::collections::VecDeque;
 use std::marker::Model;
 use swi_image::ImageView;
 use swi_outside::{CacheRam, Failed, Memory};
@@ -29,14 +31,14 @@ use swi_rom::{CacheRom, Counts, EBREAK, RomStop, jump, reach};
 /// A cache of slots of one size, each of which holds a block. While a slot is free the lowest is filled, and then
 /// the oldest block makes room. An engine copies the block behind control's beside it, word by word. After `new` no
 /// call takes memory. `revisit`, `at` and `goal` take constant time but for the search of the place. `enter`, `cross`
-/// and `work` take time linear in the words that they write. Where a block leaves, the time is linear in its words
-/// too, and the slots behind it in the queue, four bytes each, move up by one.
+/// and `work` take time linear in the words that they write and in those of a block that leaves.
 #[derive(Drop)]
 pub struct EngineRom {
     slots: u32,
     size: u32,
-    // The slots in which a block stands, the oldest first. With a copy that has begun they are the lowest slots.
-    queue: Vec<u32>,
+    // The slots in which a block stands, the oldest first. With a copy that has begun they are the lowest slots. Only the
+    // first or the second leaves, so at most one other moves.
+    queue: VecDeque<u32>,
     // Of each slot its block and that block's length.
     blocks: Vec<u32>,
     lengths: Vec<u32>,
@@ -53,7 +55,8 @@ pub struct EngineRom {
 }
 
 impl Model for EngineRom {
-    ghost use Rattle.std.specs.Prelude.{◌≡◌, ◌*◌, ◌≤◌, length, vec_capacity};
+    ghost use Rattle.std.specs.Prelude.{◌≡◌, ◌*◌, ◌≤◌, length};
+    ghost use Rattle.std.specs.VecDeque.{deque_capacity};
     ghost use Rattle.swi_engine.specs.State.{EngineData};
     ghost use Rattle.swi_engine.specs.Sound.{InShape};
 
@@ -87,7 +90,7 @@ impl Model for EngineRom {
       counts = s.counts;
       words = s.words;
       copies = s.copies;
-    }) × (s.slots ≤ vec_capacity s.queue) × (s.joints.words ≡ s.slots * s.size) × (s.joints.blocks ≡ length s.homes.items) };
+    }) × (s.slots ≤ deque_capacity s.queue) × (s.joints.words ≡ s.slots * s.size) × (s.joints.blocks ≡ length s.homes.items) };
 }
 
 // So many times a number.
@@ -98,17 +101,17 @@ fn all_of(alloc: Global, number: u32, count: u32) -> Result<Vec<u32>, Memory>
 }
 
 // Room for so many numbers.
-fn room_for(alloc: Global, count: u32) -> Result<Vec<u32>, Memory>
+fn room_for(alloc: Global, count: u32) -> Result<VecDeque<u32>, Memory>
     ensures empty { IfOk result (λ xs. xs.items ≡ []) }
-    ensures room { IfOk result (λ xs. count ≤ vec_capacity xs) }
+    ensures room { IfOk result (λ xs. count ≤ deque_capacity xs) }
 {
-    Vec::with_capacity(alloc, count as usize).map_err(|_| Memory)
+    VecDeque::with_capacity(alloc, count as usize).map_err(|_| Memory)
 }
 
 // The place in the queue of the oldest block other than one.
-fn oldest_but(queue: &[u32], blocks: &[u32], block: u32) -> Option<usize>
-    requires below { (k : ℕ) → k < length queue.now → slice_index queue.now k < length blocks.now }
-    ensures { result ≡ position_from (λ n. not (is_block_in blocks.now block n)) 0 queue.now }
+fn oldest_but(queue: &VecDeque<u32>, blocks: &[u32], block: u32) -> Option<usize>
+    requires below { (k : ℕ) → k < length queue.now.items → slice_index queue.now.items k < length blocks.now }
+    ensures { result ≡ position_from (λ n. not (is_block_in blocks.now block n)) 0 queue.now.items }
 {
     for k in 0..queue.len() {
         if blocks[queue[k] as usize] != block {
@@ -228,7 +231,9 @@ impl EngineRom {
         ensures slot { result ≡ slice_index self.old.queue k }
         ensures data { self.new ≡ left_data self.old k }
     {
-        let slot = self.queue.remove(k);
+        let Some(slot) = self.queue.remove(k) else {
+            unreachable!()
+        };
         let block = self.blocks[slot as usize];
         self.homes[block as usize] = self.slots;
         let first = slot * self.size;
@@ -285,7 +290,7 @@ impl EngineRom {
         requires absent { IsAbsent self.old block }
         ensures { self.new ≡ placed_data self.old block slot size }
     {
-        let Ok(()) = self.queue.push(slot) else {
+        let Ok(()) = self.queue.push_back(slot) else {
             unreachable!()
         };
         self.blocks[slot as usize] = block;

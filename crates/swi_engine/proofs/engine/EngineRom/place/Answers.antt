@@ -9,7 +9,7 @@ use Rattle.swi_engine.proofs.engine.EngineRom.place.Goals as goal
 pub invariant_of-self : goal.invariant_of-self
 invariant_of-self c =
     let s = c.self.invariant.0 in
-    let items : c.push.new.self.items ≡ c.self.inside.queue.items ++ c.args.slot ∷ [] = c.in-Ok.ensures.items in
+    let items : c.push_back.new.self.items ≡ c.self.inside.queue.items ++ c.args.slot ∷ [] = c.in-Ok.ensures.items in
     let long : length c.self.inside.queue.items ≡ length c.args.self.now.queue = ap (λ (e : EngineData). length e.queue) c.self.view_is in
     let slots : c.self.inside.slots ≡ c.args.self.now.slots = ap (λ (e : EngineData). e.slots) c.self.view_is in
     let known : c.args.block < length c.self.inside.homes.items = omega (arith, c.requires.block, ap (λ (e : EngineData). length e.homes) c.self.view_is) in (
@@ -28,7 +28,7 @@ invariant_of-self c =
             (λ h. c.requires.free (subst (λ (e : EngineData). Has e.queue c.args.slot) c.self.view_is h)) (omega (arith, s.blocks_long, slots, c.requires.slot)) known
             (λ m h is. c.requires.absent m (subst (λ (e : EngineData). Has e.queue m) c.self.view_is h) (subst (λ (e : EngineData). slice_index e.blocks m ≡ c.args.block) c.self.view_is is)));
       },
-      omega (arith, c.self.invariant.1, c.push.ensures.capacity),
+      omega (arith, c.self.invariant.1, c.push_back.ensures.capacity),
       c.self.invariant.2,
       omega (arith, c.self.invariant.3, length-set c.self.inside.homes.items c.args.block c.args.slot),
     )

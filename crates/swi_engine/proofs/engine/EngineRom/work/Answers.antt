@@ -38,7 +38,7 @@ returns-then-len-self-clause-worked g c =
     c.in_ok-write_next-2.ensures.data c.in_ok-write_next-2.ensures.set
 
 pub oldest_but-requires : goal.oldest_but-requires
-oldest_but-requires g c = record { below = queue_below _ _ _ c.self.invariant.0 c.deref.ensures.value c.deref-2.ensures.value }
+oldest_but-requires g c = record { below = queue_below _ _ c.self.invariant.0 c.deref.ensures.value }
 
 pub returns-in_default-oldest_but-clause-worked : goal.returns-in_default-oldest_but-clause-worked
 returns-in_default-oldest_but-clause-worked g c =
@@ -49,25 +49,25 @@ returns-in_default-oldest_but-clause-worked g c =
     (none_other c.args.self.now _ _ c.args.here c.requires.sound.stands (sym view ∙ c.in_default.is) (omega (arith, c.if-block-blocks.false, c.blocks-2.ensures.value))
     c.in_default-find.ensures
     (omega (arith, c.if-len-self.false, c.len.ensures, long, slots))
-    (oldest_now _ _ _ _ _ _ _ c.self.view_is c.deref.ensures.value c.deref-2.ensures.value c.oldest_but.ensures c.in_default-oldest_but.is))
+    (oldest_now _ _ _ _ _ _ c.self.view_is c.deref.ensures.value c.oldest_but.ensures c.in_default-oldest_but.is))
 
 pub index-requires : goal.index-requires
 index-requires g c =
     let long = ap (λ (e : EngineData). length e.queue) c.self.view_is in
-    let at = oldest_now _ _ _ _ _ _ _ c.self.view_is c.deref.ensures.value c.deref-2.ensures.value c.oldest_but.ensures c.in-Some-oldest_but.is in
+    let at = oldest_now _ _ _ _ _ _ c.self.view_is c.deref.ensures.value c.oldest_but.ensures c.in-Some-oldest_but.is in
     omega (arith, found_oldest c.args.self.now c.args.here c.in-Some-oldest_but.k at, long)
 
 pub index-victim-requires : goal.index-victim-requires
 index-victim-requires g c =
     let long = ap (λ (e : EngineData). length e.queue) c.self.view_is in
-    let at = oldest_now _ _ _ _ _ _ _ c.self.view_is c.deref.ensures.value c.deref-2.ensures.value c.oldest_but.ensures c.in-Some-oldest_but.is in
+    let at = oldest_now _ _ _ _ _ _ c.self.view_is c.deref.ensures.value c.oldest_but.ensures c.in-Some-oldest_but.is in
     let lt : c.in-Some-oldest_but.k < length c.self.inside.queue.items = omega (arith, found_oldest c.args.self.now c.args.here c.in-Some-oldest_but.k at, long) in
     omega (arith, slot_now _ _ c.index.result.now c.self.invariant.0 lt c.index.ensures)
 
 pub newest_into-requires : goal.newest_into-requires
 newest_into-requires g c =
     let long = ap (λ (e : EngineData). length e.queue) c.self.view_is in
-    let at = oldest_now _ _ _ _ _ _ _ c.self.view_is c.deref.ensures.value c.deref-2.ensures.value c.oldest_but.ensures c.in-Some-oldest_but.is in
+    let at = oldest_now _ _ _ _ _ _ c.self.view_is c.deref.ensures.value c.oldest_but.ensures c.in-Some-oldest_but.is in
     omega (arith, (leaving _ _ c.in-Some-oldest_but.k _ _ c.self.view_is c.self.invariant.0 (found_oldest c.args.self.now c.args.here c.in-Some-oldest_but.k at) c.index.ensures c.index-victim.ensures).2, c.self.invariant.3)
 
 pub undo-requires-clause-at : goal.undo-requires-clause-at
@@ -86,7 +86,7 @@ returns-in-Some-newest_into-clause-worked g c =
     let view = ap (λ (e : EngineData). e.copy) c.self.view_is in
     let long = ap (λ (e : EngineData). length e.queue) c.self.view_is in
     let slots = ap (λ (e : EngineData). e.slots) c.self.view_is in
-    let at = oldest_now _ _ _ _ _ _ _ c.self.view_is c.deref.ensures.value c.deref-2.ensures.value c.oldest_but.ensures c.in-Some-oldest_but.is in
+    let at = oldest_now _ _ _ _ _ _ c.self.view_is c.deref.ensures.value c.oldest_but.ensures c.in-Some-oldest_but.is in
     let lt : c.in-Some-oldest_but.k < length c.self.inside.queue.items = omega (arith, found_oldest c.args.self.now c.args.here c.in-Some-oldest_but.k at, long) in
     let victim = victim_now _ _ _ _ _ c.self.view_is c.self.invariant.0 lt c.index.ensures c.index-victim.ensures in
     let w = newest_now _ _ _ _ _ c.self.view_is victim.2 c.in-Some-newest_into.ensures in
@@ -97,12 +97,12 @@ returns-in-Some-newest_into-clause-worked g c =
 
 pub leave-slot-requires-clause-k : goal.leave-slot-requires-clause-k
 leave-slot-requires-clause-k g c =
-    let at = oldest_now _ _ _ _ _ _ _ c.self.view_is c.deref.ensures.value c.deref-2.ensures.value c.oldest_but.ensures c.in-Some-oldest_but.is in
+    let at = oldest_now _ _ _ _ _ _ c.self.view_is c.deref.ensures.value c.oldest_but.ensures c.in-Some-oldest_but.is in
     omega (arith, found_oldest c.args.self.now c.args.here c.in-Some-oldest_but.k at)
 
 pub leave-slot-requires-clause-owned : goal.leave-slot-requires-clause-owned
 leave-slot-requires-clause-owned g c =
-    let at = oldest_now _ _ _ _ _ _ _ c.self.view_is c.deref.ensures.value c.deref-2.ensures.value c.oldest_but.ensures c.in-Some-oldest_but.is in
+    let at = oldest_now _ _ _ _ _ _ c.self.view_is c.deref.ensures.value c.oldest_but.ensures c.in-Some-oldest_but.is in
     owns_links _ _ _ _ c.requires.sound.stands (found_oldest c.args.self.now c.args.here c.in-Some-oldest_but.k at)
 
 pub leave-slot-requires-clause-few : goal.leave-slot-requires-clause-few
@@ -110,12 +110,12 @@ leave-slot-requires-clause-few g c = omega (arith, c.requires.sound.few.eviction
 
 pub write_next-requires-2-clause-slot : goal.write_next-requires-2-clause-slot
 write_next-requires-2-clause-slot g c =
-    let at = oldest_now _ _ _ _ _ _ _ c.self.view_is c.deref.ensures.value c.deref-2.ensures.value c.oldest_but.ensures c.in-Some-oldest_but.is in
+    let at = oldest_now _ _ _ _ _ _ c.self.view_is c.deref.ensures.value c.oldest_but.ensures c.in-Some-oldest_but.is in
     (room_after _ _ _ _ _ _ c.requires.sound.stands (omega (arith, found_oldest c.args.self.now c.args.here c.in-Some-oldest_but.k at)) c.leave-slot.ensures.data c.leave-slot.ensures.slot).0
 
 pub write_next-requires-2-clause-room : goal.write_next-requires-2-clause-room
 write_next-requires-2-clause-room g c =
-    let at = oldest_now _ _ _ _ _ _ _ c.self.view_is c.deref.ensures.value c.deref-2.ensures.value c.oldest_but.ensures c.in-Some-oldest_but.is in
+    let at = oldest_now _ _ _ _ _ _ c.self.view_is c.deref.ensures.value c.oldest_but.ensures c.in-Some-oldest_but.is in
     (room_after _ _ _ _ _ _ c.requires.sound.stands (omega (arith, found_oldest c.args.self.now c.args.here c.in-Some-oldest_but.k at)) c.leave-slot.ensures.data c.leave-slot.ensures.slot).1
 
 pub returns-clause-worked : goal.returns-clause-worked
@@ -123,7 +123,7 @@ returns-clause-worked g c =
     let view = ap (λ (e : EngineData). e.copy) c.self.view_is in
     let long = ap (λ (e : EngineData). length e.queue) c.self.view_is in
     let slots = ap (λ (e : EngineData). e.slots) c.self.view_is in
-    let at = oldest_now _ _ _ _ _ _ _ c.self.view_is c.deref.ensures.value c.deref-2.ensures.value c.oldest_but.ensures c.in-Some-oldest_but.is in
+    let at = oldest_now _ _ _ _ _ _ c.self.view_is c.deref.ensures.value c.oldest_but.ensures c.in-Some-oldest_but.is in
     let lt : c.in-Some-oldest_but.k < length c.self.inside.queue.items = omega (arith, found_oldest c.args.self.now c.args.here c.in-Some-oldest_but.k at, long) in
     let victim = victim_now _ _ _ _ _ c.self.view_is c.self.invariant.0 lt c.index.ensures c.index-victim.ensures in
     left_call _ _ _ _ _ c.requires.here.0 _ _ _ _ c.requires.sound (sym view ∙ c.in_default.is) (omega (arith, c.requires.few, words_kept c.args.self.now)) c.requires.here.1 (omega (arith, c.if-block-blocks.false, c.blocks-2.ensures.value))
@@ -140,5 +140,5 @@ write_next-requires-2-clause-absent g c = absent_after c.args.self.now _ c.in-So
 
 pub write_next-requires-2-clause-free : goal.write_next-requires-2-clause-free
 write_next-requires-2-clause-free g c =
-    let at = oldest_now _ _ _ _ _ _ _ c.self.view_is c.deref.ensures.value c.deref-2.ensures.value c.oldest_but.ensures c.in-Some-oldest_but.is in
+    let at = oldest_now _ _ _ _ _ _ c.self.view_is c.deref.ensures.value c.oldest_but.ensures c.in-Some-oldest_but.is in
     (room_after _ _ _ _ _ _ c.requires.sound.stands (omega (arith, found_oldest c.args.self.now c.args.here c.in-Some-oldest_but.k at)) c.leave-slot.ensures.data c.leave-slot.ensures.slot).2
