@@ -25,17 +25,17 @@ use Rattle.swi_answer.specs.declared.answer.Ending.{Ending}
 use Rattle.swi_answer.specs.declared.answer.Refusal.{Refusal}
 use Rattle.swi_answer.specs.declared.answer.Refusal.TheVariants as refusal
 use Rattle.swi_answer.specs.Lines.{ending_line}
-use Rattle.swi_top.specs.Devices.{Devices, with_error_faults}
-use Rattle.swi_top.specs.Checks.{Check, OfImage, IsShort, IsAcceptedElf, HasRoom, HasImage, IsAcceptedImage, IsOwnImage, FitsBlocks, FitsUnlessImage, FitsMade, HoldsBlock, Fails, Passes, IsAccepted, IsRefusedBy, cache_refusal, text_in}
-use Rattle.swi_top.specs.Runs.{Ran, report, start_of}
-use Rattle.swi_top.specs.Answers.{AnswersWithLine}
+use Rattle.swi_task.specs.Devices.{Devices, with_error_faults}
+use Rattle.swi_task.specs.Checks.{Check, OfImage, IsShort, IsAcceptedElf, HasRoom, HasImage, IsAcceptedImage, IsOwnImage, FitsBlocks, FitsUnlessImage, FitsMade, HoldsBlock, Fails, Passes, IsAccepted, IsRefusedBy, cache_refusal, text_in}
+use Rattle.swi_task.specs.Runs.{Ran, report, start_of}
+use Rattle.swi_task.specs.Answers.{AnswersWithLine}
 use Rattle.swi_top.specs.Caching.{cache_for, work_of}
 use Rattle.swi_top.specs.RunCached.{cached_run, cached_task, shown_end, shown_error}
 use Rattle.swi_top.specs.RunPlain.{plain_report, plain_run, plain_task}
-use Rattle.swi_top.specs.Task.{Task}
+use Rattle.swi_task.specs.Task.{Task}
 use Rattle.swi_top.specs.Tasks.{task_of}
 use Rattle.swi_top.specs.Alike.{IsFree, LeavesAlike}
-use Rattle.swi_top.proofs.Lines.{errors_later, rose_above, rose_below, take_all}
+use Rattle.swi_task.proofs.Lines.{errors_later, rose_above, rose_below, take_all}
 
 -- ---- a file does not both pass a check and fail it
 

@@ -45,21 +45,20 @@ use Rattle.swi_answer.specs.declared.answer.Ending.{Ending}
 use Rattle.swi_answer.specs.declared.answer.Refusal.{Refusal}
 use Rattle.swi_answer.specs.declared.answer.Refusal.TheVariants as refusal
 use Rattle.swi_answer.specs.Lines.{ending_line}
-use Rattle.swi_top.specs.Answers.{Answers, IsAskedFor, IsChecked, IsSizeRefusal}
+use Rattle.swi_task.specs.Answers.{Answers, IsAskedFor, IsChecked, IsSizeRefusal}
 use Rattle.swi_top.specs.Caching.{IsCachedRun, RamCounted, board_work, cache_by, cache_for, work_of}
-use Rattle.swi_top.specs.Causes.{HasCauses}
-use Rattle.swi_top.specs.Checks.{Check, HoldsBlock, Fails, IsAccepted, IsRefusedOr, block_words, file_limit, least_cache, room_in, size_refusal, subject_checks}
-use Rattle.swi_top.specs.Devices.{Devices, stream_faults}
+use Rattle.swi_task.specs.Causes.{HasCauses}
+use Rattle.swi_task.specs.Checks.{Check, HoldsBlock, Fails, IsAccepted, IsRefusedOr, block_words, file_limit, least_cache, room_in, size_refusal, subject_checks}
+use Rattle.swi_task.specs.Devices.{Devices, stream_faults}
 use Rattle.swi_top.specs.RunCached.{BrokeIn, CachedFailed, IsRunErr, RamBroke, RunsCached, RunsOver, addresses_in, cached_checks, cached_report, cached_run, held_next, last_lines, last_told, refusal_of, cached_task, shown_error}
-use Rattle.swi_top.specs.Runs.{FailedAfterRun, ending_by, report, start_of}
-use Rattle.swi_top.specs.Subject.{IsImageFor}
-use Rattle.swi_top.proofs.Due.{left_empty}
+use Rattle.swi_task.specs.Runs.{FailedAfterRun, ending_by, report, start_of}
+use Rattle.swi_task.specs.Subject.{IsImageFor}
+use Rattle.swi_task.proofs.Due.{left_empty}
 use Rattle.swi_top.proofs.Tracing.{all_shown, last_is, shown_split, some_shown}
-use Rattle.swi_top.proofs.Refusals.{IsRead, calm_causes, causes_behind, causes_of, same_count, sized_along, sized_err, sized_ok, told_is}
-use Rattle.swi_top.proofs.Confirming.{keeps_read, out_causes}
-use Rattle.swi_top.proofs.Images.{front_refused, last_fails, last_passes, run_passes, run_refused, size_is}
+use Rattle.swi_task.proofs.Refusals.{IsRead, calm_causes, causes_behind, causes_of, keeps_read, out_causes, same_count, sized_along, sized_err, sized_ok, told_is}
+use Rattle.swi_task.proofs.Images.{front_refused, last_fails, last_passes, run_passes, run_refused, size_is}
 use Rattle.swi_top.proofs.Flats.{start_is}
-use Rattle.swi_top.proofs.Lines.{IsLined, after_line, after_run_line, appends_last, at_step_line, holds_then, ran_line}
+use Rattle.swi_task.proofs.Lines.{IsLined, after_line, after_run_line, appends_last, at_step_line, holds_then, ran_line}
 
 -- the devices after a run
 abbrev pub ran_all : Devices → SourceState → SinkState → SinkState → RamState → Devices

@@ -16,14 +16,13 @@ use Rattle.swi_answer.specs.declared.answer.Ending.{Ending}
 use Rattle.swi_answer.specs.Lines.{ending_line}
 use Rattle.swi_answer.specs.declared.answer.Refusal.{Refusal}
 use Rattle.swi_answer.specs.declared.answer.Refusal.TheVariants as refusal
-use Rattle.swi_top.specs.Devices.{Devices}
-use Rattle.swi_top.specs.Answers.{Answers, IsAskedFor, IsChecked, IsRunFault, IsSized}
-use Rattle.swi_top.specs.Checks.{Check, IsAccepted, room_in}
+use Rattle.swi_task.specs.Devices.{Devices}
+use Rattle.swi_task.specs.Answers.{Answers, IsAskedFor, IsChecked, IsRunFault, IsSized}
+use Rattle.swi_task.specs.Checks.{Check, IsAccepted, room_in}
 use Rattle.swi_top.specs.RunPlain.{RunsPlain, plain_checks, plain_report, plain_run, read_room_of, plain_task}
-use Rattle.swi_top.specs.Runs.{Ran, FailedAtStep, FailedAfterRun, layout_in, start_of}
-use Rattle.swi_top.proofs.Lines.{IsLined, after_line, after_run_line, at_step_line, ran_line}
-use Rattle.swi_top.proofs.Confirming.{keeps_read}
-use Rattle.swi_top.proofs.Refusals.{IsRead, causes_behind, sized_err, sized_ok, told_is}
+use Rattle.swi_task.specs.Runs.{Ran, FailedAtStep, FailedAfterRun, layout_in, start_of}
+use Rattle.swi_task.proofs.Lines.{IsLined, after_line, after_run_line, at_step_line, ran_line}
+use Rattle.swi_task.proofs.Refusals.{IsRead, causes_behind, keeps_read, sized_err, sized_ok, told_is}
 
 pub start_is : (o : RunOptions) (file input : List ℕ) (l : Layout) → room_in file o.limits ≡ Ok l →
     flat_start (program_of_file file) l o.reports.calls input ≡ start_of o file input

@@ -1,9 +1,5 @@
-pub mod Images
-pub mod Refusals
-pub mod Puts
 pub mod Confirming
 pub mod Due
-pub mod Lines
 pub mod Running
 pub mod Flats
 pub mod Caching
@@ -11,11 +7,6 @@ pub mod Losing
 pub mod Ahead
 pub mod Listings
 pub mod Measuring
-pub mod Sharing
-pub mod SharedFiles
-pub mod SharedGuests
-pub mod SharedRuns
-pub mod SharedOver
 pub mod Alike
 pub mod Tracing
 pub mod Lined

@@ -16,14 +16,13 @@ use Rattle.swi_answer.specs.declared.answer.Ending.TheVariants as ending
 use Rattle.swi_answer.specs.declared.answer.Refusal.{Refusal}
 use Rattle.swi_answer.specs.declared.answer.Refusal.TheVariants as refusal
 use Rattle.swi_trace.specs.Block.{block_lines}
-use Rattle.swi_top.specs.Answers.{Answers}
-use Rattle.swi_top.specs.Checks.{IsAccepted, text_in}
-use Rattle.swi_top.specs.Devices.{Devices, stream_faults}
+use Rattle.swi_task.specs.Answers.{Answers}
+use Rattle.swi_task.specs.Checks.{IsAccepted, text_in}
+use Rattle.swi_task.specs.Devices.{Devices, stream_faults}
 use Rattle.swi_top.specs.ListFile.{Lists, ListFailed, first_blocks, list_checks, list_task, listing}
-use Rattle.swi_top.specs.Subject.{IsImageFor}
-use Rattle.swi_top.proofs.Confirming.{keeps_read, out_causes}
-use Rattle.swi_top.proofs.Lines.{IsLined, done_lined}
-use Rattle.swi_top.proofs.Refusals.{IsRead, calm_causes, sized_err, sized_ok, told_is}
+use Rattle.swi_task.specs.Subject.{IsImageFor}
+use Rattle.swi_task.proofs.Lines.{IsLined, done_lined}
+use Rattle.swi_task.proofs.Refusals.{IsRead, calm_causes, keeps_read, out_causes, sized_err, sized_ok, told_is}
 
 -- ---- block by block
 

@@ -33,17 +33,16 @@ use Rattle.swi_answer.specs.declared.answer.Ending.{Ending}
 use Rattle.swi_answer.specs.declared.answer.Refusal.{Refusal}
 use Rattle.swi_answer.specs.declared.answer.Refusal.TheVariants as refusal
 use Rattle.swi_answer.specs.Lines.{ending_line}
-use Rattle.swi_top.specs.Answers.{Answers, IsAskedFor, KeepsShelf, writes_in}
-use Rattle.swi_top.specs.Task.{Task}
+use Rattle.swi_task.specs.Answers.{Answers, IsAskedFor, KeepsShelf, writes_in}
+use Rattle.swi_task.specs.Task.{Task}
 use Rattle.swi_top.specs.Caching.{IsCachedRun, board_work, cache_for}
-use Rattle.swi_top.specs.Causes.{HasCauses}
-use Rattle.swi_top.specs.Checks.{HoldsBlock, Fails, IsLong, IsRefusedBy, size_refusal}
-use Rattle.swi_top.specs.Devices.{Devices, stream_faults}
+use Rattle.swi_task.specs.Causes.{HasCauses}
+use Rattle.swi_task.specs.Checks.{HoldsBlock, Fails, IsLong, IsRefusedBy, size_refusal}
+use Rattle.swi_task.specs.Devices.{Devices, stream_faults}
 use Rattle.swi_top.specs.MeasureMade.{IsMadeRun, MadeRamFailed, MadeRan, MadeRunBroke, MeasuresOver, SummaryBroke, board_summary, made_ending, made_ending_by, made_run, made_summary, measure_checks, measure_task, summary_by}
-use Rattle.swi_top.proofs.Refusals.{asked_none, calm_causes, causes_of, checked_by, contents_stay, late, refused_late, rose_cause, same_all, sized_along, sized_err, sized_ok}
-use Rattle.swi_top.proofs.Confirming.{out_causes}
+use Rattle.swi_task.proofs.Refusals.{asked_none, calm_causes, causes_of, checked_by, contents_stay, late, out_causes, refused_late, rose_cause, same_all, sized_along, sized_err, sized_ok}
 use Rattle.swi_top.proofs.Caching.{cached_run_is, keeps_run, work_is}
-use Rattle.swi_top.proofs.Lines.{IsLined, appends_as, appends_last, behind_ending, take_all}
+use Rattle.swi_task.proofs.Lines.{IsLined, appends_as, appends_last, behind_ending, take_all}
 
 -- ---- a seed and a number make one program
 
@@ -289,9 +288,6 @@ no_measure : (seed functions : ℕ) (cache : CacheOptions) (d : Devices) → siz
     Answers (measure_task seed functions cache) d d (Err refusal.Memory) []
 no_measure seed functions cache d size =
     late (measure_task seed functions cache) d d.shelf refusal.Memory 0 0 tt size (contents_stay d) refl refl (λ _ _. tt) (asked_none d.shelf.calls) (omega arith, omega arith, λ _. refl)
-
-pub refusal_is : {T : Type 0} {r q : Refusal} → ◌≡◌ {A = Result T Refusal} (Err r) (Err q) → r ≡ q
-refusal_is e = cc
 
 pub made_memory : (seed functions : ℕ) (cache : CacheOptions) (d : Devices) (r : Refusal) → size_refusal cache.cache_bytes (length d.ram.words) ≡ None → r ≡ refusal.Memory →
     Answers (measure_task seed functions cache) d d (Err r) []

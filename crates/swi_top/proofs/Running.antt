@@ -22,12 +22,11 @@ use Rattle.swi_command.specs.declared.command.RunOptions.{RunOptions}
 use Rattle.swi_answer.specs.declared.answer.Ending.{Ending}
 use Rattle.swi_answer.specs.declared.answer.Refusal.{Refusal}
 use Rattle.swi_answer.specs.declared.answer.Refusal.TheVariants as refusal
-use Rattle.swi_top.specs.Devices.{Devices, stream_faults}
-use Rattle.swi_top.specs.Causes.{HasCauses}
+use Rattle.swi_task.specs.Devices.{Devices, stream_faults}
+use Rattle.swi_task.specs.Causes.{HasCauses}
 use Rattle.swi_top.specs.RunPlain.{RunsPlain, plain_report, read_room_of, run_from}
-use Rattle.swi_top.specs.Runs.{FailedAfterRun, Ran, StepFailed, ending_by, report}
-use Rattle.swi_top.proofs.Refusals.{calm_causes, causes_of}
-use Rattle.swi_top.proofs.Confirming.{out_causes}
+use Rattle.swi_task.specs.Runs.{FailedAfterRun, Ran, StepFailed, ending_by, report}
+use Rattle.swi_task.proofs.Refusals.{calm_causes, causes_of, out_causes}
 
 -- as many steps as are counted, from a machine that has made none
 pub from_none : (m : Machine) (n : ℕ) (left : List ℕ) → m.steps ≡ 0 → state_at n m left ≡ flat_run n (started m left)

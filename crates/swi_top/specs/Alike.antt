@@ -10,13 +10,13 @@ use Rattle.swi_command.specs.CommandLine.{Request}
 use Rattle.swi_answer.specs.declared.answer.Ending.{Ending}
 use Rattle.swi_answer.specs.declared.answer.Refusal.{Refusal}
 use Rattle.swi_answer.specs.declared.answer.Refusal.TheVariants as refusal
-use Rattle.swi_top.specs.Devices.{Devices}
-use Rattle.swi_top.specs.Checks.{IsAccepted, cache_refusal}
-use Rattle.swi_top.specs.Runs.{start_of}
-use Rattle.swi_top.specs.Answers.{AnswersWithLine}
+use Rattle.swi_task.specs.Devices.{Devices}
+use Rattle.swi_task.specs.Checks.{IsAccepted, cache_refusal}
+use Rattle.swi_task.specs.Runs.{start_of}
+use Rattle.swi_task.specs.Answers.{AnswersWithLine}
 use Rattle.swi_top.specs.RunCached.{cached_task}
 use Rattle.swi_top.specs.RunPlain.{plain_task}
-use Rattle.swi_top.specs.Task.{Task}
+use Rattle.swi_task.specs.Task.{Task}
 use Rattle.swi_top.specs.Tasks.{task_of}
 
 -- no device's count of faults rose

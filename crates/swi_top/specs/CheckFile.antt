@@ -10,9 +10,9 @@ use Rattle.swi_answer.specs.declared.answer.Ending.{Ending}
 use Rattle.swi_answer.specs.declared.answer.Ending.TheVariants as ending
 use Rattle.swi_answer.specs.declared.answer.Refusal.{Refusal}
 use Rattle.swi_answer.specs.declared.answer.Refusal.TheVariants as refusal
-use Rattle.swi_top.specs.Checks.{image_checks}
-use Rattle.swi_top.specs.Devices.{Devices}
-use Rattle.swi_top.specs.Task.{Task, Tells}
+use Rattle.swi_task.specs.Checks.{image_checks}
+use Rattle.swi_task.specs.Devices.{Devices}
+use Rattle.swi_task.specs.Task.{Task, Tells}
 
 -- a line says how many blocks the image has, and of how many words
 abbrev pub checked_line : ImageData → List ℕ

@@ -1,12 +1,3 @@
-pub mod Devices
-pub mod Causes
-pub mod Checks
-pub mod Files
-pub mod Task
-pub mod Answers
-pub mod Subject
-pub mod Runs
-pub mod Puts
 pub mod RewriteFile
 pub mod UpgradeFile
 pub mod CheckFile
@@ -16,6 +7,5 @@ pub mod Caching
 pub mod RunCached
 pub mod RunAhead
 pub mod MeasureMade
-pub mod RunShared
 pub mod Tasks
 pub mod Alike

@@ -11,10 +11,10 @@ use Rattle.swi_answer.specs.declared.answer.Ending.{Ending}
 use Rattle.swi_answer.specs.declared.answer.Ending.TheVariants as ending
 use Rattle.swi_answer.specs.declared.answer.Refusal.{Refusal}
 use Rattle.swi_answer.specs.declared.answer.Refusal.TheVariants as refusal
-use Rattle.swi_top.specs.Checks.{Check, IsShort, IsAcceptedElf, IsAcceptedImage, IsOwnImage, FitsUnlessImage, text_in}
-use Rattle.swi_top.specs.Devices.{Devices}
-use Rattle.swi_top.specs.Subject.{IsImageFor}
-use Rattle.swi_top.specs.Task.{Task, Tells}
+use Rattle.swi_task.specs.Checks.{Check, IsShort, IsAcceptedElf, IsAcceptedImage, IsOwnImage, FitsUnlessImage, text_in}
+use Rattle.swi_task.specs.Devices.{Devices}
+use Rattle.swi_task.specs.Subject.{IsImageFor}
+use Rattle.swi_task.specs.Task.{Task, Tells}
 
 -- the lines of an image's first blocks
 unfoldable pub first_blocks : TextData → ImageData → ℕ → List ℕ

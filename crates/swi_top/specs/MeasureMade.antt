@@ -28,11 +28,11 @@ use Rattle.swi_answer.specs.declared.answer.Refusal.{Refusal}
 use Rattle.swi_answer.specs.declared.answer.Refusal.TheVariants as refusal
 use Rattle.swi_answer.specs.Lines.{ending_line}
 use Rattle.swi_top.specs.Caching.{IsCachedRun, board_work, cache_for, work_of}
-use Rattle.swi_top.specs.Causes.{HasCauses}
-use Rattle.swi_top.specs.Checks.{Check, FitsMade, HoldsBlock}
-use Rattle.swi_top.specs.Devices.{Devices}
-use Rattle.swi_top.specs.Runs.{FailedBehind}
-use Rattle.swi_top.specs.Task.{Task}
+use Rattle.swi_task.specs.Causes.{HasCauses}
+use Rattle.swi_task.specs.Checks.{Check, FitsMade, HoldsBlock}
+use Rattle.swi_task.specs.Devices.{Devices}
+use Rattle.swi_task.specs.Runs.{FailedBehind}
+use Rattle.swi_task.specs.Task.{Task}
 
 -- done where the made program exited; else its ending
 abbrev pub made_ending_by : Option End → ℕ → ℕ → Ending

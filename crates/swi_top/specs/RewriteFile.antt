@@ -8,9 +8,9 @@ use Rattle.swi_cut.specs.declared.cutting.Cutting.{Cutting}
 use Rattle.swi_cut.specs.declared.cutting.Cutting.TheVariants as cutting
 use Rattle.swi_elf_write.specs.Rewritten.{rewritten_file}
 use Rattle.swi_answer.specs.declared.answer.Ending.TheVariants as ending
-use Rattle.swi_top.specs.Checks.{Check, IsShort, IsAcceptedElf, FitsBlocks, text_in}
-use Rattle.swi_top.specs.Puts.{Puts}
-use Rattle.swi_top.specs.Task.{Task, Tells}
+use Rattle.swi_task.specs.Checks.{Check, IsShort, IsAcceptedElf, FitsBlocks, text_in}
+use Rattle.swi_task.specs.Puts.{Puts}
+use Rattle.swi_task.specs.Task.{Task, Tells}
 
 -- how a text is cut whose loops are to stay whole, or not
 abbrev pub cutting_of : Bool → Cutting

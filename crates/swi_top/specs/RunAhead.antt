@@ -39,14 +39,14 @@ use Rattle.swi_answer.specs.declared.answer.Ending.{Ending}
 use Rattle.swi_answer.specs.declared.answer.Refusal.{Refusal}
 use Rattle.swi_answer.specs.declared.answer.Refusal.TheVariants as refusal
 use Rattle.swi_top.specs.declared.prefetch.AheadAsked.{AheadAsked}
-use Rattle.swi_top.specs.Answers.{IsRunFault}
+use Rattle.swi_task.specs.Answers.{IsRunFault}
 use Rattle.swi_top.specs.Caching.{RamCounted, board_work}
-use Rattle.swi_top.specs.Causes.{HasCauses}
-use Rattle.swi_top.specs.Devices.{Devices}
+use Rattle.swi_task.specs.Causes.{HasCauses}
+use Rattle.swi_task.specs.Devices.{Devices}
 use Rattle.swi_top.specs.RunCached.{IsRunErr, cached_checks, held_next, held_taken}
-use Rattle.swi_top.specs.Runs.{FailedAfterRun, Ran, StepFailed, report, start_of}
-use Rattle.swi_top.specs.Subject.{IsImageFor}
-use Rattle.swi_top.specs.Task.{Task, Tells}
+use Rattle.swi_task.specs.Runs.{FailedAfterRun, Ran, StepFailed, report, start_of}
+use Rattle.swi_task.specs.Subject.{IsImageFor}
+use Rattle.swi_task.specs.Task.{Task, Tells}
 
 -- the run of a program in an image's blocks
 abbrev pub ahead_run : AheadAsked → ImageData → FlatState → AheadRun

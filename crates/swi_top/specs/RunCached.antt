@@ -29,14 +29,14 @@ use Rattle.swi_answer.specs.declared.answer.Ending.{Ending}
 use Rattle.swi_answer.specs.declared.answer.Refusal.{Refusal}
 use Rattle.swi_answer.specs.declared.answer.Refusal.TheVariants as refusal
 use Rattle.swi_top.specs.declared.cached.Placed.{Placed}
-use Rattle.swi_top.specs.Answers.{IsRunFault}
+use Rattle.swi_task.specs.Answers.{IsRunFault}
 use Rattle.swi_top.specs.Caching.{IsCachedRun, cache_for, work_of}
-use Rattle.swi_top.specs.Causes.{HasCauses}
-use Rattle.swi_top.specs.Checks.{Check, IsShort, IsAcceptedElf, HasRoom, IsAcceptedImage, IsOwnImage, FitsUnlessImage, HoldsBlock, least_cache, room_in}
-use Rattle.swi_top.specs.Devices.{Devices}
-use Rattle.swi_top.specs.Runs.{Ran, FailedAtStep, FailedAfterRun, report, start_of}
-use Rattle.swi_top.specs.Subject.{IsImageFor, IsSubject, view_of}
-use Rattle.swi_top.specs.Task.{Task, Tells}
+use Rattle.swi_task.specs.Causes.{HasCauses}
+use Rattle.swi_task.specs.Checks.{Check, IsShort, IsAcceptedElf, HasRoom, IsAcceptedImage, IsOwnImage, FitsUnlessImage, HoldsBlock, least_cache, room_in}
+use Rattle.swi_task.specs.Devices.{Devices}
+use Rattle.swi_task.specs.Runs.{Ran, FailedAtStep, FailedAfterRun, report, start_of}
+use Rattle.swi_task.specs.Subject.{IsImageFor, IsSubject, view_of}
+use Rattle.swi_task.specs.Task.{Task, Tells}
 
 -- the same program's run, out of a cache; `trace` tells its steps too
 abbrev pub cached_run : Cache → RunOptions → ImageData → FlatState → CachedRun

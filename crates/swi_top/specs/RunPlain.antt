@@ -11,11 +11,11 @@ use Rattle.swi_flat.specs.FlatData.{next_made}
 use Rattle.swi_answer.specs.declared.answer.Ending.{Ending}
 use Rattle.swi_answer.specs.declared.answer.Refusal.{Refusal}
 use Rattle.swi_answer.specs.declared.answer.Refusal.TheVariants as refusal
-use Rattle.swi_top.specs.Causes.{HasCauses}
-use Rattle.swi_top.specs.Checks.{Check, IsShort, IsAcceptedElf, HasRoom, IsAcceptedImage, IsOwnImage}
-use Rattle.swi_top.specs.Devices.{Devices}
-use Rattle.swi_top.specs.Runs.{Ran, FailedAtStep, FailedAfterRun, report, start_of}
-use Rattle.swi_top.specs.Task.{Task, Tells}
+use Rattle.swi_task.specs.Causes.{HasCauses}
+use Rattle.swi_task.specs.Checks.{Check, IsShort, IsAcceptedElf, HasRoom, IsAcceptedImage, IsOwnImage}
+use Rattle.swi_task.specs.Devices.{Devices}
+use Rattle.swi_task.specs.Runs.{Ran, FailedAtStep, FailedAfterRun, report, start_of}
+use Rattle.swi_task.specs.Task.{Task, Tells}
 
 abbrev pub plain_run : RunOptions → List ℕ → List ℕ → ℕ → FlatState
 plain_run o file input n = flat_run n (start_of o file input)

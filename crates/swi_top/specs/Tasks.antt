@@ -1,6 +1,6 @@
 -- The record of each command. Own rule.
 use Rattle.swi_command.specs.CommandLine.{Request, RewriteFile, RunAhead, RunShared, RunCached, RunPlain, ListFile, CheckFile, UpgradeFile, MeasureMade}
-use Rattle.swi_top.specs.Task.{Task}
+use Rattle.swi_task.specs.Task.{Task}
 use Rattle.swi_top.specs.RewriteFile.{rewrite_task}
 use Rattle.swi_top.specs.UpgradeFile.{upgrade_task}
 use Rattle.swi_top.specs.CheckFile.{check_task}
@@ -9,7 +9,7 @@ use Rattle.swi_top.specs.RunPlain.{plain_task}
 use Rattle.swi_top.specs.RunCached.{cached_task}
 use Rattle.swi_top.specs.RunAhead.{ahead_task}
 use Rattle.swi_top.specs.MeasureMade.{measure_task}
-use Rattle.swi_top.specs.RunShared.{share_task}
+use Rattle.swi_share_command.specs.RunShared.{share_task}
 
 abbrev pub task_of : Request → Task
 task_of (RewriteFile input output block whole) = rewrite_task input output block whole

@@ -7,9 +7,9 @@ use Rattle.swi_program.specs.ProgramOf.{program_of_file}
 use Rattle.swi_cut.specs.Upgrades.{IsUpgrade}
 use Rattle.swi_elf_write.specs.Rewritten.{rewritten_file}
 use Rattle.swi_answer.specs.declared.answer.Ending.TheVariants as ending
-use Rattle.swi_top.specs.Checks.{image_checks, text_in}
-use Rattle.swi_top.specs.Puts.{Puts}
-use Rattle.swi_top.specs.Task.{Task, Tells}
+use Rattle.swi_task.specs.Checks.{image_checks, text_in}
+use Rattle.swi_task.specs.Puts.{Puts}
+use Rattle.swi_task.specs.Task.{Task, Tells}
 
 -- the bytes are the file's program with the version 2 image that has the same blocks as the file's image
 pub record IsUpgraded (file bytes : List ℕ) : Type 0 where

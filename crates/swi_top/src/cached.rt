@@ -8,17 +8,14 @@ ghost use Rattle.swi_program.specs.Text.{text_of};
 ghost use Rattle.swi_render.specs.ImageOf.{IsImageOf};
 ghost use Rattle.swi_rom.specs.Service.{cache_of};
 ghost use Rattle.swi_cached.specs.Cached.{IsFresh};
-ghost use Rattle.swi_top.specs.Answers.{Answers};
+ghost use Rattle.swi_task.specs.Answers.{Answers};
 ghost use Rattle.swi_top.specs.Caching.{cache_for};
-ghost use Rattle.swi_top.specs.Checks.{IsAccepted, IsRefusedOr, file_limit};
-ghost use Rattle.swi_top.specs.Devices.{Devices, seen};
+ghost use Rattle.swi_task.specs.Checks.{IsAccepted, IsRefusedOr, file_limit};
+ghost use Rattle.swi_task.specs.Devices.{Devices, seen};
 ghost use Rattle.swi_top.specs.RunCached.{IsPlaced, RunsOver, cached_checks, refusal_of, cached_task};
-ghost use Rattle.swi_top.specs.Subject.{view_of};
+ghost use Rattle.swi_task.specs.Subject.{view_of};
 
-use crate::cache::{check_block, check_size};
-use crate::file::read_file;
-use crate::report::{ending_by, report_board};
-use crate::subject::{Prepared, Subject, SubjectImage, accept, prepare, subject_of};
+use crate::report::report_board;
 use crate::trace::write_last;
 use std::alloc::Global;
 use swi_answer::{Ending, Refusal};
@@ -29,6 +26,10 @@ use swi_memory::Layout;
 use swi_outside::{CacheRam, Shelf, Sink, Source};
 use swi_program::Program;
 use swi_rom::CacheRom;
+use swi_task::{
+    Prepared, Subject, SubjectImage, accept, check_block, check_size, ending_by, prepare,
+    read_file, subject_of,
+};
 
 /// What a run is refused with that stopped so.
 fn refusal_of(stop: CachedStop) -> Refusal

@@ -6,8 +6,8 @@ ghost use Rattle.swi_outside.specs.Causes.{HasCause};
 ghost use Rattle.swi_outside.specs.Sink.{WritesPiece};
 ghost use Rattle.swi_answer.specs.Lines.{ending_line, refusal_line};
 ghost use Rattle.swi_command.specs.CommandLine.{HasLimitsInRange, Request, command_of, request_of};
-ghost use Rattle.swi_top.specs.Answers.{AnswersWithLine, IsRefusedAtOnce};
-ghost use Rattle.swi_top.specs.Devices.{ShowsLine, seen};
+ghost use Rattle.swi_task.specs.Answers.{AnswersWithLine, IsRefusedAtOnce};
+ghost use Rattle.swi_task.specs.Devices.{ShowsLine, seen};
 ghost use Rattle.swi_top.specs.Tasks.{task_of};
 
 use crate::commands::perform;

@@ -4,18 +4,17 @@
 ghost use Rattle.std.specs.Prelude.{◌≡◌, ◌≤◌, ℕ, List, IfOk, IfErr, OnOk, Some, [], length};
 ghost use Rattle.swi_elf_read.specs.Loaded.{image_of as image_in};
 ghost use Rattle.swi_image.specs.Format.{image_of};
-ghost use Rattle.swi_top.specs.Answers.{Answers};
+ghost use Rattle.swi_task.specs.Answers.{Answers};
 ghost use Rattle.swi_top.specs.CheckFile.{check_task};
-ghost use Rattle.swi_top.specs.Checks.{IsAccepted, IsRefusedOr, file_limit, image_checks};
-ghost use Rattle.swi_top.specs.Devices.{Devices};
+ghost use Rattle.swi_task.specs.Checks.{IsAccepted, IsRefusedOr, file_limit, image_checks};
+ghost use Rattle.swi_task.specs.Devices.{Devices};
 
-use crate::file::read_file;
-use crate::subject::{accept, load, own_image};
 use std::alloc::Global;
 use swi_answer::{Ending, Refusal, image_line};
 use swi_elf_read::image_bytes;
 use swi_image::ImageView;
 use swi_outside::{Shelf, Sink};
+use swi_task::{accept, load, own_image, read_file};
 
 /// The image of a file, which is one of its text.
 pub(crate) fn confirmed<'a>(alloc: Global, file: &'a [u8]) -> Result<ImageView<'a>, Refusal>

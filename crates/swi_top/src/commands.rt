@@ -3,8 +3,8 @@
 
 ghost use Rattle.std.specs.Prelude.{[]};
 ghost use Rattle.swi_command.specs.CommandLine.{HasLimitsInRange, request_of};
-ghost use Rattle.swi_top.specs.Answers.{Answers};
-ghost use Rattle.swi_top.specs.Devices.{seen};
+ghost use Rattle.swi_task.specs.Answers.{Answers};
+ghost use Rattle.swi_task.specs.Devices.{seen};
 ghost use Rattle.swi_top.specs.Tasks.{task_of};
 
 use crate::cached::cached;
@@ -14,12 +14,12 @@ use crate::measure::measure;
 use crate::plain::plain;
 use crate::prefetch::prefetch;
 use crate::rewrite::rewrite;
-use crate::share::share;
 use crate::upgrade::upgrade;
 use std::alloc::Global;
 use swi_answer::{Ending, Refusal};
 use swi_command::Command;
 use swi_outside::{CacheRam, Shelf, Sink, Source};
+use swi_share_command::share;
 
 /// Does what a command asks for, but for its last line on the error sink.
 pub(crate) fn perform<F: Shelf, I: Source, O: Sink, E: Sink, R: CacheRam>(

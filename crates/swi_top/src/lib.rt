@@ -1,12 +1,10 @@
 //! The commands of `swic`, as one call over the devices that are handed in.
 #![tactic(auto)]
 
-mod cache;
 mod cached;
 mod call;
 mod check;
 mod commands;
-mod file;
 mod laws;
 mod list;
 mod measure;
@@ -15,8 +13,6 @@ mod plain;
 mod prefetch;
 mod report;
 mod rewrite;
-mod share;
-mod subject;
 mod trace;
 mod upgrade;
 

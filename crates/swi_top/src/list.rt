@@ -8,19 +8,18 @@ ghost use Rattle.swi_outside.specs.Sink.{AppendsPrefix};
 ghost use Rattle.swi_command.specs.CommandLine.{IsBlockSize};
 ghost use Rattle.swi_program.specs.Text.{text_of};
 ghost use Rattle.swi_render.specs.ImageOf.{IsImageOf};
-ghost use Rattle.swi_top.specs.Answers.{Answers};
-ghost use Rattle.swi_top.specs.Checks.{IsAccepted, IsRefusedOr, file_limit};
-ghost use Rattle.swi_top.specs.Devices.{Devices};
+ghost use Rattle.swi_task.specs.Answers.{Answers};
+ghost use Rattle.swi_task.specs.Checks.{IsAccepted, IsRefusedOr, file_limit};
+ghost use Rattle.swi_task.specs.Devices.{Devices};
 ghost use Rattle.swi_top.specs.ListFile.{list_checks, list_task, listing};
-ghost use Rattle.swi_top.specs.Subject.{IsSubject, view_of};
+ghost use Rattle.swi_task.specs.Subject.{IsSubject, view_of};
 
-use crate::file::read_file;
-use crate::subject::{Subject, SubjectImage, accept, load, subject_of};
 use std::alloc::Global;
 use swi_answer::{Ending, Refusal};
 use swi_image::ImageView;
 use swi_outside::{Shelf, Sink};
 use swi_program::Program;
+use swi_task::{Subject, SubjectImage, accept, load, read_file, subject_of};
 use swi_trace::list_block;
 
 /// Lists the blocks of an image of the program, in their order.

@@ -14,14 +14,12 @@ ghost use Rattle.swi_program.specs.ProgramOf.{program_of_text};
 ghost use Rattle.swi_program.specs.Text.{text_of};
 ghost use Rattle.swi_render.specs.ImageOf.{IsImageOf};
 ghost use Rattle.swi_rom.specs.Service.{cache_of};
-ghost use Rattle.swi_top.specs.Answers.{Answers};
-ghost use Rattle.swi_top.specs.Devices.{Devices};
+ghost use Rattle.swi_task.specs.Answers.{Answers};
+ghost use Rattle.swi_task.specs.Devices.{Devices};
 ghost use Rattle.swi_top.specs.MeasureMade.{MadeRan, MeasuresOver, board_summary, made_ending_by, made_run, measure_task, MadeRamFailed};
 
-use crate::cache::{check_block, check_size};
 use crate::nowhere::Nowhere;
-use crate::report::{board_work, ending_by};
-use crate::subject::{Prepared, cut_image};
+use crate::report::board_work;
 use std::alloc::Global;
 use swi_answer::{Ending, Refusal};
 use swi_board::Board;
@@ -34,6 +32,7 @@ use swi_outside::{CacheRam, Sink};
 use swi_program::{Program, lay_out, one_text};
 use swi_report::{Measured, summary_text};
 use swi_rom::CacheRom;
+use swi_task::{Prepared, check_block, check_size, cut_image, ending_by};
 use swi_trace::Trace;
 
 /// The bytes of the heap and of the stack.

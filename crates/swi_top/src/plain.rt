@@ -4,15 +4,12 @@
 ghost use Rattle.std.specs.Prelude.{◌≤◌, IfOk, IfErr, OnOk, [], length};
 ghost use Rattle.swi_command.specs.CommandLine.{IsInRange};
 ghost use Rattle.swi_program.specs.Layout.{IsLayoutOf};
-ghost use Rattle.swi_top.specs.Answers.{Answers};
-ghost use Rattle.swi_top.specs.Checks.{IsAccepted, IsRefusedOr, file_limit};
-ghost use Rattle.swi_top.specs.Devices.{Devices};
+ghost use Rattle.swi_task.specs.Answers.{Answers};
+ghost use Rattle.swi_task.specs.Checks.{IsAccepted, IsRefusedOr, file_limit};
+ghost use Rattle.swi_task.specs.Devices.{Devices};
 ghost use Rattle.swi_top.specs.RunPlain.{RunsPlain, plain_checks, plain_task};
-ghost use Rattle.swi_top.specs.Subject.{IsPrepared};
+ghost use Rattle.swi_task.specs.Subject.{IsPrepared};
 
-use crate::file::read_file;
-use crate::report::{ending_by, write_report};
-use crate::subject::{Prepared, accept, own_image, prepare};
 use std::alloc::Global;
 use swi_answer::{Ending, Refusal};
 use swi_calls::CallFault;
@@ -20,6 +17,7 @@ use swi_command::RunOptions;
 use swi_elf_read::image_bytes;
 use swi_flat::Flat;
 use swi_outside::{Shelf, Sink, Source};
+use swi_task::{Prepared, accept, ending_by, own_image, prepare, read_file, write_report};
 
 /// Runs a program on the flat machine, and writes what is asked for of its end.
 fn run_plain<I: Source, O: Sink, E: Sink>(

@@ -11,16 +11,13 @@ ghost use Rattle.swi_program.specs.Layout.{IsLayoutOf};
 ghost use Rattle.swi_program.specs.Text.{text_of, word_of};
 ghost use Rattle.swi_render.specs.Carried.{Carries};
 ghost use Rattle.swi_render.specs.ImageOf.{IsImageOf};
-ghost use Rattle.swi_top.specs.Answers.{Answers};
-ghost use Rattle.swi_top.specs.Devices.{Devices, seen};
+ghost use Rattle.swi_task.specs.Answers.{Answers};
+ghost use Rattle.swi_task.specs.Devices.{Devices, seen};
 ghost use Rattle.swi_top.specs.RunAhead.{RunsToEnd, RunsWithReport, ahead_task, board_report, board_work_with, fault_refusal};
-ghost use Rattle.swi_top.specs.Subject.{view_of};
+ghost use Rattle.swi_task.specs.Subject.{view_of};
 
-use crate::cache::check_size;
 use crate::cached::{Placed, place};
-use crate::file::read_file;
-use crate::report::{board_work, ending_by, write_report};
-use crate::subject::SubjectImage;
+use crate::report::board_work;
 use std::alloc::Global;
 use swi_answer::{Ending, Refusal};
 use swi_board::{Board, BoardFault, BootStop};
@@ -32,6 +29,7 @@ use swi_outside::{CacheRam, Failed, Shelf, Sink, Source};
 use swi_prefetch::Prefetch;
 use swi_program::Program;
 use swi_report::{EngineWork, Work, engine_text};
+use swi_task::{SubjectImage, check_size, ending_by, read_file, write_report};
 
 /// A run that is asked for.
 #[derive(Clone, Copy, Debug, PartialEq, Eq)]

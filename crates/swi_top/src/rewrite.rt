@@ -3,17 +3,16 @@
 
 ghost use Rattle.std.specs.Prelude.{◌≡◌, ◌≤◌, IfOk, IfErr, OnOk, [], length};
 ghost use Rattle.swi_command.specs.CommandLine.{IsBlockSize};
-ghost use Rattle.swi_top.specs.Answers.{Answers};
-ghost use Rattle.swi_top.specs.Checks.{IsAccepted, IsRefusedOr, file_limit};
-ghost use Rattle.swi_top.specs.Devices.{Devices};
+ghost use Rattle.swi_task.specs.Answers.{Answers};
+ghost use Rattle.swi_task.specs.Checks.{IsAccepted, IsRefusedOr, file_limit};
+ghost use Rattle.swi_task.specs.Devices.{Devices};
 ghost use Rattle.swi_top.specs.RewriteFile.{IsRewritten, cutting_of, rewrite_checks, rewrite_task};
 
-use crate::file::{file_with, read_file, write_file};
-use crate::subject::{accept, cut_image_by, load};
 use std::alloc::Global;
 use swi_answer::{Ending, Refusal};
 use swi_cut::Cutting;
 use swi_outside::Shelf;
+use swi_task::{accept, cut_image_by, file_with, load, read_file, write_file};
 
 /// How a text is cut whose LR/SC loops are to stay whole, or not.
 fn cutting_of(whole_loops: bool) -> Cutting

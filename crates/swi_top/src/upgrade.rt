@@ -2,18 +2,17 @@
 #![tactic(auto)]
 
 ghost use Rattle.std.specs.Prelude.{◌≤◌, IfOk, IfErr, OnOk, [], length};
-ghost use Rattle.swi_top.specs.Answers.{Answers};
-ghost use Rattle.swi_top.specs.Checks.{IsAccepted, IsRefusedOr, file_limit, image_checks};
-ghost use Rattle.swi_top.specs.Devices.{Devices};
+ghost use Rattle.swi_task.specs.Answers.{Answers};
+ghost use Rattle.swi_task.specs.Checks.{IsAccepted, IsRefusedOr, file_limit, image_checks};
+ghost use Rattle.swi_task.specs.Devices.{Devices};
 ghost use Rattle.swi_top.specs.UpgradeFile.{IsUpgraded, upgrade_task};
 
-use crate::file::{file_with, read_file, write_file};
-use crate::subject::{accept, load, own_image};
 use std::alloc::Global;
 use swi_answer::{Ending, Refusal};
 use swi_cut::upgrade as upgrade_image;
 use swi_elf_read::image_bytes;
 use swi_outside::Shelf;
+use swi_task::{accept, file_with, load, own_image, read_file, write_file};
 
 /// The file of the program of another, with its image in version 2.
 fn upgraded(alloc: Global, file: &[u8]) -> Result<Vec<u8>, Refusal>

@@ -1,6 +1,6 @@
 use Rattle.std.proofs.lemmas.Result.{err_from_is_err_and}
 use Rattle.swi_top.proofs.Caching.{ending_is, handed_on, lines_broke, quiet_run, report_broke, run_ended, run_stopped}
-use Rattle.swi_top.proofs.Images.{let_through}
+use Rattle.swi_task.proofs.Images.{let_through}
 use Rattle.swi_top.proofs.cached.run_over.Goals as goal
 
 pub returns-in_err-ended : goal.returns-in_err-ended

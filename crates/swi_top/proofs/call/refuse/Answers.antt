@@ -1,6 +1,6 @@
 use Rattle.std.proofs.Common.{◌∙◌}
 use Rattle.swi_answer.specs.Lines.{refusal_line}
-use Rattle.swi_top.proofs.Lines.{shows_line}
+use Rattle.swi_task.proofs.Lines.{shows_line}
 use Rattle.swi_top.proofs.call.refuse.Goals as goal
 
 pub returns-clause-line : goal.returns-clause-line

@@ -1,9 +1,9 @@
 use Rattle.swi_command.specs.CommandLine.{request_of}
 use Rattle.swi_answer.specs.declared.answer.Refusal.TheVariants as refusal
-use Rattle.swi_top.specs.Devices.{Devices, seen}
+use Rattle.swi_task.specs.Devices.{Devices, seen}
 use Rattle.swi_top.specs.Tasks.{task_of}
 use Rattle.swi_top.proofs.Lined.{lined}
-use Rattle.swi_top.proofs.Lines.{ended_line, ending_failed, refused_line, told_to}
+use Rattle.swi_task.proofs.Lines.{ended_line, ending_failed, refused_line, told_to}
 use Rattle.swi_top.proofs.call.run_command.Goals as goal
 
 pub returns-in-Ok-write_ending : goal.returns-in-Ok-write_ending

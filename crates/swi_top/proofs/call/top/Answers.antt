@@ -1,15 +1,22 @@
-use Rattle.std.proofs.Common.{inl, inr, Err, refl, ap, subst}
+use Rattle.std.proofs.Common.{◌≡◌, inl, inr, Option, Some, None, Err, refl, ap, subst}
 use Rattle.std.specs.Prelude.{map, string_bytes}
 use Rattle.swi_answer.specs.declared.answer.Refusal.TheVariants as refusal
 use Rattle.swi_command.specs.declared.command.CommandError.{CommandError}
 use Rattle.swi_command.specs.CommandLine.{Request, command_of, request_of}
-use Rattle.swi_top.specs.Answers.{AnswersWithLine}
-use Rattle.swi_top.specs.Devices.{Devices, seen}
+use Rattle.swi_task.specs.Answers.{AnswersWithLine}
+use Rattle.swi_task.specs.Devices.{Devices, seen}
 use Rattle.swi_top.specs.Tasks.{task_of}
 use Rattle.swi_top.proofs.Lined.{lined}
-use Rattle.swi_top.proofs.Refusals.{clash, memory_at_once, same_request}
-use Rattle.swi_top.proofs.Lines.{refused_at_once, refused_line}
+use Rattle.swi_task.proofs.Refusals.{memory_at_once}
+use Rattle.swi_task.proofs.Lines.{refused_at_once, refused_line}
 use Rattle.swi_top.proofs.call.top.Goals as goal
+
+-- the words are one command at most
+clash : (x : Option Request) (q : Request) → x ≡ Some q → x ≡ None → ⊥
+clash x q a b = let bad : ⊥ = cc in bad
+
+same_request : (x : Option Request) (q r : Request) → x ≡ Some q → x ≡ Some r → q ≡ r
+same_request x q r a b = cc
 
 pub returns-in-Ok : goal.returns-in-Ok
 returns-in-Ok g c =

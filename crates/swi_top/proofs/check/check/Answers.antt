@@ -4,10 +4,10 @@ use Rattle.std.specs.Io.KnownBytes.{Appends}
 use Rattle.swi_outside.specs.Sink.{AppendsPrefix}
 use Rattle.swi_answer.specs.Lines.{image_line}
 use Rattle.swi_image.specs.Format.{ImageData}
-use Rattle.swi_top.specs.Devices.{Devices}
+use Rattle.swi_task.specs.Devices.{Devices}
 use Rattle.swi_top.specs.CheckFile.{check_task, checked_line}
-use Rattle.swi_top.specs.Task.{Task}
-use Rattle.swi_top.proofs.Refusals.{check_refused, read_refused, told_is, too_long, was_read}
+use Rattle.swi_task.specs.Task.{Task}
+use Rattle.swi_task.proofs.Refusals.{check_refused, read_refused, told_is, too_long, was_read}
 use Rattle.swi_top.proofs.Confirming.{confirmed, confirm_failed}
 use Rattle.swi_top.proofs.check.check.Goals as goal
 

@@ -1,6 +1,6 @@
 use Rattle.std.proofs.Common.{◌≤◌, List, ℕ, length, sym, ap, ◌∙◌, arith}
 use Rattle.swi_elf_read.specs.Loaded.{image_of}
-use Rattle.swi_top.proofs.Images.{image_short}
+use Rattle.swi_task.proofs.Images.{image_short}
 use Rattle.swi_top.proofs.check.confirmed.Goals as goal
 
 pub own_image-requires : goal.own_image-requires

@@ -1,4 +1,4 @@
-use Rattle.swi_top.specs.Devices.{Devices, seen}
+use Rattle.swi_task.specs.Devices.{Devices, seen}
 use Rattle.swi_top.proofs.commands.perform.Goals as goal
 
 pub returns-in-Rewrite : goal.returns-in-Rewrite

@@ -1,9 +1,9 @@
 use Rattle.std.proofs.Common.{inl, refl}
 use Rattle.std.proofs.lemmas.Result.{err_from_is_err_and}
-use Rattle.swi_top.specs.Devices.{Devices}
+use Rattle.swi_task.specs.Devices.{Devices}
 use Rattle.swi_top.specs.ListFile.{list_task}
-use Rattle.swi_top.specs.Task.{Task}
-use Rattle.swi_top.proofs.Refusals.{check_refused, read_refused, told_is, too_long, was_read}
+use Rattle.swi_task.specs.Task.{Task}
+use Rattle.swi_task.proofs.Refusals.{check_refused, read_refused, told_is, too_long, was_read}
 use Rattle.swi_top.proofs.Listings.{listed}
 use Rattle.swi_top.proofs.list.list.Goals as goal
 

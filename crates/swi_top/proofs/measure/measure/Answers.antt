@@ -1,11 +1,11 @@
 use Rattle.std.proofs.Common.{refl}
 use Rattle.std.proofs.lemmas.Result.{err_from_is_err_and}
 use Rattle.swi_make.specs.Made.{IsMade}
-use Rattle.swi_top.specs.Devices.{Devices}
+use Rattle.swi_task.specs.Devices.{Devices}
 use Rattle.swi_top.specs.MeasureMade.{IsMadeRun, measure_task}
 use Rattle.swi_top.proofs.Caching.{ring_chosen, slots_chosen}
-use Rattle.swi_top.proofs.Measuring.{made_long, made_memory, made_of, measured_so, ram_holds, refusal_is, small_refused}
-use Rattle.swi_top.proofs.Refusals.{size_refused}
+use Rattle.swi_top.proofs.Measuring.{made_long, made_memory, made_of, measured_so, ram_holds, small_refused}
+use Rattle.swi_task.proofs.Refusals.{refusal_is, size_refused}
 use Rattle.swi_top.proofs.measure.measure.Goals as goal
 
 pub returns-in_err-check_size : goal.returns-in_err-check_size

@@ -1,8 +1,8 @@
 use Rattle.std.proofs.lemmas.Result.{err_from_is_err_and}
 use Rattle.swi_rom.specs.Service.{cache_of}
-use Rattle.swi_top.specs.Devices.{Devices}
+use Rattle.swi_task.specs.Devices.{Devices}
 use Rattle.swi_top.proofs.Measuring.{over_refused, over_summarized}
-use Rattle.swi_top.proofs.Refusals.{same_count}
+use Rattle.swi_task.proofs.Refusals.{same_count}
 use Rattle.swi_top.proofs.measure.measure_over.Goals as goal
 
 pub returns-in_err-board : goal.returns-in_err-board

@@ -3,8 +3,8 @@ use Rattle.std.proofs.lemmas.Result.{err_from_is_err_and}
 use Rattle.swi_elf_read.specs.Loaded.{image_of}
 use Rattle.swi_program.specs.Program.{ProgramData}
 use Rattle.swi_program.specs.Text.{text_of}
-use Rattle.swi_top.specs.Checks.{IsAcceptedImage, IsOwnImage, ImageFails, ImagePasses}
-use Rattle.swi_top.proofs.Images.{fails_some, image_short, of_none, of_some, run_passes, run_refused}
+use Rattle.swi_task.specs.Checks.{IsAcceptedImage, IsOwnImage, ImageFails, ImagePasses}
+use Rattle.swi_task.proofs.Images.{fails_some, image_short, of_none, of_some, run_passes, run_refused}
 use Rattle.swi_top.proofs.plain.accepted.Goals as goal
 
 pub own_image-requires : goal.own_image-requires

@@ -1,10 +1,10 @@
 use Rattle.std.proofs.Common.{inl, refl, subst}
 use Rattle.std.proofs.lemmas.Result.{err_from_is_err_and}
 use Rattle.swi_program.specs.Program.{ProgramData}
-use Rattle.swi_top.specs.Devices.{Devices}
+use Rattle.swi_task.specs.Devices.{Devices}
 use Rattle.swi_top.specs.RunPlain.{RunsPlain, plain_task}
-use Rattle.swi_top.specs.Task.{Task}
-use Rattle.swi_top.proofs.Refusals.{check_refused, read_refused, told_is, too_long, was_read}
+use Rattle.swi_task.specs.Task.{Task}
+use Rattle.swi_task.proofs.Refusals.{check_refused, read_refused, told_is, too_long, was_read}
 use Rattle.swi_top.proofs.Flats.{plain_answers, ran_to}
 use Rattle.swi_top.proofs.plain.plain.Goals as goal
 

@@ -5,10 +5,10 @@ use Rattle.swi_outside.specs.Laws.{ok_unmoved}
 use Rattle.swi_calls.specs.declared.end.End.{End}
 use Rattle.swi_calls.specs.declared.end.CallFault.{CallFault}
 use Rattle.swi_answer.specs.declared.answer.Refusal.TheVariants as refusal
-use Rattle.swi_top.specs.Devices.{Devices}
+use Rattle.swi_task.specs.Devices.{Devices}
 use Rattle.swi_top.specs.RunPlain.{RunsPlain}
-use Rattle.swi_top.specs.Runs.{ending_by}
-use Rattle.swi_top.proofs.Refusals.{calm_causes}
+use Rattle.swi_task.specs.Runs.{ending_by}
+use Rattle.swi_task.proofs.Refusals.{calm_causes}
 use Rattle.swi_top.proofs.Running.{refusal_of, report_failed, run_done, run_failed, run_to}
 use Rattle.swi_top.proofs.plain.run_plain.Goals as goal
 

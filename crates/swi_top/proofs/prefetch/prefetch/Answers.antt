@@ -1,11 +1,11 @@
 use Rattle.std.proofs.Common.{inl, refl, subst}
 use Rattle.std.proofs.lemmas.Result.{err_from_is_err_and}
 use Rattle.swi_program.specs.Program.{ProgramData}
-use Rattle.swi_top.specs.Devices.{Devices, seen}
+use Rattle.swi_task.specs.Devices.{Devices, seen}
 use Rattle.swi_top.specs.RunAhead.{RunsWithReport, ahead_asked, ahead_task}
-use Rattle.swi_top.specs.Subject.{view_of}
-use Rattle.swi_top.specs.Task.{Task}
-use Rattle.swi_top.proofs.Refusals.{check_refused, read_refused, size_refused, told_is, too_long, was_read}
+use Rattle.swi_task.specs.Subject.{view_of}
+use Rattle.swi_task.specs.Task.{Task}
+use Rattle.swi_task.proofs.Refusals.{check_refused, read_refused, size_refused, told_is, too_long, was_read}
 use Rattle.swi_top.proofs.Ahead.{ahead_answers}
 use Rattle.swi_top.proofs.Caching.{cached_to}
 use Rattle.swi_top.proofs.prefetch.prefetch.Goals as goal

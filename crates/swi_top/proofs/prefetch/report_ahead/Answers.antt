@@ -2,7 +2,7 @@ use Rattle.std.proofs.Common.{Some}
 use Rattle.std.proofs.lemmas.Result.{err_from_is_err_and}
 use Rattle.swi_engine.specs.State.{kept_by}
 use Rattle.swi_top.specs.RunAhead.{board_work_with, engine_work}
-use Rattle.swi_top.specs.Runs.{report}
+use Rattle.swi_task.specs.Runs.{report}
 use Rattle.swi_top.proofs.Ahead.{engine_front, engine_is}
 use Rattle.swi_top.proofs.prefetch.report_ahead.Goals as goal
 

@@ -1,9 +1,9 @@
 use Rattle.std.proofs.Common.{ap, Err}
 use Rattle.swi_board.specs.declared.board.BootStop.{BootStop}
 use Rattle.swi_outside.specs.Laws.{ok_unmoved}
-use Rattle.swi_top.specs.Devices.{Devices}
+use Rattle.swi_task.specs.Devices.{Devices}
 use Rattle.swi_top.proofs.Ahead.{boot_broke, boot_memory, run_done, run_failed}
-use Rattle.swi_top.proofs.Refusals.{same_count}
+use Rattle.swi_task.proofs.Refusals.{same_count}
 use Rattle.swi_top.proofs.prefetch.run_to_end.Goals as goal
 
 pub returns-in-Err-Memory-clause-ran : goal.returns-in-Err-Memory-clause-ran

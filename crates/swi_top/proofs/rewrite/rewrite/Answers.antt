@@ -1,10 +1,10 @@
 use Rattle.std.proofs.Common.{inl, refl}
 use Rattle.std.proofs.lemmas.Result.{err_from_is_err_and}
-use Rattle.swi_top.specs.Devices.{Devices}
+use Rattle.swi_task.specs.Devices.{Devices}
 use Rattle.swi_top.specs.RewriteFile.{rewrite_task}
-use Rattle.swi_top.specs.Task.{Task}
-use Rattle.swi_top.proofs.Refusals.{check_refused, read_refused, told_is, too_long, was_read}
-use Rattle.swi_top.proofs.Puts.{put_done, put_refused}
+use Rattle.swi_task.specs.Task.{Task}
+use Rattle.swi_task.proofs.Refusals.{check_refused, read_refused, told_is, too_long, was_read}
+use Rattle.swi_task.proofs.Puts.{put_done, put_refused}
 use Rattle.swi_top.proofs.rewrite.rewrite.Goals as goal
 
 pub returns-in_err-file : goal.returns-in_err-file

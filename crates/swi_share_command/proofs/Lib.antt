@@ -1,0 +1,5 @@
+pub mod Sharing
+pub mod SharedFiles
+pub mod SharedGuests
+pub mod SharedRuns
+pub mod SharedOver

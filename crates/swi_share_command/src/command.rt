@@ -1,0 +1,367 @@
+//! The command `share`: the programs of several files over one cache.
+#![tactic(auto)]
+
+ghost use Rattle.std.specs.Prelude.{◌≡◌, ◌*◌, ◌^◌, ◌<◌, ◌≤◌, All, Some, None, true, IfOk, IfErr, OnOk, OnErr, IsErrOf, Err, [], length, map, string_bytes};
+ghost use Rattle.std.specs.List.{AllZip};
+ghost use Rattle.swi_command.specs.CommandLine.{IsBlockSize, IsCacheInRange, IsInRange, IsShareCount, IsShareInRange};
+ghost use Rattle.swi_elf_read.specs.Loaded.{image_of as image_in};
+ghost use Rattle.swi_outside.specs.CacheRam.{KeepsBeyond};
+ghost use Rattle.swi_outside.specs.Causes.{DeviceCause, PairCause};
+ghost use Rattle.swi_outside.specs.Sink.{WasWritten};
+ghost use Rattle.swi_render.specs.ImageOf.{IsImageOf};
+ghost use Rattle.swi_slots.specs.Slots.{span_of};
+ghost use Rattle.swi_share.specs.Run.{CanRun, RunCame};
+ghost use Rattle.swi_share.specs.Shared.{shared_run};
+ghost use Rattle.swi_share.specs.Sharing.{IsSharing, seen as seen_of};
+ghost use Rattle.swi_share.specs.Starting.{AreGuests, IsGuest, most_words};
+ghost use Rattle.swi_task.specs.Answers.{Answers};
+ghost use Rattle.swi_task.specs.Checks.{IsAccepted, IsAcceptedImage, IsOwnImage, IsRefusedOr, Passes, file_limit, text_in};
+ghost use Rattle.swi_task.specs.Devices.{Devices};
+ghost use Rattle.swi_share_command.specs.RunShared.{AreUnfed, FilesRead, FilesUnread, HaveEnded, IsCutFor, IsGuestFile, IsGuestOf, ScheduleBroke, SharesOver, bytes_of, guest_checks, guest_lines, limits_by, order_of, refusal_by, share_report, share_task, shared_work};
+ghost use Rattle.swi_task.specs.Subject.{IsImageFor};
+
+use std::alloc::Global;
+use swi_answer::{Ending, Refusal, line_of_guest};
+use swi_command::{CacheOptions, RunLimits, Schedule, ShareOptions};
+use swi_elf_read::{Elf, image_bytes, read_elf};
+use swi_hart::BoardFault;
+use swi_image::{Image, ImageView, read_image};
+use swi_make::next_number;
+use swi_outside::{CacheRam, Failed, MemSource, Shelf, Sink};
+use swi_report::{SharedWork, shared_text};
+use swi_share::{Guest, Share, most_words};
+use swi_task::{
+    Prepared, accept, check_block, check_size, cut_image, ending_by, own_image, prepare, read_file,
+};
+
+/// A file that passes the checks of a program that is to run, with the greedy cut of its text where it has no image.
+#[derive(Drop)]
+struct GuestFile {
+    bytes: Vec<u8>,
+    cut: Option<Image>,
+}
+
+/// The limits of each program: none makes more steps than there are events.
+fn limits_by(options: &ShareOptions) -> RunLimits
+    requires ranges { IsShareInRange options.now }
+    ensures value { result ≡ limits_by options.now }
+    ensures ranges { IsInRange result }
+{
+    RunLimits {
+        steps: u64::from(options.schedule.events),
+        heap: options.heap,
+        stack: options.stack,
+    }
+}
+
+/// The greedy cut of a file's text into blocks of at most so many words, where the file has no image. The file passes the
+/// checks of a program that is to run.
+fn cut_of(
+    alloc: Global,
+    file: &[u8],
+    limits: &RunLimits,
+    block_words: u32,
+) -> Result<Option<Image>, Refusal>
+    requires within { length file.now ≤ file_limit }
+    requires ranges { IsInRange limits.now }
+    requires size { IsBlockSize block_words }
+    ensures cut { IfOk result (λ cut. IsCutFor file.now block_words (image_in file.now) cut) }
+    ensures accepted { OnOk result (IsAccepted (guest_checks limits.now block_words file.now)) }
+    ensures refused { IfErr result (IsRefusedOr (guest_checks limits.now block_words file.now)) }
+{
+    let elf = accept(file)?;
+    let prepared = prepare(alloc, &elf, limits)?;
+    let Some(bytes) = image_bytes(&elf) else {
+        let cut = cut_image(alloc, &prepared.program, block_words)?;
+        return Ok(Some(cut));
+    };
+    own_image(&prepared.program, bytes)?;
+    Ok(None)
+}
+
+/// Reads the files in their order, each with its checks before the next one is read.
+fn read_guests<F: Shelf>(
+    alloc: Global,
+    shelf: &mut F,
+    names: &[String],
+    limits: &RunLimits,
+    block_words: u32,
+) -> Result<Vec<GuestFile>, Refusal>
+    requires ranges { IsInRange limits.now }
+    requires size { IsBlockSize block_words }
+    ensures read { IfOk result (λ files. FilesRead limits.now block_words (map (λ n. string_bytes n) names.now)
+        (F.state shelf.old) (F.state shelf.new) files.items) }
+    ensures unread { IfErr result (FilesUnread limits.now block_words (map (λ n. string_bytes n) names.now)
+        (F.state shelf.old) (F.state shelf.new)) }
+{
+    let mut files = Vec::new(alloc);
+    for name in names {
+        let bytes = read_file(alloc, shelf, name.as_str())?;
+        let cut = cut_of(alloc, &bytes, limits, block_words)?;
+        if files.push(GuestFile { bytes, cut }).is_err() {
+            return Err(Refusal::Memory);
+        }
+    }
+    Ok(files)
+}
+
+/// The image of a file that passes its checks, or else the cut of its text.
+fn image_for<'a>(elf: &Elf<'a>, cut: &'a Option<Image>, block_words: u32) -> ImageView<'a>
+    requires within { length elf.now ≤ file_limit }
+    requires cut { IsCutFor elf.now block_words (image_in elf.now) cut.now }
+    requires accepted { Passes (IsAcceptedImage elf.now) }
+    requires own { Passes (IsOwnImage elf.now) }
+    ensures image { IsImageFor elf.now block_words (image_in elf.now) result }
+    ensures own { IsImageOf (text_in elf.now) result }
+{
+    if let Some(image) = cut {
+        return image.view();
+    }
+    let Some(bytes) = image_bytes(elf) else {
+        unreachable!()
+    };
+    match read_image(bytes) {
+        Ok(view) => view,
+        Err(_) => unreachable!(),
+    }
+}
+
+/// The program of a file, with an empty input.
+fn guest_of<'a>(
+    alloc: Global,
+    file: &'a GuestFile,
+    limits: &RunLimits,
+    block_words: u32,
+) -> Result<Guest<'a>, Refusal>
+    requires ranges { IsInRange limits.now }
+    requires file { IsGuestFile limits.now block_words file.now }
+    ensures guest { IfOk result (IsGuestOf limits.now block_words file.now.bytes.items) }
+    ensures own { IfOk result IsGuest }
+    ensures memory { OnErr result (result ≡ Err Refusal.Memory) }
+{
+    let Ok(elf) = read_elf(&file.bytes) else {
+        unreachable!()
+    };
+    let Ok(Prepared { program, layout }) = prepare(alloc, &elf, limits) else {
+        return Err(Refusal::Memory);
+    };
+    Ok(Guest {
+        program,
+        image: image_for(&elf, &file.cut, block_words),
+        layout,
+        input: MemSource::new(Vec::new(alloc), Vec::new(alloc)),
+    })
+}
+
+/// The programs of the files, in their order.
+fn guests_of<'a>(
+    alloc: Global,
+    files: &'a [GuestFile],
+    limits: &RunLimits,
+    block_words: u32,
+) -> Result<Vec<Guest<'a>>, Refusal>
+    requires ranges { IsInRange limits.now }
+    requires files { All (IsGuestFile limits.now block_words) files.now }
+    ensures guests { IfOk result (λ guests. AllZip (IsGuestOf limits.now block_words) (bytes_of files.now) guests.items) }
+    ensures own { IfOk result (λ guests. AreGuests guests.items) }
+    ensures memory { OnErr result (result ≡ Err Refusal.Memory) }
+{
+    let mut guests = Vec::new(alloc);
+    for file in files {
+        let guest = guest_of(alloc, file, limits, block_words)?;
+        if guests.push(guest).is_err() {
+            return Err(Refusal::Memory);
+        }
+    }
+    Ok(guests)
+}
+
+/// Whether each of so many programs has ended.
+fn have_ended(share: &Share<'_>, programs: u32) -> bool
+    requires programs { programs ≡ length share.now.processes }
+    requires unfailed { share.now.rom ≡ None → ⊥ }
+    ensures { result ≡ true → HaveEnded (seen_of share.now).contexts }
+{
+    for g in 0..programs {
+        if share.hart(g).ending().is_none() {
+            return false;
+        }
+    }
+    true
+}
+
+/// The events of a schedule in their order, until all are made or all programs have ended.
+fn run_schedule<O: Sink, E: Sink, R: CacheRam>(
+    share: &mut Share<'_>,
+    programs: u32,
+    schedule: Schedule,
+    out: &mut O,
+    err: &mut E,
+    ram: &mut R,
+) -> Result<(), BoardFault>
+    requires programs { programs ≡ length share.old.processes }
+    requires some { 0 < programs }
+    requires sharing { IsSharing share.old (R.state ram.old).words }
+    requires room { CanRun (order_of programs schedule) (seen_of share.old) }
+    requires unfed { AreUnfed (seen_of share.old) }
+    ensures came { OnOk result (RunCame (shared_run (order_of programs schedule) (seen_of share.old))
+        (record { share = share.old; ram = R.state ram.old; out = (O.state out.old).held; err = (E.state err.old).held })
+        (record { share = share.new; ram = R.state ram.new; out = (O.state out.new).held; err = (E.state err.new).held })) }
+    ensures sharing { OnOk result (IsSharing share.new (R.state ram.new).words) }
+    ensures programs { length share.new.processes ≡ length share.old.processes }
+    ensures stopped { OnErr result (ScheduleBroke result (order_of programs schedule)
+        (record { share = share.old; ram = R.state ram.old; out = (O.state out.old).held; err = (E.state err.old).held })
+        (record { share = share.new; ram = R.state ram.new; out = (O.state out.new).held; err = (E.state err.new).held })) }
+    ensures unnamed { IsErrOf result BoardFault.SourceFault → ⊥ }
+    ensures kept { KeepsBeyond (span_of (seen_of share.old).setting) (R.state ram.old) (R.state ram.new) }
+    ensures sink_cause { PairCause (O.state out.old).faults (O.state out.new).faults (E.state err.old).faults
+        (E.state err.new).faults (IsErrOf result BoardFault.SinkFault) }
+    ensures ram_cause { DeviceCause (R.state ram.old).faults (R.state ram.new).faults
+        (IsErrOf result BoardFault.RamFault) }
+{
+    let mut x = schedule.seed;
+    for _ in 0..schedule.events {
+        if have_ended(share, programs) {
+            return Ok(());
+        }
+        x = next_number(x);
+        share.event_unfed((x >> 16) % programs, ram, out, err)?;
+    }
+    Ok(())
+}
+
+/// Writes how each of so many programs ended, a line each.
+fn write_guests<O: Sink>(share: &Share<'_>, programs: u32, out: &mut O) -> Result<(), Failed>
+    requires programs { programs ≡ length share.now.processes }
+    requires unfailed { share.now.rom ≡ None → ⊥ }
+    ensures { WasWritten (O.state out.old) (O.state out.new) result (guest_lines (seen_of share.now).contexts) }
+{
+    for g in 0..programs {
+        let hart = share.hart(g);
+        let ending = ending_by(hart.ending(), hart.origin_pc(), hart.steps());
+        out.write(line_of_guest(g, &ending).as_bytes())?;
+    }
+    Ok(())
+}
+
+/// What so many programs have done, all together.
+fn shared_work(share: &Share<'_>, programs: u32) -> SharedWork
+    requires programs { programs ≡ length share.now.processes }
+    requires unfailed { share.now.rom ≡ None → ⊥ }
+    ensures { result ≡ shared_work (seen_of share.now) }
+{
+    let mut instructions: u64 = 0;
+    for g in 0..programs {
+        instructions = instructions.saturating_add(share.hart(g).machine_steps());
+    }
+    let counts = share.counts();
+    SharedWork {
+        instructions,
+        misses: counts.misses,
+        evictions: counts.evictions,
+        links: counts.links,
+        unlinks: counts.unlinks,
+        writes: counts
+            .copied
+            .saturating_add(counts.links)
+            .saturating_add(counts.unlinks),
+    }
+}
+
+/// Writes what is told of so many programs behind their events.
+fn report_share<O: Sink>(
+    share: &Share<'_>,
+    programs: u32,
+    options: &ShareOptions,
+    out: &mut O,
+) -> Result<(), Failed>
+    requires programs { programs ≡ length share.now.processes }
+    requires unfailed { share.now.rom ≡ None → ⊥ }
+    ensures { WasWritten (O.state out.old) (O.state out.new) result (share_report options.now (seen_of share.now)) }
+{
+    write_guests(share, programs, out)?;
+    if !options.stats {
+        return Ok(());
+    }
+    shared_text(&shared_work(share, programs), out)
+}
+
+/// What programs are refused with over whose event a device broke off.
+fn refusal_by(fault: BoardFault) -> Refusal
+    ensures { result ≡ refusal_by fault }
+{
+    match fault {
+        BoardFault::RamFault => Refusal::RamFault,
+        BoardFault::SourceFault => Refusal::SourceFault,
+        BoardFault::SinkFault => Refusal::SinkFault,
+    }
+}
+
+/// Runs programs over one cache of so many bytes, and writes what is told of them.
+fn run_guests<O: Sink, E: Sink, R: CacheRam>(
+    alloc: Global,
+    guests: Vec<Guest<'_>>,
+    cache_bytes: u32,
+    options: &ShareOptions,
+    out: &mut O,
+    err: &mut E,
+    ram: &mut R,
+) -> Result<Ending, Refusal>
+    requires ranges { IsShareInRange options.now }
+    requires count { IsShareCount (length guests.items) }
+    requires guests { AreGuests guests.items }
+    requires unfed { All (λ x. x.input.left ≡ []) guests.items }
+    requires bytes { 4 * most_words guests.items ≤ cache_bytes }
+    requires limit { cache_bytes ≤ 2 ^ 23 }
+    requires held { cache_bytes ≤ 4 * length (R.state ram.old).words }
+    ensures { (d : Devices) → SharesOver options.now cache_bytes guests.entry.items
+        (record d { output = O.state out.old; error = E.state err.old; ram = R.state ram.old })
+        (record d { output = O.state out.new; error = E.state err.new; ram = R.state ram.new }) result }
+{
+    let programs = guests.len() as u32;
+    let Ok(mut share) = Share::new(alloc, cache_bytes, guests) else {
+        return Err(Refusal::Memory);
+    };
+    if let Err(fault) = run_schedule(&mut share, programs, options.schedule, out, err, ram) {
+        return Err(refusal_by(fault));
+    }
+    match report_share(&share, programs, options, out) {
+        Ok(()) => Ok(Ending::Done),
+        Err(_) => Err(Refusal::SinkFault),
+    }
+}
+
+/// Runs the programs of two to eight files over one cache, an original instruction of one of them at a time, in an order that
+/// is made of a number. Their inputs are empty. How each ended is written to the output, and the counts where they are
+/// asked for.
+///
+/// The checks are, in this order: the cache's size, before a file is read; those of each file, one file behind the other;
+/// that the cache holds a block. A refusal by one of them, and Memory, leave the sinks and the ram as they were.
+///
+/// A fault of the shelf, a sink or the ram comes only where its count rose, and each that rose is answered. After RamFault
+/// and SinkFault each sink holds what the events made have written, and a front of what comes next. The files stay, and so do
+/// the words of the ram behind the cache. The one ending is Done; the line of a refusal is the caller's to write. Own rule.
+pub fn share<F: Shelf, O: Sink, E: Sink, R: CacheRam>(
+    alloc: Global,
+    names: &[String],
+    cache: &CacheOptions,
+    options: &ShareOptions,
+    shelf: &mut F,
+    out: &mut O,
+    err: &mut E,
+    ram: &mut R,
+) -> Result<Ending, Refusal>
+    requires count { IsShareCount (length names.now) }
+    requires sizes { IsCacheInRange cache.now }
+    requires ranges { IsShareInRange options.now }
+    ensures { (d : Devices) → Answers (share_task (map (λ n. string_bytes n) names.now) cache.now options.now)
+        (record d { shelf = F.state shelf.old; output = O.state out.old; error = E.state err.old; ram = R.state ram.old })
+        (record d { shelf = F.state shelf.new; output = O.state out.new; error = E.state err.new; ram = R.state ram.new }) result [] }
+{
+    check_size(cache.cache_bytes, ram)?;
+    let limits = limits_by(options);
+    let files = read_guests(alloc, shelf, names, &limits, cache.block_words)?;
+    let guests = guests_of(alloc, &files, &limits, cache.block_words)?;
+    check_block(cache.cache_bytes, most_words(&guests))?;
+    run_guests(alloc, guests, cache.cache_bytes, options, out, err, ram)
+}

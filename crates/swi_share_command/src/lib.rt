@@ -1,0 +1,6 @@
+//! The command `share`: the programs of several files over one cache.
+#![tactic(auto)]
+
+mod command;
+
+pub use command::share;

@@ -1,0 +1,5 @@
+pub mod Images
+pub mod Refusals
+pub mod Puts
+pub mod Due
+pub mod Lines

@@ -1,0 +1,415 @@
+-- What stands after a refusal that changes nothing but the errors, for any command.
+use Rattle.std.proofs.Common.{◌*◌, Bool, true, false, nat_lt, if◌then◌else◌, ◌≡◌, inl, inr, ℕ, ◌+◌, ◌≤◌, ◌<◌, List, [], ◌∷◌, length, Option, Some, None, Result, Ok, Err, IsErrOf, refl, sym, subst, ap, arith, OnErr}
+use Rattle.std.specs.Prelude.{option_map, Contains, Vec}
+use Rattle.std.specs.declared.alloc.Global.{Global}
+use Rattle.swi_outside.specs.CacheRam.{RamState}
+use Rattle.swi_outside.specs.Causes.{DeviceCause, Rose, counted, risen}
+use Rattle.swi_outside.specs.Devices as outside
+use Rattle.swi_outside.specs.Laws.{Appends-none, cause_from, no_cause, none_named}
+use Rattle.swi_outside.specs.Shelf.{Asked, Contents, Same, ShelfState, Stands, IsLonger, WasGot, get_of}
+use Rattle.swi_outside.specs.declared.shelf.ShelfError.{ShelfError}
+use Rattle.swi_outside.specs.declared.shelf.ShelfError.TheVariants as error
+use Rattle.swi_elf_read.specs.declared.refusal.ElfRefusal.{ElfRefusal}
+use Rattle.swi_elf_read.specs.Elf as elf
+use Rattle.swi_image.specs.declared.refusal.ImageRefusal.{ImageRefusal}
+use Rattle.swi_image.specs.Checks as image
+use Rattle.swi_answer.specs.declared.answer.Ending.{Ending}
+use Rattle.swi_answer.specs.declared.answer.Refusal.{Refusal}
+use Rattle.swi_answer.specs.declared.answer.Refusal.TheVariants as refusal
+use Rattle.swi_task.specs.Devices.{Devices, IsUntouched, stream_faults}
+use Rattle.swi_task.specs.Causes.{HasCauses}
+use Rattle.swi_task.specs.Checks.{Check, IsShort, IsAcceptedElf, HasRoom, HasImage, IsAcceptedImage, IsOwnImage, FitsBlocks, FitsUnlessImage, FitsMade, HoldsBlock, Fails, IsRefusedBy, IsRefusedOr, cache_limit, cache_refusal, file_limit, size_refusal}
+use Rattle.swi_task.specs.Answers.{Answers, IsAskedFor, IsChecked, IsSized, IsSizeRefusal, IsRunFault, KeepsRam, writes_in, KeepsShelf}
+use Rattle.swi_task.specs.Files.{FileRead, answer_by}
+use Rattle.swi_task.specs.Task.{Task, Tells}
+
+-- a refusal by a check of the file, or want of memory
+abbrev pub IsLate : Refusal → Type 0
+IsLate (refusal.FileLong limit) = Unit {0}
+IsLate (refusal.Elf r) = Unit {0}
+IsLate (refusal.Room end) = Unit {0}
+IsLate refusal.NoImage = Unit {0}
+IsLate (refusal.Image r) = Unit {0}
+IsLate (refusal.Mismatch m) = Unit {0}
+IsLate (refusal.Long address needs) = Unit {0}
+IsLate (refusal.CacheSmall bytes least) = Unit {0}
+IsLate refusal.Memory = Unit {0}
+IsLate _ = ⊥
+
+pub late_along : {r s : Refusal} → s ≡ r → IsLate r → IsLate s
+late_along e h = subst IsLate (sym e) h
+
+elf_late : (x : Option ElfRefusal) (r : Refusal) → option_map (λ e. refusal.Elf e) x ≡ Some r → IsLate r
+elf_late None r e = absurd (let never : ⊥ = cc in never)
+elf_late (Some x) r e = let p : refusal.Elf x ≡ r = cc in subst IsLate p tt
+
+image_late : (x : Option ImageRefusal) (r : Refusal) → option_map (λ e. refusal.Image e) x ≡ Some r → IsLate r
+image_late None r e = absurd (let never : ⊥ = cc in never)
+image_late (Some x) r e = let p : refusal.Image x ≡ r = cc in subst IsLate p tt
+
+fails_late : (c : Check) (r : Refusal) → Fails c r → IsLate r
+fails_late (IsShort file) r h = late_along h.1 tt
+fails_late (IsAcceptedElf file) r h = elf_late (elf.first_refusal file) r h
+fails_late (HasRoom file limits) r h = late_along h.2 tt
+fails_late (HasImage file) r h = late_along h.1 tt
+fails_late (IsAcceptedImage file) r h = image_late (image.first_refusal h.0) r h.2
+fails_late (IsOwnImage file) r h = late_along h.2.2 tt
+fails_late (FitsBlocks file most) r h = late_along h.2 tt
+fails_late (FitsUnlessImage file most) r h = late_along h.1.2 tt
+fails_late (FitsMade seed functions most) r h = late_along h.2.2 tt
+fails_late (HoldsBlock bytes least) r h = late_along h.1 tt
+
+pub refused_late : (cs : List Check) (r : Refusal) → IsRefusedBy cs r → IsLate r
+refused_late [] r h = absurd h
+refused_late (c ∷ cs) r h = elim h [ inl a ↦ fails_late c r a | inr b ↦ refused_late cs r b.1 ]
+
+pub checked_by : (cs : List Check) (last : Option Asked) (r : Refusal) → IsRefusedBy cs r → IsChecked cs last (Err r)
+checked_by cs last (refusal.FileLong limit) h = h
+checked_by cs last (refusal.Elf r) h = h
+checked_by cs last (refusal.Room end) h = h
+checked_by cs last refusal.NoImage h = h
+checked_by cs last (refusal.Image r) h = h
+checked_by cs last (refusal.Mismatch m) h = h
+checked_by cs last (refusal.Long address needs) h = h
+checked_by cs last (refusal.CacheSmall bytes least) h = h
+checked_by cs last refusal.Memory h = tt
+checked_by cs last (refusal.CacheLarge bytes) h = tt
+checked_by cs last (refusal.RamSmall bytes held) h = tt
+checked_by cs last refusal.Usage h = refused_late cs refusal.Usage h
+checked_by cs last refusal.ShelfFault h = absurd (refused_late cs refusal.ShelfFault h)
+checked_by cs last refusal.SourceFault h = absurd (refused_late cs refusal.SourceFault h)
+checked_by cs last refusal.SinkFault h = absurd (refused_late cs refusal.SinkFault h)
+checked_by cs last refusal.RamFault h = absurd (refused_late cs refusal.RamFault h)
+
+pub late_run : (r : Refusal) → IsLate r → IsRunFault r → ⊥
+late_run refusal.SourceFault h f = h
+late_run refusal.SinkFault h f = h
+late_run refusal.RamFault h f = h
+late_run _ h f = f
+
+late_size : (r : Refusal) → IsLate r → IsSizeRefusal r → ⊥
+late_size (refusal.CacheLarge bytes) h f = h
+late_size (refusal.RamSmall bytes held) h f = h
+late_size _ h f = f
+
+pub refusal_is : {T : Type 0} {r q : Refusal} → ◌≡◌ {A = Result T Refusal} (Err r) (Err q) → r ≡ q
+refusal_is e = cc
+
+late_not : (r s : Refusal) → IsLate r → (IsLate s → ⊥) → IsErrOf {T = Ending} (Err r) s → ⊥
+late_not r s h never e = never (let p : r ≡ s = cc in subst IsLate p h)
+
+pub late_shelf : (r : Refusal) → IsLate r → IsErrOf {T = Ending} (Err r) refusal.ShelfFault → ⊥
+late_shelf r h e = late_not r refusal.ShelfFault h (λ x. x) e
+
+pub sized_ok : (e : Ending) → IsSized None (Ok e)
+sized_ok e = record { refused = λ r x. absurd (let never : ⊥ = cc in never); only = tt }
+
+pub sized_err : (r : Refusal) → (IsSizeRefusal r → ⊥) → IsSized None (Err r)
+sized_err r never = record { refused = λ s x. absurd (let bad : ⊥ = cc in bad); only = λ s. absurd (never s) }
+
+pub sized_late : (r : Refusal) → IsLate r → IsSized None (Err r)
+sized_late r h = sized_err r (late_size r h)
+
+pub sized_along : (x : Option Refusal) (result : Result Ending Refusal) → x ≡ None → IsSized None result → IsSized x result
+sized_along x result e h = subst (λ (o : Option Refusal). IsSized o result) (sym e) h
+
+-- ---- the causes of an answer
+
+-- a device that failed
+pub rose_cause : (n m : ℕ) (P : Type 0) → P → n ≤ m → Rose n m → DeviceCause n m P
+rose_cause n m P p later rose = record { later = later; cause = λ _. rose; told = inr p }
+
+-- one whose fault is not the answer did not fail
+pub same_count : {n m : ℕ} {P : Type 0} → DeviceCause n m P → (P → ⊥) → m ≡ n
+same_count h never = elim h.told [ inl e ↦ e | inr p ↦ absurd (never p) ]
+
+pub causes_of : {T : Type 0} (d m : Devices) (r : Result T Refusal) → DeviceCause d.shelf.faults m.shelf.faults (IsErrOf r refusal.ShelfFault) →
+    DeviceCause d.ram.faults m.ram.faults (IsErrOf r refusal.RamFault) →
+    outside.HasCauses (stream_faults d) (stream_faults m) (IsErrOf r refusal.SourceFault) (IsErrOf r refusal.SinkFault) → HasCauses d m r
+causes_of d m r shelf ram streams = record { shelf = shelf; ram = ram; streams = streams }
+
+-- an answer that no device gave
+abbrev pub IsOwn : {T : Type 0} → Result T Refusal → Type 0
+IsOwn (Ok v) = Unit {0}
+IsOwn (Err refusal.ShelfFault) = ⊥
+IsOwn (Err refusal.SourceFault) = ⊥
+IsOwn (Err refusal.SinkFault) = ⊥
+IsOwn (Err refusal.RamFault) = ⊥
+IsOwn (Err _) = Unit {0}
+
+own_not : (T : Type 0) (r : Result T Refusal) (f : Refusal) → IsOwn r → (IsOwn {T = T} (Err f) → ⊥) → IsErrOf r f → ⊥
+own_not T (Ok v) f own never e = cc
+own_not T (Err r) f own never e = never (let p : r ≡ f = cc in subst (λ (x : Refusal). IsOwn {T = T} (Err x)) p own)
+
+-- then no count rose
+pub calm_causes : {T : Type 0} (d m : Devices) (r : Result T Refusal) → IsOwn r → m.shelf.faults ≡ d.shelf.faults → m.ram.faults ≡ d.ram.faults →
+    stream_faults m ≡ stream_faults d → HasCauses d m r
+calm_causes {T} d m r own shelf ram streams =
+    causes_of d m r (no_cause shelf (own_not T r refusal.ShelfFault own (λ x. x))) (no_cause ram (own_not T r refusal.RamFault own (λ x. x)))
+    (none_named streams (own_not T r refusal.SourceFault own (λ x. x)) (own_not T r refusal.SinkFault own (λ x. x)))
+
+late_own : (r : Refusal) → IsLate r → IsOwn {T = Ending} (Err r)
+late_own refusal.ShelfFault h = h
+late_own refusal.SourceFault h = h
+late_own refusal.SinkFault h = h
+late_own refusal.RamFault h = h
+late_own _ h = tt
+
+-- the shelf failed
+pub shelf_causes : (d : Devices) (s : ShelfState) → d.shelf.faults ≤ s.faults → Rose d.shelf.faults s.faults →
+    HasCauses {T = Ending} d (record d { shelf = s }) (Err refusal.ShelfFault)
+shelf_causes d s later rose =
+    causes_of d (record d { shelf = s }) (Err refusal.ShelfFault) (rose_cause d.shelf.faults s.faults _ refl later rose) (no_cause refl (λ x. let never : ⊥ = cc in never))
+    (none_named refl (λ x. let never : ⊥ = cc in never) (λ x. let never : ⊥ = cc in never))
+
+-- the shelf was read, and the output failed
+pub out_causes : (d m : Devices) → m.shelf.faults ≡ d.shelf.faults → m.ram.faults ≡ d.ram.faults → m.input.faults ≡ d.input.faults → m.error.faults ≡ d.error.faults →
+    d.output.faults ≤ m.output.faults → Rose d.output.faults m.output.faults → HasCauses {T = Ending} d m (Err refusal.SinkFault)
+out_causes d m shelf ram input error later rose =
+    causes_of d m (Err refusal.SinkFault) (no_cause shelf (λ x. let never : ⊥ = cc in never)) (no_cause ram (λ x. let never : ⊥ = cc in never))
+    (record {
+      input = no_cause input (λ x. let never : ⊥ = cc in never);
+      sinks = record { one_later = later; other_later = omega (arith, error); cause = λ _. inl rose; one_told = inr refl; other_told = inl error };
+    })
+
+-- ---- what stays
+
+pub untouched : (d : Devices) (s : ShelfState) → IsUntouched d (record d { shelf = s })
+untouched d s = record { input = refl; output = refl; ram = refl }
+
+pub keeps_ram : (cache : Option ℕ) (r : RamState) → KeepsRam cache r r
+keeps_ram None r = refl
+keeps_ram (Some bytes) r = record { beyond = λ i h. refl; same_length = refl; reached = omega arith }
+
+pub told_is : (c : Option Contents) (name file bytes : List ℕ) → Tells c name file → Stands c name bytes → bytes ≡ file
+told_is None name file bytes told stands = absurd told
+told_is (Some m) name file bytes told stands = cc
+
+-- a command reads the one file that it names
+pub reads_one : (name : List ℕ) → Contains (name ∷ []) name
+reads_one name = (0, omega arith, refl)
+
+-- ---- how often the shelf was asked
+
+pub asked_none : (n : ℕ) → n ≡ risen n 0
+asked_none n = grind arith
+
+pub asked_twice : (n m k : ℕ) → m ≡ counted n → k ≡ counted m → k ≡ risen n 2
+asked_twice n m k e f = grind arith
+
+-- one file is read, and at most one written
+pub one_late : (writes : ℕ) (failed : Option Asked) (r : Refusal) → IsLate r → IsAskedFor 1 writes failed (Err r) 1 0
+one_late writes failed (refusal.FileLong limit) h = (omega arith, omega arith, refl)
+one_late writes failed refusal.Memory h = (omega arith, omega arith, λ never. refl)
+one_late writes failed (refusal.Elf r) h = ((omega arith, λ _. omega arith), refl)
+one_late writes failed (refusal.Room end) h = ((omega arith, λ _. omega arith), refl)
+one_late writes failed refusal.NoImage h = ((omega arith, λ _. omega arith), refl)
+one_late writes failed (refusal.Image r) h = ((omega arith, λ _. omega arith), refl)
+one_late writes failed (refusal.Mismatch m) h = ((omega arith, λ _. omega arith), refl)
+one_late writes failed (refusal.Long address needs) h = ((omega arith, λ _. omega arith), refl)
+one_late writes failed (refusal.CacheSmall bytes least) h = (refl, refl)
+one_late writes failed _ h = absurd h
+
+-- ---- the file was read
+
+-- the causes of what was done behind it
+pub causes_behind : {T : Type 0} (d : Devices) (s : ShelfState) (m : Devices) (r : Result T Refusal) → s.faults ≡ d.shelf.faults → HasCauses (record d { shelf = s }) m r → HasCauses d m r
+causes_behind d s m r same h = record { shelf = cause_from same h.shelf; ram = h.ram; streams = h.streams }
+
+pub record IsRead (before after : ShelfState) (name bytes : List ℕ) : Type 0 where
+  pub same : Same before.contents after.contents
+  pub stands : Stands before.contents name bytes
+  pub asked : after.calls ≡ counted before.calls
+  pub faults : after.faults ≡ before.faults
+  pub last_failed : after.last_failed ≡ before.last_failed
+
+pub was_read : {before after : ShelfState} {name : List ℕ} {v : Vec ℕ Global} → FileRead before after name (Ok v) → IsRead before after name v.items
+was_read {before} {after} {name} {v} h = by h.answer h.got h.handed_on
+  where
+    by : (answer : Result (Vec ℕ Global) ShelfError) → WasGot before after name file_limit answer → Ok v ≡ answer_by answer → IsRead before after name v.items
+    by (Ok w) got is =
+        let calm = got.cause.quiet (λ e. let never : ⊥ = cc in never) in
+        let same : w ≡ v = cc in
+        subst (λ (x : Vec ℕ Global). IsRead before after name x.items) same
+        (record { same = got.same; stands = got.content; asked = got.asked; faults = calm.0; last_failed = calm.1 })
+    by (Err e) got is = absurd (let never : ⊥ = cc in never)
+
+-- what a command that read one file and writes none leaves of the shelf
+pub keeps_read : (t : Task) (before after : ShelfState) (name bytes : List ℕ) (r : Result Ending Refusal) → length t.reads ≡ 1 → IsRead before after name bytes →
+    IsAskedFor 1 (writes_in t.writes) after.last_failed r 1 0 → (IsErrOf r refusal.ShelfFault → ⊥) → KeepsShelf t before after r
+keeps_read t before after name bytes r one read asked never = record {
+  others = λ x _. read.same x;
+  refused = on_err r (λ _. read.same);
+  quiet = λ _. read.last_failed;
+  failed = λ e. absurd (never e);
+  gets = 1;
+  puts = 0;
+  calls = read.asked;
+  asked = subst (λ (n : ℕ). IsAskedFor n (writes_in t.writes) after.last_failed r 1 0) (sym one) asked;
+}
+  where
+    on_err : {P : Type 0} (r : Result Ending Refusal) → P → OnErr r P
+    on_err (Ok v) p = tt
+    on_err (Err e) p = p
+
+-- ---- a refusal that is none by a device
+
+pub refused : (t : Task) (d : Devices) (s : ShelfState) (r : Refusal) (gets puts : ℕ) →
+    (IsErrOf {T = Ending} (Err r) refusal.Usage → ⊥) → IsSized (cache_refusal t.cache (length d.ram.words)) (Err r) → (IsRunFault r → ⊥) → (IsErrOf {T = Ending} (Err r) refusal.ShelfFault → ⊥) →
+    HasCauses {T = Ending} d (record d { shelf = s }) (Err r) → Same d.shelf.contents s.contents → s.last_failed ≡ d.shelf.last_failed →
+    ((files : t.Files) → t.told d.shelf.contents files → IsChecked (t.checks files) s.last_failed (Err r)) →
+    s.calls ≡ risen d.shelf.calls (gets + puts) → IsAskedFor (length t.reads) (writes_in t.writes) s.last_failed (Err r) gets puts →
+    Answers t d (record d { shelf = s }) (Err r) []
+refused t d s r gets puts asked sized calm shelf causes same last checked calls asks = record {
+  asked = asked;
+  sized = sized;
+  checked = checked;
+  ended = tt;
+  done = tt;
+  failed = λ f. absurd (calm f);
+  refused = λ _. (untouched d s, Appends-none d.error.held);
+  shelf = record {
+    others = λ name _. same name;
+    refused = λ _. same;
+    quiet = λ _. last;
+    failed = λ e. absurd (shelf e);
+    gets = gets;
+    puts = puts;
+    calls = calls;
+    asked = asks;
+  };
+  ram = keeps_ram t.cache d.ram;
+  causes = causes;
+}
+
+pub late : (t : Task) (d : Devices) (s : ShelfState) (r : Refusal) (gets puts : ℕ) → IsLate r → cache_refusal t.cache (length d.ram.words) ≡ None →
+    Same d.shelf.contents s.contents → s.faults ≡ d.shelf.faults → s.last_failed ≡ d.shelf.last_failed →
+    ((files : t.Files) → t.told d.shelf.contents files → IsChecked (t.checks files) s.last_failed (Err r)) →
+    s.calls ≡ risen d.shelf.calls (gets + puts) → IsAskedFor (length t.reads) (writes_in t.writes) s.last_failed (Err r) gets puts →
+    Answers t d (record d { shelf = s }) (Err r) []
+late t d s r gets puts h size same faults last checked calls asks =
+    refused t d s r gets puts (late_not r refusal.Usage h (λ x. x)) (sized_along _ _ size (sized_late r h)) (late_run r h) (late_shelf r h)
+    (calm_causes d (record d { shelf = s }) (Err r) (late_own r h) faults refl refl) same last checked calls asks
+
+-- by a check of the file that was read, or for want of memory
+pub check_refused : (t : Task) (d : Devices) (s : ShelfState) (name bytes : List ℕ) (files : t.Files) (r : Refusal) → cache_refusal t.cache (length d.ram.words) ≡ None →
+    length t.reads ≡ 1 → IsRead d.shelf s name bytes → ((told : t.Files) → t.told d.shelf.contents told → files ≡ told) → IsRefusedOr (t.checks files) r → Answers t d (record d { shelf = s }) (Err r) []
+check_refused t d s name bytes files r size one read only why = elim why [
+  | inl e ↦ subst (λ (x : Refusal). Answers t d (record d { shelf = s }) (Err x) []) (sym e) (so refusal.Memory tt (λ _ _. tt))
+  | inr by ↦ so r (refused_late (t.checks files) r by) (λ other told.
+      subst (λ (f : t.Files). IsChecked (t.checks f) s.last_failed (Err r)) (only other told) (checked_by (t.checks files) s.last_failed r by))
+]
+  where
+    so : (x : Refusal) → IsLate x → ((files : t.Files) → t.told d.shelf.contents files → IsChecked (t.checks files) s.last_failed (Err x)) → Answers t d (record d { shelf = s }) (Err x) []
+    so x h checked = late t d s x 1 0 h size read.same read.faults read.last_failed checked read.asked
+        (subst (λ (n : ℕ). IsAskedFor n (writes_in t.writes) s.last_failed (Err x) 1 0) (sym one) (one_late (writes_in t.writes) s.last_failed x h))
+
+-- ---- the file was not read
+
+pub read_failed : (t : Task) (name : List ℕ) (d : Devices) (s : ShelfState) → t.reads ≡ name ∷ [] → cache_refusal t.cache (length d.ram.words) ≡ None →
+    WasGot d.shelf s name file_limit (Err error.Failed) → Answers t d (record d { shelf = s }) (Err refusal.ShelfFault) []
+read_failed t name d s is size got =
+    let failed = got.cause.failed refl in record {
+      asked = λ e. let bad : ⊥ = cc in bad;
+      sized = sized_along _ _ size (sized_err refusal.ShelfFault (λ x. x));
+      checked = λ files told. subst (λ (x : Option Asked). IsChecked (t.checks files) x (Err refusal.ShelfFault)) (sym failed.1) (λ put. absurd put);
+      ended = tt;
+      done = tt;
+      failed = λ f. absurd f;
+      refused = λ _. (untouched d s, Appends-none d.error.held);
+      shelf = record {
+        others = λ x _. got.same x;
+        refused = λ never. absurd (never refl);
+        quiet = λ never. absurd (never refl);
+        failed = λ _. inl (name, subst (λ (l : List (List ℕ)). Contains l name) (sym is) (reads_one name), failed.1, got.same);
+        gets = 1;
+        puts = 0;
+        calls = got.asked;
+        asked = subst (λ (x : Option Asked). IsAskedFor (length t.reads) (writes_in t.writes) x (Err refusal.ShelfFault) 1 0) (sym failed.1)
+            (subst (λ (l : List (List ℕ)). IsAskedFor (length l) (writes_in t.writes) (Some (get_of name)) (Err refusal.ShelfFault) 1 0) (sym is) (omega arith, omega arith, refl));
+      };
+      ram = keeps_ram t.cache d.ram;
+      causes = shelf_causes d s got.cause.later failed.0;
+    }
+
+longer_is : (c : Option Contents) (name file : List ℕ) (limit : ℕ) → Tells c name file → IsLonger c name limit → limit < length file
+longer_is None name file limit told longer = absurd told
+longer_is (Some m) name file limit told longer =
+    let same : longer.0 ≡ file = cc in subst (λ (f : List ℕ). limit < length f) same longer.2
+
+-- then its length is refused
+pub too_long : (c : Option Contents) (name file : List ℕ) → IsLonger c name file_limit → Tells c name file → Fails (IsShort file) (refusal.FileLong file_limit)
+too_long c name file longer told = (longer_is c name file file_limit told longer, refl)
+
+-- the shelf failed, it was too long, or there was no memory for it
+pub read_refused : (t : Task) (name : List ℕ) (d : Devices) (s : ShelfState) (r : Refusal) → t.reads ≡ name ∷ [] → cache_refusal t.cache (length d.ram.words) ≡ None →
+    (IsLonger d.shelf.contents name file_limit → (files : t.Files) → t.told d.shelf.contents files → IsRefusedBy (t.checks files) (refusal.FileLong file_limit)) →
+    FileRead d.shelf s name (Err r) → Answers t d (record d { shelf = s }) (Err r) []
+read_refused t name d s r is size long h = by h.answer h.got h.handed_on
+  where
+    one : length t.reads ≡ 1
+    one = ap (λ (l : List (List ℕ)). length l) is
+
+    calm : (e : ShelfError) → (e ≡ error.Failed → ⊥) → IsLate r → WasGot d.shelf s name file_limit (Err e) →
+        ((files : t.Files) → t.told d.shelf.contents files → IsChecked (t.checks files) s.last_failed (Err r)) → Answers t d (record d { shelf = s }) (Err r) []
+    calm e never h got checked =
+        let quiet = got.cause.quiet (λ x. never (let same : e ≡ error.Failed = cc in same)) in
+        late t d s r 1 0 h size got.same quiet.0 quiet.1 checked got.asked
+        (subst (λ (n : ℕ). IsAskedFor n (writes_in t.writes) s.last_failed (Err r) 1 0) (sym one) (one_late (writes_in t.writes) s.last_failed r h))
+
+    by : (answer : Result (Vec ℕ Global) ShelfError) → WasGot d.shelf s name file_limit answer → Err r ≡ answer_by answer → Answers t d (record d { shelf = s }) (Err r) []
+    by (Ok v) got same = absurd (let never : ⊥ = cc in never)
+    by (Err error.Failed) got same =
+        let e : r ≡ refusal.ShelfFault = cc in
+        subst (λ (x : Refusal). Answers t d (record d { shelf = s }) (Err x) []) (sym e) (read_failed t name d s is size got)
+    by (Err error.Long) got same =
+        let e : r ≡ refusal.FileLong file_limit = cc in
+        calm error.Long (λ x. let never : ⊥ = cc in never) (late_along e tt) got (λ files told.
+        subst (λ (x : Refusal). IsChecked (t.checks files) s.last_failed (Err x)) (sym e) (long (got.long refl) files told))
+    by (Err error.Memory) got same =
+        let e : r ≡ refusal.Memory = cc in
+        calm error.Memory (λ x. let never : ⊥ = cc in never) (late_along e tt) got (λ files told.
+        subst (λ (x : Refusal). IsChecked (t.checks files) s.last_failed (Err x)) (sym e) tt)
+
+-- ---- nothing happened yet
+
+pub same_all : (c : Option Contents) → Same c c
+same_all None name = tt
+same_all (Some m) name = refl
+
+pub contents_stay : (d : Devices) → Same d.shelf.contents d.shelf.contents
+contents_stay d = same_all d.shelf.contents
+
+pub memory_at_once : (t : Task) (d : Devices) → Answers t d d (Err refusal.Memory) []
+memory_at_once t d = refused t d d.shelf refusal.Memory 0 0 (late_not refusal.Memory refusal.Usage tt (λ x. x))
+    (record { refused = λ r _. inr refl; only = λ f. absurd f }) (λ f. f) (late_shelf refusal.Memory tt) (calm_causes d d (Err refusal.Memory) tt refl refl refl) (contents_stay d) refl (λ _ _. tt)
+    (asked_none d.shelf.calls) (omega arith, omega arith, λ some. absurd (omega (arith, some)))
+
+-- a size is refused
+size_is : (bytes words : ℕ) (r : Refusal) → size_refusal bytes words ≡ Some r → IsSizeRefusal r
+size_is bytes words r e = by (nat_lt cache_limit bytes) (nat_lt (4 * words) bytes) e
+  where
+    by : (large small : Bool) →
+        (if large then Some (refusal.CacheLarge bytes) else if small then Some (refusal.RamSmall bytes (4 * words)) else None) ≡ Some r → IsSizeRefusal r
+    by true small e = let p : refusal.CacheLarge bytes ≡ r = cc in subst IsSizeRefusal p tt
+    by false true e = let p : refusal.RamSmall bytes (4 * words) ≡ r = cc in subst IsSizeRefusal p tt
+    by false false e = absurd (let never : ⊥ = cc in never)
+
+sized_so : (x : Option Refusal) (r : Refusal) → x ≡ Some r → IsSized x (Err r)
+sized_so x r e = record { refused = λ s is. inl (let same : r ≡ s = cc in ap (λ (y : Refusal). Err y) same); only = λ _. e }
+
+cache_is : (x : Option ℕ) (words : ℕ) (r : Refusal) → cache_refusal x words ≡ Some r → IsSizeRefusal r
+cache_is None words r e = absurd (let never : ⊥ = cc in never)
+cache_is (Some bytes) words r e = size_is bytes words r e
+
+pub size_refused : (t : Task) (d : Devices) (r : Refusal) → cache_refusal t.cache (length d.ram.words) ≡ Some r → Answers t d d (Err r) []
+size_refused t d r e = by r (cache_is t.cache (length d.ram.words) r e) e
+  where
+    by : (r : Refusal) → IsSizeRefusal r → cache_refusal t.cache (length d.ram.words) ≡ Some r → Answers t d d (Err r) []
+    by (refusal.CacheLarge bytes) h e =
+        refused t d d.shelf (refusal.CacheLarge bytes) 0 0 (λ x. let never : ⊥ = cc in never) (sized_so _ _ e) (λ x. x) (λ x. let never : ⊥ = cc in never)
+        (calm_causes d d (Err (refusal.CacheLarge bytes)) tt refl refl refl) (contents_stay d) refl (λ _ _. tt) (asked_none d.shelf.calls) (refl, refl)
+    by (refusal.RamSmall bytes held) h e =
+        refused t d d.shelf (refusal.RamSmall bytes held) 0 0 (λ x. let never : ⊥ = cc in never) (sized_so _ _ e) (λ x. x) (λ x. let never : ⊥ = cc in never)
+        (calm_causes d d (Err (refusal.RamSmall bytes held)) tt refl refl refl) (contents_stay d) refl (λ _ _. tt) (asked_none d.shelf.calls) (refl, refl)
+    by _ h e = absurd h

@@ -1,0 +1,9 @@
+pub mod Devices
+pub mod Causes
+pub mod Checks
+pub mod Files
+pub mod Task
+pub mod Answers
+pub mod Subject
+pub mod Runs
+pub mod Puts

@@ -1,0 +1,14 @@
+-- What stands after a command that writes a file. Own rule.
+use Rattle.std.specs.Prelude.{◌≡◌, ℕ, List}
+use Rattle.swi_outside.specs.Shelf.{Stands}
+use Rattle.swi_answer.specs.declared.answer.Ending.{Ending}
+use Rattle.swi_answer.specs.declared.answer.Ending.TheVariants as ending
+use Rattle.swi_task.specs.Devices.{Devices}
+
+-- such bytes stand under OUT, and all else is as it was
+pub record Puts (IsMade : List ℕ → Type 0) (output : List ℕ) (before after : Devices) (e : Ending) : Type 0 where
+  pub ending : e ≡ ending.Done
+  pub bytes : List ℕ
+  pub made : IsMade bytes
+  pub stands : Stands after.shelf.contents output bytes
+  pub others : after ≡ record before { shelf = after.shelf }
