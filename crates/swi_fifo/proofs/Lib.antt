@@ -3,3 +3,4 @@ mod Clearing
 mod Knowing
 mod Seen
 mod Exits
+mod Programs
