@@ -1,5 +1,10 @@
 //! Runs over devices in memory, with known answers: worked by hand from the rules of the machine and of the cache.
 
+ghost use Rattle.std.specs.Prelude.{◌≡◌, ◌<◌, ◌≤◌, length, IfOk};
+ghost use Rattle.swi_program.specs.Layout.{IsLayoutOf};
+ghost use Rattle.swi_program.specs.Text.{text_of};
+ghost use Rattle.swi_render.specs.ImageOf.{IsImageOf};
+
 use super::*;
 use std::alloc::Global;
 use std::test::Fail;
@@ -9,6 +14,8 @@ use swi_cut::cut;
 use swi_elf_read::read_elf;
 use swi_exec::FaultKind::*;
 use swi_fifo::FifoRom;
+use swi_image::ImageView;
+use swi_memory::Layout;
 use swi_outside::{CacheRam, FaultRam, MemSink, MemSource};
 use swi_program::{Program, lay_out, program_of};
 use swi_rom::CacheRom;
@@ -79,13 +86,18 @@ const PLAIN: Run = Run {
     out_fails: 0,
 };
 
-/// What stands after a run: the answer, the output, the errors and the ram.
+/// What stands after a run: the fault that stopped it, the ending and the address, the counts as in `Row`, the addresses
+/// that were told, what the output and the errors hold, and the ram's first 64 words.
 #[derive(Drop)]
 struct Stands {
-    answer: Result<(Board<FifoRom>, Option<History>), CachedStop>,
-    out: MemSink,
-    err: MemSink,
-    ram: FaultRam,
+    stop: Option<CachedStop>,
+    ending: Option<End>,
+    pc: u32,
+    counts: [u64; 9],
+    told: Option<Vec<u32>>,
+    out: Vec<u8>,
+    err: Vec<u8>,
+    words: Vec<u32>,
 }
 
 /// A file of one segment at 0x10000 with this text.
@@ -113,7 +125,59 @@ fn program_in<'a>(alloc: Global, file: &'a [u8]) -> Result<Program<'a>, Fail> {
     Ok(program_of(alloc, &elf)?)
 }
 
-/// Runs a text over the input `abc`, with a ram of so many words.
+/// The devices of a run.
+#[derive(Drop)]
+struct Devices {
+    input: MemSource,
+    out: MemSink,
+    err: MemSink,
+    ram: FaultRam,
+}
+
+/// The input `abc`, two sinks, and a ram of so many words, with a run's failing calls.
+fn devices_of(alloc: Global, run: &Run, words: u32) -> Result<Devices, Fail>
+    ensures { IfOk result (λ d. length d.ram.ram.words ≡ words) }
+{
+    Ok(Devices {
+        input: MemSource::new(b"abc".to_vec(alloc)?, [run.input_fails].to_vec(alloc)?),
+        out: MemSink::new(alloc, 4096, [run.out_fails].to_vec(alloc)?)?,
+        err: MemSink::new(alloc, 4096, Vec::new(alloc))?,
+        ram: FaultRam::new(alloc, words, [run.ram_fails].to_vec(alloc)?)?,
+    })
+}
+
+/// What stands in the devices after a run.
+fn stands_of(
+    alloc: Global,
+    answer: &Result<(Board<FifoRom>, Option<History>), CachedStop>,
+    out: &MemSink,
+    err: &MemSink,
+    ram: &FaultRam,
+) -> Result<Stands, Fail> {
+    let mut stands = Stands {
+        stop: None,
+        ending: None,
+        pc: 0,
+        counts: [0; 9],
+        told: None,
+        out: out.held().to_vec(alloc)?,
+        err: err.held().to_vec(alloc)?,
+        words: front_of(alloc, ram)?,
+    };
+    match answer {
+        Ok((board, history)) => {
+            stands.ending = board.ending();
+            stands.pc = board.origin_pc();
+            let counts = counts_of(board, ram);
+            stands.counts = counts;
+            stands.told = told_by(alloc, history)?;
+        }
+        Err(stop) => stands.stop = Some(*stop),
+    }
+    Ok(stands)
+}
+
+/// Runs a text over a ram of so many words.
 fn stands_after(alloc: Global, run: &Run, words: u32) -> Result<Stands, Fail> {
     let file = file_with(alloc, run.text, run.rights)?;
     let program = program_in(alloc, &file)?;
@@ -134,33 +198,45 @@ fn stands_after(alloc: Global, run: &Run, words: u32) -> Result<Stands, Fail> {
     {
         return Err(Fail::from("no cache"));
     }
-    let mut input = MemSource::new(b"abc".to_vec(alloc)?, [run.input_fails].to_vec(alloc)?);
-    let mut out = MemSink::new(alloc, 4096, [run.out_fails].to_vec(alloc)?)?;
-    let mut err = MemSink::new(alloc, 4096, Vec::new(alloc))?;
-    let mut ram = FaultRam::new(alloc, words, [run.ram_fails].to_vec(alloc)?)?;
     let rom = slots_for(alloc, &view, run.cache_bytes)?;
+    let asked = AskedRun {
+        limit: run.limit,
+        calls: false,
+        trace: run.trace,
+    };
+    let Devices {
+        mut input,
+        mut out,
+        mut err,
+        mut ram,
+    } = devices_of(alloc, run, words)?;
     let answer = run_cached(
-        alloc,
-        &view,
-        &program,
-        &layout,
-        rom,
-        AskedRun {
-            limit: run.limit,
-            calls: false,
-            trace: run.trace,
-        },
-        &mut input,
-        &mut out,
-        &mut err,
-        &mut ram,
+        alloc, &view, &program, &layout, rom, asked, &mut input, &mut out, &mut err, &mut ram,
     );
-    Ok(Stands {
-        answer,
-        out,
-        err,
-        ram,
-    })
+    stands_of(alloc, &answer, &out, &err, &ram)
+}
+
+/// The first 64 words of a ram, or all.
+fn front_of(alloc: Global, ram: &FaultRam) -> Result<Vec<u32>, Fail> {
+    let mut words = Vec::new(alloc);
+    for i in 0..64 {
+        if i < ram.words() {
+            words.push(ram.word(i))?;
+        }
+    }
+    Ok(words)
+}
+
+/// The addresses of a history.
+fn told_by(alloc: Global, history: &Option<History>) -> Result<Option<Vec<u32>>, Fail> {
+    let Some(history) = history else {
+        return Ok(None);
+    };
+    let mut told = Vec::new(alloc);
+    for k in 0..history.len() {
+        told.push(history.get(k).unwrap_or(0))?;
+    }
+    Ok(Some(told))
 }
 
 /// The ending and the address of a run, and its counts: steps, instructions, services, misses, evictions, links,
@@ -361,15 +437,59 @@ static ROWS: [Row; 15] = [
 fn runs_end_and_count(rt: HostRuntime) -> Result<(), Fail> {
     for (k, row) in ROWS.iter().enumerate() {
         let done = stands_after(rt.alloc(), &row.run, 2048)?;
-        let Ok(ended) = &done.answer else {
-            return Err(Fail::from("no run"));
-        };
-        let board = &ended.0;
-        assert_eq!(rt; board.ending(), row.ending, "row {k}");
-        assert_eq!(rt; board.origin_pc(), row.pc, "row {k}");
-        assert_eq!(rt; counts_of(board, &done.ram), row.counts, "row {k}");
+        let came = (done.stop, done.ending, done.pc);
+        assert_eq!(rt; came, (None, row.ending, row.pc), "row {k}");
+        assert_eq!(rt; done.counts, row.counts, "row {k}");
     }
     Ok(())
+}
+
+/// The steps at which a run of `COUNT` stops by its limit; and the ending, the address and the counts, as in `Row`, to which
+/// its board goes on.
+fn in_two_runs(
+    alloc: Global,
+    image: &ImageView<'_>,
+    program: &Program<'_>,
+    layout: &Layout,
+    limit: u64,
+) -> Result<(u64, Option<End>, u32, [u64; 9]), Fail>
+    requires laid_out { IsLayoutOf program.now.segments layout.now }
+    requires own { IsImageOf (text_of program.now.segments) image.now }
+    requires short { image.now.block_words ≤ 16 }
+    requires limit { limit < 9 }
+{
+    let rom = slots_for(alloc, image, 64)?;
+    let Devices {
+        mut input,
+        mut out,
+        mut err,
+        mut ram,
+    } = devices_of(alloc, &PLAIN, 16)?;
+    let asked = AskedRun {
+        limit,
+        calls: false,
+        trace: Trace::Off,
+    };
+    let answer = run_cached(
+        alloc, image, program, layout, rom, asked, &mut input, &mut out, &mut err, &mut ram,
+    );
+    let Ok((mut board, _history)) = answer else {
+        return Err(Fail::from("no run"));
+    };
+    let steps = board.steps();
+    if board.ending().is_some()
+        || board
+            .run(image, &mut ram, &mut input, &mut out, &mut err, 1000)
+            .is_err()
+    {
+        return Err(Fail::from("no second run"));
+    }
+    Ok((
+        steps,
+        board.ending(),
+        board.origin_pc(),
+        counts_of(&board, &ram),
+    ))
 }
 
 /// A run that stops at a limit goes on with its board, and comes to the end of one run.
@@ -389,70 +509,33 @@ fn boards_run_on(rt: HostRuntime) -> Result<(), Fail> {
         return Err(Fail::from("long blocks"));
     }
     for limit in 0..9 {
-        let mut input = MemSource::new(Vec::new(alloc), Vec::new(alloc));
-        let mut out = MemSink::new(alloc, 16, Vec::new(alloc))?;
-        let mut err = MemSink::new(alloc, 16, Vec::new(alloc))?;
-        let mut ram = FaultRam::new(alloc, 16, Vec::new(alloc))?;
-        let rom = slots_for(alloc, &view, 64)?;
-        let answer = run_cached(
-            alloc,
-            &view,
-            &program,
-            &layout,
-            rom,
-            AskedRun {
-                limit,
-                calls: false,
-                trace: Trace::Off,
-            },
-            &mut input,
-            &mut out,
-            &mut err,
-            &mut ram,
-        );
-        let Ok((mut board, _history)) = answer else {
-            return Err(Fail::from("no run"));
-        };
-        if board.ending().is_some() {
-            return Err(Fail::from("ended before its end"));
-        }
-        assert_eq!(rt; board.steps(), limit);
-        let on = board.run(&view, &mut ram, &mut input, &mut out, &mut err, 1000);
-        assert!(rt; on.is_ok(), "limit {limit}");
-        assert_eq!(rt; board.ending(), row.ending, "limit {limit}");
-        assert_eq!(rt; board.origin_pc(), row.pc, "limit {limit}");
-        assert_eq!(rt; counts_of(&board, &ram), row.counts, "limit {limit}");
+        let came = in_two_runs(alloc, &view, &program, &layout, limit)?;
+        let wanted = (limit, row.ending, row.pc, row.counts);
+        assert_eq!(rt; came, wanted, "limit {limit}");
     }
     Ok(())
 }
 
 /// What is told of the run of `SEVEN`: nothing; the addresses of its steps; these, and their lines.
-static TOLD: [(Trace, &[u32], &[u8]); 3] = [
-    (Trace::Off, &[], b""),
-    (Trace::Last, &[0x10000, 0x10004, 0x10008], b""),
+static TOLD: [(Trace, Option<&[u32]>, &[u8]); 3] = [
+    (Trace::Off, None, b""),
+    (Trace::Last, Some(&[0x10000, 0x10004, 0x10008]), b""),
     (
         Trace::Each,
-        &[0x10000, 0x10004, 0x10008],
+        Some(&[0x10000, 0x10004, 0x10008]),
         b"00010000 05d00893 addi a7, zero, 93\n00010004 00700513 addi a0, zero, 7\n00010008 00000073 ecall\n",
     ),
 ];
 
 #[test]
 fn steps_are_told_as_is_asked(rt: HostRuntime) -> Result<(), Fail> {
-    for (trace, addresses, lines) in TOLD {
-        let done = stands_after(rt.alloc(), &Run { trace, ..PLAIN }, 2048)?;
-        let Ok(ended) = &done.answer else {
-            return Err(Fail::from("no run"));
-        };
-        assert_eq!(rt; ended.1.is_some(), trace != Trace::Off);
-        if let Some(history) = &ended.1 {
-            assert_eq!(rt; history.len() as usize, addresses.len());
-            for (k, a) in addresses.iter().enumerate() {
-                assert_eq!(rt; history.get(k as u32), Some(*a), "step {k}");
-            }
-        }
-        assert_eq!(rt; ended.0.steps(), 3);
-        assert_eq!(rt; done.err.held(), lines);
+    for &(trace, addresses, lines) in TOLD.iter() {
+        let run = Run { trace, ..PLAIN };
+        let done = stands_after(rt.alloc(), &run, 2048)?;
+        let told = done.told.as_ref().map(|it| it.as_slice());
+        assert_eq!(rt; told, addresses);
+        assert_eq!(rt; (done.stop, done.counts[0]), (None, 3));
+        assert_eq!(rt; done.err.as_slice(), lines);
     }
     Ok(())
 }
@@ -477,26 +560,15 @@ static WORDS: [(u32, &[u32]); 2] = [
 
 #[test]
 fn blocks_stand_in_the_ram(rt: HostRuntime) -> Result<(), Fail> {
-    for (cache_bytes, words) in WORDS {
-        let done = stands_after(
-            rt.alloc(),
-            &Run {
-                text: COUNT,
-                block_words: 5,
-                cache_bytes,
-                ..PLAIN
-            },
-            64,
-        )?;
-        for (i, word) in words.iter().enumerate() {
-            if i < 64 && done.ram.words() == 64 {
-                assert_eq!(rt;
-                    done.ram.word(i as u32),
-                    *word,
-                    "{cache_bytes} bytes, word {i}"
-                );
-            }
-        }
+    for &(cache_bytes, words) in WORDS.iter() {
+        let run = Run {
+            text: COUNT,
+            block_words: 5,
+            cache_bytes,
+            ..PLAIN
+        };
+        let done = stands_after(rt.alloc(), &run, 64)?;
+        assert!(rt; done.words.starts_with(words), "{cache_bytes} bytes");
     }
     Ok(())
 }
@@ -506,50 +578,50 @@ static FAILING: [(&[u32], u32, u32, &[u8]); 2] = [(COUNT, 1, 22, b""), (ECHO, 24
 
 #[test]
 fn each_call_of_the_ram_fails(rt: HostRuntime) -> Result<(), Fail> {
-    for (text, whole, calls, bytes) in FAILING {
+    for &(text, whole, calls, bytes) in FAILING.iter() {
         for ram_fails in 1..=calls {
-            let done = stands_after(
-                rt.alloc(),
-                &Run {
-                    text,
-                    cache_bytes: 64,
-                    ram_fails,
-                    ..PLAIN
-                },
-                17,
-            )?;
-            let stopped = matches!(&done.answer, Err(CachedStop::RamFault));
-            assert_eq!(rt; stopped, ram_fails < calls, "call {ram_fails}");
+            let run = Run {
+                text,
+                cache_bytes: 64,
+                ram_fails,
+                ..PLAIN
+            };
+            let done = stands_after(rt.alloc(), &run, 17)?;
+            let stop = (ram_fails < calls).then_some(CachedStop::RamFault);
+            assert_eq!(rt; done.stop, stop, "call {ram_fails}");
             let held: &[u8] = if ram_fails < whole { b"" } else { bytes };
-            assert_eq!(rt; done.out.held(), held, "call {ram_fails}");
+            assert_eq!(rt; done.out.as_slice(), held, "call {ram_fails}");
         }
     }
     Ok(())
 }
 
-#[test]
-fn source_and_sink_fail(rt: HostRuntime) -> Result<(), Fail> {
-    let done = stands_after(
-        rt.alloc(),
-        &Run {
+/// An echo whose input fails, and one whose output does.
+static BROKEN: [(Run, CachedStop); 2] = [
+    (
+        Run {
             text: ECHO,
             input_fails: 1,
             ..PLAIN
         },
-        2048,
-    )?;
-    assert!(rt; matches!(&done.answer, Err(CachedStop::SourceFault)));
-    assert!(rt; done.out.held().is_empty());
-    let done = stands_after(
-        rt.alloc(),
-        &Run {
+        CachedStop::SourceFault,
+    ),
+    (
+        Run {
             text: ECHO,
             out_fails: 1,
             ..PLAIN
         },
-        2048,
-    )?;
-    assert!(rt; matches!(&done.answer, Err(CachedStop::SinkFault)));
-    assert!(rt; done.out.held().is_empty());
+        CachedStop::SinkFault,
+    ),
+];
+
+#[test]
+fn source_and_sink_fail(rt: HostRuntime) -> Result<(), Fail> {
+    for (run, stop) in BROKEN.iter() {
+        let done = stands_after(rt.alloc(), run, 2048)?;
+        assert_eq!(rt; done.stop, Some(*stop));
+        assert!(rt; done.out.is_empty());
+    }
     Ok(())
 }

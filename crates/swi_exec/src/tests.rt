@@ -4,6 +4,8 @@
 //! address, which are own rules.
 #![tactic(auto)]
 
+ghost use Rattle.std.specs.Prelude.{◌≡◌, ◌%◌};
+
 use crate::{Done, FaultKind, Regs, exec};
 use std::alloc::Global;
 use swi_isa::{Instr, Reg, decode};
@@ -25,6 +27,9 @@ fn bus_of_rows(alloc: Global) -> Option<Bus> {
     };
     Bus::new(alloc, &segments, &layout).ok()
 }
+
+/// A word that no row leaves in the memory.
+const NONE: u32 = 0xDEAD_BEEF;
 
 /// The instruction of a row, whose word is one.
 fn instr_of(word: u32) -> Instr {
@@ -541,101 +546,134 @@ static FAULTS: [(u32, u32, FaultKind, u32); 16] = [
     (0x0020A1AF, 0x40000, FaultKind::StoreAccess, 0x40000),
 ];
 
+/// What an instruction leaves: its answer, x1 to x3, what is reserved, and three words of the memory.
+#[derive(Clone, Copy)]
+struct Left {
+    done: Done,
+    x1: u32,
+    x2: u32,
+    x3: u32,
+    reserved: Option<u32>,
+    first: u32,
+    second: u32,
+    last: u32,
+}
+
+/// Executes a row's word.
+fn left_by(word: u32, pc: u32, regs: &mut Regs, bus: &mut Bus) -> Left
+    requires { pc % 4 ≡ 0 }
+{
+    let done = exec(&instr_of(word), pc, regs, bus);
+    Left {
+        done,
+        x1: regs.get(Reg::of(1)),
+        x2: regs.get(Reg::of(2)),
+        x3: regs.get(Reg::of(3)),
+        reserved: regs.reserved(),
+        first: bus.load(0x20000, 4).unwrap_or(NONE),
+        second: bus.load(0x20004, 4).unwrap_or(NONE),
+        last: bus.load(0x2000C, 4).unwrap_or(NONE),
+    }
+}
+
 #[test]
 fn values_are_those_of_a_riscv_processor(rt: HostRuntime) {
     let mut bus = bus_of_rows(rt.alloc()).expect(&rt, "no memory");
-    for (k, (word, x1, x2, x3)) in VALUES.into_iter().enumerate() {
-        let mut regs = regs_of(x1, x2);
-        let done = exec(&instr_of(word), 0x10000, &mut regs, &mut bus);
-        assert_eq!(rt; done, Done::Next(0x10004), "row {k}");
-        assert_eq!(rt; regs.get(Reg::of(3)), x3, "row {k}");
+    for (k, &(word, x1, x2, x3)) in VALUES.iter().enumerate() {
+        let left = left_by(word, 0x10000, &mut regs_of(x1, x2), &mut bus);
+        assert_eq!(rt; (left.done, left.x3), (Done::Next(0x10004), x3), "row {k}");
     }
 }
 
 #[test]
 fn jumps_go_where_a_riscv_processor_goes(rt: HostRuntime) {
     let mut bus = bus_of_rows(rt.alloc()).expect(&rt, "no memory");
-    for (k, (word, pc, x1, x2, next, x1_then, x3_then)) in JUMPS.into_iter().enumerate() {
-        let mut regs = regs_of(x1, x2);
-        assert_eq!(rt; pc % 4, 0, "row {k}");
-        let done = exec(&instr_of(word), pc, &mut regs, &mut bus);
-        assert_eq!(rt; done, Done::Next(next), "row {k}");
-        assert_eq!(rt; regs.get(Reg::of(1)), x1_then, "row {k}");
-        assert_eq!(rt; regs.get(Reg::of(3)), x3_then, "row {k}");
+    for (k, &(word, pc, x1, x2, next, x1_then, x3_then)) in JUMPS.iter().enumerate() {
+        assert!(rt; pc % 4 == 0, "row {k}");
+        let left = left_by(word, pc, &mut regs_of(x1, x2), &mut bus);
+        assert_eq!(rt;
+            (left.done, left.x1, left.x3),
+            (Done::Next(next), x1_then, x3_then),
+            "row {k}"
+        );
     }
 }
 
 #[test]
 fn accesses_are_those_of_a_riscv_processor(rt: HostRuntime) {
     let mut bus = bus_of_rows(rt.alloc()).expect(&rt, "no memory");
-    for (k, (word, reserved, x1, x2, x2_then, x3_then, first, second)) in MEMORY
-        .into_iter()
+    for (k, &(word, reserved, x1, x2, x2_then, x3_then, first, second)) in MEMORY
+        .iter()
         .enumerate()
     {
         let mut regs = regs_of(x1, x2);
         regs.reserve(Some(reserved).filter(|a| *a != 0));
         assert!(rt; bus.store(0x20000, 4, 0x8CB4A596).is_ok(), "row {k}");
         assert!(rt; bus.store(0x20004, 4, 0x7F01FE80).is_ok(), "row {k}");
-        let done = exec(&instr_of(word), 0x10000, &mut regs, &mut bus);
-        assert_eq!(rt; done, Done::Next(0x10004), "row {k}");
-        assert_eq!(rt; regs.get(Reg::of(2)), x2_then, "row {k}");
-        assert_eq!(rt; regs.get(Reg::of(3)), x3_then, "row {k}");
-        assert_eq!(rt; bus.load(0x20000, 4), Ok(first), "row {k}");
-        assert_eq!(rt; bus.load(0x20004, 4), Ok(second), "row {k}");
+        let left = left_by(word, 0x10000, &mut regs, &mut bus);
+        assert_eq!(rt;
+            (left.done, left.x2, left.x3, left.first, left.second),
+            (Done::Next(0x10004), x2_then, x3_then, first, second),
+            "row {k}"
+        );
     }
 }
 
 #[test]
 fn a_fault_names_its_address_and_changes_nothing(rt: HostRuntime) {
     let mut bus = bus_of_rows(rt.alloc()).expect(&rt, "no memory");
-    for (k, (word, x1, kind, a)) in FAULTS.into_iter().enumerate() {
+    for (k, &(word, x1, kind, a)) in FAULTS.iter().enumerate() {
         let mut regs = regs_of(x1, 7);
         regs.reserve(Some(0x20000));
-        let done = exec(&instr_of(word), 0x10000, &mut regs, &mut bus);
-        assert_eq!(rt; done, Done::Fault(kind, a), "row {k}");
-        assert_eq!(rt; regs.get(Reg::of(3)), 0x55, "row {k}");
-        assert_eq!(rt; regs.reserved(), Some(0x20000), "row {k}");
-        assert_eq!(rt; bus.load(0x2000C, 4), Ok(0), "row {k}");
+        let left = left_by(word, 0x10000, &mut regs, &mut bus);
+        assert_eq!(rt;
+            (left.done, left.x3, left.reserved, left.last),
+            (Done::Fault(kind, a), 0x55, Some(0x20000), 0),
+            "row {k}"
+        );
     }
 }
 
-// lr.w and sc.w on one address, with a load, a store and an AMO between them, and then sc.w again
+// lr.w and sc.w on one address, with a load, a store and an AMO between them, and then sc.w again: x3 and the word
+static RESERVED: [(u32, u32, u32); 6] = [
+    (0x1000A1AF, 0, 0),
+    (0x0000A183, 0, 0),
+    (0x0020A023, 0, 7),
+    (0x0020A1AF, 7, 14),
+    (0x1820A1AF, 0, 7),
+    (0x1820A1AF, 1, 7),
+];
+
 #[test]
 fn a_reservation_lasts_until_the_next_sc(rt: HostRuntime) {
     let mut bus = bus_of_rows(rt.alloc()).expect(&rt, "no memory");
     let mut regs = regs_of(0x20000, 7);
-    for word in [0x1000A1AF, 0x0000A183, 0x0020A023, 0x0020A1AF, 0x1820A1AF] {
-        exec(&instr_of(word), 0x10000, &mut regs, &mut bus);
+    for (k, &(word, x3, first)) in RESERVED.iter().enumerate() {
+        let left = left_by(word, 0x10000, &mut regs, &mut bus);
+        assert_eq!(rt; (left.x3, left.first), (x3, first), "row {k}");
     }
-    assert_eq!(rt; regs.get(Reg::of(3)), 0);
-    assert_eq!(rt; bus.load(0x20000, 4), Ok(7));
-    exec(&instr_of(0x1820A1AF), 0x10000, &mut regs, &mut bus);
-    assert_eq!(rt; regs.get(Reg::of(3)), 1);
 }
 
 // lr.w at x1, sc.w of x2 at x2, and then at x1: what qemu-riscv32 answers, too
+static ELSEWHERE: [(u32, u32); 3] = [(0x1000A1AF, 0), (0x182121AF, 1), (0x1820A1AF, 1)];
+
 #[test]
 fn an_sc_to_another_address_ends_the_reservation(rt: HostRuntime) {
     let mut bus = bus_of_rows(rt.alloc()).expect(&rt, "no memory");
     let mut regs = regs_of(0x20000, 0x20004);
-    for (word, x3) in [(0x1000A1AF, 0), (0x182121AF, 1), (0x1820A1AF, 1)] {
-        exec(&instr_of(word), 0x10000, &mut regs, &mut bus);
-        assert_eq!(rt; regs.get(Reg::of(3)), x3, "{word:08X}");
-        assert_eq!(rt; bus.load(0x20000, 4), Ok(0), "{word:08X}");
-        assert_eq!(rt; bus.load(0x20004, 4), Ok(0), "{word:08X}");
+    for (k, &(word, x3)) in ELSEWHERE.iter().enumerate() {
+        let left = left_by(word, 0x10000, &mut regs, &mut bus);
+        assert_eq!(rt; (left.x3, left.first, left.second), (x3, 0, 0), "row {k}");
     }
 }
+
+static LEFT_TO_THE_CALLER: [(u32, Done); 2] = [(0x00000073, Done::Call), (0x00100073, Done::Break)];
 
 #[test]
 fn ecall_and_ebreak_are_left_to_the_caller(rt: HostRuntime) {
     let mut bus = bus_of_rows(rt.alloc()).expect(&rt, "no memory");
-    let mut regs = regs_of(1, 2);
-    assert_eq!(rt;
-        exec(&instr_of(0x00000073), 0x10000, &mut regs, &mut bus),
-        Done::Call
-    );
-    assert_eq!(rt;
-        exec(&instr_of(0x00100073), 0x10000, &mut regs, &mut bus),
-        Done::Break
-    );
+    for (k, &(word, done)) in LEFT_TO_THE_CALLER.iter().enumerate() {
+        let left = left_by(word, 0x10000, &mut regs_of(1, 2), &mut bus);
+        assert_eq!(rt; left.done, done, "row {k}");
+    }
 }

@@ -71,15 +71,15 @@ static MORE: [Row; 5] = [
 ];
 
 /// What stands after a run by the calls of a board: whether the ram failed, the ending, the address and
-/// the counts, and the output.
+/// the counts, the output, and the ram's first words.
 #[derive(Drop)]
 struct Came {
     failed: bool,
     ending: Option<End>,
     pc: u32,
     counts: [u64; 9],
-    out: MemSink,
-    ram: FaultRam,
+    out: Vec<u8>,
+    words: Vec<u32>,
 }
 
 /// What stands after a boot whose ram failed.
@@ -89,12 +89,59 @@ fn not_booted(alloc: Global) -> Result<Came, Fail> {
         ending: None,
         pc: 0,
         counts: [0; 9],
-        out: MemSink::new(alloc, 0, Vec::new(alloc))?,
-        ram: FaultRam::new(alloc, 1, Vec::new(alloc))?,
+        out: Vec::new(alloc),
+        words: Vec::new(alloc),
     })
 }
 
-/// Boots a board over a new service, and runs it over the input `abc`.
+/// Boots a board over a new service, and runs it.
+fn run_by<R: CacheRom>(
+    alloc: Global,
+    rom: R,
+    run: &Run,
+    image: &ImageView<'_>,
+    program: &Program<'_>,
+    layout: &Layout,
+    devices: &mut Devices,
+) -> Result<Came, Fail>
+    requires laid_out { IsLayoutOf program.now.segments layout.now }
+    requires own { IsImageOf (text_of program.now.segments) image.now }
+    requires sound { R.service.sound rom image.now devices.old.ram.ram.words }
+{
+    crate::run::carry(image, program);
+    if rom.counts().services > 0 {
+        return Err(Fail::from("no new service"));
+    }
+    let Devices {
+        input,
+        out,
+        err,
+        ram,
+    } = devices;
+    let mut board = match Board::boot(alloc, image, program, layout, false, rom, ram) {
+        Ok(board) => board,
+        Err(BootStop::RamFault) => return not_booted(alloc),
+        Err(BootStop::Memory) => return Err(Fail::from("no memory")),
+    };
+    if board.steps() > run.limit || run.limit > 1000 || board.rom().counts().services > 1 {
+        return Err(Fail::from("no start"));
+    }
+    let failed = match board.run(image, ram, input, out, err, run.limit) {
+        Ok(()) => false,
+        Err(BoardFault::RamFault) => true,
+        Err(_) => return Err(Fail::from("another device failed")),
+    };
+    Ok(Came {
+        failed,
+        ending: board.ending(),
+        pc: board.origin_pc(),
+        counts: counts_of(&board, ram),
+        out: out.held().to_vec(alloc)?,
+        words: front_of(alloc, ram)?,
+    })
+}
+
+/// The same over devices of its own.
 fn run_on<R: CacheRom>(
     alloc: Global,
     rom: R,
@@ -109,36 +156,9 @@ fn run_on<R: CacheRom>(
     requires new { (v : ImageData) (words : List ℕ) → IsImage v → v.block_words ≤ image.now.block_words →
         R.service.span (R.service.setting rom) ≤ length words → R.service.sound rom v words }
 {
-    crate::run::carry(image, program);
     let _blocks = image.blocks();
-    let mut input = MemSource::new(b"abc".to_vec(alloc)?, [run.input_fails].to_vec(alloc)?);
-    let mut out = MemSink::new(alloc, 4096, [run.out_fails].to_vec(alloc)?)?;
-    let mut err = MemSink::new(alloc, 4096, Vec::new(alloc))?;
-    let mut ram = FaultRam::new(alloc, 2048, [run.ram_fails].to_vec(alloc)?)?;
-    if rom.counts().services > 0 {
-        return Err(Fail::from("no new service"));
-    }
-    let mut board = match Board::boot(alloc, image, program, layout, false, rom, &mut ram) {
-        Ok(board) => board,
-        Err(BootStop::RamFault) => return not_booted(alloc),
-        Err(BootStop::Memory) => return Err(Fail::from("no memory")),
-    };
-    if board.steps() > run.limit || run.limit > 1000 || board.rom().counts().services > 1 {
-        return Err(Fail::from("no start"));
-    }
-    let failed = match board.run(image, &mut ram, &mut input, &mut out, &mut err, run.limit) {
-        Ok(()) => false,
-        Err(BoardFault::RamFault) => true,
-        Err(_) => return Err(Fail::from("another device failed")),
-    };
-    Ok(Came {
-        failed,
-        ending: board.ending(),
-        pc: board.origin_pc(),
-        counts: counts_of(&board, &ram),
-        out,
-        ram,
-    })
+    let mut devices = devices_of(alloc, run, 2048)?;
+    run_by(alloc, rom, run, image, program, layout, &mut devices)
 }
 
 /// What stands after a run over the service that scans, and over that with chains.
@@ -171,9 +191,8 @@ fn both(alloc: Global, run: &Run) -> Result<[Came; 2], Fail> {
 fn both_services_run_alike(rt: HostRuntime) -> Result<(), Fail> {
     for (k, row) in ROWS.iter().chain(MORE.iter()).enumerate() {
         for done in both(rt.alloc(), &row.run)?.iter() {
-            assert!(rt; !done.failed, "row {k}");
-            assert_eq!(rt; done.ending, row.ending, "row {k}");
-            assert_eq!(rt; done.pc, row.pc, "row {k}");
+            let came = (done.failed, done.ending, done.pc);
+            assert_eq!(rt; came, (false, row.ending, row.pc), "row {k}");
             assert_eq!(rt; done.counts, row.counts, "row {k}");
         }
     }
@@ -182,7 +201,7 @@ fn both_services_run_alike(rt: HostRuntime) -> Result<(), Fail> {
 
 #[test]
 fn both_services_place_alike(rt: HostRuntime) -> Result<(), Fail> {
-    for (cache_bytes, words) in WORDS {
+    for &(cache_bytes, words) in WORDS.iter() {
         let run = Run {
             text: COUNT,
             block_words: 5,
@@ -190,15 +209,7 @@ fn both_services_place_alike(rt: HostRuntime) -> Result<(), Fail> {
             ..PLAIN
         };
         for done in both(rt.alloc(), &run)?.iter() {
-            for (i, word) in words.iter().enumerate() {
-                if i < 2048 && done.ram.words() == 2048 {
-                    assert_eq!(rt;
-                        done.ram.word(i as u32),
-                        *word,
-                        "{cache_bytes} bytes, word {i}"
-                    );
-                }
-            }
+            assert!(rt; done.words.starts_with(words), "{cache_bytes} bytes");
         }
     }
     Ok(())
@@ -206,7 +217,7 @@ fn both_services_place_alike(rt: HostRuntime) -> Result<(), Fail> {
 
 #[test]
 fn each_call_of_the_ram_fails_in_both(rt: HostRuntime) -> Result<(), Fail> {
-    for (text, whole, calls, bytes) in FAILING {
+    for &(text, whole, calls, bytes) in FAILING.iter() {
         for ram_fails in 1..=calls {
             let run = Run {
                 text,
@@ -217,7 +228,7 @@ fn each_call_of_the_ram_fails_in_both(rt: HostRuntime) -> Result<(), Fail> {
             for done in both(rt.alloc(), &run)?.iter() {
                 assert_eq!(rt; done.failed, ram_fails < calls, "call {ram_fails}");
                 let held: &[u8] = if ram_fails < whole { b"" } else { bytes };
-                assert_eq!(rt; done.out.held(), held, "call {ram_fails}");
+                assert_eq!(rt; done.out.as_slice(), held, "call {ram_fails}");
             }
         }
     }

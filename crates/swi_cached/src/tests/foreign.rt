@@ -84,15 +84,31 @@ fn goes_on<R: CacheRom>(board: &Board<R>) -> bool
         && board.rom().counts().services < 10
 }
 
-/// The index of the word under control, its block and its offset there, where the service shows the same.
-fn under<R: CacheRom>(hart: &Hart, rom: &R) -> Option<(u32, (u32, u32))>
+/// The index of the word under control, its block and its offset there, where the service shows the same, and the image
+/// and a ram of eight words have the text's own second word there.
+fn under<R: CacheRom>(
+    hart: &Hart,
+    rom: &R,
+    image: &ImageView<'_>,
+    ram: &Counted,
+) -> Option<(u32, (u32, u32))>
     ensures at { IfSome result (λ p. index_of hart.now.machine.ending hart.now.control ≡ Some p.0) }
     ensures place { IfSome result (λ p. place_under hart.now.machine.ending hart.now.control ≡ Some p.1) }
     ensures shown { IfSome result (λ p. R.service.shown rom.now p.0 ≡ Some p.1) }
+    ensures inside { IfSome result (λ p. p.0 < length ram.now.words) }
+    ensures own { IfSome result (λ p. word_at image.now p.1.0 p.1.1 ≡ 0x00700513) }
+    ensures held { IfSome result (λ p. slice_index ram.now.words p.0 ≡ 0x00700513) }
 {
     let i = hart.at()?;
     let place = hart.place()?;
-    if rom.at(i) != Some(place) {
+    if rom.at(i) != Some(place)
+        || i != 1
+        || place.0 >= image.blocks()
+        || place.1 >= image.length(place.0)
+        || image.word(place.0, place.1) != OWN
+        || ram.words() != 8
+        || ram.ram.word(i) != OWN
+    {
         return None;
     }
     Some((i, place))
@@ -109,10 +125,12 @@ fn put(ram: &mut Counted, i: u32, word: u32) -> Result<(), Failed>
 
 /// Sets the word under control to another, makes a step, sets it back, and makes a step.
 fn steps_over<R: CacheRom>(
-    alloc: Global,
     board: &mut Board<R>,
     image: &ImageView<'_>,
     ram: &mut Counted,
+    input: &mut MemSource,
+    out: &mut MemSink,
+    err: &mut MemSink,
     i: u32,
     place: (u32, u32),
 ) -> Result<Steps, Fail>
@@ -125,26 +143,17 @@ fn steps_over<R: CacheRom>(
     requires own { word_at image.now place.0 place.1 ≡ 0x00700513 }
     requires held { slice_index ram.old.words i ≡ 0x00700513 }
 {
-    let mut input = MemSource::new(Vec::new(alloc), Vec::new(alloc));
-    let mut out = MemSink::new(alloc, 16, Vec::new(alloc))?;
-    let mut err = MemSink::new(alloc, 16, Vec::new(alloc))?;
     if !goes_on(board) || put(ram, i, OTHER).is_err() {
         return Err(Fail::from("no second step"));
     }
-    if board
-        .step(image, ram, &mut input, &mut out, &mut err)
-        .is_err()
-    {
+    if board.step(image, ram, input, out, err).is_err() {
         return Err(Fail::from("no second step"));
     }
     let second = (board.steps(), board.regs().get(Reg::of(10)));
     if !goes_on(board) || put(ram, i, OWN).is_err() {
         return Err(Fail::from("no third step"));
     }
-    if board
-        .step(image, ram, &mut input, &mut out, &mut err)
-        .is_err()
-    {
+    if board.step(image, ram, input, out, err).is_err() {
         return Err(Fail::from("no third step"));
     }
     Ok((
@@ -165,6 +174,45 @@ fn stepped<R: CacheRom>(
     image: &ImageView<'_>,
     program: &Program<'_>,
     layout: &Layout,
+    ram: &mut Counted,
+    input: &mut MemSource,
+    out: &mut MemSink,
+    err: &mut MemSink,
+) -> Result<Steps, Fail>
+    requires laid_out { IsLayoutOf program.now.segments layout.now }
+    requires own { IsImageOf (text_of program.now.segments) image.now }
+    requires sound { R.service.sound rom image.now ram.old.words }
+{
+    crate::run::carry(image, program);
+    if rom.counts().services > 0 {
+        return Err(Fail::from("no new service"));
+    }
+    let Ok(mut board) = Board::boot(alloc, image, program, layout, false, rom, ram) else {
+        return Err(Fail::from("no board"));
+    };
+    if board.steps() > 1
+        || board.rom().counts().services > 1
+        || board.run(image, ram, input, out, err, 1).is_err()
+        || board.failed()
+        || board.ending().is_some()
+    {
+        return Err(Fail::from("no second step"));
+    }
+    let (hart, rom) = board.part();
+    let Some((i, place)) = under(&hart, &rom, image, ram) else {
+        return Err(Fail::from("another word"));
+    };
+    let mut board = Board::join(hart, rom);
+    steps_over(&mut board, image, ram, input, out, err, i, place)
+}
+
+/// The same over devices of its own: an input without bytes, two sinks, and a ram of eight words.
+fn stepped_alone<R: CacheRom>(
+    alloc: Global,
+    rom: R,
+    image: &ImageView<'_>,
+    program: &Program<'_>,
+    layout: &Layout,
 ) -> Result<Steps, Fail>
     requires laid_out { IsLayoutOf program.now.segments layout.now }
     requires own { IsImageOf (text_of program.now.segments) image.now }
@@ -172,7 +220,6 @@ fn stepped<R: CacheRom>(
     requires new { (v : ImageData) (words : List ℕ) → IsImage v → v.block_words ≤ image.now.block_words →
         R.service.span (R.service.setting rom) ≤ length words → R.service.sound rom v words }
 {
-    crate::run::carry(image, program);
     let _blocks = image.blocks();
     let mut input = MemSource::new(Vec::new(alloc), Vec::new(alloc));
     let mut out = MemSink::new(alloc, 16, Vec::new(alloc))?;
@@ -181,38 +228,9 @@ fn stepped<R: CacheRom>(
         ram: VecRam::new(alloc, 8)?,
         fetches: 0,
     };
-    if rom.counts().services > 0 {
-        return Err(Fail::from("no new service"));
-    }
-    let Ok(mut board) = Board::boot(alloc, image, program, layout, false, rom, &mut ram) else {
-        return Err(Fail::from("no board"));
-    };
-    if board.steps() > 1 || board.rom().counts().services > 1 {
-        return Err(Fail::from("no first step"));
-    }
-    if board
-        .run(image, &mut ram, &mut input, &mut out, &mut err, 1)
-        .is_err()
-        || board.failed()
-        || board.ending().is_some()
-    {
-        return Err(Fail::from("no second step"));
-    }
-    let (hart, rom) = board.part();
-    let Some((i, place)) = under(&hart, &rom) else {
-        return Err(Fail::from("another place"));
-    };
-    if i != 1
-        || place.0 >= image.blocks()
-        || place.1 >= image.length(place.0)
-        || image.word(place.0, place.1) != OWN
-        || ram.words() != 8
-        || ram.ram.word(i) != OWN
-    {
-        return Err(Fail::from("another word"));
-    }
-    let mut board = Board::join(hart, rom);
-    steps_over(alloc, &mut board, image, &mut ram, i, place)
+    stepped(
+        alloc, rom, image, program, layout, &mut ram, &mut input, &mut out, &mut err,
+    )
 }
 
 #[test]
@@ -233,8 +251,8 @@ fn foreign_word_is_executed_by_both(rt: HostRuntime) -> Result<(), Fail> {
     }
     let want = ((2, 8), (Some(Exited(8)), 3, 4, 3));
     let scan = ScanRom::new(alloc, 32, view.block_words())?;
-    assert_eq!(rt; stepped(alloc, scan, &view, &program, &layout)?, want);
+    assert_eq!(rt; stepped_alone(alloc, scan, &view, &program, &layout)?, want);
     let fifo = FifoRom::new(alloc, 32, view.block_words())?;
-    assert_eq!(rt; stepped(alloc, fifo, &view, &program, &layout)?, want);
+    assert_eq!(rt; stepped_alone(alloc, fifo, &view, &program, &layout)?, want);
     Ok(())
 }
