@@ -1,4 +1,6 @@
 pub mod Arithmetic
 pub mod Execute
 pub mod Registers
+pub mod Places
 pub mod StoresText
+pub mod Laws

@@ -26,3 +26,10 @@ with_reservation regs a = record regs { reserved = a }
 -- all 0, with nothing reserved
 abbrev pub new_regs : Registers
 new_regs = record { words = replicate 32 0; reserved = None }
+
+-- Where a register is written: at its own number, or for x0 at 32, and back. Own rule.
+abbrev pub place_of : ℕ → ℕ
+place_of r = if r == 0 then 32 else r
+
+abbrev pub register_at : ℕ → ℕ
+register_at place = if place == 32 then 0 else place

@@ -1,7 +1,7 @@
 //! The registers of a hart.
 #![tactic(auto)]
 
-ghost use Rattle.std.specs.Prelude.{◌≡◌};
+ghost use Rattle.std.specs.Prelude.{◌≡◌, ◌==◌};
 ghost use Rattle.swi_exec.specs.Registers.{reg, with_reg, with_reservation, new_regs};
 
 use std::marker::Model;
@@ -23,6 +23,51 @@ pub const A2: u32 = 12;
 /// The number of a7, in which a system call's number stands.
 pub const A7: u32 = 17;
 
+/// A register as it is written: its number, or for x0 a place that no register is read from. So `Regs::put` needs no
+/// test of which register it writes, and what is written to x0 is lost.
+#[derive(Clone, Copy)]
+pub struct Slot {
+    place: u8,
+}
+
+impl Model for Slot {
+    ghost use Rattle.std.specs.Prelude.{ℕ, ◌<◌, ◌≤◌};
+    ghost use Rattle.std.proofs.Common.{ap};
+    ghost use Rattle.swi_exec.specs.Registers.{place_of, register_at};
+    ghost use Rattle.swi_exec.specs.Places.{place_back};
+
+    ghost Value = { ℕ };
+
+    ghost view = { λ s. register_at s.place };
+
+    ghost inverse = { λ r. record { place = place_of r } };
+
+    ghost invariant = { λ s. (0 < s.place) × (s.place ≤ 32) };
+
+    ghost inverse_ok = { λ s h. ap (λ p. record { place = p }) (place_back s.place h.0 h.1) };
+}
+
+impl Slot {
+    /// Where `register` is written.
+    #[inline(always)]
+    pub fn of(register: Reg) -> Slot
+        ensures { result ≡ register }
+    {
+        let number = register.num() as u8;
+        Slot {
+            place: if number == 0 { 32 } else { number },
+        }
+    }
+
+    /// Whether the register that is written there is x0.
+    #[inline(always)]
+    pub fn is_of_x0(self) -> bool
+        ensures { result ≡ (self == 0) }
+    {
+        self.place == 32
+    }
+}
+
 /// The integer registers x0 to x31, each a word, of which x0 reads 0 always, and the address that
 /// LR.W reserved last, if it is still reserved.
 ///
@@ -30,18 +75,19 @@ pub const A7: u32 = 17;
 /// "Load-Reserved/Store-Conditional Instructions".
 #[derive(Drop)]
 pub struct Regs {
-    /// x0 is kept, as 0, so that no read asks which register it reads.
-    words: [u32; 32],
+    /// x0 is kept, as 0, so that no read asks which register it reads. The last word is none of them: it takes what
+    /// is written to the slot of x0.
+    words: [u32; 33],
     reserved: Option<u32>,
 }
 
 impl Model for Regs {
-    ghost use Rattle.std.specs.Prelude.{◌≡◌, slice_index};
+    ghost use Rattle.std.specs.Prelude.{◌≡◌, slice_index, take};
     ghost use Rattle.swi_exec.specs.Registers.{Registers};
 
     ghost Value = { Registers };
 
-    ghost view = { λ r. record { words = r.words; reserved = r.reserved } };
+    ghost view = { λ r. record { words = take 32 r.words; reserved = r.reserved } };
 
     ghost invariant = { λ r. slice_index r.words 0 ≡ 0 };
 }
@@ -52,13 +98,14 @@ impl Regs {
         ensures { result ≡ new_regs }
     {
         Regs {
-            words: [0; 32],
+            words: [0; 33],
             reserved: None,
         }
     }
 
     /// The word in the register; x0 reads 0.
     #[inline(always)]
+    #[tactic(auto, using(crate::proofs::Words::fronts))]
     pub fn get(&self, register: Reg) -> u32
         ensures { result ≡ reg self.now register }
     {
@@ -68,11 +115,22 @@ impl Regs {
     /// Writes the word `v` to the register. A write to x0 changes nothing, and no write changes what
     /// is reserved.
     #[inline(always)]
+    #[tactic(auto, using(crate::proofs::Words::fronts))]
     pub fn set(&mut self, register: Reg, v: u32)
         ensures { self.new ≡ with_reg self.old register v }
     {
         self.words[register.num() as usize] = v;
         self.words[0] = 0;
+    }
+
+    /// Writes the word `v` to the register of the slot, as `set` does: to x0 it changes nothing, and what is reserved
+    /// stays. It tests no register's number, so it costs less where the slot is made before.
+    #[inline(always)]
+    #[tactic(auto, using(crate::proofs::Words::fronts))]
+    pub fn put(&mut self, slot: Slot, v: u32)
+        ensures { self.new ≡ with_reg self.old slot v }
+    {
+        self.words[slot.place as usize] = v;
     }
 
     /// The address that is reserved, if there is one.

@@ -14,7 +14,12 @@ use swi_field::sign;
 use swi_isa::{AtomicOp, BranchOp, ImmOp, LoadOp, RegOp, StoreOp};
 use swi_memory::{Access, Bus};
 
-/// What an operation gives of rs1 and rs2.
+/// The word that the operation `op` gives, where rs1 holds `a` and rs2 `b`. Each pair of words has one: sums, differences
+/// and products are modulo 2^32, a shift takes the lowest five bits of `b`, a division by zero gives all ones and leaves
+/// `a`, and that of -2^31 by -1 gives -2^31 and leaves 0. SLT, MULH, DIV and REM read both words as signed, MULHSU and
+/// SRA `a` alone.
+///
+/// Source: RISC-V unprivileged specification, RV32I, "Integer Computational Instructions", and the M extension.
 #[inline(always)]
 pub fn value_of_op(op: RegOp, a: u32, b: u32) -> u32
     ensures { result ≡ op_value op a b }
@@ -59,7 +64,10 @@ pub fn value_of_imm(op: ImmOp, a: u32, b: u32) -> u32
     }
 }
 
-/// Whether a branch on rs1 and rs2 is taken.
+/// Whether a branch with the condition `op` is taken, where rs1 holds `a` and rs2 `b`. BLT and BGE read both words as
+/// signed, BLTU and BGEU as unsigned.
+///
+/// Source: RISC-V unprivileged specification, RV32I, "Conditional Branches".
 #[inline(always)]
 pub fn takes(op: BranchOp, a: u32, b: u32) -> bool
     ensures { result ≡ is_taken op a b }
@@ -74,8 +82,13 @@ pub fn takes(op: BranchOp, a: u32, b: u32) -> bool
     }
 }
 
-/// The word that a load makes of the bytes at the address. Each size is a constant, so that the access of that size
-/// alone is compiled for it.
+/// The word that the load `op` gives: of the 1, 2 or 4 bytes from the address `a` on, the lowest first, extended to 32
+/// bits with their sign by LB and LH, and with zeros by LBU and LHU. `a` need not be a multiple of the size. Access
+/// exactly where one of the bytes can't be read.
+///
+/// Source: RISC-V unprivileged specification, RV32I, "Load and Store Instructions". That a misaligned load goes byte by
+/// byte: own rule.
+// Each size is a constant, so that the access of that size alone is compiled for it.
 #[inline(always)]
 pub fn load(op: LoadOp, a: u32, bus: &Bus) -> Result<u32, Access>
     ensures { MatchResult result

@@ -4,4 +4,5 @@ pub mod Gathered
 pub mod Looks
 pub mod StartText
 pub mod Texts
+pub mod Windowed
 pub mod Written

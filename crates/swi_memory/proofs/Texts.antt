@@ -1,5 +1,5 @@
 -- Where the text words lie, and what is fetched.
-use Rattle.std.proofs.Common.{◌≡◌, ℕ, ◌+◌, ◌-◌, ◌*◌, ◌/◌, ◌%◌, ◌<◌, ◌≤◌, ◌^◌, ◌&&◌, zero, suc, min, max, List, [], ◌∷◌, length, get_or, drop, true, false, nat_lt, nat_le, Some, arith, refl, sym, ap, subst, ◌∙◌}
+use Rattle.std.proofs.Common.{◌≡◌, ℕ, ◌+◌, ◌-◌, ◌*◌, ◌/◌, ◌%◌, ◌<◌, ◌≤◌, ◌^◌, ◌&&◌, ◌==◌, zero, suc, min, max, List, [], ◌∷◌, length, get_or, drop, true, false, nat_lt, nat_le, Some, arith, refl, sym, ap, subst, ◌∙◌}
 use Rattle.std.proofs.lemmas.Bool.Decides.{nat_tests}
 use Rattle.std.proofs.lemmas.List.{drop_more, get_or_default, length-map}
 use Rattle.swi_memory.specs.declared.bank.Bank.{Bank}
@@ -7,6 +7,7 @@ use Rattle.swi_memory.specs.declared.text.Text.{Text}
 use Rattle.swi_memory.specs.Bus.{AreaData, AreInOrder, Execute, fetched, grants, has_word, is_text_word, number_in, touches_text}
 use Rattle.swi_memory.specs.TextAt.{HasOne, executables, InArea, IsText, IsTextOf}
 use Rattle.swi_memory.specs.Views.{area, areas}
+use Rattle.swi_memory.specs.WordRange.{IsWordRange, in_range}
 use Rattle.swi_memory.proofs.Accesses.{Within, number_within}
 use Rattle.swi_memory.proofs.Looks.{InPlace, area_at, in_place}
 
@@ -45,6 +46,15 @@ pub touches : (bus : List AreaData) (t : Text) (a n : ℕ) → IsText bus t → 
 touches bus t a zero text = grind (arith, nat_tests)
 touches bus t a (suc n) text = rw (word_of bus t a text, touches bus t (a + 1) n text) (grind (arith, nat_tests))
 
+-- the range of the text words
+pub is_range : (bus : List AreaData) (t : Text) → IsText bus t → t.len < 2 ^ 32 → IsWordRange (record { from = t.from; words = t.len / 4 })
+is_range bus t text small = record { first = text.first; few = omega arith; end = omega (arith, text.end) }
+
+pub are_words : (bus : List AreaData) (t : Text) (a : ℕ) → IsText bus t → is_text_word bus a ≡ in_range (record { from = t.from; words = t.len / 4 }) a
+are_words bus t a text =
+    let whole : t.len ≡ 4 * (t.len / 4) = omega (arith, text.whole) in
+    text.words a ∙ ap (λ len. (a % 4 == 0) && (nat_le t.from a && nat_lt a (t.from + len))) whole
+
 -- where nothing can be executed there is no text word
 pub no_words : (bus : List AreaData) (x : ℕ) → executables bus ≡ 0 → is_text_word bus x ≡ false
 no_words [] x none = refl
@@ -63,6 +73,7 @@ text_found banks i b t before one bound is executable text =
     record {
       first = text.first;
       whole = text.whole;
+      end = text.end;
       words = λ x. sym (before x) ∙ ap (λ bus. is_text_word bus x) from ∙ one_area (area b) (areas (drop (i + 1) banks)) x executable one' ∙ text.words x;
       place = λ some. omega (arith, text.here, length-map banks area, bound);
       area = λ some d.

@@ -2,7 +2,7 @@
 -- Source: RISC-V unprivileged specification, section 1.4 "Memory" (2 ^ 32 bytes, each with an address) and
 -- section 2.6 "Load and Store Instructions" (numbers of 1, 2 or 4 bytes, the lowest byte first).
 -- The rights of an area, its text words and what is fetched: own rule.
-use Rattle.std.specs.Prelude.{◌≡◌, ◌⊎◌, ◌==◌, ℕ, ◌+◌, ◌-◌, ◌*◌, ◌/◌, ◌%◌, ◌^◌, ◌≤◌, ◌<◌, zero, suc, Bool, true, false, ◌&&◌, ◌||◌, nat_lt, nat_le, List, [], ◌∷◌, length, take, drop, slice_index, slice_set, Option, Some, None, Result, Ok, Err, if◌then◌else◌}
+use Rattle.std.specs.Prelude.{◌≡◌, ◌⊎◌, ◌==◌, ℕ, ◌+◌, ◌-◌, ◌*◌, ◌/◌, ◌%◌, ◌^◌, ◌≤◌, ◌<◌, zero, suc, Bool, true, false, not, ◌&&◌, ◌||◌, nat_lt, nat_le, List, [], ◌∷◌, length, take, drop, slice_index, slice_set, Option, Some, None, Result, Ok, Err, if◌then◌else◌}
 use Rattle.swi_memory.specs.declared.access.Access.{Access}
 pub use Rattle.swi_memory.specs.declared.right.Right.{Right}
 pub use Rattle.swi_memory.specs.declared.right.Right.TheVariants.{Read, Write, Execute}
@@ -98,6 +98,10 @@ fetched bus a = if is_text_word bus a then Some (number_at bus a 4) else None
 abbrev pub touches_text : List AreaData → ℕ → ℕ → Bool
 touches_text bus a zero = false
 touches_text bus a (suc n) = is_text_word bus (a / 4 * 4) || touches_text bus (a + 1) n
+
+-- whether each of the n bytes from a on can be written and none is a text word's
+abbrev pub lets_store : List AreaData → ℕ → ℕ → Bool
+lets_store bus a n = holds bus Write a n && not (touches_text bus a n)
 
 -- areas of at least one byte, each behind the one before it, and all from this address on and below 2 ^ 32
 abbrev pub AreInOrderFrom : ℕ → List AreaData → Type 0

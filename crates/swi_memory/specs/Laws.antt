@@ -1,5 +1,5 @@
 -- Laws of buses: what ranges hold, what writes keep, and what is fetched behind them.
-use Rattle.std.proofs.Common.{◌≡◌, ◌≢◌, ℕ, ◌+◌, ◌-◌, ◌*◌, ◌/◌, ◌%◌, ◌<◌, ◌≤◌, ◌^◌, zero, suc, List, [], ◌∷◌, ◌++◌, length, true, false, arith, refl, ◌∙◌}
+use Rattle.std.proofs.Common.{inl, inr, ◌≡◌, ◌⊎◌, ◌≢◌, ℕ, ◌+◌, ◌-◌, ◌*◌, ◌/◌, ◌%◌, ◌<◌, ◌≤◌, ◌^◌, zero, suc, List, [], ◌∷◌, ◌++◌, length, true, false, arith, refl, ◌∙◌}
 use Rattle.std.proofs.lemmas.Bool.Decides.{nat_tests}
 use Rattle.std.proofs.lemmas.Grind.{common_steps}
 use Rattle.std.proofs.lemmas.List.{length-set}
@@ -57,7 +57,7 @@ pub text-with_byte : (bus : List AreaData) (a b x : ℕ) → is_text_word (with_
 text-with_byte [] a b x = refl
 text-with_byte (s ∷ rest) a b x = grind (arith, nat_tests, text-with_byte rest a b x)
 
-touches-with_byte : (bus : List AreaData) (a b x n : ℕ) → touches_text (with_byte bus a b) x n ≡ touches_text bus x n
+pub touches-with_byte : (bus : List AreaData) (a b x n : ℕ) → touches_text (with_byte bus a b) x n ≡ touches_text bus x n
 touches-with_byte bus a b x zero = refl
 touches-with_byte bus a b x (suc n) = grind (arith, text-with_byte bus a b (x / 4 * 4), touches-with_byte bus a b (x + 1) n)
 
@@ -66,6 +66,18 @@ pub touches_front : (bus : List AreaData) (a n k : ℕ) → touches_text bus a n
 touches_front bus a n zero untouched bound = refl
 touches_front bus a zero (suc k) untouched bound = absurd (omega arith)
 touches_front bus a (suc n) (suc k) untouched bound = grind (arith, nat_tests, touches_front bus (a + 1) n k)
+
+-- and so a range from its middle on, and any part of it
+touches_from : (bus : List AreaData) (a n d : ℕ) → touches_text bus a n ≡ false → d ≤ n → touches_text bus (a + d) (n - d) ≡ false
+touches_from bus a n zero untouched bound = grind arith
+touches_from bus a zero (suc d) untouched bound = absurd (omega arith)
+touches_from bus a (suc n) (suc d) untouched bound = grind (arith, nat_tests, touches_from bus (a + 1) n d)
+
+pub touches_part : (bus : List AreaData) (from size a n : ℕ) → touches_text bus from size ≡ false → from ≤ a → a + n ≤ from + size → touches_text bus a n ≡ false
+touches_part bus from size a n untouched behind end =
+    let same : from + (a - from) ≡ a = omega arith in
+    let rest : touches_text bus (from + (a - from)) (size - (a - from)) ≡ false = touches_from bus from size (a - from) untouched (omega arith) in
+    touches_front bus a (size - (a - from)) n (rw same at rest) (omega arith)
 
 -- a byte that is written changes no other
 byte_elsewhere : (bus : List AreaData) (a b y : ℕ) → y ≢ a → byte_at (with_byte bus a b) y ≡ byte_at bus y
@@ -86,6 +98,16 @@ pub fetched_with_bytes : (bus : List AreaData) (a : ℕ) (bytes : List ℕ) (x :
 fetched_with_bytes bus a [] x untouched = refl
 fetched_with_bytes bus a (b ∷ bytes) x untouched =
     grind (arith, nat_tests, touches-with_byte bus a b (a + 1) (length bytes), fetched_with_bytes (with_byte bus a b) (a + 1) bytes x, fetched_with_byte bus a b x)
+
+-- a write leaves each word beside its bytes
+fetched_beside-with_byte : (bus : List AreaData) (a b x : ℕ) → (x + 4 ≤ a) ⊎ (a < x) → fetched (with_byte bus a b) x ≡ fetched bus x
+fetched_beside-with_byte bus a b x (inl below) = grind (arith, nat_tests, text-with_byte bus a b x, byte_elsewhere bus a b)
+fetched_beside-with_byte bus a b x (inr above) = grind (arith, nat_tests, text-with_byte bus a b x, byte_elsewhere bus a b)
+
+pub fetched_beside : (bus : List AreaData) (a : ℕ) (bytes : List ℕ) (x : ℕ) → (x + 4 ≤ a) ⊎ (a + length bytes ≤ x) → fetched (with_bytes bus a bytes) x ≡ fetched bus x
+fetched_beside bus a [] x beside = refl
+fetched_beside bus a (b ∷ bytes) x (inl below) = fetched_beside (with_byte bus a b) (a + 1) bytes x (inl (omega arith)) ∙ fetched_beside-with_byte bus a b x (inl below)
+fetched_beside bus a (b ∷ bytes) x (inr above) = fetched_beside (with_byte bus a b) (a + 1) bytes x (inr (omega arith)) ∙ fetched_beside-with_byte bus a b x (inr (omega arith))
 
 pub length-lowest : (n v : ℕ) → length (lowest n v) ≡ n
 length-lowest zero v = refl

@@ -2,6 +2,8 @@ pub mod Bus
 pub mod BusOf
 pub mod BusView
 pub mod TextAt
+pub mod WordRange
+pub mod Windows
 pub mod Found
 pub mod Gather
 pub mod Rights

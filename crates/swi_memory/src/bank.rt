@@ -45,14 +45,14 @@ pub fn find(banks: &[Bank], a: u32) -> Option<usize>
     None
 }
 
-/// Whether the bank has all `n` bytes from the address on.
+/// Whether all `n` bytes from the address on are among the `len` bytes from `base` on.
 #[inline(always)]
-fn has_all(bank: &Bank, a: u32, n: u8) -> bool
+pub fn are_within(base: u32, len: usize, a: u32, n: u8) -> bool
     requires size { IsSize n }
-    requires end { bank.now.base + length bank.now.bytes.items ≤ 2 ^ 32 }
-    ensures { result ≡ (nat_le bank.now.base a && nat_le (a + n) (bank.now.base + length bank.now.bytes.items)) }
+    requires end { base + len ≤ 2 ^ 32 }
+    ensures { result ≡ (nat_le base a && nat_le (a + n) (base + len)) }
 {
-    a.wrapping_sub(bank.base) as usize + usize::from(n) <= bank.bytes.len()
+    a.wrapping_sub(base) as usize + usize::from(n) <= len
 }
 
 /// The place of the bank that has all `n` bytes from the address on and grants the right; None also where
@@ -66,7 +66,7 @@ pub fn find_all(banks: &[Bank], right: Right, a: u32, n: u8) -> Option<usize>
 {
     for i in (0..banks.len()).rev() {
         let bank = &banks[i];
-        if has_all(bank, a, n) && right.grants(bank.flags) {
+        if are_within(bank.base, bank.bytes.len(), a, n) && right.grants(bank.flags) {
             return Some(i);
         }
     }

@@ -2,8 +2,9 @@
 #![tactic(auto)]
 
 ghost use Rattle.std.specs.Prelude.{◌≡◌, ◌+◌, ◌*◌, ◌<◌, ◌≤◌, ◌^◌, ◌%◌, ℕ, true, false, length, slice_get, IfOk, IfSome, IsSomeAnd, OnOk, OnErr};
-ghost use Rattle.swi_memory.specs.Bus.{AreInOrder, IsSize, Read, Right, Write, bytes_at, fetched, front_of, holds, loaded, stored, touches_text, with_bytes};
+ghost use Rattle.swi_memory.specs.Bus.{AreInOrder, IsSize, Read, Right, Write, bytes_at, fetched, front_of, holds, is_text_word, lets_store, loaded, stored, touches_text, with_bytes};
 ghost use Rattle.swi_memory.specs.BusOf.{AreApart, HasOneTextAtMost, bus_of, ranges, word_in};
+ghost use Rattle.swi_memory.specs.WordRange.{IsWordRange, in_range};
 
 use crate::access::Access;
 use crate::area::Area;
@@ -13,6 +14,9 @@ use crate::layout::Layout;
 use crate::right::Right;
 use crate::segment::Segment;
 use crate::text::Text;
+use crate::window::Windows;
+use crate::windows::find_windows;
+use crate::word_range::WordRange;
 use crate::{copies, loads, ranges, stores, text};
 use std::alloc::Global;
 use std::marker::Model;
@@ -28,6 +32,7 @@ use swi_outside::Memory;
 pub struct Bus {
     banks: Vec<Bank>,
     text: Text,
+    windows: Windows,
 }
 
 impl Model for Bus {
@@ -63,7 +68,12 @@ impl Bus {
             return Err(Memory);
         }
         let text = text::find_text(&banks);
-        Ok(Bus { banks, text })
+        let windows = find_windows(&banks, &text);
+        Ok(Bus {
+            banks,
+            text,
+            windows,
+        })
     }
 
     /// The number that the `k` bytes from the address on make; `k` is 1, 2 or 4. Access exactly where
@@ -74,7 +84,7 @@ impl Bus {
         ensures value { result ≡ loaded self.now a k }
         ensures small { IfOk result (λ v. v < 2 ^ (8 * k)) }
     {
-        loads::load(&self.banks, a, k)
+        loads::load(&self.banks, &self.windows, a, k)
     }
 
     /// Puts the lowest `k` bytes of `v` from the address on; `k` is 1, 2 or 4. Access exactly where
@@ -91,7 +101,29 @@ impl Bus {
         ensures text { touches_text self.old a k ≡ false → (x : ℕ) → fetched self.new x ≡ fetched self.old x }
         ensures rights { (right : Right) → (x n : ℕ) → holds self.new right x n ≡ holds self.old right x n }
     {
-        stores::store(&mut self.banks, a, k, v)
+        stores::store(&mut self.banks, &self.windows, a, k, v)
+    }
+
+    /// Puts the lowest `k` bytes of `v` from the address on, where each can be written and none is a text
+    /// word's; `k` is 1, 2 or 4. False, and nothing changed, exactly where not. What is fetched stays.
+    #[inline(always)]
+    pub fn store_beside_text(&mut self, a: u32, k: u8, v: u32) -> bool
+        requires { IsSize k }
+        ensures made { result ≡ lets_store self.old a k }
+        ensures stored { result ≡ true → self.new ≡ stored self.old a k v }
+        ensures refused { result ≡ false → self.new ≡ self.old }
+        ensures text { (x : ℕ) → fetched self.new x ≡ fetched self.old x }
+    {
+        stores::store_beside_text(&mut self.banks, &self.windows, &self.text, a, k, v).is_ok()
+    }
+
+    /// The range of the text words; of no words where nothing is fetched. No write moves it, so who keeps
+    /// something of each text word finds it by the word's place in the range.
+    pub fn text_range(&self) -> WordRange
+        ensures range { IsWordRange result }
+        ensures words { (a : ℕ) → is_text_word self.now a ≡ in_range result a }
+    {
+        text::range(&self.text)
     }
 
     /// The text word that stands now at the address. None exactly where no text word stands.

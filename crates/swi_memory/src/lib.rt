@@ -14,6 +14,9 @@ mod right;
 mod segment;
 mod stores;
 mod text;
+mod window;
+mod windows;
+mod word_range;
 
 pub use access::Access;
 pub use area::Area;
@@ -21,6 +24,7 @@ pub use bus::Bus;
 pub use layout::Layout;
 pub use right::Right;
 pub use segment::Segment;
+pub use word_range::WordRange;
 
 #[cfg(test)]
 mod tests;

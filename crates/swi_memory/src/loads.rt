@@ -1,13 +1,17 @@
 //! Loads.
 #![tactic(auto)]
 
-ghost use Rattle.std.specs.Prelude.{◌≡◌, ◌+◌, ◌*◌, ◌<◌, ◌≤◌, ◌^◌, ◌&&◌, true, false, nat_lt, length, IfOk, MatchOption, MatchResult};
+ghost use Rattle.std.specs.Prelude.{◌≡◌, ◌+◌, ◌*◌, ◌<◌, ◌≤◌, ◌^◌, ◌&&◌, true, false, nat_lt, length, IfOk, MatchOption, MatchResult, Ok};
 ghost use Rattle.swi_memory.specs.Bus.{AreInOrder, IsSize, Read, byte_at, holds_byte, loaded, number_in};
+ghost use Rattle.swi_memory.specs.Found.{HasAll};
 ghost use Rattle.swi_memory.specs.Views.{areas};
+ghost use Rattle.swi_memory.specs.Windows.{AreWindows};
 
 use crate::access::Access;
 use crate::bank::{Bank, find, find_all};
 use crate::right::Right;
+use crate::window::Windows;
+use crate::windows::find_window;
 
 /// The word that four bytes from a place on make, the lowest first. Not marked to be inlined: so it is simplified
 /// to one read before it is.
@@ -90,18 +94,46 @@ fn load_across(banks: &[Bank], a: u32, k: u8) -> Result<u32, Access>
     Ok(u32::from_le_bytes([first, second, third, fourth]))
 }
 
-/// The number of k bytes at the address, the lowest first.
+/// The number of k bytes at the address, the lowest first, where the bank at the place has them.
 #[inline(always)]
 #[tactic(auto, using(crate::proofs::Accesses::loaded_found))]
-pub fn load(banks: &[Bank], a: u32, k: u8) -> Result<u32, Access>
+fn load_in(banks: &[Bank], place: usize, a: u32, k: u8) -> u32
+    requires order { AreInOrder (areas banks.now) }
+    requires size { IsSize k }
+    requires here { HasAll banks.now Read a k place }
+    ensures value { Ok result ≡ loaded (areas banks.now) a k }
+    ensures small { result < 2 ^ (8 * k) }
+{
+    let bank = &banks[place];
+    number(&bank.bytes, (a - bank.base) as usize, k)
+}
+
+/// A load in no window.
+// Not inlined, so that the search takes no register of the loop that a load in a window stands in.
+#[inline(never)]
+fn load_elsewhere(banks: &[Bank], a: u32, k: u8) -> Result<u32, Access>
     requires order { AreInOrder (areas banks.now) }
     requires size { IsSize k }
     ensures value { result ≡ loaded (areas banks.now) a k }
     ensures small { IfOk result (λ v. v < 2 ^ (8 * k)) }
 {
-    let Some(i) = find_all(banks, Right::Read, a, k) else {
-        return load_across(banks, a, k);
-    };
-    let bank = &banks[i];
-    Ok(number(&bank.bytes, (a - bank.base) as usize, k))
+    match find_all(banks, Right::Read, a, k) {
+        Some(place) => Ok(load_in(banks, place, a, k)),
+        None => load_across(banks, a, k),
+    }
+}
+
+/// The number of k bytes at the address, the lowest first.
+#[inline(always)]
+pub fn load(banks: &[Bank], windows: &Windows, a: u32, k: u8) -> Result<u32, Access>
+    requires order { AreInOrder (areas banks.now) }
+    requires windows { AreWindows (areas banks.now) windows.now }
+    requires size { IsSize k }
+    ensures value { result ≡ loaded (areas banks.now) a k }
+    ensures small { IfOk result (λ v. v < 2 ^ (8 * k)) }
+{
+    match find_window(windows, a, k) {
+        Some(place) => Ok(load_in(banks, place, a, k)),
+        None => load_elsewhere(banks, a, k),
+    }
 }

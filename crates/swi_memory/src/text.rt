@@ -1,14 +1,16 @@
 //! Where the text words lie.
 #![tactic(auto)]
 
-ghost use Rattle.std.specs.Prelude.{◌≡◌, ◌+◌, ◌%◌, ◌≤◌, ◌^◌, List, length, true};
-ghost use Rattle.swi_memory.specs.Bus.{AreaData, AreInOrder, Execute, fetched, grants, touches_text};
+ghost use Rattle.std.specs.Prelude.{◌≡◌, ◌+◌, ◌%◌, ◌≤◌, ◌^◌, ℕ, List, length, true};
+ghost use Rattle.swi_memory.specs.Bus.{AreaData, AreInOrder, Execute, fetched, grants, is_text_word, touches_text};
 ghost use Rattle.swi_memory.specs.TextAt.{HasOne, IsText, IsTextOf};
 ghost use Rattle.swi_memory.specs.Views.{area, areas};
+ghost use Rattle.swi_memory.specs.WordRange.{IsWordRange, in_range};
 
 use crate::bank::Bank;
 use crate::loads::number;
 use crate::right::Right;
+use crate::word_range::WordRange;
 
 /// The text words: `len` bytes from the address `from` on, both multiples of 4, in the bank at place
 /// `bank`, behind so many of its bytes. Where there are none, `len` is 0.
@@ -48,6 +50,19 @@ pub fn fetch(banks: &[Bank], text: &Text, a: u32) -> Option<u32>
         return None;
     }
     fetch_aligned(banks, text, a)
+}
+
+/// The range of the text words.
+#[tactic(auto, using(crate::proofs::Texts::are_words))]
+pub fn range(text: &Text) -> WordRange
+    ensures range { (bus : List AreaData) → IsText bus text.now → IsWordRange result }
+    ensures words { (bus : List AreaData) → IsText bus text.now →
+        (a : ℕ) → is_text_word bus a ≡ in_range result a }
+{
+    WordRange {
+        from: text.from,
+        words: text.len / 4,
+    }
 }
 
 /// Whether one of n bytes from the address on is a text word's.

@@ -1,27 +1,5 @@
-use Rattle.std.proofs.Common.{◌≡◌, ◌-◌, get_or, length, ap, arith, ◌∙◌}
-use Rattle.std.specs.Vec.{with_items}
-use Rattle.std.proofs.lemmas.List.{get_or_default, with_items_is}
-use Rattle.std.proofs.lemmas.List.Edits.{sets}
-use Rattle.swi_memory.specs.declared.bank.Bank.{Bank}
-use Rattle.swi_memory.specs.Bus.{Write, lowest}
-use Rattle.swi_memory.specs.Laws.{length-lowest}
-use Rattle.swi_memory.specs.Views.{area, areas}
-use Rattle.swi_memory.proofs.Accesses.{holds_within, put_found, range_of}
+use Rattle.swi_memory.proofs.Windowed.{has_write}
 use Rattle.swi_memory.proofs.stores.store.Goals as goal
 
-pub returns : goal.returns
-returns c =
-    let here : Bank = c.index-banks-i.result in
-    let old : Bank = get_or c.args.banks.now c.in-Some.i here in
-    let found = c.in-Some.ensures.found in
-    let room = c.in-Some.ensures.room here in
-    let is : old ≡ get_or c.args.banks.now c.in-Some.i old = get_or_default c.args.banks.now c.in-Some.i here old found.0 in
-    let piece = lowest c.args.k c.args.v in
-    let bytes : c.put.new.bytes ≡ sets old.bytes.items (c.args.a - old.base) piece = c.put.ensures ∙ ap (λ xs. sets xs (c.args.a - old.base) piece) c.deref_mut.ensures.value in
-    let same : length c.put.new.bytes ≡ old.bytes.len = omega (arith, ap length c.deref_mut.ensures.value, c.put.auto.bytes, old.bytes.ok.0) in
-    record {
-      granted = holds_within (areas c.args.banks.now) c.in-Some.i (area old) Write c.args.a c.args.k (range_of c.args.banks.now c.in-Some.i old c.args.a c.args.k c.requires.order found is room) (c.in-Some.ensures.granted here);
-      bytes =
-          put_found c.args.banks.now c.in-Some.i old (record old { bytes = with_items old.bytes c.put.new.bytes }) c.args.a piece c.requires.order found is (rw length-lowest room)
-          (ap (λ xs. record (area old) { bytes = xs }) (with_items_is old.bytes c.put.new.bytes same ∙ bytes));
-    }
+pub store_in-requires-clause-here : goal.store_in-requires-clause-here
+store_in-requires-clause-here c = has_write c.args.banks.now c.args.windows.now c.args.a c.args.k c.in-Some.place c.requires.windows c.requires.size c.in-Some.ensures

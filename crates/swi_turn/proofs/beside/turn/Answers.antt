@@ -1,10 +1,19 @@
 use Rattle.std.proofs.Common.{◌≡◌, ◌^◌, ◌<◌, ℕ, Some, ap, subst, sym, ◌∙◌}
+use Rattle.swi_rom.specs.Record.{Placed}
 use Rattle.swi_hart.specs.Hart.{HartData, index_of, place_under}
 use Rattle.swi_hart.specs.Service.{ServiceWithRam}
 use Rattle.swi_hart.specs.Staying.{fits_on}
 use Rattle.swi_turn.specs.Engines.{EventMade}
-use Rattle.swi_turn.proofs.Turning.{shown_under, stays_under, turned_on}
+use Rattle.swi_turn.proofs.Turning.{shown_under, stays_under, turned_on, under_placed}
 use Rattle.swi_turn.proofs.beside.turn.Goals as goal
+
+pub work-requires-clause-here : goal.work-requires-clause-here
+work-requires-clause-here g c =
+    let here : ℕ × ℕ = (c.in-Some.block, c.in-Some.field-0-1) in
+    let under : place_under c.args.board.hart.machine.ending c.args.board.hart.control ≡ Some here =
+    sym (ap (λ (x : HartData). place_under x.machine.ending x.control) c.part-hart.ensures.hart) ∙ sym c.in-Some.ensures in
+    subst (λ (r : g.row.R.Denot). (f : ℕ) × Placed (g.R.CacheRom.service.kept r) c.in-Some.block f) (sym c.part-hart.ensures.rom)
+    (under_placed c.args.image.now (g.R.CacheRom.service.kept c.args.board.rom) c.args.board.hart here c.requires.beside.fits under)
 
 pub join-requires-2-clause-shown : goal.join-requires-2-clause-shown
 join-requires-2-clause-shown g c = λ i at.
