@@ -344,29 +344,26 @@ fn fell(stage: Stage, pc: u32, target: u32, back: bool) -> bool {
 }
 
 #[inline(always)]
-fn store_into_text(bus: &Bus, a: u32, n: u32) -> bool {
-    let from = u64::from(bus.text.from);
-    let first = u64::from(a);
-    let end = (from + u64::from(bus.text.len)).min(first + u64::from(n));
-    from.max(first) < end && bus.permits(a, n, 2)
+fn store_into_text(bus: &Bus, a: u32, n: u32) -> Option<u32> {
+    Some(a).filter(|_| bus.touches_text(a, n) && bus.permits(a, n, 2))
 }
 
 #[cold]
 #[inline(never)]
-fn atomic_store(op: AtomicOp, a: u32, regs: &Regs, bus: &Bus) -> bool {
+fn atomic_store(op: AtomicOp, a: u32, regs: &Regs, bus: &Bus) -> Option<u32> {
     let stores = match op {
         AtomicOp::LrW => false,
         AtomicOp::ScW => regs.reserved == Some(a),
         _ => bus.permits(a, 4, 4),
     };
-    a % 4 == 0 && stores && store_into_text(bus, a, 4)
+    store_into_text(bus, a, 4).filter(|_| a % 4 == 0 && stores)
 }
 
 #[cold]
 #[inline(never)]
-fn read_store(regs: &Regs, bus: &Bus) -> bool {
+fn read_store(regs: &Regs, bus: &Bus) -> Option<u32> {
     let [descriptor, buffer, count, number] = [10, 11, 12, 17].map(|k| regs.get(Reg::of(k)));
-    number == 63 && descriptor == 0 && store_into_text(bus, buffer, count)
+    store_into_text(bus, buffer, count).filter(|_| number == 63 && descriptor == 0)
 }
 
 fn size_of_store(op: StoreOp) -> u32 {
@@ -377,16 +374,16 @@ fn size_of_store(op: StoreOp) -> u32 {
     }
 }
 
-/// Whether the instruction would store into the text.
+/// Where the instruction would store into the text, if it would.
 #[inline(always)]
-fn text_store(instr: &Instr, regs: &Regs, bus: &Bus) -> bool {
+pub fn text_store(instr: &Instr, regs: &Regs, bus: &Bus) -> Option<u32> {
     match *instr {
         Instr::Ecall => read_store(regs, bus),
         Instr::Store { op, rs1, imm, .. } => {
             store_into_text(bus, regs.get(rs1).wrapping_add(imm), size_of_store(op))
         }
         Instr::Atomic { op, rs1, .. } => atomic_store(op, regs.get(rs1), regs, bus),
-        _ => false,
+        _ => None,
     }
 }
 
@@ -408,7 +405,7 @@ fn upper_role(bus: &Bus, pc: u32, stage: Stage) -> Next {
 fn execute_plain(index: u32, instr: &Instr, regs: &mut Regs, bus: &mut Bus) -> Next {
     match *instr {
         Instr::Op { .. } | Instr::Load { .. } => {}
-        Instr::Store { .. } if !text_store(instr, regs, bus) => {}
+        Instr::Store { .. } if text_store(instr, regs, bus).is_none() => {}
         _ => return Next::Stop,
     }
     match exec(instr, 4 * index, regs, bus) {
@@ -527,7 +524,7 @@ impl Hart {
         let (index, block, offset, _) = at;
         let Some(instr) = decode(word) else { unreachable!() };
         let Flat { regs, bus, .. } = &mut self.machine;
-        if text_store(&instr, regs, bus) {
+        if text_store(&instr, regs, bus).is_some() {
             self.machine.ending = Some(End::Exited(242));
             self.count += 1;
             return;

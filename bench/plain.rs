@@ -5,7 +5,9 @@
 //! it as `swic cached FILE --cache BYTES --block WORDS` does (cached.rs).
 
 mod cached;
+mod micro;
 
+use micro::{MicroOp, WordRange, micro_op, step, stop};
 use std::io::{Read, Write};
 use std::{env, fs, io, process};
 
@@ -310,10 +312,21 @@ struct Text {
     len: u32,
 }
 
-/// Banks in ascending order of address.
+/// A bank that can be read and written and has no text word; of length 0 where there is none.
+#[derive(Clone, Copy, Default)]
+struct Window {
+    base: u32,
+    len: u32,
+    bank: usize,
+}
+
+/// Banks in ascending order of address; and of those that are windows the last one, which is the stack, and the first one, most
+/// often the data segment, in which an access is looked for first.
 struct Bus {
     banks: Vec<Bank>,
     text: Text,
+    last: Window,
+    first: Window,
 }
 
 fn word(bytes: &[u8]) -> u32 {
@@ -321,6 +334,37 @@ fn word(bytes: &[u8]) -> u32 {
 }
 
 impl Bus {
+    fn of(banks: Vec<Bank>, text: Text) -> Bus {
+        let mut bus = Bus { banks, text, last: Window::default(), first: Window::default() };
+        for (place, bank) in bus.banks.iter().enumerate() {
+            let len = bank.bytes.len() as u32;
+            let text = &bus.text;
+            if bank.flags & 6 == 6 && (bank.base + len <= text.from || text.from + text.len <= bank.base) {
+                bus.last = Window { base: bank.base, len, bank: place };
+                if bus.first.len == 0 {
+                    bus.first = bus.last;
+                }
+            }
+        }
+        bus
+    }
+
+    fn text_range(&self) -> WordRange {
+        WordRange { from: self.text.from, words: self.text.len / 4 }
+    }
+
+    /// The window that has all k bytes.
+    #[inline(always)]
+    fn window(&self, a: u32, k: u8) -> Option<usize> {
+        if a.wrapping_sub(self.last.base) as usize + usize::from(k) <= self.last.len as usize {
+            return Some(self.last.bank);
+        }
+        if a.wrapping_sub(self.first.base) as usize + usize::from(k) <= self.first.len as usize {
+            return Some(self.first.bank);
+        }
+        None
+    }
+
     #[inline(always)]
     fn find(&self, a: u32) -> Option<usize> {
         (0..self.banks.len())
@@ -339,17 +383,31 @@ impl Bus {
 
     #[inline(always)]
     fn load(&self, a: u32, k: u8) -> Result<u32, Access> {
-        let Some(i) = self.find_all(4, a, k) else {
-            return self.load_across(a, k);
-        };
+        match self.window(a, k) {
+            Some(i) => Ok(self.number(i, a, k)),
+            None => self.load_elsewhere(a, k),
+        }
+    }
+
+    #[inline(never)]
+    fn load_elsewhere(&self, a: u32, k: u8) -> Result<u32, Access> {
+        match self.find_all(4, a, k) {
+            Some(i) => Ok(self.number(i, a, k)),
+            None => self.load_across(a, k),
+        }
+    }
+
+    /// The number of k bytes that a bank has.
+    #[inline(always)]
+    fn number(&self, i: usize, a: u32, k: u8) -> u32 {
         let bank = &self.banks[i];
         let at = (a - bank.base) as usize;
         let bytes = &bank.bytes[at..at + usize::from(k)];
-        Ok(match k {
+        match k {
             1 => u32::from(bytes[0]),
             2 => u32::from(u16::from_le_bytes([bytes[0], bytes[1]])),
             _ => word(bytes),
-        })
+        }
     }
 
     #[cold]
@@ -369,9 +427,46 @@ impl Bus {
 
     #[inline(always)]
     fn store(&mut self, a: u32, k: u8, v: u32) -> Result<(), Access> {
-        let Some(i) = self.find_all(2, a, k) else {
-            return self.store_across(a, k, v);
-        };
+        match self.window(a, k) {
+            Some(i) => self.put(i, a, k, v),
+            None => return self.store_elsewhere(a, k, v),
+        }
+        Ok(())
+    }
+
+    #[inline(never)]
+    fn store_elsewhere(&mut self, a: u32, k: u8, v: u32) -> Result<(), Access> {
+        match self.find_all(2, a, k) {
+            Some(i) => self.put(i, a, k, v),
+            None => return self.store_across(a, k, v),
+        }
+        Ok(())
+    }
+
+    /// The same, but where it would touch a text word nothing changes. Whether it was made.
+    #[inline(always)]
+    fn store_beside_text(&mut self, a: u32, k: u8, v: u32) -> bool {
+        match self.window(a, k) {
+            Some(i) => self.put(i, a, k, v),
+            None => return self.store_elsewhere_beside_text(a, k, v),
+        }
+        true
+    }
+
+    #[inline(never)]
+    fn store_elsewhere_beside_text(&mut self, a: u32, k: u8, v: u32) -> bool {
+        !self.touches_text(a, u32::from(k)) && self.store_elsewhere(a, k, v).is_ok()
+    }
+
+    pub fn touches_text(&self, a: u32, n: u32) -> bool {
+        let from = u64::from(self.text.from);
+        let first = u64::from(a);
+        from.max(first) < (from + u64::from(self.text.len)).min(first + u64::from(n))
+    }
+
+    /// Puts k bytes into a bank that has them.
+    #[inline(always)]
+    fn put(&mut self, i: usize, a: u32, k: u8, v: u32) {
         let bank = &mut self.banks[i];
         let at = (a - bank.base) as usize;
         match k {
@@ -379,7 +474,6 @@ impl Bus {
             2 => bank.bytes[at..at + 2].copy_from_slice(&(v as u16).to_le_bytes()),
             _ => bank.bytes[at..at + 4].copy_from_slice(&v.to_le_bytes()),
         }
-        Ok(())
     }
 
     /// Whether each of n bytes lies in a bank with the right.
@@ -439,14 +533,15 @@ impl Bus {
     }
 }
 
+/// Behind the 32 words stands one that takes what is written to x0.
 struct Regs {
-    words: [u32; 32],
+    words: [u32; 33],
     reserved: Option<u32>,
 }
 
 impl Regs {
     fn new() -> Regs {
-        Regs { words: [0; 32], reserved: None }
+        Regs { words: [0; 33], reserved: None }
     }
 
     #[inline(always)]
@@ -459,6 +554,22 @@ impl Regs {
         self.words[register.num() as usize] = v;
         self.words[0] = 0;
     }
+
+    #[inline(always)]
+    fn read(&self, number: u8) -> u32 {
+        self.words[usize::from(number)]
+    }
+
+    #[inline(always)]
+    fn put(&mut self, slot: u8, v: u32) {
+        self.words[usize::from(slot)] = v;
+    }
+}
+
+/// Where a register is written.
+#[inline(always)]
+fn slot(register: Reg) -> u8 {
+    if register.number == 0 { 32 } else { register.number as u8 }
 }
 
 #[derive(Clone, Copy, Debug)]
@@ -730,15 +841,32 @@ struct Flat {
     heap: Heap,
     steps: u64,
     ending: Option<End>,
+    /// A micro-op for each text word that a step has come to, and behind them one that stops.
+    ops: Vec<MicroOp>,
 }
 
 impl Flat {
+    /// A step that is not made by a micro-op. It may store into the text.
     fn step(&mut self) {
-        let Some(word) = self.bus.fetch(self.pc) else {
-            return self.end(End::Faulted(FaultKind::FetchAccess, self.pc));
-        };
-        let Some(instr) = decode(word) else {
-            return self.end(End::Faulted(FaultKind::Illegal, self.pc));
+        let instr = self.bus.fetch(self.pc).and_then(decode);
+        let stored = instr.as_ref().and_then(|instr| cached::text_store(instr, &self.regs, &self.bus));
+        self.step_by(instr);
+        match (stored, instr) {
+            (Some(_), Some(Instr::Ecall)) => self.ops.fill(stop()),
+            (Some(a), _) => {
+                let text = self.bus.text_range();
+                for k in [a, a + 3].into_iter().filter_map(|a| text.index(a & !3)) {
+                    self.ops[k as usize] = stop();
+                }
+            }
+            (None, _) => {}
+        }
+    }
+
+    fn step_by(&mut self, instr: Option<Instr>) {
+        let Some(instr) = instr else {
+            let kind = if self.bus.fetch(self.pc).is_some() { FaultKind::Illegal } else { FaultKind::FetchAccess };
+            return self.end(End::Faulted(kind, self.pc));
         };
         match exec(&instr, self.pc, &mut self.regs, &mut self.bus) {
             Done::Next(pc) => {
@@ -810,20 +938,34 @@ impl Flat {
         count
     }
 
-    /// Steps up to the limit, or to the first that is a call, a break or a fault.
+    /// Steps by micro-ops up to the limit, or to the first that none makes. The index of a text word is the control of this loop.
     #[inline(never)]
     fn advance(&mut self, limit: u64) {
-        let mut pc = self.pc;
+        let text = self.bus.text_range();
+        let Some(mut k) = text.index(self.pc) else { return };
         let mut left = limit - self.steps;
         while left > 0 {
-            let Some(next) = execute(pc, &mut self.regs, &mut self.bus) else {
-                break;
+            let m = &self.ops[k as usize];
+            k = match step(m, &text, k, &mut self.regs, &mut self.bus) {
+                Some(next) => next,
+                None => match self.step_anew(&text, k) {
+                    Some(next) => next,
+                    None => break,
+                },
             };
-            pc = next;
             left -= 1;
         }
-        self.pc = pc;
+        self.pc = text.address(k);
         self.steps = limit - left;
+    }
+
+    /// A step at a word that has no micro-op yet.
+    #[inline(never)]
+    fn step_anew(&mut self, text: &WordRange, k: u32) -> Option<u32> {
+        let word = self.bus.fetch(text.address(k)).filter(|_| k < text.words)?;
+        let m = micro_op(word, text, k);
+        self.ops[k as usize] = m;
+        step(&m, text, k, &mut self.regs, &mut self.bus)
     }
 
     fn run(&mut self, limit: u64) {
@@ -833,16 +975,6 @@ impl Flat {
                 self.step();
             }
         }
-    }
-}
-
-/// Executes the instruction at pc, and gives the address of the next one; None where it is a call, a break or a fault.
-#[inline(always)]
-fn execute(pc: u32, regs: &mut Regs, bus: &mut Bus) -> Option<u32> {
-    let instr = decode(bus.fetch_aligned(pc)?)?;
-    match exec(&instr, pc, regs, bus) {
-        Done::Next(next) => Some(next),
-        Done::Call | Done::Break | Done::Fault(..) => None,
     }
 }
 
@@ -883,7 +1015,8 @@ fn machine_of(file: &[u8]) -> Flat {
     let mut regs = Regs::new();
     regs.set(Reg::of(2), (stack + (1 << 16) - 64) / 16 * 16);
     let heap = Heap { base: heap, limit: heap + (1 << 20), now: heap };
-    Flat { pc: word_at(file, 24), regs, bus: Bus { banks, text }, heap, steps: 0, ending: None }
+    let ops = vec![stop(); text.len as usize / 4 + 1];
+    Flat { pc: word_at(file, 24), regs, bus: Bus::of(banks, text), heap, steps: 0, ending: None, ops }
 }
 
 fn main() {

@@ -7,7 +7,7 @@ import sys
 import time
 
 PROGRAM, SECONDS, STEPS = sys.argv[1], float(sys.argv[2]), 4_000_000
-GUESTS = ["bench/loop.elf", "guests/mix.elf"]
+GUESTS = ["bench/loop.elf", "guests/mix.elf", "bench/calls.elf", "bench/memory.elf"]
 MACHINES = {
     "plain": ["plain"],
     "cached 4096": ["cached", "--cache", "4096", "--block", "64"],

@@ -2,3 +2,4 @@ pub mod Advanced
 pub mod FlatData
 pub mod Laws
 pub mod Ran
+pub mod FlatView

@@ -17,9 +17,10 @@ use crate::advance::advance;
 use std::alloc::Global;
 use std::marker::Model;
 use swi_calls::{CallFault, End, Heap, Machine};
-use swi_exec::{Done, FaultKind, Regs, SP, exec};
+use swi_exec::{Done, FaultKind, Regs, SP, exec, text_store};
 use swi_isa::{Reg, decode};
 use swi_memory::{Bus, Layout};
+use swi_micro::{Decoded, forget, forget_all};
 use swi_outside::{Memory, Sink, Source};
 use swi_program::Program;
 
@@ -28,17 +29,19 @@ use swi_program::Program;
 pub struct Flat {
     machine: Machine,
     failed: bool,
+    /// The micro-ops of the text, beside the words in the machine's memory.
+    decoded: Decoded,
 }
 
 impl Model for Flat {
-    ghost use Rattle.std.specs.Prelude.{◌≡◌, ◌%◌};
     ghost use Rattle.swi_flat.specs.FlatData.{FlatData};
+    ghost use Rattle.swi_flat.specs.FlatView.{IsFlat};
 
     ghost Value = { FlatData };
 
     ghost view = { λ f. record { machine = f.machine; failed = f.failed } };
 
-    ghost invariant = { λ f. f.machine.pc % 4 ≡ 0 };
+    ghost invariant = { IsFlat };
 }
 
 impl Flat {
@@ -53,6 +56,7 @@ impl Flat {
         ensures text { IfOk result (λ f. (a : ℕ) → fetched f.machine.bus a ≡ word_of (text_of p.now.segments) a) }
     {
         let bus = Bus::new(alloc, p.segments(), l)?;
+        let decoded = Decoded::new(alloc, bus.text_range())?;
         let mut regs = Regs::new();
         regs.set(Reg::of(SP), l.sp);
         Ok(Flat {
@@ -70,6 +74,7 @@ impl Flat {
                 steps: 0,
             },
             failed: false,
+            decoded,
         })
     }
 
@@ -158,6 +163,7 @@ impl Flat {
             machine.fault(FaultKind::Illegal, machine.pc);
             return Ok(());
         };
+        let stored = text_store(&instruction, &machine.regs, &machine.bus);
         match exec(
             &instruction,
             machine.pc,
@@ -167,9 +173,16 @@ impl Flat {
             Done::Next(pc) => {
                 machine.pc = pc;
                 machine.steps += 1;
+                if let Some(a) = stored {
+                    forget(self.decoded.ops.as_mut_slice(), &self.decoded.range, a);
+                }
                 Ok(())
             }
             Done::Call => {
+                let reads = swi_calls::text_store(&instruction, &machine.regs, &machine.bus);
+                if reads.is_some() {
+                    forget_all(self.decoded.ops.as_mut_slice());
+                }
                 let result = machine.call_step(input, out, err);
                 self.failed = result.is_err();
                 result
@@ -208,7 +221,7 @@ impl Flat {
             (record { input = I.state input.new; output = O.state out.new; error = E.state err.new }) result }
     {
         while self.machine.steps < limit && self.machine.ending.is_none() {
-            advance(&mut self.machine, limit);
+            advance(&mut self.machine, &mut self.decoded, limit);
             if self.machine.steps < limit {
                 self.step(input, out, err)?;
             }

@@ -4,11 +4,15 @@
 ghost use Rattle.std.specs.Prelude.{◌≡◌, ◌*◌, ◌<◌, ◌≤◌, false, length, IfOk};
 
 use super::*;
+use crate::advance::advance;
 use std::alloc::Global;
 use std::test::Fail;
-use swi_calls::CallFault;
 use swi_calls::End::{self, *};
+use swi_calls::{CallFault, Heap, Machine};
 use swi_exec::FaultKind::*;
+use swi_exec::Regs;
+use swi_memory::{Bus, Layout, Segment};
+use swi_micro::Decoded;
 use swi_outside::{MemSink, MemSource};
 use swi_program::{append_words, lay_out, one_text};
 
@@ -231,5 +235,50 @@ fn calls_are_told_where_the_run_asks_for_it(rt: HostRuntime) -> Result<(), Fail>
                 call 93 00000000 00121fc0 00000003\n";
     assert_eq!(rt; err.held(), told.as_bytes());
     assert_eq!(rt; flat.regs().get(swi_isa::Reg::of(2)), 0x121FC0);
+    Ok(())
+}
+
+/// A loop that changes its own first word: at first it adds 1 to a0, then 16, then 17; then a call of exit. So one store
+/// is made twice.
+static CHANGING: [u32; 13] = [
+    0x00000297, 0x0302A303, 0x00100EB7, 0x00150513, 0x00138393, 0x0033AE13, 0x000E0863, 0x0062A623,
+    0x01D30333, 0xFE9FF06F, 0x05D00893, 0x00000073, 0x01050513,
+];
+
+#[test]
+fn a_word_that_was_stored_is_executed_as_it_stands(rt: HostRuntime) -> Result<(), Fail> {
+    let alloc = rt.alloc();
+    let file = bytes_of(alloc, &CHANGING)?;
+    // SW, then SB and SH, which store only bytes that are the same in all three words
+    for (store, a0) in [(0x0062A623, 34), (0x00628623, 3), (0x00629623, 3)] {
+        let segments = [Segment::of(0x10000, 7, 52, &file)];
+        let layout = Layout {
+            heap: 0x20000,
+            heap_len: 0,
+            stack: 0x30000,
+            stack_len: 16,
+            sp: 0x30010,
+        };
+        let mut bus = Bus::new(alloc, &segments, &layout)?;
+        assert!(rt; bus.store(0x1001C, 4, store).is_ok());
+        let mut decoded = Decoded::new(alloc, bus.text_range())?;
+        let heap = Heap {
+            base: 0x20000,
+            limit: 0x20000,
+            now: 0x20000,
+        };
+        let mut machine = Machine {
+            pc: 0x10000,
+            regs: Regs::new(),
+            bus,
+            heap,
+            log: false,
+            ending: None,
+            steps: 0,
+        };
+        advance(&mut machine, &mut decoded, 100);
+        assert_eq!(rt; (machine.pc, machine.steps), (0x1002C, 22), "{store:08X}");
+        assert_eq!(rt; machine.regs.get(swi_isa::Reg::of(10)), a0, "{store:08X}");
+    }
     Ok(())
 }

@@ -1,0 +1,4 @@
+pub mod Sums
+pub mod Agreeing
+pub mod Storing
+pub mod Forgetting
