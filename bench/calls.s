@@ -1,5 +1,5 @@
 # A guest of 7.4 * 10^7 instructions that is full of calls: the 32nd number of Fibonacci by calls of itself, each with a frame on
-# the stack, as compiled code has it. Every seventh instruction is a call or a return. It ends by exit with the low seven bits
+# the stack, as compiled code has it. About every fifth instruction is a call or a return. It ends by exit with the low seven bits
 # of the number.
 #
 # Built as loop.elf is, which loop.s says.
