@@ -1,5 +1,5 @@
 # A guest of 8.2 * 10^7 instructions that is full of memory: a sieve over 8,192 bytes, counts of its bytes by halves, and sums of
-# words copied from one table to another. About half of the instructions are loads and stores. It ends by exit with the
+# words copied from one table to another. More than a third of the instructions are loads and stores. It ends by exit with the
 # low seven bits of what it computed.
 #
 # Built as loop.elf is, which loop.s says.
