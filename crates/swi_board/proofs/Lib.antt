@@ -11,3 +11,4 @@ pub mod Turning
 pub mod Walking
 pub mod Blocks
 pub mod Along
+pub mod Knowing

@@ -23,7 +23,7 @@ use Rattle.swi_board.specs.declared.block.Next.TheVariants as next
 use Rattle.swi_board.specs.declared.block.Walk.{Walk}
 use Rattle.swi_hart.specs.Hart.{HartData, stepped, word_stepped, instruction, left_made}
 use Rattle.swi_hart.specs.Leaving.{Home, leaves, quick_role}
-use Rattle.swi_board.specs.Walked.{is_stop, role_by, went, gone, landed, walk_pc, walk_steps, walk_made, walk_count, walk_control, walk_machine, walk_hart, place_shown, ExitStands, HasRoom, WalksTo, WordOn, StepOn, JumpOn, WalkedOn, Walked, StandsInside}
+use Rattle.swi_board.specs.Walked.{is_link, is_stop, role_by, went, gone, landed, walk_left, walk_pc, walk_steps, walk_count, walk_control, walk_machine, walk_hart, place_shown, ExitStands, HasRoom, WalksTo, WordOn, StepOn, JumpOn, WalkedOn, Walked, StandsInside}
 use Rattle.swi_hart.specs.MachineStep.{Answered}
 use Rattle.swi_hart.proofs.Fetching.{exit_home}
 
@@ -33,6 +33,7 @@ gone_place next.On p = (p.0, p.1 + 1)
 gone_place next.Over p = (p.0, p.1 + 3)
 gone_place (next.Lead stage) p = (p.0, p.1 + 1)
 gone_place next.Exit p = (p.0, p.1 + 1)
+gone_place next.Link p = p
 gone_place next.Stop p = p
 
 lagging : (w : Walk) (p : ℕ × ℕ) (m : Machine) (input : List ℕ) (stage : Stage) →
@@ -43,47 +44,47 @@ lagging w p m input stage =
     rw left refl
 
 -- a step to the next word, which makes an instruction
-made_on : (w : Walk) → w.index < w.end → w.steps + (w.end - w.index) ≤ w.limit → walk_made (gone next.On w) ≡ walk_made w + 1
-made_on w more made = omega (arith, more, made)
+next_pc : (w : Walk) → w.index < w.end → sum_of (walk_pc w) 4 ≡ walk_pc (gone next.On w)
+next_pc w more = omega (arith, more)
 
-next_pc : (w : Walk) → w.index < w.end → w.steps + (w.end - w.index) ≤ w.limit → sum_of (walk_pc w) 4 ≡ walk_pc (gone next.On w)
-next_pc w more made = let one = made_on w more made in omega (arith, one)
-
-next_steps : (w : Walk) → w.index < w.end → w.steps + (w.end - w.index) ≤ w.limit → walk_steps w + 1 ≡ walk_steps (gone next.On w)
+next_steps : (w : Walk) → w.index < w.end → walk_left w ≤ w.limit → walk_steps w + 1 ≡ walk_steps (gone next.On w)
 next_steps w more made = omega (arith, more, made)
 
-moves_to : (n : Next) (w : Walk) (p : ℕ × ℕ) (m : Machine) (input : List ℕ) → is_stop n ≡ false → w.index < w.end → w.steps + (w.end - w.index) ≤ w.limit →
+moves_to : (n : Next) (w : Walk) (p : ℕ × ℕ) (m : Machine) (input : List ℕ) → is_stop n ≡ false → w.index < w.end → walk_left w ≤ w.limit →
     went n w.index p.0 p.1 (walk_machine w m) input ≡ stepped (walk_control (gone n w) (gone_place n p)) (quiet (walk_machine (gone n w) m) input)
 moves_to next.On w p m input goes more made =
-    rw (next_pc w more made, next_steps w more made) refl
+    rw (next_pc w more, next_steps w more made) refl
 moves_to next.Over w p m input goes more made =
     let left : w.end + 2 - (w.index + 3) ≡ w.end - (w.index + 1) = omega arith in
-    rw (next_pc w more made, next_steps w more made, left) refl
+    rw (next_pc w more, next_steps w more made, left) refl
 moves_to (next.Lead stage) w p m input goes more made = lagging w p m input stage
 moves_to next.Exit w p m input goes more made = lagging w p m input Leave
+moves_to next.Link w p m input goes more made = absurd (cc)
 moves_to next.Stop w p m input goes more made = absurd (cc)
 
 -- the walk behind a word is one to the same limit, and has made a machine instruction more
 pub gone_within : (n : Next) (w : Walk) (limit : ℕ) → w.index < w.end → WalksTo limit w → WalksTo limit (gone n w)
-gone_within next.On w limit more t = record { below = omega arith; made = omega (arith, t.made); limited = t.limited }
-gone_within next.Over w limit more t = record { below = omega arith; made = omega (arith, t.made); limited = t.limited }
-gone_within (next.Lead stage) w limit more t = record { below = omega arith; made = omega (arith, t.made); limited = t.limited }
-gone_within next.Exit w limit more t = record { below = omega arith; made = omega (arith, t.made); limited = t.limited }
+gone_within next.On w limit more t = record { below = omega arith; made = omega (arith, t.made); counted = omega (arith, t.counted); limited = t.limited }
+gone_within next.Over w limit more t = record { below = omega arith; made = omega (arith, t.made); counted = omega (arith, t.counted); limited = t.limited }
+gone_within (next.Lead stage) w limit more t = record { below = omega arith; made = omega (arith, t.made); counted = omega (arith, t.counted); limited = t.limited }
+gone_within next.Exit w limit more t = record { below = omega arith; made = omega (arith, t.made); counted = omega (arith, t.counted); limited = t.limited }
+gone_within next.Link w limit more t = t
 gone_within next.Stop w limit more t = t
 
-pub gone_counted : (n : Next) (w : Walk) → is_stop n ≡ false → w.index < w.end → w.steps + (w.end - w.index) ≤ w.limit → walk_count (gone n w) ≡ walk_count w + 1
+pub gone_counted : (n : Next) (w : Walk) → is_stop n ≡ false → w.index < w.end → walk_left w ≤ w.total → walk_count (gone n w) ≡ walk_count w + 1
 gone_counted next.On w goes more made = omega (arith, more, made)
 gone_counted next.Over w goes more made = omega (arith, more, made)
 gone_counted (next.Lead stage) w goes more made = omega (arith, more, made)
 gone_counted next.Exit w goes more made = omega (arith, more, made)
+gone_counted next.Link w goes more made = absurd (cc)
 gone_counted next.Stop w goes more made = absurd (cc)
 
 -- and so is the walk behind a link
 pub landed_within : (index pc steps : ℕ) (w : Walk) (limit : ℕ) → steps ≤ 1 → w.index < w.end → WalksTo limit w → WalksTo limit (landed index pc steps w)
-landed_within index pc steps w limit few more t = record { below = omega arith; made = omega (arith, t.made); limited = t.limited }
+landed_within index pc steps w limit few more t = record { below = omega arith; made = omega (arith, t.made); counted = omega (arith, few, more, t.counted); limited = t.limited }
 
 pub landed_counted : (index pc steps : ℕ) (w : Walk) → steps ≤ 1 → HasRoom w → walk_count (landed index pc steps w) ≡ walk_count w + 1
-landed_counted index pc steps w few room = omega (arith, few, room.below, room.made)
+landed_counted index pc steps w few room = omega (arith, few, room.below, room.counted)
 
 pub walked_short : (w : Walk) → walk_pc w < 2 ^ 32
 walked_short w = omega arith
@@ -97,6 +98,7 @@ pub has_room : (v : ImageData) (r : Record) (ram : RamState) (limit : ℕ) (w : 
 has_room v r ram limit w p h t few more s = record {
   below = more;
   made = t.made;
+  counted = t.counted;
   end = omega (arith, t.limited, t.made, s.index);
   index = s.index;
   limit = omega (arith, t.limited);
@@ -117,6 +119,15 @@ word_on n w p m regs bus x goes room going stays role steps = record {
   step = λ input. ap (λ k. word_stepped k w.index p.0 p.1 w.stage (walk_machine w m) x input) role ∙ steps (walk_machine w m) p.0 p.1 input going
       ∙ moves_to n w p (record m { regs = regs; bus = bus }) input goes room.below room.made;
 }
+
+-- a link is left to be gone over
+pub link_is_stop : (n : Next) → is_link n ≡ true → is_stop n ≡ true
+link_is_stop next.On is = absurd (cc)
+link_is_stop next.Over is = absurd (cc)
+link_is_stop (next.Lead stage) is = absurd (cc)
+link_is_stop next.Exit is = absurd (cc)
+link_is_stop next.Link is = refl
+link_is_stop next.Stop is = absurd (cc)
 
 -- a JAL is no EBREAK
 pub jal_links : (got rd off : ℕ) (x : Instr) → Some x ≡ decoded got → x ≡ instr.Jal rd off → got ≡ ebreak → ⊥
@@ -165,12 +176,13 @@ walks_on {policy} {span} {v} {limit} {r} {r'} {h} {ram} {ram'} w h' is walked = 
 pub is_shown : {s : Option (ℕ × ℕ)} {p : ℕ × ℕ} → s ≡ Some p → s ≡ None → ⊥
 is_shown {s} {p} is none = let no : None ≡ Some p = sym none ∙ is in cc
 
--- an EBREAK leaves its block
-pub break_leaves : (got : ℕ) (x : Instr) → Some x ≡ decoded got → got ≡ ebreak → leaves x ≡ true
-break_leaves got x decodes is =
-    let two : Some x ≡ Some instr.Ebreak = decodes ∙ ap decoded is ∙ ebreak_decodes in
-    let same : x ≡ instr.Ebreak = cc in
-    ap leaves same
+-- a word that decodes, and the one of an exit
+pub instruction_of : (o : Option Instr) → (None ≡ o → ⊥) → (x : Instr) × (Some x ≡ o)
+instruction_of None some = absurd (some refl)
+instruction_of (Some x) some = (x, refl)
+
+pub break_decodes : (got : ℕ) → got ≡ ebreak → Some instr.Ebreak ≡ decoded got
+break_decodes got is = sym (ap decoded is ∙ ebreak_decodes)
 
 -- before the first
 pub started : (policy : Record → ImageData → Transfer → Record) (span : ℕ) (v : ImageData) (r : Record) (limit : ℕ) (h : HartData) (c : Control) (pc steps count : ℕ) (ram : RamState) → c ≡ h.control → pc ≡ h.machine.pc → steps ≡ h.machine.steps → count ≡ h.count →

@@ -32,7 +32,12 @@ is_stop next.On = false
 is_stop next.Over = false
 is_stop (next.Lead stage) = false
 is_stop next.Exit = false
+is_stop next.Link = true
 is_stop next.Stop = true
+
+abbrev pub is_link : Next → Bool
+is_link next.Link = true
+is_link _ = false
 
 -- the role of a word from which control goes so
 abbrev pub role_by : Next → Role
@@ -40,6 +45,7 @@ role_by next.On = Whole
 role_by next.Over = Over
 role_by (next.Lead stage) = Lead stage
 role_by next.Exit = Over
+role_by next.Link = Whole
 role_by next.Stop = Whole
 
 -- where control and the machine are behind a word at this place that left this machine, by where control goes
@@ -48,21 +54,22 @@ went next.On i b o m input = stepped (At (i + 1) b (o + 1) Start) (quiet (record
 went next.Over i b o m input = stepped (At (i + 3) b (o + 3) Start) (quiet (record m { pc = sum_of m.pc 4; steps = m.steps + 1 }) input)
 went (next.Lead stage) i b o m input = stepped (At (i + 1) b (o + 1) stage) (quiet m input)
 went next.Exit i b o m input = stepped (At (i + 1) b (o + 1) Leave) (quiet m input)
+went next.Link i b o m input = stepped (At i b o Start) (quiet m input)
 went next.Stop i b o m input = stepped (At i b o Start) (quiet m input)
 
--- the steps that are left, one for each word up to `end`, are those up to the limit
+-- the steps that are left, one for each word up to `end`
+abbrev pub walk_left : Walk → ℕ
+walk_left w = w.end - w.index
+
 abbrev pub walk_steps : Walk → ℕ
-walk_steps w = w.limit - (w.end - w.index)
+walk_steps w = w.limit - walk_left w
 
--- the instructions since the walk began or last came over a link
-abbrev pub walk_made : Walk → ℕ
-walk_made w = walk_steps w - w.steps
-
+-- four bytes for each of them before the address there
 abbrev pub walk_pc : Walk → ℕ
-walk_pc w = sum_of w.pc (4 * walk_made w)
+walk_pc w = sum_of w.behind (2 ^ 32 - 4 * walk_left w % 2 ^ 32)
 
 abbrev pub walk_count : Walk → ℕ
-walk_count w = w.count + walk_made w
+walk_count w = w.total - walk_left w
 
 -- what is shown at an index, if anything is
 abbrev pub place_shown : Option (ℕ × ℕ) → ℕ × ℕ
@@ -83,13 +90,15 @@ walk_hart w p h = record h { control = walk_control w p; machine = walk_machine 
 -- a walk to at most so many steps
 pub record WalksTo (limit : ℕ) (w : Walk) : Type 0 where
   pub below : w.index ≤ w.end
-  pub made : w.steps + (w.end - w.index) ≤ w.limit
+  pub made : walk_left w ≤ w.limit
+  pub counted : walk_left w ≤ w.total
   pub limited : w.limit ≡ limit
 
 -- a walk that can go on
 pub record HasRoom (w : Walk) : Type 0 where
   pub below : w.index < w.end
-  pub made : w.steps + (w.end - w.index) ≤ w.limit
+  pub made : walk_left w ≤ w.limit
+  pub counted : walk_left w ≤ w.total
   pub end : w.end < 2 ^ 50
   pub index : w.index < 2 ^ 22
   pub limit : w.limit ≤ 2 ^ 48
@@ -99,8 +108,9 @@ pub record HasRoom (w : Walk) : Type 0 where
 abbrev pub gone : Next → Walk → Walk
 gone next.On w = record w { index = w.index + 1; stage = Start }
 gone next.Over w = record w { index = w.index + 3; stage = Start; end = w.end + 2 }
-gone (next.Lead stage) w = record w { index = w.index + 1; stage = stage; end = w.end + 1; count = w.count + 1 }
-gone next.Exit w = record w { index = w.index + 1; stage = Leave; end = w.end + 1; count = w.count + 1 }
+gone (next.Lead stage) w = record w { index = w.index + 1; stage = stage; end = w.end + 1; total = w.total + 1 }
+gone next.Exit w = record w { index = w.index + 1; stage = Leave; end = w.end + 1; total = w.total + 1 }
+gone next.Link w = w
 gone next.Stop w = w
 
 -- the walk behind a link to an index, where this pc stands, which makes so many steps
@@ -108,11 +118,10 @@ abbrev pub landed : ℕ → ℕ → ℕ → Walk → Walk
 landed index pc steps w = record {
   index = index;
   stage = Start;
-  end = index + (w.end - w.index) - steps;
+  end = index + (walk_left w - steps);
   limit = w.limit;
-  pc = pc;
-  steps = walk_steps w + steps;
-  count = walk_count w + 1;
+  behind = sum_of pc (4 * (walk_left w - steps));
+  total = w.total + 1 - steps;
 }
 
 -- a step at a word that stays in its block, and one over a link, which the service doesn't see

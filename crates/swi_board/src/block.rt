@@ -2,22 +2,21 @@
 #![tactic(auto)]
 
 ghost use Rattle.swi_rom.specs.Served.{Keeps};
-ghost use Rattle.std.specs.Prelude.{◌≡◌, ◌+◌, ◌-◌, ◌*◌, ◌%◌, ◌^◌, ◌<◌, ◌≤◌, ℕ, List, Option, IfSome, slice_index, if◌then◌else◌, None, Some, false, true};
+ghost use Rattle.std.specs.Prelude.{◌≡◌, ◌+◌, ◌-◌, ◌*◌, ◌%◌, ◌^◌, ◌<◌, ◌≤◌, ℕ, List, Option, IfSome, length, slice_index, if◌then◌else◌, None, Some, false, true};
 ghost use Rattle.swi_outside.specs.CacheRam.{RamState};
 ghost use Rattle.swi_memory.specs.Bus.{fetched};
 ghost use Rattle.swi_calls.specs.declared.machine.Machine.{Machine};
 ghost use Rattle.swi_isa.specs.declared.instr.Instr.{Instr as AnyInstr};
 ghost use Rattle.swi_isa.specs.Decode.{decoded};
 ghost use Rattle.swi_render.specs.Rendering.{ebreak};
-ghost use Rattle.swi_hart.specs.Hart.{HartData, instruction, word_stepped};
-ghost use Rattle.swi_hart.specs.Leaving.{Home, immediate_quick, leaves, offset_of, quick_role};
+ghost use Rattle.swi_hart.specs.Hart.{HartData};
+ghost use Rattle.swi_hart.specs.Leaving.{Home, leaves};
 ghost use Rattle.swi_hart.specs.Bounds.{most};
-ghost use Rattle.swi_board.specs.Walked.{is_stop, role_by, went, gone, landed, place_shown, walk_pc, walk_steps, walk_made, walk_count, walk_control, walk_machine, ExitStands, HasRoom, WalksTo, LinkOn, StepOn, JumpOn, Walked, WalkedOn, StandsInside, BlockRan};
-ghost use Rattle.swi_rom.specs.Record.{Record};
+ghost use Rattle.swi_board.specs.Walked.{is_link, is_stop, gone, landed, place_shown, walk_left, walk_pc, walk_steps, walk_count, walk_control, walk_machine, ExitStands, HasRoom, WalksTo, LinkOn, StepOn, JumpOn, Walked, WalkedOn, StandsInside, BlockRan};
+ghost use Rattle.swi_rom.specs.Record.{IsJump, Record};
 ghost use Rattle.swi_rom.specs.Coherent.{StandsAt};
 
-use swi_calls::text_store;
-use swi_exec::{Done, Regs, exec};
+use crate::known::quick;
 use swi_hart::{
     Control, EBREAK, ExitKind, Hart, Role, Stage, exit_kind, fell, jump_index, register_target,
     upper_role,
@@ -25,6 +24,7 @@ use swi_hart::{
 use swi_image::ImageView;
 use swi_isa::{ImmOp, Instr, decode};
 use swi_memory::Bus;
+use swi_micro::Memo;
 use swi_outside::{CacheRam, Failed};
 use swi_rom::CacheRom;
 
@@ -39,13 +39,15 @@ pub enum Next {
     Lead(Stage),
     /// To the exit behind the word.
     Exit,
+    /// Over the link that the word is. That is still to be done: the word was not executed.
+    Link,
     /// Nowhere: the word was not executed.
     Stop,
 }
 
 /// Where steps have come: the word under control with its stage, and the index `end` at which the limit of steps would
-/// be reached if each word from here on were an instruction. `pc`, `steps` and `count` are of the word at which the walk
-/// began or last landed, over a link or a jump: so a step to the next word changes the index alone. Of the block only
+/// be reached if each word from here on were an instruction. `behind` and `total` are the original address and the count
+/// of machine instructions that would stand there: so a step to the next word changes the index alone. Of the block only
 /// the service knows, which shows what stands at the index.
 #[derive(Clone, Copy, Debug, PartialEq, Eq)]
 pub struct Walk {
@@ -53,58 +55,54 @@ pub struct Walk {
     pub stage: Stage,
     pub end: u64,
     pub limit: u64,
-    pub pc: u32,
-    pub steps: u64,
-    // With each word since then that was no instruction.
-    pub count: u64,
+    pub behind: u32,
+    pub total: u64,
 }
 
 impl Walk {
+    /// The steps that are left.
+    #[inline(always)]
+    fn left(&self) -> u64
+        requires ahead { self.now.index ≤ self.now.end }
+        ensures { result ≡ walk_left self.now }
+    {
+        self.end - u64::from(self.index)
+    }
+
     /// The steps made.
     #[inline(always)]
     fn steps(&self) -> u64
         requires ahead { self.now.index ≤ self.now.end }
-        requires limited { self.now.end - self.now.index ≤ self.now.limit }
+        requires limited { walk_left self.now ≤ self.now.limit }
         ensures { result ≡ walk_steps self.now }
     {
-        self.limit - (self.end - u64::from(self.index))
-    }
-
-    /// The instructions since the walk began or last landed.
-    #[inline(always)]
-    fn made(&self) -> u64
-        requires ahead { self.now.index ≤ self.now.end }
-        requires limited { self.now.steps + (self.now.end - self.now.index) ≤ self.now.limit }
-        ensures { result ≡ walk_made self.now }
-    {
-        self.steps() - self.steps
+        self.limit - self.left()
     }
 
     /// The original address.
     #[inline(always)]
-    fn pc(&self) -> u32
+    pub(crate) fn pc(&self) -> u32
         requires ahead { self.now.index ≤ self.now.end }
-        requires limited { self.now.steps + (self.now.end - self.now.index) ≤ self.now.limit }
-        requires few { self.now.limit ≤ 2 ^ 48 }
+        requires few { walk_left self.now ≤ 2 ^ 50 }
         ensures { result ≡ walk_pc self.now }
     {
-        ((u64::from(self.pc) + 4 * self.made()) % (1 << 32)) as u32
+        self.behind
+            .wrapping_sub((4 * self.left() % (1 << 32)) as u32)
     }
 
     /// The machine instructions made.
     #[inline(always)]
     fn count(&self) -> u64
         requires ahead { self.now.index ≤ self.now.end }
-        requires limited { self.now.steps + (self.now.end - self.now.index) ≤ self.now.limit }
-        requires few { walk_count self.now < 2 ^ 64 }
+        requires counted { walk_left self.now ≤ self.now.total }
         ensures { result ≡ walk_count self.now }
     {
-        self.count + self.made()
+        self.total - self.left()
     }
 
     /// Goes on behind a word.
     #[inline(always)]
-    fn go(&mut self, next: Next)
+    pub(crate) fn go(&mut self, next: Next)
         requires { HasRoom self.old }
         ensures { self.new ≡ gone next self.old }
     {
@@ -122,15 +120,15 @@ impl Walk {
                 self.index += 1;
                 self.stage = stage;
                 self.end += 1;
-                self.count += 1;
+                self.total += 1;
             }
             Next::Exit => {
                 self.index += 1;
                 self.stage = Stage::Leave;
                 self.end += 1;
-                self.count += 1;
+                self.total += 1;
             }
-            Next::Stop => {}
+            Next::Link | Next::Stop => {}
         }
     }
 
@@ -140,155 +138,52 @@ impl Walk {
         requires { HasRoom self.old }
         ensures { self.new ≡ landed index pc (if leads_on then 0 else 1) self.old }
     {
-        let steps = if leads_on { 0 } else { 1 };
-        *self = Walk {
-            index,
-            stage: Stage::Start,
-            end: u64::from(index) + (self.end - u64::from(self.index)) - steps,
-            limit: self.limit,
-            pc,
-            steps: self.steps() + steps,
-            count: self.count() + 1,
-        };
+        let left = self.left() - if leads_on { 0 } else { 1 };
+        // Field by field: a copy of the whole would keep what stands between the fields in registers.
+        self.index = index;
+        self.stage = Stage::Start;
+        self.end = u64::from(index) + left;
+        self.behind = pc.wrapping_add((4 * left % (1 << 32)) as u32);
+        self.total += if leads_on { 1 } else { 0 };
     }
 }
 
-/// Whether an immediate operation leads to the exit of its JAL.
+/// Whether the word was not executed.
 #[inline(always)]
-fn leads(stage: Stage, op: ImmOp) -> bool
-    ensures { immediate_quick stage op ≡ (if result then Role.Lead Stage.Leave else Role.Whole) }
-{
-    match stage {
-        Stage::Return => match op {
-            ImmOp::Addi => true,
-            _ => false,
-        },
-        Stage::Start | Stage::Low | Stage::Leave => false,
-    }
-}
-
-/// Whether control goes nowhere.
-#[inline(always)]
-fn is_stop(next: Next) -> bool
+pub(crate) fn is_stop(next: Next) -> bool
     ensures { result ≡ is_stop next }
 {
     match next {
-        Next::Stop => true,
+        Next::Link | Next::Stop => true,
         Next::On | Next::Over | Next::Lead(_) | Next::Exit => false,
     }
 }
 
-/// Executes an operation on two registers, a load, or a store outside the text. Any other word, and one that faults,
-/// changes nothing.
+/// Whether control goes over a link.
 #[inline(always)]
-fn execute_plain<R: CacheRom>(
-    index: u32,
-    stage: Stage,
-    x: &Instr,
-    regs: &mut Regs,
-    bus: &mut Bus,
-) -> Next
-    requires small { index < 2 ^ 22 }
-    ensures step { is_stop result ≡ false → (m : Machine) (b o : ℕ) (input : List ℕ) →
-        m.ending ≡ None → word_stepped (role_by result) index b o stage
-        (record m { regs = regs.old; bus = bus.old }) x.now input
-        ≡ went result index b o (record m { regs = regs.new; bus = bus.new }) input }
-    ensures role { is_stop result ≡ false → (original : Option AnyInstr) →
-        quick_role stage x.now original ≡ role_by result }
-    ensures stays { is_stop result ≡ false → leaves x.now ≡ false }
-    ensures same_regs { is_stop result ≡ true → regs.new ≡ regs.old }
-    ensures same_bus { is_stop result ≡ true → bus.new ≡ bus.old }
+pub(crate) fn is_link(next: Next) -> bool
+    ensures { result ≡ is_link next }
 {
-    match *x {
-        Instr::Op { .. } | Instr::Load { .. } => match exec(x, 4 * index, regs, bus) {
-            Done::Next(_) => Next::On,
-            Done::Call | Done::Break | Done::Fault(_, _) => Next::Stop,
-        },
-        Instr::Store { .. } => {
-            if text_store(x, regs, bus).is_some() {
-                return Next::Stop;
-            }
-            match exec(x, 4 * index, regs, bus) {
-                Done::Next(_) => Next::On,
-                Done::Call | Done::Break | Done::Fault(_, _) => Next::Stop,
-            }
-        }
-        _ => Next::Stop,
+    match next {
+        Next::Link => true,
+        Next::On | Next::Over | Next::Lead(_) | Next::Exit | Next::Stop => false,
     }
 }
 
-/// Executes a branch, or a word that only changes a register or stores outside the text. Each kind has its own `exec`
-/// right behind the decoder. Any other word, one that faults, and a LUI that stands for a branch change nothing. Each
-/// service has a copy of its own, as of `execute_plain`, which is joined with its loop: one for all would be called, at
-/// twice the time.
+/// Goes over a link, as its JAL does, to the index. Where that leads the service has kept.
 #[inline(always)]
-fn execute<R: CacheRom>(
-    index: u32,
-    stage: Stage,
-    pc: u32,
-    x: &Instr,
-    regs: &mut Regs,
-    bus: &mut Bus,
-) -> Next
-    requires small { index < 2 ^ 22 }
-    ensures step { is_stop result ≡ false → (m : Machine) (b o : ℕ) (input : List ℕ) →
-        m.ending ≡ None → word_stepped (role_by result) index b o stage
-        (record m { regs = regs.old; bus = bus.old }) x.now input
-        ≡ went result index b o (record m { regs = regs.new; bus = bus.new }) input }
-    ensures role { is_stop result ≡ false → quick_role stage x.now (instruction (fetched bus.old pc)) ≡ role_by result }
-    ensures stays { is_stop result ≡ false → leaves x.now ≡ false }
-    ensures same_regs { is_stop result ≡ true → regs.new ≡ regs.old }
-    ensures same_bus { is_stop result ≡ true → bus.new ≡ bus.old }
-{
-    match *x {
-        Instr::Branch { .. } => {
-            if exec(x, 4 * index, regs, bus) == Done::Next(4 * index + 12) {
-                Next::Over
-            } else {
-                Next::Exit
-            }
-        }
-        Instr::Alu { op, .. } => {
-            if leads(stage, op) {
-                return match exec(x, 4 * index, regs, bus) {
-                    Done::Next(_) => Next::Lead(Stage::Leave),
-                    Done::Call | Done::Break | Done::Fault(_, _) => Next::Stop,
-                };
-            }
-            match exec(x, 4 * index, regs, bus) {
-                Done::Next(_) => Next::On,
-                Done::Call | Done::Break | Done::Fault(_, _) => Next::Stop,
-            }
-        }
-        Instr::Lui { .. } => match upper_role(bus, pc, stage) {
-            Role::Whole => match exec(x, 4 * index, regs, bus) {
-                Done::Next(_) => Next::On,
-                Done::Call | Done::Break | Done::Fault(_, _) => Next::Stop,
-            },
-            Role::Lead(next) => match exec(x, 4 * index, regs, bus) {
-                Done::Next(_) => Next::Lead(next),
-                Done::Call | Done::Break | Done::Fault(_, _) => Next::Stop,
-            },
-            Role::Over => Next::Stop,
-        },
-        _ => execute_plain::<R>(index, stage, x, regs, bus),
-    }
-}
-
-/// Goes over a link, as its JAL does. Where that leads the service has kept.
-#[inline(always)]
-fn follow<R: CacheRom, M: CacheRam>(
+pub(crate) fn follow<R: CacheRom, M: CacheRam>(
     rom: &R,
     image: &ImageView<'_>,
     ram: &M,
     got: u32,
-    off: u32,
+    index: u32,
     walk: &mut Walk,
 )
     requires sound { R.service.sound rom.now image.now (M.state ram.now).words }
     requires used { walk.old.index < R.service.span (R.service.setting rom.now) }
     requires got { got ≡ slice_index (M.state ram.now).words walk.old.index }
-    requires offset { off ≡ offset_of (decoded got) }
+    requires goes { (j : ℕ) → IsJump walk.old.index j got → j < 2 ^ 30 → walk.old.index < 2 ^ 30 → index ≡ j }
     requires linked { got ≡ ebreak → ⊥ }
     requires room { HasRoom walk.old }
     ensures on { (x : AnyInstr) (m : Machine) (p : ℕ × ℕ) → Some x ≡ decoded got → leaves x ≡ true →
@@ -299,61 +194,49 @@ fn follow<R: CacheRom, M: CacheRam>(
     ensures limited { (n : ℕ) → WalksTo n walk.old → WalksTo n walk.new }
 {
     let target = rom.goal(walk.index);
-    let index = jump_index(off, walk.index);
     let leads_on = fell(walk.stage, walk.pc(), target, index == walk.index);
     walk.land(index, target, leads_on);
 }
 
-/// A step at a fetched word that asks neither the service nor a device. At any other word nothing changes.
-#[inline(always)]
-fn one<R: CacheRom, M: CacheRam>(
+/// The step of `quick` at a fetched word whose micro-op is learnt first. None, and the hart is as it was, at a word that
+/// `quick` leaves. The walk goes in and comes out by value, so that the loop's own can stay in registers.
+#[inline(never)]
+fn step_anew<R: CacheRom, M: CacheRam>(
     hart: &mut Hart,
     rom: &R,
     image: &ImageView<'_>,
     ram: &M,
+    memo: &mut Memo,
     got: u32,
-    x: &Instr,
-    walk: &mut Walk,
-) -> bool
+    walk: Walk,
+) -> Option<Walk>
     requires going { hart.old.machine.ending ≡ None }
     requires sound { R.service.sound rom.now image.now (M.state ram.now).words }
-    requires used { walk.old.index < R.service.span (R.service.setting rom.now) }
-    requires got { got ≡ slice_index (M.state ram.now).words walk.old.index }
-    requires is { Some x.now ≡ decoded got }
-    requires room { HasRoom walk.old }
-    ensures on { result ≡ true → (p : ℕ × ℕ) → Home image.now (R.service.kept rom.now)
-        (walk_machine walk.old hart.old.machine) walk.old.index p.0 p.1 walk.old.stage →
-        (q : ℕ × ℕ) × StepOn image.now (R.service.kept rom.now) (walk_machine walk.old hart.old.machine)
-        (walk_machine walk.new hart.new.machine) (walk_control walk.new q) x.now got
-        walk.old.index p.0 p.1 walk.old.stage }
-    ensures counted { result ≡ true → walk_count walk.new ≡ walk_count walk.old + 1 }
-    ensures limited { result ≡ true → (n : ℕ) → WalksTo n walk.old → WalksTo n walk.new }
-    ensures same { result ≡ false → (walk.new ≡ walk.old) × (hart.new ≡ hart.old) }
+    requires used { walk.index < R.service.span (R.service.setting rom.now) }
+    requires place { walk.index < memo.old }
+    requires got { got ≡ slice_index (M.state ram.now).words walk.index }
+    requires room { HasRoom walk }
+    ensures on { IfSome result (λ next. (x : AnyInstr) → Some x ≡ decoded got → (p : ℕ × ℕ) →
+        Home image.now (R.service.kept rom.now)
+        (walk_machine walk hart.old.machine) walk.index p.0 p.1 walk.stage →
+        (q : ℕ × ℕ) × StepOn image.now (R.service.kept rom.now) (walk_machine walk hart.old.machine)
+        (walk_machine next hart.new.machine) (walk_control next q) x got
+        walk.index p.0 p.1 walk.stage) }
+    ensures counted { IfSome result (λ next. walk_count next ≡ walk_count walk + 1) }
+    ensures limited { IfSome result (λ next. (n : ℕ) → WalksTo n walk → WalksTo n next) }
+    ensures same { result ≡ None → hart.new ≡ hart.old }
+    ensures memo { memo.new ≡ memo.old }
     ensures rest { hart.new ≡ record hart.old {
       machine = record hart.old.machine
           { regs = hart.new.machine.regs; bus = hart.new.machine.bus };
     } }
 {
-    match *x {
-        Instr::Jal { off, .. } => {
-            follow(rom, image, ram, got, off, walk);
-            true
-        }
-        _ => {
-            let next = execute::<R>(
-                walk.index,
-                walk.stage,
-                walk.pc(),
-                x,
-                &mut hart.machine.regs,
-                &mut hart.machine.bus,
-            );
-            if is_stop(next) {
-                return false;
-            }
-            walk.go(next);
-            true
-        }
+    memo.learn(walk.index, got);
+    let mut walk = walk;
+    if quick(hart, rom, image, ram, memo, got, &mut walk) {
+        Some(walk)
+    } else {
+        None
     }
 }
 
@@ -404,11 +287,19 @@ fn back<R: CacheRom, M: CacheRam>(
     Some((index, target))
 }
 
-/// Where control is in the ram.
+/// Where control is in the ram, where the memo has a place for each word of the service.
 #[inline(always)]
-pub(crate) fn block_place(hart: &Hart) -> Option<(u32, u32, u32, Stage)>
+pub(crate) fn block_place<R: CacheRom>(
+    hart: &Hart,
+    rom: &R,
+    memo: &Memo,
+) -> Option<(u32, u32, u32, Stage)>
     ensures control { IfSome result (λ at. hart.now.control ≡ Control.At at.0 at.1 at.2 at.3) }
+    ensures places { IfSome result (λ at. R.service.span (R.service.setting rom.now) ≤ memo.now) }
 {
+    if memo.words() < rom.span() {
+        return None;
+    }
     match hart.control.control() {
         Control::At(i, b, o, stage) => Some((i, b, o, stage)),
         Control::Outside => None,
@@ -416,7 +307,7 @@ pub(crate) fn block_place(hart: &Hart) -> Option<(u32, u32, u32, Stage)>
 }
 
 /// Steps up to `limit`, or to the first word that is not executed here, which is then fetched. Nothing but words, links
-/// and jumps to placed blocks stands in this loop, and its walk is passed to nothing that isn't inlined: so what a word
+/// and jumps to placed blocks stands in this loop, and its walk is lent to nothing that isn't inlined: so what a word
 /// changes can stay in registers.
 #[inline(never)]
 pub(crate) fn run_block<R: CacheRom, M: CacheRam>(
@@ -424,13 +315,16 @@ pub(crate) fn run_block<R: CacheRom, M: CacheRam>(
     rom: &mut R,
     image: &ImageView<'_>,
     ram: &mut M,
+    memo: &mut Memo,
     limit: u64,
     at: (u32, u32, u32, Stage),
 ) -> Result<Option<u32>, Failed>
     requires going { hart.old.machine.ending ≡ None }
     requires control { hart.old.control ≡ Control.At at.0 at.1 at.2 at.3 }
     requires sound { R.service.sound rom.old image.now (M.state ram.old).words }
+    requires places { R.service.span (R.service.setting rom.old) ≤ memo.old }
     requires few { limit ≤ 2 ^ 48 }
+    requires count { hart.old.count < 2 ^ 56 }
     requires within { hart.old.machine.steps ≤ limit }
     requires short { hart.old.machine.pc < 2 ^ 32 }
     requires inside { (r : Record) (h : HartData) (s : RamState) → Walked (R.service.policy (R.service.setting rom.old))
@@ -451,14 +345,14 @@ pub(crate) fn run_block<R: CacheRom, M: CacheRam>(
     ensures sound { R.service.sound rom.new image.now (M.state ram.new).words }
     ensures keeps { Keeps R.service image.now rom.old rom.new (M.state ram.old).words (M.state ram.new).words }
 {
+    let steps = limit - hart.machine.steps;
     let mut walk = Walk {
         index: at.0,
         stage: at.3,
-        end: u64::from(at.0) + (limit - hart.machine.steps),
+        end: u64::from(at.0) + steps,
         limit,
-        pc: hart.machine.pc,
-        steps: hart.machine.steps,
-        count: hart.machine_steps(),
+        behind: hart.machine.pc.wrapping_add((4 * steps % (1 << 32)) as u32),
+        total: hart.machine_steps() + steps,
     };
     let mut left = Ok(None);
     while u64::from(walk.index) < walk.end {
@@ -466,10 +360,7 @@ pub(crate) fn run_block<R: CacheRom, M: CacheRam>(
             left = Err(Failed);
             break;
         };
-        let Some(x) = decode(word) else {
-            unreachable!()
-        };
-        if one(hart, rom, image, ram, word, &x, &mut walk) {
+        if quick(hart, rom, image, ram, memo, word, &mut walk) {
             continue;
         }
         if word == EBREAK {
@@ -477,6 +368,17 @@ pub(crate) fn run_block<R: CacheRom, M: CacheRam>(
                 walk.land(index, target, false);
                 continue;
             }
+        } else if let Some(next) = step_anew(hart, rom, image, ram, memo, word, walk) {
+            // Field by field, as in `land`.
+            walk = Walk {
+                index: next.index,
+                stage: next.stage,
+                end: next.end,
+                limit: next.limit,
+                behind: next.behind,
+                total: next.total,
+            };
+            continue;
         }
         left = Ok(Some(word));
         break;

@@ -35,6 +35,7 @@ use swi_hart::{
 };
 use swi_image::ImageView;
 use swi_memory::{Bus, Layout};
+use swi_micro::Memo;
 use swi_outside::{CacheRam, Failed, Sink, Source};
 use swi_program::Program;
 use swi_rom::CacheRom;
@@ -53,6 +54,8 @@ pub enum BootStop {
 pub struct Board<R: CacheRom> {
     hart: Hart,
     rom: R,
+    // What was decoded of the ram's words. It changes no step.
+    memo: Memo,
 }
 
 impl<R: CacheRom> Model for Board<R> {
@@ -106,7 +109,7 @@ impl<R: CacheRom> Board<R> {
     ///
     /// A word of the ram that changes is of a newly placed block, or a link that was made or undone; each other program
     /// that the service served is served as before. `Failed` comes only where the ram's count of faults rose; hart and
-    /// service are then given up.
+    /// service are then given up. No memory is taken: `run` then decodes each word that it fetches.
     pub fn resume<M: CacheRam>(
         image: &ImageView<'_>,
         hart: Hart,
@@ -129,14 +132,19 @@ impl<R: CacheRom> Board<R> {
         let mut hart = hart;
         let mut rom = rom;
         enter(&mut hart, &mut rom, image, ram)?;
-        Ok(Board { hart, rom })
+        Ok(Board {
+            hart,
+            rom,
+            memo: Memo::none(),
+        })
     }
 
     /// The board of a program before its first step: its hart is started, and then resumed. That is one machine
     /// instruction. The layout is the program's, the image one of its text, and the service sound for the image and the
     /// ram, as a new one is, with fewer than 2^50 services.
     ///
-    /// All memory is taken before the first call of the ram. RamFault comes only where the ram's count of faults rose.
+    /// All memory is taken before the first call of the ram: beside the hart's twelve bytes for each word of the service, so
+    /// that `run` decodes a word once and not at each step. RamFault comes only where the ram's count of faults rose.
     pub fn boot<M: CacheRam>(
         alloc: Global,
         image: &ImageView<'_>,
@@ -164,8 +172,14 @@ impl<R: CacheRom> Board<R> {
             Ok(hart) => hart,
             Err(_) => return Err(BootStop::Memory),
         };
+        let Ok(memo) = Memo::new(alloc, rom.span()) else {
+            return Err(BootStop::Memory);
+        };
         match Board::resume(image, hart, rom, ram) {
-            Ok(board) => Ok(board),
+            Ok(board) => {
+                let Board { hart, rom, .. } = board;
+                Ok(Board { hart, rom, memo })
+            }
             Err(_) => Err(BootStop::RamFault),
         }
     }
@@ -182,7 +196,7 @@ impl<R: CacheRom> Board<R> {
     /// A board of a hart that is booted and has not failed, and a service that shows the hart's place at the index under its control.
     /// Nothing changes or is counted. That the service is sound for the hart's image and the ram is asked by the next
     /// `step` or `run`. Where control's block stands as it did in the service's record before, the board matches the same
-    /// flat machines, and the image fits it as before.
+    /// flat machines, and the image fits it as before. What was decoded is lost: `run` then decodes each word that it fetches.
     pub fn join(hart: Hart, rom: R) -> Board<R>
         requires booted { hart.booted ≡ true }
         requires unfailed { hart.failed ≡ false }
@@ -197,7 +211,11 @@ impl<R: CacheRom> Board<R> {
         ensures fits { (v : ImageData) (old : Record) → StaysUnder old (R.service.kept rom) hart.machine hart.control →
             Fits v old hart → Fits v (R.service.kept result.rom) result.hart }
     {
-        Board { hart, rom }
+        Board {
+            hart,
+            rom,
+            memo: Memo::none(),
+        }
     }
 
     /// One machine instruction: the word under control is fetched and executed, or an exit is left, over its link or by
@@ -245,7 +263,7 @@ impl<R: CacheRom> Board<R> {
             (record { input = I.state input.old; output = O.state out.old; error = E.state err.old })
             (record { input = I.state input.new; output = O.state out.new; error = E.state err.new }) result }
     {
-        let Board { hart, rom } = self;
+        let Board { hart, rom, .. } = self;
         if let Some((at, own)) = plain_place(hart, image) {
             return plain_step(hart, rom, image, ram, input, out, err, at, own);
         }
@@ -294,15 +312,15 @@ impl<R: CacheRom> Board<R> {
               devices = record { input = I.state input.new; output = O.state out.new; error = E.state err.new };
             }) result }
     {
-        let Board { hart, rom } = self;
+        let Board { hart, rom, memo } = self;
         while hart.machine.steps < n && hart.machine.ending.is_none() {
             // Read for the proof alone: that it has 32 bits.
             let _pc = hart.origin_pc();
-            let Some(at) = block_place(hart) else {
+            let Some(at) = block_place(hart, rom, memo) else {
                 quick_step(hart, rom, image, ram, input, out, err)?;
                 continue;
             };
-            let got = match run_block(hart, rom, image, ram, n, at) {
+            let got = match run_block(hart, rom, image, ram, memo, n, at) {
                 Ok(Some(got)) => got,
                 Ok(None) => continue,
                 Err(_) => {

@@ -3,6 +3,7 @@
 
 mod block;
 mod board;
+mod known;
 
 pub use board::{Board, BootStop};
 pub use swi_hart::{BoardFault, Control, Hart, Stage};

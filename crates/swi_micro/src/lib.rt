@@ -4,6 +4,7 @@
 
 mod class;
 mod decoded;
+mod memo;
 mod source;
 mod stepper;
 mod storer;
@@ -11,7 +12,8 @@ mod translator;
 
 pub use class::Class;
 pub use decoded::{Decoded, forget, forget_all};
-pub use stepper::step;
+pub use memo::Memo;
+pub use stepper::{step, step_as};
 pub use storer::store;
 pub use translator::{MicroOp, address, index_of, micro_op};
 

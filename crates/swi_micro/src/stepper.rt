@@ -7,7 +7,7 @@ ghost use Rattle.swi_exec.specs.Registers.{reg, with_reg};
 ghost use Rattle.swi_memory.specs.declared.right.Right.TheVariants.{Read};
 ghost use Rattle.swi_memory.specs.Bus.{IsSize, fetched, holds, lets_store, number_at, stored};
 ghost use Rattle.swi_micro.specs.MicroOp.{address_at, index_at};
-ghost use Rattle.swi_micro.specs.Ran.{is_gone, multiplied, op_of, operated, ran, StaysWhereLeft};
+ghost use Rattle.swi_micro.specs.Ran.{is_gone, multiplied, op_of, operated, ran, ran_as, StaysWhereLeft};
 
 use crate::class::{Class, class_of_code};
 use crate::translator::{MicroOp, address, index_of};
@@ -134,14 +134,34 @@ fn jump(range: &WordRange, m: &MicroOp, k: u32, regs: &mut Regs) -> Option<u32>
 /// instruction, a fault, a store into the text of the memory, and what leads out of the range.
 ///
 /// What is fetched stays.
-// Not cut into functions: one arm for each class, as in the definition. The fields are read one at a time, through the
-// reference: a copy of the whole record costs five instructions more.
 #[inline(always)]
 pub fn step(m: &MicroOp, range: &WordRange, k: u32, regs: &mut Regs, bus: &mut Bus) -> Option<u32>
     requires { k < 2 ^ 31 }
     ensures next { result ≡ (ran range.now m.now k regs.old bus.old).next }
     ensures regs { regs.new ≡ (ran range.now m.now k regs.old bus.old).regs }
     ensures bus { bus.new ≡ (ran range.now m.now k regs.old bus.old).bus }
+    ensures unchanged { StaysWhereLeft result regs.old regs.new bus.old bus.new }
+    ensures text { (a : ℕ) → fetched bus.new a ≡ fetched bus.old a }
+{
+    step_as(class_of_code(m.code), m, range, k, regs, bus)
+}
+
+/// The same for who has asked for the micro-op's class, and goes by it: both are compiled to one set of tests.
+// Not cut into functions: one arm for each class, as in the definition. The fields are read one at a time, through the
+// reference: a copy of the whole record costs five instructions more.
+#[inline(always)]
+pub fn step_as(
+    class: Class,
+    m: &MicroOp,
+    range: &WordRange,
+    k: u32,
+    regs: &mut Regs,
+    bus: &mut Bus,
+) -> Option<u32>
+    requires { k < 2 ^ 31 }
+    ensures next { result ≡ (ran_as class range.now m.now k regs.old bus.old).next }
+    ensures regs { regs.new ≡ (ran_as class range.now m.now k regs.old bus.old).regs }
+    ensures bus { bus.new ≡ (ran_as class range.now m.now k regs.old bus.old).bus }
     ensures unchanged { StaysWhereLeft result regs.old regs.new bus.old bus.new }
     ensures text { (a : ℕ) → fetched bus.new a ≡ fetched bus.old a }
 {
@@ -157,7 +177,7 @@ pub fn step(m: &MicroOp, range: &WordRange, k: u32, regs: &mut Regs, bus: &mut B
     macro_rules! branch {
         ($by:ident) => { Some(if goes(BranchOp::$by, m, regs) { m.imm } else { k + 1 }) };
     }
-    match class_of_code(m.code) {
+    match class {
         Class::Add => operate!(Add),
         Class::Sub => operate!(Sub),
         Class::And => operate!(And),

@@ -25,7 +25,24 @@ pub struct MicroOp {
 }
 
 impl MicroOp {
+    /// Its class.
+    #[inline(always)]
+    pub fn class(&self) -> Class
+        ensures { result ≡ class_of self.now.code }
+    {
+        class_of_code(self.code)
+    }
+
+    /// The index to which a jump or a branch leads.
+    #[inline(always)]
+    pub fn target(&self) -> u32
+        ensures { result ≡ self.now.imm }
+    {
+        self.imm
+    }
+
     /// Whether it stops.
+    #[inline(always)]
     pub fn stops(&self) -> bool
         ensures { IsTrue result ↔ class_of self.now.code ≡ Class.Stop }
     {

@@ -28,9 +28,9 @@ returns-clause-on g c = λ x m p decodes leaving home.
     let exit = exit_home v r n _ _ w.index p.0 p.1 w.stage coherent home c.args.got x c.requires.got decodes leaving in
     let target = word_at v p.0 (p.1 + 1) in
     let at = link_leaves v r _ _ c.args.got w.index p.0 p.1 coherent (placed v r n _ _ w.index p.0 p.1 w.stage coherent home) home.known exit.inside exit.is_exit c.requires.got c.requires.linked in
-    let j = c.jump_index-index.result in
+    let j = c.args.index in
     let to : TargetAt v r target j =
-    link_target v r _ _ c.args.got w.index p.0 p.1 j coherent image (g.met.R.CacheRom.laws.small _ _ _ s) at.0 c.requires.linked (λ k jumps. c.jump_index-index.ensures k c.args.got jumps c.requires.offset) in
+    link_target v r _ _ c.args.got w.index p.0 p.1 j coherent image (g.met.R.CacheRom.laws.small _ _ _ s) at.0 c.requires.linked c.requires.goes in
     let place : Control = At j to.block to.offset Start in
     let arrived : Arrives v r target place = target_arrives to in
     let address = c.goal-target.result in

@@ -20,6 +20,7 @@ invariant-loop-walk g l = record {
   to : WalksTo l.limit l.walk;
   few : walk_count l.walk < 2 ^ 64;
   left : l.left ≡ Ok None;
+  memo : l.memo ≡ l.fn.memo;
 }
 
 abbrev pub decreases-loop-walk : goal.decreases-loop-walk

@@ -9,6 +9,7 @@ use Rattle.swi_hart.specs.MachineStep.{Answered}
 use Rattle.swi_hart.proofs.Answered.{ram_stopped}
 use Rattle.swi_hart.proofs.Fetching.{home_stands}
 use Rattle.swi_hart.proofs.Steps.{ram_unfetched}
+use Rattle.swi_board.specs.Walked.{Walked}
 use Rattle.swi_board.specs.Board.{BoardOf}
 use Rattle.swi_board.proofs.Along.{along_start, along_stretch, run_broken, run_ended, steps_on, stretch_from}
 use Rattle.swi_board.proofs.Blocks.{stands, walk, word_falls, falls_from, lower, at_limit, before_word, before_fault, home_at, used, same_index, not_ended}
@@ -60,7 +61,9 @@ run_block-requires g c =
       going = begin.going;
       control = c.in-Some.ensures.control;
       sound = was.sound;
+      places = c.in-Some.ensures.places;
       few = c.requires.limit;
+      count = (stands (walk begin Walked.here) c.requires.count c.requires.services low begin.below c.in-Some.ensures.control).count;
       within = let more = begin.below in omega (arith, more);
       short = c.origin_pc-pc.ensures.word;
       inside = λ r h ram walked below i b o stage control.

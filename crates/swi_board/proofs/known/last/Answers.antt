@@ -1,0 +1,12 @@
+use Rattle.std.proofs.Common.{sym, ◌∙◌}
+use Rattle.swi_micro.specs.declared.class.Class.TheVariants as class
+use Rattle.swi_board.proofs.Knowing.{did_step, last_went}
+use Rattle.swi_board.proofs.known.last.Goals as goal
+
+pub returns-in-Some-clause-went : goal.returns-in-Some-clause-went
+returns-in-Some-clause-went c = λ goes x decodes fits.
+    let s = c.step_as.ensures in
+    let w = c.args.walk.now in
+    let did = did_step c.args.range.now w.index c.args.got c.in-Some.field-0 c.args.m.now class.Add w.stage x c.args.regs.now c.args.bus.now c.step_as.new.regs c.step_as.new.bus
+    c.requires.known c.requires.first decodes (sym c.requires.class) (sym c.in-Some.is ∙ s.next) s.regs s.bus in
+    last_went w.index _ _ w.stage _ x _ _ _ _ did c.requires.way c.requires.way fits

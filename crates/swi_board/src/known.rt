@@ -1,0 +1,273 @@
+//! Steps at words of which the micro-op is known.
+#![tactic(auto)]
+
+ghost use Rattle.std.specs.Prelude.{◌≡◌, ◌+◌, ◌^◌, ◌<◌, ℕ, slice_index, if◌then◌else◌, Some, true, false};
+ghost use Rattle.swi_isa.specs.declared.instr.Instr.{Instr as AnyInstr};
+ghost use Rattle.swi_isa.specs.Decode.{decoded};
+ghost use Rattle.swi_micro.specs.Classes.{class_of};
+ghost use Rattle.swi_micro.specs.Memo.{IsOpAt};
+ghost use Rattle.swi_hart.specs.Leaving.{Home};
+ghost use Rattle.swi_board.specs.Known.{FitsPlace, WordWent, add_way, way_by, Straight, Branch, Last};
+ghost use Rattle.swi_board.specs.Walked.{is_link, is_stop, walk_control, walk_count, walk_machine, walk_pc, HasRoom, StepOn, WalksTo};
+
+use crate::block::{Next, Walk, follow, is_link, is_stop};
+use swi_exec::Regs;
+use swi_hart::{Hart, Role, Stage, upper_role};
+use swi_image::ImageView;
+use swi_memory::{Bus, WordRange};
+use swi_micro::{Class, Memo, MicroOp, step_as};
+use swi_outside::CacheRam;
+use swi_rom::CacheRom;
+
+/// Executes a word by its micro-op `m`, of a class from which control goes to the next word. One that faults changes
+/// nothing.
+#[inline(always)]
+fn straight(
+    class: Class,
+    walk: &Walk,
+    got: u32,
+    m: &MicroOp,
+    range: &WordRange,
+    regs: &mut Regs,
+    bus: &mut Bus,
+) -> Next
+    requires room { HasRoom walk.now }
+    requires first { range.now.from ≡ 0 }
+    requires known { IsOpAt range.now walk.now.index got m.now }
+    requires class { class ≡ class_of m.now.code }
+    requires way { way_by walk.now.stage class ≡ Straight }
+    ensures went { is_stop result ≡ false → (x : AnyInstr) → Some x ≡ decoded got →
+        FitsPlace walk.now.stage (walk_pc walk.now) x bus.old →
+        WordWent result walk.now.index walk.now.stage (walk_pc walk.now) x regs.old bus.old regs.new bus.new }
+    ensures same_regs { is_stop result ≡ true → regs.new ≡ regs.old }
+    ensures same_bus { is_stop result ≡ true → bus.new ≡ bus.old }
+    ensures word { is_link result ≡ false }
+{
+    match step_as(class, m, range, walk.index, regs, bus) {
+        Some(_) => Next::On,
+        None => Next::Stop,
+    }
+}
+
+/// Executes a branch, which stands over an exit, by its micro-op `m`.
+#[inline(always)]
+fn branch(
+    class: Class,
+    walk: &Walk,
+    got: u32,
+    m: &MicroOp,
+    range: &WordRange,
+    regs: &mut Regs,
+    bus: &mut Bus,
+) -> Next
+    requires room { HasRoom walk.now }
+    requires first { range.now.from ≡ 0 }
+    requires known { IsOpAt range.now walk.now.index got m.now }
+    requires class { class ≡ class_of m.now.code }
+    requires way { way_by walk.now.stage class ≡ Branch }
+    ensures went { is_stop result ≡ false → (x : AnyInstr) → Some x ≡ decoded got →
+        FitsPlace walk.now.stage (walk_pc walk.now) x bus.old →
+        WordWent result walk.now.index walk.now.stage (walk_pc walk.now) x regs.old bus.old regs.new bus.new }
+    ensures same_regs { is_stop result ≡ true → regs.new ≡ regs.old }
+    ensures same_bus { is_stop result ≡ true → bus.new ≡ bus.old }
+    ensures word { is_link result ≡ false }
+{
+    match step_as(class, m, range, walk.index, regs, bus) {
+        Some(next) => if next == walk.index + 3 {
+            Next::Over
+        } else {
+            Next::Exit
+        },
+        None => Next::Stop,
+    }
+}
+
+/// Executes a LUI by its micro-op `m`, in the role that the original instruction tells. One that stands for a branch changes
+/// nothing.
+#[inline(always)]
+fn upper(
+    walk: &Walk,
+    got: u32,
+    m: &MicroOp,
+    range: &WordRange,
+    regs: &mut Regs,
+    bus: &mut Bus,
+) -> Next
+    requires room { HasRoom walk.now }
+    requires first { range.now.from ≡ 0 }
+    requires known { IsOpAt range.now walk.now.index got m.now }
+    requires class { class_of m.now.code ≡ Class.Lui }
+    ensures went { is_stop result ≡ false → (x : AnyInstr) → Some x ≡ decoded got →
+        FitsPlace walk.now.stage (walk_pc walk.now) x bus.old →
+        WordWent result walk.now.index walk.now.stage (walk_pc walk.now) x regs.old bus.old regs.new bus.new }
+    ensures same_regs { is_stop result ≡ true → regs.new ≡ regs.old }
+    ensures same_bus { is_stop result ≡ true → bus.new ≡ bus.old }
+    ensures word { is_link result ≡ false }
+{
+    match upper_role(bus, walk.pc(), walk.stage) {
+        Role::Whole => match step_as(Class::Lui, m, range, walk.index, regs, bus) {
+            Some(_) => Next::On,
+            None => Next::Stop,
+        },
+        Role::Lead(next) => match step_as(Class::Lui, m, range, walk.index, regs, bus) {
+            Some(_) => Next::Lead(next),
+            None => Next::Stop,
+        },
+        Role::Over => Next::Stop,
+    }
+}
+
+/// Whether an addition is the last word before the exit of its JAL. Its class doesn't tell an ADDI from an ADD, but its place
+/// does.
+#[inline(always)]
+fn is_last(stage: Stage) -> bool
+    ensures { add_way stage ≡ (if result then Last else Straight) }
+{
+    match stage {
+        Stage::Return => true,
+        Stage::Start | Stage::Low | Stage::Leave => false,
+    }
+}
+
+/// Executes the ADDI that completes a return address, by its micro-op `m`: control leads to the exit of its JAL.
+#[inline(always)]
+fn last(
+    walk: &Walk,
+    got: u32,
+    m: &MicroOp,
+    range: &WordRange,
+    regs: &mut Regs,
+    bus: &mut Bus,
+) -> Next
+    requires room { HasRoom walk.now }
+    requires first { range.now.from ≡ 0 }
+    requires known { IsOpAt range.now walk.now.index got m.now }
+    requires class { class_of m.now.code ≡ Class.Add }
+    requires way { add_way walk.now.stage ≡ Last }
+    ensures went { is_stop result ≡ false → (x : AnyInstr) → Some x ≡ decoded got →
+        FitsPlace walk.now.stage (walk_pc walk.now) x bus.old →
+        WordWent result walk.now.index walk.now.stage (walk_pc walk.now) x regs.old bus.old regs.new bus.new }
+    ensures same_regs { is_stop result ≡ true → regs.new ≡ regs.old }
+    ensures same_bus { is_stop result ≡ true → bus.new ≡ bus.old }
+    ensures word { is_link result ≡ false }
+{
+    match step_as(Class::Add, m, range, walk.index, regs, bus) {
+        Some(_) => Next::Lead(Stage::Leave),
+        None => Next::Stop,
+    }
+}
+
+/// Executes a word by its micro-op `m`. A link, a word that is left to the executor, and one that faults, change nothing.
+// One match, on what `class` gives, and in each arm the class as a constant: so the class is told by one set of tests, and
+// by no jump through a table.
+#[inline(always)]
+fn execute_known(
+    walk: &Walk,
+    got: u32,
+    m: &MicroOp,
+    range: &WordRange,
+    regs: &mut Regs,
+    bus: &mut Bus,
+) -> Next
+    requires room { HasRoom walk.now }
+    requires first { range.now.from ≡ 0 }
+    requires known { IsOpAt range.now walk.now.index got m.now }
+    ensures went { is_stop result ≡ false → (x : AnyInstr) → Some x ≡ decoded got →
+        FitsPlace walk.now.stage (walk_pc walk.now) x bus.old →
+        WordWent result walk.now.index walk.now.stage (walk_pc walk.now) x regs.old bus.old regs.new bus.new }
+    ensures same_regs { is_stop result ≡ true → regs.new ≡ regs.old }
+    ensures same_bus { is_stop result ≡ true → bus.new ≡ bus.old }
+    ensures link { is_link result ≡ true → class_of m.now.code ≡ Class.Jal }
+{
+    macro_rules! straight {
+        ($class:ident) => { straight(Class::$class, walk, got, m, range, regs, bus) };
+    }
+    macro_rules! branch {
+        ($class:ident) => { branch(Class::$class, walk, got, m, range, regs, bus) };
+    }
+    match m.class() {
+        Class::Add => if is_last(walk.stage) {
+            last(walk, got, m, range, regs, bus)
+        } else {
+            straight!(Add)
+        },
+        Class::Sub => straight!(Sub),
+        Class::And => straight!(And),
+        Class::Or => straight!(Or),
+        Class::Xor => straight!(Xor),
+        Class::Sll => straight!(Sll),
+        Class::Srl => straight!(Srl),
+        Class::Sra => straight!(Sra),
+        Class::Slt => straight!(Slt),
+        Class::Sltu => straight!(Sltu),
+        Class::Mul => straight!(Mul),
+        Class::MulDiv => straight!(MulDiv),
+        Class::Lui => upper(walk, got, m, range, regs, bus),
+        Class::Lw => straight!(Lw),
+        Class::Lbu => straight!(Lbu),
+        Class::Lhu => straight!(Lhu),
+        Class::Lh => straight!(Lh),
+        Class::Lb => straight!(Lb),
+        Class::Sw => straight!(Sw),
+        Class::Sb => straight!(Sb),
+        Class::Sh => straight!(Sh),
+        Class::Equal => branch!(Equal),
+        Class::Less => branch!(Less),
+        Class::Below => branch!(Below),
+        Class::Jal => Next::Link,
+        Class::Jalr | Class::Stop => Next::Stop,
+    }
+}
+
+/// A step at a fetched word by its micro-op, that asks neither the service nor a device. Where the micro-op isn't known, or
+/// doesn't tell the step, nothing changes.
+#[inline(always)]
+pub(crate) fn quick<R: CacheRom, M: CacheRam>(
+    hart: &mut Hart,
+    rom: &R,
+    image: &ImageView<'_>,
+    ram: &M,
+    memo: &Memo,
+    got: u32,
+    walk: &mut Walk,
+) -> bool
+    requires going { hart.old.machine.ending ≡ None }
+    requires sound { R.service.sound rom.now image.now (M.state ram.now).words }
+    requires used { walk.old.index < R.service.span (R.service.setting rom.now) }
+    requires place { walk.old.index < memo.now }
+    requires got { got ≡ slice_index (M.state ram.now).words walk.old.index }
+    requires room { HasRoom walk.old }
+    ensures on { result ≡ true → (x : AnyInstr) → Some x ≡ decoded got → (p : ℕ × ℕ) → Home image.now (R.service.kept rom.now)
+        (walk_machine walk.old hart.old.machine) walk.old.index p.0 p.1 walk.old.stage →
+        (q : ℕ × ℕ) × StepOn image.now (R.service.kept rom.now) (walk_machine walk.old hart.old.machine)
+        (walk_machine walk.new hart.new.machine) (walk_control walk.new q) x got
+        walk.old.index p.0 p.1 walk.old.stage }
+    ensures counted { result ≡ true → walk_count walk.new ≡ walk_count walk.old + 1 }
+    ensures limited { result ≡ true → (n : ℕ) → WalksTo n walk.old → WalksTo n walk.new }
+    ensures same { result ≡ false → (walk.new ≡ walk.old) × (hart.new ≡ hart.old) }
+    ensures rest { hart.new ≡ record hart.old {
+      machine = record hart.old.machine
+          { regs = hart.new.machine.regs; bus = hart.new.machine.bus };
+    } }
+{
+    let Some(m) = memo.op(walk.index, got) else {
+        return false;
+    };
+    let next = execute_known(
+        walk,
+        got,
+        m,
+        &memo.range(),
+        &mut hart.machine.regs,
+        &mut hart.machine.bus,
+    );
+    if is_link(next) {
+        follow(rom, image, ram, got, m.target(), walk);
+        return true;
+    }
+    if is_stop(next) {
+        return false;
+    }
+    walk.go(next);
+    true
+}
