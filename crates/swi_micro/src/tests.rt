@@ -4,7 +4,7 @@
 
 ghost use Rattle.std.specs.Prelude.{◌<◌};
 
-use crate::{MicroOp, address, index_of, micro_op, step};
+use crate::{Memo, MicroOp, address, index_of, micro_op, step};
 use std::alloc::Global;
 use swi_exec::{Done, Regs, exec, text_store};
 use swi_isa::{Instr, Reg, decode};
@@ -148,6 +148,16 @@ fn micro_ops_do_what_the_executor_does(rt: HostRuntime) {
     let mut other = bus_of_rows(rt.alloc()).expect(&rt, "no memory");
     assert_eq!(rt; first_apart(&mut one, &mut other), None);
     assert_eq!(rt; first_unlike(&one, &other), None);
+}
+
+#[test]
+fn a_memo_gives_what_it_learnt_until_the_word_changes(rt: HostRuntime) {
+    let mut memo = Memo::new(rt.alloc(), 64).expect(&rt, "no memory");
+    assert!(rt; memo.op(3, 0x002081B3).is_none());
+    memo.learn(3, 0x002081B3);
+    assert!(rt; memo.op(3, 0x002081B3).is_some());
+    assert!(rt; memo.op(3, 0x402081B3).is_none());
+    assert!(rt; memo.op(2, 0x002081B3).is_none());
 }
 
 #[test]
