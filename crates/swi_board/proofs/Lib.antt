@@ -12,3 +12,4 @@ pub mod Walking
 pub mod Blocks
 pub mod Along
 pub mod Knowing
+pub mod Coming

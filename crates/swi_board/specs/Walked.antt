@@ -22,6 +22,8 @@ use Rattle.swi_hart.specs.declared.hart.ExitKind.TheVariants.{Direct, Indirect}
 use Rattle.swi_board.specs.declared.block.Walk.{Walk}
 use Rattle.swi_board.specs.declared.block.Next.{Next}
 use Rattle.swi_board.specs.declared.block.Next.TheVariants as next
+use Rattle.swi_board.specs.declared.known.Went.{Went}
+use Rattle.swi_board.specs.declared.known.Went.TheVariants as went_so
 use Rattle.swi_hart.specs.Hart.{HartData, Stepped, stepped, word_stepped, original, exit_kind}
 use Rattle.swi_hart.specs.Matching.{ExitStep}
 use Rattle.swi_hart.specs.Leaving.{Home, JalrAt, Counted, RamServed, exit_transfer, leaves, moved, quick_role}
@@ -38,6 +40,16 @@ is_stop next.Stop = true
 abbrev pub is_link : Next → Bool
 is_link next.Link = true
 is_link _ = false
+
+abbrev pub is_exit : Next → Bool
+is_exit next.Exit = true
+is_exit _ = false
+
+-- whether a step was not made
+abbrev pub is_left : Went → Bool
+is_left went_so.On = false
+is_left went_so.Exit = false
+is_left went_so.Left = true
 
 -- the role of a word from which control goes so
 abbrev pub role_by : Next → Role

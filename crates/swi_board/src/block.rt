@@ -12,11 +12,11 @@ ghost use Rattle.swi_render.specs.Rendering.{ebreak};
 ghost use Rattle.swi_hart.specs.Hart.{HartData};
 ghost use Rattle.swi_hart.specs.Leaving.{Home, leaves};
 ghost use Rattle.swi_hart.specs.Bounds.{most};
-ghost use Rattle.swi_board.specs.Walked.{is_link, is_stop, gone, landed, place_shown, walk_left, walk_pc, walk_steps, walk_count, walk_control, walk_machine, ExitStands, HasRoom, WalksTo, LinkOn, StepOn, JumpOn, Walked, WalkedOn, StandsInside, BlockRan};
+ghost use Rattle.swi_board.specs.Walked.{is_link, is_stop, gone, landed, place_shown, walk_left, walk_pc, walk_steps, walk_count, walk_control, walk_hart, walk_machine, ExitStands, HasRoom, WalksTo, LinkOn, StepOn, JumpOn, Walked, WalkedOn, StandsInside, BlockRan};
 ghost use Rattle.swi_rom.specs.Record.{IsJump, Record};
 ghost use Rattle.swi_rom.specs.Coherent.{StandsAt};
 
-use crate::known::quick;
+use crate::known::{Went, link_on, quick};
 use swi_hart::{
     Control, EBREAK, ExitKind, Hart, Role, Stage, exit_kind, fell, jump_index, register_target,
     upper_role,
@@ -148,6 +148,22 @@ impl Walk {
     }
 }
 
+impl Walk {
+    /// Is where another walk has come to.
+    // Field by field: a copy of the whole would keep what stands between the fields in registers.
+    #[inline(always)]
+    fn come(&mut self, other: Walk)
+        ensures { self.new ≡ other }
+    {
+        self.index = other.index;
+        self.stage = other.stage;
+        self.end = other.end;
+        self.limit = other.limit;
+        self.behind = other.behind;
+        self.total = other.total;
+    }
+}
+
 /// Whether the word was not executed.
 #[inline(always)]
 pub(crate) fn is_stop(next: Next) -> bool
@@ -233,10 +249,9 @@ fn step_anew<R: CacheRom, M: CacheRam>(
 {
     memo.learn(walk.index, got);
     let mut walk = walk;
-    if quick(hart, rom, image, ram, memo, got, &mut walk) {
-        Some(walk)
-    } else {
-        None
+    match quick(hart, rom, image, ram, memo, got, &mut walk) {
+        Went::On | Went::Exit => Some(walk),
+        Went::Left => None,
     }
 }
 
@@ -306,6 +321,24 @@ pub(crate) fn block_place<R: CacheRom>(
     }
 }
 
+/// The hart is where the walk has come to.
+#[inline(never)]
+fn settle<R: CacheRom>(hart: &mut Hart, rom: &R, walk: Walk)
+    requires shown { R.service.shown rom.now walk.index ≡ None → ⊥ }
+    requires to { WalksTo walk.limit walk }
+    requires few { walk.limit ≤ 2 ^ 48 }
+    ensures { hart.new ≡ walk_hart walk (place_shown (R.service.shown rom.now walk.index)) hart.old }
+{
+    let Some((block, offset)) = rom.at(walk.index) else {
+        unreachable!()
+    };
+    hart.control
+        .go(Control::At(walk.index, block, offset, walk.stage));
+    hart.machine.pc = walk.pc();
+    hart.machine.steps = walk.steps();
+    hart.count = walk.count();
+}
+
 /// Steps up to `limit`, or to the first word that is not executed here, which is then fetched. Nothing but words, links
 /// and jumps to placed blocks stands in this loop, and its walk is lent to nothing that isn't inlined: so what a word
 /// changes can stay in registers.
@@ -354,42 +387,46 @@ pub(crate) fn run_block<R: CacheRom, M: CacheRam>(
         behind: hart.machine.pc.wrapping_add((4 * steps % (1 << 32)) as u32),
         total: hart.machine_steps() + steps,
     };
-    let mut left = Ok(None);
+    macro_rules! leave {
+        ($left:expr) => {{
+            settle(hart, rom, walk);
+            return $left;
+        }};
+    }
     while u64::from(walk.index) < walk.end {
         let Ok(word) = ram.fetch(walk.index) else {
-            left = Err(Failed);
-            break;
+            leave!(Err(Failed));
         };
-        if quick(hart, rom, image, ram, memo, word, &mut walk) {
-            continue;
-        }
-        if word == EBREAK {
-            if let Some((index, target)) = back(hart, rom, image, ram, walk.index) {
-                walk.land(index, target, false);
+        match quick(hart, rom, image, ram, memo, word, &mut walk) {
+            Went::On => continue,
+            Went::Exit => {
+                // No limit of steps falls between a branch and the exit behind it, since the branch completes no step.
+                let Ok(exit) = ram.fetch(walk.index) else {
+                    leave!(Err(Failed));
+                };
+                if link_on(rom, image, ram, memo, exit, &mut walk) {
+                    continue;
+                }
+                let Some(next) = step_anew(hart, rom, image, ram, memo, exit, walk) else {
+                    leave!(Ok(Some(exit)));
+                };
+                walk.come(next);
                 continue;
             }
-        } else if let Some(next) = step_anew(hart, rom, image, ram, memo, word, walk) {
-            // Field by field, as in `land`.
-            walk = Walk {
-                index: next.index,
-                stage: next.stage,
-                end: next.end,
-                limit: next.limit,
-                behind: next.behind,
-                total: next.total,
+            Went::Left => {}
+        }
+        if word == EBREAK {
+            let Some((index, target)) = back(hart, rom, image, ram, walk.index) else {
+                leave!(Ok(Some(word)));
             };
+            walk.land(index, target, false);
             continue;
         }
-        left = Ok(Some(word));
-        break;
+        let Some(next) = step_anew(hart, rom, image, ram, memo, word, walk) else {
+            leave!(Ok(Some(word)));
+        };
+        walk.come(next);
     }
-    let Some((block, offset)) = rom.at(walk.index) else {
-        unreachable!()
-    };
-    hart.control
-        .go(Control::At(walk.index, block, offset, walk.stage));
-    hart.machine.pc = walk.pc();
-    hart.machine.steps = walk.steps();
-    hart.count = walk.count();
-    left
+    settle(hart, rom, walk);
+    Ok(None)
 }

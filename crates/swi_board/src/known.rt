@@ -5,10 +5,11 @@ ghost use Rattle.std.specs.Prelude.{◌≡◌, ◌+◌, ◌^◌, ◌<◌, ℕ, s
 ghost use Rattle.swi_isa.specs.declared.instr.Instr.{Instr as AnyInstr};
 ghost use Rattle.swi_isa.specs.Decode.{decoded};
 ghost use Rattle.swi_micro.specs.Classes.{class_of};
+ghost use Rattle.swi_calls.specs.declared.machine.Machine.{Machine};
 ghost use Rattle.swi_micro.specs.Memo.{IsOpAt};
 ghost use Rattle.swi_hart.specs.Leaving.{Home};
 ghost use Rattle.swi_board.specs.Known.{FitsPlace, WordWent, add_way, way_by, Straight, Branch, Last};
-ghost use Rattle.swi_board.specs.Walked.{is_link, is_stop, walk_control, walk_count, walk_machine, walk_pc, HasRoom, StepOn, WalksTo};
+ghost use Rattle.swi_board.specs.Walked.{is_exit, is_left, is_link, is_stop, walk_control, walk_count, walk_machine, walk_pc, HasRoom, StepOn, WalksTo};
 
 use crate::block::{Next, Walk, follow, is_link, is_stop};
 use swi_exec::Regs;
@@ -219,8 +220,29 @@ fn execute_known(
     }
 }
 
-/// A step at a fetched word by its micro-op, that asks neither the service nor a device. Where the micro-op isn't known, or
-/// doesn't tell the step, nothing changes.
+/// How a step at a word by its micro-op went.
+#[derive(Clone, Copy, Debug, PartialEq, Eq)]
+pub enum Went {
+    /// Control goes on.
+    On,
+    /// Control goes on at the exit behind a branch.
+    Exit,
+    /// The micro-op isn't known, or doesn't tell the step: nothing has changed.
+    Left,
+}
+
+/// How a step went that went on so.
+#[inline(always)]
+fn went_by(next: Next) -> Went
+    ensures { result ≡ (if is_exit next then Went.Exit else Went.On) }
+{
+    match next {
+        Next::Exit => Went::Exit,
+        Next::On | Next::Over | Next::Lead(_) | Next::Link | Next::Stop => Went::On,
+    }
+}
+
+/// A step at a fetched word by its micro-op, that asks neither the service nor a device.
 #[inline(always)]
 pub(crate) fn quick<R: CacheRom, M: CacheRam>(
     hart: &mut Hart,
@@ -230,28 +252,29 @@ pub(crate) fn quick<R: CacheRom, M: CacheRam>(
     memo: &Memo,
     got: u32,
     walk: &mut Walk,
-) -> bool
+) -> Went
     requires going { hart.old.machine.ending ≡ None }
     requires sound { R.service.sound rom.now image.now (M.state ram.now).words }
     requires used { walk.old.index < R.service.span (R.service.setting rom.now) }
     requires place { walk.old.index < memo.now }
     requires got { got ≡ slice_index (M.state ram.now).words walk.old.index }
     requires room { HasRoom walk.old }
-    ensures on { result ≡ true → (x : AnyInstr) → Some x ≡ decoded got → (p : ℕ × ℕ) → Home image.now (R.service.kept rom.now)
+    ensures on { is_left result ≡ false → (x : AnyInstr) → Some x ≡ decoded got → (p : ℕ × ℕ) → Home image.now (R.service.kept rom.now)
         (walk_machine walk.old hart.old.machine) walk.old.index p.0 p.1 walk.old.stage →
         (q : ℕ × ℕ) × StepOn image.now (R.service.kept rom.now) (walk_machine walk.old hart.old.machine)
         (walk_machine walk.new hart.new.machine) (walk_control walk.new q) x got
         walk.old.index p.0 p.1 walk.old.stage }
-    ensures counted { result ≡ true → walk_count walk.new ≡ walk_count walk.old + 1 }
-    ensures limited { result ≡ true → (n : ℕ) → WalksTo n walk.old → WalksTo n walk.new }
-    ensures same { result ≡ false → (walk.new ≡ walk.old) × (hart.new ≡ hart.old) }
+    ensures counted { is_left result ≡ false → walk_count walk.new ≡ walk_count walk.old + 1 }
+    ensures limited { is_left result ≡ false → (n : ℕ) → WalksTo n walk.old → WalksTo n walk.new }
+    ensures exit { result ≡ Went.Exit → walk.new.index < walk.new.end }
+    ensures same { is_left result ≡ true → (walk.new ≡ walk.old) × (hart.new ≡ hart.old) }
     ensures rest { hart.new ≡ record hart.old {
       machine = record hart.old.machine
           { regs = hart.new.machine.regs; bus = hart.new.machine.bus };
     } }
 {
     let Some(m) = memo.op(walk.index, got) else {
-        return false;
+        return Went::Left;
     };
     let next = execute_known(
         walk,
@@ -263,11 +286,45 @@ pub(crate) fn quick<R: CacheRom, M: CacheRam>(
     );
     if is_link(next) {
         follow(rom, image, ram, got, m.target(), walk);
-        return true;
+        return Went::On;
     }
     if is_stop(next) {
-        return false;
+        return Went::Left;
     }
     walk.go(next);
+    went_by(next)
+}
+
+/// Goes over the link that the fetched word is, by its micro-op. False, and nothing has changed, where the memo doesn't know
+/// the word as a JAL.
+#[inline(always)]
+pub(crate) fn link_on<R: CacheRom, M: CacheRam>(
+    rom: &R,
+    image: &ImageView<'_>,
+    ram: &M,
+    memo: &Memo,
+    got: u32,
+    walk: &mut Walk,
+) -> bool
+    requires sound { R.service.sound rom.now image.now (M.state ram.now).words }
+    requires used { walk.old.index < R.service.span (R.service.setting rom.now) }
+    requires place { walk.old.index < memo.now }
+    requires got { got ≡ slice_index (M.state ram.now).words walk.old.index }
+    requires room { HasRoom walk.old }
+    ensures on { result ≡ true → (x : AnyInstr) (m : Machine) (p : ℕ × ℕ) → Some x ≡ decoded got →
+        Home image.now (R.service.kept rom.now) (walk_machine walk.old m) walk.old.index p.0 p.1 walk.old.stage →
+        (q : ℕ × ℕ) × StepOn image.now (R.service.kept rom.now) (walk_machine walk.old m) (walk_machine walk.new m)
+        (walk_control walk.new q) x got walk.old.index p.0 p.1 walk.old.stage }
+    ensures counted { result ≡ true → walk_count walk.new ≡ walk_count walk.old + 1 }
+    ensures limited { result ≡ true → (n : ℕ) → WalksTo n walk.old → WalksTo n walk.new }
+    ensures same { result ≡ false → walk.new ≡ walk.old }
+{
+    let Some(m) = memo.op(walk.index, got) else {
+        return false;
+    };
+    let Class::Jal = m.class() else {
+        return false;
+    };
+    follow(rom, image, ram, got, m.target(), walk);
     true
 }
