@@ -48,4 +48,4 @@ turned_step v new m m' w p rd rs1 imm t link index input room is address four lo
     ∙ ap (λ n. quiet (record m { pc = t; regs = with_reg m.regs rd n; steps = walk_steps w + 1 }) input) back in
     let jumps : Jumps (t % 4 == 0) v new s input here (walk_machine w m) rd return t = subst (λ (q : Bool). Jumps q v new s input here (walk_machine w m) rd return t) (sym aligned) (target_arrives to, made) in
     subst (λ (x : Option Instr). JumpsBy x v new s input here (walk_machine w m) return) (sym is)
-    (jumps_by v new s input here (walk_machine w m) (instr.Jalr rd rs1 imm) rd rs1 imm t return refl address jumps)
+    (jumps_by v new s input here (walk_machine w m) rd rs1 imm t return address jumps)
