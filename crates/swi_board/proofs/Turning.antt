@@ -2,10 +2,14 @@
 use Rattle.std.proofs.Common.{◌≡◌, ◌==◌, if◌then◌else◌, ℕ, ◌+◌, ◌*◌, ◌/◌, ◌%◌, ◌^◌, ◌<◌, Bool, true, false, Option, Some, None, List, refl, sym, ap, subst, ◌∙◌}
 use Rattle.std.proofs.lemmas.Bool.{false≢true}
 use Rattle.swi_image.specs.Format.{ImageData}
-use Rattle.swi_image.specs.Place.{word_at}
+use Rattle.swi_image.specs.Place.{word_at, length_at}
 use Rattle.swi_isa.specs.declared.instr.Instr.{Instr}
 use Rattle.swi_isa.specs.declared.instr.Instr.TheVariants as instr
+use Rattle.swi_isa.specs.declared.instr.JalrFields.{JalrFields}
 use Rattle.swi_isa.specs.Decode.{decoded}
+use Rattle.swi_isa.specs.Kind.{jalr_fields}
+use Rattle.swi_isa.specs.Laws.{jalr_low}
+use Rattle.swi_isa.proofs.Few.{jalr_is}
 use Rattle.swi_exec.specs.Registers.{with_reg}
 use Rattle.swi_exec.specs.Execute.{address_of}
 use Rattle.swi_calls.specs.declared.machine.Machine.{Machine}
@@ -14,13 +18,24 @@ use Rattle.swi_rom.specs.Record.{Record, indirect}
 use Rattle.swi_rom.specs.Coherent.{TargetAt}
 use Rattle.swi_hart.specs.declared.hart.ExitKind.TheVariants.{Indirect}
 use Rattle.swi_board.specs.declared.block.Walk.{Walk}
-use Rattle.swi_hart.specs.Hart.{stepped}
+use Rattle.swi_hart.specs.Hart.{exit_kind, stepped}
 use Rattle.swi_hart.specs.Matching.{ExitStep, Jumps, JumpsBy}
 use Rattle.swi_hart.specs.Leaving.{jump_transfer}
-use Rattle.swi_board.specs.Walked.{landed, walk_control, walk_machine, walk_steps, HasRoom}
+use Rattle.swi_board.specs.Walked.{landed, walk_control, walk_machine, walk_steps, ExitStands, HasRoom}
 use Rattle.swi_hart.proofs.Falls.{jumps_by}
 use Rattle.swi_board.proofs.Walking.{over_link}
 use Rattle.swi_hart.proofs.Leaving.{target_arrives}
+
+-- the exit of a JALR is known by the word behind it
+pub jalr_exit : (d : ℕ) (f : JalrFields) → jalr_fields (decoded d) ≡ Some f → exit_kind d ≡ Indirect
+jalr_exit d f is = rw (jalr_low d f.rd f.rs1 f.imm (jalr_is (decoded d) f is)) refl
+
+-- and the return address behind that word is there
+pub link_inside : (v : ImageData) (r : Record) (i : ℕ) (p q : ℕ × ℕ) (d : ℕ) (f : JalrFields) → ExitStands v r i p → q ≡ p → d ≡ word_at v q.0 (q.1 + 1) →
+    jalr_fields (decoded d) ≡ Some f → q.1 + 2 < length_at v q.0
+link_inside v r i p q d f stands same word is =
+    let exit : d ≡ word_at v p.0 (p.1 + 1) = word ∙ ap (λ (k : ℕ × ℕ). word_at v k.0 (k.1 + 1)) same in
+    subst (λ (k : ℕ × ℕ). k.1 + 2 < length_at v k.0) (sym same) (stands.jalr (ap exit_kind (sym exit) ∙ jalr_exit d f is)).inside
 
 -- the transfer of the jump
 pub turned_transfer : (x : Option Instr) (m : Machine) (rd rs1 imm t : ℕ) → x ≡ Some (instr.Jalr rd rs1 imm) → t ≡ address_of m.regs rs1 imm / 2 * 2 → t % 4 ≡ 0 → Some (indirect t) ≡ jump_transfer x m
@@ -48,4 +63,4 @@ turned_step v new m m' w p rd rs1 imm t link index input room is address four lo
     ∙ ap (λ n. quiet (record m { pc = t; regs = with_reg m.regs rd n; steps = walk_steps w + 1 }) input) back in
     let jumps : Jumps (t % 4 == 0) v new s input here (walk_machine w m) rd return t = subst (λ (q : Bool). Jumps q v new s input here (walk_machine w m) rd return t) (sym aligned) (target_arrives to, made) in
     subst (λ (x : Option Instr). JumpsBy x v new s input here (walk_machine w m) return) (sym is)
-    (jumps_by v new s input here (walk_machine w m) (instr.Jalr rd rs1 imm) rd rs1 imm t return refl address jumps)
+    (jumps_by v new s input here (walk_machine w m) rd rs1 imm t return address jumps)

@@ -17,12 +17,9 @@ ghost use Rattle.swi_rom.specs.Record.{IsJump, Record};
 ghost use Rattle.swi_rom.specs.Coherent.{StandsAt};
 
 use crate::known::{Went, link_on, quick};
-use swi_hart::{
-    Control, EBREAK, ExitKind, Hart, Role, Stage, exit_kind, fell, jump_index, register_target,
-    upper_role,
-};
+use swi_hart::{Control, EBREAK, Hart, Stage, fell, register_target};
 use swi_image::ImageView;
-use swi_isa::{ImmOp, Instr, decode};
+use swi_isa::jalr_fields;
 use swi_memory::Bus;
 use swi_micro::Memo;
 use swi_outside::{CacheRam, Failed};
@@ -285,20 +282,13 @@ fn back<R: CacheRom, M: CacheRam>(
     let Some((block, offset)) = rom.at(at) else {
         unreachable!()
     };
-    let d = image.word(block, offset + 1);
-    if exit_kind(d) != ExitKind::Indirect {
-        return None;
-    }
-    let Some(x) = decode(d) else { unreachable!() };
-    let Instr::Jalr { rd, rs1, imm } = x else {
-        unreachable!()
-    };
-    let target = register_target(hart.machine.regs.get(rs1), imm);
+    let x = jalr_fields(image.word(block, offset + 1))?;
+    let target = register_target(hart.machine.regs.get(x.rs1), x.imm);
     if target % 4 != 0 {
         return None;
     }
     let index = rom.revisit(image, ram, target)?;
-    hart.machine.regs.set(rd, image.word(block, offset + 2));
+    hart.machine.regs.set(x.rd, image.word(block, offset + 2));
     Some((index, target))
 }
 

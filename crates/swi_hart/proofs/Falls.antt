@@ -12,7 +12,6 @@ use Rattle.swi_hart.specs.declared.hart.Stage.{Stage}
 use Rattle.swi_hart.specs.declared.hart.Stage.TheVariants.{Start, Low, Return, Leave}
 use Rattle.swi_hart.specs.declared.hart.Control.{Control}
 use Rattle.swi_hart.specs.declared.hart.Control.TheVariants.{At, Outside}
-use Rattle.swi_isa.specs.declared.instr.Instr.{Instr}
 use Rattle.swi_isa.specs.declared.instr.Instr.TheVariants as instr
 use Rattle.swi_exec.specs.Execute.{address_of}
 use Rattle.swi_hart.specs.Hart.{Stepped, is_fall, is_place}
@@ -133,7 +132,6 @@ words_after v r new first before after same moves = record {
 }
 
 -- a jump over a register, by its instruction
-pub jumps_by : (v : ImageData) (new : Record) (s : Stepped) (input : List ℕ) (here : Control) (m : Machine) (x : Instr) (rd rs1 imm t link : ℕ) → x ≡ instr.Jalr rd rs1 imm → t ≡ address_of m.regs rs1 imm / 2 * 2 →
-    Jumps (t % 4 == 0) v new s input here m rd link t → JumpsBy (Some x) v new s input here m link
-jumps_by v new s input here m x rd rs1 imm t link is to jumps =
-    subst (λ (k : Instr). JumpsBy (Some k) v new s input here m link) (sym is) (subst (λ n. Jumps (n % 4 == 0) v new s input here m rd link n) to jumps)
+pub jumps_by : (v : ImageData) (new : Record) (s : Stepped) (input : List ℕ) (here : Control) (m : Machine) (rd rs1 imm t link : ℕ) → t ≡ address_of m.regs rs1 imm / 2 * 2 →
+    Jumps (t % 4 == 0) v new s input here m rd link t → JumpsBy (Some (instr.Jalr rd rs1 imm)) v new s input here m link
+jumps_by v new s input here m rd rs1 imm t link to jumps = subst (λ n. Jumps (n % 4 == 0) v new s input here m rd link n) to jumps

@@ -23,3 +23,4 @@ pub mod Causing
 pub mod Taking
 pub mod Exchanging
 pub mod Answered
+mod Roles

@@ -176,10 +176,6 @@ pub record PlacedAt (r : Record) (i b o : ℕ) : Type 0 where
 abbrev pub broken : HartData → HartData
 broken h = record h { failed = true }
 
-abbrev pub is_jalr : Instr → Bool
-is_jalr (instr.Jalr rd rs1 imm) = true
-is_jalr _ = false
-
 -- the ram after a step: one fetch of the word under control, and so many sets
 abbrev pub fetches_after : Control → ℕ → ℕ
 fetches_after (At i b o stage) n = counted n

@@ -2,13 +2,14 @@
 #![tactic(auto)]
 
 ghost use Rattle.std.specs.Prelude.{◌≡◌, ◌+◌, ◌*◌, ◌/◌, ◌^◌, ◌%◌, ◌<◌, ℕ, List, length, slice_index, ◌==◌, if◌then◌else◌, OnOk, OnErr, Some, None, true};
+ghost use Rattle.swi_isa.specs.declared.instr.Instr.TheVariants.{Jalr};
 ghost use Rattle.swi_isa.specs.Decode.{decoded};
 ghost use Rattle.swi_exec.specs.Arithmetic.{sum_of};
 ghost use Rattle.swi_memory.specs.Bus.{fetched};
 ghost use Rattle.swi_image.specs.Place.{word_at};
 ghost use Rattle.swi_rom.specs.Record.{direct, indirect};
 ghost use Rattle.swi_hart.specs.Matching.{ExitStep, Jumps, JumpsBy};
-ghost use Rattle.swi_hart.specs.Leaving.{offset_of, fell, quick_role, upper_quick, ExitHome, PlacedAt, Counted, step_to, exit_transfer, is_jalr, jump_transfer};
+ghost use Rattle.swi_hart.specs.Leaving.{offset_of, fell, quick_role, upper_quick, ExitHome, PlacedAt, Counted, step_to, exit_transfer, jump_transfer};
 ghost use Rattle.swi_hart.specs.Service.{TransferServed};
 ghost use Rattle.swi_hart.specs.Hart.{exit_kind, instruction, original, trap_kind};
 
@@ -18,7 +19,7 @@ use crate::word::end;
 use swi_calls::End;
 use swi_exec::FaultKind;
 use swi_image::ImageView;
-use swi_isa::{ImmOp, Instr, Reg, decode};
+use swi_isa::{ImmOp, Instr, JalrFields, PcRelative, Reg, decode, jalr_fields, pc_relative};
 use swi_memory::Bus;
 use swi_outside::{CacheRam, Failed};
 use swi_rom::CacheRom;
@@ -34,19 +35,24 @@ fn original(bus: &Bus, pc: u32) -> Option<Instr>
     }
 }
 
-/// The role of a LUI at this stage, by the instruction at the original address.
+/// The role of a LUI at this stage, by the instruction at the original address: it is asked of every LUI, so few tests
+/// are made of that instruction's word.
 #[inline(never)]
+#[tactic(auto, using(crate::proofs::Roles::by_kind))]
 pub fn upper_role(bus: &Bus, pc: u32, stage: Stage) -> Role
     ensures { result ≡ upper_quick stage (instruction (fetched bus.now pc)) }
 {
     if stage != Stage::Start {
         return Role::Whole;
     }
-    match original(bus, pc) {
-        Some(Instr::Auipc { .. }) => Role::Lead(Stage::Low),
-        Some(Instr::Jal { .. }) => Role::Lead(Stage::Return),
-        Some(Instr::Branch { .. }) => Role::Over,
-        _ => Role::Whole,
+    let Some(word) = bus.fetch(pc) else {
+        return Role::Whole;
+    };
+    match pc_relative(word) {
+        Some(PcRelative::Auipc) => Role::Lead(Stage::Low),
+        Some(PcRelative::Jal) => Role::Lead(Stage::Return),
+        Some(PcRelative::Branch) => Role::Over,
+        None => Role::Whole,
     }
 }
 
@@ -170,14 +176,14 @@ pub fn register_target(a: u32, imm: u32) -> u32
     a.wrapping_add(imm) & !1
 }
 
-/// A step at the exit of this JALR.
+/// A step at the exit of the JALR with these fields.
 fn jalr_step<R: CacheRom, M: CacheRam>(
     hart: &mut Hart,
     rom: &mut R,
     image: &ImageView<'_>,
     ram: &mut M,
     at: (u32, u32, u32, Stage),
-    x: &Instr,
+    x: JalrFields,
     link: u32,
 ) -> Result<(), Failed>
     requires few { hart.old.machine.steps < 2 ^ 48 }
@@ -185,23 +191,17 @@ fn jalr_step<R: CacheRom, M: CacheRam>(
     requires control { hart.old.control ≡ Control.At at.0 at.1 at.2 at.3 }
     requires sound { R.service.sound rom.old image.now (M.state ram.old).words }
     requires services { (R.service.kept rom.old).counts.services < 2 ^ 50 }
-    requires jalr { is_jalr x.now ≡ true }
-    ensures step { OnOk result ((input : List ℕ) → JumpsBy (Some x.now) image.now (R.service.kept rom.new)
+    ensures step { OnOk result ((input : List ℕ) → JumpsBy (Some (Jalr x.rd x.rs1 x.imm)) image.now (R.service.kept rom.new)
         (step_to hart.new input) input
         (Control.At at.0 at.1 at.2 at.3) hart.old.machine link) }
     ensures counted { OnOk result (Counted hart.old hart.new) }
-    ensures served { TransferServed R.service image.now (jump_transfer (Some x.now) hart.old.machine)
+    ensures served { TransferServed R.service image.now (jump_transfer (Some (Jalr x.rd x.rs1 x.imm)) hart.old.machine)
         (record { rom = rom.old; ram = M.state ram.old })
         (record { rom = rom.new; ram = M.state ram.new }) result }
     ensures stays { OnErr result (hart.new ≡ hart.old) }
 {
-    match *x {
-        Instr::Jalr { rd, rs1, imm } => {
-            let target = register_target(hart.machine.regs.get(rs1), imm);
-            jump_step(hart, rom, image, ram, at, rd, target, link)
-        }
-        _ => unreachable!(),
-    }
+    let target = register_target(hart.machine.regs.get(x.rs1), x.imm);
+    jump_step(hart, rom, image, ram, at, x.rd, target, link)
 }
 
 /// A step at an exit.
@@ -250,8 +250,10 @@ pub(crate) fn exit_step<R: CacheRom, M: CacheRam>(
             Ok(())
         }
         ExitKind::Indirect => {
-            let Some(x) = decode(d) else { unreachable!() };
-            jalr_step(hart, rom, image, ram, at, &x, image.word(b, o + 2))
+            let Some(x) = jalr_fields(d) else {
+                unreachable!()
+            };
+            jalr_step(hart, rom, image, ram, at, x, image.word(b, o + 2))
         }
     }
 }

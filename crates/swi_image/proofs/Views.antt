@@ -1,5 +1,5 @@
 -- What is seen of accepted bytes.
-use Rattle.std.proofs.Common.{slice_index, subst, nat_lt, ◌≡◌, ℕ, ◌+◌, ◌-◌, ◌*◌, ◌<◌, ◌≤◌, ◌==◌, ◌≢◌, true, false, zero, suc, List, [], ◌∷◌, length, get_or, drop, arith, refl, None, inl, inr, length-take, length-drop, get_or-drop, mul_comm, ◌^◌, add-one, not, nat_le, if◌then◌else◌}
+use Rattle.std.proofs.Common.{slice_index, subst, sym, nat_lt, ◌≡◌, ℕ, ◌+◌, ◌-◌, ◌*◌, ◌<◌, ◌≤◌, ◌==◌, ◌≢◌, true, false, zero, suc, List, [], ◌∷◌, length, get_or, drop, arith, refl, None, inl, inr, length-take, length-drop, get_or-drop, mul_comm, ◌^◌, add-one, not, nat_le, if◌then◌else◌}
 use Rattle.std.proofs.Math.Nat.{mul-le-mul_left, pow-suc}
 use Rattle.std.proofs.lemmas.Bool.Decides.{nat_tests}
 use Rattle.std.proofs.lemmas.Bool.{cases_eq, cases_lt}
@@ -361,6 +361,16 @@ counted_next n p left less c some half =
     }
 
 pub ruleset halving = (halved_all, halved_right, halved_left, halved_block, counted_start, counted_next)
+
+-- a block that has a text word between its first and the next block's
+pub has_word : (v : ImageData) (b k : ℕ) → IsImage v → b < length v.starts → slice_index v.starts b ≤ k → k < next_start v b → k < length v.offsets →
+    (b ≡ block_of v.starts k) × IsWordOf v b k
+has_word v b k s within low high inside =
+    let up : Ascends v.starts = record { next = s.ascending } in
+    let is : block_of v.starts k ≡ b = block_is v.starts k b up within low (λ more. (let e = next_inside v.starts (length v.offsets) b more in omega (arith, high, e))) in (
+      sym is,
+      record { from = low; to = high; inside = subst (λ (n : ℕ). get_or v.offsets k 0 < length (block_at v n)) is (s.within k inside) },
+    )
 
 -- halving among the offsets of a block
 

@@ -1,7 +1,7 @@
 //! Images, and views of them.
 #![tactic(auto)]
 
-ghost use Rattle.std.specs.Prelude.{◌/◌, ◌≡◌, ◌<◌, ◌≤◌, ◌+◌, ◌*◌, ◌^◌, ◌-◌, None, Some, IfOk, IfErr, IfSome, OnOk, length, slice_index};
+ghost use Rattle.std.specs.Prelude.{◌/◌, ◌≡◌, ◌<◌, ◌≤◌, ◌+◌, ◌*◌, ◌^◌, ◌-◌, None, Some, IfOk, IfErr, IfSome, IsTrue, OnOk, length, slice_index};
 ghost use Rattle.swi_image.specs.Format.{image_of};
 ghost use Rattle.swi_image.specs.Checks.{first_refusal, block_of};
 ghost use Rattle.swi_image.specs.Place.{distance, IsWordOf, word_before, place_of, origin_of, block_at, next_start};
@@ -271,6 +271,39 @@ impl<'a> ImageView<'a> {
         ensures own { IfSome result (λ p. IsWordOf self.now p.0 (distance self.now a / 4)) }
     {
         self.place_counted::<Brand>(a, Blank::new(1))
+    }
+
+    /// Whether there is a block of this number that has a text word.
+    #[inline(always)]
+    fn has(&self, block: u32, k: u32) -> bool
+        requires { k < length self.now.offsets }
+        ensures within { IsTrue result → block < length self.now.starts }
+        ensures own { IsTrue result → (block ≡ block_of self.now.starts k) × IsWordOf self.now block k }
+    {
+        if block >= self.blocks() {
+            return false;
+        }
+        if k < self.first(block) {
+            return false;
+        }
+        k < self.next(block)
+    }
+
+    /// The place of the text word at an address, as `place` tells it, in constant time where the block `near` has the word:
+    /// so who has been there before need not search. Where no block of that number has it, the number is no harm.
+    #[inline]
+    #[tactic(auto, unfolding(crate::specs::Place::place_of))]
+    pub fn place_near(&self, a: u32, near: u32) -> Option<(u32, u32)>
+        ensures place { result ≡ place_of self.now a }
+        ensures within { IfSome result (λ p. p.0 < length self.now.starts) }
+        ensures own { IfSome result (λ p. IsWordOf self.now p.0 (distance self.now a / 4)) }
+    {
+        let distance = a.wrapping_sub(self.base());
+        let k = distance / 4;
+        if distance % 4 == 0 && k < self.len() && self.has(near, k) {
+            return Some((near, self.offset(k)));
+        }
+        self.place(a)
     }
 
     /// The last text word of a block that begins at or before an offset, by halving.

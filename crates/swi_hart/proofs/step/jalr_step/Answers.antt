@@ -1,5 +1,4 @@
-use Rattle.std.proofs.Common.{◌≡◌, rules}
-use Rattle.swi_isa.specs.declared.instr.Instr.TheVariants as instr
+use Rattle.std.proofs.Common.{rules}
 use Rattle.swi_hart.specs.declared.hart.Control.TheVariants.{At}
 use Rattle.swi_hart.specs.Leaving.{step_to}
 use Rattle.swi_hart.proofs.Falls.{jumps_by}
@@ -8,8 +7,8 @@ use Rattle.swi_hart.proofs.step.jalr_step.Goals as goal
 
 pub returns-clause-step : goal.returns-clause-step
 returns-clause-step g c =
-    let is : c.args.x.now ≡ instr.Jalr c.in-Jalr.rd c.in-Jalr.rs1 c.in-Jalr.imm = search rules in
+    let x = c.args.x in
     ok_map c.jump_step.result
     (λ step. λ input. jumps_by c.args.image.now (g.R.CacheRom.service.kept c.jump_step.new.rom) (step_to c.jump_step.new.hart input) input
-    (At c.args.at.0 c.args.at.1 c.args.at.2 c.args.at.3) c.args.hart.now.machine c.args.x.now c.in-Jalr.rd c.in-Jalr.rs1 c.in-Jalr.imm _ c.args.link is (search rules) (step input))
+    (At c.args.at.0 c.args.at.1 c.args.at.2 c.args.at.3) c.args.hart.now.machine x.rd x.rs1 x.imm _ c.args.link (search rules) (step input))
     c.jump_step.ensures.step
