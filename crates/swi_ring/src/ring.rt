@@ -428,6 +428,10 @@ impl CacheRom for RingRom {
         Ok(index)
     }
 
+    fn span(&self) -> u32 {
+        self.words
+    }
+
     fn at(&self, i: u32) -> Option<(u32, u32)> {
         if i >= self.words {
             return None;

@@ -105,6 +105,11 @@ pub trait CacheRom: Drop {
         ensures keeps { OnServed result (Keeps service image.now self.old self.new
             (M.state ram.old).words (M.state ram.new).words) };
 
+    /// The number of the ram's words that it uses, from the first one on: at most 2^21, which are 8 MiB.
+    fn span(&self) -> u32
+        ensures words { result ≡ service.span (service.setting self.now) }
+        ensures small { result ≤ 2 ^ 21 };
+
     /// Block and offset of the placed word at an index; None exactly where no block is placed.
     fn at(&self, i: u32) -> Option<(u32, u32)>
         ensures { result ≡ service.shown self.now i };

@@ -445,6 +445,10 @@ impl<T: LinkTable> CacheRom for SlotRom<T> {
         Ok(index)
     }
 
+    fn span(&self) -> u32 {
+        self.slots * self.size
+    }
+
     fn at(&self, i: u32) -> Option<(u32, u32)> {
         let slot = i / self.size;
         let offset = i % self.size;
