@@ -2,7 +2,7 @@
 #![tactic(auto)]
 
 ghost use Rattle.std.specs.Prelude.{◌≡◌, ◌<◌, ◌≤◌, ◌^◌, ℕ, List, [], ◌∷◌, length, replicate, map, slice_set, slice_index, slice_get, IfOk, IfSome, MatchOption, nat_lt, if◌then◌else◌};
-ghost use Rattle.swi_chain.specs.Chains.{list_of, Has, IsApart, IsFree, without};
+ghost use Rattle.swi_chain.specs.Chains.{list_of, Has, IsApart, IsFree, AreFree, without};
 
 use std::alloc::Global;
 use std::marker::Model;
@@ -135,5 +135,22 @@ impl Chains {
         } else {
             None
         }
+    }
+    /// The first word from `from` on and below `to` that a list has; None exactly where none has one. Each word that is
+    /// passed over is one read.
+    pub fn first_linked(&self, from: u32, to: u32) -> Option<u32>
+        requires { to ≤ self.now.words }
+        ensures free { MatchOption result (AreFree self.now from to) (λ x. AreFree self.now from x) }
+        ensures within { IfSome result (λ x. (from ≤ x) × (x < to)) }
+        ensures linked { IfSome result (λ x. (s : ℕ) × Has (list_of self.now s) x) }
+    {
+        let slots = self.heads.len() as u32;
+        for at in from..to {
+            let slot = self.owners[at as usize];
+            if slot < slots {
+                return Some(at);
+            }
+        }
+        None
     }
 }
