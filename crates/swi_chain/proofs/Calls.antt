@@ -53,6 +53,11 @@ has_slot words s at heads nexts prevs owners d e tied has = elim (cases_lt s (le
   | inr past ↦ absurd (subst (λ (xs : List ℕ). Has xs at) (ap (λ (x : ChainsData). list_of x s) (sym e) ∙ get_or_past (lists_in nexts words heads) s [] (omega (arith, lists_long words heads nexts))) has)
 ]
 
+pub unowned_free : (words at : ℕ) (heads nexts prevs owners : List ℕ) (d : ChainsData) → data_of words heads nexts ≡ d → Tied words heads nexts prevs owners → length heads ≤ slice_index owners at → IsFree d at
+unowned_free words at heads nexts prevs owners d e tied past = λ s has.
+    let w = has_slot words s at heads nexts prevs owners d e tied has in
+    omega (arith, w.1, w.2)
+
 pub target_none : (words at o : ℕ) (heads nexts prevs owners : List ℕ) (d : ChainsData) → data_of words heads nexts ≡ d → Tied words heads nexts prevs owners → at < d.words → o ≡ slice_index_or owners at o → length heads ≤ o → IsFree d at
 target_none words at o heads nexts prevs owners d e tied lt is past = λ s has.
     let w = has_slot words s at heads nexts prevs owners d e tied has in

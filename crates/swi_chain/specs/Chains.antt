@@ -1,5 +1,5 @@
 -- For each slot the words that are linked to it, newest first.
-use Rattle.std.specs.Prelude.{◌≡◌, ◌⊎◌, ℕ, ◌<◌, ◌==◌, not, List, [], ◌∷◌, filter, length, slice_index_or}
+use Rattle.std.specs.Prelude.{◌≡◌, ◌⊎◌, ℕ, ◌<◌, ◌≤◌, ◌==◌, not, List, [], ◌∷◌, filter, length, slice_index_or}
 
 pub record ChainsData : Type 0 where
   -- how many words there are
@@ -23,6 +23,10 @@ Distinct (x ∷ xs) = (Has xs x → ⊥) × Distinct xs
 -- no list has the word
 abbrev pub IsFree : ChainsData → ℕ → Type 0
 IsFree c x = (s : ℕ) → Has (list_of c s) x → ⊥
+
+-- no list has a word from one on and below another
+abbrev pub AreFree : ChainsData → ℕ → ℕ → Type 0
+AreFree c from to = (x : ℕ) → from ≤ x → x < to → IsFree c x
 
 -- the list without a word; the others keep their order
 abbrev pub without : ℕ → List ℕ → List ℕ

@@ -1,8 +1,8 @@
 //! Lists of linked words, kept as chains through arrays of indices, so that each call takes constant time.
 #![tactic(auto)]
 
-ghost use Rattle.std.specs.Prelude.{◌≡◌, ◌<◌, ◌≤◌, ◌^◌, ℕ, List, [], ◌∷◌, length, replicate, map, slice_set, slice_index, slice_get, IfOk, IfSome, MatchOption, nat_lt, if◌then◌else◌};
-ghost use Rattle.swi_chain.specs.Chains.{list_of, Has, IsApart, IsFree, without};
+ghost use Rattle.std.specs.Prelude.{true, ◌+◌, ◌≡◌, ◌<◌, ◌≤◌, ◌^◌, ℕ, List, [], ◌∷◌, length, replicate, map, slice_set, slice_index, slice_get, IfOk, IfSome, MatchOption, nat_lt, if◌then◌else◌};
+ghost use Rattle.swi_chain.specs.Chains.{list_of, Has, IsApart, IsFree, AreFree, without};
 
 use std::alloc::Global;
 use std::marker::Model;
@@ -47,6 +47,33 @@ fn head_at(prev: u32, words: u32, slot: u32, slots: u32) -> u32
     ensures { result ≡ (if nat_lt prev words then slots else slot) }
 {
     if prev < words { slots } else { slot }
+}
+
+/// How many words are looked at together.
+const STRIDE: u32 = 8;
+
+// Whether the eight words from one on have no slot: the common bits of numbers are at most each of them, and of the number
+// of slots with itself that number.
+fn are_free(owners: &[u32], at: usize, slots: u32) -> bool
+    requires { at + 8 ≤ length owners.now }
+    ensures { result ≡ true → (x : ℕ) → at ≤ x → x < at + 8 → slots ≤ slice_index owners.now x }
+{
+    let low = owners[at] & owners[at + 1] & owners[at + 2] & owners[at + 3];
+    let high = owners[at + 4] & owners[at + 5] & owners[at + 6] & owners[at + 7];
+    low & high >= slots
+}
+
+// The word behind those from `from` on that have no slot, as far as they are passed over by strides below `to`.
+fn passed(owners: &[u32], from: u32, to: u32, slots: u32) -> u32
+    requires { to ≤ length owners.now }
+    ensures from { from ≤ result }
+    ensures free { (x : ℕ) → from ≤ x → x < result → slots ≤ slice_index owners.now x }
+{
+    let mut at = from;
+    while to.saturating_sub(at) >= STRIDE && are_free(owners, at as usize, slots) {
+        at += STRIDE;
+    }
+    at
 }
 
 impl Chains {
@@ -135,5 +162,22 @@ impl Chains {
         } else {
             None
         }
+    }
+    /// The first word from `from` on and below `to` that a list has; None exactly where none has one. It takes time
+    /// linear in the number of words that are passed over.
+    pub fn first_linked(&self, from: u32, to: u32) -> Option<u32>
+        requires { to ≤ self.now.words }
+        ensures free { MatchOption result (AreFree self.now from to) (λ x. AreFree self.now from x) }
+        ensures within { IfSome result (λ x. (from ≤ x) × (x < to)) }
+        ensures linked { IfSome result (λ x. (s : ℕ) × Has (list_of self.now s) x) }
+    {
+        let slots = self.heads.len() as u32;
+        for at in passed(&self.owners, from, to, slots)..to {
+            let slot = self.owners[at as usize];
+            if slot < slots {
+                return Some(at);
+            }
+        }
+        None
     }
 }

@@ -9,6 +9,9 @@ fn words_leave_a_list_in_any_order(rt: HostRuntime) -> Result<(), Fail> {
     chains.link(8, 1);
     assert_eq!(rt; chains.first_into(0), Some(3));
     assert_eq!(rt; chains.target(6), Some(0));
+    assert_eq!(rt; chains.first_linked(0, 10), Some(3));
+    assert_eq!(rt; chains.first_linked(4, 8), Some(6));
+    assert_eq!(rt; chains.first_linked(7, 8), None);
     chains.unlink(3);
     assert_eq!(rt; chains.first_into(0), Some(6));
     assert_eq!(rt; chains.target(3), None);

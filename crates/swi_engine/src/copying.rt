@@ -57,8 +57,9 @@ pub(crate) fn copy_rest<M: CacheRam>(
     ensures copied { OnOk result (CopiedOn image.now block first from size (M.state ram.old) (M.state ram.new)) }
     ensures failed { OnErr result (FailedBelow (first + size) (M.state ram.old) (M.state ram.new)) }
 {
+    let words = image.block(block);
     for k in from..size {
-        ram.set(first + k, image.word(block, k))?;
+        ram.set(first + k, words.word(k))?;
     }
     Ok(())
 }

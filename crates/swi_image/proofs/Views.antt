@@ -283,6 +283,12 @@ body_inside h w b o is a within inside =
     let end = end_inside w a.sizes a.lengths b within in
     omega (arith, is.body, seen_length w b a within, end, length-drop (offsets_at w + len_of w) w)
 
+pub end_within : (h : Header) (w : List ℕ) (b : ℕ) → IsHeader h w → IsAccepted w → b < blocks_of w → h.body + get_or (ends_of w) b 0 ≤ length w
+unfolding body_of
+end_within h w b is a within =
+    let end = end_inside w a.sizes a.lengths b within in
+    omega (arith, is.body, end, length-drop (offsets_at w + len_of w) w, last_end w a.sizes, a.sizes.size)
+
 pub ruleset views = (seen_blocks, seen_len, seen_inside, seen_length, seen_ordered, seen_word)
 
 -- halving

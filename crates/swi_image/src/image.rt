@@ -7,6 +7,7 @@ ghost use Rattle.swi_image.specs.Checks.{first_refusal, block_of};
 ghost use Rattle.swi_image.specs.Place.{distance, IsWordOf, word_before, place_of, origin_of, block_at, next_start};
 ghost use Rattle.swi_image.specs.Sound.{IsImage};
 
+use crate::block::Block;
 use crate::checks::{
     Header, begin_at, end_at, header_of, header_refusal, offset_at, start_at, tables_refusal,
     word_inside,
@@ -206,6 +207,18 @@ impl<'a> ImageView<'a> {
     {
         let begin = begin_at(self.bytes, &self.header, block);
         word_inside(self.bytes, self.header.body + begin + offset as usize)
+    }
+
+    /// The words of a block, for a caller that reads many of them.
+    #[inline]
+    #[tactic(auto, unfolding(crate::specs::Format::image_of, crate::specs::Place::block_at), using(crate::proofs::Views::views))]
+    pub fn block(&self, block: u32) -> Block<'a>
+        requires { block < length self.now.starts }
+        ensures { result ≡ block_at self.now block }
+    {
+        let begin = self.header.body + begin_at(self.bytes, &self.header, block);
+        let end = self.header.body + end_at(self.bytes, &self.header, block);
+        Block::of(&self.bytes[4 * begin..4 * end])
     }
 
     /// The block of a text word, by halving: each step leaves half the blocks at most.

@@ -224,6 +224,7 @@ fn both_versions_say_their_blocks(rt: HostRuntime) -> Result<(), Fail> {
         let view = read_image(&bytes[1..]).ok().expect(&rt, "accepted");
         assert_eq!(rt; numbers(&view), said);
         assert_eq!(rt; words_said(rt.alloc(), &view)?.as_slice(), blocks);
+        assert_eq!(rt; view.block(0).word(0), blocks[1]);
     }
     Ok(())
 }

@@ -28,7 +28,7 @@ pub ruleset word_views = (length_words, get_word_first)
 number_cut : (bytes : List ℕ) (m j at : ℕ) → at + 4 ≤ m → little_number 4 (drop at (take m (drop j bytes))) ≡ little_number 4 (drop (j + at) bytes)
 number_cut bytes m j at within = grind (arith, get_or-drop {A = ℕ}, get_or-take {A = ℕ})
 
-words_cut : (bytes : List ℕ) (m j at n : ℕ) → at + 4 * n ≤ m → words_from (take m (drop j bytes)) at n ≡ words_from bytes (j + at) n
+pub words_cut : (bytes : List ℕ) (m j at n : ℕ) → at + 4 * n ≤ m → words_from (take m (drop j bytes)) at n ≡ words_from bytes (j + at) n
 unfolding words_from
 words_cut bytes m j at zero within = refl
 words_cut bytes m j at (suc n) within = grind (arith, number_cut bytes m j at, words_cut bytes m j (at + 4) n)

@@ -35,8 +35,9 @@ pub fn copy<M: CacheRam>(
     ensures copied { OnOk result (Copied (word_at image.now block) first size (M.state ram.old) (M.state ram.new)) }
     ensures failed { OnErr result (FailedBelow (first + size) (M.state ram.old) (M.state ram.new)) }
 {
+    let words = image.block(block);
     for k in 0..size {
-        ram.set(first + k, image.word(block, k))?;
+        ram.set(first + k, words.word(k))?;
     }
     Ok(())
 }

@@ -1,10 +1,9 @@
 -- One link more leaves its list.
-use Rattle.std.proofs.Common.{◌≡◌, ◌⊎◌, ℕ, ◌+◌, ◌-◌, ◌<◌, ◌≤◌, ◌==◌, ◌&&◌, true, false, not, max, List, [], ◌∷◌, length, slice_index, slice_set, Some, None, slice_get, arith, refl, sym, ◌∙◌, ap, subst, inl, inr}
+use Rattle.std.proofs.Common.{◌≡◌, ◌⊎◌, ℕ, ◌+◌, ◌-◌, ◌<◌, ◌≤◌, ◌==◌, ◌&&◌, true, false, not, List, [], ◌∷◌, length, slice_index, slice_set, Some, None, slice_get, arith, refl, sym, ◌∙◌, ap, subst, inl, inr}
 use Rattle.std.proofs.lemmas.Bool.{cases_Bool, cases_eq, cases_lt, both_ways}
 use Rattle.std.proofs.lemmas.List.{length-map, get_or-set_same, get_or-set_other}
-use Rattle.swi_outside.specs.Causes.{counted}
 use Rattle.swi_outside.specs.CacheRam.{RamState, with_set}
-use Rattle.swi_chain.specs.Chains.{ChainsData, Has, IsApart, IsFree, list_of, without}
+use Rattle.swi_chain.specs.Chains.{ChainsData, Has, IsApart, AreFree, list_of, without}
 use Rattle.swi_chain.specs.Holders.{holder_of}
 use Rattle.swi_chain.specs.Lists.{first_has, holder_is, holder_has, holder_free, unlinked_lists, unlinked_here, unlinked_other}
 use Rattle.swi_rom.specs.Record.{ebreak}
@@ -149,42 +148,55 @@ released_one c at = record {
     away i at e (inl lt) = omega (arith, e)
     away i at e (inr le) = omega (arith, e)
 
-pub released_free : (c : ChainsData) (at : ℕ) → IsFree c at → Released at 1 c c
-released_free c at free = record {
+pub released_free : (c : ChainsData) (from to : ℕ) → AreFree c from to → Released from (to - from) c c
+released_free c from to free = record {
   words_stay = refl;
   lists_stay = refl;
-  dropped = λ i le lt. (let e : i ≡ at = omega arith in ap (λ (x : ℕ). holder_of c.lists x) e ∙ holder_free c.lists at free);
+  dropped = λ i le lt. holder_free c.lists i (free i le (omega arith));
   others = λ i out. refl;
 }
 
 released_none : (c : ChainsData) (first : ℕ) → Released first 0 c c
 released_none c first = record { words_stay = refl; lists_stay = refl; dropped = λ i le lt. absurd (omega arith); others = λ i out. refl }
 
-released_more : (first n at : ℕ) (old now next : ChainsData) → Released first n old now → Released at 1 now next → at ≡ first + n → Released first (n + 1) old next
-released_more first n at old now next r s e = record {
+released_more : (first n at m : ℕ) (old now next : ChainsData) → Released first n old now → Released at m now next → at ≡ first + n → Released first (n + m) old next
+released_more first n at m old now next r s e = record {
   words_stay = s.words_stay ∙ r.words_stay;
   lists_stay = s.lists_stay ∙ r.lists_stay;
   dropped = λ i le lt. elim (cases_lt i at) [
     | inl below ↦ s.others i (inl below) ∙ r.dropped i le (omega (arith, e))
     | inr here ↦ s.dropped i here (omega (arith, e)) ∙ r.lists_stay
   ];
-  others = λ i out. s.others i (away i at first n e out) ∙ r.others i (nearer i first n out);
+  others = λ i out. s.others i (away i at first n m e out) ∙ r.others i (nearer i first n m out);
 }
   where
-    away : (i at first n : ℕ) → at ≡ first + n → (i < first) ⊎ (first + (n + 1) ≤ i) → (i < at) ⊎ (at + 1 ≤ i)
-    away i at first n e (inl lt) = inl (omega (arith, e))
-    away i at first n e (inr le) = inr (omega (arith, e))
+    away : (i at first n m : ℕ) → at ≡ first + n → (i < first) ⊎ (first + (n + m) ≤ i) → (i < at) ⊎ (at + m ≤ i)
+    away i at first n m e (inl lt) = inl (omega (arith, e))
+    away i at first n m e (inr le) = inr (omega (arith, e))
 
-    nearer : (i first n : ℕ) → (i < first) ⊎ (first + (n + 1) ≤ i) → (i < first) ⊎ (first + n ≤ i)
-    nearer i first n (inl lt) = inl lt
-    nearer i first n (inr le) = inr (omega arith)
+    nearer : (i first n m : ℕ) → (i < first) ⊎ (first + (n + m) ≤ i) → (i < first) ⊎ (first + n ≤ i)
+    nearer i first n m (inl lt) = inl lt
+    nearer i first n m (inr le) = inr (omega arith)
 
-pub released_next : (first at : ℕ) (old now next : ChainsData) → (first ≤ at) × Released first (at - first) old now → Released at 1 now next → (first ≤ at + 1) × Released first (at + 1 - first) old next
-released_next first at old now next r s =
-    (omega (arith, r.0), subst (λ (n : ℕ). Released first n old next) (omega (arith, r.0)) (released_more first (at - first) at old now next r.1 s (omega (arith, r.0))))
+-- the words up to a link are none, and the link leaves
+released_to : (first from to : ℕ) (old now : ChainsData) → first ≤ from → from ≤ to → Released first (from - first) old now → AreFree now from to → Released first (to - first) old now
+released_to first from to old now after order r free =
+    subst (λ (n : ℕ). Released first n old now) (omega arith)
+    (released_more first (from - first) from (to - from) old now now r (released_free now from to free) (omega arith))
 
-pub released_start : (first : ℕ) (c : ChainsData) → (first ≤ first) × Released first (first - first) c c
-released_start first c = (omega arith, subst (λ (n : ℕ). Released first n c c) (omega arith) (released_none c first))
+pub released_next : (first from at : ℕ) (old now next : ChainsData) → first ≤ from → from ≤ at → Released first (from - first) old now → AreFree now from at → next ≡ taken now at →
+    Released first (at + 1 - first) old next
+released_next first from at old now next after order r free is =
+    let here = released_to first from at old now after order r free in
+    let left : Released at 1 now next = subst (λ (d : ChainsData). Released at 1 now d) (sym is) (released_one now at) in
+    subst (λ (n : ℕ). Released first n old next) (omega (arith, after, order)) (released_more first (at - first) at 1 old now next here left (omega (arith, after, order)))
+
+pub released_end : (first size from : ℕ) (old now : ChainsData) → first ≤ from → from ≤ first + size → Released first (from - first) old now → AreFree now from (first + size) → Released first size old now
+released_end first size from old now after order r free =
+    subst (λ (n : ℕ). Released first n old now) (omega arith) (released_to first from (first + size) old now after order r free)
+
+pub released_start : (first : ℕ) (c : ChainsData) → Released first (first - first) c c
+released_start first c = subst (λ (n : ℕ). Released first n c c) (omega arith) (released_none c first)
 
 -- a failure after some were undone
 pub undone_failed : (list first n k at : ℕ) (old now : ChainsData) (a b c : RamState) → Undone list first n k old now a b → at < now.words → FailedBelow (at + 1) b c → FailedBelow old.words a c

@@ -87,18 +87,9 @@ fn drop_own(chains: &mut Chains, first: u32, size: u32)
     requires small { chains.old.words ≤ 2 ^ 21 }
     ensures { Released first size chains.old chains.new }
 {
-    for at in first..first + size {
-        drop_link(chains, at);
-    }
-}
-
-// Takes a word out of its list, where one has it.
-fn drop_link(chains: &mut Chains, at: u32)
-    requires { at < chains.old.words }
-    ensures { Released at 1 chains.old chains.new }
-{
-    match chains.target(at) {
-        Some(_) => chains.unlink(at),
-        None => {}
+    let mut from = first;
+    while let Some(at) = chains.first_linked(from, first + size) {
+        chains.unlink(at);
+        from = at + 1;
     }
 }
