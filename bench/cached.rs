@@ -1,6 +1,8 @@
 //! The cached machine of this repository written in plain Rust, in the same form: words, links and jumps to placed blocks stand
-//! in a loop of their own, which is left for any other word. `bench/run` measures the proved one against it.
+//! in a loop of their own, by micro-ops that are kept beside their words, and any other word leaves it. `bench/run` measures the
+//! proved one against it.
 
+use crate::micro::{Class, Memo, MicroOp, class_of_code};
 use crate::*;
 
 const EBREAK: u32 = 0x0010_0073;
@@ -43,14 +45,14 @@ struct Image {
     base: u32,
     starts: Vec<u32>,
     ends: Vec<u32>,
-    offsets: Vec<u32>,
+    places: Vec<(u32, u32)>,
     words: Vec<u32>,
 }
 
 impl Image {
     fn cut(bus: &Bus, most: u32) -> Image {
         let base = bus.text.from;
-        let mut image = Image { base, starts: vec![0], ends: vec![], offsets: vec![], words: vec![] };
+        let mut image = Image { base, starts: vec![0], ends: vec![], places: vec![], words: vec![] };
         let mut begin = 0;
         let mut fell = false;
         for k in 0..bus.text.len / 4 {
@@ -62,7 +64,7 @@ impl Image {
                 image.starts.push(k);
                 begin = image.words.len();
             }
-            image.offsets.push((image.words.len() - begin) as u32);
+            image.places.push((image.starts.len() as u32 - 1, (image.words.len() - begin) as u32));
             image.words.extend(words);
             fell = falls;
         }
@@ -92,12 +94,10 @@ impl Image {
     /// Block and offset of the text word at an address.
     fn place(&self, a: u32) -> Option<(u32, u32)> {
         let distance = a.wrapping_sub(self.base);
-        let k = distance / 4;
-        if distance % 4 != 0 || k as usize >= self.offsets.len() {
+        if distance % 4 != 0 {
             return None;
         }
-        let block = self.starts.partition_point(|&start| start <= k) - 1;
-        Some((block as u32, self.offsets[k as usize]))
+        self.places.get(distance as usize / 4).copied()
     }
 }
 
@@ -250,44 +250,36 @@ enum Next {
     Over,
     /// To the next word, of the same instruction.
     Lead(Stage),
+    /// To the exit behind the word.
+    Exit,
+    /// Over a link.
+    Link,
     /// Nowhere: the word was not executed.
     Stop,
 }
 
 /// Where steps have come: the word under control with its stage, and the index `end` at which the limit of steps would be reached
-/// if each word from here on were an instruction. `pc`, `steps` and `count` are of the word at which the walk began or last landed:
-/// so a step to the next word changes the index alone. What stands at the index the service shows.
+/// if each word from here on were an instruction. `behind` and `total` are the pc and the count of machine instructions that would
+/// stand there: so a step to the next word changes the index alone.
 #[derive(Clone, Copy)]
 struct Walk {
     index: u32,
     stage: Stage,
     end: u64,
-    limit: u64,
-    pc: u32,
-    steps: u64,
-    count: u64,
+    behind: u32,
+    total: u64,
 }
 
 impl Walk {
+    /// The steps that are left.
     #[inline(always)]
-    fn steps(&self) -> u64 {
-        self.limit - (self.end - u64::from(self.index))
-    }
-
-    /// The instructions since the walk began or last landed.
-    #[inline(always)]
-    fn made(&self) -> u64 {
-        self.steps() - self.steps
+    fn left(&self) -> u64 {
+        self.end - u64::from(self.index)
     }
 
     #[inline(always)]
     fn pc(&self) -> u32 {
-        self.pc.wrapping_add(4 * self.made() as u32)
-    }
-
-    #[inline(always)]
-    fn count(&self) -> u64 {
-        self.count + self.made()
+        self.behind.wrapping_sub(4 * self.left() as u32)
     }
 
     #[inline(always)]
@@ -306,31 +298,32 @@ impl Walk {
                 self.index += 1;
                 self.stage = stage;
                 self.end += 1;
-                self.count += 1;
+                self.total += 1;
             }
-            Next::Stop => {}
+            Next::Exit => {
+                self.index += 1;
+                self.stage = Stage::Leave;
+                self.end += 1;
+                self.total += 1;
+            }
+            Next::Link | Next::Stop => {}
         }
     }
 
     /// Goes over a link to a place, which is a step unless the exit only leads on.
     #[inline(always)]
     fn land(&mut self, index: u32, pc: u32, leads_on: bool) {
-        let steps = u64::from(!leads_on);
-        *self = Walk {
-            index,
-            stage: Stage::Start,
-            end: u64::from(index) + (self.end - u64::from(self.index)) - steps,
-            limit: self.limit,
-            pc,
-            steps: self.steps() + steps,
-            count: self.count() + 1,
-        };
+        let left = self.left() - u64::from(!leads_on);
+        self.index = index;
+        self.stage = Stage::Start;
+        self.end = u64::from(index) + left;
+        self.behind = pc.wrapping_add(4 * left as u32);
+        self.total += u64::from(leads_on);
     }
 
     #[inline(always)]
-    fn follow(&mut self, rom: &Rom, off: u32) {
+    fn follow(&mut self, rom: &Rom, index: u32) {
         let target = rom.goals[self.index as usize];
-        let index = self.index.wrapping_mul(4).wrapping_add(off) / 4;
         let leads_on = fell(self.stage, self.pc(), target, index == self.index);
         self.land(index, target, leads_on);
     }
@@ -387,56 +380,85 @@ pub fn text_store(instr: &Instr, regs: &Regs, bus: &Bus) -> Option<u32> {
     }
 }
 
+/// The fields of the JALR that a word is: rd, rs1 and the immediate.
+#[inline(always)]
+fn jalr_fields(w: u32) -> Option<(Reg, Reg, u32)> {
+    (w & 0x707F == 0x67).then(|| (Reg::of(w >> 7 & 31), Reg::of(w >> 15 & 31), (w as i32 >> 20) as u32))
+}
+
 /// Where control goes from a LUI, by the instruction that it begins.
 #[inline(never)]
 fn upper_role(bus: &Bus, pc: u32, stage: Stage) -> Next {
     if stage != Stage::Start {
         return Next::On;
     }
-    match bus.fetch(pc).and_then(decode) {
-        Some(Instr::Auipc { .. }) => Next::Lead(Stage::Low),
-        Some(Instr::Jal { .. }) => Next::Lead(Stage::Return),
+    match bus.fetch(pc).map(|word| word & 0x7F) {
+        Some(0x17) => Next::Lead(Stage::Low),
+        Some(0x6F) => Next::Lead(Stage::Return),
         _ => Next::On,
     }
 }
 
-/// Executes an operation on two registers, a load, or a store outside the text.
+/// Executes a word by its micro-op, which goes on at the next word, over an exit or to it. Any other changes nothing.
 #[inline(always)]
-fn execute_plain(index: u32, instr: &Instr, regs: &mut Regs, bus: &mut Bus) -> Next {
-    match *instr {
-        Instr::Op { .. } | Instr::Load { .. } => {}
-        Instr::Store { .. } if text_store(instr, regs, bus).is_none() => {}
-        _ => return Next::Stop,
-    }
-    match exec(instr, 4 * index, regs, bus) {
-        Done::Next(_) => Next::On,
-        _ => Next::Stop,
-    }
-}
-
-/// Executes a branch, or a word that only changes a register or stores outside the text. Each kind has its own `exec` right
-/// behind the decoder, so that the compiler joins the two. Any other word, and one that faults, changes nothing.
-#[inline(always)]
-fn execute(walk: &Walk, instr: &Instr, regs: &mut Regs, bus: &mut Bus) -> Next {
-    let pc = 4 * walk.index;
-    match *instr {
-        Instr::Branch { .. } => match exec(instr, pc, regs, bus) {
-            Done::Next(next) if next == pc + 12 => Next::Over,
-            _ => Next::Lead(Stage::Leave),
-        },
-        Instr::Alu { op, .. } => {
-            exec(instr, pc, regs, bus);
-            if matches!((walk.stage, op), (Stage::Return, ImmOp::Addi)) {
-                return Next::Lead(Stage::Leave);
-            }
+fn execute(walk: &Walk, m: &MicroOp, regs: &mut Regs, bus: &mut Bus) -> Next {
+    macro_rules! operate {
+        ($op:ident) => {{
+            micro::operate(RegOp::$op, m, regs);
             Next::On
+        }};
+    }
+    macro_rules! on {
+        ($done:expr) => {
+            if $done { Next::On } else { Next::Stop }
+        };
+    }
+    macro_rules! branch {
+        ($op:ident) => {
+            if micro::goes(BranchOp::$op, m, regs) && m.imm == walk.index + 3 {
+                Next::Over
+            } else {
+                Next::Exit
+            }
+        };
+    }
+    match class_of_code(m.code) {
+        Class::Add => {
+            micro::operate(RegOp::Add, m, regs);
+            if walk.stage == Stage::Return { Next::Lead(Stage::Leave) } else { Next::On }
         }
-        Instr::Lui { .. } => {
+        Class::Lui => {
             let next = upper_role(bus, walk.pc(), walk.stage);
-            exec(instr, pc, regs, bus);
+            regs.put(m.rd, m.imm);
             next
         }
-        _ => execute_plain(walk.index, instr, regs, bus),
+        Class::Sub => operate!(Sub),
+        Class::And => operate!(And),
+        Class::Or => operate!(Or),
+        Class::Xor => operate!(Xor),
+        Class::Sll => operate!(Sll),
+        Class::Srl => operate!(Srl),
+        Class::Sra => operate!(Sra),
+        Class::Slt => operate!(Slt),
+        Class::Sltu => operate!(Sltu),
+        Class::Mul => operate!(Mul),
+        Class::MulDiv => {
+            micro::multiply(m, regs);
+            Next::On
+        }
+        Class::Lw => on!(micro::read(LoadOp::Lw, m, regs, bus)),
+        Class::Lbu => on!(micro::read(LoadOp::Lbu, m, regs, bus)),
+        Class::Lhu => on!(micro::read(LoadOp::Lhu, m, regs, bus)),
+        Class::Lh => on!(micro::read(LoadOp::Lh, m, regs, bus)),
+        Class::Lb => on!(micro::read(LoadOp::Lb, m, regs, bus)),
+        Class::Sw => on!(micro::write(4, m, regs, bus)),
+        Class::Sb => on!(micro::write(1, m, regs, bus)),
+        Class::Sh => on!(micro::write(2, m, regs, bus)),
+        Class::Equal => branch!(Beq),
+        Class::Less => branch!(Blt),
+        Class::Below => branch!(Bltu),
+        Class::Jal => Next::Link,
+        Class::Jalr | Class::Stop => Next::Stop,
     }
 }
 
@@ -455,28 +477,12 @@ impl Hart {
         self.count += 1;
     }
 
-    /// A step at a word that asks neither the service nor a device. At any other nothing changes.
-    #[inline(always)]
-    fn one(&mut self, rom: &Rom, instr: &Instr, walk: &mut Walk) -> bool {
-        if let Instr::Jal { off, .. } = *instr {
-            walk.follow(rom, off);
-            return true;
-        }
-        let next = execute(walk, instr, &mut self.machine.regs, &mut self.machine.bus);
-        walk.go(next);
-        next != Next::Stop
-    }
-
     /// Jumps over a register by the exit at an index, where that is a JALR's whose target's block is placed, as that of a return
     /// mostly is: where the target stands, and the target. At any other exit nothing changes.
     #[inline(never)]
     fn back(&mut self, rom: &mut Rom, image: &Image, at: u32) -> Option<(u32, u32)> {
         let (block, offset) = rom.at(at);
-        let descriptor = image.word(block, offset + 1);
-        if descriptor % 4 != 3 {
-            return None;
-        }
-        let Some(Instr::Jalr { rd, rs1, imm }) = decode(descriptor) else { unreachable!() };
+        let (rd, rs1, imm) = jalr_fields(image.word(block, offset + 1))?;
         let target = self.machine.regs.get(rs1).wrapping_add(imm) & !1;
         if target % 4 != 0 {
             return None;
@@ -486,37 +492,82 @@ impl Hart {
         Some((index, target))
     }
 
+    /// A step at a word by its micro-op, where the memo knows the word: where control went. At `Stop` nothing has changed.
+    #[inline(always)]
+    fn quick(&mut self, rom: &Rom, memo: &Memo, word: u32, walk: &mut Walk) -> Next {
+        let Some(m) = memo.op(walk.index, word) else { return Next::Stop };
+        let Flat { regs, bus, .. } = &mut self.machine;
+        let next = execute(walk, m, regs, bus);
+        if next == Next::Link {
+            walk.follow(rom, m.imm);
+        }
+        walk.go(next);
+        next
+    }
+
+    /// The step of `quick` at a word that is learnt first.
+    #[inline(never)]
+    fn step_anew(&mut self, rom: &Rom, memo: &mut Memo, word: u32, walk: Walk) -> Option<Walk> {
+        memo.learn(walk.index, word);
+        let mut walk = walk;
+        if self.quick(rom, memo, word, &mut walk) == Next::Stop {
+            return None;
+        }
+        Some(walk)
+    }
+
     /// Steps up to the limit, or to the first word that is not executed here, which is then fetched. Nothing but words, links
     /// and jumps to placed blocks stands in this loop, so index, pc and counts stay in registers.
     #[inline(never)]
-    fn run_block(&mut self, rom: &mut Rom, image: &Image, ram: &mut Ram, limit: u64, at: At) -> Option<u32> {
+    fn run_block(&mut self, rom: &mut Rom, image: &Image, ram: &mut Ram, memo: &mut Memo, limit: u64, at: At) -> Option<u32> {
         let (index, _, _, stage) = at;
-        let steps = self.machine.steps;
-        let end = u64::from(index) + (limit - steps);
-        let pc = self.machine.pc;
-        let mut walk = Walk { index, stage, end, limit, pc, steps, count: self.count };
-        let mut left = None;
+        let left = limit - self.machine.steps;
+        let mut walk = Walk {
+            index,
+            stage,
+            end: u64::from(index) + left,
+            behind: self.machine.pc.wrapping_add(4 * left as u32),
+            total: self.count + left,
+        };
+        let mut stopped = None;
         while u64::from(walk.index) < walk.end {
-            let word = ram.fetch(walk.index);
-            let Some(instr) = decode(word) else { unreachable!() };
-            if self.one(rom, &instr, &mut walk) {
-                continue;
+            let mut word = ram.fetch(walk.index);
+            match self.quick(rom, memo, word, &mut walk) {
+                Next::Stop if word == EBREAK => {
+                    if let Some((index, target)) = self.back(rom, image, walk.index) {
+                        walk.land(index, target, false);
+                        continue;
+                    }
+                }
+                Next::Stop => {}
+                Next::Exit => {
+                    // No limit falls between a branch and the exit behind it, since the branch completes no step.
+                    word = ram.fetch(walk.index);
+                    if let Some(m) = memo.op(walk.index, word)
+                        && class_of_code(m.code) == Class::Jal
+                    {
+                        walk.follow(rom, m.imm);
+                        continue;
+                    }
+                }
+                _ => continue,
             }
-            if word == EBREAK {
-                if let Some((index, target)) = self.back(rom, image, walk.index) {
-                    walk.land(index, target, false);
+            if word != EBREAK {
+                // Field by field: a copy of the whole would keep what stands between the fields in registers.
+                if let Some(Walk { index, stage, end, behind, total }) = self.step_anew(rom, memo, word, walk) {
+                    walk = Walk { index, stage, end, behind, total };
                     continue;
                 }
             }
-            left = Some(word);
+            stopped = Some(word);
             break;
         }
         let (block, offset) = rom.at(walk.index);
         self.control = Some((walk.index, block, offset, walk.stage));
         self.machine.pc = walk.pc();
-        self.machine.steps = walk.steps();
-        self.count = walk.count();
-        left
+        self.machine.steps = limit - walk.left();
+        self.count = walk.total - walk.left();
+        stopped
     }
 
     /// A step at a word that `run_block` left: an exit, or one that completes its instruction.
@@ -593,11 +644,12 @@ impl Hart {
     }
 
     fn run(&mut self, rom: &mut Rom, image: &Image, ram: &mut Ram, limit: u64) {
+        let mut memo = Memo::new(WordRange { from: 0, words: ram.words.len() as u32 });
         while self.machine.steps < limit && self.machine.ending.is_none() {
             let Some(at) = self.control else {
                 return self.end(End::Faulted(FaultKind::FetchAccess, self.machine.pc));
             };
-            if let Some(word) = self.run_block(rom, image, ram, limit, at)
+            if let Some(word) = self.run_block(rom, image, ram, &mut memo, limit, at)
                 && let Some(at) = self.control
             {
                 self.at_word(rom, image, ram, word, at);

@@ -242,7 +242,7 @@ pub fn micro_op(word: u32, range: &WordRange, k: u32) -> MicroOp {
 }
 
 #[inline(never)]
-fn multiply(m: &MicroOp, regs: &mut Regs) {
+pub fn multiply(m: &MicroOp, regs: &mut Regs) {
     let op = match m.imm {
         1 => RegOp::Mulh,
         2 => RegOp::Mulhsu,
@@ -257,18 +257,18 @@ fn multiply(m: &MicroOp, regs: &mut Regs) {
 }
 
 #[inline(always)]
-fn operate(op: RegOp, m: &MicroOp, regs: &mut Regs) {
+pub fn operate(op: RegOp, m: &MicroOp, regs: &mut Regs) {
     let v = value_of_op(op, regs.read(m.rs1), regs.read(m.rs2).wrapping_add(m.imm));
     regs.put(m.rd, v);
 }
 
 #[inline(always)]
-fn goes(op: BranchOp, m: &MicroOp, regs: &Regs) -> bool {
+pub fn goes(op: BranchOp, m: &MicroOp, regs: &Regs) -> bool {
     takes(op, regs.read(m.rs1), regs.read(m.rs2)) != (m.rd == 1)
 }
 
 #[inline(always)]
-fn read(op: LoadOp, m: &MicroOp, regs: &mut Regs, bus: &Bus) -> bool {
+pub fn read(op: LoadOp, m: &MicroOp, regs: &mut Regs, bus: &Bus) -> bool {
     let Ok(v) = load(op, regs.read(m.rs1).wrapping_add(m.imm), bus) else {
         return false;
     };
@@ -277,7 +277,7 @@ fn read(op: LoadOp, m: &MicroOp, regs: &mut Regs, bus: &Bus) -> bool {
 }
 
 #[inline(always)]
-fn write(size: u8, m: &MicroOp, regs: &Regs, bus: &mut Bus) -> bool {
+pub fn write(size: u8, m: &MicroOp, regs: &Regs, bus: &mut Bus) -> bool {
     bus.store_beside_text(regs.read(m.rs1).wrapping_add(m.imm), size, regs.read(m.rs2))
 }
 
@@ -342,5 +342,38 @@ pub fn step(m: &MicroOp, range: &WordRange, k: u32, regs: &mut Regs, bus: &mut B
             Some(target)
         }
         Class::Stop => None,
+    }
+}
+
+/// What was decoded last of the word at each index.
+pub struct Memo {
+    range: WordRange,
+    known: Vec<Known>,
+}
+
+#[derive(Clone, Copy)]
+struct Known {
+    word: u32,
+    op: MicroOp,
+}
+
+impl Memo {
+    pub fn new(range: WordRange) -> Memo {
+        let known = (0..range.words).map(|_| Known { word: 0, op: stop() }).collect();
+        Memo { range, known }
+    }
+
+    /// The micro-op of the word at an index, where the word is the one that was learnt there.
+    #[inline(always)]
+    pub fn op(&self, k: u32, word: u32) -> Option<&MicroOp> {
+        let known = &self.known[k as usize];
+        if known.word != word {
+            return None;
+        }
+        Some(&known.op)
+    }
+
+    pub fn learn(&mut self, k: u32, word: u32) {
+        self.known[k as usize] = Known { word, op: micro_op(word, &self.range, k) };
     }
 }
