@@ -50,7 +50,7 @@ fn head_at(prev: u32, words: u32, slot: u32, slots: u32) -> u32
 }
 
 /// How many words are looked at together.
-const STRIDE: u32 = 8;
+const STRIDE: usize = 8;
 
 // Whether the eight words from one on have no slot: the common bits of numbers are at most each of them, and of the number
 // of slots with itself that number.
@@ -64,13 +64,15 @@ fn are_free(owners: &[u32], at: usize, slots: u32) -> bool
 }
 
 // The word behind those from `from` on that have no slot, as far as they are passed over by strides below `to`.
-fn passed(owners: &[u32], from: u32, to: u32, slots: u32) -> u32
-    requires { to ≤ length owners.now }
+fn passed(owners: &[u32], from: usize, to: usize, slots: u32) -> usize
+    requires order { from ≤ to }
+    requires within { to ≤ length owners.now }
     ensures from { from ≤ result }
+    ensures to { result ≤ to }
     ensures free { (x : ℕ) → from ≤ x → x < result → slots ≤ slice_index owners.now x }
 {
     let mut at = from;
-    while to.saturating_sub(at) >= STRIDE && are_free(owners, at as usize, slots) {
+    while to - at >= STRIDE && are_free(owners, at, slots) {
         at += STRIDE;
     }
     at
@@ -166,16 +168,18 @@ impl Chains {
     /// The first word from `from` on and below `to` that a list has; None exactly where none has one. It takes time
     /// linear in the number of words that are passed over.
     pub fn first_linked(&self, from: u32, to: u32) -> Option<u32>
-        requires { to ≤ self.now.words }
+        requires order { from ≤ to }
+        requires within { to ≤ self.now.words }
         ensures free { MatchOption result (AreFree self.now from to) (λ x. AreFree self.now from x) }
         ensures within { IfSome result (λ x. (from ≤ x) × (x < to)) }
         ensures linked { IfSome result (λ x. (s : ℕ) × Has (list_of self.now s) x) }
     {
         let slots = self.heads.len() as u32;
-        for at in passed(&self.owners, from, to, slots)..to {
-            let slot = self.owners[at as usize];
+        let end = to as usize;
+        for at in passed(&self.owners, from as usize, end, slots)..end {
+            let slot = self.owners[at];
             if slot < slots {
-                return Some(at);
+                return Some(at as u32);
             }
         }
         None

@@ -6,12 +6,12 @@ use Rattle.swi_chain.proofs.chains.Chains.first_linked.Goals as goal
 
 pub returns-then-slot-slots-clause-linked : goal.returns-then-slot-slots-clause-linked
 returns-then-slot-slots-clause-linked c =
-    (c.index-slot.result.now, target_some _ c.loop-at.at _ _ _ _ _ _ c.self.view_is c.self.invariant (omega (arith, c.requires)) c.index-slot.ensures (omega (arith, c.len-slots.ensures)))
+    (c.index-slot.result.now, target_some _ c.loop-at.at _ _ _ _ _ _ c.self.view_is c.self.invariant (omega (arith, c.requires.within)) c.index-slot.ensures (omega (arith, c.len-slots.ensures)))
 
 pub loop-at-preserved : goal.loop-at-preserved
 loop-at-preserved c = λ x from to. elim (cases_eq x c.loop-at.at) [
   | inl here ↦ subst (λ (n : ℕ). IsFree c.args.self.now n) (sym here)
-      (target_none _ c.loop-at.at c.index-slot.result.now _ _ _ _ _ c.self.view_is c.self.invariant (omega (arith, c.requires)) c.index-slot.ensures (omega (arith, c.len-slots.ensures)))
+      (target_none _ c.loop-at.at c.index-slot.result.now _ _ _ _ _ c.self.view_is c.self.invariant (omega (arith, c.requires.within)) c.index-slot.ensures (omega (arith, c.len-slots.ensures)))
   | inr other ↦ c.loop-at.invariant x from (omega (arith, to))
 ]
 
