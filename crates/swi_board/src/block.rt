@@ -8,6 +8,8 @@ ghost use Rattle.swi_memory.specs.Bus.{fetched};
 ghost use Rattle.swi_calls.specs.declared.machine.Machine.{Machine};
 ghost use Rattle.swi_isa.specs.declared.instr.Instr.{Instr as AnyInstr};
 ghost use Rattle.swi_isa.specs.Decode.{decoded};
+ghost use Rattle.swi_exec.specs.Registers.{with_reg};
+ghost use Rattle.swi_image.specs.Place.{word_at, length_at};
 ghost use Rattle.swi_render.specs.Rendering.{ebreak};
 ghost use Rattle.swi_hart.specs.Hart.{HartData};
 ghost use Rattle.swi_hart.specs.Leaving.{Home, leaves};
@@ -17,9 +19,10 @@ ghost use Rattle.swi_rom.specs.Record.{IsJump, Record};
 ghost use Rattle.swi_rom.specs.Coherent.{StandsAt};
 
 use crate::known::{Went, link_on, quick};
+use swi_exec::Regs;
 use swi_hart::{Control, EBREAK, Hart, Stage, fell, register_target};
 use swi_image::ImageView;
-use swi_isa::jalr_fields;
+use swi_isa::{Reg, jalr_fields};
 use swi_memory::Bus;
 use swi_micro::Memo;
 use swi_outside::{CacheRam, Failed};
@@ -252,6 +255,19 @@ fn step_anew<R: CacheRom, M: CacheRam>(
     }
 }
 
+/// Writes the return address of a jump, a word of its block, to the jump's register. A return, which keeps none in x0,
+/// doesn't read it.
+#[inline(always)]
+fn keep_return(regs: &mut Regs, image: &ImageView<'_>, rd: Reg, block: u32, offset: u32)
+    requires block { block < length image.now.starts }
+    requires offset { offset < length_at image.now block }
+    ensures { regs.new ≡ with_reg regs.old rd (word_at image.now block offset) }
+{
+    if rd.num() != 0 {
+        regs.set(rd, image.word(block, offset));
+    }
+}
+
 /// Jumps over a register by the exit at an index, where that is a JALR's whose target's block is placed, as that of a
 /// return mostly is: where the target stands, and the target. The service counts it, and asks the ram for nothing. At any
 /// other exit nothing changes.
@@ -288,7 +304,7 @@ fn back<R: CacheRom, M: CacheRam>(
         return None;
     }
     let index = rom.revisit(image, ram, target)?;
-    hart.machine.regs.set(x.rd, image.word(block, offset + 2));
+    keep_return(&mut hart.machine.regs, image, x.rd, block, offset + 2);
     Some((index, target))
 }
 

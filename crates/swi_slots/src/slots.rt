@@ -16,7 +16,7 @@ ghost use Rattle.swi_slots.specs.Arrived.{Arrived};
 use crate::table::LinkTable;
 use std::alloc::Global;
 use std::marker::Model;
-use swi_image::ImageView;
+use swi_image::{Hints, ImageView};
 use swi_outside::{CacheRam, Failed, Memory};
 use swi_rom::{CacheRom, Counts, RomStop, copy, jump, reach};
 
@@ -36,6 +36,8 @@ pub struct SlotRom<T: LinkTable> {
     table: T,
     goals: Vec<u32>,
     counts: Counts,
+    // Where targets were found.
+    hints: Hints,
 }
 
 impl<T: LinkTable> Model for SlotRom<T> {
@@ -183,6 +185,7 @@ impl<T: LinkTable> SlotRom<T> {
                 unlinks: 0,
                 copied: 0,
             },
+            hints: Hints::new(),
         })
     }
 
@@ -225,6 +228,15 @@ impl<T: LinkTable> SlotRom<T> {
         if self.filled > 0 {
             self.counts.services += 1;
         }
+    }
+
+    // Counts a service of a target in this block, where it is looked for first from now on.
+    fn count_near(&mut self, target: u32, block: u32)
+        requires { self.old.counts.services < 2 ^ 50 }
+        ensures { self.new ≡ counted_slots self.old }
+    {
+        self.count();
+        self.hints.keep(target, block);
     }
 
     // Empties the next slot, where all are filled.
@@ -418,9 +430,9 @@ impl<T: LinkTable> CacheRom for SlotRom<T> {
         _ram: &M,
         target: u32,
     ) -> Option<u32> {
-        let (block, offset) = image.place(target)?;
+        let (block, offset) = image.place_near(target, self.hints.near(target))?;
         let slot = self.find(block)?;
-        self.count();
+        self.count_near(target, block);
         Some(slot * self.size + offset)
     }
 

@@ -18,8 +18,8 @@ use Rattle.swi_hart.proofs.Leaving.{ram_answered}
 use Rattle.swi_board.proofs.Turning.{jalr_exit, link_inside, turned_step, turned_transfer}
 use Rattle.swi_board.proofs.block.back.Goals as goal
 
-pub word-requires-2-clause-offset : goal.word-requires-2-clause-offset
-word-requires-2-clause-offset g c =
+pub keep_return-requires-clause-offset : goal.keep_return-requires-clause-offset
+keep_return-requires-clause-offset g c =
     let p = place_shown (g.R.CacheRom.service.shown c.args.rom.now c.args.at) in
     let told : c.jalr_fields.result ≡ Some c.in_ok-x.x = search rules in
     link_inside c.args.image.now _ c.args.at p (c.in-Some.block, c.in-Some.offset) c.word.result c.in_ok-x.x c.requires.exit
@@ -48,17 +48,18 @@ returns-clause-on g c = λ w here room.
     let four : t % 4 ≡ 0 = search rules in
     let low : t < 2 ^ 32 = search rules in
     let at : TargetAt v new t c.in_ok-index.index = q.served.answer in
-    let link : c.word-2.result ≡ word_at v p.0 (p.1 + 2) = c.word-2.ensures ∙ ap (λ (k : ℕ × ℕ). word_at v k.0 (k.1 + 2)) place in
-    let left : Machine = record c.hart.inside.machine { regs = c.set.new.self } in
-    let left_is : left ≡ record m { regs = with_reg m.regs x.rd c.word-2.result } =
-    ap (λ (k : Registers). record c.hart.inside.machine { regs = k }) c.set.ensures
-    ∙ ap (λ (k : Machine). record k { regs = with_reg k.regs x.rd c.word-2.result }) seen in
+    let return : ℕ = word_at v c.in-Some.block (c.in-Some.offset + 2) in
+    let link : return ≡ word_at v p.0 (p.1 + 2) = ap (λ (k : ℕ × ℕ). word_at v k.0 (k.1 + 2)) place in
+    let left : Machine = record c.hart.inside.machine { regs = c.keep_return.new.regs } in
+    let left_is : left ≡ record m { regs = with_reg m.regs x.rd return } =
+    ap (λ (k : Registers). record c.hart.inside.machine { regs = k }) c.keep_return.ensures
+    ∙ ap (λ (k : Machine). record k { regs = with_reg k.regs x.rd return }) seen in
     let k = landed c.in_ok-index.index t 1 w in (
       (at.block, at.offset),
       record {
         is_indirect = ap exit_kind (sym exit) ∙ kind;
         step = λ input. subst (λ i. ExitStep Indirect v new (walk_machine w m) (stepped (walk_control k (at.block, at.offset)) (quiet (walk_machine k left) input)) input i p.0 p.1 w.stage) here
-            (turned_step v new m left w p x.rd x.rs1 x.imm t c.word-2.result c.in_ok-index.index input room got to_is four low at link left_is);
+            (turned_step v new m left w p x.rd x.rs1 x.imm t return c.in_ok-index.index input room got to_is four low at link left_is);
         moves = q.served.moves ∙ ap (λ n. moved (g.R.CacheRom.service.policy (g.R.CacheRom.service.setting c.args.rom.now)) (g.R.CacheRom.service.kept c.args.rom.now) v n)
             (turned_transfer _ (walk_machine w m) x.rd x.rs1 x.imm t got to_is four);
         served = ram_answered q.served;

@@ -14,32 +14,32 @@ pub overflow_mul-result : goal.overflow_mul-result
 overflow_mul-result g c =
     let q = place_block _ _ _ _ _ c.requires.sound c.in_ok-block.ensures.place in
     let hit = stood _ _ _ _ (g.M.CacheRam.state c.args._ram.now) c.requires.sound q.0 c.in_ok-slot.ensures.0 c.in_ok-slot.ensures.1 in
-    let size = ap (λ (s : Slots). s.size) (c.self.view_is ∙ c.count.ensures) in
-    omega (arith, index_fits _ _ _ _ _ c.in_ok-slot.slot c.self.inside.size _ _ c.requires.sound hit q.1 size)
+    let size = ap (λ (s : Slots). s.size) (c.self-2.view_is ∙ c.count_near.ensures) in
+    omega (arith, index_fits _ _ _ _ _ c.in_ok-slot.slot c.self-2.inside.size _ _ c.requires.sound hit q.1 size)
 
 pub overflow_add-result : goal.overflow_add-result
 overflow_add-result g c =
     let q = place_block _ _ _ _ _ c.requires.sound c.in_ok-block.ensures.place in
     let hit = stood _ _ _ _ (g.M.CacheRam.state c.args._ram.now) c.requires.sound q.0 c.in_ok-slot.ensures.0 c.in_ok-slot.ensures.1 in
-    let size = ap (λ (s : Slots). s.size) (c.self.view_is ∙ c.count.ensures) in
-    omega (arith, index_fits _ _ _ _ _ c.in_ok-slot.slot c.self.inside.size _ _ c.requires.sound hit q.1 size)
+    let size = ap (λ (s : Slots). s.size) (c.self-2.view_is ∙ c.count_near.ensures) in
+    omega (arith, index_fits _ _ _ _ _ c.in_ok-slot.slot c.self-2.inside.size _ _ c.requires.sound hit q.1 size)
 
 pub returns-clause-served : goal.returns-clause-served
 returns-clause-served g c =
     let a = g.M.CacheRam.state c.args._ram.now in
     let q = place_block _ _ _ _ _ c.requires.sound c.in_ok-block.ensures.place in
     let hit = stood c.args.self.now c.args.image.now _ _ a c.requires.sound q.0 c.in_ok-slot.ensures.0 c.in_ok-slot.ensures.1 in
-    entered_call _ c.args.self.now c.count.new.self _ _ c.in_ok-slot.slot c.self.inside.size _ a a c.requires.sound
-    (subst (λ (t : Slots). Arrives c.args.image.now c.args.self.now c.in_ok-block.block c.in_ok-slot.slot t a a) (sym c.count.ensures) hit) (sym c.in_ok-block.ensures.place)
-    (ap (λ (s : Slots). s.size) (c.self.view_is ∙ c.count.ensures))
+    entered_call _ c.args.self.now c.count_near.new.self _ _ c.in_ok-slot.slot c.self-2.inside.size _ a a c.requires.sound
+    (subst (λ (t : Slots). Arrives c.args.image.now c.args.self.now c.in_ok-block.block c.in_ok-slot.slot t a a) (sym c.count_near.ensures) hit) (sym c.in_ok-block.ensures.place)
+    (ap (λ (s : Slots). s.size) (c.self-2.view_is ∙ c.count_near.ensures))
 
 pub returns-clause-stays : goal.returns-clause-stays
 returns-clause-stays g c =
-    subst (λ (s : Slots). SlotsSound s c.args.image.now (g.M.CacheRam.state c.args._ram.now).words) (sym c.count.ensures) (counted_service _ _ _ c.requires.sound)
+    subst (λ (s : Slots). SlotsSound s c.args.image.now (g.M.CacheRam.state c.args._ram.now).words) (sym c.count_near.ensures) (counted_service _ _ _ c.requires.sound)
 
 pub returns-clause-keeps : goal.returns-clause-keeps
 returns-clause-keeps g c = λ vs serves.
-    subst (λ (s : Slots). Serves s c.args.image.now vs (g.M.CacheRam.state c.args._ram.now).words) (sym c.count.ensures) (counted_serves _ _ _ _ serves)
+    subst (λ (s : Slots). Serves s c.args.image.now vs (g.M.CacheRam.state c.args._ram.now).words) (sym c.count_near.ensures) (counted_serves _ _ _ _ serves)
 
 pub returns-clause-placed : goal.returns-clause-placed
 returns-clause-placed g c =
@@ -51,5 +51,5 @@ returns-clause-placed g c =
       first = slot * s.size;
       place_is = sym c.in_ok-block.ensures.place;
       is_placed = slot_placed s slot c.in_ok-block.block c.requires.sound.1.1.shape lt (block_small _ _ _ _ c.requires.sound (place_block _ _ _ _ _ c.requires.sound c.in_ok-block.ensures.place).0) c.in_ok-slot.ensures.1;
-      index = ap (λ (t : Slots). slot * t.size + c.in_ok-block.offset) (c.self.view_is ∙ c.count.ensures);
+      index = ap (λ (t : Slots). slot * t.size + c.in_ok-block.offset) (c.self-2.view_is ∙ c.count_near.ensures);
     }
