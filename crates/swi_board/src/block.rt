@@ -255,8 +255,8 @@ fn step_anew<R: CacheRom, M: CacheRam>(
     }
 }
 
-/// Writes the return address of a jump, a word of its block, to the jump's register. A return, which keeps none in x0,
-/// doesn't read it.
+/// Writes the return address of a jump, a word of its block, to the jump's register. Where that is x0, as in a return,
+/// the word isn't read.
 #[inline(always)]
 fn keep_return(regs: &mut Regs, image: &ImageView<'_>, rd: Reg, block: u32, offset: u32)
     requires block { block < length image.now.starts }

@@ -24,7 +24,7 @@ use crate::joints::{Joint, Joints};
 use std::alloc::Global;
 use std::collections::VecDeque;
 use std::marker::Model;
-use swi_image::ImageView;
+use swi_image::{Hints, ImageView};
 use swi_outside::{CacheRam, Failed, Memory};
 use swi_rom::{CacheRom, Counts, EBREAK, RomStop, jump, reach};
 
@@ -52,6 +52,8 @@ pub struct EngineRom {
     // The words that the engine wrote to copy, and the copies that it completed.
     words: u64,
     copies: u64,
+    // Where targets were found.
+    hints: Hints,
 }
 
 impl Model for EngineRom {
@@ -172,6 +174,7 @@ impl EngineRom {
             },
             words: 0,
             copies: 0,
+            hints: Hints::new(),
         })
     }
 
@@ -202,6 +205,15 @@ impl EngineRom {
         if !self.queue.is_empty() {
             self.counts.services += 1;
         }
+    }
+
+    // Counts a service of a target in this block, where it is looked for first from now on.
+    fn count_near(&mut self, target: u32, block: u32)
+        requires { self.old.counts.services < 2 ^ 50 }
+        ensures { self.new ≡ counted_data self.old }
+    {
+        self.count();
+        self.hints.keep(target, block);
     }
 
     // Makes the link at a word an exit again.
@@ -575,9 +587,9 @@ impl CacheRom for EngineRom {
         _ram: &M,
         target: u32,
     ) -> Option<u32> {
-        let (block, offset) = image.place(target)?;
+        let (block, offset) = image.place_near(target, self.hints.near(target))?;
         let slot = self.find(block)?;
-        self.count();
+        self.count_near(target, block);
         Some(slot * self.size + offset)
     }
 

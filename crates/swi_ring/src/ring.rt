@@ -17,7 +17,7 @@ use crate::queue::BlockQueue;
 use std::alloc::Global;
 use std::marker::Model;
 use swi_chain::Chains;
-use swi_image::ImageView;
+use swi_image::{Hints, ImageView};
 use swi_outside::{CacheRam, Failed, Memory};
 use swi_rom::{CacheRom, Counts, RomStop, copy, jump, reach};
 use swi_undo::undo;
@@ -40,6 +40,8 @@ pub struct RingRom {
     chains: Chains,
     goals: Vec<u32>,
     counts: Counts,
+    // Where targets were found.
+    hints: Hints,
 }
 
 impl Model for RingRom {
@@ -137,6 +139,7 @@ impl RingRom {
                 unlinks: 0,
                 copied: 0,
             },
+            hints: Hints::new(),
         })
     }
 
@@ -172,6 +175,15 @@ impl RingRom {
         if self.queue.len() > 0 {
             self.counts.services += 1;
         }
+    }
+
+    // Counts a service of a target in this block, where it is looked for first from now on.
+    fn count_near(&mut self, target: u32, block: u32)
+        requires { self.old.counts.services < 2 ^ 50 }
+        ensures { self.new ≡ counted_ring self.old }
+    {
+        self.count();
+        self.hints.keep(target, block);
     }
 
     // The oldest block leaves.
@@ -401,9 +413,9 @@ impl CacheRom for RingRom {
         _ram: &M,
         target: u32,
     ) -> Option<u32> {
-        let (block, offset) = image.place(target)?;
+        let (block, offset) = image.place_near(target, self.hints.near(target))?;
         let first = self.find(block)?;
-        self.count();
+        self.count_near(target, block);
         Some(first + offset)
     }
 

@@ -22,16 +22,16 @@ returns-clause-served g c =
     let a = g.M.CacheRam.state c.args._ram.now in
     let s = c.args.self.now in
     let hit = subst (λ (f : ℕ). Arrived c.args.image.now s c.in_ok-block.block f (counted_ring s) a a) c.in_ok-first.ensures.1 (hit_arrived c.args.image.now s c.in_ok-block.block a c.requires.sound c.in_ok-first.ensures.0) in
-    let arrived = subst (λ (t : Ring). Arrived c.args.image.now s c.in_ok-block.block c.in_ok-first.first t a a) (sym c.count.ensures) hit in
+    let arrived = subst (λ (t : Ring). Arrived c.args.image.now s c.in_ok-block.block c.in_ok-first.first t a a) (sym c.count_near.ensures) hit in
     entered _ _ _ _ _ _ _ _ _ arrived (sym c.in_ok-block.ensures.place)
 
 pub returns-clause-stays : goal.returns-clause-stays
 returns-clause-stays g c =
-    subst (λ (s : Ring). RingSound s c.args.image.now (g.M.CacheRam.state c.args._ram.now).words) (sym c.count.ensures) (counted_sound _ _ _ c.requires.sound)
+    subst (λ (s : Ring). RingSound s c.args.image.now (g.M.CacheRam.state c.args._ram.now).words) (sym c.count_near.ensures) (counted_sound _ _ _ c.requires.sound)
 
 pub returns-clause-placed : goal.returns-clause-placed
 returns-clause-placed g c = found_target _ _ _ _ _ _ (sym c.in_ok-block.ensures.place) c.in_ok-first.ensures.0 c.in_ok-first.ensures.1
 
 pub returns-clause-keeps : goal.returns-clause-keeps
 returns-clause-keeps g c = λ images serves.
-    subst (λ (s : Ring). RingSound s c.args.image.now (g.M.CacheRam.state c.args._ram.now).words) (sym c.count.ensures) (counted_sound _ _ _ c.requires.sound)
+    subst (λ (s : Ring). RingSound s c.args.image.now (g.M.CacheRam.state c.args._ram.now).words) (sym c.count_near.ensures) (counted_sound _ _ _ c.requires.sound)
