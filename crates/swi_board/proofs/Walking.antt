@@ -129,6 +129,15 @@ link_is_stop next.Exit is = absurd (cc)
 link_is_stop next.Link is = refl
 link_is_stop next.Stop is = absurd (cc)
 
+-- where the word was not executed, the walk stays
+pub stop_stays : (n : Next) (w : Walk) → is_stop n ≡ true → gone n w ≡ w
+stop_stays next.On w is = absurd (cc)
+stop_stays next.Over w is = absurd (cc)
+stop_stays (next.Lead stage) w is = absurd (cc)
+stop_stays next.Exit w is = absurd (cc)
+stop_stays next.Link w is = refl
+stop_stays next.Stop w is = refl
+
 -- a JAL is no EBREAK
 pub jal_links : (got rd off : ℕ) (x : Instr) → Some x ≡ decoded got → x ≡ instr.Jal rd off → got ≡ ebreak → ⊥
 jal_links got rd off x decodes jal is =

@@ -249,7 +249,7 @@ fn step_anew<R: CacheRom, M: CacheRam>(
 {
     memo.learn(walk.index, got);
     let mut walk = walk;
-    match quick(hart, rom, image, ram, memo, got, &mut walk) {
+    match quick::<R, M, true>(hart, rom, image, ram, memo, got, &mut walk) {
         Went::On | Went::Exit => Some(walk),
         Went::Left => None,
     }
@@ -403,7 +403,7 @@ pub(crate) fn run_block<R: CacheRom, M: CacheRam>(
         let Ok(word) = ram.fetch(walk.index) else {
             leave!(Err(Failed));
         };
-        match quick(hart, rom, image, ram, memo, word, &mut walk) {
+        match quick::<R, M, false>(hart, rom, image, ram, memo, word, &mut walk) {
             Went::On => continue,
             Went::Exit => {
                 // No limit of steps falls between a branch and the exit behind it, since the branch completes no step.

@@ -9,7 +9,7 @@ ghost use Rattle.swi_calls.specs.declared.machine.Machine.{Machine};
 ghost use Rattle.swi_micro.specs.Memo.{IsOpAt};
 ghost use Rattle.swi_hart.specs.Leaving.{Home};
 ghost use Rattle.swi_board.specs.Known.{FitsPlace, WordWent, add_way, way_by, Straight, Branch, Last};
-ghost use Rattle.swi_board.specs.Walked.{is_exit, is_left, is_link, is_stop, walk_control, walk_count, walk_machine, walk_pc, HasRoom, StepOn, WalksTo};
+ghost use Rattle.swi_board.specs.Walked.{gone, is_exit, is_left, is_link, is_stop, walk_control, walk_count, walk_machine, walk_pc, HasRoom, StepOn, WalksTo};
 
 use crate::block::{Next, Walk, follow, is_link, is_stop};
 use swi_exec::Regs;
@@ -158,37 +158,48 @@ fn last(
     }
 }
 
-/// Executes a word by its micro-op `m`. A link, a word that is left to the executor, and one that faults, change nothing.
+/// Executes a word by its micro-op `m`, and goes on behind it. A link, a word that is left to the executor, and one that
+/// faults, change nothing.
 // One match, on what `class` gives, and in each arm the class as a constant: so the class is told by one set of tests, and
-// by no jump through a table.
+// by no jump through a table. Each service has a copy of its own for the loop, and one for words that are learnt: one that
+// is called from two places isn't joined with either, at twice the time.
 #[inline(always)]
-fn execute_known(
-    walk: &Walk,
+fn execute_known<R: CacheRom, const ANEW: bool>(
+    walk: &mut Walk,
     got: u32,
     m: &MicroOp,
     range: &WordRange,
     regs: &mut Regs,
     bus: &mut Bus,
 ) -> Next
-    requires room { HasRoom walk.now }
+    requires room { HasRoom walk.old }
     requires first { range.now.from ≡ 0 }
-    requires known { IsOpAt range.now walk.now.index got m.now }
+    requires known { IsOpAt range.now walk.old.index got m.now }
     ensures went { is_stop result ≡ false → (x : AnyInstr) → Some x ≡ decoded got →
-        FitsPlace walk.now.stage (walk_pc walk.now) x bus.old →
-        WordWent result walk.now.index walk.now.stage (walk_pc walk.now) x regs.old bus.old regs.new bus.new }
+        FitsPlace walk.old.stage (walk_pc walk.old) x bus.old →
+        WordWent result walk.old.index walk.old.stage (walk_pc walk.old) x regs.old bus.old regs.new bus.new }
+    ensures gone { walk.new ≡ gone result walk.old }
     ensures same_regs { is_stop result ≡ true → regs.new ≡ regs.old }
     ensures same_bus { is_stop result ≡ true → bus.new ≡ bus.old }
     ensures link { is_link result ≡ true → class_of m.now.code ≡ Class.Jal }
 {
+    // Each arm goes on by itself: of one match behind all of them the compiler makes a jump through a table.
+    macro_rules! gone {
+        ($next:expr) => {{
+            let next = $next;
+            walk.go(next);
+            next
+        }};
+    }
     macro_rules! straight {
-        ($class:ident) => { straight(Class::$class, walk, got, m, range, regs, bus) };
+        ($class:ident) => { gone!(straight(Class::$class, walk, got, m, range, regs, bus)) };
     }
     macro_rules! branch {
-        ($class:ident) => { branch(Class::$class, walk, got, m, range, regs, bus) };
+        ($class:ident) => { gone!(branch(Class::$class, walk, got, m, range, regs, bus)) };
     }
     match m.class() {
         Class::Add => if is_last(walk.stage) {
-            last(walk, got, m, range, regs, bus)
+            gone!(last(walk, got, m, range, regs, bus))
         } else {
             straight!(Add)
         },
@@ -203,7 +214,7 @@ fn execute_known(
         Class::Sltu => straight!(Sltu),
         Class::Mul => straight!(Mul),
         Class::MulDiv => straight!(MulDiv),
-        Class::Lui => upper(walk, got, m, range, regs, bus),
+        Class::Lui => gone!(upper(walk, got, m, range, regs, bus)),
         Class::Lw => straight!(Lw),
         Class::Lbu => straight!(Lbu),
         Class::Lhu => straight!(Lhu),
@@ -244,7 +255,7 @@ fn went_by(next: Next) -> Went
 
 /// A step at a fetched word by its micro-op, that asks neither the service nor a device.
 #[inline(always)]
-pub(crate) fn quick<R: CacheRom, M: CacheRam>(
+pub(crate) fn quick<R: CacheRom, M: CacheRam, const ANEW: bool>(
     hart: &mut Hart,
     rom: &R,
     image: &ImageView<'_>,
@@ -276,7 +287,7 @@ pub(crate) fn quick<R: CacheRom, M: CacheRam>(
     let Some(m) = memo.op(walk.index, got) else {
         return Went::Left;
     };
-    let next = execute_known(
+    let next = execute_known::<R, ANEW>(
         walk,
         got,
         m,
@@ -291,7 +302,6 @@ pub(crate) fn quick<R: CacheRom, M: CacheRam>(
     if is_stop(next) {
         return Went::Left;
     }
-    walk.go(next);
     went_by(next)
 }
 
