@@ -154,6 +154,7 @@ impl EngineRom {
         let homes = all_of(alloc, slots, blocks)?;
         let joints = Joints::new(alloc, words, blocks)?;
         let goals = all_of(alloc, 0, words)?;
+        let hints = Hints::new(alloc)?;
         Ok(EngineRom {
             slots,
             size: block_words,
@@ -174,7 +175,7 @@ impl EngineRom {
             },
             words: 0,
             copies: 0,
-            hints: Hints::new(),
+            hints,
         })
     }
 

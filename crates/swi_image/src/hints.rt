@@ -3,6 +3,9 @@
 
 ghost use Rattle.std.specs.Prelude.{◌<◌};
 
+use std::alloc::Global;
+use swi_outside::Memory;
+
 /// How many blocks are kept.
 const KEPT: usize = 64;
 
@@ -11,25 +14,32 @@ const KEPT: usize = 64;
 /// promises nothing of what it keeps.
 #[derive(Drop)]
 pub struct Hints {
-    blocks: [u32; KEPT],
+    // Not within the struct, which is moved with its service.
+    blocks: Vec<u32>,
 }
 
 impl Hints {
-    /// Nothing was found yet.
-    pub fn new() -> Hints {
-        Hints { blocks: [0; KEPT] }
+    /// Nothing was found yet. Memory where there is not enough of it: it takes 256 bytes.
+    pub fn new(alloc: Global) -> Result<Hints, Memory> {
+        let blocks = vec![in alloc; 0u32; KEPT].map_err(|_| Memory)?;
+        Ok(Hints { blocks })
     }
 
     /// The block in which to look for an address first.
     #[inline(always)]
     pub fn near(&self, a: u32) -> u32 {
-        self.blocks[slot(a)]
+        match self.blocks.get(slot(a)) {
+            Some(block) => *block,
+            None => 0,
+        }
     }
 
     /// Keeps the block in which an address was found.
     #[inline(always)]
     pub fn keep(&mut self, a: u32, block: u32) {
-        self.blocks[slot(a)] = block;
+        if let Some(kept) = self.blocks.get_mut(slot(a)) {
+            *kept = block;
+        }
     }
 }
 

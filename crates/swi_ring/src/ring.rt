@@ -122,6 +122,7 @@ impl RingRom {
         let owners = all_of(alloc, 0, words)?;
         let chains = Chains::new(alloc, blocks, words)?;
         let goals = all_of(alloc, 0, words)?;
+        let hints = Hints::new(alloc)?;
         Ok(RingRom {
             words,
             next: 0,
@@ -139,7 +140,7 @@ impl RingRom {
                 unlinks: 0,
                 copied: 0,
             },
-            hints: Hints::new(),
+            hints,
         })
     }
 

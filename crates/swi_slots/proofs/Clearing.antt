@@ -1,9 +1,8 @@
 -- One word more, in the loop that drops the links of a slot.
-use Rattle.std.proofs.Common.{◌≡◌, ℕ, ◌+◌, ◌*◌, ◌<◌, true, false, max, if◌then◌else◌, length, slice_index, slice_set, List, arith, refl, sym, ◌∙◌, ap, subst, inl, inr}
+use Rattle.std.proofs.Common.{◌≡◌, ℕ, ◌+◌, ◌*◌, ◌<◌, true, false, if◌then◌else◌, length, slice_index, slice_set, List, arith, refl, sym, ◌∙◌, ap, subst, inl, inr}
 use Rattle.std.proofs.lemmas.List.{length-set, get_or-set_same, get_or-set_other}
 use Rattle.std.proofs.lemmas.Bool.{cases_eq}
 use Rattle.swi_outside.specs.CacheRam.{RamState, with_set}
-use Rattle.swi_outside.specs.Causes.{counted}
 use Rattle.swi_rom.specs.Record.{ebreak}
 use Rattle.swi_rom.specs.Writing.{Wrote}
 use Rattle.swi_slots.specs.Steps.{Cleared, leads_in, is_dropped, leading_in}

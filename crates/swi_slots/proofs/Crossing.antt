@@ -5,7 +5,6 @@ use Rattle.std.proofs.lemmas.Nat.{same_from_place}
 use Rattle.std.proofs.lemmas.List.{get_or-set_same, get_or-set_other}
 use Rattle.swi_image.specs.Format.{ImageData}
 use Rattle.swi_image.specs.Place.{place_of, length_at}
-use Rattle.swi_outside.specs.Causes.{risen}
 use Rattle.swi_outside.specs.CacheRam.{RamState}
 use Rattle.swi_rom.specs.Record.{Record, Link, Transfer, direct, indirect, target_of, Has, Placed, has_link, same_link, is_linked, writes, reaches}
 use Rattle.swi_rom.specs.Coherent.{TargetAt, ExitAt}
@@ -16,12 +15,12 @@ use Rattle.swi_rom.specs.Served.{Served, WordsMove}
 use Rattle.swi_slots.specs.Slots.{Slots, links_of, queue_of, kept_by, setting_of, span_of}
 use Rattle.swi_slots.specs.Keys.{Images, key_of, owner_of, number_of, key_owner, key_number, key_parts, word_in, ExitOf, key_place, goes}
 use Rattle.swi_slots.specs.Sound.{SlotsServe}
-use Rattle.swi_rom.specs.Writing.{Wrote, FailedBelow}
+use Rattle.swi_rom.specs.Writing.{Wrote}
 use Rattle.swi_slots.specs.Steps.{Linked, MaybeLinked, can_link}
 use Rattle.swi_slots.specs.Arrived.{Arrived}
-use Rattle.swi_rom.specs.declared.rom.RomStop.TheVariants.{Outside, RamFault}
+use Rattle.swi_rom.specs.declared.rom.RomStop.TheVariants.{Outside}
 use Rattle.swi_rom.specs.Rams.{wrote_more}
-use Rattle.swi_rom.specs.Serving.{served, fault_served, none_served}
+use Rattle.swi_rom.specs.Serving.{served, none_served}
 use Rattle.swi_rom.specs.Links.{has_with, same_is, same_same}
 use Rattle.swi_slots.specs.Queue.{has_slot, slot_has, placed_slot, slot_placed, length_queue}
 use Rattle.swi_slots.specs.SlotLinks.{Tidy, link_of, link_key, link_target, never_link, linked_word, word_linked, among_is, word_slot}

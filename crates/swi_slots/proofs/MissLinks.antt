@@ -12,7 +12,7 @@ use Rattle.swi_slots.specs.Steps.{is_dropped, leads_in, leading_in, IsAbsent}
 use Rattle.swi_rom.specs.declared.rom.Counts.{Counts}
 use Rattle.swi_slots.specs.Queue.{spot, next_free}
 use Rattle.swi_rom.specs.Links.{same_ascending, same_tests}
-use Rattle.swi_rom.specs.Collected.{has_filter, filter_ascending, length_collected, passing, passes, length_apart}
+use Rattle.swi_rom.specs.Collected.{has_filter, filter_ascending, length_collected, passing, passes}
 use Rattle.swi_slots.specs.SlotLinks.{link_of, link_here, here_of_word, linked_word, word_linked, word_slot, word_is, word_below, links_ascending}
 use Rattle.swi_slots.specs.Coheres.{tidy_of, target_owner}
 use Rattle.swi_slots.proofs.Missing.{Roomy, CountsMove, filled_slots, target_left, other_block, moved_tidy}

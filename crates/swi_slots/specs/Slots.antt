@@ -1,5 +1,5 @@
 -- A service with slots of one size, as plain data: what stands in each slot, and which words are links.
-use Rattle.std.specs.Prelude.{◌≡◌, ℕ, suc, zero, ◌+◌, ◌*◌, ◌/◌, ◌%◌, ◌<◌, ◌≤◌, ◌==◌, ◌&&◌, ◌^◌, min, List, [], ◌∷◌, ◌++◌, take, drop, length, replicate, Option, Some, None, if◌then◌else◌, slice_index, nat_lt}
+use Rattle.std.specs.Prelude.{◌≡◌, ℕ, ◌+◌, ◌*◌, ◌/◌, ◌%◌, ◌<◌, ◌≤◌, ◌==◌, ◌&&◌, ◌^◌, min, List, [], ◌∷◌, ◌++◌, take, drop, length, replicate, Option, Some, None, if◌then◌else◌, slice_index, nat_lt}
 use Rattle.swi_rom.specs.Record.{Record, Placement, Link}
 use Rattle.swi_rom.specs.Service.{Setting}
 use Rattle.swi_rom.specs.Collected.{collected}

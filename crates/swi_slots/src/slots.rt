@@ -166,6 +166,7 @@ impl<T: LinkTable> SlotRom<T> {
         let lengths = vec![in alloc; 0u32; slots as usize].map_err(|_| Memory)?;
         let table = T::new(alloc, slots, block_words, programs * BLOCKS)?;
         let goals = no_goals(alloc, slots * block_words)?;
+        let hints = Hints::new(alloc)?;
         Ok(SlotRom {
             slots,
             size: block_words,
@@ -185,7 +186,7 @@ impl<T: LinkTable> SlotRom<T> {
                 unlinks: 0,
                 copied: 0,
             },
-            hints: Hints::new(),
+            hints,
         })
     }
 
