@@ -2,4 +2,3 @@ pub mod Sums
 pub mod Agreeing
 pub mod Storing
 pub mod Forgetting
-pub mod Known

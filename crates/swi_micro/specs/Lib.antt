@@ -3,4 +3,4 @@ pub mod MicroOp
 pub mod Ran
 pub mod Stored
 pub mod Decoded
-pub mod Memo
+pub mod Twins

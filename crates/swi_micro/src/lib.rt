@@ -4,7 +4,8 @@
 
 mod class;
 mod decoded;
-mod memo;
+mod decoded_ram;
+mod micro_ram;
 mod source;
 mod stepper;
 mod storer;
@@ -12,7 +13,8 @@ mod translator;
 
 pub use class::Class;
 pub use decoded::{Decoded, forget, forget_all};
-pub use memo::Memo;
+pub use decoded_ram::DecodedRam;
+pub use micro_ram::MicroRam;
 pub use stepper::{step, step_as};
 pub use storer::store;
 pub use translator::{MicroOp, address, index_of, micro_op};

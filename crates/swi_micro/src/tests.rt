@@ -4,11 +4,12 @@
 
 ghost use Rattle.std.specs.Prelude.{◌<◌};
 
-use crate::{Memo, MicroOp, address, index_of, micro_op, step};
+use crate::{DecodedRam, MicroOp, MicroRam, address, index_of, micro_op, step};
 use std::alloc::Global;
 use swi_exec::{Done, Regs, exec, text_store};
 use swi_isa::{Instr, Reg, decode};
 use swi_memory::{Bus, Layout, Segment, WordRange};
+use swi_outside::{CacheRam, VecRam};
 
 /// The words of the text of `bus_of_rows`.
 const TEXT: WordRange = WordRange {
@@ -150,14 +151,31 @@ fn micro_ops_do_what_the_executor_does(rt: HostRuntime) {
     assert_eq!(rt; first_unlike(&one, &other), None);
 }
 
+/// A ram of 64 words of which the first 8 have a place for a micro-op.
+fn ram_of_rows(alloc: Global) -> Option<DecodedRam<VecRam>> {
+    let words = VecRam::new(alloc, 64).ok()?;
+    let mut ram = DecodedRam::new(alloc, words);
+    ram.keep(alloc, 8).ok()?;
+    ram.set(3, 0x002081B3).ok()?;
+    Some(ram)
+}
+
+/// Whether the micro-op of the word at index 3 is known, and the word that is held there.
+fn known(ram: &DecodedRam<VecRam>) -> (bool, Option<u32>)
+    requires { 3 < ram.now.kept }
+{
+    (!ram.op(3).stops(), ram.held(3))
+}
+
 #[test]
-fn a_memo_gives_what_it_learnt_until_the_word_changes(rt: HostRuntime) {
-    let mut memo = Memo::new(rt.alloc(), 64).expect(&rt, "no memory");
-    assert!(rt; memo.op(3, 0x002081B3).is_none());
-    memo.learn(3, 0x002081B3);
-    assert!(rt; memo.op(3, 0x002081B3).is_some());
-    assert!(rt; memo.op(3, 0x402081B3).is_none());
-    assert!(rt; memo.op(2, 0x002081B3).is_none());
+fn a_micro_op_is_known_until_its_word_is_set(rt: HostRuntime) {
+    let mut ram = ram_of_rows(rt.alloc()).expect(&rt, "no memory");
+    assert_eq!(rt; (ram.kept(), ram.held(2), ram.held(8)), (8, None, None));
+    assert_eq!(rt; known(&ram), (false, Some(0x002081B3)));
+    ram.learn(3, 0x002081B3);
+    assert_eq!(rt; known(&ram), (true, None));
+    assert_eq!(rt; ram.set(3, 0x002081B3), Ok(()));
+    assert_eq!(rt; known(&ram), (false, Some(0x002081B3)));
 }
 
 #[test]

@@ -1,0 +1,152 @@
+//! A ram with a micro-op beside each of its words.
+#![tactic(auto)]
+
+ghost use Rattle.std.specs.Prelude.{◌≡◌, ◌^◌, ◌<◌, min, IfOk, OnErr, OnOk, length, replicate, slice_index};
+ghost use Rattle.swi_outside.specs.CacheRam.{Fetched, WordSet};
+ghost use Rattle.swi_micro.specs.MicroOp.{stop_op};
+ghost use Rattle.swi_micro.specs.Twins.{with_op};
+
+use crate::micro_ram::MicroRam;
+use crate::translator::{MicroOp, held, micro_op, stop};
+use std::alloc::Global;
+use std::marker::Model;
+use swi_isa::decode;
+use swi_memory::WordRange;
+use swi_outside::{CacheRam, Failed, Memory};
+
+/// A cache ram that keeps beside each of its first words the micro-op that was made of it, until the word is set. In
+/// clauses it is the ram inside, and how many of its words, from the first on, have a place for a micro-op.
+#[derive(Drop)]
+pub struct DecodedRam<M: CacheRam> {
+    ram: M,
+    // Of a word at which no step was made one that stops, and holds the word where that was set since.
+    ops: Vec<MicroOp>,
+}
+
+impl<M: CacheRam> Model for DecodedRam<M> {
+    ghost use Rattle.std.specs.Prelude.{length};
+    ghost use Rattle.swi_micro.specs.Twins.{AreTwins, DecodedOf};
+
+    ghost Value = { DecodedOf M };
+
+    ghost view = { λ d. record { ram = d.ram; kept = length d.ops.items } };
+
+    ghost invariant = { λ d. AreTwins (M.state d.ram).words d.ops.items };
+}
+
+/// So many micro-ops that stop.
+fn all_stop(alloc: Global, count: u32) -> Result<Vec<MicroOp>, Memory>
+    ensures { IfOk result (λ ops. ops.items ≡ replicate count stop_op) }
+{
+    vec![in alloc; stop(); count as usize].map_err(|_| Memory)
+}
+
+/// Puts a micro-op in the place of an index, if it has one.
+#[inline(always)]
+fn put(ops: &mut [MicroOp], i: u32, m: MicroOp)
+    ensures { ops.new ≡ with_op i m ops.old }
+{
+    if (i as usize) < ops.len() {
+        ops[i as usize] = m;
+    }
+}
+
+impl<M: CacheRam> DecodedRam<M> {
+    /// A ram without a place for a micro-op yet: `keep` makes them.
+    pub fn new(alloc: Global, ram: M) -> DecodedRam<M>
+        ensures { result ≡ record { ram = ram; kept = 0 } }
+    {
+        DecodedRam {
+            ram,
+            ops: Vec::new(alloc),
+        }
+    }
+
+    /// The ram inside.
+    pub fn ram(&self) -> &M
+        ensures { result.now ≡ self.now.ram }
+    {
+        &self.ram
+    }
+}
+
+impl<M: CacheRam> CacheRam for DecodedRam<M> {
+    ghost state = { λ d. M.state d.ram };
+
+    #[inline(always)]
+    fn words(&self) -> u32 {
+        self.ram.words()
+    }
+
+    #[inline(always)]
+    fn fetch(&mut self, i: u32) -> Result<u32, Failed>
+        requires { i < length (M.state self.old.ram).words }
+        ensures fetched { Fetched (M.state self.old.ram) i result (M.state self.new.ram) }
+        ensures kept { self.new.kept ≡ self.old.kept }
+    {
+        self.ram.fetch(i)
+    }
+
+    #[inline(always)]
+    fn set(&mut self, i: u32, w: u32) -> Result<(), Failed>
+        requires { i < length (M.state self.old.ram).words }
+        ensures set { WordSet (M.state self.old.ram) i w result (M.state self.new.ram) }
+        ensures kept { self.new.kept ≡ self.old.kept }
+    {
+        match self.ram.set(i, w) {
+            Ok(()) => {
+                put(&mut self.ops, i, held(w));
+                Ok(())
+            }
+            Err(failed) => {
+                put(&mut self.ops, i, stop());
+                Err(failed)
+            }
+        }
+    }
+}
+
+impl<M: CacheRam> MicroRam for DecodedRam<M> {
+    ghost kept = { λ d. d.kept };
+
+    fn keep(&mut self, alloc: Global, count: u32) -> Result<(), Memory> {
+        self.ops = all_stop(alloc, count.min(self.ram.words()))?;
+        Ok(())
+    }
+
+    #[inline(always)]
+    fn kept(&self) -> u32 {
+        self.ops.len() as u32
+    }
+
+    #[inline(always)]
+    fn range(&self) -> WordRange {
+        WordRange {
+            from: 0,
+            words: self.ops.len() as u32,
+        }
+    }
+
+    #[inline(always)]
+    fn fetch_kept(&mut self, i: u32) -> Result<u32, Failed> {
+        self.fetch(i)
+    }
+
+    #[inline(always)]
+    fn op(&self, i: u32) -> &MicroOp {
+        &self.ops[i as usize]
+    }
+
+    #[inline(always)]
+    fn held(&self, i: u32) -> Option<u32> {
+        self.ops.get(i as usize)?.word()
+    }
+
+    fn learn(&mut self, i: u32, word: u32) {
+        let op = match decode(word) {
+            Some(instr) => micro_op(&instr, &self.range(), i),
+            None => held(word),
+        };
+        self.ops[i as usize] = op;
+    }
+}
