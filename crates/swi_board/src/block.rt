@@ -1,8 +1,8 @@
 //! Steps that ask neither the ram, but for their fetch, nor a device.
 #![tactic(auto)]
 
-ghost use Rattle.swi_rom.specs.Served.{Keeps};
-ghost use Rattle.std.specs.Prelude.{◌≡◌, ◌+◌, ◌-◌, ◌*◌, ◌%◌, ◌^◌, ◌<◌, ◌≤◌, ℕ, List, Option, IfSome, length, slice_index, if◌then◌else◌, None, Some, false, true};
+ghost use Rattle.swi_rom.specs.Served.{Keeps, Served};
+ghost use Rattle.std.specs.Prelude.{◌≡◌, ◌+◌, ◌-◌, ◌*◌, ◌%◌, ◌^◌, ◌<◌, ◌≤◌, ℕ, List, Option, IfSome, length, slice_index, if◌then◌else◌, None, Some, Ok, false, true};
 ghost use Rattle.swi_outside.specs.CacheRam.{RamState};
 ghost use Rattle.swi_memory.specs.Bus.{fetched};
 ghost use Rattle.swi_calls.specs.declared.machine.Machine.{Machine};
@@ -15,16 +15,18 @@ ghost use Rattle.swi_hart.specs.Hart.{HartData};
 ghost use Rattle.swi_hart.specs.Leaving.{Home, leaves};
 ghost use Rattle.swi_hart.specs.Bounds.{most};
 ghost use Rattle.swi_board.specs.Walked.{is_link, is_stop, gone, landed, place_shown, walk_left, walk_pc, walk_steps, walk_count, walk_control, walk_hart, walk_machine, ExitStands, HasRoom, WalksTo, LinkOn, StepOn, JumpOn, Walked, WalkedOn, StandsInside, BlockRan};
-ghost use Rattle.swi_rom.specs.Record.{IsJump, Record};
-ghost use Rattle.swi_rom.specs.Coherent.{StandsAt};
+ghost use Rattle.swi_rom.specs.Record.{IsJump, Record, indirect};
+ghost use Rattle.swi_rom.specs.Coherent.{StandsAt, TargetAt};
+ghost use Rattle.swi_board.specs.Targets.{AreFound};
 
 use crate::known::{Went, link_on, quick};
+use crate::targets::Targets;
 use swi_exec::Regs;
 use swi_hart::{Control, EBREAK, Hart, Stage, fell, register_target};
 use swi_image::ImageView;
 use swi_isa::{Reg, jalr_fields};
 use swi_memory::Bus;
-use swi_micro::Memo;
+use swi_micro::MicroRam;
 use swi_outside::{CacheRam, Failed};
 use swi_rom::CacheRom;
 
@@ -217,20 +219,19 @@ pub(crate) fn follow<R: CacheRom, M: CacheRam>(
 /// The step of `quick` at a fetched word whose micro-op is learnt first. None, and the hart is as it was, at a word that
 /// `quick` leaves. The walk goes in and comes out by value, so that the loop's own can stay in registers.
 #[inline(never)]
-fn step_anew<R: CacheRom, M: CacheRam>(
+fn step_anew<R: CacheRom, M: MicroRam>(
     hart: &mut Hart,
     rom: &R,
     image: &ImageView<'_>,
-    ram: &M,
-    memo: &mut Memo,
+    ram: &mut M,
     got: u32,
     walk: Walk,
 ) -> Option<Walk>
     requires going { hart.old.machine.ending ≡ None }
-    requires sound { R.service.sound rom.now image.now (M.state ram.now).words }
+    requires sound { R.service.sound rom.now image.now (M.state ram.old).words }
     requires used { walk.index < R.service.span (R.service.setting rom.now) }
-    requires place { walk.index < memo.old }
-    requires got { got ≡ slice_index (M.state ram.now).words walk.index }
+    requires place { walk.index < M.kept ram.old }
+    requires got { got ≡ slice_index (M.state ram.old).words walk.index }
     requires room { HasRoom walk }
     ensures on { IfSome result (λ next. (x : AnyInstr) → Some x ≡ decoded got → (p : ℕ × ℕ) →
         Home image.now (R.service.kept rom.now)
@@ -241,47 +242,89 @@ fn step_anew<R: CacheRom, M: CacheRam>(
     ensures counted { IfSome result (λ next. walk_count next ≡ walk_count walk + 1) }
     ensures limited { IfSome result (λ next. (n : ℕ) → WalksTo n walk → WalksTo n next) }
     ensures same { result ≡ None → hart.new ≡ hart.old }
-    ensures memo { memo.new ≡ memo.old }
+    ensures ram { M.state ram.new ≡ M.state ram.old }
+    ensures kept { M.kept ram.new ≡ M.kept ram.old }
     ensures rest { hart.new ≡ record hart.old {
       machine = record hart.old.machine
           { regs = hart.new.machine.regs; bus = hart.new.machine.bus };
     } }
 {
-    memo.learn(walk.index, got);
+    ram.learn(walk.index, got);
     let mut walk = walk;
-    match quick::<R, M, true>(hart, rom, image, ram, memo, got, &mut walk) {
+    match quick::<R, M, true>(hart, rom, image, ram, got, &mut walk) {
         Went::On | Went::Exit => Some(walk),
         Went::Left => None,
     }
 }
 
-/// Writes the return address of a jump, a word of its block, to the jump's register. Where that is x0, as in a return,
-/// the word isn't read.
+/// Writes the return address of the jump whose exit stands at an index, a word of its block, to the jump's register. Where
+/// that is x0, as in a return, nothing is read.
 #[inline(always)]
-fn keep_return(regs: &mut Regs, image: &ImageView<'_>, rd: Reg, block: u32, offset: u32)
-    requires block { block < length image.now.starts }
-    requires offset { offset < length_at image.now block }
-    ensures { regs.new ≡ with_reg regs.old rd (word_at image.now block offset) }
+fn keep_return<R: CacheRom>(regs: &mut Regs, rom: &R, image: &ImageView<'_>, at: u32, rd: Reg)
+    requires shown { R.service.shown rom.now at ≡ None → ⊥ }
+    requires block { (place_shown (R.service.shown rom.now at)).0 < length image.now.starts }
+    requires offset { (place_shown (R.service.shown rom.now at)).1 + 2 < length_at image.now (place_shown (R.service.shown rom.now at)).0 }
+    ensures { regs.new ≡ with_reg regs.old rd (word_at image.now (place_shown (R.service.shown rom.now at)).0
+        ((place_shown (R.service.shown rom.now at)).1 + 2)) }
 {
     if rd.num() != 0 {
-        regs.set(rd, image.word(block, offset));
+        let Some((block, offset)) = rom.at(at) else {
+            unreachable!()
+        };
+        regs.set(rd, image.word(block, offset + 2));
     }
+}
+
+/// Where a jump over a register finds its target, if the target's block is placed. The service counts the jump then, and
+/// else nothing changes.
+#[inline(always)]
+fn visit<R: CacheRom, M: CacheRam>(
+    rom: &mut R,
+    image: &ImageView<'_>,
+    ram: &M,
+    targets: &mut Targets,
+    target: u32,
+) -> Option<u32>
+    requires sound { R.service.sound rom.old image.now (M.state ram.now).words }
+    requires services { (R.service.kept rom.old).counts.services < 2 ^ 50 }
+    requires four { target % 4 ≡ 0 }
+    requires found { AreFound (TargetAt image.now (R.service.kept rom.old)) targets.old }
+    ensures served { IfSome result (λ i. Served image.now (R.service.span (R.service.setting rom.old)) target (R.service.kept rom.old)
+        (R.service.policy (R.service.setting rom.old) (R.service.kept rom.old) image.now (indirect target)) (R.service.kept rom.new)
+        (M.state ram.now) (M.state ram.now) (Ok i)) }
+    ensures same { result ≡ None → rom.new ≡ rom.old }
+    ensures setting { R.service.setting rom.new ≡ R.service.setting rom.old }
+    ensures stays { R.service.sound rom.new image.now (M.state ram.now).words }
+    ensures keeps { Keeps R.service image.now rom.old rom.new (M.state ram.now).words (M.state ram.now).words }
+    ensures counted { R.service.kept rom.new ≡ record (R.service.kept rom.old) { counts = (R.service.kept rom.new).counts } }
+    ensures found { AreFound (TargetAt image.now (R.service.kept rom.new)) targets.new }
+{
+    if let Some(index) = targets.find(target) {
+        rom.visit(image, ram, target, index);
+        return Some(index);
+    }
+    let index = rom.revisit(image, ram, target)?;
+    targets.keep(target, index);
+    Some(index)
 }
 
 /// Jumps over a register by the exit at an index, where that is a JALR's whose target's block is placed, as that of a
 /// return mostly is: where the target stands, and the target. The service counts it, and asks the ram for nothing. At any
 /// other exit nothing changes.
 #[inline(never)]
-fn back<R: CacheRom, M: CacheRam>(
+fn back<R: CacheRom, M: MicroRam>(
     hart: &mut Hart,
     rom: &mut R,
     image: &ImageView<'_>,
     ram: &M,
+    targets: &mut Targets,
     at: u32,
 ) -> Option<(u32, u32)>
     requires sound { R.service.sound rom.old image.now (M.state ram.now).words }
     requires services { (R.service.kept rom.old).counts.services < 2 ^ 50 }
     requires exit { ExitStands image.now (R.service.kept rom.old) at (place_shown (R.service.shown rom.old at)) }
+    requires shown { R.service.shown rom.old at ≡ None → ⊥ }
+    requires found { AreFound (TargetAt image.now (R.service.kept rom.old)) targets.old }
     ensures on { IfSome result (λ j. (walk : Walk) → walk.index ≡ at → HasRoom walk →
         (q : ℕ × ℕ) × JumpOn (R.service.policy (R.service.setting rom.old)) (R.service.span (R.service.setting rom.old)) image.now
         (R.service.kept rom.old) (R.service.kept rom.new) (M.state ram.now) (walk_machine walk hart.old.machine)
@@ -294,31 +337,29 @@ fn back<R: CacheRom, M: CacheRam>(
     ensures setting { R.service.setting rom.new ≡ R.service.setting rom.old }
     ensures stays { R.service.sound rom.new image.now (M.state ram.now).words }
     ensures keeps { Keeps R.service image.now rom.old rom.new (M.state ram.now).words (M.state ram.now).words }
+    ensures found { AreFound (TargetAt image.now (R.service.kept rom.new)) targets.new }
 {
-    let Some((block, offset)) = rom.at(at) else {
-        unreachable!()
-    };
-    let x = jalr_fields(image.word(block, offset + 1))?;
+    let x = jalr_fields(ram.held(at + 1)?)?;
     let target = register_target(hart.machine.regs.get(x.rs1), x.imm);
     if target % 4 != 0 {
         return None;
     }
-    let index = rom.revisit(image, ram, target)?;
-    keep_return(&mut hart.machine.regs, image, x.rd, block, offset + 2);
+    let index = visit(rom, image, ram, targets, target)?;
+    keep_return(&mut hart.machine.regs, rom, image, at, x.rd);
     Some((index, target))
 }
 
-/// Where control is in the ram, where the memo has a place for each word of the service.
+/// Where control is in the ram, where that has a place for the micro-op of each word of the service.
 #[inline(always)]
-pub(crate) fn block_place<R: CacheRom>(
+pub(crate) fn block_place<R: CacheRom, M: MicroRam>(
     hart: &Hart,
     rom: &R,
-    memo: &Memo,
+    ram: &M,
 ) -> Option<(u32, u32, u32, Stage)>
     ensures control { IfSome result (λ at. hart.now.control ≡ Control.At at.0 at.1 at.2 at.3) }
-    ensures places { IfSome result (λ at. R.service.span (R.service.setting rom.now) ≤ memo.now) }
+    ensures places { IfSome result (λ at. R.service.span (R.service.setting rom.now) ≤ M.kept ram.now) }
 {
-    if memo.words() < rom.span() {
+    if ram.kept() < rom.span() {
         return None;
     }
     match hart.control.control() {
@@ -349,19 +390,19 @@ fn settle<R: CacheRom>(hart: &mut Hart, rom: &R, walk: Walk)
 /// and jumps to placed blocks stands in this loop, and its walk is lent to nothing that isn't inlined: so what a word
 /// changes can stay in registers.
 #[inline(never)]
-pub(crate) fn run_block<R: CacheRom, M: CacheRam>(
+pub(crate) fn run_block<R: CacheRom, M: MicroRam>(
     hart: &mut Hart,
     rom: &mut R,
     image: &ImageView<'_>,
     ram: &mut M,
-    memo: &mut Memo,
+    targets: &mut Targets,
     limit: u64,
     at: (u32, u32, u32, Stage),
 ) -> Result<Option<u32>, Failed>
     requires going { hart.old.machine.ending ≡ None }
     requires control { hart.old.control ≡ Control.At at.0 at.1 at.2 at.3 }
     requires sound { R.service.sound rom.old image.now (M.state ram.old).words }
-    requires places { R.service.span (R.service.setting rom.old) ≤ memo.old }
+    requires places { R.service.span (R.service.setting rom.old) ≤ M.kept ram.old }
     requires few { limit ≤ 2 ^ 48 }
     requires count { hart.old.count < 2 ^ 56 }
     requires within { hart.old.machine.steps ≤ limit }
@@ -384,6 +425,7 @@ pub(crate) fn run_block<R: CacheRom, M: CacheRam>(
     ensures sound { R.service.sound rom.new image.now (M.state ram.new).words }
     ensures keeps { Keeps R.service image.now rom.old rom.new (M.state ram.old).words (M.state ram.new).words }
 {
+    targets.forget();
     let steps = limit - hart.machine.steps;
     let mut walk = Walk {
         index: at.0,
@@ -400,20 +442,20 @@ pub(crate) fn run_block<R: CacheRom, M: CacheRam>(
         }};
     }
     while u64::from(walk.index) < walk.end {
-        let Ok(word) = ram.fetch(walk.index) else {
+        let Ok(word) = ram.fetch_kept(walk.index) else {
             leave!(Err(Failed));
         };
-        match quick::<R, M, false>(hart, rom, image, ram, memo, word, &mut walk) {
+        match quick::<R, M, false>(hart, rom, image, ram, word, &mut walk) {
             Went::On => continue,
             Went::Exit => {
                 // No limit of steps falls between a branch and the exit behind it, since the branch completes no step.
-                let Ok(exit) = ram.fetch(walk.index) else {
+                let Ok(exit) = ram.fetch_kept(walk.index) else {
                     leave!(Err(Failed));
                 };
-                if link_on(rom, image, ram, memo, exit, &mut walk) {
+                if link_on(rom, image, ram, exit, &mut walk) {
                     continue;
                 }
-                let Some(next) = step_anew(hart, rom, image, ram, memo, exit, walk) else {
+                let Some(next) = step_anew(hart, rom, image, ram, exit, walk) else {
                     leave!(Ok(Some(exit)));
                 };
                 walk.come(next);
@@ -422,13 +464,13 @@ pub(crate) fn run_block<R: CacheRom, M: CacheRam>(
             Went::Left => {}
         }
         if word == EBREAK {
-            let Some((index, target)) = back(hart, rom, image, ram, walk.index) else {
+            let Some((index, target)) = back(hart, rom, image, ram, targets, walk.index) else {
                 leave!(Ok(Some(word)));
             };
             walk.land(index, target, false);
             continue;
         }
-        let Some(next) = step_anew(hart, rom, image, ram, memo, word, walk) else {
+        let Some(next) = step_anew(hart, rom, image, ram, word, walk) else {
             leave!(Ok(Some(word)));
         };
         walk.come(next);

@@ -26,6 +26,7 @@ ghost use Rattle.swi_board.specs.Entered.{Entered};
 ghost use Rattle.swi_board.specs.Ran.{Followed};
 
 use crate::block::{block_place, run_block};
+use crate::targets::Targets;
 use std::alloc::Global;
 use std::marker::Model;
 use swi_calls::{End, Heap};
@@ -35,7 +36,7 @@ use swi_hart::{
 };
 use swi_image::ImageView;
 use swi_memory::{Bus, Layout};
-use swi_micro::Memo;
+use swi_micro::MicroRam;
 use swi_outside::{CacheRam, Failed, Sink, Source};
 use swi_program::Program;
 use swi_rom::CacheRom;
@@ -54,8 +55,8 @@ pub enum BootStop {
 pub struct Board<R: CacheRom> {
     hart: Hart,
     rom: R,
-    // What was decoded of the ram's words. It changes no step.
-    memo: Memo,
+    // Where jumps over registers led. It changes no step.
+    targets: Targets,
 }
 
 impl<R: CacheRom> Model for Board<R> {
@@ -109,7 +110,7 @@ impl<R: CacheRom> Board<R> {
     ///
     /// A word of the ram that changes is of a newly placed block, or a link that was made or undone; each other program
     /// that the service served is served as before. `Failed` comes only where the ram's count of faults rose; hart and
-    /// service are then given up. No memory is taken: `run` then decodes each word that it fetches.
+    /// service are then given up. No memory is taken.
     pub fn resume<M: CacheRam>(
         image: &ImageView<'_>,
         hart: Hart,
@@ -135,7 +136,7 @@ impl<R: CacheRom> Board<R> {
         Ok(Board {
             hart,
             rom,
-            memo: Memo::none(),
+            targets: Targets::none(),
         })
     }
 
@@ -143,8 +144,7 @@ impl<R: CacheRom> Board<R> {
     /// instruction. The layout is the program's, the image one of its text, and the service sound for the image and the
     /// ram, as a new one is, with fewer than 2^50 services.
     ///
-    /// All memory is taken before the first call of the ram: beside the hart's twelve bytes for each word of the service, so
-    /// that `run` decodes a word once and not at each step. RamFault comes only where the ram's count of faults rose.
+    /// All memory is taken before the first call of the ram. RamFault comes only where the ram's count of faults rose.
     pub fn boot<M: CacheRam>(
         alloc: Global,
         image: &ImageView<'_>,
@@ -172,13 +172,13 @@ impl<R: CacheRom> Board<R> {
             Ok(hart) => hart,
             Err(_) => return Err(BootStop::Memory),
         };
-        let Ok(memo) = Memo::new(alloc, rom.span()) else {
+        let Ok(targets) = Targets::new(alloc) else {
             return Err(BootStop::Memory);
         };
         match Board::resume(image, hart, rom, ram) {
             Ok(board) => {
                 let Board { hart, rom, .. } = board;
-                Ok(Board { hart, rom, memo })
+                Ok(Board { hart, rom, targets })
             }
             Err(_) => Err(BootStop::RamFault),
         }
@@ -196,7 +196,7 @@ impl<R: CacheRom> Board<R> {
     /// A board of a hart that is booted and has not failed, and a service that shows the hart's place at the index under its control.
     /// Nothing changes or is counted. That the service is sound for the hart's image and the ram is asked by the next
     /// `step` or `run`. Where control's block stands as it did in the service's record before, the board matches the same
-    /// flat machines, and the image fits it as before. What was decoded is lost: `run` then decodes each word that it fetches.
+    /// flat machines, and the image fits it as before.
     pub fn join(hart: Hart, rom: R) -> Board<R>
         requires booted { hart.booted ≡ true }
         requires unfailed { hart.failed ≡ false }
@@ -214,7 +214,7 @@ impl<R: CacheRom> Board<R> {
         Board {
             hart,
             rom,
-            memo: Memo::none(),
+            targets: Targets::none(),
         }
     }
 
@@ -282,7 +282,7 @@ impl<R: CacheRom> Board<R> {
     /// machine instructions, and in the ram but for the call that failed; memory is theirs too, but that a read's
     /// buffer may have a front of the bytes that were taken, where the input or a sink failed. A sink to which the next
     /// step gives nothing was not asked.
-    pub fn run<M: CacheRam, I: Source, O: Sink, E: Sink>(
+    pub fn run<M: MicroRam, I: Source, O: Sink, E: Sink>(
         &mut self,
         image: &ImageView<'_>,
         ram: &mut M,
@@ -312,15 +312,15 @@ impl<R: CacheRom> Board<R> {
               devices = record { input = I.state input.new; output = O.state out.new; error = E.state err.new };
             }) result }
     {
-        let Board { hart, rom, memo } = self;
+        let Board { hart, rom, targets } = self;
         while hart.machine.steps < n && hart.machine.ending.is_none() {
             // Read for the proof alone: that it has 32 bits.
             let _pc = hart.origin_pc();
-            let Some(at) = block_place(hart, rom, memo) else {
+            let Some(at) = block_place(hart, rom, ram) else {
                 quick_step(hart, rom, image, ram, input, out, err)?;
                 continue;
             };
-            let got = match run_block(hart, rom, image, ram, memo, n, at) {
+            let got = match run_block(hart, rom, image, ram, targets, n, at) {
                 Ok(Some(got)) => got,
                 Ok(None) => continue,
                 Err(_) => {

@@ -6,7 +6,7 @@ ghost use Rattle.swi_isa.specs.declared.instr.Instr.{Instr as AnyInstr};
 ghost use Rattle.swi_isa.specs.Decode.{decoded};
 ghost use Rattle.swi_micro.specs.Classes.{class_of};
 ghost use Rattle.swi_calls.specs.declared.machine.Machine.{Machine};
-ghost use Rattle.swi_micro.specs.Memo.{IsOpAt};
+ghost use Rattle.swi_micro.specs.Twins.{IsTwin};
 ghost use Rattle.swi_hart.specs.Leaving.{Home};
 ghost use Rattle.swi_board.specs.Known.{FitsPlace, WordWent, add_way, way_by, Straight, Branch, Last};
 ghost use Rattle.swi_board.specs.Walked.{gone, is_exit, is_left, is_link, is_stop, walk_control, walk_count, walk_machine, walk_pc, HasRoom, StepOn, WalksTo};
@@ -16,8 +16,7 @@ use swi_exec::Regs;
 use swi_hart::{Hart, Role, Stage, upper_role};
 use swi_image::ImageView;
 use swi_memory::{Bus, WordRange};
-use swi_micro::{Class, Memo, MicroOp, step_as};
-use swi_outside::CacheRam;
+use swi_micro::{Class, MicroOp, MicroRam, step_as};
 use swi_rom::CacheRom;
 
 /// Executes a word by its micro-op `m`, of a class from which control goes to the next word. One that faults changes
@@ -34,7 +33,7 @@ fn straight(
 ) -> Next
     requires room { HasRoom walk.now }
     requires first { range.now.from ≡ 0 }
-    requires known { IsOpAt range.now walk.now.index got m.now }
+    requires known { IsTwin range.now walk.now.index got m.now }
     requires class { class ≡ class_of m.now.code }
     requires way { way_by walk.now.stage class ≡ Straight }
     ensures went { is_stop result ≡ false → (x : AnyInstr) → Some x ≡ decoded got →
@@ -63,7 +62,7 @@ fn branch(
 ) -> Next
     requires room { HasRoom walk.now }
     requires first { range.now.from ≡ 0 }
-    requires known { IsOpAt range.now walk.now.index got m.now }
+    requires known { IsTwin range.now walk.now.index got m.now }
     requires class { class ≡ class_of m.now.code }
     requires way { way_by walk.now.stage class ≡ Branch }
     ensures went { is_stop result ≡ false → (x : AnyInstr) → Some x ≡ decoded got →
@@ -96,7 +95,7 @@ fn upper(
 ) -> Next
     requires room { HasRoom walk.now }
     requires first { range.now.from ≡ 0 }
-    requires known { IsOpAt range.now walk.now.index got m.now }
+    requires known { IsTwin range.now walk.now.index got m.now }
     requires class { class_of m.now.code ≡ Class.Lui }
     ensures went { is_stop result ≡ false → (x : AnyInstr) → Some x ≡ decoded got →
         FitsPlace walk.now.stage (walk_pc walk.now) x bus.old →
@@ -142,7 +141,7 @@ fn last(
 ) -> Next
     requires room { HasRoom walk.now }
     requires first { range.now.from ≡ 0 }
-    requires known { IsOpAt range.now walk.now.index got m.now }
+    requires known { IsTwin range.now walk.now.index got m.now }
     requires class { class_of m.now.code ≡ Class.Add }
     requires way { add_way walk.now.stage ≡ Last }
     ensures went { is_stop result ≡ false → (x : AnyInstr) → Some x ≡ decoded got →
@@ -174,7 +173,7 @@ fn execute_known<R: CacheRom, const ANEW: bool>(
 ) -> Next
     requires room { HasRoom walk.old }
     requires first { range.now.from ≡ 0 }
-    requires known { IsOpAt range.now walk.old.index got m.now }
+    requires known { IsTwin range.now walk.old.index got m.now }
     ensures went { is_stop result ≡ false → (x : AnyInstr) → Some x ≡ decoded got →
         FitsPlace walk.old.stage (walk_pc walk.old) x bus.old →
         WordWent result walk.old.index walk.old.stage (walk_pc walk.old) x regs.old bus.old regs.new bus.new }
@@ -255,19 +254,18 @@ fn went_by(next: Next) -> Went
 
 /// A step at a fetched word by its micro-op, that asks neither the service nor a device.
 #[inline(always)]
-pub(crate) fn quick<R: CacheRom, M: CacheRam, const ANEW: bool>(
+pub(crate) fn quick<R: CacheRom, M: MicroRam, const ANEW: bool>(
     hart: &mut Hart,
     rom: &R,
     image: &ImageView<'_>,
     ram: &M,
-    memo: &Memo,
     got: u32,
     walk: &mut Walk,
 ) -> Went
     requires going { hart.old.machine.ending ≡ None }
     requires sound { R.service.sound rom.now image.now (M.state ram.now).words }
     requires used { walk.old.index < R.service.span (R.service.setting rom.now) }
-    requires place { walk.old.index < memo.now }
+    requires place { walk.old.index < M.kept ram.now }
     requires got { got ≡ slice_index (M.state ram.now).words walk.old.index }
     requires room { HasRoom walk.old }
     ensures on { is_left result ≡ false → (x : AnyInstr) → Some x ≡ decoded got → (p : ℕ × ℕ) → Home image.now (R.service.kept rom.now)
@@ -284,14 +282,12 @@ pub(crate) fn quick<R: CacheRom, M: CacheRam, const ANEW: bool>(
           { regs = hart.new.machine.regs; bus = hart.new.machine.bus };
     } }
 {
-    let Some(m) = memo.op(walk.index, got) else {
-        return Went::Left;
-    };
+    let m = ram.op(walk.index);
     let next = execute_known::<R, ANEW>(
         walk,
         got,
         m,
-        &memo.range(),
+        &ram.range(),
         &mut hart.machine.regs,
         &mut hart.machine.bus,
     );
@@ -305,20 +301,19 @@ pub(crate) fn quick<R: CacheRom, M: CacheRam, const ANEW: bool>(
     went_by(next)
 }
 
-/// Goes over the link that the fetched word is, by its micro-op. False, and nothing has changed, where the memo doesn't know
+/// Goes over the link that the fetched word is, by its micro-op. False, and nothing has changed, where the ram doesn't know
 /// the word as a JAL.
 #[inline(always)]
-pub(crate) fn link_on<R: CacheRom, M: CacheRam>(
+pub(crate) fn link_on<R: CacheRom, M: MicroRam>(
     rom: &R,
     image: &ImageView<'_>,
     ram: &M,
-    memo: &Memo,
     got: u32,
     walk: &mut Walk,
 ) -> bool
     requires sound { R.service.sound rom.now image.now (M.state ram.now).words }
     requires used { walk.old.index < R.service.span (R.service.setting rom.now) }
-    requires place { walk.old.index < memo.now }
+    requires place { walk.old.index < M.kept ram.now }
     requires got { got ≡ slice_index (M.state ram.now).words walk.old.index }
     requires room { HasRoom walk.old }
     ensures on { result ≡ true → (x : AnyInstr) (m : Machine) (p : ℕ × ℕ) → Some x ≡ decoded got →
@@ -329,9 +324,7 @@ pub(crate) fn link_on<R: CacheRom, M: CacheRam>(
     ensures limited { result ≡ true → (n : ℕ) → WalksTo n walk.old → WalksTo n walk.new }
     ensures same { result ≡ false → walk.new ≡ walk.old }
 {
-    let Some(m) = memo.op(walk.index, got) else {
-        return false;
-    };
+    let m = ram.op(walk.index);
     let Class::Jal = m.class() else {
         return false;
     };

@@ -4,6 +4,7 @@
 mod block;
 mod board;
 mod known;
+mod targets;
 
 pub use board::{Board, BootStop};
 pub use swi_hart::{BoardFault, Control, Hart, Stage};

@@ -26,6 +26,7 @@ use std::alloc::Global;
 use swi_board::{Board, BoardFault, BootStop};
 use swi_image::ImageView;
 use swi_memory::Layout;
+use swi_micro::MicroRam;
 use swi_outside::{CacheRam, Memory, Sink, Source};
 use swi_program::Program;
 use swi_rom::CacheRom;
@@ -129,7 +130,7 @@ fn boot<R: CacheRam, S: CacheRom>(
 /// made; with `Each` the line of the next step may stand behind it. After `SourceFault` they hold what the steps made
 /// have written, with `Each` the line of the step that was broken off too. After `SinkFault` they hold what the steps made have written, and a front of what the
 /// next step writes, its line first. The words of the ram behind those of the service never change. Own rule.
-pub fn run_cached<I: Source, O: Sink, E: Sink, R: CacheRam, S: CacheRom>(
+pub fn run_cached<I: Source, O: Sink, E: Sink, R: MicroRam, S: CacheRom>(
     alloc: Global,
     image: &ImageView<'_>,
     program: &Program<'_>,
@@ -200,6 +201,9 @@ pub fn run_cached<I: Source, O: Sink, E: Sink, R: CacheRam, S: CacheRom>(
     let Ok(history) = first_history(alloc, asked.trace) else {
         return Err(CachedStop::Memory);
     };
+    if ram.keep(alloc, rom.span()).is_err() {
+        return Err(CachedStop::Memory);
+    }
     let mut board = boot(alloc, image, program, layout, rom, asked, ram)?;
     match run_steps(
         &mut board,

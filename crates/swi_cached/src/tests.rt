@@ -16,6 +16,7 @@ use swi_exec::FaultKind::*;
 use swi_fifo::FifoRom;
 use swi_image::ImageView;
 use swi_memory::Layout;
+use swi_micro::DecodedRam;
 use swi_outside::{CacheRam, FaultRam, MemSink, MemSource};
 use swi_program::{Program, lay_out, program_of};
 use swi_rom::CacheRom;
@@ -131,18 +132,21 @@ struct Devices {
     input: MemSource,
     out: MemSink,
     err: MemSink,
-    ram: FaultRam,
+    ram: DecodedRam<FaultRam>,
 }
 
 /// The input `abc`, two sinks, and a ram of so many words, with a run's failing calls.
 fn devices_of(alloc: Global, run: &Run, words: u32) -> Result<Devices, Fail>
-    ensures { IfOk result (λ d. length d.ram.ram.words ≡ words) }
+    ensures { IfOk result (λ d. length d.ram.ram.ram.words ≡ words) }
 {
     Ok(Devices {
         input: MemSource::new(b"abc".to_vec(alloc)?, [run.input_fails].to_vec(alloc)?),
         out: MemSink::new(alloc, 4096, [run.out_fails].to_vec(alloc)?)?,
         err: MemSink::new(alloc, 4096, Vec::new(alloc))?,
-        ram: FaultRam::new(alloc, words, [run.ram_fails].to_vec(alloc)?)?,
+        ram: DecodedRam::new(
+            alloc,
+            FaultRam::new(alloc, words, [run.ram_fails].to_vec(alloc)?)?,
+        ),
     })
 }
 
@@ -213,7 +217,7 @@ fn stands_after(alloc: Global, run: &Run, words: u32) -> Result<Stands, Fail> {
     let answer = run_cached(
         alloc, &view, &program, &layout, rom, asked, &mut input, &mut out, &mut err, &mut ram,
     );
-    stands_of(alloc, &answer, &out, &err, &ram)
+    stands_of(alloc, &answer, &out, &err, ram.ram())
 }
 
 /// The first 64 words of a ram, or all.
@@ -488,7 +492,7 @@ fn in_two_runs(
         steps,
         board.ending(),
         board.origin_pc(),
-        counts_of(&board, &ram),
+        counts_of(&board, ram.ram()),
     ))
 }
 

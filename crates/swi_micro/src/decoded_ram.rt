@@ -4,7 +4,8 @@
 ghost use Rattle.std.specs.Prelude.{◌≡◌, ◌^◌, ◌<◌, min, IfOk, OnErr, OnOk, length, replicate, slice_index};
 ghost use Rattle.swi_outside.specs.CacheRam.{Fetched, WordSet};
 ghost use Rattle.swi_micro.specs.MicroOp.{stop_op};
-ghost use Rattle.swi_micro.specs.Twins.{with_op};
+ghost use Rattle.swi_memory.specs.WordRange.{IsWordRange};
+ghost use Rattle.swi_micro.specs.Twins.{IsTwin, with_op};
 
 use crate::micro_ram::MicroRam;
 use crate::translator::{MicroOp, held, micro_op, stop};
@@ -43,11 +44,23 @@ fn all_stop(alloc: Global, count: u32) -> Result<Vec<MicroOp>, Memory>
 
 /// Puts a micro-op in the place of an index, if it has one.
 #[inline(always)]
-fn put(ops: &mut [MicroOp], i: u32, m: MicroOp)
-    ensures { ops.new ≡ with_op i m ops.old }
+fn put(ops: &mut Vec<MicroOp>, i: u32, m: MicroOp)
+    ensures { ops.new.items ≡ with_op i m ops.old.items }
 {
     if (i as usize) < ops.len() {
         ops[i as usize] = m;
+    }
+}
+
+/// The micro-op of a word, as the one with index `i` of a range. One that holds the word where that is no instruction.
+fn twin(range: &WordRange, i: u32, word: u32) -> MicroOp
+    requires whole { IsWordRange range.now }
+    requires here { i < range.now.words }
+    ensures { IsTwin range.now i word result }
+{
+    match decode(word) {
+        Some(instr) => micro_op(&instr, range, i),
+        None => held(word),
     }
 }
 
@@ -129,7 +142,7 @@ impl<M: CacheRam> MicroRam for DecodedRam<M> {
 
     #[inline(always)]
     fn fetch_kept(&mut self, i: u32) -> Result<u32, Failed> {
-        self.fetch(i)
+        self.ram.fetch(i)
     }
 
     #[inline(always)]
@@ -143,10 +156,7 @@ impl<M: CacheRam> MicroRam for DecodedRam<M> {
     }
 
     fn learn(&mut self, i: u32, word: u32) {
-        let op = match decode(word) {
-            Some(instr) => micro_op(&instr, &self.range(), i),
-            None => held(word),
-        };
+        let op = twin(&self.range(), i, word);
         self.ops[i as usize] = op;
     }
 }

@@ -23,6 +23,7 @@ use swi_board::Board;
 use swi_fifo::FifoRom;
 use swi_hart::{BoardFault, Hart};
 use swi_image::ImageView;
+use swi_micro::MicroRam;
 use swi_outside::{CacheRam, Failed, Sink, Source};
 use swi_rom::CacheRom;
 
@@ -84,7 +85,7 @@ fn board_of<M: CacheRam>(
 }
 
 /// One original instruction of a hart that has not ended, with its services. Its program is in turn.
-pub(crate) fn make_event<M: CacheRam, I: Source, O: Sink, E: Sink>(
+pub(crate) fn make_event<M: MicroRam, I: Source, O: Sink, E: Sink>(
     image: &ImageView<'_>,
     hart: Hart,
     rom: FifoRom,

@@ -18,7 +18,8 @@ use std::alloc::Global;
 use std::marker::Model;
 use swi_fifo::FifoRom;
 use swi_hart::{BoardFault, Hart};
-use swi_outside::{CacheRam, Memory, Sink};
+use swi_micro::MicroRam;
+use swi_outside::{Memory, Sink};
 use swi_rom::CacheRom;
 
 /// What the cache has done for all programs.
@@ -89,7 +90,7 @@ impl<'a> Share<'a> {
     ///
     /// Each fault comes only where its device's count rose; that of the input is the program's own. After an error `failed`
     /// is true. Own rule.
-    pub fn event<M: CacheRam, O: Sink, E: Sink>(
+    pub fn event<M: MicroRam, O: Sink, E: Sink>(
         &mut self,
         g: u32,
         ram: &mut M,
@@ -130,7 +131,7 @@ impl<'a> Share<'a> {
     }
 
     /// The same of a program whose input has no byte left. It is not asked, so it never fails, and no input changes.
-    pub fn event_unfed<M: CacheRam, O: Sink, E: Sink>(
+    pub fn event_unfed<M: MicroRam, O: Sink, E: Sink>(
         &mut self,
         g: u32,
         ram: &mut M,
@@ -177,7 +178,7 @@ impl<'a> Share<'a> {
     ///
     /// Each fault comes only where its device's count rose; that of an input is the input of the program whose event was
     /// broken off. Own rule.
-    pub fn run<M: CacheRam, O: Sink, E: Sink>(
+    pub fn run<M: MicroRam, O: Sink, E: Sink>(
         &mut self,
         order: &[u32],
         ram: &mut M,

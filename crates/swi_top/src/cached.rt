@@ -23,7 +23,8 @@ use swi_cached::{AskedRun, CachedStop, ring_for, run_cached, slots_for};
 use swi_command::{CacheKind, CacheOptions, RunLimits, RunOptions};
 use swi_image::ImageView;
 use swi_memory::Layout;
-use swi_outside::{CacheRam, Shelf, Sink, Source};
+use swi_micro::MicroRam;
+use swi_outside::{Shelf, Sink, Source};
 use swi_program::Program;
 use swi_rom::CacheRom;
 use swi_task::{
@@ -45,7 +46,7 @@ fn refusal_of(stop: CachedStop) -> Refusal
 
 /// Runs a program on the cached machine over a service that has done nothing yet, and writes what is asked for of its steps
 /// and of its end.
-fn run_over<I: Source, O: Sink, E: Sink, R: CacheRam, S: CacheRom>(
+fn run_over<I: Source, O: Sink, E: Sink, R: MicroRam, S: CacheRom>(
     alloc: Global,
     image: &ImageView<'_>,
     program: &Program<'_>,
@@ -87,7 +88,7 @@ fn run_over<I: Source, O: Sink, E: Sink, R: CacheRam, S: CacheRom>(
 }
 
 /// Runs a program on the cached machine, in the cache that the options name.
-fn run_program<I: Source, O: Sink, E: Sink, R: CacheRam>(
+fn run_program<I: Source, O: Sink, E: Sink, R: MicroRam>(
     alloc: Global,
     image: &ImageView<'_>,
     program: &Program<'_>,
@@ -159,7 +160,7 @@ pub(crate) fn place<'a>(
 }
 
 /// Runs a placed program on the cached machine, in the cache that the options name.
-fn run_placed<I: Source, O: Sink, E: Sink, R: CacheRam>(
+fn run_placed<I: Source, O: Sink, E: Sink, R: MicroRam>(
     alloc: Global,
     placed: &Placed<'_>,
     cache: &CacheOptions,
@@ -200,7 +201,7 @@ fn run_placed<I: Source, O: Sink, E: Sink, R: CacheRam>(
 }
 
 /// Runs the program of a file on the cached machine.
-pub(crate) fn cached<F: Shelf, I: Source, O: Sink, E: Sink, R: CacheRam>(
+pub(crate) fn cached<F: Shelf, I: Source, O: Sink, E: Sink, R: MicroRam>(
     alloc: Global,
     name: &str,
     cache: &CacheOptions,

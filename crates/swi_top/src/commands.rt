@@ -18,11 +18,12 @@ use crate::upgrade::upgrade;
 use std::alloc::Global;
 use swi_answer::{Ending, Refusal};
 use swi_command::Command;
-use swi_outside::{CacheRam, Shelf, Sink, Source};
+use swi_micro::MicroRam;
+use swi_outside::{Shelf, Sink, Source};
 use swi_share_command::share;
 
 /// Does what a command asks for, but for its last line on the error sink.
-pub(crate) fn perform<F: Shelf, I: Source, O: Sink, E: Sink, R: CacheRam>(
+pub(crate) fn perform<F: Shelf, I: Source, O: Sink, E: Sink, R: MicroRam>(
     alloc: Global,
     command: &Command,
     shelf: &mut F,

@@ -7,6 +7,7 @@ use swi_check::Mismatch as Difference;
 use swi_elf_read::ElfRefusal::{self, *};
 use swi_exec::FaultKind::*;
 use swi_image::ImageRefusal;
+use swi_micro::{DecodedRam, MicroRam};
 use swi_outside::{CacheRam, FaultRam, MemShelf, MemSink, MemSource};
 use swi_top::Ending::{self, *};
 use swi_top::Refusal::{self, *};
@@ -186,7 +187,7 @@ struct Devices {
 
 /// Does a command over these devices. All tests go through this one call of `top`: a function's proof grows with its steps
 /// times its locals, so the tests' own bodies stay small.
-fn answer_to<R: CacheRam>(
+fn answer_to<R: MicroRam>(
     alloc: Global,
     command: &str,
     devices: &mut Devices,
@@ -275,9 +276,10 @@ fn stands_of(
 /// Does a command, with this file under the name `A` and the row's other devices.
 fn run_words(alloc: Global, command: &str, row: &Row, file: Vec<u8>) -> Result<Stands, Fail> {
     let mut devices = devices_of(alloc, row, file)?;
-    let mut ram = FaultRam::new(alloc, row.ram, [row.ram_fails].to_vec(alloc)?)?;
+    let ram = FaultRam::new(alloc, row.ram, [row.ram_fails].to_vec(alloc)?)?;
+    let mut ram = DecodedRam::new(alloc, ram);
     let answer = answer_to(alloc, command, &mut devices, &mut ram)?;
-    stands_of(alloc, answer, &devices, &ram)
+    stands_of(alloc, answer, &devices, ram.ram())
 }
 
 /// The same of the row's own command.

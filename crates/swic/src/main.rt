@@ -9,6 +9,7 @@ use std::alloc::Global;
 use std::io::ErrorKind;
 use std::process::ExitCode;
 use std::{env, io};
+use swi_micro::DecodedRam;
 use swi_outside::{FolderShelf, Memory, RealSink, RealSource, SystemFolder, VecRam};
 use swi_top::{Refusal, status_of, top};
 
@@ -33,12 +34,13 @@ fn refusal_of(error: &io::Error) -> Refusal
     }
 }
 
-/// A cache RAM of so many words, which holds the largest cache.
-fn cache_ram(alloc: Global, words: u32) -> Result<VecRam, Memory>
+/// A cache RAM of so many words, which holds the largest cache. A run makes places for the micro-ops of those that it uses.
+fn cache_ram(alloc: Global, words: u32) -> Result<DecodedRam<VecRam>, Memory>
     requires { 2 ^ 21 ≤ words }
-    ensures { IfOk result (λ ram. words ≤ length ram.words) }
+    ensures { IfOk result (λ ram. words ≤ length ram.ram.words) }
 {
-    VecRam::new(alloc, words)
+    let ram = VecRam::new(alloc, words)?;
+    Ok(DecodedRam::new(alloc, ram))
 }
 
 /// The status of the command that the words mean.

@@ -1,0 +1,91 @@
+//! Where the targets of jumps over registers stood.
+#![tactic(auto)]
+
+ghost use Rattle.std.specs.Prelude.{◌≡◌, ◌<◌, ◌%◌, ℕ, IfOk, IfSome};
+ghost use Rattle.swi_board.specs.Targets.{AreFound};
+
+use std::alloc::Global;
+use swi_outside::Memory;
+
+/// How many targets are kept.
+const KEPT: usize = 64;
+
+/// An address, and the index at which it was found.
+#[derive(Clone, Copy)]
+pub struct Found {
+    target: u32,
+    index: u32,
+}
+
+/// What is kept before an address was found: no text word stands at an odd one.
+const NOWHERE: Found = Found {
+    target: 1,
+    index: 0,
+};
+
+/// The addresses to which jumps over registers led last, each with the index at which it stood, kept by the lowest bits of
+/// the address above the two that every text word's has alike: so a return that repeats costs no search. What it keeps holds
+/// as long as the blocks stand where they stood.
+#[derive(Drop)]
+pub struct Targets {
+    // None where nothing is ever kept.
+    found: Option<Vec<Found>>,
+}
+
+/// Where an address has its place.
+#[inline(always)]
+fn slot(a: u32) -> usize
+    ensures { result < 64 }
+{
+    (a / 4) as usize % KEPT
+}
+
+impl Targets {
+    /// Nothing was found yet. Memory where there is not enough of it: it takes 512 bytes.
+    pub fn new(alloc: Global) -> Result<Targets, Memory> {
+        let found = vec![in alloc; NOWHERE; KEPT].map_err(|_| Memory)?;
+        Ok(Targets { found: Some(found) })
+    }
+
+    /// One that never keeps anything, and takes no memory.
+    pub fn none() -> Targets {
+        Targets { found: None }
+    }
+
+    /// The index at which an address, a multiple of 4, was found.
+    #[inline(always)]
+    pub fn find(&self, a: u32) -> Option<u32>
+        requires { a % 4 ≡ 0 }
+        ensures { IfSome result (λ i. (At : ℕ → ℕ → Type 0) → AreFound At self.now → At a i) }
+    {
+        let Some(found) = &self.found else {
+            return None;
+        };
+        let found = found.get(slot(a))?;
+        if found.target != a {
+            return None;
+        }
+        Some(found.index)
+    }
+
+    /// Keeps the index at which an address was found.
+    pub fn keep(&mut self, a: u32, index: u32)
+        ensures { (At : ℕ → ℕ → Type 0) → AreFound At self.old → At a index → AreFound At self.new }
+    {
+        let Some(found) = &mut self.found else {
+            return;
+        };
+        if let Some(kept) = found.get_mut(slot(a)) {
+            *kept = Found { target: a, index };
+        }
+    }
+
+    /// Keeps nothing any more: where blocks may have moved.
+    pub fn forget(&mut self)
+        ensures { (At : ℕ → ℕ → Type 0) → AreFound At self.new }
+    {
+        if let Some(found) = &mut self.found {
+            found.fill(NOWHERE);
+        }
+    }
+}
