@@ -10,3 +10,4 @@ pub mod Writing
 pub mod Rams
 pub mod Serving
 pub mod Blocks
+pub mod Still

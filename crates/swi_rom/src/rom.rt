@@ -45,8 +45,8 @@ pub trait CacheRom: Drop {
     /// Serves a jump to an address: the index in the ram of the target's first word, whose block is copied
     /// there if it isn't placed. While nothing is placed this is the boot. `Outside` comes exactly where no
     /// text word stands at the address. The words from the extent on are as before. The service is sound for the image
-    /// and the ram, and has counted fewer than 2^50 services; so for `revisit` and `cross`. Afterwards it serves each other
-    /// program's image as before.
+    /// and the ram, and has counted fewer than 2^50 services; so for `revisit`, `visit` and `cross`. Afterwards it serves
+    /// each other program's image as before.
     fn enter<M: CacheRam>(
         &mut self,
         image: &ImageView<'_>,
@@ -79,7 +79,22 @@ pub trait CacheRom: Drop {
         ensures keeps { Keeps service image.now self.old self.new (M.state ram.now).words (M.state ram.now).words }
         ensures same { result ≡ None → self.new ≡ self.old }
         ensures placed { IfSome result (λ i. TargetAt image.now (service.kept self.old) target i) }
-        ensures absent { result ≡ None → (i : ℕ) → TargetAt image.now (service.kept self.old) target i → ⊥ };
+        ensures absent { result ≡ None → (i : ℕ) → TargetAt image.now (service.kept self.old) target i → ⊥ }
+        ensures counted { service.kept self.new ≡ record (service.kept self.old) { counts = (service.kept self.new).counts } };
+
+    /// Counts a jump to an address of which is known at which index it stands, as `revisit` does: nothing is looked for,
+    /// and image and ram are read for the contract alone.
+    fn visit<M: CacheRam>(&mut self, image: &ImageView<'_>, ram: &M, target: u32, index: u32)
+        requires sound { service.sound self.old image.now (M.state ram.now).words }
+        requires services { (service.kept self.old).counts.services < 2 ^ 50 }
+        requires stands { TargetAt image.now (service.kept self.old) target index }
+        ensures served { Served image.now (service.span (service.setting self.old)) target (service.kept self.old)
+            (service.policy (service.setting self.old) (service.kept self.old) image.now (indirect target)) (service.kept self.new)
+            (M.state ram.now) (M.state ram.now) (Ok index) }
+        ensures setting { service.setting self.new ≡ service.setting self.old }
+        ensures stays { service.sound self.new image.now (M.state ram.now).words }
+        ensures keeps { Keeps service image.now self.old self.new (M.state ram.now).words (M.state ram.now).words }
+        ensures counted { service.kept self.new ≡ record (service.kept self.old) { counts = (service.kept self.new).counts } };
 
     /// Serves the direct exit at index `at`, which isn't linked, to the address in its descriptor, as `enter`
     /// does. Afterwards the exit is linked, where its block is still placed and a JAL reaches from it to the
