@@ -27,7 +27,7 @@ use Rattle.swi_micro.specs.declared.class.Class.TheVariants as class
 use Rattle.swi_micro.specs.declared.translator.MicroOp.{MicroOp}
 use Rattle.swi_micro.specs.Classes.{class_of}
 use Rattle.swi_micro.specs.MicroOp.{address_at, branch_or_stop, index_at, jump_or_stop, micro_op_of, stop_op}
-use Rattle.swi_micro.specs.Memo.{IsOpAt, op_of_decoded}
+use Rattle.swi_micro.specs.Twins.{IsOpAt, IsTwin, op_of_decoded}
 use Rattle.swi_micro.specs.Ran.{Ran, goes_to, leaves as left_alone, ran, ran_as}
 use Rattle.swi_micro.proofs.Agreeing.{Agrees, agrees}
 use Rattle.swi_calls.specs.declared.end.End.{End}
@@ -304,9 +304,10 @@ here_is : (from k : ℕ) → from ≡ 0 → k < 2 ^ 30 → sum_of from (4 * k) �
 here_is from k first small = omega (arith, first, small)
 
 pub did_step : (range : WordRange) (k got n : ℕ) (m : MicroOp) (c : Class) (s : Stage) (x : Instr) (regs : Registers) (bus : List AreaData) (regs' : Registers) (bus' : List AreaData) →
-    IsOpAt range k got m → range.from ≡ 0 → Some x ≡ decoded got → c ≡ class_of m.code → Some n ≡ (ran_as c range m k regs bus).next →
+    IsTwin range k got m → range.from ≡ 0 → Some x ≡ decoded got → c ≡ class_of m.code → Some n ≡ (ran_as c range m k regs bus).next →
     regs' ≡ (ran_as c range m k regs bus).regs → bus' ≡ (ran_as c range m k regs bus).bus → Did k s (way_by s c) x regs bus n regs' bus'
-did_step range k got n m c s x regs bus regs' bus' known first decodes told goes new_regs new_bus =
+did_step range k got n m c s x regs bus regs' bus' twin first decodes told goes new_regs new_bus =
+    let known : IsOpAt range k got m = twin.op (λ stops. left_none regs bus n (ap (λ (d : Class). (ran_as d range m k regs bus).next) (sym (told ∙ stops)) ∙ sym goes)) in
     let is : m ≡ micro_op_of range k x = op_is range k got m x known decodes in
     let all : ran_as c range m k regs bus ≡ ran range (micro_op_of range k x) k regs bus =
     ap (λ (d : Class). ran_as d range m k regs bus) told ∙ ap (λ (q : MicroOp). ran range q k regs bus) is in
@@ -336,15 +337,20 @@ fits_place v r m w span words p coherent home got x is decodes = λ stays.
 
 -- ---- a link
 
+-- its micro-op is that of its word
+jal_known : (range : WordRange) (k got : ℕ) (m : MicroOp) → IsTwin range k got m → class_of m.code ≡ class.Jal → IsOpAt range k got m
+jal_known range k got m twin link = twin.op (λ stops. let never : class.Stop ≡ class.Jal = sym stops ∙ link in cc)
+
 -- its word is no EBREAK
-pub link_goes_on : (range : WordRange) (k got : ℕ) (m : MicroOp) → IsOpAt range k got m → class_of m.code ≡ class.Jal → got ≡ ebreak → ⊥
-link_goes_on range k got m known link is =
-    let stops : m ≡ stop_op = op_is range k got m instr.Ebreak known (sym (ap decoded is ∙ ebreak_decodes)) in
+pub link_goes_on : (range : WordRange) (k got : ℕ) (m : MicroOp) → IsTwin range k got m → class_of m.code ≡ class.Jal → got ≡ ebreak → ⊥
+link_goes_on range k got m twin link is =
+    let stops : m ≡ stop_op = op_is range k got m instr.Ebreak (jal_known range k got m twin link) (sym (ap decoded is ∙ ebreak_decodes)) in
     let never : class.Stop ≡ class.Jal = sym (ap (λ (q : MicroOp). class_of q.code) stops) ∙ link in
     cc
 
 -- and leaves its block
-pub link_leaves : (range : WordRange) (k got : ℕ) (m : MicroOp) (c : Class) (x : Instr) → IsOpAt range k got m → c ≡ class_of m.code → c ≡ class.Jal → Some x ≡ decoded got → leaves x ≡ true
-link_leaves range k got m c x known told link decodes =
+pub link_leaves : (range : WordRange) (k got : ℕ) (m : MicroOp) (c : Class) (x : Instr) → IsTwin range k got m → c ≡ class_of m.code → c ≡ class.Jal → Some x ≡ decoded got → leaves x ≡ true
+link_leaves range k got m c x twin told link decodes =
+    let known = jal_known range k got m twin (sym told ∙ link) in
     let is : class_of (micro_op_of range k x).code ≡ class.Jal = sym (ap (λ (q : MicroOp). class_of q.code) (op_is range k got m x known decodes)) ∙ sym told ∙ link in
     subst (λ (d : Class). Tells (way_by Start d) Start x) is (tells range k Start x)

@@ -5,6 +5,7 @@ ghost use Rattle.std.specs.Prelude.{◌≡◌, ◌<◌, ◌%◌, ℕ, IfOk, IfSo
 ghost use Rattle.swi_board.specs.Targets.{AreFound};
 
 use std::alloc::Global;
+use std::marker::Model;
 use swi_outside::Memory;
 
 /// How many targets are kept.
@@ -25,11 +26,25 @@ const NOWHERE: Found = Found {
 
 /// The addresses to which jumps over registers led last, each with the index at which it stood, kept by the lowest bits of
 /// the address above the two that every text word's has alike: so a return that repeats costs no search. What it keeps holds
-/// as long as the blocks stand where they stood.
+/// as long as the blocks stand where they stood. In clauses it is the list of them.
 #[derive(Drop)]
 pub struct Targets {
     // None where nothing is ever kept.
     found: Option<Vec<Found>>,
+    // Nothing was kept since all was forgotten.
+    empty: bool,
+}
+
+impl Model for Targets {
+    ghost use Rattle.std.specs.Prelude.{◌≡◌, List, true};
+    ghost use Rattle.swi_board.specs.declared.targets.Found.{Found};
+    ghost use Rattle.swi_board.specs.Targets.{IsNothing, items_in};
+
+    ghost Value = { List Found };
+
+    ghost view = { λ t. items_in (λ v. v.items) t.found };
+
+    ghost invariant = { λ t. t.empty ≡ true → IsNothing (items_in (λ v. v.items) t.found) };
 }
 
 /// Where an address has its place.
@@ -44,12 +59,18 @@ impl Targets {
     /// Nothing was found yet. Memory where there is not enough of it: it takes 512 bytes.
     pub fn new(alloc: Global) -> Result<Targets, Memory> {
         let found = vec![in alloc; NOWHERE; KEPT].map_err(|_| Memory)?;
-        Ok(Targets { found: Some(found) })
+        Ok(Targets {
+            found: Some(found),
+            empty: true,
+        })
     }
 
     /// One that never keeps anything, and takes no memory.
     pub fn none() -> Targets {
-        Targets { found: None }
+        Targets {
+            found: None,
+            empty: true,
+        }
     }
 
     /// The index at which an address, a multiple of 4, was found.
@@ -72,6 +93,7 @@ impl Targets {
     pub fn keep(&mut self, a: u32, index: u32)
         ensures { (At : ℕ → ℕ → Type 0) → AreFound At self.old → At a index → AreFound At self.new }
     {
+        self.empty = false;
         let Some(found) = &mut self.found else {
             return;
         };
@@ -84,8 +106,12 @@ impl Targets {
     pub fn forget(&mut self)
         ensures { (At : ℕ → ℕ → Type 0) → AreFound At self.new }
     {
+        if self.empty {
+            return;
+        }
         if let Some(found) = &mut self.found {
             found.fill(NOWHERE);
         }
+        self.empty = true;
     }
 }

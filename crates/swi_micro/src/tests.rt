@@ -156,26 +156,43 @@ fn ram_of_rows(alloc: Global) -> Option<DecodedRam<VecRam>> {
     let words = VecRam::new(alloc, 64).ok()?;
     let mut ram = DecodedRam::new(alloc, words);
     ram.keep(alloc, 8).ok()?;
-    ram.set(3, 0x002081B3).ok()?;
     Some(ram)
 }
 
 /// Whether the micro-op of the word at index 3 is known, and the word that is held there.
-fn known(ram: &DecodedRam<VecRam>) -> (bool, Option<u32>)
-    requires { 3 < ram.now.kept }
-{
+fn known(ram: &DecodedRam<VecRam>) -> (bool, Option<u32>) {
+    if ram.kept() <= 3 {
+        return (false, None);
+    }
     (!ram.op(3).stops(), ram.held(3))
+}
+
+/// Sets the word at index 3, and tells what is known then.
+fn set(ram: &mut DecodedRam<VecRam>, word: u32) -> (bool, Option<u32>) {
+    if ram.words() <= 3 || ram.set(3, word).is_err() {
+        return (false, None);
+    }
+    known(ram)
+}
+
+/// Learns the word at index 3, and tells what is known then.
+fn learn(ram: &mut DecodedRam<VecRam>) -> (bool, Option<u32>) {
+    if ram.kept() <= 3 {
+        return (false, None);
+    }
+    if let Ok(word) = ram.fetch_kept(3) {
+        ram.learn(3, word);
+    }
+    known(ram)
 }
 
 #[test]
 fn a_micro_op_is_known_until_its_word_is_set(rt: HostRuntime) {
     let mut ram = ram_of_rows(rt.alloc()).expect(&rt, "no memory");
     assert_eq!(rt; (ram.kept(), ram.held(2), ram.held(8)), (8, None, None));
-    assert_eq!(rt; known(&ram), (false, Some(0x002081B3)));
-    ram.learn(3, 0x002081B3);
-    assert_eq!(rt; known(&ram), (true, None));
-    assert_eq!(rt; ram.set(3, 0x002081B3), Ok(()));
-    assert_eq!(rt; known(&ram), (false, Some(0x002081B3)));
+    assert_eq!(rt; set(&mut ram, 0x002081B3), (false, Some(0x002081B3)));
+    assert_eq!(rt; learn(&mut ram), (true, None));
+    assert_eq!(rt; set(&mut ram, 0x002081B3), (false, Some(0x002081B3)));
 }
 
 #[test]

@@ -55,11 +55,12 @@ loop-walk-init g c =
         to = to;
         few = let low = c.requires.count in omega (arith, low, number);
       };
-      memo = refl;
+      kept = refl;
+      found = c.forget.ensures _;
     }
 
-pub fetch-requires : goal.fetch-requires
-fetch-requires g c =
+pub fetch_kept-requires : goal.fetch_kept-requires
+fetch_kept-requires g c =
     let come = c.loop-walk.invariant.come in
     let more : c.loop-walk.walk.index < c.loop-walk.walk.end = omega (arith, c.loop-walk-test.true) in
     (come.inside more).in_ram
@@ -76,7 +77,7 @@ quick-requires-clause-place g c =
     let told = c.loop-walk.invariant.told in
     let come = c.loop-walk.invariant.come in
     let more : c.loop-walk.walk.index < c.loop-walk.walk.end = omega (arith, c.loop-walk-test.true) in
-    come_inside told come c.loop-walk.memo (rw (sym c.loop-walk.invariant.memo) at c.requires.places) more
+    come_inside told come _ (rw (sym c.loop-walk.invariant.kept) at c.requires.places) more
 
 pub quick-requires-clause-room : goal.quick-requires-clause-room
 quick-requires-clause-room g c =
@@ -98,7 +99,7 @@ loop-walk-smaller-in-On g c =
     let come = c.loop-walk.invariant.come in
     let more : c.loop-walk.walk.index < c.loop-walk.walk.end = omega (arith, c.loop-walk-test.true) in
     let gone : is_left c.quick.result ≡ false = ap is_left c.in-On.is in
-    falls_word told come c.quick.new.walk c.quick.new.hart (g.M.CacheRam.state c.fetch.new.self) c.in-Ok.word more c.in-Ok.ensures.fetched (c.quick.ensures.on gone) (c.quick.ensures.counted gone) (c.quick.ensures.limited gone) c.quick.ensures.rest
+    falls_word told come c.quick.new.walk c.quick.new.hart (g.M.CacheRam.state c.fetch_kept.new.self) c.in-Ok.word more c.in-Ok.ensures.fetched (c.quick.ensures.on gone) (c.quick.ensures.counted gone) (c.quick.ensures.limited gone) c.quick.ensures.rest
 
 pub loop-walk-preserved-in-On : goal.loop-walk-preserved-in-On
 loop-walk-preserved-in-On g c =
@@ -106,57 +107,57 @@ loop-walk-preserved-in-On g c =
     let come = c.loop-walk.invariant.come in
     let more : c.loop-walk.walk.index < c.loop-walk.walk.end = omega (arith, c.loop-walk-test.true) in
     let gone : is_left c.quick.result ≡ false = ap is_left c.in-On.is in
-    record { come = come_word told come c.quick.new.walk c.quick.new.hart (g.M.CacheRam.state c.fetch.new.self) c.in-Ok.word more c.in-Ok.ensures.fetched (c.quick.ensures.on gone) (c.quick.ensures.counted gone) (c.quick.ensures.limited gone) c.quick.ensures.rest; told = told; memo = c.loop-walk.invariant.memo }
+    record { come = come_word told come c.quick.new.walk c.quick.new.hart (g.M.CacheRam.state c.fetch_kept.new.self) c.in-Ok.word more c.in-Ok.ensures.fetched (c.quick.ensures.on gone) (c.quick.ensures.counted gone) (c.quick.ensures.limited gone) c.quick.ensures.rest; told = told; kept = c.loop-walk.invariant.kept; found = c.loop-walk.invariant.found }
 
-pub fetch-requires-in-Exit : goal.fetch-requires-in-Exit
-fetch-requires-in-Exit g c =
+pub fetch_kept-requires-in-Exit : goal.fetch_kept-requires-in-Exit
+fetch_kept-requires-in-Exit g c =
     let told = c.loop-walk.invariant.told in
     let come = c.loop-walk.invariant.come in
     let more : c.loop-walk.walk.index < c.loop-walk.walk.end = omega (arith, c.loop-walk-test.true) in
     let gone : is_left c.quick.result ≡ false = ap is_left c.in-Exit.is in
-    let there = come_word told come c.quick.new.walk c.quick.new.hart (g.M.CacheRam.state c.fetch.new.self) c.in-Ok.word more c.in-Ok.ensures.fetched (c.quick.ensures.on gone) (c.quick.ensures.counted gone) (c.quick.ensures.limited gone) c.quick.ensures.rest in
+    let there = come_word told come c.quick.new.walk c.quick.new.hart (g.M.CacheRam.state c.fetch_kept.new.self) c.in-Ok.word more c.in-Ok.ensures.fetched (c.quick.ensures.on gone) (c.quick.ensures.counted gone) (c.quick.ensures.limited gone) c.quick.ensures.rest in
     let further = c.quick.ensures.exit c.in-Exit.is in
     (there.inside further).in_ram
 
-pub settle-requires-in_default-fetch-clause-shown : goal.settle-requires-in_default-fetch-clause-shown
-settle-requires-in_default-fetch-clause-shown g c =
+pub settle-requires-in_default-fetch_kept-clause-shown : goal.settle-requires-in_default-fetch_kept-clause-shown
+settle-requires-in_default-fetch_kept-clause-shown g c =
     let told = c.loop-walk.invariant.told in
     let come = c.loop-walk.invariant.come in
     let more : c.loop-walk.walk.index < c.loop-walk.walk.end = omega (arith, c.loop-walk-test.true) in
     let gone : is_left c.quick.result ≡ false = ap is_left c.in-Exit.is in
-    let there = come_word told come c.quick.new.walk c.quick.new.hart (g.M.CacheRam.state c.fetch.new.self) c.in-Ok.word more c.in-Ok.ensures.fetched (c.quick.ensures.on gone) (c.quick.ensures.counted gone) (c.quick.ensures.limited gone) c.quick.ensures.rest in
+    let there = come_word told come c.quick.new.walk c.quick.new.hart (g.M.CacheRam.state c.fetch_kept.new.self) c.in-Ok.word more c.in-Ok.ensures.fetched (c.quick.ensures.on gone) (c.quick.ensures.counted gone) (c.quick.ensures.limited gone) c.quick.ensures.rest in
     let further = c.quick.ensures.exit c.in-Exit.is in
     there.shown
 
-pub settle-requires-in_default-fetch-clause-to : goal.settle-requires-in_default-fetch-clause-to
-settle-requires-in_default-fetch-clause-to g c =
+pub settle-requires-in_default-fetch_kept-clause-to : goal.settle-requires-in_default-fetch_kept-clause-to
+settle-requires-in_default-fetch_kept-clause-to g c =
     let told = c.loop-walk.invariant.told in
     let come = c.loop-walk.invariant.come in
     let more : c.loop-walk.walk.index < c.loop-walk.walk.end = omega (arith, c.loop-walk-test.true) in
     let gone : is_left c.quick.result ≡ false = ap is_left c.in-Exit.is in
-    let there = come_word told come c.quick.new.walk c.quick.new.hart (g.M.CacheRam.state c.fetch.new.self) c.in-Ok.word more c.in-Ok.ensures.fetched (c.quick.ensures.on gone) (c.quick.ensures.counted gone) (c.quick.ensures.limited gone) c.quick.ensures.rest in
+    let there = come_word told come c.quick.new.walk c.quick.new.hart (g.M.CacheRam.state c.fetch_kept.new.self) c.in-Ok.word more c.in-Ok.ensures.fetched (c.quick.ensures.on gone) (c.quick.ensures.counted gone) (c.quick.ensures.limited gone) c.quick.ensures.rest in
     let further = c.quick.ensures.exit c.in-Exit.is in
     own_limit there.to
 
-pub settle-requires-in_default-fetch-clause-few : goal.settle-requires-in_default-fetch-clause-few
-settle-requires-in_default-fetch-clause-few g c =
+pub settle-requires-in_default-fetch_kept-clause-few : goal.settle-requires-in_default-fetch_kept-clause-few
+settle-requires-in_default-fetch_kept-clause-few g c =
     let told = c.loop-walk.invariant.told in
     let come = c.loop-walk.invariant.come in
     let more : c.loop-walk.walk.index < c.loop-walk.walk.end = omega (arith, c.loop-walk-test.true) in
     let gone : is_left c.quick.result ≡ false = ap is_left c.in-Exit.is in
-    let there = come_word told come c.quick.new.walk c.quick.new.hart (g.M.CacheRam.state c.fetch.new.self) c.in-Ok.word more c.in-Ok.ensures.fetched (c.quick.ensures.on gone) (c.quick.ensures.counted gone) (c.quick.ensures.limited gone) c.quick.ensures.rest in
+    let there = come_word told come c.quick.new.walk c.quick.new.hart (g.M.CacheRam.state c.fetch_kept.new.self) c.in-Ok.word more c.in-Ok.ensures.fetched (c.quick.ensures.on gone) (c.quick.ensures.counted gone) (c.quick.ensures.limited gone) c.quick.ensures.rest in
     let further = c.quick.ensures.exit c.in-Exit.is in
     rw there.to.limited c.requires.few
 
-pub returns-in_default-fetch-clause-ran : goal.returns-in_default-fetch-clause-ran
-returns-in_default-fetch-clause-ran g c =
+pub returns-in_default-fetch_kept-clause-ran : goal.returns-in_default-fetch_kept-clause-ran
+returns-in_default-fetch_kept-clause-ran g c =
     let told = c.loop-walk.invariant.told in
     let come = c.loop-walk.invariant.come in
     let more : c.loop-walk.walk.index < c.loop-walk.walk.end = omega (arith, c.loop-walk-test.true) in
     let gone : is_left c.quick.result ≡ false = ap is_left c.in-Exit.is in
-    let there = come_word told come c.quick.new.walk c.quick.new.hart (g.M.CacheRam.state c.fetch.new.self) c.in-Ok.word more c.in-Ok.ensures.fetched (c.quick.ensures.on gone) (c.quick.ensures.counted gone) (c.quick.ensures.limited gone) c.quick.ensures.rest in
+    let there = come_word told come c.quick.new.walk c.quick.new.hart (g.M.CacheRam.state c.fetch_kept.new.self) c.in-Ok.word more c.in-Ok.ensures.fetched (c.quick.ensures.on gone) (c.quick.ensures.counted gone) (c.quick.ensures.limited gone) c.quick.ensures.rest in
     let further = c.quick.ensures.exit c.in-Exit.is in
-    rw (c.settle-in_default-fetch.ensures) (stopped told there further c.in_default-fetch.ensures.fetched)
+    rw (c.settle-in_default-fetch_kept.ensures) (stopped told there further c.in_default-fetch_kept.ensures.fetched)
 
 pub link_on-requires-clause-used : goal.link_on-requires-clause-used
 link_on-requires-clause-used g c =
@@ -164,7 +165,7 @@ link_on-requires-clause-used g c =
     let come = c.loop-walk.invariant.come in
     let more : c.loop-walk.walk.index < c.loop-walk.walk.end = omega (arith, c.loop-walk-test.true) in
     let gone : is_left c.quick.result ≡ false = ap is_left c.in-Exit.is in
-    let there = come_word told come c.quick.new.walk c.quick.new.hart (g.M.CacheRam.state c.fetch.new.self) c.in-Ok.word more c.in-Ok.ensures.fetched (c.quick.ensures.on gone) (c.quick.ensures.counted gone) (c.quick.ensures.limited gone) c.quick.ensures.rest in
+    let there = come_word told come c.quick.new.walk c.quick.new.hart (g.M.CacheRam.state c.fetch_kept.new.self) c.in-Ok.word more c.in-Ok.ensures.fetched (c.quick.ensures.on gone) (c.quick.ensures.counted gone) (c.quick.ensures.limited gone) c.quick.ensures.rest in
     let further = c.quick.ensures.exit c.in-Exit.is in
     come_below told there further
 
@@ -174,9 +175,9 @@ link_on-requires-clause-place g c =
     let come = c.loop-walk.invariant.come in
     let more : c.loop-walk.walk.index < c.loop-walk.walk.end = omega (arith, c.loop-walk-test.true) in
     let gone : is_left c.quick.result ≡ false = ap is_left c.in-Exit.is in
-    let there = come_word told come c.quick.new.walk c.quick.new.hart (g.M.CacheRam.state c.fetch.new.self) c.in-Ok.word more c.in-Ok.ensures.fetched (c.quick.ensures.on gone) (c.quick.ensures.counted gone) (c.quick.ensures.limited gone) c.quick.ensures.rest in
+    let there = come_word told come c.quick.new.walk c.quick.new.hart (g.M.CacheRam.state c.fetch_kept.new.self) c.in-Ok.word more c.in-Ok.ensures.fetched (c.quick.ensures.on gone) (c.quick.ensures.counted gone) (c.quick.ensures.limited gone) c.quick.ensures.rest in
     let further = c.quick.ensures.exit c.in-Exit.is in
-    come_inside told there c.loop-walk.memo (rw (sym c.loop-walk.invariant.memo) at c.requires.places) further
+    come_inside told there _ (rw (sym c.loop-walk.invariant.kept) at c.requires.places) further
 
 pub link_on-requires-clause-room : goal.link_on-requires-clause-room
 link_on-requires-clause-room g c =
@@ -184,7 +185,7 @@ link_on-requires-clause-room g c =
     let come = c.loop-walk.invariant.come in
     let more : c.loop-walk.walk.index < c.loop-walk.walk.end = omega (arith, c.loop-walk-test.true) in
     let gone : is_left c.quick.result ≡ false = ap is_left c.in-Exit.is in
-    let there = come_word told come c.quick.new.walk c.quick.new.hart (g.M.CacheRam.state c.fetch.new.self) c.in-Ok.word more c.in-Ok.ensures.fetched (c.quick.ensures.on gone) (c.quick.ensures.counted gone) (c.quick.ensures.limited gone) c.quick.ensures.rest in
+    let there = come_word told come c.quick.new.walk c.quick.new.hart (g.M.CacheRam.state c.fetch_kept.new.self) c.in-Ok.word more c.in-Ok.ensures.fetched (c.quick.ensures.on gone) (c.quick.ensures.counted gone) (c.quick.ensures.limited gone) c.quick.ensures.rest in
     let further = c.quick.ensures.exit c.in-Exit.is in
     come_room told there further
 
@@ -194,10 +195,10 @@ loop-walk-smaller-then-link_on g c =
     let come = c.loop-walk.invariant.come in
     let more : c.loop-walk.walk.index < c.loop-walk.walk.end = omega (arith, c.loop-walk-test.true) in
     let gone : is_left c.quick.result ≡ false = ap is_left c.in-Exit.is in
-    let there = come_word told come c.quick.new.walk c.quick.new.hart (g.M.CacheRam.state c.fetch.new.self) c.in-Ok.word more c.in-Ok.ensures.fetched (c.quick.ensures.on gone) (c.quick.ensures.counted gone) (c.quick.ensures.limited gone) c.quick.ensures.rest in
+    let there = come_word told come c.quick.new.walk c.quick.new.hart (g.M.CacheRam.state c.fetch_kept.new.self) c.in-Ok.word more c.in-Ok.ensures.fetched (c.quick.ensures.on gone) (c.quick.ensures.counted gone) (c.quick.ensures.limited gone) c.quick.ensures.rest in
     let further = c.quick.ensures.exit c.in-Exit.is in
-    let first = falls_word told come c.quick.new.walk c.quick.new.hart (g.M.CacheRam.state c.fetch.new.self) c.in-Ok.word more c.in-Ok.ensures.fetched (c.quick.ensures.on gone) (c.quick.ensures.counted gone) (c.quick.ensures.limited gone) c.quick.ensures.rest in
-    let second = falls_word told there c.link_on.new.walk c.quick.new.hart (g.M.CacheRam.state c.fetch-in-Exit.new.self) c.in-Ok-fetch.exit further c.in-Ok-fetch.ensures.fetched (λ x decodes p home. c.link_on.ensures.on c.if-link_on.true x c.quick.new.hart.machine p decodes home) (c.link_on.ensures.counted c.if-link_on.true) (c.link_on.ensures.limited c.if-link_on.true) refl in
+    let first = falls_word told come c.quick.new.walk c.quick.new.hart (g.M.CacheRam.state c.fetch_kept.new.self) c.in-Ok.word more c.in-Ok.ensures.fetched (c.quick.ensures.on gone) (c.quick.ensures.counted gone) (c.quick.ensures.limited gone) c.quick.ensures.rest in
+    let second = falls_word told there c.link_on.new.walk c.quick.new.hart (g.M.CacheRam.state c.fetch_kept-in-Exit.new.self) c.in-Ok-fetch_kept.exit further c.in-Ok-fetch_kept.ensures.fetched (λ x decodes p home. c.link_on.ensures.on c.if-link_on.true x c.quick.new.hart.machine p decodes home) (c.link_on.ensures.counted c.if-link_on.true) (c.link_on.ensures.limited c.if-link_on.true) refl in
     omega (arith, first, second)
 
 pub loop-walk-preserved-then-link_on : goal.loop-walk-preserved-then-link_on
@@ -206,9 +207,9 @@ loop-walk-preserved-then-link_on g c =
     let come = c.loop-walk.invariant.come in
     let more : c.loop-walk.walk.index < c.loop-walk.walk.end = omega (arith, c.loop-walk-test.true) in
     let gone : is_left c.quick.result ≡ false = ap is_left c.in-Exit.is in
-    let there = come_word told come c.quick.new.walk c.quick.new.hart (g.M.CacheRam.state c.fetch.new.self) c.in-Ok.word more c.in-Ok.ensures.fetched (c.quick.ensures.on gone) (c.quick.ensures.counted gone) (c.quick.ensures.limited gone) c.quick.ensures.rest in
+    let there = come_word told come c.quick.new.walk c.quick.new.hart (g.M.CacheRam.state c.fetch_kept.new.self) c.in-Ok.word more c.in-Ok.ensures.fetched (c.quick.ensures.on gone) (c.quick.ensures.counted gone) (c.quick.ensures.limited gone) c.quick.ensures.rest in
     let further = c.quick.ensures.exit c.in-Exit.is in
-    record { come = come_word told there c.link_on.new.walk c.quick.new.hart (g.M.CacheRam.state c.fetch-in-Exit.new.self) c.in-Ok-fetch.exit further c.in-Ok-fetch.ensures.fetched (λ x decodes p home. c.link_on.ensures.on c.if-link_on.true x c.quick.new.hart.machine p decodes home) (c.link_on.ensures.counted c.if-link_on.true) (c.link_on.ensures.limited c.if-link_on.true) refl; told = told; memo = c.loop-walk.invariant.memo }
+    record { come = come_word told there c.link_on.new.walk c.quick.new.hart (g.M.CacheRam.state c.fetch_kept-in-Exit.new.self) c.in-Ok-fetch_kept.exit further c.in-Ok-fetch_kept.ensures.fetched (λ x decodes p home. c.link_on.ensures.on c.if-link_on.true x c.quick.new.hart.machine p decodes home) (c.link_on.ensures.counted c.if-link_on.true) (c.link_on.ensures.limited c.if-link_on.true) refl; told = told; kept = c.loop-walk.invariant.kept; found = c.loop-walk.invariant.found }
 
 pub step_anew-requires-clause-used : goal.step_anew-requires-clause-used
 step_anew-requires-clause-used g c =
@@ -216,10 +217,10 @@ step_anew-requires-clause-used g c =
     let come = c.loop-walk.invariant.come in
     let more : c.loop-walk.walk.index < c.loop-walk.walk.end = omega (arith, c.loop-walk-test.true) in
     let gone : is_left c.quick.result ≡ false = ap is_left c.in-Exit.is in
-    let there = come_word told come c.quick.new.walk c.quick.new.hart (g.M.CacheRam.state c.fetch.new.self) c.in-Ok.word more c.in-Ok.ensures.fetched (c.quick.ensures.on gone) (c.quick.ensures.counted gone) (c.quick.ensures.limited gone) c.quick.ensures.rest in
+    let there = come_word told come c.quick.new.walk c.quick.new.hart (g.M.CacheRam.state c.fetch_kept.new.self) c.in-Ok.word more c.in-Ok.ensures.fetched (c.quick.ensures.on gone) (c.quick.ensures.counted gone) (c.quick.ensures.limited gone) c.quick.ensures.rest in
     let further = c.quick.ensures.exit c.in-Exit.is in
     let same = c.link_on.ensures.same c.if-link_on.false in
-    let fetched = rw (sym (ap (λ (k : Walk). k.index) same)) at c.in-Ok-fetch.ensures.fetched in
+    let fetched = rw (sym (ap (λ (k : Walk). k.index) same)) at c.in-Ok-fetch_kept.ensures.fetched in
     let still = come_same {h' = c.quick.new.hart} same refl there in
     let again : c.link_on.new.walk.index < c.link_on.new.walk.end = rw same further in
     come_below told still again
@@ -230,13 +231,13 @@ step_anew-requires-clause-place g c =
     let come = c.loop-walk.invariant.come in
     let more : c.loop-walk.walk.index < c.loop-walk.walk.end = omega (arith, c.loop-walk-test.true) in
     let gone : is_left c.quick.result ≡ false = ap is_left c.in-Exit.is in
-    let there = come_word told come c.quick.new.walk c.quick.new.hart (g.M.CacheRam.state c.fetch.new.self) c.in-Ok.word more c.in-Ok.ensures.fetched (c.quick.ensures.on gone) (c.quick.ensures.counted gone) (c.quick.ensures.limited gone) c.quick.ensures.rest in
+    let there = come_word told come c.quick.new.walk c.quick.new.hart (g.M.CacheRam.state c.fetch_kept.new.self) c.in-Ok.word more c.in-Ok.ensures.fetched (c.quick.ensures.on gone) (c.quick.ensures.counted gone) (c.quick.ensures.limited gone) c.quick.ensures.rest in
     let further = c.quick.ensures.exit c.in-Exit.is in
     let same = c.link_on.ensures.same c.if-link_on.false in
-    let fetched = rw (sym (ap (λ (k : Walk). k.index) same)) at c.in-Ok-fetch.ensures.fetched in
+    let fetched = rw (sym (ap (λ (k : Walk). k.index) same)) at c.in-Ok-fetch_kept.ensures.fetched in
     let still = come_same {h' = c.quick.new.hart} same refl there in
     let again : c.link_on.new.walk.index < c.link_on.new.walk.end = rw same further in
-    come_inside told still c.loop-walk.memo (rw (sym c.loop-walk.invariant.memo) at c.requires.places) again
+    come_inside told still _ (rw (sym c.loop-walk.invariant.kept) at c.requires.places) again
 
 pub step_anew-requires-clause-room : goal.step_anew-requires-clause-room
 step_anew-requires-clause-room g c =
@@ -244,10 +245,10 @@ step_anew-requires-clause-room g c =
     let come = c.loop-walk.invariant.come in
     let more : c.loop-walk.walk.index < c.loop-walk.walk.end = omega (arith, c.loop-walk-test.true) in
     let gone : is_left c.quick.result ≡ false = ap is_left c.in-Exit.is in
-    let there = come_word told come c.quick.new.walk c.quick.new.hart (g.M.CacheRam.state c.fetch.new.self) c.in-Ok.word more c.in-Ok.ensures.fetched (c.quick.ensures.on gone) (c.quick.ensures.counted gone) (c.quick.ensures.limited gone) c.quick.ensures.rest in
+    let there = come_word told come c.quick.new.walk c.quick.new.hart (g.M.CacheRam.state c.fetch_kept.new.self) c.in-Ok.word more c.in-Ok.ensures.fetched (c.quick.ensures.on gone) (c.quick.ensures.counted gone) (c.quick.ensures.limited gone) c.quick.ensures.rest in
     let further = c.quick.ensures.exit c.in-Exit.is in
     let same = c.link_on.ensures.same c.if-link_on.false in
-    let fetched = rw (sym (ap (λ (k : Walk). k.index) same)) at c.in-Ok-fetch.ensures.fetched in
+    let fetched = rw (sym (ap (λ (k : Walk). k.index) same)) at c.in-Ok-fetch_kept.ensures.fetched in
     let still = come_same {h' = c.quick.new.hart} same refl there in
     let again : c.link_on.new.walk.index < c.link_on.new.walk.end = rw same further in
     come_room told still again
@@ -258,14 +259,14 @@ loop-walk-smaller-in-Exit g c =
     let come = c.loop-walk.invariant.come in
     let more : c.loop-walk.walk.index < c.loop-walk.walk.end = omega (arith, c.loop-walk-test.true) in
     let gone : is_left c.quick.result ≡ false = ap is_left c.in-Exit.is in
-    let there = come_word told come c.quick.new.walk c.quick.new.hart (g.M.CacheRam.state c.fetch.new.self) c.in-Ok.word more c.in-Ok.ensures.fetched (c.quick.ensures.on gone) (c.quick.ensures.counted gone) (c.quick.ensures.limited gone) c.quick.ensures.rest in
+    let there = come_word told come c.quick.new.walk c.quick.new.hart (g.M.CacheRam.state c.fetch_kept.new.self) c.in-Ok.word more c.in-Ok.ensures.fetched (c.quick.ensures.on gone) (c.quick.ensures.counted gone) (c.quick.ensures.limited gone) c.quick.ensures.rest in
     let further = c.quick.ensures.exit c.in-Exit.is in
     let same = c.link_on.ensures.same c.if-link_on.false in
-    let fetched = rw (sym (ap (λ (k : Walk). k.index) same)) at c.in-Ok-fetch.ensures.fetched in
+    let fetched = rw (sym (ap (λ (k : Walk). k.index) same)) at c.in-Ok-fetch_kept.ensures.fetched in
     let still = come_same {h' = c.quick.new.hart} same refl there in
     let again : c.link_on.new.walk.index < c.link_on.new.walk.end = rw same further in
-    let first = falls_word told come c.quick.new.walk c.quick.new.hart (g.M.CacheRam.state c.fetch.new.self) c.in-Ok.word more c.in-Ok.ensures.fetched (c.quick.ensures.on gone) (c.quick.ensures.counted gone) (c.quick.ensures.limited gone) c.quick.ensures.rest in
-    let second = rw same at (falls_word told still c.in-Some.next c.step_anew.new.hart (g.M.CacheRam.state c.fetch-in-Exit.new.self) c.in-Ok-fetch.exit again fetched c.in-Some.ensures.on c.in-Some.ensures.counted c.in-Some.ensures.limited c.step_anew.ensures.rest) in
+    let first = falls_word told come c.quick.new.walk c.quick.new.hart (g.M.CacheRam.state c.fetch_kept.new.self) c.in-Ok.word more c.in-Ok.ensures.fetched (c.quick.ensures.on gone) (c.quick.ensures.counted gone) (c.quick.ensures.limited gone) c.quick.ensures.rest in
+    let second = rw same at (falls_word told still c.in-Some.next c.step_anew.new.hart (g.M.CacheRam.state c.fetch_kept-in-Exit.new.self) c.in-Ok-fetch_kept.exit again fetched c.in-Some.ensures.on c.in-Some.ensures.counted c.in-Some.ensures.limited c.step_anew.ensures.rest) in
     rw c.come.ensures (omega (arith, first, second))
 
 pub loop-walk-preserved-in-Exit : goal.loop-walk-preserved-in-Exit
@@ -274,13 +275,13 @@ loop-walk-preserved-in-Exit g c =
     let come = c.loop-walk.invariant.come in
     let more : c.loop-walk.walk.index < c.loop-walk.walk.end = omega (arith, c.loop-walk-test.true) in
     let gone : is_left c.quick.result ≡ false = ap is_left c.in-Exit.is in
-    let there = come_word told come c.quick.new.walk c.quick.new.hart (g.M.CacheRam.state c.fetch.new.self) c.in-Ok.word more c.in-Ok.ensures.fetched (c.quick.ensures.on gone) (c.quick.ensures.counted gone) (c.quick.ensures.limited gone) c.quick.ensures.rest in
+    let there = come_word told come c.quick.new.walk c.quick.new.hart (g.M.CacheRam.state c.fetch_kept.new.self) c.in-Ok.word more c.in-Ok.ensures.fetched (c.quick.ensures.on gone) (c.quick.ensures.counted gone) (c.quick.ensures.limited gone) c.quick.ensures.rest in
     let further = c.quick.ensures.exit c.in-Exit.is in
     let same = c.link_on.ensures.same c.if-link_on.false in
-    let fetched = rw (sym (ap (λ (k : Walk). k.index) same)) at c.in-Ok-fetch.ensures.fetched in
+    let fetched = rw (sym (ap (λ (k : Walk). k.index) same)) at c.in-Ok-fetch_kept.ensures.fetched in
     let still = come_same {h' = c.quick.new.hart} same refl there in
     let again : c.link_on.new.walk.index < c.link_on.new.walk.end = rw same further in
-    record { come = rw c.come.ensures (come_word told still c.in-Some.next c.step_anew.new.hart (g.M.CacheRam.state c.fetch-in-Exit.new.self) c.in-Ok-fetch.exit again fetched c.in-Some.ensures.on c.in-Some.ensures.counted c.in-Some.ensures.limited c.step_anew.ensures.rest); told = told; memo = c.step_anew.ensures.memo ∙ c.loop-walk.invariant.memo }
+    record { come = rw c.come.ensures (come_word told still c.in-Some.next c.step_anew.new.hart (g.M.CacheRam.state c.fetch_kept-in-Exit.new.self) c.in-Ok-fetch_kept.exit again fetched c.in-Some.ensures.on c.in-Some.ensures.counted c.in-Some.ensures.limited c.step_anew.ensures.rest); told = told; kept = c.step_anew.ensures.kept ∙ c.loop-walk.invariant.kept; found = c.loop-walk.invariant.found }
 
 pub settle-requires-in_default-step_anew-clause-shown : goal.settle-requires-in_default-step_anew-clause-shown
 settle-requires-in_default-step_anew-clause-shown g c =
@@ -288,10 +289,10 @@ settle-requires-in_default-step_anew-clause-shown g c =
     let come = c.loop-walk.invariant.come in
     let more : c.loop-walk.walk.index < c.loop-walk.walk.end = omega (arith, c.loop-walk-test.true) in
     let gone : is_left c.quick.result ≡ false = ap is_left c.in-Exit.is in
-    let there = come_word told come c.quick.new.walk c.quick.new.hart (g.M.CacheRam.state c.fetch.new.self) c.in-Ok.word more c.in-Ok.ensures.fetched (c.quick.ensures.on gone) (c.quick.ensures.counted gone) (c.quick.ensures.limited gone) c.quick.ensures.rest in
+    let there = come_word told come c.quick.new.walk c.quick.new.hart (g.M.CacheRam.state c.fetch_kept.new.self) c.in-Ok.word more c.in-Ok.ensures.fetched (c.quick.ensures.on gone) (c.quick.ensures.counted gone) (c.quick.ensures.limited gone) c.quick.ensures.rest in
     let further = c.quick.ensures.exit c.in-Exit.is in
     let same = c.link_on.ensures.same c.if-link_on.false in
-    let fetched = rw (sym (ap (λ (k : Walk). k.index) same)) at c.in-Ok-fetch.ensures.fetched in
+    let fetched = rw (sym (ap (λ (k : Walk). k.index) same)) at c.in-Ok-fetch_kept.ensures.fetched in
     let still = come_same {h' = c.quick.new.hart} same refl there in
     let again : c.link_on.new.walk.index < c.link_on.new.walk.end = rw same further in
     still.shown
@@ -302,10 +303,10 @@ settle-requires-in_default-step_anew-clause-to g c =
     let come = c.loop-walk.invariant.come in
     let more : c.loop-walk.walk.index < c.loop-walk.walk.end = omega (arith, c.loop-walk-test.true) in
     let gone : is_left c.quick.result ≡ false = ap is_left c.in-Exit.is in
-    let there = come_word told come c.quick.new.walk c.quick.new.hart (g.M.CacheRam.state c.fetch.new.self) c.in-Ok.word more c.in-Ok.ensures.fetched (c.quick.ensures.on gone) (c.quick.ensures.counted gone) (c.quick.ensures.limited gone) c.quick.ensures.rest in
+    let there = come_word told come c.quick.new.walk c.quick.new.hart (g.M.CacheRam.state c.fetch_kept.new.self) c.in-Ok.word more c.in-Ok.ensures.fetched (c.quick.ensures.on gone) (c.quick.ensures.counted gone) (c.quick.ensures.limited gone) c.quick.ensures.rest in
     let further = c.quick.ensures.exit c.in-Exit.is in
     let same = c.link_on.ensures.same c.if-link_on.false in
-    let fetched = rw (sym (ap (λ (k : Walk). k.index) same)) at c.in-Ok-fetch.ensures.fetched in
+    let fetched = rw (sym (ap (λ (k : Walk). k.index) same)) at c.in-Ok-fetch_kept.ensures.fetched in
     let still = come_same {h' = c.quick.new.hart} same refl there in
     let again : c.link_on.new.walk.index < c.link_on.new.walk.end = rw same further in
     own_limit still.to
@@ -316,10 +317,10 @@ settle-requires-in_default-step_anew-clause-few g c =
     let come = c.loop-walk.invariant.come in
     let more : c.loop-walk.walk.index < c.loop-walk.walk.end = omega (arith, c.loop-walk-test.true) in
     let gone : is_left c.quick.result ≡ false = ap is_left c.in-Exit.is in
-    let there = come_word told come c.quick.new.walk c.quick.new.hart (g.M.CacheRam.state c.fetch.new.self) c.in-Ok.word more c.in-Ok.ensures.fetched (c.quick.ensures.on gone) (c.quick.ensures.counted gone) (c.quick.ensures.limited gone) c.quick.ensures.rest in
+    let there = come_word told come c.quick.new.walk c.quick.new.hart (g.M.CacheRam.state c.fetch_kept.new.self) c.in-Ok.word more c.in-Ok.ensures.fetched (c.quick.ensures.on gone) (c.quick.ensures.counted gone) (c.quick.ensures.limited gone) c.quick.ensures.rest in
     let further = c.quick.ensures.exit c.in-Exit.is in
     let same = c.link_on.ensures.same c.if-link_on.false in
-    let fetched = rw (sym (ap (λ (k : Walk). k.index) same)) at c.in-Ok-fetch.ensures.fetched in
+    let fetched = rw (sym (ap (λ (k : Walk). k.index) same)) at c.in-Ok-fetch_kept.ensures.fetched in
     let still = come_same {h' = c.quick.new.hart} same refl there in
     let again : c.link_on.new.walk.index < c.link_on.new.walk.end = rw same further in
     rw still.to.limited c.requires.few
@@ -330,10 +331,10 @@ returns-in_default-step_anew-clause-ran g c =
     let come = c.loop-walk.invariant.come in
     let more : c.loop-walk.walk.index < c.loop-walk.walk.end = omega (arith, c.loop-walk-test.true) in
     let gone : is_left c.quick.result ≡ false = ap is_left c.in-Exit.is in
-    let there = come_word told come c.quick.new.walk c.quick.new.hart (g.M.CacheRam.state c.fetch.new.self) c.in-Ok.word more c.in-Ok.ensures.fetched (c.quick.ensures.on gone) (c.quick.ensures.counted gone) (c.quick.ensures.limited gone) c.quick.ensures.rest in
+    let there = come_word told come c.quick.new.walk c.quick.new.hart (g.M.CacheRam.state c.fetch_kept.new.self) c.in-Ok.word more c.in-Ok.ensures.fetched (c.quick.ensures.on gone) (c.quick.ensures.counted gone) (c.quick.ensures.limited gone) c.quick.ensures.rest in
     let further = c.quick.ensures.exit c.in-Exit.is in
     let same = c.link_on.ensures.same c.if-link_on.false in
-    let fetched = rw (sym (ap (λ (k : Walk). k.index) same)) at c.in-Ok-fetch.ensures.fetched in
+    let fetched = rw (sym (ap (λ (k : Walk). k.index) same)) at c.in-Ok-fetch_kept.ensures.fetched in
     let still = come_same {h' = c.quick.new.hart} same refl there in
     let again : c.link_on.new.walk.index < c.link_on.new.walk.end = rw same further in
     rw (c.settle-in_default-step_anew.ensures, c.step_anew.ensures.same c.in_default-step_anew.is) (stopped told still again fetched)
@@ -368,7 +369,7 @@ loop-walk-smaller-then-word-eq-EBREAK g c =
     let r = g.R.CacheRom.service.kept c.loop-walk.rom in
     let new = g.R.CacheRom.service.kept c.back.new.rom in
     let before = g.M.CacheRam.state c.loop-walk.ram in
-    let after = g.M.CacheRam.state c.fetch.new.self in
+    let after = g.M.CacheRam.state c.fetch_kept.new.self in
     let p = place_shown (g.R.CacheRom.service.shown c.loop-walk.rom w.index) in
     let rest = c.back.ensures.rest in
     let is : w' ≡ landed c.in-Some-back.index c.in-Some-back.target 1 w = c.land.ensures in
@@ -402,7 +403,7 @@ loop-walk-preserved-then-word-eq-EBREAK g c =
     let r = g.R.CacheRom.service.kept c.loop-walk.rom in
     let new = g.R.CacheRom.service.kept c.back.new.rom in
     let before = g.M.CacheRam.state c.loop-walk.ram in
-    let after = g.M.CacheRam.state c.fetch.new.self in
+    let after = g.M.CacheRam.state c.fetch_kept.new.self in
     let p = place_shown (g.R.CacheRom.service.shown c.loop-walk.rom w.index) in
     let rest = c.back.ensures.rest in
     let is : w' ≡ landed c.in-Some-back.index c.in-Some-back.target 1 w = c.land.ensures in
@@ -416,7 +417,7 @@ loop-walk-preserved-then-word-eq-EBREAK g c =
     let keeps : Keeps g.R.CacheRom.service v c.loop-walk.rom c.back.new.rom before.words after.words =
     λ images serves. c.back.ensures.keeps images (subst (λ k. g.R.CacheRom.service.serves c.loop-walk.rom v images k) (sym (ap (λ (k : RamState). k.words) fetched.1)) serves) in
     let to = subst (λ (k : Walk). WalksTo c.args.limit k) (sym is) (landed_within c.in-Some-back.index c.in-Some-back.target 1 w c.args.limit (omega arith) again stay.to) in
-    record { told = told; come = come_on told stay c.back.new.rom w' c.back.new.hart after again step.0 on c.back.ensures.setting c.back.ensures.stays keeps to; memo = c.loop-walk.invariant.memo }
+    record { told = told; come = come_on told stay c.back.new.rom w' c.back.new.hart after again step.0 on c.back.ensures.setting c.back.ensures.stays keeps to; kept = c.loop-walk.invariant.kept; found = c.loop-walk.invariant.found }
 
 pub loop-walk-smaller : goal.loop-walk-smaller
 loop-walk-smaller g c =
@@ -427,7 +428,7 @@ loop-walk-smaller g c =
     let stay = come_same same.0 same.1 come in
     let again : c.quick.new.walk.index < c.quick.new.walk.end = rw same.0 more in
     let fetched = rw (sym (ap (λ (k : Walk). k.index) same.0)) at c.in-Ok.ensures.fetched in
-    rw c.come-in-loop-walk.ensures (rw (same.0, same.1) at (falls_word told stay c.in-Some-step_anew.next c.step_anew-in-loop-walk.new.hart (g.M.CacheRam.state c.fetch.new.self) c.in-Ok.word again fetched c.in-Some-step_anew.ensures.on c.in-Some-step_anew.ensures.counted c.in-Some-step_anew.ensures.limited c.step_anew-in-loop-walk.ensures.rest))
+    rw c.come-in-loop-walk.ensures (rw (same.0, same.1) at (falls_word told stay c.in-Some-step_anew.next c.step_anew-in-loop-walk.new.hart (g.M.CacheRam.state c.fetch_kept.new.self) c.in-Ok.word again fetched c.in-Some-step_anew.ensures.on c.in-Some-step_anew.ensures.counted c.in-Some-step_anew.ensures.limited c.step_anew-in-loop-walk.ensures.rest))
 
 pub loop-walk-preserved : goal.loop-walk-preserved
 loop-walk-preserved g c =
@@ -438,7 +439,7 @@ loop-walk-preserved g c =
     let stay = come_same same.0 same.1 come in
     let again : c.quick.new.walk.index < c.quick.new.walk.end = rw same.0 more in
     let fetched = rw (sym (ap (λ (k : Walk). k.index) same.0)) at c.in-Ok.ensures.fetched in
-    record { told = told; come = rw c.come-in-loop-walk.ensures (come_word told stay c.in-Some-step_anew.next c.step_anew-in-loop-walk.new.hart (g.M.CacheRam.state c.fetch.new.self) c.in-Ok.word again fetched c.in-Some-step_anew.ensures.on c.in-Some-step_anew.ensures.counted c.in-Some-step_anew.ensures.limited c.step_anew-in-loop-walk.ensures.rest); memo = c.step_anew-in-loop-walk.ensures.memo ∙ c.loop-walk.invariant.memo }
+    record { told = told; come = rw c.come-in-loop-walk.ensures (come_word told stay c.in-Some-step_anew.next c.step_anew-in-loop-walk.new.hart (g.M.CacheRam.state c.fetch_kept.new.self) c.in-Ok.word again fetched c.in-Some-step_anew.ensures.on c.in-Some-step_anew.ensures.counted c.in-Some-step_anew.ensures.limited c.step_anew-in-loop-walk.ensures.rest); memo = c.step_anew-in-loop-walk.ensures.memo ∙ c.loop-walk.invariant.memo }
 
 pub returns-in_default-back-clause-ran : goal.returns-in_default-back-clause-ran
 returns-in_default-back-clause-ran g c =
