@@ -24,6 +24,10 @@ counted_kept e = by_queue e.queue
     by_queue [] = refl
     by_queue (n ∷ ns) = refl
 
+-- and nothing but the counts has changed then
+pub counted_alone : (e t : EngineData) → t ≡ counted_data e → kept_by t ≡ record (kept_by e) { counts = (kept_by t).counts }
+counted_alone e t is = subst (λ (x : EngineData). kept_by x ≡ record (kept_by e) { counts = (kept_by x).counts }) (sym is) refl
+
 pub counted_sound : (e : EngineData) (v : ImageData) (words : List ℕ) → EngineSound e v words → e.counts.services < 2 ^ 50 → EngineSound (counted_data e) v words
 counted_sound e v words sound lt = record {
   stands = recounted e v words _ e.words e.copies sound.stands;

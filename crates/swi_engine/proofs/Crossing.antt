@@ -21,11 +21,12 @@ use Rattle.swi_engine.specs.State.{EngineData, kept_by, setting_of, link_of}
 use Rattle.swi_engine.specs.Sound.{Standing, EngineSound, Few, NoJoint}
 use Rattle.swi_engine.specs.Seats.{in_joints, placed_slot, slot_placed, joint_at, joint_linked, length_most, slot_within}
 use Rattle.swi_engine.specs.Laws.{not_linked_none, word_slot}
-use Rattle.swi_engine.specs.Moves.{OneSet, IsAbsent, linked_data, can_link, more_service}
+use Rattle.swi_engine.specs.Moves.{OneSet, IsAbsent, counted_data, linked_data, can_link, more_service}
 use Rattle.swi_engine.specs.Arrived.{Arrived, Linked, MaybeLinked}
 use Rattle.swi_engine.proofs.Standing.{linked_stands}
 use Rattle.swi_engine.proofs.Eventing.{first_is}
 use Rattle.swi_engine.proofs.Counting.{stands_placed, absent_unplaced}
+use Rattle.swi_engine.proofs.Filling.{hit_now}
 
 spans : (v : ImageData) (c n : ℕ) (e t : EngineData) (x y : RamState) → Arrived v c n e t x y → t.slots * t.size ≡ e.slots * e.size
 spans v c n e t x y arr = ap (λ (s : Setting). span_of s) arr.setting_stays
@@ -66,6 +67,14 @@ pub entered_call : (v : ImageData) (e t : EngineData) (c q n target size : ℕ) 
 entered_call v e t c q n target size a b arr is size_is =
     subst (λ (s : ℕ). Served v (span_of (setting_of e)) target (kept_by e) (beside (setting_of e) (kept_by e) v (indirect target)) (kept_by t) a b (Ok (n * s + q))) (sym (size_is ∙ sizes v c n e t a b arr))
     (entered v e t c q n target a b arr (sym is))
+
+-- a jump to a target that stands, once a service is counted
+pub visited : (v : ImageData) (e t : EngineData) (target i : ℕ) (a : RamState) → t ≡ counted_data e → EngineSound e v a.words → e.counts.services < 2 ^ 50 → TargetAt v (kept_by e) target i →
+    Served v (span_of (setting_of e)) target (kept_by e) (beside (setting_of e) (kept_by e) v (indirect target)) (kept_by t) a a (Ok i)
+visited v e t target i a is sound lt at =
+    let slot = placed_slot e at.block at.first at.is_placed in
+    subst (λ (j : ℕ). Served v (span_of (setting_of e)) target (kept_by e) (beside (setting_of e) (kept_by e) v (indirect target)) (kept_by t) a a (Ok j)) (ap (λ (f : ℕ). f + at.offset) slot.3 ∙ sym at.index)
+    (entered v e t at.block at.offset slot.0 target a a (hit_now v e t at.block slot.0 a is sound lt (slot.1, slot.2)) at.place_is)
 
 -- an exit by its block's slot
 pub record ExitIn (v : ImageData) (e : EngineData) (at target : ℕ) : Type 0 where

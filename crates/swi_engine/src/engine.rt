@@ -594,6 +594,11 @@ impl CacheRom for EngineRom {
         Some(slot * self.size + offset)
     }
 
+    #[inline(always)]
+    fn visit<M: CacheRam>(&mut self, _image: &ImageView<'_>, _ram: &M, _target: u32, _index: u32) {
+        self.count();
+    }
+
     fn cross<M: CacheRam>(
         &mut self,
         image: &ImageView<'_>,

@@ -22,10 +22,10 @@ use Rattle.swi_rom.specs.Service.{Setting}
 use Rattle.swi_ring.specs.Fifo.{span_of, arrived, ring, extent_of, ring_extent}
 use Rattle.swi_ring.specs.Ring.{Ring, InShape, first_at, target_at, queue_of, links_of, behind, kept_by, setting_of}
 use Rattle.swi_ring.specs.Sound.{RingSound}
-use Rattle.swi_ring.specs.Steps.{Arrived, Linked, MaybeLinked, can_link}
+use Rattle.swi_ring.specs.Steps.{Arrived, Linked, MaybeLinked, can_link, counted_ring}
 use Rattle.swi_ring.specs.Coheres.{have_spots, placed_has, has_placed, word_below, found_at, linked_is, has_or, same_word}
 use Rattle.swi_ring.proofs.Linking.{first_of_is, linked_ring, CanLink, linked_links, linked_sound}
-use Rattle.swi_ring.proofs.Placing.{placed_is, absent_is}
+use Rattle.swi_ring.proofs.Placing.{placed_is, absent_is, hit_arrived}
 
 arrived_target : (v : ImageData) (s t : Ring) (c q first target : ℕ) (a b : RamState) → Arrived v s c first t a b → place_of v target ≡ Some (c, q) → TargetAt v (kept_by t) target (first + q)
 arrived_target v s t c q first target a b arr is = record {
@@ -308,6 +308,15 @@ found_target v s b o f target is h first = record {
   is_placed = subst (λ (g : ℕ). Placed (kept_by s) b g) first (has_placed s b h);
   index = refl;
 }
+
+-- a jump to a target that stands, once a service is counted
+pub visited : (v : ImageData) (s t : Ring) (target i : ℕ) (a : RamState) → t ≡ counted_ring s → RingSound s v a.words → TargetAt v (kept_by s) target i →
+    Served v (span_of (setting_of s)) target (kept_by s) (ring (setting_of s) (kept_by s) v (indirect target)) (kept_by t) a a (Ok i)
+visited v s t target i a e sound at =
+    let stood = placed_has s at.block at.first at.is_placed in
+    let hit = subst (λ (f : ℕ). Arrived v s at.block f (counted_ring s) a a) stood.1 (hit_arrived v s at.block a sound stood.0) in
+    subst (λ (j : ℕ). Served v (span_of (setting_of s)) target (kept_by s) (ring (setting_of s) (kept_by s) v (indirect target)) (kept_by t) a a (Ok j)) (sym at.index)
+    (entered v s t at.block at.offset at.first target a a (subst (λ (x : Ring). Arrived v s at.block at.first x a a) (sym e) hit) at.place_is)
 
 pub exit_below : (v : ImageData) (s : Ring) (words : List ℕ) (at target : ℕ) → RingSound s v words → ExitAt v (kept_by s) at target → at < s.words
 exit_below v s words at target sound x = let e = exit_in v s at target x in omega (arith, e.index, word_below s v words e.block e.offset sound e.placed e.inside)

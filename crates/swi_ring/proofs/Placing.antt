@@ -255,6 +255,11 @@ pub counted_is : (s : Ring) → kept_by (counted_ring s) ≡ counted (kept_by s)
 unfolding counted links_of link_at
 counted_is s = ap (λ (m : ℕ). record (kept_by s) { counts = record s.counts { services = s.counts.services + m } }) (sym (more_length s.queue s.firsts))
 
+-- nothing but the counts has changed where a service was counted
+pub counted_alone : (s t : Ring) → t ≡ counted_ring s → kept_by t ≡ record (kept_by s) { counts = (kept_by t).counts }
+unfolding links_of link_at
+counted_alone s t e = subst (λ (x : Ring). kept_by x ≡ record (kept_by s) { counts = (kept_by x).counts }) (sym e) refl
+
 pub counted_sound : (s : Ring) (v : ImageData) (words : List ℕ) → RingSound s v words → RingSound (counted_ring s) v words
 counted_sound s v words sound = record {
   shape = record {

@@ -24,8 +24,8 @@ use swi_undo::undo;
 
 /// A cache in which each block takes as many words as it has: it stands behind the block that was placed last, or from
 /// the first word on where it doesn't fit there. While the words where it is to stand are not free, the oldest block
-/// leaves. After `new` no call takes memory. `revisit`, `at` and `goal` take constant time but for the search of the
-/// place; `enter` and `cross` take time linear in the words that they write and in those of the blocks that leave.
+/// leaves. After `new` no call takes memory. `visit`, `at` and `goal` take constant time, and `revisit` but for the search
+/// of the place; `enter` and `cross` take time linear in the words that they write and in those of the blocks that leave.
 #[derive(Drop)]
 pub struct RingRom {
     words: u32,
@@ -418,6 +418,11 @@ impl CacheRom for RingRom {
         let first = self.find(block)?;
         self.count_near(target, block);
         Some(first + offset)
+    }
+
+    #[inline(always)]
+    fn visit<M: CacheRam>(&mut self, _image: &ImageView<'_>, _ram: &M, _target: u32, _index: u32) {
+        self.count();
     }
 
     fn cross<M: CacheRam>(

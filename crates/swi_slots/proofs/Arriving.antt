@@ -75,6 +75,11 @@ pub counted_is : (s : Slots) → InShape s → kept_by (counted_slots s) ≡ cou
 unfolding counted queue_of links_of link_at
 counted_is s shape = ap (λ (n : ℕ). record (kept_by s) { counts = record s.counts { services = s.counts.services + n } }) (sym (more_length (queue_of s) s.filled (length_queue s shape)))
 
+-- and nothing but them has changed where a service was counted
+pub counted_alone : (s t : Slots) → t ≡ counted_slots s → kept_by t ≡ record (kept_by s) { counts = (kept_by t).counts }
+unfolding queue_of links_of link_at
+counted_alone s t e = subst (λ (x : Slots). kept_by x ≡ record (kept_by s) { counts = (kept_by x).counts }) (sym e) refl
+
 -- a service has been counted
 pub counted_sound : (s : Slots) (vs : Images) (words : List ℕ) → SlotsServe s vs words → SlotsServe (counted_slots s) vs words
 counted_sound s vs words sound = record {

@@ -17,7 +17,7 @@ use Rattle.swi_rom.specs.Writing.{FailedBelow}
 use Rattle.swi_slots.specs.Steps.{counted_slots, IsAbsent, MaybeLinked, can_link}
 use Rattle.swi_slots.specs.Arrived.{Arrived}
 use Rattle.swi_rom.specs.declared.rom.RomStop.TheVariants.{RamFault}
-use Rattle.swi_slots.specs.Queue.{length_queue, placed_slot}
+use Rattle.swi_slots.specs.Queue.{length_queue, placed_slot, slot_placed}
 use Rattle.swi_slots.specs.SlotLinks.{word_slot}
 use Rattle.swi_rom.specs.Rams.{failed_more}
 use Rattle.swi_slots.proofs.Policy.{counted_forward}
@@ -75,6 +75,27 @@ block_small v s words b sound lt = known_few v b (subst (λ (w : ImageData). IsI
 -- the block of a place stood
 pub stood : (s : Slots) (v : ImageData) (b n : ℕ) (a : RamState) → SlotsSound s v a.words → b < length v.blocks → n < s.filled → slice_index s.blocks n ≡ key_of s.turn b → Arrives v s b n (counted_slots s) a a
 stood s v b n a sound known lt e vs serves = hit_arrived s vs b n a serves.1 lt (block_small v s a.words b sound known) e
+
+-- a block's target stands in its slot
+pub found_target : (v : ImageData) (s : Slots) (words : List ℕ) (b o n size target : ℕ) → SlotsSound s v words → Some (b, o) ≡ place_of v target → n < s.filled → slice_index s.blocks n ≡ key_of s.turn b → size ≡ s.size → TargetAt v (kept_by s) target (n * size + o)
+found_target v s words b o n size target sound is lt e size_is = record {
+  block = b;
+  offset = o;
+  first = n * s.size;
+  place_is = sym is;
+  is_placed = slot_placed s n b sound.1.1.shape lt (block_small v s words b sound (place_block v s words (b, o) target sound is).0) e;
+  index = ap (λ (x : ℕ). n * x + o) size_is;
+}
+
+-- a jump to a target that stands, once a service is counted
+pub visited : (v : ImageData) (s t : Slots) (target i : ℕ) (a : RamState) → t ≡ counted_slots s → SlotsSound s v a.words → TargetAt v (kept_by s) target i →
+    Served v (span_of (setting_of s)) target (kept_by s) (fifo (setting_of s) (kept_by s) v (indirect target)) (kept_by t) a a (Ok i)
+visited v s t target i a e sound at =
+    let slot = placed_slot s at.block at.first sound.1.1.shape at.is_placed in
+    let known = (place_block v s a.words (at.block, at.offset) target sound (sym at.place_is)).0 in
+    let hit = subst (λ (x : Slots). Arrives v s at.block slot.0 x a a) (sym e) (stood s v at.block slot.0 a sound known slot.1 slot.2) in
+    subst (λ (j : ℕ). Served v (span_of (setting_of s)) target (kept_by s) (fifo (setting_of s) (kept_by s) v (indirect target)) (kept_by t) a a (Ok j)) (ap (λ (f : ℕ). f + at.offset) slot.3 ∙ sym at.index)
+    (entered_call v s t at.block at.offset slot.0 s.size target a a sound hit at.place_is refl)
 
 -- a block that stands in no slot has no placed target
 pub absent_target : (v : ImageData) (s : Slots) (words : List ℕ) (b o target i : ℕ) → SlotsSound s v words → place_of v target ≡ Some (b, o) → IsAbsent s (key_of s.turn b) → TargetAt v (kept_by s) target i → ⊥

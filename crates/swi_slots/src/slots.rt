@@ -437,6 +437,11 @@ impl<T: LinkTable> CacheRom for SlotRom<T> {
         Some(slot * self.size + offset)
     }
 
+    #[inline(always)]
+    fn visit<M: CacheRam>(&mut self, _image: &ImageView<'_>, _ram: &M, _target: u32, _index: u32) {
+        self.count();
+    }
+
     fn cross<M: CacheRam>(
         &mut self,
         image: &ImageView<'_>,

@@ -1,8 +1,7 @@
-use Rattle.std.proofs.Common.{arith, ap, sym}
-use Rattle.swi_engine.specs.State.{EngineData}
-use Rattle.swi_engine.proofs.Filling.{hit_now}
-use Rattle.swi_engine.proofs.Counting.{absent_target, found_at, row_within}
-use Rattle.swi_engine.proofs.Crossing.{entered_call}
+use Rattle.std.proofs.Common.{arith, sym}
+use Rattle.swi_engine.proofs.Filling.{hit_now, counted_few}
+use Rattle.swi_engine.proofs.Counting.{absent_target, found_at, row_within, counted_alone}
+use Rattle.swi_engine.proofs.Crossing.{visited}
 use Rattle.swi_engine.proofs.engine.EngineRomCacheRom.revisit.Goals as goal
 
 pub returns-in_err-slot-clause-absent : goal.returns-in_err-slot-clause-absent
@@ -20,13 +19,17 @@ overflow_add-result g c =
 
 pub returns-clause-served : goal.returns-clause-served
 returns-clause-served g c =
-    entered_call _ _ _ _ _ _ _ _ _ _ (hit_now _ _ _ _ _ _ c.count_near.ensures c.requires.sound c.requires.services c.in_ok-slot.ensures) c.in_ok-block.ensures.place (ap (λ (e : EngineData). e.size) c.self-2.view_is)
+    visited _ _ _ _ _ (g.M.CacheRam.state c.args._ram.now) c.count_near.ensures c.requires.sound c.requires.services
+    (found_at _ _ _ _ _ _ _ _ c.count_near.ensures c.self-2.view_is c.in_ok-block.ensures.place c.in_ok-slot.ensures)
 
 pub returns-clause-stays : goal.returns-clause-stays
-returns-clause-stays g c = (hit_now _ _ _ _ _ (g.M.CacheRam.state c.args._ram.now) c.count_near.ensures c.requires.sound c.requires.services c.in_ok-slot.ensures).sound
+returns-clause-stays g c = (counted_few _ _ _ _ c.count_near.ensures c.requires.sound c.requires.services).0
 
 pub returns-clause-keeps : goal.returns-clause-keeps
-returns-clause-keeps g c = λ images serves. (hit_now _ _ _ _ _ (g.M.CacheRam.state c.args._ram.now) c.count_near.ensures c.requires.sound c.requires.services c.in_ok-slot.ensures).sound
+returns-clause-keeps g c = λ images serves. (counted_few _ _ _ _ c.count_near.ensures c.requires.sound c.requires.services).0
 
 pub returns-clause-placed : goal.returns-clause-placed
 returns-clause-placed g c = found_at _ _ _ _ _ _ _ _ c.count_near.ensures c.self-2.view_is c.in_ok-block.ensures.place c.in_ok-slot.ensures
+
+pub returns-clause-counted : goal.returns-clause-counted
+returns-clause-counted g c = counted_alone _ _ c.count_near.ensures

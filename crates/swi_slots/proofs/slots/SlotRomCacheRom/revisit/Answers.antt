@@ -1,9 +1,8 @@
-use Rattle.std.proofs.Common.{◌+◌, ◌*◌, ap, arith, sym, ◌∙◌, subst}
+use Rattle.std.proofs.Common.{ap, arith, sym, ◌∙◌, subst}
 use Rattle.swi_slots.specs.Slots.{Slots}
-use Rattle.swi_slots.specs.Queue.{slot_placed}
 use Rattle.swi_slots.specs.Sound.{SlotsSound, Serves}
-use Rattle.swi_slots.proofs.Arriving.{counted_service, counted_serves}
-use Rattle.swi_slots.proofs.Calls.{Arrives, place_block, index_fits, entered_call, absent_target, stood, block_small}
+use Rattle.swi_slots.proofs.Arriving.{counted_service, counted_serves, counted_alone}
+use Rattle.swi_slots.proofs.Calls.{place_block, index_fits, absent_target, stood, found_target, visited}
 use Rattle.swi_slots.proofs.slots.SlotRomCacheRom.revisit.Goals as goal
 
 pub returns-in_err-slot-clause-absent : goal.returns-in_err-slot-clause-absent
@@ -26,12 +25,9 @@ overflow_add-result g c =
 
 pub returns-clause-served : goal.returns-clause-served
 returns-clause-served g c =
-    let a = g.M.CacheRam.state c.args._ram.now in
-    let q = place_block _ _ _ _ _ c.requires.sound c.in_ok-block.ensures.place in
-    let hit = stood c.args.self.now c.args.image.now _ _ a c.requires.sound q.0 c.in_ok-slot.ensures.0 c.in_ok-slot.ensures.1 in
-    entered_call _ c.args.self.now c.count_near.new.self _ _ c.in_ok-slot.slot c.self-2.inside.size _ a a c.requires.sound
-    (subst (λ (t : Slots). Arrives c.args.image.now c.args.self.now c.in_ok-block.block c.in_ok-slot.slot t a a) (sym c.count_near.ensures) hit) (sym c.in_ok-block.ensures.place)
-    (ap (λ (s : Slots). s.size) (c.self-2.view_is ∙ c.count_near.ensures))
+    let size = ap (λ (s : Slots). s.size) (c.self-2.view_is ∙ c.count_near.ensures) in
+    visited c.args.image.now c.args.self.now _ _ _ (g.M.CacheRam.state c.args._ram.now) c.count_near.ensures c.requires.sound
+    (found_target _ _ _ _ _ _ _ _ c.requires.sound c.in_ok-block.ensures.place c.in_ok-slot.ensures.0 c.in_ok-slot.ensures.1 size)
 
 pub returns-clause-stays : goal.returns-clause-stays
 returns-clause-stays g c =
@@ -43,13 +39,8 @@ returns-clause-keeps g c = λ vs serves.
 
 pub returns-clause-placed : goal.returns-clause-placed
 returns-clause-placed g c =
-    let s = c.args.self.now in
-    let slot = c.in_ok-slot.slot in
-    let lt = c.in_ok-slot.ensures.0 in record {
-      block = c.in_ok-block.block;
-      offset = c.in_ok-block.offset;
-      first = slot * s.size;
-      place_is = sym c.in_ok-block.ensures.place;
-      is_placed = slot_placed s slot c.in_ok-block.block c.requires.sound.1.1.shape lt (block_small _ _ _ _ c.requires.sound (place_block _ _ _ _ _ c.requires.sound c.in_ok-block.ensures.place).0) c.in_ok-slot.ensures.1;
-      index = ap (λ (t : Slots). slot * t.size + c.in_ok-block.offset) (c.self-2.view_is ∙ c.count_near.ensures);
-    }
+    let size = ap (λ (s : Slots). s.size) (c.self-2.view_is ∙ c.count_near.ensures) in
+    found_target _ _ _ _ _ _ _ _ c.requires.sound c.in_ok-block.ensures.place c.in_ok-slot.ensures.0 c.in_ok-slot.ensures.1 size
+
+pub returns-clause-counted : goal.returns-clause-counted
+returns-clause-counted g c = counted_alone _ _ c.count_near.ensures
