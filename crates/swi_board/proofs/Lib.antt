@@ -13,3 +13,4 @@ pub mod Blocks
 pub mod Along
 pub mod Knowing
 pub mod Coming
+pub mod Remembering

@@ -1,5 +1,5 @@
 -- A jump over a register to a placed block, along a walk.
-use Rattle.std.proofs.Common.{◌≡◌, ◌==◌, if◌then◌else◌, ℕ, ◌+◌, ◌*◌, ◌/◌, ◌%◌, ◌^◌, ◌<◌, Bool, true, false, Option, Some, None, List, refl, sym, ap, subst, ◌∙◌}
+use Rattle.std.proofs.Common.{◌≡◌, ◌==◌, if◌then◌else◌, ℕ, ◌+◌, ◌*◌, ◌/◌, ◌%◌, ◌^◌, ◌<◌, Bool, true, false, Option, Some, None, List, slice_index, refl, sym, ap, subst, ◌∙◌, arith}
 use Rattle.std.proofs.lemmas.Bool.{false≢true}
 use Rattle.swi_image.specs.Format.{ImageData}
 use Rattle.swi_image.specs.Place.{word_at, length_at}
@@ -14,8 +14,8 @@ use Rattle.swi_exec.specs.Registers.{with_reg}
 use Rattle.swi_exec.specs.Execute.{address_of}
 use Rattle.swi_calls.specs.declared.machine.Machine.{Machine}
 use Rattle.swi_calls.specs.Flat.{quiet}
-use Rattle.swi_rom.specs.Record.{Record, indirect}
-use Rattle.swi_rom.specs.Coherent.{TargetAt}
+use Rattle.swi_rom.specs.Record.{Record, indirect, is_linked}
+use Rattle.swi_rom.specs.Coherent.{Coherent, TargetAt}
 use Rattle.swi_hart.specs.declared.hart.ExitKind.TheVariants.{Indirect}
 use Rattle.swi_board.specs.declared.block.Walk.{Walk}
 use Rattle.swi_hart.specs.Hart.{exit_kind, stepped}
@@ -30,12 +30,23 @@ use Rattle.swi_hart.proofs.Leaving.{target_arrives}
 pub jalr_exit : (d : ℕ) (f : JalrFields) → jalr_fields (decoded d) ≡ Some f → exit_kind d ≡ Indirect
 jalr_exit d f is = rw (jalr_low d f.rd f.rs1 f.imm (jalr_is (decoded d) f is)) refl
 
+-- the word that stands in the ram behind an exit is the image's, where it is a JALR's
+pub jalr_held : (v : ImageData) (r : Record) (span : ℕ) (words : List ℕ) (i : ℕ) (p : ℕ × ℕ) (f : JalrFields) → Coherent v r span words → ExitStands v r i p → jalr_fields (decoded (slice_index words (i + 1))) ≡ Some f →
+    slice_index words (i + 1) ≡ word_at v p.0 (p.1 + 1)
+jalr_held v r span words i p f coherent stands is =
+    let at : i + 1 ≡ stands.first + (p.1 + 1) = let here = stands.index in omega (arith, here) in
+    let same : Bool → Type 0 = λ linked. is_linked r p.0 (p.1 + 1) ≡ linked → slice_index words (i + 1) ≡ word_at v p.0 (p.1 + 1) in
+    let told : jalr_fields (decoded (slice_index words (stands.first + (p.1 + 1)))) ≡ Some f = subst (λ k. jalr_fields (decoded (slice_index words k)) ≡ Some f) at is in
+    elim (is_linked r p.0 (p.1 + 1)) as same [
+      | true ↦ λ linked.
+          let jump = (coherent.linked p.0 stands.first (p.1 + 1) stands.is_placed linked).2 in
+          absurd (let never : None ≡ Some f = sym (ap jalr_fields jump) ∙ told in cc)
+      | false ↦ λ plain. subst (λ k. slice_index words k ≡ word_at v p.0 (p.1 + 1)) (sym at) (coherent.plain p.0 stands.first (p.1 + 1) stands.is_placed stands.inside plain)
+    ] refl
+
 -- and the return address behind that word is there
-pub link_inside : (v : ImageData) (r : Record) (i : ℕ) (p q : ℕ × ℕ) (d : ℕ) (f : JalrFields) → ExitStands v r i p → q ≡ p → d ≡ word_at v q.0 (q.1 + 1) →
-    jalr_fields (decoded d) ≡ Some f → q.1 + 2 < length_at v q.0
-link_inside v r i p q d f stands same word is =
-    let exit : d ≡ word_at v p.0 (p.1 + 1) = word ∙ ap (λ (k : ℕ × ℕ). word_at v k.0 (k.1 + 1)) same in
-    subst (λ (k : ℕ × ℕ). k.1 + 2 < length_at v k.0) (sym same) (stands.jalr (ap exit_kind (sym exit) ∙ jalr_exit d f is)).inside
+pub link_inside : (v : ImageData) (r : Record) (i : ℕ) (p : ℕ × ℕ) (d : ℕ) (f : JalrFields) → ExitStands v r i p → d ≡ word_at v p.0 (p.1 + 1) → jalr_fields (decoded d) ≡ Some f → p.1 + 2 < length_at v p.0
+link_inside v r i p d f stands word is = (stands.jalr (ap exit_kind (sym word) ∙ jalr_exit d f is)).inside
 
 -- the transfer of the jump
 pub turned_transfer : (x : Option Instr) (m : Machine) (rd rs1 imm t : ℕ) → x ≡ Some (instr.Jalr rd rs1 imm) → t ≡ address_of m.regs rs1 imm / 2 * 2 → t % 4 ≡ 0 → Some (indirect t) ≡ jump_transfer x m

@@ -1,6 +1,9 @@
 -- Where the targets of jumps over registers stood. Own rule.
 use Rattle.std.specs.Prelude.{◌≡◌, ℕ, ◌<◌, ◌%◌, List, [], length, Option, Some, None}
 use Rattle.std.proofs.Common.{get_or}
+use Rattle.swi_image.specs.Format.{ImageData}
+use Rattle.swi_rom.specs.Record.{Record}
+use Rattle.swi_rom.specs.Coherent.{TargetAt}
 use Rattle.swi_board.specs.declared.targets.Found.{Found}
 
 -- those of a list that there may be
@@ -16,6 +19,6 @@ nowhere = record { target = 1; index = 0 }
 abbrev pub IsNothing : List Found → Type 0
 IsNothing found = (k : ℕ) → k < length found → (d : Found) → get_or found k d ≡ nowhere
 
--- each address that a text word can have stands at its index, in the sense of At
-abbrev pub AreFound : (ℕ → ℕ → Type 0) → List Found → Type 0
-AreFound At found = (k : ℕ) → k < length found → (d : Found) → (get_or found k d).target % 4 ≡ 0 → At (get_or found k d).target (get_or found k d).index
+-- each address that a text word can have stands at its index
+abbrev pub AreFound : ImageData → Record → List Found → Type 0
+AreFound v r found = (k : ℕ) → k < length found → (d : Found) → (get_or found k d).target % 4 ≡ 0 → TargetAt v r (get_or found k d).target (get_or found k d).index

@@ -8,7 +8,7 @@ ghost use Rattle.swi_memory.specs.Bus.{fetched};
 ghost use Rattle.swi_calls.specs.declared.machine.Machine.{Machine};
 ghost use Rattle.swi_isa.specs.declared.instr.Instr.{Instr as AnyInstr};
 ghost use Rattle.swi_isa.specs.Decode.{decoded};
-ghost use Rattle.swi_exec.specs.Registers.{with_reg};
+ghost use Rattle.swi_exec.specs.Registers.{Registers, with_reg};
 ghost use Rattle.swi_image.specs.Place.{word_at, length_at};
 ghost use Rattle.swi_render.specs.Rendering.{ebreak};
 ghost use Rattle.swi_hart.specs.Hart.{HartData};
@@ -16,12 +16,11 @@ ghost use Rattle.swi_hart.specs.Leaving.{Home, leaves};
 ghost use Rattle.swi_hart.specs.Bounds.{most};
 ghost use Rattle.swi_board.specs.Walked.{is_link, is_stop, gone, landed, place_shown, walk_left, walk_pc, walk_steps, walk_count, walk_control, walk_hart, walk_machine, ExitStands, HasRoom, WalksTo, LinkOn, StepOn, JumpOn, Walked, WalkedOn, StandsInside, BlockRan};
 ghost use Rattle.swi_rom.specs.Record.{IsJump, Record, indirect};
-ghost use Rattle.swi_rom.specs.Coherent.{StandsAt, TargetAt};
+ghost use Rattle.swi_rom.specs.Coherent.{StandsAt};
 ghost use Rattle.swi_board.specs.Targets.{AreFound};
 
 use crate::known::{Went, link_on, quick};
 use crate::targets::Targets;
-use swi_exec::Regs;
 use swi_hart::{Control, EBREAK, Hart, Stage, fell, register_target};
 use swi_image::ImageView;
 use swi_isa::{Reg, jalr_fields};
@@ -257,22 +256,25 @@ fn step_anew<R: CacheRom, M: MicroRam>(
     }
 }
 
-/// Writes the return address of the jump whose exit stands at an index, a word of its block, to the jump's register. Where
-/// that is x0, as in a return, nothing is read.
+/// The return address of the jump whose exit stands at an index, a word of its block. Where the jump's register is x0, as in
+/// a return, nothing is read, and any number will do.
 #[inline(always)]
-fn keep_return<R: CacheRom>(regs: &mut Regs, rom: &R, image: &ImageView<'_>, at: u32, rd: Reg)
+fn return_address<R: CacheRom>(rom: &R, image: &ImageView<'_>, at: u32, rd: Reg) -> u32
     requires shown { R.service.shown rom.now at ≡ None → ⊥ }
     requires block { (place_shown (R.service.shown rom.now at)).0 < length image.now.starts }
     requires offset { (place_shown (R.service.shown rom.now at)).1 + 2 < length_at image.now (place_shown (R.service.shown rom.now at)).0 }
-    ensures { regs.new ≡ with_reg regs.old rd (word_at image.now (place_shown (R.service.shown rom.now at)).0
-        ((place_shown (R.service.shown rom.now at)).1 + 2)) }
+    ensures { (regs : Registers) → with_reg regs rd result ≡ with_reg regs rd
+        (word_at image.now (place_shown (R.service.shown rom.now at)).0 ((place_shown (R.service.shown rom.now at)).1 + 2)) }
 {
-    if rd.num() != 0 {
-        let Some((block, offset)) = rom.at(at) else {
-            unreachable!()
-        };
-        regs.set(rd, image.word(block, offset + 2));
+    if rd.num() == 0 {
+        return 0;
     }
+    let Some((block, offset)) = rom.at(at) else {
+        unreachable!()
+    };
+    // Read for the proof alone: that it has 32 bits.
+    let _length = image.length(block);
+    image.word(block, offset + 2)
 }
 
 /// Where a jump over a register finds its target, if the target's block is placed. The service counts the jump then, and
@@ -288,7 +290,7 @@ fn visit<R: CacheRom, M: CacheRam>(
     requires sound { R.service.sound rom.old image.now (M.state ram.now).words }
     requires services { (R.service.kept rom.old).counts.services < 2 ^ 50 }
     requires four { target % 4 ≡ 0 }
-    requires found { AreFound (TargetAt image.now (R.service.kept rom.old)) targets.old }
+    requires found { AreFound image.now (R.service.kept rom.old) targets.old }
     ensures served { IfSome result (λ i. Served image.now (R.service.span (R.service.setting rom.old)) target (R.service.kept rom.old)
         (R.service.policy (R.service.setting rom.old) (R.service.kept rom.old) image.now (indirect target)) (R.service.kept rom.new)
         (M.state ram.now) (M.state ram.now) (Ok i)) }
@@ -297,7 +299,7 @@ fn visit<R: CacheRom, M: CacheRam>(
     ensures stays { R.service.sound rom.new image.now (M.state ram.now).words }
     ensures keeps { Keeps R.service image.now rom.old rom.new (M.state ram.now).words (M.state ram.now).words }
     ensures counted { R.service.kept rom.new ≡ record (R.service.kept rom.old) { counts = (R.service.kept rom.new).counts } }
-    ensures found { AreFound (TargetAt image.now (R.service.kept rom.new)) targets.new }
+    ensures found { AreFound image.now (R.service.kept rom.new) targets.new }
 {
     if let Some(index) = targets.find(target) {
         rom.visit(image, ram, target, index);
@@ -324,7 +326,7 @@ fn back<R: CacheRom, M: MicroRam>(
     requires services { (R.service.kept rom.old).counts.services < 2 ^ 50 }
     requires exit { ExitStands image.now (R.service.kept rom.old) at (place_shown (R.service.shown rom.old at)) }
     requires shown { R.service.shown rom.old at ≡ None → ⊥ }
-    requires found { AreFound (TargetAt image.now (R.service.kept rom.old)) targets.old }
+    requires found { AreFound image.now (R.service.kept rom.old) targets.old }
     ensures on { IfSome result (λ j. (walk : Walk) → walk.index ≡ at → HasRoom walk →
         (q : ℕ × ℕ) × JumpOn (R.service.policy (R.service.setting rom.old)) (R.service.span (R.service.setting rom.old)) image.now
         (R.service.kept rom.old) (R.service.kept rom.new) (M.state ram.now) (walk_machine walk hart.old.machine)
@@ -337,15 +339,16 @@ fn back<R: CacheRom, M: MicroRam>(
     ensures setting { R.service.setting rom.new ≡ R.service.setting rom.old }
     ensures stays { R.service.sound rom.new image.now (M.state ram.now).words }
     ensures keeps { Keeps R.service image.now rom.old rom.new (M.state ram.now).words (M.state ram.now).words }
-    ensures found { AreFound (TargetAt image.now (R.service.kept rom.new)) targets.new }
+    ensures found { AreFound image.now (R.service.kept rom.new) targets.new }
 {
     let x = jalr_fields(ram.held(at + 1)?)?;
     let target = register_target(hart.machine.regs.get(x.rs1), x.imm);
     if target % 4 != 0 {
         return None;
     }
+    let link = return_address(rom, image, at, x.rd);
     let index = visit(rom, image, ram, targets, target)?;
-    keep_return(&mut hart.machine.regs, rom, image, at, x.rd);
+    hart.machine.regs.set(x.rd, link);
     Some((index, target))
 }
 

@@ -1,7 +1,10 @@
 //! Where the targets of jumps over registers stood.
 #![tactic(auto)]
 
-ghost use Rattle.std.specs.Prelude.{◌≡◌, ◌<◌, ◌%◌, ℕ, IfOk, IfSome};
+ghost use Rattle.std.specs.Prelude.{◌≡◌, ◌<◌, ◌%◌, IfSome};
+ghost use Rattle.swi_image.specs.Format.{ImageData};
+ghost use Rattle.swi_rom.specs.Record.{Record};
+ghost use Rattle.swi_rom.specs.Coherent.{TargetAt};
 ghost use Rattle.swi_board.specs.Targets.{AreFound};
 
 use std::alloc::Global;
@@ -77,7 +80,7 @@ impl Targets {
     #[inline(always)]
     pub fn find(&self, a: u32) -> Option<u32>
         requires { a % 4 ≡ 0 }
-        ensures { IfSome result (λ i. (At : ℕ → ℕ → Type 0) → AreFound At self.now → At a i) }
+        ensures { IfSome result (λ i. (v : ImageData) (r : Record) → AreFound v r self.now → TargetAt v r a i) }
     {
         let Some(found) = &self.found else {
             return None;
@@ -91,7 +94,7 @@ impl Targets {
 
     /// Keeps the index at which an address was found.
     pub fn keep(&mut self, a: u32, index: u32)
-        ensures { (At : ℕ → ℕ → Type 0) → AreFound At self.old → At a index → AreFound At self.new }
+        ensures { (v : ImageData) (r : Record) → AreFound v r self.old → TargetAt v r a index → AreFound v r self.new }
     {
         self.empty = false;
         let Some(found) = &mut self.found else {
@@ -104,7 +107,7 @@ impl Targets {
 
     /// Keeps nothing any more: where blocks may have moved.
     pub fn forget(&mut self)
-        ensures { (At : ℕ → ℕ → Type 0) → AreFound At self.new }
+        ensures { (v : ImageData) (r : Record) → AreFound v r self.new }
     {
         if self.empty {
             return;

@@ -56,14 +56,15 @@ loop-walk-init g c =
         few = let low = c.requires.count in omega (arith, low, number);
       };
       kept = refl;
-      found = c.forget.ensures _;
+      found = c.forget.ensures v r;
     }
 
 pub fetch_kept-requires : goal.fetch_kept-requires
 fetch_kept-requires g c =
+    let told = c.loop-walk.invariant.told in
     let come = c.loop-walk.invariant.come in
     let more : c.loop-walk.walk.index < c.loop-walk.walk.end = omega (arith, c.loop-walk-test.true) in
-    (come.inside more).in_ram
+    come_inside told come _ (rw (sym c.loop-walk.invariant.kept) at c.requires.places) more
 
 pub quick-requires-clause-used : goal.quick-requires-clause-used
 quick-requires-clause-used g c =
@@ -77,7 +78,7 @@ quick-requires-clause-place g c =
     let told = c.loop-walk.invariant.told in
     let come = c.loop-walk.invariant.come in
     let more : c.loop-walk.walk.index < c.loop-walk.walk.end = omega (arith, c.loop-walk-test.true) in
-    come_inside told come _ (rw (sym c.loop-walk.invariant.kept) at c.requires.places) more
+    come_inside told come _ (rw (sym (c.fetch_kept.ensures.kept ∙ c.loop-walk.invariant.kept)) at c.requires.places) more
 
 pub quick-requires-clause-room : goal.quick-requires-clause-room
 quick-requires-clause-room g c =
@@ -107,7 +108,7 @@ loop-walk-preserved-in-On g c =
     let come = c.loop-walk.invariant.come in
     let more : c.loop-walk.walk.index < c.loop-walk.walk.end = omega (arith, c.loop-walk-test.true) in
     let gone : is_left c.quick.result ≡ false = ap is_left c.in-On.is in
-    record { come = come_word told come c.quick.new.walk c.quick.new.hart (g.M.CacheRam.state c.fetch_kept.new.self) c.in-Ok.word more c.in-Ok.ensures.fetched (c.quick.ensures.on gone) (c.quick.ensures.counted gone) (c.quick.ensures.limited gone) c.quick.ensures.rest; told = told; kept = c.loop-walk.invariant.kept; found = c.loop-walk.invariant.found }
+    record { come = come_word told come c.quick.new.walk c.quick.new.hart (g.M.CacheRam.state c.fetch_kept.new.self) c.in-Ok.word more c.in-Ok.ensures.fetched (c.quick.ensures.on gone) (c.quick.ensures.counted gone) (c.quick.ensures.limited gone) c.quick.ensures.rest; told = told; kept = c.fetch_kept.ensures.kept ∙ c.loop-walk.invariant.kept; found = c.loop-walk.invariant.found }
 
 pub fetch_kept-requires-in-Exit : goal.fetch_kept-requires-in-Exit
 fetch_kept-requires-in-Exit g c =
@@ -117,7 +118,7 @@ fetch_kept-requires-in-Exit g c =
     let gone : is_left c.quick.result ≡ false = ap is_left c.in-Exit.is in
     let there = come_word told come c.quick.new.walk c.quick.new.hart (g.M.CacheRam.state c.fetch_kept.new.self) c.in-Ok.word more c.in-Ok.ensures.fetched (c.quick.ensures.on gone) (c.quick.ensures.counted gone) (c.quick.ensures.limited gone) c.quick.ensures.rest in
     let further = c.quick.ensures.exit c.in-Exit.is in
-    (there.inside further).in_ram
+    come_inside told there _ (rw (sym (c.fetch_kept.ensures.kept ∙ c.loop-walk.invariant.kept)) at c.requires.places) further
 
 pub settle-requires-in_default-fetch_kept-clause-shown : goal.settle-requires-in_default-fetch_kept-clause-shown
 settle-requires-in_default-fetch_kept-clause-shown g c =
@@ -177,7 +178,7 @@ link_on-requires-clause-place g c =
     let gone : is_left c.quick.result ≡ false = ap is_left c.in-Exit.is in
     let there = come_word told come c.quick.new.walk c.quick.new.hart (g.M.CacheRam.state c.fetch_kept.new.self) c.in-Ok.word more c.in-Ok.ensures.fetched (c.quick.ensures.on gone) (c.quick.ensures.counted gone) (c.quick.ensures.limited gone) c.quick.ensures.rest in
     let further = c.quick.ensures.exit c.in-Exit.is in
-    come_inside told there _ (rw (sym c.loop-walk.invariant.kept) at c.requires.places) further
+    come_inside told there _ (rw (sym (c.fetch_kept-in-Exit.ensures.kept ∙ c.fetch_kept.ensures.kept ∙ c.loop-walk.invariant.kept)) at c.requires.places) further
 
 pub link_on-requires-clause-room : goal.link_on-requires-clause-room
 link_on-requires-clause-room g c =
@@ -209,7 +210,7 @@ loop-walk-preserved-then-link_on g c =
     let gone : is_left c.quick.result ≡ false = ap is_left c.in-Exit.is in
     let there = come_word told come c.quick.new.walk c.quick.new.hart (g.M.CacheRam.state c.fetch_kept.new.self) c.in-Ok.word more c.in-Ok.ensures.fetched (c.quick.ensures.on gone) (c.quick.ensures.counted gone) (c.quick.ensures.limited gone) c.quick.ensures.rest in
     let further = c.quick.ensures.exit c.in-Exit.is in
-    record { come = come_word told there c.link_on.new.walk c.quick.new.hart (g.M.CacheRam.state c.fetch_kept-in-Exit.new.self) c.in-Ok-fetch_kept.exit further c.in-Ok-fetch_kept.ensures.fetched (λ x decodes p home. c.link_on.ensures.on c.if-link_on.true x c.quick.new.hart.machine p decodes home) (c.link_on.ensures.counted c.if-link_on.true) (c.link_on.ensures.limited c.if-link_on.true) refl; told = told; kept = c.loop-walk.invariant.kept; found = c.loop-walk.invariant.found }
+    record { come = come_word told there c.link_on.new.walk c.quick.new.hart (g.M.CacheRam.state c.fetch_kept-in-Exit.new.self) c.in-Ok-fetch_kept.exit further c.in-Ok-fetch_kept.ensures.fetched (λ x decodes p home. c.link_on.ensures.on c.if-link_on.true x c.quick.new.hart.machine p decodes home) (c.link_on.ensures.counted c.if-link_on.true) (c.link_on.ensures.limited c.if-link_on.true) refl; told = told; kept = c.fetch_kept-in-Exit.ensures.kept ∙ c.fetch_kept.ensures.kept ∙ c.loop-walk.invariant.kept; found = c.loop-walk.invariant.found }
 
 pub step_anew-requires-clause-used : goal.step_anew-requires-clause-used
 step_anew-requires-clause-used g c =
@@ -237,7 +238,7 @@ step_anew-requires-clause-place g c =
     let fetched = rw (sym (ap (λ (k : Walk). k.index) same)) at c.in-Ok-fetch_kept.ensures.fetched in
     let still = come_same {h' = c.quick.new.hart} same refl there in
     let again : c.link_on.new.walk.index < c.link_on.new.walk.end = rw same further in
-    come_inside told still _ (rw (sym c.loop-walk.invariant.kept) at c.requires.places) again
+    come_inside told still _ (rw (sym (c.fetch_kept-in-Exit.ensures.kept ∙ c.fetch_kept.ensures.kept ∙ c.loop-walk.invariant.kept)) at c.requires.places) again
 
 pub step_anew-requires-clause-room : goal.step_anew-requires-clause-room
 step_anew-requires-clause-room g c =
@@ -281,7 +282,7 @@ loop-walk-preserved-in-Exit g c =
     let fetched = rw (sym (ap (λ (k : Walk). k.index) same)) at c.in-Ok-fetch_kept.ensures.fetched in
     let still = come_same {h' = c.quick.new.hart} same refl there in
     let again : c.link_on.new.walk.index < c.link_on.new.walk.end = rw same further in
-    record { come = rw c.come.ensures (come_word told still c.in-Some.next c.step_anew.new.hart (g.M.CacheRam.state c.fetch_kept-in-Exit.new.self) c.in-Ok-fetch_kept.exit again fetched c.in-Some.ensures.on c.in-Some.ensures.counted c.in-Some.ensures.limited c.step_anew.ensures.rest); told = told; kept = c.step_anew.ensures.kept ∙ c.loop-walk.invariant.kept; found = c.loop-walk.invariant.found }
+    record { come = rw (c.come.ensures, c.step_anew.ensures.ram) (come_word told still c.in-Some.next c.step_anew.new.hart (g.M.CacheRam.state c.fetch_kept-in-Exit.new.self) c.in-Ok-fetch_kept.exit again fetched c.in-Some.ensures.on c.in-Some.ensures.counted c.in-Some.ensures.limited c.step_anew.ensures.rest); told = told; kept = c.step_anew.ensures.kept ∙ c.fetch_kept-in-Exit.ensures.kept ∙ c.fetch_kept.ensures.kept ∙ c.loop-walk.invariant.kept; found = c.loop-walk.invariant.found }
 
 pub settle-requires-in_default-step_anew-clause-shown : goal.settle-requires-in_default-step_anew-clause-shown
 settle-requires-in_default-step_anew-clause-shown g c =
@@ -337,7 +338,7 @@ returns-in_default-step_anew-clause-ran g c =
     let fetched = rw (sym (ap (λ (k : Walk). k.index) same)) at c.in-Ok-fetch_kept.ensures.fetched in
     let still = come_same {h' = c.quick.new.hart} same refl there in
     let again : c.link_on.new.walk.index < c.link_on.new.walk.end = rw same further in
-    rw (c.settle-in_default-step_anew.ensures, c.step_anew.ensures.same c.in_default-step_anew.is) (stopped told still again fetched)
+    rw (c.settle-in_default-step_anew.ensures, c.step_anew.ensures.same c.in_default-step_anew.is, c.step_anew.ensures.ram) (stopped told still again fetched)
 
 pub back-requires-clause-exit : goal.back-requires-clause-exit
 back-requires-clause-exit g c =
@@ -417,7 +418,7 @@ loop-walk-preserved-then-word-eq-EBREAK g c =
     let keeps : Keeps g.R.CacheRom.service v c.loop-walk.rom c.back.new.rom before.words after.words =
     λ images serves. c.back.ensures.keeps images (subst (λ k. g.R.CacheRom.service.serves c.loop-walk.rom v images k) (sym (ap (λ (k : RamState). k.words) fetched.1)) serves) in
     let to = subst (λ (k : Walk). WalksTo c.args.limit k) (sym is) (landed_within c.in-Some-back.index c.in-Some-back.target 1 w c.args.limit (omega arith) again stay.to) in
-    record { told = told; come = come_on told stay c.back.new.rom w' c.back.new.hart after again step.0 on c.back.ensures.setting c.back.ensures.stays keeps to; kept = c.loop-walk.invariant.kept; found = c.loop-walk.invariant.found }
+    record { told = told; come = come_on told stay c.back.new.rom w' c.back.new.hart after again step.0 on c.back.ensures.setting c.back.ensures.stays keeps to; kept = c.fetch_kept.ensures.kept ∙ c.loop-walk.invariant.kept; found = c.back.ensures.found }
 
 pub loop-walk-smaller : goal.loop-walk-smaller
 loop-walk-smaller g c =
@@ -439,7 +440,7 @@ loop-walk-preserved g c =
     let stay = come_same same.0 same.1 come in
     let again : c.quick.new.walk.index < c.quick.new.walk.end = rw same.0 more in
     let fetched = rw (sym (ap (λ (k : Walk). k.index) same.0)) at c.in-Ok.ensures.fetched in
-    record { told = told; come = rw c.come-in-loop-walk.ensures (come_word told stay c.in-Some-step_anew.next c.step_anew-in-loop-walk.new.hart (g.M.CacheRam.state c.fetch_kept.new.self) c.in-Ok.word again fetched c.in-Some-step_anew.ensures.on c.in-Some-step_anew.ensures.counted c.in-Some-step_anew.ensures.limited c.step_anew-in-loop-walk.ensures.rest); memo = c.step_anew-in-loop-walk.ensures.memo ∙ c.loop-walk.invariant.memo }
+    record { told = told; come = rw (c.come-in-loop-walk.ensures, c.step_anew-in-loop-walk.ensures.ram) (come_word told stay c.in-Some-step_anew.next c.step_anew-in-loop-walk.new.hart (g.M.CacheRam.state c.fetch_kept.new.self) c.in-Ok.word again fetched c.in-Some-step_anew.ensures.on c.in-Some-step_anew.ensures.counted c.in-Some-step_anew.ensures.limited c.step_anew-in-loop-walk.ensures.rest); kept = c.step_anew-in-loop-walk.ensures.kept ∙ c.fetch_kept.ensures.kept ∙ c.loop-walk.invariant.kept; found = c.loop-walk.invariant.found }
 
 pub returns-in_default-back-clause-ran : goal.returns-in_default-back-clause-ran
 returns-in_default-back-clause-ran g c =
@@ -461,4 +462,4 @@ returns-in_default-step_anew-2-clause-ran g c =
     let stay = come_same same.0 same.1 come in
     let again : c.quick.new.walk.index < c.quick.new.walk.end = rw same.0 more in
     let fetched = rw (sym (ap (λ (k : Walk). k.index) same.0)) at c.in-Ok.ensures.fetched in
-    rw (c.settle-in_default-step_anew-2.ensures, c.step_anew-in-loop-walk.ensures.same c.in_default-step_anew-2.is) (stopped told stay again fetched)
+    rw (c.settle-in_default-step_anew-2.ensures, c.step_anew-in-loop-walk.ensures.same c.in_default-step_anew-2.is, c.step_anew-in-loop-walk.ensures.ram) (stopped told stay again fetched)
