@@ -1,5 +1,5 @@
 -- Micro-ops beside the words of a ram, of which one is set.
-use Rattle.std.proofs.Common.{◌≡◌, ◌==◌, ◌⊎◌, ℕ, ◌<◌, ◌≤◌, ◌^◌, true, false, Bool, List, length, get_or, set, slice_index, slice_set, nat_lt, min, replicate, if◌then◌else◌, Option, Some, None, Result, Ok, Err, arith, refl, sym, ap, subst, ◌∙◌, inl, inr}
+use Rattle.std.proofs.Common.{◌≡◌, ◌==◌, ℕ, ◌<◌, ◌≤◌, ◌^◌, true, false, Bool, List, length, get_or, slice_index, slice_set, nat_lt, replicate, if◌then◌else◌, Option, Some, None, Result, Ok, Err, arith, refl, sym, ap, subst, ◌∙◌, inl, inr}
 use Rattle.std.proofs.lemmas.List.{get_or-set_other, get_or-set_same, get_or-replicate, length-set, length-replicate}
 use Rattle.std.proofs.lemmas.Bool.{cases_eq}
 use Rattle.swi_outside.specs.CacheRam.{RamState, WordSet}
@@ -14,9 +14,9 @@ use Rattle.swi_exec.specs.Arithmetic.{sum_of}
 use Rattle.swi_micro.specs.declared.class.Class.{Class}
 use Rattle.swi_micro.specs.declared.class.Class.TheVariants as class
 use Rattle.swi_micro.specs.declared.translator.MicroOp.{MicroOp}
-use Rattle.swi_micro.specs.Classes.{class_of, code_of}
+use Rattle.swi_micro.specs.Classes.{code_of}
 use Rattle.swi_micro.specs.MicroOp.{address_at, branch_or_stop, class_of_imm, class_of_load, class_of_op, class_of_store, held_op, index_at, jump_or_stop, micro_op_of, stop_op, word_held}
-use Rattle.swi_micro.specs.Twins.{AreTwins, IsOpAt, IsTwin, first_words, op_of_decoded, with_op}
+use Rattle.swi_micro.specs.Twins.{AreTwins, IsTwin, first_words, op_of_decoded, with_op}
 
 -- ---- no micro-op of an instruction holds a word
 

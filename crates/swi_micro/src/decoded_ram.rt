@@ -7,6 +7,7 @@ ghost use Rattle.swi_micro.specs.MicroOp.{stop_op};
 ghost use Rattle.swi_memory.specs.WordRange.{IsWordRange};
 ghost use Rattle.swi_micro.specs.Twins.{IsTwin, with_op};
 
+use crate::class::Class;
 use crate::micro_ram::MicroRam;
 use crate::translator::{MicroOp, held, micro_op, stop};
 use std::alloc::Global;
@@ -20,7 +21,8 @@ use swi_outside::{CacheRam, Failed, Memory};
 #[derive(Drop)]
 pub struct DecodedRam<M: CacheRam> {
     ram: M,
-    // Of a word at which no step was made one that stops, and holds the word where that was set since.
+    // Of a word that isn't learnt one that stops, and holds the word where that was set since; of one that is left to who
+    // executes instructions one that holds it.
     ops: Vec<MicroOp>,
 }
 
@@ -52,16 +54,17 @@ fn put(ops: &mut Vec<MicroOp>, i: u32, m: MicroOp)
     }
 }
 
-/// The micro-op of a word, as the one with index `i` of a range. One that holds the word where that is no instruction.
+/// The micro-op of a word, as the one with index `i` of a range. One that holds the word where that stops.
 fn twin(range: &WordRange, i: u32, word: u32) -> MicroOp
     requires whole { IsWordRange range.now }
     requires here { i < range.now.words }
     ensures { IsTwin range.now i word result }
 {
-    match decode(word) {
-        Some(instr) => micro_op(&instr, range, i),
-        None => held(word),
-    }
+    let Some(instr) = decode(word) else {
+        return held(word);
+    };
+    let op = micro_op(&instr, range, i);
+    if op.stops() { held(word) } else { op }
 }
 
 impl<M: CacheRam> DecodedRam<M> {
@@ -80,6 +83,21 @@ impl<M: CacheRam> DecodedRam<M> {
         ensures { result.now ≡ self.now.ram }
     {
         &self.ram
+    }
+
+    /// Learns the micro-op of one word. Whether it goes on to the next one alone: it is no jump and no branch, and doesn't
+    /// stop.
+    fn learn_one(&mut self, i: u32, word: u32) -> bool
+        requires inside { i < self.old.kept }
+        requires word { word ≡ slice_index (M.state self.old.ram).words i }
+        ensures { self.new ≡ self.old }
+    {
+        let op = twin(&self.range(), i, word);
+        self.ops[i as usize] = op;
+        !matches!(
+            op.class(),
+            Class::Equal | Class::Less | Class::Below | Class::Jal | Class::Jalr | Class::Stop
+        )
     }
 }
 
@@ -155,8 +173,17 @@ impl<M: CacheRam> MicroRam for DecodedRam<M> {
         self.ops.get(i as usize)?.word()
     }
 
+    // So that a call of it, which leaves the caller's loop, serves more words than one.
     fn learn(&mut self, i: u32, word: u32) {
-        let op = twin(&self.range(), i, word);
-        self.ops[i as usize] = op;
+        let mut word = word;
+        for at in i..self.kept() {
+            if !self.learn_one(at, word) {
+                return;
+            }
+            let Some(next) = self.held(at + 1) else {
+                return;
+            };
+            word = next;
+        }
     }
 }

@@ -43,12 +43,13 @@ pub trait MicroRam: CacheRam {
         requires { i < kept self.now }
         ensures { IsTwin (first_words (kept self.now)) i (slice_index (Self.state self.now).words i) result.now };
 
-    /// The word at an index below `kept()` that was set since there is a place for its micro-op, and at which no step was
-    /// made: read beside the ram, and so no fetch. None of any other word.
+    /// The word at an index below `kept()` that was set since there is a place for its micro-op, and isn't learnt, or was
+    /// and stops: read beside the ram, and so no fetch. None of any other word.
     fn held(&self, i: u32) -> Option<u32>
         ensures { IfSome result (λ w. w ≡ slice_index (Self.state self.now).words i) };
 
-    /// Learns the micro-op of the word at an index below `kept()`.
+    /// Learns the micro-op of the word at an index below `kept()`, and those of the words behind it, which are likely to be
+    /// executed next: as far as they are held and follow one another, up to a jump, a branch, or a word that stops.
     fn learn(&mut self, i: u32, word: u32)
         requires inside { i < kept self.old }
         requires word { word ≡ slice_index (Self.state self.old).words i }

@@ -151,48 +151,104 @@ fn micro_ops_do_what_the_executor_does(rt: HostRuntime) {
     assert_eq!(rt; first_unlike(&one, &other), None);
 }
 
-/// A ram of 64 words of which the first 8 have a place for a micro-op.
-fn ram_of_rows(alloc: Global) -> Option<DecodedRam<VecRam>> {
+/// A ram of 64 words, of which the first so many have a place for a micro-op.
+fn ram_of_rows(alloc: Global, places: u32) -> Option<DecodedRam<VecRam>>
+    requires { places < 64 }
+{
     let words = VecRam::new(alloc, 64).ok()?;
     let mut ram = DecodedRam::new(alloc, words);
-    ram.keep(alloc, 8).ok()?;
+    ram.keep(alloc, places).ok()?;
     Some(ram)
 }
 
-/// Whether the micro-op of the word at index 3 is known, and the word that is held there.
-fn known(ram: &DecodedRam<VecRam>) -> (bool, Option<u32>) {
-    if ram.kept() <= 3 {
-        return (false, None);
+/// Sets the words from an index on. False where there are fewer, or one fails.
+fn set_all(ram: &mut DecodedRam<VecRam>, from: u32, words: &[u32]) -> bool {
+    let mut i = from;
+    for word in words {
+        if i >= ram.words() || ram.set(i, *word).is_err() {
+            return false;
+        }
+        i += 1;
     }
-    (!ram.op(3).stops(), ram.held(3))
+    true
 }
 
-/// Sets the word at index 3, and tells what is known then.
-fn set(ram: &mut DecodedRam<VecRam>, word: u32) -> (bool, Option<u32>) {
-    if ram.words() <= 3 || ram.set(3, word).is_err() {
-        return (false, None);
+/// Learns the word at an index, if that is held. Whether it is.
+fn learn_held(ram: &mut DecodedRam<VecRam>, i: u32) -> bool {
+    if i >= ram.kept() {
+        return false;
     }
-    known(ram)
+    match ram.held(i) {
+        Some(word) => {
+            ram.learn(i, word);
+            true
+        }
+        None => false,
+    }
 }
 
-/// Learns the word at index 3, and tells what is known then.
-fn learn(ram: &mut DecodedRam<VecRam>) -> (bool, Option<u32>) {
-    if ram.kept() <= 3 {
-        return (false, None);
-    }
-    if let Ok(word) = ram.fetch_kept(3) {
-        ram.learn(3, word);
-    }
-    known(ram)
+/// The register that is written there, and in which a word stands then.
+fn written(m: &MicroOp) -> Regs {
+    let mut regs = Regs::new();
+    regs.put(m.rd, 1);
+    regs
 }
+
+/// Whether two micro-ops are one, field by field.
+fn are_same(one: &MicroOp, other: &MicroOp) -> bool {
+    one.code == other.code
+        && one.imm == other.imm
+        && one.rs1.register() == other.rs1.register()
+        && one.rs2.register() == other.rs2.register()
+        && are_equal(&written(one), &written(other))
+}
+
+/// Whether the micro-op at an index is known to be that of the word.
+fn knows(ram: &DecodedRam<VecRam>, i: u32, word: u32) -> bool {
+    let Some(instr) = decode(word) else {
+        return false;
+    };
+    i < ram.kept() && !ram.op(i).stops() && are_same(ram.op(i), &micro_op(&instr, &ram.range(), i))
+}
+
+/// Whether the word at an index is held: its micro-op stops.
+fn holds(ram: &DecodedRam<VecRam>, i: u32, word: u32) -> bool {
+    i < ram.kept() && ram.op(i).stops() && ram.held(i) == Some(word)
+}
+
+/// An addition, a load, a branch to the second word behind it, and another addition.
+const ROW: [u32; 4] = [0x002081B3, 0x0000A183, 0x00208463, 0x00308113];
 
 #[test]
 fn a_micro_op_is_known_until_its_word_is_set(rt: HostRuntime) {
-    let mut ram = ram_of_rows(rt.alloc()).expect(&rt, "no memory");
-    assert_eq!(rt; (ram.kept(), ram.held(2), ram.held(8)), (8, None, None));
-    assert_eq!(rt; set(&mut ram, 0x002081B3), (false, Some(0x002081B3)));
-    assert_eq!(rt; learn(&mut ram), (true, None));
-    assert_eq!(rt; set(&mut ram, 0x002081B3), (false, Some(0x002081B3)));
+    let mut ram = ram_of_rows(rt.alloc(), 8).expect(&rt, "no memory");
+    assert!(rt; ram.held(3).is_none() && ram.held(8).is_none());
+    assert!(rt; set_all(&mut ram, 3, &[ROW[0]]) && holds(&ram, 3, ROW[0]));
+    assert!(rt; learn_held(&mut ram, 3) && knows(&ram, 3, ROW[0]) && ram.held(3).is_none());
+    assert!(rt; set_all(&mut ram, 3, &[ROW[1]]) && holds(&ram, 3, ROW[1]));
+    assert!(rt; learn_held(&mut ram, 3) && knows(&ram, 3, ROW[1]));
+}
+
+#[test]
+fn words_behind_are_learnt_up_to_a_branch(rt: HostRuntime) {
+    let mut ram = ram_of_rows(rt.alloc(), 8).expect(&rt, "no memory");
+    assert!(rt; set_all(&mut ram, 1, &ROW) && learn_held(&mut ram, 1));
+    assert!(rt; knows(&ram, 1, ROW[0]) && knows(&ram, 2, ROW[1]) && knows(&ram, 3, ROW[2]));
+    assert!(rt; holds(&ram, 4, ROW[3]));
+}
+
+#[test]
+fn words_behind_are_learnt_up_to_one_that_stops(rt: HostRuntime) {
+    let mut ram = ram_of_rows(rt.alloc(), 8).expect(&rt, "no memory");
+    assert!(rt; set_all(&mut ram, 0, &[ROW[0], 0x00000073, ROW[1]]) && learn_held(&mut ram, 0));
+    assert!(rt; knows(&ram, 0, ROW[0]) && holds(&ram, 1, 0x00000073) && holds(&ram, 2, ROW[1]));
+}
+
+#[test]
+fn words_behind_are_learnt_up_to_the_last_place(rt: HostRuntime) {
+    let mut ram = ram_of_rows(rt.alloc(), 2).expect(&rt, "no memory");
+    assert!(rt; set_all(&mut ram, 0, &[ROW[0], ROW[1], ROW[0]]) && learn_held(&mut ram, 0));
+    assert!(rt; knows(&ram, 0, ROW[0]) && knows(&ram, 1, ROW[1]) && ram.held(2).is_none());
 }
 
 #[test]

@@ -2,7 +2,7 @@ use Rattle.std.proofs.Common.{◌≡◌, ◌<◌, ap, length, slice_index, subst
 use Rattle.swi_memory.specs.declared.word_range.WordRange.{WordRange}
 use Rattle.swi_micro.specs.Twins.{DecodedOf, IsTwin, first_words}
 use Rattle.swi_micro.proofs.Twinning.{twins_learn}
-use Rattle.swi_micro.proofs.decoded_ram.DecodedRamMicroRam.learn.Goals as goal
+use Rattle.swi_micro.proofs.decoded_ram.DecodedRam.learn_one.Goals as goal
 
 pub invariant_of-self : goal.invariant_of-self
 invariant_of-self g c =
