@@ -69,6 +69,17 @@ went next.Exit i b o m input = stepped (At (i + 1) b (o + 1) Leave) (quiet m inp
 went next.Link i b o m input = stepped (At i b o Start) (quiet m input)
 went next.Stop i b o m input = stepped (At i b o Start) (quiet m input)
 
+-- the walk of a hart whose control is at the word with this index, up to a limit of steps
+abbrev pub begun : HartData → ℕ → Stage → ℕ → Walk
+begun h i stage limit = record {
+  index = i;
+  stage = stage;
+  end = i + (limit - h.machine.steps);
+  limit = limit;
+  behind = sum_of h.machine.pc (4 * (limit - h.machine.steps) % 2 ^ 32);
+  total = h.count + (limit - h.machine.steps);
+}
+
 -- the steps that are left, one for each word up to `end`
 abbrev pub walk_left : Walk → ℕ
 walk_left w = w.end - w.index

@@ -14,7 +14,7 @@ ghost use Rattle.swi_render.specs.Rendering.{ebreak};
 ghost use Rattle.swi_hart.specs.Hart.{HartData};
 ghost use Rattle.swi_hart.specs.Leaving.{Home, leaves};
 ghost use Rattle.swi_hart.specs.Bounds.{most};
-ghost use Rattle.swi_board.specs.Walked.{is_link, is_stop, gone, landed, place_shown, walk_left, walk_pc, walk_steps, walk_count, walk_control, walk_hart, walk_machine, ExitStands, HasRoom, WalksTo, LinkOn, StepOn, JumpOn, Walked, WalkedOn, StandsInside, BlockRan};
+ghost use Rattle.swi_board.specs.Walked.{begun, is_link, is_stop, gone, landed, place_shown, walk_left, walk_pc, walk_steps, walk_count, walk_control, walk_hart, walk_machine, ExitStands, HasRoom, WalksTo, LinkOn, StepOn, JumpOn, Walked, WalkedOn, StandsInside, BlockRan};
 ghost use Rattle.swi_rom.specs.Record.{IsJump, Record, indirect};
 ghost use Rattle.swi_rom.specs.Coherent.{StandsAt};
 ghost use Rattle.swi_board.specs.Targets.{AreFound};
@@ -61,6 +61,25 @@ pub struct Walk {
 }
 
 impl Walk {
+    /// The walk of a hart whose control is at a word, up to a limit of steps no less than those made.
+    #[inline(always)]
+    fn begin(hart: &Hart, index: u32, stage: Stage, limit: u64) -> Walk
+        requires within { hart.now.machine.steps ≤ limit }
+        requires few { limit ≤ 2 ^ 48 }
+        requires count { hart.now.count < 2 ^ 56 }
+        ensures { result ≡ begun hart.now index stage limit }
+    {
+        let steps = limit - hart.machine.steps;
+        Walk {
+            index,
+            stage,
+            end: u64::from(index) + steps,
+            limit,
+            behind: hart.machine.pc.wrapping_add((4 * steps % (1 << 32)) as u32),
+            total: hart.machine_steps() + steps,
+        }
+    }
+
     /// The steps that are left.
     #[inline(always)]
     fn left(&self) -> u64
@@ -389,6 +408,14 @@ fn settle<R: CacheRom>(hart: &mut Hart, rom: &R, walk: Walk)
     hart.count = walk.count();
 }
 
+// Leaves the loop of `run_block`, with the hart where the walk has come to.
+macro_rules! leave {
+    ($hart:ident, $rom:ident, $walk:ident, $left:expr) => {{
+        settle($hart, $rom, $walk);
+        return $left;
+    }};
+}
+
 /// Steps up to `limit`, or to the first word that is not executed here, which is then fetched. Nothing but words, links
 /// and jumps to placed blocks stands in this loop, and its walk is lent to nothing that isn't inlined: so what a word
 /// changes can stay in registers.
@@ -429,37 +456,23 @@ pub(crate) fn run_block<R: CacheRom, M: MicroRam>(
     ensures keeps { Keeps R.service image.now rom.old rom.new (M.state ram.old).words (M.state ram.new).words }
 {
     targets.forget();
-    let steps = limit - hart.machine.steps;
-    let mut walk = Walk {
-        index: at.0,
-        stage: at.3,
-        end: u64::from(at.0) + steps,
-        limit,
-        behind: hart.machine.pc.wrapping_add((4 * steps % (1 << 32)) as u32),
-        total: hart.machine_steps() + steps,
-    };
-    macro_rules! leave {
-        ($left:expr) => {{
-            settle(hart, rom, walk);
-            return $left;
-        }};
-    }
+    let mut walk = Walk::begin(hart, at.0, at.3, limit);
     while u64::from(walk.index) < walk.end {
         let Ok(word) = ram.fetch_kept(walk.index) else {
-            leave!(Err(Failed));
+            leave!(hart, rom, walk, Err(Failed));
         };
         match quick::<R, M, false>(hart, rom, image, ram, word, &mut walk) {
             Went::On => continue,
             Went::Exit => {
                 // No limit of steps falls between a branch and the exit behind it, since the branch completes no step.
                 let Ok(exit) = ram.fetch_kept(walk.index) else {
-                    leave!(Err(Failed));
+                    leave!(hart, rom, walk, Err(Failed));
                 };
                 if link_on(rom, image, ram, exit, &mut walk) {
                     continue;
                 }
                 let Some(next) = step_anew(hart, rom, image, ram, exit, walk) else {
-                    leave!(Ok(Some(exit)));
+                    leave!(hart, rom, walk, Ok(Some(exit)));
                 };
                 walk.come(next);
                 continue;
@@ -468,13 +481,13 @@ pub(crate) fn run_block<R: CacheRom, M: MicroRam>(
         }
         if word == EBREAK {
             let Some((index, target)) = back(hart, rom, image, ram, targets, walk.index) else {
-                leave!(Ok(Some(word)));
+                leave!(hart, rom, walk, Ok(Some(word)));
             };
             walk.land(index, target, false);
             continue;
         }
         let Some(next) = step_anew(hart, rom, image, ram, word, walk) else {
-            leave!(Ok(Some(word)));
+            leave!(hart, rom, walk, Ok(Some(word)));
         };
         walk.come(next);
     }

@@ -5,7 +5,7 @@ use Rattle.swi_outside.specs.CacheRam.{RamState}
 use Rattle.swi_rom.specs.Served.{Keeps}
 use Rattle.swi_hart.specs.Hart.{HartData}
 use Rattle.swi_board.specs.declared.block.Walk.{Walk}
-use Rattle.swi_board.specs.Walked.{is_left, landed, place_shown, walk_control, walk_count, walk_hart, walk_machine, walk_pc, walk_steps, JumpOn, Walked, WalksTo}
+use Rattle.swi_board.specs.Walked.{begun, is_left, landed, place_shown, walk_control, walk_count, walk_hart, walk_machine, walk_pc, walk_steps, JumpOn, Walked, WalksTo}
 use Rattle.swi_board.proofs.Walking.{break_decodes, exit_stands, is_shown, jumps_on, landed_counted, landed_within, started, steps_left, walks_on}
 use Rattle.swi_board.proofs.Coming.{come_below, come_inside, come_on, come_room, come_same, come_word, falls_on, falls_word, own_limit, stopped}
 use Rattle.swi_hart.proofs.Leaving.{shown_place}
@@ -18,31 +18,19 @@ loop-walk-init g c =
     let ram = g.M.CacheRam.state c.args.ram.now in
     let setting = g.R.CacheRom.service.setting c.args.rom.now in
     let i = c.args.at.0 in
-    let seen = c.hart.view_is in
-    let pc : c.hart.inside.machine.pc ≡ c.args.hart.now.machine.pc = ap (λ (h : HartData). h.machine.pc) seen in
-    let steps : c.hart.inside.machine.steps ≡ c.args.hart.now.machine.steps = ap (λ (h : HartData). h.machine.steps) seen in
-    let count : c.hart.inside.count ≡ c.args.hart.now.count = ap (λ (h : HartData). h.count) seen in
+    let h = c.args.hart.now in
+    let w = begun h i c.args.at.3 c.args.limit in
     let within = c.requires.within in
-    let more = c.args.limit - c.hart.inside.machine.steps in
-    let w : Walk = record {
-      index = i;
-      stage = c.args.at.3;
-      end = c.from.result + more;
-      limit = c.args.limit;
-      behind = sum_of c.hart.inside.machine.pc (4 * more % 2 ^ 32);
-      total = c.machine_steps.result + more;
-    } in
-    let from = c.from.ensures in
-    let here : walk_pc w ≡ c.args.hart.now.machine.pc = let low = c.requires.short in omega (arith, low, pc, from) in
-    let made : walk_steps w ≡ c.args.hart.now.machine.steps = omega (arith, within, steps, from) in
-    let told = c.machine_steps.ensures in
-    let number : walk_count w ≡ c.args.hart.now.count = omega (arith, told, count, from) in
+    let low = c.requires.short in
+    let here : walk_pc w ≡ h.machine.pc = omega (arith, within, low) in
+    let made : walk_steps w ≡ h.machine.steps = omega (arith, within) in
+    let number : walk_count w ≡ h.count = omega (arith, within) in
     let stands = c.requires.stands _ _ _ Walked.here i c.args.at.1 c.args.at.2 c.args.at.3 c.requires.control in
     let shown = shown_place v r _ _ i c.args.at.1 c.args.at.2 _ (g.met.R.CacheRom.laws.coherent _ _ _ c.requires.sound) stands (g.met.R.CacheRom.laws.shown_is _ _ _ c.requires.sound i) in
-    let walked : Walked (g.R.CacheRom.service.policy setting) (g.R.CacheRom.service.span setting) v c.args.limit r c.args.hart.now ram r (walk_hart w (place_shown (g.R.CacheRom.service.shown c.args.rom.now i)) c.args.hart.now) ram =
-    walks_on w c.args.hart.now shown (started _ _ v r c.args.limit c.args.hart.now _ _ _ _ ram (sym c.requires.control) here made number) in
-    let to : WalksTo c.args.limit w = record { below = omega (arith, from); made = omega (arith, within, steps, from); counted = omega (arith, from); limited = refl } in
-    record {
+    let walked : Walked (g.R.CacheRom.service.policy setting) (g.R.CacheRom.service.span setting) v c.args.limit r h ram r (walk_hart w (place_shown (g.R.CacheRom.service.shown c.args.rom.now i)) h) ram =
+    walks_on w h shown (started _ _ v r c.args.limit h _ _ _ _ ram (sym c.requires.control) here made number) in
+    let to : WalksTo c.args.limit w = record { below = omega arith; made = omega (arith, within); counted = omega arith; limited = refl } in
+    rw c.begin-walk.ensures (record {
       told = record { laws = g.met.R.CacheRom.laws; low = c.requires.few; inside = c.requires.inside; stands = c.requires.stands; rises = c.requires.rises };
       come = record {
         walked = walked;
@@ -53,11 +41,11 @@ loop-walk-init g c =
         keeps = λ images serves. serves;
         going = c.requires.going;
         to = to;
-        few = let low = c.requires.count in omega (arith, low, number);
+        few = let few = c.requires.count in omega (arith, few, number);
       };
       kept = refl;
       found = c.forget.ensures v r;
-    }
+    })
 
 pub fetch_kept-requires : goal.fetch_kept-requires
 fetch_kept-requires g c =
