@@ -1,85 +1,12 @@
 -- Micro-ops beside the words of a ram, of which one is set.
-use Rattle.std.proofs.Common.{◌≡◌, ◌==◌, ℕ, ◌<◌, ◌≤◌, ◌^◌, true, false, Bool, List, length, get_or, slice_index, slice_set, nat_lt, replicate, if◌then◌else◌, Option, Some, None, Result, Ok, Err, arith, refl, sym, ap, subst, ◌∙◌, inl, inr}
+use Rattle.std.proofs.Common.{◌≡◌, ℕ, ◌<◌, ◌≤◌, ◌^◌, true, false, Bool, List, length, get_or, slice_index, slice_set, nat_lt, replicate, if◌then◌else◌, Some, None, Result, Ok, Err, arith, refl, sym, ap, subst, ◌∙◌, inl, inr}
 use Rattle.std.proofs.lemmas.List.{get_or-set_other, get_or-set_same, get_or-replicate, length-set, length-replicate}
 use Rattle.std.proofs.lemmas.Bool.{cases_eq}
 use Rattle.swi_outside.specs.CacheRam.{RamState, WordSet}
-use Rattle.swi_isa.specs.declared.instr.BranchOp.{BranchOp}
-use Rattle.swi_isa.specs.declared.instr.BranchOp.TheVariants as branch
-use Rattle.swi_isa.specs.declared.instr.Instr.{Instr}
-use Rattle.swi_isa.specs.declared.instr.Instr.TheVariants as instr
-use Rattle.swi_isa.specs.Decode.{decoded}
 use Rattle.swi_memory.specs.declared.word_range.WordRange.{WordRange}
-use Rattle.swi_memory.specs.WordRange.{IsWordRange}
-use Rattle.swi_exec.specs.Arithmetic.{sum_of}
-use Rattle.swi_micro.specs.declared.class.Class.{Class}
-use Rattle.swi_micro.specs.declared.class.Class.TheVariants as class
 use Rattle.swi_micro.specs.declared.translator.MicroOp.{MicroOp}
-use Rattle.swi_micro.specs.Classes.{code_of}
-use Rattle.swi_micro.specs.MicroOp.{address_at, branch_or_stop, class_of_imm, class_of_load, class_of_op, class_of_store, held_op, index_at, jump_or_stop, micro_op_of, stop_op, word_held}
-use Rattle.swi_micro.specs.Twins.{AreTwins, IsTwin, first_words, op_of_decoded, with_op}
-
--- ---- no micro-op of an instruction holds a word
-
-no_held : (c : Class) → (code_of c == 183) ≡ false
-no_held class.Add = refl
-no_held class.Sub = refl
-no_held class.And = refl
-no_held class.Or = refl
-no_held class.Xor = refl
-no_held class.Sll = refl
-no_held class.Srl = refl
-no_held class.Sra = refl
-no_held class.Slt = refl
-no_held class.Sltu = refl
-no_held class.Mul = refl
-no_held class.MulDiv = refl
-no_held class.Lui = refl
-no_held class.Lw = refl
-no_held class.Lbu = refl
-no_held class.Lhu = refl
-no_held class.Lh = refl
-no_held class.Lb = refl
-no_held class.Sw = refl
-no_held class.Sb = refl
-no_held class.Sh = refl
-no_held class.Equal = refl
-no_held class.Less = refl
-no_held class.Below = refl
-no_held class.Jal = refl
-no_held class.Jalr = refl
-no_held class.Stop = refl
-
--- of a class and an immediate
-holds_none : (c : Class) (imm : ℕ) → (if code_of c == 183 then Some imm else None) ≡ None
-holds_none c imm = ap (λ (b : Bool). if b then Some imm else None) (no_held c)
-
-jump_holds_none : (rd : ℕ) (j : Option ℕ) → word_held (jump_or_stop rd j) ≡ None
-jump_holds_none rd None = refl
-jump_holds_none rd (Some k) = refl
-
-branch_holds_none : (o : BranchOp) (rs1 rs2 : ℕ) (j : Option ℕ) → word_held (branch_or_stop o rs1 rs2 j) ≡ None
-branch_holds_none o rs1 rs2 None = refl
-branch_holds_none branch.Beq rs1 rs2 (Some k) = refl
-branch_holds_none branch.Bne rs1 rs2 (Some k) = refl
-branch_holds_none branch.Blt rs1 rs2 (Some k) = refl
-branch_holds_none branch.Bge rs1 rs2 (Some k) = refl
-branch_holds_none branch.Bltu rs1 rs2 (Some k) = refl
-branch_holds_none branch.Bgeu rs1 rs2 (Some k) = refl
-
-op_holds_none : (range : WordRange) (k : ℕ) (x : Instr) → word_held (micro_op_of range k x) ≡ None
-op_holds_none range k (instr.Lui rd imm) = refl
-op_holds_none range k (instr.Auipc rd imm) = refl
-op_holds_none range k (instr.Jal rd off) = jump_holds_none rd (index_at range (sum_of (address_at range k) off))
-op_holds_none range k (instr.Jalr rd rs1 imm) = refl
-op_holds_none range k (instr.Branch o rs1 rs2 off) = branch_holds_none o rs1 rs2 (index_at range (sum_of (address_at range k) off))
-op_holds_none range k (instr.Load o rd rs1 imm) = holds_none (class_of_load o) imm
-op_holds_none range k (instr.Store o rs1 rs2 imm) = holds_none (class_of_store o) imm
-op_holds_none range k (instr.Alu o rd rs1 imm) = holds_none (class_of_imm o) imm
-op_holds_none range k (instr.Op o rd rs1 rs2) = holds_none (class_of_op o) _
-op_holds_none range k (instr.Atomic o rd rs1 rs2) = refl
-op_holds_none range k instr.Fence = refl
-op_holds_none range k instr.Ecall = refl
-op_holds_none range k instr.Ebreak = refl
+use Rattle.swi_micro.specs.MicroOp.{held_op, stop_op}
+use Rattle.swi_micro.specs.Twins.{AreTwins, IsTwin, first_words, with_op}
 
 -- ---- twins
 
@@ -90,13 +17,6 @@ stop_is_twin range k w = record { op = λ goes. absurd (goes refl); held = λ u 
 -- one that stops and holds the word
 pub held_is_twin : (range : WordRange) (k w : ℕ) → IsTwin range k w (held_op w)
 held_is_twin range k w = record { op = λ goes. absurd (goes refl); held = λ u is. let same : Some w ≡ Some u = is in sym (cc) }
-
--- that of the instruction that the word is
-pub op_is_twin : (range : WordRange) (k w : ℕ) (x : Instr) → IsWordRange range → k < range.words → decoded w ≡ Some x → IsTwin range k w (micro_op_of range k x)
-op_is_twin range k w x whole here is = record {
-  op = λ goes. record { whole = whole; here = here; is = ap (λ (o : Option Instr). op_of_decoded range k o) (sym is) };
-  held = λ u none. absurd (let never : None ≡ Some u = sym (op_holds_none range k x) ∙ none in cc);
-}
 
 -- ---- beside a ram
 

@@ -4,3 +4,4 @@ pub mod Ran
 pub mod Stored
 pub mod Decoded
 pub mod Twins
+pub mod Known

@@ -4,26 +4,27 @@
 ghost use Rattle.std.specs.Prelude.{◌≡◌, ◌^◌, ◌<◌, min, IfOk, OnErr, OnOk, length, replicate, slice_index};
 ghost use Rattle.swi_outside.specs.CacheRam.{Fetched, WordSet};
 ghost use Rattle.swi_micro.specs.MicroOp.{stop_op};
-ghost use Rattle.swi_memory.specs.WordRange.{IsWordRange};
-ghost use Rattle.swi_micro.specs.Twins.{IsTwin, with_op};
+ghost use Rattle.swi_micro.specs.Twins.{with_op};
 
 use crate::class::Class;
+use crate::known::KnownWords;
 use crate::micro_ram::MicroRam;
-use crate::translator::{MicroOp, held, micro_op, stop};
+use crate::translator::{MicroOp, held, stop};
 use std::alloc::Global;
 use std::marker::Model;
-use swi_isa::decode;
 use swi_memory::WordRange;
 use swi_outside::{CacheRam, Failed, Memory};
 
-/// A cache ram that keeps beside each of its first words the micro-op that was made of it, until the word is set. In
-/// clauses it is the ram inside, and how many of its words, from the first on, have a place for a micro-op.
+/// A cache ram that keeps beside each of its first words the micro-op that was made of it, until the word is set. Words that
+/// were decoded last it knows wherever they are set again. In clauses it is the ram inside, and how many of its words, from
+/// the first on, have a place for a micro-op.
 #[derive(Drop)]
 pub struct DecodedRam<M: CacheRam> {
     ram: M,
     // Of a word that isn't learnt one that stops, and holds the word where that was set since; of one that is left to who
     // executes instructions one that holds it.
     ops: Vec<MicroOp>,
+    known: KnownWords,
 }
 
 impl<M: CacheRam> Model for DecodedRam<M> {
@@ -54,19 +55,6 @@ fn put(ops: &mut Vec<MicroOp>, i: u32, m: MicroOp)
     }
 }
 
-/// The micro-op of a word, as the one with index `i` of a range. One that holds the word where that stops.
-fn twin(range: &WordRange, i: u32, word: u32) -> MicroOp
-    requires whole { IsWordRange range.now }
-    requires here { i < range.now.words }
-    ensures { IsTwin range.now i word result }
-{
-    let Some(instr) = decode(word) else {
-        return held(word);
-    };
-    let op = micro_op(&instr, range, i);
-    if op.stops() { held(word) } else { op }
-}
-
 impl<M: CacheRam> DecodedRam<M> {
     /// A ram without a place for a micro-op yet: `keep` makes them.
     pub fn new(alloc: Global, ram: M) -> DecodedRam<M>
@@ -75,6 +63,7 @@ impl<M: CacheRam> DecodedRam<M> {
         DecodedRam {
             ram,
             ops: Vec::new(alloc),
+            known: KnownWords::none(alloc),
         }
     }
 
@@ -92,7 +81,8 @@ impl<M: CacheRam> DecodedRam<M> {
         requires word { word ≡ slice_index (M.state self.old.ram).words i }
         ensures { self.new ≡ self.old }
     {
-        let op = twin(&self.range(), i, word);
+        let range = self.range();
+        let op = self.known.op(&range, i, word);
         self.ops[i as usize] = op;
         !matches!(
             op.class(),
@@ -141,7 +131,9 @@ impl<M: CacheRam> MicroRam for DecodedRam<M> {
     ghost kept = { λ d. d.kept };
 
     fn keep(&mut self, alloc: Global, count: u32) -> Result<(), Memory> {
-        self.ops = all_stop(alloc, count.min(self.ram.words()))?;
+        let ops = all_stop(alloc, count.min(self.ram.words()))?;
+        self.known = KnownWords::new(alloc)?;
+        self.ops = ops;
         Ok(())
     }
 

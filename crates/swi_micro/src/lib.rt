@@ -5,6 +5,7 @@
 mod class;
 mod decoded;
 mod decoded_ram;
+mod known;
 mod micro_ram;
 mod source;
 mod stepper;

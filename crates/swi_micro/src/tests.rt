@@ -4,6 +4,7 @@
 
 ghost use Rattle.std.specs.Prelude.{◌<◌};
 
+use crate::known::KnownWords;
 use crate::{DecodedRam, MicroOp, MicroRam, address, index_of, micro_op, step};
 use std::alloc::Global;
 use swi_exec::{Done, Regs, exec, text_store};
@@ -216,6 +217,37 @@ fn holds(ram: &DecodedRam<VecRam>, i: u32, word: u32) -> bool {
     i < ram.kept() && ram.op(i).stops() && ram.held(i) == Some(word)
 }
 
+/// Whether the word at an index is learnt: its micro-op is that of the instruction that it is, or where that stops the word
+/// is held.
+fn is_learnt(ram: &DecodedRam<VecRam>, i: u32, word: u32) -> bool {
+    let Some(instr) = decode(word) else {
+        return false;
+    };
+    if micro_op(&instr, &ram.range(), i).stops() {
+        holds(ram, i, word)
+    } else {
+        knows(ram, i, word)
+    }
+}
+
+/// The first word that is learnt wrong where copies of it stand at three places one after another, and the place.
+fn first_wrong(ram: &mut DecodedRam<VecRam>) -> Option<(u32, u32)> {
+    for word in WORDS {
+        for i in [0, 5, 7] {
+            if !set_all(ram, i, &[word]) || !learn_held(ram, i) || !is_learnt(ram, i, word) {
+                return Some((word, i));
+            }
+        }
+    }
+    None
+}
+
+/// Whether the table knows a word once its micro-op was asked for.
+fn is_kept(known: &mut KnownWords, word: u32) -> bool {
+    known.op(&TEXT, 0, word);
+    known.find(word).is_some()
+}
+
 /// An addition, a load, a branch to the second word behind it, and another addition.
 const ROW: [u32; 4] = [0x002081B3, 0x0000A183, 0x00208463, 0x00308113];
 
@@ -249,6 +281,29 @@ fn words_behind_are_learnt_up_to_the_last_place(rt: HostRuntime) {
     let mut ram = ram_of_rows(rt.alloc(), 2).expect(&rt, "no memory");
     assert!(rt; set_all(&mut ram, 0, &[ROW[0], ROW[1], ROW[0]]) && learn_held(&mut ram, 0));
     assert!(rt; knows(&ram, 0, ROW[0]) && knows(&ram, 1, ROW[1]) && ram.held(2).is_none());
+}
+
+#[test]
+fn copies_are_learnt_at_each_place(rt: HostRuntime) {
+    let mut ram = ram_of_rows(rt.alloc(), 8).expect(&rt, "no memory");
+    assert_eq!(rt; first_wrong(&mut ram), None);
+    assert_eq!(rt; first_wrong(&mut ram), None);
+}
+
+#[test]
+fn a_word_is_known_until_another_takes_its_entry(rt: HostRuntime) {
+    let mut known = KnownWords::new(rt.alloc()).expect(&rt, "no memory");
+    assert!(rt; known.find(ROW[0]).is_none() && is_kept(&mut known, ROW[0]));
+    // ADDI x2, x1, -1768 has the same entry.
+    assert!(rt; is_kept(&mut known, 0x91808113) && known.find(ROW[0]).is_none());
+}
+
+#[test]
+fn no_word_is_known_whose_micro_op_depends_on_its_place(rt: HostRuntime) {
+    let mut known = KnownWords::new(rt.alloc()).expect(&rt, "no memory");
+    // BEQ, JAL and AUIPC; and ECALL, whose micro-op stops.
+    assert!(rt; !is_kept(&mut known, ROW[2]) && !is_kept(&mut known, 0x008001EF));
+    assert!(rt; !is_kept(&mut known, 0x00012197) && !is_kept(&mut known, 0x00000073));
 }
 
 #[test]

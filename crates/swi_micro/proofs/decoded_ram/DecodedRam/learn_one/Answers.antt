@@ -10,7 +10,7 @@ invariant_of-self g c =
     let ops = c.self.inside.ops.items in
     let inside : c.args.i < length ops = subst (λ (d : DecodedOf g.row.M.Denot). c.args.i < d.kept) (sym c.self.view_is) c.requires.inside in
     let word : c.args.word ≡ slice_index words c.args.i = c.requires.word ∙ ap (λ (d : DecodedOf g.row.M.Denot). slice_index (g.M.CacheRam.state d.ram).words c.args.i) (sym c.self.view_is) in
-    let range : c.range.result ≡ first_words (length ops) = c.range.ensures ∙ ap (λ (d : DecodedOf g.row.M.Denot). first_words d.kept) (sym c.self.view_is) in
-    let twin : IsTwin (first_words (length ops)) c.args.i (slice_index words c.args.i) c.twin-op.result =
-    subst (λ w. IsTwin (first_words (length ops)) c.args.i w c.twin-op.result) word (subst (λ (r : WordRange). IsTwin r c.args.i c.args.word c.twin-op.result) range c.twin-op.ensures) in
-    twins_learn words ops c.args.i c.twin-op.result c.self.invariant inside twin
+    let range : c.range-range.result ≡ first_words (length ops) = c.range-range.ensures ∙ ap (λ (d : DecodedOf g.row.M.Denot). first_words d.kept) (sym c.self.view_is) in
+    let twin : IsTwin (first_words (length ops)) c.args.i (slice_index words c.args.i) c.op-op.result =
+    subst (λ w. IsTwin (first_words (length ops)) c.args.i w c.op-op.result) word (subst (λ (r : WordRange). IsTwin r c.args.i c.args.word c.op-op.result) range c.op-op.ensures) in
+    twins_learn words ops c.args.i c.op-op.result c.self.invariant inside twin
