@@ -1,8 +1,8 @@
 //! The cached machine of this repository written in plain Rust, in the same form: words, links and jumps to placed blocks stand
-//! in a loop of their own, by micro-ops that are kept beside their words, and any other word leaves it. `bench/run` measures the
-//! proved one against it.
+//! in a loop of their own, by micro-ops that the ram keeps beside its words, and any other word leaves it. `bench/run` measures
+//! the proved one against it.
 
-use crate::micro::{Class, Memo, MicroOp, class_of_code};
+use crate::micro::{Class, KnownWords, MicroOp, class_of_code, held};
 use crate::*;
 
 const EBREAK: u32 = 0x0010_0073;
@@ -83,8 +83,8 @@ impl Image {
         if block == 0 { 0 } else { self.ends[block as usize - 1] }
     }
 
-    fn length(&self, block: u32) -> u32 {
-        self.ends[block as usize] - self.begin(block)
+    fn block(&self, block: u32) -> &[u32] {
+        &self.words[self.begin(block) as usize..self.ends[block as usize] as usize]
     }
 
     fn word(&self, block: u32, offset: u32) -> u32 {
@@ -101,11 +101,19 @@ impl Image {
     }
 }
 
+/// The ram keeps beside each word the micro-op that was made of it, until the word is set. That of a word that isn't learnt, or is
+/// left to who executes instructions, stops and holds the word.
 struct Ram {
     words: Vec<u32>,
+    ops: Vec<MicroOp>,
+    known: KnownWords,
 }
 
 impl Ram {
+    fn new(words: u32) -> Ram {
+        Ram { words: vec![0; words as usize], ops: vec![held(0); words as usize], known: KnownWords::new() }
+    }
+
     #[inline(always)]
     fn fetch(&self, i: u32) -> u32 {
         self.words[i as usize]
@@ -113,6 +121,41 @@ impl Ram {
 
     fn set(&mut self, i: u32, w: u32) {
         self.words[i as usize] = w;
+        self.ops[i as usize] = held(w);
+    }
+
+    /// The micro-op of the word at an index; one that stops where it isn't known.
+    #[inline(always)]
+    fn op(&self, i: u32) -> &MicroOp {
+        &self.ops[i as usize]
+    }
+
+    /// The word at an index, where its micro-op holds it.
+    #[inline(always)]
+    fn held(&self, i: u32) -> Option<u32> {
+        self.ops.get(i as usize)?.word()
+    }
+
+    /// Learns the micro-op of the word at an index, and those of the words behind it: as far as they are held and follow one
+    /// another, up to a jump, a branch, or a word that stops.
+    fn learn(&mut self, i: u32, word: u32) {
+        let (mut i, mut word) = (i, word);
+        while self.learn_one(i, word) {
+            i += 1;
+            let Some(next) = self.held(i) else { return };
+            word = next;
+        }
+    }
+
+    /// Learns the micro-op of one word. Whether it goes on to the next one alone.
+    fn learn_one(&mut self, i: u32, word: u32) -> bool {
+        let range = WordRange { from: 0, words: self.words.len() as u32 };
+        let op = self.known.op(word, &range, i);
+        self.ops[i as usize] = op;
+        !matches!(
+            class_of_code(op.code),
+            Class::Equal | Class::Less | Class::Below | Class::Jal | Class::Jalr | Class::Stop
+        )
     }
 }
 
@@ -181,8 +224,8 @@ impl Rom {
         }
         self.make_room(ram);
         let slot = self.next as u32;
-        for k in 0..image.length(block) {
-            ram.set(slot * self.size + k, image.word(block, k));
+        for (i, &word) in (slot * self.size..).zip(image.block(block)) {
+            ram.set(i, word);
         }
         self.homes[block as usize] = slot;
         self.blocks[self.next] = block;
@@ -221,6 +264,55 @@ impl Rom {
 
     fn at(&self, i: u32) -> (u32, u32) {
         (self.blocks[(i / self.size) as usize], i % self.size)
+    }
+}
+
+/// How many targets are kept.
+const KEPT: usize = 64;
+
+/// An address, and the index at which it was found.
+#[derive(Clone, Copy)]
+struct Found {
+    target: u32,
+    index: u32,
+}
+
+/// What is kept before an address was found: no text word stands at an odd one.
+const NO_TARGET: Found = Found { target: 1, index: 0 };
+
+/// The addresses to which jumps over registers led last, each with the index at which it stood, kept by the lowest bits of the
+/// address above the two that every text word's has alike: so a return that repeats costs no search. What it keeps holds as long as
+/// the blocks stand where they stood.
+struct Targets {
+    found: [Found; KEPT],
+    // Nothing was kept since all was forgotten.
+    empty: bool,
+}
+
+impl Targets {
+    fn new() -> Targets {
+        Targets { found: [NO_TARGET; KEPT], empty: true }
+    }
+
+    /// The index at which an address, a multiple of 4, was found.
+    #[inline(always)]
+    fn find(&self, a: u32) -> Option<u32> {
+        let found = self.found[(a / 4) as usize % KEPT];
+        (found.target == a).then_some(found.index)
+    }
+
+    /// Keeps the index at which an address was found.
+    fn keep(&mut self, a: u32, index: u32) {
+        self.empty = false;
+        self.found[(a / 4) as usize % KEPT] = Found { target: a, index };
+    }
+
+    /// Keeps nothing any more: where blocks may have moved.
+    fn forget(&mut self) {
+        if !self.empty {
+            self.found.fill(NO_TARGET);
+            self.empty = true;
+        }
     }
 }
 
@@ -386,6 +478,18 @@ fn jalr_fields(w: u32) -> Option<(Reg, Reg, u32)> {
     (w & 0x707F == 0x67).then(|| (Reg::of(w >> 7 & 31), Reg::of(w >> 15 & 31), (w as i32 >> 20) as u32))
 }
 
+/// Where a jump over a register finds its target, if the target's block is placed: the service counts the jump then.
+#[inline(always)]
+fn visit(rom: &mut Rom, image: &Image, targets: &mut Targets, target: u32) -> Option<u32> {
+    if let Some(index) = targets.find(target) {
+        rom.count();
+        return Some(index);
+    }
+    let index = rom.revisit(image, target)?;
+    targets.keep(target, index);
+    Some(index)
+}
+
 /// Where control goes from a LUI, by the instruction that it begins.
 #[inline(never)]
 fn upper_role(bus: &Bus, pc: u32, stage: Stage) -> Next {
@@ -480,22 +584,24 @@ impl Hart {
     /// Jumps over a register by the exit at an index, where that is a JALR's whose target's block is placed, as that of a return
     /// mostly is: where the target stands, and the target. At any other exit nothing changes.
     #[inline(never)]
-    fn back(&mut self, rom: &mut Rom, image: &Image, at: u32) -> Option<(u32, u32)> {
-        let (block, offset) = rom.at(at);
-        let (rd, rs1, imm) = jalr_fields(image.word(block, offset + 1))?;
+    fn back(&mut self, rom: &mut Rom, image: &Image, ram: &Ram, targets: &mut Targets, at: u32) -> Option<(u32, u32)> {
+        let (rd, rs1, imm) = jalr_fields(ram.held(at + 1)?)?;
         let target = self.machine.regs.get(rs1).wrapping_add(imm) & !1;
         if target % 4 != 0 {
             return None;
         }
-        let index = rom.revisit(image, target)?;
-        self.machine.regs.set(rd, image.word(block, offset + 2));
+        let index = visit(rom, image, targets, target)?;
+        if rd.num() != 0 {
+            let (block, offset) = rom.at(at);
+            self.machine.regs.set(rd, image.word(block, offset + 2));
+        }
         Some((index, target))
     }
 
-    /// A step at a word by its micro-op, where the memo knows the word: where control went. At `Stop` nothing has changed.
+    /// A step at a word by its micro-op, where that is known: where control went. At `Stop` nothing has changed.
     #[inline(always)]
-    fn quick(&mut self, rom: &Rom, memo: &Memo, word: u32, walk: &mut Walk) -> Next {
-        let Some(m) = memo.op(walk.index, word) else { return Next::Stop };
+    fn quick(&mut self, rom: &Rom, ram: &Ram, walk: &mut Walk) -> Next {
+        let m = ram.op(walk.index);
         let Flat { regs, bus, .. } = &mut self.machine;
         let next = execute(walk, m, regs, bus);
         if next == Next::Link {
@@ -507,10 +613,10 @@ impl Hart {
 
     /// The step of `quick` at a word that is learnt first.
     #[inline(never)]
-    fn step_anew(&mut self, rom: &Rom, memo: &mut Memo, word: u32, walk: Walk) -> Option<Walk> {
-        memo.learn(walk.index, word);
+    fn step_anew(&mut self, rom: &Rom, ram: &mut Ram, word: u32, walk: Walk) -> Option<Walk> {
+        ram.learn(walk.index, word);
         let mut walk = walk;
-        if self.quick(rom, memo, word, &mut walk) == Next::Stop {
+        if self.quick(rom, ram, &mut walk) == Next::Stop {
             return None;
         }
         Some(walk)
@@ -519,7 +625,16 @@ impl Hart {
     /// Steps up to the limit, or to the first word that is not executed here, which is then fetched. Nothing but words, links
     /// and jumps to placed blocks stands in this loop, so index, pc and counts stay in registers.
     #[inline(never)]
-    fn run_block(&mut self, rom: &mut Rom, image: &Image, ram: &mut Ram, memo: &mut Memo, limit: u64, at: At) -> Option<u32> {
+    fn run_block(
+        &mut self,
+        rom: &mut Rom,
+        image: &Image,
+        ram: &mut Ram,
+        targets: &mut Targets,
+        limit: u64,
+        at: At,
+    ) -> Option<u32> {
+        targets.forget();
         let (index, _, _, stage) = at;
         let left = limit - self.machine.steps;
         let mut walk = Walk {
@@ -532,9 +647,9 @@ impl Hart {
         let mut stopped = None;
         while u64::from(walk.index) < walk.end {
             let mut word = ram.fetch(walk.index);
-            match self.quick(rom, memo, word, &mut walk) {
+            match self.quick(rom, ram, &mut walk) {
                 Next::Stop if word == EBREAK => {
-                    if let Some((index, target)) = self.back(rom, image, walk.index) {
+                    if let Some((index, target)) = self.back(rom, image, ram, targets, walk.index) {
                         walk.land(index, target, false);
                         continue;
                     }
@@ -543,9 +658,8 @@ impl Hart {
                 Next::Exit => {
                     // No limit falls between a branch and the exit behind it, since the branch completes no step.
                     word = ram.fetch(walk.index);
-                    if let Some(m) = memo.op(walk.index, word)
-                        && class_of_code(m.code) == Class::Jal
-                    {
+                    let m = ram.op(walk.index);
+                    if class_of_code(m.code) == Class::Jal {
                         walk.follow(rom, m.imm);
                         continue;
                     }
@@ -554,7 +668,7 @@ impl Hart {
             }
             if word != EBREAK {
                 // Field by field: a copy of the whole would keep what stands between the fields in registers.
-                if let Some(Walk { index, stage, end, behind, total }) = self.step_anew(rom, memo, word, walk) {
+                if let Some(Walk { index, stage, end, behind, total }) = self.step_anew(rom, ram, word, walk) {
                     walk = Walk { index, stage, end, behind, total };
                     continue;
                 }
@@ -644,12 +758,12 @@ impl Hart {
     }
 
     fn run(&mut self, rom: &mut Rom, image: &Image, ram: &mut Ram, limit: u64) {
-        let mut memo = Memo::new(WordRange { from: 0, words: ram.words.len() as u32 });
+        let mut targets = Targets::new();
         while self.machine.steps < limit && self.machine.ending.is_none() {
             let Some(at) = self.control else {
                 return self.end(End::Faulted(FaultKind::FetchAccess, self.machine.pc));
             };
-            if let Some(word) = self.run_block(rom, image, ram, &mut memo, limit, at)
+            if let Some(word) = self.run_block(rom, image, ram, &mut targets, limit, at)
                 && let Some(at) = self.control
             {
                 self.at_word(rom, image, ram, word, at);
@@ -661,7 +775,7 @@ impl Hart {
 /// Runs the machine through a cache of so many bytes.
 pub fn run(machine: Flat, cache_bytes: u32, block_words: u32, limit: u64) -> Flat {
     let image = Image::cut(&machine.bus, block_words);
-    let mut ram = Ram { words: vec![0; cache_bytes as usize / 4] };
+    let mut ram = Ram::new(cache_bytes / 4);
     let mut rom = Rom::new(cache_bytes, block_words, image.starts.len());
     let entry = machine.pc;
     let mut hart = Hart { control: None, machine, count: 0 };

@@ -149,6 +149,22 @@ pub fn stop() -> MicroOp {
     made(Class::Stop, zero, zero, zero, 0)
 }
 
+/// The code of one that stops and holds its word: that of Stop, with a bit for which no class asks.
+const HELD: u8 = 0b1011_0111;
+
+/// One that stops, and holds the word that it leaves to who executes instructions.
+pub fn held(word: u32) -> MicroOp {
+    MicroOp { code: HELD, imm: word, ..stop() }
+}
+
+impl MicroOp {
+    /// The word that it holds.
+    #[inline(always)]
+    pub fn word(&self) -> Option<u32> {
+        (self.code == HELD).then_some(self.imm)
+    }
+}
+
 fn number(op: RegOp) -> u32 {
     match op {
         RegOp::Mulh => 1,
@@ -345,35 +361,56 @@ pub fn step(m: &MicroOp, range: &WordRange, k: u32, regs: &mut Regs, bus: &mut B
     }
 }
 
-/// What was decoded last of the word at each index.
-pub struct Memo {
-    range: WordRange,
-    known: Vec<Known>,
-}
+/// How many words are known at most: as many as eight bits tell apart.
+const ENTRIES: usize = 256;
 
 #[derive(Clone, Copy)]
-struct Known {
+struct Entry {
     word: u32,
     op: MicroOp,
 }
 
-impl Memo {
-    pub fn new(range: WordRange) -> Memo {
-        let known = (0..range.words).map(|_| Known { word: 0, op: stop() }).collect();
-        Memo { range, known }
+/// The words that were decoded last, each with its micro-op: so that of a word that is copied again and again only the first
+/// copy is decoded. It keeps none whose micro-op depends on where the word stands.
+pub struct KnownWords {
+    entries: [Entry; ENTRIES],
+}
+
+/// Which entry is that of a word: the eight highest bits of a product to which every bit of the word comes.
+#[inline(always)]
+fn place(word: u32) -> usize {
+    (word.wrapping_mul(0x9E37_79B1) >> 24) as usize
+}
+
+/// Whether the micro-op of a word depends on where it stands: that of AUIPC, JAL or a branch.
+fn is_placed(word: u32) -> bool {
+    matches!(word & 0x7F, 0x17 | 0x63 | 0x6F)
+}
+
+impl KnownWords {
+    /// One that knows no word yet but 0, which is no instruction.
+    pub fn new() -> KnownWords {
+        KnownWords { entries: [Entry { word: 0, op: held(0) }; ENTRIES] }
     }
 
-    /// The micro-op of the word at an index, where the word is the one that was learnt there.
+    /// The micro-op of the word with index `k` of a range: it is decoded only where it isn't known. One that holds the word where
+    /// that stops.
     #[inline(always)]
-    pub fn op(&self, k: u32, word: u32) -> Option<&MicroOp> {
-        let known = &self.known[k as usize];
-        if known.word != word {
-            return None;
-        }
-        Some(&known.op)
+    pub fn op(&mut self, word: u32, range: &WordRange, k: u32) -> MicroOp {
+        let entry = &self.entries[place(word)];
+        if entry.word == word { entry.op } else { self.decoded(word, range, k) }
     }
 
-    pub fn learn(&mut self, k: u32, word: u32) {
-        self.known[k as usize] = Known { word, op: micro_op(word, &self.range, k) };
+    /// As `op`, of a word that isn't known: from now on it is, unless its micro-op stops or depends on where it stands.
+    #[inline(never)]
+    fn decoded(&mut self, word: u32, range: &WordRange, k: u32) -> MicroOp {
+        let op = micro_op(word, range, k);
+        if class_of_code(op.code) == Class::Stop {
+            return held(word);
+        }
+        if !is_placed(word) {
+            self.entries[place(word)] = Entry { word, op };
+        }
+        op
     }
 }
