@@ -267,7 +267,7 @@ fn step_anew<R: CacheRom, M: MicroRam>(
           { regs = hart.new.machine.regs; bus = hart.new.machine.bus };
     } }
 {
-    ram.learn(walk.index, got);
+    ram.learn(walk.index);
     let mut walk = walk;
     match quick::<R, M, true>(hart, rom, image, ram, got, &mut walk) {
         Went::On | Went::Exit => Some(walk),
@@ -333,7 +333,7 @@ fn visit<R: CacheRom, M: CacheRam>(
 /// return mostly is: where the target stands, and the target. The service counts it, and asks the ram for nothing. At any
 /// other exit nothing changes.
 #[inline(never)]
-fn back<R: CacheRom, M: MicroRam>(
+fn back<R: CacheRom, M: CacheRam>(
     hart: &mut Hart,
     rom: &mut R,
     image: &ImageView<'_>,
@@ -360,7 +360,7 @@ fn back<R: CacheRom, M: MicroRam>(
     ensures keeps { Keeps R.service image.now rom.old rom.new (M.state ram.now).words (M.state ram.now).words }
     ensures found { AreFound image.now (R.service.kept rom.new) targets.new }
 {
-    let x = jalr_fields(ram.held(at + 1)?)?;
+    let x = jalr_fields(ram.word(at + 1))?;
     let target = register_target(hart.machine.regs.get(x.rs1), x.imm);
     if target % 4 != 0 {
         return None;
@@ -406,6 +406,17 @@ fn settle<R: CacheRom>(hart: &mut Hart, rom: &R, walk: Walk)
     hart.machine.pc = walk.pc();
     hart.machine.steps = walk.steps();
     hart.count = walk.count();
+}
+
+/// The word that was fetched at an index, read again: so the loop keeps no word in a register while it executes the word's
+/// micro-op.
+#[inline(always)]
+fn again<M: CacheRam>(ram: &M, i: u32, got: u32) -> u32
+    requires inside { i < length (M.state ram.now).words }
+    requires got { got ≡ slice_index (M.state ram.now).words i }
+    ensures { result ≡ got }
+{
+    ram.word(i)
 }
 
 // Leaves the loop of `run_block`, with the hart where the walk has come to.
@@ -471,23 +482,25 @@ pub(crate) fn run_block<R: CacheRom, M: MicroRam>(
                 if link_on(rom, image, ram, exit, &mut walk) {
                     continue;
                 }
-                let Some(next) = step_anew(hart, rom, image, ram, exit, walk) else {
-                    leave!(hart, rom, walk, Ok(Some(exit)));
+                let left = again(ram, walk.index, exit);
+                let Some(next) = step_anew(hart, rom, image, ram, left, walk) else {
+                    leave!(hart, rom, walk, Ok(Some(left)));
                 };
                 walk.come(next);
                 continue;
             }
             Went::Left => {}
         }
-        if word == EBREAK {
+        let left = again(ram, walk.index, word);
+        if left == EBREAK {
             let Some((index, target)) = back(hart, rom, image, ram, targets, walk.index) else {
-                leave!(hart, rom, walk, Ok(Some(word)));
+                leave!(hart, rom, walk, Ok(Some(left)));
             };
             walk.land(index, target, false);
             continue;
         }
-        let Some(next) = step_anew(hart, rom, image, ram, word, walk) else {
-            leave!(hart, rom, walk, Ok(Some(word)));
+        let Some(next) = step_anew(hart, rom, image, ram, left, walk) else {
+            leave!(hart, rom, walk, Ok(Some(left)));
         };
         walk.come(next);
     }

@@ -26,14 +26,6 @@ made_op c rd rs1 rs2 imm = record { code = code_of c; rd = rd; rs1 = rs1; rs2 = 
 abbrev pub stop_op : MicroOp
 stop_op = made_op class.Stop 0 0 0 0
 
--- one that stops and holds its word. Its code is that of Stop with the highest bit set, for which no class asks
-abbrev pub held_op : ℕ → MicroOp
-held_op w = record { code = 183; rd = 0; rs1 = 0; rs2 = 0; imm = w }
-
--- the word that a micro-op holds, if it does
-abbrev pub word_held : MicroOp → Option ℕ
-word_held m = if m.code == 183 then Some m.imm else None
-
 -- the address of the word with this index, or the one behind the last
 abbrev pub address_at : WordRange → ℕ → ℕ
 address_at range k = sum_of range.from (4 * k)

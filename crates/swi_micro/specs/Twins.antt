@@ -8,7 +8,7 @@ use Rattle.swi_memory.specs.WordRange.{IsWordRange}
 use Rattle.swi_micro.specs.declared.class.Class.TheVariants.{Stop}
 use Rattle.swi_micro.specs.declared.translator.MicroOp.{MicroOp}
 use Rattle.swi_micro.specs.Classes.{class_of}
-use Rattle.swi_micro.specs.MicroOp.{micro_op_of, stop_op, word_held}
+use Rattle.swi_micro.specs.MicroOp.{micro_op_of, stop_op}
 
 -- so many words, of which the first is at address 0
 abbrev pub first_words : ℕ → WordRange
@@ -28,19 +28,18 @@ pub record IsOpAt (range : WordRange) (k w : ℕ) (m : MicroOp) : Type 0 where
   pub here : k < range.words
   pub is : m ≡ op_of_word range k w
 
--- the micro-op is that of the word, unless it stops; and where it holds a word, it is this one
-pub record IsTwin (range : WordRange) (k w : ℕ) (m : MicroOp) : Type 0 where
-  pub op : (class_of m.code ≡ Stop → ⊥) → IsOpAt range k w m
-  pub held : (u : ℕ) → word_held m ≡ Some u → u ≡ w
+-- the micro-op is that of the word, unless it stops
+abbrev pub IsTwin : WordRange → ℕ → ℕ → MicroOp → Type 0
+IsTwin range k w m = (class_of m.code ≡ Stop → ⊥) → IsOpAt range k w m
 
 -- a ram with micro-ops beside its words, and how many words, from the first on, have a place for one
 pub record DecodedOf (M : Type 0) : Type 0 where
   pub ram : M
   pub kept : ℕ
 
--- the micro-ops with another one at an index, if it has a place
-abbrev pub with_op : ℕ → MicroOp → List MicroOp → List MicroOp
-with_op i m ops = if nat_lt i (length ops) then slice_set ops i m else ops
+-- the micro-ops without that of the word at an index, if it has a place
+abbrev pub forgotten : ℕ → List MicroOp → List MicroOp
+forgotten i ops = if nat_lt i (length ops) then slice_set ops i stop_op else ops
 
 -- beside each of the first words stands its twin
 pub record AreTwins (words : List ℕ) (ops : List MicroOp) : Type 0 where

@@ -4,12 +4,12 @@
 ghost use Rattle.std.specs.Prelude.{◌≡◌, ◌^◌, ◌<◌, min, IfOk, OnErr, OnOk, length, replicate, slice_index};
 ghost use Rattle.swi_outside.specs.CacheRam.{Fetched, WordSet};
 ghost use Rattle.swi_micro.specs.MicroOp.{stop_op};
-ghost use Rattle.swi_micro.specs.Twins.{with_op};
+ghost use Rattle.swi_micro.specs.Twins.{forgotten};
 
 use crate::class::Class;
 use crate::known::KnownWords;
 use crate::micro_ram::MicroRam;
-use crate::translator::{MicroOp, held, stop};
+use crate::translator::{MicroOp, stop};
 use std::alloc::Global;
 use std::marker::Model;
 use swi_memory::WordRange;
@@ -21,8 +21,7 @@ use swi_outside::{CacheRam, Failed, Memory};
 #[derive(Drop)]
 pub struct DecodedRam<M: CacheRam> {
     ram: M,
-    // Of a word that isn't learnt one that stops, and holds the word where that was set since; of one that is left to who
-    // executes instructions one that holds it.
+    // Of a word that isn't learnt one that stops.
     ops: Vec<MicroOp>,
     known: KnownWords,
 }
@@ -45,13 +44,13 @@ fn all_stop(alloc: Global, count: u32) -> Result<Vec<MicroOp>, Memory>
     vec![in alloc; stop(); count as usize].map_err(|_| Memory)
 }
 
-/// Puts a micro-op in the place of an index, if it has one.
+/// Forgets the micro-op of the word at an index, if it has a place.
 #[inline(always)]
-fn put(ops: &mut Vec<MicroOp>, i: u32, m: MicroOp)
-    ensures { ops.new.items ≡ with_op i m ops.old.items }
+fn forget_word(ops: &mut Vec<MicroOp>, i: u32)
+    ensures { ops.new.items ≡ forgotten i ops.old.items }
 {
     if (i as usize) < ops.len() {
-        ops[i as usize] = m;
+        ops[i as usize] = stop();
     }
 }
 
@@ -76,13 +75,12 @@ impl<M: CacheRam> DecodedRam<M> {
 
     /// Learns the micro-op of one word. Whether it goes on to the next one alone: it is no jump and no branch, and doesn't
     /// stop.
-    fn learn_one(&mut self, i: u32, word: u32) -> bool
-        requires inside { i < self.old.kept }
-        requires word { word ≡ slice_index (M.state self.old.ram).words i }
+    fn learn_one(&mut self, i: u32) -> bool
+        requires { i < self.old.kept }
         ensures { self.new ≡ self.old }
     {
         let range = self.range();
-        let op = self.known.op(&range, i, word);
+        let op = self.known.op(&range, i, self.ram.word(i));
         self.ops[i as usize] = op;
         !matches!(
             op.class(),
@@ -109,21 +107,21 @@ impl<M: CacheRam> CacheRam for DecodedRam<M> {
     }
 
     #[inline(always)]
+    fn word(&self, i: u32) -> u32
+        requires { i < length (M.state self.now.ram).words }
+        ensures { result ≡ slice_index (M.state self.now.ram).words i }
+    {
+        self.ram.word(i)
+    }
+
+    #[inline(always)]
     fn set(&mut self, i: u32, w: u32) -> Result<(), Failed>
         requires { i < length (M.state self.old.ram).words }
         ensures set { WordSet (M.state self.old.ram) i w result (M.state self.new.ram) }
         ensures kept { self.new.kept ≡ self.old.kept }
     {
-        match self.ram.set(i, w) {
-            Ok(()) => {
-                put(&mut self.ops, i, held(w));
-                Ok(())
-            }
-            Err(failed) => {
-                put(&mut self.ops, i, stop());
-                Err(failed)
-            }
-        }
+        forget_word(&mut self.ops, i);
+        self.ram.set(i, w)
     }
 }
 
@@ -160,22 +158,15 @@ impl<M: CacheRam> MicroRam for DecodedRam<M> {
         &self.ops[i as usize]
     }
 
-    #[inline(always)]
-    fn held(&self, i: u32) -> Option<u32> {
-        self.ops.get(i as usize)?.word()
-    }
-
-    // So that a call of it, which leaves the caller's loop, serves more words than one.
-    fn learn(&mut self, i: u32, word: u32) {
-        let mut word = word;
+    fn learn(&mut self, i: u32) {
         for at in i..self.kept() {
-            if !self.learn_one(at, word) {
+            if !self.learn_one(at) {
                 return;
             }
-            let Some(next) = self.held(at + 1) else {
-                return;
-            };
-            word = next;
+            match self.ops.get(at as usize + 1) {
+                Some(next) if next.stops() => {}
+                _ => return,
+            }
         }
     }
 }

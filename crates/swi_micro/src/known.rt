@@ -7,7 +7,7 @@ ghost use Rattle.swi_memory.specs.WordRange.{IsWordRange};
 ghost use Rattle.swi_micro.specs.Known.{IsTwinEverywhere, depends_on_place};
 ghost use Rattle.swi_micro.specs.Twins.{IsTwin};
 
-use crate::translator::{MicroOp, held, micro_op};
+use crate::translator::{MicroOp, micro_op, stop};
 use std::alloc::Global;
 use swi_isa::{Instr, decode};
 use swi_memory::WordRange;
@@ -63,14 +63,13 @@ impl KnownWords {
     pub(crate) fn new(alloc: Global) -> Result<KnownWords, Memory> {
         let none = Entry {
             word: 0,
-            op: held(0),
+            op: stop(),
         };
         let entries = vec![in alloc; none; ENTRIES].map_err(|_| Memory)?;
         Ok(KnownWords { entries })
     }
 
-    /// The micro-op of a word, as the one with index `i` of a range: it is decoded only where it isn't known. One that
-    /// holds the word where that stops.
+    /// The micro-op of a word, as the one with index `i` of a range: it is decoded only where it isn't known.
     #[inline(always)]
     pub(crate) fn op(&mut self, range: &WordRange, i: u32, word: u32) -> MicroOp
         requires whole { IsWordRange range.now }
@@ -113,11 +112,11 @@ impl KnownWords {
         ensures { IsTwin range.now i word result }
     {
         let Some(instr) = decode(word) else {
-            return held(word);
+            return stop();
         };
         let op = micro_op(&instr, range, i);
         if op.stops() {
-            return held(word);
+            return stop();
         }
         if !is_placed(&instr) {
             self.keep(word, op);

@@ -1,7 +1,7 @@
 //! A ram that has a micro-op beside its words.
 #![tactic(auto)]
 
-ghost use Rattle.std.specs.Prelude.{◌≡◌, ◌^◌, ◌<◌, ℕ, min, IfSome, OnOk, length, slice_index};
+ghost use Rattle.std.specs.Prelude.{◌≡◌, ◌^◌, ◌<◌, ℕ, min, OnOk, length, slice_index};
 ghost use Rattle.swi_outside.specs.CacheRam.{Fetched};
 ghost use Rattle.swi_micro.specs.Twins.{IsTwin, first_words};
 
@@ -44,16 +44,10 @@ pub trait MicroRam: CacheRam {
         requires { i < kept self.now }
         ensures { IsTwin (first_words (kept self.now)) i (slice_index (Self.state self.now).words i) result.now };
 
-    /// The word at an index below `kept()` that was set since there is a place for its micro-op, and isn't learnt, or was
-    /// and stops: read beside the ram, and so no fetch. None of any other word.
-    fn held(&self, i: u32) -> Option<u32>
-        ensures { IfSome result (λ w. w ≡ slice_index (Self.state self.now).words i) };
-
     /// Learns the micro-op of the word at an index below `kept()`, and those of the words behind it, which are likely to be
-    /// executed next: as far as they are held and follow one another, up to a jump, a branch, or a word that stops.
-    fn learn(&mut self, i: u32, word: u32)
-        requires inside { i < kept self.old }
-        requires word { word ≡ slice_index (Self.state self.old).words i }
+    /// executed next: up to a jump, a branch, a word that stops, or one whose micro-op is known.
+    fn learn(&mut self, i: u32)
+        requires { i < kept self.old }
         ensures same { Self.state self.new ≡ Self.state self.old }
         ensures kept { kept self.new ≡ kept self.old };
 }

@@ -174,18 +174,13 @@ fn set_all(ram: &mut DecodedRam<VecRam>, from: u32, words: &[u32]) -> bool {
     true
 }
 
-/// Learns the word at an index, if that is held. Whether it is.
-fn learn_held(ram: &mut DecodedRam<VecRam>, i: u32) -> bool {
+/// Learns the word at an index. False where there is no place for it.
+fn learn(ram: &mut DecodedRam<VecRam>, i: u32) -> bool {
     if i >= ram.kept() {
         return false;
     }
-    match ram.held(i) {
-        Some(word) => {
-            ram.learn(i, word);
-            true
-        }
-        None => false,
-    }
+    ram.learn(i);
+    true
 }
 
 /// The register that is written there, and in which a word stands then.
@@ -212,19 +207,18 @@ fn knows(ram: &DecodedRam<VecRam>, i: u32, word: u32) -> bool {
     i < ram.kept() && !ram.op(i).stops() && are_same(ram.op(i), &micro_op(&instr, &ram.range(), i))
 }
 
-/// Whether the word at an index is held: its micro-op stops.
-fn holds(ram: &DecodedRam<VecRam>, i: u32, word: u32) -> bool {
-    i < ram.kept() && ram.op(i).stops() && ram.held(i) == Some(word)
+/// Whether the micro-op at an index stops.
+fn waits(ram: &DecodedRam<VecRam>, i: u32) -> bool {
+    i < ram.kept() && ram.op(i).stops()
 }
 
-/// Whether the word at an index is learnt: its micro-op is that of the instruction that it is, or where that stops the word
-/// is held.
+/// Whether the word at an index is learnt: its micro-op is that of the instruction that it is, or one that stops.
 fn is_learnt(ram: &DecodedRam<VecRam>, i: u32, word: u32) -> bool {
     let Some(instr) = decode(word) else {
         return false;
     };
     if micro_op(&instr, &ram.range(), i).stops() {
-        holds(ram, i, word)
+        waits(ram, i)
     } else {
         knows(ram, i, word)
     }
@@ -234,7 +228,7 @@ fn is_learnt(ram: &DecodedRam<VecRam>, i: u32, word: u32) -> bool {
 fn first_wrong(ram: &mut DecodedRam<VecRam>) -> Option<(u32, u32)> {
     for word in WORDS {
         for i in [0, 5, 7] {
-            if !set_all(ram, i, &[word]) || !learn_held(ram, i) || !is_learnt(ram, i, word) {
+            if !set_all(ram, i, &[word]) || !learn(ram, i) || !is_learnt(ram, i, word) {
                 return Some((word, i));
             }
         }
@@ -254,33 +248,33 @@ const ROW: [u32; 4] = [0x002081B3, 0x0000A183, 0x00208463, 0x00308113];
 #[test]
 fn a_micro_op_is_known_until_its_word_is_set(rt: HostRuntime) {
     let mut ram = ram_of_rows(rt.alloc(), 8).expect(&rt, "no memory");
-    assert!(rt; ram.held(3).is_none() && ram.held(8).is_none());
-    assert!(rt; set_all(&mut ram, 3, &[ROW[0]]) && holds(&ram, 3, ROW[0]));
-    assert!(rt; learn_held(&mut ram, 3) && knows(&ram, 3, ROW[0]) && ram.held(3).is_none());
-    assert!(rt; set_all(&mut ram, 3, &[ROW[1]]) && holds(&ram, 3, ROW[1]));
-    assert!(rt; learn_held(&mut ram, 3) && knows(&ram, 3, ROW[1]));
+    assert!(rt; waits(&ram, 3) && !waits(&ram, 8));
+    assert!(rt; set_all(&mut ram, 3, &[ROW[0]]) && waits(&ram, 3));
+    assert!(rt; learn(&mut ram, 3) && knows(&ram, 3, ROW[0]));
+    assert!(rt; set_all(&mut ram, 3, &[ROW[1]]) && waits(&ram, 3));
+    assert!(rt; learn(&mut ram, 3) && knows(&ram, 3, ROW[1]));
 }
 
 #[test]
 fn words_behind_are_learnt_up_to_a_branch(rt: HostRuntime) {
     let mut ram = ram_of_rows(rt.alloc(), 8).expect(&rt, "no memory");
-    assert!(rt; set_all(&mut ram, 1, &ROW) && learn_held(&mut ram, 1));
+    assert!(rt; set_all(&mut ram, 1, &ROW) && learn(&mut ram, 1));
     assert!(rt; knows(&ram, 1, ROW[0]) && knows(&ram, 2, ROW[1]) && knows(&ram, 3, ROW[2]));
-    assert!(rt; holds(&ram, 4, ROW[3]));
+    assert!(rt; waits(&ram, 4));
 }
 
 #[test]
 fn words_behind_are_learnt_up_to_one_that_stops(rt: HostRuntime) {
     let mut ram = ram_of_rows(rt.alloc(), 8).expect(&rt, "no memory");
-    assert!(rt; set_all(&mut ram, 0, &[ROW[0], 0x00000073, ROW[1]]) && learn_held(&mut ram, 0));
-    assert!(rt; knows(&ram, 0, ROW[0]) && holds(&ram, 1, 0x00000073) && holds(&ram, 2, ROW[1]));
+    assert!(rt; set_all(&mut ram, 0, &[ROW[0], 0x00000073, ROW[1]]) && learn(&mut ram, 0));
+    assert!(rt; knows(&ram, 0, ROW[0]) && waits(&ram, 1) && waits(&ram, 2));
 }
 
 #[test]
 fn words_behind_are_learnt_up_to_the_last_place(rt: HostRuntime) {
     let mut ram = ram_of_rows(rt.alloc(), 2).expect(&rt, "no memory");
-    assert!(rt; set_all(&mut ram, 0, &[ROW[0], ROW[1], ROW[0]]) && learn_held(&mut ram, 0));
-    assert!(rt; knows(&ram, 0, ROW[0]) && knows(&ram, 1, ROW[1]) && ram.held(2).is_none());
+    assert!(rt; set_all(&mut ram, 0, &[ROW[0], ROW[1], ROW[0]]) && learn(&mut ram, 0));
+    assert!(rt; knows(&ram, 0, ROW[0]) && knows(&ram, 1, ROW[1]) && !waits(&ram, 2));
 }
 
 #[test]

@@ -3,7 +3,7 @@
 
 ghost use Rattle.std.specs.Prelude.{◌≡◌, ◌↔◌, IsTrue};
 ghost use Rattle.swi_micro.specs.Classes.{class_of};
-ghost use Rattle.swi_micro.specs.MicroOp.{address_at, branch_op, class_of_imm, class_of_load, class_of_op, class_of_store, held_op, index_at, made_op, micro_op_of, number_of, stop_op, word_held};
+ghost use Rattle.swi_micro.specs.MicroOp.{address_at, branch_op, class_of_imm, class_of_load, class_of_op, class_of_store, index_at, made_op, micro_op_of, number_of, stop_op};
 
 use crate::class::{Class, class_of_code, code};
 use crate::source::Source;
@@ -41,17 +41,6 @@ impl MicroOp {
         self.imm
     }
 
-    /// The word that it holds. None of every one that doesn't stop.
-    #[inline(always)]
-    pub(crate) fn word(&self) -> Option<u32>
-        ensures { result ≡ word_held self.now }
-    {
-        if self.code != HELD {
-            return None;
-        }
-        Some(self.imm)
-    }
-
     /// Whether it stops.
     #[inline(always)]
     pub fn stops(&self) -> bool
@@ -79,22 +68,6 @@ pub fn stop() -> MicroOp
     ensures { result ≡ stop_op }
 {
     made(Class::Stop, Reg::of(0), Reg::of(0), Reg::of(0), 0)
-}
-
-/// The code of one that stops and holds its word: that of Stop, with a bit for which no class asks.
-const HELD: u8 = 0b1011_0111;
-
-/// One that stops, and holds the word that it leaves to who executes instructions.
-pub(crate) fn held(word: u32) -> MicroOp
-    ensures { result ≡ held_op word }
-{
-    MicroOp {
-        code: HELD,
-        rd: Slot::of(Reg::of(0)),
-        rs1: Source::of(Reg::of(0)),
-        rs2: Source::of(Reg::of(0)),
-        imm: word,
-    }
 }
 
 /// The address of the word with this index, or the one behind the last.

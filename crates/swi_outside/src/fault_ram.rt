@@ -64,14 +64,6 @@ impl FaultRam {
         })
     }
 
-    /// The word at index `i`, which is below `words()`. This counts as no call.
-    pub fn word(&self, i: u32) -> u32
-        requires { i < length self.now.ram.words }
-        ensures { result ≡ slice_index self.now.ram.words i }
-    {
-        self.words[i as usize]
-    }
-
     /// How many fetches answered `Ok`, up to 2^64 - 1.
     pub fn fetches(&self) -> u64
         ensures { result ≡ self.now.ram.fetches }
@@ -109,6 +101,14 @@ impl CacheRam for FaultRam {
         self.fetches = self.fetches.saturating_add(1);
         self.fetched = Snapshot::of(&RamCalls::Fetched(Snapshot::of(&self.fetched), i));
         Ok(self.words[i as usize])
+    }
+
+    /// This counts as no call.
+    fn word(&self, i: u32) -> u32
+        requires { i < length self.now.ram.words }
+        ensures { result ≡ slice_index self.now.ram.words i }
+    {
+        self.words[i as usize]
     }
 
     fn set(&mut self, i: u32, w: u32) -> Result<(), Failed>

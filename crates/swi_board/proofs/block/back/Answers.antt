@@ -23,9 +23,9 @@ return_address-link-requires-clause-offset g c =
     let v = c.args.image.now in
     let x = c.in_ok-x.x in
     let told : c.jalr_fields.result ≡ Some x = search rules in
-    let is : jalr_fields (decoded c.in_ok-held.field-0) ≡ Some x = sym c.jalr_fields.ensures ∙ told in
-    let exit = c.in_ok-held.ensures ∙ jalr_held v _ _ (g.M.CacheRam.state c.args.ram.now).words c.args.at _ x (g.met.R.CacheRom.laws.coherent _ _ _ c.requires.sound) c.requires.exit
-    (subst (λ n. jalr_fields (decoded n) ≡ Some x) c.in_ok-held.ensures is) in
+    let is : jalr_fields (decoded c.word.result) ≡ Some x = sym c.jalr_fields.ensures ∙ told in
+    let exit = c.word.ensures ∙ jalr_held v _ _ (g.M.CacheRam.state c.args.ram.now).words c.args.at _ x (g.met.R.CacheRom.laws.coherent _ _ _ c.requires.sound) c.requires.exit
+    (subst (λ n. jalr_fields (decoded n) ≡ Some x) c.word.ensures is) in
     link_inside v _ c.args.at _ _ x c.requires.exit exit is
 
 pub returns-clause-on : goal.returns-clause-on
@@ -38,10 +38,10 @@ returns-clause-on g c = λ w here room.
     let t = c.register_target-target.result in
     let x = c.in_ok-x.x in
     let told : c.jalr_fields.result ≡ Some x = search rules in
-    let is : jalr_fields (decoded c.in_ok-held.field-0) ≡ Some x = sym c.jalr_fields.ensures ∙ told in
-    let exit : c.in_ok-held.field-0 ≡ word_at v p.0 (p.1 + 1) = c.in_ok-held.ensures ∙ jalr_held v _ _ words c.args.at p x (g.met.R.CacheRom.laws.coherent _ _ _ c.requires.sound) c.requires.exit
-    (subst (λ n. jalr_fields (decoded n) ≡ Some x) c.in_ok-held.ensures is) in
-    let kind : exit_kind c.in_ok-held.field-0 ≡ Indirect = jalr_exit _ x is in
+    let is : jalr_fields (decoded c.word.result) ≡ Some x = sym c.jalr_fields.ensures ∙ told in
+    let exit : c.word.result ≡ word_at v p.0 (p.1 + 1) = c.word.ensures ∙ jalr_held v _ _ words c.args.at p x (g.met.R.CacheRom.laws.coherent _ _ _ c.requires.sound) c.requires.exit
+    (subst (λ n. jalr_fields (decoded n) ≡ Some x) c.word.ensures is) in
+    let kind : exit_kind c.word.result ≡ Indirect = jalr_exit _ x is in
     let got : decoded (word_at v p.0 (p.1 + 1)) ≡ Some (instr.Jalr x.rd x.rs1 x.imm) =
     ap decoded (sym exit) ∙ jalr_is _ x is in
     let seen : c.hart.inside.machine ≡ m = ap (λ (h : HartData). h.machine) c.hart.view_is in

@@ -209,7 +209,7 @@ step_anew-requires-clause-used g c =
     let there = come_word told come c.quick.new.walk c.quick.new.hart (g.M.CacheRam.state c.fetch_kept.new.self) c.in-Ok.word more c.in-Ok.ensures.fetched (c.quick.ensures.on gone) (c.quick.ensures.counted gone) (c.quick.ensures.limited gone) c.quick.ensures.rest in
     let further = c.quick.ensures.exit c.in-Exit.is in
     let same = c.link_on.ensures.same c.if-link_on.false in
-    let fetched = rw (sym (ap (λ (k : Walk). k.index) same)) at c.in-Ok-fetch_kept.ensures.fetched in
+    let fetched = rw (sym (ap (λ (k : Walk). k.index) same), sym c.again-left.ensures) at c.in-Ok-fetch_kept.ensures.fetched in
     let still = come_same {h' = c.quick.new.hart} same refl there in
     let again : c.link_on.new.walk.index < c.link_on.new.walk.end = rw same further in
     come_below told still again
@@ -223,7 +223,7 @@ step_anew-requires-clause-place g c =
     let there = come_word told come c.quick.new.walk c.quick.new.hart (g.M.CacheRam.state c.fetch_kept.new.self) c.in-Ok.word more c.in-Ok.ensures.fetched (c.quick.ensures.on gone) (c.quick.ensures.counted gone) (c.quick.ensures.limited gone) c.quick.ensures.rest in
     let further = c.quick.ensures.exit c.in-Exit.is in
     let same = c.link_on.ensures.same c.if-link_on.false in
-    let fetched = rw (sym (ap (λ (k : Walk). k.index) same)) at c.in-Ok-fetch_kept.ensures.fetched in
+    let fetched = rw (sym (ap (λ (k : Walk). k.index) same), sym c.again-left.ensures) at c.in-Ok-fetch_kept.ensures.fetched in
     let still = come_same {h' = c.quick.new.hart} same refl there in
     let again : c.link_on.new.walk.index < c.link_on.new.walk.end = rw same further in
     come_inside told still _ (rw (sym (c.fetch_kept-in-Exit.ensures.kept ∙ c.fetch_kept.ensures.kept ∙ c.loop-walk.invariant.kept)) at c.requires.places) again
@@ -237,7 +237,7 @@ step_anew-requires-clause-room g c =
     let there = come_word told come c.quick.new.walk c.quick.new.hart (g.M.CacheRam.state c.fetch_kept.new.self) c.in-Ok.word more c.in-Ok.ensures.fetched (c.quick.ensures.on gone) (c.quick.ensures.counted gone) (c.quick.ensures.limited gone) c.quick.ensures.rest in
     let further = c.quick.ensures.exit c.in-Exit.is in
     let same = c.link_on.ensures.same c.if-link_on.false in
-    let fetched = rw (sym (ap (λ (k : Walk). k.index) same)) at c.in-Ok-fetch_kept.ensures.fetched in
+    let fetched = rw (sym (ap (λ (k : Walk). k.index) same), sym c.again-left.ensures) at c.in-Ok-fetch_kept.ensures.fetched in
     let still = come_same {h' = c.quick.new.hart} same refl there in
     let again : c.link_on.new.walk.index < c.link_on.new.walk.end = rw same further in
     come_room told still again
@@ -251,11 +251,11 @@ loop-walk-smaller-in-Exit g c =
     let there = come_word told come c.quick.new.walk c.quick.new.hart (g.M.CacheRam.state c.fetch_kept.new.self) c.in-Ok.word more c.in-Ok.ensures.fetched (c.quick.ensures.on gone) (c.quick.ensures.counted gone) (c.quick.ensures.limited gone) c.quick.ensures.rest in
     let further = c.quick.ensures.exit c.in-Exit.is in
     let same = c.link_on.ensures.same c.if-link_on.false in
-    let fetched = rw (sym (ap (λ (k : Walk). k.index) same)) at c.in-Ok-fetch_kept.ensures.fetched in
+    let fetched = rw (sym (ap (λ (k : Walk). k.index) same), sym c.again-left.ensures) at c.in-Ok-fetch_kept.ensures.fetched in
     let still = come_same {h' = c.quick.new.hart} same refl there in
     let again : c.link_on.new.walk.index < c.link_on.new.walk.end = rw same further in
     let first = falls_word told come c.quick.new.walk c.quick.new.hart (g.M.CacheRam.state c.fetch_kept.new.self) c.in-Ok.word more c.in-Ok.ensures.fetched (c.quick.ensures.on gone) (c.quick.ensures.counted gone) (c.quick.ensures.limited gone) c.quick.ensures.rest in
-    let second = rw same at (falls_word told still c.in-Some.next c.step_anew.new.hart (g.M.CacheRam.state c.fetch_kept-in-Exit.new.self) c.in-Ok-fetch_kept.exit again fetched c.in-Some.ensures.on c.in-Some.ensures.counted c.in-Some.ensures.limited c.step_anew.ensures.rest) in
+    let second = rw same at (falls_word told still c.in-Some.next c.step_anew.new.hart (g.M.CacheRam.state c.fetch_kept-in-Exit.new.self) c.again-left.result again fetched c.in-Some.ensures.on c.in-Some.ensures.counted c.in-Some.ensures.limited c.step_anew.ensures.rest) in
     rw c.come.ensures (omega (arith, first, second))
 
 pub loop-walk-preserved-in-Exit : goal.loop-walk-preserved-in-Exit
@@ -267,10 +267,10 @@ loop-walk-preserved-in-Exit g c =
     let there = come_word told come c.quick.new.walk c.quick.new.hart (g.M.CacheRam.state c.fetch_kept.new.self) c.in-Ok.word more c.in-Ok.ensures.fetched (c.quick.ensures.on gone) (c.quick.ensures.counted gone) (c.quick.ensures.limited gone) c.quick.ensures.rest in
     let further = c.quick.ensures.exit c.in-Exit.is in
     let same = c.link_on.ensures.same c.if-link_on.false in
-    let fetched = rw (sym (ap (λ (k : Walk). k.index) same)) at c.in-Ok-fetch_kept.ensures.fetched in
+    let fetched = rw (sym (ap (λ (k : Walk). k.index) same), sym c.again-left.ensures) at c.in-Ok-fetch_kept.ensures.fetched in
     let still = come_same {h' = c.quick.new.hart} same refl there in
     let again : c.link_on.new.walk.index < c.link_on.new.walk.end = rw same further in
-    record { come = rw (c.come.ensures, c.step_anew.ensures.ram) (come_word told still c.in-Some.next c.step_anew.new.hart (g.M.CacheRam.state c.fetch_kept-in-Exit.new.self) c.in-Ok-fetch_kept.exit again fetched c.in-Some.ensures.on c.in-Some.ensures.counted c.in-Some.ensures.limited c.step_anew.ensures.rest); told = told; kept = c.step_anew.ensures.kept ∙ c.fetch_kept-in-Exit.ensures.kept ∙ c.fetch_kept.ensures.kept ∙ c.loop-walk.invariant.kept; found = c.loop-walk.invariant.found }
+    record { come = rw (c.come.ensures, c.step_anew.ensures.ram) (come_word told still c.in-Some.next c.step_anew.new.hart (g.M.CacheRam.state c.fetch_kept-in-Exit.new.self) c.again-left.result again fetched c.in-Some.ensures.on c.in-Some.ensures.counted c.in-Some.ensures.limited c.step_anew.ensures.rest); told = told; kept = c.step_anew.ensures.kept ∙ c.fetch_kept-in-Exit.ensures.kept ∙ c.fetch_kept.ensures.kept ∙ c.loop-walk.invariant.kept; found = c.loop-walk.invariant.found }
 
 pub settle-requires-in_default-step_anew-clause-shown : goal.settle-requires-in_default-step_anew-clause-shown
 settle-requires-in_default-step_anew-clause-shown g c =
@@ -281,7 +281,7 @@ settle-requires-in_default-step_anew-clause-shown g c =
     let there = come_word told come c.quick.new.walk c.quick.new.hart (g.M.CacheRam.state c.fetch_kept.new.self) c.in-Ok.word more c.in-Ok.ensures.fetched (c.quick.ensures.on gone) (c.quick.ensures.counted gone) (c.quick.ensures.limited gone) c.quick.ensures.rest in
     let further = c.quick.ensures.exit c.in-Exit.is in
     let same = c.link_on.ensures.same c.if-link_on.false in
-    let fetched = rw (sym (ap (λ (k : Walk). k.index) same)) at c.in-Ok-fetch_kept.ensures.fetched in
+    let fetched = rw (sym (ap (λ (k : Walk). k.index) same), sym c.again-left.ensures) at c.in-Ok-fetch_kept.ensures.fetched in
     let still = come_same {h' = c.quick.new.hart} same refl there in
     let again : c.link_on.new.walk.index < c.link_on.new.walk.end = rw same further in
     still.shown
@@ -295,7 +295,7 @@ settle-requires-in_default-step_anew-clause-to g c =
     let there = come_word told come c.quick.new.walk c.quick.new.hart (g.M.CacheRam.state c.fetch_kept.new.self) c.in-Ok.word more c.in-Ok.ensures.fetched (c.quick.ensures.on gone) (c.quick.ensures.counted gone) (c.quick.ensures.limited gone) c.quick.ensures.rest in
     let further = c.quick.ensures.exit c.in-Exit.is in
     let same = c.link_on.ensures.same c.if-link_on.false in
-    let fetched = rw (sym (ap (λ (k : Walk). k.index) same)) at c.in-Ok-fetch_kept.ensures.fetched in
+    let fetched = rw (sym (ap (λ (k : Walk). k.index) same), sym c.again-left.ensures) at c.in-Ok-fetch_kept.ensures.fetched in
     let still = come_same {h' = c.quick.new.hart} same refl there in
     let again : c.link_on.new.walk.index < c.link_on.new.walk.end = rw same further in
     own_limit still.to
@@ -309,7 +309,7 @@ settle-requires-in_default-step_anew-clause-few g c =
     let there = come_word told come c.quick.new.walk c.quick.new.hart (g.M.CacheRam.state c.fetch_kept.new.self) c.in-Ok.word more c.in-Ok.ensures.fetched (c.quick.ensures.on gone) (c.quick.ensures.counted gone) (c.quick.ensures.limited gone) c.quick.ensures.rest in
     let further = c.quick.ensures.exit c.in-Exit.is in
     let same = c.link_on.ensures.same c.if-link_on.false in
-    let fetched = rw (sym (ap (λ (k : Walk). k.index) same)) at c.in-Ok-fetch_kept.ensures.fetched in
+    let fetched = rw (sym (ap (λ (k : Walk). k.index) same), sym c.again-left.ensures) at c.in-Ok-fetch_kept.ensures.fetched in
     let still = come_same {h' = c.quick.new.hart} same refl there in
     let again : c.link_on.new.walk.index < c.link_on.new.walk.end = rw same further in
     rw still.to.limited c.requires.few
@@ -323,7 +323,7 @@ returns-in_default-step_anew-clause-ran g c =
     let there = come_word told come c.quick.new.walk c.quick.new.hart (g.M.CacheRam.state c.fetch_kept.new.self) c.in-Ok.word more c.in-Ok.ensures.fetched (c.quick.ensures.on gone) (c.quick.ensures.counted gone) (c.quick.ensures.limited gone) c.quick.ensures.rest in
     let further = c.quick.ensures.exit c.in-Exit.is in
     let same = c.link_on.ensures.same c.if-link_on.false in
-    let fetched = rw (sym (ap (λ (k : Walk). k.index) same)) at c.in-Ok-fetch_kept.ensures.fetched in
+    let fetched = rw (sym (ap (λ (k : Walk). k.index) same), sym c.again-left.ensures) at c.in-Ok-fetch_kept.ensures.fetched in
     let still = come_same {h' = c.quick.new.hart} same refl there in
     let again : c.link_on.new.walk.index < c.link_on.new.walk.end = rw same further in
     rw (c.settle-in_default-step_anew.ensures, c.step_anew.ensures.same c.in_default-step_anew.is, c.step_anew.ensures.ram) (stopped told still again fetched)
@@ -336,19 +336,19 @@ back-requires-clause-exit g c =
     let same = c.quick.ensures.same (ap is_left c.in-Left.is) in
     let stay = come_same same.0 same.1 come in
     let again : c.quick.new.walk.index < c.quick.new.walk.end = rw same.0 more in
-    let fetched = rw (sym (ap (λ (k : Walk). k.index) same.0)) at c.in-Ok.ensures.fetched in
-    exit_stands _ _ _ _ _ _ _ _ _ (told.laws.coherent _ _ _ stay.sound) (stay.inside again).home c.in-Ok.word instr.Ebreak fetched.0
-    (break_decodes c.in-Ok.word c.if-word-eq-EBREAK.true) refl
+    let fetched = rw (sym (ap (λ (k : Walk). k.index) same.0), sym c.again-left-in-loop-walk.ensures) at c.in-Ok.ensures.fetched in
+    exit_stands _ _ _ _ _ _ _ _ _ (told.laws.coherent _ _ _ stay.sound) (stay.inside again).home c.again-left-in-loop-walk.result instr.Ebreak fetched.0
+    (break_decodes c.again-left-in-loop-walk.result c.if-left-eq-EBREAK.true) refl
 
-pub loop-walk-smaller-then-word-eq-EBREAK : goal.loop-walk-smaller-then-word-eq-EBREAK
-loop-walk-smaller-then-word-eq-EBREAK g c =
+pub loop-walk-smaller-then-left-eq-EBREAK : goal.loop-walk-smaller-then-left-eq-EBREAK
+loop-walk-smaller-then-left-eq-EBREAK g c =
     let told = c.loop-walk.invariant.told in
     let come = c.loop-walk.invariant.come in
     let more : c.loop-walk.walk.index < c.loop-walk.walk.end = omega (arith, c.loop-walk-test.true) in
     let same = c.quick.ensures.same (ap is_left c.in-Left.is) in
     let stay = come_same same.0 same.1 come in
     let again : c.quick.new.walk.index < c.quick.new.walk.end = rw same.0 more in
-    let fetched = rw (sym (ap (λ (k : Walk). k.index) same.0)) at c.in-Ok.ensures.fetched in
+    let fetched = rw (sym (ap (λ (k : Walk). k.index) same.0), sym c.again-left-in-loop-walk.ensures) at c.in-Ok.ensures.fetched in
     let room = come_room told stay again in
     let v = c.args.image.now in
     let w = c.quick.new.walk in
@@ -366,23 +366,23 @@ loop-walk-smaller-then-word-eq-EBREAK g c =
     let jump : JumpOn policy span v r new after (walk_machine w c.quick.new.hart.machine) (walk_machine w' c.back.new.hart.machine) (walk_control w' step.0) w.index p.0 p.1 w.stage =
     subst (λ (k : Walk). JumpOn policy span v r new after (walk_machine w c.quick.new.hart.machine) (walk_machine k c.back.new.hart.machine) (walk_control k step.0) w.index p.0 p.1 w.stage) (sym is) step.1 in
     let counted : walk_count w' ≡ walk_count w + 1 = ap walk_count is ∙ landed_counted c.in-Some-back.index c.in-Some-back.target 1 w (omega arith) room in
-    let on = jumps_on policy span v r new c.quick.new.hart c.back.new.hart before after w w' p step.0 instr.Ebreak c.in-Ok.word counted
+    let on = jumps_on policy span v r new c.quick.new.hart c.back.new.hart before after w w' p step.0 instr.Ebreak c.again-left-in-loop-walk.result counted
     (ap (λ (k : HartData). k.failed) rest) (ap (λ (k : HartData). k.booted) rest) (ap (λ (k : HartData). k.machine.ending) rest ∙ stay.going) fetched
-    (break_decodes c.in-Ok.word c.if-word-eq-EBREAK.true) refl jump in
+    (break_decodes c.again-left-in-loop-walk.result c.if-left-eq-EBREAK.true) refl jump in
     let keeps : Keeps g.R.CacheRom.service v c.loop-walk.rom c.back.new.rom before.words after.words =
     λ images serves. c.back.ensures.keeps images (subst (λ k. g.R.CacheRom.service.serves c.loop-walk.rom v images k) (sym (ap (λ (k : RamState). k.words) fetched.1)) serves) in
     let to = subst (λ (k : Walk). WalksTo c.args.limit k) (sym is) (landed_within c.in-Some-back.index c.in-Some-back.target 1 w c.args.limit (omega arith) again stay.to) in
     rw (same.0, same.1) at (falls_on told stay c.back.new.rom w' c.back.new.hart after again step.0 on c.back.ensures.setting c.back.ensures.stays keeps to)
 
-pub loop-walk-preserved-then-word-eq-EBREAK : goal.loop-walk-preserved-then-word-eq-EBREAK
-loop-walk-preserved-then-word-eq-EBREAK g c =
+pub loop-walk-preserved-then-left-eq-EBREAK : goal.loop-walk-preserved-then-left-eq-EBREAK
+loop-walk-preserved-then-left-eq-EBREAK g c =
     let told = c.loop-walk.invariant.told in
     let come = c.loop-walk.invariant.come in
     let more : c.loop-walk.walk.index < c.loop-walk.walk.end = omega (arith, c.loop-walk-test.true) in
     let same = c.quick.ensures.same (ap is_left c.in-Left.is) in
     let stay = come_same same.0 same.1 come in
     let again : c.quick.new.walk.index < c.quick.new.walk.end = rw same.0 more in
-    let fetched = rw (sym (ap (λ (k : Walk). k.index) same.0)) at c.in-Ok.ensures.fetched in
+    let fetched = rw (sym (ap (λ (k : Walk). k.index) same.0), sym c.again-left-in-loop-walk.ensures) at c.in-Ok.ensures.fetched in
     let room = come_room told stay again in
     let v = c.args.image.now in
     let w = c.quick.new.walk in
@@ -400,9 +400,9 @@ loop-walk-preserved-then-word-eq-EBREAK g c =
     let jump : JumpOn policy span v r new after (walk_machine w c.quick.new.hart.machine) (walk_machine w' c.back.new.hart.machine) (walk_control w' step.0) w.index p.0 p.1 w.stage =
     subst (λ (k : Walk). JumpOn policy span v r new after (walk_machine w c.quick.new.hart.machine) (walk_machine k c.back.new.hart.machine) (walk_control k step.0) w.index p.0 p.1 w.stage) (sym is) step.1 in
     let counted : walk_count w' ≡ walk_count w + 1 = ap walk_count is ∙ landed_counted c.in-Some-back.index c.in-Some-back.target 1 w (omega arith) room in
-    let on = jumps_on policy span v r new c.quick.new.hart c.back.new.hart before after w w' p step.0 instr.Ebreak c.in-Ok.word counted
+    let on = jumps_on policy span v r new c.quick.new.hart c.back.new.hart before after w w' p step.0 instr.Ebreak c.again-left-in-loop-walk.result counted
     (ap (λ (k : HartData). k.failed) rest) (ap (λ (k : HartData). k.booted) rest) (ap (λ (k : HartData). k.machine.ending) rest ∙ stay.going) fetched
-    (break_decodes c.in-Ok.word c.if-word-eq-EBREAK.true) refl jump in
+    (break_decodes c.again-left-in-loop-walk.result c.if-left-eq-EBREAK.true) refl jump in
     let keeps : Keeps g.R.CacheRom.service v c.loop-walk.rom c.back.new.rom before.words after.words =
     λ images serves. c.back.ensures.keeps images (subst (λ k. g.R.CacheRom.service.serves c.loop-walk.rom v images k) (sym (ap (λ (k : RamState). k.words) fetched.1)) serves) in
     let to = subst (λ (k : Walk). WalksTo c.args.limit k) (sym is) (landed_within c.in-Some-back.index c.in-Some-back.target 1 w c.args.limit (omega arith) again stay.to) in
@@ -416,8 +416,8 @@ loop-walk-smaller g c =
     let same = c.quick.ensures.same (ap is_left c.in-Left.is) in
     let stay = come_same same.0 same.1 come in
     let again : c.quick.new.walk.index < c.quick.new.walk.end = rw same.0 more in
-    let fetched = rw (sym (ap (λ (k : Walk). k.index) same.0)) at c.in-Ok.ensures.fetched in
-    rw c.come-in-loop-walk.ensures (rw (same.0, same.1) at (falls_word told stay c.in-Some-step_anew.next c.step_anew-in-loop-walk.new.hart (g.M.CacheRam.state c.fetch_kept.new.self) c.in-Ok.word again fetched c.in-Some-step_anew.ensures.on c.in-Some-step_anew.ensures.counted c.in-Some-step_anew.ensures.limited c.step_anew-in-loop-walk.ensures.rest))
+    let fetched = rw (sym (ap (λ (k : Walk). k.index) same.0), sym c.again-left-in-loop-walk.ensures) at c.in-Ok.ensures.fetched in
+    rw c.come-in-loop-walk.ensures (rw (same.0, same.1) at (falls_word told stay c.in-Some-step_anew.next c.step_anew-in-loop-walk.new.hart (g.M.CacheRam.state c.fetch_kept.new.self) c.again-left-in-loop-walk.result again fetched c.in-Some-step_anew.ensures.on c.in-Some-step_anew.ensures.counted c.in-Some-step_anew.ensures.limited c.step_anew-in-loop-walk.ensures.rest))
 
 pub loop-walk-preserved : goal.loop-walk-preserved
 loop-walk-preserved g c =
@@ -427,8 +427,8 @@ loop-walk-preserved g c =
     let same = c.quick.ensures.same (ap is_left c.in-Left.is) in
     let stay = come_same same.0 same.1 come in
     let again : c.quick.new.walk.index < c.quick.new.walk.end = rw same.0 more in
-    let fetched = rw (sym (ap (λ (k : Walk). k.index) same.0)) at c.in-Ok.ensures.fetched in
-    record { told = told; come = rw (c.come-in-loop-walk.ensures, c.step_anew-in-loop-walk.ensures.ram) (come_word told stay c.in-Some-step_anew.next c.step_anew-in-loop-walk.new.hart (g.M.CacheRam.state c.fetch_kept.new.self) c.in-Ok.word again fetched c.in-Some-step_anew.ensures.on c.in-Some-step_anew.ensures.counted c.in-Some-step_anew.ensures.limited c.step_anew-in-loop-walk.ensures.rest); kept = c.step_anew-in-loop-walk.ensures.kept ∙ c.fetch_kept.ensures.kept ∙ c.loop-walk.invariant.kept; found = c.loop-walk.invariant.found }
+    let fetched = rw (sym (ap (λ (k : Walk). k.index) same.0), sym c.again-left-in-loop-walk.ensures) at c.in-Ok.ensures.fetched in
+    record { told = told; come = rw (c.come-in-loop-walk.ensures, c.step_anew-in-loop-walk.ensures.ram) (come_word told stay c.in-Some-step_anew.next c.step_anew-in-loop-walk.new.hart (g.M.CacheRam.state c.fetch_kept.new.self) c.again-left-in-loop-walk.result again fetched c.in-Some-step_anew.ensures.on c.in-Some-step_anew.ensures.counted c.in-Some-step_anew.ensures.limited c.step_anew-in-loop-walk.ensures.rest); kept = c.step_anew-in-loop-walk.ensures.kept ∙ c.fetch_kept.ensures.kept ∙ c.loop-walk.invariant.kept; found = c.loop-walk.invariant.found }
 
 pub returns-in_default-back-clause-ran : goal.returns-in_default-back-clause-ran
 returns-in_default-back-clause-ran g c =
@@ -438,7 +438,7 @@ returns-in_default-back-clause-ran g c =
     let same = c.quick.ensures.same (ap is_left c.in-Left.is) in
     let stay = come_same same.0 same.1 come in
     let again : c.quick.new.walk.index < c.quick.new.walk.end = rw same.0 more in
-    let fetched = rw (sym (ap (λ (k : Walk). k.index) same.0)) at c.in-Ok.ensures.fetched in
+    let fetched = rw (sym (ap (λ (k : Walk). k.index) same.0), sym c.again-left-in-loop-walk.ensures) at c.in-Ok.ensures.fetched in
     rw (c.settle-in_default-back.ensures, (c.back.ensures.same c.in_default-back.is).0, (c.back.ensures.same c.in_default-back.is).1) (stopped told stay again fetched)
 
 pub returns-in_default-step_anew-2-clause-ran : goal.returns-in_default-step_anew-2-clause-ran
@@ -449,5 +449,5 @@ returns-in_default-step_anew-2-clause-ran g c =
     let same = c.quick.ensures.same (ap is_left c.in-Left.is) in
     let stay = come_same same.0 same.1 come in
     let again : c.quick.new.walk.index < c.quick.new.walk.end = rw same.0 more in
-    let fetched = rw (sym (ap (λ (k : Walk). k.index) same.0)) at c.in-Ok.ensures.fetched in
+    let fetched = rw (sym (ap (λ (k : Walk). k.index) same.0), sym c.again-left-in-loop-walk.ensures) at c.in-Ok.ensures.fetched in
     rw (c.settle-in_default-step_anew-2.ensures, c.step_anew-in-loop-walk.ensures.same c.in_default-step_anew-2.is, c.step_anew-in-loop-walk.ensures.ram) (stopped told stay again fetched)

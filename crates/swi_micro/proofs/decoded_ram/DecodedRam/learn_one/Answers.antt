@@ -1,4 +1,4 @@
-use Rattle.std.proofs.Common.{◌≡◌, ◌<◌, ap, length, slice_index, subst, sym, ◌∙◌}
+use Rattle.std.proofs.Common.{◌≡◌, ap, length, slice_index, subst, sym, ◌∙◌}
 use Rattle.swi_memory.specs.declared.word_range.WordRange.{WordRange}
 use Rattle.swi_micro.specs.Twins.{DecodedOf, IsTwin, first_words}
 use Rattle.swi_micro.proofs.Twinning.{twins_learn}
@@ -8,9 +8,7 @@ pub invariant_of-self : goal.invariant_of-self
 invariant_of-self g c =
     let words = (g.M.CacheRam.state c.self.inside.ram).words in
     let ops = c.self.inside.ops.items in
-    let inside : c.args.i < length ops = subst (λ (d : DecodedOf g.row.M.Denot). c.args.i < d.kept) (sym c.self.view_is) c.requires.inside in
-    let word : c.args.word ≡ slice_index words c.args.i = c.requires.word ∙ ap (λ (d : DecodedOf g.row.M.Denot). slice_index (g.M.CacheRam.state d.ram).words c.args.i) (sym c.self.view_is) in
     let range : c.range-range.result ≡ first_words (length ops) = c.range-range.ensures ∙ ap (λ (d : DecodedOf g.row.M.Denot). first_words d.kept) (sym c.self.view_is) in
     let twin : IsTwin (first_words (length ops)) c.args.i (slice_index words c.args.i) c.op-op.result =
-    subst (λ w. IsTwin (first_words (length ops)) c.args.i w c.op-op.result) word (subst (λ (r : WordRange). IsTwin r c.args.i c.args.word c.op-op.result) range c.op-op.ensures) in
-    twins_learn words ops c.args.i c.op-op.result c.self.invariant inside twin
+    subst (λ w. IsTwin (first_words (length ops)) c.args.i w c.op-op.result) c.word.ensures (subst (λ (r : WordRange). IsTwin r c.args.i c.word.result c.op-op.result) range c.op-op.ensures) in
+    twins_learn words ops c.args.i c.op-op.result c.self.invariant twin
