@@ -27,7 +27,7 @@ use swi_board::{Board, BoardFault, BootStop};
 use swi_image::ImageView;
 use swi_memory::Layout;
 use swi_micro::MicroRam;
-use swi_outside::{CacheRam, Memory, Sink, Source};
+use swi_outside::{Memory, Sink, Source};
 use swi_program::Program;
 use swi_rom::CacheRom;
 use swi_trace::{History, Trace};
@@ -79,8 +79,8 @@ pub(crate) fn carry(image: &ImageView<'_>, program: &Program<'_>)
     let _entry = program.entry();
 }
 
-/// The board of the program before its first step.
-fn boot<R: CacheRam, S: CacheRom>(
+/// The board of the program before its first step, and a place for a micro-op beside each word of the service.
+fn boot<R: MicroRam, S: CacheRom>(
     alloc: Global,
     image: &ImageView<'_>,
     program: &Program<'_>,
@@ -107,6 +107,9 @@ fn boot<R: CacheRam, S: CacheRom>(
     ensures not_sink { IsErrOf result CachedStop.SinkFault → ⊥ }
 {
     carry(image, program);
+    if ram.keep(alloc, rom.span()).is_err() {
+        return Err(CachedStop::Memory);
+    }
     match Board::boot(alloc, image, program, layout, asked.calls, rom, ram) {
         Ok(board) => Ok(board),
         Err(BootStop::RamFault) => Err(CachedStop::RamFault),
@@ -117,6 +120,9 @@ fn boot<R: CacheRam, S: CacheRom>(
 /// Runs a program out of a cache ram: a service copies the blocks of its image there on demand, and evicts them by its
 /// policy; as many original steps are made as are asked for, or fewer where the program ends. The board that is answered
 /// has the service. It tells how the program ended, and what it cost; where it has not ended, `Board::run` runs it on.
+///
+/// All memory is taken before the first call of a device: eight bytes for each word of the service are for the
+/// micro-ops that the ram keeps beside its words, so that each is decoded once while it stands there.
 ///
 /// The image is one of the program's text, and the layout is the program's. The service is sound for the image and the
 /// ram, and has done nothing yet. The history, where there is one, has the addresses of the last 32 steps, and with
@@ -201,9 +207,6 @@ pub fn run_cached<I: Source, O: Sink, E: Sink, R: MicroRam, S: CacheRom>(
     let Ok(history) = first_history(alloc, asked.trace) else {
         return Err(CachedStop::Memory);
     };
-    if ram.keep(alloc, rom.span()).is_err() {
-        return Err(CachedStop::Memory);
-    }
     let mut board = boot(alloc, image, program, layout, rom, asked, ram)?;
     match run_steps(
         &mut board,

@@ -16,8 +16,9 @@ use std::marker::Model;
 use swi_board::Hart;
 use swi_image::ImageView;
 use swi_isa::Reg;
-use swi_memory::Layout;
-use swi_outside::{CacheRam, Failed, VecRam};
+use swi_memory::{Layout, WordRange};
+use swi_micro::{MicroOp, MicroRam};
+use swi_outside::{CacheRam, Failed, Memory, VecRam};
 use swi_slots::ScanRom;
 
 /// Sets a0 to 7, as the text has it, and to 8.
@@ -67,6 +68,37 @@ impl CacheRam for Counted {
     {
         self.ram.set(i, w)
     }
+}
+
+/// It has no place for a micro-op.
+impl MicroRam for Counted {
+    ghost kept = { λ r. 0 };
+
+    fn keep(&mut self, _alloc: Global, _count: u32) -> Result<(), Memory> {
+        Err(Memory)
+    }
+
+    fn kept(&self) -> u32 {
+        0
+    }
+
+    fn range(&self) -> WordRange {
+        WordRange { from: 0, words: 0 }
+    }
+
+    fn fetch_kept(&mut self, i: u32) -> Result<u32, Failed> {
+        self.fetch(i)
+    }
+
+    fn op(&self, _i: u32) -> &MicroOp {
+        unreachable!()
+    }
+
+    fn held(&self, _i: u32) -> Option<u32> {
+        None
+    }
+
+    fn learn(&mut self, _i: u32, _word: u32) {}
 }
 
 /// Whether a board may make a step.
