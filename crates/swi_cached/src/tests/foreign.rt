@@ -98,11 +98,7 @@ impl MicroRam for Counted {
         unreachable!()
     }
 
-    fn held(&self, _i: u32) -> Option<u32> {
-        None
-    }
-
-    fn learn(&mut self, _i: u32, _word: u32) {}
+    fn learn(&mut self, _i: u32) {}
 }
 
 /// Whether a board may make a step.
