@@ -307,7 +307,7 @@ pub did_step : (range : WordRange) (k got n : ℕ) (m : MicroOp) (c : Class) (s 
     IsTwin range k got m → range.from ≡ 0 → Some x ≡ decoded got → c ≡ class_of m.code → Some n ≡ (ran_as c range m k regs bus).next →
     regs' ≡ (ran_as c range m k regs bus).regs → bus' ≡ (ran_as c range m k regs bus).bus → Did k s (way_by s c) x regs bus n regs' bus'
 did_step range k got n m c s x regs bus regs' bus' twin first decodes told goes new_regs new_bus =
-    let known : IsOpAt range k got m = twin.op (λ stops. left_none regs bus n (ap (λ (d : Class). (ran_as d range m k regs bus).next) (sym (told ∙ stops)) ∙ sym goes)) in
+    let known : IsOpAt range k got m = twin (λ stops. left_none regs bus n (ap (λ (d : Class). (ran_as d range m k regs bus).next) (sym (told ∙ stops)) ∙ sym goes)) in
     let is : m ≡ micro_op_of range k x = op_is range k got m x known decodes in
     let all : ran_as c range m k regs bus ≡ ran range (micro_op_of range k x) k regs bus =
     ap (λ (d : Class). ran_as d range m k regs bus) told ∙ ap (λ (q : MicroOp). ran range q k regs bus) is in
@@ -339,7 +339,7 @@ fits_place v r m w span words p coherent home got x is decodes = λ stays.
 
 -- its micro-op is that of its word
 jal_known : (range : WordRange) (k got : ℕ) (m : MicroOp) → IsTwin range k got m → class_of m.code ≡ class.Jal → IsOpAt range k got m
-jal_known range k got m twin link = twin.op (λ stops. let never : class.Stop ≡ class.Jal = sym stops ∙ link in cc)
+jal_known range k got m twin link = twin (λ stops. let never : class.Stop ≡ class.Jal = sym stops ∙ link in cc)
 
 -- its word is no EBREAK
 pub link_goes_on : (range : WordRange) (k got : ℕ) (m : MicroOp) → IsTwin range k got m → class_of m.code ≡ class.Jal → got ≡ ebreak → ⊥

@@ -1,8 +1,8 @@
 //! Steps that ask neither the ram, but for their fetch, nor a device.
 #![tactic(auto)]
 
-ghost use Rattle.swi_rom.specs.Served.{Keeps, Served};
-ghost use Rattle.std.specs.Prelude.{◌≡◌, ◌+◌, ◌-◌, ◌*◌, ◌%◌, ◌^◌, ◌<◌, ◌≤◌, ℕ, List, Option, IfSome, length, slice_index, if◌then◌else◌, None, Some, Ok, false, true};
+ghost use Rattle.swi_rom.specs.Served.{Keeps};
+ghost use Rattle.std.specs.Prelude.{◌≡◌, ◌+◌, ◌-◌, ◌*◌, ◌%◌, ◌^◌, ◌<◌, ◌≤◌, ℕ, List, Option, IfSome, length, slice_index, if◌then◌else◌, None, Some, false, true};
 ghost use Rattle.swi_outside.specs.CacheRam.{RamState};
 ghost use Rattle.swi_memory.specs.Bus.{fetched};
 ghost use Rattle.swi_calls.specs.declared.machine.Machine.{Machine};
@@ -15,9 +15,9 @@ ghost use Rattle.swi_hart.specs.Hart.{HartData};
 ghost use Rattle.swi_hart.specs.Leaving.{Home, leaves};
 ghost use Rattle.swi_hart.specs.Bounds.{most};
 ghost use Rattle.swi_board.specs.Walked.{begun, is_link, is_stop, gone, landed, place_shown, walk_left, walk_pc, walk_steps, walk_count, walk_control, walk_hart, walk_machine, ExitStands, HasRoom, WalksTo, LinkOn, StepOn, JumpOn, Walked, WalkedOn, StandsInside, BlockRan};
-ghost use Rattle.swi_rom.specs.Record.{IsJump, Record, indirect};
+ghost use Rattle.swi_rom.specs.Record.{IsJump, Record};
 ghost use Rattle.swi_rom.specs.Coherent.{StandsAt};
-ghost use Rattle.swi_board.specs.Targets.{AreFound};
+ghost use Rattle.swi_board.specs.Targets.{AreFound, Visited};
 
 use crate::known::{Went, link_on, quick};
 use crate::targets::Targets;
@@ -296,8 +296,29 @@ fn return_address<R: CacheRom>(rom: &R, image: &ImageView<'_>, at: u32, rd: Reg)
     image.word(block, offset + 2)
 }
 
-/// Where a jump over a register finds its target, if the target's block is placed. The service counts the jump then, and
-/// else nothing changes.
+/// Where the target of a jump over a register stands, if its block is placed: it is looked for, and kept. The service counts
+/// the jump then, and else nothing changes.
+// Not inlined: most jumps find their target where it stood, and then `back` saves few registers.
+#[inline(never)]
+fn look<R: CacheRom, M: CacheRam>(
+    rom: &mut R,
+    image: &ImageView<'_>,
+    ram: &M,
+    targets: &mut Targets,
+    target: u32,
+) -> Option<u32>
+    requires sound { R.service.sound rom.old image.now (M.state ram.now).words }
+    requires services { (R.service.kept rom.old).counts.services < 2 ^ 50 }
+    requires found { AreFound image.now (R.service.kept rom.old) targets.old }
+    ensures { Visited R.service image.now target (M.state ram.now) (record { rom = rom.old; found = targets.old })
+        (record { rom = rom.new; found = targets.new }) result }
+{
+    let index = rom.revisit(image, ram, target)?;
+    targets.keep(target, index);
+    Some(index)
+}
+
+/// As `look`, of a target that may be kept.
 #[inline(always)]
 fn visit<R: CacheRom, M: CacheRam>(
     rom: &mut R,
@@ -310,22 +331,13 @@ fn visit<R: CacheRom, M: CacheRam>(
     requires services { (R.service.kept rom.old).counts.services < 2 ^ 50 }
     requires four { target % 4 ≡ 0 }
     requires found { AreFound image.now (R.service.kept rom.old) targets.old }
-    ensures served { IfSome result (λ i. Served image.now (R.service.span (R.service.setting rom.old)) target (R.service.kept rom.old)
-        (R.service.policy (R.service.setting rom.old) (R.service.kept rom.old) image.now (indirect target)) (R.service.kept rom.new)
-        (M.state ram.now) (M.state ram.now) (Ok i)) }
-    ensures same { result ≡ None → rom.new ≡ rom.old }
-    ensures setting { R.service.setting rom.new ≡ R.service.setting rom.old }
-    ensures stays { R.service.sound rom.new image.now (M.state ram.now).words }
-    ensures keeps { Keeps R.service image.now rom.old rom.new (M.state ram.now).words (M.state ram.now).words }
-    ensures counted { R.service.kept rom.new ≡ record (R.service.kept rom.old) { counts = (R.service.kept rom.new).counts } }
-    ensures found { AreFound image.now (R.service.kept rom.new) targets.new }
+    ensures { Visited R.service image.now target (M.state ram.now) (record { rom = rom.old; found = targets.old })
+        (record { rom = rom.new; found = targets.new }) result }
 {
-    if let Some(index) = targets.find(target) {
-        rom.visit(image, ram, target, index);
-        return Some(index);
-    }
-    let index = rom.revisit(image, ram, target)?;
-    targets.keep(target, index);
+    let Some(index) = targets.find(target) else {
+        return look(rom, image, ram, targets, target);
+    };
+    rom.visit(image, ram, target, index);
     Some(index)
 }
 

@@ -200,6 +200,19 @@ loop-walk-preserved-then-link_on g c =
     let further = c.quick.ensures.exit c.in-Exit.is in
     record { come = come_word told there c.link_on.new.walk c.quick.new.hart (g.M.CacheRam.state c.fetch_kept-in-Exit.new.self) c.in-Ok-fetch_kept.exit further c.in-Ok-fetch_kept.ensures.fetched (λ x decodes p home. c.link_on.ensures.on c.if-link_on.true x c.quick.new.hart.machine p decodes home) (c.link_on.ensures.counted c.if-link_on.true) (c.link_on.ensures.limited c.if-link_on.true) refl; told = told; kept = c.fetch_kept-in-Exit.ensures.kept ∙ c.fetch_kept.ensures.kept ∙ c.loop-walk.invariant.kept; found = c.loop-walk.invariant.found }
 
+pub again-left-requires-clause-inside : goal.again-left-requires-clause-inside
+again-left-requires-clause-inside g c =
+    let told = c.loop-walk.invariant.told in
+    let come = c.loop-walk.invariant.come in
+    let more : c.loop-walk.walk.index < c.loop-walk.walk.end = omega (arith, c.loop-walk-test.true) in
+    let gone : is_left c.quick.result ≡ false = ap is_left c.in-Exit.is in
+    let there = come_word told come c.quick.new.walk c.quick.new.hart (g.M.CacheRam.state c.fetch_kept.new.self) c.in-Ok.word more c.in-Ok.ensures.fetched (c.quick.ensures.on gone) (c.quick.ensures.counted gone) (c.quick.ensures.limited gone) c.quick.ensures.rest in
+    let further = c.quick.ensures.exit c.in-Exit.is in
+    let same = c.link_on.ensures.same c.if-link_on.false in
+    let still = come_same {h' = c.quick.new.hart} same refl there in
+    let again : c.link_on.new.walk.index < c.link_on.new.walk.end = rw same further in
+    rw (ap (λ (s : RamState). s.words) c.in-Ok-fetch_kept.ensures.fetched.1) (still.inside again).in_ram
+
 pub step_anew-requires-clause-used : goal.step_anew-requires-clause-used
 step_anew-requires-clause-used g c =
     let told = c.loop-walk.invariant.told in

@@ -1,8 +1,12 @@
 use Rattle.swi_board.proofs.Remembering.{still_found}
 use Rattle.swi_board.proofs.block.visit.Goals as goal
 
-pub returns-in-Some-clause-found : goal.returns-in-Some-clause-found
-returns-in-Some-clause-found g c = still_found c.args.image.now _ _ _ c.visit.ensures.counted c.requires.found
-
-pub returns-clause-found : goal.returns-clause-found
-returns-clause-found g c = c.keep.ensures _ _ (still_found c.args.image.now _ _ _ c.revisit.ensures.counted c.requires.found) c.in_ok-index.ensures.served.answer
+pub returns : goal.returns
+returns g c = record {
+  served = c.visit.ensures.served;
+  same = λ none. absurd (cc);
+  setting = c.visit.ensures.setting;
+  stays = c.visit.ensures.stays;
+  keeps = c.visit.ensures.keeps;
+  found = still_found c.args.image.now _ _ _ c.visit.ensures.counted c.requires.found;
+}
