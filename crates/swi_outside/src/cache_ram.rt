@@ -41,7 +41,7 @@ pub trait CacheRam {
         ensures set { OnOk result (WordsSet first (W.items words.now) (state self.old) (state self.new)) }
         ensures failed { OnErr result (WordsBroke first (length (W.items words.now)) (state self.old) (state self.new)) }
     {
-        // So each index is a number of 32 bits.
+        // Their count has 32 bits, so each index below has.
         let _words = self.words();
         for k in 0..words.count() {
             self.set(first + k, words.word(k))?;
