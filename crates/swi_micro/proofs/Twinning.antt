@@ -1,12 +1,12 @@
--- Micro-ops beside the words of a ram, of which one is set.
-use Rattle.std.proofs.Common.{◌≡◌, ℕ, ◌<◌, ◌≤◌, ◌^◌, true, false, Bool, List, length, get_or, slice_index, slice_set, nat_lt, replicate, if◌then◌else◌, Some, None, Result, Ok, Err, arith, refl, sym, ap, subst, ◌∙◌, inl, inr}
+-- Micro-ops beside the words of a ram, of which one is set, or several one behind the other.
+use Rattle.std.proofs.Common.{◌≡◌, ℕ, ◌+◌, ◌<◌, ◌≤◌, ◌^◌, true, false, Bool, List, length, get_or, slice_index, slice_set, nat_lt, replicate, if◌then◌else◌, Result, Ok, Err, OnErr, OnOk, arith, refl, sym, ap, subst, ◌∙◌, inl, inr}
 use Rattle.std.proofs.lemmas.List.{get_or-set_other, get_or-set_same, get_or-replicate, length-set, length-replicate}
-use Rattle.std.proofs.lemmas.Bool.{cases_eq}
-use Rattle.swi_outside.specs.CacheRam.{RamState, WordSet}
+use Rattle.std.proofs.lemmas.Bool.{cases_eq, cases_lt}
+use Rattle.swi_outside.specs.CacheRam.{LeavesBeside, RamState, WordSet, WordsBroke, WordsSet}
 use Rattle.swi_memory.specs.declared.word_range.WordRange.{WordRange}
 use Rattle.swi_micro.specs.declared.translator.MicroOp.{MicroOp}
 use Rattle.swi_micro.specs.MicroOp.{stop_op}
-use Rattle.swi_micro.specs.Twins.{AreTwins, IsTwin, first_words, forgotten}
+use Rattle.swi_micro.specs.Twins.{AreTwins, Forgets, IsTwin, first_words, forgotten}
 
 -- of one that stops nothing is asked
 pub stop_is_twin : (range : WordRange) (k w : ℕ) → IsTwin range k w stop_op
@@ -76,3 +76,36 @@ twins_set old i w result new ops h is =
     let left = beside old i w result new is in
     twins_put old.words new.words ops (forgotten i ops) i h left.0 left.1 (forgotten_count i ops (nat_lt i (length ops))) (λ k d apart. forgotten_other i k ops d (nat_lt i (length ops)) apart)
     (λ d inside. subst (λ (n : MicroOp). IsTwin (first_words (length ops)) i (slice_index new.words i) n) (sym (forgotten_own i ops d inside)) (stop_is_twin (first_words (length ops)) i (slice_index new.words i)))
+
+-- a twin of a word that stands as it did
+twin_stays : (range : WordRange) (k w w' : ℕ) (m m' : MicroOp) → w' ≡ w → m' ≡ m → IsTwin range k w m → IsTwin range k w' m'
+twin_stays range k w w' m m' same kept h =
+    subst (λ (n : MicroOp). IsTwin range k w' n) (sym kept) (subst (λ (v : ℕ). IsTwin range k v m) (sym same) h)
+
+-- what a range of words and their micro-ops has changed to
+twins_changed : (old new : RamState) (first n : ℕ) (ops ops' : List MicroOp) → AreTwins old.words ops → LeavesBeside first n old new → Forgets first n ops ops' → AreTwins new.words ops'
+twins_changed old new first n ops ops' h left now =
+    let few = h.few in
+    let within = h.count in
+    let many = left.length_stays in
+    let count = now.count in
+    let range = first_words (length ops) in
+    record {
+      few = omega (arith, count, few);
+      count = omega (arith, many, count, within);
+      each = λ k inside d.
+          let kept : k < length ops = omega (arith, inside, count) in
+          rw count (elim (cases_lt k first) [
+            | inl below ↦ twin_stays range k (slice_index old.words k) (slice_index new.words k) (get_or ops k d) (get_or ops' k d) (left.below k below) (now.below k below d) (h.each k kept d)
+            | inr from ↦ elim (cases_lt k (first + n)) [
+              | inl here ↦ subst (λ (m : MicroOp). IsTwin range k (slice_index new.words k) m) (sym (now.gone k from here kept d)) (stop_is_twin range k (slice_index new.words k))
+              | inr over ↦ twin_stays range k (slice_index old.words k) (slice_index new.words k) (get_or ops k d) (get_or ops' k d) (left.beyond k over) (now.beyond k over d) (h.each k kept d)
+            ]
+          ]);
+    }
+
+-- behind a set of all these words, also one that failed
+pub twins_set_all : {E : Type 0} (old new : RamState) (first : ℕ) (words : List ℕ) (result : Result Unit E) (ops ops' : List MicroOp) → AreTwins old.words ops →
+    OnOk result (WordsSet first words old new) → OnErr result (WordsBroke first (length words) old new) → Forgets first (length words) ops ops' → AreTwins new.words ops'
+twins_set_all old new first words (Ok u) ops ops' h stand broke now = twins_changed old new first (length words) ops ops' h stand.left now
+twins_set_all old new first words (Err e) ops ops' h stand broke now = twins_changed old new first (length words) ops ops' h broke.left now

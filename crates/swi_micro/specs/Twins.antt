@@ -1,5 +1,5 @@
 -- Micro-ops that stand beside the words of a ram. Own rule.
-use Rattle.std.specs.Prelude.{◌≡◌, ℕ, ◌<◌, ◌≤◌, ◌^◌, if◌then◌else◌, nat_lt, List, length, slice_index, slice_set, Option, Some, None}
+use Rattle.std.specs.Prelude.{◌≡◌, ℕ, ◌+◌, ◌<◌, ◌≤◌, ◌^◌, if◌then◌else◌, nat_lt, List, length, slice_index, slice_set, Option, Some, None}
 use Rattle.std.proofs.Common.{get_or}
 use Rattle.swi_isa.specs.declared.instr.Instr.{Instr}
 use Rattle.swi_isa.specs.Decode.{decoded}
@@ -40,6 +40,13 @@ pub record DecodedOf (M : Type 0) : Type 0 where
 -- the micro-ops without that of the word at an index, if it has a place
 abbrev pub forgotten : ℕ → List MicroOp → List MicroOp
 forgotten i ops = if nat_lt i (length ops) then slice_set ops i stop_op else ops
+
+-- the micro-ops of n words from an index on stop, as far as they have a place, and all others stay
+pub record Forgets (first n : ℕ) (before after : List MicroOp) : Type 0 where
+  pub count : length after ≡ length before
+  pub gone : (k : ℕ) → first ≤ k → k < first + n → k < length before → (d : MicroOp) → get_or after k d ≡ stop_op
+  pub below : (k : ℕ) → k < first → (d : MicroOp) → get_or after k d ≡ get_or before k d
+  pub beyond : (k : ℕ) → first + n ≤ k → (d : MicroOp) → get_or after k d ≡ get_or before k d
 
 -- beside each of the first words stands its twin
 pub record AreTwins (words : List ℕ) (ops : List MicroOp) : Type 0 where

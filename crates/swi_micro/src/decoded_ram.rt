@@ -1,10 +1,10 @@
 //! A ram with a micro-op beside each of its words.
 #![tactic(auto)]
 
-ghost use Rattle.std.specs.Prelude.{◌≡◌, ◌^◌, ◌<◌, min, IfOk, OnErr, OnOk, length, replicate, slice_index};
-ghost use Rattle.swi_outside.specs.CacheRam.{Fetched, WordSet};
+ghost use Rattle.std.specs.Prelude.{◌≡◌, ◌^◌, ◌+◌, ◌<◌, ◌≤◌, min, IfOk, OnErr, OnOk, length, replicate, slice_index};
+ghost use Rattle.swi_outside.specs.CacheRam.{Fetched, WordSet, WordsBroke, WordsSet};
 ghost use Rattle.swi_micro.specs.MicroOp.{stop_op};
-ghost use Rattle.swi_micro.specs.Twins.{forgotten};
+ghost use Rattle.swi_micro.specs.Twins.{Forgets, forgotten};
 
 use crate::class::Class;
 use crate::known::KnownWords;
@@ -13,7 +13,7 @@ use crate::translator::{MicroOp, stop};
 use std::alloc::Global;
 use std::marker::Model;
 use swi_memory::WordRange;
-use swi_outside::{CacheRam, Failed, Memory};
+use swi_outside::{CacheRam, Failed, Memory, Words};
 
 /// A cache ram that keeps beside each of its first words the micro-op that was made of it, until the word is set. Words that
 /// were decoded last it knows wherever they are set again. In clauses it is the ram inside, and how many of its words, from
@@ -51,6 +51,17 @@ fn forget_word(ops: &mut Vec<MicroOp>, i: u32)
 {
     if (i as usize) < ops.len() {
         ops[i as usize] = stop();
+    }
+}
+
+/// Forgets the micro-ops of so many words from an index on, of those that have a place.
+fn forget_words(ops: &mut [MicroOp], first: u32, count: u32)
+    ensures { Forgets first count ops.old ops.new }
+{
+    let first = first as usize;
+    let end = ops.len().min(first + count as usize);
+    for k in first..end {
+        ops[k] = stop();
     }
 }
 
@@ -122,6 +133,17 @@ impl<M: CacheRam> CacheRam for DecodedRam<M> {
     {
         forget_word(&mut self.ops, i);
         self.ram.set(i, w)
+    }
+
+    #[inline(always)]
+    fn set_all<W: Words>(&mut self, first: u32, words: &W) -> Result<(), Failed>
+        requires { first + length (W.items words.now) ≤ length (M.state self.old.ram).words }
+        ensures set { OnOk result (WordsSet first (W.items words.now) (M.state self.old.ram) (M.state self.new.ram)) }
+        ensures failed { OnErr result (WordsBroke first (length (W.items words.now)) (M.state self.old.ram) (M.state self.new.ram)) }
+        ensures kept { self.new.kept ≡ self.old.kept }
+    {
+        forget_words(&mut self.ops, first, words.count());
+        self.ram.set_all(first, words)
     }
 }
 

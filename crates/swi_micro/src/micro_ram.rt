@@ -1,7 +1,7 @@
 //! A ram that has a micro-op beside its words.
 #![tactic(auto)]
 
-ghost use Rattle.std.specs.Prelude.{◌≡◌, ◌^◌, ◌<◌, ℕ, min, OnOk, length, slice_index};
+ghost use Rattle.std.specs.Prelude.{◌≡◌, ◌^◌, ◌<◌, ℕ, min, OnErr, OnOk, length, slice_index};
 ghost use Rattle.swi_outside.specs.CacheRam.{Fetched};
 ghost use Rattle.swi_micro.specs.Twins.{IsTwin, first_words};
 
@@ -22,7 +22,8 @@ pub trait MicroRam: CacheRam {
     fn keep(&mut self, alloc: Global, count: u32) -> Result<(), Memory>
         requires { count < 2 ^ 30 }
         ensures same { Self.state self.new ≡ Self.state self.old }
-        ensures kept { OnOk result (kept self.new ≡ min count (length (Self.state self.old).words)) };
+        ensures kept { OnOk result (kept self.new ≡ min count (length (Self.state self.old).words)) }
+        ensures left { OnErr result (kept self.new ≡ kept self.old) };
 
     /// How many words, from the first on, have a place for a micro-op.
     fn kept(&self) -> u32

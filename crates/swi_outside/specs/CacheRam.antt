@@ -1,6 +1,6 @@
 -- A cache ram: its words, and what was done to it. Own rule.
-use Rattle.std.specs.Prelude.{◌≡◌, ◌⊎◌, ℕ, ◌+◌, ◌≤◌, max, Bool, true, false, List, [], ◌∷◌, length, slice_index, slice_set, Result, Ok, Err}
-use Rattle.swi_outside.specs.Causes.{Rose, counted}
+use Rattle.std.specs.Prelude.{◌≡◌, ◌⊎◌, ℕ, ◌+◌, ◌<◌, ◌≤◌, max, Bool, true, false, List, [], ◌∷◌, length, slice_index, slice_set, Result, Ok, Err}
+use Rattle.swi_outside.specs.Causes.{Rose, counted, risen}
 
 pub record RamState : Type 0 where
   -- the words, from index 0
@@ -36,6 +36,33 @@ WordSet old i w (Ok u) new = new ≡ with_set old i w
 WordSet old i w (Err e) new = Rose old.faults new.faults × (old.faults ≤ new.faults)
     × ((new.words ≡ old.words) ⊎ (new.words ≡ slice_set old.words i w))
     × (new ≡ record old { words = new.words; faults = new.faults; reach = max old.reach (i + 1); last_failed = true })
+
+-- n sets from an index on leave every other word, what was fetched, and the number of words
+pub record LeavesBeside (first n : ℕ) (before after : RamState) : Type 0 where
+  pub fetches_stay : after.fetches ≡ before.fetches
+  pub fetched_at_stays : after.fetched_at ≡ before.fetched_at
+  pub length_stays : length after.words ≡ length before.words
+  pub below : (i : ℕ) → i < first → slice_index after.words i ≡ slice_index before.words i
+  pub beyond : (i : ℕ) → first + n ≤ i → slice_index after.words i ≡ slice_index before.words i
+  pub reached : after.reach ≤ max before.reach (first + n)
+
+-- the first n of these words stand from an index on, by n sets of which none failed
+pub record FirstSet (word : ℕ → ℕ) (first n : ℕ) (before after : RamState) : Type 0 where
+  pub left : LeavesBeside first n before after
+  pub quiet : after.faults ≡ before.faults
+  pub sets_rise : after.sets ≡ risen before.sets n
+  pub stands : (k : ℕ) → k < n → slice_index after.words (first + k) ≡ word k
+
+-- these words stand from an index on, by a set of each, of which none failed
+abbrev pub WordsSet : ℕ → List ℕ → RamState → RamState → Type 0
+WordsSet first words before after = FirstSet (slice_index words) first (length words) before after
+
+-- sets of n words from an index on, of which the last that was made failed
+pub record WordsBroke (first n : ℕ) (before after : RamState) : Type 0 where
+  pub left : LeavesBeside first n before after
+  pub later : before.faults ≤ after.faults
+  pub rose : Rose before.faults after.faults
+  pub last_failed : after.last_failed ≡ true
 
 -- a ram that was just made
 abbrev pub new_ram : List ℕ → RamState

@@ -1,7 +1,7 @@
-ghost use Rattle.std.specs.Prelude.{◌≡◌, ◌<◌, length, slice_index};
-ghost use Rattle.swi_outside.specs.CacheRam.{RamState, Fetched, WordSet};
+ghost use Rattle.std.specs.Prelude.{◌≡◌, ◌+◌, ◌<◌, ◌≤◌, length, slice_index, OnErr, OnOk};
+ghost use Rattle.swi_outside.specs.CacheRam.{RamState, Fetched, WordSet, WordsSet, WordsBroke};
 
-use crate::Failed;
+use crate::{Failed, Words};
 
 /// The small memory of 32-bit words that cached code is run from.
 pub trait CacheRam {
@@ -32,4 +32,20 @@ pub trait CacheRam {
     fn set(&mut self, i: u32, w: u32) -> Result<(), Failed>
         requires { i < length (state self.old).words }
         ensures set { WordSet (state self.old) i w result (state self.new) };
+
+    /// Puts words one behind the other from index `first` on, as `set` does each.
+    ///
+    /// `Failed` comes only where the count of faults rose; words beside theirs are as they were then too.
+    fn set_all<W: Words>(&mut self, first: u32, words: &W) -> Result<(), Failed>
+        requires { first + length (W.items words.now) ≤ length (state self.old).words }
+        ensures set { OnOk result (WordsSet first (W.items words.now) (state self.old) (state self.new)) }
+        ensures failed { OnErr result (WordsBroke first (length (W.items words.now)) (state self.old) (state self.new)) }
+    {
+        // Their count has 32 bits, so each index below has.
+        let _words = self.words();
+        for k in 0..words.count() {
+            self.set(first + k, words.word(k))?;
+        }
+        Ok(())
+    }
 }

@@ -23,6 +23,7 @@ mod source;
 #[cfg(test)]
 mod tests;
 mod vec_ram;
+mod words;
 
 pub use cache_ram::CacheRam;
 pub use failure::{Failed, Memory};
@@ -37,3 +38,4 @@ pub use shelf::{Shelf, ShelfError};
 pub use sink::Sink;
 pub use source::Source;
 pub use vec_ram::VecRam;
+pub use words::Words;

@@ -1,4 +1,4 @@
-ghost use Rattle.std.specs.Prelude.{◌≡◌, ◌<◌, length, None, Some};
+ghost use Rattle.std.specs.Prelude.{◌≡◌, ◌<◌, [], ◌∷◌, length, None, Some};
 ghost use Rattle.swi_outside.specs.Shelf.{lookup};
 
 use super::*;
@@ -93,6 +93,35 @@ fn assert_words<R: CacheRam>(
     }
 }
 
+/// Two words.
+#[derive(Drop)]
+struct Two(u32, u32);
+
+impl Words for Two {
+    ghost items = { λ t. t.0 ∷ t.1 ∷ [] };
+
+    fn count(&self) -> u32 {
+        2
+    }
+
+    fn word(&self, k: u32) -> u32 {
+        if k == 0 { self.0 } else { self.1 }
+    }
+}
+
+/// Puts 5 and 6 from index 1 on into a ram of four words, which is to answer so and then to hold these.
+fn assert_two<R: CacheRam>(
+    rt: &impl Abort,
+    ram: &mut R,
+    answer: Result<(), Failed>,
+    held: &[u32; 4],
+) {
+    assert!(rt; ram.words() == 4, "other words");
+    assert_eq!(rt; ram.set_all(1, &Two(5, 6)), answer);
+    let now = [ram.word(0), ram.word(1), ram.word(2), ram.word(3)];
+    assert_eq!(rt; now, *held);
+}
+
 /// Reads of `abc` by two bytes, of which the second fails.
 static FIRST_READS: [(Result<usize, Failed>, &[u8]); 2] = [(Ok(2), b"ab"), (Err(Failed), b"ab")];
 
@@ -183,6 +212,18 @@ fn ram_with_faults_fails_where_listed(rt: HostRuntime) -> Result<(), Fail> {
     assert_eq!(rt; ram.words(), 4);
     assert_eq!(rt; (ram.word(1), ram.word(2)), (7, 9));
     assert_eq!(rt; (ram.fetches(), ram.sets()), (2, 2));
+    Ok(())
+}
+
+#[test]
+fn rams_put_words_one_behind_the_other(rt: HostRuntime) -> Result<(), Fail> {
+    let alloc = rt.alloc();
+    let mut ram = VecRam::new(alloc, 4)?;
+    assert_two(&rt, &mut ram, Ok(()), &[0, 5, 6, 0]);
+    let mut faulty = FaultRam::new(alloc, 4, [2].to_vec(alloc)?)?;
+    assert_two(&rt, &mut faulty, Err(Failed), &[0, 5, 0, 0]);
+    assert_two(&rt, &mut faulty, Ok(()), &[0, 5, 6, 0]);
+    assert_eq!(rt; faulty.sets(), 3);
     Ok(())
 }
 

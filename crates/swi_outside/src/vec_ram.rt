@@ -1,8 +1,10 @@
-ghost use Rattle.std.specs.Prelude.{◌≡◌, ◌<◌, length, slice_index, replicate, IfOk, IsOk};
-ghost use Rattle.swi_outside.specs.CacheRam.{Fetched, WordSet, new_ram};
+ghost use Rattle.std.specs.Prelude.{◌≡◌, ◌+◌, ◌<◌, ◌≤◌, ◌^◌, ℕ, max, length, slice_index, replicate, IfOk, IsOk, OnErr, OnOk};
+ghost use Rattle.swi_outside.specs.CacheRam.{Fetched, WordSet, WordsBroke, WordsSet, new_ram};
+ghost use Rattle.swi_outside.specs.Causes.{risen};
+ghost use Rattle.swi_outside.specs.RamCalls.{fetches_in, indexes_in, reach_of, sets_in};
 
 use crate::ram_calls::RamCalls;
-use crate::{CacheRam, Failed, Memory};
+use crate::{CacheRam, Failed, Memory, Words};
 use std::alloc::Global;
 use std::marker::Model;
 use std::snapshot::Snapshot;
@@ -32,6 +34,32 @@ impl Model for VecRam {
     } };
 
     ghost invariant = { λ r. length r.words.items < 2 ^ 32 };
+}
+
+/// Puts words one behind the other from index `first` on.
+fn put_words<W: Words>(held: &mut [u32], first: u32, words: &W)
+    requires { first + length (W.items words.now) ≤ length held.old }
+    ensures count { length held.new ≡ length held.old }
+    ensures stand { (k : ℕ) → k < length (W.items words.now) → slice_index held.new (first + k) ≡ slice_index (W.items words.now) k }
+    ensures below { (i : ℕ) → i < first → slice_index held.new i ≡ slice_index held.old i }
+    ensures beyond { (i : ℕ) → first + length (W.items words.now) ≤ i → slice_index held.new i ≡ slice_index held.old i }
+{
+    for k in 0..words.count() {
+        held[first as usize + k as usize] = words.word(k);
+    }
+}
+
+/// Notes a set of each of so many words from index `first` on. It takes no time when it runs.
+fn note_sets(calls: &mut Snapshot<RamCalls>, first: u32, count: u32)
+    requires { first + count < 2 ^ 32 }
+    ensures sets { sets_in calls.new.value ≡ risen (sets_in calls.old.value) count }
+    ensures fetches { fetches_in calls.new.value ≡ fetches_in calls.old.value }
+    ensures indexes { indexes_in calls.new.value ≡ indexes_in calls.old.value }
+    ensures reach { reach_of calls.new.value ≤ max (reach_of calls.old.value) (first + count) }
+{
+    for k in 0..count {
+        *calls = Snapshot::of(&RamCalls::Set(Snapshot::of(calls), first + k));
+    }
 }
 
 impl VecRam {
@@ -78,6 +106,19 @@ impl CacheRam for VecRam {
     {
         self.calls = Snapshot::of(&RamCalls::Set(Snapshot::of(&self.calls), i));
         self.words[i as usize] = w;
+        Ok(())
+    }
+
+    /// The words are copied in one loop.
+    #[inline(always)]
+    fn set_all<W: Words>(&mut self, first: u32, words: &W) -> Result<(), Failed>
+        requires { first + length (W.items words.now) ≤ length self.old.words }
+        ensures set { OnOk result (WordsSet first (W.items words.now) self.old self.new) }
+        ensures failed { OnErr result (WordsBroke first (length (W.items words.now)) self.old self.new) }
+        ensures never_fails { IsOk result }
+    {
+        note_sets(&mut self.calls, first, words.count());
+        put_words(&mut self.words, first, words);
         Ok(())
     }
 }

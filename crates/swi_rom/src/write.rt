@@ -35,11 +35,7 @@ pub fn copy<M: CacheRam>(
     ensures copied { OnOk result (Copied (word_at image.now block) first size (M.state ram.old) (M.state ram.new)) }
     ensures failed { OnErr result (FailedBelow (first + size) (M.state ram.old) (M.state ram.new)) }
 {
-    let words = image.block(block);
-    for k in 0..size {
-        ram.set(first + k, words.word(k))?;
-    }
-    Ok(())
+    ram.set_all(first, &image.block(block))
 }
 
 /// Whether a JAL reaches from one word to another.
