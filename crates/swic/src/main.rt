@@ -34,7 +34,8 @@ fn refusal_of(error: &io::Error) -> Refusal
     }
 }
 
-/// A cache RAM of so many words, which holds the largest cache. A run makes places for the micro-ops of those that it uses.
+/// A cache RAM of so many words, which holds the largest cache. A run makes a place of eight bytes for the micro-op of
+/// each word that its service uses.
 fn cache_ram(alloc: Global, words: u32) -> Result<DecodedRam<VecRam>, Memory>
     requires { 2 ^ 21 ≤ words }
     ensures { IfOk result (λ ram. words ≤ length ram.ram.words) }
