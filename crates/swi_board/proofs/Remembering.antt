@@ -1,5 +1,5 @@
 -- Targets that are kept where they stood.
-use Rattle.std.proofs.Common.{◌≡◌, ◌<◌, ◌%◌, ℕ, List, length, get_or, slice_set, arith, refl, ap, sym, subst, ◌∙◌, inl, inr}
+use Rattle.std.proofs.Common.{◌≡◌, ◌<◌, ◌%◌, ℕ, List, length, get_or, slice_set, arith, ap, sym, subst, ◌∙◌, inl, inr}
 use Rattle.std.proofs.lemmas.List.{get_or-set_other, get_or-set_same, length-set}
 use Rattle.std.proofs.lemmas.Bool.{cases_eq}
 use Rattle.swi_image.specs.Format.{ImageData}
@@ -7,7 +7,7 @@ use Rattle.swi_rom.specs.Record.{Record}
 use Rattle.swi_rom.specs.Coherent.{TargetAt}
 use Rattle.swi_rom.specs.Still.{still_at}
 use Rattle.swi_board.specs.declared.targets.Found.{Found}
-use Rattle.swi_board.specs.Targets.{AreFound, IsNothing, nowhere}
+use Rattle.swi_board.specs.Targets.{AreFound, IsNothing}
 
 -- where no address is kept
 pub nothing_found : (v : ImageData) (r : Record) (found : List Found) → IsNothing found → AreFound v r found

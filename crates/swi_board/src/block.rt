@@ -478,6 +478,7 @@ pub(crate) fn run_block<R: CacheRom, M: MicroRam>(
     ensures sound { R.service.sound rom.new image.now (M.state ram.new).words }
     ensures keeps { Keeps R.service image.now rom.old rom.new (M.state ram.old).words (M.state ram.new).words }
 {
+    // Blocks may have moved since the last call; in this loop none does.
     targets.forget();
     let mut walk = Walk::begin(hart, at.0, at.3, limit);
     while u64::from(walk.index) < walk.end {

@@ -1,4 +1,4 @@
-use Rattle.std.proofs.Common.{rules, ◌≡◌, ◌+◌, ◌*◌, ◌/◌, ◌%◌, ◌^◌, ◌<◌, ℕ, Some, refl, sym, ap, subst, ◌∙◌, slice_index}
+use Rattle.std.proofs.Common.{rules, ◌≡◌, ◌+◌, ◌*◌, ◌/◌, ◌%◌, ◌^◌, ◌<◌, Some, refl, sym, ap, subst, ◌∙◌}
 use Rattle.swi_isa.specs.declared.instr.Instr.TheVariants as instr
 use Rattle.swi_isa.specs.Decode.{decoded}
 use Rattle.swi_isa.specs.Kind.{jalr_fields}
@@ -7,7 +7,7 @@ use Rattle.swi_exec.specs.Registers.{Registers, with_reg}
 use Rattle.swi_exec.specs.Execute.{address_of}
 use Rattle.swi_calls.specs.declared.machine.Machine.{Machine}
 use Rattle.swi_calls.specs.Flat.{quiet}
-use Rattle.swi_image.specs.Place.{word_at, length_at}
+use Rattle.swi_image.specs.Place.{word_at}
 use Rattle.swi_rom.specs.Coherent.{TargetAt}
 use Rattle.swi_hart.specs.declared.hart.ExitKind.TheVariants.{Indirect}
 use Rattle.swi_hart.specs.Hart.{HartData, exit_kind, stepped}
