@@ -4,6 +4,7 @@
 use super::{Devices, PLAIN, SEVEN, answer_to, bytes_of, holds};
 use std::alloc::Global;
 use std::test::Fail;
+use swi_micro::DecodedRam;
 use swi_outside::{MemShelf, MemSink, MemSource, VecRam};
 use swi_top::Ending::*;
 
@@ -38,7 +39,8 @@ fn the_greatest_sizes_find_memory(rt: HostRuntime) -> Result<(), Fail> {
             out: MemSink::new(alloc, 64, Vec::new(alloc))?,
             err: MemSink::new(alloc, 64, Vec::new(alloc))?,
         };
-        let mut ram = VecRam::new(alloc, 1 << 21)?;
+        let ram = VecRam::new(alloc, 1 << 21)?;
+        let mut ram = DecodedRam::new(alloc, ram);
         let answer = answer_to(alloc, &line, &mut devices, &mut ram)?;
         holds(
             command,
