@@ -15,9 +15,9 @@ use super::*;
 use std::marker::Model;
 use swi_board::Hart;
 use swi_image::ImageView;
-use swi_isa::Reg;
+use swi_isa::{Instr, Reg};
 use swi_memory::{Layout, WordRange};
-use swi_micro::{MicroOp, MicroRam};
+use swi_micro::{MicroOp, MicroRam, micro_op};
 use swi_outside::{CacheRam, Failed, Memory, VecRam};
 use swi_slots::ScanRom;
 
@@ -35,6 +35,8 @@ type Steps = ((u64, u32), (Option<End>, u64, u64, u64));
 struct Counted {
     ram: VecRam,
     fetches: u64,
+    // One that stops.
+    op: MicroOp,
 }
 
 impl Model for Counted {
@@ -43,6 +45,11 @@ impl Model for Counted {
     ghost Value = { RamState };
 
     ghost view = { λ r. r.ram };
+
+    ghost use Rattle.std.specs.Prelude.{◌≡◌};
+    ghost use Rattle.swi_micro.specs.MicroOp.{stop_op};
+
+    ghost invariant = { λ r. r.op ≡ stop_op };
 }
 
 impl CacheRam for Counted {
@@ -74,20 +81,25 @@ impl CacheRam for Counted {
     }
 }
 
-/// It has no place for a micro-op.
+/// It has a place for one micro-op at most, which it never learns.
 impl MicroRam for Counted {
-    ghost kept = { λ r. 0 };
+    ghost use Rattle.std.specs.Prelude.{length, min};
+
+    ghost kept = { λ r. min 1 (length r.words) };
 
     fn keep(&mut self, _alloc: Global, _count: u32) -> Result<(), Memory> {
         Err(Memory)
     }
 
     fn kept(&self) -> u32 {
-        0
+        self.ram.words().min(1)
     }
 
     fn range(&self) -> WordRange {
-        WordRange { from: 0, words: 0 }
+        WordRange {
+            from: 0,
+            words: self.ram.words().min(1),
+        }
     }
 
     fn fetch_kept(&mut self, i: u32) -> Result<u32, Failed> {
@@ -95,7 +107,7 @@ impl MicroRam for Counted {
     }
 
     fn op(&self, _i: u32) -> &MicroOp {
-        unreachable!()
+        &self.op
     }
 
     fn learn(&mut self, _i: u32) {}
@@ -256,9 +268,11 @@ fn stepped_alone<R: CacheRom>(
     let mut input = MemSource::new(Vec::new(alloc), Vec::new(alloc));
     let mut out = MemSink::new(alloc, 16, Vec::new(alloc))?;
     let mut err = MemSink::new(alloc, 16, Vec::new(alloc))?;
+    let one = WordRange { from: 0, words: 1 };
     let mut ram = Counted {
         ram: VecRam::new(alloc, 8)?,
         fetches: 0,
+        op: micro_op(&Instr::Ecall, &one, 0),
     };
     stepped(
         alloc, rom, image, program, layout, &mut ram, &mut input, &mut out, &mut err,
