@@ -6,7 +6,6 @@ ghost use Rattle.swi_outside.specs.CacheRam.{Fetched, WordSet, WordsBroke, Words
 ghost use Rattle.swi_micro.specs.MicroOp.{stop_op};
 ghost use Rattle.swi_micro.specs.Twins.{Forgets, forgotten};
 
-use crate::class::Class;
 use crate::known::KnownWords;
 use crate::micro_ram::MicroRam;
 use crate::translator::{MicroOp, stop};
@@ -91,12 +90,9 @@ impl<M: CacheRam> DecodedRam<M> {
         ensures { self.new ≡ self.old }
     {
         let range = self.range();
-        let op = self.known.op(&range, i, self.ram.word(i));
+        let (op, goes_on) = self.known.op(&range, i, self.ram.word(i));
         self.ops[i as usize] = op;
-        !matches!(
-            op.class(),
-            Class::Equal | Class::Less | Class::Below | Class::Jal | Class::Jalr | Class::Stop
-        )
+        goes_on
     }
 }
 

@@ -1,13 +1,15 @@
 //! A table of decoded words.
 #![tactic(auto)]
 
-ghost use Rattle.std.specs.Prelude.{◌≡◌, ◌<◌, IfSome};
+ghost use Rattle.std.specs.Prelude.{◌≡◌, ◌<◌, IfOk, IfSome, replicate};
 ghost use Rattle.std.specs.List.{All};
 ghost use Rattle.swi_memory.specs.WordRange.{IsWordRange};
-ghost use Rattle.swi_micro.specs.Known.{IsTwinEverywhere, depends_on_place};
+ghost use Rattle.swi_micro.specs.Classes.{class_of};
+ghost use Rattle.swi_micro.specs.Known.{IsTwinEverywhere, depends_on_place, first_entry, is_straight, placed_at, unplaced_of};
 ghost use Rattle.swi_micro.specs.Twins.{IsTwin};
 
-use crate::translator::{MicroOp, micro_op, stop};
+use crate::class::Class;
+use crate::translator::{MicroOp, branch_to, micro_op, stop};
 use std::alloc::Global;
 use swi_isa::{Instr, decode};
 use swi_memory::WordRange;
@@ -16,7 +18,11 @@ use swi_outside::Memory;
 /// How many words are known at most: as many as eight bits tell apart.
 const ENTRIES: usize = 256;
 
-/// A word and its micro-op, which is that of the word wherever it stands.
+/// How many words stand at all addresses. Distances in words are counted modulo it, so that one backward is a long one forward.
+const ALL_WORDS: u32 = 1 << 30;
+
+/// A word and its micro-op before it is placed, which is the same wherever the word stands: the immediate of a branch is the
+/// distance of its target in words.
 #[derive(Clone, Copy)]
 struct Entry {
     word: u32,
@@ -24,7 +30,8 @@ struct Entry {
 }
 
 /// The words that were decoded last, each with its micro-op: so that of a word that is copied again and again only the first
-/// copy is decoded. It keeps none whose micro-op depends on where the word stands.
+/// copy is decoded. Of a branch it keeps the distance. It keeps none of JAL and AUIPC, whose micro-op depends on where the word
+/// stands.
 #[derive(Drop)]
 pub(crate) struct KnownWords {
     // Empty where none is ever known.
@@ -41,14 +48,55 @@ fn place(word: u32) -> usize
     (word.wrapping_mul(0x9E37_79B1) >> 24) as usize
 }
 
-/// Whether the micro-op of an instruction depends on where its word stands.
-fn is_placed(instr: &Instr) -> bool
+/// The micro-op of an instruction before it is placed: a branch has the distance of its target in words, and any other is
+/// what it is as the word with index `i` of the range.
+fn unplaced(instr: &Instr, range: &WordRange, i: u32) -> MicroOp
+    ensures { result ≡ unplaced_of range.now i instr.now }
+{
+    match *instr {
+        Instr::Branch { op, rs1, rs2, off } => {
+            if off % 4 != 0 {
+                return stop();
+            }
+            branch_to(op, rs1, rs2, off / 4)
+        }
+        _ => micro_op(instr, range, i),
+    }
+}
+
+/// Whether that depends on where the word stands.
+fn depends_on_place(instr: &Instr) -> bool
     ensures { result ≡ depends_on_place instr.now }
 {
-    matches!(
-        *instr,
-        Instr::Auipc { .. } | Instr::Jal { .. } | Instr::Branch { .. }
-    )
+    matches!(*instr, Instr::Auipc { .. } | Instr::Jal { .. })
+}
+
+/// The micro-op of the word with index `i` of a range, from what it is before it is placed.
+#[inline(always)]
+fn placed(range: &WordRange, i: u32, op: MicroOp) -> MicroOp
+    ensures { result ≡ placed_at range.now i op }
+{
+    match op.class() {
+        Class::Equal | Class::Less | Class::Below => {
+            let target = i.wrapping_add(op.imm) % ALL_WORDS;
+            if target >= range.words {
+                return stop();
+            }
+            MicroOp { imm: target, ..op }
+        }
+        _ => op,
+    }
+}
+
+/// So many entries, each with the word 0, which is no instruction.
+fn first_entries(alloc: Global, count: usize) -> Result<Vec<Entry>, Memory>
+    ensures { IfOk result (λ entries. entries.items ≡ replicate count first_entry) }
+{
+    let first = Entry {
+        word: 0,
+        op: stop(),
+    };
+    vec![in alloc; first; count].map_err(|_| Memory)
 }
 
 impl KnownWords {
@@ -61,28 +109,31 @@ impl KnownWords {
 
     /// One that knows no word yet but 0, which is no instruction. Memory where there is not enough of it: it takes 3 KiB.
     pub(crate) fn new(alloc: Global) -> Result<KnownWords, Memory> {
-        let none = Entry {
-            word: 0,
-            op: stop(),
-        };
-        let entries = vec![in alloc; none; ENTRIES].map_err(|_| Memory)?;
+        let entries = first_entries(alloc, ENTRIES)?;
         Ok(KnownWords { entries })
     }
 
-    /// The micro-op of a word, as the one with index `i` of a range: it is decoded only where it isn't known.
+    /// The micro-op of a word, as the one with index `i` of a range: it is decoded only where it isn't known. And whether it
+    /// goes on to the next one alone: it is no jump and no branch, and doesn't stop.
+    // One that does is placed as it is, so that most take the tests of their class once.
     #[inline(always)]
-    pub(crate) fn op(&mut self, range: &WordRange, i: u32, word: u32) -> MicroOp
+    pub(crate) fn op(&mut self, range: &WordRange, i: u32, word: u32) -> (MicroOp, bool)
         requires whole { IsWordRange range.now }
         requires here { i < range.now.words }
-        ensures { IsTwin range.now i word result }
+        ensures twin { IsTwin range.now i word result.0 }
+        ensures straight { result.1 ≡ is_straight (class_of result.0.code) }
     {
-        match self.find(word) {
+        let op = match self.find(word) {
             Some(op) => op,
             None => self.decoded(range, i, word),
+        };
+        if op.is_straight() {
+            return (op, true);
         }
+        (placed(range, i, op), false)
     }
 
-    /// The micro-op of a word, where it is known.
+    /// The micro-op of a word before it is placed, where it is known.
     #[inline(always)]
     pub(crate) fn find(&self, word: u32) -> Option<MicroOp>
         ensures { IfSome result (λ m. IsTwinEverywhere word m) }
@@ -95,31 +146,30 @@ impl KnownWords {
     }
 
     /// Keeps the micro-op of a word, in the place of the word that had the entry.
-    fn keep(&mut self, word: u32, op: MicroOp)
-        requires { IsTwinEverywhere word op }
+    fn keep(&mut self, word: u32, op: &MicroOp)
+        requires { IsTwinEverywhere word op.now }
     {
         if let Some(entry) = self.entries.get_mut(place(word)) {
-            *entry = Entry { word, op };
+            *entry = Entry { word, op: *op };
         }
     }
 
-    /// As `op`, of a word that isn't known: from now on it is, unless its micro-op stops or depends on where it stands.
+    /// The micro-op of a word that isn't known, as the one with index `i` of a range, before it is placed there: from now on
+    /// it is known, unless that depends on where the word stands.
     // Not inlined: most words are known.
     #[inline(never)]
     fn decoded(&mut self, range: &WordRange, i: u32, word: u32) -> MicroOp
         requires whole { IsWordRange range.now }
         requires here { i < range.now.words }
-        ensures { IsTwin range.now i word result }
+        ensures { IsTwin range.now i word (placed_at range.now i result) }
     {
         let Some(instr) = decode(word) else {
+            self.keep(word, &stop());
             return stop();
         };
-        let op = micro_op(&instr, range, i);
-        if op.stops() {
-            return stop();
-        }
-        if !is_placed(&instr) {
-            self.keep(word, op);
+        let op = unplaced(&instr, range, i);
+        if !depends_on_place(&instr) {
+            self.keep(word, &op);
         }
         op
     }

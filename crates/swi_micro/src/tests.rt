@@ -242,6 +242,14 @@ fn is_kept(known: &mut KnownWords, word: u32) -> bool {
     known.find(word).is_some()
 }
 
+/// Where a step at an index goes on once a word is set and learnt there, with x1 equal to x2. None where that fails.
+fn target_of_copy(ram: &mut DecodedRam<VecRam>, i: u32, word: u32, bus: &mut Bus) -> Option<u32> {
+    if !set_all(ram, i, &[word]) || !learn(ram, i) || i >= ram.kept() {
+        return None;
+    }
+    step(ram.op(i), &ram.range(), i, &mut regs_of(1, 1), bus)
+}
+
 /// An addition, a load, a branch to the second word behind it, and another addition.
 const ROW: [u32; 4] = [0x002081B3, 0x0000A183, 0x00208463, 0x00308113];
 
@@ -293,11 +301,25 @@ fn a_word_is_known_until_another_takes_its_entry(rt: HostRuntime) {
 }
 
 #[test]
-fn no_word_is_known_whose_micro_op_depends_on_its_place(rt: HostRuntime) {
+fn a_word_is_kept_unless_it_is_of_jal_or_auipc(rt: HostRuntime) {
     let mut known = KnownWords::new(rt.alloc()).expect(&rt, "no memory");
-    // BEQ, JAL and AUIPC; and ECALL, whose micro-op stops.
-    assert!(rt; !is_kept(&mut known, ROW[2]) && !is_kept(&mut known, 0x008001EF));
-    assert!(rt; !is_kept(&mut known, 0x00012197) && !is_kept(&mut known, 0x00000073));
+    // A branch forward and one backward; ECALL, whose micro-op stops; and no instruction.
+    assert!(rt; is_kept(&mut known, ROW[2]) && is_kept(&mut known, 0xFE208EE3));
+    assert!(rt; is_kept(&mut known, 0x00000073) && is_kept(&mut known, 0xFFFFFFFF));
+    assert!(rt; !is_kept(&mut known, 0x008001EF) && !is_kept(&mut known, 0x00012197));
+}
+
+#[test]
+fn a_copy_of_a_branch_leads_from_its_own_place(rt: HostRuntime) {
+    let mut ram = ram_of_rows(rt.alloc(), 8).expect(&rt, "no memory");
+    let mut bus = bus_of_rows(rt.alloc()).expect(&rt, "no memory");
+    assert_eq!(rt; target_of_copy(&mut ram, 1, ROW[2], &mut bus), Some(3));
+    assert_eq!(rt; target_of_copy(&mut ram, 5, ROW[2], &mut bus), Some(7));
+    assert_eq!(rt; target_of_copy(&mut ram, 6, ROW[2], &mut bus), None);
+    // One to the word before it.
+    assert_eq!(rt; target_of_copy(&mut ram, 5, 0xFE208EE3, &mut bus), Some(4));
+    assert_eq!(rt; target_of_copy(&mut ram, 1, 0xFE208EE3, &mut bus), Some(0));
+    assert_eq!(rt; target_of_copy(&mut ram, 0, 0xFE208EE3, &mut bus), None);
 }
 
 #[test]

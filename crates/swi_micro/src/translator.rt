@@ -3,6 +3,7 @@
 
 ghost use Rattle.std.specs.Prelude.{◌≡◌, ◌↔◌, IsTrue};
 ghost use Rattle.swi_micro.specs.Classes.{class_of};
+ghost use Rattle.swi_micro.specs.Known.{is_straight};
 ghost use Rattle.swi_micro.specs.MicroOp.{address_at, branch_op, class_of_imm, class_of_load, class_of_op, class_of_store, index_at, made_op, micro_op_of, number_of, stop_op};
 
 use crate::class::{Class, class_of_code, code};
@@ -47,6 +48,17 @@ impl MicroOp {
         ensures { IsTrue result ↔ class_of self.now.code ≡ Class.Stop }
     {
         matches!(class_of_code(self.code), Class::Stop)
+    }
+
+    /// Whether it goes on at the next word, if it goes on: it is no jump and no branch, and doesn't stop.
+    #[inline(always)]
+    pub(crate) fn is_straight(&self) -> bool
+        ensures { result ≡ is_straight (class_of self.now.code) }
+    {
+        !matches!(
+            class_of_code(self.code),
+            Class::Equal | Class::Less | Class::Below | Class::Jal | Class::Jalr | Class::Stop
+        )
     }
 }
 
@@ -170,7 +182,7 @@ fn class_of_writing(op: StoreOp) -> Class
 }
 
 /// A branch to the word with this index.
-fn branch_to(op: BranchOp, rs1: Reg, rs2: Reg, k: u32) -> MicroOp
+pub(crate) fn branch_to(op: BranchOp, rs1: Reg, rs2: Reg, k: u32) -> MicroOp
     ensures { result ≡ branch_op op rs1 rs2 k }
 {
     let (class, turned) = match op {

@@ -9,6 +9,6 @@ invariant_of-self g c =
     let words = (g.M.CacheRam.state c.self.inside.ram).words in
     let ops = c.self.inside.ops.items in
     let range : c.range-range.result ≡ first_words (length ops) = c.range-range.ensures ∙ ap (λ (d : DecodedOf g.row.M.Denot). first_words d.kept) (sym c.self.view_is) in
-    let twin : IsTwin (first_words (length ops)) c.args.i (slice_index words c.args.i) c.op-op.result =
-    subst (λ w. IsTwin (first_words (length ops)) c.args.i w c.op-op.result) c.word.ensures (subst (λ (r : WordRange). IsTwin r c.args.i c.word.result c.op-op.result) range c.op-op.ensures) in
-    twins_learn words ops c.args.i c.op-op.result c.self.invariant twin
+    let twin : IsTwin (first_words (length ops)) c.args.i (slice_index words c.args.i) c.op-op.result.0 =
+    subst (λ w. IsTwin (first_words (length ops)) c.args.i w c.op-op.result.0) c.word.ensures (subst (λ (r : WordRange). IsTwin r c.args.i c.word.result c.op-op.result.0) range c.op-op.ensures.twin) in
+    twins_learn words ops c.args.i c.op-op.result.0 c.self.invariant twin

@@ -5,5 +5,5 @@ use Rattle.swi_micro.proofs.known.KnownWords.keep.Goals as goal
 
 pub invariant_of-self : goal.invariant_of-self
 invariant_of-self c = record {
-  known = All-set (λ (e : Entry). IsTwinEverywhere e.word e.op) c.args.self.now.entries.items c.place.result (record { word = c.args.word; op = c.args.op }) c.requires c.args.self.now.known;
+  known = All-set (λ (e : Entry). IsTwinEverywhere e.word e.op) c.args.self.now.entries.items c.place.result (record { word = c.args.word; op = c.args.op.now }) c.requires c.args.self.now.known;
 }
