@@ -267,6 +267,10 @@ fn step_anew<R: CacheRom, M: MicroRam>(
           { regs = hart.new.machine.regs; bus = hart.new.machine.bus };
     } }
 {
+    // An exit, which no micro-op tells: nothing is learnt of it.
+    if got == EBREAK {
+        return None;
+    }
     ram.learn(walk.index);
     let mut walk = walk;
     match quick::<R, M, true>(hart, rom, image, ram, got, &mut walk) {
