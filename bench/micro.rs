@@ -364,6 +364,7 @@ pub fn step(m: &MicroOp, range: &WordRange, k: u32, regs: &mut Regs, bus: &mut B
 /// How many words are known at most: as many as eight bits tell apart.
 const ENTRIES: usize = 256;
 
+/// A word and its micro-op before it is placed: the immediate of a branch is the distance of its target in words.
 #[derive(Clone, Copy)]
 struct Entry {
     word: u32,
@@ -371,7 +372,8 @@ struct Entry {
 }
 
 /// The words that were decoded last, each with its micro-op: so that of a word that is copied again and again only the first
-/// copy is decoded. It keeps none whose micro-op depends on where the word stands.
+/// copy is decoded. Of a branch it keeps the distance. It keeps none of JAL and AUIPC, whose micro-op depends on where the word
+/// stands.
 pub struct KnownWords {
     entries: [Entry; ENTRIES],
 }
@@ -382,9 +384,26 @@ fn place(word: u32) -> usize {
     (word.wrapping_mul(0x9E37_79B1) >> 24) as usize
 }
 
-/// Whether the micro-op of a word depends on where it stands: that of AUIPC, JAL or a branch.
-fn is_placed(word: u32) -> bool {
-    matches!(word & 0x7F, 0x17 | 0x63 | 0x6F)
+/// The words of all addresses: in it a branch at index 0 leads to its distance.
+const ALL_WORDS: WordRange = WordRange { from: 0, words: 1 << 30 };
+
+/// The micro-op of a word before it is placed, or one that holds the word.
+fn unplaced(word: u32, range: &WordRange, k: u32) -> MicroOp {
+    let op = match word & 0x7F {
+        0x63 => micro_op(word, &ALL_WORDS, 0),
+        _ => micro_op(word, range, k),
+    };
+    if class_of_code(op.code) == Class::Stop { held(word) } else { op }
+}
+
+/// The micro-op of the word with index `k` of a range, from what it is before it is placed.
+#[inline(always)]
+fn placed(op: MicroOp, word: u32, range: &WordRange, k: u32) -> MicroOp {
+    if !matches!(class_of_code(op.code), Class::Equal | Class::Less | Class::Below) {
+        return op;
+    }
+    let target = k.wrapping_add(op.imm) % ALL_WORDS.words;
+    if target < range.words { MicroOp { imm: target, ..op } } else { held(word) }
 }
 
 impl KnownWords {
@@ -398,17 +417,15 @@ impl KnownWords {
     #[inline(always)]
     pub fn op(&mut self, word: u32, range: &WordRange, k: u32) -> MicroOp {
         let entry = &self.entries[place(word)];
-        if entry.word == word { entry.op } else { self.decoded(word, range, k) }
+        let op = if entry.word == word { entry.op } else { self.decoded(word, range, k) };
+        placed(op, word, range, k)
     }
 
-    /// As `op`, of a word that isn't known: from now on it is, unless its micro-op stops or depends on where it stands.
+    /// The micro-op of a word that isn't known, before it is placed: from now on it is known, unless it is that of JAL or AUIPC.
     #[inline(never)]
     fn decoded(&mut self, word: u32, range: &WordRange, k: u32) -> MicroOp {
-        let op = micro_op(word, range, k);
-        if class_of_code(op.code) == Class::Stop {
-            return held(word);
-        }
-        if !is_placed(word) {
+        let op = unplaced(word, range, k);
+        if !matches!(word & 0x7F, 0x17 | 0x6F) {
             self.entries[place(word)] = Entry { word, op };
         }
         op
