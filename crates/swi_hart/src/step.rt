@@ -37,7 +37,7 @@ fn original(bus: &Bus, pc: u32) -> Option<Instr>
 
 /// The role of a LUI at this stage, by the instruction at the original address: it is asked of every LUI, so few tests
 /// are made of that instruction's word.
-#[inline(never)]
+#[inline(always)]
 #[tactic(auto, using(crate::proofs::Roles::by_kind))]
 pub fn upper_role(bus: &Bus, pc: u32, stage: Stage) -> Role
     ensures { result ≡ upper_quick stage (instruction (fetched bus.now pc)) }
