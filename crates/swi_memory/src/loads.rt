@@ -109,7 +109,9 @@ fn load_in(banks: &[Bank], place: usize, a: u32, k: u8) -> u32
 }
 
 /// A load in no window.
-// Not inlined, so that the search takes no register of the loop that a load in a window stands in.
+// Not inlined, so that the search takes no register of the loop that a load in a window stands in; and cold, so that the loop
+// saves none for it where it isn't called.
+#[cold]
 #[inline(never)]
 fn load_elsewhere(banks: &[Bank], a: u32, k: u8) -> Result<u32, Access>
     requires order { AreInOrder (areas banks.now) }

@@ -123,6 +123,8 @@ pub fn store(banks: &mut [Bank], windows: &Windows, a: u32, k: u8, v: u32) -> Re
 }
 
 /// A store in no window, where no byte is a text word's.
+// Cold, as `load_elsewhere`.
+#[cold]
 #[inline(never)]
 fn store_elsewhere_beside_text(
     banks: &mut [Bank],
