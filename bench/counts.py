@@ -1,0 +1,52 @@
+"""Instructions of the computer that built programs take, counted by valgrind: counts.py PROGRAM..
+
+A step: between the 10^6th and the 3 * 10^6th of each guest. A miss, with all that follows it: the second 10^6 steps of guests/mix.elf through
+a small cache, less what they take through one in which each block stays, by the misses among them."""
+import re
+import subprocess
+import sys
+
+GUESTS = ["bench/loop.elf", "guests/mix.elf", "bench/calls.elf", "bench/memory.elf"]
+MACHINES = {
+    "plain": ["plain"],
+    "cached 4096": ["cached", "--cache", "4096", "--block", "64"],
+    "cached 1024": ["cached", "--cache", "1024", "--block", "32"],
+}
+SMALL = [(128, 32), (256, 32), (256, 64)]
+COUNTING = ["valgrind", "--tool=cachegrind", "--cache-sim=no", "--cachegrind-out-file=/dev/null"]
+MILLION = 1_000_000
+
+
+def run(words, steps, before=()):
+    return subprocess.run([*before, *words, "--steps", str(steps)], stdin=subprocess.DEVNULL, capture_output=True, text=True, errors="replace")
+
+
+def instructions(words, steps):
+    return int(re.search(r"I\s+refs:\s+([\d,]+)", run(words, steps, COUNTING).stderr)[1].replace(",", ""))
+
+
+def misses(words, steps):
+    return int(re.search(r"misses (\d+)", run([*words, "--stats"], steps).stdout)[1])
+
+
+def between(count, words, first, last):
+    return count(words, last) - count(words, first)
+
+
+def print_steps(program):
+    for machine, (command, *options) in MACHINES.items():
+        each = (between(instructions, [program, command, guest, *options], MILLION, 3 * MILLION) / (2 * MILLION) for guest in GUESTS)
+        print(f"{machine:12}", *(f"{count:6.1f}" for count in each), f"  {program}", flush=True)
+
+
+def print_misses(program):
+    for cache, block in SMALL:
+        words = [program, "cached", "guests/mix.elf", "--block", str(block), "--cache"]
+        small, large = (between(instructions, [*words, str(size)], MILLION, 2 * MILLION) for size in (cache, 65536))
+        missed = between(misses, [*words, str(cache)], MILLION, 2 * MILLION)
+        print(f"{cache} bytes, blocks of {block}: a miss {(small - large) / missed:.0f}, a step {small / MILLION:.1f}, {missed} misses", flush=True)
+
+
+for program in sys.argv[1:]:
+    print_steps(program)
+    print_misses(program)
