@@ -1,5 +1,5 @@
 -- Micro-ops of words apart from where they stand. Own rule.
-use Rattle.std.specs.Prelude.{◌==◌, ℕ, ◌+◌, ◌/◌, ◌%◌, ◌^◌, ◌<◌, nat_lt, Bool, true, false}
+use Rattle.std.specs.Prelude.{◌≡◌, ◌==◌, ℕ, ◌+◌, ◌/◌, ◌%◌, ◌^◌, ◌<◌, nat_lt, Bool, true, false}
 use Rattle.swi_isa.specs.declared.instr.BranchOp.{BranchOp}
 use Rattle.swi_isa.specs.declared.instr.Instr.{Instr}
 use Rattle.swi_isa.specs.declared.instr.Instr.TheVariants as instr
@@ -9,6 +9,7 @@ use Rattle.swi_micro.specs.declared.class.Class.{Class}
 use Rattle.swi_micro.specs.declared.class.Class.TheVariants as class
 use Rattle.swi_micro.specs.declared.translator.MicroOp.{MicroOp}
 use Rattle.swi_micro.specs.declared.known.Entry.{Entry}
+use Rattle.swi_micro.specs.declared.known.RelativeOp.{RelativeOp}
 use Rattle.swi_micro.specs.Classes.{class_of}
 use Rattle.swi_micro.specs.MicroOp.{branch_op, micro_op_of, stop_op}
 use Rattle.swi_micro.specs.Twins.{IsTwin}
@@ -65,6 +66,15 @@ placed_at range k m = placed_as (class_of m.code) range k m
 pub record IsTwinEverywhere (w : ℕ) (m : MicroOp) : Type 0 where
   pub at : (range : WordRange) (k : ℕ) → IsWordRange range → k < range.words → IsTwin range k w (placed_at range k m)
 
+-- a micro-op that is not placed yet, with the flag that tells whether it is straight
+abbrev pub relative_op : MicroOp → RelativeOp
+relative_op m = record { op = m; is_straight = is_straight (class_of m.code) }
+
+-- an entry of the table of known words
+pub record IsEntry (e : Entry) : Type 0 where
+  pub twin : IsTwinEverywhere e.word e.known.op
+  pub straight : e.known ≡ relative_op e.known.op
+
 -- that of 0, which is no instruction
 abbrev pub first_entry : Entry
-first_entry = record { word = 0; op = stop_op }
+first_entry = record { word = 0; known = relative_op stop_op }

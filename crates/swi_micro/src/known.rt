@@ -5,7 +5,7 @@ ghost use Rattle.std.specs.Prelude.{◌≡◌, ◌<◌, IfOk, IfSome, replicate}
 ghost use Rattle.std.specs.List.{All};
 ghost use Rattle.swi_memory.specs.WordRange.{IsWordRange};
 ghost use Rattle.swi_micro.specs.Classes.{class_of};
-ghost use Rattle.swi_micro.specs.Known.{IsTwinEverywhere, depends_on_place, first_entry, is_straight, placed_at, unplaced_of};
+ghost use Rattle.swi_micro.specs.Known.{IsEntry, IsTwinEverywhere, depends_on_place, first_entry, is_straight, placed_at, relative_op, unplaced_of};
 ghost use Rattle.swi_micro.specs.Twins.{IsTwin};
 
 use crate::class::Class;
@@ -21,12 +21,29 @@ const ENTRIES: usize = 256;
 /// How many words stand at all addresses. Distances in words are counted modulo it, so that one backward is a long one forward.
 const ALL_WORDS: u32 = 1 << 30;
 
-/// A word and its micro-op before it is placed, which is the same wherever the word stands: the immediate of a branch is the
-/// distance of its target in words.
+/// A word's micro-op before it is placed, which is the same wherever the word stands: the immediate of a branch is the distance
+/// of its target in words.
+#[derive(Clone, Copy)]
+pub(crate) struct RelativeOp {
+    op: MicroOp,
+    // Whether it goes on to the next word alone. Kept beside it, so that no test of its class is made where a word is learnt again.
+    is_straight: bool,
+}
+
+impl RelativeOp {
+    fn of(op: MicroOp) -> RelativeOp
+        ensures { result ≡ relative_op op }
+    {
+        let is_straight = op.is_straight();
+        RelativeOp { op, is_straight }
+    }
+}
+
+/// A word that is known.
 #[derive(Clone, Copy)]
 struct Entry {
     word: u32,
-    op: MicroOp,
+    known: RelativeOp,
 }
 
 /// The words that were decoded last, each with its micro-op: so that of a word that is copied again and again only the first
@@ -36,7 +53,7 @@ struct Entry {
 pub(crate) struct KnownWords {
     // Empty where none is ever known.
     entries: Vec<Entry>,
-    ghost known: { All (λ e. IsTwinEverywhere e.word e.op) entries.items },
+    ghost known: { All IsEntry entries.items },
 }
 
 /// Which entry is that of a word: the eight highest bits of a product to which each of the word's bits comes. Its lowest
@@ -94,7 +111,7 @@ fn first_entries(alloc: Global, count: usize) -> Result<Vec<Entry>, Memory>
 {
     let first = Entry {
         word: 0,
-        op: stop(),
+        known: RelativeOp::of(stop()),
     };
     vec![in alloc; first; count].map_err(|_| Memory)
 }
@@ -107,7 +124,7 @@ impl KnownWords {
         }
     }
 
-    /// One that knows no word yet but 0, which is no instruction. Memory where there is not enough of it: it takes 3 KiB.
+    /// One that knows no word yet but 0, which is no instruction. Memory where there is not enough of it: it takes 4 KiB.
     pub(crate) fn new(alloc: Global) -> Result<KnownWords, Memory> {
         let entries = first_entries(alloc, ENTRIES)?;
         Ok(KnownWords { entries })
@@ -115,7 +132,7 @@ impl KnownWords {
 
     /// The micro-op of a word, as the one with index `i` of a range: it is decoded only where it isn't known. And whether it
     /// goes on to the next one alone: it is no jump and no branch, and doesn't stop.
-    // One that does is placed as it is, so that most take the tests of their class once.
+    // One that does is placed as it is, so that most take no test of their class.
     #[inline(always)]
     pub(crate) fn op(&mut self, range: &WordRange, i: u32, word: u32) -> (MicroOp, bool)
         requires whole { IsWordRange range.now }
@@ -123,34 +140,50 @@ impl KnownWords {
         ensures twin { IsTwin range.now i word result.0 }
         ensures straight { result.1 ≡ is_straight (class_of result.0.code) }
     {
-        let op = match self.find(word) {
-            Some(op) => op,
-            None => self.decoded(range, i, word),
-        };
-        if op.is_straight() {
-            return (op, true);
+        let known = self.look_up(range, i, word);
+        if known.is_straight {
+            return (known.op, true);
         }
-        (placed(range, i, op), false)
+        (placed(range, i, known.op), false)
+    }
+
+    /// The micro-op of a word before it is placed, as the one with index `i` of a range: it is decoded only where it isn't known.
+    #[inline(always)]
+    fn look_up(&mut self, range: &WordRange, i: u32, word: u32) -> RelativeOp
+        requires whole { IsWordRange range.now }
+        requires here { i < range.now.words }
+        ensures twin { IsTwin range.now i word (placed_at range.now i result.op) }
+        ensures straight { result ≡ relative_op result.op }
+    {
+        match self.find(word) {
+            Some(known) => known,
+            None => self.decoded(range, i, word),
+        }
     }
 
     /// The micro-op of a word before it is placed, where it is known.
     #[inline(always)]
-    pub(crate) fn find(&self, word: u32) -> Option<MicroOp>
-        ensures { IfSome result (λ m. IsTwinEverywhere word m) }
+    pub(crate) fn find(&self, word: u32) -> Option<RelativeOp>
+        ensures twin { IfSome result (λ known. IsTwinEverywhere word known.op) }
+        ensures straight { IfSome result (λ known. known ≡ relative_op known.op) }
     {
         let entry = self.entries.get(place(word))?;
         if entry.word != word {
             return None;
         }
-        Some(entry.op)
+        Some(entry.known)
     }
 
     /// Keeps the micro-op of a word, in the place of the word that had the entry.
-    fn keep(&mut self, word: u32, op: &MicroOp)
-        requires { IsTwinEverywhere word op.now }
+    fn keep(&mut self, word: u32, known: &RelativeOp)
+        requires twin { IsTwinEverywhere word known.now.op }
+        requires straight { known.now ≡ relative_op known.now.op }
     {
         if let Some(entry) = self.entries.get_mut(place(word)) {
-            *entry = Entry { word, op: *op };
+            *entry = Entry {
+                word,
+                known: *known,
+            };
         }
     }
 
@@ -158,19 +191,21 @@ impl KnownWords {
     /// it is known, unless that depends on where the word stands.
     // Not inlined: most words are known.
     #[inline(never)]
-    fn decoded(&mut self, range: &WordRange, i: u32, word: u32) -> MicroOp
+    fn decoded(&mut self, range: &WordRange, i: u32, word: u32) -> RelativeOp
         requires whole { IsWordRange range.now }
         requires here { i < range.now.words }
-        ensures { IsTwin range.now i word (placed_at range.now i result) }
+        ensures twin { IsTwin range.now i word (placed_at range.now i result.op) }
+        ensures straight { result ≡ relative_op result.op }
     {
         let Some(instr) = decode(word) else {
-            self.keep(word, &stop());
-            return stop();
+            let stopped = RelativeOp::of(stop());
+            self.keep(word, &stopped);
+            return stopped;
         };
-        let op = unplaced(&instr, range, i);
+        let known = RelativeOp::of(unplaced(&instr, range, i));
         if !depends_on_place(&instr) {
-            self.keep(word, &op);
+            self.keep(word, &known);
         }
-        op
+        known
     }
 }

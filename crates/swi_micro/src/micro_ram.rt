@@ -17,7 +17,7 @@ pub trait MicroRam: CacheRam {
     ghost kept: { Self → ℕ };
 
     /// Makes a place for the micro-op of each of the first `count` words, or of all where there are fewer; none is known
-    /// then. Memory where there is not enough of it, and then nothing changes: it takes eight bytes a word, and 3 KiB for
+    /// then. Memory where there is not enough of it, and then nothing changes: it takes eight bytes a word, and 4 KiB for
     /// words that were decoded.
     fn keep(&mut self, alloc: Global, count: u32) -> Result<(), Memory>
         requires { count < 2 ^ 30 }

@@ -1,8 +1,9 @@
-use Rattle.std.proofs.Common.{◌≡◌, ℕ, nat_lt, Bool, true, false, refl, subst, sym}
+use Rattle.std.proofs.Common.{◌≡◌, ℕ, nat_lt, Bool, true, false, ap, refl, subst, sym, ◌∙◌}
 use Rattle.swi_memory.specs.declared.word_range.WordRange.{WordRange}
 use Rattle.swi_micro.specs.declared.class.Class.{Class}
 use Rattle.swi_micro.specs.declared.class.Class.TheVariants as class
 use Rattle.swi_micro.specs.declared.translator.MicroOp.{MicroOp}
+use Rattle.swi_micro.specs.declared.known.RelativeOp.{RelativeOp}
 use Rattle.swi_micro.specs.Classes.{class_of}
 use Rattle.swi_micro.specs.Known.{branch_at, index_behind, is_straight, led_or_stop, placed_as}
 use Rattle.swi_micro.proofs.known.KnownWords.op.Goals as goal
@@ -23,4 +24,7 @@ placed_ends _ range k m ends = ends
 
 pub returns-clause-straight : goal.returns-clause-straight
 returns-clause-straight c =
-    subst (λ (m : MicroOp). false ≡ is_straight (class_of m.code)) (sym c.placed.ensures) (placed_ends (class_of c.match-find.op.code) c.args.range.now c.args.i c.match-find.op c.if-is_straight.ensures)
+    let known = c.look_up-known.result in
+    let told = c.look_up-known.ensures.straight in
+    let ends : false ≡ is_straight (class_of known.op.code) = sym c.if-known.false ∙ ap (λ (k : RelativeOp). k.is_straight) told in
+    subst (λ (m : MicroOp). false ≡ is_straight (class_of m.code)) (sym c.placed.ensures) (placed_ends (class_of known.op.code) c.args.range.now c.args.i known.op ends)
