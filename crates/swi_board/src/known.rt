@@ -43,7 +43,7 @@ fn straight(
     ensures same_bus { is_stop result ≡ true → bus.new ≡ bus.old }
     ensures word { is_link result ≡ false }
 {
-    match step_as(class, m, range, walk.at(), regs, bus) {
+    match step_as(class, m, range, walk.index, regs, bus) {
         Some(_) => Next::On,
         None => Next::Stop,
     }
@@ -72,8 +72,8 @@ fn branch(
     ensures same_bus { is_stop result ≡ true → bus.new ≡ bus.old }
     ensures word { is_link result ≡ false }
 {
-    match step_as(class, m, range, walk.at(), regs, bus) {
-        Some(next) => if next == walk.at() + 3 {
+    match step_as(class, m, range, walk.index, regs, bus) {
+        Some(next) => if next == walk.index + 3 {
             Next::Over
         } else {
             Next::Exit
@@ -105,11 +105,11 @@ fn upper(
     ensures word { is_link result ≡ false }
 {
     match upper_role(bus, walk.pc(), walk.stage) {
-        Role::Whole => match step_as(Class::Lui, m, range, walk.at(), regs, bus) {
+        Role::Whole => match step_as(Class::Lui, m, range, walk.index, regs, bus) {
             Some(_) => Next::On,
             None => Next::Stop,
         },
-        Role::Lead(next) => match step_as(Class::Lui, m, range, walk.at(), regs, bus) {
+        Role::Lead(next) => match step_as(Class::Lui, m, range, walk.index, regs, bus) {
             Some(_) => Next::Lead(next),
             None => Next::Stop,
         },
@@ -151,7 +151,7 @@ fn last(
     ensures same_bus { is_stop result ≡ true → bus.new ≡ bus.old }
     ensures word { is_link result ≡ false }
 {
-    match step_as(Class::Add, m, range, walk.at(), regs, bus) {
+    match step_as(Class::Add, m, range, walk.index, regs, bus) {
         Some(_) => Next::Lead(Stage::Leave),
         None => Next::Stop,
     }

@@ -23,7 +23,7 @@ fn store_word(
     instr: &Instr,
     regs: &mut Regs,
     bus: &mut Bus,
-) -> Option<u32>
+) -> Option<u64>
     requires within { k < range.now.words }
     requires decoded { AreDecoded (fetched bus.old) range.now ops.old }
     requires here { StandsAt bus.old range.now k instr.now }
@@ -43,7 +43,7 @@ fn store_word(
             if let Some(a) = stored {
                 forget(ops, range, a);
             }
-            Some(k + 1)
+            Some(k as u64 + 1)
         }
         Done::Call | Done::Break | Done::Fault(_, _) => None,
     }
@@ -58,7 +58,7 @@ fn decode_and_step(
     k: u32,
     regs: &mut Regs,
     bus: &mut Bus,
-) -> Option<u32>
+) -> Option<u64>
     requires within { k < range.now.words }
     requires decoded { AreDecoded (fetched bus.old) range.now ops.old }
     ensures step { IfSome result (λ next.
@@ -73,7 +73,7 @@ fn decode_and_step(
     if ops[k as usize].stops() {
         let m = micro_op(&instr, range, k);
         ops[k as usize] = m;
-        if let Some(next) = step(&m, range, k, regs, bus) {
+        if let Some(next) = step(&m, range, k as u64, regs, bus) {
             return Some(next);
         }
     }
@@ -92,7 +92,7 @@ fn step_anew(
     k: u32,
     regs: &mut Regs,
     bus: &mut Bus,
-) -> Option<u32>
+) -> Option<u64>
     requires { AreDecoded (fetched bus.old) range.now ops.old }
     ensures step { IfSome result (λ next.
         GoesOnAt (address_at range.now k) regs.old bus.old (address_at range.now next) regs.new bus.new) }
@@ -106,7 +106,7 @@ fn step_anew(
     }
     if let Some(a) = store(&ops[k as usize], regs, bus) {
         forget(ops, range, a);
-        return Some(k + 1);
+        return Some(k as u64 + 1);
     }
     decode_and_step(ops, range, k, regs, bus)
 }
@@ -130,21 +130,23 @@ pub fn advance(machine: &mut Machine, decoded: &mut Decoded, limit: u64)
 {
     let range = decoded.range;
     let ops = decoded.ops.as_mut_slice();
-    let Some(mut k) = index_of(&range, machine.pc) else {
+    let Some(first) = index_of(&range, machine.pc) else {
         return;
     };
+    // Of 64 bits: one of 32 would be extended at each step.
+    let mut k = first as u64;
     let mut left = limit - machine.steps;
     while left > 0 {
         let m = &ops[k as usize];
         k = match step(m, &range, k, &mut machine.regs, &mut machine.bus) {
             Some(next) => next,
-            None => match step_anew(ops, &range, k, &mut machine.regs, &mut machine.bus) {
+            None => match step_anew(ops, &range, k as u32, &mut machine.regs, &mut machine.bus) {
                 Some(next) => next,
                 None => break,
             },
         };
         left -= 1;
     }
-    machine.pc = address(&range, k);
+    machine.pc = address(&range, k as u32);
     machine.steps = limit - left;
 }

@@ -117,7 +117,7 @@ fn write(size: u8, m: &MicroOp, regs: &Regs, bus: &mut Bus) -> bool
 /// The target of a JALR, and the address of the next word put into rd. None, and nothing changed, where it leads out of
 /// the range.
 #[inline(always)]
-fn jump(range: &WordRange, m: &MicroOp, k: u32, regs: &mut Regs) -> Option<u32>
+fn jump(range: &WordRange, m: &MicroOp, k: u64, regs: &mut Regs) -> Option<u64>
     requires { k < 2 ^ 31 }
     ensures target { result ≡ index_at range.now (address_of regs.old m.now.rs1 m.now.imm / 2 * 2) }
     ensures linked { OnSome result (regs.new ≡ with_reg regs.old m.now.rd (address_at range.now (k + 1))) }
@@ -125,8 +125,8 @@ fn jump(range: &WordRange, m: &MicroOp, k: u32, regs: &mut Regs) -> Option<u32>
 {
     let target = regs.get(m.rs1.register()).wrapping_add(m.imm) & !1;
     let next = index_of(range, target)?;
-    regs.put(m.rd, address(range, k + 1));
-    Some(next)
+    regs.put(m.rd, address(range, k as u32 + 1));
+    Some(u64::from(next))
 }
 
 /// One step at the word with index `k` of the range, by its micro-op `m`: the index of the next one, which may be the one
@@ -134,8 +134,9 @@ fn jump(range: &WordRange, m: &MicroOp, k: u32, regs: &mut Regs) -> Option<u32>
 /// instruction, a fault, a store into the text of the memory, and what leads out of the range.
 ///
 /// What is fetched stays.
+// The index has 64 bits: one of 32 would be extended at each step.
 #[inline(always)]
-pub fn step(m: &MicroOp, range: &WordRange, k: u32, regs: &mut Regs, bus: &mut Bus) -> Option<u32>
+pub fn step(m: &MicroOp, range: &WordRange, k: u64, regs: &mut Regs, bus: &mut Bus) -> Option<u64>
     requires { k < 2 ^ 31 }
     ensures next { result ≡ (ran range.now m.now k regs.old bus.old).next }
     ensures regs { regs.new ≡ (ran range.now m.now k regs.old bus.old).regs }
@@ -154,10 +155,10 @@ pub fn step_as(
     class: Class,
     m: &MicroOp,
     range: &WordRange,
-    k: u32,
+    k: u64,
     regs: &mut Regs,
     bus: &mut Bus,
-) -> Option<u32>
+) -> Option<u64>
     requires { k < 2 ^ 31 }
     ensures next { result ≡ (ran_as class range.now m.now k regs.old bus.old).next }
     ensures regs { regs.new ≡ (ran_as class range.now m.now k regs.old bus.old).regs }
@@ -175,7 +176,7 @@ pub fn step_as(
         ($size:literal) => { if write($size, m, regs, bus) { Some(k + 1) } else { None } };
     }
     macro_rules! branch {
-        ($by:ident) => { Some(if goes(BranchOp::$by, m, regs) { m.imm } else { k + 1 }) };
+        ($by:ident) => { Some(if goes(BranchOp::$by, m, regs) { u64::from(m.imm) } else { k + 1 }) };
     }
     match class {
         Class::Add => operate!(Add),
@@ -209,8 +210,8 @@ pub fn step_as(
         Class::Less => branch!(Blt),
         Class::Below => branch!(Bltu),
         Class::Jal => {
-            regs.put(m.rd, address(range, k + 1));
-            Some(m.imm)
+            regs.put(m.rd, address(range, k as u32 + 1));
+            Some(u64::from(m.imm))
         }
         Class::Jalr => jump(range, m, k, regs),
         Class::Stop => None,

@@ -111,8 +111,14 @@ fn agrees(word: u32, k: u32, x: (u32, u32), one: &mut Bus, other: &mut Bus) -> b
     let mut wanted = regs_of(x.0, x.1);
     let stores = text_store(&instr, &wanted, other).is_some();
     let done = exec(&instr, pc, &mut wanted, other);
-    match step(&micro_op(&instr, &TEXT, k), &TEXT, k, &mut regs, one) {
-        Some(next) => done == Done::Next(address(&TEXT, next)) && are_equal(&regs, &wanted),
+    match step(
+        &micro_op(&instr, &TEXT, k),
+        &TEXT,
+        u64::from(k),
+        &mut regs,
+        one,
+    ) {
+        Some(next) => done == Done::Next(address(&TEXT, next as u32)) && are_equal(&regs, &wanted),
         None => {
             // So that both memories stay the same.
             exec(&instr, pc, &mut regs, one);
@@ -243,11 +249,17 @@ fn is_kept(known: &mut KnownWords, word: u32) -> bool {
 }
 
 /// Where a step at an index goes on once a word is set and learnt there, with x1 equal to x2. None where that fails.
-fn target_of_copy(ram: &mut DecodedRam<VecRam>, i: u32, word: u32, bus: &mut Bus) -> Option<u32> {
+fn target_of_copy(ram: &mut DecodedRam<VecRam>, i: u32, word: u32, bus: &mut Bus) -> Option<u64> {
     if !set_all(ram, i, &[word]) || !learn(ram, i) || i >= ram.kept() {
         return None;
     }
-    step(ram.op(i), &ram.range(), i, &mut regs_of(1, 1), bus)
+    step(
+        ram.op(i),
+        &ram.range(),
+        u64::from(i),
+        &mut regs_of(1, 1),
+        bus,
+    )
 }
 
 /// An addition, a load, a branch to the second word behind it, and another addition.

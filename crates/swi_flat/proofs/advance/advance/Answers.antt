@@ -20,7 +20,7 @@ loop-left-init c =
     let within = c.requires.within in
     let back : c.args.limit - (c.args.limit - c.args.machine.now.steps) ≡ c.args.machine.now.steps = omega (arith, within) in
     let pc = c.args.machine.now.pc in
-    let at : Target c.args.decoded.now.range pc c.in-Some.k = target c.args.decoded.now.range pc c.in-Some.k c.requires.decoded.whole (omega arith) (sym c.index_of.ensures ∙ c.in-Some.is) in
+    let at : Target c.args.decoded.now.range pc c.in-Some.first = target c.args.decoded.now.range pc c.in-Some.first c.requires.decoded.whole (omega arith) (sym c.index_of.ensures ∙ c.in-Some.is) in
     let here = at.within in
     record {
       run = rw (back, at.address) (advances_none c.args.machine.now);
