@@ -1,5 +1,5 @@
 -- What the loop of words knows of where it has come, and that each step keeps it.
-use Rattle.std.proofs.Common.{◌≡◌, ℕ, ◌+◌, ◌-◌, ◌*◌, ◌^◌, ◌<◌, ◌≤◌, List, Option, Some, None, refl, sym, ap, subst, ◌∙◌, arith}
+use Rattle.std.proofs.Common.{◌≡◌, ℕ, ◌+◌, ◌-◌, ◌*◌, ◌^◌, ◌<◌, ◌≤◌, Option, Some, None, refl, sym, ap, subst, ◌∙◌, arith}
 use Rattle.swi_isa.specs.declared.instr.Instr.{Instr}
 use Rattle.swi_isa.specs.Decode.{decoded}
 use Rattle.swi_outside.specs.CacheRam.{RamState}
@@ -24,7 +24,6 @@ use Rattle.swi_board.proofs.Walking.{has_room, instruction_of, is_shown, steps_l
 pub record Come {S : Type 0} (k : ServiceOf S) (v : ImageData) (limit : ℕ) (rom0 : S) (h0 : HartData) (ram0 : RamState) (rom : S) (w : Walk) (h : HartData) (ram : RamState) : Type 0 where
   pub walked : Walked (k.policy (k.setting rom0)) (k.span (k.setting rom0)) v limit (k.kept rom0) h0 ram0 (k.kept rom) (walk_hart w (place_shown (k.shown rom w.index)) h) ram
   pub shown : k.shown rom w.index ≡ None → ⊥
-  pub small : w.index < 2 ^ 32
   pub inside : w.index < w.end → StandsInside v (k.kept rom) ram (walk_hart w (place_shown (k.shown rom w.index)) h) w.index
       (place_shown (k.shown rom w.index)).0 (place_shown (k.shown rom w.index)).1 w.stage
   pub setting : k.setting rom ≡ k.setting rom0
@@ -45,13 +44,6 @@ pub record Told {S : Type 0} (k : ServiceOf S) (v : ImageData) (limit : ℕ) (ro
   pub rises : (r r' : Record) (h h' : HartData) (s s' : RamState) → Walked (k.policy (k.setting rom0)) (k.span (k.setting rom0)) v limit (k.kept rom0) h0 ram0 r h s →
       h.machine.steps < limit → WalkedOn (k.policy (k.setting rom0)) (k.span (k.setting rom0)) v r r' s s' h h' →
       3 * limit + 5 - most v h'.machine h'.control < 3 * limit + 5 - most v h.machine h.control
-
--- an index at which a word stands is small
-pub stands_small : {S : Type 0} {k : ServiceOf S} (v : ImageData) (rom : S) (words : List ℕ) (i : ℕ) (p : ℕ × ℕ) → IsService k → k.sound rom v words → StandsAt v (k.kept rom) i (Some p) → i < 2 ^ 32
-stands_small {S} {k} v rom words i p laws sound stands =
-    let few = laws.small rom v words sound in
-    let below = (laws.coherent rom v words sound).inside p.0 stands.0 stands.1 in
-    omega (arith, stands.2, stands.3, below, few)
 
 -- the measure of the loop there
 abbrev pub left_at : {S : Type 0} → ServiceOf S → ImageData → ℕ → S → Walk → HartData → ℕ
@@ -95,11 +87,8 @@ module _ {S : Type 0} {k : ServiceOf S} {v : ImageData} {limit : ℕ} {rom0 : S}
     next : Walked (k.policy (k.setting rom0)) (k.span (k.setting rom0)) v limit (k.kept rom0) h0 ram0 (k.kept rom') (walk_hart w' q h') ram'
     next = Walked.on _ _ _ _ _ _ c.walked (steps_left limit w c.to more) on
 
-    stands : StandsAt v (k.kept rom') w'.index (Some (q.0, q.1))
-    stands = told.stands _ _ _ next w'.index q.0 q.1 w'.stage refl
-
     shows : k.shown rom' w'.index ≡ Some (q.0, q.1)
-    shows = shown_place v (k.kept rom') _ _ w'.index q.0 q.1 _ (told.laws.coherent _ _ _ sound) stands (told.laws.shown_is _ _ _ sound w'.index)
+    shows = shown_place v (k.kept rom') _ _ w'.index q.0 q.1 _ (told.laws.coherent _ _ _ sound) (told.stands _ _ _ next w'.index q.0 q.1 w'.stage refl) (told.laws.shown_is _ _ _ sound w'.index)
 
     here : Walked (k.policy (k.setting rom0)) (k.span (k.setting rom0)) v limit (k.kept rom0) h0 ram0 (k.kept rom') (walk_hart w' (place_shown (k.shown rom' w'.index)) h') ram'
     here = walks_on w' h' shows next
@@ -111,7 +100,6 @@ module _ {S : Type 0} {k : ServiceOf S} {v : ImageData} {limit : ℕ} {rom0 : S}
         record {
           walked = here;
           shown = is_shown shows;
-          small = stands_small v rom' _ w'.index (q.0, q.1) told.laws sound stands;
           inside = λ further. told.inside _ _ _ here (steps_left limit w' to further) w'.index _ _ w'.stage refl;
           setting = setting ∙ c.setting;
           sound = sound;

@@ -52,8 +52,7 @@ pub enum Next {
 /// the service knows, which shows what stands at the index.
 #[derive(Clone, Copy, Debug, PartialEq, Eq)]
 pub struct Walk {
-    // Of 64 bits, as `end` is: so the loop's test extends no number at each step.
-    pub index: u64,
+    pub index: u32,
     pub stage: Stage,
     pub end: u64,
     pub limit: u64,
@@ -72,7 +71,7 @@ impl Walk {
     {
         let steps = limit - hart.machine.steps;
         Walk {
-            index: u64::from(index),
+            index,
             stage,
             end: u64::from(index) + steps,
             limit,
@@ -81,22 +80,13 @@ impl Walk {
         }
     }
 
-    /// The index, as a ram and a service take it.
-    #[inline(always)]
-    pub(crate) fn at(&self) -> u32
-        requires { self.now.index < 2 ^ 32 }
-        ensures { result ≡ self.now.index }
-    {
-        self.index as u32
-    }
-
     /// The steps that are left.
     #[inline(always)]
     fn left(&self) -> u64
         requires ahead { self.now.index ≤ self.now.end }
         ensures { result ≡ walk_left self.now }
     {
-        self.end - self.index
+        self.end - u64::from(self.index)
     }
 
     /// The steps made.
@@ -170,7 +160,7 @@ impl Walk {
     {
         let left = self.left() - if leads_on { 0 } else { 1 };
         // Field by field: a copy of the whole would keep what stands between the fields in registers.
-        self.index = u64::from(index);
+        self.index = index;
         self.stage = Stage::Start;
         self.end = u64::from(index) + left;
         self.behind = pc.wrapping_add((4 * left % (1 << 32)) as u32);
@@ -239,8 +229,8 @@ pub(crate) fn follow<R: CacheRom, M: CacheRam>(
     ensures counted { walk_count walk.new ≡ walk_count walk.old + 1 }
     ensures limited { (n : ℕ) → WalksTo n walk.old → WalksTo n walk.new }
 {
-    let target = rom.goal(walk.at());
-    let leads_on = fell(walk.stage, walk.pc(), target, index == walk.at());
+    let target = rom.goal(walk.index);
+    let leads_on = fell(walk.stage, walk.pc(), target, index == walk.index);
     walk.land(index, target, leads_on);
 }
 
@@ -284,7 +274,7 @@ fn step_anew<R: CacheRom, M: MicroRam>(
     if got == EBREAK {
         return None;
     }
-    ram.learn(walk.at());
+    ram.learn(walk.index);
     let mut walk = walk;
     match quick::<R, M, true>(hart, rom, image, ram, got, &mut walk) {
         Went::On | Went::Exit => Some(walk),
@@ -425,17 +415,15 @@ pub(crate) fn block_place<R: CacheRom, M: MicroRam>(
 #[inline(never)]
 fn settle<R: CacheRom>(hart: &mut Hart, rom: &R, walk: Walk)
     requires shown { R.service.shown rom.now walk.index ≡ None → ⊥ }
-    requires small { walk.index < 2 ^ 32 }
     requires to { WalksTo walk.limit walk }
     requires few { walk.limit ≤ 2 ^ 48 }
     ensures { hart.new ≡ walk_hart walk (place_shown (R.service.shown rom.now walk.index)) hart.old }
 {
-    let index = walk.at();
-    let Some((block, offset)) = rom.at(index) else {
+    let Some((block, offset)) = rom.at(walk.index) else {
         unreachable!()
     };
     hart.control
-        .go(Control::At(index, block, offset, walk.stage));
+        .go(Control::At(walk.index, block, offset, walk.stage));
     hart.machine.pc = walk.pc();
     hart.machine.steps = walk.steps();
     hart.count = walk.count();
@@ -502,21 +490,21 @@ pub(crate) fn run_block<R: CacheRom, M: MicroRam>(
     // Blocks may have moved since the last call; in this loop none does.
     targets.forget();
     let mut walk = Walk::begin(hart, at.0, at.3, limit);
-    while walk.index < walk.end {
-        let Ok(word) = ram.fetch_kept(walk.at()) else {
+    while u64::from(walk.index) < walk.end {
+        let Ok(word) = ram.fetch_kept(walk.index) else {
             leave!(hart, rom, walk, Err(Failed));
         };
         match quick::<R, M, false>(hart, rom, image, ram, word, &mut walk) {
             Went::On => continue,
             Went::Exit => {
                 // No limit of steps falls between a branch and the exit behind it, since the branch completes no step.
-                let Ok(exit) = ram.fetch_kept(walk.at()) else {
+                let Ok(exit) = ram.fetch_kept(walk.index) else {
                     leave!(hart, rom, walk, Err(Failed));
                 };
                 if link_on(rom, image, ram, exit, &mut walk) {
                     continue;
                 }
-                let left = again(ram, walk.at(), exit);
+                let left = again(ram, walk.index, exit);
                 let Some(next) = step_anew(hart, rom, image, ram, left, walk) else {
                     leave!(hart, rom, walk, Ok(Some(left)));
                 };
@@ -525,9 +513,9 @@ pub(crate) fn run_block<R: CacheRom, M: MicroRam>(
             }
             Went::Left => {}
         }
-        let left = again(ram, walk.at(), word);
+        let left = again(ram, walk.index, word);
         if left == EBREAK {
-            let Some((index, target)) = back(hart, rom, image, ram, targets, walk.at()) else {
+            let Some((index, target)) = back(hart, rom, image, ram, targets, walk.index) else {
                 leave!(hart, rom, walk, Ok(Some(left)));
             };
             walk.land(index, target, false);

@@ -43,7 +43,7 @@ fn straight(
     ensures same_bus { is_stop result ≡ true → bus.new ≡ bus.old }
     ensures word { is_link result ≡ false }
 {
-    match step_as(class, m, range, walk.index, regs, bus) {
+    match step_as(class, m, range, walk.index as u64, regs, bus) {
         Some(_) => Next::On,
         None => Next::Stop,
     }
@@ -72,8 +72,8 @@ fn branch(
     ensures same_bus { is_stop result ≡ true → bus.new ≡ bus.old }
     ensures word { is_link result ≡ false }
 {
-    match step_as(class, m, range, walk.index, regs, bus) {
-        Some(next) => if next == walk.index + 3 {
+    match step_as(class, m, range, walk.index as u64, regs, bus) {
+        Some(next) => if next == walk.index as u64 + 3 {
             Next::Over
         } else {
             Next::Exit
@@ -105,11 +105,11 @@ fn upper(
     ensures word { is_link result ≡ false }
 {
     match upper_role(bus, walk.pc(), walk.stage) {
-        Role::Whole => match step_as(Class::Lui, m, range, walk.index, regs, bus) {
+        Role::Whole => match step_as(Class::Lui, m, range, walk.index as u64, regs, bus) {
             Some(_) => Next::On,
             None => Next::Stop,
         },
-        Role::Lead(next) => match step_as(Class::Lui, m, range, walk.index, regs, bus) {
+        Role::Lead(next) => match step_as(Class::Lui, m, range, walk.index as u64, regs, bus) {
             Some(_) => Next::Lead(next),
             None => Next::Stop,
         },
@@ -151,7 +151,7 @@ fn last(
     ensures same_bus { is_stop result ≡ true → bus.new ≡ bus.old }
     ensures word { is_link result ≡ false }
 {
-    match step_as(Class::Add, m, range, walk.index, regs, bus) {
+    match step_as(Class::Add, m, range, walk.index as u64, regs, bus) {
         Some(_) => Next::Lead(Stage::Leave),
         None => Next::Stop,
     }
@@ -282,7 +282,7 @@ pub(crate) fn quick<R: CacheRom, M: MicroRam, const ANEW: bool>(
           { regs = hart.new.machine.regs; bus = hart.new.machine.bus };
     } }
 {
-    let m = ram.op(walk.at());
+    let m = ram.op(walk.index);
     let next = execute_known::<R, ANEW>(
         walk,
         got,
@@ -324,7 +324,7 @@ pub(crate) fn link_on<R: CacheRom, M: MicroRam>(
     ensures limited { result ≡ true → (n : ℕ) → WalksTo n walk.old → WalksTo n walk.new }
     ensures same { result ≡ false → walk.new ≡ walk.old }
 {
-    let m = ram.op(walk.at());
+    let m = ram.op(walk.index);
     let Class::Jal = m.class() else {
         return false;
     };

@@ -34,11 +34,11 @@ returns-clause-on g c = λ x m p decodes leaving home.
     let place : Control = At j to.block to.offset Start in
     let arrived : Arrives v r target place = target_arrives to in
     let address = c.goal-target.result in
-    let t : address ≡ target = c.goal-target.ensures ∙ ap (λ k. g.R.CacheRom.service.goals c.args.rom.now k) (c.at.ensures ∙ home.index)
+    let t : address ≡ target = c.goal-target.ensures ∙ ap (λ k. g.R.CacheRom.service.goals c.args.rom.now k) home.index
     ∙ g.met.R.CacheRom.laws.goal_is c.args.rom.now v _ s p.0 home.first p.1 home.is_placed at.1 in
     let fall = is_fall v n p.0 p.1 w.stage in
     let told : c.fell-leads_on.result ≡ fell w.stage (walk_pc w) address (j == w.index) =
-    c.fell-leads_on.ensures ∙ ap (λ k. fell w.stage k address (j == c.at-2.result)) c.pc.ensures ∙ ap (λ k. fell w.stage (walk_pc w) address (j == k)) c.at-2.ensures in
+    c.fell-leads_on.ensures ∙ ap (λ k. fell w.stage k address (j == w.index)) c.pc.ensures in
     let falls : c.fell-leads_on.result ≡ fall =
     told ∙ ap (λ k. fell w.stage (walk_pc w) address k) (back_at v r _ _ j to.block to.offset w.index p.0 p.1 coherent (target_stands v image to) (home_stands home))
     ∙ fell_is v r n p.0 p.1 w.stage address place t exit (subst (λ k. Arrives v r k place) (sym t) arrived) in

@@ -13,7 +13,7 @@ use Rattle.swi_board.proofs.known.quick.Goals as goal
 pub follow-requires-clause-linked : goal.follow-requires-clause-linked
 follow-requires-clause-linked g c =
     let link = c.execute_known-next.ensures.link (sym c.is_link.ensures ∙ c.if-is_link.true) in
-    link_goes_on (first_words (g.M.MicroRam.kept c.args.ram.now)) c.args.walk.now.index c.args.got c.op-m.result.now (rw (c.requires.got, sym c.at.ensures) c.op-m.ensures) link
+    link_goes_on (first_words (g.M.MicroRam.kept c.args.ram.now)) c.args.walk.now.index c.args.got c.op-m.result.now (rw c.requires.got c.op-m.ensures) link
 
 pub returns-then-is_link-clause-on : goal.returns-then-is_link-clause-on
 returns-then-is_link-clause-on g c = λ is x decodes p home.
@@ -21,7 +21,7 @@ returns-then-is_link-clause-on g c = λ is x decodes p home.
     let is_link_true : is_link c.execute_known-next.result ≡ true = sym c.is_link.ensures ∙ c.if-is_link.true in
     let link = c.execute_known-next.ensures.link is_link_true in
     let left = link_is_stop c.execute_known-next.result is_link_true in
-    let leaving = link_leaves (first_words (g.M.MicroRam.kept c.args.ram.now)) w.index c.args.got c.op-m.result.now class.Jal x (rw (c.requires.got, sym c.at.ensures) c.op-m.ensures) (sym link) refl decodes in
+    let leaving = link_leaves (first_words (g.M.MicroRam.kept c.args.ram.now)) w.index c.args.got c.op-m.result.now class.Jal x (rw c.requires.got c.op-m.ensures) (sym link) refl decodes in
     let machine : record c.hart.inside.machine { regs = c.execute_known-next.new.regs; bus = c.execute_known-next.new.bus } ≡ c.args.hart.now.machine =
     rw (c.execute_known-next.ensures.same_regs left, c.execute_known-next.ensures.same_bus left) (ap (λ (h : HartData). h.machine) c.hart.view_is) in
     let stays = c.execute_known-next.ensures.gone ∙ stop_stays c.execute_known-next.result w left in
