@@ -118,7 +118,12 @@ fn agrees(word: u32, k: u32, x: (u32, u32), one: &mut Bus, other: &mut Bus) -> b
         &mut regs,
         one,
     ) {
-        Some(next) => done == Done::Next(address(&TEXT, next as u32)) && are_equal(&regs, &wanted),
+        Some(next) => {
+            let Ok(next) = u32::try_from(next) else {
+                return false;
+            };
+            done == Done::Next(address(&TEXT, next)) && are_equal(&regs, &wanted)
+        }
         None => {
             // So that both memories stay the same.
             exec(&instr, pc, &mut regs, one);
