@@ -150,12 +150,9 @@ impl Ram {
     /// Learns the micro-op of one word. Whether it goes on to the next one alone.
     fn learn_one(&mut self, i: u32, word: u32) -> bool {
         let range = WordRange { from: 0, words: self.words.len() as u32 };
-        let op = self.known.op(word, &range, i);
+        let (op, goes_on) = self.known.op(word, &range, i);
         self.ops[i as usize] = op;
-        !matches!(
-            class_of_code(op.code),
-            Class::Equal | Class::Less | Class::Below | Class::Jal | Class::Jalr | Class::Stop
-        )
+        goes_on
     }
 }
 

@@ -300,7 +300,7 @@ pub fn write(size: u8, m: &MicroOp, regs: &Regs, bus: &mut Bus) -> bool {
 /// One step at the word with index `k`: the index of the next one. None, and nothing changed, where it is left to who executes
 /// instructions.
 #[inline(always)]
-pub fn step(m: &MicroOp, range: &WordRange, k: u32, regs: &mut Regs, bus: &mut Bus) -> Option<u32> {
+pub fn step(m: &MicroOp, range: &WordRange, k: usize, regs: &mut Regs, bus: &mut Bus) -> Option<usize> {
     macro_rules! operate {
         ($op:ident) => {{
             operate(RegOp::$op, m, regs);
@@ -309,7 +309,7 @@ pub fn step(m: &MicroOp, range: &WordRange, k: u32, regs: &mut Regs, bus: &mut B
     }
     macro_rules! branch {
         ($op:ident) => {
-            Some(if goes(BranchOp::$op, m, regs) { m.imm } else { k + 1 })
+            Some(if goes(BranchOp::$op, m, regs) { m.imm as usize } else { k + 1 })
         };
     }
     macro_rules! on {
@@ -349,13 +349,13 @@ pub fn step(m: &MicroOp, range: &WordRange, k: u32, regs: &mut Regs, bus: &mut B
         Class::Less => branch!(Blt),
         Class::Below => branch!(Bltu),
         Class::Jal => {
-            regs.put(m.rd, range.address(k + 1));
-            Some(m.imm)
+            regs.put(m.rd, range.address(k as u32 + 1));
+            Some(m.imm as usize)
         }
         Class::Jalr => {
             let target = range.index(regs.read(m.rs1).wrapping_add(m.imm) & !1)?;
-            regs.put(m.rd, range.address(k + 1));
-            Some(target)
+            regs.put(m.rd, range.address(k as u32 + 1));
+            Some(target as usize)
         }
         Class::Stop => None,
     }
@@ -364,11 +364,29 @@ pub fn step(m: &MicroOp, range: &WordRange, k: u32, regs: &mut Regs, bus: &mut B
 /// How many words are known at most: as many as eight bits tell apart.
 const ENTRIES: usize = 256;
 
-/// A word and its micro-op before it is placed: the immediate of a branch is the distance of its target in words.
+/// A word's micro-op before it is placed: the immediate of a branch is the distance of its target in words.
+#[derive(Clone, Copy)]
+struct RelativeOp {
+    op: MicroOp,
+    // Whether it goes on to the next word alone. Kept beside it, so that no test of its class is made where a word is learnt again.
+    is_straight: bool,
+}
+
+impl RelativeOp {
+    fn of(op: MicroOp) -> RelativeOp {
+        let is_straight = !matches!(
+            class_of_code(op.code),
+            Class::Equal | Class::Less | Class::Below | Class::Jal | Class::Jalr | Class::Stop
+        );
+        RelativeOp { op, is_straight }
+    }
+}
+
+/// A word that is known.
 #[derive(Clone, Copy)]
 struct Entry {
     word: u32,
-    op: MicroOp,
+    known: RelativeOp,
 }
 
 /// The words that were decoded last, each with its micro-op: so that of a word that is copied again and again only the first
@@ -409,25 +427,28 @@ fn placed(op: MicroOp, word: u32, range: &WordRange, k: u32) -> MicroOp {
 impl KnownWords {
     /// One that knows no word yet but 0, which is no instruction.
     pub fn new() -> KnownWords {
-        KnownWords { entries: [Entry { word: 0, op: held(0) }; ENTRIES] }
+        KnownWords { entries: [Entry { word: 0, known: RelativeOp::of(held(0)) }; ENTRIES] }
     }
 
     /// The micro-op of the word with index `k` of a range: it is decoded only where it isn't known. One that holds the word where
-    /// that stops.
+    /// that stops. And whether it goes on to the next one alone: such a one is placed as it is.
     #[inline(always)]
-    pub fn op(&mut self, word: u32, range: &WordRange, k: u32) -> MicroOp {
+    pub fn op(&mut self, word: u32, range: &WordRange, k: u32) -> (MicroOp, bool) {
         let entry = &self.entries[place(word)];
-        let op = if entry.word == word { entry.op } else { self.decoded(word, range, k) };
-        placed(op, word, range, k)
+        let RelativeOp { op, is_straight } = if entry.word == word { entry.known } else { self.decoded(word, range, k) };
+        if is_straight {
+            return (op, true);
+        }
+        (placed(op, word, range, k), false)
     }
 
     /// The micro-op of a word that isn't known, before it is placed: from now on it is known, unless it is that of JAL or AUIPC.
     #[inline(never)]
-    fn decoded(&mut self, word: u32, range: &WordRange, k: u32) -> MicroOp {
-        let op = unplaced(word, range, k);
+    fn decoded(&mut self, word: u32, range: &WordRange, k: u32) -> RelativeOp {
+        let known = RelativeOp::of(unplaced(word, range, k));
         if !matches!(word & 0x7F, 0x17 | 0x6F) {
-            self.entries[place(word)] = Entry { word, op };
+            self.entries[place(word)] = Entry { word, known };
         }
-        op
+        known
     }
 }

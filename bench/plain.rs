@@ -942,30 +942,31 @@ impl Flat {
     #[inline(never)]
     fn advance(&mut self, limit: u64) {
         let text = self.bus.text_range();
-        let Some(mut k) = text.index(self.pc) else { return };
+        let Some(first) = text.index(self.pc) else { return };
+        let mut k = first as usize;
         let mut left = limit - self.steps;
         while left > 0 {
-            let m = &self.ops[k as usize];
+            let m = &self.ops[k];
             k = match step(m, &text, k, &mut self.regs, &mut self.bus) {
                 Some(next) => next,
-                None => match self.step_anew(&text, k) {
+                None => match self.step_anew(&text, k as u32) {
                     Some(next) => next,
                     None => break,
                 },
             };
             left -= 1;
         }
-        self.pc = text.address(k);
+        self.pc = text.address(k as u32);
         self.steps = limit - left;
     }
 
     /// A step at a word that has no micro-op yet.
     #[inline(never)]
-    fn step_anew(&mut self, text: &WordRange, k: u32) -> Option<u32> {
+    fn step_anew(&mut self, text: &WordRange, k: u32) -> Option<usize> {
         let word = self.bus.fetch(text.address(k)).filter(|_| k < text.words)?;
         let m = micro_op(word, text, k);
         self.ops[k as usize] = m;
-        step(&m, text, k, &mut self.regs, &mut self.bus)
+        step(&m, text, k as usize, &mut self.regs, &mut self.bus)
     }
 
     fn run(&mut self, limit: u64) {
