@@ -378,11 +378,12 @@ impl EngineRom {
         Ok(copy.slot)
     }
 
-    // Serves a transfer into a block: the block's slot.
+    // Serves a transfer to a target in a block: the block's slot.
     fn arrive<M: CacheRam>(
         &mut self,
         image: &ImageView<'_>,
         ram: &mut M,
+        target: u32,
         block: u32,
     ) -> Result<u32, Failed>
         requires sound { EngineSound self.old image.now (M.state ram.old).words }
@@ -393,7 +394,7 @@ impl EngineRom {
             (M.state ram.old) (M.state ram.new)) }
         ensures setting { setting_of self.new ≡ setting_of self.old }
     {
-        self.count();
+        self.count_near(target, block);
         match self.find(block) {
             Some(slot) => Ok(slot),
             None => self.fill(image, ram, block),
@@ -573,10 +574,10 @@ impl CacheRom for EngineRom {
         ram: &mut M,
         target: u32,
     ) -> Result<u32, RomStop> {
-        let Some((block, offset)) = image.place(target) else {
+        let Some((block, offset)) = image.place_near(target, self.hints.near(target)) else {
             return Err(RomStop::Outside);
         };
-        let Ok(slot) = self.arrive(image, ram, block) else {
+        let Ok(slot) = self.arrive(image, ram, target, block) else {
             return Err(RomStop::RamFault);
         };
         Ok(slot * self.size + offset)
@@ -606,7 +607,7 @@ impl CacheRom for EngineRom {
         at: u32,
         target: u32,
     ) -> Result<u32, RomStop> {
-        let Some((block, offset)) = image.place(target) else {
+        let Some((block, offset)) = image.place_near(target, self.hints.near(target)) else {
             return Err(RomStop::Outside);
         };
         let joint = Joint {
@@ -615,7 +616,7 @@ impl CacheRom for EngineRom {
             at,
             into: block,
         };
-        let Ok(slot) = self.arrive(image, ram, block) else {
+        let Ok(slot) = self.arrive(image, ram, target, block) else {
             return Err(RomStop::RamFault);
         };
         let index = slot * self.size + offset;

@@ -293,11 +293,12 @@ impl RingRom {
         Ok(first)
     }
 
-    // Serves a transfer into a block: the block's first word.
+    // Serves a transfer to a target in a block: the block's first word.
     fn arrive<M: CacheRam>(
         &mut self,
         image: &ImageView<'_>,
         ram: &mut M,
+        target: u32,
         block: u32,
     ) -> Result<u32, Failed>
         requires sound { RingSound self.old image.now (M.state ram.old).words }
@@ -308,7 +309,7 @@ impl RingRom {
         ensures failed { OnErr result (FailedBelow self.old.words (M.state ram.old) (M.state ram.new)) }
         ensures words { self.new.words ≡ self.old.words }
     {
-        self.count();
+        self.count_near(target, block);
         match self.find(block) {
             Some(first) => Ok(first),
             None => self.fill(image, ram, block),
@@ -399,10 +400,10 @@ impl CacheRom for RingRom {
         ram: &mut M,
         target: u32,
     ) -> Result<u32, RomStop> {
-        let Some((block, offset)) = image.place(target) else {
+        let Some((block, offset)) = image.place_near(target, self.hints.near(target)) else {
             return Err(RomStop::Outside);
         };
-        let Ok(first) = self.arrive(image, ram, block) else {
+        let Ok(first) = self.arrive(image, ram, target, block) else {
             return Err(RomStop::RamFault);
         };
         Ok(first + offset)
@@ -432,11 +433,11 @@ impl CacheRom for RingRom {
         at: u32,
         target: u32,
     ) -> Result<u32, RomStop> {
-        let Some((block, offset)) = image.place(target) else {
+        let Some((block, offset)) = image.place_near(target, self.hints.near(target)) else {
             return Err(RomStop::Outside);
         };
         let home = self.owners[at as usize];
-        let Ok(first) = self.arrive(image, ram, block) else {
+        let Ok(first) = self.arrive(image, ram, target, block) else {
             return Err(RomStop::RamFault);
         };
         let index = first + offset;

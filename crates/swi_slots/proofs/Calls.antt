@@ -2,7 +2,6 @@
 use Rattle.std.proofs.Common.{◌≡◌, ℕ, ◌+◌, ◌*◌, ◌/◌, ◌<◌, ◌≤◌, ◌^◌, false, List, length, Option, None, Some, Ok, Err, slice_index, slice_index_or, arith, refl, sym, ◌∙◌, ap, subst}
 use Rattle.std.proofs.lemmas.List.{get_or_read}
 use Rattle.std.proofs.lemmas.Nat.{row_fits, div_below}
-use Rattle.std.proofs.lemmas.Bool.{and_left, both_ways, ne_eqb}
 use Rattle.swi_image.specs.Format.{ImageData}
 use Rattle.swi_image.specs.Place.{place_of, length_at}
 use Rattle.swi_outside.specs.CacheRam.{RamState}
@@ -162,32 +161,20 @@ crossed_serves v s t u c q slot at target home index a b d x is all home_at inde
     let w = crossed_sound vs s t u c q slot at target a b d serves.1 e is' (all vs serves) (maybe_at vs s t u q slot at target home index b d e home_at index_is maybe) in
     (ap (λ (p : ℕ). vs p) w.1 ∙ serves.0, w.0)
 
--- the exit's block has lost its slot
-pub never_linked : (s t : Slots) (at home slot to b g : ℕ) (a : RamState) → s ≡ t → InShape s → at < t.slots * t.size → b ≡ slice_index_or s.blocks (at / s.size) b → (b ≡ home → ⊥) →
-    MaybeLinked t t (can_link t at home to) at slot to g a a
-never_linked s t at home slot to b g a e shape lt is ne = record {
-  yes = λ can. absurd (both_ways (can_link t at home to) no can);
-  no = λ x. (refl, refl);
-}
-  where
-    below : at < s.slots * s.size
-    below = subst (λ (x : Slots). at < x.slots * x.size) (sym e) lt
+-- the slot of a word is one of them
+pub slot_within : (s t : Slots) (at n : ℕ) → s ≡ t → InShape s → at < t.slots * t.size → n ≡ at / s.size → n < length s.blocks
+slot_within s t at n e shape lt is =
+    let below : at < s.slots * s.size = subst (λ (x : Slots). at < x.slots * x.size) (sym e) lt in
+    omega (arith, is, div_below at s.size s.slots (omega (arith, shape.size_least)) below, shape.blocks_long)
 
-    here : b ≡ slice_index s.blocks (at / s.size)
-    here = get_or_read s.blocks (at / s.size) b (omega (arith, div_below at s.size s.slots (omega (arith, shape.size_least)) below, shape.blocks_long)) is 0
+-- the block that was read there
+pub slot_read : (s t : Slots) (at n b : ℕ) → s ≡ t → InShape s → at < t.slots * t.size → n ≡ at / s.size → b ≡ slice_index_or s.blocks n b → b ≡ slice_index t.blocks (at / t.size)
+slot_read s t at n b e shape lt is read =
+    get_or_read s.blocks n b (slot_within s t at n e shape lt is) read 0 ∙ ap (λ (k : ℕ). slice_index s.blocks k) is ∙ ap (λ (x : Slots). slice_index x.blocks (at / x.size)) e
 
-    no : can_link t at home to ≡ false
-    no = subst (λ (x : Slots). can_link x at home to ≡ false) e (and_left _ _ (ne_eqb _ _ (λ (f : slice_index s.blocks (at / s.size) ≡ home). ne (here ∙ f))))
-
-pub home_within : (v : ImageData) (s r : Slots) (words : List ℕ) (at target : ℕ) → r ≡ s → SlotsSound s v words → ExitAt v (kept_by s) at target → at / r.size < length r.blocks
-home_within v s r words at target e sound x =
-    let exit = exit_at v s words at target sound x in
-    subst (λ (y : Slots). at / y.size < length y.blocks) (sym e)
-    (omega (arith, exit_row sound.0 s at target exit, exit.filled, sound.1.1.shape.filled_most, sound.1.1.shape.blocks_long))
-
-pub home_read : (v : ImageData) (s r : Slots) (words : List ℕ) (at target b : ℕ) → r ≡ s → SlotsSound s v words → ExitAt v (kept_by s) at target → b ≡ slice_index_or r.blocks (at / r.size) b → b ≡ slice_index s.blocks (at / s.size)
-home_read v s r words at target b e sound x is =
-    get_or_read r.blocks (at / r.size) b (home_within v s r words at target e sound x) is 0 ∙ ap (λ (y : Slots). slice_index y.blocks (at / y.size)) e
+-- an exit stands in a slot
+pub exit_within : (v : ImageData) (s : Slots) (words : List ℕ) (at target : ℕ) → SlotsSound s v words → ExitAt v (kept_by s) at target → at < s.slots * s.size
+exit_within v s words at target sound x = exit_below sound.0 s at target sound.1.1.shape (exit_at v s words at target sound x)
 
 pub exit_after : (v : ImageData) (s t : Slots) (c slot at target : ℕ) (a b : RamState) → SlotsSound s v a.words → ExitAt v (kept_by s) at target → Arrives v s c slot t a b → at < t.slots * t.size
 exit_after v s t c slot at target a b sound x all =

@@ -1,3 +1,4 @@
+pub mod Dividing
 pub mod Clearing
 pub mod Shapes
 pub mod Filling

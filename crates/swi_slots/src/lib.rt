@@ -1,6 +1,7 @@
 //! The cache service with slots of one size, over a table that finds blocks and links; and the simplest such table.
 #![tactic(auto)]
 
+mod divisor;
 mod scan;
 mod slots;
 mod table;

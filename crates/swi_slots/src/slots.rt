@@ -13,6 +13,7 @@ ghost use Rattle.swi_rom.specs.Writing.{FailedBelow};
 ghost use Rattle.swi_slots.specs.Steps.{MadeRoom, Filled, Linked, MaybeLinked, can_link, IsAbsent, LinksInside, settled, counted_slots, wrapped};
 ghost use Rattle.swi_slots.specs.Arrived.{Arrived};
 
+use crate::divisor::Divisor;
 use crate::table::LinkTable;
 use std::alloc::Global;
 use std::marker::Model;
@@ -26,6 +27,8 @@ use swi_rom::{CacheRom, Counts, RomStop, copy, jump, reach};
 pub struct SlotRom<T: LinkTable> {
     slots: u32,
     size: u32,
+    // The size, to divide by.
+    divisor: Divisor,
     next: u32,
     filled: u32,
     programs: u32,
@@ -73,7 +76,7 @@ impl<T: LinkTable> Model for SlotRom<T> {
       goals = s.goals.items;
       counts = s.counts;
     }) × (T.slot_count s.table ≡ s.slots) × (T.slot_size s.table ≡ s.size)
-        × (T.block_count s.table ≡ s.programs * 2 ^ 19) × T.knows s.table s.filled s.blocks.items };
+        × (T.block_count s.table ≡ s.programs * 2 ^ 19) × T.knows s.table s.filled s.blocks.items × (s.divisor ≡ s.size) };
 }
 
 // An address for each word, none of which is a link.
@@ -170,6 +173,7 @@ impl<T: LinkTable> SlotRom<T> {
         Ok(SlotRom {
             slots,
             size: block_words,
+            divisor: Divisor::new(block_words),
             next: 0,
             filled: 0,
             programs,
@@ -209,6 +213,15 @@ impl<T: LinkTable> SlotRom<T> {
         ensures knows { T.knows result.now self.now.filled self.now.blocks }
     {
         &self.table
+    }
+
+    // The key of the block that took the slot of a word last.
+    fn block_at(&self, at: u32) -> u32
+        requires { at < self.now.slots * self.now.size }
+        ensures { result ≡ slice_index self.now.blocks (at / self.now.size) }
+    {
+        let (slot, _) = self.divisor.divide(at);
+        self.blocks[slot as usize]
     }
 
     // The slot of a block of the program in turn.
@@ -307,11 +320,12 @@ impl<T: LinkTable> SlotRom<T> {
         Ok(())
     }
 
-    // Serves a transfer into a block: the block's slot.
+    // Serves a transfer to a target in a block: the block's slot.
     fn arrive<M: CacheRam>(
         &mut self,
         image: &ImageView<'_>,
         ram: &mut M,
+        target: u32,
         block: u32,
     ) -> Result<u32, Failed>
         requires sound { SlotsSound self.old image.now (M.state ram.old).words }
@@ -326,7 +340,7 @@ impl<T: LinkTable> SlotRom<T> {
         ensures size { self.new.size ≡ self.old.size }
         ensures programs { self.new.programs ≡ self.old.programs }
     {
-        self.count();
+        self.count_near(target, block);
         match self.find(block) {
             Some(slot) => Ok(slot),
             None => {
@@ -395,7 +409,7 @@ impl<T: LinkTable> SlotRom<T> {
         ensures size { self.new.size ≡ self.old.size }
         ensures programs { self.new.programs ≡ self.old.programs }
     {
-        if self.blocks[(at / self.size) as usize] != home {
+        if self.block_at(at) != home {
             return Ok(());
         }
         if !reach(at, to) {
@@ -416,10 +430,10 @@ impl<T: LinkTable> CacheRom for SlotRom<T> {
         ram: &mut M,
         target: u32,
     ) -> Result<u32, RomStop> {
-        let Some((block, offset)) = image.place(target) else {
+        let Some((block, offset)) = image.place_near(target, self.hints.near(target)) else {
             return Err(RomStop::Outside);
         };
-        let Ok(slot) = self.arrive(image, ram, block) else {
+        let Ok(slot) = self.arrive(image, ram, target, block) else {
             return Err(RomStop::RamFault);
         };
         Ok(slot * self.size + offset)
@@ -449,11 +463,11 @@ impl<T: LinkTable> CacheRom for SlotRom<T> {
         at: u32,
         target: u32,
     ) -> Result<u32, RomStop> {
-        let Some((block, offset)) = image.place(target) else {
+        let Some((block, offset)) = image.place_near(target, self.hints.near(target)) else {
             return Err(RomStop::Outside);
         };
-        let home = self.blocks[(at / self.size) as usize];
-        let Ok(slot) = self.arrive(image, ram, block) else {
+        let home = self.block_at(at);
+        let Ok(slot) = self.arrive(image, ram, target, block) else {
             return Err(RomStop::RamFault);
         };
         let index = slot * self.size + offset;
@@ -468,8 +482,7 @@ impl<T: LinkTable> CacheRom for SlotRom<T> {
     }
 
     fn at(&self, i: u32) -> Option<(u32, u32)> {
-        let slot = i / self.size;
-        let offset = i % self.size;
+        let (slot, offset) = self.divisor.divide(i);
         if slot >= self.filled {
             return None;
         }

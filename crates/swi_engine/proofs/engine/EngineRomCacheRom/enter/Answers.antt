@@ -14,12 +14,12 @@ returns-in_default-arrive-clause-setting g c = c.in_default-arrive.ensures.setti
 pub overflow_mul-result : goal.overflow_mul-result
 overflow_mul-result g c =
     let arr = c.in-Ok.ensures.arrived in
-    omega (arith, (row_within _ _ _ _ _ _ _ c.in-Ok.slot c.self.view_is arr.sound c.in-Some.ensures.place arr.stands).1)
+    omega (arith, (row_within _ _ _ _ _ _ _ c.in-Ok.slot c.self-2.view_is arr.sound c.in-Some.ensures.place arr.stands).1)
 
 pub overflow_add-result : goal.overflow_add-result
 overflow_add-result g c =
     let arr = c.in-Ok.ensures.arrived in
-    omega (arith, (row_within _ _ _ _ _ _ _ c.in-Ok.slot c.self.view_is arr.sound c.in-Some.ensures.place arr.stands).0)
+    omega (arith, (row_within _ _ _ _ _ _ _ c.in-Ok.slot c.self-2.view_is arr.sound c.in-Some.ensures.place arr.stands).0)
 
 pub returns-clause-served : goal.returns-clause-served
-returns-clause-served g c = entered_call _ _ _ _ _ _ _ _ _ _ c.in-Ok.ensures.arrived c.in-Some.ensures.place (ap (λ (e : EngineData). e.size) c.self.view_is)
+returns-clause-served g c = entered_call _ _ _ _ _ _ _ _ _ _ c.in-Ok.ensures.arrived c.in-Some.ensures.place (ap (λ (e : EngineData). e.size) c.self-2.view_is)

@@ -13,6 +13,7 @@ invariant_of-self g c =
       c.settle.ensures.blocks ∙ c.self.invariant.3,
       subst (λ (n : ℕ). g.T.LinkTable.knows c.settle.new.self n (slice_set s.blocks.items s.next c.key-key.result)) (filled_more old c.self.invariant.0 ∙ sym c.min-self-inside.ensures)
           (subst (λ (bs : List ℕ). g.T.LinkTable.knows c.settle.new.self (max s.filled (s.next + 1)) (slice_set bs s.next c.key-key.result)) c.deref.ensures.value c.settle.ensures.knows),
+      c.self.invariant.5,
     )
 
 pub settle-requires-clause-few : goal.settle-requires-clause-few

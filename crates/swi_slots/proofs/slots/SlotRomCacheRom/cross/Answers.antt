@@ -2,7 +2,7 @@ use Rattle.std.proofs.Common.{ℕ, ◌+◌, ◌*◌, ap, arith, sym, ◌∙◌}
 use Rattle.swi_rom.specs.Record.{direct}
 use Rattle.swi_slots.specs.Slots.{Slots}
 use Rattle.swi_slots.proofs.Crossing.{outside_served}
-use Rattle.swi_slots.proofs.Calls.{place_block, index_fits, exit_not_linked, home_within, home_read, exit_after, index_after, links_after, free_after, crossed_call, crossed_serves, crossed_fault}
+use Rattle.swi_slots.proofs.Calls.{place_block, index_fits, exit_not_linked, exit_within, exit_after, index_after, links_after, free_after, crossed_call, crossed_serves, crossed_fault}
 use Rattle.swi_slots.proofs.Unused.{setting_same, unused_stays}
 use Rattle.swi_slots.proofs.slots.SlotRomCacheRom.cross.Goals as goal
 
@@ -10,10 +10,8 @@ pub returns-in_default-clause-served : goal.returns-in_default-clause-served
 returns-in_default-clause-served g c = λ b o f h lt at.
     outside_served _ _ (direct b o c.args.target) _ (exit_not_linked _ _ _ _ _ b o f c.requires.sound c.requires.exit h lt at) (sym c.in_default.ensures.place)
 
-pub index-home-requires : goal.index-home-requires
-index-home-requires g c =
-    let w = home_within _ _ _ _ _ _ c.self.view_is c.requires.sound c.requires.exit in
-    omega (arith, w)
+pub block_at-home-requires : goal.block_at-home-requires
+block_at-home-requires g c = exit_within _ _ _ _ _ c.requires.sound c.requires.exit
 
 pub overflow_mul-index : goal.overflow_mul-index
 overflow_mul-index g c =
@@ -36,7 +34,7 @@ link_exit-requires-clause-to g c =
     index_after _ _ _ _ _ c.in-Ok.slot c.self-2.inside.size _ _ c.requires.sound c.in-Ok.ensures.arrived (place_block _ _ _ _ _ c.requires.sound c.in-Some.ensures.place).1 (ap (λ (s : Slots). s.size) c.self-2.view_is ∙ c.in-Ok.ensures.size)
 
 pub link_exit-requires-clause-free : goal.link_exit-requires-clause-free
-link_exit-requires-clause-free g c = free_after _ _ _ _ _ _ _ _ _ _ c.requires.sound c.requires.exit c.in-Ok.ensures.arrived (home_read _ _ _ _ _ _ _ c.self.view_is c.requires.sound c.requires.exit c.index-home.ensures)
+link_exit-requires-clause-free g c = free_after _ _ _ _ _ _ _ _ _ _ c.requires.sound c.requires.exit c.in-Ok.ensures.arrived c.block_at-home.ensures
 
 pub link_exit-requires-clause-slot : goal.link_exit-requires-clause-slot
 link_exit-requires-clause-slot g c =
@@ -49,7 +47,7 @@ link_exit-requires-clause-links g c = links_after _ _ _ _ _ _ _ _ _ c.requires.s
 pub returns-clause-served : goal.returns-clause-served
 returns-clause-served g c =
     (crossed_call _ _ _ _ _ _ c.in-Ok.slot _ _ _ _ _ _ _ c.requires.sound c.requires.exit (sym c.in-Some.ensures.place) c.in-Ok.ensures.arrived
-    (home_read _ _ _ _ _ _ _ c.self.view_is c.requires.sound c.requires.exit c.index-home.ensures)
+    c.block_at-home.ensures
     (ap (λ (n : ℕ). c.in-Ok.slot * n + c.in-Some.offset) (ap (λ (s : Slots). s.size) c.self-2.view_is ∙ c.in-Ok.ensures.size))
     c.in-Ok-link_exit.ensures.linked)
 
@@ -57,7 +55,7 @@ pub returns-clause-stays : goal.returns-clause-stays
 returns-clause-stays g c = (
   c.requires.sound.0,
   crossed_serves _ _ _ _ _ _ c.in-Ok.slot _ _ _ _ _ _ _ c.requires.exit (sym c.in-Some.ensures.place) c.in-Ok.ensures.arrived
-      (home_read _ _ _ _ _ _ _ c.self.view_is c.requires.sound c.requires.exit c.index-home.ensures)
+      c.block_at-home.ensures
       (ap (λ (n : ℕ). c.in-Ok.slot * n + c.in-Some.offset) (ap (λ (s : Slots). s.size) c.self-2.view_is ∙ c.in-Ok.ensures.size))
       c.in-Ok-link_exit.ensures.linked c.requires.sound.0 c.requires.sound.1,
 )
@@ -65,7 +63,7 @@ returns-clause-stays g c = (
 pub returns-clause-keeps : goal.returns-clause-keeps
 returns-clause-keeps g c =
     crossed_serves _ _ _ _ _ _ c.in-Ok.slot _ _ _ _ _ _ _ c.requires.exit (sym c.in-Some.ensures.place) c.in-Ok.ensures.arrived
-    (home_read _ _ _ _ _ _ _ c.self.view_is c.requires.sound c.requires.exit c.index-home.ensures)
+    c.block_at-home.ensures
     (ap (λ (n : ℕ). c.in-Ok.slot * n + c.in-Some.offset) (ap (λ (s : Slots). s.size) c.self-2.view_is ∙ c.in-Ok.ensures.size))
     c.in-Ok-link_exit.ensures.linked
 
@@ -76,7 +74,7 @@ returns-in_default-link_exit-clause-served g c = λ b o f h lt at.
 pub returns-clause-unused : goal.returns-clause-unused
 returns-clause-unused g c =
     let x = c.requires.exit in
-    let home = home_read _ _ _ _ _ _ _ c.self.view_is c.requires.sound x c.index-home.ensures in
+    let home = c.block_at-home.ensures in
     let index = ap (λ (n : ℕ). c.in-Ok.slot * n + c.in-Some.offset) (ap (λ (s : Slots). s.size) c.self-2.view_is ∙ c.in-Ok.ensures.size) in
     let served = crossed_call _ _ _ _ _ _ c.in-Ok.slot _ _ _ _ _ _ _ c.requires.sound x (sym c.in-Some.ensures.place) c.in-Ok.ensures.arrived home index c.in-Ok-link_exit.ensures.linked x.block x.offset x.first x.is_placed (omega (arith, x.is_exit.inside)) x.index in
     let serves = crossed_serves _ _ _ _ _ _ c.in-Ok.slot _ _ _ _ _ _ _ x (sym c.in-Some.ensures.place) c.in-Ok.ensures.arrived home index c.in-Ok-link_exit.ensures.linked c.requires.sound.0 c.requires.sound.1 in
