@@ -13,7 +13,7 @@ pub use done::{Done, FaultKind};
 pub use executor::exec;
 pub use registers::{A0, A1, A2, A7, Regs, SP, Slot};
 pub use stores_text::{store_into_text, text_store};
-pub use values::{load, takes, value_of_op};
+pub use values::{size_of_load, takes, value_of_load, value_of_op};
 
 #[cfg(test)]
 mod tests;

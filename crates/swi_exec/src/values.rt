@@ -1,7 +1,7 @@
 //! What the operations of instructions give.
 #![tactic(auto)]
 
-ghost use Rattle.std.specs.Prelude.{◌≡◌, ℕ, true, false, MatchResult, OnOk, OnErr};
+ghost use Rattle.std.specs.Prelude.{◌≡◌, ◌<◌, ◌*◌, ◌^◌, ℕ, true, false, MatchResult, OnOk, OnErr};
 ghost use Rattle.swi_exec.specs.Execute.{op_value, imm_value, is_taken, load_value, load_size, store_size, atomic_word};
 ghost use Rattle.swi_memory.specs.declared.right.Right.TheVariants.{Read, Write};
 ghost use Rattle.swi_memory.specs.Bus.{IsSize, fetched, holds, number_at, stored, touches_text};
@@ -102,6 +102,34 @@ pub fn load(op: LoadOp, a: u32, bus: &Bus) -> Result<u32, Access>
         LoadOp::Lw => bus.load(a, 4),
         LoadOp::Lbu => bus.load(a, 1),
         LoadOp::Lhu => bus.load(a, 2),
+    }
+}
+
+/// How many bytes a load reads: 1, 2 or 4. Source: RISC-V unprivileged specification, RV32I, "Load and Store
+/// Instructions".
+#[inline(always)]
+pub fn size_of_load(op: LoadOp) -> u8
+    ensures value { result ≡ load_size op }
+    ensures size { IsSize result }
+{
+    match op {
+        LoadOp::Lb | LoadOp::Lbu => 1,
+        LoadOp::Lh | LoadOp::Lhu => 2,
+        LoadOp::Lw => 4,
+    }
+}
+
+/// The word that a load makes of the number that it reads, which has `size_of_load` bytes: LB and LH extend its sign, LBU
+/// and LHU put zeros above. Source: as of `size_of_load`.
+#[inline(always)]
+pub fn value_of_load(op: LoadOp, v: u32) -> u32
+    requires { v < 2 ^ (8 * load_size op) }
+    ensures { result ≡ load_value op v }
+{
+    match op {
+        LoadOp::Lb => sign::<8>(v),
+        LoadOp::Lh => sign::<16>(v),
+        LoadOp::Lw | LoadOp::Lbu | LoadOp::Lhu => v,
     }
 }
 

@@ -1,5 +1,5 @@
 -- An access that lies in a window.
-use Rattle.std.proofs.Common.{◌≡◌, ℕ, ◌-◌, ◌<◌, zero, suc, List, [], ◌∷◌, length, get_or, true, false, inl, inr, arith, refl, subst, ◌∙◌}
+use Rattle.std.proofs.Common.{◌≡◌, ℕ, ◌+◌, ◌-◌, ◌<◌, zero, suc, List, [], ◌∷◌, length, get_or, true, false, inl, inr, arith, refl, subst, ◌∙◌}
 use Rattle.std.proofs.lemmas.Bool.Decides.{nat_tests}
 use Rattle.std.proofs.lemmas.List.{length-set, length-map}
 use Rattle.std.proofs.Math.ListN.{get_or-map}
@@ -14,7 +14,7 @@ use Rattle.swi_memory.specs.Windows.{AreWindows, HasRange, InArea, IsInWindow, I
 
 -- the bytes are no text word's
 beside : (bus : List AreaData) (w : Window) (a n i : ℕ) → IsWindow bus w → HasRange w a n i → touches_text bus a n ≡ false
-beside bus w a n i is has = touches_part bus w.base w.len a n is.beside_text has.from has.end
+beside bus w a n i is has = touches_part bus w.base (w.starts + 3) a n (is.beside_text (omega (arith, has.from, has.start))) has.from has.end
 
 untouched : (bus : List AreaData) (w : Windows) (a n i : ℕ) → AreWindows bus w → IsInWindow w a n i → touches_text bus a n ≡ false
 untouched bus w a n i are (inl last) = beside bus w.last a n i are.last last
@@ -39,14 +39,14 @@ has_all banks r w a n some has bound lies granted = record {
 }
 
 module _ (banks : List Bank) (w : Window) (a n i : ℕ) (is : IsWindow (areas banks) w) (some : 0 < n) (has : HasRange w a n i) where
-  here : 0 < w.len
-  here = omega (arith, some, has.from, has.end)
+  here : 0 < w.starts
+  here = omega (arith, has.from, has.start)
 
   lies : (d : Bank) → InArea (area (get_or banks w.bank d)) w
   lies d = subst (λ s. InArea s w) (get_or-map area banks w.bank d) (is.area here (area d))
 
   at : HasRange w a n w.bank
-  at = record { here = refl; from = has.from; end = has.end }
+  at = record { here = refl; from = has.from; start = has.start; end = has.end }
 
   bound : w.bank < length banks
   bound = omega (arith, is.place here, length-map banks area)
@@ -75,7 +75,7 @@ window-with_byte : (bus : List AreaData) (a b : ℕ) (w : Window) → length (wi
 window-with_byte bus a b w same h = record {
   place = λ some. rw same (h.place some);
   area = λ some d. area-with_byte bus a b w.bank d w (h.area some d);
-  beside_text = touches-with_byte bus a b w.base w.len ∙ h.beside_text;
+  beside_text = λ some. touches-with_byte bus a b w.base (w.starts + 3) ∙ h.beside_text some;
 }
 
 pub windows-with_byte : (bus : List AreaData) (a b : ℕ) (w : Windows) → length (with_byte bus a b) ≡ length bus → AreWindows bus w → AreWindows (with_byte bus a b) w

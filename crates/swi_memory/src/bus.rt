@@ -1,7 +1,7 @@
 //! The memory of a machine.
 #![tactic(auto)]
 
-ghost use Rattle.std.specs.Prelude.{◌≡◌, ◌+◌, ◌*◌, ◌<◌, ◌≤◌, ◌^◌, ◌%◌, ℕ, true, false, length, slice_get, IfOk, IfSome, IsSomeAnd, OnOk, OnErr};
+ghost use Rattle.std.specs.Prelude.{◌≡◌, ◌+◌, ◌*◌, ◌<◌, ◌≤◌, ◌^◌, ◌%◌, ℕ, true, false, length, slice_get, IfOk, IfSome, IsSomeAnd, Ok, OnOk, OnErr};
 ghost use Rattle.swi_memory.specs.Bus.{AreInOrder, IsSize, Read, Right, Write, bytes_at, fetched, front_of, holds, is_text_word, lets_store, loaded, stored, touches_text, with_bytes};
 ghost use Rattle.swi_memory.specs.BusOf.{AreApart, HasOneTextAtMost, bus_of, ranges, word_in};
 ghost use Rattle.swi_memory.specs.WordRange.{IsWordRange, in_range};
@@ -85,6 +85,17 @@ impl Bus {
         ensures small { IfOk result (λ v. v < 2 ^ (8 * k)) }
     {
         loads::load(&self.banks, &self.windows, a, k)
+    }
+
+    /// What `load` answers, where the bytes lie in an area that it looks into first; None says nothing of them. For a loop
+    /// that leaves each other load to a function of its own.
+    #[inline(always)]
+    pub fn load_in_window(&self, a: u32, k: u8) -> Option<u32>
+        requires { IsSize k }
+        ensures value { IfSome result (λ v. Ok v ≡ loaded self.now a k) }
+        ensures small { IfSome result (λ v. v < 2 ^ (8 * k)) }
+    {
+        loads::load_in_window(&self.banks, &self.windows, a, k)
     }
 
     /// Puts the lowest `k` bytes of `v` from the address on; `k` is 1, 2 or 4. Access exactly where

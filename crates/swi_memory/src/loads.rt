@@ -1,7 +1,7 @@
 //! Loads.
 #![tactic(auto)]
 
-ghost use Rattle.std.specs.Prelude.{◌≡◌, ◌+◌, ◌*◌, ◌<◌, ◌≤◌, ◌^◌, ◌&&◌, true, false, nat_lt, length, IfOk, MatchOption, MatchResult, Ok};
+ghost use Rattle.std.specs.Prelude.{◌≡◌, ◌+◌, ◌*◌, ◌<◌, ◌≤◌, ◌^◌, ◌&&◌, true, false, nat_lt, length, IfOk, IfSome, MatchOption, MatchResult, Ok};
 ghost use Rattle.swi_memory.specs.Bus.{AreInOrder, IsSize, Read, byte_at, holds_byte, loaded, number_in};
 ghost use Rattle.swi_memory.specs.Found.{HasAll};
 ghost use Rattle.swi_memory.specs.Views.{areas};
@@ -125,6 +125,19 @@ fn load_elsewhere(banks: &[Bank], a: u32, k: u8) -> Result<u32, Access>
     }
 }
 
+/// The number of k bytes at the address, the lowest first, where a window has them.
+#[inline(always)]
+pub fn load_in_window(banks: &[Bank], windows: &Windows, a: u32, k: u8) -> Option<u32>
+    requires order { AreInOrder (areas banks.now) }
+    requires windows { AreWindows (areas banks.now) windows.now }
+    requires size { IsSize k }
+    ensures value { IfSome result (λ v. Ok v ≡ loaded (areas banks.now) a k) }
+    ensures small { IfSome result (λ v. v < 2 ^ (8 * k)) }
+{
+    let place = find_window(windows, a, k)?;
+    Some(load_in(banks, place, a, k))
+}
+
 /// The number of k bytes at the address, the lowest first.
 #[inline(always)]
 pub fn load(banks: &[Bank], windows: &Windows, a: u32, k: u8) -> Result<u32, Access>
@@ -134,8 +147,8 @@ pub fn load(banks: &[Bank], windows: &Windows, a: u32, k: u8) -> Result<u32, Acc
     ensures value { result ≡ loaded (areas banks.now) a k }
     ensures small { IfOk result (λ v. v < 2 ^ (8 * k)) }
 {
-    match find_window(windows, a, k) {
-        Some(place) => Ok(load_in(banks, place, a, k)),
+    match load_in_window(banks, windows, a, k) {
+        Some(v) => Ok(v),
         None => load_elsewhere(banks, a, k),
     }
 }

@@ -1,28 +1,36 @@
 //! Where an access is looked for first.
 #![tactic(auto)]
 
-ghost use Rattle.std.specs.Prelude.{◌<◌, IfSome, length};
+ghost use Rattle.std.specs.Prelude.{◌≡◌, ◌+◌, ◌<◌, ◌&&◌, nat_le, nat_lt, IfSome, length};
 ghost use Rattle.swi_memory.specs.Bus.{AreInOrder, IsSize};
 ghost use Rattle.swi_memory.specs.TextAt.{IsText};
 ghost use Rattle.swi_memory.specs.Views.{areas};
 ghost use Rattle.swi_memory.specs.Windows.{AreWindows, IsInWindow, IsWindow};
 
-use crate::bank::{Bank, are_within};
+use crate::bank::Bank;
 use crate::right::Right;
 use crate::text::{Text, is_touched};
 use crate::window::{Window, Windows};
 
-/// The place of the bank of a window that has all `n` bytes from the address on.
+/// Whether four bytes from the address on lie in a window.
+#[inline(always)]
+fn starts_in(window: &Window, a: u32) -> bool
+    ensures { result ≡ (nat_le window.now.base a && nat_lt a (window.now.base + window.now.starts)) }
+{
+    a.wrapping_sub(window.base) < window.starts
+}
+
+/// The place of the bank of a window in which four bytes from the address on lie, and so all `n`.
 #[inline(always)]
 pub fn find_window(windows: &Windows, a: u32, n: u8) -> Option<usize>
     requires { IsSize n }
     ensures { IfSome result (λ i. IsInWindow windows.now a n i) }
 {
     let Windows { last, first } = windows;
-    if are_within(last.base, last.len as usize, a, n) {
+    if starts_in(last, a) {
         return Some(last.bank);
     }
-    if are_within(first.base, first.len as usize, a, n) {
+    if starts_in(first, a) {
         return Some(first.bank);
     }
     None
@@ -48,7 +56,7 @@ fn window_at(banks: &[Bank], place: usize, text: &Text) -> Option<Window>
     }
     Some(Window {
         base: bank.base,
-        len,
+        starts: len.saturating_sub(3),
         bank: place,
     })
 }
@@ -61,7 +69,7 @@ pub fn find_windows(banks: &[Bank], text: &Text) -> Windows
 {
     let none = Window {
         base: 0,
-        len: 0,
+        starts: 0,
         bank: 0,
     };
     let mut windows = Windows {
@@ -71,7 +79,7 @@ pub fn find_windows(banks: &[Bank], text: &Text) -> Windows
     for i in 0..banks.len() {
         if let Some(window) = window_at(banks, i, text) {
             windows.last = window;
-            if windows.first.len == 0 {
+            if windows.first.starts == 0 {
                 windows.first = window;
             }
         }

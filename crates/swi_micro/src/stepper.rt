@@ -1,7 +1,7 @@
 //! What a micro-op does.
 #![tactic(auto)]
 
-ghost use Rattle.std.specs.Prelude.{◌≡◌, ◌<◌, ◌/◌, ◌*◌, ◌+◌, ◌^◌, ℕ, true, false, None, MatchResult, OnSome};
+ghost use Rattle.std.specs.Prelude.{◌≡◌, ◌<◌, ◌/◌, ◌*◌, ◌+◌, ◌^◌, ℕ, true, false, None, IfSome, OnSome};
 ghost use Rattle.swi_exec.specs.Execute.{address_of, load_size, load_value, op_value};
 ghost use Rattle.swi_exec.specs.Registers.{reg, with_reg};
 ghost use Rattle.swi_memory.specs.declared.right.Right.TheVariants.{Read};
@@ -11,9 +11,9 @@ ghost use Rattle.swi_micro.specs.Ran.{is_gone, multiplied, op_of, operated, ran,
 
 use crate::class::{Class, class_of_code};
 use crate::translator::{MicroOp, address, index_of};
-use swi_exec::{Regs, load, takes, value_of_op};
+use swi_exec::{Regs, size_of_load, takes, value_of_load, value_of_op};
 use swi_isa::{BranchOp, LoadOp, RegOp};
-use swi_memory::{Access, Bus, WordRange};
+use swi_memory::{Bus, WordRange};
 
 /// What an operation gives.
 // Marked by a hint alone, as `loaded`: with what is always inlined into each arm `step` would be too large to be inlined
@@ -23,17 +23,6 @@ fn value(by: RegOp, a: u32, b: u32) -> u32
     ensures { result ≡ op_value by a b }
 {
     value_of_op(by, a, b)
-}
-
-/// What a load gives.
-#[inline]
-fn loaded(by: LoadOp, a: u32, bus: &Bus) -> Result<u32, Access>
-    ensures { MatchResult result
-        (λ v. (holds bus.now Read a (load_size by) ≡ true)
-        × (v ≡ load_value by (number_at bus.now a (load_size by))))
-        (λ _. holds bus.now Read a (load_size by) ≡ false) }
-{
-    load(by, a, bus)
 }
 
 /// Puts what an operation gives of rs1, and of rs2 plus the immediate, into rd.
@@ -84,6 +73,35 @@ fn goes(by: BranchOp, m: &MicroOp, regs: &Regs) -> bool
     takes(by, regs.get(m.rs1.register()), regs.get(m.rs2.register())) == m.rd.is_of_x0()
 }
 
+/// What a load gives where a window has its bytes.
+#[inline]
+fn loaded(by: LoadOp, a: u32, bus: &Bus) -> Option<u32>
+    ensures { IfSome result (λ v. (holds bus.now Read a (load_size by) ≡ true)
+        × (v ≡ load_value by (number_at bus.now a (load_size by)))) }
+{
+    let v = bus.load_in_window(a, size_of_load(by))?;
+    Some(value_of_load(by, v))
+}
+
+/// Puts what a load reads into rd, wherever its bytes lie. False, and nothing changed, where it is refused.
+// Not inlined, and cold, as the search in it: so a load in a window goes on by itself. Where both ways met behind the value, a
+// step would ask again whether there was one: one to two of the computer's instructions a step.
+#[cold]
+#[inline(never)]
+fn read_elsewhere(by: LoadOp, m: &MicroOp, regs: &mut Regs, bus: &Bus) -> bool
+    ensures made { result ≡ holds bus.now Read (address_of regs.old m.now.rs1 m.now.imm) (load_size by) }
+    ensures read { result ≡ true → regs.new ≡ with_reg regs.old m.now.rd
+        (load_value by (number_at bus.now (address_of regs.old m.now.rs1 m.now.imm) (load_size by))) }
+    ensures refused { result ≡ false → regs.new ≡ regs.old }
+{
+    let a = regs.get(m.rs1.register()).wrapping_add(m.imm);
+    let Ok(v) = bus.load(a, size_of_load(by)) else {
+        return false;
+    };
+    regs.put(m.rd, value_of_load(by, v));
+    true
+}
+
 /// Puts what a load reads into rd. False, and nothing changed, where it is refused.
 #[inline(always)]
 fn read(by: LoadOp, m: &MicroOp, regs: &mut Regs, bus: &Bus) -> bool
@@ -93,8 +111,8 @@ fn read(by: LoadOp, m: &MicroOp, regs: &mut Regs, bus: &Bus) -> bool
     ensures refused { result ≡ false → regs.new ≡ regs.old }
 {
     let a = regs.get(m.rs1.register()).wrapping_add(m.imm);
-    let Ok(v) = loaded(by, a, bus) else {
-        return false;
+    let Some(v) = loaded(by, a, bus) else {
+        return read_elsewhere(by, m, regs, bus);
     };
     regs.put(m.rd, v);
     true
