@@ -7,10 +7,11 @@ use super::*;
 use std::alloc::Global;
 use std::process::Abort;
 use std::test::Fail;
+use swi_devices::{MemSink, MemSource};
 use swi_exec::Regs;
 use swi_isa::{Instr, Reg, decode};
 use swi_memory::{Bus, Layout, Segment};
-use swi_outside::{Failed, MemSink, MemSource, Source};
+use swi_outside::{Failed, Source};
 
 /// A text of two words that can be written, "wxyz" with four zeros that adjoin a heap of 1016 bytes, and four zeros
 /// that can be read and four that can be written.

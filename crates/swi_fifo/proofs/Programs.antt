@@ -1,7 +1,8 @@
 -- What the tests of several programs need: two images, of which program 1 has the second, and the others the first.
 use Rattle.std.proofs.Common.{◌≡◌, ◌==◌, ◌≤◌, ℕ, List, Bool, true, false, length, replicate, if◌then◌else◌, sym, ◌∙◌, ap}
 use Rattle.std.proofs.lemmas.List.{length-replicate}
-use Rattle.swi_outside.specs.CacheRam.{RamState, new_ram}
+use Rattle.swi_outside.specs.CacheRam.{RamState}
+use Rattle.swi_devices.specs.Stored.{new_ram}
 use Rattle.swi_image.specs.Format.{ImageData}
 use Rattle.swi_image.specs.Sound.{IsImage}
 use Rattle.swi_slots.specs.Keys.{Images}

@@ -9,11 +9,11 @@ use std::alloc::Global;
 use std::test::Fail;
 use swi_calls::End::{self, *};
 use swi_calls::{CallFault, Heap, Machine};
+use swi_devices::{MemSink, MemSource};
 use swi_exec::FaultKind::*;
 use swi_exec::Regs;
 use swi_memory::{Bus, Layout, Segment};
 use swi_micro::Decoded;
-use swi_outside::{MemSink, MemSource};
 use swi_program::{append_words, lay_out, one_text};
 
 /// The bytes of these words.

@@ -7,10 +7,11 @@ ghost use Rattle.std.specs.Prelude.{◌<◌};
 use crate::known::KnownWords;
 use crate::{DecodedRam, MicroOp, MicroRam, address, index_of, micro_op, step};
 use std::alloc::Global;
+use swi_devices::VecRam;
 use swi_exec::{Done, Regs, exec, text_store};
 use swi_isa::{Instr, Reg, decode};
 use swi_memory::{Bus, Layout, Segment, WordRange};
-use swi_outside::{CacheRam, VecRam};
+use swi_outside::CacheRam;
 
 /// The words of the text of `bus_of_rows`.
 const TEXT: WordRange = WordRange {

@@ -1,3 +1,1 @@
-mod Entries
-mod Folders
 pub mod SinkLemmas

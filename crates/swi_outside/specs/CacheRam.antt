@@ -1,5 +1,5 @@
 -- A cache ram: its words, and what was done to it. Own rule.
-use Rattle.std.specs.Prelude.{◌≡◌, ◌⊎◌, ℕ, ◌+◌, ◌<◌, ◌≤◌, max, Bool, true, false, List, [], ◌∷◌, length, slice_index, slice_set, Result, Ok, Err}
+use Rattle.std.specs.Prelude.{◌≡◌, ◌⊎◌, ℕ, ◌+◌, ◌<◌, ◌≤◌, max, Bool, true, false, List, ◌∷◌, length, slice_index, slice_set, Result, Ok, Err}
 use Rattle.swi_outside.specs.Causes.{Rose, counted, risen}
 
 pub record RamState : Type 0 where
@@ -63,16 +63,6 @@ pub record WordsBroke (first n : ℕ) (before after : RamState) : Type 0 where
   pub later : before.faults ≤ after.faults
   pub rose : Rose before.faults after.faults
   pub last_failed : after.last_failed ≡ true
-
--- a ram that was just made
-abbrev pub new_ram : List ℕ → RamState
-new_ram words = record { words = words; fetches = 0; sets = 0; faults = 0; reach = 0; fetched_at = []; last_failed = false }
-
--- a ram whose calls fail by a list of their numbers, from 1, fetches and sets counted together
-pub record FaultyRam : Type 0 where
-  pub ram : RamState
-  pub failing : List ℕ
-  pub calls : ℕ
 
 -- a ram keeps its length, the words from an index on keep their values, and `reach` doesn't pass the larger of what it was and that
 -- index

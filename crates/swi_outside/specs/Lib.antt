@@ -2,7 +2,6 @@ pub mod CacheRam
 pub mod Causes
 pub mod Devices
 pub mod Laws
-pub mod RamCalls
 pub mod Shelf
 pub mod Sink
 pub mod Source

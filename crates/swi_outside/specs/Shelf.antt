@@ -1,12 +1,9 @@
 -- Contents under names, and the last call that failed. Own rule.
-use Rattle.std.specs.Prelude.{◌≡◌, ◌≢◌, ℕ, ◌<◌, ◌≤◌, List, [], ◌∷◌, length, Option, Some, None, ⊤, Result, Err, IfOk, OnOk, if◌then◌else◌, String, string_bytes, Vec}
+use Rattle.std.specs.Prelude.{◌≡◌, ◌≢◌, ℕ, ◌<◌, ◌≤◌, List, length, Option, Some, None, ⊤, Result, Err, IfOk, OnOk, Vec}
 use Rattle.std.specs.declared.alloc.Global.{Global}
-use Rattle.std.specs.Str.{bytes_eq}
 use Rattle.swi_outside.specs.Causes.{Rose, counted}
 use Rattle.swi_outside.specs.declared.shelf.ShelfError.{ShelfError}
 use Rattle.swi_outside.specs.declared.shelf.ShelfError.TheVariants.{Failed, Long, Memory}
-use Rattle.swi_outside.specs.declared.shelf_call.ShelfCall.{ShelfCall}
-use Rattle.swi_outside.specs.declared.shelf_call.ShelfCall.TheVariants.{Get, Put}
 
 -- the bytes under each name, as bytes of its text
 abbrev pub Contents : Type 0
@@ -41,23 +38,6 @@ abbrev pub IsLonger : Option Contents → List ℕ → ℕ → Type 0
 IsLonger None name limit = ⊤
 IsLonger (Some m) name limit = (bytes : List ℕ) × (m name ≡ Some bytes) × (limit < length bytes)
 
--- a file that is open for reading gives what stands under its name, as far as is told
-abbrev pub Gives : Option Contents → List ℕ → Option (List ℕ) → Type 0
-Gives None name left = ⊤
-Gives (Some m) name None = ⊥
-Gives (Some m) name (Some bytes) = m name ≡ Some bytes
-
--- a file that is to be written has no byte yet, as far as is told
-abbrev pub IsNew : Option Contents → Option (List ℕ) → Type 0
-IsNew None written = ⊤
-IsNew (Some m) written = written ≡ Some []
-
--- what was written stands under a name, as far as is told, before and after
-abbrev pub Keeps : Option Contents → Option Contents → List ℕ → Option (List ℕ) → Type 0
-Keeps None new name written = new ≡ None
-Keeps (Some m) new name None = ⊤
-Keeps (Some m) new name (Some bytes) = Stands new name bytes
-
 -- a shelf, as far as it tells: its contents, how often it was asked, its count of faults, and the last call that answered `Failed`; the
 -- counts stand still at 2^64 - 1
 pub record ShelfState : Type 0 where
@@ -90,33 +70,3 @@ pub record WasPut (old new : ShelfState) (name bytes : List ℕ) (result : Resul
   pub memory : result ≡ Err Memory → Same old.contents new.contents
   pub asked : new.calls ≡ counted old.calls
   pub cause : ShelfCause old new (put_of name) result
-
--- a call as a shelf keeps it
-abbrev pub asked_of : ShelfCall → List ℕ → Asked
-asked_of Get name = get_of name
-asked_of Put name = put_of name
-
-abbrev pub last_asked : Option (ShelfCall × String Global) → Option Asked
-last_asked None = None
-last_asked (Some p) = Some (asked_of p.0 (string_bytes p.1))
-
--- a shelf in memory: its entries of a name and a content, the numbers of the calls that fail, from 1,
--- the calls so far, the faults so far, and the last call that failed
-pub record StoredShelf : Type 0 where
-  pub entries : List (List ℕ × List ℕ)
-  pub failing : List ℕ
-  pub calls : ℕ
-  pub faults : ℕ
-  pub last : Option Asked
-
--- the content of the first entry of a name
-abbrev pub lookup : List (List ℕ × List ℕ) → List ℕ → Option (List ℕ)
-lookup [] name = None
-lookup (e ∷ es) name = if bytes_eq e.0 name then Some e.1 else lookup es name
-
-abbrev pub entry_of : String Global × Vec ℕ Global → List ℕ × List ℕ
-entry_of e = (string_bytes e.0, e.1.items)
-
--- a shelf in memory as a shelf
-abbrev pub told_of : StoredShelf → ShelfState
-told_of s = record { contents = Some (lookup s.entries); calls = s.calls; faults = s.faults; last_failed = s.last }

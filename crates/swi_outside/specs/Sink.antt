@@ -25,12 +25,3 @@ WritesPiece old new result piece = MatchResult result (λ _. Appends old new pie
 pub record WasWritten {E : Type 0} (old new : SinkState) (result : Result Unit E) (piece : List ℕ) : Type 0 where
   pub bytes : WritesPiece old.held new.held result piece
   pub cause : HasCause old.faults new.faults result
-
--- a sink in memory: what it holds and the most bytes that it holds, the numbers of the calls that
--- fail, from 1, the calls so far, and the faults so far
-pub record StoredSink : Type 0 where
-  pub held : List ℕ
-  pub room : ℕ
-  pub failing : List ℕ
-  pub calls : ℕ
-  pub faults : ℕ

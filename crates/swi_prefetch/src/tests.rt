@@ -9,9 +9,10 @@ use super::*;
 use std::alloc::Global;
 use std::test::Fail;
 use swi_cut::cut;
+use swi_devices::{FaultRam, MemSink, MemSource};
 use swi_elf_read::read_elf;
 use swi_image::ImageView;
-use swi_outside::{CacheRam, FaultRam, MemSink, MemSource};
+use swi_outside::CacheRam;
 use swi_program::{Program, lay_out, program_of};
 use swi_rom::CacheRom;
 

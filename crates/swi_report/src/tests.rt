@@ -4,10 +4,10 @@ use super::*;
 use std::alloc::Global;
 use std::test::Fail;
 use swi_calls::Heap;
+use swi_devices::MemSink;
 use swi_exec::Regs;
 use swi_isa::Reg;
 use swi_memory::{Bus, Layout, Segment};
-use swi_outside::MemSink;
 use swi_rom::Counts;
 
 const HEAP: Heap = Heap {

@@ -7,8 +7,9 @@ use super::*;
 use std::alloc::Global;
 use std::process::Abort;
 use std::test::Fail;
+use swi_devices::VecRam;
 use swi_image::{ImageView, read_image};
-use swi_outside::{CacheRam, VecRam};
+use swi_outside::CacheRam;
 use swi_rom::CacheRom;
 
 const E: u32 = 0x0010_0073;

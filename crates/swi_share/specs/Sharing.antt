@@ -2,7 +2,7 @@
 use Rattle.std.specs.Prelude.{◌≡◌, ℕ, ◌+◌, ◌-◌, ◌^◌, ◌<◌, ◌≤◌, ⊤, List, [], ◌∷◌, map, length, slice_get, slice_index_or, slice_set, Option, Some, None, Result, IsErrOf}
 use Rattle.std.specs.Io.KnownBytes.{Appends}
 use Rattle.swi_outside.specs.CacheRam.{RamState}
-use Rattle.swi_outside.specs.Source.{StoredSource}
+use Rattle.swi_devices.specs.Stored.{StoredSource}
 use Rattle.swi_image.specs.Format.{ImageData}
 use Rattle.swi_rom.specs.Record.{Record, empty_record, writes}
 use Rattle.swi_rom.specs.Service.{Setting}

@@ -1,6 +1,6 @@
 -- Programs before their first events, over an empty cache. Own rule.
 use Rattle.std.specs.Prelude.{◌≡◌, ℕ, ◌/◌, ⊤, max, false, List, [], ◌∷◌, map, length, Option, Some, None}
-use Rattle.swi_outside.specs.Source.{StoredSource}
+use Rattle.swi_devices.specs.Stored.{StoredSource}
 use Rattle.swi_memory.specs.Bus.{fetched}
 use Rattle.swi_program.specs.Layout.{IsLayoutOf}
 use Rattle.swi_program.specs.Text.{text_of}

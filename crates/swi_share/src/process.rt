@@ -5,10 +5,11 @@ ghost use Rattle.std.specs.Prelude.{◌≡◌, ◌<◌, ◌≤◌, length, IfOk}
 ghost use Rattle.swi_share.specs.Starting.{IsGuest, AreGuests, most_words, Started, AllStarted};
 
 use std::alloc::Global;
+use swi_devices::MemSource;
 use swi_hart::Hart;
 use swi_image::ImageView;
 use swi_memory::Layout;
-use swi_outside::{MemSource, Memory};
+use swi_outside::Memory;
 use swi_program::Program;
 
 /// A program that is to run beside others: its image, where its heap and stack are, and its input.

@@ -23,12 +23,13 @@ ghost use Rattle.swi_task.specs.Subject.{IsImageFor};
 use std::alloc::Global;
 use swi_answer::{Ending, Refusal, line_of_guest};
 use swi_command::{CacheOptions, RunLimits, Schedule, ShareOptions};
+use swi_devices::MemSource;
 use swi_elf_read::{Elf, image_bytes, read_elf};
 use swi_hart::BoardFault;
 use swi_image::{Image, ImageView, read_image};
 use swi_make::next_number;
 use swi_micro::MicroRam;
-use swi_outside::{Failed, MemSource, Shelf, Sink};
+use swi_outside::{Failed, Shelf, Sink};
 use swi_report::{SharedWork, shared_text};
 use swi_share::{Guest, Share, most_words};
 use swi_task::{

@@ -4,11 +4,12 @@
 use std::alloc::Global;
 use std::test::Fail;
 use swi_check::Mismatch as Difference;
+use swi_devices::{FaultRam, MemShelf, MemSink, MemSource};
 use swi_elf_read::ElfRefusal::{self, *};
 use swi_exec::FaultKind::*;
 use swi_image::ImageRefusal;
 use swi_micro::{DecodedRam, MicroRam};
-use swi_outside::{CacheRam, FaultRam, MemShelf, MemSink, MemSource};
+use swi_outside::CacheRam;
 use swi_top::Ending::{self, *};
 use swi_top::Refusal::{self, *};
 use swi_top::top;

@@ -9,8 +9,8 @@ use super::*;
 use std::alloc::Global;
 use std::test::Fail;
 use swi_check::check;
+use swi_devices::MemSink;
 use swi_image::{ImageView, read_image};
-use swi_outside::MemSink;
 use swi_program::{Program, append_words, one_text};
 
 const UPPER_AND_JUMPS: [(u32, u32, &str); 17] = [

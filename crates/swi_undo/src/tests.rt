@@ -1,7 +1,8 @@
 use super::*;
 use std::test::Fail;
 use swi_chain::Chains;
-use swi_outside::{CacheRam, VecRam};
+use swi_devices::VecRam;
+use swi_outside::CacheRam;
 use swi_rom::EBREAK;
 
 #[test]

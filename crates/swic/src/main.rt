@@ -9,8 +9,9 @@ use std::alloc::Global;
 use std::io::ErrorKind;
 use std::process::ExitCode;
 use std::{env, io};
+use swi_devices::{FolderShelf, RealSink, RealSource, SystemFolder, VecRam};
 use swi_micro::DecodedRam;
-use swi_outside::{FolderShelf, Memory, RealSink, RealSource, SystemFolder, VecRam};
+use swi_outside::Memory;
 use swi_top::{Refusal, status_of, top};
 
 /// The words of cache RAM: those of the largest cache, of 2^23 bytes.

@@ -14,11 +14,12 @@ ghost use Rattle.swi_render.specs.ImageOf.{IsImageOf};
 use super::*;
 use std::marker::Model;
 use swi_board::Hart;
+use swi_devices::VecRam;
 use swi_image::ImageView;
 use swi_isa::{Instr, Reg};
 use swi_memory::{Layout, WordRange};
 use swi_micro::{MicroOp, MicroRam, micro_op};
-use swi_outside::{CacheRam, Failed, Memory, VecRam};
+use swi_outside::{CacheRam, Failed, Memory};
 use swi_slots::ScanRom;
 
 /// Sets a0 to 7, as the text has it, and to 8.

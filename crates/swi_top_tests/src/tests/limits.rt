@@ -4,8 +4,8 @@
 use super::{Devices, PLAIN, SEVEN, answer_to, bytes_of, holds};
 use std::alloc::Global;
 use std::test::Fail;
+use swi_devices::{MemShelf, MemSink, MemSource, VecRam};
 use swi_micro::DecodedRam;
-use swi_outside::{MemShelf, MemSink, MemSource, VecRam};
 use swi_top::Ending::*;
 
 /// As many program headers as a file may have.

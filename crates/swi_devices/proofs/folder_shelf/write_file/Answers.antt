@@ -1,0 +1,9 @@
+use Rattle.swi_devices.proofs.Folders.{elsewhere-trans, stands-ended}
+use Rattle.swi_devices.proofs.folder_shelf.write_file.Goals as goal
+
+pub returns-clause-others : goal.returns-clause-others
+returns-clause-others g c = elsewhere-trans _ _ _ _ c.create.ensures.others c.close.ensures.others
+
+pub returns-clause-stands : goal.returns-clause-stands
+returns-clause-stands g c =
+    stands-ended _ _ _ _ _ _ _ c.in_ok-file.ensures.empty c.in_ok-write_whole.ensures c.close.ensures.stands

@@ -1,0 +1,123 @@
+ghost use Rattle.std.specs.Prelude.{◌≡◌, ◌≤◌, None, IfOk, OnOk, length};
+ghost use Rattle.swi_outside.specs.Shelf.{Same, SameElsewhere, Stands, IsLonger};
+ghost use Rattle.swi_devices.specs.Folders.{TakesAll, TakesMore};
+
+use crate::Folder;
+use crate::real::write_whole;
+use crate::shelf_call::{ShelfCall, key_of};
+use std::alloc::Global;
+use std::io::Read;
+use swi_outside::{Failed, Shelf, ShelfError};
+
+/// The files of a folder, by their names. It tells the contents that the folder tells; the system's
+/// folder tells none.
+///
+/// Each failure of the folder or of a file is a fault, and is answered at once; so is a file that
+/// takes nothing of bytes that are to be written.
+#[derive(Drop)]
+pub struct FolderShelf<D> {
+    folder: D,
+    calls: u64,
+    faults: u64,
+    last: Option<(ShelfCall, String)>,
+}
+
+impl<D: Folder> FolderShelf<D> {
+    /// A shelf over a folder, as `SystemFolder::new(rt)`, without a fault.
+    pub fn new(folder: D) -> FolderShelf<D>
+        ensures { ⟦<FolderShelf<D> as Shelf>⟧.state result
+            ≡ record { contents = D.contents folder; calls = 0; faults = 0; last_failed = None } }
+    {
+        FolderShelf {
+            folder,
+            calls: 0,
+            faults: 0,
+            last: None,
+        }
+    }
+}
+
+impl<D: Folder> Shelf for FolderShelf<D> {
+    ghost use Rattle.swi_devices.specs.Stored.{last_asked};
+
+    ghost state = { λ s. record {
+      contents = D.contents s.folder;
+      calls = s.calls;
+      faults = s.faults;
+      last_failed = last_asked s.last;
+    } };
+
+    fn get(&mut self, alloc: Global, name: &str, limit: u32) -> Result<Vec<u8>, ShelfError> {
+        self.calls = self.calls.saturating_add(1);
+        let key = key_of(alloc, name)?;
+        match read_file(&mut self.folder, alloc, name, limit) {
+            Err(ShelfError::Failed) => {
+                self.faults = self.faults.saturating_add(1);
+                self.last = Some((ShelfCall::Get, key));
+                Err(ShelfError::Failed)
+            }
+            answer => answer,
+        }
+    }
+
+    fn put(&mut self, alloc: Global, name: &str, bytes: &[u8]) -> Result<(), ShelfError> {
+        self.calls = self.calls.saturating_add(1);
+        let key = key_of(alloc, name)?;
+        match write_file(&mut self.folder, name, bytes) {
+            Ok(()) => Ok(()),
+            Err(_) => {
+                self.faults = self.faults.saturating_add(1);
+                self.last = Some((ShelfCall::Put, key));
+                Err(ShelfError::Failed)
+            }
+        }
+    }
+}
+
+fn read_file<D: Folder>(
+    folder: &mut D,
+    alloc: Global,
+    name: &str,
+    limit: u32,
+) -> Result<Vec<u8>, ShelfError>
+    ensures same { Same (D.contents folder.old) (D.contents folder.new) }
+    ensures content { IfOk result (λ bytes. Stands (D.contents folder.old) name.now bytes.items) }
+    ensures within { IfOk result (λ bytes. length bytes.items ≤ limit) }
+    ensures long { result ≡ Err ShelfError.Long → IsLonger (D.contents folder.old) name.now limit }
+{
+    let mut file = folder.open(name).map_err(|_| ShelfError::Failed)?;
+    read_within(alloc, &mut file, limit)
+}
+
+// Reads until the end, or one byte past the limit, at least one byte a turn.
+fn read_within<F: Read>(alloc: Global, file: &mut F, limit: u32) -> Result<Vec<u8>, ShelfError>
+    ensures whole { IfOk result (λ bytes. TakesAll (F.remaining file.old) (F.remaining file.new) bytes.items) }
+    ensures within { IfOk result (λ bytes. length bytes.items ≤ limit) }
+    ensures long { result ≡ Err ShelfError.Long → TakesMore (F.remaining file.old) (F.remaining file.new) limit }
+{
+    let limit = limit as usize;
+    let mut bytes = Vec::new(alloc);
+    let mut piece = [0u8; 4096];
+    while bytes.len() <= limit {
+        let wanted = piece.len().min(limit + 1 - bytes.len());
+        let count = file
+            .read(&mut piece[..wanted])
+            .map_err(|_| ShelfError::Failed)?;
+        if count == 0 {
+            return Ok(bytes);
+        }
+        bytes
+            .extend_from_slice(&piece[..count])
+            .map_err(|_| ShelfError::Memory)?;
+    }
+    Err(ShelfError::Long)
+}
+
+fn write_file<D: Folder>(folder: &mut D, name: &str, bytes: &[u8]) -> Result<(), Failed>
+    ensures others { SameElsewhere (D.contents folder.old) (D.contents folder.new) name.now }
+    ensures stands { OnOk result (Stands (D.contents folder.new) name.now bytes.now) }
+{
+    let mut file = folder.create(name)?;
+    write_whole(&mut file, bytes)?;
+    folder.close(name, file)
+}

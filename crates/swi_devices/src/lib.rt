@@ -1,0 +1,26 @@
+//! The devices of `swic`: in memory, whose calls fail where a list says so, and over std's readers, writers and files. What a
+//! device is, the traits of `swi_outside` say.
+#![tactic(auto)]
+
+mod fault_plan;
+mod fault_ram;
+mod folder;
+mod folder_shelf;
+mod mem_shelf;
+mod mem_sink;
+mod mem_source;
+mod ram_calls;
+mod real;
+mod shelf_call;
+#[cfg(test)]
+mod tests;
+mod vec_ram;
+
+pub use fault_ram::FaultRam;
+pub use folder::{Folder, SystemFolder};
+pub use folder_shelf::FolderShelf;
+pub use mem_shelf::MemShelf;
+pub use mem_sink::MemSink;
+pub use mem_source::MemSource;
+pub use real::{RealSink, RealSource};
+pub use vec_ram::VecRam;

@@ -1,0 +1,125 @@
+ghost use Rattle.std.specs.Prelude.{◌≡◌, ◌+◌, ◌<◌, ◌≤◌, ◌^◌, ℕ, max, length, slice_index, replicate, IfOk, IsOk, OnErr, OnOk};
+ghost use Rattle.swi_outside.specs.CacheRam.{Fetched, WordSet, WordsBroke, WordsSet};
+ghost use Rattle.swi_devices.specs.Stored.{new_ram};
+ghost use Rattle.swi_outside.specs.Causes.{risen};
+ghost use Rattle.swi_devices.specs.RamCalls.{fetches_in, indexes_in, reach_of, sets_in};
+
+use crate::ram_calls::RamCalls;
+use std::alloc::Global;
+use std::marker::Model;
+use std::snapshot::Snapshot;
+use swi_outside::{CacheRam, Failed, Memory, Words};
+
+/// A ram that never fails. What contracts see of its calls takes no bytes and no time when it runs: it has no reader.
+#[derive(Drop)]
+pub struct VecRam {
+    words: Vec<u32>,
+    calls: Snapshot<RamCalls>,
+}
+
+impl Model for VecRam {
+    ghost use Rattle.std.specs.Prelude.{◌^◌, ◌<◌, length, false};
+    ghost use Rattle.swi_outside.specs.CacheRam.{RamState};
+    ghost use Rattle.swi_devices.specs.RamCalls.{fetches_in, sets_in, reach_of, indexes_in};
+
+    ghost Value = { RamState };
+
+    ghost view = { λ r. record {
+      words = r.words.items;
+      fetches = fetches_in r.calls.value;
+      sets = sets_in r.calls.value;
+      faults = 0;
+      reach = reach_of r.calls.value;
+      fetched_at = indexes_in r.calls.value;
+      last_failed = false;
+    } };
+
+    ghost invariant = { λ r. length r.words.items < 2 ^ 32 };
+}
+
+/// Puts words one behind the other from index `first` on.
+fn put_words<W: Words>(held: &mut [u32], first: u32, words: &W)
+    requires { first + length (W.items words.now) ≤ length held.old }
+    ensures count { length held.new ≡ length held.old }
+    ensures stand { (k : ℕ) → k < length (W.items words.now) → slice_index held.new (first + k) ≡ slice_index (W.items words.now) k }
+    ensures below { (i : ℕ) → i < first → slice_index held.new i ≡ slice_index held.old i }
+    ensures beyond { (i : ℕ) → first + length (W.items words.now) ≤ i → slice_index held.new i ≡ slice_index held.old i }
+{
+    for k in 0..words.count() {
+        held[first as usize + k as usize] = words.word(k);
+    }
+}
+
+/// Notes a set of each of so many words from index `first` on. It takes no time when it runs.
+fn note_sets(calls: &mut Snapshot<RamCalls>, first: u32, count: u32)
+    requires { first + count < 2 ^ 32 }
+    ensures sets { sets_in calls.new.value ≡ risen (sets_in calls.old.value) count }
+    ensures fetches { fetches_in calls.new.value ≡ fetches_in calls.old.value }
+    ensures indexes { indexes_in calls.new.value ≡ indexes_in calls.old.value }
+    ensures reach { reach_of calls.new.value ≤ max (reach_of calls.old.value) (first + count) }
+{
+    for k in 0..count {
+        *calls = Snapshot::of(&RamCalls::Set(Snapshot::of(calls), first + k));
+    }
+}
+
+impl VecRam {
+    /// A ram of so many words, all 0. `Memory` comes where there is no room for them.
+    pub fn new(alloc: Global, words: u32) -> Result<VecRam, Memory>
+        ensures { IfOk result (λ r. r ≡ new_ram (replicate words 0)) }
+    {
+        let words = vec![in alloc; 0u32; words as usize].map_err(|_| Memory)?;
+        Ok(VecRam {
+            words,
+            calls: Snapshot::of(&RamCalls::None),
+        })
+    }
+}
+
+impl CacheRam for VecRam {
+    ghost state = { λ r. r };
+
+    #[inline(always)]
+    fn words(&self) -> u32 {
+        self.words.len() as u32
+    }
+
+    #[inline(always)]
+    fn fetch(&mut self, i: u32) -> Result<u32, Failed>
+        requires { i < length self.old.words }
+        ensures fetched { Fetched self.old i result self.new }
+        ensures never_fails { IsOk result }
+    {
+        self.calls = Snapshot::of(&RamCalls::Fetched(Snapshot::of(&self.calls), i));
+        Ok(self.words[i as usize])
+    }
+
+    #[inline(always)]
+    fn word(&self, i: u32) -> u32 {
+        self.words[i as usize]
+    }
+
+    #[inline(always)]
+    fn set(&mut self, i: u32, w: u32) -> Result<(), Failed>
+        requires { i < length self.old.words }
+        ensures set { WordSet self.old i w result self.new }
+        ensures never_fails { IsOk result }
+    {
+        self.calls = Snapshot::of(&RamCalls::Set(Snapshot::of(&self.calls), i));
+        self.words[i as usize] = w;
+        Ok(())
+    }
+
+    /// The words are copied in one loop.
+    #[inline(always)]
+    fn set_all<W: Words>(&mut self, first: u32, words: &W) -> Result<(), Failed>
+        requires { first + length (W.items words.now) ≤ length self.old.words }
+        ensures set { OnOk result (WordsSet first (W.items words.now) self.old self.new) }
+        ensures failed { OnErr result (WordsBroke first (length (W.items words.now)) self.old self.new) }
+        ensures never_fails { IsOk result }
+    {
+        note_sets(&mut self.calls, first, words.count());
+        put_words(&mut self.words, first, words);
+        Ok(())
+    }
+}
