@@ -1,5 +1,5 @@
 -- A jump over a register to a placed block, along a walk.
-use Rattle.std.proofs.Common.{◌≡◌, ◌==◌, if◌then◌else◌, ℕ, ◌+◌, ◌*◌, ◌/◌, ◌%◌, ◌^◌, ◌<◌, Bool, true, false, Option, Some, None, List, slice_index, refl, sym, ap, subst, ◌∙◌, arith}
+use Rattle.std.proofs.Common.{◌≡◌, ◌==◌, if◌then◌else◌, ℕ, ◌+◌, ◌*◌, ◌/◌, ◌%◌, ◌^◌, ◌<◌, Bool, true, false, Option, Some, None, Ok, List, slice_index, refl, sym, ap, subst, ◌∙◌, arith}
 use Rattle.std.proofs.lemmas.Bool.{false≢true}
 use Rattle.swi_image.specs.Format.{ImageData}
 use Rattle.swi_image.specs.Place.{word_at, length_at}
@@ -15,16 +15,19 @@ use Rattle.swi_exec.specs.Execute.{address_of}
 use Rattle.swi_calls.specs.declared.machine.Machine.{Machine}
 use Rattle.swi_calls.specs.Flat.{quiet}
 use Rattle.swi_rom.specs.Record.{Record, indirect, is_linked}
+use Rattle.swi_outside.specs.CacheRam.{RamState}
 use Rattle.swi_rom.specs.Coherent.{Coherent, TargetAt}
+use Rattle.swi_rom.specs.Served.{Served}
+use Rattle.swi_rom.specs.Service.{ServiceOf}
 use Rattle.swi_hart.specs.declared.hart.ExitKind.TheVariants.{Indirect}
 use Rattle.swi_board.specs.declared.block.Walk.{Walk}
 use Rattle.swi_hart.specs.Hart.{exit_kind, stepped}
 use Rattle.swi_hart.specs.Matching.{ExitStep, Jumps, JumpsBy}
-use Rattle.swi_hart.specs.Leaving.{jump_transfer}
-use Rattle.swi_board.specs.Walked.{landed, walk_control, walk_machine, walk_steps, ExitStands, HasRoom}
+use Rattle.swi_hart.specs.Leaving.{jump_transfer, moved}
+use Rattle.swi_board.specs.Walked.{landed, walk_control, walk_machine, walk_steps, ExitStands, HasRoom, JumpOn}
 use Rattle.swi_hart.proofs.Falls.{jumps_by}
 use Rattle.swi_board.proofs.Walking.{over_link}
-use Rattle.swi_hart.proofs.Leaving.{target_arrives}
+use Rattle.swi_hart.proofs.Leaving.{ram_answered, target_arrives}
 
 -- the exit of a JALR is known by the word behind it
 pub jalr_exit : (d : ℕ) (f : JalrFields) → jalr_fields (decoded d) ≡ Some f → exit_kind d ≡ Indirect
@@ -75,3 +78,29 @@ turned_step v new m m' w p rd rs1 imm t link index input room is address four lo
     let jumps : Jumps (t % 4 == 0) v new s input here (walk_machine w m) rd return t = subst (λ (q : Bool). Jumps q v new s input here (walk_machine w m) rd return t) (sym aligned) (target_arrives to, made) in
     subst (λ (x : Option Instr). JumpsBy x v new s input here (walk_machine w m) return) (sym is)
     (jumps_by v new s input here (walk_machine w m) rd rs1 imm t return address jumps)
+
+-- where the target's block is placed, each walk at the exit lands at the target
+module _ {S : Type 0} (k : ServiceOf S) (v : ImageData) (ram : RamState) (old new : S) (m m' : Machine) (i t index d : ℕ) (p : ℕ × ℕ) (f : JalrFields)
+    (is : jalr_fields (decoded d) ≡ Some f) (word : d ≡ word_at v p.0 (p.1 + 1)) (address : t ≡ address_of m.regs f.rs1 f.imm / 2 * 2) (four : t % 4 ≡ 0) (low : t < 2 ^ 32)
+    (left : m' ≡ record m { regs = with_reg m.regs f.rd (word_at v p.0 (p.1 + 2)) })
+    (served : Served v (k.span (k.setting old)) t (k.kept old) (k.policy (k.setting old) (k.kept old) v (indirect t)) (k.kept new) ram ram (Ok index))
+    (coherent : Coherent v (k.kept new) (k.span (k.setting old)) ram.words) where
+  got : decoded (word_at v p.0 (p.1 + 1)) ≡ Some (instr.Jalr f.rd f.rs1 f.imm)
+  got = ap decoded (sym word) ∙ jalr_is _ f is
+
+  pub jumped : (w : Walk) → w.index ≡ i → HasRoom w → (q : ℕ × ℕ) × JumpOn (k.policy (k.setting old)) (k.span (k.setting old)) v (k.kept old) (k.kept new) ram
+      (walk_machine w m) (walk_machine (landed index t 1 w) m') (walk_control (landed index t 1 w) q) i p.0 p.1 w.stage
+  jumped w here room =
+      let at : TargetAt v (k.kept new) t index = served.answer in
+      let q : ℕ × ℕ = (at.block, at.offset) in
+      let l = landed index t 1 w in (
+        q,
+        record {
+          is_indirect = ap exit_kind (sym word) ∙ jalr_exit d f is;
+          step = λ input. subst (λ j. ExitStep Indirect v (k.kept new) (walk_machine w m) (stepped (walk_control l q) (quiet (walk_machine l m') input)) input j p.0 p.1 w.stage) here
+              (turned_step v (k.kept new) m m' w p f.rd f.rs1 f.imm t (word_at v p.0 (p.1 + 2)) index input room got address four low at refl left);
+          moves = served.moves ∙ ap (λ n. moved (k.policy (k.setting old)) (k.kept old) v n) (turned_transfer _ (walk_machine w m) f.rd f.rs1 f.imm t got address four);
+          served = ram_answered served;
+          coherent = coherent;
+        },
+      )

@@ -14,6 +14,7 @@ use Rattle.swi_calls.specs.declared.machine.Machine.{Machine}
 use Rattle.swi_calls.specs.Flat.{quiet}
 use Rattle.swi_hart.specs.declared.hart.Stage.{Stage}
 use Rattle.swi_hart.specs.declared.hart.Stage.TheVariants.{Start, Leave}
+use Rattle.swi_hart.specs.declared.hart.Stage.TheVariants as stage
 use Rattle.swi_hart.specs.declared.hart.Control.{Control}
 use Rattle.swi_hart.specs.declared.hart.Control.TheVariants.{At}
 use Rattle.swi_hart.specs.declared.hart.Role.{Role}
@@ -41,9 +42,17 @@ abbrev pub is_link : Next → Bool
 is_link next.Link = true
 is_link _ = false
 
+-- whether control goes to the exit behind the word: that of a branch that is taken, or of a JAL
 abbrev pub is_exit : Next → Bool
+is_exit next.On = false
+is_exit next.Over = false
+is_exit (next.Lead Start) = false
+is_exit (next.Lead stage.Low) = false
+is_exit (next.Lead stage.Return) = false
+is_exit (next.Lead Leave) = true
 is_exit next.Exit = true
-is_exit _ = false
+is_exit next.Link = false
+is_exit next.Stop = false
 
 -- whether a step was not made
 abbrev pub is_left : Went → Bool

@@ -14,9 +14,10 @@ ghost use Rattle.swi_render.specs.Rendering.{ebreak};
 ghost use Rattle.swi_hart.specs.Hart.{HartData};
 ghost use Rattle.swi_hart.specs.Leaving.{Home, leaves};
 ghost use Rattle.swi_hart.specs.Bounds.{most};
-ghost use Rattle.swi_board.specs.Walked.{begun, is_link, is_stop, gone, landed, place_shown, walk_left, walk_pc, walk_steps, walk_count, walk_control, walk_hart, walk_machine, ExitStands, HasRoom, WalksTo, LinkOn, StepOn, JumpOn, Walked, WalkedOn, StandsInside, BlockRan};
+ghost use Rattle.swi_board.specs.Walked.{begun, is_link, is_stop, gone, landed, place_shown, walk_left, walk_pc, walk_steps, walk_count, walk_control, walk_hart, walk_machine, ExitStands, HasRoom, WalksTo, LinkOn, StepOn, Walked, WalkedOn, StandsInside, BlockRan};
 ghost use Rattle.swi_rom.specs.Record.{IsJump, Record};
 ghost use Rattle.swi_rom.specs.Coherent.{StandsAt};
+ghost use Rattle.swi_board.specs.Back.{JumpedBack};
 ghost use Rattle.swi_board.specs.Targets.{AreFound, Visited};
 
 use crate::known::{Went, link_on, quick};
@@ -348,11 +349,72 @@ fn visit<R: CacheRom, M: CacheRam>(
     Some(index)
 }
 
-/// Jumps over a register by the exit at an index, where that is a JALR's whose target's block is placed, as that of a
-/// return mostly is: where the target stands, and the target. The service counts it, and asks the ram for nothing. At any
-/// other exit nothing changes.
+/// Jumps over a register by the exit at an index, where that is a JALR's whose target's block is placed: where the target
+/// stands, and the target. The service counts it, and asks the ram for nothing. At any other exit nothing changes.
 #[cold]
 #[inline(never)]
+fn jump_back<R: CacheRom, M: CacheRam>(
+    hart: &mut Hart,
+    rom: &mut R,
+    image: &ImageView<'_>,
+    ram: &M,
+    targets: &mut Targets,
+    at: u32,
+) -> Option<(u32, u32)>
+    requires sound { R.service.sound rom.old image.now (M.state ram.now).words }
+    requires services { (R.service.kept rom.old).counts.services < 2 ^ 50 }
+    requires exit { ExitStands image.now (R.service.kept rom.old) at (place_shown (R.service.shown rom.old at)) }
+    requires shown { R.service.shown rom.old at ≡ None → ⊥ }
+    requires found { AreFound image.now (R.service.kept rom.old) targets.old }
+    ensures { JumpedBack R.service image.now at (M.state ram.now) (record { rom = rom.old; found = targets.old })
+        (record { rom = rom.new; found = targets.new }) hart.old hart.new result }
+{
+    let x = jalr_fields(ram.word(at + 1))?;
+    let target = register_target(hart.machine.regs.get(x.rs1), x.imm);
+    if target % 4 != 0 {
+        return None;
+    }
+    let link = return_address(rom, image, at, x.rd);
+    let index = visit(rom, image, ram, targets, target)?;
+    hart.machine.regs.set(x.rd, link);
+    Some((index, target))
+}
+
+/// As `jump_back`, by the exit of a JALR that keeps no address, as a return, whose target stands where it stood last.
+// A function of its own, which calls none: so it saves no register.
+#[cold]
+#[inline(never)]
+fn return_back<R: CacheRom, M: CacheRam>(
+    hart: &Hart,
+    rom: &mut R,
+    image: &ImageView<'_>,
+    ram: &M,
+    targets: &Targets,
+    at: u32,
+) -> Option<(u32, u32)>
+    requires sound { R.service.sound rom.old image.now (M.state ram.now).words }
+    requires services { (R.service.kept rom.old).counts.services < 2 ^ 50 }
+    requires exit { ExitStands image.now (R.service.kept rom.old) at (place_shown (R.service.shown rom.old at)) }
+    requires shown { R.service.shown rom.old at ≡ None → ⊥ }
+    requires found { AreFound image.now (R.service.kept rom.old) targets.now }
+    ensures { JumpedBack R.service image.now at (M.state ram.now) (record { rom = rom.old; found = targets.now })
+        (record { rom = rom.new; found = targets.now }) hart.now hart.now result }
+{
+    let x = jalr_fields(ram.word(at + 1))?;
+    if x.rd.num() != 0 {
+        return None;
+    }
+    let target = register_target(hart.machine.regs.get(x.rs1), x.imm);
+    if target % 4 != 0 {
+        return None;
+    }
+    let index = targets.find(target)?;
+    rom.visit(image, ram, target, index);
+    Some((index, target))
+}
+
+/// Jumps over a register by the exit at an index, as `jump_back`; most returns by `return_back`.
+#[inline(always)]
 fn back<R: CacheRom, M: CacheRam>(
     hart: &mut Hart,
     rom: &mut R,
@@ -366,29 +428,13 @@ fn back<R: CacheRom, M: CacheRam>(
     requires exit { ExitStands image.now (R.service.kept rom.old) at (place_shown (R.service.shown rom.old at)) }
     requires shown { R.service.shown rom.old at ≡ None → ⊥ }
     requires found { AreFound image.now (R.service.kept rom.old) targets.old }
-    ensures on { IfSome result (λ j. (walk : Walk) → walk.index ≡ at → HasRoom walk →
-        (q : ℕ × ℕ) × JumpOn (R.service.policy (R.service.setting rom.old)) (R.service.span (R.service.setting rom.old)) image.now
-        (R.service.kept rom.old) (R.service.kept rom.new) (M.state ram.now) (walk_machine walk hart.old.machine)
-        (walk_machine (landed j.0 j.1 1 walk) hart.new.machine) (walk_control (landed j.0 j.1 1 walk) q)
-        at (place_shown (R.service.shown rom.old at)).0 (place_shown (R.service.shown rom.old at)).1 walk.stage) }
-    ensures same { result ≡ None → (rom.new ≡ rom.old) × (hart.new ≡ hart.old) }
-    ensures rest { hart.new ≡ record hart.old {
-      machine = record hart.old.machine { regs = hart.new.machine.regs };
-    } }
-    ensures setting { R.service.setting rom.new ≡ R.service.setting rom.old }
-    ensures stays { R.service.sound rom.new image.now (M.state ram.now).words }
-    ensures keeps { Keeps R.service image.now rom.old rom.new (M.state ram.now).words (M.state ram.now).words }
-    ensures found { AreFound image.now (R.service.kept rom.new) targets.new }
+    ensures { JumpedBack R.service image.now at (M.state ram.now) (record { rom = rom.old; found = targets.old })
+        (record { rom = rom.new; found = targets.new }) hart.old hart.new result }
 {
-    let x = jalr_fields(ram.word(at + 1))?;
-    let target = register_target(hart.machine.regs.get(x.rs1), x.imm);
-    if target % 4 != 0 {
-        return None;
+    if let Some(landing) = return_back(hart, rom, image, ram, targets, at) {
+        return Some(landing);
     }
-    let link = return_address(rom, image, at, x.rd);
-    let index = visit(rom, image, ram, targets, target)?;
-    hart.machine.regs.set(x.rd, link);
-    Some((index, target))
+    jump_back(hart, rom, image, ram, targets, at)
 }
 
 /// Where control is in the ram, where that has a place for the micro-op of each word of the service.
@@ -497,7 +543,7 @@ pub(crate) fn run_block<R: CacheRom, M: MicroRam>(
         match quick::<R, M, false>(hart, rom, image, ram, word, &mut walk) {
             Went::On => continue,
             Went::Exit => {
-                // No limit of steps falls between a branch and the exit behind it, since the branch completes no step.
+                // No limit of steps falls between a word that completes no step and the exit behind it.
                 let Ok(exit) = ram.fetch_kept(walk.index) else {
                     leave!(hart, rom, walk, Err(Failed));
                 };

@@ -235,7 +235,7 @@ fn execute_known<R: CacheRom, const ANEW: bool>(
 pub enum Went {
     /// Control goes on.
     On,
-    /// Control goes on at the exit behind a branch.
+    /// Control goes on at the exit behind a branch, or behind the last word of a JAL before it.
     Exit,
     /// The micro-op isn't known, or doesn't tell the step: nothing has changed.
     Left,
@@ -248,7 +248,11 @@ fn went_by(next: Next) -> Went
 {
     match next {
         Next::Exit => Went::Exit,
-        Next::On | Next::Over | Next::Lead(_) | Next::Link | Next::Stop => Went::On,
+        Next::Lead(stage) => match stage {
+            Stage::Leave => Went::Exit,
+            Stage::Start | Stage::Low | Stage::Return => Went::On,
+        },
+        Next::On | Next::Over | Next::Link | Next::Stop => Went::On,
     }
 }
 
