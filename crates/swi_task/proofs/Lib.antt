@@ -3,3 +3,4 @@ pub mod Refusals
 pub mod Puts
 pub mod Due
 pub mod Lines
+pub mod Starts

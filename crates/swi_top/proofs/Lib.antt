@@ -1,12 +1,2 @@
-pub mod Confirming
-pub mod Due
-pub mod Running
-pub mod Flats
-pub mod Caching
-pub mod Losing
-pub mod Ahead
-pub mod Listings
-pub mod Measuring
 pub mod Alike
-pub mod Tracing
 pub mod Lined

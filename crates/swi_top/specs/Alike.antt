@@ -14,8 +14,8 @@ use Rattle.swi_task.specs.Devices.{Devices}
 use Rattle.swi_task.specs.Checks.{IsAccepted, cache_refusal}
 use Rattle.swi_task.specs.Runs.{start_of}
 use Rattle.swi_task.specs.Answers.{AnswersWithLine}
-use Rattle.swi_top.specs.RunCached.{cached_task}
-use Rattle.swi_top.specs.RunPlain.{plain_task}
+use Rattle.swi_cached_command.specs.RunCached.{cached_task}
+use Rattle.swi_file_commands.specs.RunPlain.{plain_task}
 use Rattle.swi_task.specs.Task.{Task}
 use Rattle.swi_top.specs.Tasks.{task_of}
 

@@ -1,11 +1,2 @@
-pub mod RewriteFile
-pub mod UpgradeFile
-pub mod CheckFile
-pub mod ListFile
-pub mod RunPlain
-pub mod Caching
-pub mod RunCached
-pub mod RunAhead
-pub mod MeasureMade
 pub mod Tasks
 pub mod Alike

@@ -1,14 +1,14 @@
 -- The record of each command. Own rule.
 use Rattle.swi_command.specs.CommandLine.{Request, RewriteFile, RunAhead, RunShared, RunCached, RunPlain, ListFile, CheckFile, UpgradeFile, MeasureMade}
 use Rattle.swi_task.specs.Task.{Task}
-use Rattle.swi_top.specs.RewriteFile.{rewrite_task}
-use Rattle.swi_top.specs.UpgradeFile.{upgrade_task}
-use Rattle.swi_top.specs.CheckFile.{check_task}
-use Rattle.swi_top.specs.ListFile.{list_task}
-use Rattle.swi_top.specs.RunPlain.{plain_task}
-use Rattle.swi_top.specs.RunCached.{cached_task}
-use Rattle.swi_top.specs.RunAhead.{ahead_task}
-use Rattle.swi_top.specs.MeasureMade.{measure_task}
+use Rattle.swi_file_commands.specs.RewriteFile.{rewrite_task}
+use Rattle.swi_file_commands.specs.UpgradeFile.{upgrade_task}
+use Rattle.swi_file_commands.specs.CheckFile.{check_task}
+use Rattle.swi_file_commands.specs.ListFile.{list_task}
+use Rattle.swi_file_commands.specs.RunPlain.{plain_task}
+use Rattle.swi_cached_command.specs.RunCached.{cached_task}
+use Rattle.swi_prefetch_command.specs.RunAhead.{ahead_task}
+use Rattle.swi_measure_command.specs.MeasureMade.{measure_task}
 use Rattle.swi_share_command.specs.RunShared.{share_task}
 
 abbrev pub task_of : Request → Task

@@ -7,19 +7,15 @@ ghost use Rattle.swi_task.specs.Answers.{Answers};
 ghost use Rattle.swi_task.specs.Devices.{seen};
 ghost use Rattle.swi_top.specs.Tasks.{task_of};
 
-use crate::cached::cached;
-use crate::check::check;
-use crate::list::list;
-use crate::measure::measure;
-use crate::plain::plain;
-use crate::prefetch::prefetch;
-use crate::rewrite::rewrite;
-use crate::upgrade::upgrade;
 use std::alloc::Global;
 use swi_answer::{Ending, Refusal};
+use swi_cached_command::cached;
 use swi_command::Command;
+use swi_file_commands::{check, list, plain, rewrite, upgrade};
+use swi_measure_command::measure;
 use swi_micro::MicroRam;
 use swi_outside::{Shelf, Sink, Source};
+use swi_prefetch_command::prefetch;
 use swi_share_command::share;
 
 /// Does what a command asks for, but for its last line on the error sink.

@@ -1,0 +1,699 @@
+-- A run on the cached machine, from what its parts say.
+use Rattle.std.proofs.Common.{◌≡◌, ◌⊎◌, inl, inr, ℕ, ◌+◌, ◌-◌, ◌*◌, ◌/◌, ◌^◌, ◌≤◌, min, List, [], ◌∷◌, ◌++◌, length, take, drop, append_assoc, if◌then◌else◌, Option, None, Some, Result, Ok, Err, IsErrOf, MatchResult, refl, sym, ◌∙◌, subst, ap, arith}
+use Rattle.std.proofs.Math.Nat.{div-mul-le_self}
+use Rattle.std.proofs.lemmas.List.{append-nil}
+use Rattle.std.specs.Io.KnownBytes.{Appends}
+use Rattle.swi_outside.specs.Causes.{DeviceCause, Rose, risen}
+use Rattle.swi_outside.specs.CacheRam.{KeepsBeyond, RamState}
+use Rattle.swi_outside.specs.Devices as outside
+use Rattle.swi_outside.specs.Laws.{Appends-append, Appends-none, cause_as, named_as, no_cause, ok_unmoved}
+use Rattle.swi_outside.specs.Shelf.{Asked, ShelfState}
+use Rattle.swi_outside.specs.Sink.{AppendsPrefix, SinkState}
+use Rattle.swi_outside.specs.Source.{SourceState}
+use Rattle.swi_elf_read.specs.Elf as elf
+use Rattle.swi_elf_read.specs.Loaded.{image_of as image_in}
+use Rattle.swi_memory.specs.declared.layout.Layout.{Layout}
+use Rattle.swi_program.specs.Program.{ProgramData}
+use Rattle.swi_program.specs.ProgramOf.{program_of_file}
+use Rattle.swi_image.specs.Format.{ImageData}
+use Rattle.swi_command.specs.declared.command.CacheKind.{CacheKind}
+use Rattle.swi_command.specs.declared.command.CacheKind.TheVariants as kind
+use Rattle.swi_command.specs.declared.command.CacheOptions.{CacheOptions}
+use Rattle.swi_command.specs.declared.command.RunLimits.{RunLimits}
+use Rattle.swi_command.specs.declared.command.RunOptions.{RunOptions}
+use Rattle.swi_calls.specs.declared.end.End.{End}
+use Rattle.swi_calls.specs.declared.machine.Machine.{Machine}
+use Rattle.swi_calls.specs.Flat.{flat_start}
+use Rattle.swi_calls.specs.State.{FlatState}
+use Rattle.swi_rom.specs.Record.{Record, writes}
+use Rattle.swi_rom.specs.Service.{Cache}
+use Rattle.swi_report.specs.declared.stats.Work.{Work}
+use Rattle.swi_hart.specs.Hart.{HartData}
+use Rattle.swi_cached.specs.declared.run.CachedStop.{CachedStop}
+use Rattle.swi_cached.specs.declared.run.CachedStop.TheVariants as stop
+use Rattle.swi_cached.specs.Answers as run
+use Rattle.swi_cached.specs.Ringed.{ringed}
+use Rattle.swi_cached.specs.Slotted.{slotted}
+use Rattle.swi_cached.specs.Told.{addresses, history_of, next_error, told_line}
+use Rattle.swi_memory.specs.Bus.{AreaData}
+use Rattle.std.proofs.Math.Seq.{take-append_seam, take-length}
+use Rattle.std.proofs.lemmas.List.{take-append-drop}
+use Rattle.swi_cached.specs.Cached.{CachedRun, IsCounted, end_of, program_after, told_after, instructions_after, fetches_after, words_after, record_after, unfetched}
+use Rattle.swi_cached.proofs.Failed.{are_counted, is_flat_run, stops_before_store}
+use Rattle.swi_board.specs.Fetching.{FetchedFront}
+use Rattle.swi_answer.specs.declared.answer.Ending.{Ending}
+use Rattle.swi_answer.specs.declared.answer.Refusal.{Refusal}
+use Rattle.swi_answer.specs.declared.answer.Refusal.TheVariants as refusal
+use Rattle.swi_answer.specs.Lines.{ending_line}
+use Rattle.swi_task.specs.Answers.{Answers, IsAskedFor, IsChecked, IsSizeRefusal}
+use Rattle.swi_cached_command.specs.Caching.{IsCachedRun, RamCounted, board_work, cache_by, cache_for, work_of}
+use Rattle.swi_task.specs.Causes.{HasCauses}
+use Rattle.swi_task.specs.Checks.{Check, HoldsBlock, Fails, IsAccepted, IsRefusedOr, block_words, file_limit, least_cache, room_in, size_refusal, subject_checks}
+use Rattle.swi_task.specs.Devices.{Devices, stream_faults}
+use Rattle.swi_cached_command.specs.RunCached.{BrokeIn, CachedFailed, IsRunErr, RamBroke, RunsCached, RunsOver, addresses_in, cached_checks, cached_report, cached_run, held_next, last_lines, last_told, refusal_of, cached_task, shown_error}
+use Rattle.swi_task.specs.Runs.{FailedAfterRun, ending_by, report, start_of}
+use Rattle.swi_task.specs.Subject.{IsImageFor}
+use Rattle.swi_task.proofs.Due.{left_empty}
+use Rattle.swi_cached_command.proofs.Tracing.{all_shown, last_is, shown_split, some_shown}
+use Rattle.swi_task.proofs.Refusals.{IsRead, calm_causes, causes_behind, causes_of, keeps_read, out_causes, same_count, sized_along, sized_err, sized_ok, told_is}
+use Rattle.swi_task.proofs.Images.{front_refused, last_fails, last_passes, run_passes, run_refused, size_is}
+use Rattle.swi_task.proofs.Starts.{start_is}
+use Rattle.swi_task.proofs.Lines.{IsLined, after_line, after_run_line, appends_last, at_step_line, holds_then, ran_line}
+
+-- the devices after a run
+abbrev pub ran_all : Devices → SourceState → SinkState → SinkState → RamState → Devices
+ran_all d i o e ram = record d { input = i; output = o; error = e; ram = ram }
+
+-- the cached run of a program with this input
+abbrev pub run_with : RunOptions → Cache → ImageData → ProgramData → Layout → List ℕ → CachedRun
+run_with o cache v p l input = cached_run cache o v (flat_start p l o.reports.calls input)
+
+pub keeps_all : (n : ℕ) (r : RamState) → KeepsBeyond n r r
+keeps_all n r = record { same_length = refl; beyond = λ i h. refl; reached = omega arith }
+
+no_memory : (o : RunOptions) (cache : Cache) (v : ImageData) (p : ProgramData) (l : Layout) (d : Devices) →
+    RunsOver o cache v p l d d (Err refusal.Memory)
+no_memory o cache v p l d = record {
+  done = tt;
+  refused = tt;
+  quiet = λ _. refl;
+  failed = λ f. absurd f;
+  beyond = keeps_all _ d.ram;
+  causes = calm_causes d d (Err refusal.Memory) tt refl refl refl;
+}
+
+-- the causes of the board's devices, by the run's answer
+pub record BoardCauses {T : Type 0} (before after : Devices) (r : Result T CachedStop) : Type 0 where
+  pub streams : outside.HasCauses (stream_faults before) (stream_faults after) (IsErrOf r stop.SourceFault) (IsErrOf r stop.SinkFault)
+  pub ram_cause : DeviceCause before.ram.faults after.ram.faults (IsErrOf r stop.RamFault)
+
+memory_after : (o : RunOptions) (cache : Cache) (v : ImageData) (p : ProgramData) (l : Layout) (d : Devices) (i : SourceState) (out e : SinkState) (ram : RamState) →
+    (ram ≡ d.ram) × (i ≡ d.input) × (out ≡ d.output) × (e ≡ d.error) → RunsOver o cache v p l d (ran_all d i out e ram) (Err refusal.Memory)
+memory_after o cache v p l d i out e ram same =
+    subst (λ (a : SourceState). RunsOver o cache v p l d (ran_all d a out e ram) (Err refusal.Memory)) (sym same.1)
+    (subst (λ (b : SinkState). RunsOver o cache v p l d (ran_all d d.input b e ram) (Err refusal.Memory)) (sym same.2)
+    (subst (λ (x : SinkState). RunsOver o cache v p l d (ran_all d d.input d.output x ram) (Err refusal.Memory)) (sym same.3)
+    (subst (λ (r : RamState). RunsOver o cache v p l d (ran_all d d.input d.output d.error r) (Err refusal.Memory)) (sym same.0) (no_memory o cache v p l d))))
+
+-- a run that stopped so is refused so
+stop_causes : {T : Type 0} (f : CachedStop) (before after : Devices) → after.shelf.faults ≡ before.shelf.faults → BoardCauses {T = T} before after (Err f) →
+    HasCauses {T = Ending} before after (Err (refusal_of f))
+stop_causes {T} f before after shelf h =
+    causes_of before after (Err (refusal_of f)) (no_cause shelf (no_shelf f)) (cause_as h.ram_cause (to f stop.RamFault) (from_ram f))
+    (named_as h.streams (to f stop.SourceFault) (from_source f) (to f stop.SinkFault) (from_sink f))
+  where
+    no_shelf : (f : CachedStop) → IsErrOf {T = Ending} (Err (refusal_of f)) refusal.ShelfFault → ⊥
+    no_shelf stop.Memory e = let never : ⊥ = cc in never
+    no_shelf stop.RamFault e = let never : ⊥ = cc in never
+    no_shelf stop.SourceFault e = let never : ⊥ = cc in never
+    no_shelf stop.SinkFault e = let never : ⊥ = cc in never
+
+    to : (f g : CachedStop) → IsErrOf {T = T} (Err f) g → IsErrOf {T = Ending} (Err (refusal_of f)) (refusal_of g)
+    to f g e = let same : f ≡ g = cc in ap (λ (x : CachedStop). Err (refusal_of x)) same
+
+    from_ram : (f : CachedStop) → IsErrOf {T = Ending} (Err (refusal_of f)) refusal.RamFault → IsErrOf {T = T} (Err f) stop.RamFault
+    from_ram stop.RamFault e = refl
+    from_ram stop.Memory e = let never : ⊥ = cc in absurd never
+    from_ram stop.SourceFault e = let never : ⊥ = cc in absurd never
+    from_ram stop.SinkFault e = let never : ⊥ = cc in absurd never
+
+    from_source : (f : CachedStop) → IsErrOf {T = Ending} (Err (refusal_of f)) refusal.SourceFault → IsErrOf {T = T} (Err f) stop.SourceFault
+    from_source stop.SourceFault e = refl
+    from_source stop.Memory e = let never : ⊥ = cc in absurd never
+    from_source stop.RamFault e = let never : ⊥ = cc in absurd never
+    from_source stop.SinkFault e = let never : ⊥ = cc in absurd never
+
+    from_sink : (f : CachedStop) → IsErrOf {T = Ending} (Err (refusal_of f)) refusal.SinkFault → IsErrOf {T = T} (Err f) stop.SinkFault
+    from_sink stop.SinkFault e = refl
+    from_sink stop.Memory e = let never : ⊥ = cc in absurd never
+    from_sink stop.RamFault e = let never : ⊥ = cc in absurd never
+    from_sink stop.SourceFault e = let never : ⊥ = cc in absurd never
+
+-- the run so far is the flat machine's
+failed_so : (o : RunOptions) (c : CachedRun) (d m : Devices) (r : Refusal) (last : List ℕ) → BrokeIn o c d m r last → FetchedFront (words_after c c.limit) d.ram m.ram → CachedFailed o c d m r last
+failed_so o c d m r last broke words = record { broke = broke; fetched_at = words; flat = is_flat_run c; stops = stops_before_store c }
+
+-- all words are a front of themselves
+all_words : (c : CachedRun) (before after : RamState) → run.RamAfter c before after → FetchedFront (words_after c c.limit) before after
+all_words c before after h = ([], record { fetched = words_after c c.limit; are = h.fetched_at; front = append-nil (words_after c c.limit) })
+
+pub to_nil : (a b : Option (List ℕ)) (x : List ℕ) → Appends a b x → Appends a b (x ++ [])
+to_nil a b x h = subst (λ (y : List ℕ). Appends a b y) (sym (append-nil x)) h
+
+ram_failed : {T : Type 0} (o : RunOptions) (cache : Cache) (v : ImageData) (p : ProgramData) (l : Layout) (d : Devices) (i : SourceState) (out e : SinkState) (ram : RamState) →
+    KeepsBeyond cache.span d.ram ram →
+    ((left : List ℕ) → d.input.left ≡ Some left → FetchedFront (words_after (run_with o cache v p l left) o.limits.steps) d.ram ram) →
+    ((left : List ℕ) → d.input.left ≡ Some left → run.RamFailed (run_with o cache v p l left) d.ram ram i.left d.output.held out.held d.error.held e.held) →
+    BoardCauses {T = T} d (ran_all d i out e ram) (Err stop.RamFault) → RunsOver o cache v p l d (ran_all d i out e ram) (Err refusal.RamFault)
+ram_failed {T} o cache v p l d i out e ram kept words broke h = record {
+  done = tt;
+  refused = tt;
+  quiet = λ never. absurd (never tt);
+  failed = λ _ left told.
+      let b = broke left told in
+      let c = run_with o cache v p l left in
+      failed_so o c d (ran_all d i out e ram) refusal.RamFault [] (inl (record {
+        fault = refl;
+        fetched = b.fetched;
+        fetches = b.fetches;
+        steps = b.steps;
+        within = b.within;
+        enough = b.enough;
+        longest = b.longest;
+        output = b.output;
+        begun = b.begun;
+        error = to_nil d.error.held e.held ((told_after c b.steps).error ++ (if b.begun then told_line c.trace (program_after c b.steps).machine else [])) b.error;
+        input = b.input;
+        last_failed = b.last_failed;
+      })) (words left told);
+  beyond = kept;
+  causes = stop_causes {T = T} stop.RamFault d (ran_all d i out e ram) refl h;
+}
+
+pub front_none : (a b : Option (List ℕ)) (x y : List ℕ) (n : ℕ) → n ≡ 0 → Appends a b (x ++ take n y) → Appends a b x
+front_none a b x y n zero h =
+    let all : Appends a b (x ++ []) = subst (λ (k : ℕ). Appends a b (x ++ take k y)) zero h in
+    subst (λ (z : List ℕ). Appends a b z) (append-nil x) all
+
+source_failed : {T : Type 0} (o : RunOptions) (cache : Cache) (v : ImageData) (p : ProgramData) (l : Layout) (d : Devices) (i : SourceState) (out e : SinkState) (ram : RamState) →
+    KeepsBeyond cache.span d.ram ram →
+    ((left : List ℕ) → d.input.left ≡ Some left → FetchedFront (words_after (run_with o cache v p l left) o.limits.steps) d.ram ram) →
+    ((left : List ℕ) → d.input.left ≡ Some left → run.StepBroke {T = T} (run_with o cache v p l left) (Err stop.SourceFault) i.left d.output.held out.held d.error.held e.held (stream_faults d) (stream_faults (ran_all d i out e ram))) →
+    BoardCauses {T = T} d (ran_all d i out e ram) (Err stop.SourceFault) → RunsOver o cache v p l d (ran_all d i out e ram) (Err refusal.SourceFault)
+source_failed {T} o cache v p l d i out e ram kept words broke h = record {
+  done = tt;
+  refused = tt;
+  quiet = λ never. absurd (never tt);
+  failed = λ _ left told.
+      let b = (broke left told).failed in
+      let c = run_with o cache v p l left in
+      let none = b.unwritten refl in
+      failed_so o c d (ran_all d i out e ram) refusal.SourceFault [] (inr (inl (record {
+        steps = b.steps;
+        fewer = b.fewer;
+        failed = record {
+          fault = inl refl;
+          going = b.going;
+          output = (b.output_front, b.output);
+          error_front = b.error_front;
+          error = to_nil d.error.held e.held _ b.error;
+          source = λ _. (
+            front_none d.output.held out.held _ _ b.output_front none.0 b.output,
+            to_nil d.error.held e.held _ (subst (λ (x : List ℕ). Appends d.error.held e.held ((told_after c b.steps).error ++ x))
+                (ap (λ (k : ℕ). take k (next_error c.trace (program_after c b.steps))) none.1
+                ∙ take-append_seam (told_line c.trace (program_after c b.steps).machine) (held_next (program_after c b.steps)).error) b.error),
+          );
+          unasked = (broke left told).unasked;
+          taken = b.taken;
+          no_more = let few : length b.taken + length (held_next (program_after c b.steps)).input ≤ length (program_after c b.steps).input = b.few in omega arith;
+          input = b.input;
+        };
+      }))) (words left told);
+  beyond = kept;
+  causes = stop_causes {T = T} stop.SourceFault d (ran_all d i out e ram) refl h;
+}
+
+sink_failed : {T : Type 0} (o : RunOptions) (cache : Cache) (v : ImageData) (p : ProgramData) (l : Layout) (d : Devices) (i : SourceState) (out e : SinkState) (ram : RamState) →
+    KeepsBeyond cache.span d.ram ram →
+    ((left : List ℕ) → d.input.left ≡ Some left → FetchedFront (words_after (run_with o cache v p l left) o.limits.steps) d.ram ram) →
+    ((left : List ℕ) → d.input.left ≡ Some left → run.StepBroke {T = T} (run_with o cache v p l left) (Err stop.SinkFault) i.left d.output.held out.held d.error.held e.held (stream_faults d) (stream_faults (ran_all d i out e ram))) →
+    BoardCauses {T = T} d (ran_all d i out e ram) (Err stop.SinkFault) → RunsOver o cache v p l d (ran_all d i out e ram) (Err refusal.SinkFault)
+sink_failed {T} o cache v p l d i out e ram kept words broke h = record {
+  done = tt;
+  refused = tt;
+  quiet = λ never. absurd (never tt);
+  failed = λ _ left told.
+      let b = (broke left told).failed in
+      let c = run_with o cache v p l left in
+      failed_so o c d (ran_all d i out e ram) refusal.SinkFault [] (inr (inl (record {
+        steps = b.steps;
+        fewer = b.fewer;
+        failed = record {
+          fault = inr refl;
+          going = b.going;
+          output = (b.output_front, b.output);
+          error_front = b.error_front;
+          error = to_nil d.error.held e.held _ b.error;
+          source = λ x. absurd (let bad : ⊥ = cc in bad);
+          unasked = (broke left told).unasked;
+          taken = b.taken;
+          no_more = let few : length b.taken + length (held_next (program_after c b.steps)).input ≤ length (program_after c b.steps).input = b.few in omega arith;
+          input = b.input;
+        };
+      }))) (words left told);
+  beyond = kept;
+  causes = stop_causes {T = T} stop.SinkFault d (ran_all d i out e ram) refl h;
+}
+
+-- it stopped before its end
+pub run_stopped : {T : Type 0} {o : RunOptions} {cache : Cache} {v : ImageData} {p : ProgramData} {l : Layout} {d : Devices} {i : SourceState} {out e : SinkState} {ram : RamState}
+    (f : CachedStop) (r : Refusal) → r ≡ refusal_of f → KeepsBeyond cache.span d.ram ram →
+    ((left : List ℕ) → d.input.left ≡ Some left → FetchedFront (words_after (run_with o cache v p l left) o.limits.steps) d.ram ram) →
+    (IsErrOf {T = T} (Err f) stop.Memory → (ram ≡ d.ram) × (i ≡ d.input) × (out ≡ d.output) × (e ≡ d.error)) →
+    (IsErrOf {T = T} (Err f) stop.RamFault → (left : List ℕ) → d.input.left ≡ Some left → run.RamFailed (run_with o cache v p l left) d.ram ram i.left d.output.held out.held d.error.held e.held) →
+    (IsErrOf {T = T} (Err f) stop.SourceFault ⊎ IsErrOf {T = T} (Err f) stop.SinkFault → (left : List ℕ) → d.input.left ≡ Some left →
+    run.StepBroke {T = T} (run_with o cache v p l left) (Err f) i.left d.output.held out.held d.error.held e.held (stream_faults d) (stream_faults (ran_all d i out e ram))) →
+    BoardCauses {T = T} d (ran_all d i out e ram) (Err f) → RunsOver o cache v p l d (ran_all d i out e ram) (Err r)
+run_stopped {T} {o} {cache} {v} {p} {l} {d} {i} {out} {e} {ram} f r is kept words memory ram_broke broke causes =
+    subst (λ (x : Refusal). RunsOver o cache v p l d (ran_all d i out e ram) (Err x)) (sym is) (by f memory ram_broke broke causes)
+  where
+    by : (f : CachedStop) → (IsErrOf {T = T} (Err f) stop.Memory → (ram ≡ d.ram) × (i ≡ d.input) × (out ≡ d.output) × (e ≡ d.error)) →
+        (IsErrOf {T = T} (Err f) stop.RamFault → (left : List ℕ) → d.input.left ≡ Some left → run.RamFailed (run_with o cache v p l left) d.ram ram i.left d.output.held out.held d.error.held e.held) →
+        (IsErrOf {T = T} (Err f) stop.SourceFault ⊎ IsErrOf {T = T} (Err f) stop.SinkFault → (left : List ℕ) → d.input.left ≡ Some left →
+        run.StepBroke {T = T} (run_with o cache v p l left) (Err f) i.left d.output.held out.held d.error.held e.held (stream_faults d) (stream_faults (ran_all d i out e ram))) →
+        BoardCauses {T = T} d (ran_all d i out e ram) (Err f) → RunsOver o cache v p l d (ran_all d i out e ram) (Err (refusal_of f))
+    by stop.Memory memory ram_broke broke causes = memory_after o cache v p l d i out e ram (memory refl)
+    by stop.RamFault memory ram_broke broke causes =
+        ram_failed {T = T} o cache v p l d i out e ram kept words
+        (ram_broke refl) causes
+    by stop.SourceFault memory ram_broke broke causes =
+        source_failed {T = T} o cache v p l d i out e ram kept words
+        (broke (inl refl)) causes
+    by stop.SinkFault memory ram_broke broke causes =
+        sink_failed {T = T} o cache v p l d i out e ram kept words
+        (broke (inr refl)) causes
+
+-- what stopped a run whose refusal `map_err(refusal_of)?` hands on
+pub handed_on : {T : Type 0} (r : Result T CachedStop) (x : Refusal) → MatchResult r (λ y. ◌≡◌ {A = Result T Refusal} (Err x) (Ok y)) (λ f. x ≡ refusal_of f) →
+    (f : CachedStop) × (r ≡ Err f) × (x ≡ refusal_of f)
+handed_on (Ok y) x h = let bad : ⊥ = cc in absurd bad
+handed_on (Err f) x h = (f, refl, h)
+
+-- the report of a board that came to its end
+abbrev pub board_report : RunOptions → HartData → Record → List ℕ
+board_report o h r = report o.reports h.machine (Some (board_work h.count h.machine.ending r))
+
+pub fetches_are : (instructions fetches none : ℕ) → instructions ≡ 1 + fetches + none → instructions - 1 - none ≡ fetches
+fetches_are instructions fetches none e = omega (arith, e)
+
+-- at the end its counts are those of the run
+pub work_is : (c : CachedRun) → IsCounted c → board_work (instructions_after c c.limit) (end_of c).machine.ending (record_after c c.limit) ≡ work_of c
+work_is c counted =
+    ap (λ (n : ℕ). record (work_of c) { fetches = n })
+    (fetches_are (instructions_after c c.limit) (fetches_after c c.limit) (unfetched (end_of c).machine.ending) (counted c.limit))
+
+report_is : (o : RunOptions) (c : CachedRun) (h : HartData) (r : Record) → h.machine ≡ (end_of c).machine → h.count ≡ instructions_after c c.limit →
+    r ≡ record_after c c.limit → IsCounted c → board_report o h r ≡ cached_report o c
+report_is o c h r machine count kept counted =
+    ap (λ (m : Machine). report o.reports m (Some (board_work h.count m.ending r))) machine
+    ∙ ap (λ (n : ℕ). report o.reports (end_of c).machine (Some (board_work n (end_of c).machine.ending r))) count
+    ∙ ap (λ (k : Record). report o.reports (end_of c).machine (Some (board_work (instructions_after c c.limit) (end_of c).machine.ending k))) kept
+    ∙ ap (λ (w : Work). report o.reports (end_of c).machine (Some w)) (work_is c counted)
+
+-- a count that rises by a number of 64 bits
+pub risen_min : (n more : ℕ) → risen n more ≡ risen n (min more (2 ^ 64 - 1))
+risen_min n more = grind arith
+
+ram_counted : (c : CachedRun) (before after : RamState) → run.RamAfter c before after → RamCounted (work_of c) before after
+ram_counted c before after h = record { fetches = h.fetches; sets = h.sets ∙ risen_min before.sets (writes (record_after c c.limit)) }
+
+-- what a run is that came to its end
+pub cached_run_is : (c : CachedRun) (h : HartData) (r : Record) (i o p e f : Option (List ℕ)) (before after : RamState) → run.Ended c h r i o p e f → run.IsShort h →
+    run.RamAfter c before after → IsCounted c → IsCachedRun c before after
+cached_run_is c h r i o p e f before after b s ram counted = record {
+  flat = is_flat_run c;
+  stops = stops_before_store c;
+  ram = ram;
+  counted = ram_counted c before after ram;
+  most = subst (λ (n : ℕ). n ≤ 3 * (end_of c).machine.steps + 2) b.count (subst (λ (m : Machine). h.count ≤ 3 * m.steps + 2) b.machine s.most);
+  fewer = λ never. subst (λ (n : ℕ). n ≤ 3 * (end_of c).machine.steps + 1) b.count
+      (subst (λ (m : Machine). h.count ≤ 3 * m.steps + 1) b.machine (s.fewer (λ a is. never a (ap (λ (m : Machine). m.ending) (sym b.machine) ∙ is))));
+  each = counted;
+  words = are_counted c;
+}
+
+-- none of the board's devices failed in the run
+pub record IsQuiet (before after : Devices) : Type 0 where
+  pub streams : stream_faults after ≡ stream_faults before
+  pub ram_same : after.ram.faults ≡ before.ram.faults
+
+pub quiet_run : {T : Type 0} {before after : Devices} (r : Result T CachedStop) (y : T) → BoardCauses before after r →
+    MatchResult r (λ x. ◌≡◌ {A = Result T Refusal} (Ok y) (Ok x)) (λ _. ⊥) → IsQuiet before after
+quiet_run (Ok x) y h is = record { streams = ok_unmoved h.streams; ram_same = same_count h.ram_cause (λ e. let bad : ⊥ = cc in bad) }
+quiet_run (Err f) y h is = absurd is
+
+-- how it ended, as its board says it
+pub ending_is : {x : Ending} {e f : Option End} {a b n m : ℕ} → x ≡ ending_by e a n → e ≡ f → a ≡ b → n ≡ m → x ≡ ending_by f b m
+ending_is {x} {e} {f} {a} {b} {n} {m} is ends pc steps =
+    is ∙ ap (λ (k : Option End). ending_by k a n) ends ∙ ap (λ (k : ℕ). ending_by f k n) pc ∙ ap (λ (k : ℕ). ending_by f b k) steps
+
+-- a run that came to its end, on a board with this hart and this record of its service, and with this history
+pub record IsEnded (o : RunOptions) (cache : Cache) (v : ImageData) (p : ProgramData) (l : Layout) (d : Devices) (h : HartData) (r : Record) (i : SourceState) (mid em : SinkState) (ram : RamState) (history : Option (List ℕ)) : Type 0 where
+  pub ended : (left : List ℕ) → d.input.left ≡ Some left → run.Ended (run_with o cache v p l left) h r i.left d.output.held mid.held d.error.held em.held
+  pub told : (left : List ℕ) → d.input.left ≡ Some left → history ≡ history_of o.reports.trace (addresses o.limits.steps (flat_start p l o.reports.calls left))
+  pub short : (left : List ℕ) → d.input.left ≡ Some left → run.IsShort h
+  pub after : (left : List ℕ) → d.input.left ≡ Some left → run.RamAfter (run_with o cache v p l left) d.ram ram
+  pub counted : (left : List ℕ) → IsCounted (run_with o cache v p l left)
+
+-- Behind it the output gains the report, from `mid` on, and the errors the last lines, from `em` on.
+module _ {o : RunOptions} {cache : Cache} {v : ImageData} {p : ProgramData} {l : Layout} {d : Devices} {h : HartData} {r : Record} {i : SourceState} {mid em : SinkState} {ram : RamState} {history : Option (List ℕ)}
+    (a : IsEnded o cache v p l d h r i mid em ram history) (kept : KeepsBeyond cache.span d.ram ram)
+    (quiet : IsQuiet d (ran_all d i mid em ram)) where
+  abbrev of : List ℕ → CachedRun
+  of left = run_with o cache v p l left
+
+  input_same : i.faults ≡ d.input.faults
+  input_same = ap (λ (f : outside.Faults). f.input) quiet.streams
+
+  output_same : mid.faults ≡ d.output.faults
+  output_same = ap (λ (f : outside.Faults). f.output) quiet.streams
+
+  error_same : em.faults ≡ d.error.faults
+  error_same = ap (λ (f : outside.Faults). f.error) quiet.streams
+
+  -- a sink failed
+  behind : (out e : SinkState) → HasCauses {T = Ending} d (ran_all d i out e ram) (Err refusal.SinkFault) →
+      ((left : List ℕ) → d.input.left ≡ Some left →
+      FailedAfterRun (told_after (of left) (of left).limit) (cached_report o (of left)) (last_lines o.reports.trace (of left)) d (ran_all d i out e ram) refusal.SinkFault []) →
+      RunsOver o cache v p l d (ran_all d i out e ram) (Err refusal.SinkFault)
+  behind out e causes broke = record {
+    done = tt;
+    refused = tt;
+    quiet = λ never. absurd (never tt);
+    failed = λ _ left told. failed_so o (of left) d (ran_all d i out e ram) refusal.SinkFault [] (inr (inr (broke left told, a.after left told))) (all_words (of left) d.ram ram (a.after left told));
+    beyond = kept;
+    causes = causes;
+  }
+
+  wrote : (left : List ℕ) → d.input.left ≡ Some left → board_report o h r ≡ cached_report o (of left)
+  wrote left told = let b = a.ended left told in report_is o (of left) h r b.machine b.count b.record_is (a.counted left)
+
+  pub report_broke : {out : SinkState} → AppendsPrefix mid.held out.held (board_report o h r) → (board_report o h r ≡ [] → ⊥) → mid.faults ≤ out.faults → Rose mid.faults out.faults →
+      RunsOver o cache v p l d (ran_all d i out em ram) (Err refusal.SinkFault)
+  report_broke {out} part due later rose =
+      let failed : Rose d.output.faults out.faults = subst (λ (n : ℕ). Rose n out.faults) output_same rose in
+      behind out em
+      (out_causes d (ran_all d i out em ram) refl quiet.ram_same input_same error_same (subst (λ (n : ℕ). n ≤ out.faults) output_same later) failed)
+      (λ left told.
+      let b = a.ended left told in record {
+        output_front = part.0;
+        output = Appends-append d.output.held mid.held out.held (end_of (of left)).output (take part.0 (cached_report o (of left))) b.output
+            (subst (λ (y : List ℕ). Appends mid.held out.held (take part.0 y)) (wrote left told) part.1);
+        error_front = 0;
+        error = to_nil d.error.held em.held ((told_after (of left) (of left).limit).error ++ []) (to_nil d.error.held em.held (told_after (of left) (of left).limit).error b.error);
+        behind = inl (refl, (λ none. due (wrote left told ∙ none)), failed);
+        input = b.input;
+        fault = refl;
+      })
+
+  -- the report was written, and of the last lines a front
+  pub lines_broke : {out e : SinkState} {bus : List AreaData} → Appends mid.held out.held (board_report o h r) → out.faults ≡ mid.faults → bus ≡ h.machine.bus →
+      AppendsPrefix em.held e.held (last_told o.reports.trace bus (addresses_in history)) → (last_told o.reports.trace bus (addresses_in history) ≡ [] → ⊥) →
+      em.faults ≤ e.faults → Rose em.faults e.faults → RunsOver o cache v p l d (ran_all d i out e ram) (Err refusal.SinkFault)
+  lines_broke {out} {e} {bus} written same_out bus_is part due later rose =
+      let failed : Rose d.error.faults e.faults = subst (λ (n : ℕ). Rose n e.faults) error_same rose in
+      behind out e (err_causes (subst (λ (n : ℕ). n ≤ e.faults) error_same later) failed)
+      (λ left told.
+      let b = a.ended left told in
+      let lines = last_lines o.reports.trace (of left) in
+      let q = some_shown o.reports.trace (of left) em.held e.held h.machine bus history bus_is b.machine (a.told left told) part in record {
+        output_front = length (cached_report o (of left));
+        output = Appends-append d.output.held mid.held out.held (end_of (of left)).output (take (length (cached_report o (of left))) (cached_report o (of left))) b.output
+            (subst (λ (y : List ℕ). Appends mid.held out.held y) (wrote left told ∙ sym (take-length (cached_report o (of left)))) written);
+        error_front = length (take q.0 lines);
+        error = to_nil d.error.held e.held _ (subst (λ (y : List ℕ). Appends d.error.held e.held ((told_after (of left) (of left).limit).error ++ y)) (sym (seam q.0 lines _))
+            (Appends-append d.error.held em.held e.held (told_after (of left) (of left).limit).error (take q.0 lines) b.error q.1));
+        behind = inr (
+          refl,
+          (λ none. due (last_is o.reports.trace (of left) h.machine bus history bus_is b.machine (a.told left told) ∙ left_empty lines _ none)),
+          same_out ∙ output_same,
+          failed,
+        );
+        input = b.input;
+        fault = refl;
+      })
+    where
+      seam : (j : ℕ) (xs ys : List ℕ) → take (length (take j xs)) (xs ++ ys) ≡ take j xs
+      seam j xs ys =
+          ap (λ (l : List ℕ). take (length (take j xs)) (l ++ ys)) (sym (take-append-drop j xs))
+          ∙ ap (λ (l : List ℕ). take (length (take j xs)) l) (append_assoc (take j xs) (drop j xs) ys) ∙ take-append_seam (take j xs) (drop j xs ++ ys)
+
+      err_causes : d.error.faults ≤ e.faults → Rose d.error.faults e.faults → HasCauses {T = Ending} d (ran_all d i out e ram) (Err refusal.SinkFault)
+      err_causes later rose =
+          let still : out.faults ≡ d.output.faults = same_out ∙ output_same in
+          causes_of d (ran_all d i out e ram) (Err refusal.SinkFault) (no_cause refl (λ x. let bad : ⊥ = cc in bad)) (no_cause quiet.ram_same (λ x. let bad : ⊥ = cc in bad))
+          (record {
+            input = no_cause input_same (λ x. let bad : ⊥ = cc in bad);
+            sinks = record { one_later = omega (arith, still); other_later = later; cause = λ _. inr rose; one_told = inl still; other_told = inr refl };
+          })
+
+  -- both were written
+  pub run_ended : {out e : SinkState} {bus : List AreaData} {x : Ending} → Appends mid.held out.held (board_report o h r) → out.faults ≡ mid.faults → bus ≡ h.machine.bus →
+      Appends em.held e.held (last_told o.reports.trace bus (addresses_in history)) → e.faults ≡ em.faults → x ≡ ending_by h.machine.ending h.machine.pc h.machine.steps →
+      RunsOver o cache v p l d (ran_all d i out e ram) (Ok x)
+  run_ended {out} {e} {bus} {x} written same_out bus_is shown same_err ending = record {
+    done = λ left told.
+        let b = a.ended left told in record {
+          ran = record {
+            ending = ending ∙ ap (λ (m : Machine). ending_by m.ending m.pc m.steps) b.machine;
+            input = b.input;
+            output = Appends-append d.output.held mid.held out.held (end_of (of left)).output (cached_report o (of left)) b.output
+                (subst (λ (y : List ℕ). Appends mid.held out.held y) (wrote left told) written);
+            error = to_nil d.error.held e.held (shown_error o.reports.trace (of left))
+                (all_shown o.reports.trace (of left) d.error.held em.held e.held h.machine bus history bus_is b.machine (a.told left told) b.error shown);
+          };
+          cached = cached_run_is (of left) h r i.left d.output.held mid.held d.error.held em.held d.ram ram b (a.short left told) (a.after left told) (a.counted left);
+        };
+    refused = tt;
+    quiet = tt;
+    failed = tt;
+    beyond = kept;
+    causes = calm_causes d (ran_all d i out e ram) (Ok x) tt refl quiet.ram_same
+        (ap (λ (n : ℕ). record (stream_faults d) { input = i.faults; output = n; error = e.faults }) same_out
+        ∙ ap (λ (n : ℕ). record (stream_faults d) { input = i.faults; output = mid.faults; error = n }) same_err ∙ quiet.streams);
+  }
+
+-- ---- from the run of a file's program to the command's answer
+
+pub keeps_less : (a b : ℕ) (r s : RamState) → a ≤ b → KeepsBeyond a r s → KeepsBeyond b r s
+keeps_less a b r s h k = record {
+  same_length = k.same_length;
+  beyond = λ i from. k.beyond i (omega arith);
+  reached = omega (arith, k.reached);
+}
+
+span_within : (n b : ℕ) → n / (4 * b) * b ≤ n / 4
+span_within n b =
+    let whole : n / (4 * b) * (4 * b) ≤ n = div-mul-le_self n (4 * b) in
+    let apart : n / (4 * b) * (4 * b) ≡ 4 * (n / (4 * b) * b) = omega arith in
+    omega arith
+
+-- the service that is made is that of the kind which the options name
+pub slots_chosen : (cache : CacheOptions) (v : ImageData) (k : Cache) → cache.kind ≡ kind.Slots → k ≡ slotted cache.cache_bytes v → k ≡ cache_for cache v
+slots_chosen cache v k is same = same ∙ sym (ap (λ (x : CacheKind). cache_by x cache.cache_bytes v) is)
+
+pub ring_chosen : (cache : CacheOptions) (v : ImageData) (k : Cache) → cache.kind ≡ kind.Ring → k ≡ ringed cache.cache_bytes → k ≡ cache_for cache v
+ring_chosen cache v k is same = same ∙ sym (ap (λ (x : CacheKind). cache_by x cache.cache_bytes v) is)
+
+-- the run over it is the run in the cache that the options name
+pub in_cache : (o : RunOptions) (cache : CacheOptions) (v : ImageData) (p : ProgramData) (l : Layout) (d m : Devices) (r : Result Ending Refusal) (k : Cache) → k ≡ cache_for cache v →
+    RunsOver o k v p l d m r → RunsOver o (cache_for cache v) v p l d m r
+in_cache o cache v p l d m r k is run = subst (λ (x : Cache). RunsOver o x v p l d m r) is run
+
+-- ---- a file whose program is placed passes every check
+
+pub placed_checks : (file : List ℕ) (limits : RunLimits) (cache : CacheOptions) (l : Layout) (v : ImageData) → length file ≤ file_limit → elf.first_refusal file ≡ None →
+    room_in file limits ≡ Ok l → IsAccepted (subject_checks cache.block_words file) → IsImageFor file cache.block_words (image_in file) v →
+    4 * v.block_words ≤ cache.cache_bytes → IsAccepted (cached_checks limits cache file)
+placed_checks file limits cache l v short accepted room passed own holds =
+    let size : block_words (image_in file) cache.block_words ≡ v.block_words = size_is file cache.block_words (image_in file) v own in
+    run_passes file limits l (subject_checks cache.block_words file ++ (HoldsBlock cache.cache_bytes (least_cache file cache) ∷ [])) short accepted room
+    (last_passes (subject_checks cache.block_words file) (HoldsBlock cache.cache_bytes (least_cache file cache)) passed (omega arith))
+
+pub subject_refused : (file : List ℕ) (limits : RunLimits) (cache : CacheOptions) (l : Layout) (r : Refusal) → length file ≤ file_limit → elf.first_refusal file ≡ None →
+    room_in file limits ≡ Ok l → IsRefusedOr (subject_checks cache.block_words file) r → IsRefusedOr (cached_checks limits cache file) r
+subject_refused file limits cache l r short accepted room why =
+    run_refused file limits l (subject_checks cache.block_words file ++ (HoldsBlock cache.cache_bytes (least_cache file cache) ∷ [])) r short accepted room
+    (front_refused (subject_checks cache.block_words file) (HoldsBlock cache.cache_bytes (least_cache file cache) ∷ []) r why)
+
+pub block_refused : (file : List ℕ) (limits : RunLimits) (cache : CacheOptions) (l : Layout) (v : ImageData) (r : Refusal) → length file ≤ file_limit → elf.first_refusal file ≡ None →
+    room_in file limits ≡ Ok l → IsAccepted (subject_checks cache.block_words file) → IsImageFor file cache.block_words (image_in file) v →
+    Fails (HoldsBlock cache.cache_bytes (4 * v.block_words)) r → IsRefusedOr (cached_checks limits cache file) r
+block_refused file limits cache l v r short accepted room passed own fails =
+    let size : 4 * v.block_words ≡ least_cache file cache = ap (λ (n : ℕ). 4 * n) (sym (size_is file cache.block_words (image_in file) v own)) in
+    run_refused file limits l (subject_checks cache.block_words file ++ (HoldsBlock cache.cache_bytes (least_cache file cache) ∷ [])) r short accepted room
+    (inr (last_fails (subject_checks cache.block_words file) (HoldsBlock cache.cache_bytes (least_cache file cache)) r passed
+    (subst (λ (n : ℕ). Fails (HoldsBlock cache.cache_bytes n) r) size fails)))
+
+-- ---- what the command answers
+
+-- either cache lies in its bytes
+span_of_kind : (k : CacheKind) (bytes : ℕ) (v : ImageData) → (cache_by k bytes v).span ≤ bytes / 4
+span_of_kind kind.Slots bytes v = span_within bytes v.block_words
+span_of_kind kind.Ring bytes v = omega arith
+
+pub keeps_run : (cache : CacheOptions) (v : ImageData) (r s : RamState) → KeepsBeyond (cache_for cache v).span r s → KeepsBeyond (cache.cache_bytes / 4) r s
+keeps_run cache v r s k = keeps_less _ _ r s (span_of_kind cache.kind cache.cache_bytes v) k
+
+-- the devices after the command
+abbrev pub cached_to : Devices → ShelfState → SourceState → SinkState → SinkState → RamState → Devices
+cached_to d s i out e ram = record d { shelf = s; input = i; output = out; error = e; ram = ram }
+
+done_again : (o : RunOptions) (r : CachedRun) (d m : Devices) (s : ShelfState) (e : Ending) → RunsCached o r (record d { shelf = s }) m e [] → RunsCached o r d m e []
+done_again o r d m s e h = record {
+  ran = let a = h.ran in record { ending = a.ending; input = a.input; output = a.output; error = a.error };
+  cached = h.cached;
+}
+
+left_again : (o : RunOptions) (k : CachedRun) (d m : Devices) (s : ShelfState) (r : Refusal) → CachedFailed o k (record d { shelf = s }) m r [] → CachedFailed o k d m r []
+left_again o k d m s r h = failed_so o k d m r [] (elim h.broke [
+  | inl a ↦ inl (record {
+    fault = a.fault;
+    fetched = a.fetched;
+    fetches = a.fetches;
+    steps = a.steps;
+    within = a.within;
+    enough = a.enough;
+    longest = a.longest;
+    output = a.output;
+    begun = a.begun;
+    error = a.error;
+    input = a.input;
+    last_failed = a.last_failed;
+  })
+  | inr b ↦ inr (elim b [
+    | inl a ↦ inl (record {
+      steps = a.steps;
+      fewer = a.fewer;
+      failed = let f = a.failed in record {
+        fault = f.fault;
+        going = f.going;
+        output = f.output;
+        error_front = f.error_front;
+        error = f.error;
+        source = f.source;
+        unasked = f.unasked;
+        taken = f.taken;
+        no_more = f.no_more;
+        input = f.input;
+      };
+    })
+    | inr p ↦ let a = p.0 in inr (record { output_front = a.output_front; output = a.output; error_front = a.error_front; error = a.error; behind = a.behind; input = a.input; fault = a.fault }, p.1)
+  ])
+]) h.fetched_at
+
+pub run_err_not : (r s : Refusal) → IsRunErr r → (IsRunErr s → ⊥) → IsErrOf {T = Ending} (Err r) s → ⊥
+run_err_not r s h never e = never (let p : r ≡ s = cc in subst IsRunErr p h)
+
+pub run_err_size : (r : Refusal) → IsRunErr r → IsSizeRefusal r → ⊥
+run_err_size (refusal.CacheLarge bytes) h f = h
+run_err_size (refusal.RamSmall bytes held) h f = h
+run_err_size _ h f = f
+
+pub run_err_asked : (failed : Option Asked) (r : Refusal) → IsRunErr r → IsAskedFor 1 0 failed (Err r) 1 0
+run_err_asked failed refusal.SourceFault h = (refl, refl)
+run_err_asked failed refusal.SinkFault h = (refl, refl)
+run_err_asked failed refusal.RamFault h = (refl, refl)
+run_err_asked failed refusal.Memory h = (omega arith, omega arith, λ _. refl)
+run_err_asked failed _ h = absurd h
+
+pub run_err_checked : (checks : List Check) (last : Option Asked) (r : Refusal) → IsRunErr r → IsAccepted checks → IsChecked checks last (Err r)
+run_err_checked checks last refusal.SourceFault h passed = passed
+run_err_checked checks last refusal.SinkFault h passed = passed
+run_err_checked checks last refusal.RamFault h passed = passed
+run_err_checked checks last refusal.Memory h passed = tt
+run_err_checked checks last _ h passed = absurd h
+
+-- either way
+pub cached_answers : (name : List ℕ) (cache : CacheOptions) (o : RunOptions) (d : Devices) (s : ShelfState) (i : SourceState) (out e : SinkState) (ram : RamState) (bytes : List ℕ) (v : ImageData) (l : Layout) (r : Result Ending Refusal) →
+    size_refusal cache.cache_bytes (length d.ram.words) ≡ None → IsRead d.shelf s name bytes → IsAccepted (cached_checks o.limits cache bytes) →
+    IsImageFor bytes cache.block_words (image_in bytes) v → room_in bytes o.limits ≡ Ok l →
+    RunsOver o (cache_for cache v) v (program_of_file bytes) l (record d { shelf = s }) (cached_to d s i out e ram) r →
+    Answers (cached_task name cache o) d (cached_to d s i out e ram) r []
+cached_answers name cache o d s i out e ram bytes v l (Ok x) size read accepted own room run =
+    let m : Devices = cached_to d s i out e ram in record {
+      asked = λ y. let bad : ⊥ = cc in bad;
+      sized = sized_along (size_refusal cache.cache_bytes (length d.ram.words)) (Ok x) size (sized_ok x);
+      checked = λ file told. subst (λ (f : List ℕ). IsAccepted (cached_checks o.limits cache f)) (told_is d.shelf.contents name file bytes told read.stands) accepted;
+      ended = tt;
+      done = λ file told. subst (λ (f : List ℕ). (cached_task name cache o).does f d m x []) (told_is d.shelf.contents name file bytes told read.stands) (
+        v,
+        own,
+        run.beyond,
+        λ input left. done_again o _ d m s x
+            (subst (λ (q : FlatState). RunsCached o (cached_run (cache_for cache v) o v q) (record d { shelf = s }) m x []) (start_is o bytes input l room) (run.done input left)),
+      );
+      failed = tt;
+      refused = tt;
+      shelf = keeps_read (cached_task name cache o) d.shelf s name bytes (Ok x) refl read (refl, refl) (λ y. let never : ⊥ = cc in never);
+      ram = keeps_run cache v d.ram ram run.beyond;
+      causes = causes_behind d s m (Ok x) read.faults run.causes;
+    }
+cached_answers name cache o d s i out e ram bytes v l (Err r) size read accepted own room run =
+    let m : Devices = cached_to d s i out e ram in record {
+      asked = run_err_not r refusal.Usage run.refused (λ x. x);
+      sized = sized_along (size_refusal cache.cache_bytes (length d.ram.words)) (Err r) size (sized_err r (run_err_size r run.refused));
+      checked = λ file told. subst (λ (f : List ℕ). IsChecked (cached_checks o.limits cache f) s.last_failed (Err r)) (told_is d.shelf.contents name file bytes told read.stands)
+          (run_err_checked (cached_checks o.limits cache bytes) s.last_failed r run.refused accepted);
+      ended = tt;
+      done = tt;
+      failed = λ fault file told. subst (λ (f : List ℕ). (cached_task name cache o).fails f d m r []) (told_is d.shelf.contents name file bytes told read.stands) (
+        v,
+        own,
+        run.beyond,
+        λ input left. left_again o _ d m s r
+            (subst (λ (q : FlatState). CachedFailed o (cached_run (cache_for cache v) o v q) (record d { shelf = s }) m r []) (start_is o bytes input l room) (run.failed fault input left)),
+      );
+      refused = λ never. let same_all : m ≡ record d { shelf = s } = run.quiet never in (
+        record { input = ap (λ (y : Devices). y.input) same_all; output = ap (λ (y : Devices). y.output) same_all; ram = ap (λ (y : Devices). y.ram) same_all },
+        subst (λ (y : SinkState). Appends d.error.held y.held []) (sym (ap (λ (y : Devices). y.error) same_all)) (Appends-none d.error.held),
+      );
+      shelf = keeps_read (cached_task name cache o) d.shelf s name bytes (Err r) refl read (run_err_asked s.last_failed r run.refused) (run_err_not r refusal.ShelfFault run.refused (λ x. x));
+      ram = keeps_run cache v d.ram ram run.beyond;
+      causes = causes_behind d s m (Err r) read.faults run.causes;
+    }
+
+-- ---- the last line behind it
+
+ram_line : (c : CachedRun) (d m : Devices) (r : Refusal) (held : Option (List ℕ)) (line : List ℕ) →
+    RamBroke c d m r [] → Appends m.error.held held line → RamBroke c d (holds_then m held) r line
+ram_line c d m r held line h p = record {
+  fault = h.fault;
+  fetched = h.fetched;
+  fetches = h.fetches;
+  steps = h.steps;
+  within = h.within;
+  enough = h.enough;
+  longest = h.longest;
+  output = h.output;
+  begun = h.begun;
+  error = appends_last d.error.held m.error.held held ((told_after c h.steps).error ++ (if h.begun then told_line c.trace (program_after c h.steps).machine else [])) line h.error p;
+  input = h.input;
+  last_failed = h.last_failed;
+}
+
+pub cached_lined : (name : List ℕ) (cache : CacheOptions) (o : RunOptions) → IsLined (cached_task name cache o)
+cached_lined name cache o = record {
+  done = λ file d m e error is h p same. (
+    h.0,
+    h.1,
+    h.2,
+    λ input left. let r = h.3 input left in record { ran = ran_line _ _ d m e error (ending_line e) r.ran p; cached = r.cached },
+  );
+  failed = λ file d m r held line h p. (
+    h.0,
+    h.1,
+    h.2,
+    λ input is. let f = h.3 input is in record {
+      broke = elim f.broke [
+        | inl a ↦ inl (ram_line (cached_run (cache_for cache h.0) o h.0 (start_of o file input)) d m r held line a p)
+        | inr b ↦ inr (elim b [
+          | inl a ↦ inl (at_step_line (told_after (cached_run (cache_for cache h.0) o h.0 (start_of o file input))) _ _ _ o.limits.steps d m r held line a p)
+          | inr a ↦ inr (after_run_line _ _ _ d m r held line a.0 p, a.1)
+        ])
+      ];
+      fetched_at = f.fetched_at;
+      flat = f.flat;
+      stops = f.stops;
+    },
+  );
+  unended = λ file d m e error is h p never same rose. (
+    h.0,
+    h.1,
+    h.2,
+    λ input left.
+        let r = h.3 input left in
+        let c = cached_run (cache_for cache h.0) o h.0 (start_of o file input) in record { broke = inr (inr (after_line (told_after c c.limit) (shown_error o.reports.trace c) _ (last_lines o.reports.trace c) d m e error (shown_split o.reports.trace c) r.ran p never same rose, r.cached.ram)); fetched_at = all_words c d.ram m.ram r.cached.ram; flat = r.cached.flat; stops = r.cached.stops },
+  );
+  unwritten = λ e out is never named. let bad : ⊥ = cc in bad;
+}

@@ -1,0 +1,59 @@
+use Rattle.std.proofs.lemmas.Result.{err_from_is_err_and}
+use Rattle.swi_cached_command.proofs.Caching.{ending_is, handed_on, lines_broke, quiet_run, report_broke, run_ended, run_stopped}
+use Rattle.swi_task.proofs.Images.{let_through}
+use Rattle.swi_cached_command.proofs.command.run_over.Goals as goal
+
+pub returns-in_err-ended : goal.returns-in_err-ended
+returns-in_err-ended g c =
+    let p = err_from_is_err_and c.from_residual.result c.from_residual.ensures.1 in
+    let stopped = handed_on _ _ c.in_err-ended.ensures.cases in
+    let e = c.run_cached.ensures in
+    let broke = rw stopped.1 at e.step_failed in
+    rw (p.1, p.2) (λ d.
+    run_stopped stopped.0 c.in_err-ended.field-0.0 stopped.2 e.kept (rw stopped.1 at e.fetched_at) (rw stopped.1 at e.memory) (rw stopped.1 at e.ram_failed)
+    broke (record { streams = rw stopped.1 at e.causes; ram_cause = rw stopped.1 at e.ram_cause }))
+
+pub returns-in_default : goal.returns-in_default
+returns-in_default g c = λ d.
+    let e = c.run_cached.ensures in
+    let is = c.in_ok-ended.ensures.cases in
+    let broke = c.in_default.ensures in
+    report_broke (record {
+      ended = let_through _ _ _ e.ended is;
+      told = let_through _ _ _ e.told is;
+      short = let_through _ _ _ e.short is;
+      after = let_through _ _ _ e.ram is;
+      counted = let_through _ _ _ e.counted is;
+    })
+    e.kept (quiet_run _ _ (record { streams = e.causes; ram_cause = e.ram_cause }) is) broke.bytes broke.asked broke.cause.later broke.cause.failed
+
+pub returns-in-Ok-write_last : goal.returns-in-Ok-write_last
+returns-in-Ok-write_last g c = λ d.
+    let e = c.run_cached.ensures in
+    let is = c.in_ok-ended.ensures.cases in
+    let wrote = c.in-Ok.ensures in
+    let shown = c.in-Ok-write_last.ensures in
+    run_ended (record {
+      ended = let_through _ _ _ e.ended is;
+      told = let_through _ _ _ e.told is;
+      short = let_through _ _ _ e.short is;
+      after = let_through _ _ _ e.ram is;
+      counted = let_through _ _ _ e.counted is;
+    })
+    e.kept (quiet_run _ _ (record { streams = e.causes; ram_cause = e.ram_cause }) is) wrote.bytes wrote.cause.quiet c.bus.ensures shown.bytes shown.cause.quiet
+    (ending_is c.ending_by.ensures c.ending.ensures c.origin_pc.ensures c.steps.ensures)
+
+pub returns : goal.returns
+returns g c = λ d.
+    let e = c.run_cached.ensures in
+    let is = c.in_ok-ended.ensures.cases in
+    let wrote = c.in-Ok.ensures in
+    let broke = c.in-Err.ensures in
+    lines_broke (record {
+      ended = let_through _ _ _ e.ended is;
+      told = let_through _ _ _ e.told is;
+      short = let_through _ _ _ e.short is;
+      after = let_through _ _ _ e.ram is;
+      counted = let_through _ _ _ e.counted is;
+    })
+    e.kept (quiet_run _ _ (record { streams = e.causes; ram_cause = e.ram_cause }) is) wrote.bytes wrote.cause.quiet c.bus.ensures broke.bytes broke.asked broke.cause.later broke.cause.failed

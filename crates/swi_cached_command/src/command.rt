@@ -1,0 +1,225 @@
+//! The commands `cached` and `trace`: a run on the cached machine.
+#![tactic(auto)]
+
+ghost use Rattle.std.specs.Prelude.{◌≡◌, ◌*◌, ◌^◌, ◌≤◌, IfOk, IfErr, OnOk, [], length};
+ghost use Rattle.swi_command.specs.CommandLine.{IsCacheInRange, IsInRange};
+ghost use Rattle.swi_program.specs.Layout.{IsLayoutOf};
+ghost use Rattle.swi_program.specs.Text.{text_of};
+ghost use Rattle.swi_render.specs.ImageOf.{IsImageOf};
+ghost use Rattle.swi_rom.specs.Service.{cache_of};
+ghost use Rattle.swi_cached.specs.Cached.{IsFresh};
+ghost use Rattle.swi_task.specs.Answers.{Answers};
+ghost use Rattle.swi_cached_command.specs.Caching.{cache_for};
+ghost use Rattle.swi_task.specs.Checks.{IsAccepted, IsRefusedOr, file_limit};
+ghost use Rattle.swi_task.specs.Devices.{Devices, seen};
+ghost use Rattle.swi_cached_command.specs.RunCached.{IsPlaced, RunsOver, cached_checks, refusal_of, cached_task};
+ghost use Rattle.swi_task.specs.Subject.{view_of};
+
+use crate::report::report_board;
+use crate::trace::write_last;
+use std::alloc::Global;
+use swi_answer::{Ending, Refusal};
+use swi_cached::{AskedRun, CachedStop, ring_for, run_cached, slots_for};
+use swi_command::{CacheKind, CacheOptions, RunLimits, RunOptions};
+use swi_image::ImageView;
+use swi_memory::Layout;
+use swi_micro::MicroRam;
+use swi_outside::{Shelf, Sink, Source};
+use swi_program::Program;
+use swi_rom::CacheRom;
+use swi_task::{
+    Prepared, Subject, SubjectImage, accept, check_block, check_size, ending_by, prepare,
+    read_file, subject_of,
+};
+
+/// What a run is refused with that stopped so.
+fn refusal_of(stop: CachedStop) -> Refusal
+    ensures { result ≡ refusal_of stop }
+{
+    match stop {
+        CachedStop::Memory => Refusal::Memory,
+        CachedStop::RamFault => Refusal::RamFault,
+        CachedStop::SourceFault => Refusal::SourceFault,
+        CachedStop::SinkFault => Refusal::SinkFault,
+    }
+}
+
+/// Runs a program on the cached machine over a service that has done nothing yet, and writes what is asked for of its steps
+/// and of its end.
+fn run_over<I: Source, O: Sink, E: Sink, R: MicroRam, S: CacheRom>(
+    alloc: Global,
+    image: &ImageView<'_>,
+    program: &Program<'_>,
+    layout: &Layout,
+    rom: S,
+    options: &RunOptions,
+    input: &mut I,
+    out: &mut O,
+    err: &mut E,
+    ram: &mut R,
+) -> Result<Ending, Refusal>
+    requires ranges { IsInRange options.now.limits }
+    requires sound { S.service.sound rom image.now (R.state ram.old).words }
+    requires fresh { IsFresh (S.service.kept rom) }
+    requires laid_out { IsLayoutOf program.now.segments layout.now }
+    requires own { IsImageOf (text_of program.now.segments) image.now }
+    ensures { (d : Devices) → RunsOver options.now (cache_of S.service rom) image.now program.now layout.now
+        (record d { input = I.state input.old; output = O.state out.old; error = E.state err.old; ram = R.state ram.old })
+        (record d { input = I.state input.new; output = O.state out.new; error = E.state err.new; ram = R.state ram.new }) result }
+{
+    let reports = &options.reports;
+    let asked = AskedRun {
+        limit: options.limits.steps,
+        calls: reports.calls,
+        trace: reports.trace,
+    };
+    let ended = run_cached(
+        alloc, image, program, layout, rom, asked, input, out, err, ram,
+    )
+    .map_err(refusal_of)?;
+    let (board, history) = (&ended.0, &ended.1);
+    let Ok(()) = report_board(reports, board, out) else {
+        return Err(Refusal::SinkFault);
+    };
+    match write_last(reports.trace, history, board.bus(), err) {
+        Ok(()) => Ok(ending_by(board.ending(), board.origin_pc(), board.steps())),
+        Err(_) => Err(Refusal::SinkFault),
+    }
+}
+
+/// Runs a program on the cached machine, in the cache that the options name.
+fn run_program<I: Source, O: Sink, E: Sink, R: MicroRam>(
+    alloc: Global,
+    image: &ImageView<'_>,
+    program: &Program<'_>,
+    layout: &Layout,
+    cache: &CacheOptions,
+    options: &RunOptions,
+    input: &mut I,
+    out: &mut O,
+    err: &mut E,
+    ram: &mut R,
+) -> Result<Ending, Refusal>
+    requires ranges { IsInRange options.now.limits }
+    requires holds { 4 * image.now.block_words ≤ cache.now.cache_bytes }
+    requires most { cache.now.cache_bytes ≤ 2 ^ 23 }
+    requires held { cache.now.cache_bytes ≤ 4 * length (R.state ram.old).words }
+    requires laid_out { IsLayoutOf program.now.segments layout.now }
+    requires own { IsImageOf (text_of program.now.segments) image.now }
+    ensures { (d : Devices) → RunsOver options.now (cache_for cache.now image.now) image.now program.now layout.now
+        (record d { input = I.state input.old; output = O.state out.old; error = E.state err.old; ram = R.state ram.old })
+        (record d { input = I.state input.new; output = O.state out.new; error = E.state err.new; ram = R.state ram.new }) result }
+{
+    match cache.kind {
+        CacheKind::Slots => {
+            let Ok(rom) = slots_for(alloc, image, cache.cache_bytes) else {
+                return Err(Refusal::Memory);
+            };
+            run_over(
+                alloc, image, program, layout, rom, options, input, out, err, ram,
+            )
+        }
+        CacheKind::Ring => {
+            let Ok(rom) = ring_for(alloc, image, cache.cache_bytes) else {
+                return Err(Refusal::Memory);
+            };
+            run_over(
+                alloc, image, program, layout, rom, options, input, out, err, ram,
+            )
+        }
+    }
+}
+
+/// A subject with the layout of its program.
+#[derive(Drop)]
+pub struct Placed<'a> {
+    pub subject: Subject<'a>,
+    pub layout: Layout,
+}
+
+/// The program of a file with its layout, and with the image that the file has or else the greedy cut of its text: the
+/// file passes every check of a run in this cache.
+pub fn place<'a>(
+    alloc: Global,
+    file: &'a [u8],
+    cache: &CacheOptions,
+    limits: &RunLimits,
+) -> Result<Placed<'a>, Refusal>
+    requires within { length file.now ≤ file_limit }
+    requires ranges { IsInRange limits.now }
+    requires sizes { IsCacheInRange cache.now }
+    ensures placed { IfOk result (IsPlaced file.now limits.now cache.now) }
+    ensures accepted { OnOk result (IsAccepted (cached_checks limits.now cache.now file.now)) }
+    ensures refused { IfErr result (IsRefusedOr (cached_checks limits.now cache.now file.now)) }
+{
+    let elf = accept(file)?;
+    let Prepared { program, layout } = prepare(alloc, &elf, limits)?;
+    let subject = subject_of(alloc, &elf, program, cache.block_words)?;
+    check_block(cache.cache_bytes, subject.block_words())?;
+    Ok(Placed { subject, layout })
+}
+
+/// Runs a placed program on the cached machine, in the cache that the options name.
+fn run_placed<I: Source, O: Sink, E: Sink, R: MicroRam>(
+    alloc: Global,
+    placed: &Placed<'_>,
+    cache: &CacheOptions,
+    options: &RunOptions,
+    input: &mut I,
+    out: &mut O,
+    err: &mut E,
+    ram: &mut R,
+) -> Result<Ending, Refusal>
+    requires ranges { IsInRange options.now.limits }
+    requires holds { 4 * (view_of placed.now.subject.image).block_words ≤ cache.now.cache_bytes }
+    requires most { cache.now.cache_bytes ≤ 2 ^ 23 }
+    requires held { cache.now.cache_bytes ≤ 4 * length (R.state ram.old).words }
+    requires laid_out { IsLayoutOf placed.now.subject.program.segments placed.now.layout }
+    requires own { IsImageOf (text_of placed.now.subject.program.segments) (view_of placed.now.subject.image) }
+    ensures { (d : Devices) → RunsOver options.now (cache_for cache.now (view_of placed.now.subject.image)) (view_of placed.now.subject.image) placed.now.subject.program placed.now.layout
+        (record d { input = I.state input.old; output = O.state out.old; error = E.state err.old; ram = R.state ram.old })
+        (record d { input = I.state input.new; output = O.state out.new; error = E.state err.new; ram = R.state ram.new }) result }
+{
+    let (program, layout) = (&placed.subject.program, &placed.layout);
+    match &placed.subject.image {
+        SubjectImage::Own(image) => run_program(
+            alloc, image, program, layout, cache, options, input, out, err, ram,
+        ),
+        SubjectImage::Cut(image) => run_program(
+            alloc,
+            &image.view(),
+            program,
+            layout,
+            cache,
+            options,
+            input,
+            out,
+            err,
+            ram,
+        ),
+    }
+}
+
+/// Runs the program of a file on the cached machine.
+pub fn cached<F: Shelf, I: Source, O: Sink, E: Sink, R: MicroRam>(
+    alloc: Global,
+    name: &str,
+    cache: &CacheOptions,
+    options: &RunOptions,
+    shelf: &mut F,
+    input: &mut I,
+    out: &mut O,
+    err: &mut E,
+    ram: &mut R,
+) -> Result<Ending, Refusal>
+    requires ranges { IsInRange options.now.limits }
+    requires sizes { IsCacheInRange cache.now }
+    ensures { Answers (cached_task name.now cache.now options.now)
+        (seen (F.state shelf.old) (I.state input.old) (O.state out.old) (E.state err.old) (R.state ram.old))
+        (seen (F.state shelf.new) (I.state input.new) (O.state out.new) (E.state err.new) (R.state ram.new)) result [] }
+{
+    check_size(cache.cache_bytes, ram)?;
+    let file = read_file(alloc, shelf, name)?;
+    let placed = place(alloc, &file, cache, &options.limits)?;
+    run_placed(alloc, &placed, cache, options, input, out, err, ram)
+}

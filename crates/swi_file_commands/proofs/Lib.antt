@@ -1,0 +1,5 @@
+pub mod Confirming
+pub mod Listings
+pub mod Running
+pub mod Flats
+pub mod Written

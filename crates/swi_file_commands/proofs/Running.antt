@@ -1,0 +1,182 @@
+-- A run on the flat machine, from what its functions say.
+use Rattle.std.proofs.Common.{◌≡◌, ◌⊎◌, inl, inr, ℕ, ◌-◌, ◌<◌, ◌≤◌, List, [], ◌++◌, length, take, Option, None, Some, Ok, Err, IsErrOf, refl, sym, ◌∙◌, subst, ap, arith}
+use Rattle.std.proofs.lemmas.List.{append-nil}
+use Rattle.std.specs.Option.{ForSome}
+use Rattle.std.specs.Io.KnownBytes.{Appends}
+use Rattle.swi_outside.specs.Laws.{Appends-append, named_as, no_cause}
+use Rattle.swi_outside.specs.Causes.{Rose}
+use Rattle.swi_outside.specs.Sink.{AppendsPrefix, AppendsThenPrefix, SinkState}
+use Rattle.swi_outside.specs.Source.{SourceState}
+use Rattle.swi_memory.specs.Bus.{AreaData}
+use Rattle.swi_calls.specs.declared.machine.Machine.{Machine}
+use Rattle.swi_calls.specs.declared.end.CallFault.{CallFault}
+use Rattle.swi_calls.specs.declared.end.CallFault.TheVariants as call
+use Rattle.swi_outside.specs.Devices as outside
+use Rattle.swi_calls.specs.Flat.{flat_run, machine_of, started}
+use Rattle.swi_calls.specs.State.{FlatState}
+use Rattle.swi_board.specs.Ran.{Unasked}
+use Rattle.swi_flat.specs.FlatData.{FlatData, FillsFront, next_made, state_at, stopped, unfailed}
+use Rattle.swi_memory.specs.declared.layout.Layout.{Layout}
+use Rattle.swi_program.specs.Program.{ProgramData}
+use Rattle.swi_command.specs.declared.command.RunOptions.{RunOptions}
+use Rattle.swi_answer.specs.declared.answer.Ending.{Ending}
+use Rattle.swi_answer.specs.declared.answer.Refusal.{Refusal}
+use Rattle.swi_answer.specs.declared.answer.Refusal.TheVariants as refusal
+use Rattle.swi_task.specs.Devices.{Devices, stream_faults}
+use Rattle.swi_task.specs.Causes.{HasCauses}
+use Rattle.swi_file_commands.specs.RunPlain.{RunsPlain, plain_report, read_room_of, run_from}
+use Rattle.swi_task.specs.Runs.{FailedAfterRun, Ran, StepFailed, ending_by, report}
+use Rattle.swi_task.proofs.Refusals.{calm_causes, causes_of, out_causes}
+
+-- as many steps as are counted, from a machine that has made none
+pub from_none : (m : Machine) (n : ℕ) (left : List ℕ) → m.steps ≡ 0 → state_at n m left ≡ flat_run n (started m left)
+from_none m n left e = let same : n - m.steps ≡ n = omega arith in ap (λ (k : ℕ). flat_run k (started m left)) same
+
+-- the fault of a device
+abbrev pub refusal_of : CallFault → Refusal
+refusal_of call.SourceFault = refusal.SourceFault
+refusal_of call.SinkFault = refusal.SinkFault
+
+named : (f : CallFault) → (refusal_of f ≡ refusal.SourceFault) ⊎ (refusal_of f ≡ refusal.SinkFault)
+named call.SourceFault = inl refl
+named call.SinkFault = inr refl
+
+source_is : (f : CallFault) → refusal_of f ≡ refusal.SourceFault → f ≡ call.SourceFault
+source_is call.SourceFault e = refl
+source_is call.SinkFault e = let never : ⊥ = cc in absurd never
+
+-- the step that failed
+pub step_failed : {T : Type 0} (f : CallFault) (s : FlatState) (bus : List AreaData) (before after : Devices) →
+    s.machine.ending ≡ None → AppendsThenPrefix before.output.held after.output.held s.output (next_made s).output →
+    AppendsThenPrefix before.error.held after.error.held s.error (next_made s).error →
+    (IsErrOf {T = T} (Err f) call.SourceFault → Appends before.output.held after.output.held s.output × Appends before.error.held after.error.held s.error) →
+    FillsFront s bus after.input.left → Unasked (next_made s) (stream_faults before) (stream_faults after) → StepFailed s s.error (next_made s) (read_room_of s) before after (refusal_of f) []
+step_failed {T} f s bus before after going output error source front unasked = record {
+  fault = named f;
+  going = going;
+  output = output;
+  error_front = error.0;
+  error = subst (λ (x : List ℕ). Appends before.error.held after.error.held x) (sym (append-nil (s.error ++ take error.0 (next_made s).error))) error.1;
+  source = λ e. let both = source (let same : f ≡ call.SourceFault = source_is f e in subst (λ (x : CallFault). IsErrOf {T = T} (Err x) call.SourceFault) (sym same) refl) in
+      (both.0, subst (λ (x : List ℕ). Appends before.error.held after.error.held x) (sym (append-nil s.error)) both.1);
+  unasked = unasked;
+  taken = front.2.bytes;
+  no_more = let size : length front.2.bytes ≡ front.0 = front.2.number in let room : front.0 ≤ read_room_of s = front.1 in omega arith;
+  input = front.2.consumed;
+}
+
+-- the devices after a run: all but what it isn't handed
+abbrev pub run_to : Devices → SourceState → SinkState → SinkState → Devices
+run_to d i o e = record d { input = i; output = o; error = e }
+
+-- causes of a run, beside devices that it isn't handed
+pub run_causes : {T U : Type 0} (f : CallFault) (d : Devices) (i : SourceState) (o e : SinkState) →
+    outside.HasCauses (stream_faults d) (stream_faults (run_to d i o e)) (IsErrOf {T = T} (Err f) call.SourceFault) (IsErrOf {T = T} (Err f) call.SinkFault) →
+    HasCauses {T = U} d (run_to d i o e) (Err (refusal_of f))
+run_causes {T} {U} call.SourceFault d i o e h =
+    causes_of d (run_to d i o e) (Err refusal.SourceFault) (no_cause refl (λ x. let never : ⊥ = cc in never)) (no_cause refl (λ x. let never : ⊥ = cc in never))
+    (named_as h (λ _. refl) (λ _. refl) (λ x. let never : ⊥ = cc in absurd never) (λ x. let never : ⊥ = cc in absurd never))
+run_causes {T} {U} call.SinkFault d i o e h =
+    causes_of d (run_to d i o e) (Err refusal.SinkFault) (no_cause refl (λ x. let never : ⊥ = cc in never)) (no_cause refl (λ x. let never : ⊥ = cc in never))
+    (named_as h (λ x. let never : ⊥ = cc in absurd never) (λ x. let never : ⊥ = cc in absurd never) (λ _. refl) (λ _. refl))
+
+-- a run that is not begun yet, by its machine
+start_same : (o : RunOptions) (p : ProgramData) (l : Layout) (f : FlatData) (n : ℕ) (left : List ℕ) → f ≡ unfailed (machine_of p l o.reports.calls) →
+    state_at n f.machine left ≡ run_from o p l left n
+start_same o p l f n left is =
+    ap (λ (x : FlatData). state_at n x.machine left) is ∙ from_none (machine_of p l o.reports.calls) n left refl
+
+kind_of : (f : CallFault) → (refusal_of f ≡ refusal.SourceFault) ⊎ ((refusal_of f ≡ refusal.SinkFault) ⊎ (refusal_of f ≡ refusal.Memory))
+kind_of call.SourceFault = inl refl
+kind_of call.SinkFault = inr (inl refl)
+
+not_memory : {T : Type 0} (f : CallFault) → IsErrOf {T = T} (Err (refusal_of f)) refusal.Memory → ⊥
+not_memory call.SourceFault e = let bad : ⊥ = cc in bad
+not_memory call.SinkFault e = let bad : ⊥ = cc in bad
+
+pub run_failed : {T : Type 0} (f : CallFault) (o : RunOptions) (p : ProgramData) (l : Layout) (first new : FlatData) (d : Devices) (i : SourceState) (out e : SinkState) →
+    first ≡ unfailed (machine_of p l o.reports.calls) → new.machine.ending ≡ None → new.machine.steps < o.limits.steps →
+    ForSome d.input.left (λ left. new ≡ stopped (state_at new.machine.steps first.machine left).machine new.machine.bus) →
+    ForSome d.input.left (λ left. FillsFront (state_at new.machine.steps first.machine left) new.machine.bus i.left) →
+    ForSome d.input.left (λ left. AppendsThenPrefix d.output.held out.held (state_at new.machine.steps first.machine left).output (next_made (state_at new.machine.steps first.machine left)).output) →
+    ForSome d.input.left (λ left. AppendsThenPrefix d.error.held e.held (state_at new.machine.steps first.machine left).error (next_made (state_at new.machine.steps first.machine left)).error) →
+    (IsErrOf {T = T} (Err f) call.SourceFault → ForSome d.input.left (λ left.
+    Appends d.output.held out.held (state_at new.machine.steps first.machine left).output × Appends d.error.held e.held (state_at new.machine.steps first.machine left).error)) →
+    ForSome d.input.left (λ left. (next_made (state_at new.machine.steps first.machine left)).output ≡ [] → out.faults ≡ d.output.faults) →
+    ForSome d.input.left (λ left. (next_made (state_at new.machine.steps first.machine left)).error ≡ [] → e.faults ≡ d.error.faults) →
+    outside.HasCauses (stream_faults d) (stream_faults (run_to d i out e))
+    (IsErrOf {T = T} (Err f) call.SourceFault) (IsErrOf {T = T} (Err f) call.SinkFault) →
+    RunsPlain o p l d (run_to d i out e) (Err (refusal_of f))
+run_failed {T} f o p l first new d i out e first_is going fewer stays front output error source unasked_output unasked_error causes = record {
+  done = tt;
+  refused = kind_of f;
+  memory = λ x. absurd (not_memory f x);
+  failed = λ _ input left. inl (record {
+    steps = new.machine.steps;
+    fewer = fewer;
+    failed =
+        let state = state_at new.machine.steps first.machine input in
+        let ended : state.machine.ending ≡ None = sym (ap (λ (x : FlatData). x.machine.ending) (stays input left)) ∙ going in
+        subst (λ (s : FlatState). StepFailed s s.error (next_made s) (read_room_of s) d (run_to d i out e) (refusal_of f) [])
+        (start_same o p l first new.machine.steps input first_is)
+        (step_failed {T = T} f state new.machine.bus d (run_to d i out e) ended (output input left) (error input left) (λ x. source x input left) (front input left)
+        (record { output = unasked_output input left; error = unasked_error input left }));
+  });
+  causes = run_causes {T = T} {U = Ending} f d i out e causes;
+}
+
+-- the run came to its end, and the report was written
+pub run_done : (o : RunOptions) (p : ProgramData) (l : Layout) (first new : FlatData) (d : Devices) (i : SourceState) (mid : Option (List ℕ)) (out e : SinkState) (x : Ending) →
+    first ≡ unfailed (machine_of p l o.reports.calls) →
+    ForSome d.input.left (λ left. new ≡ unfailed (state_at o.limits.steps first.machine left).machine) →
+    ForSome d.input.left (λ left. i.left ≡ Some (state_at o.limits.steps first.machine left).input) →
+    ForSome d.input.left (λ left. Appends d.output.held mid (state_at o.limits.steps first.machine left).output) →
+    ForSome d.input.left (λ left. Appends d.error.held e.held (state_at o.limits.steps first.machine left).error) →
+    x ≡ ending_by new.machine.ending new.machine.pc new.machine.steps → Appends mid out.held (report o.reports new.machine None) →
+    stream_faults (run_to d i out e) ≡ stream_faults d → RunsPlain o p l d (run_to d i out e) (Ok x)
+run_done o p l first new d i mid out e x first_is machine input output error ending written still = record {
+  done = λ left told.
+      let state = state_at o.limits.steps first.machine left in
+      let same : new.machine ≡ state.machine = ap (λ (y : FlatData). y.machine) (machine left told) in
+      subst (λ (s : FlatState). Ran s (plain_report o s) d (run_to d i out e) x []) (start_same o p l first o.limits.steps left first_is) (record {
+        ending = ending ∙ ap (λ (m : Machine). ending_by m.ending m.pc m.steps) same;
+        input = input left told;
+        output = Appends-append d.output.held mid out.held state.output (plain_report o state) (output left told)
+            (subst (λ (m : Machine). Appends mid out.held (report o.reports m None)) same written);
+        error = subst (λ (y : List ℕ). Appends d.error.held e.held y) (sym (append-nil state.error)) (error left told);
+      });
+  refused = tt;
+  memory = λ y. let bad : ⊥ = cc in absurd bad;
+  failed = tt;
+  causes = calm_causes d (run_to d i out e) (Ok x) tt refl refl still;
+}
+
+-- or not to its end
+pub report_failed : (o : RunOptions) (p : ProgramData) (l : Layout) (first new : FlatData) (d : Devices) (i : SourceState) (mid : Option (List ℕ)) (out e : SinkState) →
+    first ≡ unfailed (machine_of p l o.reports.calls) →
+    ForSome d.input.left (λ left. new ≡ unfailed (state_at o.limits.steps first.machine left).machine) →
+    ForSome d.input.left (λ left. i.left ≡ Some (state_at o.limits.steps first.machine left).input) →
+    ForSome d.input.left (λ left. Appends d.output.held mid (state_at o.limits.steps first.machine left).output) →
+    ForSome d.input.left (λ left. Appends d.error.held e.held (state_at o.limits.steps first.machine left).error) →
+    AppendsPrefix mid out.held (report o.reports new.machine None) → (report o.reports new.machine None ≡ [] → ⊥) →
+    i.faults ≡ d.input.faults → e.faults ≡ d.error.faults → d.output.faults ≤ out.faults → Rose d.output.faults out.faults → RunsPlain o p l d (run_to d i out e) (Err refusal.SinkFault)
+report_failed o p l first new d i mid out e first_is machine input output error part due input_is error_is later rose = record {
+  done = tt;
+  refused = inr (inl refl);
+  memory = λ y. let bad : ⊥ = cc in absurd bad;
+  failed = λ _ left told. inr (
+      let state = state_at o.limits.steps first.machine left in
+      let same : new.machine ≡ state.machine = ap (λ (y : FlatData). y.machine) (machine left told) in
+      subst (λ (s : FlatState). FailedAfterRun s (plain_report o s) [] d (run_to d i out e) refusal.SinkFault []) (start_same o p l first o.limits.steps left first_is) (record {
+        output_front = part.0;
+        output = Appends-append d.output.held mid out.held state.output (take part.0 (plain_report o state)) (output left told)
+            (subst (λ (m : Machine). Appends mid out.held (take part.0 (report o.reports m None))) same part.1);
+        error_front = 0;
+        error = subst (λ (y : List ℕ). Appends d.error.held e.held y) (sym (append-nil (state.error ++ [])))
+            (subst (λ (y : List ℕ). Appends d.error.held e.held y) (sym (append-nil state.error)) (error left told));
+        behind = inl (refl, subst (λ (m : Machine). report o.reports m None ≡ [] → ⊥) same due, rose);
+        input = input left told;
+        fault = refl;
+      }));
+  causes = out_causes d (run_to d i out e) refl refl input_is error_is later rose;
+}

@@ -1,0 +1,5 @@
+pub mod RewriteFile
+pub mod UpgradeFile
+pub mod CheckFile
+pub mod ListFile
+pub mod RunPlain

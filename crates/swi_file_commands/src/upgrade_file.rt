@@ -1,0 +1,51 @@
+//! The command `upgrade`.
+#![tactic(auto)]
+
+ghost use Rattle.std.specs.Prelude.{◌≤◌, IfOk, IfErr, OnOk, [], length};
+ghost use Rattle.swi_task.specs.Answers.{Answers};
+ghost use Rattle.swi_task.specs.Checks.{IsAccepted, IsRefusedOr, file_limit, image_checks};
+ghost use Rattle.swi_task.specs.Devices.{Devices};
+ghost use Rattle.swi_file_commands.specs.UpgradeFile.{IsUpgraded, upgrade_task};
+
+use std::alloc::Global;
+use swi_answer::{Ending, Refusal};
+use swi_cut::upgrade as upgrade_image;
+use swi_elf_read::image_bytes;
+use swi_outside::Shelf;
+use swi_task::{accept, file_with, load, own_image, read_file, write_file};
+
+/// The file of the program of another, with its image in version 2.
+fn upgraded(alloc: Global, file: &[u8]) -> Result<Vec<u8>, Refusal>
+    requires within { length file.now ≤ file_limit }
+    ensures file { IfOk result (λ v. IsUpgraded file.now v.items) }
+    ensures accepted { OnOk result (IsAccepted (image_checks file.now)) }
+    ensures refused { IfErr result (IsRefusedOr (image_checks file.now)) }
+{
+    let elf = accept(file)?;
+    let program = load(alloc, &elf)?;
+    let Some(bytes) = image_bytes(&elf) else {
+        return Err(Refusal::NoImage);
+    };
+    let view = own_image(&program, bytes)?;
+    match upgrade_image(alloc, &program, &view) {
+        Ok(image) => file_with(alloc, &program, &image),
+        Err(_) => Err(Refusal::Memory),
+    }
+}
+
+/// Puts the program of a file under another name, with the file's image in version 2.
+pub fn upgrade<F: Shelf>(
+    alloc: Global,
+    input: &str,
+    output: &str,
+    shelf: &mut F,
+) -> Result<Ending, Refusal>
+    ensures { (d : Devices) → Answers (upgrade_task input.now output.now)
+        (record d { shelf = F.state shelf.old })
+        (record d { shelf = F.state shelf.new }) result [] }
+{
+    let file = read_file(alloc, shelf, input)?;
+    let bytes = upgraded(alloc, &file)?;
+    write_file(alloc, shelf, output, &bytes)?;
+    Ok(Ending::Done)
+}

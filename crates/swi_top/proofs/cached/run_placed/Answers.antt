@@ -1,9 +1,0 @@
-use Rattle.swi_top.proofs.cached.run_placed.Goals as goal
-
-pub returns-in-Own : goal.returns-in-Own
-returns-in-Own g c = rw c.in-Own.is c.run_program.ensures
-
-pub returns-in-Cut : goal.returns-in-Cut
-returns-in-Cut g c =
-    let ran = rw c.view.ensures.value at c.run_program-in-Cut.ensures in
-    rw c.in-Cut.is ran

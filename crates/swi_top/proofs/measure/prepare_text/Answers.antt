@@ -1,5 +1,0 @@
-use Rattle.swi_top.proofs.Measuring.{text_room}
-use Rattle.swi_top.proofs.measure.prepare_text.Goals as goal
-
-pub unreachable-requires : goal.unreachable-requires
-unreachable-requires c = text_room c.args.text.now c.in-Ok.program _ c.in-Ok.ensures c.requires.most c.in-Err.ensures.layout
