@@ -8,6 +8,3 @@ mod status;
 pub use answer::{Ending, Refusal};
 pub use lines::{image_line, line_of_ending, line_of_guest, line_of_refusal};
 pub use status::status_of;
-
-#[cfg(test)]
-mod tests;

@@ -6,7 +6,6 @@ mod Services
 pub mod Failed
 mod Causing
 pub mod Fetched
-mod Foreign
 pub mod Quiet
 pub mod Tells
 pub mod Stopping

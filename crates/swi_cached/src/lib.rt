@@ -9,6 +9,3 @@ mod told;
 pub use ring::ring_for;
 pub use run::{AskedRun, CachedStop, run_cached};
 pub use slots::slots_for;
-
-#[cfg(test)]
-mod tests;

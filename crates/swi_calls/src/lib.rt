@@ -13,6 +13,3 @@ pub use end::{CallFault, End};
 pub use heap::Heap;
 pub use machine::Machine;
 pub use stores_text::text_store;
-
-#[cfg(test)]
-mod tests;

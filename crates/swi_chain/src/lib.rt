@@ -4,6 +4,3 @@
 mod chains;
 
 pub use chains::Chains;
-
-#[cfg(test)]
-mod tests;

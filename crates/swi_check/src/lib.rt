@@ -6,6 +6,3 @@ mod mismatch;
 
 pub use checker::check;
 pub use mismatch::Mismatch;
-
-#[cfg(test)]
-mod tests;

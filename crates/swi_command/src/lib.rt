@@ -85,6 +85,3 @@ fn parse_named(alloc: Global, name: CommandName, words: &[String]) -> Result<Com
     let matches = command_matches(alloc, name, words)?;
     command_from(alloc, name, &matches)
 }
-
-#[cfg(test)]
-mod tests;

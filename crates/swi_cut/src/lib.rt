@@ -13,6 +13,3 @@ pub use cutter::{cut, cut_by};
 pub use cutting::Cutting;
 pub use refusal::CutRefusal;
 pub use upgrader::upgrade;
-
-#[cfg(test)]
-mod tests;

@@ -12,8 +12,6 @@ mod mem_source;
 mod ram_calls;
 mod real;
 mod shelf_call;
-#[cfg(test)]
-mod tests;
 mod vec_ram;
 
 pub use fault_ram::FaultRam;

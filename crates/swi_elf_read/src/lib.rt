@@ -13,6 +13,3 @@ pub use parts::{Kind, Loaded};
 pub use program_header::ProgramHeader;
 pub use reader::{Elf, elf_entry, elf_flags, image_bytes, kind, loaded, loaded_at, read_elf};
 pub use refusal::ElfRefusal;
-
-#[cfg(test)]
-mod tests;

@@ -5,6 +5,3 @@ mod program_header;
 mod writer;
 
 pub use writer::write_elf;
-
-#[cfg(test)]
-mod tests;

@@ -294,6 +294,3 @@ pub fn valid(i: &Instr) -> bool
 {
     fields_fit(i)
 }
-
-#[cfg(test)]
-mod tests;

@@ -10,4 +10,3 @@ pub mod Clearing
 pub mod Arriving
 pub mod Filling
 pub mod Crossing
-pub mod Exits

@@ -6,6 +6,3 @@ mod engine;
 mod joints;
 
 pub use engine::EngineRom;
-
-#[cfg(test)]
-mod tests;

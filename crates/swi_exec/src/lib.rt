@@ -14,6 +14,3 @@ pub use executor::exec;
 pub use registers::{A0, A1, A2, A7, Regs, SP, Slot};
 pub use stores_text::{store_into_text, text_store};
 pub use values::{size_of_load, takes, value_of_load, value_of_op};
-
-#[cfg(test)]
-mod tests;

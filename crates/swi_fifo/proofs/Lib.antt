@@ -2,5 +2,3 @@ mod Targets
 mod Clearing
 mod Knowing
 mod Seen
-mod Exits
-mod Programs

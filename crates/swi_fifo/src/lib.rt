@@ -4,6 +4,3 @@
 mod table;
 
 pub use table::{ChainTable, FifoRom, chains};
-
-#[cfg(test)]
-mod tests;

@@ -5,6 +5,3 @@ mod advance;
 mod flat;
 
 pub use flat::Flat;
-
-#[cfg(test)]
-mod tests;

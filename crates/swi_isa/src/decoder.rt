@@ -156,6 +156,3 @@ pub fn is_legal(w: u32) -> bool
 {
     decode(w).is_some()
 }
-
-#[cfg(test)]
-mod tests;

@@ -4,6 +4,3 @@
 mod line;
 
 pub use line::{LINE_ROOM, Line};
-
-#[cfg(test)]
-mod tests;

@@ -65,6 +65,3 @@ pub fn make(alloc: Global, seed: u32, functions: u32) -> Result<Vec<u8>, Memory>
     let words = text_words(alloc, seed, functions).map_err(|_| Memory)?;
     bytes_of(alloc, &words)
 }
-
-#[cfg(test)]
-mod tests;

@@ -25,6 +25,3 @@ pub use layout::Layout;
 pub use right::Right;
 pub use segment::Segment;
 pub use word_range::WordRange;
-
-#[cfg(test)]
-mod tests;

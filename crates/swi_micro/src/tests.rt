@@ -1,346 +1,37 @@
-//! Micro-ops against the executor: the same instruction on the same operands. That the two agree where a micro-op goes on
-//! is proved; that it does go on where it can is not, and is asked here.
-#![tactic(auto)]
-
-ghost use Rattle.std.specs.Prelude.{◌<◌};
+//! Which words the table of known words keeps: no clause says it, as no micro-op depends on it.
 
 use crate::known::KnownWords;
-use crate::{DecodedRam, MicroOp, MicroRam, address, index_of, micro_op, step};
-use std::alloc::Global;
-use swi_devices::VecRam;
-use swi_exec::{Done, Regs, exec, text_store};
-use swi_isa::{Instr, Reg, decode};
-use swi_memory::{Bus, Layout, Segment, WordRange};
-use swi_outside::CacheRam;
+use swi_memory::WordRange;
 
-/// The words of the text of `bus_of_rows`.
-const TEXT: WordRange = WordRange {
+const RANGE: WordRange = WordRange {
     from: 0x10000,
     words: 64,
 };
 
-/// 64 text words of zeros from 0x10000 on, which can be written too, 16 bytes from 0x20000 on that can be read and written,
-/// and a stack.
-fn bus_of_rows(alloc: Global) -> Option<Bus> {
-    let file = [0u8; 256];
-    let segments = [
-        Segment::of(0x10000, 7, 256, &file),
-        Segment::of(0x30000, 4, 4, &[]),
-    ];
-    let layout = Layout {
-        heap: 0x20000,
-        heap_len: 16,
-        stack: 0x50000,
-        stack_len: 16,
-        sp: 0,
-    };
-    Bus::new(alloc, &segments, &layout).ok()
-}
+/// An addition, and a branch to the second word behind it.
+const ADDITION: u32 = 0x002081B3;
 
-fn regs_of(x1: u32, x2: u32) -> Regs {
-    let mut regs = Regs::new();
-    regs.set(Reg::of(1), x1);
-    regs.set(Reg::of(2), x2);
-    regs.set(Reg::of(3), 0x55);
-    regs
-}
-
-/// Words of all forms, with rd x3 or x0, rs1 x1 and rs2 x2.
-static WORDS: [u32; 74] = [
-    0x002081B3, 0x402081B3, 0x002091B3, 0x0020A1B3, 0x0020B1B3, 0x0020C1B3, 0x0020D1B3, 0x4020D1B3,
-    0x0020E1B3, 0x0020F1B3, 0x022081B3, 0x022091B3, 0x0220A1B3, 0x0220B1B3, 0x0220C1B3, 0x0220D1B3,
-    0x0220E1B3, 0x0220F1B3, 0x00208033, 0x0220C033, 0xFFF08193, 0x7FF0A193, 0xFFF0B193, 0xFFF0C193,
-    0x0F00E193, 0x0F00F193, 0x00509193, 0x0050D193, 0x4050D193, 0x00000013, 0x800001B7, 0x12345037,
-    0x80000197, 0x00012197, 0x0000A183, 0x0040A183, 0x00408183, 0x00209183, 0x0000C183, 0x0010D183,
-    0xFFF08003, 0x0020A023, 0x002081A3, 0x00209123, 0x00208463, 0x00209463, 0x0020C463, 0x0020D463,
-    0x0020E463, 0x0020F463, 0xFE208EE3, 0xFE209EE3, 0x00208363, 0x7E208EE3, 0x008001EF, 0x0080006F,
-    0x006001EF, 0x7FE001EF, 0xFFDFF1EF, 0x000081E7, 0x00408067, 0x002081E7, 0x0FF0000F, 0x00000073,
-    0x00100073, 0x1000A1AF, 0x1820A1AF, 0x0020A1AF, 0xFFC0A183, 0xFFC0A023, 0x00102023, 0x00002083,
-    0x001080E7, 0x00010063,
-];
-
-/// Operands x1 and x2.
-static OPERANDS: [(u32, u32); 14] = [
-    (0, 0),
-    (1, 0xFFFF_FFFF),
-    (0xFFFF_FFFF, 1),
-    (0x8000_0000, 0xFFFF_FFFF),
-    (0x7FFF_FFFF, 0x8000_0000),
-    (0x20000, 0x89AB_CDEF),
-    (0x2000C, 0x1234_563F),
-    (0x50004, 7),
-    (0x10008, 0x10008),
-    (0x10100, 0),
-    (0x100FC, 5),
-    (0xFFFF_FFFE, 0),
-    (0x30000, 3),
-    (0x10003, 9),
-];
-
-/// Whether an instruction at pc is one of those that a micro-op leaves: a call, a break, a fault, an atomic instruction, a
-/// store into the text, a branch whose target is no word of the text, and what leads out of it.
-fn is_left(instr: &Instr, pc: u32, done: Done, stores: bool) -> bool {
-    let Done::Next(next) = done else {
-        return true;
-    };
-    let outside = match *instr {
-        Instr::Branch { off, .. } => index_of(&TEXT, pc.wrapping_add(off)).is_none(),
-        Instr::Jal { .. } | Instr::Jalr { .. } => index_of(&TEXT, next).is_none(),
-        _ => false,
-    };
-    stores || outside || matches!(*instr, Instr::Atomic { .. })
-}
-
-fn are_equal(one: &Regs, other: &Regs) -> bool {
-    for number in 0..32 {
-        if one.get(Reg::of(number)) != other.get(Reg::of(number)) {
-            return false;
-        }
-    }
-    true
-}
-
-/// Whether a step at the text word with this index leaves what the executor does, or is one of those that are left to it.
-fn agrees(word: u32, k: u32, x: (u32, u32), one: &mut Bus, other: &mut Bus) -> bool
-    requires { k < 64 }
-{
-    let Some(instr) = decode(word) else {
-        return false;
-    };
-    let pc = 0x10000 + 4 * k;
-    let mut regs = regs_of(x.0, x.1);
-    let mut wanted = regs_of(x.0, x.1);
-    let stores = text_store(&instr, &wanted, other).is_some();
-    let done = exec(&instr, pc, &mut wanted, other);
-    match step(
-        &micro_op(&instr, &TEXT, k),
-        &TEXT,
-        u64::from(k),
-        &mut regs,
-        one,
-    ) {
-        Some(next) => {
-            let Ok(next) = u32::try_from(next) else {
-                return false;
-            };
-            done == Done::Next(address(&TEXT, next)) && are_equal(&regs, &wanted)
-        }
-        None => {
-            // So that both memories stay the same.
-            exec(&instr, pc, &mut regs, one);
-            is_left(&instr, pc, done, stores)
-        }
-    }
-}
-
-/// The first word, place and operands at which they don't agree.
-fn first_apart(one: &mut Bus, other: &mut Bus) -> Option<(u32, u32, (u32, u32))> {
-    for word in WORDS {
-        for x in OPERANDS {
-            for k in [0, 2, 63] {
-                if !agrees(word, k, x, one, other) {
-                    return Some((word, k, x));
-                }
-            }
-        }
-    }
-    None
-}
-
-/// The first address of the heap, or else of the stack, at which two memories hold different words.
-fn first_unlike(one: &Bus, other: &Bus) -> Option<u32> {
-    [
-        0x20000, 0x20004, 0x20008, 0x2000C, 0x50000, 0x50004, 0x50008, 0x5000C,
-    ]
-    .into_iter()
-    .find(|a| one.load(*a, 4) != other.load(*a, 4))
-}
-
-#[test]
-fn micro_ops_do_what_the_executor_does(rt: HostRuntime) {
-    let mut one = bus_of_rows(rt.alloc()).expect(&rt, "no memory");
-    let mut other = bus_of_rows(rt.alloc()).expect(&rt, "no memory");
-    assert_eq!(rt; first_apart(&mut one, &mut other), None);
-    assert_eq!(rt; first_unlike(&one, &other), None);
-}
-
-/// A ram of 64 words, of which the first so many have a place for a micro-op.
-fn ram_of_rows(alloc: Global, places: u32) -> Option<DecodedRam<VecRam>>
-    requires { places < 64 }
-{
-    let words = VecRam::new(alloc, 64).ok()?;
-    let mut ram = DecodedRam::new(alloc, words);
-    ram.keep(alloc, places).ok()?;
-    Some(ram)
-}
-
-/// Sets the words from an index on. False where there are fewer, or one fails.
-fn set_all(ram: &mut DecodedRam<VecRam>, from: u32, words: &[u32]) -> bool {
-    let mut i = from;
-    for word in words {
-        if i >= ram.words() || ram.set(i, *word).is_err() {
-            return false;
-        }
-        i += 1;
-    }
-    true
-}
-
-/// Learns the word at an index. False where there is no place for it.
-fn learn(ram: &mut DecodedRam<VecRam>, i: u32) -> bool {
-    if i >= ram.kept() {
-        return false;
-    }
-    ram.learn(i);
-    true
-}
-
-/// The register that is written there, and in which a word stands then.
-fn written(m: &MicroOp) -> Regs {
-    let mut regs = Regs::new();
-    regs.put(m.rd, 1);
-    regs
-}
-
-/// Whether two micro-ops are one, field by field.
-fn are_same(one: &MicroOp, other: &MicroOp) -> bool {
-    one.code == other.code
-        && one.imm == other.imm
-        && one.rs1.register() == other.rs1.register()
-        && one.rs2.register() == other.rs2.register()
-        && are_equal(&written(one), &written(other))
-}
-
-/// Whether the micro-op at an index is known to be that of the word.
-fn knows(ram: &DecodedRam<VecRam>, i: u32, word: u32) -> bool {
-    let Some(instr) = decode(word) else {
-        return false;
-    };
-    i < ram.kept() && !ram.op(i).stops() && are_same(ram.op(i), &micro_op(&instr, &ram.range(), i))
-}
-
-/// Whether the micro-op at an index stops.
-fn waits(ram: &DecodedRam<VecRam>, i: u32) -> bool {
-    i < ram.kept() && ram.op(i).stops()
-}
-
-/// Whether the word at an index is learnt: its micro-op is that of the instruction that it is, or one that stops.
-fn is_learnt(ram: &DecodedRam<VecRam>, i: u32, word: u32) -> bool {
-    let Some(instr) = decode(word) else {
-        return false;
-    };
-    if micro_op(&instr, &ram.range(), i).stops() {
-        waits(ram, i)
-    } else {
-        knows(ram, i, word)
-    }
-}
-
-/// The first word that is learnt wrong where copies of it stand at three places one after another, and the place.
-fn first_wrong(ram: &mut DecodedRam<VecRam>) -> Option<(u32, u32)> {
-    for word in WORDS {
-        for i in [0, 5, 7] {
-            if !set_all(ram, i, &[word]) || !learn(ram, i) || !is_learnt(ram, i, word) {
-                return Some((word, i));
-            }
-        }
-    }
-    None
-}
+const BRANCH: u32 = 0x00208463;
 
 /// Whether the table knows a word once its micro-op was asked for.
 fn is_kept(known: &mut KnownWords, word: u32) -> bool {
-    known.op(&TEXT, 0, word);
+    known.op(&RANGE, 0, word);
     known.find(word).is_some()
-}
-
-/// Where a step at an index goes on once a word is set and learnt there, with x1 equal to x2. None where that fails.
-fn target_of_copy(ram: &mut DecodedRam<VecRam>, i: u32, word: u32, bus: &mut Bus) -> Option<u64> {
-    if !set_all(ram, i, &[word]) || !learn(ram, i) || i >= ram.kept() {
-        return None;
-    }
-    step(
-        ram.op(i),
-        &ram.range(),
-        u64::from(i),
-        &mut regs_of(1, 1),
-        bus,
-    )
-}
-
-/// An addition, a load, a branch to the second word behind it, and another addition.
-const ROW: [u32; 4] = [0x002081B3, 0x0000A183, 0x00208463, 0x00308113];
-
-#[test]
-fn a_micro_op_is_known_until_its_word_is_set(rt: HostRuntime) {
-    let mut ram = ram_of_rows(rt.alloc(), 8).expect(&rt, "no memory");
-    assert!(rt; waits(&ram, 3) && !waits(&ram, 8));
-    assert!(rt; set_all(&mut ram, 3, &[ROW[0]]) && waits(&ram, 3));
-    assert!(rt; learn(&mut ram, 3) && knows(&ram, 3, ROW[0]));
-    assert!(rt; set_all(&mut ram, 3, &[ROW[1]]) && waits(&ram, 3));
-    assert!(rt; learn(&mut ram, 3) && knows(&ram, 3, ROW[1]));
-}
-
-#[test]
-fn words_behind_are_learnt_up_to_a_branch(rt: HostRuntime) {
-    let mut ram = ram_of_rows(rt.alloc(), 8).expect(&rt, "no memory");
-    assert!(rt; set_all(&mut ram, 1, &ROW) && learn(&mut ram, 1));
-    assert!(rt; knows(&ram, 1, ROW[0]) && knows(&ram, 2, ROW[1]) && knows(&ram, 3, ROW[2]));
-    assert!(rt; waits(&ram, 4));
-}
-
-#[test]
-fn words_behind_are_learnt_up_to_one_that_stops(rt: HostRuntime) {
-    let mut ram = ram_of_rows(rt.alloc(), 8).expect(&rt, "no memory");
-    assert!(rt; set_all(&mut ram, 0, &[ROW[0], 0x00000073, ROW[1]]) && learn(&mut ram, 0));
-    assert!(rt; knows(&ram, 0, ROW[0]) && waits(&ram, 1) && waits(&ram, 2));
-}
-
-#[test]
-fn words_behind_are_learnt_up_to_the_last_place(rt: HostRuntime) {
-    let mut ram = ram_of_rows(rt.alloc(), 2).expect(&rt, "no memory");
-    assert!(rt; set_all(&mut ram, 0, &[ROW[0], ROW[1], ROW[0]]) && learn(&mut ram, 0));
-    assert!(rt; knows(&ram, 0, ROW[0]) && knows(&ram, 1, ROW[1]) && !waits(&ram, 2));
-}
-
-#[test]
-fn copies_are_learnt_at_each_place(rt: HostRuntime) {
-    let mut ram = ram_of_rows(rt.alloc(), 8).expect(&rt, "no memory");
-    assert_eq!(rt; first_wrong(&mut ram), None);
-    assert_eq!(rt; first_wrong(&mut ram), None);
 }
 
 #[test]
 fn a_word_is_known_until_another_takes_its_entry(rt: HostRuntime) {
     let mut known = KnownWords::new(rt.alloc()).expect(&rt, "no memory");
-    assert!(rt; known.find(ROW[0]).is_none() && is_kept(&mut known, ROW[0]));
+    assert!(rt; known.find(ADDITION).is_none() && is_kept(&mut known, ADDITION));
     // ADDI x2, x1, -1768 has the same entry.
-    assert!(rt; is_kept(&mut known, 0x91808113) && known.find(ROW[0]).is_none());
+    assert!(rt; is_kept(&mut known, 0x91808113) && known.find(ADDITION).is_none());
 }
 
 #[test]
 fn a_word_is_kept_unless_it_is_of_jal_or_auipc(rt: HostRuntime) {
     let mut known = KnownWords::new(rt.alloc()).expect(&rt, "no memory");
     // A branch forward and one backward; ECALL, whose micro-op stops; and no instruction.
-    assert!(rt; is_kept(&mut known, ROW[2]) && is_kept(&mut known, 0xFE208EE3));
+    assert!(rt; is_kept(&mut known, BRANCH) && is_kept(&mut known, 0xFE208EE3));
     assert!(rt; is_kept(&mut known, 0x00000073) && is_kept(&mut known, 0xFFFFFFFF));
     assert!(rt; !is_kept(&mut known, 0x008001EF) && !is_kept(&mut known, 0x00012197));
-}
-
-#[test]
-fn a_copy_of_a_branch_leads_from_its_own_place(rt: HostRuntime) {
-    let mut ram = ram_of_rows(rt.alloc(), 8).expect(&rt, "no memory");
-    let mut bus = bus_of_rows(rt.alloc()).expect(&rt, "no memory");
-    assert_eq!(rt; target_of_copy(&mut ram, 1, ROW[2], &mut bus), Some(3));
-    assert_eq!(rt; target_of_copy(&mut ram, 5, ROW[2], &mut bus), Some(7));
-    assert_eq!(rt; target_of_copy(&mut ram, 6, ROW[2], &mut bus), None);
-    // One to the word before it.
-    assert_eq!(rt; target_of_copy(&mut ram, 5, 0xFE208EE3, &mut bus), Some(4));
-    assert_eq!(rt; target_of_copy(&mut ram, 1, 0xFE208EE3, &mut bus), Some(0));
-    assert_eq!(rt; target_of_copy(&mut ram, 0, 0xFE208EE3, &mut bus), None);
-}
-
-#[test]
-fn a_micro_op_has_eight_bytes(rt: HostRuntime) {
-    assert_eq!(rt; size_of::<MicroOp>(), 8);
 }

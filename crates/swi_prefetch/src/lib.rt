@@ -4,6 +4,3 @@
 mod prefetch;
 
 pub use prefetch::Prefetch;
-
-#[cfg(test)]
-mod tests;

@@ -10,6 +10,3 @@ pub use placement::{Room, lay_out};
 pub use programs::{Program, one_text, program_of};
 pub use text_view::TextView;
 pub use word_bytes::append_words;
-
-#[cfg(test)]
-mod tests;

@@ -9,6 +9,3 @@ mod text_words;
 pub use parts::Part;
 pub use renderer::{falls, needs, part, render};
 pub use text_words::{Sizes, address_of, exit_behind, render_word, sizes_of};
-
-#[cfg(test)]
-mod tests;

@@ -16,6 +16,3 @@ pub use shared::{SharedWork, shared_text};
 pub use state::state_text;
 pub use stats::{Work, stats_text};
 pub use summary::{Measured, summary_text};
-
-#[cfg(test)]
-mod tests;

@@ -8,6 +8,5 @@ mod Placing
 mod Empty
 mod Linking
 mod Crossing
-mod Exits
 mod Seen
 mod Rows

@@ -5,6 +5,3 @@ mod queue;
 mod ring;
 
 pub use ring::{RingRom, chains};
-
-#[cfg(test)]
-mod tests;

@@ -12,6 +12,3 @@ pub use block::list_block;
 pub use history::History;
 pub use text::{text_of, trace_line};
 pub use trace::Trace;
-
-#[cfg(test)]
-mod tests;

@@ -4,6 +4,3 @@
 mod links;
 
 pub use links::undo;
-
-#[cfg(test)]
-mod tests;

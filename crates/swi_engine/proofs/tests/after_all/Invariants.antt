@@ -1,5 +1,0 @@
-use Rattle.swi_engine.specs.Sound.{EngineSound}
-use Rattle.swi_engine.proofs.tests.after_all.Given as goal
-
-abbrev pub invariant-loop-step : goal.invariant-loop-step
-invariant-loop-step g l = EngineSound l.rom l.image l.ram.words
