@@ -1,4 +1,4 @@
--- The lines that a command writes (own rule): a run's ending and a refusal to the error sink, a checked image to the output.
+-- The lines that a command writes: a run's ending and a refusal to the error sink, a checked image to the output.
 use Rattle.std.specs.Prelude.{ℕ, List, [], ◌++◌, codes, decimal}
 use Rattle.swi_line.specs.Hex.{hex_word}
 use Rattle.swi_check.specs.declared.mismatch.Mismatch.{Mismatch}

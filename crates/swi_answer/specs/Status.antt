@@ -1,4 +1,4 @@
--- The exit status of each answer (own rule).
+-- The exit status of each answer.
 use Rattle.std.specs.Prelude.{ℕ, ◌%◌, Result, Ok, Err}
 use Rattle.swi_answer.specs.declared.answer.Ending.{Ending}
 use Rattle.swi_answer.specs.declared.answer.Ending.TheVariants.{Exited, Spent, Faulted, StoreText, Done}

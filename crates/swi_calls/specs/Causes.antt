@@ -1,4 +1,4 @@
--- A write to one of two sinks. Own rule.
+-- A write to one of two sinks.
 use Rattle.std.specs.Prelude.{◌≡◌, ◌⊎◌, ℕ, ◌≤◌, Result, OnOk, OnErr}
 use Rattle.swi_outside.specs.Causes.{Rose}
 

@@ -1,4 +1,4 @@
--- What a step takes from the input and gives to the output and the errors, and how a device breaks it off. Own rule.
+-- What a step takes from the input and gives to the output and the errors, and how a device breaks it off.
 use Rattle.std.specs.Prelude.{◌≡◌, ℕ, List, [], Some, Result, OnOk, OnErr, IsErrOf}
 use Rattle.std.specs.Option.{ForSome}
 use Rattle.std.specs.Io.KnownBytes.{Appends}

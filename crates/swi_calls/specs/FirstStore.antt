@@ -1,4 +1,4 @@
--- A step of a run that would store into the text. Own rule: the run of the cached machine, for which the text is fixed, ends before it.
+-- A step of a run that would store into the text. The run of the cached machine, for which the text is fixed, ends before it.
 use Rattle.std.specs.Prelude.{◌≡◌, ℕ, true, None, is_some}
 use Rattle.swi_calls.specs.Flat.{flat_run}
 use Rattle.swi_calls.specs.State.{FlatState}

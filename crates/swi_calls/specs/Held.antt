@@ -1,5 +1,5 @@
 -- The flat machine over a text that is fixed, as the cached machine runs it: a step that would store into the text isn't made, and ends the
--- run. Own rule.
+-- run.
 use Rattle.std.specs.Prelude.{ℕ, zero, suc, List, Option, Some, None, is_some, if◌then◌else◌}
 use Rattle.swi_calls.specs.declared.end.End.TheVariants.{StoreText}
 use Rattle.swi_calls.specs.declared.machine.Machine.{Machine}

@@ -1,4 +1,4 @@
--- Bytes that a call moves between memory and the outside. Own rule.
+-- Bytes that a call moves between memory and the outside.
 use Rattle.std.specs.Prelude.{◌≡◌, ℕ, List, length, Option}
 use Rattle.std.specs.Io.KnownBytes.{Consumes}
 use Rattle.swi_memory.specs.Bus.{AreaData, with_bytes}

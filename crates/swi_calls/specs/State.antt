@@ -1,4 +1,4 @@
--- The state of the flat machine (own rule).
+-- The state of the flat machine.
 use Rattle.std.specs.Prelude.{ℕ, List}
 use Rattle.swi_calls.specs.declared.machine.Machine.{Machine}
 

@@ -1,4 +1,4 @@
--- Which instructions would store into the text, and where. Own rule: a program's text is fixed for the cached machine.
+-- Which instructions would store into the text, and where. A program's text is fixed for the cached machine.
 use Rattle.std.specs.Prelude.{◌==◌, ℕ, ◌&&◌, List, Option, Some, None}
 use Rattle.swi_isa.specs.declared.instr.Instr.{Instr}
 use Rattle.swi_isa.specs.declared.instr.Instr.TheVariants as instr

@@ -1,4 +1,4 @@
--- The line that tells of a system call: its number in decimal, and words in eight hexadecimal digits. Own rule.
+-- The line that tells of a system call: its number in decimal, and words in eight hexadecimal digits.
 use Rattle.std.specs.Prelude.{ℕ, List, [], ◌++◌, codes, decimal, Option, Some, None}
 use Rattle.swi_line.specs.Hex.{hex_word}
 

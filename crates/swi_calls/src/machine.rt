@@ -74,7 +74,7 @@ impl Machine {
     /// there. A call whose input or output failed is not told.
     ///
     /// Source: Linux on RISC-V (numbers, registers, error answers); which calls are there, and the break as a mere
-    /// number: own rule.
+    /// number.
     #[inline(never)]
     #[tactic(auto, unfolding(crate::specs::Call::called))]
     pub fn call_step<I: Source, O: Sink, E: Sink>(

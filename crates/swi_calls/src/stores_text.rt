@@ -30,7 +30,7 @@ fn read_store(regs: &Regs, bus: &Bus) -> Option<u32>
 /// A store does where it succeeds and one of its bytes is a text word's, an AMO where it doesn't fault, and SC.W
 /// where it succeeds. A system call does where it reads from descriptor 0 into a buffer that can be written and of
 /// which a byte is a text word's, also where the input is at its end. A program's text is fixed for the cached
-/// machine: own rule.
+/// machine.
 #[inline(always)]
 pub fn text_store(i: &Instr, regs: &Regs, bus: &Bus) -> Option<u32>
     ensures { result ≡ text_store_of i.now regs.now bus.now }

@@ -1,4 +1,4 @@
--- The first difference between an image and what a text asks of it. Own rule.
+-- The first difference between an image and what a text asks of it.
 use Rattle.std.specs.Prelude.{◌≡◌, ◌≢◌, ℕ, ◌+◌, ◌*◌, ◌%◌, ◌^◌, ◌<◌, ◌≤◌, ◌⊎◌, min, List, length, get_or, slice_index}
 use Rattle.swi_program.specs.Text.{TextData}
 use Rattle.swi_image.specs.Format.{ImageData}

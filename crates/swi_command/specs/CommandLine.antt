@@ -1,4 +1,4 @@
--- The command line: which words ask for which command. Own rule, over the meaning that the crate `clap`
+-- The command line: which words ask for which command. Over the meaning that the crate `clap`
 -- states of a command without subcommands: `fault_of`, which is empty where it takes the words, and
 -- `matches_of`, the values that the words give each argument.
 use Rattle.std.specs.Prelude.{◌≡◌, ◌≤◌, ◌<◌, ◌^◌, ◌-◌, ◌%◌, ◌==◌, ◌&&◌, ℕ, Bool, true, false, List, [], ◌∷◌, length, map, nat_le, codes, Option, Some, None, option_map, option_and_then, find, string_bytes, if◌then◌else◌}

@@ -1,4 +1,4 @@
--- Why a text isn't cut. Own rule.
+-- Why a text isn't cut.
 use Rattle.std.specs.Prelude.{◌≡◌, ℕ}
 use Rattle.swi_program.specs.Text.{TextData}
 use Rattle.swi_render.specs.ImageOf.{address_of}

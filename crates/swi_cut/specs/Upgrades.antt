@@ -1,4 +1,4 @@
--- The version 2 image with the blocks of another image. Own rule.
+-- The version 2 image with the blocks of another image.
 use Rattle.std.specs.Prelude.{◌≡◌, ℕ, List}
 use Rattle.swi_program.specs.Text.{TextData}
 use Rattle.swi_image.specs.Format.{ImageData}

@@ -1,4 +1,4 @@
--- What is told of the files of a folder. Own rule.
+-- What is told of the files of a folder.
 use Rattle.std.specs.Prelude.{◌≡◌, ℕ, ◌+◌, List, [], length, Option, Some, None, ⊤}
 use Rattle.std.specs.Io.KnownBytes.{Consumes, IsAtEnd}
 use Rattle.swi_outside.specs.Shelf.{Contents, Stands}

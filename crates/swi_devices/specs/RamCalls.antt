@@ -1,4 +1,4 @@
--- What the calls to a ram that never fails come to. Own rule.
+-- What the calls to a ram that never fails come to.
 use Rattle.std.specs.Prelude.{ℕ, ◌+◌, max, List, [], ◌∷◌}
 use Rattle.swi_outside.specs.Causes.{counted}
 use Rattle.swi_devices.specs.declared.ram_calls.RamCalls.{RamCalls}

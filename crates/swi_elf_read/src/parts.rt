@@ -8,7 +8,7 @@
 pub enum Kind {
     /// No program header is of the cache image's type.
     Original,
-    /// A program header is (p_type 6C434953: own rule).
+    /// A program header is (p_type 6C434953).
     Rewritten,
 }
 

@@ -38,7 +38,7 @@ impl<'a> Model for Elf<'a> {
 /// that fails, in the order of `ElfRefusal`.
 ///
 /// Source: System V ABI, "ELF Header" and "Program Header"; RISC-V ELF psABI, "File Header". The
-/// limits and the order: own rule.
+/// limits and the order.
 #[tactic(auto, unfolding(crate::specs::Elf::first_refusal))]
 pub fn read_elf<'a>(bytes: &'a [u8]) -> Result<Elf<'a>, ElfRefusal>
     requires { length bytes.now ≤ 2 ^ 26 }

@@ -1,6 +1,6 @@
 -- The file of a program and its cache image.
 -- Source: System V ABI, "ELF Header", "Program Header" and "Program Loading"; RISC-V ELF psABI, "File Header".
--- The order of the parts, their alignment and the type of the image's header: own rule.
+-- The order of the parts, their alignment and the type of the image's header.
 use Rattle.std.specs.Prelude.{ℕ, ◌+◌, ◌-◌, ◌*◌, List, [], ◌∷◌, ◌++◌, length, replicate}
 use Rattle.swi_elf_read.specs.ProgramHeaders.{round_up_4}
 use Rattle.swi_program.specs.Program.{ProgramData, SegmentData}

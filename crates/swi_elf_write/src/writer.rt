@@ -116,7 +116,7 @@ fn append_contents(file: &mut Vec<u8>, segments: &[Segment<'_>]) -> Result<(), M
 /// A file may have no more than 64 headers, so that of a longer program is refused.
 ///
 /// The only error is want of memory. Source: System V ABI, "ELF Header" and "Program Header"; the
-/// order of the parts and the image's header: own rule.
+/// order of the parts and the image's header.
 #[tactic(auto, using(crate::proofs::Headers::sizes))]
 pub fn write_elf(alloc: Global, p: &Program<'_>, image: &Image) -> Result<Vec<u8>, Memory>
     ensures bytes { IfOk result (λ file. file.items ≡ rewritten_file p.now image.now) }

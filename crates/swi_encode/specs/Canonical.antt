@@ -1,4 +1,4 @@
--- Which of an instruction's words is chosen. Own rule; what a FENCE's other fields and the bits aq and rl of an atomic
+-- Which of an instruction's words is chosen. What a FENCE's other fields and the bits aq and rl of an atomic
 -- instruction are for is in the RISC-V unprivileged specification, section 2.7 ("Memory Ordering Instructions") and
 -- section "Specifying Ordering of Atomic Instructions" of the "A" chapter.
 use Rattle.std.specs.Prelude.{ℕ}

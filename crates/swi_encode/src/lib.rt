@@ -223,7 +223,7 @@ fn word(i: &Instr) -> u32
 }
 
 /// The word of a valid instruction: it decodes to the instruction again, and it is the only such word but for
-/// FENCE, whose word is that of `fence iorw, iorw`, and for an atomic, whose bits aq and rl are clear (own rule).
+/// FENCE, whose word is that of `fence iorw, iorw`, and for an atomic, whose bits aq and rl are clear.
 #[tactic(auto, using(crate::proofs::Back::decoded_again))]
 pub fn encode(i: &Instr) -> u32
     requires { IsValid i.now }

@@ -207,7 +207,7 @@ abbrev pub IsAligned : Done → Type 0
 IsAligned (done.Next pc) = pc % 4 ≡ 0
 IsAligned _ = Unit
 
--- where a call, a break or a fault comes after the instruction, registers and memory are as they were. Own rule
+-- where a call, a break or a fault comes after the instruction, registers and memory are as they were.
 abbrev pub StaysUnlessNext : Done → Registers → Registers → List AreaData → List AreaData → Type 0
 StaysUnlessNext (done.Next pc) regs regs' bus bus' = Unit
 StaysUnlessNext _ regs regs' bus bus' = (regs' ≡ regs) × (bus' ≡ bus)

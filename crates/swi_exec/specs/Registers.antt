@@ -1,5 +1,5 @@
 -- The registers of a hart. Source: RISC-V unprivileged specification, "Programmers' Model for Base Integer ISA" (x0 is
--- hardwired to 0), and "Load-Reserved/Store-Conditional Instructions". What is reserved is one address: own rule.
+-- hardwired to 0), and "Load-Reserved/Store-Conditional Instructions". What is reserved is one address.
 use Rattle.std.specs.Prelude.{◌==◌, ℕ, List, slice_index, slice_set, replicate, Option, None, if◌then◌else◌}
 
 -- 32 words, and the address that is reserved
@@ -27,7 +27,7 @@ with_reservation regs a = record regs { reserved = a }
 abbrev pub new_regs : Registers
 new_regs = record { words = replicate 32 0; reserved = None }
 
--- Where a register is written: at its own number, or for x0 at 32, and back. Own rule.
+-- Where a register is written: at its own number, or for x0 at 32, and back.
 abbrev pub place_of : ℕ → ℕ
 place_of r = if r == 0 then 32 else r
 

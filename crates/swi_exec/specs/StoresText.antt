@@ -1,4 +1,4 @@
--- Which instructions would store into the text, and where. Own rule: a program's text is fixed for the cached machine.
+-- Which instructions would store into the text, and where. A program's text is fixed for the cached machine.
 use Rattle.std.specs.Prelude.{ℕ, Bool, ◌&&◌, List, Option, Some, None, if◌then◌else◌}
 use Rattle.swi_isa.specs.declared.instr.AtomicOp.{AtomicOp}
 use Rattle.swi_isa.specs.declared.instr.AtomicOp.TheVariants.{LrW, ScW}

@@ -2,12 +2,12 @@
 #![tactic(auto)]
 
 /// Why a run stops at an instruction, after the exceptions of the RISC-V privileged specification. A misaligned
-/// load or store goes byte by byte, and a misaligned LR.W, SC.W or AMO is an access fault: own rule.
+/// load or store goes byte by byte, and a misaligned LR.W, SC.W or AMO is an access fault.
 #[derive(Clone, Copy, PartialEq, Eq, Debug)]
 pub enum FaultKind {
     /// A taken branch, JAL or JALR goes to an address that is not a multiple of 4.
     FetchMisaligned,
-    /// No text word stands at the pc (own rule).
+    /// No text word stands at the pc.
     FetchAccess,
     /// The word at the pc is no instruction.
     Illegal,

@@ -22,7 +22,7 @@ use swi_memory::Bus;
 /// word stays as it is. The bits aq and rl of the atomic instructions have no meaning on one hart.
 ///
 /// Source: RISC-V unprivileged specification, RV32I, and the M and A extensions. What a misaligned access
-/// does, which accesses fault, and when SC.W stores: own rule.
+/// does, which accesses fault, and when SC.W stores.
 #[inline(always)]
 pub fn exec(instr: &Instr, pc: u32, regs: &mut Regs, bus: &mut Bus) -> Done
     requires { pc % 4 ≡ 0 }

@@ -58,7 +58,7 @@ fn atomic_store(op: AtomicOp, a: u32, regs: &Regs, bus: &Bus) -> Option<u32>
 ///
 /// A store does where it succeeds and one of its bytes is a text word's, an AMO where it doesn't fault, and SC.W
 /// where it succeeds. An ECALL does not: its system call stores after it. A program's text is fixed for the
-/// cached machine: own rule.
+/// cached machine.
 #[inline(always)]
 pub fn text_store(instr: &Instr, regs: &Regs, bus: &Bus) -> Option<u32>
     ensures { result ≡ text_store_of instr.now regs.now bus.now }

@@ -87,7 +87,7 @@ pub fn takes(op: BranchOp, a: u32, b: u32) -> bool
 /// exactly where one of the bytes can't be read.
 ///
 /// Source: RISC-V unprivileged specification, RV32I, "Load and Store Instructions". That a misaligned load goes byte by
-/// byte: own rule.
+/// byte.
 // Each size is a constant, so that the access of that size alone is compiled for it.
 #[inline(always)]
 pub fn load(op: LoadOp, a: u32, bus: &Bus) -> Result<u32, Access>

@@ -1,4 +1,4 @@
--- The command `list`. Own rule.
+-- The command `list`.
 use Rattle.std.specs.Prelude.{◌≡◌, ℕ, zero, suc, List, [], ◌∷◌, ◌++◌, length, None}
 use Rattle.std.specs.Io.KnownBytes.{Appends}
 use Rattle.swi_outside.specs.Causes.{Rose}

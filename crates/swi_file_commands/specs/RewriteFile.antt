@@ -1,4 +1,4 @@
--- The command `rewrite`. Own rule.
+-- The command `rewrite`.
 use Rattle.std.specs.Prelude.{◌≡◌, ℕ, List, [], ◌∷◌, Bool, true, false, Some, None}
 use Rattle.swi_image.specs.Checks.{first_refusal}
 use Rattle.swi_image.specs.Format.{image_of}

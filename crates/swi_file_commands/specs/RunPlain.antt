@@ -1,4 +1,4 @@
--- The command `plain`: a run on the flat machine. Own rule.
+-- The command `plain`: a run on the flat machine.
 use Rattle.std.specs.Prelude.{◌≡◌, ◌⊎◌, ℕ, List, [], ◌∷◌, Some, None, Result, IfOk, IfErr, IsErrOf, ⊤}
 use Rattle.swi_memory.specs.declared.layout.Layout.{Layout}
 use Rattle.swi_program.specs.Program.{ProgramData}

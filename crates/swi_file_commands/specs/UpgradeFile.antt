@@ -1,4 +1,4 @@
--- The command `upgrade`. Own rule.
+-- The command `upgrade`.
 use Rattle.std.specs.Prelude.{◌≡◌, ℕ, List, [], ◌∷◌, Some, None}
 use Rattle.swi_elf_read.specs.Loaded.{image_of as image_in}
 use Rattle.swi_image.specs.Checks.{first_refusal}

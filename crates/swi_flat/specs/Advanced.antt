@@ -1,4 +1,4 @@
--- Runs that ask for no device. Own rule.
+-- Runs that ask for no device.
 use Rattle.std.specs.Prelude.{◌≡◌, ◌+◌, ◌-◌, ℕ, List, Some}
 use Rattle.swi_isa.specs.Decode.{decoded}
 use Rattle.swi_isa.specs.declared.instr.Instr.{Instr}

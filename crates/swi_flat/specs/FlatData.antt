@@ -1,4 +1,4 @@
--- The flat machine as contracts see it, and a run of it that a device broke off (own rule).
+-- The flat machine as contracts see it, and a run of it that a device broke off.
 use Rattle.std.specs.Prelude.{ℕ, ◌-◌, ◌≤◌, List, Bool, Option, Some, false, true}
 use Rattle.swi_memory.specs.Bus.{AreaData}
 use Rattle.swi_calls.specs.Call.{room_of_call, second_argument}

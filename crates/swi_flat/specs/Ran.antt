@@ -1,4 +1,4 @@
--- What a run of the flat machine leaves, by its answer. Own rule.
+-- What a run of the flat machine leaves, by its answer.
 use Rattle.std.specs.Prelude.{◌≡◌, ◌<◌, ◌≤◌, ◌++◌, ℕ, [], None, Some, Result, is_err, OnOk, OnErr, IsErrOf}
 use Rattle.std.specs.Option.{ForSome}
 use Rattle.std.specs.Io.KnownBytes.{Appends}

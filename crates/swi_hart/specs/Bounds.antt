@@ -1,4 +1,4 @@
--- Bounds of the machine steps and of the services of a run, and how a machine step raises them. Own rule.
+-- Bounds of the machine steps and of the services of a run, and how a machine step raises them.
 use Rattle.std.specs.Prelude.{◌≡◌, ℕ, zero, suc, ◌+◌, ◌*◌, ◌≤◌, Bool, true, false, ◌&&◌, Option, Some, None, is_some, if◌then◌else◌}
 use Rattle.swi_calls.specs.declared.end.End.{End}
 use Rattle.swi_calls.specs.declared.end.End.TheVariants as end

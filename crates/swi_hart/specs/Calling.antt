@@ -1,4 +1,4 @@
--- What a word leaves that asks for a system call. Own rule.
+-- What a word leaves that asks for a system call.
 use Rattle.std.specs.Prelude.{◌≡◌, ◌⊎◌, ℕ, ◌+◌, ◌≤◌, ◌<◌, ◌^◌, true, List, [], length, Option, Some, None, Result, Ok, Err, OnOk, OnErr, ⊤}
 use Rattle.std.specs.Option.{ForSome}
 use Rattle.std.specs.Io.KnownBytes.{Appends, Consumes}

@@ -1,4 +1,4 @@
--- A step over a plain word that another hand put into the ram. Own rule.
+-- A step over a plain word that another hand put into the ram.
 use Rattle.std.specs.Prelude.{◌≡◌, ℕ, Bool, true, false, List, [], Option, Some, slice_index, slice_set}
 use Rattle.swi_isa.specs.declared.instr.Instr.{Instr}
 use Rattle.swi_isa.specs.declared.instr.Instr.TheVariants as instr

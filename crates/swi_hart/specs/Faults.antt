@@ -1,4 +1,4 @@
--- The faults of a board. Own rule.
+-- The faults of a board.
 use Rattle.swi_calls.specs.declared.end.CallFault.{CallFault}
 use Rattle.swi_calls.specs.declared.end.CallFault.TheVariants as call
 use Rattle.swi_hart.specs.declared.fault.BoardFault.{BoardFault}

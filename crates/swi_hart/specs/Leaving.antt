@@ -1,4 +1,4 @@
--- Exits and transfers of a board. Own rule.
+-- Exits and transfers of a board.
 use Rattle.std.specs.Prelude.{◌≡◌, ◌⊎◌, ◌==◌, ℕ, ◌+◌, ◌*◌, ◌/◌, ◌%◌, ◌<◌, ◌≤◌, Bool, true, false, not, ◌&&◌, List, ◌∷◌, Option, Some, None, length, slice_index, if◌then◌else◌}
 use Rattle.swi_isa.specs.declared.instr.ImmOp.{ImmOp}
 use Rattle.swi_isa.specs.declared.instr.ImmOp.TheVariants.{Addi}

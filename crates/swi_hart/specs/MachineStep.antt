@@ -1,4 +1,4 @@
--- What a step of the machine leaves, by its answer. Own rule.
+-- What a step of the machine leaves, by its answer.
 use Rattle.std.specs.Prelude.{◌≡◌, ℕ, ◌-◌, ◌^◌, ◌<◌, None, Result, OnOk, OnErr, IsErrOf, true, ◌+◌, ◌≤◌, max, Option, Some, slice_index}
 use Rattle.std.specs.Option.{ForSome}
 use Rattle.swi_outside.specs.CacheRam.{RamState, KeepsBeyond, with_fetch}

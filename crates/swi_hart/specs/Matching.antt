@@ -1,4 +1,4 @@
--- The machine that runs out of a cache ram, against the flat one. Own rule.
+-- The machine that runs out of a cache ram, against the flat one.
 use Rattle.std.specs.Prelude.{◌≡◌, ◌⊎◌, ◌==◌, ℕ, ◌+◌, ◌*◌, ◌/◌, ◌%◌, Bool, true, false, List, Option, Some, None, ⊤}
 use Rattle.swi_isa.specs.declared.instr.Instr.{Instr}
 use Rattle.swi_isa.specs.declared.instr.Instr.TheVariants as instr

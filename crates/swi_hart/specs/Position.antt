@@ -1,4 +1,4 @@
--- Where control is, by the index of the word under control, that of its block's first word, and the block. Own rule.
+-- Where control is, by the index of the word under control, that of its block's first word, and the block.
 use Rattle.std.specs.Prelude.{ℕ, ◌+◌, ◌-◌, ◌%◌, ◌^◌, Option, Some, None}
 use Rattle.swi_hart.specs.declared.hart.Stage.{Stage}
 use Rattle.swi_hart.specs.declared.hart.Control.{Control}

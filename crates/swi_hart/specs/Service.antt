@@ -1,4 +1,4 @@
--- What a service leaves, by the transfer that it serves. Own rule.
+-- What a service leaves, by the transfer that it serves.
 use Rattle.std.specs.Prelude.{◌≡◌, ℕ, ◌-◌, Option, Result, OnOk, OnErr}
 use Rattle.swi_outside.specs.CacheRam.{RamState}
 use Rattle.swi_image.specs.Format.{ImageData}

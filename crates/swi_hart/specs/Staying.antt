@@ -1,4 +1,4 @@
--- A hart whose block stays where it stands, while a service does other work. Own rule.
+-- A hart whose block stays where it stands, while a service does other work.
 use Rattle.std.specs.Prelude.{ℕ, Option, Some, None, ⊤}
 use Rattle.swi_calls.specs.declared.end.End.{End}
 use Rattle.swi_calls.specs.declared.machine.Machine.{Machine}

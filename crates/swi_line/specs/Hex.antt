@@ -1,4 +1,4 @@
--- Words and bytes in hexadecimal digits, lower-case, the highest first. Own rule.
+-- Words and bytes in hexadecimal digits, lower-case, the highest first.
 use Rattle.std.specs.Prelude.{ℕ, List, [], ◌∷◌}
 use Rattle.std.specs.Int.{w32, to_be_bytes}
 use Rattle.hex.specs.Hex.{encode_lower}

@@ -1,4 +1,4 @@
--- The program that is made, as a list of instructions. Own rule; instructions and register names as in the RISC-V
+-- The program that is made, as a list of instructions. Instructions and register names as in the RISC-V
 -- unprivileged specification and the RISC-V ELF psABI ("Register Convention"), the system call 93 as on Linux (exit).
 --
 -- It has C functions, of which function i makes n_i additions, 1 to 16. Eight times over it calls function 0, then

@@ -1,4 +1,4 @@
--- The numbers of a seed, and what they decide: how many additions each function of the program makes. Own rule.
+-- The numbers of a seed, and what they decide: how many additions each function of the program makes.
 use Rattle.std.specs.Prelude.{ℕ, zero, suc, ◌+◌, ◌*◌, ◌/◌, ◌%◌, ◌^◌, List, map}
 use Rattle.std.specs.List.{range_with_len}
 

@@ -50,7 +50,7 @@ fn bytes_of(alloc: Global, words: &[u32]) -> Result<Vec<u8>, Memory>
 /// all functions in order; each adds 1 to a register 1 to 16 times, as the seed's numbers say. Then it exits with the
 /// register's value: 8 times the sum of all additions. It is one text that begins at `BASE`, and so does its run; the
 /// result is the bytes of this text. It has 6 words, 6 for each function, and 1 for each addition. The same seed and
-/// number give the same program (own rule).
+/// number give the same program.
 ///
 /// The only error is want of memory.
 #[tactic(auto, using(crate::proofs::Making::made))]

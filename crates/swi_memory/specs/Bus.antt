@@ -1,7 +1,7 @@
 -- A bus: areas of bytes with rights, in which each byte is looked up by itself.
 -- Source: RISC-V unprivileged specification, section 1.4 "Memory" (2 ^ 32 bytes, each with an address) and
 -- section 2.6 "Load and Store Instructions" (numbers of 1, 2 or 4 bytes, the lowest byte first).
--- The rights of an area, its text words and what is fetched: own rule.
+-- The rights of an area, its text words and what is fetched.
 use Rattle.std.specs.Prelude.{◌≡◌, ◌⊎◌, ◌==◌, ℕ, ◌+◌, ◌-◌, ◌*◌, ◌/◌, ◌%◌, ◌^◌, ◌≤◌, ◌<◌, zero, suc, Bool, true, false, not, ◌&&◌, ◌||◌, nat_lt, nat_le, List, [], ◌∷◌, length, take, drop, slice_index, slice_set, Option, Some, None, Result, Ok, Err, if◌then◌else◌}
 use Rattle.swi_memory.specs.declared.access.Access.{Access}
 pub use Rattle.swi_memory.specs.declared.right.Right.{Right}

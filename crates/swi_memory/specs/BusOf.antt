@@ -1,5 +1,5 @@
 -- The bus at the start of a run: the segments of a program, and the heap and the stack of its layout.
--- Source: System V ABI, "Program Header" (the bytes past the file's are zero). The two regions and the order: own rule.
+-- Source: System V ABI, "Program Header" (the bytes past the file's are zero). The two regions and the order.
 use Rattle.std.specs.Prelude.{◌≡◌, ◌⊎◌, ◌==◌, ℕ, ◌+◌, ◌-◌, ◌≤◌, nat_lt, List, [], ◌∷◌, ◌++◌, length, map, replicate, Option, Some, None, if◌then◌else◌}
 use Rattle.swi_memory.specs.declared.layout.Layout.{Layout}
 use Rattle.swi_memory.specs.Bus.{AreaData, Execute, grants, has_word, number_in}

@@ -1,5 +1,5 @@
 -- Where the areas of a bus are found, and numbers in the bytes of one of them, for the contracts
--- between the parts of this crate. Own rule.
+-- between the parts of this crate.
 use Rattle.std.specs.Prelude.{◌≡◌, ℕ, ◌-◌, ◌<◌, ◌≤◌, true, false, List, [], ◌∷◌, length}
 use Rattle.std.proofs.Common.{get_or}
 use Rattle.swi_memory.specs.declared.bank.Bank.{Bank}

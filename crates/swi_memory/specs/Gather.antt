@@ -1,4 +1,4 @@
--- Places in the order of areas, for the contracts between the parts of this crate. Own rule.
+-- Places in the order of areas, for the contracts between the parts of this crate.
 use Rattle.std.specs.Prelude.{ℕ, ◌+◌, ◌≤◌, ◌^◌, suc, List, [], ◌∷◌, length, nat_lt, if◌then◌else◌}
 use Rattle.swi_memory.specs.Bus.{AreaData}
 use Rattle.swi_memory.specs.Segment.{SegmentData}

@@ -1,4 +1,4 @@
--- Where the text words of a bus lie, for the contracts between the parts of this crate. Own rule.
+-- Where the text words of a bus lie, for the contracts between the parts of this crate.
 use Rattle.std.specs.Prelude.{◌≡◌, ◌==◌, ℕ, ◌+◌, ◌%◌, ◌<◌, ◌≤◌, ◌^◌, ◌&&◌, nat_lt, nat_le, List, [], ◌∷◌, length, if◌then◌else◌}
 use Rattle.std.proofs.Common.{get_or}
 use Rattle.swi_memory.specs.declared.text.Text.{Text}

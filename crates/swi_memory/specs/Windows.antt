@@ -1,4 +1,4 @@
--- The windows of a bus, for the contracts between the parts of this crate. Own rule.
+-- The windows of a bus, for the contracts between the parts of this crate.
 use Rattle.std.specs.Prelude.{◌≡◌, ◌⊎◌, ℕ, ◌+◌, ◌<◌, ◌≤◌, true, false, List, length}
 use Rattle.std.proofs.Common.{get_or}
 use Rattle.swi_memory.specs.declared.window.Window.{Window}

@@ -1,4 +1,4 @@
--- Ranges of words. Own rule.
+-- Ranges of words.
 use Rattle.std.specs.Prelude.{◌≡◌, ◌==◌, ℕ, ◌+◌, ◌*◌, ◌%◌, ◌^◌, ◌<◌, ◌≤◌, ◌&&◌, Bool, nat_le, nat_lt}
 use Rattle.swi_memory.specs.declared.word_range.WordRange.{WordRange}
 

@@ -1,4 +1,4 @@
--- What a write answers and leaves, for the contracts between the parts of this crate. Own rule.
+-- What a write answers and leaves, for the contracts between the parts of this crate.
 use Rattle.std.specs.Prelude.{◌≡◌, Bool, true, false, List, Result, Ok, Err}
 use Rattle.swi_memory.specs.declared.access.Access.{Access}
 use Rattle.swi_memory.specs.Bus.{AreaData}

@@ -27,7 +27,7 @@ use swi_outside::Memory;
 ///
 /// Source: RISC-V unprivileged specification, section 1.4 "Memory" and section 2.6 "Load and Store
 /// Instructions". An access that passes address 2^32 - 1 is refused, a misaligned one works byte by
-/// byte, and only text words are fetched: own rule.
+/// byte, and only text words are fetched.
 #[derive(Drop)]
 pub struct Bus {
     banks: Vec<Bank>,

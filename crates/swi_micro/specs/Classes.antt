@@ -1,4 +1,4 @@
--- The classes of micro-ops by their codes. Own rule.
+-- The classes of micro-ops by their codes.
 use Rattle.std.specs.Prelude.{◌≡◌, ◌==◌, ℕ, ◌/◌, ◌%◌, ◌^◌, Bool, true, false}
 use Rattle.std.proofs.Common.{refl}
 use Rattle.swi_micro.specs.declared.class.Class.{Class}

@@ -1,4 +1,4 @@
--- Micro-ops that stand beside the words of a range. `words` says which word stands at an address, and where none does. Own rule.
+-- Micro-ops that stand beside the words of a range. `words` says which word stands at an address, and where none does.
 use Rattle.std.specs.Prelude.{◌≡◌, ◌⊎◌, ℕ, ◌+◌, ◌<◌, ◌≤◌, List, length, slice_set, Option, Some, None}
 use Rattle.std.proofs.Common.{get_or}
 use Rattle.swi_isa.specs.declared.instr.Instr.{Instr}

@@ -1,4 +1,4 @@
--- Micro-ops of words apart from where they stand. Own rule.
+-- Micro-ops of words apart from where they stand.
 use Rattle.std.specs.Prelude.{◌≡◌, ◌==◌, ℕ, ◌+◌, ◌/◌, ◌%◌, ◌^◌, ◌<◌, nat_lt, Bool, true, false}
 use Rattle.swi_isa.specs.declared.instr.BranchOp.{BranchOp}
 use Rattle.swi_isa.specs.declared.instr.Instr.{Instr}

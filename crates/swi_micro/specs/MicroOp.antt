@@ -1,4 +1,4 @@
--- The micro-op of an instruction that is the word with this index of a range of words. Own rule.
+-- The micro-op of an instruction that is the word with this index of a range of words.
 use Rattle.std.specs.Prelude.{◌==◌, ℕ, ◌+◌, ◌-◌, ◌*◌, ◌/◌, ◌%◌, ◌^◌, ◌&&◌, nat_lt, Option, Some, None, if◌then◌else◌}
 use Rattle.swi_isa.specs.declared.instr.BranchOp.{BranchOp}
 use Rattle.swi_isa.specs.declared.instr.BranchOp.TheVariants as branch

@@ -1,4 +1,4 @@
--- What a micro-op does to registers and memory, and the index of the word at which it goes on. Own rule; the law `agrees` ties it to
+-- What a micro-op does to registers and memory, and the index of the word at which it goes on. The law `agrees` ties it to
 -- what its instruction does.
 use Rattle.std.specs.Prelude.{◌≡◌, ◌==◌, ℕ, ◌+◌, ◌*◌, ◌/◌, Bool, not, List, Option, Some, None, if◌then◌else◌}
 use Rattle.swi_isa.specs.declared.instr.BranchOp.{BranchOp}

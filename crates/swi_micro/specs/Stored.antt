@@ -1,4 +1,4 @@
--- What the micro-op of a store stores, into the text too. Own rule; the law `store_agrees` ties it to what its instruction does.
+-- What the micro-op of a store stores, into the text too. The law `store_agrees` ties it to what its instruction does.
 use Rattle.std.specs.Prelude.{ℕ, List, Option, Some, None, if◌then◌else◌}
 use Rattle.swi_memory.specs.declared.right.Right.TheVariants.{Write}
 use Rattle.swi_memory.specs.Bus.{AreaData, holds, stored}

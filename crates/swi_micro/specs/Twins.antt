@@ -1,4 +1,4 @@
--- Micro-ops that stand beside the words of a ram. Own rule.
+-- Micro-ops that stand beside the words of a ram.
 use Rattle.std.specs.Prelude.{◌≡◌, ℕ, ◌+◌, ◌<◌, ◌≤◌, ◌^◌, if◌then◌else◌, nat_lt, List, length, slice_index, slice_set, Option, Some, None}
 use Rattle.std.proofs.Common.{get_or}
 use Rattle.swi_isa.specs.declared.instr.Instr.{Instr}

@@ -1,4 +1,4 @@
--- A cache ram: its words, and what was done to it. Own rule.
+-- A cache ram: its words, and what was done to it.
 use Rattle.std.specs.Prelude.{◌≡◌, ◌⊎◌, ℕ, ◌+◌, ◌<◌, ◌≤◌, max, Bool, true, false, List, ◌∷◌, length, slice_index, slice_set, Result, Ok, Err}
 use Rattle.swi_outside.specs.Causes.{Rose, counted, risen}
 

@@ -1,4 +1,4 @@
--- Counts of faults, and the answers that they license. Own rule: a failed answer has a cause that can
+-- Counts of faults, and the answers that they license. A failed answer has a cause that can
 -- be seen, the device's count of faults, which stands still at its type's last value.
 use Rattle.std.specs.Prelude.{◌≡◌, ◌⊎◌, ℕ, ◌+◌, ◌-◌, ◌^◌, ◌≤◌, min, max, Result, OnErr, OnOk}
 

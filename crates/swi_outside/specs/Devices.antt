@@ -1,4 +1,4 @@
--- The devices of a run but for the ram, and the one rule of their faults. Own rule.
+-- The devices of a run but for the ram, and the one rule of their faults.
 use Rattle.std.specs.Prelude.{ℕ}
 use Rattle.swi_outside.specs.Causes.{DeviceCause, PairCause}
 use Rattle.swi_outside.specs.Source.{SourceState}

@@ -1,4 +1,4 @@
--- Contents under names, and the last call that failed. Own rule.
+-- Contents under names, and the last call that failed.
 use Rattle.std.specs.Prelude.{◌≡◌, ◌≢◌, ℕ, ◌<◌, ◌≤◌, List, length, Option, Some, None, ⊤, Result, Err, IfOk, OnOk, Vec}
 use Rattle.std.specs.declared.alloc.Global.{Global}
 use Rattle.swi_outside.specs.Causes.{Rose, counted}

@@ -1,4 +1,4 @@
--- A sink: its bytes, and its count of faults, and what it does with a piece, where it tells what it holds. Own rule.
+-- A sink: its bytes, and its count of faults, and what it does with a piece, where it tells what it holds.
 use Rattle.std.specs.Prelude.{ℕ, List, ◌++◌, take, Option, Result, MatchResult}
 use Rattle.std.specs.Io.KnownBytes.{Appends}
 use Rattle.swi_outside.specs.Causes.{HasCause}

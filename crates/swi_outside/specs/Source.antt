@@ -1,4 +1,4 @@
--- A source: its bytes, and its count of faults. Own rule. What a read does to the bytes that a source has left is std's
+-- A source: its bytes, and its count of faults. What a read does to the bytes that a source has left is std's
 -- `ReadConsumes`.
 use Rattle.std.specs.Prelude.{ℕ, List, Option, Result}
 use Rattle.std.specs.Io.KnownBytes.{ReadConsumes}

@@ -1,6 +1,6 @@
 -- A program: an entry address, the flags of an ELF header and the segments that a run loads.
 -- Source: System V ABI, "ELF Header" (e_entry, e_flags) and "Program Header" (PT_LOAD); RISC-V ELF psABI, "File
--- Header" (bits 0 to 3 of e_flags). The limits on sizes and that there is one executable segment: own rule.
+-- Header" (bits 0 to 3 of e_flags). The limits on sizes and that there is one executable segment.
 use Rattle.std.specs.Prelude.{◌≡◌, ℕ, ◌+◌, ◌%◌, ◌^◌, ◌<◌, ◌≤◌, Bool, true, List, [], ◌∷◌, length, map, filter, sum_by}
 use Rattle.std.specs.List.{list_any}
 pub use Rattle.swi_memory.specs.Segment.{SegmentData}

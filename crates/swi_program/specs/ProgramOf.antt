@@ -1,6 +1,6 @@
 -- The program of a file, that of a text alone, and words as bytes.
 -- Source: System V ABI, "Program Loading": each PT_LOAD entry gives a segment, in the order of the table.
--- The program of a text alone: own rule.
+-- The program of a text alone.
 use Rattle.std.specs.Prelude.{ℕ, List, [], ◌∷◌, ◌++◌, length, map}
 use Rattle.byteorder.specs.Endian.{little_bytes}
 use Rattle.swi_elf_read.specs.Elf.{e_entry, e_flags}

@@ -1,6 +1,6 @@
 -- The text of a program: the instruction words of its executable segment.
 -- Source: RISC-V unprivileged specification, section 1.5 "Base Instruction-Length Encoding" (32-bit instructions are
--- aligned on 4 bytes, and parcels are little-endian). That the words past the file's bytes are none: own rule.
+-- aligned on 4 bytes, and parcels are little-endian). That the words past the file's bytes are none.
 use Rattle.std.specs.Prelude.{◌≡◌, ℕ, zero, suc, ◌+◌, ◌-◌, ◌*◌, ◌/◌, ◌%◌, ◌^◌, ◌≤◌, ◌<◌, ◌==◌, ◌&&◌, nat_le, if◌then◌else◌, slice_index, List, [], ◌∷◌, length, drop, find, Option, Some, None}
 use Rattle.byteorder.specs.Endian.{little_number}
 use Rattle.swi_elf_read.specs.ProgramHeaders.{round_up_4}

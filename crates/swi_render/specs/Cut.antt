@@ -1,4 +1,4 @@
--- What fits into blocks, and how a text is cut into them. Own rule.
+-- What fits into blocks, and how a text is cut into them.
 use Rattle.std.specs.Prelude.{◌≡◌, ℕ, ◌+◌, ◌<◌, ◌≤◌, length, slice_index}
 use Rattle.swi_program.specs.Text.{TextData}
 use Rattle.swi_image.specs.Format.{ImageData}

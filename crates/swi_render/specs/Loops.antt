@@ -1,5 +1,5 @@
 -- The cut that keeps each LR/SC sequence in one block where a block has room for it, and that is the greedy cut
--- everywhere else. Own rule, over the sequences of the RISC-V unprivileged specification (section "Eventual Success of
+-- everywhere else. Over the sequences of the RISC-V unprivileged specification (section "Eventual Success of
 -- Store-Conditional Instructions"): one begins with an LR and ends with an SC, and its loop has at most 16 instructions,
 -- placed sequentially in memory.
 use Rattle.std.specs.Prelude.{◌≡◌, ◌≢◌, ◌⊎◌, ℕ, ◌+◌, ◌<◌, ◌≤◌, length, slice_index, Option, Some, None}

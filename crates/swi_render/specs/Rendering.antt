@@ -1,4 +1,4 @@
--- What a text word becomes in a block. Own rules, over the instructions of the RISC-V unprivileged specification.
+-- What a text word becomes in a block. Over the instructions of the RISC-V unprivileged specification.
 -- Address sums are modulo 2^32.
 use Rattle.std.specs.Prelude.{◌≡◌, ℕ, ◌+◌, ◌-◌, ◌*◌, ◌/◌, ◌%◌, ◌^◌, ◌<◌, ◌==◌, Bool, true, false, List, [], ◌∷◌, ◌++◌, length, get_or, map, Option, Some, None, if◌then◌else◌}
 use Rattle.swi_isa.specs.Decode.{decoded}

@@ -1,4 +1,4 @@
--- What a copy engine beside the cache's service has done, as text (own rule).
+-- What a copy engine beside the cache's service has done, as text.
 use Rattle.std.specs.Prelude.{ℕ, List, [], ◌∷◌, codes}
 use Rattle.std.specs.List.{flat_map}
 use Rattle.swi_report.specs.Stats.{count_line}

@@ -1,4 +1,4 @@
--- The counts of programs that share a cache, as text (own rule).
+-- The counts of programs that share a cache, as text.
 use Rattle.std.specs.Prelude.{ℕ, List, [], ◌∷◌, codes}
 use Rattle.std.specs.List.{flat_map}
 use Rattle.swi_report.specs.Stats.{count_line}

@@ -1,4 +1,4 @@
--- The state after a run as text (own rule): the pc, the registers and the break, a line each, then the
+-- The state after a run as text: the pc, the registers and the break, a line each, then the
 -- memory that can be written.
 use Rattle.std.specs.Prelude.{ℕ, zero, suc, ◌+◌, ◌-◌, ◌*◌, ◌/◌, Bool, false, nat_le, nat_lt, List, [], ◌∷◌, ◌++◌, length, map, slice_get, codes, decimal, Option, Some, None, if◌then◌else◌}
 use Rattle.std.specs.List.{flat_map, list_any}

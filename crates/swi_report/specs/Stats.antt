@@ -1,4 +1,4 @@
--- The counts of a run as text (own rule).
+-- The counts of a run as text.
 use Rattle.std.specs.Prelude.{ℕ, List, [], ◌∷◌, ◌++◌, codes, decimal, Option, Some, None}
 use Rattle.std.specs.List.{flat_map}
 use Rattle.swi_report.specs.declared.stats.Work.{Work}

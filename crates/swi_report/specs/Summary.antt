@@ -1,4 +1,4 @@
--- The summary of a run of a program that was made from a number, as text (own rule).
+-- The summary of a run of a program that was made from a number, as text.
 use Rattle.std.specs.Prelude.{ℕ, List, [], ◌∷◌, ◌++◌, codes, Some}
 use Rattle.std.specs.List.{flat_map}
 use Rattle.swi_report.specs.Stats.{count_line, stats_text_of}

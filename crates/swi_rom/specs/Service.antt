@@ -1,4 +1,4 @@
--- What a cache service is: what it keeps, the policy by which that goes on, and the laws that every service keeps. Own rule.
+-- What a cache service is: what it keeps, the policy by which that goes on, and the laws that every service keeps.
 use Rattle.std.specs.Prelude.{◌≡◌, ℕ, ◌+◌, ◌≤◌, ◌^◌, List, [], Option, None, true}
 use Rattle.swi_image.specs.Format.{ImageData}
 use Rattle.swi_image.specs.Place.{word_at, place_of}

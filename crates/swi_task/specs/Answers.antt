@@ -1,4 +1,4 @@
--- Which answer comes, of any command, and what stands with it. Own rule.
+-- Which answer comes, of any command, and what stands with it.
 use Rattle.std.specs.Prelude.{◌≡◌, ◌⊎◌, ℕ, ◌+◌, ◌/◌, ◌<◌, ◌≤◌, List, length, take, Option, Some, None, Result, Ok, Err, IfOk, IfErr, OnOk, OnErr, IsErrOf, Contains, ⊤}
 use Rattle.std.specs.Io.KnownBytes.{Appends}
 use Rattle.swi_outside.specs.CacheRam.{KeepsBeyond, RamState}

@@ -1,4 +1,4 @@
--- The faults of the devices that were handed in, and the answers that they license. Own rule.
+-- The faults of the devices that were handed in, and the answers that they license.
 use Rattle.std.specs.Prelude.{Result, IsErrOf}
 use Rattle.swi_outside.specs.Causes.{DeviceCause}
 use Rattle.swi_outside.specs.Devices as outside

@@ -1,4 +1,4 @@
--- The devices that are handed in, each by what it tells of itself before and after a call. Own rule.
+-- The devices that are handed in, each by what it tells of itself before and after a call.
 use Rattle.std.specs.Prelude.{◌≡◌, ℕ, List, length, take}
 use Rattle.std.specs.Io.KnownBytes.{Appends}
 use Rattle.swi_outside.specs.CacheRam.{RamState}

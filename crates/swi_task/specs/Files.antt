@@ -1,4 +1,4 @@
--- The files of a command: each call of the shelf for one, by what the command makes of its answer. Own rule.
+-- The files of a command: each call of the shelf for one, by what the command makes of its answer.
 use Rattle.std.specs.Prelude.{◌≡◌, ℕ, List, Result, Ok, Err, Vec}
 use Rattle.std.specs.declared.alloc.Global.{Global}
 use Rattle.swi_outside.specs.Shelf.{ShelfState, WasGot, WasPut}

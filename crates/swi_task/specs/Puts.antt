@@ -1,4 +1,4 @@
--- What stands after a command that writes a file. Own rule.
+-- What stands after a command that writes a file.
 use Rattle.std.specs.Prelude.{◌≡◌, ℕ, List}
 use Rattle.swi_outside.specs.Shelf.{Stands}
 use Rattle.swi_answer.specs.declared.answer.Ending.{Ending}

@@ -1,4 +1,4 @@
--- The run of a file's program, and what it leaves. Own rule; the machine is that of the RISC-V unprivileged specification.
+-- The run of a file's program, and what it leaves. The machine is that of the RISC-V unprivileged specification.
 use Rattle.std.specs.Prelude.{◌≡◌, ◌⊎◌, ℕ, ◌<◌, ◌≤◌, List, [], ◌++◌, length, take, Option, Some, None, Result, Ok, Err, if◌then◌else◌}
 use Rattle.std.specs.Io.KnownBytes.{Appends, Consumes}
 use Rattle.swi_outside.specs.Causes.{Rose}

@@ -1,4 +1,4 @@
--- What a command works on: a program, and an image of its text. Own rule.
+-- What a command works on: a program, and an image of its text.
 use Rattle.std.specs.Prelude.{◌≡◌, ℕ, List, Option, Some, None, Ok}
 use Rattle.swi_elf_read.specs.Loaded.{image_of as image_in}
 use Rattle.swi_image.specs.Format.{ImageData, image_of}

@@ -1,4 +1,4 @@
--- A command as one record: what it reads, what is checked before it does anything, what it does, and what it leaves. Own rule.
+-- A command as one record: what it reads, what is checked before it does anything, what it does, and what it leaves.
 use Rattle.std.specs.Prelude.{◌≡◌, ℕ, List, Option, Some, None}
 use Rattle.swi_outside.specs.Shelf.{Contents}
 use Rattle.swi_answer.specs.declared.answer.Ending.{Ending}

@@ -11,7 +11,7 @@ use swi_outside::CacheRam;
 const CACHE_LIMIT: u32 = 1 << 23;
 
 /// Refuses a cache by its size alone, before a file is read: first one of more than 2^23 bytes, by CacheLarge; then one of
-/// more bytes than the ram has, by RamSmall. Both carry their sizes in bytes. No other error comes. Own rule.
+/// more bytes than the ram has, by RamSmall. Both carry their sizes in bytes. No other error comes.
 pub fn check_size<R: CacheRam>(bytes: u32, ram: &R) -> Result<(), Refusal>
     ensures ok { OnOk result (size_refusal bytes (length (R.state ram.now).words) ≡ None) }
     ensures refused { IfErr result (λ r. size_refusal bytes (length (R.state ram.now).words) ≡ Some r) }
@@ -27,7 +27,7 @@ pub fn check_size<R: CacheRam>(bytes: u32, ram: &R) -> Result<(), Refusal>
 }
 
 /// Refuses a cache that has fewer bytes than a block of so many words, 4 bytes each and at most 1024. The one error is
-/// CacheSmall, which carries both sizes in bytes. Own rule.
+/// CacheSmall, which carries both sizes in bytes.
 pub fn check_block(bytes: u32, block_words: u32) -> Result<(), Refusal>
     requires most { block_words ≤ 1024 }
     ensures holds { OnOk result (Passes (HoldsBlock bytes (4 * block_words))) }

@@ -31,7 +31,7 @@ fn refusal_by(error: ShelfError) -> Refusal
 /// stays.
 ///
 /// ShelfFault comes where the shelf failed, FileLong where more bytes stand under the name, and Memory where there was none
-/// for the content. Own rule.
+/// for the content.
 pub fn read_file<F: Shelf>(alloc: Global, shelf: &mut F, name: &str) -> Result<Vec<u8>, Refusal>
     ensures read { FileRead (F.state shelf.old) (F.state shelf.new) name.now result }
     ensures within { IfOk result (λ bytes. length bytes.items ≤ file_limit) }
@@ -46,7 +46,7 @@ pub fn read_file<F: Shelf>(alloc: Global, shelf: &mut F, name: &str) -> Result<V
 /// name stays.
 ///
 /// After ShelfFault, where the shelf failed, nothing is known of that name; after Memory every content is as it was. No
-/// other error comes. Own rule.
+/// other error comes.
 pub fn write_file<F: Shelf>(
     alloc: Global,
     shelf: &mut F,

@@ -32,7 +32,7 @@ pub fn ending_by(end: Option<End>, pc: u32, steps: u64) -> Ending
 /// memory), and then the counts, the steps first. A run on the flat machine has no counts but its steps.
 ///
 /// Failed comes only where the output's count of faults rose, and only where something is to be written; the output then
-/// holds a front of it. Own rule.
+/// holds a front of it.
 #[tactic(auto, using(swi_outside::proofs::SinkLemmas::prefix_first, swi_outside::proofs::SinkLemmas::prefix_last, crate::proofs::Due::state_due, crate::proofs::Due::stats_due))]
 pub fn write_report<O: Sink>(
     reports: &Reports,

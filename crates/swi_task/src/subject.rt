@@ -51,7 +51,7 @@ pub fn load<'a>(alloc: Global, elf: &Elf<'a>) -> Result<Program<'a>, Refusal>
 /// program's text.
 ///
 /// Image is by the first check of an image that fails. Where all pass, Mismatch comes exactly where the image is none of the
-/// text, and carries the first difference. No other error comes. Own rule.
+/// text, and carries the first difference. No other error comes.
 pub fn own_image<'a>(program: &Program<'_>, bytes: &'a [u8]) -> Result<ImageView<'a>, Refusal>
     requires within { length bytes.now ≤ file_limit }
     ensures view { IfOk result (λ v. v ≡ image_of bytes.now) }
@@ -68,7 +68,7 @@ pub fn own_image<'a>(program: &Program<'_>, bytes: &'a [u8]) -> Result<ImageView
 /// The cut of a program's text into blocks of at most so many words, 2 to 1024, in the way that is asked for.
 ///
 /// Long comes where a text word needs more words than that; it carries the first such word's address, and how many it needs.
-/// The only other error is Memory. Own rule.
+/// The only other error is Memory.
 pub fn cut_image_by(
     alloc: Global,
     program: &Program<'_>,
@@ -152,7 +152,7 @@ fn subject_image<'a>(
 ///
 /// An image of the file that is not accepted is refused by Image, one that is none of the text by Mismatch; where there is
 /// none, a text word that fits into no block by Long. The refusal is by the first of these checks that fails; the only other
-/// error is Memory. Own rule.
+/// error is Memory.
 pub fn subject_of<'a>(
     alloc: Global,
     elf: &Elf<'a>,
@@ -182,7 +182,7 @@ pub struct Prepared<'a> {
 /// The program of an accepted file, with the layout that these limits give it: heap and stack, in bytes, behind its segments.
 ///
 /// Room comes exactly where the stack would end past 2^32, and carries that end; the only other error is Memory, which may
-/// come first. Own rule.
+/// come first.
 pub fn prepare<'a>(
     alloc: Global,
     elf: &Elf<'a>,

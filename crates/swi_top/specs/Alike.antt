@@ -1,4 +1,4 @@
--- When a command ends, and how a program ends alike on both machines. Own rule.
+-- When a command ends, and how a program ends alike on both machines.
 use Rattle.std.specs.Prelude.{◌≡◌, ℕ, ◌<◌, List, [], ◌++◌, length, false, Some, None, Result, Ok, IsErrOf}
 use Rattle.std.specs.Io.KnownBytes.{Appends}
 use Rattle.swi_outside.specs.Causes.{Rose}

@@ -1,4 +1,4 @@
--- The record of each command. Own rule.
+-- The record of each command.
 use Rattle.swi_command.specs.CommandLine.{Request, RewriteFile, RunAhead, RunShared, RunCached, RunPlain, ListFile, CheckFile, UpgradeFile, MeasureMade}
 use Rattle.swi_task.specs.Task.{Task}
 use Rattle.swi_file_commands.specs.RewriteFile.{rewrite_task}

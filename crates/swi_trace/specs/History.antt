@@ -1,4 +1,4 @@
--- The last of many addresses. Own rule.
+-- The last of many addresses.
 use Rattle.std.specs.Prelude.{◌≡◌, ℕ, ◌-◌, List, length, drop}
 
 -- the last n of a list, or the whole where it has fewer

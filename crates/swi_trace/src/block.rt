@@ -100,7 +100,7 @@ fn list_line(text: &TextView<'_>, image: &ImageView<'_>, block: u32, offset: u32
 /// ```
 ///
 /// The image is one of the program, and the block one of its blocks, counted from 0. Failed only where the
-/// sink's count of faults rose; it then holds a front of the listing. Source: own rule.
+/// sink's count of faults rose; it then holds a front of the listing.
 pub fn list_block<S: Sink>(
     p: &Program<'_>,
     image: &ImageView<'_>,

@@ -230,7 +230,7 @@ pub fn push_text_of(line: &mut Line, w: u32, a: u32)
 /// | FENCE, ECALL, EBREAK | `fence` |
 ///
 /// Source: the names of instructions and registers, RISC-V unprivileged specification ("RV32/64G Instruction Set
-/// Listings", "RISC-V Assembly Programmer's Handbook"); the forms, own rule.
+/// Listings", "RISC-V Assembly Programmer's Handbook"); the forms are this project's.
 pub fn text_of(w: u32, a: u32) -> Line
     ensures bytes { result ≡ text_of_word w a }
     ensures short { length result ≤ TEXT_ROOM }
@@ -241,7 +241,7 @@ pub fn text_of(w: u32, a: u32) -> Line
 }
 
 /// The line of a step at the address `a`, with its newline: the address, the text word `w` that stands there, and
-/// its text. Where no text word stands at the address, `w` is None. Source: own rule.
+/// its text. Where no text word stands at the address, `w` is None.
 ///
 /// ```text
 /// 00010008 00000073 ecall
