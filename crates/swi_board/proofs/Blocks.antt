@@ -13,7 +13,7 @@ use Rattle.swi_hart.specs.declared.hart.Stage.{Stage}
 use Rattle.swi_hart.specs.declared.hart.Control.{Control}
 use Rattle.swi_hart.specs.declared.hart.Control.TheVariants.{At}
 use Rattle.swi_hart.specs.declared.hart.Role.{Role}
-use Rattle.swi_hart.specs.Hart.{HartData, Stepped, exit_kind, hart_after, word_stepped, original, is_between}
+use Rattle.swi_hart.specs.Hart.{HartData, Stepped, exit_kind, hart_after, word_stepped, original}
 use Rattle.swi_hart.specs.declared.hart.ExitKind.{ExitKind}
 use Rattle.swi_hart.specs.declared.hart.ExitKind.TheVariants.{Direct}
 use Rattle.swi_hart.specs.Bounds.{Grown, most, depth}
@@ -22,15 +22,14 @@ use Rattle.swi_hart.specs.Calling.{Did, Made}
 use Rattle.swi_hart.specs.Leaving.{ExitHome, Home, exit_transfer, leaves, quick_role, step_to, transfer_at, moved, RamServed}
 use Rattle.swi_board.specs.Walked.{WordOn, LinkOn, JumpOn, StepOn, WalkedOn, Walked, StandsInside, StoppedAt, BlockRan}
 use Rattle.swi_hart.proofs.Homes.{home}
-use Rattle.swi_hart.proofs.Fitting.{own_matches}
 use Rattle.swi_hart.proofs.Fetching.{placed, got_some, index_below, index_fits, exit_home, exit_moves, word_home, word_moves, counted_hart, did_quiet}
 use Rattle.swi_hart.proofs.Steps.{made_exit, fits_exit, made_word, fits_word, ram_exit}
 use Rattle.swi_hart.proofs.Falls.{leave_at}
 use Rattle.swi_hart.proofs.Leaving.{jump_linked}
 use Rattle.swi_hart.proofs.Grown.{grown_exit, grown_word, moved_services}
 use Rattle.swi_hart.proofs.Growing.{depth_most}
-use Rattle.swi_board.proofs.Running.{Point, Course, Running, most_running, runs_on, falls, no_less, count_small, calls_small}
-use Rattle.swi_board.proofs.Settling.{settles_on}
+use Rattle.swi_board.specs.Tracking.{Course, Point, Running}
+use Rattle.swi_board.proofs.Running.{most_running, runs_on, falls, no_less, count_small, calls_small}
 
 -- an exit of this kind is a direct one
 direct_kind : (d : ℕ) → d % 4 ≡ 0 → exit_kind d ≡ Direct
@@ -57,15 +56,12 @@ pub record Laws (policy : Record → ImageData → Transfer → Record) : Type 0
 
 -- what holds behind each step of a stretch of a run that asks neither the ram, but for its fetch, nor a device, which began at `first`
 pub record Stretch (run : Course) (first : Point) (kept : Record) (h : HartData) (ram : RamState) : Type 0 where
-  pub fits : Fits run.image run.from.kept run.from.hart
   pub small : run.limit ≤ 2 ^ 48
   pub coherent : Coherent run.image kept run.span ram.words
   pub laws : Laws run.policy
   pub below : first.hart.machine.steps < run.limit
   pub went : first.hart.machine.ending ≡ None
   pub running : Running run (record first { hart = h; kept = kept; ram = ram })
-  pub settles : (l : List ℕ) → run.from.left ≡ Some l → is_between run.from.hart.control ≡ true → h.machine.ending ≡ None →
-      (h.machine.steps < run.limit) ⊎ (is_between h.control ≡ true)
   pub words : ram.words ≡ first.ram.words
   pub quiet : ram.faults ≡ first.ram.faults
   pub going : h.machine.ending ≡ None
@@ -206,18 +202,13 @@ module _ {run : Course} {first : Point} where
       let stepped = ram_exit run.span (writes r' - writes r) w.index w.block w.offset w.stage h.control ram ram' ram' w.control
       (used s w.control) w.fetched all.ram in
       record {
-        fits = s.fits;
         small = s.small;
         coherent = all.coherent;
         laws = s.laws;
         below = s.below;
         went = s.went;
         running = runs_on s.running below s.going s.short s.small {next = record first { hart = h'; kept = r'; ram = ram' }} stepped
-            (no_less s.running all.moves (λ n. writes n) s.laws.written) all.fits all.grown all.moves all.made s.coherent.once;
-        settles = λ l told between going.
-            let now = s.running.goes l told run.from.hart.machine s.fits.image
-            (own_matches run.image run.from.kept run.from.hart.machine run.from.hart.control between s.fits.place) in
-            settles_on below (all.made now.now.input now.left_is) going;
+            all.fits all.grown all.moves all.made s.coherent.once;
         words = ap (λ (k : RamState). k.words) w.fetched ∙ s.words;
         quiet = ap (λ (k : RamState). k.faults) w.fetched ∙ s.quiet;
         going = w.going;
@@ -238,20 +229,16 @@ module _ {run : Course} {first : Point} where
   walk s Walked.here = s
   walk s (Walked.on r1 r2 h1 h2 ram1 ram2 w below k) = one (walk s w) below k
 
-  pub begins : {h : HartData} → Running run first → ((l : List ℕ) → run.from.left ≡ Some l → is_between run.from.hart.control ≡ true →
-      first.hart.machine.ending ≡ None → (first.hart.machine.steps < run.limit) ⊎ (is_between first.hart.control ≡ true)) →
-      Fits run.image run.from.kept run.from.hart → run.limit ≤ 2 ^ 48 → Coherent run.image first.kept run.span first.ram.words → Laws run.policy →
+  pub begins : {h : HartData} → Running run first → run.limit ≤ 2 ^ 48 → Coherent run.image first.kept run.span first.ram.words → Laws run.policy →
       h ≡ first.hart → h.machine.steps < run.limit → first.hart.machine.ending ≡ None → first.hart.machine.pc < 2 ^ 32 →
       Stretch run first first.kept first.hart first.ram
-  begins {h} running settles fits small coherent laws same below going short = record {
-    fits = fits;
+  begins {h} running small coherent laws same below going short = record {
     small = small;
     coherent = coherent;
     laws = laws;
     below = subst (λ (k : HartData). k.machine.steps < run.limit) same below;
     went = going;
     running = running;
-    settles = settles;
     words = refl;
     quiet = refl;
     going = going;
