@@ -1,5 +1,5 @@
 -- A run over whole boards: what holds all along it, and what stands at its end.
-use Rattle.std.proofs.Common.{◌≡◌, ◌⊎◌, ℕ, ◌^◌, ◌<◌, ◌≤◌, List, Option, Some, None, is_some, true, Ok, Err, slice_index, refl, ap, ◌∙◌, inl, inr, arith}
+use Rattle.std.proofs.Common.{◌≡◌, ◌⊎◌, ℕ, suc, ◌^◌, ◌<◌, ◌≤◌, List, Option, Some, None, is_some, true, Ok, Err, slice_index, refl, ap, ◌∙◌, inl, inr, arith}
 use Rattle.std.proofs.lemmas.Bool.{false≢true}
 use Rattle.swi_outside.specs.CacheRam.{RamState}
 use Rattle.swi_outside.specs.Laws.{ok_unmoved}
@@ -17,9 +17,9 @@ use Rattle.swi_hart.specs.Hart.{HartData, is_between}
 use Rattle.swi_hart.specs.Matching.{Agrees, Fits, Matches}
 use Rattle.swi_hart.specs.MachineStep.{BoardStepped}
 use Rattle.swi_board.specs.Board.{BoardWithDevices}
-use Rattle.swi_board.specs.BoardRan.{Along, BoardRan, course_of, with_ram}
+use Rattle.swi_board.specs.BoardRan.{Along, BoardRan, BoardStays, course_of, with_ram}
 use Rattle.swi_board.specs.Tracking.{point_of}
-use Rattle.swi_board.proofs.Running.{no_less, runs_on, started_run}
+use Rattle.swi_board.proofs.Running.{came_none, came_on, no_less, stays_none, stays_on}
 use Rattle.swi_board.proofs.Blocks.{Stretch, begins}
 
 -- the machines have the same memory
@@ -48,9 +48,9 @@ same_between v r f m c = by m.ending c
     by None Outside between a = a.0
 
 module _ {S : Type 0} {k : ServiceOf S} {v : ImageData} {n : ℕ} {old : BoardWithDevices S} where
-  pub along_start : Fits v (k.kept old.rom) old.hart → old.hart.machine.steps ≤ n → k.sound old.rom v old.ram.words → Along k v n old old
-  along_start fits le sound = record {
-    running = started_run {run = course_of k v n old} fits le;
+  pub stays_start : Fits v (k.kept old.rom) old.hart → old.hart.machine.steps ≤ n → k.sound old.rom v old.ram.words → BoardStays k v n old old
+  stays_start fits le sound = record {
+    point = stays_none {run = course_of k v n old} fits le;
     setting = refl;
     sound = sound;
     keeps = λ images serves. serves;
@@ -58,18 +58,24 @@ module _ {S : Type 0} {k : ServiceOf S} {v : ImageData} {n : ℕ} {old : BoardWi
     quiet = refl;
   }
 
+  pub along_start : Fits v (k.kept old.rom) old.hart → old.hart.machine.steps ≤ n → k.sound old.rom v old.ram.words → Along k v n old old
+  along_start fits le sound = record {
+    made = 0;
+    came = came_none (k.policy (k.setting old.rom)) (k.span (k.setting old.rom)) v n (point_of k old);
+    stays = stays_start fits le sound;
+  }
+
   -- a machine step more
-  pub steps_on : {now next : BoardWithDevices S} {u : Unit} → Along k v n old now → IsService k → n ≤ 2 ^ 48 →
-      now.hart.machine.steps < n → now.hart.machine.ending ≡ None → now.hart.machine.pc < 2 ^ 32 →
-      BoardStepped k v (with_ram now) (with_ram next) now.devices next.devices (Ok u) → Along k v n old next
-  steps_on {now} {next} {u} was laws limit more running word s =
+  pub stays_step : {now next : BoardWithDevices S} {u : Unit} → BoardStays k v n old now → IsService k →
+      now.hart.machine.steps < n → now.hart.machine.ending ≡ None →
+      BoardStepped k v (with_ram now) (with_ram next) now.devices next.devices (Ok u) → BoardStays k v n old next
+  stays_step {now} {next} {u} was laws more running s =
       let moves = rw was.setting at s.policy in
       let stepped = rw was.setting at s.ram in
-      let grows = no_less was.running moves (λ r. k.extent (k.setting old.rom) r) (λ r v t. laws.extent_rises (k.setting old.rom) r v t) in
+      let grows = no_less {run = course_of k v n old} {now = point_of k now} moves (λ r. k.extent (k.setting old.rom) r) (λ r v t. laws.extent_rises (k.setting old.rom) r v t) in
       let unused = rw was.setting at s.unused in
       record {
-        running = runs_on was.running more running word limit {next = point_of k next} stepped s.fits (s.grown was.sound) moves (s.made was.sound)
-            (laws.coherent now.rom v now.ram.words was.sound).once;
+        point = stays_on was.point more running {next = point_of k next} (λ r v t. laws.writes_rise (k.setting old.rom) r v t) stepped s.fits (s.grown was.sound) moves;
         setting = s.setting ∙ was.setting;
         sound = (s.sound was.sound).0;
         keeps = λ images serves. (s.sound was.sound).1 images (was.keeps images serves);
@@ -77,13 +83,26 @@ module _ {S : Type 0} {k : ServiceOf S} {v : ImageData} {n : ℕ} {old : BoardWi
         quiet = ok_unmoved s.causes ∙ was.quiet;
       }
 
+  pub steps_on : {now next : BoardWithDevices S} {u : Unit} → Along k v n old now → IsService k →
+      now.hart.machine.steps < n → now.hart.machine.ending ≡ None → now.hart.machine.pc < 2 ^ 32 →
+      BoardStepped k v (with_ram now) (with_ram next) now.devices next.devices (Ok u) → Along k v n old next
+  steps_on {now} {next} {u} was laws more running word s =
+      let moves = rw was.stays.setting at s.policy in
+      let stepped = rw was.stays.setting at s.ram in
+      record {
+        made = suc was.made;
+        came = came_on (k.policy (k.setting old.rom)) (k.span (k.setting old.rom)) v n was.made (point_of k old) (point_of k now) (point_of k next) was.came more running word
+            (laws.coherent now.rom v now.ram.words was.stays.sound).once moves (s.made was.stays.sound) stepped;
+        stays = stays_step was.stays laws more running s;
+      }
+
   -- a stretch of steps that ask for no device begins
   pub stretch_from : {now : BoardWithDevices S} {h : HartData} → Along k v n old now → IsService k → n ≤ 2 ^ 48 →
       h ≡ now.hart → h.machine.steps < n → now.hart.machine.ending ≡ None → now.hart.machine.pc < 2 ^ 32 →
       Stretch (course_of k v n old) (point_of k now) (k.kept now.rom) now.hart now.ram
   stretch_from {now} {h} was laws limit same more running word =
-      let coherent = rw was.setting at (laws.coherent now.rom v now.ram.words was.sound) in
-      begins {run = course_of k v n old} {first = point_of k now} was.running limit coherent
+      let coherent = rw was.stays.setting at (laws.coherent now.rom v now.ram.words was.stays.sound) in
+      begins {run = course_of k v n old} {first = point_of k now} (record { made = was.made; came = was.came; stays = was.stays.point }) limit coherent
       (record { linked = λ r v b o t is. laws.link_stays _ r v b o t is; one = λ r v t. laws.one_service _ r v t; written = λ r v t. laws.writes_rise _ r v t })
       same more running word
 
@@ -94,12 +113,16 @@ module _ {S : Type 0} {k : ServiceOf S} {v : ImageData} {n : ℕ} {old : BoardWi
   along_stretch {now} {h} {rom} {ram} was laws s setting sound keeps =
       let grows = s.grows (λ r. k.extent (k.setting old.rom) r) (λ r v t. laws.extent_rises (k.setting old.rom) r v t) in
       record {
-        running = s.running;
-        setting = setting ∙ was.setting;
-        sound = sound;
-        keeps = λ images serves. keeps images (was.keeps images serves);
-        unused = λ i le. ap (λ (l : List ℕ). slice_index l i) s.words ∙ was.unused i (omega (arith, le, grows));
-        quiet = was.quiet;
+        made = s.running.made;
+        came = s.running.came;
+        stays = record {
+          point = s.running.stays;
+          setting = setting ∙ was.stays.setting;
+          sound = sound;
+          keeps = λ images serves. keeps images (was.stays.keeps images serves);
+          unused = λ i le. ap (λ (l : List ℕ). slice_index l i) s.words ∙ was.stays.unused i (omega (arith, le, grows));
+          quiet = was.stays.quiet;
+        };
       }
 
   -- a run that came to its end: no step is left, or it has ended

@@ -83,7 +83,7 @@ module _ {run : Course} {first : Point} where
   pub home_at : {r : Record} {h : HartData} {ram : RamState} {i b o : ℕ} {stage : Stage} → Stretch run first r h ram → h.control ≡ At i b o stage →
       Home run.image r h.machine i b o stage
   home_at {r} {h} {ram} {i} {b} {o} {stage} s control =
-      home run.image r h i b o stage s.running.fits control s.going s.short
+      home run.image r h i b o stage s.running.stays.fits control s.going s.short
 
   -- the word under control lies in the part of the ram that the service uses
   pub used : {r : Record} {h : HartData} {ram : RamState} {i b o : ℕ} {stage : Stage} → Stretch run first r h ram → h.control ≡ At i b o stage → i < run.span
@@ -101,8 +101,8 @@ module _ {run : Course} {first : Point} where
         decodes = got_some v r h.machine run.span ram.words i b o stage s.coherent at (slice_index ram.words i) refl;
         in_ram = index_fits v r h.machine run.span ram.words i b o stage s.coherent at;
         index = omega (arith, inside, low);
-        count = count_small s.running below s.going s.short s.small few;
-        services = calls_small s.running below s.going s.short s.small calls;
+        count = count_small s.running.stays below s.going s.small few;
+        services = calls_small s.running.stays below s.going s.small calls;
       }
 
   module _ {r r' : Record} {h h' : HartData} {ram ram' : RamState} (s : Stretch run first r h ram) (below : h.machine.steps < run.limit)
@@ -124,7 +124,7 @@ module _ {run : Course} {first : Point} where
         λ l. counted_hart h h' l k.is_counted ∙ ap (λ (y : Stepped). hart_after h y) (sym (w.step l)) in
         record {
           grown = grown_word v r r h h' k.index k.block k.offset k.stage k.control (sym s.going) x role first.left first.left refl stands refl (inl plain);
-          fits = fits_word v r r h h' k.index k.block k.offset k.stage k.control x role first.left first.left refl s.running.fits (sym s.going) s.short stands refl
+          fits = fits_word v r r h h' k.index k.block k.offset k.stage k.control x role first.left first.left refl s.running.stays.fits (sym s.going) s.short stands refl
               (inl plain);
           moves = rw k.control (word_moves v r h.machine k.index k.block k.offset k.stage run.policy r stands.0);
           made = λ l told. made_word v r r h h' k.index k.block k.offset k.stage k.control x role l first.left first.out first.out first.err first.err stands refl
@@ -143,7 +143,7 @@ module _ {run : Course} {first : Point} where
         let v = run.image in
         record {
           grown = grown_exit v r r' h h' k.index k.block k.offset k.stage k.control (sym s.going) e step k.is_counted (moved_services run.policy s.laws.one r r' v _ moves);
-          fits = fits_exit v r r' h h' k.index k.block k.offset k.stage k.control s.running.fits (sym s.going) s.short e step k.is_counted;
+          fits = fits_exit v r r' h h' k.index k.block k.offset k.stage k.control s.running.stays.fits (sym s.going) s.short e step k.is_counted;
           moves = rw k.control (exit_moves v r' h.machine k.index k.block k.offset k.stage run.policy r e moves);
           made = λ l told. made_exit v r r' h h' k.index k.block k.offset k.stage k.control l first.left first.out first.err e step k.is_counted told;
           ram = served;
@@ -207,14 +207,14 @@ module _ {run : Course} {first : Point} where
         laws = s.laws;
         below = s.below;
         went = s.went;
-        running = runs_on s.running below s.going s.short s.small {next = record first { hart = h'; kept = r'; ram = ram' }} stepped
+        running = runs_on {next = record first { hart = h'; kept = r'; ram = ram' }} s.running below s.going s.short s.laws.written stepped
             all.fits all.grown all.moves all.made s.coherent.once;
         words = ap (λ (k : RamState). k.words) w.fetched ∙ s.words;
         quiet = ap (λ (k : RamState). k.faults) w.fetched ∙ s.quiet;
         going = w.going;
         short = w.short;
         rises = inr (higher (most_running run.image h.machine h.control s.going) all.grown.most s.rises);
-        grows = λ measure law. (let so_far = s.grows measure law in let more = no_less s.running all.moves measure law in omega (arith, so_far, more));
+        grows = λ measure law. (let so_far = s.grows measure law in let more = no_less {run = run} {now = record first { hart = h; kept = r; ram = ram }} all.moves measure law in omega (arith, so_far, more));
       }
     where
       higher : most run.image h.machine h.control ≡ 3 * h.machine.steps + depth run.image h.machine h.control →

@@ -1,23 +1,27 @@
 -- Whole runs, one machine instruction after the other.
-use Rattle.std.proofs.Common.{◌≡◌, ℕ, suc, ◌+◌, ◌-◌, ◌*◌, ◌^◌, ◌<◌, ◌≤◌, Option, Some, None, List, refl, sym, ap, subst, ◌∙◌, inl, inr, arith}
+use Rattle.std.proofs.Common.{◌≡◌, ℕ, suc, ◌+◌, ◌-◌, ◌*◌, ◌^◌, ◌<◌, ◌≤◌, ◌&&◌, Bool, is_some, if◌then◌else◌, Option, Some, None, List, refl, sym, ap, subst, ◌∙◌, inl, inr, arith}
 use Rattle.std.proofs.lemmas.Bool.{cases_lt}
 use Rattle.swi_calls.specs.declared.end.End.{End}
 use Rattle.swi_calls.specs.declared.machine.Machine.{Machine}
 use Rattle.swi_image.specs.Format.{ImageData}
 use Rattle.swi_outside.specs.CacheRam.{RamState}
+use Rattle.swi_outside.specs.Causes.{risen}
 use Rattle.swi_rom.specs.Record.{Record, Transfer, Placed, writes}
 use Rattle.swi_hart.specs.declared.hart.Control.{Control}
+use Rattle.swi_hart.specs.declared.hart.Control.TheVariants.{At, Outside}
 use Rattle.swi_hart.specs.Hart.{HartData}
 use Rattle.swi_hart.specs.Matching.{Fits}
 use Rattle.swi_hart.specs.Calling.{Made}
 use Rattle.swi_hart.specs.Leaving.{transfer_at, moved, RamStepped}
-use Rattle.swi_hart.specs.Bounds.{depth, most, most_by, Grown}
+use Rattle.swi_hart.specs.Bounds.{depth, is_outside, most, most_by, Grown}
 use Rattle.swi_hart.proofs.Growing.{depth_most, calls_most}
 use Rattle.swi_hart.proofs.Grown.{moved_rises}
 use Rattle.swi_board.specs.Moments.{GoesOn, Moment, Policy, events}
-use Rattle.swi_board.specs.Tracking.{Came, Course, Point, Running, Tracks}
+use Rattle.swi_board.specs.Ran.{RamRan}
+use Rattle.swi_board.specs.Runs.{fetched_by, unfetched, weight}
+use Rattle.swi_board.specs.Tracking.{Came, Course, Point, Running, Stays, Tracks}
 use Rattle.swi_board.proofs.Held.{same_steps}
-use Rattle.swi_board.proofs.Tracks.{step_tracks}
+use Rattle.swi_board.proofs.Tracks.{ram_on, step_tracks}
 pub use Rattle.swi_board.proofs.Tracks.{kept_both}
 
 -- ---- so many machine instructions
@@ -53,20 +57,28 @@ came_on by span v n made old now next was more running word once moves step ram 
 abbrev pub point : HartData → Record → RamState → Option (List ℕ) → Option (List ℕ) → Option (List ℕ) → Point
 point h r ram left out err = record { hart = h; kept = r; ram = ram; left = left; out = out; err = err }
 
-pub started_run : {run : Course} → Fits run.image run.from.kept run.from.hart → run.from.hart.machine.steps ≤ run.limit → Running run run.from
-started_run {run} fits le = record {
-  made = 0;
-  came = came_none run.policy run.span run.image run.limit run.from;
+pub stays_none : {run : Course} → Fits run.image run.from.kept run.from.hart → run.from.hart.machine.steps ≤ run.limit → Stays run run.from
+stays_none {run} fits le = record {
   steps = le;
   fits = fits;
   failed = refl;
   booted = refl;
+  later = omega arith;
   count = omega arith;
   calls = λ on. omega arith;
   rises = λ measure law. omega arith;
-  quiet = refl;
-  kept = record { same_length = refl; beyond = λ i least. refl; reached = grind arith };
+  ram = subst (λ (n : ℕ). RamRan run.span n (writes run.from.kept - writes run.from.kept) run.from.ram run.from.ram) (sym (fetched_none (unfetched run.from.hart)))
+      (record { quiet = refl; fetches = none_more run.from.ram.fetches; sets = none_set run.from.ram.sets (writes run.from.kept); kept = record { same_length = refl; beyond = λ i least. refl; reached = grind arith } });
 }
+  where
+    fetched_none : (u : ℕ) → run.from.hart.count - run.from.hart.count - u ≡ 0
+    fetched_none u = omega arith
+
+    none_more : (a : ℕ) → a ≡ risen a 0
+    none_more a = grind arith
+
+    none_set : (a w : ℕ) → a ≡ risen a (w - w)
+    none_set a w = grind arith
 
 pub most_running : (v : ImageData) (m : Machine) (c : Control) → m.ending ≡ None → most v m c ≡ 3 * m.steps + depth v m c
 most_running v m c e = ap (λ (k : Option End). most_by k v m c) e
@@ -81,39 +93,49 @@ falls {v} {n} {r} {new} {h} {h'} more running grown =
     omega arith
 
 -- what no transfer makes less is no less behind a step
-pub no_less : {run : Course} {now : Point} {new : Record} → Running run now →
+pub no_less : {run : Course} {now : Point} {new : Record} →
     new ≡ moved run.policy now.kept run.image (transfer_at run.image now.hart.machine now.hart.control) → (measure : Record → ℕ) →
     ((r : Record) (v : ImageData) (t : Transfer) → measure r ≤ measure (run.policy r v t)) → measure now.kept ≤ measure new
-no_less {run} {now} {new} so_far moves measure grows =
+no_less {run} {now} {new} moves measure grows =
     moved_rises measure run.policy grows now.kept new run.image (transfer_at run.image now.hart.machine now.hart.control) moves
 
-module _ {run : Course} {now : Point} (so_far : Running run now) (more : now.hart.machine.steps < run.limit) (running : now.hart.machine.ending ≡ None)
-    (word : now.hart.machine.pc < 2 ^ 32) (small : run.limit ≤ 2 ^ 48) where
-  pub count_small : run.from.hart.count ≤ 2 ^ 55 → now.hart.count < 2 ^ 56
-  count_small le =
+-- one machine step more is one fetch more, but outside the text
+fetched_one : (h0 h h' : HartData) → h0.count ≤ h.count → h.machine.ending ≡ None → h'.count ≡ h.count + 1 → (is_some h'.machine.ending && is_outside h'.control) ≡ is_outside h.control → fetched_by h0 h' ≡ fetched_by h0 h + weight 0 h.control
+fetched_one h0 h h' later running one outside =
+    by h.control (unfetched h) (ap (λ (e : Option End). if is_some e && is_outside h.control then 1 else 0) running)
+    (unfetched h') (ap (λ (t : Bool). if t then 1 else 0) outside)
+  where
+    by : (c : Control) (u : ℕ) → u ≡ 0 → (u' : ℕ) → u' ≡ (if is_outside c then 1 else 0) → h'.count - h0.count - u' ≡ h.count - h0.count - u + weight 0 c
+    by (At i b o stage) u none u' is = omega (arith, later, one)
+    by Outside u none u' is = omega (arith, later, one)
+
+sum_less : (a b c : ℕ) → a ≤ b → b ≤ c → b - a + (c - b) ≡ c - a
+sum_less a b c p q = omega arith
+
+module _ {run : Course} {now : Point} (so_far : Stays run now) (more : now.hart.machine.steps < run.limit) (running : now.hart.machine.ending ≡ None) where
+  pub count_small : run.limit ≤ 2 ^ 48 → run.from.hart.count ≤ 2 ^ 55 → now.hart.count < 2 ^ 56
+  count_small small le =
       let m = most_running run.image now.hart.machine now.hart.control running in
       let d = depth_most run.image now.hart.machine now.hart.control in
       let c = so_far.count in
       omega arith
 
-  pub calls_small : run.from.kept.counts.services ≤ 2 ^ 49 → now.kept.counts.services < 2 ^ 50
-  calls_small le =
+  pub calls_small : run.limit ≤ 2 ^ 48 → run.from.kept.counts.services ≤ 2 ^ 49 → now.kept.counts.services < 2 ^ 50
+  calls_small small le =
       let c = so_far.calls running in
       let k = calls_most (depth run.image now.hart.machine now.hart.control) in
       omega arith
 
-  pub runs_on : {next : Point} → RamStepped run.span (writes next.kept - writes now.kept) now.hart.control now.ram next.ram →
+  pub stays_on : {next : Point} → ((r : Record) (v : ImageData) (t : Transfer) → writes r ≤ writes (run.policy r v t)) →
+      RamStepped run.span (writes next.kept - writes now.kept) now.hart.control now.ram next.ram →
       Fits run.image next.kept next.hart → Grown run.image now.kept next.kept now.hart next.hart →
-      next.kept ≡ moved run.policy now.kept run.image (transfer_at run.image now.hart.machine now.hart.control) →
-      ((l : List ℕ) → now.left ≡ Some l → Made run.image next.kept now.hart next.hart l next.left now.out next.out now.err next.err) →
-      ((b f g : ℕ) → Placed now.kept b f → Placed now.kept b g → f ≡ g) → Running run next
-  runs_on {next} stepped fits grown moves step once = record {
-    made = suc so_far.made;
-    came = came_on run.policy run.span run.image run.limit so_far.made run.from now next so_far.came more running word once moves step stepped;
+      next.kept ≡ moved run.policy now.kept run.image (transfer_at run.image now.hart.machine now.hart.control) → Stays run next
+  stays_on {next} writing stepped fits grown moves = record {
     steps = let g = grown.one in omega (arith, g, more);
     fits = fits;
     failed = grown.failed ∙ so_far.failed;
     booted = grown.booted ∙ so_far.booted;
+    later = let g = grown.count in let l = so_far.later in omega (arith, g, l);
     count =
         let m = most_running run.image now.hart.machine now.hart.control running in
         let g = grown.most in
@@ -123,8 +145,25 @@ module _ {run : Course} {now : Point} (so_far : Running run now) (more : now.har
     calls = λ e. (let g = grown.calls e in let c = so_far.calls running in omega (arith, g, c));
     rises = λ measure law.
         let before = so_far.rises measure law in
-        let up = no_less so_far moves measure law in
+        let up = no_less {run = run} {now = now} {new = next.kept} moves measure law in
         omega (arith, before, up);
-    quiet = stepped.quiet ∙ so_far.quiet;
-    kept = kept_both run.span run.from.ram now.ram next.ram so_far.kept stepped.kept;
+    ram = subst (λ k. RamRan run.span k (writes next.kept - writes run.from.kept) run.from.ram next.ram)
+        (sym (fetched_one run.from.hart now.hart next.hart so_far.later running grown.count grown.outside))
+        (subst (λ k. RamRan run.span (fetched_by run.from.hart now.hart + weight 0 now.hart.control) k run.from.ram next.ram)
+        (sum_less (writes run.from.kept) (writes now.kept) (writes next.kept) (so_far.rises (λ r. writes r) writing) (no_less {run = run} {now = now} {new = next.kept} moves (λ r. writes r) writing))
+        (ram_on run.span (fetched_by run.from.hart now.hart) (writes now.kept - writes run.from.kept) (weight 0 now.hart.control) (writes next.kept - writes now.kept) now.hart.control
+        run.from.ram now.ram next.ram refl so_far.ram stepped));
   }
+
+pub runs_on : {run : Course} {now next : Point} → Running run now → now.hart.machine.steps < run.limit → now.hart.machine.ending ≡ None → now.hart.machine.pc < 2 ^ 32 →
+    ((r : Record) (v : ImageData) (t : Transfer) → writes r ≤ writes (run.policy r v t)) →
+    RamStepped run.span (writes next.kept - writes now.kept) now.hart.control now.ram next.ram →
+    Fits run.image next.kept next.hart → Grown run.image now.kept next.kept now.hart next.hart →
+    next.kept ≡ moved run.policy now.kept run.image (transfer_at run.image now.hart.machine now.hart.control) →
+    ((l : List ℕ) → now.left ≡ Some l → Made run.image next.kept now.hart next.hart l next.left now.out next.out now.err next.err) →
+    ((b f g : ℕ) → Placed now.kept b f → Placed now.kept b g → f ≡ g) → Running run next
+runs_on {run} {now} {next} so_far more running word writing stepped fits grown moves step once = record {
+  made = suc so_far.made;
+  came = came_on run.policy run.span run.image run.limit so_far.made run.from now next so_far.came more running word once moves step stepped;
+  stays = stays_on {run = run} {now = now} so_far.stays more running {next = next} writing stepped fits grown moves;
+}

@@ -48,7 +48,8 @@ kept_both span first before after one two = record {
     reach_both : (p q s : ℕ) → q ≤ max p span → s ≤ max q span → s ≤ max p span
     reach_both p q s x y = grind arith
 
-ram_on : (span f n w k : ℕ) (c : Control) (a b d : RamState) → w ≡ weight 0 c → RamRan span f n a b → RamStepped span k c b d → RamRan span (f + w) (n + k) a d
+-- what a run and one more machine step do to the ram
+pub ram_on : (span f n w k : ℕ) (c : Control) (a b d : RamState) → w ≡ weight 0 c → RamRan span f n a b → RamStepped span k c b d → RamRan span (f + w) (n + k) a d
 ram_on span f n w k c a b d is ran step = record {
   quiet = step.quiet ∙ ran.quiet;
   fetches = step.fetches ∙ ap (λ (x : ℕ). fetches_after c x) ran.fetches ∙ more c w is a.fetches f;

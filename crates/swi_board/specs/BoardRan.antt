@@ -7,7 +7,7 @@ use Rattle.swi_rom.specs.Served.{Keeps, SameFrom}
 use Rattle.swi_hart.specs.declared.fault.BoardFault.{BoardFault}
 use Rattle.swi_hart.specs.MachineStep.{BoardStepped, BoardWithRam}
 use Rattle.swi_board.specs.Board.{BoardWithDevices}
-use Rattle.swi_board.specs.Tracking.{Course, Running, point_of}
+use Rattle.swi_board.specs.Tracking.{Came, Course, Stays, point_of}
 
 abbrev pub with_ram : {S : Type 0} → BoardWithDevices S → BoardWithRam S
 with_ram b = record { hart = b.hart; rom = b.rom; ram = b.ram }
@@ -15,14 +15,20 @@ with_ram b = record { hart = b.hart; rom = b.rom; ram = b.ram }
 abbrev pub course_of : {S : Type 0} → ServiceOf S → ImageData → ℕ → BoardWithDevices S → Course
 course_of k v n old = record { policy = k.policy (k.setting old.rom); image = v; limit = n; span = k.span (k.setting old.rom); from = point_of k old }
 
--- Machine instructions were made in a row, and no device has failed.
-pub record Along {S : Type 0} (k : ServiceOf S) (v : ImageData) (n : ℕ) (old now : BoardWithDevices S) : Type 0 where
-  pub running : Running (course_of k v n old) (point_of k now)
+-- What holds all along a run of a whole board, whatever its devices tell.
+pub record BoardStays {S : Type 0} (k : ServiceOf S) (v : ImageData) (n : ℕ) (old now : BoardWithDevices S) : Type 0 where
+  pub point : Stays (course_of k v n old) (point_of k now)
   pub setting : k.setting now.rom ≡ k.setting old.rom
   pub sound : k.sound now.rom v now.ram.words
   pub keeps : Keeps k v old.rom now.rom old.ram.words now.ram.words
   pub unused : SameFrom (k.extent (k.setting old.rom) (k.kept now.rom)) old.ram.words now.ram.words
   pub quiet : faults_of now.devices ≡ faults_of old.devices
+
+-- Machine instructions were made in a row, and no device has failed.
+pub record Along {S : Type 0} (k : ServiceOf S) (v : ImageData) (n : ℕ) (old now : BoardWithDevices S) : Type 0 where
+  pub made : ℕ
+  pub came : Came (k.policy (k.setting old.rom)) (k.span (k.setting old.rom)) v n made (point_of k old) (point_of k now)
+  pub stays : BoardStays k v n old now
 
 -- one more was begun, and a device broke it off
 pub record BrokeOff {S : Type 0} (k : ServiceOf S) (v : ImageData) (n : ℕ) (mid new : BoardWithDevices S) (fault : BoardFault) : Type 0 where

@@ -42,3 +42,12 @@ words_run policy v (suc k) s here r =
 -- just these words were fetched from one state of a ram to another, in this order
 abbrev pub HasFetched : List ℕ → RamState → RamState → Type 0
 HasFetched words before after = after.fetched_at ≡ reverse words ++ before.fetched_at
+
+-- a front of these words was fetched, and the others are ahead
+pub record FetchedTo (words ahead : List ℕ) (before after : RamState) : Type 0 where
+  pub fetched : List ℕ
+  pub are : HasFetched fetched before after
+  pub front : fetched ++ ahead ≡ words
+
+abbrev pub FetchedFront : List ℕ → RamState → RamState → Type 0
+FetchedFront words before after = (ahead : List ℕ) × FetchedTo words ahead before after

@@ -1,17 +1,18 @@
 -- A board that stands where the definition's machine instructions have led. Own rule.
-use Rattle.std.specs.Prelude.{◌≡◌, ℕ, ◌+◌, ◌<◌, ◌≤◌, List, ◌++◌, length, Option, Some, None}
+use Rattle.std.specs.Prelude.{◌≡◌, ℕ, ◌+◌, ◌-◌, ◌<◌, ◌≤◌, List, ◌++◌, length, Option, Some, None}
 use Rattle.std.specs.Io.KnownBytes.{Appends}
-use Rattle.swi_outside.specs.CacheRam.{RamState, KeepsBeyond}
+use Rattle.swi_outside.specs.CacheRam.{RamState}
 use Rattle.swi_memory.specs.Bus.{fetched}
 use Rattle.swi_image.specs.Format.{ImageData}
 use Rattle.swi_render.specs.Carried.{Carries}
-use Rattle.swi_rom.specs.Record.{Record, Transfer}
+use Rattle.swi_rom.specs.Record.{Record, Transfer, writes}
 use Rattle.swi_rom.specs.Service.{ServiceOf}
 use Rattle.swi_hart.specs.Hart.{HartData}
 use Rattle.swi_hart.specs.Bounds.{most, most_calls}
 use Rattle.swi_hart.specs.Matching.{Fits, Matches}
 use Rattle.swi_board.specs.Board.{BoardWithDevices}
 use Rattle.swi_board.specs.Ran.{RamRan}
+use Rattle.swi_board.specs.Runs.{fetched_by}
 use Rattle.swi_board.specs.Transfers.{here_of, spent_run}
 use Rattle.swi_board.specs.Moments.{Moment, Policy, GoesOn, events}
 
@@ -56,19 +57,24 @@ pub record Course : Type 0 where
   pub span : ℕ
   pub from : Point
 
--- what holds all along a run, as far as a point tells
-pub record Running (run : Course) (now : Point) : Type 0 where
-  pub made : ℕ
-  pub came : Came run.policy run.span run.image run.limit made run.from now
+-- What holds all along a run, whatever its devices tell: its bounds, and what the ram has counted.
+pub record Stays (run : Course) (now : Point) : Type 0 where
   pub steps : now.hart.machine.steps ≤ run.limit
   pub fits : Fits run.image now.kept now.hart
   pub failed : now.hart.failed ≡ run.from.hart.failed
   pub booted : now.hart.booted ≡ run.from.hart.booted
+  pub later : run.from.hart.count ≤ now.hart.count
   pub count : now.hart.count + most run.image run.from.hart.machine run.from.hart.control
       ≤ run.from.hart.count + most run.image now.hart.machine now.hart.control
   pub calls : now.hart.machine.ending ≡ None → now.kept.counts.services + most_calls run.image run.from.hart.machine run.from.hart.control
       ≤ run.from.kept.counts.services + most_calls run.image now.hart.machine now.hart.control
   -- what no transfer lowers is no less
   pub rises : (measure : Record → ℕ) → ((r : Record) (v : ImageData) (t : Transfer) → measure r ≤ measure (run.policy r v t)) → measure run.from.kept ≤ measure now.kept
-  pub quiet : now.ram.faults ≡ run.from.ram.faults
-  pub kept : KeepsBeyond run.span run.from.ram now.ram
+  -- a word was fetched for each machine instruction but one outside the text, and so many were set as the service has written
+  pub ram : RamRan run.span (fetched_by run.from.hart now.hart) (writes now.kept - writes run.from.kept) run.from.ram now.ram
+
+-- A run so far, from point to point.
+pub record Running (run : Course) (now : Point) : Type 0 where
+  pub made : ℕ
+  pub came : Came run.policy run.span run.image run.limit made run.from now
+  pub stays : Stays run now

@@ -86,13 +86,13 @@ module _ {S : Type 0} (k : ServiceOf S) (laws : IsService k) (v : ImageData) (ro
       ap (λ (x : Machine). most v x b.hart.control) machine_is ∙ ap (λ (x : Option End). most_by x v m b.hart.control) going ∙ sum
 
   -- what the run of the board leads to
-  pub stands : (mid : BoardWithDevices S) (along : Along k v n b mid) → Stands k (run_for k v rom m n) along.running.made rom before mid
+  pub stands : (mid : BoardWithDevices S) (along : Along k v n b mid) → Stands k (run_for k v rom m n) along.made rom before mid
   stands mid along =
-      let came = subst (λ (s : Setting). Came (k.policy s) (k.span s) v n along.running.made (point_of k b) (point_of k mid)) e.setting along.running.came in
+      let came = subst (λ (s : Setting). Came (k.policy s) (k.span s) v n along.made (point_of k b) (point_of k mid)) e.setting along.came in
       let grows = subst (λ (s : Setting). k.extent (k.setting rom) (k.kept b.rom) ≤ k.extent (k.setting rom) (k.kept mid.rom)) e.setting
-      (along.running.rises (λ r. k.extent (k.setting rom) r) (λ r v t. subst (λ (s : Setting). k.extent (k.setting rom) r ≤ k.extent (k.setting rom) (k.policy s r v t)) (sym e.setting) (laws.extent_rises (k.setting rom) r v t))) in
-      let unused = subst (λ (s : Setting). (i : ℕ) → k.extent s (k.kept mid.rom) ≤ i → slice_index mid.ram.words i ≡ slice_index b.ram.words i) e.setting along.unused in
-      let count_is = along.running.count in
+      (along.stays.point.rises (λ r. k.extent (k.setting rom) r) (λ r v t. subst (λ (s : Setting). k.extent (k.setting rom) r ≤ k.extent (k.setting rom) (k.policy s r v t)) (sym e.setting) (laws.extent_rises (k.setting rom) r v t))) in
+      let unused = subst (λ (s : Setting). (i : ℕ) → k.extent s (k.kept mid.rom) ≤ i → slice_index mid.ram.words i ≡ slice_index b.ram.words i) e.setting along.stays.unused in
+      let count_is = along.stays.point.count in
       let one = bound in
       record {
         has = λ left told.
@@ -101,26 +101,26 @@ module _ {S : Type 0} (k : ServiceOf S) (laws : IsService k) (v : ImageData) (ro
               tracks = came.tracks (booted (k.policy (k.setting rom)) v m left (k.kept rom)) (point_of k (record { hart = mid.hart; rom = rom; ram = before.ram; devices = before.devices })) at;
               going = came.going (booted (k.policy (k.setting rom)) v m left (k.kept rom)) (point_of k (record { hart = mid.hart; rom = rom; ram = before.ram; devices = before.devices })) at;
             };
-        setting = along.setting ∙ e.setting;
-        sound = along.sound;
-        fits = along.running.fits;
+        setting = along.stays.setting ∙ e.setting;
+        sound = along.stays.sound;
+        fits = along.stays.point.fits;
         unused = λ i least. unused i least ∙ e.unused i (omega (arith, least, grows));
-        unfailed = along.running.failed ∙ ap (λ (h : HartData). h.failed) e.hart;
-        booted = along.running.booted ∙ ap (λ (h : HartData). h.booted) e.hart;
+        unfailed = along.stays.point.failed ∙ ap (λ (h : HartData). h.failed) e.hart;
+        booted = along.stays.point.booted ∙ ap (λ (h : HartData). h.booted) e.hart;
         most = omega (arith, count_is, one, count);
-        quiet = along.quiet ∙ ap (λ (d : Devices). faults_of d) same;
-        ram_quiet = along.running.quiet ∙ e.ram.quiet;
-        kept = kept_both (k.span (k.setting rom)) before.ram b.ram mid.ram e.ram.kept (subst (λ (s : Setting). KeepsBeyond (k.span s) b.ram mid.ram) e.setting along.running.kept);
+        quiet = along.stays.quiet ∙ ap (λ (d : Devices). faults_of d) same;
+        ram_quiet = along.stays.point.ram.quiet ∙ e.ram.quiet;
+        kept = kept_both (k.span (k.setting rom)) before.ram b.ram mid.ram e.ram.kept (subst (λ (s : Setting). KeepsBeyond (k.span s) b.ram mid.ram) e.setting along.stays.point.ram.kept);
       }
 
   -- a run of the board that came to its end, and one that a device broke off
   pub ran_out : {u : Unit} (new : BoardWithDevices S) (result : Result Unit BoardFault) → BoardRan k v n b new result → result ≡ Ok u → RanOut k (run_for k v rom m n) rom before new
   ran_out {u} new result ran is =
       let r = subst (λ (x : Result Unit BoardFault). BoardRan k v n b new x) is ran in
-      subst (λ (w : BoardWithDevices S). RanOut k (run_for k v rom m n) rom before w) (sym r.ends.0) (record { made = r.along.running.made; stands = stands r.mid r.along; over = r.ends.1 })
+      subst (λ (w : BoardWithDevices S). RanOut k (run_for k v rom m n) rom before w) (sym r.ends.0) (record { made = r.along.made; stands = stands r.mid r.along; over = r.ends.1 })
 
   pub step_broke : (new : BoardWithDevices S) (result : Result Unit BoardFault) (fault : BoardFault) → BoardRan k v n b new result → result ≡ Err fault →
       StepBroke k (run_for k v rom m n) rom before (record { ram = new.ram; devices = new.devices }) fault
   step_broke new result fault ran is =
       let r = subst (λ (x : Result Unit BoardFault). BoardRan k v n b new x) is ran in
-      record { made = r.along.running.made; mid = r.mid; stands = stands r.mid r.along; given_up = record { hart = new.hart; rom = new.rom }; broke = r.ends }
+      record { made = r.along.made; mid = r.mid; stands = stands r.mid r.along; given_up = record { hart = new.hart; rom = new.rom }; broke = r.ends }
