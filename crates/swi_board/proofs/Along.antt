@@ -72,7 +72,7 @@ module _ {S : Type 0} {k : ServiceOf S} {v : ImageData} {n : ℕ} {old : BoardWi
   stays_step {now} {next} {u} was laws more running s =
       let moves = rw was.setting at s.policy in
       let stepped = rw was.setting at s.ram in
-      let grows = no_less {run = course_of k v n old} {now = point_of k now} moves (λ r. k.extent (k.setting old.rom) r) (λ r v t. laws.extent_rises (k.setting old.rom) r v t) in
+      let grows = no_less (k.policy (k.setting old.rom)) v (k.kept now.rom) (k.kept next.rom) now.hart.machine now.hart.control moves (λ r. k.extent (k.setting old.rom) r) (λ r v t. laws.extent_rises (k.setting old.rom) r v t) in
       let unused = rw was.setting at s.unused in
       record {
         point = stays_on was.point more running {next = point_of k next} (λ r v t. laws.writes_rise (k.setting old.rom) r v t) stepped s.fits (s.grown was.sound) moves;

@@ -214,7 +214,7 @@ module _ {run : Course} {first : Point} where
         going = w.going;
         short = w.short;
         rises = inr (higher (most_running run.image h.machine h.control s.going) all.grown.most s.rises);
-        grows = λ measure law. (let so_far = s.grows measure law in let more = no_less {run = run} {now = record first { hart = h; kept = r; ram = ram }} all.moves measure law in omega (arith, so_far, more));
+        grows = λ measure law. (let so_far = s.grows measure law in let more = no_less run.policy run.image r r' h.machine h.control all.moves measure law in omega (arith, so_far, more));
       }
     where
       higher : most run.image h.machine h.control ≡ 3 * h.machine.steps + depth run.image h.machine h.control →

@@ -93,11 +93,9 @@ falls {v} {n} {r} {new} {h} {h'} more running grown =
     omega arith
 
 -- what no transfer makes less is no less behind a step
-pub no_less : {run : Course} {now : Point} {new : Record} →
-    new ≡ moved run.policy now.kept run.image (transfer_at run.image now.hart.machine now.hart.control) → (measure : Record → ℕ) →
-    ((r : Record) (v : ImageData) (t : Transfer) → measure r ≤ measure (run.policy r v t)) → measure now.kept ≤ measure new
-no_less {run} {now} {new} moves measure grows =
-    moved_rises measure run.policy grows now.kept new run.image (transfer_at run.image now.hart.machine now.hart.control) moves
+pub no_less : (policy : Policy) (v : ImageData) (r new : Record) (m : Machine) (c : Control) → new ≡ moved policy r v (transfer_at v m c) → (measure : Record → ℕ) →
+    ((r : Record) (v : ImageData) (t : Transfer) → measure r ≤ measure (policy r v t)) → measure r ≤ measure new
+no_less policy v r new m c moves measure grows = moved_rises measure policy grows r new v (transfer_at v m c) moves
 
 -- one machine step more is one fetch more, but outside the text
 fetched_one : (h0 h h' : HartData) → h0.count ≤ h.count → h.machine.ending ≡ None → h'.count ≡ h.count + 1 → (is_some h'.machine.ending && is_outside h'.control) ≡ is_outside h.control → fetched_by h0 h' ≡ fetched_by h0 h + weight 0 h.control
@@ -145,12 +143,12 @@ module _ {run : Course} {now : Point} (so_far : Stays run now) (more : now.hart.
     calls = λ e. (let g = grown.calls e in let c = so_far.calls running in omega (arith, g, c));
     rises = λ measure law.
         let before = so_far.rises measure law in
-        let up = no_less {run = run} {now = now} {new = next.kept} moves measure law in
+        let up = no_less run.policy run.image now.kept next.kept now.hart.machine now.hart.control moves measure law in
         omega (arith, before, up);
     ram = subst (λ k. RamRan run.span k (writes next.kept - writes run.from.kept) run.from.ram next.ram)
         (sym (fetched_one run.from.hart now.hart next.hart so_far.later running grown.count grown.outside))
         (subst (λ k. RamRan run.span (fetched_by run.from.hart now.hart + weight 0 now.hart.control) k run.from.ram next.ram)
-        (sum_less (writes run.from.kept) (writes now.kept) (writes next.kept) (so_far.rises (λ r. writes r) writing) (no_less {run = run} {now = now} {new = next.kept} moves (λ r. writes r) writing))
+        (sum_less (writes run.from.kept) (writes now.kept) (writes next.kept) (so_far.rises (λ r. writes r) writing) (no_less run.policy run.image now.kept next.kept now.hart.machine now.hart.control moves (λ r. writes r) writing))
         (ram_on run.span (fetched_by run.from.hart now.hart) (writes now.kept - writes run.from.kept) (weight 0 now.hart.control) (writes next.kept - writes now.kept) now.hart.control
         run.from.ram now.ram next.ram refl so_far.ram stepped));
   }
