@@ -21,7 +21,6 @@ use Rattle.swi_hart.specs.declared.hart.Control.TheVariants.{At, Outside}
 use Rattle.swi_hart.specs.Calling.{BrokenCall, BrokenStep}
 use Rattle.swi_hart.specs.Hart.{HartData, completes, original, slots}
 use Rattle.swi_hart.specs.Leaving.{RamBroken, indexes_after}
-use Rattle.swi_hart.specs.Matching.{Agrees}
 use Rattle.swi_hart.proofs.Midway.{step_follows}
 use Rattle.swi_hart.proofs.Taking.{input_shrinks}
 use Rattle.swi_board.specs.Board.{BoardWithDevices}
@@ -34,7 +33,7 @@ use Rattle.swi_run_laws.specs.Broken.{Broke, DeviceBroke, RamBroke}
 use Rattle.swi_board.specs.Moments.{Moment, Policy, completed, counted, event, executed, fell, led, stepped_at}
 use Rattle.swi_board.specs.BoardRan.{BrokeOff}
 use Rattle.swi_board.specs.Tracking.{Point, Tracks, point_of}
-use Rattle.swi_run_laws.proofs.Quiet.{exit_same}
+use Rattle.swi_run_laws.proofs.Inside.{exit_serves}
 
 -- the words of a moment's event are those under control
 event_words : (by : Policy) (v : ImageData) (s : Moment) → s.flat.machine.ending ≡ None → (event by v s).words ≡ word_at_place s.here s.kept s.spent ++ s.words
@@ -78,12 +77,23 @@ module _ (by : Policy) (span : ℕ) (v : ImageData) (s : Moment) (from a b : Poi
   flat_on : s.flat.machine.ending ≡ None
   flat_on = sym (same_steps v a.kept s.flat.machine a.hart.machine a.hart.control at.matches).1 ∙ running
 
+  spends : spent s.flat.machine a.hart.control ≡ s.spent
+  spends = sym (ap (λ (e : Option End). spent_by e s.flat.machine a.hart.control) flat_on) ∙ at.spent
+
   under : indexes_after a.hart.control [] ≡ word_at_place s.here s.kept s.spent
   under =
       sym (under_is v a.kept s.flat.machine a.hart.machine a.hart.control once running at.matches)
       ∙ ap (λ (h : Here). word_at_place h a.kept (spent s.flat.machine a.hart.control)) (at.here running)
-      ∙ ap (λ (n : ℕ). word_at_place s.here a.kept n) (sym (ap (λ (e : Option End). spent_by e s.flat.machine a.hart.control) flat_on) ∙ at.spent)
+      ∙ ap (λ (n : ℕ). word_at_place s.here a.kept n) spends
       ∙ ap (λ (r : Record). word_at_place s.here r s.spent) at.kept
+
+  -- some word is under control, unless it is outside
+  inside_now : (a.hart.control ≡ Outside → ⊥) → s.here ≡ None → ⊥
+  inside_now inside none = by_control a.hart.control inside under
+    where
+      by_control : (c : Control) → (c ≡ Outside → ⊥) → indexes_after c [] ≡ word_at_place s.here s.kept s.spent → ⊥
+      by_control (At i b o stage) inside is = let clash : ◌≡◌ {A = List ℕ} (i ∷ []) [] = is ∙ ap (λ (h : Here). word_at_place h s.kept s.spent) none in let bad : ⊥ = cc in bad
+      by_control Outside inside is = inside refl
 
   -- where the word under control was fetched
   words_next : b.ram.fetched_at ≡ indexes_after a.hart.control a.ram.fetched_at → b.ram.fetched_at ≡ (event by v s).words ++ from.ram.fetched_at
@@ -105,6 +115,8 @@ module _ (by : Policy) (span : ℕ) (v : ImageData) (s : Moment) (from a b : Poi
     | inl same ↦ record {
       reached = s;
       is = inl refl;
+      running = flat_on;
+      inside = inside_now failed.inside;
       input = left ∙ at.input;
       output = subst (λ (o : Option (List ℕ)). Appends from.out o s.flat.output) (sym out) at.output;
       error = subst (λ (o : Option (List ℕ)). Appends from.err o s.flat.error) (sym err) at.error;
@@ -113,11 +125,13 @@ module _ (by : Policy) (span : ℕ) (v : ImageData) (s : Moment) (from a b : Poi
       last_failed = failed.last_failed;
     }
     | inr one ↦
-        let stands = subst (λ (e : Option End). Agrees e v a.kept s.flat.machine a.hart.machine a.hart.control) running at.matches in
-        let bytes = exit_same by v a.kept s a.hart.machine a.hart.control at.image flat_on stands (at.here running) one.1 in
+        let serves = exit_serves by v s a.kept a.hart.machine a.hart.control at.image at.matches running word (at.here running) spends one.1 in
+        let bytes = serves.0 in
         record {
           reached = event by v s;
           is = inr refl;
+          running = serves.1;
+          inside = serves.2;
           input = left ∙ at.input ∙ ap (λ (l : List ℕ). Some l) (sym bytes.input);
           output = subst (λ (l : List ℕ). Appends from.out b.out l) (sym bytes.output) (subst (λ (o : Option (List ℕ)). Appends from.out o s.flat.output) (sym out) at.output);
           error = subst (λ (l : List ℕ). Appends from.err b.err l) (sym bytes.error) (subst (λ (o : Option (List ℕ)). Appends from.err o s.flat.error) (sym err) at.error);

@@ -1,8 +1,8 @@
 pub mod After
 pub mod Midway
 pub mod RunLaws
-pub mod Quiet
+pub mod Between
+pub mod Inside
 pub mod Broken
-pub mod Cached
-pub mod CachedRan
 pub mod Schedules
+pub mod Runs

@@ -1,5 +1,5 @@
 -- What stands where a device broke a machine instruction off, by the moment before it. Own rule.
-use Rattle.std.specs.Prelude.{◌≡◌, ◌⊎◌, ℕ, ◌+◌, ◌≤◌, List, ◌++◌, length, take, Some, true}
+use Rattle.std.specs.Prelude.{◌≡◌, ◌⊎◌, ℕ, ◌+◌, ◌≤◌, List, ◌++◌, length, take, None, Some, true}
 use Rattle.std.specs.Io.KnownBytes.{Appends, Consumes}
 use Rattle.swi_outside.specs.Causes.{risen}
 use Rattle.swi_calls.specs.State.{FlatState}
@@ -21,6 +21,9 @@ pub record SameBytes (s t : FlatState) : Type 0 where
 pub record RamBroke (by : Policy) (v : ImageData) (s : Moment) (from new : Point) : Type 0 where
   pub reached : Moment
   pub is : (reached ≡ s) ⊎ (reached ≡ event by v s)
+  -- the run goes on, and the next one fetches a word
+  pub running : reached.flat.machine.ending ≡ None
+  pub inside : reached.here ≡ None → ⊥
   pub input : new.left ≡ Some reached.flat.input
   pub output : Appends from.out new.out reached.flat.output
   pub error : Appends from.err new.err reached.flat.error

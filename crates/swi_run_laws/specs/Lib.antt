@@ -1,4 +1,4 @@
 pub mod After
 pub mod Broken
-pub mod Cached
 pub mod Schedules
+pub mod Runs
