@@ -13,7 +13,7 @@ use Rattle.swi_hart.specs.declared.hart.Stage.{Stage}
 use Rattle.swi_hart.specs.declared.hart.Control.{Control}
 use Rattle.swi_hart.specs.declared.hart.Control.TheVariants.{At}
 use Rattle.swi_hart.specs.declared.hart.Role.{Role}
-use Rattle.swi_hart.specs.Hart.{HartData, Stepped, exit_kind, hart_after, word_stepped, original, is_between}
+use Rattle.swi_hart.specs.Hart.{HartData, Stepped, exit_kind, hart_after, word_stepped, original}
 use Rattle.swi_hart.specs.declared.hart.ExitKind.{ExitKind}
 use Rattle.swi_hart.specs.declared.hart.ExitKind.TheVariants.{Direct}
 use Rattle.swi_hart.specs.Bounds.{Grown, most, depth}
@@ -22,15 +22,14 @@ use Rattle.swi_hart.specs.Calling.{Did, Made}
 use Rattle.swi_hart.specs.Leaving.{ExitHome, Home, exit_transfer, leaves, quick_role, step_to, transfer_at, moved, RamServed}
 use Rattle.swi_board.specs.Walked.{WordOn, LinkOn, JumpOn, StepOn, WalkedOn, Walked, StandsInside, StoppedAt, BlockRan}
 use Rattle.swi_hart.proofs.Homes.{home}
-use Rattle.swi_hart.proofs.Fitting.{own_matches}
 use Rattle.swi_hart.proofs.Fetching.{placed, got_some, index_below, index_fits, exit_home, exit_moves, word_home, word_moves, counted_hart, did_quiet}
 use Rattle.swi_hart.proofs.Steps.{made_exit, fits_exit, made_word, fits_word, ram_exit}
 use Rattle.swi_hart.proofs.Falls.{leave_at}
 use Rattle.swi_hart.proofs.Leaving.{jump_linked}
 use Rattle.swi_hart.proofs.Grown.{grown_exit, grown_word, moved_services}
 use Rattle.swi_hart.proofs.Growing.{depth_most}
-use Rattle.swi_board.proofs.Running.{Point, Course, Running, most_running, runs_on, falls, no_less, count_small, calls_small}
-use Rattle.swi_board.proofs.Settling.{settles_on}
+use Rattle.swi_board.specs.Tracking.{Course, Point, Running}
+use Rattle.swi_board.proofs.Running.{most_running, runs_on, falls, no_less, count_small, calls_small}
 
 -- an exit of this kind is a direct one
 direct_kind : (d : ℕ) → d % 4 ≡ 0 → exit_kind d ≡ Direct
@@ -57,15 +56,12 @@ pub record Laws (policy : Record → ImageData → Transfer → Record) : Type 0
 
 -- what holds behind each step of a stretch of a run that asks neither the ram, but for its fetch, nor a device, which began at `first`
 pub record Stretch (run : Course) (first : Point) (kept : Record) (h : HartData) (ram : RamState) : Type 0 where
-  pub fits : Fits run.image run.from.kept run.from.hart
   pub small : run.limit ≤ 2 ^ 48
   pub coherent : Coherent run.image kept run.span ram.words
   pub laws : Laws run.policy
   pub below : first.hart.machine.steps < run.limit
   pub went : first.hart.machine.ending ≡ None
   pub running : Running run (record first { hart = h; kept = kept; ram = ram })
-  pub settles : (l : List ℕ) → run.from.left ≡ Some l → is_between run.from.hart.control ≡ true → h.machine.ending ≡ None →
-      (h.machine.steps < run.limit) ⊎ (is_between h.control ≡ true)
   pub words : ram.words ≡ first.ram.words
   pub quiet : ram.faults ≡ first.ram.faults
   pub going : h.machine.ending ≡ None
@@ -87,7 +83,7 @@ module _ {run : Course} {first : Point} where
   pub home_at : {r : Record} {h : HartData} {ram : RamState} {i b o : ℕ} {stage : Stage} → Stretch run first r h ram → h.control ≡ At i b o stage →
       Home run.image r h.machine i b o stage
   home_at {r} {h} {ram} {i} {b} {o} {stage} s control =
-      home run.image r h i b o stage s.running.fits control s.going s.short
+      home run.image r h i b o stage s.running.stays.fits control s.going s.short
 
   -- the word under control lies in the part of the ram that the service uses
   pub used : {r : Record} {h : HartData} {ram : RamState} {i b o : ℕ} {stage : Stage} → Stretch run first r h ram → h.control ≡ At i b o stage → i < run.span
@@ -105,8 +101,8 @@ module _ {run : Course} {first : Point} where
         decodes = got_some v r h.machine run.span ram.words i b o stage s.coherent at (slice_index ram.words i) refl;
         in_ram = index_fits v r h.machine run.span ram.words i b o stage s.coherent at;
         index = omega (arith, inside, low);
-        count = count_small s.running below s.going s.short s.small few;
-        services = calls_small s.running below s.going s.short s.small calls;
+        count = count_small s.running.stays below s.going s.small few;
+        services = calls_small s.running.stays below s.going s.small calls;
       }
 
   module _ {r r' : Record} {h h' : HartData} {ram ram' : RamState} (s : Stretch run first r h ram) (below : h.machine.steps < run.limit)
@@ -128,7 +124,7 @@ module _ {run : Course} {first : Point} where
         λ l. counted_hart h h' l k.is_counted ∙ ap (λ (y : Stepped). hart_after h y) (sym (w.step l)) in
         record {
           grown = grown_word v r r h h' k.index k.block k.offset k.stage k.control (sym s.going) x role first.left first.left refl stands refl (inl plain);
-          fits = fits_word v r r h h' k.index k.block k.offset k.stage k.control x role first.left first.left refl s.running.fits (sym s.going) s.short stands refl
+          fits = fits_word v r r h h' k.index k.block k.offset k.stage k.control x role first.left first.left refl s.running.stays.fits (sym s.going) s.short stands refl
               (inl plain);
           moves = rw k.control (word_moves v r h.machine k.index k.block k.offset k.stage run.policy r stands.0);
           made = λ l told. made_word v r r h h' k.index k.block k.offset k.stage k.control x role l first.left first.out first.out first.err first.err stands refl
@@ -147,7 +143,7 @@ module _ {run : Course} {first : Point} where
         let v = run.image in
         record {
           grown = grown_exit v r r' h h' k.index k.block k.offset k.stage k.control (sym s.going) e step k.is_counted (moved_services run.policy s.laws.one r r' v _ moves);
-          fits = fits_exit v r r' h h' k.index k.block k.offset k.stage k.control s.running.fits (sym s.going) s.short e step k.is_counted;
+          fits = fits_exit v r r' h h' k.index k.block k.offset k.stage k.control s.running.stays.fits (sym s.going) s.short e step k.is_counted;
           moves = rw k.control (exit_moves v r' h.machine k.index k.block k.offset k.stage run.policy r e moves);
           made = λ l told. made_exit v r r' h h' k.index k.block k.offset k.stage k.control l first.left first.out first.err e step k.is_counted told;
           ram = served;
@@ -206,24 +202,19 @@ module _ {run : Course} {first : Point} where
       let stepped = ram_exit run.span (writes r' - writes r) w.index w.block w.offset w.stage h.control ram ram' ram' w.control
       (used s w.control) w.fetched all.ram in
       record {
-        fits = s.fits;
         small = s.small;
         coherent = all.coherent;
         laws = s.laws;
         below = s.below;
         went = s.went;
-        running = runs_on s.running below s.going s.short s.small {next = record first { hart = h'; kept = r'; ram = ram' }} stepped
-            (no_less s.running all.moves (λ n. writes n) s.laws.written) all.fits all.grown all.moves all.made s.coherent.once;
-        settles = λ l told between going.
-            let now = s.running.goes l told run.from.hart.machine s.fits.image
-            (own_matches run.image run.from.kept run.from.hart.machine run.from.hart.control between s.fits.place) in
-            settles_on below (all.made now.now.input now.left_is) going;
+        running = runs_on {next = record first { hart = h'; kept = r'; ram = ram' }} s.running below s.going s.short s.laws.written stepped
+            all.fits all.grown all.moves all.made s.coherent.once;
         words = ap (λ (k : RamState). k.words) w.fetched ∙ s.words;
         quiet = ap (λ (k : RamState). k.faults) w.fetched ∙ s.quiet;
         going = w.going;
         short = w.short;
         rises = inr (higher (most_running run.image h.machine h.control s.going) all.grown.most s.rises);
-        grows = λ measure law. (let so_far = s.grows measure law in let more = no_less s.running all.moves measure law in omega (arith, so_far, more));
+        grows = λ measure law. (let so_far = s.grows measure law in let more = no_less run.policy run.image r r' h.machine h.control all.moves measure law in omega (arith, so_far, more));
       }
     where
       higher : most run.image h.machine h.control ≡ 3 * h.machine.steps + depth run.image h.machine h.control →
@@ -238,20 +229,16 @@ module _ {run : Course} {first : Point} where
   walk s Walked.here = s
   walk s (Walked.on r1 r2 h1 h2 ram1 ram2 w below k) = one (walk s w) below k
 
-  pub begins : {h : HartData} → Running run first → ((l : List ℕ) → run.from.left ≡ Some l → is_between run.from.hart.control ≡ true →
-      first.hart.machine.ending ≡ None → (first.hart.machine.steps < run.limit) ⊎ (is_between first.hart.control ≡ true)) →
-      Fits run.image run.from.kept run.from.hart → run.limit ≤ 2 ^ 48 → Coherent run.image first.kept run.span first.ram.words → Laws run.policy →
+  pub begins : {h : HartData} → Running run first → run.limit ≤ 2 ^ 48 → Coherent run.image first.kept run.span first.ram.words → Laws run.policy →
       h ≡ first.hart → h.machine.steps < run.limit → first.hart.machine.ending ≡ None → first.hart.machine.pc < 2 ^ 32 →
       Stretch run first first.kept first.hart first.ram
-  begins {h} running settles fits small coherent laws same below going short = record {
-    fits = fits;
+  begins {h} running small coherent laws same below going short = record {
     small = small;
     coherent = coherent;
     laws = laws;
     below = subst (λ (k : HartData). k.machine.steps < run.limit) same below;
     went = going;
     running = running;
-    settles = settles;
     words = refl;
     quiet = refl;
     going = going;

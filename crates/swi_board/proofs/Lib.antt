@@ -2,11 +2,11 @@ pub mod Held
 pub mod Progress
 pub mod Counting
 pub mod Fetching
+pub mod Spending
+pub mod Tracks
 pub mod Running
-pub mod Breaking
 pub mod Entering
 pub mod Following
-pub mod Settling
 pub mod Turning
 pub mod Walking
 pub mod Blocks

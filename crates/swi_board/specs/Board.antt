@@ -4,6 +4,8 @@ use Rattle.swi_image.specs.Format.{ImageData}
 use Rattle.swi_image.specs.Place.{place_of}
 use Rattle.swi_rom.specs.Record.{Transfer, indirect}
 use Rattle.swi_hart.specs.Hart.{HartData}
+use Rattle.swi_outside.specs.CacheRam.{RamState}
+use Rattle.swi_outside.specs.Devices.{Devices}
 
 -- a board: its hart and its service
 pub record BoardOf (R : Type 0) : Type 0 where
@@ -16,3 +18,10 @@ entry_transfer v t = if is_some (place_of v t) then Some (indirect t) else None
 
 abbrev pub entries : ImageData → ℕ → ℕ
 entries v t = if is_some (place_of v t) then 1 else 0
+
+-- a board with its ram and its devices, whole
+pub record BoardWithDevices (S : Type 0) : Type 0 where
+  pub hart : HartData
+  pub rom : S
+  pub ram : RamState
+  pub devices : Devices

@@ -1,5 +1,5 @@
 -- Which words of the ram a run fetches, read off the flat steps, the image and the service's record. Own rule.
-use Rattle.std.specs.Prelude.{◌≡◌, ℕ, zero, suc, ◌+◌, List, [], ◌∷◌, ◌++◌, reverse, drop, Some, None, is_some, Result, Ok, Err, if◌then◌else◌}
+use Rattle.std.specs.Prelude.{◌≡◌, ℕ, zero, suc, ◌+◌, List, [], ◌∷◌, ◌++◌, reverse, Some, None, is_some, if◌then◌else◌}
 use Rattle.swi_outside.specs.CacheRam.{RamState}
 use Rattle.swi_calls.specs.declared.machine.Machine.{Machine}
 use Rattle.swi_calls.specs.State.{FlatState}
@@ -7,9 +7,8 @@ use Rattle.swi_calls.specs.Held.{held_step}
 use Rattle.swi_image.specs.Format.{ImageData}
 use Rattle.swi_rom.specs.Record.{Record, Transfer}
 use Rattle.swi_rom.specs.Policy.{first_of}
-use Rattle.swi_hart.specs.declared.hart.Control.{Control}
 use Rattle.swi_hart.specs.Hart.{original, slots}
-use Rattle.swi_board.specs.Transfers.{Here, at_fall, settled, step_cost, fall_transfers, step_transfers, here_after, here_of, spent_run, after_all}
+use Rattle.swi_board.specs.Transfers.{Here, at_fall, settled, step_cost, fall_transfers, step_transfers, here_after, after_all}
 
 -- so many indexes, one behind the other
 abbrev pub indexes_from : ℕ → ℕ → List ℕ
@@ -40,10 +39,6 @@ words_run policy v (suc k) s here r =
     ++ words_run policy v k (held_step s) (here_after v s.machine (settled v s.machine here) (held_step s).machine)
     (after_all policy v (after_all policy v r (fall_transfers v s.machine here)) (step_transfers s.machine (settled v s.machine here) (held_step s).machine)))
 
--- the words that are still to be fetched where control stands: without those of the instruction under it that were fetched before
-abbrev pub words_ahead : (Record → ImageData → Transfer → Record) → ImageData → ℕ → FlatState → Control → Record → List ℕ
-words_ahead policy v k s c r = drop (spent_run s.machine c) (words_run policy v k s (here_of v s.machine c) r)
-
 -- just these words were fetched from one state of a ram to another, in this order
 abbrev pub HasFetched : List ℕ → RamState → RamState → Type 0
 HasFetched words before after = after.fetched_at ≡ reverse words ++ before.fetched_at
@@ -56,8 +51,3 @@ pub record FetchedTo (words ahead : List ℕ) (before after : RamState) : Type 0
 
 abbrev pub FetchedFront : List ℕ → RamState → RamState → Type 0
 FetchedFront words before after = (ahead : List ℕ) × FetchedTo words ahead before after
-
--- all of them were fetched, or where a device failed a front
-abbrev pub FetchedBy : {T E : Type 0} → Result T E → List ℕ → RamState → RamState → Type 0
-FetchedBy (Ok x) words before after = HasFetched words before after
-FetchedBy (Err e) words before after = FetchedFront words before after

@@ -26,55 +26,55 @@ pub loop-hart-preserved-in_default : goal.loop-hart-preserved-in_default
 loop-hart-preserved-in_default g c =
     let more = subst (λ (h : HartData). h.machine.steps < c.args.n) c.hart.view_is c.loop-hart-test.true in
     let running : c.loop-hart.hart.machine.ending ≡ None = search rules in
-    steps_on c.loop-hart.invariant g.met.R.CacheRom.laws c.requires.limit c.requires.fits more running c.in_ok-quick_step.ensures.word c.in_ok-quick_step.ensures.stepped
+    steps_on c.loop-hart.invariant g.met.R.CacheRom.laws more running c.in_ok-quick_step.ensures.word c.in_ok-quick_step.ensures.stepped
 
 pub loop-hart-smaller-in_default : goal.loop-hart-smaller-in_default
 loop-hart-smaller-in_default g c =
     let more = subst (λ (h : HartData). h.machine.steps < c.args.n) c.hart.view_is c.loop-hart-test.true in
     let running : c.loop-hart.hart.machine.ending ≡ None = search rules in
-    falls more running (c.in_ok-quick_step.ensures.stepped.grown c.loop-hart.invariant.sound)
+    falls more running (c.in_ok-quick_step.ensures.stepped.grown c.loop-hart.invariant.stays.sound)
 
 pub returns-in_err-quick_step : goal.returns-in_err-quick_step
 returns-in_err-quick_step g c =
     let p = err_from_is_err_and c.from_residual.result c.from_residual.ensures.1 in
     let more = subst (λ (h : HartData). h.machine.steps < c.args.n) c.hart.view_is c.loop-hart-test.true in
     let running : c.loop-hart.hart.machine.ending ≡ None = search rules in
-    rw (p.1, p.2) (run_broken c.loop-hart.invariant g.met.R.CacheRom.laws more running c.in_err-quick_step.ensures.word c.in_err-quick_step.ensures.stepped)
+    rw (p.1, p.2) (run_broken c.loop-hart.invariant more running c.in_err-quick_step.ensures.word c.in_err-quick_step.ensures.stepped)
 
 pub returns-else-is_none : goal.returns-else-is_none
 returns-else-is_none g c =
     let ended : is_some c.loop-hart.hart.machine.ending ≡ true = search rules in
-    run_ended c.loop-hart.invariant c.requires.unfailed (inr ended)
+    run_ended c.loop-hart.invariant (inr ended)
 
 pub returns-after-loop-hart : goal.returns-after-loop-hart
 returns-after-loop-hart g c =
     let done = subst (λ (h : HartData). c.args.n ≤ h.machine.steps) c.hart.view_is c.loop-hart-test.false in
-    run_ended c.loop-hart.invariant c.requires.unfailed (inl done)
+    run_ended c.loop-hart.invariant (inl done)
 
 pub run_block-requires : goal.run_block-requires
 run_block-requires g c =
     let was = c.loop-hart.invariant in
     let going = sym (ap (λ (h : HartData). h.machine.ending) c.hart.view_is) ∙ not_ended _ _ c.is_none.ensures c.if-is_none.true in
-    let begin = stretch_from was g.met.R.CacheRom.laws c.requires.limit c.requires.fits c.hart.view_is c.loop-hart-test.true going c.origin_pc-pc.ensures.word in
-    let low = rw was.setting at (g.met.R.CacheRom.laws.small _ _ _ was.sound) in
+    let begin = stretch_from was g.met.R.CacheRom.laws c.requires.limit c.hart.view_is c.loop-hart-test.true going c.origin_pc-pc.ensures.word in
+    let low = rw was.stays.setting at (g.met.R.CacheRom.laws.small _ _ _ was.stays.sound) in
     record {
       going = begin.going;
       control = c.in-Some.ensures.control;
-      sound = was.sound;
+      sound = was.stays.sound;
       places = c.in-Some.ensures.places;
       few = c.requires.limit;
       count = (stands (walk begin Walked.here) c.requires.count c.requires.services low begin.below c.in-Some.ensures.control).count;
       within = let more = begin.below in omega (arith, more);
       short = c.origin_pc-pc.ensures.word;
       inside = λ r h ram walked below i b o stage control.
-          let on = rw was.setting at walked in
+          let on = rw was.stays.setting at walked in
           stands (walk begin on) c.requires.count c.requires.services low below control;
       stands = λ r h ram walked i b o stage control.
-          let on = rw was.setting at walked in
+          let on = rw was.stays.setting at walked in
           home_stands (home_at (walk begin on) control);
       rises = λ r r' h h' ram ram' walked below k.
-          let on = rw was.setting at walked in
-          let more = rw was.setting at k in
+          let on = rw was.stays.setting at walked in
+          let more = rw was.stays.setting at k in
           word_falls (walk begin on) below more;
     }
 
@@ -82,24 +82,24 @@ pub loop-hart-smaller-in-Ok-None : goal.loop-hart-smaller-in-Ok-None
 loop-hart-smaller-in-Ok-None g c =
     let was = c.loop-hart.invariant in
     let going = sym (ap (λ (h : HartData). h.machine.ending) c.hart.view_is) ∙ not_ended _ _ c.is_none.ensures c.if-is_none.true in
-    let begin = stretch_from was g.met.R.CacheRom.laws c.requires.limit c.requires.fits c.hart.view_is c.loop-hart-test.true going c.origin_pc-pc.ensures.word in
-    let ended = at_limit c.in-Ok-None.is c.in-Ok-None.field-0-is (rw was.setting at c.run_block.ensures.ran) in
+    let begin = stretch_from was g.met.R.CacheRom.laws c.requires.limit c.hart.view_is c.loop-hart-test.true going c.origin_pc-pc.ensures.word in
+    let ended = at_limit c.in-Ok-None.is c.in-Ok-None.field-0-is (rw was.stays.setting at c.run_block.ensures.ran) in
     lower (walk begin ended.0) ended.1
 
 pub loop-hart-preserved-in-Ok-None : goal.loop-hart-preserved-in-Ok-None
 loop-hart-preserved-in-Ok-None g c =
     let was = c.loop-hart.invariant in
     let going = sym (ap (λ (h : HartData). h.machine.ending) c.hart.view_is) ∙ not_ended _ _ c.is_none.ensures c.if-is_none.true in
-    let begin = stretch_from was g.met.R.CacheRom.laws c.requires.limit c.requires.fits c.hart.view_is c.loop-hart-test.true going c.origin_pc-pc.ensures.word in
-    let ended = at_limit c.in-Ok-None.is c.in-Ok-None.field-0-is (rw was.setting at c.run_block.ensures.ran) in
+    let begin = stretch_from was g.met.R.CacheRom.laws c.requires.limit c.hart.view_is c.loop-hart-test.true going c.origin_pc-pc.ensures.word in
+    let ended = at_limit c.in-Ok-None.is c.in-Ok-None.field-0-is (rw was.stays.setting at c.run_block.ensures.ran) in
     along_stretch was g.met.R.CacheRom.laws (walk begin ended.0) c.run_block.ensures.setting c.run_block.ensures.sound c.run_block.ensures.keeps
 
 pub returns-in-Err : goal.returns-in-Err
 returns-in-Err g c =
     let was = c.loop-hart.invariant in
     let going = sym (ap (λ (h : HartData). h.machine.ending) c.hart.view_is) ∙ not_ended _ _ c.is_none.ensures c.if-is_none.true in
-    let begin = stretch_from was g.met.R.CacheRom.laws c.requires.limit c.requires.fits c.hart.view_is c.loop-hart-test.true going c.origin_pc-pc.ensures.word in
-    let ended = before_fault c.in-Err.is (rw was.setting at c.run_block.ensures.ran) in
+    let begin = stretch_from was g.met.R.CacheRom.laws c.requires.limit c.hart.view_is c.loop-hart-test.true going c.origin_pc-pc.ensures.word in
+    let ended = before_fault c.in-Err.is (rw was.stays.setting at c.run_block.ensures.ran) in
     let s = walk begin ended.walked in
     let words = ap (λ (k : RamState). k.words) ended.answered.2 in
     let mid = along_stretch {ram = ended.before} was g.met.R.CacheRom.laws s c.run_block.ensures.setting
@@ -107,24 +107,24 @@ returns-in-Err g c =
     (subst (λ (k : List ℕ). Keeps g.R.CacheRom.service c.args.image.now c.loop-hart.rom c.run_block.new.rom (g.M.CacheRam.state c.loop-hart.ram).words k) words c.run_block.ensures.keeps) in
     let failed = ram_unfetched c.args.image.now c.run_block.new.hart.machine c.run_block.new.hart.control _ _ _ _ _ ended.before
     (g.M.CacheRam.state c.run_block.new.ram) ended.control (used s ended.control) ended.answered in
-    run_broken mid g.met.R.CacheRom.laws ended.below s.going s.short
-    (ram_stopped _ _ _ _ _ (ap (λ (h : HartData). record h { failed = true }) c.hart-in-Err.view_is) refl (subst (λ (m : Setting). RamBroken c.args.image.now c.run_block.new.hart.machine c.run_block.new.hart.control (g.R.CacheRom.service.span m) ended.before (g.M.CacheRam.state c.run_block.new.ram)) (sym mid.setting) failed))
+    run_broken mid ended.below s.going s.short
+    (ram_stopped _ _ _ _ _ (ap (λ (h : HartData). record h { failed = true }) c.hart-in-Err.view_is) refl (subst (λ (m : Setting). RamBroken c.args.image.now c.run_block.new.hart.machine c.run_block.new.hart.control (g.R.CacheRom.service.span m) ended.before (g.M.CacheRam.state c.run_block.new.ram)) (sym mid.stays.setting) failed))
 
 pub at_word-requires : goal.at_word-requires
 at_word-requires g c =
     let was = c.loop-hart.invariant in
     let going = sym (ap (λ (h : HartData). h.machine.ending) c.hart.view_is) ∙ not_ended _ _ c.is_none.ensures c.if-is_none.true in
-    let begin = stretch_from was g.met.R.CacheRom.laws c.requires.limit c.requires.fits c.hart.view_is c.loop-hart-test.true going c.origin_pc-pc.ensures.word in
-    let ended = before_word c.in-Ok-Some.is c.in-Ok-Some.field-0-is (rw was.setting at c.run_block.ensures.ran) in
+    let begin = stretch_from was g.met.R.CacheRom.laws c.requires.limit c.hart.view_is c.loop-hart-test.true going c.origin_pc-pc.ensures.word in
+    let ended = before_word c.in-Ok-Some.is c.in-Ok-Some.field-0-is (rw was.stays.setting at c.run_block.ensures.ran) in
     let s = walk begin ended.walked in
     let control = sym (ap (λ (h : HartData). h.control) c.hart-in-loop-hart.view_is) ∙ sym c.control.ensures ∙ c.in-At.is in
     record {
       ready = record {
         running = s.going;
         few = omega (arith, ended.below, c.requires.limit);
-        count = count_small s.running ended.below s.going s.short c.requires.limit c.requires.count;
-        services = calls_small s.running ended.below s.going s.short c.requires.limit c.requires.services;
-        fits = s.running.fits;
+        count = count_small s.running.stays ended.below s.going c.requires.limit c.requires.count;
+        services = calls_small s.running.stays ended.below s.going c.requires.limit c.requires.services;
+        fits = s.running.stays.fits;
       };
       word = s.short;
       control = control;
@@ -138,8 +138,8 @@ pub loop-hart-smaller : goal.loop-hart-smaller
 loop-hart-smaller g c =
     let was = c.loop-hart.invariant in
     let going = sym (ap (λ (h : HartData). h.machine.ending) c.hart.view_is) ∙ not_ended _ _ c.is_none.ensures c.if-is_none.true in
-    let begin = stretch_from was g.met.R.CacheRom.laws c.requires.limit c.requires.fits c.hart.view_is c.loop-hart-test.true going c.origin_pc-pc.ensures.word in
-    let ended = before_word c.in-Ok-Some.is c.in-Ok-Some.field-0-is (rw was.setting at c.run_block.ensures.ran) in
+    let begin = stretch_from was g.met.R.CacheRom.laws c.requires.limit c.hart.view_is c.loop-hart-test.true going c.origin_pc-pc.ensures.word in
+    let ended = before_word c.in-Ok-Some.is c.in-Ok-Some.field-0-is (rw was.stays.setting at c.run_block.ensures.ran) in
     let s = walk begin ended.walked in
     let control = sym (ap (λ (h : HartData). h.control) c.hart-in-loop-hart.view_is) ∙ sym c.control.ensures ∙ c.in-At.is in
     let answered = subst (λ (k : ℕ). Answered (Some c.in-Ok-Some.got) ended.before k (g.M.CacheRam.state c.run_block.new.ram))
@@ -154,8 +154,8 @@ pub loop-hart-preserved : goal.loop-hart-preserved
 loop-hart-preserved g c =
     let was = c.loop-hart.invariant in
     let going = sym (ap (λ (h : HartData). h.machine.ending) c.hart.view_is) ∙ not_ended _ _ c.is_none.ensures c.if-is_none.true in
-    let begin = stretch_from was g.met.R.CacheRom.laws c.requires.limit c.requires.fits c.hart.view_is c.loop-hart-test.true going c.origin_pc-pc.ensures.word in
-    let ended = before_word c.in-Ok-Some.is c.in-Ok-Some.field-0-is (rw was.setting at c.run_block.ensures.ran) in
+    let begin = stretch_from was g.met.R.CacheRom.laws c.requires.limit c.hart.view_is c.loop-hart-test.true going c.origin_pc-pc.ensures.word in
+    let ended = before_word c.in-Ok-Some.is c.in-Ok-Some.field-0-is (rw was.stays.setting at c.run_block.ensures.ran) in
     let s = walk begin ended.walked in
     let control = sym (ap (λ (h : HartData). h.control) c.hart-in-loop-hart.view_is) ∙ sym c.control.ensures ∙ c.in-At.is in
     let answered = subst (λ (k : ℕ). Answered (Some c.in-Ok-Some.got) ended.before k (g.M.CacheRam.state c.run_block.new.ram))
@@ -164,15 +164,15 @@ loop-hart-preserved g c =
     let sound = subst (λ (k : List ℕ). g.R.CacheRom.service.sound c.run_block.new.rom c.args.image.now k) words c.run_block.ensures.sound in
     let mid = along_stretch {ram = ended.before} was g.met.R.CacheRom.laws s c.run_block.ensures.setting sound
     (subst (λ (k : List ℕ). Keeps g.R.CacheRom.service c.args.image.now c.loop-hart.rom c.run_block.new.rom (g.M.CacheRam.state c.loop-hart.ram).words k) words c.run_block.ensures.keeps) in
-    steps_on mid g.met.R.CacheRom.laws c.requires.limit c.requires.fits ended.below s.going s.short (c.in_ok-at_word.ensures ended.before answered)
+    steps_on mid g.met.R.CacheRom.laws ended.below s.going s.short (c.in_ok-at_word.ensures ended.before answered)
 
 pub returns-in_err-at_word : goal.returns-in_err-at_word
 returns-in_err-at_word g c =
     let p = err_from_is_err_and c.from_residual-in_err-at_word.result c.from_residual-in_err-at_word.ensures.1 in
     let was = c.loop-hart.invariant in
     let going = sym (ap (λ (h : HartData). h.machine.ending) c.hart.view_is) ∙ not_ended _ _ c.is_none.ensures c.if-is_none.true in
-    let begin = stretch_from was g.met.R.CacheRom.laws c.requires.limit c.requires.fits c.hart.view_is c.loop-hart-test.true going c.origin_pc-pc.ensures.word in
-    let ended = before_word c.in-Ok-Some.is c.in-Ok-Some.field-0-is (rw was.setting at c.run_block.ensures.ran) in
+    let begin = stretch_from was g.met.R.CacheRom.laws c.requires.limit c.hart.view_is c.loop-hart-test.true going c.origin_pc-pc.ensures.word in
+    let ended = before_word c.in-Ok-Some.is c.in-Ok-Some.field-0-is (rw was.stays.setting at c.run_block.ensures.ran) in
     let s = walk begin ended.walked in
     let control = sym (ap (λ (h : HartData). h.control) c.hart-in-loop-hart.view_is) ∙ sym c.control.ensures ∙ c.in-At.is in
     let answered = subst (λ (k : ℕ). Answered (Some c.in-Ok-Some.got) ended.before k (g.M.CacheRam.state c.run_block.new.ram))
@@ -181,4 +181,4 @@ returns-in_err-at_word g c =
     let sound = subst (λ (k : List ℕ). g.R.CacheRom.service.sound c.run_block.new.rom c.args.image.now k) words c.run_block.ensures.sound in
     let mid = along_stretch {ram = ended.before} was g.met.R.CacheRom.laws s c.run_block.ensures.setting sound
     (subst (λ (k : List ℕ). Keeps g.R.CacheRom.service c.args.image.now c.loop-hart.rom c.run_block.new.rom (g.M.CacheRam.state c.loop-hart.ram).words k) words c.run_block.ensures.keeps) in
-    rw (p.1, p.2) (run_broken mid g.met.R.CacheRom.laws ended.below s.going s.short (c.in_err-at_word.ensures ended.before answered))
+    rw (p.1, p.2) (run_broken mid ended.below s.going s.short (c.in_err-at_word.ensures ended.before answered))

@@ -1,6 +1,6 @@
 use Rattle.std.proofs.Common.{◌*◌, ◌+◌, ◌-◌}
 use Rattle.swi_hart.specs.Bounds.{most}
-use Rattle.swi_board.proofs.Along.{Along}
+use Rattle.swi_board.specs.BoardRan.{Along}
 use Rattle.swi_board.proofs.board.Board.run.Given as goal
 
 abbrev pub invariant-loop-hart : goal.invariant-loop-hart

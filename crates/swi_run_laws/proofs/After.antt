@@ -1,0 +1,522 @@
+-- The machine instructions of so many original steps, told forwards, come to what transfers, cost and words of these steps say.
+use Rattle.std.proofs.Common.{◌≡◌, if◌then◌else◌, ℕ, zero, suc, ◌+◌, ◌-◌, ◌<◌, ◌≤◌, nat_lt, Bool, true, false, List, [], ◌∷◌, ◌++◌, length, reverse, Option, Some, None, is_some, refl, sym, ap, subst, ◌∙◌, inl, inr, arith}
+use Rattle.std.proofs.lemmas.Bool.{cases_Bool, cases_lt, false≢true}
+use Rattle.std.proofs.lemmas.Bool.Decides.{nat_tests}
+use Rattle.std.proofs.lemmas.List.{append_assoc, reverse-append}
+use Rattle.swi_calls.specs.declared.end.End.{End}
+use Rattle.swi_calls.specs.declared.machine.Machine.{Machine}
+use Rattle.swi_calls.specs.Held.{held_run, held_step}
+use Rattle.swi_calls.specs.Laws.{held_run_more, held_run_none, held_run_over}
+use Rattle.swi_calls.specs.State.{FlatState}
+use Rattle.swi_image.specs.Format.{ImageData}
+use Rattle.swi_image.specs.Place.{place_of}
+use Rattle.swi_rom.specs.Record.{Record, Transfer, direct}
+use Rattle.swi_hart.specs.Hart.{original, slots}
+use Rattle.swi_board.specs.Fetching.{fall_words, index_in, indexes_from, step_words, words_run}
+use Rattle.swi_board.specs.Transfers.{Here, after_all, at_fall, before_last, cost, fall_transfers, fetches, here_after, here_run, settled, step_size, step_transfers, transfers}
+use Rattle.swi_board.proofs.Counting.{after_append, transfers_more, cost_more, cost_none, here_more, here_none, over_cost, over_transfers, place_not_fall, transfers_none}
+use Rattle.swi_board.proofs.Fetching.{words_more, words_none, words_over}
+use Rattle.swi_board.proofs.Held.{held_steps}
+use Rattle.swi_board.specs.Moments.{GoesOn, Moment, Policy, completed, counted, event, events, executed, fell, here_behind, led, stepped_at}
+use Rattle.swi_run_laws.specs.After.{IsAfter, IsWithin}
+
+-- ---- what stands for a run of one step more
+
+indexes_snoc : (i m : ℕ) → indexes_from i (suc m) ≡ indexes_from i m ++ (i + m) ∷ []
+indexes_snoc i zero = let same : i ≡ i + 0 = omega arith in ap (λ (n : ℕ). n ∷ []) same
+indexes_snoc i (suc m) =
+    let same : i + 1 + m ≡ i + suc m = omega arith in
+    ap (λ (l : List ℕ). i ∷ l) (indexes_snoc (i + 1) m ∙ ap (λ (n : ℕ). indexes_from (i + 1) m ++ n ∷ []) same)
+
+reverse_snoc : (i m : ℕ) (l : List ℕ) → (i + m) ∷ reverse (indexes_from i m) ++ l ≡ reverse (indexes_from i (suc m)) ++ l
+reverse_snoc i m l = ap (λ (x : List ℕ). x ++ l) (sym (reverse-append (indexes_from i m) ((i + m) ∷ [])) ∙ ap (λ (x : List ℕ). reverse x) (sym (indexes_snoc i m)))
+
+-- ---- so many events, and one
+
+pub events_more : (by : Policy) (v : ImageData) (a b : ℕ) (s : Moment) → events by v (a + b) s ≡ events by v b (events by v a s)
+unfolding events
+events_more by v a zero s = let same : a + 0 ≡ a = omega arith in ap (λ (n : ℕ). events by v n s) same
+events_more by v a (suc b) s =
+    let same : a + suc b ≡ suc (a + b) = omega arith in
+    ap (λ (n : ℕ). events by v n s) same ∙ ap (λ (q : Moment). event by v q) (events_more by v a b s)
+
+events_one : (by : Policy) (v : ImageData) (s : Moment) → events by v 1 s ≡ event by v s
+unfolding events
+events_one by v s = refl
+
+events_none : (by : Policy) (v : ImageData) (s : Moment) → events by v 0 s ≡ s
+unfolding events
+events_none by v s = refl
+
+events_next : (by : Policy) (v : ImageData) (k : ℕ) (s : Moment) → events by v (suc k) s ≡ event by v (events by v k s)
+unfolding events
+events_next by v k s = refl
+
+module _ (by : Policy) (v : ImageData) (t : Moment) (going : is_some t.flat.machine.ending ≡ false) where
+  event_at : (h : Here) → t.here ≡ h → event by v t ≡ stepped_at by v h t
+  event_at h is = ap (λ (q : Bool). if q then t else stepped_at by v t.here t) going ∙ ap (λ (x : Here). stepped_at by v x t) is
+
+  fall_event : (p : ℕ × ℕ) → t.here ≡ Some p → at_fall v t.flat.machine (Some p) ≡ true → event by v t ≡ counted ((index_in t.kept p + t.spent) ∷ []) (fell by v p t)
+  fall_event p is falls = event_at (Some p) is ∙ ap (λ (q : Bool). counted ((index_in t.kept p + t.spent) ∷ []) (if q then fell by v p t else executed by v p t)) falls
+
+  lead_event : (p : ℕ × ℕ) → t.here ≡ Some p → at_fall v t.flat.machine (Some p) ≡ false → nat_lt t.spent (before_last t.flat.machine (original t.flat.machine) (slots t.flat.machine)) ≡ true →
+      event by v t ≡ counted ((index_in t.kept p + t.spent) ∷ []) (led t)
+  lead_event p is plain less =
+      event_at (Some p) is ∙ ap (λ (q : Bool). counted ((index_in t.kept p + t.spent) ∷ []) (if q then fell by v p t else executed by v p t)) plain
+      ∙ ap (λ (q : Bool). counted ((index_in t.kept p + t.spent) ∷ []) (if q then led t else completed by v (Some p) t)) less
+
+  last_event : (p : ℕ × ℕ) → t.here ≡ Some p → at_fall v t.flat.machine (Some p) ≡ false → nat_lt t.spent (before_last t.flat.machine (original t.flat.machine) (slots t.flat.machine)) ≡ false →
+      event by v t ≡ counted ((index_in t.kept p + t.spent) ∷ []) (completed by v (Some p) t)
+  last_event p is plain last =
+      event_at (Some p) is ∙ ap (λ (q : Bool). counted ((index_in t.kept p + t.spent) ∷ []) (if q then fell by v p t else executed by v p t)) plain
+      ∙ ap (λ (q : Bool). counted ((index_in t.kept p + t.spent) ∷ []) (if q then led t else completed by v (Some p) t)) last
+
+-- no word is taken back
+event_rises : (by : Policy) (v : ImageData) (s : Moment) → length s.words ≤ length (event by v s).words
+event_rises by v s = by_ending s.flat.machine.ending
+  where
+    by_words : (p : ℕ × ℕ) (t : Bool) → length s.words ≤ length (counted ((index_in s.kept p + s.spent) ∷ []) (if t then led s else completed by v (Some p) s)).words
+    by_words p true = omega arith
+    by_words p false = omega arith
+
+    by_fall : (p : ℕ × ℕ) (t : Bool) → length s.words ≤ length (counted ((index_in s.kept p + s.spent) ∷ []) (if t then fell by v p s else executed by v p s)).words
+    by_fall p true = omega arith
+    by_fall p false = by_words p (nat_lt s.spent (before_last s.flat.machine (original s.flat.machine) (slots s.flat.machine)))
+
+    by_here : (h : Here) → length s.words ≤ length (stepped_at by v h s).words
+    by_here None = omega arith
+    by_here (Some p) = by_fall p (at_fall v s.flat.machine (Some p))
+
+    by_ending : (e : Option End) → length s.words ≤ length (if is_some e then s else stepped_at by v s.here s).words
+    by_ending None = by_here s.here
+    by_ending (Some x) = omega arith
+
+words_rise : (by : Policy) (v : ImageData) (j : ℕ) (s : Moment) → length s.words ≤ length (events by v j s).words
+unfolding events
+words_rise by v zero s = omega arith
+words_rise by v (suc j) s = let so_far = words_rise by v j s in let one = event_rises by v (events by v j s) in omega (arith, so_far, one)
+
+-- ---- the words of one instruction
+
+-- so many of them were executed
+pub record Leads (p : ℕ × ℕ) (m : ℕ) (s t : Moment) : Type 0 where
+  pub flat : t.flat ≡ s.flat
+  pub here : t.here ≡ Some p
+  pub spent : t.spent ≡ m
+  pub kept : t.kept ≡ s.kept
+  pub count : t.count ≡ s.count + m
+  pub words : t.words ≡ reverse (indexes_from (index_in s.kept p) m) ++ s.words
+  pub many : length t.words ≡ length s.words + m
+  pub sets : t.sets ≡ s.sets
+
+-- and all
+record StepMade (by : Policy) (v : ImageData) (h : Here) (n : ℕ) (s t : Moment) : Type 0 where
+  flat : t.flat ≡ held_step s.flat
+  kept : t.kept ≡ after_all by v s.kept (step_transfers s.flat.machine h (held_step s.flat).machine)
+  here : t.here ≡ here_behind v s.flat.machine h (held_step s.flat).machine
+  spent : t.spent ≡ 0
+  count : t.count ≡ s.count + n
+  words : t.words ≡ reverse (step_words s.flat.machine h s.kept) ++ s.words
+  before : (j : ℕ) → j < n → (events by v j s).flat ≡ s.flat
+  many : length t.words ≡ length s.words + step_size 0 s.flat.machine h
+  -- before a word of it fewer were fetched
+  ahead : (j : ℕ) → j < n → ((events by v j s).here ≡ None → ⊥) → length (events by v j s).words + 1 ≤ length s.words + step_size 0 s.flat.machine h
+
+module _ (by : Policy) (v : ImageData) (s : Moment) (p : ℕ × ℕ) (here : s.here ≡ Some p) (going : is_some s.flat.machine.ending ≡ false) (plain : at_fall v s.flat.machine (Some p) ≡ false) (none : s.spent ≡ 0) where
+  abbrev pub last : FlatState → ℕ
+  last q = before_last q.machine (original q.machine) (slots q.machine)
+
+  pub leads : (m : ℕ) → m ≤ last s.flat → Leads p m s (events by v m s)
+  unfolding events
+  leads zero le = record { flat = refl; here = here; spent = none; kept = refl; count = omega arith; words = refl; many = omega arith; sets = refl }
+  leads (suc m) le =
+      let t = events by v m s in
+      let was = leads m (omega (arith, le)) in
+      let less : nat_lt (events by v m s).spent (last (events by v m s).flat) ≡ true = below (events by v m s).spent (last (events by v m s).flat) (let n = was.spent in let b = ap (λ (q : FlatState). last q) was.flat in omega (arith, n, b, le)) in
+      let is = lead_event by v (events by v m s) (ap (λ (q : FlatState). is_some q.machine.ending) was.flat ∙ going) p was.here (ap (λ (q : FlatState). at_fall v q.machine (Some p)) was.flat ∙ plain) less in
+      let n = was.spent in
+      let c = was.count in
+      record {
+        flat = ap (λ (q : Moment). q.flat) is ∙ was.flat;
+        here = ap (λ (q : Moment). q.here) is ∙ was.here;
+        spent = ap (λ (q : Moment). q.spent) is ∙ omega (arith, n);
+        kept = ap (λ (q : Moment). q.kept) is ∙ was.kept;
+        count = ap (λ (q : Moment). q.count) is ∙ omega (arith, c);
+        words = ap (λ (q : Moment). q.words) is
+            ∙ ap (λ (r : Record). (index_in r p + (events by v m s).spent) ∷ (events by v m s).words) was.kept
+            ∙ ap (λ (n : ℕ). (index_in s.kept p + n) ∷ (events by v m s).words) was.spent
+            ∙ ap (λ (l : List ℕ). (index_in s.kept p + m) ∷ l) was.words
+            ∙ reverse_snoc (index_in s.kept p) m s.words;
+        many = (let so_far = was.many in let more = ap (λ (q : Moment). length q.words) is in omega (arith, so_far, more));
+        sets = ap (λ (q : Moment). q.sets) is ∙ was.sets;
+      }
+    where
+      below : (x y : ℕ) → x + 1 ≤ y → nat_lt x y ≡ true
+      below x y e = grind (arith, nat_tests)
+
+  plain_some : StepMade by v (Some p) (last s.flat + 1) s (events by v (last s.flat + 1) s)
+  plain_some =
+      let m = last s.flat in
+      let was = leads (last s.flat) (omega arith) in
+      let full : nat_lt (events by v (last s.flat) s).spent (last (events by v (last s.flat) s).flat) ≡ false = not_below (events by v (last s.flat) s).spent (last (events by v (last s.flat) s).flat) (was.spent ∙ ap (λ (q : FlatState). last q) (sym was.flat)) in
+      let one : last s.flat + 1 ≡ suc (last s.flat) = omega arith in
+      let is = ap (λ (n : ℕ). events by v n s) one ∙ events_next by v (last s.flat) s
+      ∙ last_event by v (events by v (last s.flat) s) (ap (λ (q : FlatState). is_some q.machine.ending) was.flat ∙ going) p was.here (ap (λ (q : FlatState). at_fall v q.machine (Some p)) was.flat ∙ plain) full in
+      let c = was.count in
+      let total = ap (λ (q : Moment). q.count) is in
+      record {
+        flat = ap (λ (q : Moment). q.flat) is ∙ ap (λ (q : FlatState). held_step q) was.flat;
+        kept = ap (λ (q : Moment). q.kept) is
+            ∙ ap (λ (q : FlatState). after_all by v (events by v (last s.flat) s).kept (step_transfers q.machine (Some p) (held_step q).machine)) was.flat
+            ∙ ap (λ (r : Record). after_all by v r (step_transfers s.flat.machine (Some p) (held_step s.flat).machine)) was.kept;
+        here = ap (λ (q : Moment). q.here) is ∙ ap (λ (q : FlatState). here_behind v q.machine (Some p) (held_step q).machine) was.flat;
+        spent = ap (λ (q : Moment). q.spent) is;
+        count = omega (arith, c, total);
+        words = ap (λ (q : Moment). q.words) is
+            ∙ ap (λ (r : Record). (index_in r p + (events by v (last s.flat) s).spent) ∷ (events by v (last s.flat) s).words) was.kept
+            ∙ ap (λ (n : ℕ). (index_in s.kept p + n) ∷ (events by v (last s.flat) s).words) was.spent
+            ∙ ap (λ (l : List ℕ). (index_in s.kept p + last s.flat) ∷ l) was.words
+            ∙ reverse_snoc (index_in s.kept p) (last s.flat) s.words
+            ∙ ap (λ (n : ℕ). reverse (indexes_from (index_in s.kept p) n) ++ s.words) (sym one);
+        before = λ j lt. (leads j (omega (arith, lt))).flat;
+        many = (let so_far = was.many in let more = ap (λ (q : Moment). length q.words) is in omega (arith, so_far, more));
+        ahead = λ j lt inside. (let so_far = (leads j (omega (arith, lt))).many in omega (arith, so_far, lt));
+      }
+    where
+      not_below : (x y : ℕ) → x ≡ y → nat_lt x y ≡ false
+      not_below x y e = grind (arith, nat_tests)
+
+-- a step that begins at no exit behind a block
+plain_made : (by : Policy) (v : ImageData) (s : Moment) (h : Here) → s.here ≡ h → is_some s.flat.machine.ending ≡ false → at_fall v s.flat.machine h ≡ false → s.spent ≡ 0 →
+    StepMade by v h (step_size 1 s.flat.machine h) s (events by v (step_size 1 s.flat.machine h) s)
+plain_made by v s None is going plain none =
+    let at = events_one by v s ∙ event_at by v s going None is in
+    record {
+      flat = ap (λ (q : Moment). q.flat) at;
+      kept = ap (λ (q : Moment). q.kept) at;
+      here = ap (λ (q : Moment). q.here) at;
+      spent = ap (λ (q : Moment). q.spent) at;
+      count = ap (λ (q : Moment). q.count) at;
+      words = ap (λ (q : Moment). q.words) at;
+      before = λ j lt. (let first : j ≡ 0 = omega (arith, lt) in ap (λ (n : ℕ). (events by v n s).flat) first ∙ ap (λ (q : Moment). q.flat) (events_none by v s));
+      many = (let same = ap (λ (q : Moment). length q.words) at in omega (arith, same));
+      ahead = λ j lt inside. (let first : j ≡ 0 = omega (arith, lt) in absurd (inside (ap (λ (n : ℕ). (events by v n s).here) first ∙ ap (λ (q : Moment). q.here) (events_none by v s) ∙ is)));
+    }
+plain_made by v s (Some p) is going plain none = plain_some by v s p is going plain none
+
+-- ---- one original step, with an exit behind a block before it where one is made
+
+abbrev step_events : ImageData → Machine → Here → ℕ
+step_events v f h = (if at_fall v f h then 1 else 0) + step_size 1 f (settled v f h)
+
+-- and the words that it fetches
+abbrev step_fetches : ImageData → Machine → Here → ℕ
+step_fetches v f h = (if at_fall v f h then 1 else 0) + step_size 0 f (settled v f h)
+
+record OneStep (by : Policy) (v : ImageData) (h : Here) (n : ℕ) (s t : Moment) : Type 0 where
+  flat : t.flat ≡ held_step s.flat
+  kept : t.kept ≡ after_all by v (after_all by v s.kept (fall_transfers v s.flat.machine h)) (step_transfers s.flat.machine (settled v s.flat.machine h) (held_step s.flat).machine)
+  here : t.here ≡ here_behind v s.flat.machine (settled v s.flat.machine h) (held_step s.flat).machine
+  spent : t.spent ≡ 0
+  count : t.count ≡ s.count + n
+  words : t.words ≡ reverse (step_words s.flat.machine (settled v s.flat.machine h) (after_all by v s.kept (fall_transfers v s.flat.machine h))) ++ (reverse (fall_words v s.flat.machine h s.kept) ++ s.words)
+  before : (j : ℕ) → j < n → (events by v j s).flat ≡ s.flat
+  many : length t.words ≡ length s.words + step_fetches v s.flat.machine h
+  ahead : (j : ℕ) → j < n → ((events by v j s).here ≡ None → ⊥) → length (events by v j s).words + 1 ≤ length s.words + step_fetches v s.flat.machine h
+
+module _ (by : Policy) (v : ImageData) (s : Moment) (going : is_some s.flat.machine.ending ≡ false) (none : s.spent ≡ 0) where
+  no_fall : (h : Here) → at_fall v s.flat.machine h ≡ false → (fall_transfers v s.flat.machine h ≡ []) × (fall_words v s.flat.machine h s.kept ≡ []) × (settled v s.flat.machine h ≡ h)
+  no_fall None plain = (refl, refl, refl)
+  no_fall (Some p) plain = (
+    ap (λ (t : Bool). if t then direct p.0 p.1 s.flat.machine.pc ∷ [] else []) plain,
+    ap (λ (t : Bool). if t then index_in s.kept p ∷ [] else []) plain,
+    ap (λ (t : Bool). if t then place_of v s.flat.machine.pc else Some p) plain,
+  )
+
+  one_plain : (h : Here) → s.here ≡ h → at_fall v s.flat.machine h ≡ false → OneStep by v h (step_events v s.flat.machine h) s (events by v (step_events v s.flat.machine h) s)
+  one_plain h is plain =
+      let same = no_fall h plain in
+      let count_is : step_events v s.flat.machine h ≡ step_size 1 s.flat.machine h =
+      ap (λ (t : Bool). (if t then 1 else 0) + step_size 1 s.flat.machine (settled v s.flat.machine h)) plain ∙ ap (λ (x : Here). 0 + step_size 1 s.flat.machine x) same.2 ∙ none_before (step_size 1 s.flat.machine h) in
+      let fetches_is : step_fetches v s.flat.machine h ≡ step_size 0 s.flat.machine h =
+      ap (λ (t : Bool). (if t then 1 else 0) + step_size 0 s.flat.machine (settled v s.flat.machine h)) plain ∙ ap (λ (x : Here). 0 + step_size 0 s.flat.machine x) same.2 ∙ none_before (step_size 0 s.flat.machine h) in
+      let made = plain_made by v s h is going plain none in
+      subst (λ (n : ℕ). OneStep by v h n s (events by v n s)) (sym count_is) (record {
+        flat = made.flat;
+        kept = made.kept
+            ∙ ap (λ (x : Here). after_all by v s.kept (step_transfers s.flat.machine x (held_step s.flat).machine)) (sym same.2)
+            ∙ ap (λ (l : List Transfer). after_all by v (after_all by v s.kept l) (step_transfers s.flat.machine (settled v s.flat.machine h) (held_step s.flat).machine)) (sym same.0);
+        here = made.here ∙ ap (λ (x : Here). here_behind v s.flat.machine x (held_step s.flat).machine) (sym same.2);
+        spent = made.spent;
+        count = made.count;
+        words = made.words
+            ∙ ap (λ (x : Here). reverse (step_words s.flat.machine x s.kept) ++ s.words) (sym same.2)
+            ∙ ap (λ (l : List Transfer). reverse (step_words s.flat.machine (settled v s.flat.machine h) (after_all by v s.kept l)) ++ s.words) (sym same.0)
+            ∙ ap (λ (l : List ℕ). reverse (step_words s.flat.machine (settled v s.flat.machine h) (after_all by v s.kept (fall_transfers v s.flat.machine h))) ++ (reverse l ++ s.words)) (sym same.1);
+        before = made.before;
+        many = made.many ∙ ap (λ (n : ℕ). length s.words + n) (sym fetches_is);
+        ahead = λ j lt inside. (let up = made.ahead j lt inside in omega (arith, up, fetches_is));
+      })
+    where
+      none_before : (n : ℕ) → 0 + n ≡ n
+      none_before n = omega arith
+
+  one_fall : (p : ℕ × ℕ) → s.here ≡ Some p → at_fall v s.flat.machine (Some p) ≡ true → OneStep by v (Some p) (step_events v s.flat.machine (Some p)) s (events by v (step_events v s.flat.machine (Some p)) s)
+  one_fall p is falls =
+      let first : Moment = counted ((index_in s.kept p + s.spent) ∷ []) (fell by v p s) in
+      let to : Here = place_of v s.flat.machine.pc in
+      let at : event by v s ≡ counted ((index_in s.kept p + s.spent) ∷ []) (fell by v p s) = fall_event by v s going p is falls in
+      let settles : settled v s.flat.machine (Some p) ≡ place_of v s.flat.machine.pc = ap (λ (t : Bool). if t then place_of v s.flat.machine.pc else Some p) falls in
+      let served_is : fall_transfers v s.flat.machine (Some p) ≡ direct p.0 p.1 s.flat.machine.pc ∷ [] = ap (λ (t : Bool). if t then direct p.0 p.1 s.flat.machine.pc ∷ [] else []) falls in
+      let fetched_is : fall_words v s.flat.machine (Some p) s.kept ≡ index_in s.kept p ∷ [] = ap (λ (t : Bool). if t then index_in s.kept p ∷ [] else []) falls in
+      let made = plain_made by v (counted ((index_in s.kept p + s.spent) ∷ []) (fell by v p s)) (place_of v s.flat.machine.pc) refl going (place_not_fall v s.flat.machine) refl in
+      let count_is : step_events v s.flat.machine (Some p) ≡ 1 + step_size 1 s.flat.machine (place_of v s.flat.machine.pc) =
+      ap (λ (t : Bool). (if t then 1 else 0) + step_size 1 s.flat.machine (settled v s.flat.machine (Some p))) falls ∙ ap (λ (x : Here). 1 + step_size 1 s.flat.machine x) settles in
+      let all : events by v (1 + step_size 1 s.flat.machine (place_of v s.flat.machine.pc)) s ≡ events by v (step_size 1 s.flat.machine (place_of v s.flat.machine.pc)) (counted ((index_in s.kept p + s.spent) ∷ []) (fell by v p s)) =
+      events_more by v 1 (step_size 1 s.flat.machine (place_of v s.flat.machine.pc)) s ∙ ap (λ (q : Moment). events by v (step_size 1 s.flat.machine (place_of v s.flat.machine.pc)) q) (events_one by v s ∙ at) in
+      let index : index_in s.kept p + s.spent ≡ index_in s.kept p = omega (arith, none) in
+      let c = made.count in
+      let fetches_is : step_fetches v s.flat.machine (Some p) ≡ 1 + step_size 0 s.flat.machine (place_of v s.flat.machine.pc) =
+      ap (λ (t : Bool). (if t then 1 else 0) + step_size 0 s.flat.machine (settled v s.flat.machine (Some p))) falls ∙ ap (λ (x : Here). 1 + step_size 0 s.flat.machine x) settles in
+      subst (λ (n : ℕ). OneStep by v (Some p) n s (events by v n s)) (sym count_is)
+      (subst (λ (q : Moment). OneStep by v (Some p) (1 + step_size 1 s.flat.machine (place_of v s.flat.machine.pc)) s q) (sym all) (record {
+        flat = made.flat;
+        kept = made.kept
+            ∙ ap (λ (x : Here). after_all by v (after_all by v s.kept (direct p.0 p.1 s.flat.machine.pc ∷ [])) (step_transfers s.flat.machine x (held_step s.flat).machine)) (sym settles)
+            ∙ ap (λ (l : List Transfer). after_all by v (after_all by v s.kept l) (step_transfers s.flat.machine (settled v s.flat.machine (Some p)) (held_step s.flat).machine)) (sym served_is);
+        here = made.here ∙ ap (λ (x : Here). here_behind v s.flat.machine x (held_step s.flat).machine) (sym settles);
+        spent = made.spent;
+        count = omega (arith, c);
+        words = made.words
+            ∙ ap (λ (n : ℕ). reverse (step_words s.flat.machine (place_of v s.flat.machine.pc) (after_all by v s.kept (direct p.0 p.1 s.flat.machine.pc ∷ []))) ++ (n ∷ s.words)) index
+            ∙ ap (λ (x : Here). reverse (step_words s.flat.machine x (after_all by v s.kept (direct p.0 p.1 s.flat.machine.pc ∷ []))) ++ (index_in s.kept p ∷ s.words)) (sym settles)
+            ∙ ap (λ (l : List Transfer). reverse (step_words s.flat.machine (settled v s.flat.machine (Some p)) (after_all by v s.kept l)) ++ (index_in s.kept p ∷ s.words)) (sym served_is)
+            ∙ ap (λ (l : List ℕ). reverse (step_words s.flat.machine (settled v s.flat.machine (Some p)) (after_all by v s.kept (fall_transfers v s.flat.machine (Some p)))) ++ (reverse l ++ s.words)) (sym fetched_is);
+        before = λ j lt. first_or j lt made.before at;
+        many = (let up = made.many in omega (arith, up, fetches_is));
+        ahead = λ j lt inside. first_ahead j lt inside made.ahead at fetches_is;
+      }))
+    where
+      first_or : (j : ℕ) → j < 1 + step_size 1 s.flat.machine (place_of v s.flat.machine.pc) →
+          ((i : ℕ) → i < step_size 1 s.flat.machine (place_of v s.flat.machine.pc) → (events by v i (counted ((index_in s.kept p + s.spent) ∷ []) (fell by v p s))).flat ≡ s.flat) →
+          event by v s ≡ counted ((index_in s.kept p + s.spent) ∷ []) (fell by v p s) → (events by v j s).flat ≡ s.flat
+      first_or zero lt before at = ap (λ (q : Moment). q.flat) (events_none by v s)
+      first_or (suc i) lt before at =
+          let one : suc i ≡ 1 + i = omega arith in
+          ap (λ (n : ℕ). (events by v n s).flat) one ∙ ap (λ (q : Moment). q.flat) (events_more by v 1 i s ∙ ap (λ (q : Moment). events by v i q) (events_one by v s ∙ at))
+          ∙ before i (omega (arith, lt))
+
+      first_ahead : (j : ℕ) → j < 1 + step_size 1 s.flat.machine (place_of v s.flat.machine.pc) → ((events by v j s).here ≡ None → ⊥) →
+          ((i : ℕ) → i < step_size 1 s.flat.machine (place_of v s.flat.machine.pc) → ((events by v i (counted ((index_in s.kept p + s.spent) ∷ []) (fell by v p s))).here ≡ None → ⊥) →
+          length (events by v i (counted ((index_in s.kept p + s.spent) ∷ []) (fell by v p s))).words + 1 ≤ suc (length s.words) + step_size 0 s.flat.machine (place_of v s.flat.machine.pc)) →
+          event by v s ≡ counted ((index_in s.kept p + s.spent) ∷ []) (fell by v p s) → step_fetches v s.flat.machine (Some p) ≡ 1 + step_size 0 s.flat.machine (place_of v s.flat.machine.pc) →
+          length (events by v j s).words + 1 ≤ length s.words + step_fetches v s.flat.machine (Some p)
+      first_ahead zero lt inside ahead at fetches_is = let same = ap (λ (q : Moment). length q.words) (events_none by v s) in omega (arith, same, fetches_is)
+      first_ahead (suc i) lt inside ahead at fetches_is =
+          let one : suc i ≡ 1 + i = omega arith in
+          let is : events by v (suc i) s ≡ events by v i (counted ((index_in s.kept p + s.spent) ∷ []) (fell by v p s)) =
+          ap (λ (n : ℕ). events by v n s) one ∙ events_more by v 1 i s ∙ ap (λ (q : Moment). events by v i q) (events_one by v s ∙ at) in
+          let up = ahead i (omega (arith, lt)) (λ none. inside (ap (λ (q : Moment). q.here) is ∙ none)) in
+          let same = ap (λ (q : Moment). length q.words) is in
+          omega (arith, up, same, fetches_is)
+
+  one_step : (h : Here) → s.here ≡ h → OneStep by v h (step_events v s.flat.machine h) s (events by v (step_events v s.flat.machine h) s)
+  one_step None is = one_plain None is refl
+  one_step (Some p) is = elim (cases_Bool (at_fall v s.flat.machine (Some p))) [
+    | inl falls ↦ one_fall p is falls
+    | inr plain ↦ one_plain (Some p) is plain
+  ]
+
+-- ---- a run
+
+ended_after : (by : Policy) (v : ImageData) (k : ℕ) (s : Moment) (h : Here) → is_some s.flat.machine.ending ≡ true → s.spent ≡ 0 → IsAfter by v k h s (events by v (cost v k s.flat h) s)
+ended_after by v k s h over none =
+    let free = over_cost 1 v k s.flat h over in
+    subst (λ (q : Moment). IsAfter by v k h s q) (sym (ap (λ (n : ℕ). events by v n s) free ∙ events_none by v s)) (record {
+      flat = sym (held_run_over k s.flat over);
+      kept = ap (λ (l : List Transfer). after_all by v s.kept l) (sym (over_transfers v k s.flat h over));
+      count = omega (arith, free);
+      words = ap (λ (l : List ℕ). reverse l ++ s.words) (sym (words_over by v k s.flat h s.kept over));
+      here = λ on. absurd (false≢true (sym (ap (λ (e : Option End). is_some e) on) ∙ over));
+      spent = none;
+    })
+
+none_after : (by : Policy) (v : ImageData) (s : Moment) (h : Here) → (s.flat.machine.ending ≡ None → s.here ≡ h) → s.spent ≡ 0 → IsAfter by v 0 h s (events by v (cost v 0 s.flat h) s)
+none_after by v s h known none =
+    let free = cost_none 1 v s.flat h in
+    subst (λ (q : Moment). IsAfter by v 0 h s q) (sym (ap (λ (n : ℕ). events by v n s) free ∙ events_none by v s)) (record {
+      flat = sym (held_run_none s.flat);
+      kept = ap (λ (l : List Transfer). after_all by v s.kept l) (sym (transfers_none v s.flat h));
+      count = omega (arith, free);
+      words = ap (λ (l : List ℕ). reverse l ++ s.words) (sym (words_none by v s.flat h s.kept));
+      here = λ on. known on ∙ sym (here_none v s.flat h);
+      spent = none;
+    })
+
+cost_is : (v : ImageData) (k : ℕ) (s : FlatState) (h : Here) → is_some s.machine.ending ≡ false →
+    cost v (suc k) s h ≡ step_events v s.machine h + cost v k (held_step s) (here_after v s.machine (settled v s.machine h) (held_step s).machine)
+cost_is v k s h going = cost_more 1 v k s h going
+
+none_of : (e : Option End) → is_some e ≡ false → e ≡ None
+none_of None h = refl
+none_of (Some x) h = absurd (false≢true (sym h))
+
+-- behind one step
+module _ (by : Policy) (v : ImageData) (k : ℕ) (s : Moment) (h : Here) (going : is_some s.flat.machine.ending ≡ false) (is : s.here ≡ h) (none : s.spent ≡ 0) where
+  abbrev next_here : Here
+  next_here = here_after v s.flat.machine (settled v s.flat.machine h) (held_step s.flat).machine
+
+  abbrev next : Moment
+  next = events by v (step_events v s.flat.machine h) s
+
+  made : OneStep by v h (step_events v s.flat.machine h) s next
+  made = one_step by v s going none h is
+
+  next_known : next.flat.machine.ending ≡ None → next.here ≡ next_here
+  next_known on =
+      made.here ∙ ap (λ (e : Option End). if is_some e then settled v s.flat.machine h else next_here) (ap (λ (q : FlatState). q.machine.ending) (sym made.flat) ∙ on)
+
+  more_is : events by v (cost v (suc k) s.flat h) s ≡ events by v (cost v k next.flat next_here) next
+  more_is =
+      ap (λ (n : ℕ). events by v n s) (cost_is v k s.flat h going)
+      ∙ events_more by v (step_events v s.flat.machine h) (cost v k (held_step s.flat) next_here) s
+      ∙ ap (λ (q : FlatState). events by v (cost v k q next_here) next) (sym made.flat)
+
+  more_after : IsAfter by v k next_here next (events by v (cost v k next.flat next_here) next) → IsAfter by v (suc k) h s (events by v (cost v (suc k) s.flat h) s)
+  more_after rest =
+      let f = s.flat.machine in
+      let falls = fall_words v s.flat.machine h s.kept in
+      let own = step_words s.flat.machine (settled v s.flat.machine h) (after_all by v s.kept (fall_transfers v s.flat.machine h)) in
+      let others = words_run by v k (held_step s.flat) next_here (after_all by v (after_all by v s.kept (fall_transfers v s.flat.machine h)) (step_transfers s.flat.machine (settled v s.flat.machine h) (held_step s.flat).machine)) in
+      let c = made.count in
+      let d = rest.count in
+      let all = cost_is v k s.flat h going in
+      let same = ap (λ (q : FlatState). cost v k q next_here) made.flat in
+      subst (λ (q : Moment). IsAfter by v (suc k) h s q) (sym more_is) (record {
+        flat = rest.flat ∙ ap (λ (q : FlatState). held_run k q) made.flat ∙ sym (held_run_more k s.flat going);
+        kept = rest.kept ∙ ap (λ (q : FlatState). after_all by v next.kept (transfers v k q next_here)) made.flat
+            ∙ ap (λ (r : Record). after_all by v r (transfers v k (held_step s.flat) next_here)) made.kept
+            ∙ sym (after_append by v (after_all by v s.kept (fall_transfers v s.flat.machine h)) (step_transfers s.flat.machine (settled v s.flat.machine h) (held_step s.flat).machine) (transfers v k (held_step s.flat) next_here))
+            ∙ sym (after_append by v s.kept (fall_transfers v s.flat.machine h) (step_transfers s.flat.machine (settled v s.flat.machine h) (held_step s.flat).machine ++ transfers v k (held_step s.flat) next_here))
+            ∙ ap (λ (l : List Transfer). after_all by v s.kept l) (sym (transfers_more v k s.flat h going));
+        count = omega (arith, c, d, all, same);
+        words = rest.words ∙ ap (λ (q : FlatState). reverse (words_run by v k q next_here next.kept) ++ next.words) made.flat
+            ∙ ap (λ (r : Record). reverse (words_run by v k (held_step s.flat) next_here r) ++ next.words) made.kept
+            ∙ ap (λ (l : List ℕ). reverse others ++ l) made.words
+            ∙ joined falls own others s.words
+            ∙ ap (λ (l : List ℕ). reverse l ++ s.words) (sym (words_more by v k s.flat h s.kept going));
+        here = λ on. rest.here on ∙ ap (λ (q : FlatState). here_run v k q next_here) made.flat ∙ sym (here_more v k s.flat h going);
+        spent = rest.spent;
+      })
+    where
+      joined : (a b c w : List ℕ) → reverse c ++ (reverse b ++ (reverse a ++ w)) ≡ reverse (a ++ (b ++ c)) ++ w
+      joined a b c w =
+          sym (append_assoc (reverse c) (reverse b) (reverse a ++ w)) ∙ sym (append_assoc (reverse c ++ reverse b) (reverse a) w)
+          ∙ ap (λ (l : List ℕ). (l ++ reverse a) ++ w) (sym (reverse-append b c)) ∙ ap (λ (l : List ℕ). l ++ w) (sym (reverse-append a (b ++ c)))
+
+  goes_now : (j : ℕ) → j < step_events v s.flat.machine h → GoesOn (s.flat.machine.steps + suc k) (events by v j s)
+  goes_now j lt =
+      let same = made.before j lt in (
+        ap (λ (q : FlatState). q.machine.ending) same ∙ none_of s.flat.machine.ending going,
+        (let e = ap (λ (q : FlatState). q.machine.steps) same in omega (arith, e)),
+      )
+
+  goes_later : ((i : ℕ) → i < cost v k next.flat next_here → GoesOn (next.flat.machine.steps + k) (events by v i next)) → (j : ℕ) → step_events v s.flat.machine h ≤ j → j < cost v (suc k) s.flat h → GoesOn (s.flat.machine.steps + suc k) (events by v j s)
+  goes_later rest j least lt =
+      let all = cost_is v k s.flat h going in
+      let same = ap (λ (q : FlatState). cost v k q next_here) made.flat in
+      let i = j - step_events v s.flat.machine h in
+      let on = rest (j - step_events v s.flat.machine h) (omega (arith, lt, least, all, same)) in
+      let sum : j ≡ step_events v s.flat.machine h + (j - step_events v s.flat.machine h) = omega (arith, least) in
+      let is_later : events by v j s ≡ events by v (j - step_events v s.flat.machine h) next = ap (λ (n : ℕ). events by v n s) sum ∙ events_more by v (step_events v s.flat.machine h) (j - step_events v s.flat.machine h) s in
+      subst (λ (q : Moment). GoesOn (s.flat.machine.steps + suc k) q) (sym is_later) (on.0, few (events by v (j - step_events v s.flat.machine h) next).flat.machine.steps on.1)
+    where
+      few : (n : ℕ) → n < next.flat.machine.steps + k → n < s.flat.machine.steps + suc k
+      few n below =
+          let same = ap (λ (q : FlatState). q.machine.steps) made.flat in
+          elim (held_steps s.flat.machine s.flat.input) [
+            | inl one ↦ omega (arith, one, same, below)
+            | inr stop ↦ (let e = stop.0 in omega (arith, e, same, below))
+          ]
+
+-- So many machine instructions as these steps cost lead behind them.
+pub is_after : (by : Policy) (v : ImageData) (k : ℕ) (s : Moment) (h : Here) → (s.flat.machine.ending ≡ None → s.here ≡ h) → s.spent ≡ 0 → IsAfter by v k h s (events by v (cost v k s.flat h) s)
+is_after by v zero s h known none = none_after by v s h known none
+is_after by v (suc k) s h known none = elim (cases_Bool (is_some s.flat.machine.ending)) [
+  | inl over ↦ ended_after by v (suc k) s h over none
+  | inr going ↦
+      let is = known (none_of s.flat.machine.ending going) in
+      more_after by v k s h going is none (is_after by v k (next by v k s h going is none) (next_here by v k s h going is none) (next_known by v k s h going is none) (made by v k s h going is none).spent)
+]
+
+-- And before that many the run goes on, with fewer steps.
+pub goes_before : (by : Policy) (v : ImageData) (k : ℕ) (s : Moment) (h : Here) → (s.flat.machine.ending ≡ None → s.here ≡ h) → s.spent ≡ 0 → (j : ℕ) → j < cost v k s.flat h → GoesOn (s.flat.machine.steps + k) (events by v j s)
+goes_before by v zero s h known none j lt = let free = cost_none 1 v s.flat h in absurd (omega (arith, free, lt))
+goes_before by v (suc k) s h known none j lt = elim (cases_Bool (is_some s.flat.machine.ending)) [
+  | inl over ↦ (let free = over_cost 1 v (suc k) s.flat h over in absurd (omega (arith, free, lt)))
+  | inr going ↦
+      let is = known (none_of s.flat.machine.ending going) in
+      elim (cases_lt j (step_events v s.flat.machine h)) [
+        | inl first ↦ goes_now by v k s h going is none j first
+        | inr later ↦ goes_later by v k s h going is none (goes_before by v k (next by v k s h going is none) (next_here by v k s h going is none) (next_known by v k s h going is none) (made by v k s h going is none).spent) j later lt
+      ]
+]
+
+-- ---- how many steps have all their words fetched
+
+fetches_are : (v : ImageData) (k : ℕ) (s : FlatState) (h : Here) → is_some s.machine.ending ≡ false →
+    fetches v (suc k) s h ≡ step_fetches v s.machine h + fetches v k (held_step s) (here_after v s.machine (settled v s.machine h) (held_step s).machine)
+fetches_are v k s h going = cost_more 0 v k s h going
+
+-- within the first step
+first_within : (by : Policy) (v : ImageData) (s : Moment) (h : Here) (going : is_some s.flat.machine.ending ≡ false) → s.here ≡ h → s.spent ≡ 0 → (j : ℕ) → j < step_events v s.flat.machine h → IsWithin v h s (events by v j s)
+first_within by v s h going is none j lt =
+    let made = one_step by v s going none h is in
+    let free = cost_none 0 v s.flat h in
+    let one = fetches_are v 0 s.flat h going in
+    let rest = cost_none 0 v (held_step s.flat) (here_after v s.flat.machine (settled v s.flat.machine h) (held_step s.flat).machine) in
+    record {
+      steps = 0;
+      flat = made.before j lt ∙ sym (held_run_none s.flat);
+      enough = (let low = words_rise by v j s in omega (arith, free, low));
+      longest = λ inside. (let up = made.ahead j lt inside in omega (arith, up, one, rest));
+    }
+
+-- behind it
+later_within : (by : Policy) (v : ImageData) (k : ℕ) (s : Moment) (h : Here) (going : is_some s.flat.machine.ending ≡ false) (is : s.here ≡ h) (none : s.spent ≡ 0) (j : ℕ) →
+    IsWithin v (next_here by v k s h going is none) (next by v k s h going is none) (events by v j (next by v k s h going is none)) → IsWithin v h s (events by v (step_events v s.flat.machine h + j) s)
+later_within by v k s h going is none j within =
+    let made = one_step by v s going none h is in
+    let same = ap (λ (q : FlatState). fetches v within.steps q (next_here by v k s h going is none)) made.flat in
+    let same_more = ap (λ (q : FlatState). fetches v (within.steps + 1) q (next_here by v k s h going is none)) made.flat in
+    let all = fetches_are v within.steps s.flat h going in
+    let all_more : fetches v (within.steps + 1 + 1) s.flat h ≡ step_fetches v s.flat.machine h + fetches v (within.steps + 1) (held_step s.flat) (next_here by v k s h going is none) =
+    (let one : within.steps + 1 + 1 ≡ suc (within.steps + 1) = omega arith in ap (λ (n : ℕ). fetches v n s.flat h) one ∙ fetches_are v (within.steps + 1) s.flat h going) in
+    let one : within.steps + 1 ≡ suc within.steps = omega arith in
+    let many = made.many in
+    let low = within.enough in
+    subst (λ (q : Moment). IsWithin v h s q) (sym (events_more by v (step_events v s.flat.machine h) j s)) (record {
+      steps = within.steps + 1;
+      flat = within.flat ∙ ap (λ (q : FlatState). held_run within.steps q) made.flat ∙ sym (ap (λ (n : ℕ). held_run n s.flat) one ∙ held_run_more within.steps s.flat going);
+      enough = (let whole = ap (λ (n : ℕ). fetches v n s.flat h) one in omega (arith, low, many, all, same, whole));
+      longest = λ inside. (let up = within.longest inside in omega (arith, up, many, all_more, same_more));
+    })
+
+-- Wherever the machine instructions of a run stand, so many steps are the most of which all words were fetched.
+pub is_within : (by : Policy) (v : ImageData) (k : ℕ) (s : Moment) (h : Here) → (s.flat.machine.ending ≡ None → s.here ≡ h) → s.spent ≡ 0 → (j : ℕ) → j < cost v k s.flat h → IsWithin v h s (events by v j s)
+is_within by v zero s h known none j lt = let free = cost_none 1 v s.flat h in absurd (omega (arith, free, lt))
+is_within by v (suc k) s h known none j lt = elim (cases_Bool (is_some s.flat.machine.ending)) [
+  | inl over ↦ (let free = over_cost 1 v (suc k) s.flat h over in absurd (omega (arith, free, lt)))
+  | inr going ↦
+      let is = known (none_of s.flat.machine.ending going) in
+      elim (cases_lt j (step_events v s.flat.machine h)) [
+        | inl first ↦ first_within by v s h going is none j first
+        | inr later ↦
+            let all = cost_is v k s.flat h going in
+            let same = ap (λ (q : FlatState). cost v k q (next_here by v k s h going is none)) (made by v k s h going is none).flat in
+            let sum : step_events v s.flat.machine h + (j - step_events v s.flat.machine h) ≡ j = omega (arith, later) in
+            subst (λ (n : ℕ). IsWithin v h s (events by v n s)) sum
+            (later_within by v k s h going is none (j - step_events v s.flat.machine h)
+            (is_within by v k (next by v k s h going is none) (next_here by v k s h going is none) (next_known by v k s h going is none) (made by v k s h going is none).spent (j - step_events v s.flat.machine h) (omega (arith, lt, later, all, same))))
+      ]
+]

@@ -1,0 +1,4 @@
+pub mod After
+pub mod Broken
+pub mod Schedules
+pub mod Runs
