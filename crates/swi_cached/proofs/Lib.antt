@@ -1,13 +1,13 @@
+pub mod Failed
+pub mod Fetched
 mod Boot
+mod Services
 pub mod Slotted
 mod Ringed
-mod Ended
-mod Services
-pub mod Failed
-mod Causing
-pub mod Fetched
-pub mod Quiet
 pub mod Tells
-pub mod Stopping
-pub mod Words
+pub mod Telling
 mod Unasked
+pub mod Starting
+pub mod Ended
+pub mod Breaking
+pub mod InSteps

@@ -1,13 +1,10 @@
 -- What is told of a run, step by step.
-use Rattle.std.proofs.Common.{◌≡◌, ◌⊎◌, ℕ, zero, suc, ◌+◌, ◌-◌, ◌<◌, ◌≤◌, Bool, true, false, List, [], ◌∷◌, ◌++◌, Option, Some, None, is_some, if◌then◌else◌, refl, sym, ap, subst, ◌∙◌, inl, inr, arith, append-nil, append_assoc}
+use Rattle.std.proofs.Common.{◌≡◌, ◌⊎◌, nat_lt, if◌then◌else◌, ℕ, zero, suc, ◌+◌, ◌-◌, ◌<◌, ◌≤◌, Bool, true, false, List, [], ◌∷◌, ◌++◌, Option, Some, None, is_some, refl, sym, ap, subst, ◌∙◌, inl, inr, arith, append-nil, append_assoc}
 use Rattle.std.proofs.lemmas.Bool.{false≢true, cases_Bool}
-use Rattle.std.specs.Io.KnownBytes.{Appends}
 use Rattle.swi_memory.specs.Bus.{AreaData, fetched}
-use Rattle.swi_outside.specs.Laws.{Appends-append}
 use Rattle.swi_calls.specs.declared.end.End.{End}
 use Rattle.swi_calls.specs.declared.machine.Machine.{Machine}
 use Rattle.swi_calls.specs.State.{FlatState}
-use Rattle.swi_calls.specs.Flat.{quiet}
 use Rattle.swi_calls.specs.Held.{held_made, held_step, held_run}
 use Rattle.swi_calls.specs.Laws.{held_run_none, held_run_over, held_run_more}
 use Rattle.swi_image.specs.Format.{ImageData}
@@ -15,13 +12,15 @@ use Rattle.swi_rom.specs.Record.{Record}
 use Rattle.swi_hart.specs.declared.hart.Stage.TheVariants.{Start, Low, Return, Leave}
 use Rattle.swi_hart.specs.declared.hart.Control.{Control}
 use Rattle.swi_hart.specs.declared.hart.Control.TheVariants.{At, Outside}
+use Rattle.swi_hart.specs.Hart.{original, slots}
 use Rattle.swi_hart.specs.Matching.{Stands, Agrees, Matches}
-use Rattle.swi_hart.specs.Hart.{HartData, completes, next_made}
-use Rattle.swi_board.specs.Ran.{Followed}
-use Rattle.swi_board.proofs.Held.{same_steps, held_steps, run_snoc}
-use Rattle.swi_trace.specs.History.{IsLastOf}
+use Rattle.swi_board.specs.Fetching.{index_in}
+use Rattle.swi_board.specs.Moments.{Moment, Policy, completed, counted, event, executed, fell, led, stepped_at}
+use Rattle.swi_board.specs.Transfers.{Here, at_fall, before_last}
+use Rattle.swi_board.proofs.Held.{held_steps, run_snoc}
 use Rattle.swi_trace.specs.Text.{trace_line_of}
 use Rattle.swi_cached.specs.Told.{addresses, error_by, next_error, of_step, of_steps, told_line}
+use Rattle.swi_cached.specs.Traced.{Before, Begun, Noted, Tells, with_errors}
 
 -- ---- what is listed of steps
 
@@ -65,26 +64,25 @@ of_over list m n s le over =
     let all : n ≡ n - m + m = omega (arith, le) in
     ap (λ (k : ℕ). of_steps list k s) all ∙ (of_stays list m (n - m) s over).0
 
--- without lines there is just what the program wrote
-silent : (n : ℕ) (s : FlatState) → s.error ++ of_steps (next_error false) n s ≡ (held_run n s).error
-unfolding of_steps
-silent zero s = append-nil s.error ∙ ap (λ (q : FlatState). q.error) (sym (held_run_none s))
-silent (suc n) s =
-    elim (cases_Bool (is_some (held_run n s).machine.ending)) [
-      | inl over ↦
-          let none : of_step (next_error false) (held_run n s) ≡ [] = ap (λ (t : Bool). if t then [] else next_error false (held_run n s)) over in
-          ap (λ (l : List ℕ). s.error ++ (of_steps (next_error false) n s ++ l)) none
-          ∙ ap (λ (l : List ℕ). s.error ++ l) (append-nil (of_steps (next_error false) n s)) ∙ silent n s ∙ ap (λ (q : FlatState). q.error) (sym (stays n s over))
-      | inr going ↦
-          let some : of_step (next_error false) (held_run n s) ≡ next_error false (held_run n s) = ap (λ (t : Bool). if t then [] else next_error false (held_run n s)) going in
-          ap (λ (l : List ℕ). s.error ++ (of_steps (next_error false) n s ++ l)) some
-          ∙ sym (append_assoc s.error (of_steps (next_error false) n s) (next_error false (held_run n s)))
-          ∙ ap (λ (l : List ℕ). l ++ next_error false (held_run n s)) (silent n s) ∙ ap (λ (q : FlatState). q.error) (sym (run_snoc n s going))
-    ]
+pub error_next : (each : Bool) (k : ℕ) (s : FlatState) → (held_run k s).machine.ending ≡ None → error_by each (suc k) s ≡ error_by each k s ++ next_error each (held_run k s)
+error_next false k s going = ap (λ (q : FlatState). q.error) (run_snoc k s (ap (λ (e : Option End). is_some e) going))
+error_next true k s going = ap (λ (l : List ℕ). s.error ++ l) (of_next (next_error true) k s going) ∙ sym (append_assoc s.error (of_steps (next_error true) k s) (next_error true (held_run k s)))
 
-pub error_is : (each : Bool) (n : ℕ) (s : FlatState) → s.error ≡ [] → of_steps (next_error each) n s ≡ error_by each n s
-error_is false n s none = ap (λ (l : List ℕ). l ++ of_steps (next_error false) n s) (sym none) ∙ silent n s
-error_is true n s none = ap (λ (l : List ℕ). l ++ of_steps (next_error true) n s) (sym none)
+still : (m d : ℕ) (s : FlatState) → is_some (held_run m s).machine.ending ≡ true → held_run (d + m) s ≡ held_run m s
+still m zero s over = let none : 0 + m ≡ m = omega arith in ap (λ (k : ℕ). held_run k s) none
+still m (suc d) s over =
+    let rest = still m d s over in
+    let next : suc d + m ≡ suc (d + m) = omega arith in
+    ap (λ (k : ℕ). held_run k s) next ∙ stays (d + m) s (ap (λ (q : FlatState). is_some q.machine.ending) rest ∙ over) ∙ rest
+
+pub run_over : (m n : ℕ) (s : FlatState) → m ≤ n → is_some (held_run m s).machine.ending ≡ true → held_run n s ≡ held_run m s
+run_over m n s le over =
+    let all : n ≡ n - m + m = omega (arith, le) in
+    ap (λ (k : ℕ). held_run k s) all ∙ still m (n - m) s over
+
+error_over : (each : Bool) (m n : ℕ) (s : FlatState) → m ≤ n → is_some (held_run m s).machine.ending ≡ true → error_by each n s ≡ error_by each m s
+error_over false m n s le over = ap (λ (q : FlatState). q.error) (run_over m n s le over)
+error_over true m n s le over = ap (λ (l : List ℕ). s.error ++ l) (of_over (next_error true) m n s le over)
 
 -- ---- the line of the board's next step is that of the flat machine's
 
@@ -106,96 +104,81 @@ line_is true m f pc bus =
 
 -- ---- what is told so far
 
--- all of so many steps, and nothing of the next
-abbrev pub Before : Bool → ℕ → FlatState → Option (List ℕ) → Option (List ℕ) → List ℕ → Type 0
-Before each k s err0 err history = Appends err0 err (of_steps (next_error each) k s) × IsLastOf (addresses k s) history
+pub noted_as : (a b : List ℕ) (history : Option (List ℕ)) → a ≡ b → Noted a history → Noted b history
+noted_as a b history is n = subst (λ (l : List ℕ). Noted l history) is n
 
--- and the line of the next
-abbrev pub Begun : Bool → ℕ → FlatState → Option (List ℕ) → Option (List ℕ) → List ℕ → Type 0
-Begun each k s err0 err history =
-    Appends err0 err (of_steps (next_error each) k s ++ told_line each (held_run k s).machine) × IsLastOf (addresses k s ++ (held_run k s).machine.pc ∷ []) history
+pub tells_as : (e e' : Option End) (each : Bool) (n : ℕ) (s : FlatState) (k lines : ℕ) (error : List ℕ) (history : Option (List ℕ)) → e ≡ e' → Tells e each n s k lines error history → Tells e' each n s k lines error history
+tells_as e e' each n s k lines error history is t = subst (λ (x : Option End). Tells x each n s k lines error history) is t
 
-abbrev pub Tells : Option End → Bool → ℕ → FlatState → ℕ → ℕ → Option (List ℕ) → Option (List ℕ) → List ℕ → Type 0
-Tells None each n s k lines err0 err history = ((lines ≡ k) × Before each k s err0 err history) ⊎ ((lines ≡ k + 1) × Begun each k s err0 err history)
-Tells (Some e) each n s k lines err0 err history = Before each n s err0 err history
+-- a machine instruction of the definition over other errors: it leaves them, or adds what the step writes
+pub event_told : (by : Policy) (v : ImageData) (e : List ℕ) (s : Moment) →
+    ((event by v (with_errors e s) ≡ with_errors e (event by v s)) × ((event by v s).flat ≡ s.flat))
+    ⊎ ((event by v (with_errors e s) ≡ with_errors (e ++ (held_made s.flat.machine s.flat.input).error) (event by v s)) × ((event by v s).flat ≡ held_step s.flat))
+event_told by v e s = by_ending s.flat.machine.ending
+  where
+    by_words : (p : ℕ × ℕ) (ws : List ℕ) (t : Bool) →
+        ((counted ws (if t then led (with_errors e s) else completed by v (Some p) (with_errors e s)) ≡ with_errors e (counted ws (if t then led s else completed by v (Some p) s)))
+        × ((counted ws (if t then led s else completed by v (Some p) s)).flat ≡ s.flat))
+        ⊎ ((counted ws (if t then led (with_errors e s) else completed by v (Some p) (with_errors e s)) ≡ with_errors (e ++ (held_made s.flat.machine s.flat.input).error) (counted ws (if t then led s else completed by v (Some p) s)))
+        × ((counted ws (if t then led s else completed by v (Some p) s)).flat ≡ held_step s.flat))
+    by_words p ws true = inl (refl, refl)
+    by_words p ws false = inr (refl, refl)
 
-pub tells_as : (e e' : Option End) (each : Bool) (n : ℕ) (s : FlatState) (k lines : ℕ) (err0 err : Option (List ℕ)) (history : List ℕ) → e ≡ e' → Tells e each n s k lines err0 err history → Tells e' each n s k lines err0 err history
-tells_as e e' each n s k lines err0 err history is t = subst (λ (x : Option End). Tells x each n s k lines err0 err history) is t
+    by_fall : (p : ℕ × ℕ) (ws : List ℕ) (t : Bool) →
+        ((counted ws (if t then fell by v p (with_errors e s) else executed by v p (with_errors e s)) ≡ with_errors e (counted ws (if t then fell by v p s else executed by v p s)))
+        × ((counted ws (if t then fell by v p s else executed by v p s)).flat ≡ s.flat))
+        ⊎ ((counted ws (if t then fell by v p (with_errors e s) else executed by v p (with_errors e s)) ≡ with_errors (e ++ (held_made s.flat.machine s.flat.input).error) (counted ws (if t then fell by v p s else executed by v p s)))
+        × ((counted ws (if t then fell by v p s else executed by v p s)).flat ≡ held_step s.flat))
+    by_fall p ws true = inl (refl, refl)
+    by_fall p ws false = by_words p ws (nat_lt s.spent (before_last s.flat.machine (original s.flat.machine) (slots s.flat.machine)))
 
--- the next step is begun
-pub begins : (each : Bool) (n : ℕ) (s : FlatState) (k lines : ℕ) (m : Machine) (err0 err err' : Option (List ℕ)) (history history' : List ℕ) →
-    told_line each m ≡ told_line each (held_run k s).machine → m.pc ≡ (held_run k s).machine.pc →
-    Tells None each n s k lines err0 err history →
-    (lines ≡ k → Appends err err' (told_line each m)) → (lines ≡ k → (pushed : List ℕ) → IsLastOf pushed history → IsLastOf (pushed ++ m.pc ∷ []) history') →
-    (lines ≡ k + 1 → (err' ≡ err) × (history' ≡ history)) → Begun each k s err0 err' history'
-begins each n s k lines m err0 err err' history history' line pc (inl (is, before)) wrote noted still = (
-  Appends-append err0 err err' (of_steps (next_error each) k s) (told_line each (held_run k s).machine) before.0 (subst (λ (l : List ℕ). Appends err err' l) line (wrote is)),
-  subst (λ (a : ℕ). IsLastOf (addresses k s ++ a ∷ []) history') pc (noted is (addresses k s) before.1),
-)
-begins each n s k lines m err0 err err' history history' line pc (inr (is, begun)) wrote noted still =
-    let same = still is in (
-      subst (λ (x : Option (List ℕ)). Appends err0 x (of_steps (next_error each) k s ++ told_line each (held_run k s).machine)) (sym same.0) begun.0,
-      subst (λ (x : List ℕ). IsLastOf (addresses k s ++ (held_run k s).machine.pc ∷ []) x) (sym same.1) begun.1,
-    )
+    by_here : (h : Here) →
+        ((stepped_at by v h (with_errors e s) ≡ with_errors e (stepped_at by v h s)) × ((stepped_at by v h s).flat ≡ s.flat))
+        ⊎ ((stepped_at by v h (with_errors e s) ≡ with_errors (e ++ (held_made s.flat.machine s.flat.input).error) (stepped_at by v h s)) × ((stepped_at by v h s).flat ≡ held_step s.flat))
+    by_here None = inr (refl, refl)
+    by_here (Some p) = by_fall p ((index_in s.kept p + s.spent) ∷ []) (at_fall v s.flat.machine (Some p))
 
--- a machine step: the step of the program is made, or there is more of it to come
-module _ (each : Bool) (n : ℕ) (s : FlatState) (k : ℕ) (err0 err err' : Option (List ℕ)) (history : List ℕ) (begun : Begun each k s err0 err history)
-    (more : k < n) (going : (held_run k s).machine.ending ≡ None) where
-  abbrev pub now : FlatState
+    by_ending : (x : Option End) →
+        (((if is_some x then with_errors e s else stepped_at by v s.here (with_errors e s)) ≡ with_errors e (if is_some x then s else stepped_at by v s.here s)) × ((if is_some x then s else stepped_at by v s.here s).flat ≡ s.flat))
+        ⊎ (((if is_some x then with_errors e s else stepped_at by v s.here (with_errors e s)) ≡ with_errors (e ++ (held_made s.flat.machine s.flat.input).error) (if is_some x then s else stepped_at by v s.here s))
+        × ((if is_some x then s else stepped_at by v s.here s).flat ≡ held_step s.flat))
+    by_ending None = by_here s.here
+    by_ending (Some x) = inl (refl, refl)
+
+-- The next step is made, behind its line.
+module _ (each : Bool) (n : ℕ) (s : FlatState) (k : ℕ) (error : List ℕ) (history : Option (List ℕ)) (begun : Begun each k s error history) (more : k < n) (going : (held_run k s).machine.ending ≡ None) where
+  abbrev now : FlatState
   now = held_run k s
 
-  flat_going : is_some (held_run k s).machine.ending ≡ false
-  flat_going = ap (λ (e : Option End). is_some e) going
-
-  -- with what it writes
-  finished : Appends err err' (held_made now.machine now.input).error → Before each (suc k) s err0 err' history
-  finished wrote = (
-    subst (λ (l : List ℕ). Appends err0 err' l)
-        (append_assoc (of_steps (next_error each) k s) (told_line each now.machine) (held_made now.machine now.input).error ∙ sym (of_next (next_error each) k s going))
-        (Appends-append err0 err err' (of_steps (next_error each) k s ++ told_line each now.machine) (held_made now.machine now.input).error begun.0 wrote),
-    subst (λ (l : List ℕ). IsLastOf l history) (sym (of_next (λ q. q.machine.pc ∷ []) k s going)) begun.1,
+  finished : Before each (suc k) s (error ++ (held_made now.machine now.input).error) history
+  finished = (
+    ap (λ (l : List ℕ). l ++ (held_made now.machine now.input).error) begun.0
+        ∙ append_assoc (error_by each k s) (told_line each now.machine) (held_made now.machine now.input).error ∙ sym (error_next each k s going),
+    noted_as (addresses k s ++ now.machine.pc ∷ []) (addresses (suc k) s) history (sym (of_next (λ q. q.machine.pc ∷ []) k s going)) begun.1,
   )
 
-  all_told : is_some (held_made now.machine now.input).machine.ending ≡ true → Before each (suc k) s err0 err' history → Before each n s err0 err' history
-  all_told over before =
-      let ended : is_some (held_run (suc k) s).machine.ending ≡ true = ap (λ (q : FlatState). is_some q.machine.ending) (run_snoc k s flat_going) ∙ over in
+  -- by the ending and the steps of the board
+  pub step_tells : (e : Option End) (steps : ℕ) → (held_step now).machine.ending ≡ e → (held_step now).machine.steps ≡ steps → now.machine.steps ≡ k →
+      Tells e each n s steps (k + 1) (error ++ (held_made now.machine now.input).error) history
+  step_tells None steps e_is is counts = elim (held_steps now.machine now.input) [
+    | inl one ↦ (
+        let same : suc k ≡ steps = omega (arith, is, one, counts) in
+        inl (omega (arith, same), subst (λ (j : ℕ). Before each j s (error ++ (held_made now.machine now.input).error) history) same finished))
+    | inr stop ↦ absurd (false≢true (ap (λ (e : Option End). is_some e) (sym e_is) ∙ stop.1))
+  ]
+  step_tells (Some x) steps e_is is counts =
+      let over : is_some (held_run (suc k) s).machine.ending ≡ true = ap (λ (q : FlatState). is_some q.machine.ending) (run_snoc k s (ap (λ (e : Option End). is_some e) going)) ∙ ap (λ (e : Option End). is_some e) e_is in
       let le : suc k ≤ n = omega (arith, more) in (
-        subst (λ (l : List ℕ). Appends err0 err' l) (sym (of_over (next_error each) (suc k) n s le ended)) before.0,
-        subst (λ (l : List ℕ). IsLastOf l history) (sym (of_over (λ q. q.machine.pc ∷ []) (suc k) n s le ended)) before.1,
+        finished.0 ∙ sym (error_over each (suc k) n s le over),
+        noted_as (addresses (suc k) s) (addresses n s) history (sym (of_over (λ q. q.machine.pc ∷ []) (suc k) n s le over)) finished.1,
       )
 
-  -- by the ending and the steps of the board
-  by_end : (e : Option End) (steps : ℕ) → (held_made now.machine now.input).machine.ending ≡ e → (held_made now.machine now.input).machine.steps ≡ steps →
-      ((held_made now.machine now.input).machine.steps ≡ k + 1) ⊎ (is_some (held_made now.machine now.input).machine.ending ≡ true) →
-      Before each (suc k) s err0 err' history → Tells e each n s steps (k + 1) err0 err' history
-  by_end None steps e_is is (inl one) before =
-      let same : suc k ≡ steps = omega (arith, is, one) in
-      inl (omega (arith, same), subst (λ (j : ℕ). Before each j s err0 err' history) same before)
-  by_end None steps e_is is (inr over) before = absurd (false≢true (ap (λ (e : Option End). is_some e) (sym e_is) ∙ over))
-  by_end (Some x) steps e_is is which before = all_told (ap (λ (e : Option End). is_some e) e_is) before
-
-  pub goes_on : (v : ImageData) (new : Record) (h h' : HartData) (left' out out' : Option (List ℕ)) → now.machine.steps ≡ k →
-      Followed v new h' (next_made v h.machine h.control now.machine now.input) left' out out' err err' → Tells h'.machine.ending each n s h'.machine.steps (k + 1) err0 err' history
-  goes_on v new h h' left' out out' steps f = by (completes v h.machine h.control) f
-    where
-      by : (t : Bool) → Followed v new h' (if t then held_made now.machine now.input else quiet now.machine now.input) left' out out' err err' → Tells h'.machine.ending each n s h'.machine.steps (k + 1) err0 err' history
-      by false f =
-          let same = same_steps v new now.machine h'.machine h'.control f.matches in
-          let there : k ≡ h'.machine.steps = omega (arith, same.0, steps) in
-          tells_as None h'.machine.ending each n s h'.machine.steps (k + 1) err0 err' history (sym (same.1 ∙ going))
-          (inr (
-            omega (arith, there),
-            subst (λ (j : ℕ). Begun each j s err0 err' history) there (
-              subst (λ (l : List ℕ). Appends err0 err' l) (append-nil (of_steps (next_error each) k s ++ told_line each now.machine))
-                  (Appends-append err0 err err' (of_steps (next_error each) k s ++ told_line each now.machine) [] begun.0 f.error),
-              begun.1,
-            ),
-          ))
-      by true f =
-          let same = same_steps v new (held_made now.machine now.input).machine h'.machine h'.control f.matches in
-          by_end h'.machine.ending h'.machine.steps (sym same.1) (sym same.0)
-          (elim (held_steps now.machine now.input) [
-            | inl one ↦ inl (omega (arith, one, steps))
-            | inr stop ↦ inr stop.1
-          ])
-          (finished f.error)
+-- At a run's end all is told.
+pub all_told : (e : Option End) (each : Bool) (n k lines : ℕ) (s : FlatState) (error : List ℕ) (history : Option (List ℕ)) → k ≤ n → (n ≤ k) ⊎ (is_some e ≡ true) →
+    (lines ≡ k) ⊎ (lines ≡ k + 1) × ((k < n) ⊎ (is_some e ≡ true)) → Tells e each n s k lines error history → Before each n s error history
+all_told (Some e) each n k lines s error history le over which tells = tells
+all_told None each n k lines s error history le (inr over) which tells = absurd (false≢true over)
+all_told None each n k lines s error history le (inl least) which (inl (is, before)) = let same : k ≡ n = omega (arith, le, least) in subst (λ (j : ℕ). Before each j s error history) same before
+all_told None each n k lines s error history le (inl least) (inl same) (inr (is, begun)) = absurd (omega (arith, same, is))
+all_told None each n k lines s error history le (inl least) (inr (same, inl more)) (inr (is, begun)) = absurd (omega (arith, least, more))
+all_told None each n k lines s error history le (inl least) (inr (same, inr over)) (inr (is, begun)) = absurd (false≢true over)

@@ -1,23 +1,29 @@
 -- What a run on the cached machine leaves: where it came to its end, and where a device failed. Own rule.
-use Rattle.std.specs.Prelude.{◌≡◌, ℕ, ◌+◌, ◌*◌, ◌<◌, ◌≤◌, Bool, List, [], ◌++◌, length, slice_index, take, Option, Some, None, Result, IsErrOf, true, if◌then◌else◌}
+use Rattle.std.specs.Prelude.{◌≡◌, ◌⊎◌, ℕ, ◌+◌, ◌*◌, ◌<◌, ◌≤◌, Bool, List, [], ◌++◌, length, slice_index, take, Option, Some, None, Result, IfOk, IsErrOf, OnErr, OnOk, is_some, true, false, if◌then◌else◌}
+use Rattle.std.specs.Option.{ForSome}
 use Rattle.std.specs.Io.KnownBytes.{Appends, Consumes}
-use Rattle.swi_outside.specs.Causes.{risen}
-use Rattle.swi_outside.specs.CacheRam.{RamState}
-use Rattle.swi_outside.specs.Devices.{Faults}
+use Rattle.swi_outside.specs.Causes.{DeviceCause, risen}
+use Rattle.swi_outside.specs.CacheRam.{RamState, KeepsBeyond}
+use Rattle.swi_outside.specs.Devices.{Faults, HasCauses, faults_of}
 use Rattle.swi_calls.specs.Flat.{Made}
 use Rattle.swi_calls.specs.declared.end.End.TheVariants.{StoreText}
 use Rattle.swi_rom.specs.Coherent.{Coherent}
 use Rattle.swi_rom.specs.Record.{Record, writes}
+use Rattle.swi_rom.specs.Service.{ServiceOf}
 use Rattle.swi_hart.specs.declared.fault.BoardFault.{BoardFault}
-use Rattle.swi_hart.specs.declared.fault.BoardFault.TheVariants as board
+use Rattle.swi_hart.specs.declared.fault.BoardFault.TheVariants.{RamFault, SourceFault, SinkFault}
 use Rattle.swi_hart.specs.Hart.{HartData, is_between}
-use Rattle.swi_board.specs.Fetching.{HasFetched}
+use Rattle.swi_hart.specs.Matching.{Fits}
+use Rattle.swi_board.specs.Board.{BoardOf}
+use Rattle.swi_board.specs.Fetching.{FetchedFront, HasFetched}
 use Rattle.swi_board.specs.Ran.{Unasked}
 use Rattle.swi_board.specs.Transfers.{here_of}
+use Rattle.swi_trace.specs.declared.trace.Trace.{Trace}
 use Rattle.swi_cached.specs.declared.run.CachedStop.{CachedStop}
-use Rattle.swi_cached.specs.declared.run.CachedStop.TheVariants.{RamFault, SourceFault, SinkFault}
-use Rattle.swi_cached.specs.Cached.{CachedRun, span_of, program_after, told_after, end_of, instructions_after, fetches_after, words_after, place_after, record_after, used_after}
-use Rattle.swi_cached.specs.Told.{next_told, told_line}
+use Rattle.swi_cached.specs.declared.run.CachedStop.TheVariants as stop
+use Rattle.swi_cached.specs.Cached.{CachedRun, IsCounted, span_of, program_after, told_after, end_of, instructions_after, fetches_after, words_after, place_after, record_after, used_after}
+use Rattle.swi_cached.specs.CachedRan.{Around, Given, with_input}
+use Rattle.swi_cached.specs.Told.{addresses, history_of, next_told, told_line}
 
 -- A run that came to its end: as the program did, with so many machine instructions, and the service as its policy
 -- leads. Of the input just what the program took is gone, and the sinks gained what it wrote.
@@ -74,9 +80,8 @@ step_after c n = next_told c.trace (program_after c n)
 
 -- The input or a sink failed at a step: so many were made before it; each sink gained what they wrote, and then a front
 -- of what the next one writes: where the input failed, nothing but its line. Of the input no more is gone than what they took, and a
--- front of what the next one takes.
-pub record StepFailed {T : Type 0} (c : CachedRun) (result : Result T CachedStop)
-    (left' out out' err err' : Option (List ℕ)) : Type 0 where
+-- front of what the next one takes. A sink to which that step gives nothing was not asked by it.
+pub record StepFailed (c : CachedRun) (fault : BoardFault) (left' out out' err err' : Option (List ℕ)) (faults faults_after : Faults) : Type 0 where
   pub steps : ℕ
   pub fewer : steps < c.limit
   pub going : (program_after c steps).machine.ending ≡ None
@@ -84,19 +89,49 @@ pub record StepFailed {T : Type 0} (c : CachedRun) (result : Result T CachedStop
   pub output : Appends out out' ((program_after c steps).output ++ take output_front (step_after c steps).output)
   pub error_front : ℕ
   pub error : Appends err err' ((told_after c steps).error ++ take error_front (step_after c steps).error)
-  pub unwritten : IsErrOf result SourceFault → (output_front ≡ 0) × (error_front ≡ length (told_line c.trace (program_after c steps).machine))
+  pub unwritten : fault ≡ SourceFault → (output_front ≡ 0) × (error_front ≡ length (told_line c.trace (program_after c steps).machine))
   pub taken : List ℕ
   pub input : Consumes (Some (program_after c steps).input) left' taken
   pub few : length taken + length (step_after c steps).input ≤ length (program_after c steps).input
+  pub unasked : Unasked (step_after c steps) faults faults_after
 
--- and a sink to which that step gives nothing was not asked by it
-pub record StepBroke {T : Type 0} (c : CachedRun) (result : Result T CachedStop)
-    (left' out out' err err' : Option (List ℕ)) (faults faults_after : Faults) : Type 0 where
-  pub failed : StepFailed c result left' out out' err err'
-  pub unasked : Unasked (step_after c failed.steps) faults faults_after
+abbrev pub Failed : CachedRun → BoardFault → Around → Around → Type 0
+Failed c RamFault before after = RamFailed c before.ram after.ram after.devices.input.left before.devices.output.held after.devices.output.held before.devices.error.held after.devices.error.held
+Failed c SourceFault before after = StepFailed c SourceFault after.devices.input.left before.devices.output.held after.devices.output.held before.devices.error.held after.devices.error.held
+    (faults_of before.devices) (faults_of after.devices)
+Failed c SinkFault before after = StepFailed c SinkFault after.devices.input.left before.devices.output.held after.devices.output.held before.devices.error.held after.devices.error.held
+    (faults_of before.devices) (faults_of after.devices)
 
--- a fault of the board in a step stops the run
-abbrev pub stop_of : BoardFault → CachedStop
-stop_of board.RamFault = RamFault
-stop_of board.SourceFault = SourceFault
-stop_of board.SinkFault = SinkFault
+-- ---- what a run says in the words of its original steps
+
+-- A run that came to its end, with this input.
+pub record EndedSo {S : Type 0} (k : ServiceOf S) (c : CachedRun) (b : BoardOf S) (telling : Trace) (history : Option (List ℕ)) (before after : Around) : Type 0 where
+  pub ended : Ended c b.hart (k.kept b.rom) after.devices.input.left before.devices.output.held after.devices.output.held before.devices.error.held after.devices.error.held
+  pub told : history ≡ history_of telling (addresses c.limit c.start)
+  pub short : IsShort b.hart
+  pub services : (k.kept b.rom).counts.services ≤ 2 * c.limit
+  pub ram : RamAfter c before.ram after.ram
+
+-- and whatever the input tells: also what `Board::run` asks of a board that has not ended
+pub record BoardEnded {S : Type 0} (k : ServiceOf S) (g : Given) (rom : S) (b : BoardOf S) (after : Around) : Type 0 where
+  pub unfailed : b.hart.failed ≡ false
+  pub done : (b.hart.machine.steps ≡ g.limit) ⊎ (is_some b.hart.machine.ending ≡ true)
+  pub booted : b.hart.booted ≡ true
+  pub fits : Fits g.image (k.kept b.rom) b.hart
+  pub sound : k.sound b.rom g.image after.ram.words
+  pub setting : k.setting b.rom ≡ k.setting rom
+  pub count : b.hart.count ≤ 3 * b.hart.machine.steps + 3
+
+-- A run by its answer. The words behind the cache never change; without memory nothing has; a fault is answered only where its device's
+-- count rose, and each that rose is answered.
+pub record InSteps {S : Type 0} (k : ServiceOf S) (g : Given) (rom : S) (before after : Around) (result : Result (BoardOf S × Option (List ℕ)) CachedStop) : Type 0 where
+  pub ended : IfOk result (λ p. ForSome before.devices.input.left (λ left. EndedSo k (with_input g left) p.0 g.telling p.1 before after))
+  pub board : IfOk result (λ p. BoardEnded k g rom p.0 after)
+  pub counted : OnOk result ((left : List ℕ) → IsCounted (with_input g left))
+  pub memory : IsErrOf result stop.Memory → after ≡ before
+  pub failed : (fault : BoardFault) → IsErrOf result (stop.Fault fault) → ForSome before.devices.input.left (λ left. Failed (with_input g left) fault before after)
+  -- the words that were fetched are a front of those of the whole run
+  pub fetched_at : OnErr result (ForSome before.devices.input.left (λ left. FetchedFront (words_after (with_input g left) g.limit) before.ram after.ram))
+  pub kept : KeepsBeyond g.cache.span before.ram after.ram
+  pub causes : HasCauses (faults_of before.devices) (faults_of after.devices) (IsErrOf result (stop.Fault SourceFault)) (IsErrOf result (stop.Fault SinkFault))
+  pub ram_cause : DeviceCause before.ram.faults after.ram.faults (IsErrOf result (stop.Fault RamFault))

@@ -3,5 +3,5 @@ pub mod Slotted
 pub mod Ringed
 pub mod Told
 pub mod Traced
-pub mod Booted
+pub mod CachedRan
 pub mod Answers
