@@ -1,4 +1,4 @@
--- Jumps over registers that are made in the loop. Own rule.
+-- Jumps over registers that are made in the loop.
 use Rattle.std.specs.Prelude.{◌≡◌, ℕ, Option, None, IfSome}
 use Rattle.swi_image.specs.Format.{ImageData}
 use Rattle.swi_outside.specs.CacheRam.{RamState}

@@ -1,4 +1,4 @@
--- A hart with its service, and its entry of the ram. Own rule.
+-- A hart with its service, and its entry of the ram.
 use Rattle.std.specs.Prelude.{ℕ, Option, Some, None, is_some, if◌then◌else◌}
 use Rattle.swi_image.specs.Format.{ImageData}
 use Rattle.swi_image.specs.Place.{place_of}

@@ -1,4 +1,4 @@
--- What a run of a board leaves, by its answer. Own rule.
+-- What a run of a board leaves, by its answer.
 use Rattle.std.specs.Prelude.{◌≡◌, ◌⊎◌, ℕ, ◌^◌, ◌<◌, ◌≤◌, None, Result, Ok, Err, is_some, true}
 use Rattle.swi_outside.specs.Devices.{faults_of}
 use Rattle.swi_image.specs.Format.{ImageData}

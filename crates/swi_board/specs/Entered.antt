@@ -1,4 +1,4 @@
--- The board of a hart that entered its service's ram. Own rule.
+-- The board of a hart that entered its service's ram.
 use Rattle.std.specs.Prelude.{◌≡◌, ◌+◌, ◌-◌, None, true}
 use Rattle.swi_image.specs.Format.{ImageData}
 use Rattle.swi_image.specs.Place.{place_of}

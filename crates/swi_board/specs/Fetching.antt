@@ -1,4 +1,4 @@
--- Which words of the ram a run fetches, read off the flat steps, the image and the service's record. Own rule.
+-- Which words of the ram a run fetches, read off the flat steps, the image and the service's record.
 use Rattle.std.specs.Prelude.{◌≡◌, ℕ, zero, suc, ◌+◌, List, [], ◌∷◌, ◌++◌, reverse, Some, None, is_some, if◌then◌else◌}
 use Rattle.swi_outside.specs.CacheRam.{RamState}
 use Rattle.swi_calls.specs.declared.machine.Machine.{Machine}

@@ -1,4 +1,4 @@
--- Steps at words of which the micro-op is known. Own rule.
+-- Steps at words of which the micro-op is known.
 use Rattle.std.specs.Prelude.{◌≡◌, ℕ, List, None, false}
 use Rattle.swi_isa.specs.declared.instr.Instr.{Instr}
 use Rattle.swi_memory.specs.Bus.{AreaData, fetched}

@@ -1,4 +1,4 @@
--- The cached machine as plain data, one machine instruction after the other, over the flat machine's steps. Own rule.
+-- The cached machine as plain data, one machine instruction after the other, over the flat machine's steps.
 use Rattle.std.specs.Prelude.{◌≡◌, ℕ, zero, suc, ◌+◌, ◌-◌, ◌<◌, List, [], ◌∷◌, ◌++◌, Some, None, is_some, nat_lt, if◌then◌else◌}
 use Rattle.swi_calls.specs.declared.machine.Machine.{Machine}
 use Rattle.swi_calls.specs.Flat.{started}

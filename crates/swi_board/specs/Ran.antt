@@ -1,4 +1,4 @@
--- What a run of the board does, from any state where a flat machine stands. Own rule.
+-- What a run of the board does, from any state where a flat machine stands.
 use Rattle.std.specs.Prelude.{◌≡◌, ℕ, List, [], Option, Some}
 use Rattle.std.specs.Io.KnownBytes.{Appends}
 use Rattle.swi_calls.specs.State.{FlatState}

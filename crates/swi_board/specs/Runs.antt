@@ -1,4 +1,4 @@
--- What the machine steps of a run count as, and what they fetch. Own rule.
+-- What the machine steps of a run count as, and what they fetch.
 use Rattle.std.specs.Prelude.{ℕ, ◌-◌, ◌&&◌, is_some, if◌then◌else◌}
 use Rattle.swi_hart.specs.declared.hart.Control.{Control}
 use Rattle.swi_hart.specs.declared.hart.Control.TheVariants.{At, Outside}

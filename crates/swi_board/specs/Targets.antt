@@ -1,4 +1,4 @@
--- Where the targets of jumps over registers stood. Own rule.
+-- Where the targets of jumps over registers stood.
 use Rattle.std.specs.Prelude.{◌≡◌, ℕ, ◌<◌, ◌%◌, List, [], length, Option, Some, None, IfSome, Ok}
 use Rattle.std.proofs.Common.{get_or}
 use Rattle.swi_image.specs.Format.{ImageData}

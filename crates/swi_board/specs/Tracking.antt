@@ -1,4 +1,4 @@
--- A board that stands where the definition's machine instructions have led. Own rule.
+-- A board that stands where the definition's machine instructions have led.
 use Rattle.std.specs.Prelude.{◌≡◌, ℕ, ◌+◌, ◌-◌, ◌<◌, ◌≤◌, List, ◌++◌, length, Option, Some, None}
 use Rattle.std.specs.Io.KnownBytes.{Appends}
 use Rattle.swi_outside.specs.CacheRam.{RamState}

@@ -1,4 +1,4 @@
--- What a run costs the board, and the transfers that it makes, read off the flat steps and the image. Own rule.
+-- What a run costs the board, and the transfers that it makes, read off the flat steps and the image.
 use Rattle.std.specs.Prelude.{ℕ, zero, suc, ◌+◌, Bool, false, not, ◌&&◌, List, [], ◌∷◌, ◌++◌, length, fold, Option, Some, None, is_some, if◌then◌else◌}
 use Rattle.swi_isa.specs.declared.instr.Instr.{Instr}
 use Rattle.swi_isa.specs.declared.instr.Instr.TheVariants as instr

@@ -1,5 +1,5 @@
 -- Steps that ask neither the ram, but for their fetch, nor a device and don't end the run: words that stay in their block, links, and
--- jumps to a placed block. Own rule.
+-- jumps to a placed block.
 use Rattle.std.specs.Prelude.{◌≡◌, ◌⊎◌, ℕ, ◌+◌, ◌-◌, ◌*◌, ◌%◌, ◌^◌, ◌<◌, ◌≤◌, Bool, true, false, List, length, slice_index, Option, Some, None, Result, Ok, Err}
 use Rattle.swi_isa.specs.declared.instr.Instr.{Instr}
 use Rattle.swi_isa.specs.Decode.{decoded}

@@ -1,4 +1,4 @@
--- What a run on the cached machine leaves: where it came to its end, and where a device failed. Own rule.
+-- What a run on the cached machine leaves: where it came to its end, and where a device failed.
 use Rattle.std.specs.Prelude.{◌≡◌, ◌⊎◌, ℕ, ◌+◌, ◌*◌, ◌<◌, ◌≤◌, Bool, List, [], ◌++◌, length, slice_index, take, Option, Some, None, Result, IfOk, IsErrOf, OnErr, OnOk, is_some, true, false, if◌then◌else◌}
 use Rattle.std.specs.Option.{ForSome}
 use Rattle.std.specs.Io.KnownBytes.{Appends, Consumes}

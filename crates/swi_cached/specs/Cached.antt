@@ -1,4 +1,4 @@
--- A run on the cached machine, as data: what it does besides what its program does. Own rule.
+-- A run on the cached machine, as data: what it does besides what its program does.
 use Rattle.std.specs.Prelude.{◌≡◌, ℕ, ◌+◌, ◌<◌, Bool, List, [], length, Option, Some}
 use Rattle.swi_exec.specs.declared.done.FaultKind.TheVariants.{FetchAccess}
 use Rattle.swi_calls.specs.declared.end.End.{End}

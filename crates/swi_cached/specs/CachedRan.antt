@@ -1,4 +1,4 @@
--- A run of a program out of a cache, by one relation: its boot, and then its told steps. Own rule.
+-- A run of a program out of a cache, by one relation: its boot, and then its told steps.
 use Rattle.std.specs.Prelude.{◌≡◌, ◌⊎◌, ℕ, List, Option, Result, Ok, Err}
 use Rattle.swi_outside.specs.CacheRam.{RamState}
 use Rattle.swi_outside.specs.Devices.{Devices}

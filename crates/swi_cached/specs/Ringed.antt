@@ -1,4 +1,4 @@
--- The cache of blocks of their own length, one behind the other. Own rule.
+-- The cache of blocks of their own length, one behind the other.
 use Rattle.std.specs.Prelude.{ℕ, ◌/◌, min}
 use Rattle.swi_rom.specs.Record.{empty_record}
 use Rattle.swi_rom.specs.Service.{Setting, Cache}

@@ -1,4 +1,4 @@
--- The cache of slots. Own rule.
+-- The cache of slots.
 use Rattle.std.specs.Prelude.{ℕ, ◌*◌, ◌/◌, min}
 use Rattle.swi_image.specs.Format.{ImageData}
 use Rattle.swi_rom.specs.Record.{empty_record}

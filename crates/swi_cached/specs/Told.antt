@@ -1,4 +1,4 @@
--- What is told of the steps of a run: a line of each, before it is made, or the addresses of the last ones. Own rule.
+-- What is told of the steps of a run: a line of each, before it is made, or the addresses of the last ones.
 use Rattle.std.specs.Prelude.{ℕ, zero, suc, Bool, true, false, List, [], ◌∷◌, ◌++◌, Option, Some, None, is_some, if◌then◌else◌}
 use Rattle.swi_memory.specs.Bus.{AreaData, fetched}
 use Rattle.swi_calls.specs.declared.machine.Machine.{Machine}

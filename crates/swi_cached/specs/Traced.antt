@@ -1,5 +1,5 @@
 -- A run of a board, from its first step on, of which each original step is told before the first word that it fetches: by its line among the
--- errors, and by its address in a history. Own rule.
+-- errors, and by its address in a history.
 use Rattle.std.specs.Prelude.{◌≡◌, ◌⊎◌, ℕ, ◌+◌, ◌<◌, ◌≤◌, Bool, true, false, List, [], ◌∷◌, ◌++◌, Option, Some, None, Result, Ok, Err, is_some, ⊤}
 use Rattle.swi_outside.specs.Causes.{Rose}
 use Rattle.swi_outside.specs.Sink.{AppendsPrefix, SinkState}

@@ -124,7 +124,7 @@ fn boot_and_run<I: Source, O: Sink, E: Sink, R: MicroRam, S: CacheRom>(
 /// After `Memory` nothing has changed. After a fault of the ram the sinks hold just what the steps wrote whose fetches were
 /// made; with `Each` the line of the next step may stand behind it. After one of the input they hold what the steps made
 /// have written, with `Each` the line of the step that was broken off too. After one of a sink they hold what the steps made have written, and a front of what the
-/// next step writes, its line first. The words of the ram behind those of the service never change. Own rule.
+/// next step writes, its line first. The words of the ram behind those of the service never change.
 pub fn run_cached<I: Source, O: Sink, E: Sink, R: MicroRam, S: CacheRom>(
     alloc: Global,
     image: &ImageView<'_>,

@@ -1,4 +1,4 @@
--- A run on the cached machine, whatever asked for it: its cache, its counts, and what it leaves of the ram. Own rule.
+-- A run on the cached machine, whatever asked for it: its cache, its counts, and what it leaves of the ram.
 use Rattle.std.specs.Prelude.{◌≡◌, ℕ, ◌+◌, ◌-◌, ◌*◌, ◌^◌, ◌≤◌, min, Option, Some}
 use Rattle.swi_outside.specs.CacheRam.{RamState}
 use Rattle.swi_outside.specs.Causes.{risen}

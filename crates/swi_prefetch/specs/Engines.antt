@@ -1,4 +1,4 @@
--- An engine that copies blocks ahead beside a service: what an event of it does, and the laws that every engine keeps. Own rule.
+-- An engine that copies blocks ahead beside a service: what an event of it does, and the laws that every engine keeps.
 use Rattle.std.specs.Prelude.{◌≡◌, ℕ, ◌+◌, ◌≤◌, Bool, Option, Some}
 use Rattle.swi_image.specs.Format.{ImageData}
 use Rattle.swi_rom.specs.Record.{Record, Transfer, Placed}

@@ -1,4 +1,4 @@
--- A schedule of a machine with a copy engine: events in order, each a machine instruction of the hart or a word of the engine. Own rule.
+-- A schedule of a machine with a copy engine: events in order, each a machine instruction of the hart or a word of the engine.
 use Rattle.std.specs.Prelude.{ℕ, zero, suc, List, [], ◌∷◌, ◌++◌, replicate, Option, Some, None, is_some, if◌then◌else◌}
 use Rattle.swi_calls.specs.declared.machine.Machine.{Machine}
 use Rattle.swi_image.specs.Format.{ImageData}

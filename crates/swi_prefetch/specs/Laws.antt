@@ -1,4 +1,4 @@
--- Laws of schedules, whatever the events are and in whatever order. Own rule.
+-- Laws of schedules, whatever the events are and in whatever order.
 use Rattle.std.specs.Prelude.{◌≡◌, ℕ, zero, suc, ◌+◌, ◌*◌, ◌≤◌, true, List, ◌++◌, Option, Some, None}
 use Rattle.std.specs.Bool.{⊤}
 use Rattle.swi_calls.specs.declared.end.End.{End}

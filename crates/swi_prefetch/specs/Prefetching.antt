@@ -1,4 +1,4 @@
--- A machine whose hart and copy engine take turns, by its events. Own rule.
+-- A machine whose hart and copy engine take turns, by its events.
 use Rattle.std.specs.Prelude.{◌≡◌, ℕ, ◌/◌, ◌<◌, ◌^◌, Bool, true, length, Option, Some, None, Result, Ok, Err, ⊤}
 use Rattle.swi_image.specs.Format.{ImageData}
 use Rattle.swi_outside.specs.CacheRam.{RamState}

@@ -1,4 +1,4 @@
--- A run: rounds of one event of the hart and so many of the engine, up to a limit of original steps. Own rule.
+-- A run: rounds of one event of the hart and so many of the engine, up to a limit of original steps.
 use Rattle.std.specs.Prelude.{◌≡◌, ◌⊎◌, ℕ, ◌+◌, ◌<◌, ◌≤◌, not, ◌&&◌, nat_lt, Bool, true, false, List, ◌∷◌, ◌++◌, length, replicate, reverse, Option, Some, None, is_some, Result, IfErr, IsErrOf}
 use Rattle.std.specs.Io.KnownBytes.{Appends}
 use Rattle.swi_outside.specs.CacheRam.{KeepsBeyond, RamState}

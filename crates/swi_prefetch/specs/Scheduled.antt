@@ -1,4 +1,4 @@
--- A whole run beside whose hart an engine copies ahead, from its boot, as data: by its schedule. Own rule.
+-- A whole run beside whose hart an engine copies ahead, from its boot, as data: by its schedule.
 use Rattle.std.specs.Prelude.{◌≡◌, ◌⊎◌, ℕ, ◌+◌, ◌*◌, ◌<◌, ◌≤◌, List, ◌∷◌, ◌++◌, replicate, reverse, Some}
 use Rattle.swi_outside.specs.Devices.{Faults}
 use Rattle.swi_calls.specs.declared.end.End.TheVariants.{StoreText}

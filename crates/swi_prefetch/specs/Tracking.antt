@@ -1,4 +1,4 @@
--- A board that stands where events of the hart and of the engine have led. Own rule.
+-- A board that stands where events of the hart and of the engine have led.
 use Rattle.std.specs.Prelude.{◌≡◌, ◌+◌, ℕ, length, List, Option}
 use Rattle.std.specs.Option.{ForSome}
 use Rattle.swi_outside.specs.CacheRam.{RamState}

@@ -1,4 +1,4 @@
--- A hart and a copy engine that take turns over one service. Own rule.
+-- A hart and a copy engine that take turns over one service.
 use Rattle.std.specs.Prelude.{◌≡◌, ℕ, ◌+◌, ◌≤◌, Bool, true, false, Option, Some, None, Result, Ok, OnOk, OnErr}
 use Rattle.std.specs.Option.{ForSome}
 use Rattle.swi_outside.specs.Devices.{Devices}

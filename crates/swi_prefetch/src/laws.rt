@@ -8,7 +8,7 @@ ghost use Rattle.swi_prefetch.specs.Laws.{BeginsWritten, BoardApart, KeepsFetche
 /// The flat machine stands at some of its steps over the fixed text, and the machine instructions are what those cost.
 /// The words set are those that service and engine copied, the links, and those undone; no word fetched is taken back.
 /// No placed block stands in the slot that has a copy. Between any two events the machine instructions are at most three
-/// for each original step, and three. Own rule.
+/// for each original step, and three.
 pub fn laws_of_prefetch()
     ensures stands { Stands }
     ensures begins_written { BeginsWritten }

@@ -1,4 +1,4 @@
--- The command `prefetch`: a run on the cached machine beside whose hart an engine copies blocks ahead. Own rule.
+-- The command `prefetch`: a run on the cached machine beside whose hart an engine copies blocks ahead.
 use Rattle.std.specs.Prelude.{◌≡◌, ◌⊎◌, ℕ, ◌+◌, ◌-◌, ◌*◌, ◌^◌, ◌<◌, ◌≤◌, min, List, [], ◌∷◌, ◌++◌, length, if◌then◌else◌, None, Some, Result, IfOk, IfErr, true, ⊤}
 use Rattle.std.specs.Io.KnownBytes.{Appends}
 use Rattle.swi_outside.specs.CacheRam.{KeepsBeyond, RamState}

@@ -1,4 +1,4 @@
--- What machine instructions come to behind so many original steps: read off the flat steps, the image and the service's policy alone. Own rule.
+-- What machine instructions come to behind so many original steps: read off the flat steps, the image and the service's policy alone.
 use Rattle.std.specs.Prelude.{◌≡◌, ℕ, ◌+◌, ◌<◌, ◌≤◌, List, ◌++◌, length, reverse, Some, None}
 use Rattle.swi_calls.specs.Held.{held_run}
 use Rattle.swi_image.specs.Format.{ImageData}

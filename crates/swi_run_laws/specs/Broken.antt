@@ -1,4 +1,4 @@
--- What stands where a device broke a machine instruction off, by the moment before it. Own rule.
+-- What stands where a device broke a machine instruction off, by the moment before it.
 use Rattle.std.specs.Prelude.{◌≡◌, ◌⊎◌, ℕ, ◌+◌, ◌≤◌, List, ◌++◌, length, take, None, Some, true}
 use Rattle.std.specs.Io.KnownBytes.{Appends, Consumes}
 use Rattle.swi_outside.specs.Causes.{risen}

@@ -1,4 +1,4 @@
--- What a run of a board says in the words of its original steps: their transfers, their cost and the words that they fetch. Own rule.
+-- What a run of a board says in the words of its original steps: their transfers, their cost and the words that they fetch.
 use Rattle.std.specs.Prelude.{◌≡◌, ℕ, ◌+◌, ◌-◌, ◌<◌, ◌≤◌, List, ◌++◌, reverse, Some, None, Ok, is_some, true, false}
 use Rattle.std.specs.Io.KnownBytes.{Appends}
 use Rattle.swi_outside.specs.Causes.{risen}

@@ -1,4 +1,4 @@
--- What others do between two machine instructions. Own rule.
+-- What others do between two machine instructions.
 use Rattle.std.specs.Prelude.{ℕ, ◌+◌, List, ◌++◌}
 use Rattle.swi_rom.specs.Record.{Record}
 use Rattle.swi_board.specs.Moments.{Moment}

@@ -9,14 +9,14 @@ use swi_rom::CacheRom;
 ///
 /// A run that came to its end has made the flat machine's steps: its record, its machine instructions and the words that
 /// it fetched are those of their transfers and of their cost. And what stands where a device broke a run off is said by
-/// the moment before. Own rule.
+/// the moment before.
 pub fn laws_of_runs<S: CacheRom>()
     ensures steps { RunsInSteps S.service }
     ensures broke { BreaksSo S.service }
 {}
 
 /// Two laws of machine instructions told forwards: from midway in an instruction, and of the words that were fetched on
-/// the way. Own rule.
+/// the way.
 pub fn laws_of_moments()
     ensures midway { GoesOnMidway }
     ensures within { FetchesWithin }

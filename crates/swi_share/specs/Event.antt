@@ -1,4 +1,4 @@
--- What an event of one program leaves of its hart, of the service and of the devices. Own rule.
+-- What an event of one program leaves of its hart, of the service and of the devices.
 use Rattle.std.specs.Prelude.{◌≡◌, ◌⊎◌, ℕ, ◌-◌, ◌<◌, true, List, [], Some, None, Result, IfOk, IfErr}
 use Rattle.std.specs.Io.KnownBytes.{Appends}
 use Rattle.swi_outside.specs.CacheRam.{RamState, KeepsBeyond}

@@ -1,4 +1,4 @@
--- Laws of a schedule: each program makes a step at each of its events, and how many words all of them fetch. Own rule.
+-- Laws of a schedule: each program makes a step at each of its events, and how many words all of them fetch.
 use Rattle.std.proofs.Common.{◌≡◌, ℕ, zero, suc, ◌+◌, ◌==◌, Bool, true, false, if◌then◌else◌, List, [], ◌∷◌, ◌++◌, slice_set, slice_index_or, Option, Some, None, is_some, arith, refl, sym, ◌∙◌, ap, subst, inl, inr}
 use Rattle.std.proofs.lemmas.Bool.{cases_Bool, false≢true, eq-eqb, eqb-true}
 use Rattle.swi_calls.specs.declared.end.End.{End}

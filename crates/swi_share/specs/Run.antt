@@ -1,4 +1,4 @@
--- What a schedule leaves: events in order. Own rule.
+-- What a schedule leaves: events in order.
 use Rattle.std.specs.Prelude.{◌≡◌, ℕ, ◌<◌, List, length, slice_index, take, Result, Ok, Err}
 use Rattle.swi_outside.specs.CacheRam.{KeepsBeyond}
 use Rattle.swi_slots.specs.Slots.{span_of}

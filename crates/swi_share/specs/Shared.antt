@@ -1,4 +1,4 @@
--- Several programs that share one cache, by their events: an event of a program makes one original instruction of it. Own rule.
+-- Several programs that share one cache, by their events: an event of a program makes one original instruction of it.
 use Rattle.std.specs.Prelude.{ℕ, ◌+◌, ◌||◌, Bool, true, false, not, List, [], ◌∷◌, ◌++◌, slice_set, slice_index_or, Option, Some, None}
 use Rattle.swi_calls.specs.declared.end.End.{End}
 use Rattle.swi_calls.specs.declared.machine.Machine.{Machine}

@@ -1,4 +1,4 @@
--- What several programs over one cache keep between their events, and what an event or a schedule leaves. Own rule.
+-- What several programs over one cache keep between their events, and what an event or a schedule leaves.
 use Rattle.std.specs.Prelude.{◌≡◌, ℕ, ◌+◌, ◌-◌, ◌^◌, ◌<◌, ◌≤◌, ⊤, List, [], ◌∷◌, map, length, slice_get, slice_index_or, slice_set, Option, Some, None, Result, Ok, Err}
 use Rattle.std.specs.Io.KnownBytes.{Appends}
 use Rattle.swi_outside.specs.CacheRam.{RamState, KeepsBeyond}

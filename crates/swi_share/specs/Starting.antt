@@ -1,4 +1,4 @@
--- Programs before their first events, over an empty cache. Own rule.
+-- Programs before their first events, over an empty cache.
 use Rattle.std.specs.Prelude.{◌≡◌, ℕ, ◌/◌, ⊤, max, false, List, [], ◌∷◌, map, length, Option, Some, None}
 use Rattle.swi_memory.specs.Bus.{fetched}
 use Rattle.swi_program.specs.Layout.{IsLayoutOf}

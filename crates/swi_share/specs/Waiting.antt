@@ -1,4 +1,4 @@
--- A hart between two of its events. Own rule.
+-- A hart between two of its events.
 use Rattle.std.specs.Prelude.{◌≡◌, ℕ, ◌+◌, ◌*◌, ◌≤◌, ⊤, true, false, Bool, Option, Some, None}
 use Rattle.swi_memory.specs.Bus.{fetched}
 use Rattle.swi_calls.specs.declared.end.End.{End}

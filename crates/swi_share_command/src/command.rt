@@ -324,7 +324,7 @@ fn run_guests<O: Sink, E: Sink, R: MicroRam>(
 ///
 /// A fault of the shelf, a sink or the ram comes only where its count rose, and each that rose is answered. After RamFault
 /// and SinkFault each sink holds what the events made have written, and a front of what comes next. The files stay, and so do
-/// the words of the ram behind the cache. The one ending is Done; the line of a refusal is the caller's to write. Own rule.
+/// the words of the ram behind the cache. The one ending is Done; the line of a refusal is the caller's to write.
 pub fn share<F: Shelf, O: Sink, E: Sink, R: MicroRam>(
     alloc: Global,
     names: &[String],
