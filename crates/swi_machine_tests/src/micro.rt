@@ -2,7 +2,7 @@
 //! is proved; that it does go on where it can is not, and is asked here.
 #![tactic(auto)]
 
-ghost use Rattle.std.specs.Prelude.{◌<◌};
+ghost use Rattle.std.specs.Prelude.{◌<◌, ◌^◌};
 
 use std::alloc::Global;
 use swi_devices::VecRam;

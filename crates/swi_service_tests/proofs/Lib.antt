@@ -1,3 +1,3 @@
 mod Exits
 mod Foreign
-mod Programs
+mod TwoImages

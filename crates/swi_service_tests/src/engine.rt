@@ -1,4 +1,4 @@
-ghost use Rattle.std.specs.Prelude.{◌≡◌, ◌<◌, ◌^◌, IfSome};
+ghost use Rattle.std.specs.Prelude.{◌<◌, ◌^◌, IfSome};
 ghost use Rattle.swi_rom.specs.Coherent.{ExitAt};
 ghost use Rattle.swi_engine.specs.State.{kept_by};
 ghost use Rattle.swi_engine.specs.Sound.{EngineSound};

@@ -2,7 +2,7 @@ use Rattle.std.proofs.Common.{◌==◌, ℕ, if◌then◌else◌, refl, ap, ◌�
 use Rattle.swi_rom.specs.Service.{Setting}
 use Rattle.swi_slots.specs.Keys.{Images}
 use Rattle.swi_slots.specs.Slots.{Slots}
-use Rattle.swi_service_tests.proofs.Programs.{in_turn}
+use Rattle.swi_service_tests.proofs.TwoImages.{in_turn}
 use Rattle.swi_service_tests.proofs.fifo.after_all.Goals as goal
 
 pub make-requires : goal.make-requires
