@@ -54,7 +54,7 @@ class Expansion:
         symbols = {}
         for symbol in self.unit.symbols:
             symbols.setdefault(symbol.section, []).append(symbol)
-        return {k: Code(section, symbols.get(k, []), self.kinds) for k, section in enumerate(self.unit.sections) if section.is_code}
+        return {k: Code(section, symbols.get(k, []), self.kinds, self.linked and not self.trusted) for k, section in enumerate(self.unit.sections) if section.is_code}
 
     def label_of(self, each: rel.Relocation) -> tuple[int, int]:
         """The section and the old offset that a relocation names."""
@@ -98,7 +98,7 @@ class Expansion:
 
     def check_unmarked(self):
         """Without mapping symbols, what is neither in a function with a size nor reached from one may be data."""
-        entries = {k: set() for k, code in self.codes.items() if self.linked or not code.marked}
+        entries = {k: set() for k, code in self.codes.items() if not code.marked}
         for section in self.unit.sections if entries else ():
             addresses = rel.JUMPS if section.is_code else rel.JUMPS | rel.FIRST_LABELS
             for each in section.relocations if section.is_loaded else ():

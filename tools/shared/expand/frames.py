@@ -131,7 +131,7 @@ class Frames:
             place = self.place_of(common_at)
             struct.pack_into("<I", self.out, start + 4, place if self.section.is_debug else start + 4 - place)
         location = self.location_of(at + 8)
-        if location is None:  # of code that stays as it is
+        if location is None:
             return self.copy(at + 16, end)
         if at + 12 not in self.relocated:
             struct.pack_into("<I", self.out, start + 12, self.distance(location, location.offset + self.word(at + 12)))
@@ -143,12 +143,9 @@ class Frames:
         self.copy_instructions(instructions, end, common.factor, location)
 
     def location_of(self, at: int) -> Location | None:
-        """Where a function begins."""
-        labels = [each for each in self.relocated.get(at, ()) if each.kind in rel.FIRST_LABELS]
-        if not labels:
-            self.section.refuse(at, "the address of a function without a relocation")
-        section, offset = self.label_of(labels[0])
-        return Location(self.codes[section], offset) if section in self.codes else None
+        """Where a function begins; None where its code stays as it is, or was left out by a linker, which takes away the relocation too."""
+        labels = [self.label_of(each) for each in self.relocated.get(at, ()) if each.kind in rel.FIRST_LABELS]
+        return Location(self.codes[labels[0][0]], labels[0][1]) if labels and labels[0][0] in self.codes else None
 
     def distance(self, location: Location, to: int) -> int:
         return location.code.place_of(to) - location.code.place_of(location.offset)

@@ -3,7 +3,7 @@ import concurrent.futures
 import dataclasses
 import os
 
-from shared.expand import archives
+from shared.expand import archives, linked
 from shared.expand.expanding import Expanded, expand_object
 from shared.expand.objects import COMPRESSED_CODE, EXECUTABLE, RELOCATABLE, Refused, header_of
 
@@ -48,6 +48,15 @@ def expand(name: str, data: bytes, trusted: bool = False) -> Result:
     except Refused as why:
         raise Refusals(f"{name}: {why}") from None
     return result_of(name, part.data, {name: part})
+
+
+def expand_linked(name: str, data: bytes, trusted: bool = False) -> tuple[Result, str]:
+    """What a linked file becomes: an object, and the linker script for it."""
+    try:
+        part, script = linked.expand(data, trusted)
+    except Refused as why:
+        raise Refusals(f"{name}: {why}") from None
+    return result_of(name, part.data, {name: part}), script
 
 
 def expand_archive(name: str, data: bytes, trusted: bool) -> Result:

@@ -1,18 +1,24 @@
-"""A linked file that kept its relocations (-Wl,--emit-relocs), as an object once more, and the linker script that links it anew."""
+"""A linked file that kept its relocations (-Wl,--emit-relocs): an object once more, and a linker script by which it is linked anew.
+
+Its sections stay where they were, or stand behind the code where that has grown over their places."""
 import dataclasses
 import struct
 
 from shared.expand import relocations as rel
 from shared.expand.expanding import Expanded, Expansion
-from shared.expand.objects import ABSOLUTE, COMPRESSED_CODE, EXECUTABLE, NOBITS, RELOCATABLE, THREAD_LOCAL, WRITE, Object, Refused, Section, header_of
+from shared.expand.objects import ABSOLUTE, COMPRESSED_CODE, EXECUTABLE, LOCAL, RELOCATABLE, THREAD_LOCAL, Object, Refused, Section
 
-LOADED, EXECUTE = 1, 1  # the type of a segment that is loaded; its flag
-GLOBAL_POINTER = "__global_pointer$"
-TO_GLOBAL_POINTER = rel.numbers("GPREL_I GPREL_S")
+LOADED, DYNAMIC, INTERPRETER = 1, 2, 3  # types of segments
+THREAD_LOCAL_DATA = 0x400  # a flag of sections
+TO_GLOBAL_POINTER, GLOBAL_POINTER = rel.numbers("GPREL_I GPREL_S"), 3
+SUMS = {rel.NUMBERS[name + str(8 * width)]: (sign, width) for name, sign in (("ADD", 1), ("SUB", -1)) for width in (1, 2, 4, 8)}
+SPECIAL = 0xFF00  # the first number that is no section's
+PAGE = 4096
 
 
 @dataclasses.dataclass(frozen=True)
 class Segment:
+    """A program header."""
     kind: int
     offset: int
     address: int
@@ -22,9 +28,102 @@ class Segment:
     flags: int
     align: int
 
+    def holds(self, section: Section) -> bool:
+        return self.address <= section.address and section.address + section.size <= self.address + self.size
 
-def segments_of(unit: Object) -> list[Segment]:
-    header = unit.header
-    places = range(header.segments, header.segments + header.segment_count * header.segment_size, max(header.segment_size, 1))
-    found = [Segment(*struct.unpack_from("<8I", unit.data, place)) for place in places]
-    return [segment for segment in found if segment.kind == LOADED and segment.size]
+
+class Linked:
+    """The linked file. Making an object of it may be done once."""
+
+    def __init__(self, data: bytes):
+        self.unit = Object(data)
+        header = self.unit.header
+        if header.kind != EXECUTABLE or not header.flags & COMPRESSED_CODE:
+            raise Refused("not a linked file" if header.kind != EXECUTABLE else "no compressed code: swic may take it as it is")
+        begins = (header.segments + k * header.segment_size for k in range(header.segment_count))
+        self.segments = [Segment(*struct.unpack_from("<8I", data, begin)) for begin in begins]
+        self.loaded = [segment for segment in self.segments if segment.kind == LOADED and segment.size]
+        self.entry = self.symbol_at(header.entry)
+        self.global_pointer = next((symbol.value for symbol in self.unit.symbols if symbol.name == "__global_pointer$"), 0)
+        self.placed = sorted((section for section in self.unit.sections if section.is_loaded and section.size), key=lambda section: section.address)
+        self.check()
+
+    def symbol_at(self, address: int) -> str:
+        """A symbol of the entry, which other files see."""
+        for symbol in self.unit.symbols:
+            if symbol.value == address and symbol.binding != LOCAL and 0 < symbol.section < SPECIAL:
+                return symbol.name
+        raise Refused("no global symbol at the entry")
+
+    def check(self):
+        """Refuses what would not be the same file behind another link."""
+        for segment in self.segments:
+            if segment.kind in (DYNAMIC, INTERPRETER):
+                raise Refused("a dynamic file")
+            if segment.kind == LOADED and segment.held and segment.load_address != segment.address:
+                raise Refused(f"a segment for {segment.address:08x} that is copied there from {segment.load_address:08x}")
+        for section in self.unit.sections:
+            if section.is_code and not section.relocated_by:
+                section.refuse(0, "code without relocations: link with -Wl,--emit-relocs")
+            if section.name == ".eh_frame_hdr":
+                section.refuse(0, "a table without relocations: link without --eh-frame-hdr")
+        named = {each.symbol for section in self.unit.sections for each in section.relocations}
+        for k in named:
+            symbol = self.unit.symbols[k]
+            if symbol.section == ABSOLUTE and self.placed and self.placed[0].address < symbol.value <= self.placed[-1].address + self.placed[-1].size:
+                raise Refused(f"{symbol.name} is {symbol.value:08x}, a number among the file's addresses: define it within a section")
+
+    def to_object(self) -> Object:
+        """The file as one relocatable object, in which addresses are offsets in their sections."""
+        for section in self.unit.sections:
+            if section.relocations:
+                section.bytes = self.without_sums(section)
+        thread_local = next((section.address for section in self.placed if section.flags & THREAD_LOCAL_DATA), 0)
+        for symbol in self.unit.symbols:
+            if 0 < symbol.section < SPECIAL and self.unit.sections[symbol.section].is_loaded:
+                address = self.unit.sections[symbol.section].address
+                symbol.value = symbol.value - address + (thread_local if symbol.kind == THREAD_LOCAL else 0) & 0xFFFFFFFF
+        for section in self.unit.sections:
+            base = section.address if section.is_loaded else 0
+            section.relocations = [self.unlinked(section, each._replace(offset=each.offset - base)) for each in section.relocations]
+        for section in self.unit.sections:
+            section.address = 0
+        self.unit.header = self.unit.header._replace(kind=RELOCATABLE, entry=0, segments=0, segment_size=0, segment_count=0)
+        return self.unit
+
+    def without_sums(self, section: Section) -> bytes:
+        """The section's bytes without the labels that the linker has added to them or taken from them; it would do so once more."""
+        data, base = bytearray(section.bytes), section.address if section.is_loaded else 0
+        for each in section.relocations:
+            sign, width = SUMS.get(each.kind, (0, 0))
+            if sign:
+                held = slice(each.offset - base, each.offset - base + width)
+                label = self.unit.symbols[each.symbol].value + each.addend
+                data[held] = (int.from_bytes(data[held], "little") - sign * label & (1 << 8 * width) - 1).to_bytes(width, "little")
+        return bytes(data)
+
+    def unlinked(self, section: Section, each: rel.Relocation) -> rel.Relocation:
+        """A relocation as it was before the linker took the global pointer from its addend."""
+        if each.kind in TO_GLOBAL_POINTER and section.bytes[each.offset + 1] >> 7 | (section.bytes[each.offset + 2] & 15) << 1 == GLOBAL_POINTER:
+            return each._replace(addend=rel.signed_word(each.addend + self.global_pointer))
+        return each
+
+    def script(self) -> str:
+        """The linker script that puts the sections where they were, or behind the code where that has grown over their places."""
+        headers = [f"  load{k} PT_LOAD FLAGS({segment.flags});" for k, segment in enumerate(self.loaded)]
+        lines, before = [], None
+        for section in self.placed:
+            k = next((k for k, segment in enumerate(self.loaded) if segment.holds(section)), None)
+            if k is None:
+                section.refuse(0, "a section that no segment holds")
+            free = "." if k == before else f"ALIGN({PAGE})"
+            lines.append(f"  . = . > {section.address:#x} ? {free} : {section.address:#x};\n  {section.name} : {{ *({section.name}) }} :load{k}")
+            before = k
+        return "\n".join([f"ENTRY({self.entry})", "PHDRS\n{", *headers, "}", "SECTIONS\n{", *lines, "}", ""])
+
+
+def expand(data: bytes, trusted: bool = False) -> tuple[Expanded, str]:
+    """The object without compressed code, and its linker script."""
+    file = Linked(data)
+    script = file.script()
+    return Expansion(file.to_object(), trusted, linked=True).expand(), script

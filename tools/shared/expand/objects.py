@@ -171,7 +171,7 @@ class Object:
                 section.refuse(0, "a second table of relocations")
             target.relocated_by = section
             target.relocations = [Relocation(offset, info & 0xFF, info >> 8, addend) for offset, info, addend in RELOCATION.iter_unpack(section.bytes)]
-            if any(each.symbol >= len(self.symbols) or each.offset > target.size for each in target.relocations):
+            if any(each.symbol >= len(self.symbols) or not 0 <= each.offset - target.address <= target.size for each in target.relocations):
                 section.refuse(0, "a relocation of a place or a symbol that isn't there")
 
     def named(self, name: str) -> bytes:

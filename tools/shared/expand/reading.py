@@ -54,27 +54,40 @@ def mapping_symbol(symbol: Symbol) -> str:
 def spans_of(section: Section, symbols: list[Symbol]) -> tuple[list[Span], bool]:
     """What is code and what is data by the mapping symbols, and whether there are any; else all is code but sized objects."""
     marks = {symbol.value: kind == "d" for symbol in symbols if (kind := mapping_symbol(symbol))}
-    if marks:
-        if 0 not in marks:
-            section.refuse(0, "no mapping symbol at the beginning")
-        begins = sorted(marks)
-        ends = [*begins[1:], section.size]
-        return [Span(begin, end, marks[begin]) for begin, end in zip(begins, ends) if begin < end], True
-    spans, at = [], 0
-    for begin, size in sorted({(symbol.value, symbol.size) for symbol in symbols if symbol.kind == OBJECT and symbol.size}):
-        if begin < at:
+    if not marks:
+        return without_objects([Span(0, section.size, False)], section, symbols), False
+    if 0 not in marks:
+        section.refuse(0, "no mapping symbol at the beginning")
+    begins = sorted(marks)
+    ends = [*begins[1:], section.size]
+    return [Span(begin, end, marks[begin]) for begin, end in zip(begins, ends) if begin < end], True
+
+
+def without_objects(spans: list[Span], section: Section, symbols: list[Symbol]) -> list[Span]:
+    """The spans, in which the sized objects are data."""
+    objects = sorted({(symbol.value, symbol.value + symbol.size) for symbol in symbols if symbol.kind == OBJECT and symbol.size})
+    for (_, end), (begin, _) in zip(objects, objects[1:]):
+        if begin < end:
             section.refuse(begin, "data objects overlap")
-        spans += [Span(at, begin, False), Span(begin, begin + size, True)]
-        at = begin + size
-    return [span for span in (*spans, Span(at, section.size, False)) if span.begin < span.end], False
+    found = []
+    for span in spans:
+        at = span.begin
+        for begin, end in objects if not span.is_data else ():
+            if at <= begin and end <= span.end:
+                found += [Span(at, begin, False), Span(begin, end, True)]
+                at = end
+        found.append(Span(at, span.end, span.is_data))
+    return [span for span in found if span.begin < span.end]
 
 
 class Reader:
     """Reads a section's items one by one."""
 
-    def __init__(self, section: Section, symbols: list[Symbol], kinds: Kinds):
+    def __init__(self, section: Section, symbols: list[Symbol], kinds: Kinds, linked: bool):
         self.section, self.body, self.kinds = section, section.bytes, kinds
         self.spans, self.marked = spans_of(section, symbols)
+        if linked:  # with constants behind the code, for which there are no mapping symbols
+            self.spans, self.marked = without_objects(self.spans, section, symbols), False
         self.relocations: dict[int, list[rel.Relocation]] = {}
         for each in section.relocations:
             self.relocations.setdefault(each.offset, []).append(each)

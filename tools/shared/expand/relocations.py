@@ -45,6 +45,10 @@ AT = {number: opcodes for names, opcodes in (
 ) for number in numbers(names)}
 
 
+def signed_word(value: int) -> int:
+    return rv.signed(value & 0xFFFFFFFF, 32)
+
+
 def name_of(kind: int) -> str:
     return NAMES.get(kind, f"of unknown type {kind}")
 

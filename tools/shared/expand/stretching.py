@@ -10,8 +10,8 @@ from shared.expand.reading import DATA, INSTRUCTION, PADDING, Kinds, Reader
 class Code:
     """A section of code, its items, and where each offset of it is now."""
 
-    def __init__(self, section: Section, symbols: list[Symbol], kinds: Kinds):
-        reader = Reader(section, symbols, kinds)
+    def __init__(self, section: Section, symbols: list[Symbol], kinds: Kinds, linked: bool = False):
+        reader = Reader(section, symbols, kinds, linked)
         self.section, self.symbols, self.marked = section, symbols, reader.marked
         self.items, self.end = reader.read(), len(section.bytes)
         self.offsets = [item.offset for item in self.items]
