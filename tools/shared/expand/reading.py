@@ -7,6 +7,7 @@ from shared.expand import relocations as rel
 from shared.expand.objects import NOTYPE, OBJECT, Section, Symbol
 
 INSTRUCTION, PADDING, DATA = range(3)
+FILLED = 16  # bytes up to which a linker script is thought to fill up its section of code
 
 
 @dataclasses.dataclass(slots=True)
@@ -84,7 +85,7 @@ class Reader:
     """Reads a section's items one by one."""
 
     def __init__(self, section: Section, symbols: list[Symbol], kinds: Kinds, linked: bool):
-        self.section, self.body, self.kinds = section, section.bytes, kinds
+        self.section, self.body, self.kinds, self.linked = section, section.bytes, kinds, linked
         self.spans, self.marked = spans_of(section, symbols)
         if linked:  # with constants behind the code, for which there are no mapping symbols
             self.spans, self.marked = without_objects(self.spans, section, symbols), False
@@ -133,8 +134,8 @@ class Reader:
     def compressed(self, at: int, half: int) -> Item:
         if half == 0:
             left = len(self.body) - at
-            if left < self.section.align and not any(self.body[at:]):
-                return Item(at, left, INSTRUCTION, rv.UNIMP)  # what fills the section up
+            if left < (FILLED if self.linked else self.section.align) and not any(self.body[at:]):
+                return Item(at, left, DATA if self.linked else INSTRUCTION, rv.UNIMP)  # what fills the section up
             if self.marked:
                 return Item(at, 2, INSTRUCTION, rv.UNIMP)  # c.unimp
         word = rv.expand(half, self.kinds.single, self.kinds.double)
