@@ -155,6 +155,8 @@ class Frames:
             opcode = self.body[at]
             if opcode & 0xC0 == SHORT_ADVANCE or opcode in ADVANCES:
                 at = self.copy_advance(at, factor, location)
+            elif not opcode and not any(self.body[at:end]):
+                return  # the last nops, which fill the entry up
             else:
                 after = self.behind(at)
                 self.copy(at, after)
