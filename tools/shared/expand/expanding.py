@@ -1,12 +1,13 @@
 """One relocatable object: its code stretched, and all that is computed from its labels brought after."""
 import dataclasses
+from typing import Iterator
 
 from shared.expand import architecture, distances, frames, guessing, lines
 from shared.expand import instructions as rv
 from shared.expand import relocations as rel
 from shared.expand.frames import Frames
-from shared.expand.objects import COMPRESSED_BYTES, COMPRESSED_CODE, FLOAT_ABI, RELOCATABLE, SECTION, Object, Refused, Section, header_of
-from shared.expand.reading import DATA, INSTRUCTION, Kinds
+from shared.expand.objects import COMPRESSED_BYTES, COMPRESSED_CODE, FLOAT_ABI, RELOCATABLE, SECTION, Object, Refused, Section, Symbol, header_of
+from shared.expand.reading import DATA, Kinds
 from shared.expand.stretching import Code
 
 READING = {rv.LOAD, rv.STORE, rv.FLOAT_LOAD, rv.FLOAT_STORE}
@@ -32,8 +33,8 @@ class Expansion:
         self.frames: dict[int, Frames] = {}
         self.refuse_optimized()
         attributes = self.read_architecture()
-        single = architecture.has(attributes.name, "[fg]") or bool(unit.header.flags & FLOAT_ABI)
-        self.kinds = Kinds(single, single and not architecture.has(attributes.name, "f") or architecture.has(attributes.name, "d"))
+        unnamed = not attributes.name and bool(unit.header.flags & FLOAT_ABI)
+        self.kinds = Kinds(unnamed or architecture.has(attributes.name, "[fg]"), unnamed or architecture.has(attributes.name, "[dg]"))
         self.codes = self.read_codes()
 
     def refuse_optimized(self):
@@ -66,19 +67,18 @@ class Expansion:
         if not self.trusted:
             self.check_unmarked()
         self.check_read_as_data()
-        for section in self.unit.sections:
-            if section.relocated_by and not section.is_code:
-                self.of_data(section, self.prepare)
-        moved = {}
-        for k, section in enumerate(self.unit.sections):
-            if section.relocated_by:
-                self.of_data(section, lambda section, k=k: moved.update({k: self.moved_relocations(k, section)}))
+        relocated = {k: section for k, section in enumerate(self.unit.sections) if section.relocated_by}
+        for k, section in relocated.items():
+            if k not in self.codes:
+                self.of_data(section, lambda section, k=k: self.prepare(k, section))
+        moved: dict[int, list[rel.Relocation]] = {}
+        for k, section in relocated.items():
+            self.of_data(section, lambda section, k=k: moved.update({k: self.moved_relocations(k, section)}))
         if self.dropped:
             self.drop_debug_data(moved)
-        before = sum(code.end for code in self.codes.values())
+        before, after, far = (sum(getattr(code, field) for code in self.codes.values()) for field in ("end", "size", "far_branches"))
         self.replace(moved)
-        return Expanded(self.unit.to_bytes(), before, sum(code.size for code in self.codes.values()),
-                        sum(code.far_branches for code in self.codes.values()), self.dropped)
+        return Expanded(self.unit.to_bytes(), before, after, far, self.dropped)
 
     def of_data(self, section: Section, work):
         """Does some work on a section. What can't be done with debug data makes all of that be left out."""
@@ -98,15 +98,18 @@ class Expansion:
 
     def check_unmarked(self):
         """Without mapping symbols, what is neither in a function with a size nor reached from one may be data."""
-        entries = {k: set() for k, code in self.codes.items() if not code.marked}
-        for section in self.unit.sections if entries else ():
-            addresses = rel.JUMPS if section.is_code else rel.JUMPS | rel.FIRST_LABELS
-            for each in section.relocations if section.is_loaded else ():
-                target, offset = self.label_of(each)
-                if target in entries and each.kind in addresses:
-                    entries[target].add(offset)
+        entries: dict[int, set[int]] = {k: set() for k, code in self.codes.items() if not code.marked}
+        if entries:
+            for section, offset in self.addresses():
+                entries.get(section, set()).add(offset)
         for k, found in entries.items():
             guessing.check(self.codes[k], found)
+
+    def addresses(self) -> Iterator[tuple[int, int]]:
+        """The labels to which something jumps, or whose addresses stand in data."""
+        for section in self.unit.sections:
+            kinds = rel.JUMPS if section.is_code else rel.JUMPS | rel.FIRST_LABELS
+            yield from (self.label_of(each) for each in section.relocations if section.is_loaded and each.kind in kinds)
 
     def check_read_as_data(self):
         """Refuses a label that is read or written where nothing says that data stands there."""
@@ -128,12 +131,12 @@ class Expansion:
         if code.items[code.index(offset)].kind != DATA:
             code.section.refuse(offset, "read or written as data, but no symbol says that it is")
 
-    def prepare(self, section: Section):
+    def prepare(self, k: int, section: Section):
         """Checks a section of data, and makes call frames anew."""
         if section.flags & COMPRESSED_BYTES:
             section.decompress()
         if section.name in frames.NAMES:
-            self.frames[self.unit.sections.index(section)] = Frames(section, self.codes, self.label_of)
+            self.frames[k] = Frames(section, self.codes, self.label_of)
             return
         if section.is_debug and not self.made_by_gnu:
             section.refuse(0, "not from GCC and GNU as, so it may have distances without relocations")
@@ -173,32 +176,35 @@ class Expansion:
 
     def drop_debug_data(self, moved: dict[int, list[rel.Relocation]]):
         """Empties the debug sections; their headers stay, so that the numbers of the others do."""
-        for k, section in enumerate(self.unit.sections):
-            if section.is_debug:
-                section.bytes, section.relocations, moved[k] = b"", [], []
-                section.flags &= ~COMPRESSED_BYTES
-                self.frames.pop(k, None)
+        dropped = {k: section for k, section in enumerate(self.unit.sections) if section.is_debug}
+        for k, section in dropped.items():
+            section.bytes, moved[k] = b"", []
+            section.flags &= ~COMPRESSED_BYTES
+            self.frames.pop(k, None)
         for symbol in self.unit.symbols:
-            if symbol.section < len(self.unit.sections) and self.unit.sections[symbol.section].is_debug:
+            if symbol.section in dropped:
                 symbol.value = symbol.size = 0
 
     def replace(self, moved: dict[int, list[rel.Relocation]]):
         """Puts all that is new into the object."""
         for symbol in self.unit.symbols:
-            holder = self.codes.get(symbol.section) or self.frames.get(symbol.section)
-            if symbol.name.startswith("$xrv"):
-                self.unit.rename(symbol, "$x" + architecture.without_compressed(symbol.name[2:]))
-            if holder:
-                end = holder.place_of(symbol.value + symbol.size)
-                symbol.value = holder.place_of(symbol.value)
-                symbol.size = end - symbol.value if symbol.size else 0
-        for k, relocations in moved.items():
-            self.unit.sections[k].relocations = relocations
-        for k, code in self.codes.items():
-            code.section.bytes, code.section.align = code.to_bytes(), max(code.section.align, 4)
-        for k, made in self.frames.items():
-            self.unit.sections[k].bytes = bytes(made.out)
+            self.replace_symbol(symbol)
+        for k, section in enumerate(self.unit.sections):
+            section.relocations = moved.get(k, section.relocations)
+            if k in self.codes:
+                section.bytes, section.align = self.codes[k].to_bytes(), max(section.align, 4)
+            elif k in self.frames:
+                section.bytes = bytes(self.frames[k].out)
         self.unit.header = self.unit.header._replace(flags=self.unit.header.flags & ~COMPRESSED_CODE)
+
+    def replace_symbol(self, symbol: Symbol):
+        if symbol.name.startswith("$xrv"):
+            self.unit.rename(symbol, "$x" + architecture.without_compressed(symbol.name[2:]))
+        holder = self.codes.get(symbol.section) or self.frames.get(symbol.section)
+        if holder:
+            place = holder.place_of(symbol.value)
+            symbol.size = holder.place_of(symbol.value + symbol.size) - place if symbol.size else 0
+            symbol.value = place
 
 
 def expand_object(data: bytes, trusted: bool = False) -> Expanded:

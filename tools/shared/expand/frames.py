@@ -10,7 +10,7 @@ from shared.expand.objects import Section
 from shared.expand.stretching import Code
 
 NAMES = (".debug_frame", ".eh_frame")
-SHORT_ADVANCE, OFFSET, RESTORE = 0x40, 0x80, 0xC0  # DW_CFA instructions of two bits
+SHORT_ADVANCE, RESTORE = 0x40, 0xC0  # DW_CFA instructions of two bits; the third has one number behind it
 ADVANCES = {2: 1, 3: 2, 4: 4}  # DW_CFA_advance_loc1, _loc2 and _loc4: the bytes of their distance
 OPCODES = {width: opcode for opcode, width in ADVANCES.items()}
 # How many LEB128 numbers stand behind the others, and whether the last is the length of a block.

@@ -1,6 +1,6 @@
 """Where no mapping symbols say what is code: refuses what may as well be data."""
 from shared.expand import instructions as rv
-from shared.expand.objects import FUNCTION, GLOBAL, LOCAL, NOTYPE
+from shared.expand.objects import FUNCTION, LOCAL, NOTYPE
 from shared.expand.reading import DATA, INSTRUCTION
 from shared.expand.stretching import Code
 

@@ -84,12 +84,12 @@ def output_of(words: list[str]) -> str:
 
 
 def left_by(linker: str, words: list[str]) -> str:
-    """Names a compressed input that no word of the command is, as one of a linker script."""
+    """Names a compressed input that no word of the command names, as one of a linker script or a thin archive."""
     traced = subprocess.run([linker, *words, "-o", os.devnull, "-t"], capture_output=True, text=True).stdout
     for line in traced.splitlines():
         path = pathlib.Path(line.strip())
         if path.is_file() and inputs.is_compressed(path.read_bytes()):
-            return f", of {path}: give it in the command"
+            return f", that of {path}, which no word of the command names: expand it before"
     return ""
 
 
@@ -127,7 +127,7 @@ class Inputs:
         """Where an input stands expanded, under its own name, since linker scripts may name it; None where it is none, or has no compressed code."""
         if path not in self.made and os.path.isfile(path):
             data = pathlib.Path(path).read_bytes()
-            if inputs.is_input(data) and (inputs.is_compressed(data) or not data.startswith(b"\x7fELF")):
+            if inputs.is_input(data) and inputs.is_compressed(data):
                 self.expand(path, data)
         return self.made.get(path)
 

@@ -9,11 +9,12 @@ from shared.expand.relocations import Relocation
 RELOCATABLE, EXECUTABLE = 1, 2  # types of files
 RISCV = 243
 COMPRESSED_CODE, FLOAT_ABI = 1, 6  # flags of the file: 1 says that there are compressed instructions
-PROGBITS, SYMTAB, RELA, NOBITS, REL, SYMTAB_SHNDX, ATTRIBUTES = 1, 2, 4, 8, 9, 18, 0x70000003
-WRITE, ALLOC, EXECINSTR, COMPRESSED_BYTES = 1, 2, 4, 0x800  # flags of sections
+PROGBITS, SYMTAB, RELA, NOBITS, REL, SYMTAB_SHNDX = 1, 2, 4, 8, 9, 18  # types of sections
+ALLOC, EXECINSTR, COMPRESSED_BYTES = 2, 4, 0x800  # flags of sections
 NOTYPE, OBJECT, FUNCTION, SECTION, THREAD_LOCAL = 0, 1, 2, 3, 6  # types of symbols
-LOCAL, GLOBAL = 0, 1
-ABSOLUTE = 0xFFF1
+LOCAL = 0  # that other files don't see
+MOST_ALIGNED = 1 << 20
+SPECIAL, ABSOLUTE = 0xFF00, 0xFFF1  # from here on numbers that are no section's; that of a symbol that is a number
 
 
 class Refused(Exception):
@@ -149,6 +150,8 @@ class Object:
         names = found[header.section_names].bytes
         for section in found:
             section.name = text_at(names, section.name_at)
+            if section.align > MOST_ALIGNED or section.align & section.align - 1:
+                section.refuse(0, f"aligned to {section.align}")
         return found
 
     def only_symbol_table(self) -> Section:
@@ -158,7 +161,10 @@ class Object:
         return tables[0]
 
     def read_symbols(self) -> list[Symbol]:
-        return [Symbol(text_at(self.strings, fields[0]), *fields) for fields in SYMBOL.iter_unpack(self.table.bytes)]
+        symbols = [Symbol(text_at(self.strings, fields[0]), *fields) for fields in SYMBOL.iter_unpack(self.table.bytes)]
+        if any(len(self.sections) <= symbol.section < SPECIAL for symbol in symbols):
+            raise Refused("damaged: a symbol of a section that isn't there")
+        return symbols
 
     def read_relocations(self):
         for section in self.sections:
@@ -182,24 +188,29 @@ class Object:
         symbol.name, symbol.name_at = name, len(self.strings)
         self.strings += name.encode("latin-1") + b"\0"
 
-    def to_bytes(self) -> bytes:
-        """The file, with its sections in their order and the table of headers behind them."""
-        self.table.bytes = b"".join(SYMBOL.pack(*(symbol.name_at, symbol.value, symbol.size, symbol.info, symbol.other, symbol.section)) for symbol in self.symbols)
+    def pack_tables(self):
+        """Writes the symbols and relocations into their sections."""
+        self.table.bytes = b"".join(
+            SYMBOL.pack(symbol.name_at, symbol.value, symbol.size, symbol.info, symbol.other, symbol.section) for symbol in self.symbols)
         self.sections[self.table.link].bytes = bytes(self.strings)
         for section in self.sections:
             if section.relocated_by:
                 section.relocated_by.bytes = b"".join(RELOCATION.pack(each.offset, each.symbol << 8 | each.kind, each.addend) for each in section.relocations)
-        out = bytearray(HEADER_END)
-        for section in self.sections[1:]:
-            out += bytes(-len(out) % max(section.align, 1))
-            section.offset = len(out)
+
+    def to_bytes(self) -> bytes:
+        """The file, with its sections in their order and the table of headers behind them."""
+        self.pack_tables()
+        out, table = bytearray(HEADER_END), bytearray()
+        for section in self.sections:
+            if section.kind:
+                out += bytes(-len(out) % max(section.align, 1))
+                section.offset = len(out)
             if section.kind != NOBITS:
                 section.size = len(section.bytes)
-                out += section.bytes
+            out += section.bytes
+            table += SECTION_HEADER.pack(section.name_at, section.kind, section.flags, section.address, section.offset, section.size,
+                                         section.link, section.info, section.align, section.entry)
         out += bytes(-len(out) % 4)
         header = self.header._replace(sections=len(out), section_size=SECTION_HEADER.size)
         out[:HEADER_END] = self.data[:HEADER_AT] + HEADER.pack(*header)
-        for section in self.sections:
-            out += SECTION_HEADER.pack(section.name_at, section.kind, section.flags, section.address, section.offset, section.size,
-                                       section.link, section.info, section.align, section.entry)
-        return bytes(out)
+        return bytes(out + table)

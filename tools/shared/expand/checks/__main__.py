@@ -14,7 +14,7 @@ import tempfile
 import time
 
 from shared import runs
-from shared.expand.checks import assembled, comparison, forms, programs, refusals
+from shared.expand.checks import assembled, comparison, forms, linking, programs, refusals
 from shared.expand.checks.binutils import PREFIX, Failed
 
 ALIGNED_UNTOLD = {"fixed.c"}  # made without relaxation, so that no relocation tells of an alignment: nops stand in other numbers
@@ -40,10 +40,9 @@ def built() -> pathlib.Path | None:
     return program if os.access(program, os.X_OK) else None
 
 
-def work(folder: pathlib.Path) -> list:
+def work(folder: pathlib.Path, tried: programs.Programs) -> list:
     """What is checked: a name, and a call that tells what it has seen."""
-    libraries = programs.Libraries(folder)
-    tried = programs.Programs(folder, libraries, built())
+    libraries = tried.libraries
     found = [("the compressed forms", lambda: forms.check(folder)), ("what is refused", lambda: refusals.check(folder))]
     for old, new in zip(libraries.compressed, libraries.expanded):
         found.append((old.name, lambda old=old, new=new: comparison.check(old, new)))
@@ -55,7 +54,14 @@ def work(folder: pathlib.Path) -> list:
         found.append((name, lambda name=name: tried.check(name)))
         if name not in ALIGNED_UNTOLD:
             found.append((f"{name} with C and without", lambda name=name: assembled.check(name, folder)))
+    found.append(("linked files that are refused", lambda: linking.check_refused(folder)))
     return found
+
+
+def by_programs(tried: programs.Programs) -> list:
+    """What is checked with the files of the programs."""
+    return [("the command of a link", lambda: linking.check_command(tried)),
+            *((f"{name}, linked before", lambda name=name: linking.check_linked(tried, name)) for name in ("switch.c", "unwind.c", "floats.c"))]
 
 
 def outcome(name: str, call) -> bool:
@@ -77,10 +83,11 @@ def main() -> int:
         print("skipped: the programs by swic, which is not built", file=sys.stderr)
     with tempfile.TemporaryDirectory() as folder, concurrent.futures.ThreadPoolExecutor(2) as pool:
         try:
-            outcomes = list(pool.map(lambda each: outcome(*each), work(pathlib.Path(folder))))
+            tried = programs.Programs(pathlib.Path(folder), programs.Libraries(pathlib.Path(folder)), built())
         except Failed as why:
             print(f"FAIL  {why}")
             return 1
+        outcomes = [done for works in (work(pathlib.Path(folder), tried), by_programs(tried)) for done in pool.map(lambda each: outcome(*each), works)]
     print(f"{sum(outcomes)} passed, {len(outcomes) - sum(outcomes)} failed")
     return 0 if all(outcomes) else 1
 

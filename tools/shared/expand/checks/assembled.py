@@ -20,14 +20,14 @@ def check(name: str, folder: pathlib.Path) -> str:
     flags, _ = PROGRAMS[name]
     source = folder / f"{name}.s"
     compiler = PREFIX + ("g++" if name.endswith(".cc") else "gcc")
-    run(compiler, *COMPRESSED, "--specs=picolibc.specs", *flags, "-S", "-I", str(GUESTS), str(SOURCES / name), "-o", str(source))
+    run(compiler, *COMPRESSED, "--specs=picolibc.specs", *flags, "-S", "-I", GUESTS, SOURCES / name, "-o", source)
     source.write_text(MACHINE.sub("", source.read_text()))
     made = folder / f"{name}.assembled"
     made.mkdir()
     for machine, out in (("rv32imac", made / "object.o"), ("rv32ima", made / "direct.o")):
         relax = ["-mno-relax"] if "-mno-relax" in flags else []
-        tool("as", f"-march={machine}", "-mabi=ilp32", *relax, str(source), "-o", str(out))
-    run(str(EXPAND), str(made / "object.o"), "-o", str(made / "expanded"))
+        tool("as", f"-march={machine}", "-mabi=ilp32", *relax, source, "-o", out)
+    run(EXPAND, made / "object.o", "-o", made / "expanded")
     expanded, direct = (Object(path.read_bytes()) for path in (made / "expanded/object.o", made / "direct.o"))
     return compare(name, expanded, direct)
 

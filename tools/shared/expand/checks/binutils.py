@@ -1,8 +1,10 @@
 """What the GNU binutils for RISC-V say of files: the oracle of the checks of tools/expand."""
 import dataclasses
+import pathlib
 import re
 import subprocess
 
+Word = str | pathlib.Path  # of a command
 PREFIX = "riscv64-unknown-elf-"
 # The 32-bit instruction that each compressed one stands for, as assembly; written from the standard's chapter on C.
 MEANINGS = {
@@ -40,14 +42,14 @@ class Failed(Exception):
     """What a check found wrong."""
 
 
-def run(*words: str, **how) -> str:
-    done = subprocess.run(words, capture_output=True, text=True, **how)
+def run(*words: Word) -> str:
+    done = subprocess.run(words, capture_output=True, text=True, errors="replace")
     if done.returncode:
         raise Failed(f"{' '.join(map(str, words))}: status {done.returncode}: {done.stderr.strip()[-2000:]}")
     return done.stdout
 
 
-def tool(name: str, *words: str) -> str:
+def tool(name: str, *words: Word) -> str:
     return run(PREFIX + name, *words)
 
 

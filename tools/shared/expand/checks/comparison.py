@@ -28,7 +28,7 @@ def read(path: pathlib.Path, lines: bool = True) -> dict[str, list[Row]]:
     """The instructions of each section of code, by its member and its name; with the source lines, unless they are not asked for."""
     found: dict[str, list[Row]] = {}
     member, line, rows = "", "", []
-    for text in tool("objdump", "-drl" if lines else "-dr", "-M", "no-aliases", str(path)).splitlines():
+    for text in tool("objdump", "-drl" if lines else "-dr", "-M", "no-aliases", path).splitlines():
         if row := row_of(text):
             row.line = line
             rows.append(row)
@@ -106,7 +106,7 @@ def frames_of(archive: pathlib.Path, linked: pathlib.Path) -> list[tuple]:
     from elftools.dwarf.callframe import FDE
     from elftools.elf.elffile import ELFFile
     tool("ld", "-melf32lriscv", "--no-relax", "-z", "muldefs", "--unresolved-symbols=ignore-all", "--defsym=__global_pointer$=0", "--noinhibit-exec",
-         "-e", "0", "--whole-archive", str(archive), "-o", str(linked))
+         "-e", "0", "--whole-archive", archive, "-o", linked)
     addresses = sorted(row.address for rows in read(linked, lines=False).values() for row in tidy(rows) if row.shown not in FILLING)
     index = lambda address: bisect.bisect_left(addresses, address)
     found = []

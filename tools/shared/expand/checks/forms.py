@@ -1,6 +1,5 @@
 """Every value of 16 bits that is no 32-bit instruction's beginning: what it becomes, beside what binutils say."""
 import pathlib
-import re
 import struct
 
 from shared.expand import instructions
@@ -28,7 +27,7 @@ def disassembled(folder: pathlib.Path) -> dict[int, Row]:
     """What the disassembler says of each value; they stand four bytes apart, with a c.nop behind each."""
     held = folder / "halves"
     held.write_bytes(b"".join(struct.pack("<HH", half, 1) for half in HALVES))
-    text = tool("objdump", "-D", "-M", "no-aliases", "-b", "binary", "-m", "riscv:rv32", str(held))
+    text = tool("objdump", "-D", "-M", "no-aliases", "-b", "binary", "-m", "riscv:rv32", held)
     rows = (row for line in text.splitlines() if (row := row_of(line)) and row.address % 4 == 0)
     found = {HALVES[row.address // 4]: row for row in rows}
     if len(found) != len(HALVES):
@@ -50,10 +49,10 @@ def assembled(folder: pathlib.Path, shown: dict[int, Row]) -> dict[int, int]:
     known = {half: row for half, row in shown.items() if has_meaning(row)}
     source, made, linked, held = (folder / f"words.{end}" for end in ("S", "o", "elf", "bin"))
     source.write_text(".option norelax\n" + "".join(assembly(row) + "\n" for row in known.values()))
-    tool("as", "-march=rv32imafd", "-mabi=ilp32", str(source), "-o", str(made))
+    tool("as", "-march=rv32imafd", "-mabi=ilp32", source, "-o", made)
     # linked, since a branch's offset would stand in a relocation
-    tool("ld", "-melf32lriscv", "--no-relax", "-Ttext=0x1000000", "-e", "0", str(made), "-o", str(linked))
-    tool("objcopy", "-O", "binary", "-j", ".text", str(linked), str(held))
+    tool("ld", "-melf32lriscv", "--no-relax", "-Ttext=0x1000000", "-e", "0", made, "-o", linked)
+    tool("objcopy", "-O", "binary", "-j", ".text", linked, held)
     return dict(zip(known, (word for word, in struct.iter_unpack("<I", held.read_bytes()))))
 
 

@@ -4,7 +4,7 @@ import re
 import subprocess
 
 from shared import runs
-from shared.expand.checks.binutils import PREFIX, Failed, run, tool
+from shared.expand.checks.binutils import PREFIX, Failed, Word, run, tool
 
 SOURCES = pathlib.Path(__file__).parent / "programs"
 GUESTS = runs.TOP / "guests"
@@ -27,7 +27,7 @@ class Libraries:
 
     def __init__(self, folder: pathlib.Path):
         self.compressed, self.direct = self.found(COMPRESSED), self.found(DIRECT)
-        run(str(EXPAND), *map(str, self.compressed), "-o", str(folder))
+        run(EXPAND, *self.compressed, "-o", folder)
         self.expanded = [folder / library.name for library in self.compressed]
 
     @staticmethod
@@ -55,22 +55,22 @@ class Programs:
         flags, link_flags = PROGRAMS[name]
         objects = self.objects(name, COMPRESSED, flags, "compressed")
         expanded = self.folder / f"{name}.expanded"
-        run(str(EXPAND), *map(str, objects), "-o", str(expanded))
+        run(EXPAND, *objects, "-o", expanded)
         old = self.link(f"{name}.old", COMPRESSED, objects, self.libraries.compressed, link_flags)
         new = self.link(f"{name}.new", DIRECT, [expanded / each.name for each in objects], self.libraries.expanded, link_flags)
         direct = self.link(f"{name}.direct", DIRECT, self.objects(name, DIRECT, flags, "direct"), self.libraries.direct, link_flags)
-        wanted = self.outcome("qemu-riscv32", str(old))
+        wanted = outcome("qemu-riscv32", old)
         for words in self.ways(new, direct):
-            if self.outcome(*words) != wanted:
-                raise Failed(f"{' '.join(words)}: {self.outcome(*words)}, where {wanted} is right")
+            if (is_now := outcome(*words)) != wanted:
+                raise Failed(f"{' '.join(map(str, words))}: {is_now}, where {wanted} is right")
         sizes = [text_size(each) for each in (old, new, direct)]
         if not 0.98 < sizes[1] / sizes[2] < 1.02:
             raise Failed(f"{name}: text of {sizes[1]} bytes, built for rv32im {sizes[2]}")
         return "text {} -> {} bytes, built for rv32im {}".format(*sizes)
 
-    def ways(self, new: pathlib.Path, direct: pathlib.Path) -> list[list[str]]:
-        own = [[str(self.swic), "plain", str(new)], *([str(self.swic), "cached", str(new), *cache] for cache in CACHES)] if self.swic else []
-        return [["qemu-riscv32", str(new)], ["qemu-riscv32", str(direct)], *own]
+    def ways(self, new: pathlib.Path, direct: pathlib.Path) -> list[list[Word]]:
+        own = [[self.swic, "plain", new], *([self.swic, "cached", new, *cache] for cache in CACHES)] if self.swic else []
+        return [["qemu-riscv32", new], ["qemu-riscv32", direct], *own]
 
     def objects(self, name: str, machine: list[str], flags: list[str], kind: str) -> list[pathlib.Path]:
         folder = self.folder / f"{name}.{kind}"
@@ -80,20 +80,20 @@ class Programs:
             found.append(folder / f"{source.stem}.o")
             compiler = "g++" if source.suffix == ".cc" else "gcc"
             own = flags if source.suffix == pathlib.Path(name).suffix else ["-O2"]
-            run(PREFIX + compiler, *machine, "--specs=picolibc.specs", *own, "-I", str(GUESTS), "-c", str(source), "-o", str(found[-1]))
+            run(PREFIX + compiler, *machine, "--specs=picolibc.specs", *own, "-I", GUESTS, "-c", source, "-o", found[-1])
         return found
 
     def link(self, name: str, machine: list[str], objects: list[pathlib.Path], libraries: list[pathlib.Path], flags: list[str]) -> pathlib.Path:
         out = self.folder / f"{name}.elf"
-        run(PREFIX + "gcc", *machine, "-nostdlib", "-nostartfiles", "-T", str(self.script), *flags, *map(str, objects),
-            "-Wl,--start-group", *map(str, libraries), "-Wl,--end-group", "-o", str(out))
+        run(PREFIX + "gcc", *machine, "-nostdlib", "-nostartfiles", "-T", self.script, *flags, *objects,
+            "-Wl,--start-group", *libraries, "-Wl,--end-group", "-o", out)
         return out
 
-    @staticmethod
-    def outcome(*words: str) -> tuple[int, bytes, bytes]:
-        done = subprocess.run(words, input=INPUT, capture_output=True, timeout=100)
-        return done.returncode, done.stdout, done.stderr
+
+def outcome(*words: Word) -> tuple[int, bytes, bytes]:
+    done = subprocess.run(words, input=INPUT, capture_output=True, timeout=100)
+    return done.returncode, done.stdout, done.stderr
 
 
 def text_size(path: pathlib.Path) -> int:
-    return sum(int(size, 16) for size in re.findall(r" \.text\s+PROGBITS\s+\S+ \S+ (\S+)", tool("readelf", "-SW", str(path))))
+    return sum(int(size, 16) for size in re.findall(r" \.text\s+PROGBITS\s+\S+ \S+ (\S+)", tool("readelf", "-SW", path)))

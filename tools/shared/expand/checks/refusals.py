@@ -18,7 +18,7 @@ OBJECTS = {
     "table-of-bytes": ("f: beqz a0,2f\n .rept 50\n c.addi a0,1\n .endr\n2: ret\n .section .rodata\n .byte 2b-f\n",
                        ".rodata+0: the distance of two labels, 102, is now 204: no room for it (SUB8)", False),
     "half-way": ("f: ret\n ret\n .section .rodata\n .word f+1\n", ".text+1: an address inside an instruction", False),
-    "far-jump": ("f: j 9f\n .rept 300000\n c.addi a0,1\n .endr\n9: ret\n", ".text+0: the jump to 927c2 reaches no longer", False),
+    "far-jump": ("f: j 9f\n .rept 300000\n c.addi a0,1\n .endr\n9: ret\n", ".text+0: the jump to 927c4 reaches no longer", False),
     "offset-in-another-file": ("f: j g+2\n", ".text+0: a jump to another file's g+2", False),
     "zcb": (".globl f\n.type f,@function\nf: .half 0x8150\n ret\n.size f,.-f\n", ".text+0: 8150 is no compressed instruction", True),
     "zcmp": (".attribute arch,\"rv32imac\"\nf: ret\n", ".riscv.attributes+0: for rv32i2p0_zcmp1p0_c2p0: zcmp has compressed instructions that are not known here", False),
@@ -34,7 +34,7 @@ def check(folder: pathlib.Path) -> str:
         refuse(folder, [path], [said])
     good = assemble(folder, "good", "f: ret\n", False)
     refuse(folder, [good, folder / "zcb.o", folder / "half-way.o"], [OBJECTS["zcb"][1], OBJECTS["half-way"][1]])
-    tool("ar", "rc", str(folder / "library.a"), str(good), str(folder / "bare-auipc.o"))
+    tool("ar", "rc", folder / "library.a", good, folder / "bare-auipc.o")
     refuse(folder, [folder / "library.a"], ["(bare-auipc.o): " + OBJECTS["bare-auipc"][1]])
     return f"{len(OBJECTS) + len(others) + 2} refused"
 
@@ -42,9 +42,9 @@ def check(folder: pathlib.Path) -> str:
 def assemble(folder: pathlib.Path, name: str, source: str, unmarked: bool) -> pathlib.Path:
     held, made = folder / f"{name}.S", folder / f"{name}.o"
     held.write_text(source)
-    run(PREFIX + "gcc", *COMPRESSED, "-c", str(held), "-o", str(made))
+    run(PREFIX + "gcc", *COMPRESSED, "-c", held, "-o", made)
     if unmarked:
-        tool("objcopy", "-w", "--strip-symbol=$[xd]*", str(made))
+        tool("objcopy", "-w", "--strip-symbol=$[xd]*", made)
     if name == "zcmp":  # which this assembler doesn't know; a name of the same length
         made.write_bytes(made.read_bytes().replace(b"rv32i2p0_m2p0_a2p0_c2p0", b"rv32i2p0_zcmp1p0_c2p0\0\0").replace(b"rv32i2p1_m2p0_a2p1_c2p0", b"rv32i2p0_zcmp1p0_c2p0\0\0"))
     return made
@@ -53,13 +53,13 @@ def assemble(folder: pathlib.Path, name: str, source: str, unmarked: bool) -> pa
 def optimized(folder: pathlib.Path) -> tuple[pathlib.Path, str]:
     source, made = folder / "lto.c", folder / "lto.o"
     source.write_text("int f(int x) { return x + 1; }\n")
-    run(PREFIX + "gcc", *COMPRESSED, "-O2", "-flto", "-c", str(source), "-o", str(made))
+    run(PREFIX + "gcc", *COMPRESSED, "-O2", "-flto", "-c", source, "-o", made)
     return made, "made for link-time optimization"
 
 
 def thin(folder: pathlib.Path) -> tuple[pathlib.Path, str]:
     made = folder / "thin.a"
-    tool("ar", "rcT", str(made), str(folder / "zcb.o"))
+    tool("ar", "rcT", made, folder / "zcb.o")
     return made, "a thin archive: give its members"
 
 
@@ -71,7 +71,7 @@ def bsd(folder: pathlib.Path) -> tuple[pathlib.Path, str]:
 
 def linked(folder: pathlib.Path) -> tuple[pathlib.Path, str]:
     made = folder / "linked.elf"
-    tool("ld", "-melf32lriscv", "-e", "0", str(folder / "zcb.o"), "-o", str(made))
+    tool("ld", "-melf32lriscv", "-e", "0", folder / "zcb.o", "-o", made)
     return made, "linked already"
 
 
