@@ -1,12 +1,12 @@
 """One relocatable object: its code stretched, and all that is computed from its labels brought after."""
 import dataclasses
-from typing import Iterator
+from typing import Callable, Iterator
 
 from shared.expand import architecture, distances, frames, guessing, lines
 from shared.expand import instructions as rv
 from shared.expand import relocations as rel
 from shared.expand.frames import Frames
-from shared.expand.objects import COMPRESSED_BYTES, COMPRESSED_CODE, FLOAT_ABI, RELOCATABLE, SECTION, Object, Refused, Section, Symbol, header_of
+from shared.expand.objects import COMPRESSED_CODE, FLOAT_ABI, RELOCATABLE, SECTION, Object, Refused, Section, Symbol, header_of
 from shared.expand.reading import DATA, Kinds
 from shared.expand.stretching import Code
 
@@ -67,24 +67,22 @@ class Expansion:
         if not self.trusted:
             self.check_unmarked()
         self.check_read_as_data()
+        self.check_exceptions()
         relocated = {k: section for k, section in enumerate(self.unit.sections) if section.relocated_by}
         for k, section in relocated.items():
             if k not in self.codes:
-                self.of_data(section, lambda section, k=k: self.prepare(k, section))
-        moved: dict[int, list[rel.Relocation]] = {}
-        for k, section in relocated.items():
-            self.of_data(section, lambda section, k=k: moved.update({k: self.moved_relocations(k, section)}))
+                self.of_data(section, self.prepare, k)
+        moved = {k: self.of_data(section, self.moved_relocations, k) or [] for k, section in relocated.items()}
         if self.dropped:
             self.drop_debug_data(moved)
         before, after, far = (sum(getattr(code, field) for code in self.codes.values()) for field in ("end", "size", "far_branches"))
         self.replace(moved)
         return Expanded(self.unit.to_bytes(), before, after, far, self.dropped)
 
-    def of_data(self, section: Section, work):
+    def of_data(self, section: Section, work: Callable, k: int):
         """Does some work on a section. What can't be done with debug data makes all of that be left out."""
         try:
-            if not (self.dropped and section.is_debug):
-                work(section)
+            return work(k, section) if not (self.dropped and section.is_debug) else None
         except Refused as why:
             if not section.is_debug:
                 raise
@@ -131,17 +129,18 @@ class Expansion:
         if code.items[code.index(offset)].kind != DATA:
             code.section.refuse(offset, "read or written as data, but no symbol says that it is")
 
+    def check_exceptions(self):
+        for section in self.unit.sections:
+            if section.name.startswith(".gcc_except_table") and section.size and not self.made_by_gnu:
+                section.refuse(0, "an exception table that is not from GCC and GNU as, so it may have distances without relocations")
+
     def prepare(self, k: int, section: Section):
         """Checks a section of data, and makes call frames anew."""
-        if section.flags & COMPRESSED_BYTES:
-            section.decompress()
         if section.name in frames.NAMES:
             self.frames[k] = Frames(section, self.codes, self.label_of)
             return
         if section.is_debug and not self.made_by_gnu:
             section.refuse(0, "not from GCC and GNU as, so it may have distances without relocations")
-        if section.name.startswith(".gcc_except_table") and section.size and not self.made_by_gnu:
-            section.refuse(0, "an exception table that is not from GCC and GNU as, so it may have distances without relocations")
         if section.name == ".debug_line":
             lines.check(section)
         distances.check(section, self.codes, self.label_of)
@@ -179,7 +178,6 @@ class Expansion:
         dropped = {k: section for k, section in enumerate(self.unit.sections) if section.is_debug}
         for k, section in dropped.items():
             section.bytes, moved[k] = b"", []
-            section.flags &= ~COMPRESSED_BYTES
             self.frames.pop(k, None)
         for symbol in self.unit.symbols:
             if symbol.section in dropped:

@@ -13,7 +13,7 @@ PROGBITS, SYMTAB, RELA, NOBITS, REL, SYMTAB_SHNDX = 1, 2, 4, 8, 9, 18  # types o
 ALLOC, EXECINSTR, COMPRESSED_BYTES = 2, 4, 0x800  # flags of sections
 NOTYPE, OBJECT, FUNCTION, SECTION, THREAD_LOCAL = 0, 1, 2, 3, 6  # types of symbols
 LOCAL = 0  # that other files don't see
-MOST_ALIGNED = 1 << 20
+ZLIB, MOST_ALIGNED = 1, 1 << 20
 SPECIAL, ABSOLUTE = 0xFF00, 0xFFF1  # from here on numbers that are no section's; that of a symbol that is a number
 
 
@@ -59,14 +59,17 @@ class Section:
         raise Refused(why, self.name, offset)
 
     def decompress(self):
-        """Takes away the compression of a debug section's bytes; of another method than zlib it stays."""
+        """Takes away the compression that debug data may have."""
         method, size, align = struct.unpack_from("<III", self.bytes)
-        if method != 1:
-            self.refuse(0, f"compressed by method {method}")
-        self.bytes, self.align = zlib.decompress(self.bytes[12:]), align
+        if method != ZLIB:
+            self.refuse(0, "compressed in another way than by zlib: compile without -gz")
+        try:
+            self.bytes = zlib.decompress(self.bytes[12:])
+        except zlib.error:
+            self.bytes = b""
         if len(self.bytes) != size:
-            self.refuse(0, "compressed bytes that are damaged")
-        self.flags &= ~COMPRESSED_BYTES
+            self.refuse(0, "damaged: compressed bytes")
+        self.size, self.align, self.flags = size, align, self.flags & ~COMPRESSED_BYTES
 
 
 @dataclasses.dataclass(slots=True)
@@ -150,6 +153,8 @@ class Object:
         names = found[header.section_names].bytes
         for section in found:
             section.name = text_at(names, section.name_at)
+            if section.flags & COMPRESSED_BYTES:
+                section.decompress()
             if section.align > MOST_ALIGNED or section.align & section.align - 1:
                 section.refuse(0, f"aligned to {section.align}")
         return found

@@ -4,6 +4,7 @@ import subprocess
 
 from shared.expand.checks.binutils import PREFIX, Failed, run, tool
 from shared.expand.checks.programs import COMPRESSED, EXPAND
+from shared.expand.objects import Object
 
 ODD = "f: c.li a0,1\n c.j 1f\n.word 0x12345678\n.half 3\n1: ret\n"
 # For each the source, what the line says behind the name of the file, and whether the mapping symbols are taken away.
@@ -22,6 +23,7 @@ OBJECTS = {
     "offset-in-another-file": ("f: j g+2\n", ".text+0: a jump to another file's g+2", False),
     "zcb": (".globl f\n.type f,@function\nf: .half 0x8150\n ret\n.size f,.-f\n", ".text+0: 8150 is no compressed instruction", True),
     "zcmp": (".attribute arch,\"rv32imac\"\nf: ret\n", ".riscv.attributes+0: for rv32i2p0_zcmp1p0_c2p0: zcmp has compressed instructions that are not known here", False),
+    "exceptions": ("f: ret\n .section .gcc_except_table,\"a\"\n .word 1\n", ".gcc_except_table+0: an exception table that is not from GCC", False),
     "of-48-bits": ("f: .half 0x1f,0,0\n ret\n", ".text+0: 001f begins no 32-bit instruction", True),
 }
 
@@ -36,7 +38,20 @@ def check(folder: pathlib.Path) -> str:
     refuse(folder, [good, folder / "zcb.o", folder / "half-way.o"], [OBJECTS["zcb"][1], OBJECTS["half-way"][1]])
     tool("ar", "rc", folder / "library.a", good, folder / "bare-auipc.o")
     refuse(folder, [folder / "library.a"], ["(bare-auipc.o): " + OBJECTS["bare-auipc"][1]])
-    return f"{len(OBJECTS) + len(others) + 2} refused"
+    copy = folder / "copy"
+    copy.mkdir()
+    refuse(folder, [good, copy / good.name], ["several inputs are called good.o"])
+    check_debug(folder)
+    return f"{len(OBJECTS) + len(others) + 3} refused"
+
+
+def check_debug(folder: pathlib.Path):
+    """Debug data that may have distances without relocations is left out, and that is told."""
+    made = assemble(folder, "debug", "f: ret\n .section .debug_info,\"\",@progbits\nd: .word f, d\n", False)
+    done = subprocess.run([EXPAND, made, "-o", folder / "warned"], capture_output=True, text=True)
+    unit = Object((folder / "warned/debug.o").read_bytes())
+    if done.returncode or ".debug_info+0: not from GCC" not in done.stderr or unit.named(".debug_info"):
+        raise Failed(f"{made}: status {done.returncode}, {done.stderr}")
 
 
 def assemble(folder: pathlib.Path, name: str, source: str, unmarked: bool) -> pathlib.Path:
