@@ -65,7 +65,7 @@ class Frames:
 
     def place_of(self, offset: int) -> int:
         k = bisect.bisect_right(self.old, offset) - 1
-        return offset + self.new[k] - self.old[k]
+        return offset + self.new[k] - self.old[k] if self.old else offset
 
     def copy(self, begin: int, end: int):
         self.here(begin)
