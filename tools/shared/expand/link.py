@@ -55,7 +55,7 @@ def link(linker: str, words: list[str], folder: str, trusted: bool) -> int:
     out = pathlib.Path(output_of(words))
     if status == 0 and out.is_file() and inputs.is_compressed(out.read_bytes()):
         out.unlink()
-        raise Wrong(f"{out} would have compressed code{left_by(linker, replaced)}")
+        raise Wrong(f"{out} would have compressed code{left_by(linker, [*replaced, '-o', f'{folder}/left'])}")
     return status
 
 
@@ -85,7 +85,7 @@ def output_of(words: list[str]) -> str:
 
 def left_by(linker: str, words: list[str]) -> str:
     """Names a compressed input that no word of the command names, as one of a linker script or a thin archive."""
-    traced = subprocess.run([linker, *words, "-o", os.devnull, "-t"], capture_output=True, text=True).stdout
+    traced = subprocess.run([linker, *words, "-t"], capture_output=True, text=True).stdout
     for line in traced.splitlines():
         path = pathlib.Path(line.strip())
         if path.is_file() and inputs.is_compressed(path.read_bytes()):
@@ -98,7 +98,7 @@ class Inputs:
 
     def __init__(self, linker: str, words: list[str], folder: pathlib.Path, trusted: bool):
         self.words, self.folder, self.trusted = words, folder, trusted
-        self.made: dict[str, str] = {}
+        self.made: dict[str, str | None] = {}
         self.refused: list[str] = []
         sysroot = next((word.removeprefix("--sysroot=") for word in words if word.startswith("--sysroot=")), "")
         asked = subprocess.run([linker, "--verbose"], capture_output=True, text=True, stdin=subprocess.DEVNULL).stdout
@@ -109,37 +109,44 @@ class Inputs:
         """The words, with expanded files in place of the compressed ones."""
         found, before = [], ""
         for word in self.words:
-            path = word if before not in TAKE_A_NAME else None
-            if path and word.startswith("-"):
-                path = self.library(word[2:]) if word.startswith("-l") else None
-            found.append(self.expanded(path) or word if path else word)
+            path = None if before in TAKE_A_NAME else self.path_of(word)
+            found.append(self.made[path] if path and self.is_expanded(path) else word)
             before = word
         if self.refused:
             raise Refusals(*self.refused)
         return found
+
+    def path_of(self, word: str) -> str | None:
+        if word.startswith("-l"):
+            return self.library(word[2:])
+        return None if word.startswith("-") else word
 
     def library(self, name: str) -> str | None:
         """The file of a library, as the linker finds it; of a shared one, or where there is none, the linker tells."""
         file = name[1:] if name.startswith(":") else f"lib{name}.a"
         return next((path for folder in self.folders if os.path.isfile(path := os.path.join(folder, file))), None)
 
-    def expanded(self, path: str) -> str | None:
-        """Where an input stands expanded, under its own name, since linker scripts may name it; None where it is none, or has no compressed code."""
-        if path not in self.made and os.path.isfile(path):
-            data = pathlib.Path(path).read_bytes()
-            if inputs.is_input(data) and inputs.is_compressed(data):
-                self.expand(path, data)
-        return self.made.get(path)
+    def is_expanded(self, path: str) -> bool:
+        """Whether another file takes an input's place: not that of what is none, or has no compressed code."""
+        if path not in self.made:
+            self.made[path] = self.expand(path)
+        return self.made[path] is not None
 
-    def expand(self, path: str, data: bytes):
+    def expand(self, path: str) -> str | None:
+        """Writes an input expanded, under its own name, since linker scripts may name it."""
         try:
+            data = pathlib.Path(path).read_bytes()
+            if not inputs.is_input(data) or not inputs.is_compressed(data):
+                return None
             result = inputs.expand(path, data, self.trusted)
+        except OSError:  # of which the linker tells
+            return None
         except Refusals as lines:
             self.refused += lines.args
-            return
+            return None
         for warning in result.warnings:
             runs.say(warning)
-        held = self.folder / str(len(self.made)) / pathlib.Path(path).name
-        held.parent.mkdir()
-        held.write_bytes(result.data)
-        self.made[path] = str(held)
+        target = self.folder / str(len(self.made)) / pathlib.Path(path).name
+        target.parent.mkdir()
+        target.write_bytes(result.data)
+        return str(target)

@@ -12,10 +12,12 @@ import subprocess
 import sys
 import tempfile
 import time
+from functools import partial
+from typing import Callable
 
 from shared import runs
 from shared.expand.checks import assembled, comparison, forms, linking, programs, refusals
-from shared.expand.checks.binutils import PREFIX, Failed
+from shared.expand.checks.binutils import PREFIX, Failed, tool
 
 ALIGNED_UNTOLD = {"fixed.c"}  # made without relaxation, so that no relocation tells of an alignment: nops stand in other numbers
 READER = "elftools"
@@ -31,7 +33,11 @@ def with_reader():
 
 
 def missing() -> list[str]:
-    return [program for program in (PREFIX + "gcc", PREFIX + "objdump", "qemu-riscv32") if not shutil.which(program)]
+    absent = [program for program in (PREFIX + "gcc", PREFIX + "objdump", "qemu-riscv32") if not shutil.which(program)]
+    if absent:
+        return absent
+    specs = "picolibc.specs"  # without a folder where the compiler doesn't find them
+    return [specs] if tool("gcc", f"-print-file-name={specs}").strip() == specs else []
 
 
 def built() -> pathlib.Path | None:
@@ -40,32 +46,28 @@ def built() -> pathlib.Path | None:
     return program if os.access(program, os.X_OK) else None
 
 
-def work(folder: pathlib.Path, tried: programs.Programs) -> list:
+def work(folder: pathlib.Path, tried: programs.Programs) -> list[tuple[str, Callable[[], str]]]:
     """What is checked: a name, and a call that tells what it has seen."""
-    libraries = tried.libraries
-    found = [("the compressed forms", lambda: forms.check(folder)), ("what is refused", lambda: refusals.check(folder))]
-    for old, new in zip(libraries.compressed, libraries.expanded):
-        found.append((old.name, lambda old=old, new=new: comparison.check(old, new)))
+    before, after = tried.libraries.compressed, tried.libraries.expanded
+    found = [("the compressed forms", partial(forms.check, folder)), ("what is refused", partial(refusals.check, folder))]
+    found += [(old.name, partial(comparison.check, old, new)) for old, new in zip(before, after)]
     if importlib.util.find_spec(READER):
-        found.append(("the frames of libgcc.a", lambda: comparison.check_frames(libraries.compressed[1], libraries.expanded[1], folder)))
+        found.append(("the frames of libgcc.a", partial(comparison.check_frames, before[1], after[1], folder)))
     else:
         print("skipped: the frames of libgcc.a, which need pyelftools (Debian: python3-pyelftools)", file=sys.stderr)
-    for name in programs.PROGRAMS:
-        found.append((name, lambda name=name: tried.check(name)))
-        if name not in ALIGNED_UNTOLD:
-            found.append((f"{name} with C and without", lambda name=name: assembled.check(name, folder)))
-    found.append(("linked files that are refused", lambda: linking.check_refused(folder)))
-    return found
+    found += [(name, partial(tried.check, name)) for name in programs.PROGRAMS]
+    found += [(f"{name} with C and without", partial(assembled.check, name, folder)) for name in programs.PROGRAMS if name not in ALIGNED_UNTOLD]
+    return [*found, ("linked files that are refused", partial(linking.check_refused, folder))]
 
 
-def by_programs(tried: programs.Programs) -> list:
+def by_programs(tried: programs.Programs) -> list[tuple[str, Callable[[], str]]]:
     """What is checked with the files of the programs."""
-    return [("the command of a link", lambda: linking.check_command(tried)),
-            *((f"{name}, linked before", lambda name=name: linking.check_linked(tried, name)) for name in ("switch.c", "unwind.c", "floats.c"))]
+    linked = [(f"{name}, linked before", partial(linking.check_linked, tried, name)) for name in ("switch.c", "unwind.c", "floats.c")]
+    return [("the command of a link", partial(linking.check_command, tried)), *linked]
 
 
-def outcome(name: str, call) -> bool:
-    begun = time.monotonic()
+def outcome(checked: tuple[str, Callable[[], str]]) -> bool:
+    (name, call), begun = checked, time.monotonic()
     try:
         print(f"ok    {name}: {call()}, {time.monotonic() - begun:.1f} s", flush=True)
     except (Failed, subprocess.TimeoutExpired) as why:
@@ -81,13 +83,10 @@ def main() -> int:
         return 0
     if not built():
         print("skipped: the programs by swic, which is not built", file=sys.stderr)
-    with tempfile.TemporaryDirectory() as folder, concurrent.futures.ThreadPoolExecutor(2) as pool:
-        try:
-            tried = programs.Programs(pathlib.Path(folder), programs.Libraries(pathlib.Path(folder)), built())
-        except Failed as why:
-            print(f"FAIL  {why}")
-            return 1
-        outcomes = [done for works in (work(pathlib.Path(folder), tried), by_programs(tried)) for done in pool.map(lambda each: outcome(*each), works)]
+    with tempfile.TemporaryDirectory() as name, concurrent.futures.ThreadPoolExecutor(2) as pool:
+        folder = pathlib.Path(name)
+        tried = programs.Programs(folder, programs.Libraries(folder), built())
+        outcomes = list(pool.map(outcome, work(folder, tried))) + list(pool.map(outcome, by_programs(tried)))
     print(f"{sum(outcomes)} passed, {len(outcomes) - sum(outcomes)} failed")
     return 0 if all(outcomes) else 1
 
