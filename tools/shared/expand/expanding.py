@@ -6,7 +6,7 @@ from shared.expand import architecture, distances, frames, guessing, lines
 from shared.expand import instructions as rv
 from shared.expand import relocations as rel
 from shared.expand.frames import Frames
-from shared.expand.objects import COMPRESSED_CODE, FLOAT_ABI, RELOCATABLE, SECTION, Object, Refused, Section, Symbol, header_of
+from shared.expand.objects import COMPRESSED_CODE, FLOAT_ABI, OTHER_ABI, RELOCATABLE, SECTION, Object, Refused, Section, Symbol, header_of
 from shared.expand.reading import DATA, Kinds
 from shared.expand.stretching import Code
 
@@ -15,7 +15,7 @@ READING = {rv.LOAD, rv.STORE, rv.FLOAT_LOAD, rv.FLOAT_STORE}
 
 @dataclasses.dataclass(frozen=True)
 class Expanded:
-    """An object that has no compressed code, how many bytes its code had and has, its far branches, and what was left out of it."""
+    """An object that has no compressed code, how many bytes its code had and has, its far branches, and what is to be told."""
     data: bytes
     before: int = 0
     after: int = 0
@@ -77,7 +77,8 @@ class Expansion:
             self.drop_debug_data(moved)
         before, after, far = (sum(getattr(code, field) for code in self.codes.values()) for field in ("end", "size", "far_branches"))
         self.replace(moved)
-        return Expanded(self.unit.to_bytes(), before, after, far, self.dropped)
+        other = "for another ABI than ilp32, so swic will refuse it still" if self.unit.header.flags & OTHER_ABI else ""
+        return Expanded(self.unit.to_bytes(), before, after, far, "; ".join(filter(None, (other, self.dropped))))
 
     def of_data(self, section: Section, work: Callable, k: int):
         """Does some work on a section. What can't be done with debug data makes all of that be left out."""

@@ -7,6 +7,7 @@ from shared.expand import archives, linked
 from shared.expand.expanding import Expanded, expand_object
 from shared.expand.objects import COMPRESSED_CODE, EXECUTABLE, RELOCATABLE, Refused, header_of
 
+MOST_TOLD = 10  # refusals of an archive's members
 SEVERAL = 32  # members of an archive from which on they are shared out to several processes
 
 
@@ -32,7 +33,7 @@ class Result:
 def result_of(name: str, data: bytes, parts: dict[str, Expanded]) -> Result:
     """The result of a file whose parts are these; of many warnings the first, and how many there are."""
     warnings = [f"{label}: {part.warning}" for label, part in parts.items() if part.warning]
-    more = [f"{name}: the same or the like of {len(warnings) - 1} members more"] if len(warnings) > 1 else []
+    more = [f"{name}: the like of {len(warnings) - 1} members more"] if len(warnings) > 1 else []
     sums = [sum(getattr(part, field) for part in parts.values()) for field in ("before", "after", "far")]
     return Result(name, data, *sums, warnings[:1] + more)
 
@@ -68,7 +69,8 @@ def expand_archive(name: str, data: bytes, trusted: bool) -> Result:
     outcomes = expand_all([member.data for member in objects], trusted)
     refused = [f"{name}({member.name}): {outcome}" for member, outcome in zip(objects, outcomes) if isinstance(outcome, str)]
     if refused:
-        raise Refusals(*refused)
+        more = [f"{name}: the like of {len(refused) - MOST_TOLD} members more"] if len(refused) > MOST_TOLD else []
+        raise Refusals(*refused[:MOST_TOLD], *more)
     for member, outcome in zip(objects, outcomes):
         member.data = outcome.data
     return result_of(name, archives.to_bytes(members), {f"{name}({member.name})": outcome for member, outcome in zip(objects, outcomes)})

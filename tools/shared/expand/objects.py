@@ -8,7 +8,7 @@ from shared.expand.relocations import Relocation
 
 RELOCATABLE, EXECUTABLE = 1, 2  # types of files
 RISCV = 243
-COMPRESSED_CODE, FLOAT_ABI = 1, 6  # flags of the file: 1 says that there are compressed instructions
+COMPRESSED_CODE, FLOAT_ABI, OTHER_ABI = 1, 6, 14  # flags of the file; another ABI than ilp32 has float registers, or RV32E's
 PROGBITS, SYMTAB, RELA, NOBITS, REL, SYMTAB_SHNDX = 1, 2, 4, 8, 9, 18  # types of sections
 ALLOC, EXECINSTR, COMPRESSED_BYTES = 2, 4, 0x800  # flags of sections
 NOTYPE, OBJECT, FUNCTION, SECTION, THREAD_LOCAL = 0, 1, 2, 3, 6  # types of symbols
@@ -118,7 +118,7 @@ HEADER_AT, HEADER_END = 16, 52
 
 def header_of(data: bytes) -> Header:
     if len(data) < HEADER_END or data[:6] != b"\x7fELF\x01\x01":
-        raise Refused("not a little-endian ELF32 file")
+        raise Refused("for 64 bits: build it for RV32" if data[:5] == b"\x7fELF\x02" else "not a little-endian ELF32 file")
     header = Header._make(HEADER.unpack_from(data, HEADER_AT))
     if header.machine != RISCV:
         raise Refused("not for RISC-V")
