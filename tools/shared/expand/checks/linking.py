@@ -8,6 +8,9 @@ from shared.expand.checks.programs import COMPRESSED, EXPAND, GUESTS, SOURCES, P
 LOADED = "-Wl,--emit-relocs"
 # A program that ends with the low byte of a constant, which would decode as two instructions.
 SMALL = ".globl _start\n_start: lui a1,%hi(number)\n lw a0,%lo(number)(a1)\n li a7,93\n ecall\n c.nop\n .section .rodata\n .balign 4\nnumber: .word 0x00450505\n"
+# A program that calls a function behind its first two and its first three instructions, by offsets of its label, and ends with 4 + 8 + 8.
+OFFSETS = (".globl _start\n_start: li a0,0\n lui a1,%hi(f+4)\n addi a1,a1,%lo(f+4)\n jalr a1\n la a1,table\n lw a1,4(a1)\n jalr a1\n li a7,93\n ecall\n"
+           "f: c.addi a0,1\n c.addi a0,2\n c.addi a0,4\n c.addi a0,8\n ret\n .section .rodata\n .balign 4\ntable: .word f,f+6\n")
 TEXT = "SECTIONS { . = 0x10000; .text : { *(.text) } .rodata : { *(.rodata) } %s }\n"
 # For each the linker script behind TEXT, words of the linker, and what is said.
 REFUSED = {
@@ -26,6 +29,9 @@ def check_command(tried: Programs) -> str:
     flags = [*COMPRESSED, "-w", "--specs=picolibc.specs", "-nostartfiles", "-T", tried.script, "-I", GUESTS]
     run(EXPAND, "--link", "--", PREFIX + "gcc", *flags, *sources, "-o", folder / "driver.elf")
     same(outcome("qemu-riscv32", folder / "driver.elf"), outcome("qemu-riscv32", tried.folder / "printf.c.new.elf"))
+    (folder / "offsets.S").write_text(OFFSETS)
+    run(EXPAND, "--link", "--", PREFIX + "gcc", *COMPRESSED, "-nostdlib", folder / "offsets.S", "-o", folder / "offsets.elf")
+    same(outcome("qemu-riscv32", folder / "offsets.elf")[0], 20)
     (folder / "small.S").write_text(SMALL)
     tool("as", "-march=rv32imac", folder / "small.S", "-o", folder / "small.o")
     tool("ar", "rc", folder / "libsmall.a", folder / "small.o")
@@ -37,7 +43,7 @@ def check_command(tried: Programs) -> str:
     fails([EXPAND, "--link", "--", PREFIX + "gcc", *COMPRESSED, "-c", folder / "small.S", "-o", folder / "small.o"], "called no linker")
     if (folder / "left.elf").exists():
         raise Failed("a file with compressed code is left")
-    return "4 links"
+    return "5 links"
 
 
 def check_linked(tried: Programs, name: str) -> str:
