@@ -92,7 +92,8 @@ class Linked:
         for section in self.unit.sections:
             base = section.address if section.is_loaded else 0
             section.bytes = self.without_sums(section, base) if section.relocations else section.bytes
-            section.relocations = [self.unlinked(section, each._replace(offset=each.offset - base)) for each in section.relocations]
+            # Without those of relaxation, the code stays where it is aligned: it is one section now, which the linker can't align in parts.
+            section.relocations = [self.unlinked(section, each._replace(offset=each.offset - base)) for each in section.relocations if each.kind not in rel.HINTS]
         self.move_symbols()
         for section in self.unit.sections:
             section.address = 0

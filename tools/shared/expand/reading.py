@@ -87,6 +87,7 @@ class Reader:
     def __init__(self, section: Section, symbols: list[Symbol], kinds: Kinds, linked: bool):
         self.section, self.body, self.kinds, self.linked = section, section.bytes, kinds, linked
         self.spans, self.marked = spans_of(section, symbols)
+        self.begins = {span.begin for span in self.spans}
         if linked:  # with constants behind the code, for which there are no mapping symbols
             self.spans, self.marked = without_objects(self.spans, section, symbols), False
         self.relocations: dict[int, list[rel.Relocation]] = {}
@@ -133,15 +134,23 @@ class Reader:
 
     def compressed(self, at: int, half: int) -> Item:
         if half == 0:
-            left = len(self.body) - at
-            if left < (FILLED if self.linked else self.section.align) and not any(self.body[at:]):
-                return Item(at, left, DATA if self.linked else INSTRUCTION, rv.UNIMP)  # what fills the section up
+            if filled := self.filled(at):
+                at_end = at + filled == len(self.body)  # where constants of a linked file may stand, too
+                return Item(at, filled, DATA if self.linked and at_end else INSTRUCTION, rv.UNIMP)
             if self.marked:
                 return Item(at, 2, INSTRUCTION, rv.UNIMP)  # c.unimp
         word = rv.expand(half, self.kinds.single, self.kinds.double)
         if word is None:
             self.section.refuse(at, f"{half:04x} is no compressed instruction of RV32C{self.unmarked()}")
         return Item(at, 2, INSTRUCTION, word & 0xFFFFFFFF)
+
+    def filled(self, at: int) -> int:
+        """How many zeros fill up the section from here on; in a linked one also up to where the code of another object begins."""
+        zeros = len(self.body) - at - len(self.body[at:].lstrip(b"\0"))
+        end = at + zeros
+        if end == len(self.body):
+            return zeros if zeros < (FILLED if self.linked else self.section.align) else 0
+        return zeros if self.linked and end in self.begins and zeros < min(end & -end, self.section.align) else 0
 
     def uncompressed(self, at: int, half: int, end: int) -> Item:
         if half & 0x1C == 0x1C or at + 4 > end:

@@ -62,7 +62,7 @@ def work(folder: pathlib.Path, tried: programs.Programs) -> list[tuple[str, Call
 
 def by_programs(tried: programs.Programs) -> list[tuple[str, Callable[[], str]]]:
     """What is checked with the files of the programs."""
-    linked = [(f"{name}, linked before", partial(linking.check_linked, tried, name)) for name in ("switch.c", "unwind.c", "floats.c")]
+    linked = [(f"{name}, linked before", partial(linking.check_linked, tried, name)) for name in ("switch.c", "unwind.c", "fixed.c")]
     return [("the command of a link", partial(linking.check_command, tried)), *linked]
 
 
