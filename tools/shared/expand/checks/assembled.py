@@ -58,12 +58,17 @@ def content(section: Section) -> list[int] | bytes:
                 data[at] &= kept
         return bytes(data)
     linked = {each.offset for each in section.relocations}
-    return [normal(word, offset in linked) for offset, (word,) in zip(range(0, section.size, 4), struct.iter_unpack("<I", section.bytes))]
+    words = [normal(word, offset in linked) for offset, (word,) in zip(range(0, section.size, 4), struct.iter_unpack("<I", section.bytes))]
+    while words and words[-1] == 0:  # what fills the section up
+        words.pop()
+    return words
 
 
 def normal(word: int, linked: bool) -> int:
-    """A word, without what the assembler has a choice in: mv is an addi or an add, the sources of a sum may change places, and where a
-    relocation fills in a branch's offset it may stand there before."""
+    """A word, without what the assembler has a choice in: mv is an addi or an add, the sources of a sum may change places, an illegal
+    instruction may be 0, and where a relocation fills in a branch's offset it may stand there before."""
+    if word == rv.UNIMP:
+        return 0
     first, second = word >> 15 & 31, word >> 20 & 31
     if word & 0xFE00007F == rv.REGISTER and word >> 12 & 7 in COMMUTATIVE:
         if word >> 12 & 7 == 0 and first == 0:

@@ -14,7 +14,7 @@ CACHES = [], ["--cache", "1024", "--block", "16"]
 INPUT = b"one two three four\nfive"
 # The flags of each program: of the compiler, and of the linker.
 PROGRAMS = {
-    "printf.c": (["-Os", "-g"], []), "sort.c": (["-O2", "-msave-restore"], []), "heap.c": (["-O3", "-funroll-loops"], []), "jumps.c": (["-O0"], []),
+    "printf.c": (["-Os", "-g"], []), "sort.c": (["-O2", "-msave-restore"], []), "heap.c": (["-O3", "-funroll-loops"], []), "jumps.c": (["-O0", "-falign-functions=16"], []),
     "floats.c": (["-O2", "-mcmodel=medany"], []), "switch.c": (["-O2", "-fPIC"], ["-Wl,--no-relax"]),
     "constructors.c": (["-Os", "-ffunction-sections", "-fdata-sections"], ["-Wl,--gc-sections"]),
     "shapes.cc": (["-O2", "-fno-exceptions", "-fno-rtti", "-fno-threadsafe-statics"], []), "fixed.c": (["-O2", "-mno-relax"], []),
