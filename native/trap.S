@@ -1,8 +1,9 @@
 # The trap vector.
 #
-# All of x1 to x31 are the program's. While it runs, mscratch holds the address of `frame`, in which its registers stand
-# while the runtime runs; mscratch then holds the program's sp. The runtime's stack grows down from the frame, so that
-# one register finds both. The C code is built so that it needs neither gp nor tp.
+# All of x1 to x31 are the program's. mscratch holds the address of `frame`, in which the program's registers stand while
+# the runtime runs, and the runtime's stack grows down from the frame, so that one register finds both. Only until the
+# vector has saved three registers, or all, mscratch holds the program's sp. A trap of the runtime itself so finds the
+# frame and ends with its own pc and cause. The C code is built so that it needs neither gp nor tp.
 #
 # A jump over a register to a placed block, as a return mostly is, is served here without C where its rd is x0 or ra
 # (with SERVE_IN_VECTOR). A jump over a register that is served in C may read and write any register, so all of them are
@@ -46,7 +47,7 @@ frame:
 
     .macro  save_scratch
     each_scratch sw
-    csrr    t0, mscratch
+    csrrw   t0, mscratch, sp
     sw      t0, FRAME_X(2)(sp)
     .endm
 
@@ -65,7 +66,7 @@ trap_vector:
     each_temporary sw
     csrr    t0, mcause
     addi    t0, t0, -CAUSE_BREAKPOINT
-    bnez    t0, serve
+    bnez    t0, no_exit
     csrr    t0, mepc
     lw      t1, 4(t0)               # the descriptor
 #ifdef SERVE_IN_VECTOR
@@ -111,9 +112,10 @@ trap_return_short:
     mret
 
 other_exit:
-    not     t2, t1
-    andi    t2, t2, 3
-    bnez    t2, serve               # no jump over a register
+    andi    t2, t1, 1
+    beqz    t2, serve               # an exit to an address
+    andi    t2, t1, 2
+    beqz    t2, serve_jump          # a word that the front executes: it may name any register
     srli    t2, t1, 7
     andi    t2, t2, 30
     bnez    t2, serve_jump          # rd is neither x0 nor ra
@@ -148,16 +150,14 @@ add_immediate:
     andi    t1, t1, -2
     j       find
 #else
-    not     t1, t1
-    andi    t1, t1, 3
-    beqz    t1, serve_jump
+    andi    t1, t1, 1
+    bnez    t1, serve_jump          # over a register, or a word that the front executes
 #endif
 
 serve:
     save_scratch
     call_service
 return:
-    csrw    mscratch, sp
     each_scratch lw
     each_temporary lw
     lw      sp, FRAME_X(2)(sp)
@@ -172,7 +172,34 @@ serve_jump:
     each_saved lw
     j       return
 
-# The way into a program that starts: mepc and every register of the frame are set.
+no_exit:
+    csrr    t0, mcause
+    bgez    t0, serve
+    lw      t1, FRAME_DIRECT(sp)
+    beqz    t1, serve
+
+# An interrupt with a direct handler: code that ends with MRET and leaves all registers as they were, as GCC's attribute
+# `interrupt` makes it. It runs where it stands, on the program's stack, and its MRET leads behind the jump here: the
+# program goes on in the cache, which is as it was.
+    csrr    t0, mepc
+    sw      t0, FRAME_RESUME(sp)
+    la      t0, 1f
+    csrw    mepc, t0
+    li      t0, 1 << 7              # mstatus.MPIE: behind the handler's MRET interrupts stay off
+    csrc    mstatus, t0
+    csrrw   sp, mscratch, sp
+    jr      t1
+    .balign 4
+1:  csrrw   sp, mscratch, sp
+    lw      t0, FRAME_RESUME(sp)
+    csrw    mepc, t0
+    li      t0, 3 << 11             # mstatus.MPP: machine mode; MRET has set MPIE
+    csrs    mstatus, t0
+    each_temporary lw
+    csrrw   sp, mscratch, sp
+    mret
+
+# The way into a program that starts: mepc, mscratch and every register of the frame are set.
     .globl  trap_resume
 trap_resume:
     la      sp, frame
