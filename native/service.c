@@ -30,6 +30,7 @@ union word {
 };
 
 static struct {
+    struct counts counts; /* the first, where native/run reads them */
     struct image image;
     union word *cache;
     struct slot *slots;
@@ -37,7 +38,6 @@ static struct {
     uint32_t next_slot; /* which the next miss takes */
     bool is_full;       /* whether every slot has a block */
     uint32_t links_most;
-    struct counts counts;
 } service;
 
 _Static_assert(offsetof(struct frame, text_base) == FRAME_TEXT_BASE, "FRAME_TEXT_BASE");
