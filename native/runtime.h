@@ -62,10 +62,21 @@ const char *image_error_name(uint32_t number);
  */
 struct image_error image_read(struct image *image, const uint32_t *at, uint32_t count);
 
+/* Whether the image has the format's second version. Built with VERSION_2 no other is read. */
+static inline bool has_ends(const struct image *image)
+{
+#ifdef VERSION_2
+    (void)image;
+    return true;
+#else
+    return image->ends;
+#endif
+}
+
 /* The index in `words` at which a block begins. */
 static inline uint32_t block_begin(const struct image *image, uint32_t block)
 {
-    if (!image->ends)
+    if (!has_ends(image))
         return block * image->block_words;
     return block ? image->ends[block - 1] : 0;
 }
@@ -73,7 +84,7 @@ static inline uint32_t block_begin(const struct image *image, uint32_t block)
 /* How many words a block has. */
 static inline uint32_t block_length(const struct image *image, uint32_t block)
 {
-    return image->ends ? image->ends[block] - block_begin(image, block) : image->block_words;
+    return has_ends(image) ? image->ends[block] - block_begin(image, block) : image->block_words;
 }
 
 /* The program's registers while the runtime has control, and what the vector reads of the service. */
@@ -174,8 +185,8 @@ uint32_t board_word(struct frame *registers, uint32_t pc, uint32_t address);
  * on. */
 uint32_t board_fault(enum fault fault, uint32_t pc, uint32_t address);
 
-/* The front's: called within a long service, each time that POLL_LINKS links were undone or taken out of their list.
- * Leaves the cache as it is. */
+/* The front's: called within a service each time that POLL_LINKS links into an evicted block were undone. Leaves the
+ * cache as it is. */
 void board_poll(void);
 #define POLL_LINKS 8u
 

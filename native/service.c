@@ -189,14 +189,9 @@ static void take_out(uint32_t exit)
 static void take_out_links_from(uint32_t first, uint32_t length)
 {
     const union word *end = service.cache + first + length;
-    uint32_t count = 0;
-    for (const union word *word = service.cache + first; word < end; word++) {
-        if (!is_link(*word))
-            continue;
-        take_out((uint32_t)(word++ - service.cache));
-        if (++count % POLL_LINKS == 0)
-            board_poll();
-    }
+    for (const union word *word = service.cache + first; word < end; word++)
+        if (is_link(*word))
+            take_out((uint32_t)(word++ - service.cache));
 }
 
 static void undo_links_into(uint32_t slot)
@@ -254,17 +249,16 @@ COUNTED static uint32_t miss(uint32_t block)
     return first;
 }
 
-/* Whether an address is one of a text word, and where that stands in the cache; its block is copied where it has to be.
- */
-static inline bool find(uint32_t target, uint32_t *index)
+/* Of a text word's address the index where it stands in the cache, plus 1, its block copied where it has to be; 0 of
+ * another address. */
+COUNTED static uint32_t find(uint32_t target)
 {
     uint32_t distance = target - frame.text_base;
     if (distance >= frame.text_bytes || distance % 4 != 0)
-        return false;
+        return 0;
     struct place place = place_of(distance / 4);
     uint32_t first = first_of(place.block);
-    *index = place.offset + (first ? first - 1 : miss(place.block));
-    return true;
+    return place.offset + (first ? first : miss(place.block) + 1);
 }
 
 /* What was written to the cache is fetched from now on. */
@@ -285,24 +279,24 @@ static uint32_t index_of(uint32_t address)
 
 uint32_t service_enter(uint32_t target)
 {
-    uint32_t index;
-    if (!find(target, &index))
+    uint32_t found = find(target);
+    if (!found)
         return 0;
     synchronize();
-    return address_of(index);
+    return address_of(found - 1);
 }
 
 /* The same for the exit at an index, which is linked; but where its own block left for the target's, nothing is. */
 static uint32_t leave_by(uint32_t exit, uint32_t target)
 {
-    uint32_t before = service.counts.misses, index;
-    if (!find(target, &index))
+    uint32_t before = service.counts.misses, found = find(target);
+    if (!found)
         return 0;
-    bool is_gone = service.counts.misses != before && slot_at(index) == slot_at(exit);
+    bool is_gone = service.counts.misses != before && slot_at(found - 1) == slot_at(exit);
     if (!is_gone)
-        link(exit, index);
+        link(exit, found - 1);
     synchronize();
-    return address_of(index);
+    return address_of(found - 1);
 }
 
 uint32_t service_origin(uint32_t pc)

@@ -9,7 +9,7 @@
 #include <stddef.h>
 #include "firmware.h"
 
-enum { MSTATUS = 0x300, MTVEC = 0x305, MSCRATCH = 0x340, MEPC = 0x341, MCAUSE = 0x342, MTVAL = 0x343 };
+enum { MSTATUS = 0x300, MTVEC = 0x305, MSCRATCH = 0x340 };
 enum { STATUS_MIE = 1 << 3, STATUS_MPIE = 1 << 7, STATUS_MPP = 3 << 11, STATUS_MPRV = 1 << 17 };
 enum { CAUSE_FETCH_MISALIGNED = 0, CAUSE_FETCH_ACCESS = 1, CAUSE_ILLEGAL = 2 };
 enum { WORD_MRET = 0x30200073, WORD_WFI = 0x10500073, WORD_EBREAK = 0x00100073, WORD_NOP = 0x00000013 };
@@ -17,12 +17,19 @@ enum { OPCODE_SYSTEM = 0x73, OPCODE_FENCE = 0x0f, FUNCT3_FENCE_I = 1 };
 enum { SOFTWARE_INTERRUPT = 3, TIMER_INTERRUPT = 7, EXTERNAL_INTERRUPT = 11 };
 #define CAUSE_IS_INTERRUPT 0x80000000u
 
+/* Not inlined, for the room that it would take in fast memory. */
+#define SHARED __attribute__((noinline))
+
+/* mscratch to mtval, whose numbers follow each other. */
+enum { SCRATCH, EPC, CAUSE, TVAL, KEPT };
+
 static struct {
-    uint32_t tvec, scratch, epc, cause, tval, mpie;
+    uint32_t tvec, mpie;
+    uint32_t kept[KEPT];
     uint32_t native_from, native_bytes;
 } machine;
 
-void machine_start(const struct firmware *firmware)
+SLOW void machine_start(const struct firmware *firmware)
 {
     machine.native_from = firmware->native_from;
     machine.native_bytes = firmware->native_to - firmware->native_from;
@@ -47,14 +54,14 @@ static void set_enabled(bool is_enabled)
 /* Traps that are the firmware's */
 
 /* Leads to the firmware's handler, as the processor does out of flash. */
-static uint32_t deliver(uint32_t at, uint32_t cause, uint32_t value)
+SHARED static uint32_t deliver(uint32_t at, uint32_t cause, uint32_t value)
 {
     uint32_t handler = machine.tvec & ~3u;
     if (machine.tvec & 1 && cause & CAUSE_IS_INTERRUPT)
         handler += 4 * (cause & 63);
-    machine.epc = at;
-    machine.cause = cause;
-    machine.tval = value;
+    machine.kept[EPC] = at;
+    machine.kept[CAUSE] = cause;
+    machine.kept[TVAL] = value;
     machine.mpie = READ("mstatus") & STATUS_MPIE;
     set_enabled(false);
     uint32_t to = service_enter(handler);
@@ -64,7 +71,7 @@ static uint32_t deliver(uint32_t at, uint32_t cause, uint32_t value)
 }
 
 /* Goes on at an address, a multiple of 4; a fetch from another than a text word is the firmware's fault. */
-static uint32_t go_to(uint32_t address)
+SHARED static uint32_t go_to(uint32_t address)
 {
     uint32_t to = service_enter(address);
     return to ? to : deliver(address, CAUSE_FETCH_ACCESS, address);
@@ -105,7 +112,7 @@ static uint32_t return_from_trap(void)
 {
     set_enabled(machine.mpie);
     machine.mpie = STATUS_MPIE;
-    return go_to(machine.epc);
+    return go_to(machine.kept[EPC]);
 }
 
 /* CSRs */
@@ -132,41 +139,67 @@ static void write_tvec(uint32_t value)
     frame.direct = value % 4 == 0 && value - machine.native_from < machine.native_bytes ? value : 0;
 }
 
-static uint32_t *kept_register(uint32_t number)
+static bool is_kept(uint32_t number)
 {
-    switch (number) {
-    case MTVEC:
-        return &machine.tvec;
-    case MSCRATCH:
-        return &machine.scratch;
-    case MEPC:
-        return &machine.epc;
-    case MCAUSE:
-        return &machine.cause;
-    case MTVAL:
-        return &machine.tval;
-    default:
-        return NULL;
-    }
+    return number == MSTATUS || number == MTVEC || number - MSCRATCH < KEPT;
+}
+
+static uint32_t read_kept(uint32_t number)
+{
+    if (number == MSTATUS)
+        return read_status();
+    return number == MTVEC ? machine.tvec : machine.kept[number - MSCRATCH];
+}
+
+SHARED static void write_kept(uint32_t number, uint32_t value)
+{
+    if (number == MSTATUS)
+        write_status(value);
+    else if (number == MTVEC)
+        write_tvec(value);
+    else
+        machine.kept[number - MSCRATCH] = number - MSCRATCH == EPC ? value & ~3u : value;
 }
 
 /* The fields of a CSR instruction (Volume I, chapter Zicsr). */
-struct csr_instruction {
-    uint32_t number, operation, source;
-    bool is_immediate, writes;
-};
 enum { OPERATION_WRITE = 1, OPERATION_SET = 2, OPERATION_CLEAR = 3 };
 
-static struct csr_instruction decode(uint32_t word)
+static uint32_t number_of(uint32_t word)
 {
-    uint32_t operation = word >> 12 & 3, source = word >> 15 & 31;
-    return (struct csr_instruction){
-        .number = word >> 20,
-        .operation = operation,
-        .source = source,
-        .is_immediate = word >> 14 & 1,
-        .writes = operation == OPERATION_WRITE || source,
-    };
+    return word >> 20;
+}
+
+static uint32_t operation_of(uint32_t word)
+{
+    return word >> 12 & 3;
+}
+
+/* rs1, or the immediate in its place. */
+static uint32_t source_of(uint32_t word)
+{
+    return word >> 15 & 31;
+}
+
+static bool is_immediate(uint32_t word)
+{
+    return word >> 14 & 1;
+}
+
+static bool does_write(uint32_t word)
+{
+    return operation_of(word) == OPERATION_WRITE || source_of(word);
+}
+
+static uint32_t rd_of(uint32_t word)
+{
+    return word >> 7 & 31;
+}
+
+static uint32_t operand_of(const struct frame *registers, uint32_t word)
+{
+    if (is_immediate(word) || !source_of(word))
+        return source_of(word);
+    return registers->x[source_of(word)];
 }
 
 static uint32_t changed(uint32_t old, uint32_t operation, uint32_t operand)
@@ -176,49 +209,37 @@ static uint32_t changed(uint32_t old, uint32_t operation, uint32_t operand)
     return operation == OPERATION_SET ? old | operand : old & ~operand;
 }
 
-static void write_kept(uint32_t number, uint32_t value)
+/* The same instruction with a0 as its rd and rs1; one that doesn't write has rs1 = x0. */
+static uint32_t by_a0(uint32_t word)
 {
-    if (number == MSTATUS)
-        write_status(value);
-    else if (number == MTVEC)
-        write_tvec(value);
-    else
-        *kept_register(number) = number == MEPC ? value & ~3u : value;
+    uint32_t rs1 = does_write(word) ? 10 : 0;
+    return number_of(word) << 20 | rs1 << 15 | operation_of(word) << 12 | 10 << 7 | OPCODE_SYSTEM;
 }
 
-static bool is_kept(uint32_t number)
+/* Executes a CSR instruction: what the register held, and whether there is one. */
+SHARED static struct tried change_csr(uint32_t word, uint32_t operand)
 {
-    return number == MSTATUS || kept_register(number);
+    uint32_t number = number_of(word);
+    if (!is_kept(number))
+        return machine_try(by_a0(word), operand);
+    uint32_t old = read_kept(number);
+    if (does_write(word))
+        write_kept(number, changed(old, operation_of(word), operand));
+    return (struct tried){old, true};
 }
 
-/* Executes a CSR instruction; whether there is such a register, and in *old what it held. */
-static bool change_csr(const struct frame *registers, struct csr_instruction it, uint32_t *old)
+/* Whether the processor's own answer is the firmware's: of a register that isn't kept here, or where MIE alone is
+ * written and nothing read. */
+static bool is_as_it_is(uint32_t word)
 {
-    uint32_t operand = it.is_immediate ? it.source : it.source ? registers->x[it.source] : 0;
-    if (is_kept(it.number)) {
-        *old = it.number == MSTATUS ? read_status() : *kept_register(it.number);
-        if (it.writes)
-            write_kept(it.number, changed(*old, it.operation, operand));
-        return true;
-    }
-    /* The same of the processor: rd and rs1 are a0; an instruction that doesn't write has rs1 = x0. */
-    uint32_t rs1 = it.writes ? 10 : 0;
-    struct tried tried = machine_try(it.number << 20 | rs1 << 15 | it.operation << 12 | 10 << 7 | OPCODE_SYSTEM, operand);
-    *old = tried.value;
-    return tried.is_good;
-}
-
-/* Whether the processor's own answer is the firmware's: a register that isn't kept here, or MIE alone without a result. */
-static bool is_as_it_is(uint32_t word, struct csr_instruction it)
-{
-    bool is_enable = it.number == MSTATUS && it.is_immediate && it.operation != OPERATION_WRITE &&
-                     it.source == STATUS_MIE && !(word >> 7 & 31);
-    return is_enable || !is_kept(it.number);
+    bool is_enable = number_of(word) == MSTATUS && is_immediate(word) && operation_of(word) != OPERATION_WRITE &&
+                     source_of(word) == STATUS_MIE && !rd_of(word);
+    return is_enable || !is_kept(number_of(word));
 }
 
 static bool is_csr_instruction(uint32_t word)
 {
-    return (word & 127) == OPCODE_SYSTEM && (word >> 12 & 3);
+    return (word & 127) == OPCODE_SYSTEM && operation_of(word);
 }
 
 static uint32_t deliver_word(uint32_t address, uint32_t word)
@@ -229,13 +250,11 @@ static uint32_t deliver_word(uint32_t address, uint32_t word)
 
 static uint32_t execute_csr(struct frame *registers, uint32_t pc, uint32_t address, uint32_t word)
 {
-    struct csr_instruction it = decode(word);
-    uint32_t old;
-    if (!change_csr(registers, it, &old))
+    struct tried tried = change_csr(word, operand_of(registers, word));
+    if (!tried.is_good)
         return deliver_word(address, word);
-    if (word >> 7 & 31)
-        registers->x[word >> 7 & 31] = old;
-    if (is_as_it_is(word, it))
+    registers->x[rd_of(word)] = tried.value; /* x[0] is not used */
+    if (is_as_it_is(word))
         service_replace(pc, address, word);
     return go_to(address + 4);
 }
