@@ -15,7 +15,14 @@
 #define FRAME_SERVICES 148
 #define FRAME_DIRECT 152
 #define FRAME_RESUME 156
-#define FRAME_BYTES 160
+#define FRAME_TARGET 160
+#define FRAME_MEMO_FILLED 164
+#define FRAME_MEMO_TARGETS 168
+#define FRAME_MEMO_PLACES (FRAME_MEMO_TARGETS + 4 * MEMO_ENTRIES)
+#define FRAME_BYTES ((FRAME_MEMO_PLACES + 4 * MEMO_ENTRIES + 15) / 16 * 16)
+
+/* The memo of targets of jumps over registers: an entry's number is a target's bits from 2 on. A power of 2. */
+#define MEMO_ENTRIES 16
 
 /* A text word's place in one word: its block from this bit on, its offset in the block below. */
 #define PLACE_BLOCK_SHIFT 13
@@ -98,6 +105,10 @@ struct frame {
     uint32_t services;        /* entries of the service, the start not among them */
     uint32_t direct;          /* the handler to which interrupts lead where it stands; 0: they go to board_trap */
     uint32_t resume;          /* while it runs: where the program goes on */
+    uint32_t target;          /* the vector's own */
+    uint32_t memo_filled;     /* not 0 where an entry was filled since the memo was emptied */
+    uint32_t memo_targets[MEMO_ENTRIES]; /* text addresses, and */
+    uint32_t memo_places[MEMO_ENTRIES];  /* where they stand in the cache */
 };
 
 /* The one frame. It stands in trap.S, at the upper end of the runtime's stack. */
@@ -154,10 +165,10 @@ uint32_t service_origin(uint32_t pc);
 uint32_t service_resume(uint32_t pc);
 
 /*
- * Puts a word that the processor executes by itself in place of the exit at `pc`, which stands for the text word at
- * `address`, until the block leaves. Where that word is the last of its block the exit stays.
+ * Puts a word that the processor executes by itself in place of the exit at `pc`, which stands for a word of the text
+ * that isn't one of the 59, until the block leaves. At the block's end the exit stays, since nothing stands behind it.
  */
-void service_replace(uint32_t pc, uint32_t address, uint32_t word);
+void service_replace(uint32_t pc, uint32_t word);
 
 /* Whether an address is one of the cache. */
 bool service_holds(uint32_t address);

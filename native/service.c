@@ -48,6 +48,10 @@ _Static_assert(offsetof(struct frame, before_cache) == FRAME_BEFORE_CACHE, "FRAM
 _Static_assert(offsetof(struct frame, services) == FRAME_SERVICES, "FRAME_SERVICES");
 _Static_assert(offsetof(struct frame, direct) == FRAME_DIRECT, "FRAME_DIRECT");
 _Static_assert(offsetof(struct frame, resume) == FRAME_RESUME, "FRAME_RESUME");
+_Static_assert(offsetof(struct frame, target) == FRAME_TARGET, "FRAME_TARGET");
+_Static_assert(offsetof(struct frame, memo_filled) == FRAME_MEMO_FILLED, "FRAME_MEMO_FILLED");
+_Static_assert(offsetof(struct frame, memo_targets) == FRAME_MEMO_TARGETS, "FRAME_MEMO_TARGETS");
+_Static_assert(offsetof(struct frame, memo_places) == FRAME_MEMO_PLACES, "FRAME_MEMO_PLACES");
 _Static_assert(sizeof(struct frame) <= FRAME_BYTES, "FRAME_BYTES");
 
 /* Places and slots */
@@ -206,12 +210,27 @@ static void undo_links_into(uint32_t slot)
     }
 }
 
+/* Empties the memo of the vector. An empty entry holds a target of another one's number. */
+static void forget_targets(void)
+{
+    for (uint32_t k = 0; k < MEMO_ENTRIES; k += 4) {
+        frame.memo_targets[k] = 4;
+        frame.memo_targets[k + 1] = 0;
+        frame.memo_targets[k + 2] = 0;
+        frame.memo_targets[k + 3] = 0;
+    }
+    frame.memo_targets[1] = 0;
+    frame.memo_filled = 0;
+}
+
 COUNTED static void evict(uint32_t slot)
 {
     uint32_t block = service.slots[slot].block;
     take_out_links_from(first_of_slot(slot), block_length(&service.image, block));
     undo_links_into(slot);
     set_first_of(block, 0);
+    if (frame.memo_filled)
+        forget_targets();
     service.counts.evictions++;
 }
 
@@ -333,10 +352,10 @@ uint32_t service_resume(uint32_t pc)
     return word[0] == EBREAK && word[1] % 4 == 0 ? word[1] : service_origin(pc);
 }
 
-void service_replace(uint32_t pc, uint32_t address, uint32_t word)
+void service_replace(uint32_t pc, uint32_t word)
 {
-    uint32_t exit = index_of(pc), next = (address - frame.text_base) / 4 + 1;
-    if (next >= frame.text_bytes / 4 || place_of(next).block != service.slots[slot_at(exit)].block)
+    uint32_t exit = index_of(pc), slot = slot_at(exit);
+    if (exit + 2 - first_of_slot(slot) >= block_length(&service.image, service.slots[slot].block))
         return;
     service.cache[exit].bits = word;
     service.cache[exit + 1].bits = NOP;
@@ -388,6 +407,19 @@ static uint32_t serve_direct(uint32_t pc, uint32_t target)
     return served(leave_by(index_of(pc), target), target);
 }
 
+/* Puts a target into the memo of the vector, which does so itself where it finds one. */
+static void remember(uint32_t target, uint32_t place)
+{
+#ifdef SERVE_IN_VECTOR
+    (void)target, (void)place;
+#else
+    uint32_t entry = target / 4 % MEMO_ENTRIES;
+    frame.memo_targets[entry] = target;
+    frame.memo_places[entry] = place;
+    frame.memo_filled = 1;
+#endif
+}
+
 /* An exit whose descriptor is the JALR itself; the value that it links stands behind it. */
 static uint32_t serve_register(struct frame *registers, uint32_t pc, uint32_t jalr)
 {
@@ -397,7 +429,10 @@ static uint32_t serve_register(struct frame *registers, uint32_t pc, uint32_t ja
         return board_fault(FAULT_FETCH_MISALIGNED, service_origin(pc), target);
     if (rd_of(jalr))
         registers->x[rd_of(jalr)] = linked;
-    return served(service_enter(target), target);
+    uint32_t to = service_enter(target);
+    if (to)
+        remember(target, to);
+    return served(to, target);
 }
 
 uint32_t service_trap(struct frame *registers, uint32_t pc, uint32_t cause)
@@ -446,6 +481,7 @@ SLOW void service_start(const struct image *image, const struct service_memory *
     service.slot_count = slots;
     service.links_most = links_most;
     clear_tables(memory);
+    forget_targets();
     frame.text_base = image->base;
     frame.text_bytes = 4 * image->text_words;
     frame.places = memory->places;

@@ -59,23 +59,52 @@ frame:
     csrw    mepc, a0
     .endm
 
+# The entry of the memo for the target in \target, in t0: its address less that of the targets.
+    .macro  entry_for target
+    andi    t0, \target, 4 * MEMO_ENTRIES - 4
+    add     t0, t0, sp
+    .endm
+
+    .macro  count_service
+    lw      t0, FRAME_SERVICES(sp)
+    addi    t0, t0, 1
+    sw      t0, FRAME_SERVICES(sp)
+    .endm
+
     .globl  trap_vector
     .balign 4
 trap_vector:
     csrrw   sp, mscratch, sp
-    each_temporary sw
+    sw      t0, FRAME_X(5)(sp)
+    sw      t1, FRAME_X(6)(sp)
     csrr    t0, mcause
     addi    t0, t0, -CAUSE_BREAKPOINT
     bnez    t0, no_exit
     csrr    t0, mepc
     lw      t1, 4(t0)               # the descriptor
+    li      t0, 0x00008067          # ret: JALR x0, 0(ra)
+    bne     t1, t0, other_exit
+    entry_for ra
+    lw      t1, FRAME_MEMO_TARGETS(t0)
+    bne     t1, ra, unknown_return
+    lw      t1, FRAME_MEMO_PLACES(t0)
+    csrw    mepc, t1
+    count_service
+    lw      t0, FRAME_X(5)(sp)
+    lw      t1, FRAME_X(6)(sp)
+    csrrw   sp, mscratch, sp
+    .globl  trap_return_short
+trap_return_short:
+    mret
+
+unknown_return:
+    sw      t2, FRAME_X(7)(sp)
 #ifdef SERVE_IN_VECTOR
-    li      t2, 0x00008067          # ret: JALR x0, 0(ra)
-    bne     t1, t2, other_exit
     mv      t1, ra
 
 # t1: the target
 find:
+    sw      t1, FRAME_TARGET(sp)
     lw      t2, FRAME_TEXT_BASE(sp)
     sub     t1, t1, t2
     andi    t2, t1, 3
@@ -96,24 +125,35 @@ find:
     slli    t1, t1, 2
     lw      t2, FRAME_BEFORE_CACHE(sp)
     add     t1, t1, t2
+    lw      t2, FRAME_TARGET(sp)
+    entry_for t2
+    sw      t2, FRAME_MEMO_TARGETS(t0)
+    sw      t1, FRAME_MEMO_PLACES(t0)
+    sw      sp, FRAME_MEMO_FILLED(sp)
+
+# t1: where it stands
+go_on:
     csrr    t0, mepc
     lw      t2, 4(t0)
     andi    t2, t2, 1 << 7          # rd is ra: it is linked
     beqz    t2, 1f
     lw      ra, 8(t0)
 1:  csrw    mepc, t1
-    lw      t0, FRAME_SERVICES(sp)
-    addi    t0, t0, 1
-    sw      t0, FRAME_SERVICES(sp)
+    count_service
     each_temporary lw
     csrrw   sp, mscratch, sp
-    .globl  trap_return_short
-trap_return_short:
+    .globl  trap_return_find
+trap_return_find:
     mret
+#else
+    j       serve_jump
+#endif
 
 other_exit:
+    sw      t2, FRAME_X(7)(sp)
     andi    t2, t1, 1
     beqz    t2, serve               # an exit to an address
+#ifdef SERVE_IN_VECTOR
     andi    t2, t1, 2
     beqz    t2, serve_jump          # a word that the front executes: it may name any register
     srli    t2, t1, 7
@@ -148,10 +188,13 @@ read_register:
 add_immediate:
     add     t1, t1, t0
     andi    t1, t1, -2
-    j       find
+    entry_for t1
+    lw      t2, FRAME_MEMO_TARGETS(t0)
+    bne     t2, t1, find
+    lw      t1, FRAME_MEMO_PLACES(t0)
+    j       go_on
 #else
-    andi    t1, t1, 1
-    bnez    t1, serve_jump          # over a register, or a word that the front executes
+    j       serve_jump              # over a register, or a word that the front executes
 #endif
 
 serve:
@@ -169,10 +212,12 @@ serve_jump:
     save_scratch
     each_saved sw
     call_service
+return_jump:
     each_saved lw
     j       return
 
 no_exit:
+    sw      t2, FRAME_X(7)(sp)
     csrr    t0, mcause
     bgez    t0, serve
     lw      t1, FRAME_DIRECT(sp)
@@ -203,5 +248,4 @@ no_exit:
     .globl  trap_resume
 trap_resume:
     la      sp, frame
-    each_saved lw
-    j       return
+    j       return_jump

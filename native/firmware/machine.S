@@ -22,25 +22,18 @@ machine_try:
     j       2f
     .balign 4
 1:  li      a1, 0
-    csrr    t0, mepc
-    addi    t0, t0, 4
-    csrw    mepc, t0
-    mret                            # interrupts stay off: they were, before this trap
+    csrw    mstatus, t1             # as before this trap
 2:  csrw    mtvec, t2
-    bnez    a1, 3f
-    csrw    mstatus, t1
-3:  mv      ra, t3
+    mv      ra, t3
     addi    sp, sp, 16
     ret
 
-# machine_direct(handler, cause): the handler leaves all registers as they were, and ends with MRET. mepc and mstatus are
-# those of the trap whose service this is.
+# machine_direct(handler, cause): the handler leaves all registers as they were, and ends with MRET. The service sets mepc
+# when it ends, and mcause was read when it began.
     .section .text.machine_direct, "ax", @progbits
     .globl  machine_direct
 machine_direct:
-    csrr    t0, mepc
     csrr    t1, mstatus
-    csrr    t2, mcause
     csrw    mcause, a1
     la      t3, 1f
     csrw    mepc, t3
@@ -54,7 +47,5 @@ machine_direct:
     jr      a0
     .balign 4
 1:  mv      sp, t4
-    csrw    mepc, t0
     csrw    mstatus, t1
-    csrw    mcause, t2
     ret

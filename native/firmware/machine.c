@@ -255,7 +255,7 @@ static uint32_t execute_csr(struct frame *registers, uint32_t pc, uint32_t addre
         return deliver_word(address, word);
     registers->x[rd_of(word)] = tried.value; /* x[0] is not used */
     if (is_as_it_is(word))
-        service_replace(pc, address, word);
+        service_replace(pc, word);
     return go_to(address + 4);
 }
 
@@ -265,12 +265,12 @@ uint32_t board_word(struct frame *registers, uint32_t pc, uint32_t address)
     if (word == WORD_MRET)
         return return_from_trap();
     if (word == WORD_WFI) {
-        service_replace(pc, address, word);
+        service_replace(pc, word);
         __asm__ volatile("wfi");
         return go_to(address + 4);
     }
     if ((word & 0x707f) == (FUNCT3_FENCE_I << 12 | OPCODE_FENCE)) { /* text in flash doesn't change */
-        service_replace(pc, address, WORD_NOP);
+        service_replace(pc, WORD_NOP);
         return go_to(address + 4);
     }
     return is_csr_instruction(word) ? execute_csr(registers, pc, address, word) : deliver_word(address, word);

@@ -15,6 +15,7 @@
   KEEP(*(.swicache.start))
   *(.text.slow)
   *image.o(.text .text.* .rodata .rodata.*)
+  *libc.o(.text .text.*)
   *start_c.o(.text .text.* .rodata .rodata.*)
   *board.o(.text .text.* .rodata .rodata.* .srodata .srodata.*)
   . = ALIGN(4);
