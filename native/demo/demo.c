@@ -20,11 +20,6 @@
 static volatile uint32_t ticks, sum_of_ticks = 7, late_most;
 static volatile uint32_t alarm_at;
 
-static uint32_t mixed(uint32_t sum, uint32_t tick)
-{
-    return sum * 31 + tick;
-}
-
 HANDLER void trap_entry(void);
 void trap_entry(void)
 {
@@ -158,7 +153,7 @@ int main(void)
     }
     (void)disable();
     for (uint32_t k = 1; k <= ticks; k++)
-        sum = mixed(sum, k);
+        sum = sum * 31 + k;
     put_string(sum == sum_of_ticks && ticks >= ROUNDS ? "each tick was served\n" : "ticks are lost\n");
     put_string("late: at most ");
     put_number(late_most);

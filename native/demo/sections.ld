@@ -5,9 +5,9 @@ SECTIONS
 {
   .text :
   {
-    *(.text.reset)
+    KEEP(*(.text.reset))
     __native = .;
-    *(.text.native)
+    KEEP(*(.text.native))
     __native_end = .;
     *(.text .text.*)
     *(.rodata .rodata.* .srodata .srodata.*)
@@ -32,6 +32,6 @@ SECTIONS
     . += __stack_bytes;
     __stack = .;
   } >ram :data
-  .uart 0x10000000 : { *(.stub.uart) } :uart
+  .uart 0x10000000 : { KEEP(*(.stub.uart)) } :uart
   /DISCARD/ : { *(.comment) *(.note .note.*) *(.eh_frame) *(.riscv.attributes) }
 }
