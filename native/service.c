@@ -40,6 +40,7 @@ static struct {
     uint32_t links_most;
 } service;
 
+#if UINTPTR_MAX == UINT32_MAX /* else this is a host, where test/service_test.c tries this file */
 _Static_assert(offsetof(struct frame, text_base) == FRAME_TEXT_BASE, "FRAME_TEXT_BASE");
 _Static_assert(offsetof(struct frame, text_bytes) == FRAME_TEXT_BYTES, "FRAME_TEXT_BYTES");
 _Static_assert(offsetof(struct frame, places) == FRAME_PLACES, "FRAME_PLACES");
@@ -53,6 +54,7 @@ _Static_assert(offsetof(struct frame, memo_filled) == FRAME_MEMO_FILLED, "FRAME_
 _Static_assert(offsetof(struct frame, memo_targets) == FRAME_MEMO_TARGETS, "FRAME_MEMO_TARGETS");
 _Static_assert(offsetof(struct frame, memo_places) == FRAME_MEMO_PLACES, "FRAME_MEMO_PLACES");
 _Static_assert(sizeof(struct frame) <= FRAME_BYTES, "FRAME_BYTES");
+#endif
 
 /* Places and slots */
 
@@ -283,17 +285,19 @@ COUNTED static uint32_t find(uint32_t target)
 /* What was written to the cache is fetched from now on. */
 static void synchronize(void)
 {
+#ifdef __riscv
     __asm__ volatile("fence.i" ::: "memory");
+#endif
 }
 
 static uint32_t address_of(uint32_t index)
 {
-    return (uint32_t)(service.cache + index);
+    return (uint32_t)(uintptr_t)(service.cache + index);
 }
 
 static uint32_t index_of(uint32_t address)
 {
-    return (address - (uint32_t)service.cache) / 4;
+    return (address - address_of(0)) / 4;
 }
 
 uint32_t service_enter(uint32_t target)
@@ -364,7 +368,7 @@ void service_replace(uint32_t pc, uint32_t word)
 
 bool service_holds(uint32_t address)
 {
-    return address - (uint32_t)service.cache < 4 * first_of_slot(service.slot_count);
+    return address - address_of(0) < 4 * first_of_slot(service.slot_count);
 }
 
 SLOW struct counts service_counts(void)
