@@ -17,13 +17,28 @@ enum { KEPT_MEPC = 31, KEPT_STATUS = 32, KEPT_X31 = 33, KEPT_WORDS = 36 }; /* x1
 static uint32_t stacks[TASKS - 1][STACK_WORDS] __attribute__((aligned(16)));
 static uint32_t *kept[TASKS]; /* of each task that waits what it has kept on its stack */
 static volatile uint32_t running, switches, yields, done, shared;
+static volatile uint32_t alarm_at, late_most;
 static volatile uint32_t results[TASKS - 1];
+
+static void next_alarm(void)
+{
+    alarm_at = CLOCK[0] + TICKS;
+    set_alarm(alarm_at);
+}
+
+static void note_lateness(void)
+{
+    uint32_t late = CLOCK[0] - alarm_at;
+    if (late > late_most)
+        late_most = late;
+}
 
 __attribute__((used)) uint32_t *switch_task(uint32_t *sp, uint32_t cause);
 uint32_t *switch_task(uint32_t *sp, uint32_t cause)
 {
     if (cause == CAUSE_TIMER) {
-        set_alarm(CLOCK[0] + TICKS);
+        note_lateness();
+        next_alarm();
     } else if (cause == CAUSE_CALL) {
         sp[KEPT_MEPC] += 4; /* behind the ECALL */
         yields++;
@@ -143,7 +158,7 @@ int main(void)
     make_task(0, task_crc);
     make_task(1, task_fibonacci);
     running = TASKS - 1; /* this is the third */
-    set_alarm(CLOCK[0] + TICKS);
+    next_alarm();
     start_interrupts();
     while (done < TASKS - 1) {
         uint32_t cycles;
@@ -159,8 +174,8 @@ int main(void)
     put_string("\nshared ");
     put_number(shared);
     put_string(switches > yields + 2 && counted ? "\npreempted\n" : "\nnot preempted\n");
-    put_string("late: not told; ");
-    put_number(switches);
-    put_string(" switches\n");
+    put_string("late: at most ");
+    put_number(late_most);
+    put_string(" ticks of the clock\n");
     return 0;
 }
