@@ -65,7 +65,8 @@ static void work(int round)
     for (uint32_t k = 0; k < NUMBERS; k++)
         window[k] = (seed = seed * 1103515245 + 12345) >> 20;
     qsort(window, NUMBERS, sizeof *window, ascending);
-    printf("%2d: median %u, mean of three %.3f\n", round, (unsigned)window[32], (window[31] + window[32] + window[33]) / 3.0);
+    printf("%2d: median %u, mean of three %.3f\n", round, (unsigned)window[32],
+           (window[31] + window[32] + window[33]) / 3.0);
     free(window);
 }
 

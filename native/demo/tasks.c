@@ -1,7 +1,7 @@
 /*
- * Three tasks under a preemptive scheduler, as an RTOS has it. The trap entry keeps a task's registers, mepc and mstatus
- * on the task's stack, and its MRET goes on in another task. A task yields by ECALL, and guards what is shared by
- * mstatus.MIE.
+ * Three tasks under a preemptive scheduler, as an RTOS has it. The trap entry keeps a task's registers, mepc and
+ * mstatus on the task's stack, and its MRET goes on in another task. A task yields by ECALL, and guards what is shared
+ * by mstatus.MIE.
  */
 #include "machine.h"
 #include "text.h"

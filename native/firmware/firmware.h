@@ -10,14 +10,14 @@
 struct firmware {
     uint32_t magic;
     uint32_t entry;
-    uint32_t links_most;                 /* into one slot */
-    uint32_t native_from, native_to;     /* code that interrupts execute in flash, where mtvec leads to it */
-    void (*native_start)(void);          /* for tests: called in flash before the program begins; may be NULL */
-    uint32_t handler;                    /* for tests: the direct handler before the program sets mtvec; 0: none */
-    const uint32_t *text;                /* the firmware's own words in flash, as they were linked */
+    uint32_t links_most;             /* into one slot */
+    uint32_t native_from, native_to; /* code that interrupts execute in flash, where mtvec leads to it */
+    void (*native_start)(void);      /* for tests: called in flash before the program begins; may be NULL */
+    uint32_t handler;                /* for tests: the direct handler before the program sets mtvec; 0: none */
+    const uint32_t *text;            /* the firmware's own words in flash, as they were linked */
     uint32_t text_words;
-    uint32_t sum, sum_of_sums;           /* of image, places and text, one behind the other */
-    uint32_t header_sum;                 /* of the words above */
+    uint32_t sum, sum_of_sums; /* of image, places and text, one behind the other */
+    uint32_t header_sum;       /* of the words above */
 };
 #define FIRMWARE_MAGIC 0x32465753u /* "SWF2" */
 

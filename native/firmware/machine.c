@@ -36,11 +36,11 @@ SLOW void machine_start(const struct firmware *firmware)
     frame.direct = firmware->handler;
 }
 
-#define READ(csr)                                       \
-    __extension__({                                     \
-        uint32_t value_;                                \
-        __asm__ volatile("csrr %0, " csr : "=r"(value_)); \
-        value_;                                         \
+#define READ(csr)                                                                                                      \
+    __extension__({                                                                                                    \
+        uint32_t value_;                                                                                               \
+        __asm__ volatile("csrr %0, " csr : "=r"(value_));                                                              \
+        value_;                                                                                                        \
     })
 
 static void set_enabled(bool is_enabled)

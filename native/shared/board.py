@@ -1,24 +1,17 @@
-"""What native/pack, native/run and native/compare share: boards, ELF files, rewritten files, and how a script ends."""
+"""Boards, ELF files and rewritten files."""
 import dataclasses
 import os
 import pathlib
 import struct
-import sys
 import tomllib
+
+from shared.words import Wrong
 
 HERE = pathlib.Path(__file__).resolve().parent.parent
 BOARDS = HERE / "boards"
 IMAGE_HEADER = 0x6C434953  # the type of the program header that has a rewritten file's image
 SYMBOL_TABLE = 2
 PLACE_BLOCK_SHIFT = 13  # runtime.h
-
-
-class Wrong(Exception):
-    """What the user is told in one line, with the status."""
-
-    def __init__(self, line, status=1):
-        super().__init__(line)
-        self.status = status
 
 
 @dataclasses.dataclass(frozen=True)
@@ -136,15 +129,3 @@ def built_program():
     if not os.access(path, os.X_OK):
         raise Wrong(f"no program {path}: the first call of ./swic builds it", 254)
     return path
-
-
-def main(run):
-    """Calls a script, and ends with its status or a line that says what is wrong."""
-    try:
-        sys.exit(run(sys.argv[1:]))
-    except Wrong as wrong:
-        print(f"{pathlib.Path(sys.argv[0]).name}: {wrong}", file=sys.stderr)
-        sys.exit(wrong.status)
-    except BrokenPipeError:
-        os.dup2(os.open(os.devnull, os.O_WRONLY), 1)
-        sys.exit(141)

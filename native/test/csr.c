@@ -8,11 +8,11 @@
 #define SOFTWARE (*(volatile uint32_t *)0x02000000)
 #define ENABLE_SOFTWARE 8u
 
-#define READ(csr)                                         \
-    __extension__({                                       \
-        uint32_t value_;                                  \
-        __asm__ volatile("csrr %0, " csr : "=r"(value_)); \
-        value_;                                           \
+#define READ(csr)                                                                                                      \
+    __extension__({                                                                                                    \
+        uint32_t value_;                                                                                               \
+        __asm__ volatile("csrr %0, " csr : "=r"(value_));                                                              \
+        value_;                                                                                                        \
     })
 #define WRITE(csr, value) __asm__ volatile("csrw " csr ", %0" ::"r"(value) : "memory")
 

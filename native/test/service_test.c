@@ -138,7 +138,8 @@ static void aim(bool is_at_random)
     uint32_t next = 0;
     for (uint32_t at = 0; at < given.ends[given.image.blocks - 1]; at++)
         if (given.kinds[at] == DIRECT && given.words[at] == EBREAK)
-            given.words[at + 1] = text_of(is_at_random ? below(given.image.text_words) : next++ % given.image.text_words);
+            given.words[at + 1] =
+                text_of(is_at_random ? below(given.image.text_words) : next++ % given.image.text_words);
 }
 
 static void make_image(uint32_t blocks, uint32_t block_words, bool is_at_random)

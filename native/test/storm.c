@@ -1,4 +1,5 @@
-/* The longest service: SITES jumps to one block, each linked, and then that block has to leave; under a timer's interrupt. */
+/* The longest service: SITES jumps to one block, each linked, and then that block has to leave; under a timer's
+ * interrupt. */
 #include "machine.h"
 #include "text.h"
 
@@ -34,9 +35,9 @@ __asm__(".text\n"
         "       jr t0\n"
         "first:\n"
         "       .rept " STRING(SITES) "\n"
-        "       j again\n"
-        "       .endr\n"
-        "       ret\n");
+                                      "       j again\n"
+                                      "       .endr\n"
+                                      "       ret\n");
 void storm(void);
 
 int main(void)
