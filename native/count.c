@@ -40,9 +40,23 @@ EXPORT int qemu_plugin_version = 1;
 EXPORT int qemu_plugin_install(qemu_plugin_id_t, const struct qemu_info_t *, int, char **);
 
 /* The places in the runtime that are watched. Those from MISS on tell what a service does. */
-enum watched { TRAP_VECTOR, TRAP_RETURN, TRAP_RETURN_SHORT, MISS, EVICT, LINK, UNDO, CALL, WATCHED };
+enum watched {
+    TRAP_VECTOR,
+    TRAP_RETURN,
+    TRAP_RETURN_SHORT,
+    TRAP_RETURN_FIND,
+    MISS,
+    EVICT,
+    LINK,
+    UNDO,
+    CALL,
+    BOARD_WORD,
+    DELIVER,
+    WATCHED
+};
 static const char *const watched_names[WATCHED] = {
-    "trap_vector", "trap_return", "trap_return_short", "miss", "evict", "link", "undo", "call"};
+    "trap_vector", "trap_return", "trap_return_short", "trap_return_find", "miss", "evict", "link",
+    "undo",        "call",        "board_word",        "deliver"};
 static uint64_t watched_at[WATCHED];
 
 enum bound { CACHE, CACHE_END, RUNTIME, RUNTIME_END, FAST, FAST_END, BOUNDS };
@@ -91,7 +105,7 @@ static void passed(unsigned int hart, void *which)
     (void)hart;
     if (at == TRAP_VECTOR)
         begin_service();
-    else if (at == TRAP_RETURN || at == TRAP_RETURN_SHORT)
+    else if (at < MISS)
         end_service();
     else
         kind |= 1u << (at - MISS);

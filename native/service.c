@@ -17,6 +17,7 @@
 
 #define EBREAK 0x00100073u
 #define JAL_X0 0x0000006fu
+#define NOP 0x00000013u
 
 /* Keeps a call a call, so that its instructions are counted by its address. */
 #define COUNTED __attribute__((noinline))
@@ -29,22 +30,31 @@ union word {
 };
 
 static struct {
+    struct counts counts; /* the first, where native/run reads them */
     struct image image;
     union word *cache;
     struct slot *slots;
     uint32_t slot_count;
     uint32_t next_slot; /* which the next miss takes */
     bool is_full;       /* whether every slot has a block */
-    struct counts counts;
+    uint32_t links_most;
 } service;
 
+#if UINTPTR_MAX == UINT32_MAX /* else this is a host, where test/service_test.c tries this file */
 _Static_assert(offsetof(struct frame, text_base) == FRAME_TEXT_BASE, "FRAME_TEXT_BASE");
 _Static_assert(offsetof(struct frame, text_bytes) == FRAME_TEXT_BYTES, "FRAME_TEXT_BYTES");
 _Static_assert(offsetof(struct frame, places) == FRAME_PLACES, "FRAME_PLACES");
 _Static_assert(offsetof(struct frame, first_of_block) == FRAME_FIRST_OF_BLOCK, "FRAME_FIRST_OF_BLOCK");
 _Static_assert(offsetof(struct frame, before_cache) == FRAME_BEFORE_CACHE, "FRAME_BEFORE_CACHE");
 _Static_assert(offsetof(struct frame, services) == FRAME_SERVICES, "FRAME_SERVICES");
+_Static_assert(offsetof(struct frame, direct) == FRAME_DIRECT, "FRAME_DIRECT");
+_Static_assert(offsetof(struct frame, resume) == FRAME_RESUME, "FRAME_RESUME");
+_Static_assert(offsetof(struct frame, target) == FRAME_TARGET, "FRAME_TARGET");
+_Static_assert(offsetof(struct frame, memo_filled) == FRAME_MEMO_FILLED, "FRAME_MEMO_FILLED");
+_Static_assert(offsetof(struct frame, memo_targets) == FRAME_MEMO_TARGETS, "FRAME_MEMO_TARGETS");
+_Static_assert(offsetof(struct frame, memo_places) == FRAME_MEMO_PLACES, "FRAME_MEMO_PLACES");
 _Static_assert(sizeof(struct frame) <= FRAME_BYTES, "FRAME_BYTES");
+#endif
 
 /* Places and slots */
 
@@ -132,18 +142,24 @@ static uint32_t target_of(uint32_t exit, uint32_t jump)
     return (4 * exit + bytes) / 4;
 }
 
-/* Makes the exit at an index a jump to another, and the first of the links into that one's slot. */
+/* Makes the exit at an index a jump to another, and the first of the links into that one's slot; but where the slot has
+ * as many as it may have. */
 COUNTED static void link(uint32_t exit, uint32_t target)
 {
     union word *cache = service.cache;
     struct slot *slot = &service.slots[slot_at(target)];
     uint32_t second = slot->first_link;
+    if (slot->links == service.links_most) {
+        service.counts.refused++;
+        return;
+    }
     cache[exit].bits = jump_over(4 * (target - exit));
     cache[exit + 1].link.next = (uint16_t)second;
     cache[exit + 1].link.previous = 0;
     if (second)
         cache[second].link.previous = (uint16_t)(exit + 1);
-    slot->first_link = exit + 1;
+    slot->first_link = (uint16_t)(exit + 1);
+    slot->links++;
     service.counts.links++;
 }
 
@@ -162,14 +178,16 @@ COUNTED static void undo(uint32_t exit)
 static void take_out(uint32_t exit)
 {
     union word *cache = service.cache;
-    uint32_t next = cache[exit + 1].link.next;
-    uint32_t previous = cache[exit + 1].link.previous;
+    struct slot *slot = &service.slots[slot_at(target_of(exit, cache[exit].bits))];
+    uint16_t next = cache[exit + 1].link.next;
+    uint16_t previous = cache[exit + 1].link.previous;
     if (next)
-        cache[next].link.previous = (uint16_t)previous;
+        cache[next].link.previous = previous;
     if (previous)
-        cache[previous].link.next = (uint16_t)next;
+        cache[previous].link.next = next;
     else
-        service.slots[slot_at(target_of(exit, cache[exit].bits))].first_link = next;
+        slot->first_link = next;
+    slot->links--;
 }
 
 /* Blocks */
@@ -185,11 +203,26 @@ static void take_out_links_from(uint32_t first, uint32_t length)
 static void undo_links_into(uint32_t slot)
 {
     uint32_t link = service.slots[slot].first_link;
-    while (link) {
+    for (uint32_t count = 1; link; count++) {
         uint32_t next = service.cache[link].link.next;
         undo(link - 1);
         link = next;
+        if (count % POLL_LINKS == 0)
+            board_poll();
     }
+}
+
+/* Empties the memo of the vector. An empty entry holds a target of another one's number. */
+static void forget_targets(void)
+{
+    for (uint32_t k = 0; k < MEMO_ENTRIES; k += 4) {
+        frame.memo_targets[k] = 4;
+        frame.memo_targets[k + 1] = 0;
+        frame.memo_targets[k + 2] = 0;
+        frame.memo_targets[k + 3] = 0;
+    }
+    frame.memo_targets[1] = 0;
+    frame.memo_filled = 0;
 }
 
 COUNTED static void evict(uint32_t slot)
@@ -198,6 +231,8 @@ COUNTED static void evict(uint32_t slot)
     take_out_links_from(first_of_slot(slot), block_length(&service.image, block));
     undo_links_into(slot);
     set_first_of(block, 0);
+    if (frame.memo_filled)
+        forget_targets();
     service.counts.evictions++;
 }
 
@@ -228,62 +263,63 @@ COUNTED static uint32_t miss(uint32_t block)
         service.is_full = true;
     }
     copy(service.cache + first, service.image.words + block_begin(&service.image, block), length);
-    service.slots[slot] = (struct slot){block, 0};
+    service.slots[slot] = (struct slot){block, 0, 0};
     set_first_of(block, first + 1);
     service.counts.misses++;
     service.counts.copied += length;
     return first;
 }
 
-/* Whether an address is one of a text word, and where that stands in the cache; its block is copied where it has to be.
- */
-static inline bool find(uint32_t target, uint32_t *index)
+/* Of a text word's address the index where it stands in the cache, plus 1, its block copied where it has to be; 0 of
+ * another address. */
+COUNTED static uint32_t find(uint32_t target)
 {
     uint32_t distance = target - frame.text_base;
     if (distance >= frame.text_bytes || distance % 4 != 0)
-        return false;
+        return 0;
     struct place place = place_of(distance / 4);
     uint32_t first = first_of(place.block);
-    *index = place.offset + (first ? first - 1 : miss(place.block));
-    return true;
+    return place.offset + (first ? first : miss(place.block) + 1);
 }
 
 /* What was written to the cache is fetched from now on. */
 static void synchronize(void)
 {
+#ifdef __riscv
     __asm__ volatile("fence.i" ::: "memory");
+#endif
 }
 
 static uint32_t address_of(uint32_t index)
 {
-    return (uint32_t)(service.cache + index);
+    return (uint32_t)(uintptr_t)(service.cache + index);
 }
 
 static uint32_t index_of(uint32_t address)
 {
-    return (address - (uint32_t)service.cache) / 4;
+    return (address - address_of(0)) / 4;
 }
 
 uint32_t service_enter(uint32_t target)
 {
-    uint32_t index;
-    if (!find(target, &index))
+    uint32_t found = find(target);
+    if (!found)
         return 0;
     synchronize();
-    return address_of(index);
+    return address_of(found - 1);
 }
 
 /* The same for the exit at an index, which is linked; but where its own block left for the target's, nothing is. */
 static uint32_t leave_by(uint32_t exit, uint32_t target)
 {
-    uint32_t before = service.counts.misses, index;
-    if (!find(target, &index))
+    uint32_t before = service.counts.misses, found = find(target);
+    if (!found)
         return 0;
-    bool is_gone = service.counts.misses != before && slot_at(index) == slot_at(exit);
+    bool is_gone = service.counts.misses != before && slot_at(found - 1) == slot_at(exit);
     if (!is_gone)
-        link(exit, index);
+        link(exit, found - 1);
     synchronize();
-    return address_of(index);
+    return address_of(found - 1);
 }
 
 uint32_t service_origin(uint32_t pc)
@@ -299,12 +335,43 @@ uint32_t service_origin(uint32_t pc)
     return image->base + 4 * word;
 }
 
-bool service_holds(uint32_t address)
+/* The word of the image at `pc`: that of the cache, but for what was patched there. */
+static const uint32_t *image_word_at(uint32_t pc)
 {
-    return address - (uint32_t)service.cache < 4 * first_of_slot(service.slot_count);
+    uint32_t index = index_of(pc), slot = slot_at(index);
+    uint32_t begin = block_begin(&service.image, service.slots[slot].block);
+    return service.image.words + begin + index - first_of_slot(slot);
 }
 
-struct counts service_counts(void)
+/*
+ * Each rendering can be begun again at any of its words: what comes before its last one is LUI and ADDI of constants
+ * alone. At a direct exit, linked or not, its instruction is done, and control is on the way to the descriptor.
+ */
+uint32_t service_resume(uint32_t pc)
+{
+    const uint32_t *word = image_word_at(pc);
+    bool is_behind_replaced = word > service.image.words && word[-1] == EBREAK && word[0] % 4 == 1;
+    if (is_behind_replaced)
+        return word[0] - 1 + 4;
+    return word[0] == EBREAK && word[1] % 4 == 0 ? word[1] : service_origin(pc);
+}
+
+void service_replace(uint32_t pc, uint32_t word)
+{
+    uint32_t exit = index_of(pc), slot = slot_at(exit);
+    if (exit + 2 - first_of_slot(slot) >= block_length(&service.image, service.slots[slot].block))
+        return;
+    service.cache[exit].bits = word;
+    service.cache[exit + 1].bits = NOP;
+    synchronize();
+}
+
+bool service_holds(uint32_t address)
+{
+    return address - address_of(0) < 4 * first_of_slot(service.slot_count);
+}
+
+SLOW struct counts service_counts(void)
 {
     struct counts counts = service.counts;
     counts.services = frame.services;
@@ -329,13 +396,32 @@ static uint32_t immediate_of(uint32_t jalr)
     return jalr >> 20 | (jalr >> 31 ? 0xfffff000 : 0);
 }
 
+/* Where an exit leads on; `to` is 0 where its target is no text word. */
+static uint32_t served(uint32_t to, uint32_t target)
+{
+    if (!to)
+        return board_fault(FAULT_FETCH_ACCESS, target, target);
+    frame.services++;
+    return to;
+}
+
 /* An exit whose descriptor is the target's address. */
 static uint32_t serve_direct(uint32_t pc, uint32_t target)
 {
-    uint32_t to = leave_by(index_of(pc), target);
-    if (!to)
-        board_fault(FAULT_FETCH_ACCESS, target, target);
-    return to;
+    return served(leave_by(index_of(pc), target), target);
+}
+
+/* Puts a target into the memo of the vector, which does so itself where it finds one. */
+static void remember(uint32_t target, uint32_t place)
+{
+#ifdef SERVE_IN_VECTOR
+    (void)target, (void)place;
+#else
+    uint32_t entry = target / 4 % MEMO_ENTRIES;
+    frame.memo_targets[entry] = target;
+    frame.memo_places[entry] = place;
+    frame.memo_filled = 1;
+#endif
 }
 
 /* An exit whose descriptor is the JALR itself; the value that it links stands behind it. */
@@ -344,47 +430,43 @@ static uint32_t serve_register(struct frame *registers, uint32_t pc, uint32_t ja
     uint32_t linked = service.cache[index_of(pc) + 2].bits;
     uint32_t target = (registers->x[rs1_of(jalr)] + immediate_of(jalr)) & ~1u;
     if (target % 4 != 0)
-        board_fault(FAULT_FETCH_MISALIGNED, service_origin(pc), target);
+        return board_fault(FAULT_FETCH_MISALIGNED, service_origin(pc), target);
     if (rd_of(jalr))
         registers->x[rd_of(jalr)] = linked;
     uint32_t to = service_enter(target);
-    if (!to)
-        board_fault(FAULT_FETCH_ACCESS, target, target);
-    return to;
+    if (to)
+        remember(target, to);
+    return served(to, target);
 }
 
 uint32_t service_trap(struct frame *registers, uint32_t pc, uint32_t cause)
 {
     if (cause != CAUSE_BREAKPOINT || !service_holds(pc))
         return board_trap(registers, pc, cause);
-    uint32_t descriptor = service.cache[index_of(pc) + 1].bits, to;
+    uint32_t descriptor = service.cache[index_of(pc) + 1].bits;
     switch (descriptor & 3) {
     case 0:
-        to = serve_direct(pc, descriptor);
-        break;
+        return serve_direct(pc, descriptor);
     case 3:
-        to = serve_register(registers, pc, descriptor);
-        break;
+        return serve_register(registers, pc, descriptor);
     case 2: /* a jump to an address that is no multiple of 4 */
-        board_fault(FAULT_FETCH_MISALIGNED, service_origin(pc), descriptor);
+        return board_fault(FAULT_FETCH_MISALIGNED, service_origin(pc), descriptor);
     default: /* a word of the text that traps, at the descriptor less 1 */
-        board_fault(FAULT_TRAP, descriptor - 1, descriptor - 1);
+        return board_word(registers, pc, descriptor - 1);
     }
-    frame.services++;
-    return to;
 }
 
 /* The start */
 
-static void clear_tables(const struct service_memory *memory)
+SLOW static void clear_tables(const struct service_memory *memory)
 {
     for (uint32_t slot = 0; slot < service.slot_count; slot++)
-        memory->slots[slot] = (struct slot){0, 0};
+        memory->slots[slot] = (struct slot){0, 0, 0};
     for (uint32_t block = 0; memory->first_of_block && block < service.image.blocks; block++)
         memory->first_of_block[block] = 0;
 }
 
-static void fill_places(const struct image *image, uint32_t *places)
+SLOW void service_fill_places(const struct image *image, uint32_t *places)
 {
     uint32_t block = 0;
     for (uint32_t word = 0; word < image->text_words; word++) {
@@ -394,15 +476,16 @@ static void fill_places(const struct image *image, uint32_t *places)
     }
 }
 
-void service_start(const struct image *image, const struct service_memory *memory, uint32_t *cache, uint32_t slots)
+SLOW void service_start(const struct image *image, const struct service_memory *memory, uint32_t *cache, uint32_t slots,
+                        uint32_t links_most)
 {
     service.image = *image;
     service.cache = (union word *)cache;
     service.slots = memory->slots;
     service.slot_count = slots;
+    service.links_most = links_most;
     clear_tables(memory);
-    if (memory->places)
-        fill_places(image, memory->places);
+    forget_targets();
     frame.text_base = image->base;
     frame.text_bytes = 4 * image->text_words;
     frame.places = memory->places;

@@ -1,8 +1,9 @@
 # The trap vector.
 #
-# All of x1 to x31 are the program's. While it runs, mscratch holds the address of `frame`, in which its registers stand
-# while the runtime runs; mscratch then holds the program's sp. The runtime's stack grows down from the frame, so that
-# one register finds both. The C code is built so that it needs neither gp nor tp.
+# All of x1 to x31 are the program's. mscratch holds the address of `frame`, in which the program's registers stand while
+# the runtime runs, and the runtime's stack grows down from the frame, so that one register finds both. Only until the
+# vector has saved three registers, or all, mscratch holds the program's sp. A trap of the runtime itself so finds the
+# frame and ends with its own pc and cause. The C code is built so that it needs neither gp nor tp.
 #
 # A jump over a register to a placed block, as a return mostly is, is served here without C where its rd is x0 or ra
 # (with SERVE_IN_VECTOR). A jump over a register that is served in C may read and write any register, so all of them are
@@ -46,7 +47,7 @@ frame:
 
     .macro  save_scratch
     each_scratch sw
-    csrr    t0, mscratch
+    csrrw   t0, mscratch, sp
     sw      t0, FRAME_X(2)(sp)
     .endm
 
@@ -58,23 +59,52 @@ frame:
     csrw    mepc, a0
     .endm
 
+# The entry of the memo for the target in \target, in t0: its address less that of the targets.
+    .macro  entry_for target
+    andi    t0, \target, 4 * MEMO_ENTRIES - 4
+    add     t0, t0, sp
+    .endm
+
+    .macro  count_service
+    lw      t0, FRAME_SERVICES(sp)
+    addi    t0, t0, 1
+    sw      t0, FRAME_SERVICES(sp)
+    .endm
+
     .globl  trap_vector
     .balign 4
 trap_vector:
     csrrw   sp, mscratch, sp
-    each_temporary sw
+    sw      t0, FRAME_X(5)(sp)
+    sw      t1, FRAME_X(6)(sp)
     csrr    t0, mcause
     addi    t0, t0, -CAUSE_BREAKPOINT
-    bnez    t0, serve
+    bnez    t0, no_exit
     csrr    t0, mepc
     lw      t1, 4(t0)               # the descriptor
+    li      t0, 0x00008067          # ret: JALR x0, 0(ra)
+    bne     t1, t0, other_exit
+    entry_for ra
+    lw      t1, FRAME_MEMO_TARGETS(t0)
+    bne     t1, ra, unknown_return
+    lw      t1, FRAME_MEMO_PLACES(t0)
+    csrw    mepc, t1
+    count_service
+    lw      t0, FRAME_X(5)(sp)
+    lw      t1, FRAME_X(6)(sp)
+    csrrw   sp, mscratch, sp
+    .globl  trap_return_short
+trap_return_short:
+    mret
+
+unknown_return:
+    sw      t2, FRAME_X(7)(sp)
 #ifdef SERVE_IN_VECTOR
-    li      t2, 0x00008067          # ret: JALR x0, 0(ra)
-    bne     t1, t2, other_exit
     mv      t1, ra
 
 # t1: the target
 find:
+    sw      t1, FRAME_TARGET(sp)
     lw      t2, FRAME_TEXT_BASE(sp)
     sub     t1, t1, t2
     andi    t2, t1, 3
@@ -95,25 +125,37 @@ find:
     slli    t1, t1, 2
     lw      t2, FRAME_BEFORE_CACHE(sp)
     add     t1, t1, t2
+    lw      t2, FRAME_TARGET(sp)
+    entry_for t2
+    sw      t2, FRAME_MEMO_TARGETS(t0)
+    sw      t1, FRAME_MEMO_PLACES(t0)
+    sw      sp, FRAME_MEMO_FILLED(sp)
+
+# t1: where it stands
+go_on:
     csrr    t0, mepc
     lw      t2, 4(t0)
     andi    t2, t2, 1 << 7          # rd is ra: it is linked
     beqz    t2, 1f
     lw      ra, 8(t0)
 1:  csrw    mepc, t1
-    lw      t0, FRAME_SERVICES(sp)
-    addi    t0, t0, 1
-    sw      t0, FRAME_SERVICES(sp)
+    count_service
     each_temporary lw
     csrrw   sp, mscratch, sp
-    .globl  trap_return_short
-trap_return_short:
+    .globl  trap_return_find
+trap_return_find:
     mret
+#else
+    j       serve_jump
+#endif
 
 other_exit:
-    not     t2, t1
-    andi    t2, t2, 3
-    bnez    t2, serve               # no jump over a register
+    sw      t2, FRAME_X(7)(sp)
+    andi    t2, t1, 1
+    beqz    t2, serve               # an exit to an address
+#ifdef SERVE_IN_VECTOR
+    andi    t2, t1, 2
+    beqz    t2, serve_jump          # a word that the front executes: it may name any register
     srli    t2, t1, 7
     andi    t2, t2, 30
     bnez    t2, serve_jump          # rd is neither x0 nor ra
@@ -146,18 +188,19 @@ read_register:
 add_immediate:
     add     t1, t1, t0
     andi    t1, t1, -2
-    j       find
+    entry_for t1
+    lw      t2, FRAME_MEMO_TARGETS(t0)
+    bne     t2, t1, find
+    lw      t1, FRAME_MEMO_PLACES(t0)
+    j       go_on
 #else
-    not     t1, t1
-    andi    t1, t1, 3
-    beqz    t1, serve_jump
+    j       serve_jump              # over a register, or a word that the front executes
 #endif
 
 serve:
     save_scratch
     call_service
 return:
-    csrw    mscratch, sp
     each_scratch lw
     each_temporary lw
     lw      sp, FRAME_X(2)(sp)
@@ -169,12 +212,40 @@ serve_jump:
     save_scratch
     each_saved sw
     call_service
+return_jump:
     each_saved lw
     j       return
 
-# The way into a program that starts: mepc and every register of the frame are set.
+no_exit:
+    sw      t2, FRAME_X(7)(sp)
+    csrr    t0, mcause
+    bgez    t0, serve
+    lw      t1, FRAME_DIRECT(sp)
+    beqz    t1, serve
+
+# An interrupt with a direct handler: code that ends with MRET and leaves all registers as they were, as GCC's attribute
+# `interrupt` makes it. It runs where it stands, on the program's stack, and its MRET leads behind the jump here: the
+# program goes on in the cache, which is as it was.
+    csrr    t0, mepc
+    sw      t0, FRAME_RESUME(sp)
+    la      t0, 1f
+    csrw    mepc, t0
+    li      t0, 1 << 7              # mstatus.MPIE: behind the handler's MRET interrupts stay off
+    csrc    mstatus, t0
+    csrrw   sp, mscratch, sp
+    jr      t1
+    .balign 4
+1:  csrrw   sp, mscratch, sp
+    lw      t0, FRAME_RESUME(sp)
+    csrw    mepc, t0
+    li      t0, 3 << 11             # mstatus.MPP: machine mode; MRET has set MPIE
+    csrs    mstatus, t0
+    each_temporary lw
+    csrrw   sp, mscratch, sp
+    mret
+
+# The way into a program that starts: mepc, mscratch and every register of the frame are set.
     .globl  trap_resume
 trap_resume:
     la      sp, frame
-    each_saved lw
-    j       return
+    j       return_jump

@@ -19,6 +19,11 @@ void calls_start(uint32_t heap, uint32_t heap_bytes, const struct image *image)
     calls.text_bytes = 4 * image->text_words;
 }
 
+uint32_t text_end(void)
+{
+    return calls.text + calls.text_bytes;
+}
+
 bool touches_text(uint32_t address, uint32_t count)
 {
     return count && (address - calls.text < calls.text_bytes || calls.text - address < count);

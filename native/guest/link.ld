@@ -4,7 +4,7 @@ ENTRY(_start)
 MEMORY { runtime (rwx) : ORIGIN = 0x80000000, LENGTH = 0x10000 }
 SECTIONS
 {
-  .text : { *(.text.start) *(.text.trap) *(.text .text.*) } >runtime
+  .text : { KEEP(*(.text.start)) *(.text.trap) *(.text .text.*) } >runtime
   .rodata : { *(.rodata .rodata.* .srodata .srodata.*) } >runtime
   .data : ALIGN(4) { *(.data .data.* .sdata .sdata.*) } >runtime
   .bss (NOLOAD) : ALIGN(16)

@@ -4,6 +4,7 @@
     .globl  _start
 _start:
     la      sp, frame               # the stack's upper end
+    csrw    mscratch, sp            # for a trap of the start itself
     la      t0, __bss
     la      t1, __bss_end
 1:  sw      zero, 0(t0)

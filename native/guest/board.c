@@ -91,12 +91,27 @@ static const char *name_of(enum fault fault, uint32_t pc)
     return memory_word(pc) == 0x00100073 ? "break" : "illegal";
 }
 
-void board_fault(enum fault fault, uint32_t pc, uint32_t address)
+static _Noreturn void stop_at_fault(enum fault fault, uint32_t pc, uint32_t address)
 {
     put_text(STREAM_ERR, "fault: ");
     put_text(STREAM_ERR, name_of(fault, pc));
     put_place(" at ", pc, address);
     end_program(STATUS_FAULT);
+}
+
+uint32_t board_fault(enum fault fault, uint32_t pc, uint32_t address)
+{
+    stop_at_fault(fault, pc, address);
+}
+
+uint32_t board_word(struct frame *registers, uint32_t pc, uint32_t address)
+{
+    (void)registers, (void)pc;
+    stop_at_fault(FAULT_TRAP, address, address);
+}
+
+void board_poll(void)
+{
 }
 
 void stop_at_store(uint32_t pc, uint32_t address)
@@ -138,16 +153,16 @@ static _Noreturn void stop_at_exception(uint32_t pc, uint32_t cause)
     case CAUSE_LOAD_MISALIGNED:
     case CAUSE_LOAD_ACCESS:
     case CAUSE_LOAD_PAGE:
-        board_fault(FAULT_LOAD_ACCESS, origin, address);
+        stop_at_fault(FAULT_LOAD_ACCESS, origin, address);
     case CAUSE_STORE_ACCESS:
     case CAUSE_STORE_PAGE:
         if (touches_text(address, 4) && memory_allows(address, 1, RIGHT_WRITE))
             stop_at_store(origin, address);
-        board_fault(FAULT_STORE_ACCESS, origin, address);
+        stop_at_fault(FAULT_STORE_ACCESS, origin, address);
     case CAUSE_STORE_MISALIGNED:
-        board_fault(FAULT_STORE_ACCESS, origin, address);
+        stop_at_fault(FAULT_STORE_ACCESS, origin, address);
     case CAUSE_ILLEGAL:
-        board_fault(FAULT_TRAP, origin, origin);
+        stop_at_fault(FAULT_TRAP, origin, origin);
     default:
         stop_runtime(pc, cause);
     }
@@ -213,12 +228,13 @@ static void start_service(const struct image *image)
 {
     struct service_memory memory = {.slots = (struct slot *)SERVICE_MEMORY};
 #ifndef SEARCH
-    memory.places = (uint32_t *)PLACES;
+    memory.places = (const uint32_t *)PLACES;
+    service_fill_places(image, (uint32_t *)PLACES);
 #endif
 #ifndef SCAN
     memory.first_of_block = (uint16_t *)(memory.slots + slot_count);
 #endif
-    service_start(image, &memory, (uint32_t *)CACHE, slot_count);
+    service_start(image, &memory, (uint32_t *)CACHE, slot_count, LINKS_ANY);
 }
 
 static void start_hart(uint32_t pc)
@@ -239,12 +255,12 @@ void board_start(void)
     host_open();
     program_find(&program, file, parameters->file_bytes);
     lay_out_slots(&program.image);
+    calls_start(program.end, parameters->heap_bytes, &program.image);
     memory_start(protection_for(file), parameters->cache_bytes);
     program_load(file);
     program_warn(&program.image);
     frame.x[2] = add_heap_and_stack(program.end);
     memory_protect();
-    calls_start(program.end, parameters->heap_bytes, &program.image);
     start_service(&program.image);
     uint32_t entry = service_enter(program.entry);
     if (!entry)

@@ -71,6 +71,7 @@ void program_warn(const struct image *image); /* behind the load: of an LR.W who
 void calls_start(uint32_t heap, uint32_t heap_bytes, const struct image *image);
 void call(uint32_t *x, uint32_t pc);
 bool touches_text(uint32_t address, uint32_t count);
+uint32_t text_end(void);
 
 /* board.c */
 void board_start(void);                                      /* called by start.S */

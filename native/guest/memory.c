@@ -52,6 +52,16 @@ static uint32_t *entry_of(uint32_t address)
     return page_of(*table) + (address >> 12 & 1023);
 }
 
+/* Whether a page that may be written is text as a whole: its words are read alone, so that a store is noticed. */
+static bool is_text_page(uint32_t address)
+{
+    if (!touches_text(address, 4096))
+        return false;
+    if (!touches_text(address, 1) || !touches_text(address + 4095, 1))
+        refuse(STATUS_BOARD, "native: text, and data that may be written, share a page of 4096 bytes");
+    return true;
+}
+
 static void map_page(uint32_t address, uint32_t rights)
 {
     uint32_t *entry = entry_of(address);
@@ -61,7 +71,7 @@ static void map_page(uint32_t address, uint32_t rights)
         *entry = take_page() >> 2 | PAGE_VALID | PAGE_USER | PAGE_TOUCHED;
     if (rights & (RIGHT_READ | RIGHT_WRITE))
         *entry |= PAGE_READ;
-    if (rights & RIGHT_WRITE)
+    if (rights & RIGHT_WRITE && !is_text_page(address))
         *entry |= PAGE_WRITE;
 }
 
@@ -125,6 +135,21 @@ static uint32_t pmp_rights(uint32_t rights)
     return (rights & RIGHT_READ ? PMP_READ : 0) | (rights & RIGHT_WRITE ? PMP_READ | PMP_WRITE : 0);
 }
 
+static void grant_if_any(uint32_t from, uint32_t to, uint32_t rights)
+{
+    if (rights && from < to)
+        grant(from, to, rights);
+}
+
+/* A range of the program. Text that may be written is read alone: a store into it ends the program, as in the model. */
+static void grant_range(uint32_t from, uint32_t to, uint32_t rights)
+{
+    bool is_text = rights & RIGHT_WRITE && touches_text(from, to - from);
+    uint32_t data = is_text ? text_end() : from;
+    grant_if_any(from, data, PMP_READ);
+    grant_if_any(data, to, pmp_rights(rights));
+}
+
 /* Regions that adjoin with the same rights are one range, since an access may lie across. */
 static void grant_regions(void)
 {
@@ -135,8 +160,7 @@ static void grant_regions(void)
                         regions[count].rights == regions[0].rights;
              count++)
             end += regions[count].size;
-        if (pmp_rights(regions[0].rights))
-            grant(regions[0].base, end, pmp_rights(regions[0].rights));
+        grant_range(regions[0].base, end, regions[0].rights);
     }
 }
 
@@ -155,6 +179,8 @@ void memory_add(uint32_t base, uint32_t size, uint32_t rights)
     if (!size)
         return;
     memory.regions[memory.region_count++] = (struct region){base, size, rights};
+    if (memory.protection == PROTECTION_NONE && rights & RIGHT_WRITE && touches_text(base, size))
+        refuse(STATUS_BOARD, "native: the text may be written, which nothing would notice in machine mode");
     if (memory.protection == PROTECTION_PAGES)
         map_region(base, size, rights);
     else if (base < PROGRAM || base > PROGRAM_END || size > PROGRAM_END - base)

@@ -1,0 +1,131 @@
+"""Boards, ELF files and rewritten files."""
+import dataclasses
+import os
+import pathlib
+import struct
+import tomllib
+
+from shared.words import Wrong
+
+HERE = pathlib.Path(__file__).resolve().parent.parent
+BOARDS = HERE / "boards"
+IMAGE_HEADER = 0x6C434953  # the type of the program header that has a rewritten file's image
+SYMBOL_TABLE = 2
+PLACE_BLOCK_SHIFT = 13  # runtime.h
+
+
+@dataclasses.dataclass(frozen=True)
+class Board:
+    """A folder of native/boards: its linker script, and what its board.toml says."""
+    folder: pathlib.Path
+    flash: int
+    flash_bytes: int
+    reset: int
+    ram: range
+    qemu: list
+
+    @property
+    def script(self):
+        return self.folder / "board.ld"
+
+    def sources(self):
+        return sorted(self.folder.glob("*.[cS]"))
+
+
+def read_board(name):
+    """A board by its name in native/boards, or by the path of a folder elsewhere."""
+    folder = pathlib.Path(name) if "/" in name else BOARDS / name
+    try:
+        held = tomllib.loads((folder / "board.toml").read_text(encoding="utf-8"))
+        ram = range(held["ram"], held["ram"] + held["ram_bytes"])
+        return Board(folder, held["flash"], held["flash_bytes"], held["reset"], ram, held.get("qemu", []))
+    except OSError:
+        known = ", ".join(sorted(path.parent.name for path in BOARDS.glob("*/board.toml")))
+        raise Wrong(f"no board {name}: there are {known}, or the path of a folder with a board.toml", 250) from None
+    except (KeyError, TypeError, tomllib.TOMLDecodeError) as error:
+        raise Wrong(f"{folder}/board.toml: {error}", 250) from None
+
+
+@dataclasses.dataclass(frozen=True)
+class Segment:
+    """A loaded segment: where it stands in flash, its bytes there, and where the program sees it."""
+    physical: int
+    held: bytes
+    address: int
+    size: int
+
+
+class Elf:
+    """What is read of an ELF file for RV32."""
+
+    def __init__(self, path):
+        try:
+            self.data = pathlib.Path(path).read_bytes()
+        except OSError as error:
+            raise Wrong(f"no file {path} that can be read: {error.strerror}", 248) from None
+        if self.data[:6] != b"\x7fELF\1\1" or self.data[16:20] != b"\2\0\xf3\0":
+            raise Wrong(f"{path} is no program for RV32", 243)
+        try:
+            self.read()
+        except (struct.error, IndexError, ValueError):
+            raise Wrong(f"{path} is a damaged ELF file", 243) from None
+
+    def read(self):
+        self.entry, table, sections = struct.unpack_from("<3I", self.data, 24)
+        size, count, section_size, section_count = struct.unpack_from("<4H", self.data, 42)
+        self.segments, self.image = [], None
+        for at in range(table, table + size * count, size):
+            kind, offset, address, physical, held, total, *_ = struct.unpack_from("<8I", self.data, at)
+            if kind == 1 and total:
+                self.segments.append(Segment(physical, self.data[offset : offset + held], address, total))
+            elif kind == IMAGE_HEADER:
+                self.image = self.data[offset : offset + held]
+        at = range(sections, sections + section_size * section_count, section_size) if section_count else ()
+        self.symbols = dict(self.read_symbols([struct.unpack_from("<10I", self.data, it) for it in at]))
+
+    def read_symbols(self, sections):
+        """The symbols that are defined, with their values."""
+        for _, kind, _, _, offset, length, link, *_ in sections:
+            for at in range(offset, offset + length, 16) if kind == SYMBOL_TABLE else ():
+                begin, value, _, _, _, section = struct.unpack_from("<IIIBBH", self.data, at)
+                names = sections[link][4]
+                if section:
+                    yield self.data[names + begin : self.data.index(b"\0", names + begin)].decode(errors="replace"), value
+
+    def symbol(self, name):
+        """The address of a symbol, or the number that stands in its place."""
+        if name in self.symbols:
+            return self.symbols[name]
+        try:
+            return int(name, 16)
+        except ValueError:
+            raise Wrong(f"no symbol {name} in the program, and no hexadecimal address", 250) from None
+
+
+class Image:
+    """The image of a rewritten file: its numbers, and where each text word stands."""
+
+    def __init__(self, data):
+        self.data = data
+        _, self.version, self.block_words, self.blocks, self.text_words, self.base = struct.unpack_from("<6I", data)
+        self.starts = self.table(6, self.blocks)
+        self.offsets = self.table(6 + self.version * self.blocks, self.text_words)
+
+    def table(self, first, count):
+        return struct.unpack_from(f"<{count}I", self.data, 4 * first)
+
+    def places(self):
+        """The table that service_fill_places makes: of each text word its block and its offset in one word."""
+        found, block, starts = [], -1, set(self.starts)
+        for word, offset in enumerate(self.offsets):
+            block += word in starts
+            found.append(block << PLACE_BLOCK_SHIFT | offset)
+        return struct.pack(f"<{len(found)}I", *found)
+
+
+def built_program():
+    """The program swic that is built; SWIC names another."""
+    path = pathlib.Path(os.environ.get("SWIC") or HERE.parent / "crates/swic/out/swic")
+    if not os.access(path, os.X_OK):
+        raise Wrong(f"no program {path}: the first call of ./swic builds it", 254)
+    return path
