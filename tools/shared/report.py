@@ -2,7 +2,7 @@
 import dataclasses
 import math
 
-from shared import runs
+from shared import runs, weights
 
 def powers(needed):
     """Powers of 2 up to a size that holds so many bytes, from a thousandth of it on."""
@@ -115,7 +115,7 @@ class Report:
         yield from (self.sweep.registers, self.image(row.cache.block)[0] or None, self.runs.elf.text_bytes)
 
     def unit(self, value):
-        return f"{value:.3f} times {'slow memory' if self.board else 'no cache'}" if self.weights else f"{value:.3f} words a step"
+        return f"{value:.3f} {weights.unit(self.weights)}"
 
     def found(self):
         """The last lines: the smallest cache, the one that is recommended, and what to use; for slots, and for rings."""

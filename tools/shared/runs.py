@@ -282,6 +282,12 @@ def add_run_options(words):
     words.add_argument("--stack", type=number(4096, 16777216), metavar="N", default=65536, help="bytes of the stack; default: 65536")
 
 
+def add_cache_options(words):
+    words.add_argument("--cache", type=number(8, LARGEST), metavar="N", default=4096, help="bytes of the cache; default: 4096")
+    words.add_argument("--block", type=number(2, 1024), metavar="N", default=64, help="most words of a block; default: 64")
+    words.add_argument("--ring", action="store_true", help="a ring in place of slots; with --words or --weights, since native/ has no ring")
+
+
 def run_words(options):
     return ["--steps", str(options.first or options.steps), "--heap", str(options.heap), "--stack", str(options.stack)]
 

@@ -124,7 +124,7 @@ class Walk:
         self.used, self.next = bytearray(cache.size // 4), 0
         self.ran = collections.defaultdict(int)  # how often each run of words was executed without a break, by its first and last
         self.served, self.missed, self.made = collections.Counter(), collections.Counter(), collections.Counter()
-        self.pushed, self.undone = collections.Counter(), collections.Counter()
+        self.pushed, self.evicted, self.undone = collections.Counter(), collections.Counter(), collections.Counter()
         self.last = None  # the word executed last
         # behind each word the one that follows without an exit
         end = [text.kind[k] in (JUMP, REGISTER) or k + 1 == text.count or blocks.of[k + 1] != blocks.of[k] for k in range(text.count)]
@@ -216,6 +216,7 @@ class Walk:
         block = self.held.popleft()
         first, length = self.first[block], self.blocks.length[block]
         self.pushed[block, self.blocks.of[k]] += 1
+        self.evicted[k] += 1
         self.first[block] = None
         self.used[first:first + length] = bytes(length)
         for out in self.into[block]:

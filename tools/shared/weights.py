@@ -94,12 +94,29 @@ def add_options(call):
     call.add_argument("--words", action="store_true", help="no costs of a board: only the words that the cache RAM gives and takes count")
 
 
+def value(weights, counts, registers):
+    """What a step costs: beside a step without a cache, or without weights the words that the cache RAM gives and takes."""
+    return weights.ratio(counts, registers) if weights else counts.work
+
+
+def unit(weights):
+    """What a value is, in words."""
+    return "words a step" if not weights else "times slow memory" if weights.board else "times no cache"
+
+
+def told(weights):
+    """By which weights, behind a cost."""
+    return f", by {weights.named}{f' with {weights.load:g} wait states (--load)' if weights.step[1] else ''}" if weights else ""
+
+
 def chosen(options):
     """The weights that the options ask for; None for the words alone."""
     if options.words:
         if options.weights or options.load is not None:
             raise Wrong("--words goes with neither --weights nor --load")
         return None
+    if options.ring and not options.weights:
+        raise Wrong("--ring goes with --words, or --weights of a runtime that has rings: that of native/ has slots alone")
     weights = options.weights or weights_of(str(BOARD))
     if options.load is not None and not weights.places and not weights.step[1]:
         raise Wrong("--load goes with a file of --weights that has loads from slow memory")
