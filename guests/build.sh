@@ -19,10 +19,27 @@ done
 bare tally.elf rv32ima -O2 -s tally.S
 
 # One of each kind of program; they keep their symbols, by which tools/sweep and tools/why name functions.
-small=(-Os -ffunction-sections "-Wl,--strip-debug" -I . start.S)
-for name in checksum filter machine unpacking atomics; do
+objects=$(mktemp -d)
+trap 'rm -rf "$objects"' EXIT
+"$cc" -march=rv32ima -mabi=ilp32 -c start.S -o "$objects/start.o"
+small=(-Os -ffunction-sections "-Wl,--strip-debug" -I . "$objects/start.o")
+with_library() { # OUT TARGET SOURCE..: with picolibc
+  local out=$1 target=$2
+  shift 2
+  "$cc" "-march=$target" -mabi=ilp32 "${warnings[@]}" --specs=picolibc.specs "${start[@]}" "${small[@]}" picolibc.c "$@" -lm -o "$out"
+}
+bare_kinds=(checksum filter machine unpacking atomics)
+kinds=(interpreter sorting logging control)
+for name in "${bare_kinds[@]}"; do
   bare "kinds/$name.elf" rv32ima "${small[@]}" "kinds/$name.c"
 done
-for name in interpreter sorting logging control; do
-  "$cc" -march=rv32im -mabi=ilp32 "${warnings[@]}" --specs=picolibc.specs "${start[@]}" "${small[@]}" picolibc.c "kinds/$name.c" -lm -o "kinds/$name.elf"
+for name in "${kinds[@]}"; do
+  with_library "kinds/$name.elf" rv32im "kinds/$name.c"
 done
+
+# All of them in one program.
+mkdir "$objects/kinds"
+for name in "${bare_kinds[@]}" "${kinds[@]}"; do
+  "$cc" -march=rv32ima -mabi=ilp32 "${warnings[@]}" --specs=picolibc.specs -Os -ffunction-sections -I . -Dmain="$name" -c "kinds/$name.c" -o "$objects/kinds/$name.o"
+done
+with_library kinds/phases.elf rv32im kinds/phases.c "$objects"/kinds/*.o

@@ -2,7 +2,7 @@
 #include <math.h>
 #include <stdio.h>
 
-enum { STEPS = 600 };
+enum { STEPS = 200 };
 
 typedef struct {
     float gain, integral, derivative, sum, last, limit;
@@ -69,7 +69,7 @@ int main(void)
         float error = fabsf(wanted - motor.speed);
         worst = error > worst ? error : worst;
         squares += (double)error * error;
-        if (step % 100 == 99)
+        if (step % 40 == 39)
             printf("%4d: wanted %8.3f, speed %8.3f, %7.3f V, %6.3f A\n", step + 1, (double)wanted, (double)motor.speed, (double)volts, (double)motor.current);
     }
     printf("worst %.4f, root of the mean square %.4f\n", (double)worst, sqrt(squares / STEPS));

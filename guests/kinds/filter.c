@@ -1,7 +1,7 @@
 /* A signal path in fixed point: a windowed FIR filter, two biquads, and a Fourier transform of 256 points. */
 #include "result.h"
 
-enum { POINTS = 256, TAPS = 32, ROUNDS = 12, ONE = 1 << 14 };
+enum { POINTS = 256, TAPS = 32, ROUNDS = 5, ONE = 1 << 14 };
 
 typedef struct {
     int real, imaginary;

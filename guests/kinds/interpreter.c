@@ -170,10 +170,10 @@ static void run(void)
 }
 
 static const char *const programs[] = {
-    ": fib dup 2 < if else dup 1 - fib swap 2 - fib + then ; 15 fib . cr",
+    ": fib dup 2 < if else dup 1 - fib swap 2 - fib + then ; 12 fib . cr",
     ": sieve 2 0 set begin 0 get 200 < while 0 get @ not if 0 get dup . dup + 1 set begin 1 get 200 < while 1 1 get ! "
     "1 get 0 get + 1 set repeat then 0 get 1 + 0 set repeat ; sieve cr",
-    ": gcd begin dup while swap over % repeat drop ; 0 2 set 1 0 set begin 0 get 60 < while 1 1 set begin 1 get 40 < while "
+    ": gcd begin dup while swap over % repeat drop ; 0 2 set 1 0 set begin 0 get 40 < while 1 1 set begin 1 get 25 < while "
     "0 get 1 get gcd 2 get + 2 set 1 get 1 + 1 set repeat 0 get 1 + 0 set repeat 2 get . cr",
 };
 

@@ -4,7 +4,7 @@
 #include <stdlib.h>
 #include <string.h>
 
-enum { EVENTS = 300, LINES = 8, LENGTH = 96 };
+enum { EVENTS = 100, LINES = 8, LENGTH = 96 };
 enum level { TRACE, INFO, WARNING, FAILURE };
 
 static char lines[LINES][LENGTH];

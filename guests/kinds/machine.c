@@ -1,7 +1,7 @@
 /* State machines: frames of a serial protocol, a lexer of a small language and a traffic light, by tables of functions. */
 #include "result.h"
 
-enum { STEPS = 24000, LONGEST = 32 };
+enum { STEPS = 10000, LONGEST = 32 };
 
 static u32 frames, broken, payload, tokens[6], lights;
 

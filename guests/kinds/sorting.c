@@ -3,7 +3,7 @@
 #include <stdlib.h>
 #include <string.h>
 
-enum { RECORDS = 400, ROUNDS = 2 };
+enum { RECORDS = 400, ROUNDS = 1 };
 
 typedef struct record {
     struct record *next;

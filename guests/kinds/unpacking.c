@@ -1,7 +1,7 @@
 /* Unpacking: a text is packed by LZ77 over a hash of four bytes, then by a Huffman code; both are undone, and the texts compared. */
 #include "result.h"
 
-enum { BYTES = 6000, SYMBOLS = 256, NODES = 2 * SYMBOLS, HASHES = 1024, LEAST = 4, MOST = 63 };
+enum { BYTES = 3000, SYMBOLS = 256, NODES = 2 * SYMBOLS, HASHES = 1024, LEAST = 4, MOST = 63 };
 
 static u8 text[BYTES], packed[2 * BYTES], coded[2 * BYTES], decoded[2 * BYTES], again[BYTES + MOST];
 static u32 weights[NODES], codes[SYMBOLS];
