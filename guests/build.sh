@@ -37,9 +37,9 @@ for name in "${kinds[@]}"; do
   with_library "kinds/$name.elf" rv32im "kinds/$name.c"
 done
 
-# All of them in one program.
-mkdir "$objects/kinds"
-for name in "${bare_kinds[@]}" "${kinds[@]}"; do
-  "$cc" -march=rv32ima -mabi=ilp32 "${warnings[@]}" --specs=picolibc.specs -Os -ffunction-sections -I . -Dmain="$name" -c "kinds/$name.c" -o "$objects/kinds/$name.o"
+# Those without a library in one program, built for speed, so that each phase has loops of its own.
+mkdir "$objects/phases"
+for name in "${bare_kinds[@]}"; do
+  "$cc" -march=rv32ima -mabi=ilp32 "${warnings[@]}" -ffreestanding -O3 -funroll-loops -ffunction-sections -I . -Dmain="$name" -c "kinds/$name.c" -o "$objects/phases/$name.o"
 done
-with_library kinds/phases.elf rv32im kinds/phases.c "$objects"/kinds/*.o
+bare kinds/phases.elf rv32ima "${small[@]}" kinds/phases.c "$objects"/phases/*.o

@@ -156,16 +156,24 @@ class Report:
 
     def advice(self, choice):
         """One sentence: the cache, or what costs less than it; and from how many wait states on the cache costs less."""
-        head, row, text = "use a ring:" if choice.ring else "use the cache:", choice.recommended or choice.smallest, self.runs.elf.text_bytes
-        whole = f"the whole text in fast RAM takes {text} bytes"
+        row, text = choice.recommended or choice.smallest, self.runs.elf.text_bytes
         if not self.sweep.sought():
             least = min(self.board.ram(each.cache) for each in self.rows)
-            return f"use no cache: {whole}, the smallest cache with its runtime {least}"
+            return f"use no cache: the whole text takes {text} bytes of fast RAM, the smallest cache with its runtime {least}"
         if row is None:
-            return f"use no cache: none of these, with {text} bytes of fast RAM for the whole text"
-        if row.value >= self.other(row)[1]:
-            return f"use no cache: {self.other(row)[0]} {self.other(row)[1]:.3f}, the cache {row.value:.3f}; {self.even(row)}"
-        return f"{head} it costs {row.value:.3f}, {self.other(row)[0]} {self.other(row)[1]:.3f}; {self.even(row)}. Only {whole[:-6]} costs less"
+            return f"use no cache: none of these, where the whole text takes {text} bytes of fast RAM"
+        what, cost = self.other(row)
+        if row.value >= cost:
+            return f"use no cache: {what} {cost:.3f}, the cache {row.value:.3f}; {self.even(row)}{self.elsewhere(choice)}"
+        return f"use the {'ring' if choice.ring else 'cache'}: it costs {row.value:.3f}, {what} {cost:.3f}; {self.even(row)}. Only the whole text in {text} bytes of fast RAM costs less"
+
+    def elsewhere(self, choice):
+        """The best of the caches that cost less than anything else in as much fast RAM, where it is not the one recommended."""
+        rows = [row for row in self.sweep.sought() if row.cache.ring == choice.ring and row.value < self.other(row)[1]]
+        if not rows:
+            return ""
+        best = min(rows, key=lambda row: row.value)
+        return f". Of these caches one pays: {best.cache} cost {best.value:.3f} in {self.board.ram(best.cache)} bytes of fast RAM, without a cache {self.other(best)[1]:.3f}"
 
     def other(self, row):
         """What costs the least without a cache in as much fast RAM, and its cost."""
