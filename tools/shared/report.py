@@ -78,6 +78,8 @@ class Report:
             yield f"{row.cache.size:9} {row.cache.block:6}{kind} {self.line(row)}{'  ' + row.note if row.note else ''}"
         if self.sweep.registers is not None:
             yield f"of the services, in each of these caches, jumps over registers: {1000 * self.sweep.registers / max(first.steps, 1):.3f}"
+        if self.board and self.sweep.traced and not self.board.alternatives.functions:
+            yield "hot: the file names no functions (it was stripped), so the hottest are not told"
         if self.sweep.traced and not self.sweep.traced.whole:
             yield f"least and hot are by the first {self.sweep.traced.steps} steps (--trace)"
         yield from left_out(self.sweep)
