@@ -1,13 +1,14 @@
 #!/usr/bin/env bash
-# expect.sh: writes what each guest is to write, and its status, into expect/, from qemu-riscv32
+# expect.sh: writes what each guest is to write, and its status, into the folder expect beside it, from qemu-riscv32
 # (Debian's qemu-user). NAME.in is the input; a guest without one gets no input.
 set -eu
 cd "$(dirname "$0")"
-for file in *.elf; do
-  name=${file%.elf}
-  input=expect/$name.in
+for file in *.elf kinds/*.elf; do
+  expected=$(dirname "$file")/expect/$(basename "$file" .elf)
+  mkdir -p "$(dirname "$expected")"
+  input=$expected.in
   [ -f "$input" ] || input=/dev/null
   status=0
-  qemu-riscv32 "$file" <"$input" >"expect/$name.out" 2>"expect/$name.err" || status=$?
-  echo "$status" >"expect/$name.status"
+  qemu-riscv32 "$file" <"$input" >"$expected.out" 2>"$expected.err" || status=$?
+  echo "$status" >"$expected.status"
 done

@@ -11,8 +11,8 @@ passed=0
 failed=0
 
 # Runs a guest by these words and compares.
-compare() { # NAME WORD..
-  local name=$1 expected=$here/expect/$1 input status=0 wrong=
+compare() { # EXPECTED WORD..
+  local expected=$1 input status=0 wrong=
   shift
   input=$expected.in
   [ -f "$input" ] || input=/dev/null
@@ -28,11 +28,11 @@ compare() { # NAME WORD..
   fi
 }
 
-for file in "$here"/*.elf; do
-  name=$(basename "$file" .elf)
-  compare "$name" "$@" plain "$file"
-  compare "$name" "$@" cached "$file"
-  compare "$name" "$@" cached "$file" --cache 512 --block 16
+for file in "$here"/*.elf "$here"/kinds/*.elf; do
+  expected=$(dirname "$file")/expect/$(basename "$file" .elf)
+  compare "$expected" "$@" plain "$file"
+  compare "$expected" "$@" cached "$file"
+  compare "$expected" "$@" cached "$file" --cache 512 --block 16
 done
 
 echo "$passed passed, $failed failed"

@@ -53,15 +53,29 @@ class Elf:
         struct.pack_into("<IIIII", data, segment.header + 4, len(data), segment.address - more, segment.address - more, segment.held + more, segment.size + more)
         return bytes(data + NOP * words + self.data[segment.offset:segment.offset + segment.held])
 
+    def image_blocks(self):
+        """How many blocks a rewritten file has."""
+        image = next(segment for segment in self.segments if segment.kind == IMAGE)
+        return struct.unpack_from("<I", self.data, image.offset + 12)[0]
+
     def functions(self):
         """The functions of the text as (address, name), ascending: symbols of functions, and labels that other files see."""
+        return [(address, name) for address, _, name in self.extents()]
+
+    def extents(self):
+        """The same with the bytes of each, up to the next; those of the last by its symbol, since constants may stand behind it."""
         found = {}
-        for name, address, info in self.symbols():
+        for name, address, size, info in self.symbols():
             kind, bound = info & 15, info >> 4
             if kind == 2 or kind == 0 and bound:
                 # at one address a function goes before a label, and what others see before what is local
-                found[address] = min(found.get(address, (9, 9, "")), (kind == 0, bound == 0, name))
-        return sorted((address, name) for address, (_, _, name) in found.items())
+                found[address] = min(found.get(address, (9, 9, "", 0)), (kind == 0, bound == 0, name, size))
+        begins = sorted(found)
+        ends = [*begins[1:], self.text + self.text_bytes]
+        sizes = [end - begin for begin, end in zip(begins, ends)]
+        if begins and found[begins[-1]][3]:
+            sizes[-1] = found[begins[-1]][3]
+        return [(begin, size, found[begin][2]) for begin, size in zip(begins, sizes)]
 
     def symbols(self):
         table, size, count = struct.unpack_from("<I", self.data, 32)[0], *struct.unpack_from("<HH", self.data, 46)
@@ -71,11 +85,11 @@ class Elf:
                 continue
             names = sections[link][4]
             for at in range(offset, offset + length, 16):
-                begin, address, _, info, _, section = struct.unpack_from("<IIIBBH", self.data, at)
+                begin, address, bytes_of, info, _, section = struct.unpack_from("<IIIBBH", self.data, at)
                 end = self.data.index(b"\0", names + begin)
                 name = self.data[names + begin:end].decode(errors="replace")
                 if name and section and self.text <= address < self.text + self.text_bytes:
-                    yield name, address, info
+                    yield name, address, bytes_of, info
 
 
 def program_of(runner, path, name):

@@ -1,9 +1,23 @@
 """The pictures of tools/sweep and tools/why, as words for gnuplot."""
+import dataclasses
 
 COLOURS = ["0072b2", "d55e00", "009e73", "cc79a7", "e69f00", "56b4e9", "000000", "999999"]
 MARKS = [5, 6, 7, 8, 9, 13, 11, 12]
-MARKED = {"smallest": ("circle", "pt 6 ps 2.2"), "recommended": ("square", "pt 4 ps 2.4")}
-COST = 4  # the column of the cost, behind size, misses and work
+# Marks are small, so that they cover the point of no other cache.
+MARKED = {"smallest": ("circle", "pt 6 ps 1.4"), "recommended": ("square", "pt 4 ps 1.6")}
+LABELS = 14  # of an axis, at most
+ROOMS = 64  # sizes of fast RAM for which the hottest functions are drawn
+
+
+@dataclasses.dataclass(frozen=True)
+class Panel:
+    """A picture of a sweep: what stands to the right and upwards for each row, and a line that costs are beside."""
+    across: str
+    x: object  # of a cache
+    up: str
+    y: object  # of counts
+    beside: bool = False  # whether costs beside no cache are shown
+    board: object = None  # whose alternatives are shown
 
 
 def size_label(size):
@@ -33,44 +47,71 @@ def block_of(name, lines):
 
 
 def sweep(report):
-    """Curves of the misses, the work, and with weights the cost, against the size of the cache; one for each form of caches."""
-    panels = [(f"{plain(report.runs.name)}: misses for each 1000 steps", lambda counts: counts.of_thousand("misses")),
-              ("words fetched and written, for each step", lambda counts: counts.work)]
-    if report.weights:
-        panels.append((cost_title(report.weights), report.sweep.value))
-    sizes = sorted({row.cache.size for row in report.rows})
-    lines = [f"set terminal svg size {480 * len(panels)},480 font 'sans-serif,13' background '#ffffff'", "set output '@OUT@'"]
-    lines += data(report, [value for _, value in panels])
-    lines += [f"set multiplot layout 1,{len(panels)}", f"set logscale xy; set xtics ({tics(sizes)}) rotate by -45; set ytics ({tens()}); set mytics 1",
-              "set grid xtics ytics lc rgb '#dddddd' lt 1; set rmargin 3; set lmargin 9; set border 3; set tics nomirror",
-              "set tmargin 5; set xlabel 'cache'; set key below horizontal center maxrows 2 title 'words of a block' samplen 2 spacing 1.1",
-              f"set xrange [{sizes[0]} / 1.3:{sizes[-1]} * 1.3]"]
-    lines += [f"set style line {k + 1} lc rgb '#{colour}' lw 2 pt {mark} ps 0.7" for k, (colour, mark) in enumerate(zip(COLOURS, MARKS))]
-    lines += marks(report)
-    for column, (title, value) in enumerate(panels, 2):
-        values = [value(row.counts) for row in report.rows] + [value(row.jump) for row in report.rows if row.jump]
-        is_cost = column == COST
-        low, high = decade_steps(min(values + [1.0] * is_cost), max(values + [1.0] * is_cost))
-        beside = ", 1 with lines dt 3 lw 2 lc rgb '#000000' notitle" if is_cost else ""
-        lines.append(f"set title '{title}' noenhanced offset 0,1.6; set yrange [{low:g}:{high:g}]; plot {curves(report, column)}{beside}")
+    """Curves against the size of the cache or of all fast RAM: a colour for each length of blocks, and broken lines for rings."""
+    panels = panels_of(report)
+    lines = [f"set terminal svg size {470 * len(panels) + 130},520 font 'sans-serif,13' background '#ffffff'", "set output '@OUT@'"]
+    for k, panel in enumerate(panels):
+        lines += data(report, panel, k)
+    lines += [f"set multiplot title '{heading(report)}' noenhanced font 'sans-serif,14' offset 0,-0.4", f"set logscale xy; set ytics ({tens()}); set mytics 1",
+              "set grid xtics ytics lc rgb '#dddddd' lt 1; set border 3; set tics nomirror"]
+    lines += [f"set style line {k + 1} lc rgb '#{colour}' lw 2 pt {mark} ps 0.5" for k, (colour, mark) in enumerate(zip(COLOURS, MARKS))]
+    for k, panel in enumerate(panels):
+        lines += drawn(report, panel, k, len(panels))
     return "\n".join([*lines, "unset multiplot"]) + "\n"
 
 
-def cost_title(weights):
-    """What the cost is beside: the program without a cache, and what a load from slow memory costs more there."""
-    title = f"cost beside no cache, weights {plain(weights.named.replace(',', ' '))}"
-    return f"{title}, load {weights.load:g}" if weights.load else title
+def panels_of(report):
+    size = ("bytes of the cache", lambda cache: cache.size)
+    found = [Panel(*size, "misses for each 1000 steps", lambda counts: counts.of_thousand("misses"))]
+    if report.board:
+        return [*found, Panel("bytes of fast RAM: cache, runtime and tables", report.board.ram, "time of a step, beside one in slow memory", report.sweep.value, True, report.board)]
+    found.append(Panel(*size, "words fetched and written, for each step", lambda counts: counts.work))
+    return [*found, Panel(*size, "cost beside no cache", report.sweep.value, True)] if report.weights else found
 
 
-def data(report, values):
-    """A block of points for each curve, one of what jumps, and those of what is marked."""
+def heading(report):
+    if not report.weights:
+        return plain(report.runs.name)
+    waits = f" with {report.weights.load:g} wait states" if report.weights.step[1] else ""
+    return f"{plain(report.runs.name)}, costs by {plain(report.weights.named.replace(',', ' '))}{waits}"
+
+
+def drawn(report, panel, k, count):
+    """A panel in its place; the last has the legend at its right."""
+    width, left = 470 / (470 * count + 130), 470 * k / (470 * count + 130)
+    values = [panel.y(row.counts) for row in report.rows] + [panel.y(row.jump) for row in report.rows if row.jump] + [1.0] * panel.beside
+    values += [panel.board.alternatives.whole] if panel.board else []
+    places = [panel.x(row.cache) for row in report.rows] + ([report.runs.elf.text_bytes] if panel.board else [])
+    low, high = decade_steps(min(value for value in values if value > 0), max(values))
+    key = "set key outside right top vertical title 'words of a block' samplen 2 spacing 1.1" if k + 1 == count else "unset key"
+    yield f"set origin {left:.4f},0; set size {width if k + 1 < count else 1 - left:.4f},0.93; set lmargin 9; set bmargin 6; set tmargin 4; set rmargin {3 if k + 1 < count else 24}"
+    yield f"set xlabel '{panel.across}' offset 0,-0.6; set ylabel '{panel.up}'; {key}; set xtics ({tics(places)}) rotate by -45"
+    yield from marks(report, panel)
+    yield f"set xrange [{min(places)} / 1.3:{max(places)} * 1.3]; set yrange [{low:g}:{high:g}]; plot {', '.join(curves(report, panel, k))}"
+
+
+def data(report, panel, k):
+    """A block of points for each curve, one of what jumps, those of what is marked, and the hottest functions."""
+    def point(row):
+        return f"{panel.x(row.cache)} {panel.y(row.counts):.6g}"
     lines = []
     for block, ring in forms_of(report):
-        lines += block_of(curve_name(block, ring), [point(row, values) for row in report.rows if row.cache.form == (block, ring)])
-    lines += block_of("jumps", [f"{point(row, values)} {values_of(row.jump, values)}" for row in report.rows if row.jump])
+        rows = sorted((row for row in report.rows if row.cache.form == (block, ring)), key=lambda row: panel.x(row.cache))
+        lines += block_of(f"{curve_name(block, ring)}p{k}", [point(row) for row in rows])
+    lines += block_of(f"jumps{k}", [f"{point(row)} {panel.y(row.jump):.6g}" for row in report.rows if row.jump])
     for name, rows in marked(report).items():
-        lines += block_of(name, [point(row, values) for row in rows])
+        lines += block_of(f"{name}{k}", [point(row) for row in rows])
+    if panel.board:
+        lines += block_of("hot", hottest(panel.board, min(panel.x(row.cache) for row in report.rows)))
+        lines += block_of("whole", [f"{report.runs.elf.text_bytes} {panel.board.alternatives.whole:.6g}"])
     return lines
+
+
+def hottest(board, least):
+    """The cost of the hottest functions by their room, from the smallest of the caches to the whole text."""
+    most = board.alternatives.text
+    rooms = sorted({round(least * (most / least) ** (k / ROOMS)) for k in range(ROOMS + 1)}) if least < most else [most]
+    return [f"{room} {board.alternatives.hot(room):.6g}" for room in rooms] if board.alternatives.functions else []
 
 
 def forms_of(report):
@@ -87,45 +128,39 @@ def marked(report):
     return {name: found for name, found in rows.items() if found}
 
 
-def point(row, values):
-    return f"{row.cache.size} {values_of(row.counts, values)}"
-
-
-def values_of(counts, values):
-    return " ".join(f"{value(counts):.6g}" for value in values)
-
-
-def curves(report, column):
-    """The curves of a panel: a colour for each length of blocks, and broken lines for rings."""
-    count = 3 if report.weights else 2
+def curves(report, panel, k):
+    """The curves of a panel."""
     blocks = sorted({row.cache.block for row in report.rows})
-    shown = []
     for block, ring in forms_of(report):
         style, name = blocks.index(block) % len(COLOURS) + 1, "dt 2 notitle" if ring else f"title '{block}'"
-        shown.append(f"${curve_name(block, ring)} using 1:{column} with linespoints ls {style} {name}")
+        yield f"${curve_name(block, ring)}p{k} using 1:2 with linespoints ls {style} {name}"
     if report.has_rings:
-        shown.append("NaN with lines dt 2 lw 2 lc rgb '#888888' title 'rings'")
+        yield "NaN with lines dt 2 lw 2 lc rgb '#888888' title 'rings'"
+    if panel.beside:
+        yield f"1 with lines dt 3 lw 2 lc rgb '#000000' title '{'slow memory' if panel.board else 'no cache'}'"
+    if panel.board and panel.board.alternatives.functions:
+        yield "$hot using 1:2 with steps lw 2 lc rgb '#777777' title 'hottest functions'"
+    if panel.board:
+        yield "$whole using 1:2 with points pt 3 ps 1.2 lw 2 lc rgb '#000000' title 'whole text'"
     if any(row.jump for row in report.rows):
-        shown.append(f"$jumps using 1:{column}:(0):(${column + count}-${column}) with vectors filled head size graph 0.02,18 lc rgb '#cc0000' lw 1.5 notitle")
-    shown += [f"${name} using 1:{column} with points {MARKED[name][1]} lw 2 lc rgb '#000000' notitle" for name in marked(report)]
-    return ", ".join(shown)
+        yield f"$jumps{k} using 1:2:(0):($3-$2) with vectors filled head size graph 0.02,18 lc rgb '#cc0000' lw 1.5 notitle"
+    for name in marked(report):
+        yield f"${name}{k} using 1:2 with points {MARKED[name][1]} lw 2 lc rgb '#000000' notitle"
 
 
-def tics(sizes):
-    """At most eight labels, of powers of 2 where there are any."""
-    round_ones = [size for size in sizes if size & (size - 1) == 0] or sizes
-    every = (len(round_ones) + 7) // 8
-    return ", ".join(f'"{size_label(size)}" {size}' for size in round_ones[::every])
+def tics(places):
+    """Labels at powers of 2, or where there are none at the places themselves."""
+    powers = [1 << bits for bits in range(3, 32) if min(places) <= 1 << bits <= max(places)] or sorted(set(places))
+    every = (len(powers) + LABELS - 1) // LABELS
+    return ", ".join(f'"{size_label(size)}" {size}' for size in powers[::every])
 
 
-def marks(report):
+def marks(report, panel):
     """A line at each cache that is marked; what they are stands above."""
-    lines = []
     for k, row in enumerate([row for rows in marked(report).values() for row in rows], 1):
-        lines.append(f"set arrow {k} from {row.cache.size}, graph 0 to {row.cache.size}, graph 1 nohead dt 2 lc rgb '#888888'")
+        yield f"set arrow {k} from {panel.x(row.cache)}, graph 0 to {panel.x(row.cache)}, graph 1 nohead dt 2 lc rgb '#888888'"
     for k, text in enumerate(legend(report), 1):
-        lines.append(f"set label {k} '{text}' at graph 0.5, graph {1.15 - 0.06 * k} center font 'sans-serif,11' tc rgb '#444444'")
-    return lines
+        yield f"set label {k} '{text}' at graph 0.5, graph {1.17 - 0.055 * k} center font 'sans-serif,12' tc rgb '#444444'"
 
 
 def legend(report):
@@ -165,7 +200,7 @@ def why(found, name, options):
             shown.append(f"$f{k} using 1:2:3:4:5:6 with boxxyerror fs solid 0.8 border lc rgb '#{COLOURS[k] if owner else 'bbbbbb'}' lc rgb '#{COLOURS[k] if owner else 'bbbbbb'}' title '{title}' noenhanced")
     high = max(found.block_missed.values())
     lines += [f"set title '{plain(name)}: misses of each block, {options.cache} bytes in blocks of {options.block} words' noenhanced",
-              f"set logscale y; set yrange [0.5:{decade_steps(high, high)[1]:g}]; set ytics ({tens()}); set mytics 1; set grid ytics lc rgb '#dddddd' lt 1",
+              f"set ylabel 'misses of the block'; set logscale y; set yrange [0.5:{decade_steps(high, high)[1]:g}]; set ytics ({tens()}); set mytics 1; set grid ytics lc rgb '#dddddd' lt 1",
               f"set xrange [0:{4 * len(found.blocks.of)}]; set format x '%.0f'; set xlabel 'bytes from the begin of the text, {found.base:08x}'",
               "set border 3; set tics nomirror; set key outside right top samplen 1 title 'function, misses'; set rmargin 30",
               f"plot {', '.join(shown)}"]

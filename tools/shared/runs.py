@@ -4,12 +4,15 @@ import dataclasses
 import os
 import pathlib
 import re
+import shutil
 import signal
 import stat
 import subprocess
 import sys
 import tempfile
 import time
+
+from shared import remote
 
 TOP = pathlib.Path(__file__).resolve().parent.parent.parent
 SCRIPT = pathlib.Path(sys.argv[0]).name
@@ -164,14 +167,6 @@ class Run:
     seconds: float
 
 
-def tail_of(stream, most=4096):
-    """The last bytes of a stream, which may be long."""
-    held = b""
-    while chunk := stream.read(1 << 16):
-        held = (held + chunk)[-most:]
-    return held
-
-
 class Runner:
     """Runs the built program, and ends what still runs when it is stopped."""
 
@@ -196,26 +191,30 @@ class Runner:
 
     def run(self, command, source):
         """One run with --stats."""
-        begun = time.monotonic()
-        with open(source, "rb") as given, tempfile.TemporaryFile() as errors:
-            with self.start(command, stdin=given, stdout=subprocess.PIPE, stderr=errors) as child:
-                out = tail_of(child.stdout)
-            self.alive.discard(child)
-            errors.seek(max(0, errors.seek(0, os.SEEK_END) - 4096))
-            lines = errors.read().decode(errors="replace").splitlines()
-        if child.returncode < 0 and not self.stopped:
-            raise Wrong(f"{command[0]} was ended by signal {-child.returncode}")
-        return Run(child.returncode, counts_in(out), lines[-1].replace("\t", " ") if lines else "", time.monotonic() - begun)
+        return run_of(remote.run(command, source, self.start, self.alive.discard), self)
+
+
+def run_of(answer, runner):
+    """What a run was, by the answer of `remote.run`."""
+    status, out, errors, seconds = answer
+    if status < 0 and not runner.stopped:
+        raise Wrong(f"a run was ended by signal {-status}")
+    lines = errors.decode(errors="replace").splitlines()
+    return Run(status, counts_in(out), lines[-1].replace("\t", " ") if lines else "", seconds)
 
 
 def built_program():
-    """The program that is built. `./swic` is asked once, since it builds where a source is newer; SWIC names another program."""
+    """The program that is built; SWIC names another. It is never built here, since that takes half an hour that nobody sees."""
     if named := os.environ.get("SWIC"):
-        return pathlib.Path(named).absolute()
-    # a run that takes no time, and writes no errors of its own
-    asked = subprocess.run([TOP / "swic", "measure", "1", "1"], stdin=subprocess.DEVNULL, stdout=subprocess.DEVNULL)
-    if asked.returncode:
-        raise Wrong("swic isn't built, and can't be")
+        found = shutil.which(named)
+        if not found:
+            raise Wrong(f"SWIC names no program: {named}")
+        return pathlib.Path(found).absolute()
+    if not BUILT.exists():
+        raise Wrong(f"swic isn't built yet: run {TOP / 'swic'} once, which proves and builds it in half an hour")
+    asked = subprocess.run([TOP / "swic", "--version"], stdin=subprocess.DEVNULL, capture_output=True, text=True)
+    if ", before " in asked.stdout:
+        raise Wrong(f"a source is newer than the program that is built: run {TOP / 'swic'} once, which proves and builds it anew")
     return BUILT
 
 
@@ -281,6 +280,12 @@ def add_run_options(words):
     words.add_argument("--steps", type=number(1, 10**14), metavar="N", default=1000000000, help="most steps of a run, which has to end within them; default: 1000000000")
     words.add_argument("--heap", type=number(0, 67108864), metavar="N", default=1048576, help="bytes of the heap; default: 1048576")
     words.add_argument("--stack", type=number(4096, 16777216), metavar="N", default=65536, help="bytes of the stack; default: 65536")
+
+
+def add_cache_options(words):
+    words.add_argument("--cache", type=number(8, LARGEST), metavar="N", default=4096, help="bytes of the cache; default: 4096")
+    words.add_argument("--block", type=number(2, 1024), metavar="N", default=64, help="most words of a block; default: 64")
+    words.add_argument("--ring", action="store_true", help="a ring in place of slots; with --words or --weights, since native/ has no ring")
 
 
 def run_words(options):

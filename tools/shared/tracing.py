@@ -1,9 +1,10 @@
 """The steps of a program from the lines of `swic trace`, and the cache followed over them.
 
-`Walk` keeps what the cache service keeps (slots, links), by its policy: first in, first out; an exit is linked after a service where
+`Walk` keeps what the cache service keeps (places, links), by its policy: first in, first out; an exit is linked after a service where
 its block is still there and a JAL reaches. So it tells of each miss and each service where it comes from, which the stats do not,
-and has their counts for a comparison.
+and has their counts for a comparison. `Course` keeps the order of what is executed, which is the same for every cache.
 """
+import array
 import collections
 import dataclasses
 import itertools
@@ -109,31 +110,32 @@ class Lines:
 class Walk:
     """The cache over the steps of a run."""
 
-    def __init__(self, text, blocks, slots, size):
-        self.text, self.blocks, self.slots, self.size = text, blocks, slots, size
+    def __init__(self, text, blocks, cache):
+        self.text, self.blocks, self.cache = text, blocks, cache
         self.lines = Lines(text)
-        self.far = 4 * slots * size > runs.REACH
+        self.far = cache.size > runs.REACH
         # an exit is known by the word that it belongs to, and one behind a block by the number of words and its block
         self.linked = bytearray(text.count + blocks.count)
+        self.passed = [0] * (text.count + blocks.count)
         self.into = [set() for _ in range(blocks.count)]
         self.out = [set() for _ in range(blocks.count)]
-        self.slot = [None] * blocks.count
+        self.first = [None] * blocks.count  # the word of the cache where each block stands
         self.held = collections.deque()
-        self.steps = [0] * blocks.count
-        self.served, self.missed = collections.Counter(), collections.Counter()
-        self.pushed = collections.Counter()
-        self.machine, self.links, self.unlinks, self.copied, self.evictions = 1, 0, 0, 0, 0
-        # behind each word the one that follows without an exit, and the cost of all before it
+        self.used, self.next = bytearray(cache.size // 4), 0
+        self.ran = collections.defaultdict(int)  # how often each run of words was executed without a break, by its first and last
+        self.served, self.missed, self.made = collections.Counter(), collections.Counter(), collections.Counter()
+        self.pushed, self.evicted, self.undone = collections.Counter(), collections.Counter(), collections.Counter()
+        self.last = None  # the word executed last
+        # behind each word the one that follows without an exit
         end = [text.kind[k] in (JUMP, REGISTER) or k + 1 == text.count or blocks.of[k + 1] != blocks.of[k] for k in range(text.count)]
         self.quiet = [-1 if end[k] else k + 1 for k in range(text.count)]
-        self.costs = [0, *itertools.accumulate(text.cost)]
 
     def follow(self, stream, tell):
         """Takes all lines of a trace."""
         known, quiet, linked, kind, of = self.lines.known.get, self.quiet, self.linked, self.text.kind, self.blocks.of
-        steps, costs, behind = self.steps, self.costs, self.text.count
+        ran, passed, behind = self.ran, self.passed, self.text.count
         begin = last = expected = None
-        line = b""
+        taken, line = 0, b""
         while line is not None:
             line = None
             for line in itertools.islice(stream, BATCH):
@@ -151,34 +153,32 @@ class Walk:
                 if last is None:
                     self.arrive(k, BY_BOOT, None)
                 else:
-                    steps[of[last]] += last - begin + 1
-                    self.machine += costs[last + 1] - costs[begin]
+                    ran[begin, last] += 1
                     if kind[last] == REGISTER:
                         self.serve(k, BY_REGISTER, last)
                     else:
                         out = behind + of[last] if k == last + 1 and kind[last] != JUMP else last
-                        self.machine += out != last or kind[last] == BRANCH
+                        passed[out] += 1
                         if not linked[out]:
                             self.cross(k, out, last)
                 begin = last = k
                 expected = quiet[k]
-            tell(sum(steps))
+            taken += BATCH
+            tell(taken)
         if last is not None:
             self.finish(begin, last)
 
     def finish(self, begin, last):
         """The last step, whose target no line tells."""
-        self.steps[self.blocks.of[last]] += last - begin + 1
-        self.machine += self.costs[last + 1] - self.costs[begin]
-        if self.lines.outside:
-            self.machine += self.text.kind[last] in (PLAIN, BRANCH)
+        self.ran[begin, last] += 1
+        self.last = last
         pc = self.lines.pc()
         if pc is None:
             return
         if self.text.kind[last] == REGISTER:
             self.serve(pc, BY_REGISTER, last)
-        elif self.text.kind[last] == JUMP or self.text.kind[last] == BRANCH and pc == self.text.target[last] != last + 1:
-            self.machine += self.text.kind[last] == BRANCH
+        elif leads(self.text, last, pc):
+            self.passed[last] += 1
             if not self.linked[last]:
                 self.cross(pc, last, last)
 
@@ -187,30 +187,43 @@ class Walk:
         self.arrive(k, how, source)
 
     def arrive(self, k, how, source):
-        """Control comes to a word: its block is copied where it isn't there, and the oldest leaves where there is no room."""
+        """Control comes to a word: its block is copied where it isn't there, and the oldest leave where there is no room."""
         block = self.blocks.of[k]
-        if self.slot[block] is not None:
+        if self.first[block] is not None:
             return
         self.missed[how, source, k] += 1
-        self.copied += self.blocks.length[block]
-        place = len(self.held)
-        if place == self.slots:
-            oldest = self.held.popleft()
-            place = self.slot[oldest]
-            self.pushed[oldest, block] += 1
-            self.leave(oldest)
-        self.slot[block] = place
+        first = self.ring_place(k) if self.cache.ring else self.slot_place(k)
+        self.first[block] = first
         self.held.append(block)
 
-    def leave(self, block):
-        """Undoes the links into a block that leaves, and forgets those out of it."""
-        self.evictions += 1
-        self.slot[block] = None
+    def slot_place(self, k):
+        if len(self.held) < self.cache.slots:
+            return len(self.held) * self.cache.block
+        return self.push_out(k)
+
+    def ring_place(self, k):
+        """Behind the block that was placed last, or at the front where it would not fit there."""
+        length = self.blocks.length[self.blocks.of[k]]
+        first = self.next if self.next + length <= len(self.used) else 0
+        while any(self.used[first:first + length]):
+            self.push_out(k)
+        self.next = first + length
+        self.used[first:self.next] = b"\1" * length
+        return first
+
+    def push_out(self, k):
+        """The oldest block leaves, with the links into it and out of it; answers where it stood."""
+        block = self.held.popleft()
+        first, length = self.first[block], self.blocks.length[block]
+        self.pushed[block, self.blocks.of[k]] += 1
+        self.evicted[k] += 1
+        self.first[block] = None
+        self.used[first:first + length] = bytes(length)
         for out in self.into[block]:
             self.linked[out] = 0
             owner = self.owner(out)
             if owner != block:
-                self.unlinks += 1
+                self.undone[k] += 1
                 self.out[owner].discard(out)
         self.into[block].clear()
         for out in self.out[block]:
@@ -218,6 +231,7 @@ class Walk:
                 self.linked[out] = 0
                 self.into[self.leads_to(out)].discard(out)
         self.out[block].clear()
+        return first
 
     def owner(self, out):
         return self.blocks.of[out] if out < self.text.count else out - self.text.count
@@ -229,12 +243,12 @@ class Walk:
         """A service of an exit whose target is known, which is linked where its block is still there and a JAL reaches."""
         how = BY_END if out >= self.text.count else BY_BRANCH if self.text.kind[source] == BRANCH else BY_JUMP
         owner = self.blocks.of[source]
-        held = self.slot[owner]
         self.serve(k, how, source)
-        if self.slot[owner] is None or self.slot[owner] != held or self.far and not self.reaches(k, out, source):
+        # the exit's own block may have left for its target
+        if self.first[owner] is None or self.far and not self.reaches(k, out, source):
             return
         self.linked[out] = 1
-        self.links += 1
+        self.made[source] += 1
         self.into[self.blocks.of[k]].add(out)
         self.out[owner].add(out)
 
@@ -242,14 +256,104 @@ class Walk:
         """Whether the target stands within the reach of a JAL, in a cache that is larger."""
         owner, block = self.blocks.of[source], self.blocks.of[k]
         offset = self.blocks.length[owner] - 2 if out != source else self.blocks.offset[source] + (1 if self.text.kind[source] == BRANCH else self.text.cost[source] - 1)
-        distance = 4 * (self.slot[block] * self.size + self.blocks.offset[k] - self.slot[owner] * self.size - offset)
+        distance = 4 * (self.first[block] + self.blocks.offset[k] - self.first[owner] - offset)
         return -runs.REACH <= distance < runs.REACH
+
+    def executed(self):
+        """How often each word of the text was executed."""
+        return executed(self.ran, self.text.count)
+
+    def machine(self, executed):
+        """The machine instructions that belong to each word: its own, and those of its exit; one behind a block belongs to its last word."""
+        found = [times * cost for times, cost in zip(executed, self.text.cost)]
+        for out, times in enumerate(self.passed):
+            if out >= self.text.count:
+                found[self.end_of(out - self.text.count)] += times
+            elif self.text.kind[out] == BRANCH:
+                found[out] += times
+        return found
+
+    def end_of(self, block):
+        """The last text word of a block."""
+        return (self.blocks.first[block + 1] if block + 1 < self.blocks.count else self.text.count) - 1
+
+    def outside(self):
+        """The machine instructions of steps beside the text, and of the step that led there."""
+        if not self.lines.outside:
+            return 0
+        return self.lines.outside + (self.last is not None and self.text.kind[self.last] in (PLAIN, BRANCH))
 
     def counts(self):
         """The nine counts, as the stats have them."""
-        fetches = self.machine - 1
-        services, misses = sum(self.served.values()), sum(self.missed.values())
-        return Counts(sum(self.steps) + self.lines.outside, self.machine + self.lines.outside, services, misses, self.evictions, self.links, self.unlinks, fetches, self.copied + self.links + self.unlinks)
+        made = self.executed()
+        machine = 1 + sum(self.machine(made)) + self.outside()
+        services, misses, evictions = (sum(counter.values()) for counter in (self.served, self.missed, self.pushed))
+        links, unlinks = sum(self.made.values()), sum(self.undone.values())
+        copied = sum(count * self.blocks.length[self.blocks.of[k]] for (_, _, k), count in self.missed.items())
+        fetches = machine - self.lines.outside - 1
+        return Counts(sum(made) + self.lines.outside, machine, services, misses, evictions, links, unlinks, fetches, copied + links + unlinks)
+
+
+def executed(ran, count):
+    """How often each word was executed, by runs of words."""
+    change = [0] * (count + 1)
+    for (begin, last), times in ran.items():
+        change[begin] += times
+        change[last + 1] -= times
+    return list(itertools.accumulate(change[:count]))
+
+
+def leads(text, last, pc):
+    """Whether the last step of a run, a jump or a branch, has led to the pc already."""
+    return text.kind[last] == JUMP or text.kind[last] == BRANCH and pc == text.target[last] != last + 1
+
+
+class Course:
+    """What a trace tells that holds for every cache: which words of the text are executed one behind the other."""
+
+    def __init__(self, text):
+        self.text, self.lines = text, Lines(text)
+        self.numbers, self.order = {}, array.array("I")
+        self.arrived = None  # the word that control came to last, which is not executed
+
+    def follow(self, stream, tell):
+        """Takes all lines of a trace."""
+        known, numbers, order = self.lines.known.get, self.numbers, self.order
+        begin = last = expected = None
+        taken, line = 0, b""
+        while line is not None:
+            line = None
+            for line in itertools.islice(stream, BATCH):
+                k = known(line)
+                if k is None:
+                    k = self.lines.look(line)
+                    if k is None:
+                        continue
+                if k == expected:
+                    last, expected = k, k + 1
+                    continue
+                if begin is not None:
+                    order.append(numbers.setdefault((begin, last), len(numbers)))
+                begin, last, expected = k, k, k + 1
+            taken += BATCH
+            tell(taken)
+        if begin is not None:
+            order.append(numbers.setdefault((begin, last), len(numbers)))
+            self.arrive(last)
+
+    def arrive(self, last):
+        pc = self.lines.pc()
+        if pc is not None and (self.text.kind[last] == REGISTER or leads(self.text, last, pc)):
+            self.arrived = pc
+
+    def executed(self):
+        times, runs_of = collections.Counter(self.order), list(self.numbers)
+        return executed({runs_of[number]: count for number, count in times.items()}, self.text.count)
+
+    def entered(self, blocks):
+        """The blocks that each run of words comes to, by its number, and those behind the last step."""
+        found = [list(range(blocks.of[begin], blocks.of[last] + 1)) for begin, last in self.numbers]
+        return found, [] if self.arrived is None else [blocks.of[self.arrived]]
 
 
 @dataclasses.dataclass
@@ -269,7 +373,7 @@ class Traced:
         def tell(made):
             nonlocal told
             now = time.monotonic()
-            if made and now - told > 5:
+            if 0 < made < self.steps and now - told > 5:
                 told = now
                 say(f"{made} of {self.steps} steps, about {runs.time_of((now - begun) * (self.steps - made) / made)} left")
         take(child.stderr, tell)

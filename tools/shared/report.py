@@ -1,0 +1,194 @@
+"""What a sweep writes: its table, its file of counts, and the lines that say which cache to use, or none."""
+import dataclasses
+import math
+
+from shared import runs, weights
+
+def powers(needed):
+    """Powers of 2 up to a size that holds so many bytes, from a thousandth of it on."""
+    largest = 64
+    while largest < needed and largest < runs.LARGEST:
+        largest *= 2
+    size, largest, found = max(64, largest // 1024), max(largest, 512), []
+    while size <= largest:
+        found.append(size)
+        size *= 2
+    return found
+
+
+def kind_of(cache):
+    return "ring" if cache.ring else "slots"
+
+
+def quoted(name):
+    """A name as a field of a CSV file."""
+    held = name.replace('"', '""')
+    return f'"{held}"'
+
+
+def left_out(tried):
+    """The caches that can't be run or weren't, with the reason."""
+    for reason, caches in sorted(tried.left.items()):
+        where = ", ".join(f"{cache.size}/{cache.block}{' ring' if cache.ring else ''}" for cache in sorted(caches))
+        yield f"left out (cache/block) {where}: {reason}"
+
+
+
+def less_of(cache):
+    """What `Cache.less` takes away."""
+    return f"{4 * cache.block} bytes less" if cache.ring else "one slot less"
+
+
+def or_dash(value, width):
+    """A number of a column, where there is one."""
+    return f"{'-':>{width}}" if value is None else f"{value:{width}.3f}"
+
+
+class Report:
+    """What is written of a sweep."""
+
+    def __init__(self, sweep, choices):
+        self.sweep, self.choices = sweep, choices
+        self.runs, self.weights, self.board = sweep.runs, sweep.weights, sweep.board
+        self.rows = [sweep.rows[cache] for cache in sorted(sweep.rows)]
+        self.has_rings = len(sweep.rings) > 1
+
+    def image(self, block):
+        """Bytes of the blocks in slow memory, and how many times the text that is."""
+        held = self.sweep.images.bytes.get(block)
+        return (held, held / self.runs.elf.text_bytes) if held else (0, 0.0)
+
+    def hot(self, row):
+        """What the hottest functions cost in as much fast RAM; None where the program names none, or was not traced."""
+        alternatives = self.board.alternatives
+        return alternatives.hot(self.board.ram(row.cache)) if alternatives.functions else None
+
+    def table(self):
+        first = self.rows[0].counts
+        yield f"{self.runs.name}, {'the first ' if self.sweep.spent else ''}{first.steps} steps; for each 1000 steps"
+        if self.board:
+            yield f"costs beside slow memory, by {self.weights.named}, with {self.weights.load:g} wait states (--load); hot: the hottest functions in as much RAM"
+        yield self.head()
+        last = None
+        for row in self.rows:
+            if last not in (None, row.cache.size):
+                yield ""
+            last = row.cache.size
+            kind = f"  {kind_of(row.cache):5}" if self.has_rings else ""
+            yield f"{row.cache.size:9} {row.cache.block:6}{kind} {self.line(row)}{'  ' + row.note if row.note else ''}"
+        if self.sweep.registers is not None:
+            yield f"of the services, in each of these caches, jumps over registers: {1000 * self.sweep.registers / max(first.steps, 1):.3f}"
+        if self.board and self.sweep.traced and not self.board.alternatives.functions:
+            yield "hot: the file names no functions (it was stripped), so the hottest are not told"
+        if self.sweep.traced and not self.sweep.traced.whole:
+            yield f"least and hot are by the first {self.sweep.traced.steps} steps (--trace)"
+        yield from left_out(self.sweep)
+
+    def head(self):
+        kinds, cost = "  in   " if self.has_rings else "", "   cost/plain" if self.weights else ""
+        counts = f"{'misses':>10} {'least':>10} {'services':>10}"
+        if self.board:
+            return f"{'cache':>9} {'block':>6}{kinds} {counts} {'cost':>8} {'hot':>8} {'RAM':>8} {'flash':>8}"
+        return f"{'cache':>9} {'block':>6}{kinds} {counts} {'writes':>10} {'instructions':>13} {'work/step':>10}{cost} {'image':>9} {'of text':>8}"
+
+    def line(self, row):
+        c = row.counts
+        counts = f"{c.of_thousand('misses'):10.3f} {or_dash(row.fewest, 10)} {c.of_thousand('services'):10.3f}"
+        if self.board:
+            return f"{counts} {row.value:8.3f} {or_dash(self.hot(row), 8)} {self.board.ram(row.cache):8} {self.board.flash(row.cache):8}"
+        held, times = self.image(row.cache.block)
+        cost = f"{row.value:13.3f}" if self.weights else ""
+        return f"{counts} {c.of_thousand('writes'):10.3f} {c.of_thousand('instructions'):13.1f} {c.work:10.3f}{cost} {held:9} {times:8.2f}"
+
+    def csv(self):
+        costs = ["cost", "cost_without_cache", "ratio"] if self.weights else []
+        bytes_of = ["ram", "flash", "hot", "hot_bytes"] if self.board else []
+        yield ",".join(["file", "cache", "block", "in", *runs.NAMES, "least_misses", *costs, *bytes_of, "register_services", "image", "text"])
+        for row in self.rows:
+            yield f"{quoted(self.runs.name)}," + ",".join("" if each is None else str(each) for each in self.fields(row))
+
+    def fields(self, row):
+        yield from (row.cache.size, row.cache.block, kind_of(row.cache), *dataclasses.astuple(row.counts), row.fewest_misses)
+        if self.weights:
+            yield from (f"{self.weights.cost(row.counts, self.sweep.registers or 0):.0f}", f"{self.weights.alone(row.counts):.0f}", f"{row.value:.4f}")
+        if self.board:
+            ram, hot = self.board.ram(row.cache), self.hot(row)
+            yield from (ram, self.board.flash(row.cache), hot and f"{hot:.4f}", None if hot is None else self.board.alternatives.hottest(ram).size)
+        yield from (self.sweep.registers, self.image(row.cache.block)[0] or None, self.runs.elf.text_bytes)
+
+    def unit(self, value):
+        return f"{value:.3f} {weights.unit(self.weights)}"
+
+    def found(self):
+        """The last lines: the smallest cache, the one that is recommended, and what to use; for slots, and for rings."""
+        if self.sweep.fixed:
+            yield f"the text can't be moved to try other cuts: {self.sweep.fixed}"
+        for choice in self.choices:
+            if not self.board or self.sweep.sought():
+                yield self.smallest(choice)
+                yield self.recommended(choice)
+            if row := choice.recommended or choice.smallest:
+                yield from self.beside(row)
+        if self.board:
+            yield f"without a cache: all text in slow memory 1.000, all in fast RAM {self.board.alternatives.whole:.3f} in {self.runs.elf.text_bytes} bytes"
+            yield from (self.advice(choice) for choice in self.choices)
+
+    def smallest(self, choice):
+        best = f"least {'cost' if self.weights else 'work'} ({self.unit(self.sweep.least())})"
+        head, row = f"smallest {'ring' if choice.ring else 'cache'} within {self.sweep.options.within:g}% of the {best}:", choice.smallest
+        if row is None:
+            return f"{head} none of these"
+        return f"{head} {row.cache}: {self.unit(row.value)}, {row.counts.of_thousand('misses'):.3f} misses for each 1000 steps"
+
+    def recommended(self, choice):
+        sweep, row = self.sweep, choice.recommended
+        head = "recommended ring:" if choice.ring else "recommended:"
+        moves = "" if sweep.fixed or not sweep.options.moves else ", and with its text moved by a few words"
+        if row is None:
+            less = "a block's bytes less" if choice.ring else "one slot less"
+            return f"{head} none of these, since none stays within {sweep.options.within:g}% with {less}{moves}: give larger ones by --cache"
+        return f"{head} {row.cache}: {self.unit(row.value)}, with {less_of(row.cache)}{moves} at most {self.unit(row.worst)}"
+
+    def beside(self, row):
+        """What the cache misses beside the best eviction, and what it takes."""
+        if row.fewest is not None:
+            yield f"eviction: first in, first out misses {row.first_out:.3f} times for each 1000 steps, the best possible {row.fewest:.3f}"
+        if self.board:
+            yield f"it takes {self.board.ram(row.cache)} bytes of fast RAM and {self.board.flash(row.cache)} of flash, runtime and tables among them"
+
+    def advice(self, choice):
+        """One sentence: the cache, or what costs less than it; and from how many wait states on the cache costs less."""
+        row, text = choice.recommended or choice.smallest, self.runs.elf.text_bytes
+        if not self.sweep.sought():
+            least = min(self.board.ram(each.cache) for each in self.rows)
+            return f"use no cache: the whole text takes {text} bytes of fast RAM, the smallest cache with its runtime {least}"
+        if row is None:
+            return f"use no cache: none of these, where the whole text takes {text} bytes of fast RAM"
+        what, cost = self.other(row)
+        if row.value >= cost:
+            return f"use no cache: {what} {cost:.3f}, the cache {row.value:.3f}; {self.even(row)}{self.elsewhere(choice)}"
+        return f"use the {'ring' if choice.ring else 'cache'}: it costs {row.value:.3f}, {what} {cost:.3f}; {self.even(row)}. Only the whole text in {text} bytes of fast RAM costs less"
+
+    def elsewhere(self, choice):
+        """The best of the caches that cost less than anything else in as much fast RAM, where it is not the one recommended."""
+        rows = [row for row in self.sweep.sought() if row.cache.ring == choice.ring and row.value < self.other(row)[1]]
+        if not rows:
+            return ""
+        best = min(rows, key=lambda row: row.value)
+        return f". Of these caches one pays: {best.cache} cost {best.value:.3f} in {self.board.ram(best.cache)} bytes of fast RAM, without a cache {self.other(best)[1]:.3f}"
+
+    def other(self, row):
+        """What costs the least without a cache in as much fast RAM, and its cost."""
+        hot, ram = self.hot(row), self.board.ram(row.cache)
+        count = len(self.board.alternatives.hottest(ram).names)
+        if not count:
+            return "slow memory costs", 1.0
+        return f"the {count} hottest functions in {self.board.alternatives.hottest(ram).size} of the same {ram} bytes cost" , hot
+
+    def even(self, row):
+        """From how many wait states on the cache costs less than that."""
+        steps = max(row.counts.steps, 1)
+        instructions, loads = (part / steps for part in self.weights.parts(row.counts, self.sweep.registers or 0))
+        cold = self.board.alternatives.cold(self.board.ram(row.cache)) if self.hot(row) is not None else 1.0
+        even = self.board.alternatives.even(instructions, loads, cold)
+        return "the cache costs less at no number of wait states" if even is None else f"the cache costs less from {math.floor(even) + 1} wait states on"
