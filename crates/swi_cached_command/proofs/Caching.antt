@@ -1,5 +1,5 @@
 -- A run on the cached machine, from what its parts say.
-use Rattle.std.proofs.Common.{◌≡◌, ◌⊎◌, inl, inr, ℕ, ◌+◌, ◌-◌, ◌*◌, ◌/◌, ◌^◌, ◌≤◌, min, List, [], ◌∷◌, ◌++◌, length, take, drop, append_assoc, if◌then◌else◌, Option, None, Some, Result, Ok, Err, IsErrOf, MatchResult, refl, sym, ◌∙◌, subst, ap, arith}
+use Rattle.std.proofs.Common.{◌≡◌, inl, inr, ℕ, ◌+◌, ◌-◌, ◌*◌, ◌/◌, ◌^◌, ◌≤◌, min, List, [], ◌∷◌, ◌++◌, length, take, drop, append_assoc, if◌then◌else◌, Option, None, Some, Result, Ok, Err, IsErrOf, MatchResult, refl, sym, ◌∙◌, subst, ap, arith}
 use Rattle.std.proofs.Math.Nat.{div-mul-le_self}
 use Rattle.std.proofs.lemmas.List.{append-nil}
 use Rattle.std.specs.Io.KnownBytes.{Appends}
@@ -32,6 +32,9 @@ use Rattle.swi_hart.specs.Hart.{HartData}
 use Rattle.swi_cached.specs.declared.run.CachedStop.{CachedStop}
 use Rattle.swi_cached.specs.declared.run.CachedStop.TheVariants as stop
 use Rattle.swi_cached.specs.Answers as run
+use Rattle.swi_cached.specs.CachedRan.{Around}
+use Rattle.swi_hart.specs.declared.fault.BoardFault.{BoardFault}
+use Rattle.swi_hart.specs.declared.fault.BoardFault.TheVariants as board
 use Rattle.swi_cached.specs.Ringed.{ringed}
 use Rattle.swi_cached.specs.Slotted.{slotted}
 use Rattle.swi_cached.specs.Told.{addresses, history_of, next_error, told_line}
@@ -64,6 +67,10 @@ use Rattle.swi_task.proofs.Lines.{IsLined, after_line, after_run_line, appends_l
 abbrev pub ran_all : Devices → SourceState → SinkState → SinkState → RamState → Devices
 ran_all d i o e ram = record d { input = i; output = o; error = e; ram = ram }
 
+-- what the run sees of them
+abbrev pub around_of : Devices → Around
+around_of d = record { ram = d.ram; devices = record { input = d.input; output = d.output; error = d.error } }
+
 -- the cached run of a program with this input
 abbrev pub run_with : RunOptions → Cache → ImageData → ProgramData → Layout → List ℕ → CachedRun
 run_with o cache v p l input = cached_run cache o v (flat_start p l o.reports.calls input)
@@ -84,8 +91,8 @@ no_memory o cache v p l d = record {
 
 -- the causes of the board's devices, by the run's answer
 pub record BoardCauses {T : Type 0} (before after : Devices) (r : Result T CachedStop) : Type 0 where
-  pub streams : outside.HasCauses (stream_faults before) (stream_faults after) (IsErrOf r stop.SourceFault) (IsErrOf r stop.SinkFault)
-  pub ram_cause : DeviceCause before.ram.faults after.ram.faults (IsErrOf r stop.RamFault)
+  pub streams : outside.HasCauses (stream_faults before) (stream_faults after) (IsErrOf r (stop.Fault board.SourceFault)) (IsErrOf r (stop.Fault board.SinkFault))
+  pub ram_cause : DeviceCause before.ram.faults after.ram.faults (IsErrOf r (stop.Fault board.RamFault))
 
 memory_after : (o : RunOptions) (cache : Cache) (v : ImageData) (p : ProgramData) (l : Layout) (d : Devices) (i : SourceState) (out e : SinkState) (ram : RamState) →
     (ram ≡ d.ram) × (i ≡ d.input) × (out ≡ d.output) × (e ≡ d.error) → RunsOver o cache v p l d (ran_all d i out e ram) (Err refusal.Memory)
@@ -99,35 +106,35 @@ memory_after o cache v p l d i out e ram same =
 stop_causes : {T : Type 0} (f : CachedStop) (before after : Devices) → after.shelf.faults ≡ before.shelf.faults → BoardCauses {T = T} before after (Err f) →
     HasCauses {T = Ending} before after (Err (refusal_of f))
 stop_causes {T} f before after shelf h =
-    causes_of before after (Err (refusal_of f)) (no_cause shelf (no_shelf f)) (cause_as h.ram_cause (to f stop.RamFault) (from_ram f))
-    (named_as h.streams (to f stop.SourceFault) (from_source f) (to f stop.SinkFault) (from_sink f))
+    causes_of before after (Err (refusal_of f)) (no_cause shelf (no_shelf f)) (cause_as h.ram_cause (to f (stop.Fault board.RamFault)) (from_ram f))
+    (named_as h.streams (to f (stop.Fault board.SourceFault)) (from_source f) (to f (stop.Fault board.SinkFault)) (from_sink f))
   where
     no_shelf : (f : CachedStop) → IsErrOf {T = Ending} (Err (refusal_of f)) refusal.ShelfFault → ⊥
     no_shelf stop.Memory e = let never : ⊥ = cc in never
-    no_shelf stop.RamFault e = let never : ⊥ = cc in never
-    no_shelf stop.SourceFault e = let never : ⊥ = cc in never
-    no_shelf stop.SinkFault e = let never : ⊥ = cc in never
+    no_shelf (stop.Fault board.RamFault) e = let never : ⊥ = cc in never
+    no_shelf (stop.Fault board.SourceFault) e = let never : ⊥ = cc in never
+    no_shelf (stop.Fault board.SinkFault) e = let never : ⊥ = cc in never
 
     to : (f g : CachedStop) → IsErrOf {T = T} (Err f) g → IsErrOf {T = Ending} (Err (refusal_of f)) (refusal_of g)
     to f g e = let same : f ≡ g = cc in ap (λ (x : CachedStop). Err (refusal_of x)) same
 
-    from_ram : (f : CachedStop) → IsErrOf {T = Ending} (Err (refusal_of f)) refusal.RamFault → IsErrOf {T = T} (Err f) stop.RamFault
-    from_ram stop.RamFault e = refl
+    from_ram : (f : CachedStop) → IsErrOf {T = Ending} (Err (refusal_of f)) refusal.RamFault → IsErrOf {T = T} (Err f) (stop.Fault board.RamFault)
+    from_ram (stop.Fault board.RamFault) e = refl
     from_ram stop.Memory e = let never : ⊥ = cc in absurd never
-    from_ram stop.SourceFault e = let never : ⊥ = cc in absurd never
-    from_ram stop.SinkFault e = let never : ⊥ = cc in absurd never
+    from_ram (stop.Fault board.SourceFault) e = let never : ⊥ = cc in absurd never
+    from_ram (stop.Fault board.SinkFault) e = let never : ⊥ = cc in absurd never
 
-    from_source : (f : CachedStop) → IsErrOf {T = Ending} (Err (refusal_of f)) refusal.SourceFault → IsErrOf {T = T} (Err f) stop.SourceFault
-    from_source stop.SourceFault e = refl
+    from_source : (f : CachedStop) → IsErrOf {T = Ending} (Err (refusal_of f)) refusal.SourceFault → IsErrOf {T = T} (Err f) (stop.Fault board.SourceFault)
+    from_source (stop.Fault board.SourceFault) e = refl
     from_source stop.Memory e = let never : ⊥ = cc in absurd never
-    from_source stop.RamFault e = let never : ⊥ = cc in absurd never
-    from_source stop.SinkFault e = let never : ⊥ = cc in absurd never
+    from_source (stop.Fault board.RamFault) e = let never : ⊥ = cc in absurd never
+    from_source (stop.Fault board.SinkFault) e = let never : ⊥ = cc in absurd never
 
-    from_sink : (f : CachedStop) → IsErrOf {T = Ending} (Err (refusal_of f)) refusal.SinkFault → IsErrOf {T = T} (Err f) stop.SinkFault
-    from_sink stop.SinkFault e = refl
+    from_sink : (f : CachedStop) → IsErrOf {T = Ending} (Err (refusal_of f)) refusal.SinkFault → IsErrOf {T = T} (Err f) (stop.Fault board.SinkFault)
+    from_sink (stop.Fault board.SinkFault) e = refl
     from_sink stop.Memory e = let never : ⊥ = cc in absurd never
-    from_sink stop.RamFault e = let never : ⊥ = cc in absurd never
-    from_sink stop.SourceFault e = let never : ⊥ = cc in absurd never
+    from_sink (stop.Fault board.RamFault) e = let never : ⊥ = cc in absurd never
+    from_sink (stop.Fault board.SourceFault) e = let never : ⊥ = cc in absurd never
 
 -- the run so far is the flat machine's
 failed_so : (o : RunOptions) (c : CachedRun) (d m : Devices) (r : Refusal) (last : List ℕ) → BrokeIn o c d m r last → FetchedFront (words_after c c.limit) d.ram m.ram → CachedFailed o c d m r last
@@ -144,7 +151,7 @@ ram_failed : {T : Type 0} (o : RunOptions) (cache : Cache) (v : ImageData) (p : 
     KeepsBeyond cache.span d.ram ram →
     ((left : List ℕ) → d.input.left ≡ Some left → FetchedFront (words_after (run_with o cache v p l left) o.limits.steps) d.ram ram) →
     ((left : List ℕ) → d.input.left ≡ Some left → run.RamFailed (run_with o cache v p l left) d.ram ram i.left d.output.held out.held d.error.held e.held) →
-    BoardCauses {T = T} d (ran_all d i out e ram) (Err stop.RamFault) → RunsOver o cache v p l d (ran_all d i out e ram) (Err refusal.RamFault)
+    BoardCauses {T = T} d (ran_all d i out e ram) (Err (stop.Fault board.RamFault)) → RunsOver o cache v p l d (ran_all d i out e ram) (Err refusal.RamFault)
 ram_failed {T} o cache v p l d i out e ram kept words broke h = record {
   done = tt;
   refused = tt;
@@ -167,7 +174,7 @@ ram_failed {T} o cache v p l d i out e ram kept words broke h = record {
         last_failed = b.last_failed;
       })) (words left told);
   beyond = kept;
-  causes = stop_causes {T = T} stop.RamFault d (ran_all d i out e ram) refl h;
+  causes = stop_causes {T = T} (stop.Fault board.RamFault) d (ran_all d i out e ram) refl h;
 }
 
 pub front_none : (a b : Option (List ℕ)) (x y : List ℕ) (n : ℕ) → n ≡ 0 → Appends a b (x ++ take n y) → Appends a b x
@@ -178,14 +185,14 @@ front_none a b x y n zero h =
 source_failed : {T : Type 0} (o : RunOptions) (cache : Cache) (v : ImageData) (p : ProgramData) (l : Layout) (d : Devices) (i : SourceState) (out e : SinkState) (ram : RamState) →
     KeepsBeyond cache.span d.ram ram →
     ((left : List ℕ) → d.input.left ≡ Some left → FetchedFront (words_after (run_with o cache v p l left) o.limits.steps) d.ram ram) →
-    ((left : List ℕ) → d.input.left ≡ Some left → run.StepBroke {T = T} (run_with o cache v p l left) (Err stop.SourceFault) i.left d.output.held out.held d.error.held e.held (stream_faults d) (stream_faults (ran_all d i out e ram))) →
-    BoardCauses {T = T} d (ran_all d i out e ram) (Err stop.SourceFault) → RunsOver o cache v p l d (ran_all d i out e ram) (Err refusal.SourceFault)
+    ((left : List ℕ) → d.input.left ≡ Some left → run.StepFailed (run_with o cache v p l left) board.SourceFault i.left d.output.held out.held d.error.held e.held (stream_faults d) (stream_faults (ran_all d i out e ram))) →
+    BoardCauses {T = T} d (ran_all d i out e ram) (Err (stop.Fault board.SourceFault)) → RunsOver o cache v p l d (ran_all d i out e ram) (Err refusal.SourceFault)
 source_failed {T} o cache v p l d i out e ram kept words broke h = record {
   done = tt;
   refused = tt;
   quiet = λ never. absurd (never tt);
   failed = λ _ left told.
-      let b = (broke left told).failed in
+      let b = broke left told in
       let c = run_with o cache v p l left in
       let none = b.unwritten refl in
       failed_so o c d (ran_all d i out e ram) refusal.SourceFault [] (inr (inl (record {
@@ -203,27 +210,27 @@ source_failed {T} o cache v p l d i out e ram kept words broke h = record {
                 (ap (λ (k : ℕ). take k (next_error c.trace (program_after c b.steps))) none.1
                 ∙ take-append_seam (told_line c.trace (program_after c b.steps).machine) (held_next (program_after c b.steps)).error) b.error),
           );
-          unasked = (broke left told).unasked;
+          unasked = b.unasked;
           taken = b.taken;
           no_more = let few : length b.taken + length (held_next (program_after c b.steps)).input ≤ length (program_after c b.steps).input = b.few in omega arith;
           input = b.input;
         };
       }))) (words left told);
   beyond = kept;
-  causes = stop_causes {T = T} stop.SourceFault d (ran_all d i out e ram) refl h;
+  causes = stop_causes {T = T} (stop.Fault board.SourceFault) d (ran_all d i out e ram) refl h;
 }
 
 sink_failed : {T : Type 0} (o : RunOptions) (cache : Cache) (v : ImageData) (p : ProgramData) (l : Layout) (d : Devices) (i : SourceState) (out e : SinkState) (ram : RamState) →
     KeepsBeyond cache.span d.ram ram →
     ((left : List ℕ) → d.input.left ≡ Some left → FetchedFront (words_after (run_with o cache v p l left) o.limits.steps) d.ram ram) →
-    ((left : List ℕ) → d.input.left ≡ Some left → run.StepBroke {T = T} (run_with o cache v p l left) (Err stop.SinkFault) i.left d.output.held out.held d.error.held e.held (stream_faults d) (stream_faults (ran_all d i out e ram))) →
-    BoardCauses {T = T} d (ran_all d i out e ram) (Err stop.SinkFault) → RunsOver o cache v p l d (ran_all d i out e ram) (Err refusal.SinkFault)
+    ((left : List ℕ) → d.input.left ≡ Some left → run.StepFailed (run_with o cache v p l left) board.SinkFault i.left d.output.held out.held d.error.held e.held (stream_faults d) (stream_faults (ran_all d i out e ram))) →
+    BoardCauses {T = T} d (ran_all d i out e ram) (Err (stop.Fault board.SinkFault)) → RunsOver o cache v p l d (ran_all d i out e ram) (Err refusal.SinkFault)
 sink_failed {T} o cache v p l d i out e ram kept words broke h = record {
   done = tt;
   refused = tt;
   quiet = λ never. absurd (never tt);
   failed = λ _ left told.
-      let b = (broke left told).failed in
+      let b = broke left told in
       let c = run_with o cache v p l left in
       failed_so o c d (ran_all d i out e ram) refusal.SinkFault [] (inr (inl (record {
         steps = b.steps;
@@ -235,43 +242,36 @@ sink_failed {T} o cache v p l d i out e ram kept words broke h = record {
           error_front = b.error_front;
           error = to_nil d.error.held e.held _ b.error;
           source = λ x. absurd (let bad : ⊥ = cc in bad);
-          unasked = (broke left told).unasked;
+          unasked = b.unasked;
           taken = b.taken;
           no_more = let few : length b.taken + length (held_next (program_after c b.steps)).input ≤ length (program_after c b.steps).input = b.few in omega arith;
           input = b.input;
         };
       }))) (words left told);
   beyond = kept;
-  causes = stop_causes {T = T} stop.SinkFault d (ran_all d i out e ram) refl h;
+  causes = stop_causes {T = T} (stop.Fault board.SinkFault) d (ran_all d i out e ram) refl h;
 }
 
 -- it stopped before its end
 pub run_stopped : {T : Type 0} {o : RunOptions} {cache : Cache} {v : ImageData} {p : ProgramData} {l : Layout} {d : Devices} {i : SourceState} {out e : SinkState} {ram : RamState}
     (f : CachedStop) (r : Refusal) → r ≡ refusal_of f → KeepsBeyond cache.span d.ram ram →
     ((left : List ℕ) → d.input.left ≡ Some left → FetchedFront (words_after (run_with o cache v p l left) o.limits.steps) d.ram ram) →
-    (IsErrOf {T = T} (Err f) stop.Memory → (ram ≡ d.ram) × (i ≡ d.input) × (out ≡ d.output) × (e ≡ d.error)) →
-    (IsErrOf {T = T} (Err f) stop.RamFault → (left : List ℕ) → d.input.left ≡ Some left → run.RamFailed (run_with o cache v p l left) d.ram ram i.left d.output.held out.held d.error.held e.held) →
-    (IsErrOf {T = T} (Err f) stop.SourceFault ⊎ IsErrOf {T = T} (Err f) stop.SinkFault → (left : List ℕ) → d.input.left ≡ Some left →
-    run.StepBroke {T = T} (run_with o cache v p l left) (Err f) i.left d.output.held out.held d.error.held e.held (stream_faults d) (stream_faults (ran_all d i out e ram))) →
+    (IsErrOf {T = T} (Err f) stop.Memory → around_of (ran_all d i out e ram) ≡ around_of d) →
+    ((fault : BoardFault) → IsErrOf {T = T} (Err f) (stop.Fault fault) → (left : List ℕ) → d.input.left ≡ Some left → run.Failed (run_with o cache v p l left) fault (around_of d) (around_of (ran_all d i out e ram))) →
     BoardCauses {T = T} d (ran_all d i out e ram) (Err f) → RunsOver o cache v p l d (ran_all d i out e ram) (Err r)
-run_stopped {T} {o} {cache} {v} {p} {l} {d} {i} {out} {e} {ram} f r is kept words memory ram_broke broke causes =
-    subst (λ (x : Refusal). RunsOver o cache v p l d (ran_all d i out e ram) (Err x)) (sym is) (by f memory ram_broke broke causes)
+run_stopped {T} {o} {cache} {v} {p} {l} {d} {i} {out} {e} {ram} f r is kept words memory broke causes =
+    subst (λ (x : Refusal). RunsOver o cache v p l d (ran_all d i out e ram) (Err x)) (sym is) (by f memory broke causes)
   where
-    by : (f : CachedStop) → (IsErrOf {T = T} (Err f) stop.Memory → (ram ≡ d.ram) × (i ≡ d.input) × (out ≡ d.output) × (e ≡ d.error)) →
-        (IsErrOf {T = T} (Err f) stop.RamFault → (left : List ℕ) → d.input.left ≡ Some left → run.RamFailed (run_with o cache v p l left) d.ram ram i.left d.output.held out.held d.error.held e.held) →
-        (IsErrOf {T = T} (Err f) stop.SourceFault ⊎ IsErrOf {T = T} (Err f) stop.SinkFault → (left : List ℕ) → d.input.left ≡ Some left →
-        run.StepBroke {T = T} (run_with o cache v p l left) (Err f) i.left d.output.held out.held d.error.held e.held (stream_faults d) (stream_faults (ran_all d i out e ram))) →
+    by : (f : CachedStop) → (IsErrOf {T = T} (Err f) stop.Memory → around_of (ran_all d i out e ram) ≡ around_of d) →
+        ((fault : BoardFault) → IsErrOf {T = T} (Err f) (stop.Fault fault) → (left : List ℕ) → d.input.left ≡ Some left → run.Failed (run_with o cache v p l left) fault (around_of d) (around_of (ran_all d i out e ram))) →
         BoardCauses {T = T} d (ran_all d i out e ram) (Err f) → RunsOver o cache v p l d (ran_all d i out e ram) (Err (refusal_of f))
-    by stop.Memory memory ram_broke broke causes = memory_after o cache v p l d i out e ram (memory refl)
-    by stop.RamFault memory ram_broke broke causes =
-        ram_failed {T = T} o cache v p l d i out e ram kept words
-        (ram_broke refl) causes
-    by stop.SourceFault memory ram_broke broke causes =
-        source_failed {T = T} o cache v p l d i out e ram kept words
-        (broke (inl refl)) causes
-    by stop.SinkFault memory ram_broke broke causes =
-        sink_failed {T = T} o cache v p l d i out e ram kept words
-        (broke (inr refl)) causes
+    by stop.Memory memory broke causes =
+        let same = memory refl in
+        memory_after o cache v p l d i out e ram
+        (ap (λ (a : Around). a.ram) same, ap (λ (a : Around). a.devices.input) same, ap (λ (a : Around). a.devices.output) same, ap (λ (a : Around). a.devices.error) same)
+    by (stop.Fault board.RamFault) memory broke causes = ram_failed {T = T} o cache v p l d i out e ram kept words (broke board.RamFault refl) causes
+    by (stop.Fault board.SourceFault) memory broke causes = source_failed {T = T} o cache v p l d i out e ram kept words (broke board.SourceFault refl) causes
+    by (stop.Fault board.SinkFault) memory broke causes = sink_failed {T = T} o cache v p l d i out e ram kept words (broke board.SinkFault refl) causes
 
 -- what stopped a run whose refusal `map_err(refusal_of)?` hands on
 pub handed_on : {T : Type 0} (r : Result T CachedStop) (x : Refusal) → MatchResult r (λ y. ◌≡◌ {A = Result T Refusal} (Err x) (Ok y)) (λ f. x ≡ refusal_of f) →

@@ -21,6 +21,7 @@ use Rattle.swi_rom.specs.Service.{Cache}
 use Rattle.swi_trace.specs.History.{last_of}
 use Rattle.swi_cached.specs.Answers.{RamAfter}
 use Rattle.swi_cached.specs.Cached.{CachedRun, IsFlatRun, StopsBeforeStore, end_of, program_after, told_after, fetches_after, words_after}
+use Rattle.swi_hart.specs.declared.fault.BoardFault.TheVariants as board
 use Rattle.swi_board.specs.Fetching.{FetchedFront}
 use Rattle.swi_cached.specs.Told.{addresses, is_each, lines_at, next_error, told_line}
 use Rattle.swi_cached.specs.declared.run.CachedStop.{CachedStop}
@@ -137,9 +138,9 @@ cached_task name cache o = record {
 -- what a run is refused with that stopped so
 abbrev pub refusal_of : CachedStop → Refusal
 refusal_of stop.Memory = refusal.Memory
-refusal_of stop.RamFault = refusal.RamFault
-refusal_of stop.SourceFault = refusal.SourceFault
-refusal_of stop.SinkFault = refusal.SinkFault
+refusal_of (stop.Fault board.RamFault) = refusal.RamFault
+refusal_of (stop.Fault board.SourceFault) = refusal.SourceFault
+refusal_of (stop.Fault board.SinkFault) = refusal.SinkFault
 
 -- why a run over a service is refused
 abbrev pub IsRunErr : Refusal → Type 0

@@ -19,6 +19,7 @@ use crate::report::report_board;
 use crate::trace::write_last;
 use std::alloc::Global;
 use swi_answer::{Ending, Refusal};
+use swi_board::BoardFault;
 use swi_cached::{AskedRun, CachedStop, ring_for, run_cached, slots_for};
 use swi_command::{CacheKind, CacheOptions, RunLimits, RunOptions};
 use swi_image::ImageView;
@@ -38,9 +39,9 @@ fn refusal_of(stop: CachedStop) -> Refusal
 {
     match stop {
         CachedStop::Memory => Refusal::Memory,
-        CachedStop::RamFault => Refusal::RamFault,
-        CachedStop::SourceFault => Refusal::SourceFault,
-        CachedStop::SinkFault => Refusal::SinkFault,
+        CachedStop::Fault(BoardFault::RamFault) => Refusal::RamFault,
+        CachedStop::Fault(BoardFault::SourceFault) => Refusal::SourceFault,
+        CachedStop::Fault(BoardFault::SinkFault) => Refusal::SinkFault,
     }
 }
 

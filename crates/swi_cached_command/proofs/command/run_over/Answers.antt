@@ -7,37 +7,38 @@ pub returns-in_err-ended : goal.returns-in_err-ended
 returns-in_err-ended g c =
     let p = err_from_is_err_and c.from_residual.result c.from_residual.ensures.1 in
     let stopped = handed_on _ _ c.in_err-ended.ensures.cases in
-    let e = c.run_cached.ensures in
-    let broke = rw stopped.1 at e.step_failed in
+    let e = c.run_cached.ensures.in_steps in
     rw (p.1, p.2) (λ d.
-    run_stopped stopped.0 c.in_err-ended.field-0.0 stopped.2 e.kept (rw stopped.1 at e.fetched_at) (rw stopped.1 at e.memory) (rw stopped.1 at e.ram_failed)
-    broke (record { streams = rw stopped.1 at e.causes; ram_cause = rw stopped.1 at e.ram_cause }))
+    run_stopped stopped.0 c.in_err-ended.field-0.0 stopped.2 e.kept (rw stopped.1 at e.fetched_at) (rw stopped.1 at e.memory) (rw stopped.1 at e.failed)
+    (record { streams = rw stopped.1 at e.causes; ram_cause = rw stopped.1 at e.ram_cause }))
 
 pub returns-in_default : goal.returns-in_default
 returns-in_default g c = λ d.
-    let e = c.run_cached.ensures in
+    let e = c.run_cached.ensures.in_steps in
     let is = c.in_ok-ended.ensures.cases in
+    let so = let_through _ _ _ e.ended is in
     let broke = c.in_default.ensures in
     report_broke (record {
-      ended = let_through _ _ _ e.ended is;
-      told = let_through _ _ _ e.told is;
-      short = let_through _ _ _ e.short is;
-      after = let_through _ _ _ e.ram is;
+      ended = λ left told. (so left told).ended;
+      told = λ left told. (so left told).told;
+      short = λ left told. (so left told).short;
+      after = λ left told. (so left told).ram;
       counted = let_through _ _ _ e.counted is;
     })
     e.kept (quiet_run _ _ (record { streams = e.causes; ram_cause = e.ram_cause }) is) broke.bytes broke.asked broke.cause.later broke.cause.failed
 
 pub returns-in-Ok-write_last : goal.returns-in-Ok-write_last
 returns-in-Ok-write_last g c = λ d.
-    let e = c.run_cached.ensures in
+    let e = c.run_cached.ensures.in_steps in
     let is = c.in_ok-ended.ensures.cases in
+    let so = let_through _ _ _ e.ended is in
     let wrote = c.in-Ok.ensures in
     let shown = c.in-Ok-write_last.ensures in
     run_ended (record {
-      ended = let_through _ _ _ e.ended is;
-      told = let_through _ _ _ e.told is;
-      short = let_through _ _ _ e.short is;
-      after = let_through _ _ _ e.ram is;
+      ended = λ left told. (so left told).ended;
+      told = λ left told. (so left told).told;
+      short = λ left told. (so left told).short;
+      after = λ left told. (so left told).ram;
       counted = let_through _ _ _ e.counted is;
     })
     e.kept (quiet_run _ _ (record { streams = e.causes; ram_cause = e.ram_cause }) is) wrote.bytes wrote.cause.quiet c.bus.ensures shown.bytes shown.cause.quiet
@@ -45,15 +46,16 @@ returns-in-Ok-write_last g c = λ d.
 
 pub returns : goal.returns
 returns g c = λ d.
-    let e = c.run_cached.ensures in
+    let e = c.run_cached.ensures.in_steps in
     let is = c.in_ok-ended.ensures.cases in
+    let so = let_through _ _ _ e.ended is in
     let wrote = c.in-Ok.ensures in
     let broke = c.in-Err.ensures in
     lines_broke (record {
-      ended = let_through _ _ _ e.ended is;
-      told = let_through _ _ _ e.told is;
-      short = let_through _ _ _ e.short is;
-      after = let_through _ _ _ e.ram is;
+      ended = λ left told. (so left told).ended;
+      told = λ left told. (so left told).told;
+      short = λ left told. (so left told).short;
+      after = λ left told. (so left told).ram;
       counted = let_through _ _ _ e.counted is;
     })
     e.kept (quiet_run _ _ (record { streams = e.causes; ram_cause = e.ram_cause }) is) wrote.bytes wrote.cause.quiet c.bus.ensures broke.bytes broke.asked broke.cause.later broke.cause.failed
