@@ -2,7 +2,7 @@
 use Rattle.std.proofs.Common.{◌≡◌, ◌+◌, ◌≤◌, [], ap, ◌∙◌}
 use Rattle.swi_calls.specs.declared.machine.Machine.{Machine}
 use Rattle.swi_image.specs.Format.{ImageData}
-use Rattle.swi_rom.specs.Record.{Record, Transfer, indirect, writes}
+use Rattle.swi_rom.specs.Record.{Record, Transfer, indirect}
 use Rattle.swi_rom.specs.Service.{ServiceOf, IsService, Cache, cache_of}
 use Rattle.swi_cached.specs.Cached.{CachedRun, IsFresh, record_at_boot}
 

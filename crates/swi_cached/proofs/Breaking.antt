@@ -1,12 +1,11 @@
 -- A told run that a device broke off, in the words of its original steps.
-use Rattle.std.proofs.Common.{◌≡◌, ◌⊎◌, ℕ, suc, ◌+◌, ◌-◌, ◌<◌, ◌≤◌, Bool, true, false, List, [], ◌∷◌, ◌++◌, length, reverse, take, drop, if◌then◌else◌, Option, Some, None, is_some, refl, sym, ap, subst, ◌∙◌, inl, inr, arith, append-nil, append_assoc}
-use Rattle.std.proofs.lemmas.Bool.{false≢true}
-use Rattle.std.proofs.lemmas.List.{length-append, reverse-append, reverse-reverse, take-append-drop}
+use Rattle.std.proofs.Common.{◌≡◌, ℕ, suc, ◌+◌, ◌-◌, ◌<◌, ◌≤◌, Bool, true, false, List, [], ◌++◌, length, reverse, take, drop, if◌then◌else◌, Option, Some, None, is_some, refl, sym, ap, subst, ◌∙◌, inl, inr, arith, append-nil, append_assoc}
+use Rattle.std.proofs.lemmas.List.{reverse-append, reverse-reverse, take-append-drop}
 use Rattle.std.proofs.Math.Seq.{take-append_seam, take-append-add}
 use Rattle.std.specs.Io.KnownBytes.{Appends, Consumes}
 use Rattle.swi_outside.specs.CacheRam.{RamState}
 use Rattle.swi_outside.specs.Causes.{risen}
-use Rattle.swi_outside.specs.Devices.{Devices, Faults, faults_of}
+use Rattle.swi_outside.specs.Devices.{Faults, faults_of}
 use Rattle.swi_outside.specs.Laws.{Appends-append}
 use Rattle.swi_outside.specs.Sink.{SinkState}
 use Rattle.swi_calls.specs.declared.end.End.{End}
@@ -19,12 +18,11 @@ use Rattle.swi_hart.specs.declared.fault.BoardFault.{BoardFault}
 use Rattle.swi_hart.specs.declared.fault.BoardFault.TheVariants.{RamFault, SourceFault, SinkFault}
 use Rattle.swi_hart.proofs.Taking.{input_shrinks}
 use Rattle.swi_board.specs.Board.{BoardWithDevices}
-use Rattle.swi_board.specs.BoardRan.{BrokeOff}
 use Rattle.swi_board.specs.Fetching.{FetchedFront}
-use Rattle.swi_board.specs.Moments.{GoesOn, Moment, Policy, event, events}
-use Rattle.swi_board.specs.Ran.{Unasked, next_of}
-use Rattle.swi_board.specs.Tracking.{Point, Tracks, point_of}
-use Rattle.swi_board.specs.Transfers.{cost, fetches}
+use Rattle.swi_board.specs.Moments.{Moment, Policy, event, events}
+use Rattle.swi_board.specs.Ran.{next_of}
+use Rattle.swi_board.specs.Tracking.{Tracks, point_of}
+use Rattle.swi_board.specs.Transfers.{cost}
 use Rattle.swi_board.proofs.Held.{run_snoc, same_steps}
 use Rattle.swi_run_laws.specs.Broken.{Broke, DeviceBroke, RamBroke}
 use Rattle.swi_run_laws.proofs.After.{is_after}
@@ -34,8 +32,8 @@ use Rattle.swi_trace.specs.declared.trace.Trace.{Trace}
 use Rattle.swi_cached.specs.Answers.{Failed, RamFailed, StepFailed}
 use Rattle.swi_cached.specs.Cached.{CachedRun, fetches_after, program_after, words_after}
 use Rattle.swi_cached.specs.CachedRan.{Around, Booted, with_input}
-use Rattle.swi_cached.specs.Told.{error_by, is_each, next_error, next_told, told_line}
-use Rattle.swi_cached.specs.Traced.{Before, BegunTo, LineBroke, StepBroke, Tells, ToldAlong, ToldTo, with_errors, with_sink}
+use Rattle.swi_cached.specs.Told.{error_by, is_each, told_line}
+use Rattle.swi_cached.specs.Traced.{BegunTo, LineBroke, StepBroke, Tells, ToldAlong, ToldTo, with_errors, with_sink}
 use Rattle.swi_cached.proofs.Starting.{begins, first_moment, from_point, given_for, led_to, quiet_run, setting_is}
 use Rattle.swi_cached.proofs.Tells.{error_next, event_told, line_is, same_at, tells_as}
 use Rattle.swi_cached.proofs.Unasked.{line_unasked, told_unasked}

@@ -1,12 +1,11 @@
 -- A run that came to its end, in the words of its original steps.
-use Rattle.std.proofs.Common.{◌≡◌, ◌⊎◌, ℕ, ◌+◌, ◌-◌, ◌*◌, ◌≤◌, true, List, ◌++◌, length, reverse, Option, Some, None, is_some, slice_index, refl, sym, ap, subst, ◌∙◌, inl, inr, arith, append-nil}
+use Rattle.std.proofs.Common.{◌≡◌, ◌⊎◌, ℕ, ◌+◌, ◌-◌, ◌*◌, ◌≤◌, true, List, ◌++◌, length, reverse, Option, Some, None, is_some, refl, sym, ap, subst, ◌∙◌, inl, inr, arith, append-nil}
 use Rattle.std.proofs.lemmas.Bool.{false≢true}
 use Rattle.std.proofs.lemmas.List.{length-reverse}
 use Rattle.std.specs.Io.KnownBytes.{Appends}
 use Rattle.swi_outside.specs.Causes.{risen}
 use Rattle.swi_calls.specs.declared.end.End.{End}
 use Rattle.swi_calls.specs.declared.machine.Machine.{Machine}
-use Rattle.swi_calls.specs.Held.{held_run}
 use Rattle.swi_calls.specs.State.{FlatState}
 use Rattle.swi_image.specs.Format.{ImageData}
 use Rattle.swi_rom.specs.Coherent.{Coherent}
@@ -16,7 +15,6 @@ use Rattle.swi_rom.specs.Served.{SameFrom}
 use Rattle.swi_hart.specs.Hart.{HartData, is_between}
 use Rattle.swi_hart.specs.Matching.{Matches}
 use Rattle.swi_board.specs.Board.{BoardWithDevices}
-use Rattle.swi_board.specs.Fetching.{words_run}
 use Rattle.swi_board.specs.Moments.{IsRun, Moment, Policy, events}
 use Rattle.swi_board.specs.Tracking.{point_of}
 use Rattle.swi_board.specs.Transfers.{here_of}
@@ -27,10 +25,10 @@ use Rattle.swi_run_laws.specs.After.{IsAfter}
 use Rattle.swi_run_laws.proofs.Between.{between_at, most_any, settled_most}
 use Rattle.swi_run_laws.proofs.RunLaws.{events_written, run_after}
 use Rattle.swi_trace.specs.declared.trace.Trace.{Trace}
-use Rattle.swi_cached.specs.Answers.{BoardEnded, EndedSo, Ended, IsShort, RamAfter}
-use Rattle.swi_cached.specs.Cached.{CachedRun, IsFresh, end_of, fetches_after, record_after, words_after}
+use Rattle.swi_cached.specs.Answers.{BoardEnded, EndedSo, Ended, RamAfter}
+use Rattle.swi_cached.specs.Cached.{CachedRun, IsFresh, end_of, record_after, words_after}
 use Rattle.swi_cached.specs.CachedRan.{Around, Booted, with_input}
-use Rattle.swi_cached.specs.Told.{error_by, is_each}
+use Rattle.swi_cached.specs.Told.{is_each}
 use Rattle.swi_cached.specs.Traced.{Before, ToldAlong, ToldTo}
 use Rattle.swi_cached.proofs.Boot.{lawful}
 use Rattle.swi_cached.proofs.Services.{services_few}

@@ -1,6 +1,6 @@
 -- A run of a program out of a cache, in the words of its original steps.
-use Rattle.std.proofs.Common.{◌≡◌, ◌⊎◌, ℕ, ◌^◌, ◌<◌, ◌≤◌, Bool, true, List, [], Option, Some, None, is_some, Result, Ok, Err, IsErrOf, refl, sym, ap, subst, ◌∙◌, inl, inr, arith}
-use Rattle.swi_outside.specs.CacheRam.{RamState, KeepsBeyond}
+use Rattle.std.proofs.Common.{◌≡◌, ℕ, ◌^◌, ◌<◌, true, List, Option, None, is_some, Result, Ok, Err, IsErrOf, refl, sym, ap, subst, ◌∙◌, inl, inr, arith}
+use Rattle.swi_outside.specs.CacheRam.{KeepsBeyond}
 use Rattle.swi_outside.specs.Causes.{DeviceCause}
 use Rattle.swi_outside.specs.Devices.{Devices, Faults, HasCauses, faults_of}
 use Rattle.swi_outside.specs.Laws.{cause_as, cause_from, causes_from, named_as, no_cause, none_named, ok_causes}
@@ -10,7 +10,6 @@ use Rattle.swi_image.specs.Place.{place_of}
 use Rattle.swi_memory.specs.Bus.{fetched}
 use Rattle.swi_render.specs.Carried.{Carries}
 use Rattle.swi_rom.specs.Service.{ServiceOf, IsService, Setting}
-use Rattle.swi_hart.specs.Leaving.{RamFailed as ServiceFailed}
 use Rattle.swi_hart.specs.declared.fault.BoardFault.{BoardFault}
 use Rattle.swi_hart.specs.declared.fault.BoardFault.TheVariants.{RamFault, SourceFault, SinkFault}
 use Rattle.swi_board.specs.Board.{BoardOf, BoardWithDevices}

@@ -1,10 +1,10 @@
 -- A run behind its boot: where its machine instructions begin, and where they have led.
-use Rattle.std.proofs.Common.{◌≡◌, ℕ, ◌+◌, ◌-◌, ◌*◌, ◌≤◌, List, [], Option, Some, None, refl, sym, ap, subst, ◌∙◌, zero-add, arith}
+use Rattle.std.proofs.Common.{◌≡◌, ℕ, ◌+◌, ◌-◌, ◌*◌, ◌≤◌, List, [], Option, Some, None, sym, ap, subst, ◌∙◌, zero-add, arith}
 use Rattle.std.specs.Io.KnownBytes.{Appends}
 use Rattle.swi_memory.specs.Bus.{fetched}
 use Rattle.swi_outside.specs.Causes.{risen}
 use Rattle.swi_outside.specs.CacheRam.{KeepsBeyond}
-use Rattle.swi_outside.specs.Devices.{Devices, Faults, faults_of}
+use Rattle.swi_outside.specs.Devices.{Devices, faults_of}
 use Rattle.swi_outside.specs.Laws.{Appends-none}
 use Rattle.swi_calls.specs.declared.end.End.{End}
 use Rattle.swi_calls.specs.declared.machine.Machine.{Machine}
@@ -15,9 +15,7 @@ use Rattle.swi_rom.specs.Service.{ServiceOf, Setting, cache_of}
 use Rattle.swi_hart.specs.Bounds.{depth, most, most_by}
 use Rattle.swi_hart.specs.Hart.{HartData}
 use Rattle.swi_board.specs.Board.{BoardWithDevices}
-use Rattle.swi_board.specs.BoardRan.{with_ram}
-use Rattle.swi_board.specs.Entered.{Entered}
-use Rattle.swi_board.specs.Moments.{Moment, booted, events}
+use Rattle.swi_board.specs.Moments.{Moment, booted}
 use Rattle.swi_board.specs.Tracking.{Point, Tracks, point_of}
 use Rattle.swi_board.proofs.Running.{kept_both}
 use Rattle.swi_run_laws.proofs.Between.{depth_booted}

@@ -12,14 +12,11 @@ use Rattle.swi_calls.specs.Held.{held_made, held_run, held_step}
 use Rattle.swi_calls.specs.Laws.{held_run_none}
 use Rattle.swi_calls.specs.State.{FlatState}
 use Rattle.swi_image.specs.Format.{ImageData}
-use Rattle.swi_rom.specs.Record.{Placed, writes}
 use Rattle.swi_rom.specs.Service.{ServiceOf, IsService}
 use Rattle.swi_hart.specs.declared.hart.Control.{Control}
 use Rattle.swi_hart.specs.declared.fault.BoardFault.{BoardFault}
 use Rattle.swi_hart.specs.declared.fault.BoardFault.TheVariants.{SinkFault}
-use Rattle.swi_hart.specs.Bounds.{Grown, most, most_by}
-use Rattle.swi_hart.specs.Calling.{Made}
-use Rattle.swi_hart.specs.Leaving.{RamStepped, moved, transfer_at}
+use Rattle.swi_hart.specs.Bounds.{most, most_by}
 use Rattle.swi_hart.specs.MachineStep.{BoardStepped}
 use Rattle.swi_hart.specs.Matching.{Fits}
 use Rattle.swi_hart.proofs.Growing.{depth_most}

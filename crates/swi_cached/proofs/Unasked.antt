@@ -1,5 +1,5 @@
 -- A sink to which a step gives nothing is not asked, also where its line is told.
-use Rattle.std.proofs.Common.{◌≡◌, ℕ, Bool, true, false, List, [], ◌∷◌, ◌++◌, Option, Some, None, codes, refl, ap, subst, ◌∙◌}
+use Rattle.std.proofs.Common.{◌≡◌, ℕ, Bool, true, false, List, [], ◌∷◌, ◌++◌, Option, Some, None, codes, refl, subst, ◌∙◌}
 use Rattle.swi_memory.specs.Bus.{fetched}
 use Rattle.swi_outside.specs.Devices.{Faults}
 use Rattle.swi_calls.specs.State.{FlatState}

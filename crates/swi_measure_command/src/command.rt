@@ -21,7 +21,7 @@ ghost use Rattle.swi_measure_command.specs.MeasureMade.{MadeRan, MeasuresOver, b
 use crate::nowhere::Nowhere;
 use std::alloc::Global;
 use swi_answer::{Ending, Refusal};
-use swi_board::Board;
+use swi_board::{Board, BoardFault};
 use swi_cached::{AskedRun, CachedStop, ring_for, run_cached, slots_for};
 use swi_cached_command::board_work;
 use swi_calls::End;
@@ -111,10 +111,10 @@ fn run_made<R: MicroRam, S: CacheRom>(
     ) {
         Ok((board, _history)) => Ok(board),
         Err(CachedStop::Memory) => Err(Refusal::Memory),
-        Err(CachedStop::RamFault) => Err(Refusal::RamFault),
+        Err(CachedStop::Fault(BoardFault::RamFault)) => Err(Refusal::RamFault),
         // No other device fails.
-        Err(CachedStop::SourceFault) => unreachable!(),
-        Err(CachedStop::SinkFault) => unreachable!(),
+        Err(CachedStop::Fault(BoardFault::SourceFault)) => unreachable!(),
+        Err(CachedStop::Fault(BoardFault::SinkFault)) => unreachable!(),
     }
 }
 

@@ -1,4 +1,4 @@
-use Rattle.std.proofs.Common.{◌≡◌, ◌≤◌, ◌<◌, ℕ, refl, ap, subst, ◌∙◌, inl, inr, arith}
+use Rattle.std.proofs.Common.{refl, ap, subst, inr, arith}
 use Rattle.swi_outside.specs.CacheRam.{RamState}
 use Rattle.swi_calls.specs.Flat.{machine_of}
 use Rattle.swi_hart.specs.Hart.{HartData, unbooted}

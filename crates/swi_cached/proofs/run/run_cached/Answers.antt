@@ -1,5 +1,4 @@
 use Rattle.std.proofs.Common.{refl}
-use Rattle.swi_calls.specs.Flat.{machine_of}
 use Rattle.swi_cached.proofs.InSteps.{in_steps}
 use Rattle.swi_cached.proofs.run.run_cached.Goals as goal
 

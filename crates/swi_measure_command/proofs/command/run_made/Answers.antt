@@ -7,10 +7,6 @@ use Rattle.swi_measure_command.proofs.command.run_made.Goals as goal
 
 pub returns-in-Ok-clause-ran : goal.returns-in-Ok-clause-ran
 returns-in-Ok-clause-ran g c =
-    let e = c.in-Ok.ensures in
-    made_ran (made_run (cache_of g.S.CacheRom.service c.args.rom) c.args.prepared.now.program c.args.prepared.now.layout c.args.image.now) _ _ _ _ _ _ _ _ _ (e.ended [] refl) (e.short [] refl) (e.ram [] refl) (e.counted [])
-
-pub returns-in-Err-RamFault-clause-refused : goal.returns-in-Err-RamFault-clause-refused
-returns-in-Err-RamFault-clause-refused g c =
-    let e = c.in-Err-RamFault.ensures in
-    inr (refl, record { fetched_at = e.fetched_at [] refl; last_failed = (e.ram_failed (ap (λ (stop : CachedStop). Err stop) c.in-Err-RamFault.field-0-is) [] refl).last_failed })
+    let e = c.in-Ok.ensures.in_steps in
+    let so = e.ended [] refl in
+    made_ran (made_run (cache_of g.S.CacheRom.service c.args.rom) c.args.prepared.now.program c.args.prepared.now.layout c.args.image.now) _ _ _ _ _ _ _ _ _ so.ended so.short so.ram (e.counted [])
