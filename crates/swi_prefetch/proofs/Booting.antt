@@ -1,41 +1,25 @@
 -- The board of a program whose boot has entered an empty cache.
-use Rattle.std.proofs.Common.{◌≡◌, ◌==◌, ◌&&◌, ℕ, ◌+◌, ◌*◌, ◌/◌, ◌≤◌, true, not, if◌then◌else◌, [], Option, None, refl, sym, ap, subst, ◌∙◌, arith}
-use Rattle.std.proofs.lemmas.Bool.{false≢true}
+use Rattle.std.proofs.Common.{◌≡◌, ◌&&◌, ℕ, ◌+◌, ◌*◌, ◌/◌, ◌≤◌, if◌then◌else◌, [], Option, None, is_some, ap, subst, ◌∙◌, arith}
 use Rattle.swi_calls.specs.declared.end.End.{End}
 use Rattle.swi_calls.specs.declared.machine.Machine.{Machine}
 use Rattle.swi_image.specs.Format.{ImageData}
-use Rattle.swi_image.specs.Place.{place_of}
 use Rattle.swi_rom.specs.Record.{Record, indirect}
 use Rattle.swi_rom.specs.Service.{ServiceOf}
-use Rattle.swi_hart.specs.declared.hart.Stage.TheVariants.{Start, Low, Return, Leave}
-use Rattle.swi_hart.specs.declared.hart.Control.{Control}
-use Rattle.swi_hart.specs.declared.hart.Control.TheVariants.{At, Outside}
-use Rattle.swi_hart.specs.Hart.{HartData, is_between, is_place, unbooted}
-use Rattle.swi_hart.specs.Bounds.{depth, most, most_by}
+use Rattle.swi_hart.specs.Hart.{HartData, unbooted}
+use Rattle.swi_hart.specs.Bounds.{depth, is_outside, most, most_by}
 use Rattle.swi_hart.specs.MachineStep.{BoardWithRam}
 use Rattle.swi_hart.specs.Service.{ServiceWithRam}
 use Rattle.swi_board.specs.Entered.{Entered}
-use Rattle.swi_board.specs.Transfers.{here_of}
 use Rattle.swi_outside.specs.CacheRam.{RamState}
 use Rattle.swi_engine.specs.Engine.{beside, engine_words}
 use Rattle.swi_engine.specs.Laws.{engine_laws}
 use Rattle.swi_engine.specs.Service.{engine_service}
 use Rattle.swi_engine.specs.State.{EngineData, kept_by, setting_of}
-use Rattle.swi_turn.specs.Laws.{engine_laws as turn_laws}
-use Rattle.swi_turn.specs.Turns.{Beside}
+use Rattle.swi_run_laws.proofs.Between.{depth_booted}
+use Rattle.swi_prefetch.specs.EngineLaws.{engine_laws as turn_laws}
+use Rattle.swi_prefetch.specs.Turns.{Beside}
 use Rattle.swi_prefetch.specs.Prefetching.{BootedOn, empty_for}
 use Rattle.std.proofs.Math.Nat.{div-mul-le_self}
-
--- a control at a text word's place is not at an exit behind a block's last text word
-depth_booted : (v : ImageData) (m : Machine) (c : Control) → is_between c ≡ true → here_of v m c ≡ place_of v m.pc → depth v m c ≡ 1
-depth_booted v m (At i b o Start) between here = ap (λ (p : Option (ℕ × ℕ)). if not (is_place p b o) then 0 else 1) (sym here) ∙ by b o
-  where
-    by : (b o : ℕ) → ◌≡◌ {A = ℕ} (if not (b == b && o == o) then 0 else 1) 1
-    by b o = grind arith
-depth_booted v m (At i b o Low) between here = absurd (false≢true between)
-depth_booted v m (At i b o Return) between here = absurd (false≢true between)
-depth_booted v m (At i b o Leave) between here = absurd (false≢true between)
-depth_booted v m Outside between here = refl
 
 pub beside_at_boot : {S : Type 0} (k : ServiceOf S) (v : ImageData) (m : Machine) (before : ServiceWithRam S) (b : BoardWithRam S) → Entered k v (unbooted m) before b →
     m.ending ≡ None → m.steps ≡ 0 → b.hart.count ≡ 1 → (k.kept b.rom).counts.services ≡ 0 → Beside k v b
@@ -68,6 +52,7 @@ booted_on v m bytes rom entry before b same going none entered count policy =
     record {
       entered = subst (λ (e : EngineData). Entered engine_service v (unbooted m) (record { rom = e; ram = before }) b) same entered;
       count = count;
+      inside = ap {B = ℕ} (λ (x : Option End). if is_some x && is_outside b.hart.control then 1 else 0) (ap (λ (h : HartData). h.machine.ending) entered.hart ∙ going);
       words = words;
       beside = beside_at_boot engine_service v m (record { rom = rom; ram = before }) b entered going none count unserved;
     }

@@ -1,9 +1,11 @@
+pub mod Turning
+pub mod Bounds
 pub mod Booting
-pub mod Spending
 pub mod Tracks
-pub mod Working
 pub mod Beginning
 pub mod Leading
+pub mod Standing
+pub mod Writing
+pub mod Apart
 pub mod Rounds
-pub mod Quiet
 pub mod RunLaws

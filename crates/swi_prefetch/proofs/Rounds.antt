@@ -1,8 +1,9 @@
 -- Events in a row, round by round.
-use Rattle.std.proofs.Common.{◌≡◌, ◌⊎◌, ℕ, zero, suc, ◌+◌, ◌-◌, ◌*◌, ◌^◌, ◌<◌, ◌≤◌, not, ◌&&◌, nat_lt, Bool, true, false, List, [], ◌∷◌, ◌++◌, length, replicate, Option, Some, None, is_some, Result, Ok, Err, IsErrOf, refl, sym, ap, subst, ◌∙◌, inl, inr, append-nil, arith}
-use Rattle.std.proofs.lemmas.List.{append_assoc, length-append, length-replicate, replicate_more}
+use Rattle.std.proofs.Common.{◌≡◌, ◌⊎◌, ℕ, zero, suc, ◌+◌, ◌-◌, ◌*◌, ◌^◌, ◌<◌, ◌≤◌, not, ◌&&◌, nat_lt, Bool, true, false, List, [], ◌∷◌, ◌++◌, length, replicate, reverse, Option, Some, None, is_some, Result, Ok, Err, IsErrOf, refl, sym, ap, subst, ◌∙◌, inl, inr, append-nil, arith}
+use Rattle.std.proofs.lemmas.List.{append_assoc, length-append, length-replicate, replicate_more, reverse-append, reverse-reverse}
+use Rattle.std.specs.Io.KnownBytes.{Appends}
 use Rattle.std.proofs.lemmas.Bool.{ltb-true, false≢true}
-use Rattle.swi_outside.specs.Devices.{Devices, HasCauses, faults_of}
+use Rattle.swi_outside.specs.Devices.{Devices, Faults, HasCauses, faults_of}
 use Rattle.swi_outside.specs.Causes.{DeviceCause}
 use Rattle.swi_outside.specs.CacheRam.{KeepsBeyond, RamState}
 use Rattle.swi_outside.specs.Laws.{cause_from, causes_from, no_cause, none_named, ok_causes, ok_unmoved}
@@ -11,28 +12,35 @@ use Rattle.swi_image.specs.Format.{ImageData}
 use Rattle.swi_rom.specs.Record.{Record, Transfer}
 use Rattle.swi_hart.specs.Bounds.{depth, most, most_by}
 use Rattle.swi_hart.specs.Hart.{HartData}
-use Rattle.swi_hart.specs.MachineStep.{BoardStepped, BoardWithRam}
-use Rattle.swi_hart.specs.Leaving.{indexes_after, moved, transfer_at}
+use Rattle.swi_hart.specs.MachineStep.{BoardWithRam}
+use Rattle.swi_hart.specs.Leaving.{moved, transfer_at}
 use Rattle.swi_hart.specs.declared.fault.BoardFault.{BoardFault}
 use Rattle.swi_hart.specs.declared.fault.BoardFault.TheVariants.{RamFault, SinkFault, SourceFault}
-use Rattle.swi_board.specs.Board.{BoardOf}
-use Rattle.swi_board.specs.Fetching.{FetchedFront, HasFetched}
+use Rattle.swi_board.specs.Board.{BoardOf, BoardWithDevices}
+use Rattle.swi_board.specs.BoardRan.{BrokeOff}
+use Rattle.swi_board.specs.Fetching.{FetchedFront}
+use Rattle.swi_board.specs.Moments.{GoesOn, Moment, event as instruction}
+use Rattle.swi_board.specs.Ran.{Unasked, next_of}
+use Rattle.swi_board.specs.Runs.{unfetched}
+use Rattle.swi_board.specs.Tracking.{Point}
 use Rattle.swi_board.proofs.Held.{same_steps}
 use Rattle.swi_board.proofs.Running.{kept_both}
+use Rattle.swi_run_laws.specs.Broken.{Broke}
+use Rattle.swi_run_laws.proofs.Between.{most_any}
+use Rattle.swi_run_laws.proofs.Broken.{broke_off, off_unasked}
 use Rattle.swi_rom.specs.Rams.{wrote_one}
+use Rattle.swi_rom.specs.Service.{Setting}
 use Rattle.swi_engine.specs.Engine.{Event, beside, engine_words, event, span_of}
+use Rattle.swi_engine.specs.Laws.{engine_laws as service_laws}
 use Rattle.swi_engine.specs.Service.{engine_service}
 use Rattle.swi_engine.specs.State.{EngineData, kept_by, setting_of}
 use Rattle.swi_engine.specs.Worked.{GoesTo}
-use Rattle.swi_rom.specs.Service.{Setting}
-use Rattle.swi_turn.specs.Laws.{engine_laws}
-use Rattle.swi_turn.specs.Turns.{Beside, HartTurned}
-use Rattle.swi_prefetch.specs.Laws.{fetched_both, led_more, led_none, most_any, words_turned_more}
-use Rattle.swi_prefetch.specs.Moments.{Moment, Turn, of_hart, of_engine, round, rounds, turn_words, turned, turned_all, words_turned}
-use Rattle.swi_prefetch.specs.Prefetching.{EngineEvent, GivenUp, HartEvent, OfBoards, PcShort, PrefetchState, StepsFew, TakesTurns, WordsFew, with_ram}
-use Rattle.swi_prefetch.specs.Running.{AheadFailed, BrokeIn, CameOn, GoesOn, KeepsBehind, OfBoard, RanTo, Rises, RoundRises, RunBroke, SameHart, StepsUpTo, Whole, WordsUpTo, goes_below, whole}
-use Rattle.swi_prefetch.specs.Tracking.{Around, Leads, Tracks, board_around}
-use Rattle.swi_prefetch.proofs.Tracks.{with_devices, word_fetched}
+use Rattle.swi_prefetch.specs.EngineLaws.{engine_laws}
+use Rattle.swi_prefetch.specs.Events.{Turn, of_hart, of_engine, round, rounds, turned, turned_all}
+use Rattle.swi_prefetch.specs.Prefetching.{EngineEvent, GivenUp, HartEvent, OfBoards, PcShort, PrefetchState, StepsFew, TakesTurns, WordsFew}
+use Rattle.swi_prefetch.specs.Running.{AheadFailed, BrokeIn, CameOn, EngineBroke, EngineStopped, FromHere, GoesBefore, HartBroke, HartStopped, KeepsBehind, OfBoard, RanTo, Rises, RoundRises, RoundStopped, RunBroke, SameHart, StepsUpTo, Whole, WordsUpTo, goes_below, whole}
+use Rattle.swi_prefetch.specs.Tracking.{Around, BoardTracks, Led, Leads, board_around, point_around}
+use Rattle.swi_prefetch.proofs.Writing.{keeps_fetched}
 
 abbrev pub state_of : Whole → PrefetchState
 state_of w = record { board = w.board; ram = w.around.ram }
@@ -48,7 +56,33 @@ rounds_suc rate (suc k) = ap (λ (l : List Turn). round rate ++ l) (rounds_suc r
 pub rounds_more : (rate k : ℕ) → rounds rate (k + 1) ≡ rounds rate k ++ round rate
 rounds_more rate k = let next : k + 1 ≡ suc k = omega arith in ap (λ (n : ℕ). rounds rate n) next ∙ rounds_suc rate k
 
+-- one schedule after the other
+pub turned_more : (by : Setting) (v : ImageData) (ts us : List Turn) (s : Moment) → turned_all by v (ts ++ us) s ≡ turned_all by v us (turned_all by v ts s)
+unfolding turned_all
+turned_more by v [] us s = refl
+turned_more by v (t ∷ ts) us s = turned_more by v ts us (turned by v t s)
+
 -- ---- events in a row
+
+led_none : (v : ImageData) (w : BoardWithDevices EngineData) → Led v [] w w
+unfolding turned_all
+led_none v w = record { setting = refl; tracks = λ s from at. at; fetched = λ s from at. refl }
+
+led_more : (v : ImageData) (ts us : List Turn) (old mid new : BoardWithDevices EngineData) → Led v ts old mid → Led v us mid new → Led v (ts ++ us) old new
+led_more v ts us old mid new one two = record {
+  setting = two.setting ∙ one.setting;
+  tracks = λ s from at.
+      subst (λ (k : Moment). BoardTracks v k from new) (sym (turned_more (setting_of old.rom) v ts us s))
+      (subst (λ (by : Setting). BoardTracks v (turned_all by v us (turned_all (setting_of old.rom) v ts s)) from new) one.setting (two.tracks (turned_all (setting_of old.rom) v ts s) from (one.tracks s from at)));
+  fetched = λ s from at.
+      let first = one.fetched s from at in
+      let last = subst (λ (by : Setting). length (turned_all by v us (turned_all (setting_of old.rom) v ts s)).words + unfetched new.hart + (turned_all (setting_of old.rom) v ts s).count
+      ≡ length (turned_all (setting_of old.rom) v ts s).words + unfetched mid.hart + (turned_all by v us (turned_all (setting_of old.rom) v ts s)).count) one.setting
+      (two.fetched (turned_all (setting_of old.rom) v ts s) from (one.tracks s from at)) in
+      let words = ap (λ (k : Moment). length k.words) (turned_more (setting_of old.rom) v ts us s) in
+      let count = ap (λ (k : Moment). k.count) (turned_more (setting_of old.rom) v ts us s) in
+      omega (arith, first, last, words, count);
+}
 
 keeps_all : (n : ℕ) (r : RamState) → KeepsBeyond n r r
 keeps_all n r = record { same_length = refl; beyond = λ i h. refl; reached = omega arith }
@@ -180,8 +214,7 @@ left_of v limit o = 3 * limit + 4 - most_of v o
 pub record RunsOn (v : ImageData) (limit rate : ℕ) (old new : Whole) : Type 0 where
   pub made : ℕ
   pub came : CameOn v (rounds rate made) old new
-  pub going : (j : ℕ) → j < made → OfBoard old.board (λ b. (s : Moment) → (before : Around) → Tracks v s before (board_around b old.around) →
-      GoesOn limit (turned_all (setting_of b.rom) v (rounds rate j) s))
+  pub going : GoesBefore v limit rate made old
   pub steps : OfBoard new.board (λ b. b.hart.machine.steps ≤ limit)
   pub words : OfBoards old.board new.board (λ a b. engine_words (kept_by b.rom) + 1025 * most v a.hart.machine a.hart.control ≤ engine_words (kept_by a.rom) + 1025 * most v b.hart.machine b.hart.control)
 
@@ -272,20 +305,20 @@ ending_none (Some x) e = absurd (false≢true (sym e))
 pub goes_is : (limit : ℕ) (b : BoardOf EngineData) → goes_below limit (Some b) ≡ true → (b.hart.machine.ending ≡ None) × (b.hart.machine.steps < limit)
 goes_is limit b e = let p = going_parts (is_some b.hart.machine.ending) (nat_lt b.hart.machine.steps limit) e in (ending_none b.hart.machine.ending p.0, ltb-true b.hart.machine.steps limit p.1)
 
-pub goes_at : (v : ImageData) (limit : ℕ) (s : Moment) (before : Around) (b : BoardOf EngineData) (around : Around) → goes_below limit (Some b) ≡ true → Tracks v s before (board_around b around) → GoesOn limit s
-goes_at v limit s before b around goes at =
+pub goes_at : (v : ImageData) (limit : ℕ) (s : Moment) (from : Point) (b : BoardOf EngineData) (around : Around) → goes_below limit (Some b) ≡ true → BoardTracks v s from (board_around b around) → GoesOn limit s
+goes_at v limit s from b around goes at =
     let g = goes_is limit b goes in
     let same = same_steps v (kept_by b.rom) s.flat.machine b.hart.machine b.hart.control at.matches in
     (sym same.1 ∙ g.0, subst (λ (n : ℕ). n < limit) same.0 g.1)
 
 module _ (v : ImageData) (limit rate : ℕ) (w0 w1 w2 : Whole) (on : RunsOn v limit rate w0 w1) (goes : goes_below limit w1.board ≡ true) where
-  going_more : (o0 o1 : Option (BoardOf EngineData)) → goes_below limit o1 ≡ true → Leads v (rounds rate on.made) o0 o1 w0.around w1.around → (j : ℕ) → j ≡ on.made → OfBoard o0 (λ b. (s : Moment) → (before : Around) → Tracks v s before (board_around b w0.around) →
+  going_more : (o0 o1 : Option (BoardOf EngineData)) → goes_below limit o1 ≡ true → Leads v (rounds rate on.made) o0 o1 w0.around w1.around → (j : ℕ) → j ≡ on.made → FromHere v o0 w0.around (λ b s from.
       GoesOn limit (turned_all (setting_of b.rom) v (rounds rate j) s))
   going_more None o1 goes led j is = absurd led
   going_more (Some a) None goes led j is = absurd led
-  going_more (Some a) (Some b) goes led j is = λ s before at.
+  going_more (Some a) (Some b) goes led j is = λ s from at.
       subst (λ (n : ℕ). GoesOn limit (turned_all (setting_of a.rom) v (rounds rate n) s)) (sym is)
-      (goes_at v limit (turned_all (setting_of a.rom) v (rounds rate on.made) s) before b w1.around goes (led.tracks s before at))
+      (goes_at v limit (turned_all (setting_of a.rom) v (rounds rate on.made) s) from b w1.around goes (led.tracks s from at))
 
   steps_more : (o1 o2 : Option (BoardOf EngineData)) → goes_below limit o1 ≡ true → RoundRises v o1 o2 → OfBoard o2 (λ b. b.hart.machine.steps ≤ limit)
   steps_more None o2 goes rises = absurd rises
@@ -310,13 +343,12 @@ module _ (v : ImageData) (limit rate : ℕ) (w0 w1 w2 : Whole) (on : RunsOn v li
   least : (j n : ℕ) → j < n + 1 → (j < n) ⊎ (j ≡ n)
   least j n lt = grind arith
 
-  by_last : (j : ℕ) → (j < on.made) ⊎ (j ≡ on.made) → OfBoard w0.board (λ b. (s : Moment) → (before : Around) → Tracks v s before (board_around b w0.around) →
+  by_last : (j : ℕ) → (j < on.made) ⊎ (j ≡ on.made) → FromHere v w0.board w0.around (λ b s from.
       GoesOn limit (turned_all (setting_of b.rom) v (rounds rate j) s))
   by_last j (inl lt) = on.going j lt
   by_last j (inr is) = going_more w0.board w1.board goes on.came.led j is
 
-  pub going_up : (j : ℕ) → j < on.made + 1 → OfBoard w0.board (λ b. (s : Moment) → (before : Around) → Tracks v s before (board_around b w0.around) →
-      GoesOn limit (turned_all (setting_of b.rom) v (rounds rate j) s))
+  pub going_up : GoesBefore v limit rate (on.made + 1) w0
   going_up j lt = by_last j (least j on.made lt)
 
   pub runs_more : rate ≤ 1024 → CameOn v (round rate) w1 w2 → RoundRises v w1.board w2.board → RunsOn v limit rate w0 w2
@@ -341,7 +373,7 @@ module _ (v : ImageData) (limit rate : ℕ) (w0 w1 w2 : Whole) (on : RunsOn v li
       by (Some a) (Some b) goes steps rises =
           let g = goes_is limit a goes in
           let up = (rises g.0).most in
-          omega (arith, up, steps, most_any v a.hart.machine a.hart.control a.hart.machine.ending)
+          omega (arith, up, steps, most_any v a.hart.machine a.hart.control (most v a.hart.machine a.hart.control) (omega arith))
 
 module _ (v : ImageData) (limit rate : ℕ) (w0 w1 : Whole) (on : RunsOn v limit rate w0 w1) (goes : goes_below limit w1.board ≡ true) where
   pub words_up_to : limit ≤ 2 ^ 48 → WordsUpTo (2 ^ 57) w0.board → WordsUpTo (2 ^ 60 - 2048) w1.board
@@ -351,7 +383,7 @@ module _ (v : ImageData) (limit rate : ℕ) (w0 w1 : Whole) (on : RunsOn v limit
           OfBoards o0 o1 (λ a b. engine_words (kept_by b.rom) + 1025 * most v a.hart.machine a.hart.control ≤ engine_words (kept_by a.rom) + 1025 * most v b.hart.machine b.hart.control) → WordsUpTo (2 ^ 57) o0 → WordsUpTo (2 ^ 60 - 2048) o1
       by None o1 steps words few = absurd few
       by (Some a) None steps words few = absurd words
-      by (Some a) (Some b) steps words few = omega (arith, small, steps, words, few, most_any v b.hart.machine b.hart.control b.hart.machine.ending)
+      by (Some a) (Some b) steps words few = omega (arith, small, steps, words, few, most_any v b.hart.machine b.hart.control (most v b.hart.machine b.hart.control) (omega arith))
 
   pub steps_few : limit ≤ 2 ^ 48 → StepsFew w1.board
   steps_few small = by w1.board goes
@@ -363,101 +395,196 @@ module _ (v : ImageData) (limit rate : ℕ) (w0 w1 : Whole) (on : RunsOn v limit
 pub runs_to : (v : ImageData) (limit rate : ℕ) (w0 w1 : Whole) → RunsOn v limit rate w0 w1 → goes_below limit w1.board ≡ false → RanTo v limit rate w0 w1
 runs_to v limit rate w0 w1 on over = record { made = on.made; came = on.came; going = on.going; done = over }
 
--- ---- the words of a round that a device broke off
+-- ---- what stands where a device broke a round off
 
--- the engine fetches none
-engines_none : (by : Setting) (v : ImageData) (n : ℕ) (s : Moment) → words_turned by v (replicate n of_engine) s ≡ []
-unfolding words_turned
-engines_none by v zero s = refl
-engines_none by v (suc n) s = engines_none by v n (turned by v of_engine s)
+-- of a point only the ram, what is left to read and what the sinks hold count here
+broke_around : (by : Setting) (v : ImageData) (fault : BoardFault) (s : Moment) (from : Point) (a c : BoardOf EngineData) (w : Around) → Broke (beside by) v fault s from (point_around c w) → Broke (beside by) v fault s from (point_around a w)
+broke_around by v RamFault s from a c w h = record { reached = h.reached; is = h.is; running = h.running; inside = h.inside; input = h.input; output = h.output; error = h.error; words = h.words; fetches = h.fetches; last_failed = h.last_failed }
+broke_around by v SourceFault s from a c w h =
+    record { output_front = h.output_front; output = h.output; error_front = h.error_front; error = h.error; unwritten = h.unwritten; taken = h.taken; input = h.input; few = h.few; words = h.words }
+broke_around by v SinkFault s from a c w h =
+    record { output_front = h.output_front; output = h.output; error_front = h.error_front; error = h.error; unwritten = h.unwritten; taken = h.taken; input = h.input; few = h.few; words = h.words }
 
-round_words : (by : Setting) (v : ImageData) (rate : ℕ) (s : Moment) → words_turned by v (round rate) s ≡ turn_words of_hart s
-unfolding words_turned
-round_words by v rate s = ap (λ (l : List ℕ). turn_words of_hart s ++ l) (engines_none by v rate (turned by v of_hart s)) ∙ append-nil (turn_words of_hart s)
-
-part_words : (by : Setting) (v : ImageData) (rate made k : ℕ) (s : Moment) →
-    words_turned by v (rounds rate made ++ round k) s ≡ words_turned by v (rounds rate made) s ++ turn_words of_hart (turned_all by v (rounds rate made) s)
-part_words by v rate made k s =
-    words_turned_more by v (rounds rate made) (round k) s
-    ∙ ap (λ (l : List ℕ). words_turned by v (rounds rate made) s ++ l) (round_words by v k (turned_all by v (rounds rate made) s))
-
-all_words : (by : Setting) (v : ImageData) (rate made : ℕ) (s : Moment) →
-    words_turned by v (rounds rate (made + 1)) s ≡ words_turned by v (rounds rate made) s ++ turn_words of_hart (turned_all by v (rounds rate made) s)
-all_words by v rate made s = ap (λ (ts : List Turn). words_turned by v ts s) (rounds_more rate made) ∙ part_words by v rate made rate s
-
-front_first : (xs ys : List ℕ) (a b : RamState) → HasFetched xs a b → FetchedFront (xs ++ ys) a b
-front_first xs ys a b are = (ys, record { fetched = xs; are = are; front = refl })
-
-front_all : (xs : List ℕ) (a b : RamState) → HasFetched xs a b → FetchedFront xs a b
-front_all xs a b are = ([], record { fetched = xs; are = are; front = append-nil xs })
-
--- the hart's event has fetched its word, or none
-hart_front : (v : ImageData) (s : Moment) (before : Around) (a b : BoardWithRam EngineData) (d d' : Devices) (result : Result Unit BoardFault) → Beside engine_service v a → HartTurned engine_service v a b d d' result →
-    Tracks v s before (with_devices a d) → (b.ram.fetched_at ≡ a.ram.fetched_at) ⊎ HasFetched (turn_words of_hart s) a.ram b.ram
-hart_front v s before a b d d' result was turn at = by a.hart.machine.ending refl
+-- of the hart's event
+hart_stopped : (v : ImageData) (rate made : ℕ) (w0 w2 : Whole) (fault : BoardFault) → HartBroke v (rounds rate made) w0 w2 (Err fault) →
+    FromHere v w0.board w0.around (λ b s from.
+    HartStopped (setting_of b.rom) v fault (turned_all (setting_of b.rom) v (rounds rate made) s) from (point_around b w2.around) (faults_of w0.around.devices) (faults_of w2.around.devices))
+hart_stopped v rate made w0 w2 fault hart = by w0.board hart.mid.board w2.board hart.came.led hart.came.turns hart.short hart.broke
   where
-    word : a.hart.machine.ending ≡ None → b.ram.fetched_at ≡ indexes_after a.hart.control a.ram.fetched_at → HasFetched (turn_words of_hart s) a.ram b.ram
-    word running more = word_fetched v s before a d was.sound at running b.ram more
+    by : (o m n : Option (BoardOf EngineData)) → Leads v (rounds rate made) o m w0.around hart.mid.around → TakesTurns v m hart.mid.around.ram → PcShort m →
+        HartEvent v (record { board = m; ram = hart.mid.around.ram }) (record { board = n; ram = w2.around.ram }) hart.mid.around.devices w2.around.devices (Err fault) →
+        FromHere v o w0.around (λ b s from.
+        HartStopped (setting_of b.rom) v fault (turned_all (setting_of b.rom) v (rounds rate made) s) from (point_around b w2.around) (faults_of w0.around.devices) (faults_of w2.around.devices))
+    by None m n led turns short event = absurd led
+    by (Some a) None n led turns short event = absurd led
+    by (Some a) (Some b) None led turns short event = absurd event
+    by (Some a) (Some b) (Some c) led turns short event = λ s from at. by_ending s from at b.hart.machine.ending refl
+      where
+        mid : BoardWithDevices EngineData
+        mid = board_around b hart.mid.around
 
-    stepped : (r : Result Unit BoardFault) → a.hart.machine.ending ≡ None → BoardStepped engine_service v a b d d' r → (b.ram.fetched_at ≡ a.ram.fetched_at) ⊎ HasFetched (turn_words of_hart s) a.ram b.ram
-    stepped (Ok u) running step = inr (word running step.ram.fetched_at)
-    stepped (Err RamFault) running step =
-        let failed = step.ram_failed refl in
-        elim failed.asked [
-          | inl none ↦ inl (ap (λ (k : RamState). k.fetched_at) none)
-          | inr made ↦ inr (word running made.0.1)
-        ]
-    stepped (Err SourceFault) running step = inr (word running step.unserved.1.fetched_at)
-    stepped (Err SinkFault) running step = inr (word running step.unserved.1.fetched_at)
+        last : BoardWithDevices EngineData
+        last = board_around c w2.around
 
-    by : (e : Option End) → a.hart.machine.ending ≡ e → (b.ram.fetched_at ≡ a.ram.fetched_at) ⊎ HasFetched (turn_words of_hart s) a.ram b.ram
-    by None running = stepped result running (turn.stepped running)
-    by (Some x) ended = inl (ap (λ (k : BoardWithRam EngineData). k.ram.fetched_at) (turn.ended x ended).1)
+        off : b.hart.machine.ending ≡ None → BrokeOff engine_service v (suc b.hart.machine.steps) mid last fault
+        off running = record { running = running; more = omega arith; short = short; broke = event.stepped running }
 
-broke_words : (v : ImageData) (rate made : ℕ) (w0 w2 : Whole) (result : Result Unit BoardFault) → BrokeIn v (rounds rate made) rate w0 w2 result →
-    OfBoard w0.board (λ b. (s : Moment) → (before : Around) → Tracks v s before (board_around b w0.around) →
-    FetchedFront (words_turned (setting_of b.rom) v (rounds rate (made + 1)) s) w0.around.ram w2.around.ram)
-broke_words v rate made w0 w2 result (inl hart) = by w0.board hart.mid.board w2.board hart.came.led hart.came.turns hart.broke
+        by_ending : (s : Moment) (from : Point) → BoardTracks v s from (board_around a w0.around) → (e : Option End) → b.hart.machine.ending ≡ e →
+            HartStopped (setting_of a.rom) v fault (turned_all (setting_of a.rom) v (rounds rate made) s) from (point_around a w2.around) (faults_of w0.around.devices) (faults_of w2.around.devices)
+        by_ending s from at (Some x) ended = absurd (let same = (event.ended x ended).0 in let bad : ⊥ = cc in bad)
+        by_ending s from at None running =
+            let there = led.tracks s from at in
+            let broke = broke_off engine_service service_laws v (suc b.hart.machine.steps) mid last fault turns.sound (off running) (turned_all (setting_of a.rom) v (rounds rate made) s) from there in
+            record {
+              broke = broke_around (setting_of a.rom) v fault (turned_all (setting_of a.rom) v (rounds rate made) s) from a c w2.around
+                  (subst (λ (q : Setting). Broke (beside q) v fault (turned_all (setting_of a.rom) v (rounds rate made) s) from (point_around c w2.around)) led.setting broke);
+              unasked = λ other. subst (λ (f : Faults). Unasked (next_of (turned_all (setting_of a.rom) v (rounds rate made) s).flat) f (faults_of w2.around.devices)) hart.came.quiet
+                  (off_unasked engine_service v (suc b.hart.machine.steps) mid last fault other turns.sound (off running) (turned_all (setting_of a.rom) v (rounds rate made) s) from there);
+            }
+
+-- and of one of the engine's
+engine_stopped : (v : ImageData) (rate made : ℕ) (w0 w2 : Whole) (fault : BoardFault) → EngineBroke v (rounds rate made) rate w0 w2 (Err fault) →
+    FromHere v w0.board w0.around (λ b s from.
+    EngineStopped (setting_of b.rom) v rate fault (turned_all (setting_of b.rom) v (rounds rate made) s) from (point_around b w2.around))
+engine_stopped v rate made w0 w2 fault engine = by w0.board engine.mid.board engine.came.led engine.failed
   where
-    by : (o m n : Option (BoardOf EngineData)) → Leads v (rounds rate made) o m w0.around hart.mid.around → TakesTurns v m hart.mid.around.ram →
-        HartEvent v (record { board = m; ram = hart.mid.around.ram }) (record { board = n; ram = w2.around.ram }) hart.mid.around.devices w2.around.devices result →
-        OfBoard o (λ b. (s : Moment) → (before : Around) → Tracks v s before (board_around b w0.around) →
-        FetchedFront (words_turned (setting_of b.rom) v (rounds rate (made + 1)) s) w0.around.ram w2.around.ram)
-    by None m n led turns event = absurd led
-    by (Some a) None n led turns event = absurd led
-    by (Some a) (Some b) None led turns event = absurd event
-    by (Some a) (Some b) (Some c) led turns event = λ s before at.
-        let now : Moment = turned_all (setting_of a.rom) v (rounds rate made) s in
-        let xs : List ℕ = words_turned (setting_of a.rom) v (rounds rate made) s in
-        let ys : List ℕ = turn_words of_hart (turned_all (setting_of a.rom) v (rounds rate made) s) in
-        subst (λ (l : List ℕ). FetchedFront l w0.around.ram w2.around.ram) (sym (all_words (setting_of a.rom) v rate made s))
-        (elim (hart_front v now before (with_ram b hart.mid.around.ram) (with_ram c w2.around.ram) hart.mid.around.devices w2.around.devices result turns event (led.tracks s before at)) [
-          | inl none ↦ front_first xs ys w0.around.ram w2.around.ram (none ∙ led.words s before at)
-          | inr one ↦ front_all (xs ++ ys) w0.around.ram w2.around.ram (fetched_both xs ys w0.around.ram hart.mid.around.ram w2.around.ram (led.words s before at) one)
-        ])
-broke_words v rate made w0 w2 result (inr engine) = by w0.board engine.mid.board engine.came.led engine.failed
-  where
+    told : fault ≡ RamFault
+    told = let is : IsErrOf {T = Unit {0}} (Err fault) RamFault = engine.told in cc
+
     by : (o m : Option (BoardOf EngineData)) → Leads v (rounds rate made ++ round engine.made) o m w0.around engine.mid.around → GivenUp m (state_of w2) engine.mid.around.ram →
-        OfBoard o (λ b. (s : Moment) → (before : Around) → Tracks v s before (board_around b w0.around) →
-        FetchedFront (words_turned (setting_of b.rom) v (rounds rate (made + 1)) s) w0.around.ram w2.around.ram)
+        FromHere v o w0.around (λ b s from.
+        EngineStopped (setting_of b.rom) v rate fault (turned_all (setting_of b.rom) v (rounds rate made) s) from (point_around b w2.around))
     by None m led failed = absurd led
     by (Some a) None led failed = absurd led
-    by (Some a) (Some b) led failed = λ s before at.
-        let xs : List ℕ = words_turned (setting_of a.rom) v (rounds rate made) s in
-        let ys : List ℕ = turn_words of_hart (turned_all (setting_of a.rom) v (rounds rate made) s) in
-        subst (λ (l : List ℕ). FetchedFront l w0.around.ram w2.around.ram) (sym (all_words (setting_of a.rom) v rate made s))
-        (front_all (xs ++ ys) w0.around.ram w2.around.ram
-        (failed.1.spared.fetched_at_stays ∙ subst (λ (l : List ℕ). HasFetched l w0.around.ram engine.mid.around.ram) (part_words (setting_of a.rom) v rate made engine.made s) (led.words s before at)))
+    by (Some a) (Some b) led failed = λ s from at.
+        let there = subst (λ (k : Moment). BoardTracks v k from (board_around b engine.mid.around)) (turned_more (setting_of a.rom) v (rounds rate made) (round engine.made) s) (led.tracks s from at) in
+        record {
+          made = engine.made;
+          fewer = engine.fewer;
+          told = told;
+          input = ap (λ (d : Devices). d.input.left) engine.devices ∙ there.input;
+          output = subst (λ (d : Devices). Appends from.out d.output.held (turned_all (setting_of a.rom) v (round engine.made) (turned_all (setting_of a.rom) v (rounds rate made) s)).flat.output) (sym engine.devices) there.output;
+          error = subst (λ (d : Devices). Appends from.err d.error.held (turned_all (setting_of a.rom) v (round engine.made) (turned_all (setting_of a.rom) v (rounds rate made) s)).flat.error) (sym engine.devices) there.error;
+          words = failed.1.spared.fetched_at_stays ∙ there.words;
+          fetches = failed.1.spared.fetches_stay ∙ there.ram.fetches;
+          last_failed = failed.1.last_failed;
+        }
 
-pub run_broke : (v : ImageData) (limit rate : ℕ) (w0 w1 w2 : Whole) (result : Result Unit BoardFault) → RunsOn v limit rate w0 w1 → goes_below limit w1.board ≡ true → BrokeIn v [] rate w1 w2 result → RunBroke v limit rate w0 w2 result
-run_broke v limit rate w0 w1 w2 result on goes broke = record {
+round_stopped : (v : ImageData) (rate made : ℕ) (w0 w2 : Whole) (fault : BoardFault) → BrokeIn v (rounds rate made) rate w0 w2 (Err fault) →
+    FromHere v w0.board w0.around (λ b s from.
+    RoundStopped (setting_of b.rom) v rate fault (turned_all (setting_of b.rom) v (rounds rate made) s) from (point_around b w2.around) (faults_of w0.around.devices) (faults_of w2.around.devices))
+round_stopped v rate made w0 w2 fault (inl hart) = by w0.board (hart_stopped v rate made w0 w2 fault hart)
+  where
+    by : (o : Option (BoardOf EngineData)) →
+        FromHere v o w0.around (λ b s from.
+        HartStopped (setting_of b.rom) v fault (turned_all (setting_of b.rom) v (rounds rate made) s) from (point_around b w2.around) (faults_of w0.around.devices) (faults_of w2.around.devices)) →
+        FromHere v o w0.around (λ b s from.
+        RoundStopped (setting_of b.rom) v rate fault (turned_all (setting_of b.rom) v (rounds rate made) s) from (point_around b w2.around) (faults_of w0.around.devices) (faults_of w2.around.devices))
+    by None h = absurd h
+    by (Some b) h = λ s from at. inl (h s from at)
+round_stopped v rate made w0 w2 fault (inr engine) = by w0.board (engine_stopped v rate made w0 w2 fault engine)
+  where
+    by : (o : Option (BoardOf EngineData)) →
+        FromHere v o w0.around (λ b s from.
+        EngineStopped (setting_of b.rom) v rate fault (turned_all (setting_of b.rom) v (rounds rate made) s) from (point_around b w2.around)) →
+        FromHere v o w0.around (λ b s from.
+        RoundStopped (setting_of b.rom) v rate fault (turned_all (setting_of b.rom) v (rounds rate made) s) from (point_around b w2.around) (faults_of w0.around.devices) (faults_of w2.around.devices))
+    by None h = absurd h
+    by (Some b) h = λ s from at. inr (h s from at)
+
+-- ---- the words of such a round
+
+-- what a schedule has gained over a moment, as far as it was fetched
+abbrev GainsFront : List ℕ → List ℕ → RamState → RamState → Type 0
+GainsFront first all before after = (more : List ℕ) × (all ≡ more ++ first) × FetchedFront (reverse more) before after
+
+-- the words fetched are those of a first part of a schedule
+part_fetched : (by : Setting) (v : ImageData) (us rest ts : List Turn) (s : Moment) (from : Point) (before after : RamState) → ts ≡ us ++ rest → before.fetched_at ≡ s.words ++ from.ram.fetched_at →
+    after.fetched_at ≡ (turned_all by v us s).words ++ from.ram.fetched_at → GainsFront s.words (turned_all by v ts s).words before after
+part_fetched by v us rest ts s from before after split was now =
+    let made = keeps_fetched by v us s in
+    let ahead = keeps_fetched by v rest (turned_all by v us s) in (
+      ahead.0 ++ made.0,
+      ap (λ (l : List Turn). (turned_all by v l s).words) split ∙ ap (λ (k : Moment). k.words) (turned_more by v us rest s) ∙ ahead.1 ∙ ap (λ (l : List ℕ). ahead.0 ++ l) made.1 ∙ sym (append_assoc ahead.0 made.0 s.words),
+      (
+        reverse ahead.0,
+        record {
+          fetched = reverse made.0;
+          are = now ∙ ap (λ (l : List ℕ). l ++ from.ram.fetched_at) made.1 ∙ append_assoc made.0 s.words from.ram.fetched_at ∙ ap (λ (l : List ℕ). made.0 ++ l) (sym was)
+              ∙ ap (λ (l : List ℕ). l ++ before.fetched_at) (sym (reverse-reverse made.0));
+          front = sym (reverse-append ahead.0 made.0);
+        },
+      ),
+    )
+
+replicate_both : (k m : ℕ) → replicate (k + m) of_engine ≡ replicate k of_engine ++ replicate m of_engine
+replicate_both zero m = let same : 0 + m ≡ m = omega arith in ap (λ (n : ℕ). replicate n of_engine) same
+replicate_both (suc k) m = let one : suc k + m ≡ suc (k + m) = omega arith in ap (λ (n : ℕ). replicate n of_engine) one ∙ ap (λ (l : List Turn). of_engine ∷ l) (replicate_both k m)
+
+-- the schedule of a round more, in two parts
+none_split : (rate made : ℕ) → rounds rate (made + 1) ≡ rounds rate made ++ round rate
+none_split rate made = rounds_more rate made
+
+hart_split : (rate made : ℕ) → rounds rate (made + 1) ≡ (rounds rate made ++ of_hart ∷ []) ++ replicate rate of_engine
+hart_split rate made = rounds_more rate made ∙ sym (append_assoc (rounds rate made) (of_hart ∷ []) (replicate rate of_engine))
+
+engine_split : (rate made k : ℕ) → k < rate → rounds rate (made + 1) ≡ (rounds rate made ++ round k) ++ replicate (rate - k) of_engine
+engine_split rate made k lt =
+    let sum : rate ≡ k + (rate - k) = omega (arith, lt) in
+    rounds_more rate made
+    ∙ ap (λ (l : List Turn). rounds rate made ++ of_hart ∷ l) (ap (λ (n : ℕ). replicate n of_engine) sum ∙ replicate_both k (rate - k))
+    ∙ sym (append_assoc (rounds rate made) (round k) (replicate (rate - k) of_engine))
+
+module _ (by : Setting) (v : ImageData) (rate made : ℕ) (s : Moment) (from : Point) (before after : RamState) (was : before.fetched_at ≡ s.words ++ from.ram.fetched_at) where
+  abbrev mid : Moment
+  mid = turned_all by v (rounds rate made) s
+
+  abbrev Gains : Type 0
+  Gains = GainsFront s.words (turned_all by v (rounds rate (made + 1)) s).words before after
+
+  none_gains : after.fetched_at ≡ mid.words ++ from.ram.fetched_at → Gains
+  none_gains now = part_fetched by v (rounds rate made) (round rate) (rounds rate (made + 1)) s from before after (none_split rate made) was now
+
+  hart_gains : after.fetched_at ≡ (instruction (beside by) v mid).words ++ from.ram.fetched_at → Gains
+  unfolding turned_all
+  hart_gains now =
+      part_fetched by v (rounds rate made ++ of_hart ∷ []) (replicate rate of_engine) (rounds rate (made + 1)) s from before after (hart_split rate made) was
+      (now ∙ ap (λ (k : Moment). k.words ++ from.ram.fetched_at) (sym (turned_more by v (rounds rate made) (of_hart ∷ []) s)))
+
+  engine_gains : (k : ℕ) → k < rate → after.fetched_at ≡ (turned_all by v (round k) mid).words ++ from.ram.fetched_at → Gains
+  engine_gains k lt now =
+      part_fetched by v (rounds rate made ++ round k) (replicate (rate - k) of_engine) (rounds rate (made + 1)) s from before after (engine_split rate made k lt) was
+      (now ∙ ap (λ (q : Moment). q.words ++ from.ram.fetched_at) (sym (turned_more by v (rounds rate made) (round k) s)))
+
+  broke_gains : (fault : BoardFault) (new : Point) → new.ram ≡ after → Broke (beside by) v fault mid from new → Gains
+  broke_gains RamFault new same h = elim h.is [
+    | inl is ↦ none_gains (ap (λ (r : RamState). r.fetched_at) (sym same) ∙ h.words ∙ ap (λ (k : Moment). k.words ++ from.ram.fetched_at) is)
+    | inr is ↦ hart_gains (ap (λ (r : RamState). r.fetched_at) (sym same) ∙ h.words ∙ ap (λ (k : Moment). k.words ++ from.ram.fetched_at) is)
+  ]
+  broke_gains SourceFault new same h = hart_gains (ap (λ (r : RamState). r.fetched_at) (sym same) ∙ h.words)
+  broke_gains SinkFault new same h = hart_gains (ap (λ (r : RamState). r.fetched_at) (sym same) ∙ h.words)
+
+round_gains : (v : ImageData) (rate made : ℕ) (w0 w2 : Whole) (fault : BoardFault) (o : Option (BoardOf EngineData)) →
+    FromHere v o w0.around (λ b s from.
+    RoundStopped (setting_of b.rom) v rate fault (turned_all (setting_of b.rom) v (rounds rate made) s) from (point_around b w2.around) (faults_of w0.around.devices) (faults_of w2.around.devices)) →
+    FromHere v o w0.around (λ b s from.
+    GainsFront s.words (turned_all (setting_of b.rom) v (rounds rate (made + 1)) s).words w0.around.ram w2.around.ram)
+round_gains v rate made w0 w2 fault None stopped = absurd stopped
+round_gains v rate made w0 w2 fault (Some b) stopped = λ s from at. elim (stopped s from at) [
+  | inl hart ↦ broke_gains (setting_of b.rom) v rate made s from w0.around.ram w2.around.ram at.words fault (point_around b w2.around) refl hart.broke
+  | inr engine ↦ engine_gains (setting_of b.rom) v rate made s from w0.around.ram w2.around.ram at.words engine.made engine.fewer engine.words
+]
+
+pub run_broke : (v : ImageData) (limit rate : ℕ) (w0 w1 w2 : Whole) (fault : BoardFault) → RunsOn v limit rate w0 w1 → goes_below limit w1.board ≡ true → BrokeIn v [] rate w1 w2 (Err fault) → RunBroke v limit rate w0 w2 (Err fault)
+run_broke v limit rate w0 w1 w2 fault on goes broke = record {
   made = on.made;
   going = going_up v limit rate w0 w1 w2 on goes;
   broke = by broke;
-  words = broke_words v rate on.made w0 w2 result (by broke);
+  stopped = round_stopped v rate on.made w0 w2 fault (by broke);
+  words = round_gains v rate on.made w0 w2 fault w0.board (round_stopped v rate on.made w0 w2 fault (by broke));
 }
   where
-    by : BrokeIn v [] rate w1 w2 result → BrokeIn v (rounds rate on.made) rate w0 w2 result
+    by : BrokeIn v [] rate w1 w2 (Err fault) → BrokeIn v (rounds rate on.made) rate w0 w2 (Err fault)
     by (inl hart) = inl (record {
       mid = hart.mid;
       came = subst (λ (ts : List Turn). CameOn v ts w0 hart.mid) (append-nil (rounds rate on.made)) (came_more v (rounds rate on.made) [] w0 w1 hart.mid on.came hart.came);

@@ -1,7 +1,9 @@
+pub mod Engines
+pub mod EngineLaws
+pub mod Turns
 pub mod Prefetching
-pub mod Moments
+pub mod Events
 pub mod Tracking
-pub mod Laws
-pub mod Apart
 pub mod Running
 pub mod Scheduled
+pub mod Laws

@@ -9,11 +9,12 @@ use Rattle.swi_hart.specs.declared.fault.BoardFault.{BoardFault}
 use Rattle.swi_hart.specs.MachineStep.{BoardWithRam}
 use Rattle.swi_board.specs.Board.{BoardOf}
 use Rattle.swi_board.specs.Entered.{Entered}
+use Rattle.swi_board.specs.Runs.{unfetched}
 use Rattle.swi_engine.specs.Engine.{span_of, engine_words, engine_copies}
 use Rattle.swi_engine.specs.Service.{engine_service}
 use Rattle.swi_engine.specs.State.{EngineData, empty_data, kept_by, setting_of}
-use Rattle.swi_turn.specs.Laws.{engine_of}
-use Rattle.swi_turn.specs.Turns.{Beside, EngineTurned, HartTurned}
+use Rattle.swi_prefetch.specs.EngineLaws.{engine_of}
+use Rattle.swi_prefetch.specs.Turns.{Beside, EngineTurned, HartTurned}
 
 -- the board, which is none once the engine's word has failed
 pub record PrefetchData : Type 0 where
@@ -65,6 +66,7 @@ empty_for bytes v = empty_data (bytes / 4 / v.block_words) v.block_words (length
 pub record BootedOn (v : ImageData) (h : HartData) (rom : EngineData) (before : RamState) (b : BoardWithRam EngineData) : Type 0 where
   pub entered : Entered engine_service v h (record { rom = rom; ram = before }) b
   pub count : b.hart.count ≡ 1
+  pub inside : unfetched b.hart ≡ 0
   pub words : engine_words (kept_by b.rom) ≡ 0
   pub beside : Beside engine_service v b
 

@@ -13,11 +13,12 @@ ghost use Rattle.swi_engine.specs.State.{setting_of};
 ghost use Rattle.swi_engine.specs.Sound.{EngineSound};
 ghost use Rattle.swi_outside.specs.Causes.{DeviceCause};
 ghost use Rattle.swi_outside.specs.Devices.{Devices, HasCauses};
-ghost use Rattle.swi_prefetch.specs.Moments.{of_hart, of_engine, round};
+ghost use Rattle.swi_prefetch.specs.Events.{of_hart, of_engine, round};
 ghost use Rattle.swi_prefetch.specs.Running.{AheadFailed, BrokeIn, CameOn, KeepsBehind, RanTo, RoundRises, RunBroke, SameHart, StepsUpTo, WordsUpTo, goes_below, whole};
 ghost use Rattle.swi_prefetch.specs.Tracking.{Begins, Leads};
 ghost use Rattle.swi_prefetch.specs.Prefetching.{Booted, empty_for, PcShort, TakesTurns, StepsFew, WordsFew, HartEvent, EngineEvent, TellsCopied, has_failed};
 
+use crate::beside::{step, turn};
 use std::alloc::Global;
 use std::marker::Model;
 use swi_board::{Board, BootStop};
@@ -27,7 +28,6 @@ use swi_image::ImageView;
 use swi_memory::Layout;
 use swi_outside::{CacheRam, Failed, Memory, Sink, Source};
 use swi_program::Program;
-use swi_turn::{step, turn};
 
 /// A machine whose hart and copy engine take turns as the caller says: an event is one machine step of the hart, or one
 /// word of the engine. Whatever the events are, the hart stands where the flat machine does, or midway to its next step;

@@ -1,7 +1,7 @@
 -- A run on the cached machine beside whose hart an engine copies ahead, from what its parts say.
-use Rattle.std.proofs.Common.{◌≡◌, ◌⊎◌, inl, inr, ℕ, suc, ◌+◌, ◌-◌, ◌/◌, ◌^◌, ◌<◌, ◌≤◌, min, List, [], ◌++◌, length, take, if◌then◌else◌, Bool, true, Option, None, Some, Result, Ok, Err, IsErrOf, refl, sym, ◌∙◌, subst, ap, arith}
+use Rattle.std.proofs.Common.{◌≡◌, ◌⊎◌, inl, inr, ℕ, suc, ◌+◌, ◌-◌, ◌/◌, ◌^◌, ◌<◌, ◌≤◌, min, List, [], ◌∷◌, ◌++◌, length, reverse, take, if◌then◌else◌, Bool, true, Option, None, Some, Result, Ok, Err, IsErrOf, refl, sym, ◌∙◌, subst, ap, arith}
 use Rattle.std.proofs.Math.Nat.{div-mul-le_self}
-use Rattle.std.proofs.lemmas.List.{append-nil}
+use Rattle.std.proofs.lemmas.List.{append-nil, reverse-reverse}
 use Rattle.std.specs.Io.KnownBytes.{Appends}
 use Rattle.swi_outside.specs.CacheRam.{KeepsBeyond, RamState}
 use Rattle.swi_outside.specs.Causes.{DeviceCause, Rose, risen}
@@ -38,16 +38,21 @@ use Rattle.swi_hart.specs.declared.fault.BoardFault.TheVariants as fault
 use Rattle.swi_hart.specs.Hart.{HartData, unbooted}
 use Rattle.swi_hart.specs.Leaving.{RamFailed}
 use Rattle.swi_board.specs.Board.{BoardOf}
+use Rattle.swi_board.specs.Fetching.{HasFetched}
+use Rattle.swi_board.specs.Moments.{Moment, event as instruction}
+use Rattle.swi_board.specs.Ran.{Unasked, next_of}
+use Rattle.swi_run_laws.specs.Broken.{Broke, DeviceBroke}
 use Rattle.swi_board.proofs.Running.{kept_both}
-use Rattle.swi_engine.specs.Engine.{engine_copies, engine_words, span_of}
+use Rattle.swi_engine.specs.Engine.{beside, engine_copies, engine_words, span_of}
 use Rattle.swi_engine.specs.State.{EngineData, kept_by}
-use Rattle.swi_prefetch.specs.Laws.{booted_written, written}
-use Rattle.swi_prefetch.specs.Moments.{Moment, booted, rounds, turned_all, words_turned}
+use Rattle.swi_prefetch.specs.Events.{Turn, of_hart, booted, round, rounds, turned_all}
 use Rattle.swi_prefetch.specs.Prefetching.{Booted, PrefetchData, empty_for}
-use Rattle.swi_prefetch.proofs.RunLaws.{run_breaks_ram, run_breaks_step, run_ends}
+use Rattle.swi_prefetch.proofs.Rounds.{turned_more}
+use Rattle.swi_prefetch.proofs.RunLaws.{run_breaks, run_ends}
+use Rattle.swi_prefetch.proofs.Writing.{booted_written, written}
 use Rattle.swi_prefetch.specs.Running.{KeepsBehind, OfBoard, RanTo, RunBroke, whole}
-use Rattle.swi_prefetch.specs.Scheduled.{AheadEnded, AheadRamBroke, AheadRun, AheadStepBroke, end_of, moment_after, moment_of, setting_for}
-use Rattle.swi_prefetch.specs.Tracking.{Around, Begins}
+use Rattle.swi_prefetch.specs.Scheduled.{AheadBroke, AheadEnded, AheadRun, AreBegun, end_of, moment_after, moment_of, setting_for, words_of}
+use Rattle.swi_prefetch.specs.Tracking.{Around, Begins, point_around}
 use Rattle.swi_answer.specs.declared.answer.Ending.{Ending}
 use Rattle.swi_answer.specs.declared.answer.Refusal.{Refusal}
 use Rattle.swi_answer.specs.declared.answer.Refusal.TheVariants as refusal
@@ -119,7 +124,7 @@ no_more_risen n = grind arith
 
 -- the ram failed in the boot
 pub boot_broke : (a : AheadAsked) (v : ImageData) (p : ProgramData) (l : Layout) (d : Devices) (ram : RamState) → RamFailed (ahead_span a.bytes v) d.ram ram → RunsToEnd a v p l d (record d { ram = ram }) (Err refusal.RamFault)
-unfolding turned_all words_turned
+unfolding turned_all
 boot_broke a v p l d ram h = record {
   ended = tt;
   refused = inr (
@@ -155,53 +160,95 @@ fault_causes {T} {U} fault.SinkFault before after shelf ram streams =
     causes_of before after (Err refusal.SinkFault) (no_cause shelf (λ x. let never : ⊥ = cc in never)) (cause_as ram (λ x. let never : ⊥ = cc in absurd never) (λ x. let never : ⊥ = cc in absurd never))
     (named_as streams (λ x. let never : ⊥ = cc in absurd never) (λ x. let never : ⊥ = cc in absurd never) (λ _. refl) (λ _. refl))
 
-ram_from : (c : AheadRun) (d m : Devices) → AheadRamBroke c (around d) (around m) → RamBrokeAhead c d m refusal.RamFault []
-ram_from c d m h = record {
+-- the words that these events fetch
+words_so : (c : AheadRun) (ts : List Turn) (s : Moment) (before after : RamState) → moment_of c ts ≡ s → after.fetched_at ≡ s.words ++ before.fetched_at → HasFetched (words_of c ts) before after
+words_so c ts s before after is words =
+    words ∙ ap (λ (k : Moment). k.words ++ before.fetched_at) (sym is) ∙ ap (λ (l : List ℕ). l ++ before.fetched_at) (sym (reverse-reverse (moment_of c ts).words))
+
+ram_at : (c : AheadRun) (d m : Devices) (s : Moment) (ts : List Turn) → AreBegun c ts → moment_of c ts ≡ s → m.input.left ≡ Some s.flat.input → Appends d.output.held m.output.held s.flat.output → Appends d.error.held m.error.held s.flat.error →
+    m.ram.fetched_at ≡ s.words ++ d.ram.fetched_at → m.ram.fetches ≡ risen d.ram.fetches (length s.words) → m.ram.last_failed ≡ true → RamBrokeAhead c d m refusal.RamFault []
+ram_at c d m s ts are is input output error words fetches failed = record {
   fault = refl;
-  events = h.events;
-  are = inr h.are;
-  output = h.output;
-  error = to_nil d.error.held m.error.held (moment_of c h.events).flat.error h.error;
-  input = h.input;
-  fetches = h.fetches;
-  words = h.words;
-  last_failed = h.last_failed;
+  events = ts;
+  are = inr are;
+  output = subst (λ (k : Moment). Appends d.output.held m.output.held k.flat.output) (sym is) output;
+  error = to_nil d.error.held m.error.held (moment_of c ts).flat.error (subst (λ (k : Moment). Appends d.error.held m.error.held k.flat.error) (sym is) error);
+  input = input ∙ ap (λ (k : Moment). Some k.flat.input) (sym is);
+  fetches = fetches ∙ ap (λ (k : Moment). risen d.ram.fetches (length k.words)) (sym is);
+  words = words_so c ts s d.ram m.ram is words;
+  last_failed = failed;
 }
 
-step_from : (f : BoardFault) (c : AheadRun) (d m : Devices) → (f ≡ fault.RamFault → ⊥) → AheadStepBroke {T = Unit {0}} c (Err f) (around d) (around m) → StepBrokeAhead c d m (fault_refusal f) []
-step_from f c d m other h = record {
-  events = h.events;
-  are = h.are;
-  words = h.words;
-  failed = record {
-    fault = kind f other;
-    going = h.going;
-    output = (h.output_front, h.output);
-    error_front = h.error_front;
-    error = to_nil d.error.held m.error.held (s.error ++ take h.error_front (held_next s).error) h.error;
-    source = λ is. let none = h.unwritten (named f is) in (
-      front_none d.output.held m.output.held s.output (held_next s).output h.output_front none.0 h.output,
-      to_nil d.error.held m.error.held s.error (front_none d.error.held m.error.held s.error (held_next s).error h.error_front none.1 h.error),
-    );
-    unasked = h.unasked;
-    taken = h.taken;
-    no_more = let few : length h.taken + length (held_next s).input ≤ length s.input = h.few in omega arith;
-    input = h.input;
-  };
-}
+-- the hart's event behind these
+hart_next : (c : AheadRun) (ts : List Turn) → moment_of c (ts ++ of_hart ∷ []) ≡ instruction (beside (setting_for c)) c.image (moment_of c ts)
+unfolding turned_all
+hart_next c ts = turned_more (setting_for c) c.image ts (of_hart ∷ []) (booted (setting_for c) c.image c.start.machine c.start.input)
+
+ram_from : (c : AheadRun) (d m : Devices) (b : BoardOf EngineData) (before after : outside.Faults) → AheadBroke c fault.RamFault (point_around b (around d)) (point_around b (around m)) before after → RamBrokeAhead c d m refusal.RamFault []
+ram_from c d m b before after h = elim h.stopped [
+  | inl hart ↦ let broke = hart.broke in elim broke.is [
+    | inl is ↦ ram_at c d m broke.reached (rounds c.rate h.made) (record { made = h.made; going = h.going; events = inl refl }) (sym is)
+        broke.input broke.output broke.error broke.words broke.fetches broke.last_failed
+    | inr is ↦ ram_at c d m broke.reached (rounds c.rate h.made ++ of_hart ∷ []) (record { made = h.made; going = h.going; events = inr (0, inl refl, refl) })
+        (hart_next c (rounds c.rate h.made) ∙ sym is) broke.input broke.output broke.error broke.words broke.fetches broke.last_failed
+  ]
+  | inr engine ↦ ram_at c d m (turned_all (setting_for c) c.image (round engine.made) (moment_after c h.made)) (rounds c.rate h.made ++ round engine.made)
+      (record { made = h.made; going = h.going; events = inr (engine.made, inr engine.fewer, refl) })
+      (turned_more (setting_for c) c.image (rounds c.rate h.made) (round engine.made) (booted (setting_for c) c.image c.start.machine c.start.input))
+      engine.input engine.output engine.error engine.words engine.fetches engine.last_failed
+]
+
+step_at : (f : BoardFault) (c : AheadRun) (d m : Devices) (b : BoardOf EngineData) → (f ≡ fault.RamFault → ⊥) → (h : AheadBroke c f (point_around b (around d)) (point_around b (around m)) (stream_faults d) (stream_faults m)) →
+    DeviceBroke (beside (setting_for c)) c.image f (moment_after c h.made) (point_around b (around d)) (point_around b (around m)) → Unasked (next_of (moment_after c h.made).flat) (stream_faults d) (stream_faults m) →
+    StepBrokeAhead c d m (fault_refusal f) []
+step_at f c d m b other h broke unasked =
+    let going = h.going h.made (omega arith) in
+    record {
+      events = rounds c.rate h.made;
+      are = record { made = h.made; going = h.going; events = inl refl };
+      words = words_so c (rounds c.rate h.made ++ of_hart ∷ []) (instruction (beside (setting_for c)) c.image (moment_after c h.made)) d.ram m.ram (hart_next c (rounds c.rate h.made)) broke.words;
+      failed = record {
+        fault = kind f other;
+        going = going.0;
+        output = (broke.output_front, broke.output);
+        error_front = broke.error_front;
+        error = to_nil d.error.held m.error.held (s.error ++ take broke.error_front (held_next s).error) broke.error;
+        source = λ is. let none = broke.unwritten (named f is) in (
+          front_none d.output.held m.output.held s.output (held_next s).output broke.output_front none.0 broke.output,
+          to_nil d.error.held m.error.held s.error (front_none d.error.held m.error.held s.error (held_next s).error broke.error_front none.1 broke.error),
+        );
+        unasked = unasked;
+        taken = broke.taken;
+        no_more = let few : length broke.taken + length (held_next s).input ≤ length s.input = broke.few in omega arith;
+        input = broke.input;
+      };
+    }
   where
     s : FlatState
-    s = (moment_of c h.events).flat
+    s = (moment_after c h.made).flat
 
     kind : (f : BoardFault) → (f ≡ fault.RamFault → ⊥) → (fault_refusal f ≡ refusal.SourceFault) ⊎ (fault_refusal f ≡ refusal.SinkFault)
     kind fault.RamFault other = absurd (other refl)
     kind fault.SourceFault other = inl refl
     kind fault.SinkFault other = inr refl
 
-    named : (f : BoardFault) → fault_refusal f ≡ refusal.SourceFault → IsErrOf {T = Unit {0}} (Err f) fault.SourceFault
+    named : (f : BoardFault) → fault_refusal f ≡ refusal.SourceFault → f ≡ fault.SourceFault
     named fault.SourceFault is = refl
     named fault.RamFault is = absurd (let bad : ⊥ = cc in bad)
     named fault.SinkFault is = absurd (let bad : ⊥ = cc in bad)
+
+step_from : (f : BoardFault) (c : AheadRun) (d m : Devices) (b : BoardOf EngineData) → (f ≡ fault.RamFault → ⊥) → AheadBroke c f (point_around b (around d)) (point_around b (around m)) (stream_faults d) (stream_faults m) →
+    StepBrokeAhead c d m (fault_refusal f) []
+step_from f c d m b other h = elim h.stopped [
+  | inl hart ↦ step_at f c d m b other h (of_device f other hart.broke) (hart.unasked other)
+  | inr engine ↦ absurd (other engine.told)
+]
+  where
+    of_device : (f : BoardFault) → (f ≡ fault.RamFault → ⊥) → Broke (beside (setting_for c)) c.image f (moment_after c h.made) (point_around b (around d)) (point_around b (around m)) →
+        DeviceBroke (beside (setting_for c)) c.image f (moment_after c h.made) (point_around b (around d)) (point_around b (around m))
+    of_device fault.RamFault other broke = absurd (other refl)
+    of_device fault.SourceFault other broke = broke
+    of_device fault.SinkFault other broke = broke
 
 -- the boot and the run over it
 module _ (a : AheadAsked) (v : ImageData) (p : ProgramData) (l : Layout) (d : Devices) (first : Option (BoardOf EngineData)) (middle : RamState)
@@ -258,7 +305,8 @@ module _ (a : AheadAsked) (v : ImageData) (p : ProgramData) (l : Layout) (d : De
       DeviceCause middle.faults ram.faults (IsErrOf {T = Unit {0}} (Err f) fault.RamFault) → RunsToEnd a v p l d (ran_all d i out e ram) (Err (fault_refusal f))
   run_failed f last i out e ram kept broke streams cause = record {
     ended = tt;
-    refused = inr (is_run f, λ left told. by f broke left told);
+    refused = inr (is_run f, λ left told. by f left first
+        (run_breaks v a.bytes m left a.run.limits.steps a.rate d.ram middle (around d).devices first told boots begins f (whole last (around (ran_all d i out e ram))) broke));
     beyond = both_kept ram kept;
     causes = fault_causes {T = Unit {0}} f d (ran_all d i out e ram) refl (cause_from boot_quiet cause) streams;
   }
@@ -268,14 +316,13 @@ module _ (a : AheadAsked) (v : ImageData) (p : ProgramData) (l : Layout) (d : De
       is_run fault.SourceFault = tt
       is_run fault.SinkFault = tt
 
-      by : (f : BoardFault) → RunBroke v a.run.limits.steps a.rate (whole first begun) (whole last (around (ran_all d i out e ram))) (Err f) → (left : List ℕ) → d.input.left ≡ Some left →
+      by : (f : BoardFault) (left : List ℕ) (o : Option (BoardOf EngineData)) →
+          OfBoard o (λ b. AheadBroke (ahead_from a v p l left) f (point_around b (around d)) (point_around b (around (ran_all d i out e ram))) (stream_faults d) (stream_faults (ran_all d i out e ram))) →
           RamBrokeAhead (ahead_from a v p l left) d (ran_all d i out e ram) (fault_refusal f) [] ⊎ StepBrokeAhead (ahead_from a v p l left) d (ran_all d i out e ram) (fault_refusal f) []
-      by fault.RamFault broke left told = inl (ram_from (ahead_from a v p l left) d (ran_all d i out e ram)
-          (run_breaks_ram v a.bytes m left a.run.limits.steps a.rate d.ram middle (around d).devices first told boots begins (whole last (around (ran_all d i out e ram))) broke))
-      by fault.SourceFault broke left told = inr (step_from fault.SourceFault (ahead_from a v p l left) d (ran_all d i out e ram) (λ x. cc)
-          (run_breaks_step v a.bytes m left a.run.limits.steps a.rate d.ram middle (around d).devices first told boots begins fault.SourceFault (whole last (around (ran_all d i out e ram))) (λ x. cc) broke))
-      by fault.SinkFault broke left told = inr (step_from fault.SinkFault (ahead_from a v p l left) d (ran_all d i out e ram) (λ x. cc)
-          (run_breaks_step v a.bytes m left a.run.limits.steps a.rate d.ram middle (around d).devices first told boots begins fault.SinkFault (whole last (around (ran_all d i out e ram))) (λ x. cc) broke))
+      by f left None broke = absurd broke
+      by fault.RamFault left (Some b) broke = inl (ram_from (ahead_from a v p l left) d (ran_all d i out e ram) b (stream_faults d) (stream_faults (ran_all d i out e ram)) broke)
+      by fault.SourceFault left (Some b) broke = inr (step_from fault.SourceFault (ahead_from a v p l left) d (ran_all d i out e ram) b (λ x. cc) broke)
+      by fault.SinkFault left (Some b) broke = inr (step_from fault.SinkFault (ahead_from a v p l left) d (ran_all d i out e ram) b (λ x. cc) broke)
 
 -- ---- the report
 
@@ -331,7 +378,7 @@ module _ (o : RunOptions) (c : AheadRun) (made : ℕ) (b : BoardOf EngineData) (
           sets = e.tracks.ram.sets ∙ ap (λ (n : ℕ). risen d.ram.sets n) (written (setting_for c) c.image (rounds c.rate made) (booted (setting_for c) c.image c.start.machine c.start.input) (booted_written (setting_for c) c.image c.start.machine c.start.input))
               ∙ risen_min d.ram.sets (writes (moment_after c made).kept + engine_words (moment_after c made).kept);
         };
-        words = e.words;
+        words = words_so c (rounds c.rate made) (moment_after c made) d.ram m.ram refl e.tracks.words;
         most = omega (arith, count, steps, most);
         fewer = λ never. let few = e.fewer (λ a is. never a (ap (λ (x : Machine). x.ending) (sym e.machine) ∙ is)) in omega (arith, count, steps, few);
         each = each;

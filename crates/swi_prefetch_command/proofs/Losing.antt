@@ -1,5 +1,5 @@
 -- Whatever the events are, each machine step but the boot has fetched a word, but for one at an address without a text word.
-use Rattle.std.proofs.Common.{◌≡◌, not, nat_lt, if◌then◌else◌, ℕ, ◌+◌, ◌^◌, ◌<◌, Bool, true, false, List, [], ◌∷◌, Option, Some, None, is_some, refl, sym, ap, subst, ◌∙◌, arith}
+use Rattle.std.proofs.Common.{◌≡◌, not, nat_lt, if◌then◌else◌, ℕ, suc, ◌+◌, ◌^◌, ◌<◌, Bool, true, false, List, [], ◌∷◌, length, Option, Some, None, is_some, refl, sym, ap, subst, ◌∙◌, arith}
 use Rattle.std.proofs.lemmas.Bool.{false≢true}
 use Rattle.swi_memory.specs.Bus.{fetched}
 use Rattle.swi_calls.specs.declared.end.End.{End}
@@ -13,10 +13,12 @@ use Rattle.swi_rom.specs.Service.{Setting}
 use Rattle.swi_hart.specs.declared.hart.Control.TheVariants.{Outside}
 use Rattle.swi_hart.specs.Hart.{is_place, original, slots}
 use Rattle.swi_hart.proofs.Kept.{image_same, next_text}
+use Rattle.swi_board.specs.Fetching.{index_in}
+use Rattle.swi_board.specs.Moments.{Moment, Policy, completed, counted, event as instruction, executed, fell, led, stepped_at}
 use Rattle.swi_board.specs.Transfers.{Here, at_fall, before_last, here_after}
-use Rattle.swi_engine.specs.Engine.{Event, event}
-use Rattle.swi_turn.specs.Turns.{event_at}
-use Rattle.swi_prefetch.specs.Moments.{Moment, Turn, of_hart, of_engine, booted, completed, counted, engine_event, executed, fell, hart_event, led, stepped_at, turned, turned_all, worked}
+use Rattle.swi_engine.specs.Engine.{Event, beside, event}
+use Rattle.swi_prefetch.specs.Events.{Turn, of_hart, of_engine, booted, engine_event, turned, turned_all, worked}
+use Rattle.swi_prefetch.specs.Turns.{event_at}
 use Rattle.swi_cached.specs.Cached.{unfetched}
 use Rattle.swi_cached.proofs.Fetched.{IsFound, found_text, lost_text, next_known, place_is, step_found, step_lost}
 use Rattle.swi_prefetch_command.specs.RunAhead.{HasFetchedEach}
@@ -29,9 +31,13 @@ record Loses (v : ImageData) (s : Moment) : Type 0 where
   each : HasFetchedEach s
 
 -- an event of the hart
-module _ (by : Setting) (v : ImageData) (s : Moment) (on : s.flat.machine.ending ≡ None) (at : Loses v s) where
+module _ (by : Policy) (v : ImageData) (s : Moment) (on : s.flat.machine.ending ≡ None) (at : Loses v s) where
   found : IsFound s.flat.machine
   found = (at.word on, ap (λ (e : Option End). unfetched e) on)
+
+  -- the word under control
+  abbrev under : ℕ × ℕ → List ℕ
+  under p = (index_in s.kept p + s.spent) ∷ []
 
   abbrev next : Machine
   next = (held_step s.flat).machine
@@ -39,14 +45,14 @@ module _ (by : Setting) (v : ImageData) (s : Moment) (on : s.flat.machine.ending
   next_image : Carries (fetched next.bus) v
   next_image = image_same v (fetched s.flat.machine.bus) (fetched next.bus) (λ a. next_text a v s.flat.machine Outside s.flat.machine s.flat.input) at.image
 
-  so_far : s.count ≡ 1 + s.fetches
+  so_far : s.count ≡ 1 + length s.words
   so_far =
-      let each : s.count ≡ 1 + s.fetches + unfetched s.flat.machine.ending = at.each in
+      let each : s.count ≡ 1 + length s.words + unfetched s.flat.machine.ending = at.each in
       let none : unfetched s.flat.machine.ending ≡ 0 = found.1 in
       omega (arith, each, none)
 
   -- at an address without a text word
-  lost : s.here ≡ None → Loses v (counted 0 (completed by v None s))
+  lost : s.here ≡ None → Loses v (counted [] (completed by v None s))
   lost is =
       let end = step_lost s.flat.machine s.flat.input (lost_text v (fetched s.flat.machine.bus) s.flat.machine.pc at.image (at.known on is)) in
       let one : unfetched next.ending ≡ 1 = ap (λ (e : Option End). unfetched e) end in
@@ -59,7 +65,7 @@ module _ (by : Setting) (v : ImageData) (s : Moment) (on : s.flat.machine.ending
       }
 
   -- the instruction at a text word is complete
-  whole : (p : ℕ × ℕ) → at_fall v s.flat.machine (Some p) ≡ false → Loses v (counted 1 (completed by v (Some p) s))
+  whole : (p : ℕ × ℕ) → at_fall v s.flat.machine (Some p) ≡ false → Loses v (counted (under p) (completed by v (Some p) s))
   whole p plain =
       let text = found_text v (fetched s.flat.machine.bus) s.flat.machine.pc (p.0, p.1) at.image (at.word on) (place_is (place_of v s.flat.machine.pc) p.0 p.1 (stands (is_place (place_of v s.flat.machine.pc) p.0 p.1) plain)) in
       let after = step_found s.flat.machine s.flat.input text.0 text.1 found in
@@ -76,7 +82,7 @@ module _ (by : Setting) (v : ImageData) (s : Moment) (on : s.flat.machine.ending
       stands true e = refl
       stands false e = absurd (false≢true (sym e))
 
-  same : (t : Moment) → t.flat ≡ s.flat → (t.here ≡ None → place_of v s.flat.machine.pc ≡ None) → t.count ≡ s.count + 1 → t.fetches ≡ s.fetches + 1 → Loses v t
+  same : (t : Moment) → t.flat ≡ s.flat → (t.here ≡ None → place_of v s.flat.machine.pc ≡ None) → t.count ≡ s.count + 1 → length t.words ≡ suc (length s.words) → Loses v t
   same t flat known count fetches =
       let sum = so_far in
       let none : unfetched t.flat.machine.ending ≡ 0 = ap (λ (q : FlatState). unfetched q.machine.ending) flat ∙ found.1 in
@@ -87,19 +93,19 @@ module _ (by : Setting) (v : ImageData) (s : Moment) (on : s.flat.machine.ending
         each = omega (arith, none, sum, count, fetches);
       }
 
-  by_words : (p : ℕ × ℕ) → s.here ≡ Some p → at_fall v s.flat.machine (Some p) ≡ false → (t : Bool) → Loses v (counted 1 (if t then led s else completed by v (Some p) s))
-  by_words p is plain true = same (counted 1 (led s)) refl (at.known on) refl refl
+  by_words : (p : ℕ × ℕ) → s.here ≡ Some p → at_fall v s.flat.machine (Some p) ≡ false → (t : Bool) → Loses v (counted (under p) (if t then led s else completed by v (Some p) s))
+  by_words p is plain true = same (counted (under p) (led s)) refl (at.known on) refl refl
   by_words p is plain false = whole p plain
 
-  by_fall : (p : ℕ × ℕ) → s.here ≡ Some p → (t : Bool) → at_fall v s.flat.machine (Some p) ≡ t → Loses v (counted 1 (if t then fell by v p s else executed by v p s))
-  by_fall p is true falls = same (counted 1 (fell by v p s)) refl (λ e. e) refl refl
+  by_fall : (p : ℕ × ℕ) → s.here ≡ Some p → (t : Bool) → at_fall v s.flat.machine (Some p) ≡ t → Loses v (counted (under p) (if t then fell by v p s else executed by v p s))
+  by_fall p is true falls = same (counted (under p) (fell by v p s)) refl (λ e. e) refl refl
   by_fall p is false plain = by_words p is plain (nat_lt s.spent (before_last s.flat.machine (original s.flat.machine) (slots s.flat.machine)))
 
   by_here : (h : Here) → s.here ≡ h → Loses v (stepped_at by v h s)
   by_here None is = lost is
   by_here (Some p) is = by_fall p is (at_fall v s.flat.machine (Some p)) refl
 
-hart_loses : (by : Setting) (v : ImageData) (s : Moment) → Loses v s → Loses v (hart_event by v s)
+hart_loses : (by : Policy) (v : ImageData) (s : Moment) → Loses v s → Loses v (instruction by v s)
 hart_loses by v s at = by_ending s.flat.machine.ending refl
   where
     by_ending : (e : Option End) → s.flat.machine.ending ≡ e → Loses v (if is_some e then s else stepped_at by v s.here s)
@@ -118,7 +124,7 @@ engine_loses by v s at = by_ending s.flat.machine.ending
     by_ending (Some x) = at
 
 turned_loses : (by : Setting) (v : ImageData) (s : Moment) (t : Turn) → Loses v s → Loses v (turned by v t s)
-turned_loses by v s of_hart at = hart_loses by v s at
+turned_loses by v s of_hart at = hart_loses (beside by) v s at
 turned_loses by v s of_engine at = engine_loses by v s at
 
 all_lose : (by : Setting) (v : ImageData) (ts : List Turn) (s : Moment) → Loses v s → Loses v (turned_all by v ts s)

@@ -1,5 +1,5 @@
 -- The command `prefetch`: a run on the cached machine beside whose hart an engine copies blocks ahead. Own rule.
-use Rattle.std.specs.Prelude.{◌≡◌, ◌⊎◌, ℕ, ◌+◌, ◌-◌, ◌*◌, ◌^◌, ◌<◌, ◌≤◌, min, List, [], ◌∷◌, ◌++◌, if◌then◌else◌, None, Some, Result, IfOk, IfErr, true, ⊤}
+use Rattle.std.specs.Prelude.{◌≡◌, ◌⊎◌, ℕ, ◌+◌, ◌-◌, ◌*◌, ◌^◌, ◌<◌, ◌≤◌, min, List, [], ◌∷◌, ◌++◌, length, if◌then◌else◌, None, Some, Result, IfOk, IfErr, true, ⊤}
 use Rattle.std.specs.Io.KnownBytes.{Appends}
 use Rattle.swi_outside.specs.CacheRam.{KeepsBeyond, RamState}
 use Rattle.swi_outside.specs.Causes.{risen}
@@ -24,9 +24,10 @@ use Rattle.swi_hart.specs.declared.fault.BoardFault.TheVariants as fault
 use Rattle.swi_hart.specs.Hart.{HartData}
 use Rattle.swi_board.specs.Board.{BoardOf}
 use Rattle.swi_board.specs.Fetching.{HasFetched}
+use Rattle.swi_board.specs.Moments.{Moment}
 use Rattle.swi_engine.specs.Engine.{engine_copies, engine_words, span_of}
 use Rattle.swi_engine.specs.State.{EngineData, kept_by, setting_of}
-use Rattle.swi_prefetch.specs.Moments.{Moment, Turn, of_hart, rounds}
+use Rattle.swi_prefetch.specs.Events.{Turn, of_hart, rounds}
 use Rattle.swi_prefetch.specs.Prefetching.{PrefetchData, empty_for}
 use Rattle.swi_prefetch.specs.Running.{OfBoard}
 use Rattle.swi_prefetch.specs.Scheduled.{AheadEnded, AheadRun, AreBegun, AreRounds, end_of, moment_after, moment_of, setting_for, words_of}
@@ -62,7 +63,7 @@ ahead_span bytes v = span_of (setting_of (empty_for bytes v))
 abbrev pub ahead_work : Moment → Work
 ahead_work s = record {
   machine = s.count;
-  fetches = s.fetches;
+  fetches = length s.words;
   writes = min (writes s.kept + engine_words s.kept) (2 ^ 64 - 1);
   counts = s.kept.counts;
 }
@@ -94,7 +95,7 @@ StopsFrom s = (n k : ℕ) → k < n → ((j : ℕ) → j < k → StoresAt s j �
 
 -- each machine instruction but the boot has fetched a word, but for one at an address without a text word
 abbrev pub HasFetchedEach : Moment → Type 0
-HasFetchedEach s = s.count ≡ 1 + s.fetches + unfetched s.flat.machine.ending
+HasFetchedEach s = s.count ≡ 1 + length s.words + unfetched s.flat.machine.ending
 
 -- What a run is that came to its end behind so many rounds, and what it leaves of the ram.
 pub record IsAheadRun (c : AheadRun) (made : ℕ) (before after : RamState) : Type 0 where
@@ -137,7 +138,7 @@ pub record RamBrokeAhead (c : AheadRun) (before after : Devices) (r : Refusal) (
   pub output : Appends before.output.held after.output.held (moment_of c events).flat.output
   pub error : Appends before.error.held after.error.held ((moment_of c events).flat.error ++ last)
   pub input : after.input.left ≡ Some (moment_of c events).flat.input
-  pub fetches : after.ram.fetches ≡ risen before.ram.fetches (moment_of c events).fetches
+  pub fetches : after.ram.fetches ≡ risen before.ram.fetches (length (moment_of c events).words)
   pub words : HasFetched (words_of c events) before.ram after.ram
   pub last_failed : after.ram.last_failed ≡ true
 

@@ -22,14 +22,14 @@ returns-in-Ok-boot-clause-takes_turns g c =
     (record { hart = c.in-Ok-boot.board.hart; rom = c.in-Ok-boot.board.rom; ram = g.M.CacheRam.state c.boot.new.ram }) c.in-Ok.ensures.empty refl refl q.entered q.count q.policy).beside
 
 pub returns-in-Ok-boot-clause-begins : goal.returns-in-Ok-boot-clause-begins
-returns-in-Ok-boot-clause-begins g c = λ d left input.
+returns-in-Ok-boot-clause-begins g c = λ d any left input.
     let q = c.in-Ok-boot.ensures in
     let on =
     booted_on c.args.image.now (machine_of c.args.p.now c.args.l.now c.args.log) c.args.cache_bytes c.in-Ok.rom c.args.p.now.entry (g.M.CacheRam.state c.args.ram.now)
     (record { hart = c.in-Ok-boot.board.hart; rom = c.in-Ok-boot.board.rom; ram = g.M.CacheRam.state c.boot.new.ram }) c.in-Ok.ensures.empty refl refl q.entered q.count q.policy in
     begins c.args.image.now (machine_of c.args.p.now c.args.l.now c.args.log) c.args.cache_bytes (g.M.CacheRam.state c.args.ram.now)
-    (record { hart = c.in-Ok-boot.board.hart; rom = c.in-Ok-boot.board.rom; ram = g.M.CacheRam.state c.boot.new.ram }) refl on
-    (q.policy ∙ ap (λ (e : EngineData). beside (setting_of e) (kept_by e) c.args.image.now (indirect c.args.p.now.entry)) c.in-Ok.ensures.empty) d left input
+    (record { hart = c.in-Ok-boot.board.hart; rom = c.in-Ok-boot.board.rom; ram = g.M.CacheRam.state c.boot.new.ram }) on
+    (q.policy ∙ ap (λ (e : EngineData). beside (setting_of e) (kept_by e) c.args.image.now (indirect c.args.p.now.entry)) c.in-Ok.ensures.empty) d any left input
 
 pub returns-in-Ok-boot-clause-steps : goal.returns-in-Ok-boot-clause-steps
 returns-in-Ok-boot-clause-steps g c = λ n.

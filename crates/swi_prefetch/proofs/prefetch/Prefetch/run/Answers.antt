@@ -39,7 +39,7 @@ pub returns-in_err-round-clause-broke : goal.returns-in_err-round-clause-broke
 returns-in_err-round-clause-broke g c =
     let p = err_from_is_err_and c.from_residual.result c.from_residual.ensures.1 in
     let goes : goes_below c.args.limit c.loop-self.self.board ≡ true = search rules in
-    rw (p.1, p.2) (run_broke c.args.image.now c.args.limit c.args.rate _ _ _ (Err c.in_err-round.field-0.0) c.loop-self.invariant goes c.in_err-round.ensures.broke)
+    rw (p.1, p.2) (run_broke c.args.image.now c.args.limit c.args.rate _ _ _ c.in_err-round.field-0.0 c.loop-self.invariant goes c.in_err-round.ensures.broke)
 
 pub returns-clause-ran : goal.returns-clause-ran
 returns-clause-ran g c =
@@ -50,14 +50,14 @@ pub returns-in_err-round-clause-causes : goal.returns-in_err-round-clause-causes
 returns-in_err-round-clause-causes g c =
     let p = err_from_is_err_and c.from_residual.result c.from_residual.ensures.1 in
     let goes : goes_below c.args.limit c.loop-self.self.board ≡ true = search rules in
-    let broke = run_broke c.args.image.now c.args.limit c.args.rate _ _ _ (Err c.in_err-round.field-0.0) c.loop-self.invariant goes c.in_err-round.ensures.broke in
+    let broke = run_broke c.args.image.now c.args.limit c.args.rate _ _ _ c.in_err-round.field-0.0 c.loop-self.invariant goes c.in_err-round.ensures.broke in
     rw (p.1, p.2) (broke_causes c.args.image.now _ c.args.rate _ _ (Err c.in_err-round.field-0.0) broke.broke).0
 
 pub returns-in_err-round-clause-ram_cause : goal.returns-in_err-round-clause-ram_cause
 returns-in_err-round-clause-ram_cause g c =
     let p = err_from_is_err_and c.from_residual.result c.from_residual.ensures.1 in
     let goes : goes_below c.args.limit c.loop-self.self.board ≡ true = search rules in
-    let broke = run_broke c.args.image.now c.args.limit c.args.rate _ _ _ (Err c.in_err-round.field-0.0) c.loop-self.invariant goes c.in_err-round.ensures.broke in
+    let broke = run_broke c.args.image.now c.args.limit c.args.rate _ _ _ c.in_err-round.field-0.0 c.loop-self.invariant goes c.in_err-round.ensures.broke in
     rw (p.1, p.2) (broke_causes c.args.image.now _ c.args.rate _ _ (Err c.in_err-round.field-0.0) broke.broke).1
 
 pub returns-clause-causes : goal.returns-clause-causes
@@ -69,7 +69,7 @@ returns-clause-ram_cause g c = came_ram_cause c.args.image.now _ _ _ tt _ c.loop
 pub returns-in_err-round-clause-kept : goal.returns-in_err-round-clause-kept
 returns-in_err-round-clause-kept g c =
     let goes : goes_below c.args.limit c.loop-self.self.board ≡ true = search rules in
-    let broke = run_broke c.args.image.now c.args.limit c.args.rate _ _ _ (Err c.in_err-round.field-0.0) c.loop-self.invariant goes c.in_err-round.ensures.broke in
+    let broke = run_broke c.args.image.now c.args.limit c.args.rate _ _ _ c.in_err-round.field-0.0 c.loop-self.invariant goes c.in_err-round.ensures.broke in
     broke_kept c.args.image.now _ c.args.rate _ _ (Err c.in_err-round.field-0.0) broke.broke
 
 pub returns-clause-kept : goal.returns-clause-kept

@@ -1,7 +1,7 @@
 use Rattle.std.proofs.Common.{◌≡◌, ◌<◌, ◌≤◌, ℕ, replicate, refl, subst, rules, arith}
 use Rattle.swi_outside.specs.Devices.{Devices}
 use Rattle.swi_rom.specs.Rams.{on_err}
-use Rattle.swi_prefetch.specs.Moments.{of_engine}
+use Rattle.swi_prefetch.specs.Events.{of_engine}
 use Rattle.swi_prefetch.specs.Running.{CameOn, whole}
 use Rattle.swi_prefetch.proofs.Rounds.{ahead_few, ahead_more, came_none, engine_came, no_devices, same_more, same_none}
 use Rattle.swi_prefetch.proofs.prefetch.Prefetch.work_ahead.Goals as goal

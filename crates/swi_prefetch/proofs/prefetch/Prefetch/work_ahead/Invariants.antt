@@ -1,6 +1,6 @@
 use Rattle.std.proofs.Common.{replicate}
 use Rattle.swi_outside.specs.Devices.{Devices}
-use Rattle.swi_prefetch.specs.Moments.{of_engine}
+use Rattle.swi_prefetch.specs.Events.{of_engine}
 use Rattle.swi_prefetch.specs.Running.{CameOn, SameHart, whole}
 use Rattle.swi_prefetch.proofs.prefetch.Prefetch.work_ahead.Given as goal
 

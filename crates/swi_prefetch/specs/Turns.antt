@@ -18,7 +18,7 @@ use Rattle.swi_hart.specs.Staying.{StaysUnder}
 use Rattle.swi_board.specs.Ran.{Followed}
 use Rattle.swi_engine.specs.Engine.{Event}
 use Rattle.swi_engine.specs.Worked.{GoesTo}
-use Rattle.swi_turn.specs.Engines.{EngineOf}
+use Rattle.swi_prefetch.specs.Engines.{EngineOf}
 
 -- What stands between any two turns. The image fits the hart: control is in what stands for the instruction at its pc. The service
 -- is sound for image and ram. Machine steps and services are within their bounds: of machine steps three for each original one, and what

@@ -4,7 +4,7 @@
 ghost use Rattle.std.specs.Prelude.{◌^◌, ◌<◌, ℕ, IfOk, OnErr};
 ghost use Rattle.swi_rom.specs.Record.{Placed};
 ghost use Rattle.swi_rom.specs.Writing.{FailedBelow};
-ghost use Rattle.swi_turn.specs.Engines.{EngineOf, IsEngine, EventMade};
+ghost use Rattle.swi_prefetch.specs.Engines.{EngineOf, IsEngine, EventMade};
 
 use swi_engine::EngineRom;
 use swi_image::ImageView;
@@ -38,7 +38,7 @@ pub trait CopyEngine: CacheRom {
 }
 
 impl CopyEngine for EngineRom {
-    ghost use Rattle.swi_turn.specs.Laws.{engine_of, engine_laws};
+    ghost use Rattle.swi_prefetch.specs.EngineLaws.{engine_of, engine_laws};
 
     ghost engine = { engine_of };
 

@@ -3,7 +3,7 @@
 
 ghost use Rattle.std.specs.Prelude.{◌^◌, ◌<◌, IfOk, OnErr};
 ghost use Rattle.swi_rom.specs.Writing.{FailedBelow};
-ghost use Rattle.swi_turn.specs.Turns.{Beside, EngineTurned, HartTurned};
+ghost use Rattle.swi_prefetch.specs.Turns.{Beside, EngineTurned, HartTurned};
 
 use crate::engine::CopyEngine;
 use swi_board::Board;

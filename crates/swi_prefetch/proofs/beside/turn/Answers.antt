@@ -3,9 +3,9 @@ use Rattle.swi_rom.specs.Record.{Placed}
 use Rattle.swi_hart.specs.Hart.{HartData, index_of, place_under}
 use Rattle.swi_hart.specs.Service.{ServiceWithRam}
 use Rattle.swi_hart.specs.Staying.{fits_on}
-use Rattle.swi_turn.specs.Engines.{EventMade}
-use Rattle.swi_turn.proofs.Turning.{shown_under, stays_under, turned_on, under_placed}
-use Rattle.swi_turn.proofs.beside.turn.Goals as goal
+use Rattle.swi_prefetch.specs.Engines.{EventMade}
+use Rattle.swi_prefetch.proofs.Turning.{shown_under, stays_under, turned_on, under_placed}
+use Rattle.swi_prefetch.proofs.beside.turn.Goals as goal
 
 pub work-requires-clause-here : goal.work-requires-clause-here
 work-requires-clause-here g c =

@@ -1,8 +1,9 @@
--- Whatever the events are, no placed block stands in the slot that has a copy. Own rule.
+-- Whatever the events are, no placed block stands in the slot that has a copy.
 use Rattle.std.proofs.Common.{◌≡◌, ◌==◌, ◌&&◌, not, if◌then◌else◌, ℕ, zero, suc, ◌+◌, ◌-◌, ◌*◌, ◌/◌, nat_lt, cond, Bool, true, false, List, [], ◌∷◌, ◌++◌, map, filter, length, Option, Some, None, is_some, refl, sym, ap, subst, ◌∙◌, inl, inr, arith}
 use Rattle.std.specs.Bool.{⊤}
 use Rattle.std.proofs.lemmas.Bool.{cases_lt, eq-eqb, false≢true}
 use Rattle.std.proofs.lemmas.List.{map-append}
+use Rattle.std.proofs.lemmas.Nat.{same_from_place}
 use Rattle.std.proofs.Math.Nat.{mul-div_cancel}
 use Rattle.swi_calls.specs.declared.end.End.{End}
 use Rattle.swi_calls.specs.declared.machine.Machine.{Machine}
@@ -10,26 +11,24 @@ use Rattle.swi_calls.specs.Held.{held_step}
 use Rattle.swi_image.specs.Format.{ImageData}
 use Rattle.swi_image.specs.Place.{length_at, place_of}
 use Rattle.swi_rom.specs.Policy.{Putting, counted as with_service, evicted, is_over_link, is_placed, linked, linked_over, served_by, went}
-use Rattle.swi_rom.specs.Record.{Has, Link, Placement, Record, Transfer, direct, indirect, target_of}
+use Rattle.swi_rom.specs.Record.{Has, Link, Placed, Placement, Record, Transfer, direct, indirect, target_of}
 use Rattle.swi_rom.specs.Service.{Setting}
 use Rattle.swi_hart.specs.Hart.{original, slots}
+use Rattle.swi_hart.specs.MachineStep.{BoardWithRam}
+use Rattle.swi_board.specs.Fetching.{index_in}
+use Rattle.swi_board.specs.Moments.{Moment, completed, counted, event as instruction, executed, fell, led, stepped_at}
 use Rattle.swi_board.specs.Transfers.{Here, after_all, at_fall, before_last, step_transfers}
 use Rattle.swi_engine.specs.declared.copying.Copying.{Copying}
 use Rattle.swi_engine.specs.Engine.{Event, ahead, arrived, beside, brought, copy_of, dropped, empty_beside, engine_copies, engine_words, event, event_by, first_word, free_slot, into, into_free, into_oldest, is_taken, lowest, made_way, missed, newest_first, newest_into, numbers, oldest_but, others, undone, with_block, wrote_next}
-use Rattle.swi_engine.specs.Seats.{has_map, map_has}
-use Rattle.swi_engine.specs.Sound.{Distinct}
+use Rattle.swi_engine.specs.Seats.{has_map, map_has, placed_slot}
+use Rattle.swi_engine.specs.Service.{engine_service}
+use Rattle.swi_engine.specs.Sound.{CopyIs, Distinct}
+use Rattle.swi_engine.specs.State.{EngineData, kept_by}
 use Rattle.swi_engine.proofs.Eventing.{any_true}
 use Rattle.swi_engine.proofs.Shapes.{distinct_append, filter_has, has_last}
-use Rattle.swi_turn.specs.Turns.{event_at}
-use Rattle.swi_prefetch.specs.Moments.{Moment, Turn, of_hart, of_engine, booted, completed, counted, engine_event, executed, fell, hart_event, led, stepped_at, turned, turned_all, worked}
-
--- no block stands in a slot, and in that of the copy, if there is one
-abbrev pub IsFree : ℕ → List Placement → ℕ → Type 0
-IsFree size placed n = (e : Placement) → Has placed e → e.first ≡ n * size → ⊥
-
-abbrev pub CopyApart : ℕ → List Placement → Option Copying → Type 0
-CopyApart size placed None = ⊤
-CopyApart size placed (Some k) = IsFree size placed k.slot
+use Rattle.swi_prefetch.specs.Events.{Turn, of_hart, of_engine, booted, engine_event, turned, turned_all, worked}
+use Rattle.swi_prefetch.specs.Laws.{CopyApart, IsFree}
+use Rattle.swi_prefetch.specs.Turns.{Beside, event_at}
 
 abbrev first_at : Placement → ℕ
 first_at e = e.first
@@ -256,25 +255,28 @@ engine_seated by v s is = by_ending s.flat.machine.ending
     by_ending None = worked_seated by.slot_words s (event_at (event by) s.kept v s.here) is (at_seated by v s.kept s.here is)
     by_ending (Some x) = is
 
-hart_seated : (by : Setting) (v : ImageData) (s : Moment) → Seated by.slot_words s.kept → Seated by.slot_words (hart_event by v s).kept
+hart_seated : (by : Setting) (v : ImageData) (s : Moment) → Seated by.slot_words s.kept → Seated by.slot_words (instruction (beside by) v s).kept
 hart_seated by v s is = by_ending s.flat.machine.ending
   where
-    whole : (h : Here) (n : ℕ) → Seated by.slot_words (counted n (completed by v h s)).kept
-    whole h n = all_seated by v (step_transfers s.flat.machine h (held_step s.flat).machine) s.kept is
+    word : ℕ × ℕ → List ℕ
+    word p = (index_in s.kept p + s.spent) ∷ []
 
-    by_words : (p : ℕ × ℕ) (t : Bool) → Seated by.slot_words (counted 1 (if t then led s else completed by v (Some p) s)).kept
+    whole : (h : Here) (ws : List ℕ) → Seated by.slot_words (counted ws (completed (beside by) v h s)).kept
+    whole h ws = all_seated by v (step_transfers s.flat.machine h (held_step s.flat).machine) s.kept is
+
+    by_words : (p : ℕ × ℕ) (t : Bool) → Seated by.slot_words (counted (word p) (if t then led s else completed (beside by) v (Some p) s)).kept
     by_words p true = is
-    by_words p false = whole (Some p) 1
+    by_words p false = whole (Some p) (word p)
 
-    by_fall : (p : ℕ × ℕ) (t : Bool) → Seated by.slot_words (counted 1 (if t then fell by v p s else executed by v p s)).kept
+    by_fall : (p : ℕ × ℕ) (t : Bool) → Seated by.slot_words (counted (word p) (if t then fell (beside by) v p s else executed (beside by) v p s)).kept
     by_fall p true = all_seated by v (direct p.0 p.1 s.flat.machine.pc ∷ []) s.kept is
     by_fall p false = by_words p (nat_lt s.spent (before_last s.flat.machine (original s.flat.machine) (slots s.flat.machine)))
 
-    by_here : (h : Here) → Seated by.slot_words (stepped_at by v h s).kept
-    by_here None = whole None 0
+    by_here : (h : Here) → Seated by.slot_words (stepped_at (beside by) v h s).kept
+    by_here None = whole None []
     by_here (Some p) = by_fall p (at_fall v s.flat.machine (Some p))
 
-    by_ending : (e : Option End) → Seated by.slot_words (if is_some e then s else stepped_at by v s.here s).kept
+    by_ending : (e : Option End) → Seated by.slot_words (if is_some e then s else stepped_at (beside by) v s.here s).kept
     by_ending None = by_here s.here
     by_ending (Some x) = is
 
@@ -294,3 +296,15 @@ booted_seated by v m left = beside_seated by v empty_beside (indirect m.pc) (rec
 pub copy_stays_apart : (by : Setting) (v : ImageData) (m : Machine) (left : List ℕ) (ts : List Turn) →
     CopyApart by.slot_words (turned_all by v ts (booted by v m left)).kept.placed (copy_of (turned_all by v ts (booted by v m left)).kept)
 copy_stays_apart by v m left ts = (turns_seated by v ts (booted by v m left) (booted_seated by v m left)).apart
+
+-- ---- a board
+
+-- No block stands in the slot that has a copy; control's block is one that stands.
+pub copy_apart : (v : ImageData) (b : BoardWithRam EngineData) (k : Copying) (c first : ℕ) → Beside engine_service v b → b.rom.copy ≡ Some k → Placed (kept_by b.rom) c first → first ≡ k.slot * b.rom.size → ⊥
+copy_apart v b k c first is copies placed same =
+    let stands = is.sound.stands in
+    let at = placed_slot b.rom c first placed in
+    let two = stands.shape.size_least in
+    let slot = same_from_place at.0 0 k.slot 0 b.rom.size (omega (arith, two)) (omega (arith, two)) (omega (arith, at.3, same)) in
+    let copy = subst (λ (o : Option Copying). CopyIs o b.rom v b.ram.words) copies stands.copy_is in
+    copy.slot_free (subst (λ (n : ℕ). Has b.rom.queue n) slot.0 at.1)

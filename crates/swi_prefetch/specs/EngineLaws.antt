@@ -9,7 +9,7 @@ use Rattle.swi_engine.specs.declared.copying.Copying.{Copying}
 use Rattle.swi_engine.specs.Engine.{event, engine_words, copy_of, free_slot, into, brought, dropped, missed, arrived, newest_first, beside}
 use Rattle.swi_engine.specs.Events.{event_uncounted}
 use Rattle.swi_engine.specs.Service.{engine_service}
-use Rattle.swi_turn.specs.Engines.{EngineOf, IsEngine}
+use Rattle.swi_prefetch.specs.Engines.{EngineOf, IsEngine}
 
 abbrev pub engine_of : EngineOf
 engine_of = record { event = event; written = engine_words }

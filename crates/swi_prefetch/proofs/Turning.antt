@@ -19,8 +19,8 @@ use Rattle.swi_hart.specs.Staying.{StaysAt, StaysUnder, fits_on, matches_on}
 use Rattle.swi_outside.specs.CacheRam.{RamState}
 use Rattle.swi_engine.specs.Engine.{Event}
 use Rattle.swi_engine.specs.Worked.{GoesTo}
-use Rattle.swi_turn.specs.Engines.{EngineOf, IsEngine, EventMade}
-use Rattle.swi_turn.specs.Turns.{Beside, EngineTurned, event_at}
+use Rattle.swi_prefetch.specs.Engines.{EngineOf, IsEngine, EventMade}
+use Rattle.swi_prefetch.specs.Turns.{Beside, EngineTurned, event_at}
 use Rattle.swi_hart.proofs.Homes.{home}
 use Rattle.swi_hart.proofs.Leaving.{shown_place}
 
