@@ -10,3 +10,6 @@ pub use beside::{step, turn};
 pub use engine::CopyEngine;
 pub use laws::laws_of_prefetch;
 pub use prefetch::Prefetch;
+
+#[cfg(test)]
+mod tests;

@@ -305,11 +305,8 @@ module _ (a : AheadAsked) (v : ImageData) (p : ProgramData) (l : Layout) (d : De
       DeviceCause middle.faults ram.faults (IsErrOf {T = Unit {0}} (Err f) fault.RamFault) → RunsToEnd a v p l d (ran_all d i out e ram) (Err (fault_refusal f))
   run_failed f last i out e ram kept broke streams cause = record {
     ended = tt;
-    refused = inr (
-      is_run f,
-      λ left told. by f left first
-          (run_breaks v a.bytes m left a.run.limits.steps a.rate d.ram middle (around d).devices first told boots begins f (whole last (around (ran_all d i out e ram))) broke),
-    );
+    refused = inr (is_run f, λ left told. by f left first
+        (run_breaks v a.bytes m left a.run.limits.steps a.rate d.ram middle (around d).devices first told boots begins f (whole last (around (ran_all d i out e ram))) broke));
     beyond = both_kept ram kept;
     causes = fault_causes {T = Unit {0}} f d (ran_all d i out e ram) refl (cause_from boot_quiet cause) streams;
   }

@@ -1,5 +1,5 @@
 -- Whatever the events are, each machine step but the boot has fetched a word, but for one at an address without a text word.
-use Rattle.std.proofs.Common.{◌≡◌, not, nat_lt, if◌then◌else◌, ℕ, ◌+◌, ◌^◌, ◌<◌, Bool, true, false, List, [], ◌∷◌, length, Option, Some, None, is_some, refl, sym, ap, subst, ◌∙◌, arith}
+use Rattle.std.proofs.Common.{◌≡◌, not, nat_lt, if◌then◌else◌, ℕ, suc, ◌+◌, ◌^◌, ◌<◌, Bool, true, false, List, [], ◌∷◌, length, Option, Some, None, is_some, refl, sym, ap, subst, ◌∙◌, arith}
 use Rattle.std.proofs.lemmas.Bool.{false≢true}
 use Rattle.swi_memory.specs.Bus.{fetched}
 use Rattle.swi_calls.specs.declared.end.End.{End}
@@ -82,7 +82,7 @@ module _ (by : Policy) (v : ImageData) (s : Moment) (on : s.flat.machine.ending 
       stands true e = refl
       stands false e = absurd (false≢true (sym e))
 
-  same : (t : Moment) → t.flat ≡ s.flat → (t.here ≡ None → place_of v s.flat.machine.pc ≡ None) → t.count ≡ s.count + 1 → length t.words ≡ length s.words + 1 → Loses v t
+  same : (t : Moment) → t.flat ≡ s.flat → (t.here ≡ None → place_of v s.flat.machine.pc ≡ None) → t.count ≡ s.count + 1 → length t.words ≡ suc (length s.words) → Loses v t
   same t flat known count fetches =
       let sum = so_far in
       let none : unfetched t.flat.machine.ending ≡ 0 = ap (λ (q : FlatState). unfetched q.machine.ending) flat ∙ found.1 in
