@@ -138,7 +138,7 @@ can_start bytes guests order within few =
 
 -- ---- machine instructions
 
-process_at : (ps : List Process) (g : ℕ) (c : Context) → slice_index_or (map context_of ps) g None ≡ Some c → (p : Process) × (slice_get ps g ≡ Some p) × (context_of p ≡ Some c)
+pub process_at : (ps : List Process) (g : ℕ) (c : Context) → slice_index_or (map context_of ps) g None ≡ Some c → (p : Process) × (slice_get ps g ≡ Some p) × (context_of p ≡ Some c)
 process_at [] g c is = absurd (cc)
 process_at (p ∷ ps) zero c is = (p, refl, is)
 process_at (p ∷ ps) (suc g) c is = process_at ps g c is
@@ -152,8 +152,8 @@ counted s words g c sharing is =
     let p : Process = at.0 in
     let seat = sharing.seated g p at.1 in
     let h : HartData = seat.hart in
-    let own : ◌≡◌ {A = Option Context} (Some (context h p.image p.input.left)) (Some c) = sym (ap (λ (x : Option HartData). context_by x p.image p.input.left) seat.is) ∙ at.2 in
-    let same : context h p.image p.input.left ≡ c = same_Some (context h p.image p.input.left) c own in (
+    let own : ◌≡◌ {A = Option Context} (Some (context h p.image p.input)) (Some c) = sym (ap (λ (x : Option HartData). context_by x p.image p.input) seat.is) ∙ at.2 in
+    let same : context h p.image p.input ≡ c = same_Some (context h p.image p.input) c own in (
       subst (λ (x : Context). x.count ≤ most_steps x.machine.ending x.machine.steps) same seat.waits.bounded,
       subst (λ (x : Context). x.booted ≡ false → x.count ≡ 0) same seat.waits.unbooted,
     )

@@ -1,40 +1,35 @@
--- An event that a device broke off.
-use Rattle.std.proofs.Common.{◌≡◌, ◌⊎◌, ℕ, zero, suc, ◌+◌, ◌<◌, ◌≤◌, Bool, true, false, List, [], ◌++◌, length, take, Option, Some, None, is_some, nat_le, if◌then◌else◌, Err, IsErrOf, arith, refl, sym, ◌∙◌, ap, subst, inl, inr}
-use Rattle.std.proofs.lemmas.Bool.{le-leb, lt-leb}
-use Rattle.std.specs.Io.KnownBytes.{Appends, Consumes}
-use Rattle.swi_memory.specs.Bus.{fetched}
+-- What a device leaves that broke off an event, in the words of the event.
+use Rattle.std.proofs.Common.{◌≡◌, ℕ, suc, ◌+◌, ◌-◌, ◌<◌, ◌≤◌, Bool, true, false, List, [], ◌++◌, length, reverse, take, Option, Some, None, is_some, nat_le, if◌then◌else◌, arith, refl, sym, ◌∙◌, ap, subst, inl, inr, append-nil}
+use Rattle.std.proofs.lemmas.Bool.{cases_lt, le-leb, lt-leb}
+use Rattle.std.proofs.lemmas.List.{length-append, length-reverse, reverse-append, reverse-reverse}
+use Rattle.std.specs.Io.KnownBytes.{Appends}
 use Rattle.swi_outside.specs.CacheRam.{RamState}
-use Rattle.swi_outside.specs.Causes.{PairCause, risen}
-use Rattle.swi_outside.specs.Devices.{Faults, HasCauses}
+use Rattle.swi_outside.specs.Causes.{risen}
+use Rattle.swi_outside.specs.Devices.{Devices}
 use Rattle.swi_outside.specs.Laws.{Appends-none}
+use Rattle.swi_outside.specs.Sink.{SinkState}
 use Rattle.swi_calls.specs.declared.end.End.{End}
 use Rattle.swi_calls.specs.declared.machine.Machine.{Machine}
-use Rattle.swi_calls.specs.Flat.{started}
-use Rattle.swi_calls.specs.Held.{held_made, held_run, held_step}
+use Rattle.swi_calls.specs.Held.{held_run, held_step}
 use Rattle.swi_calls.specs.State.{FlatState}
 use Rattle.swi_image.specs.Format.{ImageData}
 use Rattle.swi_image.specs.Place.{place_of}
-use Rattle.swi_render.specs.Carried.{Carries}
-use Rattle.swi_slots.specs.Slots.{Slots, kept_by, setting_of}
-use Rattle.swi_hart.specs.Calling.{OnDevice}
-use Rattle.swi_hart.specs.Hart.{HartData}
-use Rattle.swi_hart.proofs.Own.{held_none}
+use Rattle.swi_rom.specs.Record.{Record}
+use Rattle.swi_rom.specs.Service.{Setting}
+use Rattle.swi_slots.specs.Fifo.{fifo}
 use Rattle.swi_hart.specs.declared.fault.BoardFault.{BoardFault}
-use Rattle.swi_hart.specs.declared.fault.BoardFault.TheVariants as board
-use Rattle.swi_board.specs.Board.{BoardOf}
-use Rattle.swi_board.specs.Fetching.{FetchedFront}
-use Rattle.swi_board.specs.Ran.{BrokeOff, RamBrokeOff, Unasked as StepUnasked, next_of}
-use Rattle.swi_board.specs.Transfers.{Here, here_of, spent_run, at_fall, step_size, fetches, size, here_after}
-use Rattle.swi_share.specs.Waiting.{Waits}
-use Rattle.swi_share.specs.Shared.{Context, Event, enters, begun_if, step_event, flat_of}
-use Rattle.swi_share.specs.Event.{Boarded, EventDevices, EventBroke, EventRamBroke, Unasked, context, event_at}
+use Rattle.swi_hart.specs.declared.fault.BoardFault.TheVariants.{RamFault, SinkFault}
+use Rattle.swi_board.specs.Fetching.{FetchedFront, words_run}
+use Rattle.swi_board.specs.Moments.{Moment, Policy, events}
+use Rattle.swi_board.specs.Ran.{next_of}
+use Rattle.swi_board.specs.Transfers.{Here, at_fall, fetches, here_after, size, step_size}
+use Rattle.swi_board.proofs.Fetching.{words_many}
+use Rattle.swi_run_laws.specs.After.{IsAfter}
+use Rattle.swi_run_laws.proofs.After.{goes_before, is_after}
+use Rattle.swi_run_laws.proofs.RunLaws.{flat_at, most_fetched, words_front}
+use Rattle.swi_share.specs.Shared.{Context, Event, enters, entered_if, begun_if, event_of, flat_of, step_event}
+use Rattle.swi_share.specs.Event.{EntryBroke, EventBroke, EventDevices, StepBroke, instructions_from, moment_of}
 use Rattle.swi_share.proofs.Few.{run_one}
-use Rattle.swi_share.proofs.Making.{event_is, err_as}
-
-pub on_device : (T U : Type 0) {P Q : Type 0} (fault : BoardFault) → ((fault ≡ board.RamFault → ⊥) → P → Q) → OnDevice {T = T} (Err fault) P → OnDevice {T = U} (Err fault) Q
-on_device T U board.RamFault f p = tt
-on_device T U board.SourceFault f p = f (λ e. cc) p
-on_device T U board.SinkFault f p = f (λ e. cc) p
 
 pub flat_same : (t : Bool) (c : Context) → flat_of (begun_if t c) ≡ flat_of c
 flat_same true c = refl
@@ -44,110 +39,42 @@ run_zero : (k : ℕ) (s : FlatState) → k ≡ 0 → held_run k s ≡ s
 unfolding held_run
 run_zero k s e = rw e refl
 
-pub broke_event : {T U : Type 0} (fault : BoardFault) (v : ImageData) (left : List ℕ) (old : BoardOf Slots) (h h' : HartData) (before after : EventDevices) (k : ℕ) → k ≡ 1 → old.hart.machine.ending ≡ None →
-    FetchedFront (event_at old v left).words before.ram after.ram → BrokeOff {T = T} (Err fault) k (started old.hart.machine left) h h' after.input before.out after.out before.err after.err → EventBroke {T = U} (Err fault) (event_at old v left) left before after
-broke_event {T} {U} fault v left old h h' before after k one going words q =
-    let s : FlatState = started old.hart.machine left in
-    let c = context old.hart v left in
-    let none : q.steps ≡ 0 = omega (arith, q.fewer, one) in
-    let first : held_run q.steps s ≡ s = run_zero q.steps s none in
-    let made : held_run 1 (flat_of (begun_if (enters (kept_by old.rom) c) c)) ≡ held_step s = ap (λ (x : FlatState). held_run 1 x) (flat_same (enters (kept_by old.rom) c) c) ∙ run_one old.hart.machine left going in
-    let taken : (event_at old v left).context.input ≡ (held_step s).input = ap (λ (x : FlatState). x.input) made in
-    let few = subst (λ (x : FlatState). length q.taken + length (held_made x.machine x.input).input ≤ length x.input) first q.few in
-    record {
-      output_front = q.output_front;
-      output = subst (λ (l : List ℕ). Appends before.out after.out (take q.output_front l)) (sym (ap (λ (x : FlatState). x.output) made))
-          (subst (λ (x : FlatState). Appends before.out after.out (x.output ++ take q.output_front (held_made x.machine x.input).output)) first q.output);
-      error_front = q.error_front;
-      error = subst (λ (l : List ℕ). Appends before.err after.err (take q.error_front l)) (sym (ap (λ (x : FlatState). x.error) made))
-          (subst (λ (x : FlatState). Appends before.err after.err (x.error ++ take q.error_front (held_made x.machine x.input).error)) first q.error);
-      unwritten = λ e. q.unwritten (err_as {T = U} {U = T} fault _ e);
-      taken = q.taken;
-      input = subst (λ (x : FlatState). Consumes (Some x.input) after.input q.taken) first q.input;
-      few = omega (arith, few, ap (λ (l : List ℕ). length l) taken);
-      words = words;
-    }
+-- ---- the machine instructions of one step
 
--- a sink to which the event gives nothing
+module _ (by : Policy) (v : ImageData) (s : Moment) (going : s.flat.machine.ending ≡ None) (none : s.spent ≡ 0) where
+  -- before the last one the flat machine stays
+  pub unmoved : (j : ℕ) → j < instructions_from v s → (events by v j s).flat ≡ s.flat
+  unmoved j lt =
+      let on = goes_before by v 1 s s.here (λ on. refl) none j lt in
+      let less = on.1 in
+      let first : (events by v j s).flat.machine.steps - s.flat.machine.steps ≡ 0 = omega (arith, less) in
+      flat_at by v j s on.0 ∙ run_zero ((events by v j s).flat.machine.steps - s.flat.machine.steps) s.flat first
 
-pub unasked_event : {T : Type 0} (fault : BoardFault) (v : ImageData) (left : List ℕ) (old : BoardOf Slots) (made : FlatState) (k : ℕ) (before after : Faults) → old.hart.machine.ending ≡ None → k ≡ 0 →
-    made ≡ held_run k (started old.hart.machine left) → HasCauses before after (IsErrOf {T = T} (Err fault) board.SourceFault) (IsErrOf {T = T} (Err fault) board.SinkFault) →
-    OnDevice {T = T} (Err fault) (StepUnasked (next_of made) before after) → Unasked (event_at old v left) before.output after.output before.error after.error
-unasked_event {T} fault v left old made k before after going none is causes given = by fault causes given
-  where
-    stays : {a b c d : ℕ} {named : Type 0} → PairCause a b c d named → (named → ⊥) → Unasked (event_at old v left) a b c d
-    stays sinks never = record {
-      output = λ empty. elim sinks.one_told [ inl same ↦ same | inr n ↦ absurd (never n) ];
-      error = λ empty. elim sinks.other_told [ inl same ↦ same | inr n ↦ absurd (never n) ];
-    }
+  -- what they fetch is a front of the step's words
+  pub front_at : (j : ℕ) → j ≤ instructions_from v s → (before after : RamState) → s.words ≡ [] → after.fetched_at ≡ (events by v j s).words ++ before.fetched_at →
+      FetchedFront (words_run by v 1 s.flat s.here s.kept) before after × (length (events by v j s).words ≤ fetches v 1 s.flat s.here)
+  front_at j le before after fresh are =
+      let more = words_front by v j (instructions_from v s) s le in
+      let whole = is_after by v 1 s s.here (λ on. refl) none in
+      let all : (events by v (instructions_from v s) s).words ≡ reverse (words_run by v 1 s.flat s.here s.kept) =
+      whole.words ∙ ap (λ (l : List ℕ). reverse (words_run by v 1 s.flat s.here s.kept) ++ l) fresh ∙ append-nil (reverse (words_run by v 1 s.flat s.here s.kept)) in
+      let mine : more.0 ++ (events by v j s).words ≡ reverse (words_run by v 1 s.flat s.here s.kept) = sym more.1 ∙ all in
+      let long = ap (λ (l : List ℕ). length l) mine in
+      let parts = length-append more.0 (events by v j s).words in
+      let many = length-reverse (words_run by v 1 s.flat s.here s.kept) in
+      let number = words_many by v 1 s.flat s.here s.kept in (
+        (
+          reverse more.0,
+          record {
+            fetched = reverse (events by v j s).words;
+            are = are ∙ ap (λ (l : List ℕ). l ++ before.fetched_at) (sym (reverse-reverse (events by v j s).words));
+            front = sym (reverse-append more.0 (events by v j s).words) ∙ ap (λ (l : List ℕ). reverse l) mine ∙ reverse-reverse (words_run by v 1 s.flat s.here s.kept);
+          },
+        ),
+        omega (arith, long, parts, many, number),
+      )
 
-    s : FlatState
-    s = started old.hart.machine left
-
-    step : held_run 1 (flat_of (begun_if (enters (kept_by old.rom) (context old.hart v left)) (context old.hart v left))) ≡ held_step s
-    step = ap (λ (x : FlatState). held_run 1 x) (flat_same (enters (kept_by old.rom) (context old.hart v left)) (context old.hart v left)) ∙ run_one old.hart.machine left going
-
-    first : made ≡ s
-    first = is ∙ run_zero k s none
-
-    by : (f : BoardFault) → HasCauses before after (IsErrOf {T = T} (Err f) board.SourceFault) (IsErrOf {T = T} (Err f) board.SinkFault) →
-        OnDevice {T = T} (Err f) (StepUnasked (next_of made) before after) → Unasked (event_at old v left) before.output after.output before.error after.error
-    by board.RamFault h u = stays h.sinks (λ e. cc)
-    by board.SourceFault h u = stays h.sinks (λ e. cc)
-    by board.SinkFault h u = record {
-      output = λ empty. u.output (ap (λ (x : FlatState). (next_of x).output) first ∙ sym (ap (λ (x : FlatState). x.output) step) ∙ empty);
-      error = λ empty. u.error (ap (λ (x : FlatState). (next_of x).error) first ∙ sym (ap (λ (x : FlatState). x.error) step) ∙ empty);
-    }
-
--- the ram, in the run of one step
-
-fetched_case : (v : ImageData) (s : FlatState) (here : Here) (k n more : ℕ) → more ≡ 0 → k ≤ 1 → fetches v k s here ≤ n + more → (k < 1 → n + more < fetches v (k + 1) s here) →
-    ((k ≡ 0) × (nat_le (fetches v 1 s here) n ≡ false)) ⊎ ((k ≡ 1) × (nat_le (fetches v 1 s here) n ≡ true))
-fetched_case v s here zero n more none le enough longest = inl (refl, lt-leb (fetches v 1 s here) n (omega (arith, none, longest (omega arith))))
-fetched_case v s here (suc zero) n more none le enough longest = inr (refl, le-leb (fetches v 1 s here) n (omega (arith, none, enough)))
-fetched_case v s here (suc (suc k)) n more none le enough longest = absurd (omega (arith, le))
-
-pub ram_broke_event : (v : ImageData) (left : List ℕ) (old b : BoardOf Slots) (h' : HartData) (before after : EventDevices) (mid : RamState) (k : ℕ) → k ≡ 1 → Boarded v old b → mid.fetches ≡ before.ram.fetches →
-    FetchedFront (event_at old v left).words before.ram after.ram → RamBrokeOff v k (started old.hart.machine left) b.hart h' mid after.ram after.input before.out after.out before.err after.err → after.ram.last_failed ≡ true → EventRamBroke (event_at old v left) left before after
-ram_broke_event v left old b h' before after mid k one is same words q last =
-    subst (λ (e : Event). EventRamBroke e left before after) (sym (event_is v left old b is)) at_step
-  where
-    s : FlatState
-    s = started old.hart.machine left
-
-    here : Here
-    here = here_of v old.hart.machine b.hart.control
-
-    e : Event
-    e = step_event (setting_of old.rom) (kept_by b.rom) (record (context old.hart v left) { booted = true; place = here; count = b.hart.count })
-
-    fetches_are : after.ram.fetches ≡ risen before.ram.fetches q.fetched
-    fetches_are = q.fetches_are ∙ ap (λ (n : ℕ). risen n q.fetched) same
-
-    at_step : EventRamBroke e left before after
-    at_step = elim (fetched_case v s here q.steps q.fetched (spent_run old.hart.machine b.hart.control) is.spent (omega (arith, q.within, one)) q.enough (λ less. q.longest (omega (arith, less, one)))) [
-      | inl w ↦ record {
-        fetched = q.fetched;
-        fetches = fetches_are;
-        output = subst (λ (t : Bool). Appends before.out after.out (if t then e.output else [])) (sym w.1) (subst (λ (x : FlatState). Appends before.out after.out x.output) (run_zero q.steps s w.0) q.output);
-        error = subst (λ (t : Bool). Appends before.err after.err (if t then e.error else [])) (sym w.1) (subst (λ (x : FlatState). Appends before.err after.err x.error) (run_zero q.steps s w.0) q.error);
-        input = q.input ∙ ap (λ (x : FlatState). Some x.input) (run_zero q.steps s w.0) ∙ ap (λ (t : Bool). Some (if t then e.context.input else left)) (sym w.1);
-        words = subst (λ (l : List ℕ). FetchedFront l before.ram after.ram) (ap (λ (x : Event). x.words) (event_is v left old b is)) words;
-        last_failed = last;
-      }
-      | inr w ↦ record {
-        fetched = q.fetched;
-        fetches = fetches_are;
-        output = subst (λ (t : Bool). Appends before.out after.out (if t then e.output else [])) (sym w.1) (subst (λ (n : ℕ). Appends before.out after.out (held_run n s).output) w.0 q.output);
-        error = subst (λ (t : Bool). Appends before.err after.err (if t then e.error else [])) (sym w.1) (subst (λ (n : ℕ). Appends before.err after.err (held_run n s).error) w.0 q.error);
-        input = q.input ∙ ap (λ (n : ℕ). Some (held_run n s).input) w.0 ∙ ap (λ (t : Bool). Some (if t then e.context.input else left)) (sym w.1);
-        words = subst (λ (l : List ℕ). FetchedFront l before.ram after.ram) (ap (λ (x : Event). x.words) (event_is v left old b is)) words;
-        last_failed = last;
-      }
-    ]
-
--- ---- the ram, in the entry
-
+-- a step from a text word's place fetches a word
 fetches_some : (v : ImageData) (s : FlatState) (p : ℕ × ℕ) → s.machine.ending ≡ None → place_of v s.machine.pc ≡ Some p → 1 ≤ fetches v 1 s (Some p)
 unfolding size
 fetches_some v s p going place = at (is_some s.machine.ending) (ap (λ (e : Option End). is_some e) going) (at_fall v s.machine (Some p))
@@ -164,59 +91,193 @@ fetches_some v s p going place = at (is_some s.machine.ending) (ap (λ (e : Opti
     at true is u = absurd (cc)
     at false is u = rest u _ _ refl
 
--- a step at an address where no text word stands writes and takes nothing
-step_outside : (m : Machine) (left : List ℕ) → m.ending ≡ None → fetched m.bus m.pc ≡ None → held_run 1 (started m left) ≡ record (started m left) { machine = (held_run 1 (started m left)).machine }
-step_outside m left going none =
-    run_one m left going ∙ quiet_step ∙ ap (λ (x : FlatState). let y : FlatState = record (started m left) { machine = x.machine } in y) (sym (run_one m left going))
-  where
-    quiet_step : held_step (started m left) ≡ record (started m left) { machine = (held_step (started m left)).machine }
-    quiet_step = rw (held_none m left none) refl
+-- ---- the event
 
-carries_none : (v : ImageData) (m : Machine) → Carries (fetched m.bus) v → place_of v m.pc ≡ None → fetched m.bus m.pc ≡ None
-carries_none v m carries none = by (fetched m.bus m.pc) refl
-  where
-    by : (w : Option ℕ) → fetched m.bus m.pc ≡ w → w ≡ None
-    by None is = refl
-    by (Some w) is = absurd (let q = carries.stands m.pc w is in let x : ◌≡◌ {A = Option (ℕ × ℕ)} None (Some (q.0, q.1)) = sym none ∙ q.2 in cc)
+-- a sink broke it off: each sink has gained a front of what the event writes, and one to which it gives nothing was not asked
+pub record SinkCut (e : Event) (before after : EventDevices) : Type 0 where
+  pub output_front : ℕ
+  pub output : Appends before.out.held after.out.held (take output_front e.output)
+  pub error_front : ℕ
+  pub error : Appends before.err.held after.err.held (take error_front e.error)
+  pub words : FetchedFront e.words before.ram after.ram
+  pub output_unasked : e.output ≡ [] → after.out.faults ≡ before.out.faults
+  pub error_unasked : e.error ≡ [] → after.err.faults ≡ before.err.faults
 
-entry_case : (v : ImageData) (m : Machine) (left : List ℕ) → m.ending ≡ None → Carries (fetched m.bus) v → (here : Here) → here ≡ place_of v m.pc →
-    (nat_le (fetches v 1 (started m left) here) 0 ≡ false) ⊎ (held_run 1 (started m left) ≡ record (started m left) { machine = (held_run 1 (started m left)).machine })
-entry_case v m left going carries None is = inr (step_outside m left going (carries_none v m carries (sym is)))
-entry_case v m left going carries (Some p) is = inl (lt-leb _ 0 (omega (arith, fetches_some v (started m left) p going (sym is))))
+-- The ram broke it off, after so many fetches: the sinks have gained what the event writes where all its fetches were made, and else
+-- nothing. No call of it comes behind the one that failed.
+pub record RamCut (e : Event) (before after : EventDevices) : Type 0 where
+  pub fetched : ℕ
+  pub fetches : after.ram.fetches ≡ risen before.ram.fetches fetched
+  pub most : fetched ≤ e.fetches
+  pub output : Appends before.out.held after.out.held (if nat_le e.fetches fetched then e.output else [])
+  pub error : Appends before.err.held after.err.held (if nat_le e.fetches fetched then e.error else [])
+  pub words : FetchedFront e.words before.ram after.ram
+  pub last_failed : after.ram.last_failed ≡ true
 
-none_if : (t : Bool) (xs : List ℕ) → (t ≡ false) ⊎ (xs ≡ []) → (if t then xs else []) ≡ []
-none_if true xs (inl e) = absurd (cc)
-none_if true xs (inr e) = e
-none_if false xs e = refl
+module _ (by : Setting) (r : Record) (c : Context) (going : c.machine.ending ≡ None) (before after : EventDevices) where
+  abbrev e : Event
+  e = event_of by r c
 
-same_if : (t : Bool) (xs ys : List ℕ) → (t ≡ false) ⊎ (xs ≡ ys) → (if t then xs else ys) ≡ ys
-same_if true xs ys (inl e) = absurd (cc)
-same_if true xs ys (inr e) = e
-same_if false xs ys e = refl
+  abbrev start : Moment
+  start = moment_of by r c
 
-pub entry_broke : (v : ImageData) (left : List ℕ) (old : BoardOf Slots) (ram : RamState) (before : EventDevices) → Waits v (kept_by old.rom) old.hart → old.hart.machine.ending ≡ None →
-    ((l : List ℕ) → enters (kept_by old.rom) (context old.hart v l) ≡ true) → ram.fetches ≡ before.ram.fetches → ram.fetched_at ≡ before.ram.fetched_at → ram.last_failed ≡ true → before.input ≡ Some left → EventRamBroke (event_at old v left) left before (record before { ram = ram })
-entry_broke v left old ram before waits going anew fetches_stay fetched_at_stays last told =
-    let r = kept_by old.rom in
-    let c = context old.hart v left in
-    let s : FlatState = started old.hart.machine left in
-    let e = event_at old v left in
-    let begun : begun_if (enters r c) c ≡ begun_if true c = ap (λ (t : Bool). begun_if t c) (anew left) in
-    let flat : held_run 1 (flat_of (begun_if (enters r c) c)) ≡ held_run 1 s = ap (λ (x : FlatState). held_run 1 x) (flat_same (enters r c) c) in
-    let number : e.fetches ≡ fetches v 1 s (place_of v old.hart.machine.pc) = ap (λ (x : Context). fetches x.image 1 (flat_of x) x.place) begun in
-    let cases = entry_case v old.hart.machine left going waits.image (place_of v old.hart.machine.pc) refl in
-    let no_word = λ (t : nat_le (fetches v 1 s (place_of v old.hart.machine.pc)) 0 ≡ false). ap (λ (n : ℕ). nat_le n 0) number ∙ t in
-    record {
-      fetched = 0;
-      fetches = fetches_stay ∙ risen_none before.ram.fetches;
-      output = subst (λ (l : List ℕ). Appends before.out before.out l)
-          (sym (none_if (nat_le e.fetches 0) e.output (elim cases [ inl t ↦ inl (no_word t) | inr q ↦ inr (ap (λ (x : FlatState). x.output) (flat ∙ q)) ]))) (Appends-none before.out);
-      error = subst (λ (l : List ℕ). Appends before.err before.err l)
-          (sym (none_if (nat_le e.fetches 0) e.error (elim cases [ inl t ↦ inl (no_word t) | inr q ↦ inr (ap (λ (x : FlatState). x.error) (flat ∙ q)) ]))) (Appends-none before.err);
-      input = told ∙ ap (λ (l : List ℕ). Some l) (sym (same_if (nat_le e.fetches 0) e.context.input left (elim cases [ inl t ↦ inl (no_word t) | inr q ↦ inr (ap (λ (x : FlatState). x.input) (flat ∙ q)) ])));
-      words = (e.words, record { fetched = []; are = fetched_at_stays; front = refl });
-      last_failed = last;
-    }
-  where
-    risen_none : (n : ℕ) → n ≡ risen n 0
-    risen_none n = grind arith
+  abbrev done : FlatState
+  done = held_run 1 start.flat
+
+  flat_is : start.flat ≡ flat_of c
+  flat_is = flat_same (enters r c) c
+
+  on : start.flat.machine.ending ≡ None
+  on = ap (λ (q : FlatState). q.machine.ending) flat_is ∙ going
+
+  done_is : done ≡ held_step (flat_of c)
+  done_is = ap (λ (q : FlatState). held_run 1 q) flat_is ∙ run_one c.machine c.input going
+
+  -- the image of the event is the program's
+  fetches_are : e.fetches ≡ fetches c.image 1 start.flat start.here
+  fetches_are = over (enters r c)
+    where
+      over : (t : Bool) → (step_event by (entered_if t by r c) (begun_if t c)).fetches ≡ fetches c.image 1 (flat_of (begun_if t c)) (begun_if t c).place
+      over true = refl
+      over false = refl
+
+  words_are : words_run (fifo by) c.image 1 start.flat start.here start.kept ≡ e.words
+  words_are = over (enters r c)
+    where
+      over : (t : Bool) → words_run (fifo by) c.image 1 (flat_of (begun_if t c)) (begun_if t c).place (entered_if t by r c) ≡ (step_event by (entered_if t by r c) (begun_if t c)).words
+      over true = refl
+      over false = refl
+
+  front_of : (j : ℕ) → j ≤ instructions_from c.image start → after.ram.fetched_at ≡ (events (fifo by) c.image j start).words ++ before.ram.fetched_at →
+      FetchedFront e.words before.ram after.ram × (length (events (fifo by) c.image j start).words ≤ e.fetches)
+  front_of j le are =
+      let f = front_at (fifo by) c.image start on refl j le before.ram after.ram refl are in
+      (subst (λ (l : List ℕ). FetchedFront l before.ram after.ram) words_are f.0, subst (λ (n : ℕ). length (events (fifo by) c.image j start).words ≤ n) (sym fetches_are) f.1)
+
+  -- ---- a sink
+
+  pub sink_cut : StepBroke by r c SinkFault before after → SinkCut e before after
+  unfolding events
+  sink_cut b =
+      let t = events (fifo by) c.image b.made start in
+      let is : t.flat ≡ flat_of c = unmoved (fifo by) c.image start on refl b.made b.few ∙ flat_is in
+      let less = b.few in
+      let unasked = b.unasked (λ x. let bad : ⊥ = cc in bad) in
+      record {
+        output_front = b.broke.output_front;
+        output = subst (λ (l : List ℕ). Appends before.out.held after.out.held (take b.broke.output_front l)) (sym (ap (λ (q : FlatState). q.output) done_is))
+            (subst (λ (q : FlatState). Appends before.out.held after.out.held (q.output ++ take b.broke.output_front (next_of q).output)) is b.broke.output);
+        error_front = b.broke.error_front;
+        error = subst (λ (l : List ℕ). Appends before.err.held after.err.held (take b.broke.error_front l)) (sym (ap (λ (q : FlatState). q.error) done_is))
+            (subst (λ (q : FlatState). Appends before.err.held after.err.held (q.error ++ take b.broke.error_front (next_of q).error)) is b.broke.error);
+        words = (front_of (suc b.made) (omega (arith, less)) b.broke.words).0;
+        output_unasked = λ none. unasked.output (ap (λ (q : FlatState). (next_of q).output) is ∙ sym (ap (λ (q : FlatState). q.output) done_is) ∙ none);
+        error_unasked = λ none. unasked.error (ap (λ (q : FlatState). (next_of q).error) is ∙ sym (ap (λ (q : FlatState). q.error) done_is) ∙ none);
+      }
+
+  -- ---- the ram
+
+  -- behind so many machine instructions
+  cut_at : (j : ℕ) → j ≤ instructions_from c.image start → ((events (fifo by) c.image j start).here ≡ None → ⊥) →
+      after.ram.fetched_at ≡ (events (fifo by) c.image j start).words ++ before.ram.fetched_at → after.ram.fetches ≡ risen before.ram.fetches (length (events (fifo by) c.image j start).words) → after.ram.last_failed ≡ true →
+      Appends before.out.held after.out.held (events (fifo by) c.image j start).flat.output → Appends before.err.held after.err.held (events (fifo by) c.image j start).flat.error → RamCut e before after
+  cut_at j le inside are number last out err =
+      let front = front_of j le are in
+      record {
+        fetched = length t.words;
+        fetches = number;
+        most = front.1;
+        output = subst (λ (l : List ℕ). Appends before.out.held after.out.held l) bytes.0 out;
+        error = subst (λ (l : List ℕ). Appends before.err.held after.err.held l) bytes.1 err;
+        words = front.0;
+        last_failed = last;
+      }
+    where
+      t : Moment
+      t = events (fifo by) c.image j start
+
+      all : Bool
+      all = nat_le e.fetches (length t.words)
+
+      -- before the last one
+      early : j < instructions_from c.image start → (t.flat.output ≡ (if all then e.output else [])) × (t.flat.error ≡ (if all then e.error else []))
+      early less =
+          let still = unmoved (fifo by) c.image start on refl j less ∙ flat_is in
+          let most = most_fetched (fifo by) c.image 1 start refl j le (ap (λ (q : FlatState). q.machine.ending) still ∙ going) inside in
+          let counted = most.steps_are in
+          let steps = ap (λ (q : FlatState). q.machine.steps) (unmoved (fifo by) c.image start on refl j less) in
+          let none : most.steps ≡ 0 = omega (arith, counted, steps) in
+          let few : length t.words < 0 + fetches c.image 1 start.flat start.here = subst (λ (k : ℕ). length t.words < 0 + fetches c.image (k + 1) start.flat start.here) none (most.longest (omega (arith, none))) in
+          let number = fetches_are in
+          let test : all ≡ false = lt-leb e.fetches (length t.words) (omega (arith, few, number)) in (
+            ap (λ (q : FlatState). q.output) still ∙ sym (ap (λ (x : Bool). if x then e.output else []) test),
+            ap (λ (q : FlatState). q.error) still ∙ sym (ap (λ (x : Bool). if x then e.error else []) test),
+          )
+
+      -- behind it
+      late : j ≡ instructions_from c.image start → (t.flat.output ≡ (if all then e.output else [])) × (t.flat.error ≡ (if all then e.error else []))
+      late same =
+          let whole : IsAfter (fifo by) c.image 1 start.here start t = subst (λ (k : ℕ). IsAfter (fifo by) c.image 1 start.here start (events (fifo by) c.image k start)) (sym same) (is_after (fifo by) c.image 1 start start.here (λ still. refl) refl) in
+          let words = ap (λ (l : List ℕ). length l) (whole.words ∙ append-nil (reverse (words_run (fifo by) c.image 1 start.flat start.here start.kept))) in
+          let long = length-reverse (words_run (fifo by) c.image 1 start.flat start.here start.kept) in
+          let many = words_many (fifo by) c.image 1 start.flat start.here start.kept in
+          let number = fetches_are in
+          let test : all ≡ true = le-leb e.fetches (length t.words) (omega (arith, words, long, many, number)) in (
+            ap (λ (q : FlatState). q.output) whole.flat ∙ sym (ap (λ (x : Bool). if x then e.output else []) test),
+            ap (λ (q : FlatState). q.error) whole.flat ∙ sym (ap (λ (x : Bool). if x then e.error else []) test),
+          )
+
+      bytes : (t.flat.output ≡ (if all then e.output else [])) × (t.flat.error ≡ (if all then e.error else []))
+      bytes = elim (cases_lt j (instructions_from c.image start)) [
+        | inl less ↦ early less
+        | inr least ↦ late (omega (arith, le, least))
+      ]
+
+  step_cut : StepBroke by r c RamFault before after → RamCut e before after
+  unfolding events
+  step_cut b =
+      let less = b.few in
+      let q = b.broke in
+      elim q.is [
+        | inl same ↦ cut_at b.made (omega (arith, less)) (subst (λ (m : Moment). m.here ≡ None → ⊥) same q.inside) (q.words ∙ ap (λ (m : Moment). m.words ++ before.ram.fetched_at) same)
+            (q.fetches ∙ ap (λ (m : Moment). risen before.ram.fetches (length m.words)) same) q.last_failed
+            (subst (λ (m : Moment). Appends before.out.held after.out.held m.flat.output) same q.output) (subst (λ (m : Moment). Appends before.err.held after.err.held m.flat.error) same q.error)
+        | inr same ↦ cut_at (suc b.made) (omega (arith, less)) (subst (λ (m : Moment). m.here ≡ None → ⊥) same q.inside) (q.words ∙ ap (λ (m : Moment). m.words ++ before.ram.fetched_at) same)
+            (q.fetches ∙ ap (λ (m : Moment). risen before.ram.fetches (length m.words)) same) q.last_failed
+            (subst (λ (m : Moment). Appends before.out.held after.out.held m.flat.output) same q.output) (subst (λ (m : Moment). Appends before.err.held after.err.held m.flat.error) same q.error)
+      ]
+
+  -- in the entry
+  entry_cut : {fault : BoardFault} → EntryBroke by r c fault before after → RamCut e before after
+  entry_cut b =
+      let some : 1 ≤ e.fetches = (let number = fetches_are in let one = fetched_one in omega (arith, number, one)) in
+      let test : nat_le e.fetches 0 ≡ false = lt-leb e.fetches 0 (omega (arith, some)) in
+      let out = ap (λ (d : Devices). d.output) b.devices in
+      let err = ap (λ (d : Devices). d.error) b.devices in
+      record {
+        fetched = 0;
+        fetches = b.ram.fetches_stay ∙ risen_none before.ram.fetches;
+        most = omega arith;
+        output = subst (λ (l : List ℕ). Appends before.out.held after.out.held l) (sym (ap (λ (x : Bool). if x then e.output else []) test))
+            (subst (λ (k : SinkState). Appends before.out.held k.held []) (sym out) (Appends-none before.out.held));
+        error = subst (λ (l : List ℕ). Appends before.err.held after.err.held l) (sym (ap (λ (x : Bool). if x then e.error else []) test))
+            (subst (λ (k : SinkState). Appends before.err.held k.held []) (sym err) (Appends-none before.err.held));
+        words = (e.words, record { fetched = []; are = b.ram.fetched_at_stays; front = refl });
+        last_failed = b.ram.last_failed;
+      }
+    where
+      risen_none : (n : ℕ) → n ≡ risen n 0
+      risen_none n = grind arith
+
+      by_place : (h : Here) → place_of c.image c.machine.pc ≡ h → 1 ≤ fetches c.image 1 (flat_of c) h
+      by_place None is = absurd (b.inside is)
+      by_place (Some p) is = fetches_some c.image (flat_of c) p going is
+
+      fetched_one : 1 ≤ fetches c.image 1 start.flat start.here
+      fetched_one = subst (λ (t : Bool). 1 ≤ fetches c.image 1 (flat_of (begun_if t c)) (begun_if t c).place) (sym b.anew) (by_place (place_of c.image c.machine.pc) refl)
+
+  pub ram_cut : EventBroke by r c RamFault before after → RamCut e before after
+  ram_cut b = elim b.at [ inl entry ↦ entry_cut entry | inr step ↦ step_cut step ]
+
+  pub sink_broke : EventBroke by r c SinkFault before after → SinkCut e before after
+  sink_broke b = elim b.at [ inl entry ↦ (let bad : ⊥ = (let clash : SinkFault ≡ RamFault = entry.fault_is in cc) in absurd bad) | inr step ↦ sink_cut step ]

@@ -8,3 +8,4 @@ pub mod Seating
 pub mod Starting
 pub mod Scheduling
 pub mod Bounds
+pub mod Stopped

@@ -1,6 +1,8 @@
 -- A run of one step makes an event.
-use Rattle.std.proofs.Common.{◌≡◌, ℕ, ◌+◌, ◌-◌, ◌*◌, ◌<◌, ◌≤◌, ◌^◌, Bool, true, false, not, List, [], ◌++◌, reverse, drop, Option, Some, None, is_some, if◌then◌else◌, Result, Ok, Err, IsErrOf, arith, refl, sym, ◌∙◌, ap, subst}
+use Rattle.std.proofs.Common.{◌≡◌, ◌⊎◌, ℕ, ◌+◌, ◌-◌, ◌*◌, ◌<◌, ◌≤◌, ◌^◌, Bool, true, false, not, List, [], ◌++◌, length, reverse, Option, Some, None, is_some, if◌then◌else◌, Result, Ok, Err, IsErrOf, arith, refl, sym, ◌∙◌, ap, subst, inl, inr, append-nil}
 use Rattle.std.proofs.lemmas.Bool.{false≢true, and_from, eq-eqb}
+use Rattle.std.proofs.lemmas.Option.{same_Some}
+use Rattle.std.specs.Io.KnownBytes.{Appends}
 use Rattle.swi_calls.specs.declared.end.End.{End}
 use Rattle.swi_calls.specs.declared.machine.Machine.{Machine}
 use Rattle.swi_calls.specs.Flat.{started}
@@ -12,47 +14,44 @@ use Rattle.swi_rom.specs.Record.{Record, writes}
 use Rattle.swi_rom.specs.Coherent.{Coherent}
 use Rattle.swi_rom.specs.Rams.{risen_more}
 use Rattle.swi_rom.specs.Service.{Setting}
-use Rattle.swi_rom.specs.Served.{SameFrom}
+use Rattle.swi_rom.specs.Served.{Keeps, SameFrom}
+use Rattle.swi_slots.specs.Coheres.{coheres}
 use Rattle.swi_slots.specs.Fifo.{fifo, extent_of}
+use Rattle.swi_slots.specs.Laws.{slots_laws}
+use Rattle.swi_slots.specs.Service.{slots_service}
 use Rattle.swi_slots.specs.Slots.{Slots, kept_by, setting_of, span_of}
 use Rattle.swi_hart.specs.declared.hart.Stage.TheVariants.{Start, Low, Return, Leave}
 use Rattle.swi_hart.specs.declared.hart.Control.{Control}
 use Rattle.swi_hart.specs.declared.hart.Control.TheVariants.{At, Outside}
 use Rattle.swi_hart.specs.Hart.{HartData, is_between, is_place, is_fall, place_under}
 use Rattle.swi_hart.specs.Bounds.{depth, most, most_by}
-use Rattle.swi_hart.specs.Leaving.{RamServed}
-use Rattle.swi_outside.specs.Devices.{Faults, HasCauses}
-use Rattle.swi_outside.specs.Laws.{cause_as, named_as}
-use Rattle.swi_hart.specs.declared.fault.BoardFault.TheVariants.{RamFault, SourceFault, SinkFault}
+use Rattle.swi_hart.specs.Leaving.{RamFailed, RamServed}
+use Rattle.swi_hart.specs.Matching.{StandsBy, Fits, Matches}
 use Rattle.swi_hart.specs.declared.fault.BoardFault.{BoardFault}
-use Rattle.swi_hart.specs.Matching.{StandsBy, Fits}
-use Rattle.swi_board.specs.Board.{BoardOf, entries}
-use Rattle.swi_board.specs.Fetching.{HasFetched, FetchedFront, words_ahead, words_run}
-use Rattle.swi_board.specs.Ran.{Ran, RamRan}
-use Rattle.swi_board.specs.Runs.{fetched_by}
-use Rattle.swi_board.proofs.Running.{kept_both}
+use Rattle.swi_hart.specs.declared.fault.BoardFault.TheVariants.{RamFault, SourceFault, SinkFault}
+use Rattle.swi_board.specs.Board.{BoardOf, BoardWithDevices, entries}
+use Rattle.swi_board.specs.BoardRan.{Along, BoardRan, BoardStays, BrokeOff}
+use Rattle.swi_board.specs.Fetching.{words_run}
+use Rattle.swi_board.specs.Moments.{GoesOn, Moment, events}
+use Rattle.swi_board.specs.Ran.{RamRan, Unasked, next_of}
+use Rattle.swi_board.specs.Tracking.{Came, Point, Tracks, point_of}
+use Rattle.swi_board.specs.Transfers.{Here, here_of, here_run, transfers, cost, fetches, after_all}
 use Rattle.swi_board.proofs.Along.{same_between}
-use Rattle.swi_outside.specs.Causes.{DeviceCause, risen}
-use Rattle.swi_outside.specs.CacheRam.{RamState}
-use Rattle.swi_board.specs.Transfers.{Here, here_of, here_run, spent, spent_by, spent_run, transfers, cost, fetches, after_all}
+use Rattle.swi_board.proofs.Held.{same_steps}
+use Rattle.swi_board.proofs.Tracks.{kept_both}
+use Rattle.swi_run_laws.specs.Broken.{Broke}
+use Rattle.swi_run_laws.specs.Runs.{RanSteps}
+use Rattle.swi_run_laws.proofs.Broken.{broke_off, off_unasked}
+use Rattle.swi_run_laws.proofs.RunLaws.{goes_short}
+use Rattle.swi_run_laws.proofs.Runs.{ran_steps}
+use Rattle.swi_outside.specs.CacheRam.{KeepsBeyond, RamState}
+use Rattle.swi_outside.specs.Causes.{Rose, risen}
+use Rattle.swi_outside.specs.Devices.{Faults, HasCauses, faults_of}
+use Rattle.swi_outside.specs.Laws.{Appends-none, cause_as, cause_from, causes_from, named_as}
 use Rattle.swi_share.specs.Waiting.{WaitsAt, Holds, Waits, most_steps}
-use Rattle.swi_share.specs.Shared.{Context, Event, place_by, enters, begun_if, step_event}
-use Rattle.swi_share.specs.Event.{Boarded, EventDevices, EventMade, context, event_at}
+use Rattle.swi_share.specs.Shared.{Context, Event, place_by, enters, entered_if, begun_if, step_event}
+use Rattle.swi_share.specs.Event.{Boarded, EventDevices, EventMade, HartEvent, StepBroke, board_with, context, devices_of, event_at, instructions_from, moment_by, moment_of, point_with}
 use Rattle.swi_share.proofs.Few.{Counted, run_counted, bounded_after, entered_services, entered_writes, all_writes, all_extent}
-
-spent_between : (f : Machine) (c : Control) → is_between c ≡ true → spent f c ≡ 0
-spent_between f (At i b o Start) t = refl
-spent_between f (At i b o Low) t = absurd (false≢true t)
-spent_between f (At i b o Return) t = absurd (false≢true t)
-spent_between f (At i b o Leave) t = absurd (false≢true t)
-spent_between f Outside t = refl
-
-none_spent : (f : Machine) (c : Control) → (f.ending ≡ None → is_between c ≡ true) → spent_run f c ≡ 0
-none_spent f c between = by f.ending between
-  where
-    by : (e : Option End) → (e ≡ None → is_between c ≡ true) → spent_by e f c ≡ 0
-    by None t = spent_between f c (t refl)
-    by (Some x) t = refl
 
 place_told : (e : Option End) (v : ImageData) (m : Machine) (c : Control) (here : Here) → (e ≡ None → is_between c ≡ true) → (e ≡ None → here_of v m c ≡ here) → place_under e c ≡ place_by e here
 place_told (Some e) v m c here between is = refl
@@ -164,107 +163,275 @@ event_is v left old b is =
     ap (λ (r : Record). step_event (setting_of old.rom) r (begun_if (enters (kept_by old.rom) c) c)) (sym (is.kept left))
     ∙ ap (λ (x : Context). step_event (setting_of old.rom) (kept_by b.rom) x) (is.begun left)
 
--- a run of one step of the board, with its ram before it was made, before its step and after it
-pub record OneStep (v : ImageData) (left : List ℕ) (old b new : BoardOf Slots) (before after : EventDevices) : Type 0 where
+-- and where its machine instructions begin
+abbrev pub begun_moment : ImageData → List ℕ → BoardOf Slots → BoardOf Slots → Moment
+begun_moment v left old b =
+    moment_by (kept_by old.rom) (kept_by b.rom) (record (context old.hart v left) { booted = true; place = here_of v old.hart.machine b.hart.control; count = b.hart.count })
+
+pub moment_is : (v : ImageData) (left : List ℕ) (old b : BoardOf Slots) → Boarded v old b → moment_of (setting_of old.rom) (kept_by old.rom) (context old.hart v left) ≡ begun_moment v left old b
+moment_is v left old b is =
+    let c = context old.hart v left in
+    ap (λ (r : Record). moment_by (kept_by old.rom) r (begun_if (enters (kept_by old.rom) c) c)) (sym (is.kept left))
+    ∙ ap (λ (x : Context). moment_by (kept_by old.rom) (kept_by b.rom) x) (is.begun left)
+
+-- ---- the run of one step
+
+-- the hart has come to make its step, and its service has set so many words
+pub record Entry (v : ImageData) (old b : BoardOf Slots) (before mid : RamState) : Type 0 where
   pub waited : Waits v (kept_by old.rom) old.hart
   pub going : old.hart.machine.ending ≡ None
   pub boarded : Boarded v old b
-  pub same : setting_of b.rom ≡ setting_of old.rom
-  pub n : ℕ
-  pub one : n ≡ 1
-  pub ran : Ran (fifo (setting_of b.rom)) v n (started old.hart.machine left) b.hart (kept_by b.rom) new.hart (kept_by new.rom) after.input before.out after.out before.err after.err
-  pub settled : is_between b.hart.control ≡ true → new.hart.machine.ending ≡ None → is_between new.hart.control ≡ true
-  pub fits : Fits v (kept_by new.rom) new.hart
-  pub span : ℕ
-  pub coherent : Coherent v (kept_by new.rom) span after.ram.words
-  pub unfailed : new.hart.failed ≡ false
-  pub booted : new.hart.booted ≡ b.hart.booted
-  pub count : new.hart.count + most v b.hart.machine b.hart.control ≤ b.hart.count + most v new.hart.machine new.hart.control
-  pub mid : RamState
-  pub served : RamServed (span_of (setting_of old.rom)) (writes (kept_by b.rom) - writes (kept_by old.rom)) before.ram mid
-  pub entered : SameFrom (extent_of (setting_of old.rom) (kept_by b.rom)) before.ram.words mid.words
-  pub ram : RamRan (span_of (setting_of b.rom)) (fetched_by b.hart new.hart) (writes (kept_by new.rom) - writes (kept_by b.rom)) mid after.ram
-  pub unused : SameFrom (extent_of (setting_of b.rom) (kept_by new.rom)) mid.words after.ram.words
-  pub words : HasFetched (words_ahead (fifo (setting_of b.rom)) v n (started old.hart.machine left) b.hart.control (kept_by b.rom)) mid after.ram
+  pub setting : setting_of b.rom ≡ setting_of old.rom
+  pub ram : RamServed (span_of (setting_of old.rom)) (writes (kept_by b.rom) - writes (kept_by old.rom)) before mid
+  pub unused : SameFrom (extent_of (setting_of old.rom) (kept_by b.rom)) before.words mid.words
+  pub keeps : Keeps slots_service v old.rom b.rom before.words mid.words
 
--- the words of the event are those that are ahead of the hart in a run of one step
-pub event_words : (v : ImageData) (left : List ℕ) (old b : BoardOf Slots) (n : ℕ) → Boarded v old b → setting_of b.rom ≡ setting_of old.rom → n ≡ 1 →
-    words_ahead (fifo (setting_of b.rom)) v n (started old.hart.machine left) b.hart.control (kept_by b.rom) ≡ (event_at old v left).words
-event_words v left old b n is same one =
-    let s : FlatState = started old.hart.machine left in
-    let here : Here = here_of v old.hart.machine b.hart.control in
-    ap (λ (k : Setting). words_ahead (fifo k) v n s b.hart.control (kept_by b.rom)) same
-    ∙ ap (λ (k : ℕ). words_ahead (fifo (setting_of old.rom)) v k s b.hart.control (kept_by b.rom)) one
-    ∙ ap (λ (k : ℕ). drop k (words_run (fifo (setting_of old.rom)) v 1 s here (kept_by b.rom))) is.spent
-    ∙ sym (ap (λ (e : Event). e.words) (event_is v left old b is))
+-- the board before its run
+abbrev pub boarded_with : BoardOf Slots → EventDevices → RamState → BoardWithDevices Slots
+boarded_with b before mid = board_with b (record before { ram = mid })
 
--- the entry fetches nothing before them
-pub fetched_from : (words : List ℕ) (before mid after : RamState) → mid.fetched_at ≡ before.fetched_at → HasFetched words mid after → HasFetched words before after
-fetched_from words before mid after same are = are ∙ ap (λ (l : List ℕ). reverse words ++ l) same
+risen_none : (n : ℕ) → n ≡ risen n 0
+risen_none n = grind arith
 
-pub front_from : (words : List ℕ) (before mid after : RamState) → mid.fetched_at ≡ before.fetched_at → FetchedFront words mid after → FetchedFront words before after
-front_from words before mid after same f = (f.0, record { fetched = f.1.fetched; are = fetched_from f.1.fetched before mid after same f.1.are; front = f.1.front })
+module _ (v : ImageData) (old b : BoardOf Slots) (before : EventDevices) (mid : RamState) (entry : Entry v old b before.ram mid) (n : ℕ) (one : n ≡ old.hart.machine.steps + 1) where
+  abbrev by : Setting
+  by = setting_of old.rom
 
-made_as : (v : ImageData) (left : List ℕ) (old b new : BoardOf Slots) (before after : EventDevices) → OneStep v left old b new before after →
-    EventMade v (step_event (setting_of old.rom) (kept_by b.rom) (record (context old.hart v left) { booted = true; place = here_of v old.hart.machine b.hart.control; count = b.hart.count })) old new before after
-made_as v left old b new before after one =
-    let s : FlatState = started old.hart.machine left in
-    let here : Here = here_of v old.hart.machine b.hart.control in
-    let ran = subst (λ (k : Setting). Ran (fifo k) v 1 s b.hart (kept_by b.rom) new.hart (kept_by new.rom) after.input before.out after.out before.err after.err) one.same
-    (subst (λ (k : ℕ). Ran (fifo (setting_of b.rom)) v k s b.hart (kept_by b.rom) new.hart (kept_by new.rom) after.input before.out after.out before.err after.err) one.one one.ran) in
-    let ram = subst (λ (k : Setting). RamRan (span_of k) (fetched_by b.hart new.hart) (writes (kept_by new.rom) - writes (kept_by b.rom)) one.mid after.ram) one.same one.ram in
-    let unused = subst (λ (k : Setting). SameFrom (extent_of k (kept_by new.rom)) one.mid.words after.ram.words) one.same one.unused in
-    let between : new.hart.machine.ending ≡ None → is_between new.hart.control ≡ true = λ going. one.settled one.boarded.between going in
-    let machine : new.hart.machine ≡ (held_run 1 s).machine = same_between v (kept_by new.rom) (held_run 1 s).machine new.hart.machine new.hart.control between ran.matches in
-    let ending : new.hart.machine.ending ≡ (held_run 1 s).machine.ending = ap (λ (m : Machine). m.ending) machine in
-    let rest : spent_run (held_run 1 s).machine new.hart.control ≡ 0 = none_spent (held_run 1 s).machine new.hart.control (λ going. between (ending ∙ going)) in
-    let booted : new.hart.booted ≡ true = one.booted ∙ ap (λ (h : HartData). h.booted) one.boarded.hart in
-    let count : new.hart.count ≡ b.hart.count + cost v 1 s here = omega (arith, ran.cost_is, one.boarded.spent, rest) in
-    let place : place_under new.hart.machine.ending new.hart.control ≡ place_by (held_run 1 s).machine.ending (here_run v 1 s here) =
-    ap (λ (e : Option End). place_under e new.hart.control) ending
-    ∙ place_told (held_run 1 s).machine.ending v (held_run 1 s).machine new.hart.control (here_run v 1 s here) (λ going. between (ending ∙ going)) ran.here_is in
-    let number : fetched_by b.hart new.hart ≡ fetches v 1 s here = omega (arith, ran.fetches_are, one.boarded.spent, rest) in
-    let one_up : writes (kept_by old.rom) ≤ writes (kept_by b.rom) =
-    omega (arith, entered_writes (enters (kept_by old.rom) (context old.hart v left)) (setting_of old.rom) (kept_by old.rom) (context old.hart v left), ap (λ (r : Record). writes r) (one.boarded.kept left)) in
-    let two_up : writes (kept_by b.rom) ≤ writes (kept_by new.rom) = omega (arith, all_writes (setting_of old.rom) v (kept_by b.rom) (transfers v 1 s here), ap (λ (r : Record). writes r) ran.record_is) in
-    let further : extent_of (setting_of old.rom) (kept_by b.rom) ≤ extent_of (setting_of old.rom) (kept_by new.rom) =
-    omega (arith, all_extent (setting_of old.rom) v (kept_by b.rom) (transfers v 1 s here), ap (λ (r : Record). extent_of (setting_of old.rom) r) ran.record_is) in
-    let limit = bounded v left old b new.hart one.waited one.going one.boarded machine between one.count in
-    let kept : kept_by new.rom ≡ after_all (fifo (setting_of old.rom)) v (kept_by b.rom) (transfers v 1 s here) = ran.record_is in
-    record {
-      context = told new.hart v (held_run 1 s).input (held_run 1 s).machine _ _ machine booted place count;
-      kept = kept;
-      input = ran.input;
-      output = ran.output;
-      error = ran.error;
-      ram = subst (λ (r : Record). RamRan (span_of (setting_of old.rom)) (fetches v 1 s here) (writes r - writes (kept_by old.rom)) before.ram after.ram) kept
-          (both_ran (span_of (setting_of old.rom)) (fetched_by b.hart new.hart) (fetches v 1 s here) (writes (kept_by old.rom)) (writes (kept_by b.rom)) (writes (kept_by new.rom)) before.ram one.mid after.ram
-          number one_up two_up one.served ram);
-      words = fetched_from (words_run (fifo (setting_of old.rom)) v 1 s here (kept_by b.rom)) before.ram one.mid after.ram one.served.fetched_at_stays
-          (subst (λ (l : List ℕ). HasFetched l one.mid after.ram) (event_words v left old b one.n one.boarded one.same one.one ∙ ap (λ (e : Event). e.words) (event_is v left old b one.boarded)) one.words);
-      unused = subst (λ (r : Record). SameFrom (extent_of (setting_of old.rom) r) before.ram.words after.ram.words) kept (λ i le. unused i le ∙ one.entered i (omega (arith, further, le)));
-      waits = subst (λ (r : Record). Waits v r new.hart) kept (waits v (kept_by new.rom) one.span after.ram.words new.hart one.coherent between one.fits one.unfailed booted limit);
-    }
-  where
-    told : (h : HartData) (v : ImageData) (input : List ℕ) (m : Machine) (place : Here) (count : ℕ) → h.machine ≡ m → h.booted ≡ true → place_under h.machine.ending h.control ≡ place → h.count ≡ count →
+  abbrev flat : FlatState
+  flat = started old.hart.machine before.left
+
+  abbrev here : Here
+  here = here_of v old.hart.machine b.hart.control
+
+  steps_same : b.hart.machine.steps ≡ old.hart.machine.steps
+  steps_same = ap (λ (h : HartData). h.machine.steps) entry.boarded.hart
+
+  -- the run came to its end, and left hart and service so
+  module _ (new : BoardOf Slots) (after : EventDevices) {u : Unit} (ran : BoardRan slots_service v n (boarded_with b before mid) (board_with new after) (Ok u)) where
+    abbrev done : FlatState
+    done = held_run 1 flat
+
+    stays : BoardStays slots_service v n (boarded_with b before mid) (board_with new after)
+    stays = subst (λ (w : BoardWithDevices Slots). BoardStays slots_service v n (boarded_with b before mid) w) (sym ran.ends.0) ran.along.stays
+
+    made : RanSteps (fifo by) v 1 flat (point_of slots_service (boarded_with b before mid)) (point_with new after)
+    made =
+        let same = steps_same in
+        let all : n - b.hart.machine.steps ≡ 1 = omega (arith, one, same) in
+        subst (λ (s : Setting). RanSteps (fifo s) v 1 flat (point_of slots_service (boarded_with b before mid)) (point_with new after)) entry.setting
+        (subst (λ (k : ℕ). RanSteps (fifo (setting_of b.rom)) v k flat (point_of slots_service (boarded_with b before mid)) (point_with new after)) all
+        (ran_steps slots_service v (boarded_with b before mid) before.left refl old.hart.machine entry.waited.image entry.boarded.matches n (board_with new after) u ran (omega (arith, one, same)) entry.boarded.spent))
+
+    machine : new.hart.machine ≡ done.machine
+    machine = same_between v (kept_by new.rom) done.machine new.hart.machine new.hart.control made.between made.matches
+
+    ending : new.hart.machine.ending ≡ done.machine.ending
+    ending = ap (λ (m : Machine). m.ending) machine
+
+    place : place_under new.hart.machine.ending new.hart.control ≡ place_by done.machine.ending (here_run v 1 flat here)
+    place =
+        ap (λ (e : Option End). place_under e new.hart.control) ending
+        ∙ place_told done.machine.ending v done.machine new.hart.control (here_run v 1 flat here) (λ on. made.between (ending ∙ on)) (λ on. made.here_is (ending ∙ on))
+
+    booted : new.hart.booted ≡ true
+    booted = stays.point.booted ∙ ap (λ (h : HartData). h.booted) entry.boarded.hart
+
+    further : extent_of by (kept_by b.rom) ≤ extent_of by (kept_by new.rom)
+    further = omega (arith, all_extent by v (kept_by b.rom) (transfers v 1 flat here), ap (λ (r : Record). extent_of by r) made.record_is)
+
+    up : (writes (kept_by old.rom) ≤ writes (kept_by b.rom)) × (writes (kept_by b.rom) ≤ writes (kept_by new.rom))
+    up = (
+      omega (arith, entered_writes (enters (kept_by old.rom) (context old.hart v before.left)) by (kept_by old.rom) (context old.hart v before.left), ap (λ (r : Record). writes r) (entry.boarded.kept before.left)),
+      omega (arith, all_writes by v (kept_by b.rom) (transfers v 1 flat here), ap (λ (r : Record). writes r) made.record_is),
+    )
+
+    ram : RamRan (span_of by) (fetches v 1 flat here) (writes (kept_by new.rom) - writes (kept_by old.rom)) before.ram after.ram
+    ram =
+        let more = up in
+        let first = more.0 in
+        let last = more.1 in
+        record {
+          quiet = stays.point.ram.quiet ∙ entry.ram.quiet;
+          fetches = made.fetches_are ∙ ap (λ (x : ℕ). risen x (fetches v 1 flat here)) entry.ram.fetches_stay;
+          sets = stays.point.ram.sets ∙ ap (λ (x : ℕ). risen x (writes (kept_by new.rom) - writes (kept_by b.rom))) entry.ram.sets_rise
+              ∙ risen_more before.ram.sets (writes (kept_by b.rom) - writes (kept_by old.rom)) (writes (kept_by new.rom) - writes (kept_by b.rom)) ∙ ap (λ (x : ℕ). risen before.ram.sets x) (omega (arith, first, last));
+          kept = kept_both (span_of by) before.ram mid after.ram entry.ram.kept (subst (λ (k : Setting). KeepsBeyond (span_of k) mid after.ram) entry.setting stays.point.ram.kept);
+        }
+
+    rests : Waits v (kept_by new.rom) new.hart
+    rests = waits v (kept_by new.rom) (span_of (setting_of new.rom)) after.ram.words new.hart (coheres new.rom v after.ram.words stays.sound) made.between stays.point.fits
+        (stays.point.failed ∙ ap (λ (h : HartData). h.failed) entry.boarded.hart ∙ entry.waited.unfailed) booted
+        (bounded v before.left old b new.hart entry.waited entry.going entry.boarded machine made.between stays.point.count)
+
+    told : (h : HartData) (input : List ℕ) (m : Machine) (place : Here) (count : ℕ) → h.machine ≡ m → h.booted ≡ true → place_under h.machine.ending h.control ≡ place → h.count ≡ count →
         let c : Context = record { image = v; machine = m; input = input; booted = true; place = place; count = count } in context h v input ≡ c
-    told h v input m place count machine booted is counted =
+    told h input m place count machine booted is counted =
         ap (λ (p : Here). let x : Context = record { image = v; machine = h.machine; input = input; booted = h.booted; place = p; count = h.count } in x) is
         ∙ ap (λ (k : Machine). let x : Context = record { image = v; machine = k; input = input; booted = h.booted; place = place; count = h.count } in x) machine
         ∙ ap (λ (t : Bool). let x : Context = record { image = v; machine = m; input = input; booted = t; place = place; count = h.count } in x) booted
         ∙ ap (λ (n : ℕ). let x : Context = record { image = v; machine = m; input = input; booted = true; place = place; count = n } in x) counted
 
-    both_ran : (span n k w0 w1 w2 : ℕ) (a b d : RamState) → n ≡ k → w0 ≤ w1 → w1 ≤ w2 → RamServed span (w1 - w0) a b → RamRan span n (w2 - w1) b d → RamRan span k (w2 - w0) a d
-    both_ran span n k w0 w1 w2 a b d number one_up two_up served ran = record {
-      quiet = ran.quiet ∙ served.quiet;
-      fetches = ran.fetches ∙ ap (λ (x : ℕ). risen x n) served.fetches_stay ∙ ap (λ (x : ℕ). risen a.fetches x) number;
-      sets = ran.sets ∙ ap (λ (x : ℕ). risen x (w2 - w1)) served.sets_rise ∙ risen_more a.sets (w1 - w0) (w2 - w1) ∙ ap (λ (x : ℕ). risen a.sets x) (omega (arith, one_up, two_up));
-      kept = kept_both span a b d served.kept ran.kept;
+    made_as : EventMade v (step_event by (kept_by b.rom) (record (context old.hart v before.left) { booted = true; place = here; count = b.hart.count })) old new before after
+    made_as =
+        let unused = subst (λ (k : Setting). SameFrom (extent_of k (kept_by new.rom)) mid.words after.ram.words) entry.setting stays.unused in
+        let extents = further in
+        record {
+          context = told new.hart done.input done.machine _ _ machine booted place made.cost_is;
+          kept = made.record_is;
+          input = same_Some after.left done.input made.input;
+          output = made.output;
+          error = made.error;
+          ram = subst (λ (r : Record). RamRan (span_of by) (fetches v 1 flat here) (writes r - writes (kept_by old.rom)) before.ram after.ram) made.record_is ram;
+          words = made.words ∙ ap (λ (l : List ℕ). reverse (words_run (fifo by) v 1 flat here (kept_by b.rom)) ++ l) entry.ram.fetched_at_stays;
+          unused = subst (λ (r : Record). SameFrom (extent_of by r) before.ram.words after.ram.words) made.record_is (λ i le. unused i le ∙ entry.unused i (omega (arith, extents, le)));
+          waits = subst (λ (r : Record). Waits v r new.hart) made.record_is rests;
+          setting = stays.setting ∙ entry.setting;
+          keeps = λ images serves. stays.keeps images (entry.keeps images serves);
+          quiet = record { output = ap (λ (f : Faults). f.output) stays.quiet; error = ap (λ (f : Faults). f.error) stays.quiet };
+        }
+
+    pub made_event : EventMade v (event_at old v before.left) old new before after
+    made_event = subst (λ (e : Event). EventMade v e old new before after) (sym (event_is v before.left old b entry.boarded)) made_as
+
+  -- ---- a device broke it off
+
+  module _ (now : BoardWithDevices Slots) (along : Along slots_service v n (boarded_with b before mid) now) (fault : BoardFault) (new : BoardOf Slots) (after : EventDevices) (off : BrokeOff slots_service v n now (board_with new after) fault) where
+    abbrev start : Moment
+    start = begun_moment v before.left old b
+
+    abbrev reached : Moment
+    reached = events (fifo by) v along.made start
+
+    begins : Tracks (span_of by) v start (point_with new before) (point_of slots_service (boarded_with b before mid))
+    begins = record {
+      image = entry.waited.image;
+      matches = entry.boarded.matches;
+      here = λ still. refl;
+      spent = entry.boarded.spent;
+      kept = refl;
+      count = refl;
+      input = refl;
+      output = Appends-none before.out.held;
+      error = Appends-none before.err.held;
+      words = entry.ram.fetched_at_stays;
+      ram = record {
+        quiet = entry.ram.quiet;
+        fetches = entry.ram.fetches_stay ∙ risen_none before.ram.fetches;
+        sets = entry.ram.sets_rise;
+        kept = entry.ram.kept;
+      };
     }
 
-pub made_event : (v : ImageData) (left : List ℕ) (old b new : BoardOf Slots) (before after : EventDevices) → OneStep v left old b new before after → EventMade v (event_at old v left) old new before after
-made_event v left old b new before after one =
-    subst (λ (e : Event). EventMade v e old new before after) (sym (event_is v left old b one.boarded)) (made_as v left old b new before after one)
+    came : Came (fifo by) (span_of by) v n along.made (point_of slots_service (boarded_with b before mid)) (point_of slots_service now)
+    came = subst (λ (s : Setting). Came (fifo s) (span_of s) v n along.made (point_of slots_service (boarded_with b before mid)) (point_of slots_service now)) entry.setting along.came
+
+    tracks : Tracks (span_of by) v reached (point_with new before) (point_of slots_service now)
+    tracks = came.tracks start (point_with new before) begins
+
+    goes_on : GoesOn n reached
+    goes_on =
+        let same = same_steps v (kept_by now.rom) reached.flat.machine now.hart.machine now.hart.control tracks.matches in
+        let steps = same.0 in
+        let less = off.more in
+        (sym same.1 ∙ off.running, omega (arith, steps, less))
+
+    few : along.made < instructions_from v start
+    few =
+        let all : n - old.hart.machine.steps ≡ 1 = omega (arith, one) in
+        subst (λ (k : ℕ). along.made < cost v k start.flat start.here) all (goes_short (fifo by) v n along.made start refl (omega (arith, one)) (came.going start (point_with new before) begins) goes_on)
+
+    setting : setting_of now.rom ≡ by
+    setting = along.stays.setting ∙ entry.setting
+
+    tracks_now : Tracks (span_of (setting_of now.rom)) v reached (point_with new before) (point_of slots_service now)
+    tracks_now = subst (λ (k : Setting). Tracks (span_of k) v reached (point_with new before) (point_of slots_service now)) (sym setting) tracks
+
+    broke : Broke (fifo by) v fault reached (point_with new before) (point_with new after)
+    broke = subst (λ (k : Setting). Broke (fifo k) v fault reached (point_with new before) (point_with new after)) setting
+        (broke_off slots_service slots_laws v n now (board_with new after) fault along.stays.sound off reached (point_with new before) tracks_now)
+
+    unasked : (fault ≡ RamFault → ⊥) → Unasked (next_of reached.flat) (faults_of (devices_of before)) (faults_of (devices_of after))
+    unasked other = subst (λ (f : Faults). Unasked (next_of reached.flat) f (faults_of (devices_of after))) along.stays.quiet
+        (off_unasked slots_service v n now (board_with new after) fault other along.stays.sound off reached (point_with new before) tracks_now)
+
+    pub step_broke : StepBroke by (kept_by old.rom) (context old.hart v before.left) fault before after
+    step_broke =
+        let is : start ≡ moment_of by (kept_by old.rom) (context old.hart v before.left) = sym (moment_is v before.left old b entry.boarded) in
+        record {
+          made = along.made;
+          few = subst (λ (s : Moment). along.made < instructions_from v s) is few;
+          given_up = new;
+          broke = subst (λ (s : Moment). Broke (fifo by) v fault (events (fifo by) v along.made s) (point_with new before) (point_with new after)) is broke;
+          unasked = λ other. subst (λ (s : Moment). Unasked (next_of (events (fifo by) v along.made s).flat) (faults_of (devices_of before)) (faults_of (devices_of after))) is (unasked other);
+        }
+
+-- ---- what its answer names
+
+abbrev fault_in : {T : Type 0} → BoardFault → Result T BoardFault → BoardFault
+fault_in d (Ok x) = d
+fault_in d (Err e) = e
+
+fault_is : {T : Type 0} (fault d : BoardFault) → IsErrOf {T = T} (Err fault) d → fault ≡ d
+fault_is {T} fault d e = ap (λ (r : Result T BoardFault). fault_in d r) e
+
+fault_as : {T : Type 0} (fault d : BoardFault) → fault ≡ d → IsErrOf {T = T} (Err fault) d
+fault_as {T} fault d e = ap (λ (k : BoardFault). Err k) e
+
+named : {T : Type 0} (fault : BoardFault) {before after : Faults} → HasCauses before after (IsErrOf {T = T} (Err fault) SourceFault) (IsErrOf {T = T} (Err fault) SinkFault) →
+    HasCauses before after (fault ≡ SourceFault) (fault ≡ SinkFault)
+named {T} fault h = named_as h (fault_is {T = T} fault SourceFault) (fault_as {T = T} fault SourceFault) (fault_is {T = T} fault SinkFault) (fault_as {T = T} fault SinkFault)
+
+-- a count of none that has not risen
+never_rose : (n : ℕ) → n ≡ 0 → Rose n 0 → ⊥
+never_rose n none rose = at (subst (λ (k : ℕ). Rose k 0) none rose)
+  where
+    at : Rose 0 0 → ⊥
+    at le = grind arith
+
+-- the entry failed
+pub entry_broke : (v : ImageData) (old : BoardOf Slots) (before : EventDevices) (ram : RamState) → ((left : List ℕ) → enters (kept_by old.rom) (context old.hart v left) ≡ true) → (place_of v old.hart.machine.pc ≡ None → ⊥) →
+    RamFailed (span_of (setting_of old.rom)) before.ram ram → HartEvent v old before (record before { ram = ram }) (Err RamFault)
+entry_broke v old before ram anew inside failed = record {
+  made = tt;
+  broke = record {
+    at = inl (record { fault_is = refl; anew = anew before.left; inside = inside; ram = failed; devices = refl });
+    fed = λ e. let bad : ⊥ = cc in bad;
+    sinks = record { one_later = omega arith; other_later = omega arith; cause = λ e. let bad : ⊥ = cc in absurd bad; one_told = inl refl; other_told = inl refl };
+    ram = record { later = failed.later; cause = λ e. failed.rose; told = inr refl };
+  };
+  kept = failed.kept;
+}
+
+module _ (v : ImageData) (old b : BoardOf Slots) (before : EventDevices) (mid : RamState) (entry : Entry v old b before.ram mid) (n : ℕ) (one : n ≡ old.hart.machine.steps + 1) (new : BoardOf Slots) (after : EventDevices) where
+  -- the event was made
+  pub hart_made : {u : Unit} (result : Result Unit BoardFault) → BoardRan slots_service v n (boarded_with b before mid) (board_with new after) result → result ≡ Ok u →
+      HartEvent v old before after (Ok (new.hart, new.rom))
+  hart_made {u} result ran is =
+      let r = subst (λ (x : Result Unit BoardFault). BoardRan slots_service v n (boarded_with b before mid) (board_with new after) x) is ran in
+      let made = made_event v old b before mid entry n one new after {u = u} r in
+      record { made = made; broke = tt; kept = made.ram.kept }
+
+  -- a device broke it off
+  pub hart_broke : (result : Result Unit BoardFault) (fault : BoardFault) → BoardRan slots_service v n (boarded_with b before mid) (board_with new after) result → result ≡ Err fault →
+      HartEvent v old before after (Err fault)
+  hart_broke result fault ran is =
+      let r = subst (λ (x : Result Unit BoardFault). BoardRan slots_service v n (boarded_with b before mid) (board_with new after) x) is ran in
+      let stays = r.along.stays in
+      let setting : setting_of r.mid.rom ≡ setting_of old.rom = stays.setting ∙ entry.setting in
+      let causes = named {T = Unit} fault (causes_from stays.quiet r.ends.broke.causes) in
+      let ram = cause_from (stays.point.ram.quiet ∙ entry.ram.quiet) (cause_as r.ends.broke.ram_cause (fault_is {T = Unit} fault RamFault) (fault_as {T = Unit} fault RamFault)) in
+      record {
+        made = tt;
+        broke = record {
+          at = inr (step_broke v old b before mid entry n one r.mid r.along fault new after r.ends);
+          fed = λ e. never_rose 0 refl (causes.input.cause e);
+          sinks = causes.sinks;
+          ram = ram;
+        };
+        kept = kept_both (span_of (setting_of old.rom)) before.ram r.mid.ram after.ram
+            (kept_both (span_of (setting_of old.rom)) before.ram mid r.mid.ram entry.ram.kept (subst (λ (k : Setting). KeepsBeyond (span_of k) mid r.mid.ram) entry.setting stays.point.ram.kept))
+            (subst (λ (k : Setting). KeepsBeyond (span_of k) r.mid.ram after.ram) setting r.ends.broke.kept);
+      }
 
 -- ---- before the run
 
@@ -280,20 +447,3 @@ ready v old b is = (
 -- few machine instructions are made in few steps
 pub count_few : (v : ImageData) (r : Record) (h : HartData) → Waits v r h → h.machine.ending ≡ None → h.machine.steps < 2 ^ 44 → h.count ≤ 2 ^ 46
 count_few v r h waits going few = omega (arith, few, subst (λ (e : Option End). h.count ≤ most_steps e h.machine.steps) going waits.bounded)
-
--- ---- a fault of one call is that of another
-
-abbrev fault_in : {T : Type 0} → BoardFault → Result T BoardFault → BoardFault
-fault_in d (Ok x) = d
-fault_in d (Err e) = e
-
-pub err_as : {T U : Type 0} (fault d : BoardFault) → IsErrOf {T = T} (Err fault) d → IsErrOf {T = U} (Err fault) d
-err_as {T} {U} fault d e = ap (λ (k : BoardFault). Err k) (ap (fault_in d) e)
-
-pub fault_on : {T U : Type 0} (fault : BoardFault) {before after : Faults} → HasCauses before after (IsErrOf {T = T} (Err fault) SourceFault) (IsErrOf {T = T} (Err fault) SinkFault) →
-    HasCauses before after (IsErrOf {T = U} (Err fault) SourceFault) (IsErrOf {T = U} (Err fault) SinkFault)
-fault_on {T} {U} fault h =
-    named_as h (err_as {T = T} {U = U} fault SourceFault) (err_as {T = U} {U = T} fault SourceFault) (err_as {T = T} {U = U} fault SinkFault) (err_as {T = U} {U = T} fault SinkFault)
-
-pub ram_fault_on : {T U : Type 0} (fault : BoardFault) {before after : ℕ} → DeviceCause before after (IsErrOf {T = T} (Err fault) RamFault) → DeviceCause before after (IsErrOf {T = U} (Err fault) RamFault)
-ram_fault_on {T} {U} fault d = cause_as d (err_as {T = T} {U = U} fault RamFault) (err_as {T = U} {U = T} fault RamFault)

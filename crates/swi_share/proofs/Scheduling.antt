@@ -1,8 +1,7 @@
 -- Events in order.
-use Rattle.std.proofs.Common.{◌≡◌, ℕ, zero, suc, ◌+◌, ◌-◌, ◌<◌, ◌≤◌, List, [], ◌∷◌, ◌++◌, length, reverse, slice_get, slice_index, slice_index_or, take, Option, Some, None, Err, IsErrOf, arith, refl, sym, ◌∙◌, ap, subst, append_assoc, append-nil, inl, inr}
+use Rattle.std.proofs.Common.{◌≡◌, ℕ, zero, suc, ◌+◌, ◌-◌, ◌<◌, ◌≤◌, List, [], ◌∷◌, ◌++◌, length, reverse, slice_index, slice_index_or, take, Option, Some, None, Ok, Err, arith, refl, sym, ◌∙◌, ap, subst, append_assoc, append-nil}
 use Rattle.std.specs.Io.KnownBytes.{Appends}
-use Rattle.swi_outside.specs.Causes.{DeviceCause, PairCause, risen}
-use Rattle.swi_outside.specs.Devices.{Faults}
+use Rattle.swi_outside.specs.Causes.{risen}
 use Rattle.swi_outside.specs.Laws.{Appends-append, Appends-none}
 use Rattle.swi_outside.specs.CacheRam.{RamState, KeepsBeyond}
 use Rattle.swi_calls.specs.declared.end.End.{End}
@@ -14,13 +13,12 @@ use Rattle.swi_slots.specs.Fifo.{extent_of}
 use Rattle.swi_slots.specs.Slots.{span_of}
 use Rattle.swi_board.specs.Ran.{RamRan}
 use Rattle.swi_board.specs.Fetching.{HasFetched}
-use Rattle.swi_board.proofs.Running.{kept_both}
+use Rattle.swi_board.proofs.Tracks.{kept_both}
+use Rattle.swi_share.specs.Event.{Quiet}
 use Rattle.swi_share.specs.Shared.{Context, Shared, event_by, event_in, shared_event, shared_run}
-use Rattle.swi_share.specs.Sharing.{ShareData, ShareWith, Came, HasRoom, IsSharing, Stopped, UnaskedIn, context_of, seen, input_faults, source_faults}
-use Rattle.swi_share.specs.Run.{CanRun, RunCame, RunStopped, RunBroke}
+use Rattle.swi_share.specs.Sharing.{ShareData, ShareWith, Came, EventRan, HasRoom, IsSharing, Stopped, context_of, seen}
+use Rattle.swi_share.specs.Run.{CanRun, RunDone, ScheduleRan}
 use Rattle.swi_hart.specs.declared.fault.BoardFault.{BoardFault}
-use Rattle.swi_hart.specs.declared.fault.BoardFault.TheVariants.{SourceFault}
-use Rattle.std.proofs.lemmas.Bool.{cases_eq}
 use Rattle.std.proofs.lemmas.List.{length-map, reverse-append}
 use Rattle.swi_share.proofs.Few.{event_writes, event_extent}
 
@@ -110,8 +108,8 @@ pub came_none : (w : ShareWith) → CameOn (seen w.share) w w
 came_none w = record {
   came = record {
     share = refl;
-    output = Appends-none w.out;
-    error = Appends-none w.err;
+    output = Appends-none w.out.held;
+    error = Appends-none w.err.held;
     ram = record {
       quiet = refl;
       fetches = risen_none w.ram.fetches;
@@ -139,7 +137,7 @@ ran_both span m n k w0 w1 w2 a b d sum one_up two_up one two = record {
   kept = kept_both span a b d one.kept two.kept;
 }
 
-fetched_both : (xs ys : List ℕ) (a b d : RamState) → HasFetched xs a b → HasFetched ys b d → HasFetched (xs ++ ys) a d
+pub fetched_both : (xs ys : List ℕ) (a b d : RamState) → HasFetched xs a b → HasFetched ys b d → HasFetched (xs ++ ys) a d
 fetched_both xs ys a b d one two =
     two ∙ ap (λ (l : List ℕ). reverse ys ++ l) one ∙ sym (append_assoc (reverse ys) (reverse xs) a.fetched_at)
     ∙ ap (λ (l : List ℕ). l ++ a.fetched_at) (sym (reverse-append xs ys))
@@ -162,8 +160,8 @@ came_then done g before mid after one two' =
     record {
       came = record {
         share = two.share ∙ sym f.rest;
-        output = subst (λ (l : List ℕ). Appends before.out after.out l) (sym f.output) (Appends-append before.out mid.out after.out done.output own.output one.came.output two.output);
-        error = subst (λ (l : List ℕ). Appends before.err after.err l) (sym f.error) (Appends-append before.err mid.err after.err done.error own.error one.came.error two.error);
+        output = subst (λ (l : List ℕ). Appends before.out.held after.out.held l) (sym f.output) (Appends-append before.out.held mid.out.held after.out.held done.output own.output one.came.output two.output);
+        error = subst (λ (l : List ℕ). Appends before.err.held after.err.held l) (sym f.error) (Appends-append before.err.held mid.err.held after.err.held done.error own.error one.came.error two.error);
         ram = subst (λ (b : Setting). RamRan (span_of b) next.fetches (writes next.kept - writes (seen before.share).kept) before.ram after.ram) (sym f.setting)
             (ran_both (span_of done.setting) done.fetches own.fetches next.fetches (writes (seen before.share).kept) (writes done.kept) (writes next.kept) before.ram mid.ram after.ram (sym f.fetches) one.rises f.writes_rise one.came.ram ram);
         words = subst (λ (l : List ℕ). HasFetched l before.ram after.ram) (sym f.words) (fetched_both done.words own.words before.ram mid.ram after.ram one.came.words two.words);
@@ -179,23 +177,12 @@ came_then done g before mid after one two' =
 pub room_next : (done now : Shared) (g : ℕ) → now ≡ anew done → HasRoom done g → HasRoom now g
 room_next done now g is room = subst (λ (s : Shared). HasRoom s g) (sym is) room
 
--- ---- the faults of the devices
-
--- an event of one program leaves each input's count, where its own program's stays
-pub inputs_stay : (old new : ShareData) (g : ℕ) → input_faults new g ≡ input_faults old g → ((k : ℕ) → (k ≡ g → ⊥) → slice_get new.processes k ≡ slice_get old.processes k) → (k : ℕ) → input_faults new k ≡ input_faults old k
-inputs_stay old new g own others k = elim (cases_eq k g) [
-  | inl is ↦ subst (λ (n : ℕ). input_faults new n ≡ input_faults old n) (sym is) own
-  | inr other ↦ ap source_faults (others k other)
-]
-
 -- ---- the loop
 
 -- so many events were made, and no device has failed
-pub record Scheduled (done : Shared) (first now : ShareWith) (out_first out_now err_first err_now : ℕ) : Type 0 where
+pub record Scheduled (done : Shared) (first now : ShareWith) : Type 0 where
   pub came : CameOn done first now
-  pub inputs : (g : ℕ) → input_faults now.share g ≡ input_faults first.share g
-  pub output : out_now ≡ out_first
-  pub error : err_now ≡ err_first
+  pub quiet : Quiet first.out now.out first.err now.err
   pub sharing : IsSharing now.share now.ram.words
   pub programs : length now.share.processes ≡ length first.share.processes
 
@@ -206,34 +193,24 @@ unfolding shared_run
 run_start [] s = refl
 run_start (x ∷ xs) s = refl
 
-pub scheduled_none : (order : List ℕ) (w : ShareWith) {o e : ℕ} → IsSharing w.share w.ram.words → Scheduled (shared_run (take 0 order) (seen w.share)) w w o o e e
-scheduled_none order w {o} {e} sharing = subst (λ (s : Shared). Scheduled s w w o o e e) (sym (run_start order (seen w.share))) (record {
+pub scheduled_none : (order : List ℕ) (w : ShareWith) → IsSharing w.share w.ram.words → Scheduled (shared_run (take 0 order) (seen w.share)) w w
+scheduled_none order w sharing = subst (λ (s : Shared). Scheduled s w w) (sym (run_start order (seen w.share))) (record {
   came = came_none w;
-  inputs = λ g. refl;
-  output = refl;
-  error = refl;
+  quiet = record { output = refl; error = refl };
   sharing = sharing;
   programs = refl;
 })
 
-abbrev pub faults_as : ℕ → ℕ → ℕ → Faults
-faults_as input output error = record { input = input; output = output; error = error }
-
-pub scheduled_next : (order : List ℕ) (i g : ℕ) (first mid after : ShareWith) {o o1 o2 e e1 e2 : ℕ} → i < length order → slice_index order i ≡ g →
-    Scheduled (shared_run (take i order) (seen first.share)) first mid o o1 e e1 → Came (shared_event g (seen mid.share)) mid after → IsSharing after.share after.ram.words →
-    length after.share.processes ≡ length mid.share.processes → ((k : ℕ) → (k ≡ g → ⊥) → slice_get after.share.processes k ≡ slice_get mid.share.processes k) →
-    faults_as (input_faults after.share g) o2 e2 ≡ faults_as (input_faults mid.share g) o1 e1 →
-    Scheduled (shared_run (take (i + 1) order) (seen first.share)) first after o o2 e e2
-scheduled_next order i g first mid after {o} {o1} {o2} {e} {e1} {e2} lt is was came sharing programs others same =
+pub scheduled_next : (order : List ℕ) (i g : ℕ) (first mid after : ShareWith) {u : Unit} → i < length order → slice_index order i ≡ g → Scheduled (shared_run (take i order) (seen first.share)) first mid →
+    EventRan g mid after (Ok u) → Scheduled (shared_run (take (i + 1) order) (seen first.share)) first after
+scheduled_next order i g first mid after {u} lt is was ran =
     let done = shared_run (take i order) (seen first.share) in
     let next : shared_run (take (i + 1) order) (seen first.share) ≡ shared_event g done = run_next order i (seen first.share) lt ∙ ap (λ (n : ℕ). shared_event n done) is in
-    subst (λ (s : Shared). Scheduled s first after o o2 e e2) (sym next) (record {
-      came = came_then done g first mid after was.came came;
-      inputs = λ k. inputs_stay mid.share after.share g (ap (λ (f : Faults). f.input) same) others k ∙ was.inputs k;
-      output = ap (λ (f : Faults). f.output) same ∙ was.output;
-      error = ap (λ (f : Faults). f.error) same ∙ was.error;
-      sharing = sharing;
-      programs = programs ∙ was.programs;
+    subst (λ (s : Shared). Scheduled s first after) (sym next) (record {
+      came = came_then done g first mid after was.came ran.ends.came;
+      quiet = record { output = ran.ends.quiet.output ∙ was.quiet.output; error = ran.ends.quiet.error ∙ was.quiet.error };
+      sharing = ran.ends.sharing;
+      programs = ran.programs ∙ was.programs;
     })
 
 -- ---- the conditions of an event
@@ -249,51 +226,38 @@ room_at order i g first now lt is can at = room_next (shared_run (take i order) 
 
 -- ---- the end, and a device that failed
 
-pub run_came : (order : List ℕ) (i : ℕ) (first now : ShareWith) {o o1 e e1 : ℕ} → length order ≤ i → Scheduled (shared_run (take i order) (seen first.share)) first now o o1 e e1 → RunCame (shared_run order (seen first.share)) first now
-run_came order i first now le was =
-    subst (λ (s : Shared). RunCame s first now) (run_whole order i (seen first.share) le) (record { came = was.came.came; quiet = was.inputs })
-
-pub run_stopped : (order : List ℕ) (i g : ℕ) (first mid after : ShareWith) (fault : BoardFault) {o o1 e e1 : ℕ} → i < length order → slice_index order i ≡ g →
-    Scheduled (shared_run (take i order) (seen first.share)) first mid o o1 e e1 → Stopped {T = Unit} (Err fault) g mid after →
-    DeviceCause (input_faults mid.share g) (input_faults after.share g) (IsErrOf {T = Unit} (Err fault) SourceFault) →
-    RunStopped {T = Unit} (Err fault) order first after
-run_stopped order i g first mid after fault lt is was stopped cause = record {
-  made = i;
-  fewer = lt;
-  mid = mid;
-  came = record { came = was.came.came; quiet = was.inputs };
-  stopped = subst (λ (n : ℕ). Stopped {T = Unit} (Err fault) n mid after) (sym is) stopped;
-  cause = subst (λ (n : ℕ). DeviceCause (input_faults mid.share n) (input_faults after.share n) (IsErrOf {T = Unit} (Err fault) SourceFault)) (sym is) cause;
-}
-
-pub run_broke : (order : List ℕ) (i g : ℕ) (first mid after : ShareWith) (fault : BoardFault) {o o1 o2 e e1 e2 : ℕ} → i < length order → slice_index order i ≡ g →
-    Scheduled (shared_run (take i order) (seen first.share)) first mid o o1 e e1 → Stopped {T = Unit} (Err fault) g mid after →
-    DeviceCause (input_faults mid.share g) (input_faults after.share g) (IsErrOf {T = Unit} (Err fault) SourceFault) →
-    UnaskedIn g (seen mid.share) o1 o2 e1 e2 → RunBroke {T = Unit} (Err fault) order first after o o2 e e2
-unfolding run_stopped
-run_broke order i g first mid after fault {o} {o1} {o2} {e} {e1} {e2} lt is was stopped cause unasked = record {
-  run = run_stopped order i g first mid after fault lt is was stopped cause;
-  unasked = subst (λ (n : ℕ). UnaskedIn n (seen mid.share) o o2 e e2) (sym is)
-      (subst (λ (n : ℕ). UnaskedIn g (seen mid.share) n o2 e e2) was.output (subst (λ (n : ℕ). UnaskedIn g (seen mid.share) o1 o2 n e2) was.error unasked));
-}
-
-pub kept_so_far : (done : Shared) (first now : ShareWith) → CameOn done first now → KeepsBeyond (span_of (seen first.share).setting) first.ram now.ram
+kept_so_far : (done : Shared) (first now : ShareWith) → CameOn done first now → KeepsBeyond (span_of (seen first.share).setting) first.ram now.ram
 kept_so_far done first now was = subst (λ (b : Setting). KeepsBeyond (span_of b) first.ram now.ram) was.setting was.came.ram.kept
 
-pub kept_then : (done : Shared) (first mid after : ShareWith) → CameOn done first mid → KeepsBeyond (span_of (seen mid.share).setting) mid.ram after.ram → KeepsBeyond (span_of (seen first.share).setting) first.ram after.ram
-kept_then done first mid after was two =
-    let now : (seen mid.share).setting ≡ (seen first.share).setting = ap (λ (s : Shared). s.setting) was.came.share ∙ was.setting in
-    kept_both (span_of (seen first.share).setting) first.ram mid.ram after.ram (kept_so_far done first mid was)
-    (subst (λ (b : Setting). KeepsBeyond (span_of b) mid.ram after.ram) now two)
+run_done : (done : Shared) (first now : ShareWith) → Scheduled done first now → RunDone done first now
+run_done done first now was = record { came = was.came.came; sharing = was.sharing; quiet = was.quiet }
 
-pub pair_from : {a b c d e f : ℕ} {named : Type 0} → b ≡ a → e ≡ d → PairCause b c e f named → PairCause a c d f named
-pair_from {a} {b} {c} {d} {e} {f} {named} one other h = subst (λ (n : ℕ). PairCause a c n f named) other (subst (λ (n : ℕ). PairCause n c e f named) one h)
-
-pub pair_none : {a b c d : ℕ} {named : Type 0} → b ≡ a → d ≡ c → (named → ⊥) → PairCause a b c d named
-pair_none one other never = record {
-  one_later = omega (arith, one);
-  other_later = omega (arith, other);
-  cause = λ n. absurd (never n);
-  one_told = inl one;
-  other_told = inl other;
+-- events behind which no other changes anything
+pub schedule_over : {u : Unit} (order : List ℕ) (i : ℕ) (first now : ShareWith) → shared_run (take i order) (seen first.share) ≡ shared_run order (seen first.share) →
+    Scheduled (shared_run (take i order) (seen first.share)) first now → ScheduleRan order first now (Ok u)
+schedule_over {u} order i first now whole was = record {
+  programs = was.programs;
+  kept = kept_so_far (shared_run (take i order) (seen first.share)) first now was.came;
+  ends = subst (λ (s : Shared). RunDone s first now) whole (run_done (shared_run (take i order) (seen first.share)) first now was);
 }
+
+pub schedule_made : {u : Unit} (order : List ℕ) (i : ℕ) (first now : ShareWith) → length order ≤ i → Scheduled (shared_run (take i order) (seen first.share)) first now → ScheduleRan order first now (Ok u)
+schedule_made {u} order i first now le was = schedule_over order i first now (run_whole order i (seen first.share) le) was
+
+pub schedule_stopped : (order : List ℕ) (i g : ℕ) (first mid after : ShareWith) (fault : BoardFault) → i < length order → slice_index order i ≡ g → Scheduled (shared_run (take i order) (seen first.share)) first mid →
+    EventRan g mid after (Err fault) → ScheduleRan order first after (Err fault)
+schedule_stopped order i g first mid after fault lt is was ran =
+    let done = shared_run (take i order) (seen first.share) in
+    let now : (seen mid.share).setting ≡ (seen first.share).setting = ap (λ (s : Shared). s.setting) was.came.came.share ∙ was.came.setting in
+    record {
+      programs = ran.programs ∙ was.programs;
+      kept = kept_both (span_of (seen first.share).setting) first.ram mid.ram after.ram (kept_so_far done first mid was.came)
+          (subst (λ (b : Setting). KeepsBeyond (span_of b) mid.ram after.ram) now ran.kept);
+      ends = record {
+        made = i;
+        fewer = lt;
+        mid = mid;
+        done = run_done done first mid was;
+        stopped = subst (λ (n : ℕ). Stopped fault n mid after) (sym is) ran.ends;
+      };
+    }

@@ -1,31 +1,27 @@
 -- A hart and the service that are taken out for an event, and put back behind it.
-use Rattle.std.proofs.Common.{◌≡◌, ℕ, zero, suc, ◌^◌, ◌<◌, true, false, List, [], ◌∷◌, map, length, slice_get, slice_index_or, slice_set, Option, Some, None, is_some, Err, IsErrOf, arith, refl, sym, ◌∙◌, ap, subst, inl, inr}
+use Rattle.std.proofs.Common.{◌≡◌, ℕ, zero, suc, ◌^◌, ◌<◌, true, false, List, [], ◌∷◌, map, length, slice_get, slice_index_or, slice_set, Option, Some, None, is_some, Ok, Err, arith, refl, sym, ◌∙◌, ap, subst, inl, inr}
 use Rattle.std.proofs.lemmas.Bool.{cases_eq, false≢true}
 use Rattle.std.proofs.lemmas.List.{length-set, map-set, set-set}
 use Rattle.std.proofs.lemmas.Option.{same_Some, slice_get_read}
-use Rattle.swi_devices.specs.Stored.{StoredSource}
+use Rattle.swi_outside.specs.CacheRam.{KeepsBeyond}
 use Rattle.swi_calls.specs.declared.end.End.{End}
 use Rattle.swi_calls.specs.declared.machine.Machine.{Machine}
 use Rattle.swi_rom.specs.Record.{Record}
-use Rattle.swi_slots.specs.Slots.{Slots, kept_by, setting_of}
+use Rattle.swi_slots.specs.Slots.{Slots, kept_by, setting_of, span_of}
 use Rattle.swi_slots.specs.Sound.{SlotsServe, Serves}
-use Rattle.swi_hart.specs.Calling.{OnDevice}
 use Rattle.swi_hart.specs.Hart.{HartData}
 use Rattle.swi_hart.specs.declared.fault.BoardFault.{BoardFault}
-use Rattle.swi_hart.specs.declared.fault.BoardFault.TheVariants.{RamFault}
 use Rattle.swi_share.specs.declared.process.Process.{Process}
 use Rattle.swi_share.specs.Shared.{Context, Event, shared_event}
-use Rattle.swi_share.specs.Event.{EventDevices, EventMade, EventBroke, EventRamBroke, Unasked, context, event_at}
-use Rattle.swi_share.specs.Sharing.{ShareData, IsSharing, IsPutBack, IsWhole, OthersWhole, Came, HasEnded, HasRoom, IsUnfed, Stopped, TakenOut, Tells, UnaskedIn, context_of, event_in, seen, source_faults, input_faults, inputs_of, turned}
+use Rattle.swi_share.specs.Event.{EventBroke, EventDevices, EventMade, HartEvent, context, event_at}
+use Rattle.swi_share.specs.Sharing.{ShareData, ShareWith, IsSharing, IsPutBack, IsWhole, OthersWhole, Came, EventRan, HasEnded, HasRoom, TakenOut, Tells, context_of, seen, setting_in, turned}
 use Rattle.swi_share.specs.Waiting.{Waits}
-use Rattle.swi_share.proofs.Breaking.{on_device}
-use Rattle.swi_share.proofs.Making.{err_as}
-use Rattle.swi_share.proofs.Turning.{Read, Turned, broke_on, came_of, context_at, context_read, event_seen, get_set_other, get_set_same, made_turned, read_at, set_own, share_of, sharing_of}
+use Rattle.swi_share.proofs.Turning.{Read, Turned, broke_seen, came_idle, came_of, context_at, context_read, get_set_other, get_set_same, made_turned, not_ended, read_at, set_own, share_of, sharing_of}
 
 abbrev pub with_hart : Process → Option HartData → Process
 with_hart p o = record p { hart = o }
 
-abbrev pub with_input : Process → StoredSource → Process
+abbrev pub with_input : Process → List ℕ → Process
 with_input p i = record p { input = i }
 
 -- ---- what a hart tells of its program
@@ -102,9 +98,6 @@ taken_at {g} {h} {rom} {s} {s1} t items p is below read =
     let long : length s1.processes ≡ length s.processes = ap (λ (x : ShareData). length x.processes) t.left ∙ length-set s.processes g (with_hart t.process None) in
     slice_get_read s1.processes (length s1.processes) g p refl (omega (arith, long, below)) (read ∙ ap (λ (ps : List Process). slice_index_or ps g p) is)
 
-abbrev input_of : Process → StoredSource
-input_of p = p.input
-
 module _ {g : ℕ} {h : HartData} {rom : Slots} {s s1 : ShareData} (t : TakenOut g h rom s s1) (p : Process) (at : slice_get s1.processes g ≡ Some p) where
   own : with_hart p (Some h) ≡ t.process
   own =
@@ -118,7 +111,7 @@ module _ {g : ℕ} {h : HartData} {rom : Slots} {s s1 : ShareData} (t : TakenOut
   taken_read words q = read_at s words g t.before (with_hart p (Some h)) h q t.before_is was_at refl
 
   pub taken_few : (words : List ℕ) → IsSharing s words → HasRoom (seen s) g → h.machine.steps < 2 ^ 44
-  taken_few words q room = room (context h p.image p.input.left) (context_read s words g t.before (with_hart p (Some h)) h (taken_read words q))
+  taken_few words q room = room (context h p.image p.input) (context_read s words g t.before (with_hart p (Some h)) h (taken_read words q))
 
   pub taken_waits : (words : List ℕ) → IsSharing s words → Waits p.image (kept_by rom) h
   taken_waits words q = subst (λ (k : Record). Waits p.image k h) (sym t.kept) (taken_read words q).waits
@@ -137,17 +130,13 @@ module _ {g : ℕ} {h : HartData} {rom : Slots} {s s1 : ShareData} (t : TakenOut
   put_on : (r : Process) → slice_set s1.processes g r ≡ slice_set s.processes g r
   put_on r = ap (λ (x : ShareData). slice_set x.processes g r) t.left ∙ set-set s.processes g (with_hart t.process None) r
 
-  -- where nothing is changed
-  pub left_alone : (s' : ShareData) → s' ≡ s1 → s' ≡ record s1 { processes = slice_set s1.processes g (with_input p p.input) }
-  left_alone s' is = is ∙ ap (λ (ps : List Process). let x : ShareData = record s1 { processes = ps } in x) (sym (set_own s1.processes g p at))
-
   -- what an event leaves of the programs, where a device broke it off
-  pub left_broken : (i : StoredSource) (s' : ShareData) → s' ≡ record s1 { processes = slice_set s1.processes g (with_input p i) } → (s'.rom ≡ None) × (s'.processes ≡ slice_set s.processes g (with_input p i))
+  pub left_broken : (i : List ℕ) (s' : ShareData) → s' ≡ record s1 { processes = slice_set s1.processes g (with_input p i) } → (s'.rom ≡ None) × (s'.processes ≡ slice_set s.processes g (with_input p i))
   left_broken i s' is =
       (ap (λ (x : ShareData). x.rom) is ∙ ap (λ (x : ShareData). x.rom) t.left, ap (λ (x : ShareData). x.processes) is ∙ put_on (with_input p i))
 
   -- and where it was made
-  pub left_put : (i : StoredSource) (h' : HartData) (rom' : Slots) (s2 s' : ShareData) → s2 ≡ record s1 { processes = slice_set s1.processes g (with_input p i) } → IsPutBack g h' rom' s2 s' →
+  pub left_put : (i : List ℕ) (h' : HartData) (rom' : Slots) (s2 s' : ShareData) → s2 ≡ record s1 { processes = slice_set s1.processes g (with_input p i) } → IsPutBack g h' rom' s2 s' →
       s' ≡ share_of (slice_set s.processes g (with_input (with_hart p (Some h')) i)) rom'
   left_put i h' rom' s2 s' is put =
       let q = with_input p i in
@@ -167,18 +156,12 @@ module _ {g : ℕ} {h : HartData} {rom : Slots} {s s1 : ShareData} (t : TakenOut
   pub programs_stay : (q : Process) (ps : List Process) → ps ≡ slice_set s.processes g q → length ps ≡ length s.processes
   programs_stay q ps is = ap (λ (xs : List Process). length xs) is ∙ length-set s.processes g q
 
-  pub first_faults : input_faults s g ≡ p.input.faults
-  first_faults = ap source_faults was_at
-
-  pub last_faults : (q : Process) (s' : ShareData) → s'.processes ≡ slice_set s.processes g q → input_faults s' g ≡ q.input.faults
-  last_faults q s' is = ap (λ (ps : List Process). source_faults (slice_get ps g)) is ∙ ap source_faults (get_set_same s.processes g (with_hart p (Some h)) q was_at)
-
   -- ---- an event that was made
 
-  pub turned_by : {words : List ℕ} (h' : HartData) (rom' : Slots) (i : StoredSource) (before after : EventDevices) → IsSharing s words → HasRoom (seen s) g → setting_of rom' ≡ setting_of rom → before.input ≡ Some p.input.left → after.input ≡ Some i.left →
-      ((left : List ℕ) → before.input ≡ Some left → EventMade p.image (event_at (record { hart = h; rom = rom }) p.image left) (record { hart = h; rom = rom }) (record { hart = h'; rom = rom' }) before after) →
+  pub turned_by : {words : List ℕ} (h' : HartData) (rom' : Slots) (i : List ℕ) (before after : EventDevices) → IsSharing s words → HasRoom (seen s) g → after.left ≡ i →
+      EventMade p.image (event_at (record { hart = h; rom = rom }) p.image p.input) (record { hart = h; rom = rom }) (record { hart = h'; rom = rom' }) before after →
       Turned g s.processes t.before rom' (with_hart p (Some h)) (with_input (with_hart p (Some h')) i) before after
-  turned_by {words} h' rom' i before after q room setting first last made = record {
+  turned_by {words} h' rom' i before after q room last made = record {
     at = was_at;
     hart = h;
     hart_is = refl;
@@ -188,8 +171,8 @@ module _ {g : ℕ} {h : HartData} {rom : Slots} {s s1 : ShareData} (t : TakenOut
     hart' = h';
     hart_left = refl;
     input_left = last;
-    setting = setting ∙ ap (λ (x : Slots). setting_of x) t.rom_is;
-    made = made_turned g t.before rom h p.image p.input.left _ _ _ t.rom_is t.kept (made p.input.left first);
+    setting = made.setting ∙ ap (λ (x : Slots). setting_of x) t.rom_is;
+    made = made_turned g t.before rom h p.image p.input _ _ _ t.rom_is t.kept made;
   }
 
   pub came_by : (rom' : Slots) (q : Process) (s' : ShareData) (before after : EventDevices) → s' ≡ share_of (slice_set s.processes g q) rom' → Turned g s.processes t.before rom' (with_hart p (Some h)) q before after →
@@ -206,56 +189,67 @@ module _ {g : ℕ} {h : HartData} {rom : Slots} {s s1 : ShareData} (t : TakenOut
       subst (λ (x : ShareData). IsSharing x words') (sym is)
       (sharing_of s words words' g rom' (with_hart p (Some h)) r before after q (subst (λ (x : Slots). Turned g s.processes x rom' (with_hart p (Some h)) r before after) (sym (same_rom q)) made) serves)
 
-  -- a program without input has none behind it
-  pub none_left : (words : List ℕ) → IsSharing s words → IsUnfed (seen s) g → p.input.left ≡ []
-  none_left words q unfed = unfed (context h p.image p.input.left) (context_read s words g t.before (with_hart p (Some h)) h (taken_read words q))
+  -- ---- what an event leaves, by its answer
 
-  pub unfed_by : (rom' : Slots) (q : Process) (h' : HartData) (s' : ShareData) → s' ≡ share_of (slice_set s.processes g q) rom' → q.hart ≡ Some h' → q.input.left ≡ [] → IsUnfed (seen s') g
-  unfed_by rom' q h' s' left is none = λ c c_is.
-      let now : slice_index_or (seen s').contexts g None ≡ Some (context h' q.image q.input.left) =
-      ap (λ (x : ShareData). slice_index_or (seen x).contexts g None) left ∙ context_at (slice_set s.processes g q) g q h' (get_set_same s.processes g (with_hart p (Some h)) q was_at) is in
-      ap (λ (x : Context). x.input) (same_Some c (context h' q.image q.input.left) (sym c_is ∙ now)) ∙ none
+  kept_as : (before after : EventDevices) → KeepsBeyond (span_of (setting_of rom)) before.ram after.ram → KeepsBeyond (span_of (seen s).setting) before.ram after.ram
+  kept_as before after kept =
+      subst (λ (o : Option Slots). KeepsBeyond (span_of (setting_in o)) before.ram after.ram) (sym t.before_is)
+      (subst (λ (x : Slots). KeepsBeyond (span_of (setting_of x)) before.ram after.ram) t.rom_is kept)
 
-  -- ---- and one that a device broke off
-
-  pub unasked_by : {words : List ℕ} {o o' e e' : ℕ} → IsSharing s words → Unasked (event_at (record { hart = h; rom = rom }) p.image p.input.left) o o' e e' → UnaskedIn g (seen s) o o' e e'
-  unasked_by {words} {o} {o'} {e} {e'} q unasked = λ c is.
-      let r = taken_read words q in
-      let same : context h p.image p.input.left ≡ c = same_Some (context h p.image p.input.left) c (sym (context_read s words g t.before (with_hart p (Some h)) h r) ∙ is) in
-      subst (λ (x : Context). Unasked (event_in g (seen s) x) o o' e e') same
-      (subst (λ (x : Event). Unasked x o o' e e') (event_seen s words g t.before rom (with_hart p (Some h)) h r t.rom_is t.kept) unasked)
-
-  pub inputs_stay : (q : Process) (s' : ShareData) → q.input ≡ p.input → s'.processes ≡ slice_set s.processes g q → inputs_of s'.processes ≡ inputs_of s.processes
-  inputs_stay q s' same is =
-      ap (λ (ps : List Process). inputs_of ps) is ∙ map-set input_of s.processes g q
-      ∙ ap (λ (i : StoredSource). slice_set (inputs_of s.processes) g i) same
-      ∙ sym (map-set input_of s.processes g (with_hart p (Some h)))
-      ∙ ap (λ (ps : List Process). inputs_of ps) (set_own s.processes g (with_hart p (Some h)) was_at)
-
-  pub stopped_by : {T U : Type 0} {words : List ℕ} (fault : BoardFault) (i : StoredSource) (s' : ShareData) (before after : EventDevices) → IsSharing s words → s' ≡ record s1 { processes = slice_set s1.processes g (with_input p i) } →
-      before.input ≡ Some p.input.left → after.input ≡ Some i.left →
-      OnDevice {T = T} (Err fault) ((left : List ℕ) → before.input ≡ Some left → EventBroke {T = T} (Err fault) (event_at (record { hart = h; rom = rom }) p.image left) left before after) →
-      (IsErrOf {T = T} (Err fault) RamFault → (left : List ℕ) → before.input ≡ Some left → EventRamBroke (event_at (record { hart = h; rom = rom }) p.image left) left before after) →
-      Stopped {T = U} (Err fault) g (record { share = s; ram = before.ram; out = before.out; err = before.err }) (record { share = s'; ram = after.ram; out = after.out; err = after.err })
-  stopped_by {T} {U} {words} fault i s' before after q is first last broke ram_broke =
-      let r = taken_read words q in
-      let e_is = event_seen s words g t.before rom (with_hart p (Some h)) h r t.rom_is t.kept in
-      let left = left_broken i s' is in
-      let from : before ≡ record before { input = Some p.input.left } = ap (λ (o : Option (List ℕ)). let x : EventDevices = record before { input = o } in x) first in
-      let to : after ≡ record after { input = Some i.left } = ap (λ (o : Option (List ℕ)). let x : EventDevices = record after { input = o } in x) last in
+  -- where hart and service were put back
+  pub event_done : {u : Unit} (h' : HartData) (rom' : Slots) (before after : EventDevices) (s' : ShareData) → before.left ≡ p.input → IsSharing s before.ram.words → HasRoom (seen s) g →
+      HartEvent p.image (record { hart = h; rom = rom }) before after (Ok (h', rom')) → s' ≡ share_of (slice_set s.processes g (with_input (with_hart p (Some h')) after.left)) rom' →
+      EventRan g (record { share = s; ram = before.ram; out = before.out; err = before.err }) (record { share = s'; ram = after.ram; out = after.out; err = after.err }) (Ok u)
+  event_done {u} h' rom' before after s' first q room ran is =
+      let made = subst (λ (l : List ℕ). EventMade p.image (event_at (record { hart = h; rom = rom }) p.image l) (record { hart = h; rom = rom }) (record { hart = h'; rom = rom' }) before after) first ran.made in
+      let turn = turned_by h' rom' after.left before after q room refl made in
+      let r = with_input (with_hart p (Some h')) after.left in
+      let left = ap (λ (x : ShareData). x.processes) is in
       record {
-        failed = left.0;
-        context = context h p.image p.input.left;
-        context_is = context_read s words g t.before (with_hart p (Some h)) h r;
-        running = t.running;
-        process = with_input p i;
-        processes = left.1;
-        broke = on_device T U fault (λ not_ram b.
-            subst (λ (e : Event). EventBroke {T = U} (Err fault) e p.input.left (record before { input = Some p.input.left }) (record after { input = Some i.left })) e_is
-            (subst (λ (d : EventDevices). EventBroke {T = U} (Err fault) (event_at (record { hart = h; rom = rom }) p.image p.input.left) p.input.left (record before { input = Some p.input.left }) d) to
-            (subst (λ (d : EventDevices). EventBroke {T = U} (Err fault) (event_at (record { hart = h; rom = rom }) p.image p.input.left) p.input.left d after) from (broke_on fault _ p.input.left before after (b p.input.left first))))) broke;
-        ram_broke = λ named.
-            subst (λ (e : Event). EventRamBroke e p.input.left (record before { input = Some p.input.left }) (record after { input = Some i.left })) e_is
-            (subst (λ (d : EventDevices). EventRamBroke (event_at (record { hart = h; rom = rom }) p.image p.input.left) p.input.left (record before { input = Some p.input.left }) d) to
-            (subst (λ (d : EventDevices). EventRamBroke (event_at (record { hart = h; rom = rom }) p.image p.input.left) p.input.left d after) from (ram_broke (err_as {T = U} {U = T} fault RamFault named) p.input.left first)));
+        programs = programs_stay r s'.processes left;
+        others = others_stay r s'.processes left;
+        kept = kept_as before after ran.kept;
+        ends = record {
+          came = came_by rom' r s' before after is turn;
+          sharing = sharing_by after.ram.words rom' r s' before after q is turn (made.keeps q.images (taken_serves q)).1;
+          quiet = made.quiet;
+          idle = λ ended. absurd (not_ended s before.ram.words g t.before (with_hart p (Some h)) h (taken_read before.ram.words q) t.running ended);
+        };
       }
+
+  -- and where a device broke it off
+  pub event_stopped : (fault : BoardFault) (before after : EventDevices) (s' : ShareData) → before.left ≡ p.input → IsSharing s before.ram.words →
+      HartEvent p.image (record { hart = h; rom = rom }) before after (Err fault) → (s'.rom ≡ None) × (s'.processes ≡ slice_set s.processes g (with_input p after.left)) →
+      EventRan g (record { share = s; ram = before.ram; out = before.out; err = before.err }) (record { share = s'; ram = after.ram; out = after.out; err = after.err }) (Err fault)
+  event_stopped fault before after s' first q ran left =
+      let r = taken_read before.ram.words q in
+      let c = context h p.image p.input in
+      let broke = subst (λ (l : List ℕ). EventBroke (setting_of rom) (kept_by rom) (context h p.image l) fault (record before { left = l }) after) first ran.broke in
+      record {
+        programs = programs_stay (with_input p after.left) s'.processes left.1;
+        others = others_stay (with_input p after.left) s'.processes left.1;
+        kept = kept_as before after ran.kept;
+        ends = record {
+          failed = left.0;
+          context = c;
+          context_is = context_read s before.ram.words g t.before (with_hart p (Some h)) h r;
+          running = t.running;
+          process = with_input p after.left;
+          processes = left.1;
+          broke = broke_seen s before.ram.words g t.before rom (with_hart p (Some h)) h r t.rom_is t.kept fault (record before { left = p.input }) after broke;
+        };
+      }
+
+-- where the program has ended
+pub event_idle : {u : Unit} (g : ℕ) (w : ShareWith) → IsSharing w.share w.ram.words → HasEnded w.share g → EventRan g w w (Ok u)
+event_idle {u} g w q ended = record {
+  programs = refl;
+  others = λ k other. refl;
+  kept = record { same_length = refl; beyond = λ i le. refl; reached = grind arith };
+  ends = record {
+    came = came_idle w.share w.share w.ram.words g w.ram w.out w.err q ended refl;
+    sharing = q;
+    quiet = record { output = refl; error = refl };
+    idle = λ _. refl;
+  };
+}

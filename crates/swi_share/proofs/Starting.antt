@@ -4,7 +4,6 @@ use Rattle.std.proofs.lemmas.Bool.{false≢true}
 use Rattle.std.proofs.lemmas.List.{drop_more, drop_all}
 use Rattle.std.proofs.lemmas.Option.{same_Some}
 use Rattle.std.proofs.Math.Nat.{div-mul-le_self}
-use Rattle.swi_devices.specs.Stored.{StoredSource}
 use Rattle.swi_memory.specs.Bus.{fetched}
 use Rattle.swi_calls.specs.declared.machine.Machine.{Machine}
 use Rattle.swi_calls.specs.Flat.{machine_of}
@@ -21,8 +20,8 @@ use Rattle.swi_share.specs.declared.process.Process.{Process}
 use Rattle.swi_share.specs.Shared.{Context, Shared}
 use Rattle.swi_share.specs.Waiting.{Waits}
 use Rattle.swi_share.specs.Event.{context}
-use Rattle.swi_share.specs.Sharing.{IsSharing, IsWhole, Seated, seen, turned, context_by, context_of, inputs_of}
-use Rattle.swi_share.specs.Starting.{Started, AllStarted, most_words, first_context, inputs_given, shared_start}
+use Rattle.swi_share.specs.Sharing.{IsSharing, IsWhole, Seated, seen, turned, context_by, context_of}
+use Rattle.swi_share.specs.Starting.{Started, AllStarted, most_words, first_context, shared_start}
 use Rattle.swi_share.proofs.Turning.{share_of}
 
 pub all_more : (xs : List Guest) (ps : List Process) (x : Guest) (p : Process) → AllStarted xs ps → Started x p → AllStarted (xs ++ x ∷ []) (ps ++ p ∷ [])
@@ -37,17 +36,11 @@ long_as [] (q ∷ qs) all = absurd all
 long_as (y ∷ ys) [] all = absurd all
 long_as (y ∷ ys) (q ∷ qs) all = ap suc (long_as ys qs all.1)
 
-pub all_inputs : (xs : List Guest) (ps : List Process) → AllStarted xs ps → inputs_of ps ≡ inputs_given xs
-all_inputs [] [] all = refl
-all_inputs [] (q ∷ qs) all = absurd all
-all_inputs (y ∷ ys) [] all = absurd all
-all_inputs (y ∷ ys) (q ∷ qs) all = ap (λ (i : StoredSource). i ∷ inputs_of qs) all.0.input ∙ ap (λ (is : List StoredSource). y.input ∷ is) (all_inputs ys qs all.1)
-
 context_first : (x : Guest) (p : Process) → Started x p → context_of p ≡ first_context x
 context_first x p s =
-    ap (λ (h : Option HartData). context_by h p.image p.input.left) s.hart
-    ∙ ap (λ (v : ImageData). Some (context (unbooted (machine_of x.program x.layout false)) v p.input.left)) s.image
-    ∙ ap (λ i. Some (context (unbooted (machine_of x.program x.layout false)) x.image i.left)) s.input
+    ap (λ (h : Option HartData). context_by h p.image p.input) s.hart
+    ∙ ap (λ (v : ImageData). Some (context (unbooted (machine_of x.program x.layout false)) v p.input)) s.image
+    ∙ ap (λ (i : List ℕ). Some (context (unbooted (machine_of x.program x.layout false)) x.image i)) s.input
 
 contexts_first : (xs : List Guest) (ps : List Process) → AllStarted xs ps → map context_of ps ≡ map first_context xs
 contexts_first [] [] all = refl

@@ -1,5 +1,5 @@
 -- An event of one of several programs.
-use Rattle.std.proofs.Common.{◌≡◌, ℕ, zero, suc, ◌+◌, ◌-◌, ◌*◌, ◌^◌, ◌<◌, ◌≤◌, max, Bool, true, List, [], ◌∷◌, map, length, slice_get, slice_index_or, slice_set, Option, Some, None, is_some, Err, IsErrOf, arith, refl, sym, ◌∙◌, ap, subst, inl, inr}
+use Rattle.std.proofs.Common.{◌≡◌, ℕ, zero, suc, ◌+◌, ◌-◌, ◌*◌, ◌^◌, ◌<◌, ◌≤◌, max, Bool, true, List, [], ◌∷◌, map, length, slice_get, slice_index_or, slice_set, Option, Some, None, is_some, arith, refl, sym, ◌∙◌, ap, subst, inl, inr}
 use Rattle.std.proofs.lemmas.Bool.{cases_eq}
 use Rattle.std.proofs.lemmas.List.{length-set, map-set}
 use Rattle.std.proofs.lemmas.Option.{same_Some, slice_get_read}
@@ -17,9 +17,7 @@ use Rattle.swi_rom.specs.Record.{Record, writes}
 use Rattle.swi_rom.specs.Service.{Setting}
 use Rattle.swi_slots.specs.Slots.{Slots, kept_by, setting_of, span_of}
 use Rattle.swi_slots.specs.Sound.{SlotsServe}
-use Rattle.swi_outside.specs.Devices.{Faults, HasCauses}
-use Rattle.swi_outside.specs.Laws.{causes_from}
-use Rattle.swi_hart.specs.declared.fault.BoardFault.TheVariants.{SourceFault, SinkFault}
+use Rattle.swi_outside.specs.Sink.{SinkState}
 use Rattle.swi_hart.specs.Hart.{HartData}
 use Rattle.swi_hart.specs.declared.fault.BoardFault.{BoardFault}
 use Rattle.swi_board.specs.Board.{BoardOf}
@@ -27,11 +25,10 @@ use Rattle.swi_board.specs.Ran.{RamRan}
 use Rattle.swi_share.specs.declared.process.Process.{Process}
 use Rattle.swi_share.specs.Shared.{Context, Event, Shared, enters, entered_if, begun_if, flat_of, step_event, with_event, event_by, event_in, shared_event, event_of}
 use Rattle.swi_share.specs.Waiting.{Waits, most_services}
-use Rattle.swi_share.specs.Event.{EventDevices, EventMade, EventBroke, context, event_at}
+use Rattle.swi_share.specs.Event.{EventBroke, EventDevices, EventMade, context, event_at}
 use Rattle.swi_share.specs.Sharing.{ShareData, IsSharing, Seated, Came, seen, turned, context_by, context_of, services_by, services_most, HasEnded}
 use Rattle.swi_share.proofs.Few.{Counted, run_counted, services_after, event_services}
 use Rattle.swi_share.proofs.Breaking.{flat_same}
-use Rattle.swi_share.proofs.Making.{err_as, fault_on}
 use Rattle.swi_share.proofs.Others.{Passes, event_passes, waits_on}
 
 -- ---- lists
@@ -55,24 +52,24 @@ set_own (z ∷ zs) (suc i) x is = ap (λ ys. z ∷ ys) (set_own zs i x is)
 
 -- ---- what is seen
 
-pub context_at : (ps : List Process) (g : ℕ) (p : Process) (h : HartData) → slice_get ps g ≡ Some p → p.hart ≡ Some h → slice_index_or (map context_of ps) g None ≡ Some (context h p.image p.input.left)
+pub context_at : (ps : List Process) (g : ℕ) (p : Process) (h : HartData) → slice_get ps g ≡ Some p → p.hart ≡ Some h → slice_index_or (map context_of ps) g None ≡ Some (context h p.image p.input)
 context_at [] g p h is hart = absurd (cc)
-context_at (q ∷ qs) zero p h is hart = ap context_of (same_Some q p is) ∙ ap (λ (x : Option HartData). context_by x p.image p.input.left) hart
+context_at (q ∷ qs) zero p h is hart = ap context_of (same_Some q p is) ∙ ap (λ (x : Option HartData). context_by x p.image p.input) hart
 context_at (q ∷ qs) (suc g) p h is hart = context_at qs g p h is hart
 
 abbrev pub share_of : List Process → Slots → ShareData
 share_of ps rom = record { processes = ps; rom = Some rom }
 
 pub next_is : (ps : List Process) (rom : Slots) (g : ℕ) (p : Process) (h : HartData) → slice_get ps g ≡ Some p → p.hart ≡ Some h → h.machine.ending ≡ None →
-    shared_event g (seen (share_of ps rom)) ≡ with_event g (seen (share_of ps rom)) (event_of (setting_of rom) (turned rom g) (context h p.image p.input.left))
+    shared_event g (seen (share_of ps rom)) ≡ with_event g (seen (share_of ps rom)) (event_of (setting_of rom) (turned rom g) (context h p.image p.input))
 next_is ps rom g p h is hart going =
     ap (λ (c : Option Context). event_in g (seen (share_of ps rom)) c) (context_at ps g p h is hart)
-    ∙ ap (λ (e : Option End). event_by g (seen (share_of ps rom)) (context h p.image p.input.left) e) going
+    ∙ ap (λ (e : Option End). event_by g (seen (share_of ps rom)) (context h p.image p.input) e) going
 
 pub stays_as : (ps : List Process) (rom : Slots) (g : ℕ) (p : Process) (h : HartData) (e : End) → slice_get ps g ≡ Some p → p.hart ≡ Some h → h.machine.ending ≡ Some e → shared_event g (seen (share_of ps rom)) ≡ seen (share_of ps rom)
 stays_as ps rom g p h e is hart ended =
     ap (λ (c : Option Context). event_in g (seen (share_of ps rom)) c) (context_at ps g p h is hart)
-    ∙ ap (λ (x : Option End). event_by g (seen (share_of ps rom)) (context h p.image p.input.left) x) ended
+    ∙ ap (λ (x : Option End). event_by g (seen (share_of ps rom)) (context h p.image p.input) x) ended
 
 -- ---- services
 
@@ -121,9 +118,9 @@ pub record Turned (g : ℕ) (ps : List Process) (rom rom' : Slots) (p p' : Proce
   pub image_stays : p'.image ≡ p.image
   pub hart' : HartData
   pub hart_left : p'.hart ≡ Some hart'
-  pub input_left : after.input ≡ Some p'.input.left
+  pub input_left : after.left ≡ p'.input
   pub setting : setting_of rom' ≡ setting_of rom
-  pub made : EventMade p.image (event_of (setting_of rom) (turned rom g) (context hart p.image p.input.left)) (record { hart = hart; rom = record rom { turn = g } }) (record { hart = hart'; rom = rom' }) before after
+  pub made : EventMade p.image (event_of (setting_of rom) (turned rom g) (context hart p.image p.input)) (record { hart = hart; rom = record rom { turn = g } }) (record { hart = hart'; rom = rom' }) before after
 
 -- the event, by the service as it is and by that for which the program is in turn
 pub event_turned : (g : ℕ) (rom now : Slots) (h : HartData) (v : ImageData) (left : List ℕ) → now ≡ record rom { turn = g } → kept_by now ≡ turned rom g →
@@ -139,10 +136,10 @@ made_turned g rom now h v left new before after is kept made =
     subst (λ (x : Slots). EventMade v (event_of (setting_of rom) (turned rom g) (context h v left)) (record { hart = h; rom = x }) new before after) is
     (subst (λ (e : Event). EventMade v e (record { hart = h; rom = now }) new before after) (event_turned g rom now h v left is kept) made)
 
-context_left : (p' : Process) (h' : HartData) (v : ImageData) (c : Context) → p'.hart ≡ Some h' → p'.image ≡ v → p'.input.left ≡ c.input → context h' v c.input ≡ c → context_of p' ≡ Some c
+context_left : (p' : Process) (h' : HartData) (v : ImageData) (c : Context) → p'.hart ≡ Some h' → p'.image ≡ v → p'.input ≡ c.input → context h' v c.input ≡ c → context_of p' ≡ Some c
 context_left p' h' v c hart image input is =
-    ap (λ (x : Option HartData). context_by x p'.image p'.input.left) hart
-    ∙ ap (λ (x : ImageData). Some (context h' x p'.input.left)) image
+    ap (λ (x : Option HartData). context_by x p'.image p'.input) hart
+    ∙ ap (λ (x : ImageData). Some (context h' x p'.input)) image
     ∙ ap (λ (l : List ℕ). Some (context h' v l)) input
     ∙ ap (λ (x : Context). Some x) is
 
@@ -158,8 +155,8 @@ pub came_of : (g : ℕ) (ps : List Process) (rom rom' : Slots) (p p' : Process) 
     Came (shared_event g (seen (share_of ps rom))) (record { share = share_of ps rom; ram = before.ram; out = before.out; err = before.err })
     (record { share = share_of (slice_set ps g p') rom'; ram = after.ram; out = after.out; err = after.err })
 came_of g ps rom rom' p p' before after t =
-    let e = event_of (setting_of rom) (turned rom g) (context t.hart p.image p.input.left) in
-    let input : p'.input.left ≡ e.context.input = same_Some p'.input.left e.context.input (sym t.input_left ∙ t.made.input) in
+    let e = event_of (setting_of rom) (turned rom g) (context t.hart p.image p.input) in
+    let input : p'.input ≡ e.context.input = sym t.input_left ∙ t.made.input in
     let left : context_of p' ≡ Some e.context = context_left p' t.hart' p.image e.context t.hart_left t.image_stays input t.made.context in
     subst (λ (s : Shared). Came s (record { share = share_of ps rom; ram = before.ram; out = before.out; err = before.err })
     (record { share = share_of (slice_set ps g p') rom'; ram = after.ram; out = after.out; err = after.err }))
@@ -195,11 +192,11 @@ few_steps n m lt (inr w) = omega (arith, lt, w.2)
 pub sharing_of : (s : ShareData) (words words' : List ℕ) (g : ℕ) (rom' : Slots) (p p' : Process) (before after : EventDevices) → (q : IsSharing s words) → Turned g s.processes q.rom rom' p p' before after →
     SlotsServe rom' q.images words' → IsSharing (share_of (slice_set s.processes g p') rom') words'
 sharing_of s words words' g rom' p p' before after q t serves =
-    let c = context t.hart p.image p.input.left in
+    let c = context t.hart p.image p.input in
     let e = event_of (setting_of q.rom) (turned q.rom g) c in
     let passes : Passes (turned q.rom g) e.kept = event_passes (setting_of q.rom) (turned q.rom g) c in
     let own : turned rom' g ≡ e.kept = ap (λ (r : Record). let x : Record = record r { turn = g } in x) t.made.kept ∙ kept_turn e.kept g passes.turn in
-    let counted : Counted t.hart.machine.steps t.hart'.machine = counted_in t.hart t.hart' p.image p.input.left (setting_of q.rom) (turned q.rom g) t.going (ap (λ (x : Context). x.machine) t.made.context) in
+    let counted : Counted t.hart.machine.steps t.hart'.machine = counted_in t.hart t.hart' p.image p.input (setting_of q.rom) (turned q.rom g) t.going (ap (λ (x : Context). x.machine) t.made.context) in
     record {
       rom = rom';
       is = refl;
@@ -220,7 +217,7 @@ sharing_of s words words' g rom' p p' before after q t serves =
       services = more_services (ap (λ (r : Record). r.counts.services) t.made.kept) counted;
     }
   where
-    own_seat : (m : ℕ) (r : Process) → m ≡ g → slice_get (slice_set s.processes g p') m ≡ Some r → turned rom' g ≡ (event_of (setting_of q.rom) (turned q.rom g) (context t.hart p.image p.input.left)).kept → Counted t.hart.machine.steps t.hart'.machine → Seated rom' q.images m r
+    own_seat : (m : ℕ) (r : Process) → m ≡ g → slice_get (slice_set s.processes g p') m ≡ Some r → turned rom' g ≡ (event_of (setting_of q.rom) (turned q.rom g) (context t.hart p.image p.input)).kept → Counted t.hart.machine.steps t.hart'.machine → Seated rom' q.images m r
     own_seat m r same at own counted =
         let is : p' ≡ r = same_Some p' r (sym (get_set_same s.processes g p p' t.at) ∙ ap (λ (k : ℕ). slice_get (slice_set s.processes g p') k) (sym same) ∙ at) in
         subst (λ (x : Process). Seated rom' q.images m x) is (record {
@@ -231,9 +228,9 @@ sharing_of s words words' g rom' p p' before after q t serves =
           few = few_steps t.hart.machine.steps t.hart'.machine t.few counted;
         })
 
-    more_services : rom'.counts.services ≡ (event_of (setting_of q.rom) (turned q.rom g) (context t.hart p.image p.input.left)).kept.counts.services → Counted t.hart.machine.steps t.hart'.machine → rom'.counts.services ≤ services_most (slice_set s.processes g p')
+    more_services : rom'.counts.services ≡ (event_of (setting_of q.rom) (turned q.rom g) (context t.hart p.image p.input)).kept.counts.services → Counted t.hart.machine.steps t.hart'.machine → rom'.counts.services ≤ services_most (slice_set s.processes g p')
     more_services is counted =
-        let few = event_services (setting_of q.rom) (turned q.rom g) (context t.hart p.image p.input.left) in
+        let few = event_services (setting_of q.rom) (turned q.rom g) (context t.hart p.image p.input) in
         let at_first : services_by p.hart ≡ 3 * t.hart.machine.steps = ap services_by t.hart_is ∙ ap (λ (e : Option End). most_services e t.hart.machine.steps) t.going in
         let at_last : services_by p'.hart ≡ most_services t.hart'.machine.ending t.hart'.machine.steps = ap services_by t.hart_left in
         let more = services_after t.hart'.machine.ending t.hart'.machine t.hart.machine.steps refl counted in
@@ -270,18 +267,18 @@ read_at s words g rom p h q rom_is at hart =
       services = subst (λ (x : Slots). x.counts.services < 2 ^ 49) same (services_few s words q);
     }
 
-pub context_read : (s : ShareData) (words : List ℕ) (g : ℕ) (rom : Slots) (p : Process) (h : HartData) → Read s words g rom p h → slice_index_or (seen s).contexts g None ≡ Some (context h p.image p.input.left)
+pub context_read : (s : ShareData) (words : List ℕ) (g : ℕ) (rom : Slots) (p : Process) (h : HartData) → Read s words g rom p h → slice_index_or (seen s).contexts g None ≡ Some (context h p.image p.input)
 context_read s words g rom p h r = context_at s.processes g p h r.at r.hart_is
 
 -- ---- a program that has ended
 
-pub came_idle : (s s' : ShareData) (words : List ℕ) (g : ℕ) (ram : RamState) (out err : Option (List ℕ)) → IsSharing s words → HasEnded s g → s' ≡ s →
+pub came_idle : (s s' : ShareData) (words : List ℕ) (g : ℕ) (ram : RamState) (out err : SinkState) → IsSharing s words → HasEnded s g → s' ≡ s →
     Came (shared_event g (seen s)) (record { share = s; ram = ram; out = out; err = err }) (record { share = s'; ram = ram; out = out; err = err })
 came_idle s s' words g ram out err q w same =
     subst (λ (x : Shared). Came x (record { share = s; ram = ram; out = out; err = err }) (record { share = s'; ram = ram; out = out; err = err })) (sym stays) (record {
       share = ap seen same;
-      output = Appends-none out;
-      error = Appends-none err;
+      output = Appends-none out.held;
+      error = Appends-none err.held;
       ram = record { quiet = refl; fetches = risen_none ram.fetches; sets = none_risen ram.sets (writes (seen s).kept); kept = record { same_length = refl; beyond = λ i le. refl; reached = reach_most ram.reach (span_of (seen s).setting) } };
       words = refl;
       unused = λ i le. refl;
@@ -309,36 +306,14 @@ came_idle s s' words g ram out err q w same =
 
 -- ---- a device that failed
 
-pub broke_on : {T U : Type 0} (fault : BoardFault) (e : Event) (left : List ℕ) (before after : EventDevices) → EventBroke {T = T} (Err fault) e left before after → EventBroke {T = U} (Err fault) e left before after
-broke_on {T} {U} fault e left before after b = record {
-  output_front = b.output_front;
-  output = b.output;
-  error_front = b.error_front;
-  error = b.error;
-  unwritten = λ is. b.unwritten (err_as {T = U} {U = T} fault _ is);
-  taken = b.taken;
-  input = b.input;
-  few = b.few;
-  words = b.words;
-}
-
--- the event of a share's program is that of its hart
-pub event_seen : (s : ShareData) (words : List ℕ) (g : ℕ) (rom now : Slots) (p : Process) (h : HartData) → Read s words g rom p h → now ≡ record rom { turn = g } → kept_by now ≡ turned rom g →
-    event_at (record { hart = h; rom = now }) p.image p.input.left ≡ event_of (seen s).setting (record (seen s).kept { turn = g }) (context h p.image p.input.left)
-event_seen s words g rom now p h r is kept =
-    event_turned g rom now h p.image p.input.left is kept
-    ∙ ap (λ (x : ShareData). event_of (seen x).setting (record (seen x).kept { turn = g }) (context h p.image p.input.left)) (sym r.share)
-
-pub causes_on : {T U : Type 0} (fault : BoardFault) {before before' after after' : Faults} → HasCauses before after (IsErrOf {T = T} (Err fault) SourceFault) (IsErrOf {T = T} (Err fault) SinkFault) →
-    before ≡ before' → after ≡ after' → HasCauses before' after' (IsErrOf {T = U} (Err fault) SourceFault) (IsErrOf {T = U} (Err fault) SinkFault)
-causes_on {T} {U} fault {before} {before'} {after} {after'} h same last =
-    subst (λ (f : Faults). HasCauses before' f (IsErrOf {T = U} (Err fault) SourceFault) (IsErrOf {T = U} (Err fault) SinkFault)) last (causes_from same (fault_on {T = T} {U = U} fault h))
-
-abbrev faults_as : ℕ → ℕ → ℕ → Faults
-faults_as input output error = record { input = input; output = output; error = error }
-
-pub faults_with : {i j output error : ℕ} → i ≡ j → faults_as i output error ≡ faults_as j output error
-faults_with {i} {j} {output} {error} e = ap (λ (n : ℕ). faults_as n output error) e
+-- the service for which a program is in turn, as the share is seen
+pub broke_seen : (s : ShareData) (words : List ℕ) (g : ℕ) (rom now : Slots) (p : Process) (h : HartData) → Read s words g rom p h → now ≡ record rom { turn = g } → kept_by now ≡ turned rom g →
+    (fault : BoardFault) (before after : EventDevices) → EventBroke (setting_of now) (kept_by now) (context h p.image p.input) fault before after →
+    EventBroke (seen s).setting (record (seen s).kept { turn = g }) (context h p.image p.input) fault before after
+broke_seen s words g rom now p h r is kept fault before after broke =
+    subst (λ (x : ShareData). EventBroke (seen x).setting (record (seen x).kept { turn = g }) (context h p.image p.input) fault before after) (sym r.share)
+    (subst (λ (k : Record). EventBroke (setting_of rom) k (context h p.image p.input) fault before after) kept
+    (subst (λ (x : Slots). EventBroke (setting_of x) (kept_by now) (context h p.image p.input) fault before after) is broke))
 
 pub not_ended : (s : ShareData) (words : List ℕ) (g : ℕ) (rom : Slots) (p : Process) (h : HartData) → Read s words g rom p h → h.machine.ending ≡ None → HasEnded s g → ⊥
 not_ended s words g rom p h r going w =

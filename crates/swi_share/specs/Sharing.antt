@@ -1,8 +1,8 @@
 -- What several programs over one cache keep between their events, and what an event or a schedule leaves. Own rule.
-use Rattle.std.specs.Prelude.{◌≡◌, ℕ, ◌+◌, ◌-◌, ◌^◌, ◌<◌, ◌≤◌, ⊤, List, [], ◌∷◌, map, length, slice_get, slice_index_or, slice_set, Option, Some, None, Result, IsErrOf}
+use Rattle.std.specs.Prelude.{◌≡◌, ℕ, ◌+◌, ◌-◌, ◌^◌, ◌<◌, ◌≤◌, ⊤, List, [], ◌∷◌, map, length, slice_get, slice_index_or, slice_set, Option, Some, None, Result, Ok, Err}
 use Rattle.std.specs.Io.KnownBytes.{Appends}
-use Rattle.swi_outside.specs.CacheRam.{RamState}
-use Rattle.swi_devices.specs.Stored.{StoredSource}
+use Rattle.swi_outside.specs.CacheRam.{RamState, KeepsBeyond}
+use Rattle.swi_outside.specs.Sink.{SinkState}
 use Rattle.swi_image.specs.Format.{ImageData}
 use Rattle.swi_rom.specs.Record.{Record, empty_record, writes}
 use Rattle.swi_rom.specs.Service.{Setting}
@@ -17,12 +17,10 @@ use Rattle.swi_board.specs.Ran.{RamRan}
 use Rattle.swi_rom.specs.declared.rom.Counts.{Counts}
 use Rattle.swi_share.specs.declared.share.ShareCounts.{ShareCounts}
 use Rattle.swi_share.specs.declared.process.Process.{Process}
-use Rattle.swi_hart.specs.Calling.{OnDevice}
 use Rattle.swi_hart.specs.declared.fault.BoardFault.{BoardFault}
-use Rattle.swi_hart.specs.declared.fault.BoardFault.TheVariants.{RamFault}
-use Rattle.swi_share.specs.Shared.{Context, Event, Shared, event_of}
+use Rattle.swi_share.specs.Shared.{Context, Shared, shared_event}
 use Rattle.swi_share.specs.Waiting.{Waits, most_services}
-use Rattle.swi_share.specs.Event.{EventDevices, EventBroke, EventRamBroke, Unasked, context}
+use Rattle.swi_share.specs.Event.{EventDevices, EventBroke, Quiet, context}
 
 -- the programs, and the service, which is none once a device has failed
 pub record ShareData : Type 0 where
@@ -34,7 +32,7 @@ context_by None v left = None
 context_by (Some h) v left = Some (context h v left)
 
 abbrev pub context_of : Process → Option Context
-context_of p = context_by p.hart p.image p.input.left
+context_of p = context_by p.hart p.image p.input
 
 abbrev pub setting_in : Option Slots → Setting
 setting_in None = record { slots = 0; slot_words = 0; programs = 0 }
@@ -60,53 +58,21 @@ seen s = record {
 pub record ShareWith : Type 0 where
   pub share : ShareData
   pub ram : RamState
-  pub out : Option (List ℕ)
-  pub err : Option (List ℕ)
+  pub out : SinkState
+  pub err : SinkState
 
 -- Events have led to a state: the share is seen so, the sinks have gained its bytes, and the ram its fetches and what was written.
 pub record Came (next : Shared) (before after : ShareWith) : Type 0 where
   pub share : seen after.share ≡ record next { output = []; error = []; fetches = 0; words = [] }
-  pub output : Appends before.out after.out next.output
-  pub error : Appends before.err after.err next.error
+  pub output : Appends before.out.held after.out.held next.output
+  pub error : Appends before.err.held after.err.held next.error
   pub ram : RamRan (span_of next.setting) next.fetches (writes next.kept - writes (seen before.share).kept) before.ram after.ram
   pub words : HasFetched next.words before.ram after.ram
   pub unused : SameFrom (extent_of next.setting next.kept) before.ram.words after.ram.words
 
--- the event of a program that a device broke off, with its input before it
-abbrev pub event_in : ℕ → Shared → Context → Event
-event_in g s c = event_of s.setting (record s.kept { turn = g }) c
-
+-- the devices of one of its programs, with the input that is left to it
 abbrev pub devices_with : ShareWith → List ℕ → EventDevices
-devices_with s left = record { ram = s.ram; input = Some left; out = s.out; err = s.err }
-
--- A device has failed in an event of program g. No further event can be made; the other programs are as they were.
-pub record Stopped {T : Type 0} (result : Result T BoardFault) (g : ℕ) (before after : ShareWith) : Type 0 where
-  pub failed : after.share.rom ≡ None
-  pub context : Context
-  pub context_is : slice_index_or (seen before.share).contexts g None ≡ Some context
-  pub running : context.machine.ending ≡ None
-  pub process : Process
-  pub processes : after.share.processes ≡ slice_set before.share.processes g process
-  pub broke : OnDevice result (EventBroke result (event_in g (seen before.share) context) context.input
-      (devices_with before context.input) (devices_with after process.input.left))
-  pub ram_broke : IsErrOf result RamFault → EventRamBroke (event_in g (seen before.share) context) context.input
-      (devices_with before context.input) (devices_with after process.input.left)
-
--- a sink to which an event of program g gives nothing is not asked by it
-abbrev pub UnaskedIn : ℕ → Shared → ℕ → ℕ → ℕ → ℕ → Type 0
-UnaskedIn g s out out' err err' = (c : Context) → slice_index_or s.contexts g None ≡ Some c → Unasked (event_in g s c) out out' err err'
-
--- the programs' inputs
-abbrev pub inputs_of : List Process → List StoredSource
-inputs_of ps = map (λ (p : Process). p.input) ps
-
--- the faults of a program's input
-abbrev pub source_faults : Option Process → ℕ
-source_faults None = 0
-source_faults (Some p) = p.input.faults
-
-abbrev pub input_faults : ShareData → ℕ → ℕ
-input_faults s g = source_faults (slice_get s.processes g)
+devices_with s left = record { ram = s.ram; left = left; out = s.out; err = s.err }
 
 -- program g has ended
 pub record HasEnded (s : ShareData) (g : ℕ) : Type 0 where
@@ -152,9 +118,34 @@ pub record IsSharing (s : ShareData) (words : List ℕ) : Type 0 where
 abbrev pub HasRoom : Shared → ℕ → Type 0
 HasRoom s g = (c : Context) → slice_index_or s.contexts g None ≡ Some c → c.machine.steps < 2 ^ 44
 
--- no input of program g has a byte left
-abbrev pub IsUnfed : Shared → ℕ → Type 0
-IsUnfed s g = (c : Context) → slice_index_or s.contexts g None ≡ Some c → c.input ≡ []
+-- An event of program g was made; where the program has ended, nothing changes.
+pub record EventDone (g : ℕ) (before after : ShareWith) : Type 0 where
+  pub came : Came (shared_event g (seen before.share)) before after
+  pub sharing : IsSharing after.share after.ram.words
+  pub quiet : Quiet before.out after.out before.err after.err
+  pub idle : HasEnded before.share g → after ≡ before
+
+-- A device has failed in an event of program g. No further event can be made.
+pub record Stopped (fault : BoardFault) (g : ℕ) (before after : ShareWith) : Type 0 where
+  pub failed : after.share.rom ≡ None
+  pub context : Context
+  pub context_is : slice_index_or (seen before.share).contexts g None ≡ Some context
+  pub running : context.machine.ending ≡ None
+  pub process : Process
+  pub processes : after.share.processes ≡ slice_set before.share.processes g process
+  pub broke : EventBroke (seen before.share).setting (record (seen before.share).kept { turn = g }) context fault
+      (devices_with before context.input) (devices_with after process.input)
+
+abbrev pub EventEnds : ℕ → ShareWith → ShareWith → Result Unit BoardFault → Type 0
+EventEnds g before after (Ok u) = EventDone g before after
+EventEnds g before after (Err fault) = Stopped fault g before after
+
+-- An event of program g, by its answer: the other programs stay as they were, and so do the words of the ram behind the slots.
+pub record EventRan (g : ℕ) (before after : ShareWith) (result : Result Unit BoardFault) : Type 0 where
+  pub programs : length after.share.processes ≡ length before.share.processes
+  pub others : (k : ℕ) → (k ≡ g → ⊥) → slice_get after.share.processes k ≡ slice_get before.share.processes k
+  pub kept : KeepsBeyond (span_of (seen before.share).setting) before.ram after.ram
+  pub ends : EventEnds g before after result
 
 -- Program g has not ended: its hart is taken out for its next event, with the service, for which it is in turn. Nothing else changes.
 pub record TakenOut (g : ℕ) (hart : HartData) (rom : Slots) (old new : ShareData) : Type 0 where

@@ -1,6 +1,5 @@
 -- Programs before their first events, over an empty cache. Own rule.
 use Rattle.std.specs.Prelude.{◌≡◌, ℕ, ◌/◌, ⊤, max, false, List, [], ◌∷◌, map, length, Option, Some, None}
-use Rattle.swi_devices.specs.Stored.{StoredSource}
 use Rattle.swi_memory.specs.Bus.{fetched}
 use Rattle.swi_program.specs.Layout.{IsLayoutOf}
 use Rattle.swi_program.specs.Text.{text_of}
@@ -32,7 +31,7 @@ abbrev pub first_context : Guest → Option Context
 first_context x = Some (record {
   image = x.image;
   machine = machine_of x.program x.layout false;
-  input = x.input.left;
+  input = x.input.items;
   booted = false;
   place = None;
   count = 0;
@@ -50,15 +49,11 @@ shared_start bytes guests = record {
   words = [];
 }
 
--- the guests' inputs
-abbrev pub inputs_given : List Guest → List StoredSource
-inputs_given xs = map (λ (x : Guest). x.input) xs
-
 -- what stands for a guest that has started
 pub record Started (x : Guest) (p : Process) : Type 0 where
   pub hart : p.hart ≡ Some (unbooted (machine_of x.program x.layout false))
   pub image : p.image ≡ x.image
-  pub input : p.input ≡ x.input
+  pub input : p.input ≡ x.input.items
   pub carries : Carries (fetched (machine_of x.program x.layout false).bus) x.image
 
 abbrev pub AllStarted : List Guest → List Process → Type 0

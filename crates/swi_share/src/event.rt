@@ -1,11 +1,8 @@
 //! One original instruction of one program.
 #![tactic(auto)]
 
-ghost use Rattle.std.specs.Prelude.{◌≡◌, ◌+◌, ◌-◌, ◌^◌, ◌<◌, ◌≤◌, ◌&&◌, List, ℕ, None, true, IfOk, OnOk, OnErr, IsErrOf};
-ghost use Rattle.std.specs.Option.{ForSome};
-ghost use Rattle.swi_outside.specs.CacheRam.{KeepsBeyond};
-ghost use Rattle.swi_outside.specs.Causes.{DeviceCause};
-ghost use Rattle.swi_outside.specs.Devices.{HasCauses, faults_of};
+ghost use Rattle.std.specs.Prelude.{◌≡◌, ◌-◌, ◌^◌, ◌<◌, ◌&&◌, List, ℕ, None, true, IfOk, OnErr};
+ghost use Rattle.swi_image.specs.Place.{place_of};
 ghost use Rattle.swi_rom.specs.Record.{writes};
 ghost use Rattle.swi_rom.specs.Served.{Keeps, SameFrom};
 ghost use Rattle.swi_slots.specs.Fifo.{extent_of};
@@ -13,18 +10,18 @@ ghost use Rattle.swi_slots.specs.Service.{slots_service};
 ghost use Rattle.swi_slots.specs.Slots.{kept_by, setting_of, span_of, shown_by};
 ghost use Rattle.swi_slots.specs.Sound.{SlotsSound};
 ghost use Rattle.swi_hart.specs.Hart.{index_of, place_under};
-ghost use Rattle.swi_hart.specs.Calling.{OnDevice};
 ghost use Rattle.swi_hart.specs.Leaving.{RamFailed, RamServed};
 ghost use Rattle.swi_share.specs.Shared.{enters};
 ghost use Rattle.swi_share.specs.Waiting.{Waits, shows_place};
-ghost use Rattle.swi_share.specs.Event.{Boarded, EventMade, EventBroke, EventRamBroke, Unasked, context, event_at};
+ghost use Rattle.swi_share.specs.Event.{Boarded, HartEvent, context};
 
+use crate::input::Input;
 use swi_board::Board;
 use swi_fifo::FifoRom;
 use swi_hart::{BoardFault, Hart};
 use swi_image::ImageView;
 use swi_micro::MicroRam;
-use swi_outside::{CacheRam, Failed, Sink, Source};
+use swi_outside::{CacheRam, Failed, Sink};
 use swi_rom::CacheRom;
 
 /// Whether the service shows the hart's place at the index under its control: then its block still stands there. A hart
@@ -77,6 +74,7 @@ fn board_of<M: CacheRam>(
         (M.state ram.old).words (M.state ram.new).words) }
     ensures failed { OnErr result (RamFailed (span_of (setting_of rom)) (M.state ram.old) (M.state ram.new)) }
     ensures entering { OnErr result ((left : List ℕ) → enters (kept_by rom) (context hart image.now left) ≡ true) }
+    ensures placed { OnErr result (place_of image.now hart.machine.pc ≡ None → ⊥) }
 {
     if goes_on(&hart, &rom) {
         return Ok(Board::join(hart, rom));
@@ -85,12 +83,12 @@ fn board_of<M: CacheRam>(
 }
 
 /// One original instruction of a hart that has not ended, with its services. Its program is in turn.
-pub(crate) fn make_event<M: MicroRam, I: Source, O: Sink, E: Sink>(
+pub(crate) fn make_event<M: MicroRam, O: Sink, E: Sink>(
     image: &ImageView<'_>,
     hart: Hart,
     rom: FifoRom,
     ram: &mut M,
-    input: &mut I,
+    input: &mut Input,
     out: &mut O,
     err: &mut E,
 ) -> Result<(Hart, FifoRom), BoardFault>
@@ -99,30 +97,9 @@ pub(crate) fn make_event<M: MicroRam, I: Source, O: Sink, E: Sink>(
     requires few { hart.machine.steps < 2 ^ 44 }
     requires sound { SlotsSound rom image.now (M.state ram.old).words }
     requires services { (kept_by rom).counts.services < 2 ^ 49 }
-    ensures made { IfOk result (λ p. ForSome (I.state input.old).left (λ left.
-        EventMade image.now (event_at (record { hart = hart; rom = rom }) image.now left)
-        (record { hart = hart; rom = rom }) (record { hart = p.0; rom = p.1 })
-        (record { ram = M.state ram.old; input = (I.state input.old).left; out = (O.state out.old).held; err = (E.state err.old).held })
-        (record { ram = M.state ram.new; input = (I.state input.new).left; out = (O.state out.new).held; err = (E.state err.new).held }))) }
-    ensures setting { IfOk result (λ p. setting_of p.1 ≡ setting_of rom) }
-    ensures keeps { IfOk result (λ p. Keeps slots_service image.now rom p.1
-        (M.state ram.old).words (M.state ram.new).words) }
-    ensures kept { KeepsBeyond (span_of (setting_of rom)) (M.state ram.old) (M.state ram.new) }
-    ensures broke { OnDevice result (ForSome (I.state input.old).left (λ left.
-        EventBroke result (event_at (record { hart = hart; rom = rom }) image.now left) left
-        (record { ram = M.state ram.old; input = (I.state input.old).left; out = (O.state out.old).held; err = (E.state err.old).held })
-        (record { ram = M.state ram.new; input = (I.state input.new).left; out = (O.state out.new).held; err = (E.state err.new).held }))) }
-    ensures ram_broke { IsErrOf result BoardFault.RamFault → ForSome (I.state input.old).left (λ left.
-        EventRamBroke (event_at (record { hart = hart; rom = rom }) image.now left) left
-        (record { ram = M.state ram.old; input = (I.state input.old).left; out = (O.state out.old).held; err = (E.state err.old).held })
-        (record { ram = M.state ram.new; input = (I.state input.new).left; out = (O.state out.new).held; err = (E.state err.new).held })) }
-    ensures unasked { ForSome (I.state input.old).left (λ left. Unasked (event_at (record { hart = hart; rom = rom }) image.now left)
-        (O.state out.old).faults (O.state out.new).faults (E.state err.old).faults (E.state err.new).faults) }
-    ensures causes { HasCauses
-        (faults_of (record { input = I.state input.old; output = O.state out.old; error = E.state err.old }))
-        (faults_of (record { input = I.state input.new; output = O.state out.new; error = E.state err.new }))
-        (IsErrOf result BoardFault.SourceFault) (IsErrOf result BoardFault.SinkFault) }
-    ensures ram_cause { DeviceCause (M.state ram.old).faults (M.state ram.new).faults (IsErrOf result BoardFault.RamFault) }
+    ensures { HartEvent image.now (record { hart = hart; rom = rom })
+        (record { ram = M.state ram.old; left = input.old; out = O.state out.old; err = E.state err.old })
+        (record { ram = M.state ram.new; left = input.new; out = O.state out.new; err = E.state err.new }) result }
 {
     let n = hart.steps() + 1;
     let mut board = match board_of(image, hart, rom, ram) {

@@ -2,9 +2,9 @@
 #![tactic(auto)]
 
 mod event;
+mod input;
 mod process;
 mod share;
-mod unfed;
 
 pub use process::{Guest, most_words};
 pub use share::{Share, ShareCounts};

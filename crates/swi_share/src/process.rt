@@ -4,21 +4,21 @@
 ghost use Rattle.std.specs.Prelude.{◌≡◌, ◌<◌, ◌≤◌, length, IfOk};
 ghost use Rattle.swi_share.specs.Starting.{IsGuest, AreGuests, most_words, Started, AllStarted};
 
+use crate::input::Input;
 use std::alloc::Global;
-use swi_devices::MemSource;
 use swi_hart::Hart;
 use swi_image::ImageView;
 use swi_memory::Layout;
 use swi_outside::Memory;
 use swi_program::Program;
 
-/// A program that is to run beside others: its image, where its heap and stack are, and its input.
+/// A program that is to run beside others: its image, where its heap and stack are, and the bytes of its input.
 #[derive(Drop)]
 pub struct Guest<'a> {
     pub program: Program<'a>,
     pub image: ImageView<'a>,
     pub layout: Layout,
-    pub input: MemSource,
+    pub input: Vec<u8>,
 }
 
 /// A guest that runs.
@@ -27,7 +27,7 @@ pub(crate) struct Process<'a> {
     /// None while it makes an event, and once a device has failed there.
     pub(crate) hart: Option<Hart>,
     pub(crate) image: ImageView<'a>,
-    pub(crate) input: MemSource,
+    pub(crate) input: Input,
 }
 
 /// The most words of a block of these guests: 2 to 1024. There is one at least.
@@ -63,7 +63,7 @@ fn start<'a>(alloc: Global, guest: Guest<'a>) -> Result<Process<'a>, Memory>
     Ok(Process {
         hart: Some(hart),
         image,
-        input,
+        input: Input::new(alloc, input),
     })
 }
 

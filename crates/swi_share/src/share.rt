@@ -1,19 +1,13 @@
 //! Programs that share one cache.
 #![tactic(auto)]
 
-ghost use Rattle.std.specs.Prelude.{◌≡◌, ◌*◌, ◌^◌, ◌<◌, ◌≤◌, ℕ, List, not, length, slice_get, slice_index_or, Some, None, is_some, MatchOption, IfOk, OnOk, OnErr, IsErrOf};
-ghost use Rattle.swi_slots.specs.Slots.{span_of};
-ghost use Rattle.swi_share.specs.Shared.{shared_event, shared_run};
-ghost use Rattle.swi_share.specs.Run.{CanRun, RunCame, RunBroke};
-ghost use Rattle.swi_share.specs.Sharing.{seen, Came, IsSharing, HasRoom, HasEnded, IsUnfed, IsPutBack, OthersWhole, Stopped, TakenOut, UnaskedIn, CountsTold, Tells, input_faults, inputs_of};
-ghost use Rattle.swi_share.specs.Starting.{AreGuests, inputs_given, most_words, shared_start};
-ghost use Rattle.swi_outside.specs.CacheRam.{KeepsBeyond};
-ghost use Rattle.swi_outside.specs.Causes.{DeviceCause, PairCause};
-ghost use Rattle.swi_outside.specs.Devices.{HasCauses};
+ghost use Rattle.std.specs.Prelude.{◌≡◌, ◌*◌, ◌^◌, ◌<◌, ◌≤◌, ℕ, List, not, length, slice_index_or, None, is_some, MatchOption, IfOk};
+ghost use Rattle.swi_share.specs.Run.{CanRun, ScheduleRan};
+ghost use Rattle.swi_share.specs.Sharing.{seen, EventRan, IsSharing, HasRoom, HasEnded, IsPutBack, OthersWhole, TakenOut, CountsTold, Tells};
+ghost use Rattle.swi_share.specs.Starting.{AreGuests, most_words, shared_start};
 
 use crate::event::make_event;
 use crate::process::{Guest, Process, most_words, start_all};
-use crate::unfed::Unfed;
 use std::alloc::Global;
 use std::marker::Model;
 use swi_fifo::FifoRom;
@@ -70,7 +64,6 @@ impl<'a> Share<'a> {
         requires limit { cache_bytes ≤ 2 ^ 23 }
         ensures programs { IfOk result (λ s. length s.processes ≡ length guests.entry.items) }
         ensures start { IfOk result (λ s. seen s ≡ shared_start cache_bytes guests.entry.items) }
-        ensures inputs { IfOk result (λ s. inputs_of s.processes ≡ inputs_given guests.entry.items) }
         ensures sharing { IfOk result (λ s. (words : List ℕ) → cache_bytes ≤ 4 * length words → IsSharing s words) }
     {
         let rom = FifoRom::shared(alloc, cache_bytes, most_words(&guests), guests.len() as u32)?;
@@ -88,8 +81,7 @@ impl<'a> Share<'a> {
     /// has made fewer than 2^44 steps. The bytes of both sinks are those of the events in order. A sink to which the event
     /// gives nothing is not asked.
     ///
-    /// Each fault comes only where its device's count rose; that of the input is the program's own. After an error `failed`
-    /// is true. Own rule.
+    /// Each fault comes only where its device's count rose, and no input fails. After an error `failed` is true.
     pub fn event<M: MicroRam, O: Sink, E: Sink>(
         &mut self,
         g: u32,
@@ -100,26 +92,9 @@ impl<'a> Share<'a> {
         requires guest { g < length self.old.processes }
         requires sharing { IsSharing self.old (M.state ram.old).words }
         requires room { HasRoom (seen self.old) g }
-        ensures came { OnOk result (Came (shared_event g (seen self.old))
-            (record { share = self.old; ram = M.state ram.old; out = (O.state out.old).held; err = (E.state err.old).held })
-            (record { share = self.new; ram = M.state ram.new; out = (O.state out.new).held; err = (E.state err.new).held })) }
-        ensures sharing { OnOk result (IsSharing self.new (M.state ram.new).words) }
-        ensures idle { HasEnded self.old g → (self.new ≡ self.old) × ((M.state ram.new ≡ M.state ram.old)
-            × (((O.state out.new).held ≡ (O.state out.old).held) × ((E.state err.new).held ≡ (E.state err.old).held))) }
-        ensures programs { length self.new.processes ≡ length self.old.processes }
-        ensures others { (k : ℕ) → (k ≡ g → ⊥) → slice_get self.new.processes k ≡ slice_get self.old.processes k }
-        ensures stopped { OnErr result (Stopped result g
-            (record { share = self.old; ram = M.state ram.old; out = (O.state out.old).held; err = (E.state err.old).held })
-            (record { share = self.new; ram = M.state ram.new; out = (O.state out.new).held; err = (E.state err.new).held })) }
-        ensures kept { KeepsBeyond (span_of (seen self.old).setting) (M.state ram.old) (M.state ram.new) }
-        ensures sinks_unasked { UnaskedIn g (seen self.old)
-            (O.state out.old).faults (O.state out.new).faults (E.state err.old).faults (E.state err.new).faults }
-        ensures causes { HasCauses
-            (record { input = input_faults self.old g; output = (O.state out.old).faults; error = (E.state err.old).faults })
-            (record { input = input_faults self.new g; output = (O.state out.new).faults; error = (E.state err.new).faults })
-            (IsErrOf result BoardFault.SourceFault) (IsErrOf result BoardFault.SinkFault) }
-        ensures ram_cause { DeviceCause (M.state ram.old).faults (M.state ram.new).faults
-            (IsErrOf result BoardFault.RamFault) }
+        ensures { EventRan g
+            (record { share = self.old; ram = M.state ram.old; out = O.state out.old; err = E.state err.old })
+            (record { share = self.new; ram = M.state ram.new; out = O.state out.new; err = E.state err.new }) result }
     {
         let Some((hart, rom)) = self.take_turn(g) else {
             return Ok(());
@@ -130,54 +105,8 @@ impl<'a> Share<'a> {
         Ok(())
     }
 
-    /// The same of a program whose input has no byte left. It is not asked, so it never fails, and no input changes.
-    pub fn event_unfed<M: MicroRam, O: Sink, E: Sink>(
-        &mut self,
-        g: u32,
-        ram: &mut M,
-        out: &mut O,
-        err: &mut E,
-    ) -> Result<(), BoardFault>
-        requires guest { g < length self.old.processes }
-        requires sharing { IsSharing self.old (M.state ram.old).words }
-        requires room { HasRoom (seen self.old) g }
-        requires unfed { IsUnfed (seen self.old) g }
-        ensures came { OnOk result (Came (shared_event g (seen self.old))
-            (record { share = self.old; ram = M.state ram.old; out = (O.state out.old).held; err = (E.state err.old).held })
-            (record { share = self.new; ram = M.state ram.new; out = (O.state out.new).held; err = (E.state err.new).held })) }
-        ensures sharing { OnOk result (IsSharing self.new (M.state ram.new).words) }
-        ensures programs { length self.new.processes ≡ length self.old.processes }
-        ensures others { (k : ℕ) → (k ≡ g → ⊥) → slice_get self.new.processes k ≡ slice_get self.old.processes k }
-        ensures stopped { OnErr result (Stopped result g
-            (record { share = self.old; ram = M.state ram.old; out = (O.state out.old).held; err = (E.state err.old).held })
-            (record { share = self.new; ram = M.state ram.new; out = (O.state out.new).held; err = (E.state err.new).held })) }
-        ensures going { OnErr result (HasEnded self.old g → ⊥) }
-        ensures unfed { OnOk result (IsUnfed (seen self.new) g) }
-        ensures unasked { input_faults self.new g ≡ input_faults self.old g }
-        ensures inputs { inputs_of self.new.processes ≡ inputs_of self.old.processes }
-        ensures sinks_unasked { UnaskedIn g (seen self.old)
-            (O.state out.old).faults (O.state out.new).faults (E.state err.old).faults (E.state err.new).faults }
-        ensures unnamed { IsErrOf result BoardFault.SourceFault → ⊥ }
-        ensures kept { KeepsBeyond (span_of (seen self.old).setting) (M.state ram.old) (M.state ram.new) }
-        ensures sink_cause { PairCause (O.state out.old).faults (O.state out.new).faults (E.state err.old).faults
-            (E.state err.new).faults (IsErrOf result BoardFault.SinkFault) }
-        ensures ram_cause { DeviceCause (M.state ram.old).faults (M.state ram.new).faults
-            (IsErrOf result BoardFault.RamFault) }
-    {
-        let Some((hart, rom)) = self.take_turn(g) else {
-            return Ok(());
-        };
-        let image = &self.processes[g as usize].image;
-        let (hart, rom) = make_event(image, hart, rom, ram, &mut Unfed, out, err)?;
-        self.put_back(g, hart, rom);
-        Ok(())
-    }
-
     /// Events in order, each of a guest's number, under the conditions of `event`. After an error the events before the one
     /// that a device broke off are made, and `failed` is true.
-    ///
-    /// Each fault comes only where its device's count rose; that of an input is the input of the program whose event was
-    /// broken off. Own rule.
     pub fn run<M: MicroRam, O: Sink, E: Sink>(
         &mut self,
         order: &[u32],
@@ -187,20 +116,9 @@ impl<'a> Share<'a> {
     ) -> Result<(), BoardFault>
         requires sharing { IsSharing self.old (M.state ram.old).words }
         requires room { CanRun order.now (seen self.old) }
-        ensures came { OnOk result (RunCame (shared_run order.now (seen self.old))
-            (record { share = self.old; ram = M.state ram.old; out = (O.state out.old).held; err = (E.state err.old).held })
-            (record { share = self.new; ram = M.state ram.new; out = (O.state out.new).held; err = (E.state err.new).held })) }
-        ensures sharing { OnOk result (IsSharing self.new (M.state ram.new).words) }
-        ensures programs { length self.new.processes ≡ length self.old.processes }
-        ensures stopped { OnErr result (RunBroke result order.now
-            (record { share = self.old; ram = M.state ram.old; out = (O.state out.old).held; err = (E.state err.old).held })
-            (record { share = self.new; ram = M.state ram.new; out = (O.state out.new).held; err = (E.state err.new).held })
-            (O.state out.old).faults (O.state out.new).faults (E.state err.old).faults (E.state err.new).faults) }
-        ensures kept { KeepsBeyond (span_of (seen self.old).setting) (M.state ram.old) (M.state ram.new) }
-        ensures sink_cause { PairCause (O.state out.old).faults (O.state out.new).faults (E.state err.old).faults
-            (E.state err.new).faults (IsErrOf result BoardFault.SinkFault) }
-        ensures ram_cause { DeviceCause (M.state ram.old).faults (M.state ram.new).faults
-            (IsErrOf result BoardFault.RamFault) }
+        ensures { ScheduleRan order.now
+            (record { share = self.old; ram = M.state ram.old; out = O.state out.old; err = E.state err.old })
+            (record { share = self.new; ram = M.state ram.new; out = O.state out.new; err = E.state err.new }) result }
     {
         for g in order {
             self.event(*g, ram, out, err)?;

@@ -14,7 +14,7 @@ returns c =
     record {
       hart = ap (λ (h : HartData). Some h) c.in-Ok.ensures.hart;
       image = refl;
-      input = refl;
+      input = c.new.ensures;
       carries = image_same x.image (word_of (text_of x.program.segments)) (λ (a : ℕ). fetched (machine_of x.program x.layout false).bus a)
           (λ (a : ℕ). ap (λ (h : HartData). fetched h.machine.bus a) (sym c.in-Ok.ensures.hart) ∙ c.in-Ok.ensures.text a) carries;
     }

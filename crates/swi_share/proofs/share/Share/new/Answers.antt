@@ -2,7 +2,7 @@ use Rattle.std.proofs.Common.{◌≡◌, ℕ, ◌/◌, List, length, rules, arit
 use Rattle.swi_slots.specs.Slots.{empty_slots}
 use Rattle.swi_share.specs.declared.process.Guest.{Guest}
 use Rattle.swi_share.specs.Starting.{most_words}
-use Rattle.swi_share.proofs.Starting.{all_inputs, long_as, seen_first, sharing_first, whole_first}
+use Rattle.swi_share.proofs.Starting.{long_as, seen_first, sharing_first, whole_first}
 use Rattle.swi_share.proofs.share.Share.new.Goals as goal
 
 pub invariant_of-result : goal.invariant_of-result
@@ -29,6 +29,3 @@ returns-clause-sharing c = λ words fit.
     c.in_ok-rom.ensures.empty ∙ ap (λ (k : ℕ). empty_slots (c.args.cache_bytes / 4 / n) n k) long in
     let some = c.requires.some in
     sharing_first c.args.guests.items c.in_ok-processes.processes.items c.in_ok-rom.rom c.args.cache_bytes n words (omega (arith, some)) c.in_ok-processes.ensures most is c.in_ok-rom.ensures.serves fit
-
-pub returns-clause-inputs : goal.returns-clause-inputs
-returns-clause-inputs c = all_inputs c.args.guests.items c.in_ok-processes.processes.items c.in_ok-processes.ensures
