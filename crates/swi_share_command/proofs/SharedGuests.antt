@@ -4,7 +4,6 @@ use Rattle.std.specs.Prelude.{All}
 use Rattle.std.specs.List.{AllZip}
 use Rattle.std.proofs.lemmas.Bool.{cases_eq}
 use Rattle.std.proofs.lemmas.List.{drop_all, drop_more, length-map, map-append, take_more}
-use Rattle.std.proofs.lemmas.List.Elements.{All-cons, All-nil}
 use Rattle.std.proofs.lemmas.Option.{same_Some}
 use Rattle.swi_outside.specs.Shelf.{ShelfState}
 use Rattle.swi_image.specs.Checks.{first_refusal}
@@ -28,7 +27,8 @@ use Rattle.swi_task.specs.Checks.{OfImage, text_in}
 use Rattle.swi_task.specs.Runs.{ending_by}
 use Rattle.swi_share_command.specs.RunShared.{FilesRead, HaveEnded, IsCutFor, IsGuestOf, bytes_of, context_line, shared_work}
 use Rattle.swi_task.specs.Subject.{IsImageFor}
-use Rattle.swi_share_command.proofs.Sharing.{process_at, process_below}
+use Rattle.swi_share.proofs.Bounds.{process_at}
+use Rattle.swi_share_command.proofs.Sharing.{process_below}
 use Rattle.swi_share_command.proofs.SharedFiles.{zip_push}
 
 -- ---- the image of a file
@@ -87,13 +87,6 @@ pub guests_count : (limits : RunLimits) (most : ℕ) (names : List (List ℕ)) (
     FilesRead limits most names old new files → AllZip (IsGuestOf limits most) (bytes_of files) guests → length guests ≡ length names
 guests_count limits most names old new files guests read made =
     sym (zip_length (IsGuestOf limits most) (bytes_of files) guests made) ∙ length-map files (λ f. f.bytes.items) ∙ sym (zip_length _ names files read.stand)
-
--- and none has a byte of input
-pub guests_unfed : (limits : RunLimits) (most : ℕ) (files : List (List ℕ)) (guests : List Guest) → AllZip (IsGuestOf limits most) files guests → All (λ x. x.input.left ≡ []) guests
-guests_unfed limits most [] [] h = All-nil (λ x. x.input.left ≡ [])
-guests_unfed limits most [] (x ∷ xs) h = absurd h
-guests_unfed limits most (file ∷ files) [] h = absurd h
-guests_unfed limits most (file ∷ files) (x ∷ xs) h = All-cons (λ y. y.input.left ≡ []) x xs (ap (λ i. i.left) h.0.input) (guests_unfed limits most files xs h.1)
 
 -- ---- programs that have ended
 

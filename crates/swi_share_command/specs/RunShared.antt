@@ -25,14 +25,13 @@ use Rattle.swi_rom.specs.Record.{writes}
 use Rattle.swi_rom.specs.Served.{SameFrom}
 use Rattle.swi_slots.specs.Fifo.{extent_of}
 use Rattle.swi_slots.specs.Slots.{span_of}
+use Rattle.swi_board.specs.Fetching.{FetchedFront, HasFetched}
 use Rattle.swi_board.specs.Ran.{RamRan}
 use Rattle.swi_share.specs.declared.process.Guest.{Guest}
 use Rattle.swi_share.specs.Laws.{counts_of, events_of, unfetched}
 use Rattle.swi_hart.specs.declared.fault.BoardFault.{BoardFault}
 use Rattle.swi_hart.specs.declared.fault.BoardFault.TheVariants as board_fault
-use Rattle.swi_share.specs.Run.{RunStopped}
 use Rattle.swi_share.specs.Shared.{Context, Shared, shared_run}
-use Rattle.swi_share.specs.Sharing.{IsUnfed, ShareWith}
 use Rattle.swi_share.specs.Starting.{shared_start}
 use Rattle.swi_share.specs.Waiting.{most_steps}
 use Rattle.swi_report.specs.declared.shared.SharedWork.{SharedWork}
@@ -82,12 +81,12 @@ share_checks cache o files =
 
 -- ---- the programs, and the order of their events
 
--- the program of a file, with the image that the file has or else the greedy cut of its text; its input is empty and never fails
+-- the program of a file, with the image that the file has or else the greedy cut of its text; its input is empty
 pub record IsGuestOf (limits : RunLimits) (most : ℕ) (file : List ℕ) (x : Guest) : Type 0 where
   pub program : x.program ≡ program_of_file file
   pub image : IsImageFor file most (image_in file) x.image
   pub layout : room_in file limits ≡ Ok x.layout
-  pub input : x.input ≡ record { left = []; failing = []; calls = 0; faults = 0 }
+  pub input : x.input.items ≡ []
 
 -- event k, from 0, among so many programs: the sixteen highest bits of number k + 1 of the seed say whose it is
 abbrev pub turn_of : ℕ → ℕ → ℕ → ℕ
@@ -107,7 +106,7 @@ shared_end o bytes guests = shared_run (order_of (length guests) o.schedule) (sh
 -- ---- each program ends as alone: the flat machine with its input
 
 abbrev pub start_of_guest : Guest → FlatState
-start_of_guest x = flat_start x.program x.layout false x.input.left
+start_of_guest x = flat_start x.program x.layout false x.input.items
 
 -- A machine is what the flat machine makes of a program in so many steps alone, up to the first that would store into the text, before which
 -- it ends.
@@ -158,10 +157,11 @@ share_report o s = guest_lines s.contexts ++ (if o.stats then shared_text_of (sh
 abbrev pub IsPlaced : Shared → ℕ → Context → List ℕ → Type 0
 IsPlaced s g c words = Coherent c.image (record s.kept { turn = g }) (span_of s.setting) words
 
--- The ram has fetched and written what the events have, and each word that can't have been written is as it was. The words that were
--- fetched are the machine instructions of all programs, but for those that fetch none.
+-- The ram has fetched and written what the events have, just these words in their order, and each word that can't have been written is as
+-- it was. The words that were fetched are the machine instructions of all programs, but for those that fetch none.
 pub record RamShared (order : List ℕ) (first s : Shared) (before after : RamState) : Type 0 where
   pub ran : RamRan (span_of s.setting) s.fetches (writes s.kept) before after
+  pub words : HasFetched s.words before after
   pub coherent : (g : ℕ) (c : Context) → slice_index_or s.contexts g None ≡ Some c → IsPlaced s g c after.words
   pub unused : SameFrom (extent_of s.setting s.kept) before.words after.words
   pub fetched : counts_of s.contexts ≡ s.fetches + unfetched order first
@@ -177,7 +177,8 @@ pub record Shares (o : ShareOptions) (bytes : ℕ) (guests : List Guest) (before
 
 -- ---- where a device fails
 
--- A sink broke off an event: each sink holds a front of what the events up to this one write, and no less than those before it wrote.
+-- A sink broke off an event: each sink holds a front of what the events up to this one write, and no less than those before it wrote; one
+-- to which it gives nothing was not asked. The words fetched are a front of those of the events up to this one.
 pub record EventCutOff (was next : Shared) (before after : Devices) (r : Refusal) (last : List ℕ) : Type 0 where
   pub fault : r ≡ refusal.SinkFault
   pub output_front : ℕ
@@ -186,13 +187,19 @@ pub record EventCutOff (was next : Shared) (before after : Devices) (r : Refusal
   pub error_front : ℕ
   pub error_least : length was.error ≤ error_front
   pub error : Appends before.error.held after.error.held (take error_front next.error ++ last)
+  pub output_unasked : next.output ≡ was.output → after.output.faults ≡ before.output.faults
+  pub error_unasked : next.error ≡ was.error → after.error.faults ≡ before.error.faults
+  pub words : FetchedFront next.words before.ram after.ram
 
--- The ram did: the sinks hold what the events write whose fetches were all made. No call of the ram comes behind the one that failed.
+-- The ram did: the sinks hold what the events write whose fetches were all made, which are no more than those of this one and the ones
+-- before it. No call of the ram comes behind the one that failed.
 pub record EventUnfetched (was next : Shared) (before after : Devices) (r : Refusal) (last : List ℕ) : Type 0 where
   pub fault : r ≡ refusal.RamFault
   pub fetched : ℕ
   pub fetches : after.ram.fetches ≡ risen before.ram.fetches fetched
   pub least : was.fetches ≤ fetched
+  pub most : fetched ≤ next.fetches
+  pub words : FetchedFront next.words before.ram after.ram
   pub output : Appends before.output.held after.output.held (if nat_le next.fetches fetched then next.output else was.output)
   pub error : Appends before.error.held after.error.held ((if nat_le next.fetches fetched then next.error else was.error) ++ last)
   pub last_failed : after.ram.last_failed ≡ true
@@ -328,15 +335,6 @@ pub record SharesOver (o : ShareOptions) (bytes : ℕ) (guests : List Guest) (be
   pub failed : IfErr result (λ r. IsRunFault r → ShareFailed o bytes guests before after r [])
   pub beyond : KeepsBeyond (bytes / 4) before.ram after.ram
   pub causes : HasCauses before after result
-
--- no program has a byte of input left
-abbrev pub AreUnfed : Shared → Type 0
-AreUnfed s = (g : ℕ) → IsUnfed s g
-
--- A device broke off an event of a schedule, whose program had not ended.
-pub record ScheduleBroke {T : Type 0} (result : Result T BoardFault) (order : List ℕ) (before after : ShareWith) : Type 0 where
-  pub stopped : RunStopped result order before after
-  pub going : stopped.stopped.context.machine.ending ≡ None
 
 -- none of these programs goes on
 abbrev pub HaveEnded : List (Option Context) → Type 0

@@ -1,29 +1,24 @@
 //! The command `share`: the programs of several files over one cache.
 #![tactic(auto)]
 
-ghost use Rattle.std.specs.Prelude.{◌≡◌, ◌*◌, ◌^◌, ◌<◌, ◌≤◌, All, Some, None, true, IfOk, IfErr, OnOk, OnErr, IsErrOf, Err, [], length, map, string_bytes};
+ghost use Rattle.std.specs.Prelude.{◌≡◌, ◌*◌, ◌^◌, ◌<◌, ◌≤◌, All, Some, None, true, IfOk, IfErr, OnOk, OnErr, Err, [], length, map, string_bytes};
 ghost use Rattle.std.specs.List.{AllZip};
 ghost use Rattle.swi_command.specs.CommandLine.{IsBlockSize, IsCacheInRange, IsInRange, IsShareCount, IsShareInRange};
 ghost use Rattle.swi_elf_read.specs.Loaded.{image_of as image_in};
-ghost use Rattle.swi_outside.specs.CacheRam.{KeepsBeyond};
-ghost use Rattle.swi_outside.specs.Causes.{DeviceCause, PairCause};
 ghost use Rattle.swi_outside.specs.Sink.{WasWritten};
 ghost use Rattle.swi_render.specs.ImageOf.{IsImageOf};
-ghost use Rattle.swi_slots.specs.Slots.{span_of};
-ghost use Rattle.swi_share.specs.Run.{CanRun, RunCame};
-ghost use Rattle.swi_share.specs.Shared.{shared_run};
+ghost use Rattle.swi_share.specs.Run.{CanRun, ScheduleRan};
 ghost use Rattle.swi_share.specs.Sharing.{IsSharing, seen as seen_of};
 ghost use Rattle.swi_share.specs.Starting.{AreGuests, IsGuest, most_words};
 ghost use Rattle.swi_task.specs.Answers.{Answers};
 ghost use Rattle.swi_task.specs.Checks.{IsAccepted, IsAcceptedImage, IsOwnImage, IsRefusedOr, Passes, file_limit, text_in};
 ghost use Rattle.swi_task.specs.Devices.{Devices};
-ghost use Rattle.swi_share_command.specs.RunShared.{AreUnfed, FilesRead, FilesUnread, HaveEnded, IsCutFor, IsGuestFile, IsGuestOf, ScheduleBroke, SharesOver, bytes_of, guest_checks, guest_lines, limits_by, order_of, refusal_by, share_report, share_task, shared_work};
+ghost use Rattle.swi_share_command.specs.RunShared.{FilesRead, FilesUnread, HaveEnded, IsCutFor, IsGuestFile, IsGuestOf, SharesOver, bytes_of, guest_checks, guest_lines, limits_by, order_of, refusal_by, share_report, share_task, shared_work};
 ghost use Rattle.swi_task.specs.Subject.{IsImageFor};
 
 use std::alloc::Global;
 use swi_answer::{Ending, Refusal, line_of_guest};
 use swi_command::{CacheOptions, RunLimits, Schedule, ShareOptions};
-use swi_devices::MemSource;
 use swi_elf_read::{Elf, image_bytes, read_elf};
 use swi_hart::BoardFault;
 use swi_image::{Image, ImageView, read_image};
@@ -151,7 +146,7 @@ fn guest_of<'a>(
         program,
         image: image_for(&elf, &file.cut, block_words),
         layout,
-        input: MemSource::new(Vec::new(alloc), Vec::new(alloc)),
+        input: Vec::new(alloc),
     })
 }
 
@@ -205,21 +200,9 @@ fn run_schedule<O: Sink, E: Sink, R: MicroRam>(
     requires some { 0 < programs }
     requires sharing { IsSharing share.old (R.state ram.old).words }
     requires room { CanRun (order_of programs schedule) (seen_of share.old) }
-    requires unfed { AreUnfed (seen_of share.old) }
-    ensures came { OnOk result (RunCame (shared_run (order_of programs schedule) (seen_of share.old))
-        (record { share = share.old; ram = R.state ram.old; out = (O.state out.old).held; err = (E.state err.old).held })
-        (record { share = share.new; ram = R.state ram.new; out = (O.state out.new).held; err = (E.state err.new).held })) }
-    ensures sharing { OnOk result (IsSharing share.new (R.state ram.new).words) }
-    ensures programs { length share.new.processes ≡ length share.old.processes }
-    ensures stopped { OnErr result (ScheduleBroke result (order_of programs schedule)
-        (record { share = share.old; ram = R.state ram.old; out = (O.state out.old).held; err = (E.state err.old).held })
-        (record { share = share.new; ram = R.state ram.new; out = (O.state out.new).held; err = (E.state err.new).held })) }
-    ensures unnamed { IsErrOf result BoardFault.SourceFault → ⊥ }
-    ensures kept { KeepsBeyond (span_of (seen_of share.old).setting) (R.state ram.old) (R.state ram.new) }
-    ensures sink_cause { PairCause (O.state out.old).faults (O.state out.new).faults (E.state err.old).faults
-        (E.state err.new).faults (IsErrOf result BoardFault.SinkFault) }
-    ensures ram_cause { DeviceCause (R.state ram.old).faults (R.state ram.new).faults
-        (IsErrOf result BoardFault.RamFault) }
+    ensures { ScheduleRan (order_of programs schedule)
+        (record { share = share.old; ram = R.state ram.old; out = O.state out.old; err = E.state err.old })
+        (record { share = share.new; ram = R.state ram.new; out = O.state out.new; err = E.state err.new }) result }
 {
     let mut x = schedule.seed;
     for _ in 0..schedule.events {
@@ -227,7 +210,7 @@ fn run_schedule<O: Sink, E: Sink, R: MicroRam>(
             return Ok(());
         }
         x = next_number(x);
-        share.event_unfed((x >> 16) % programs, ram, out, err)?;
+        share.event((x >> 16) % programs, ram, out, err)?;
     }
     Ok(())
 }
@@ -312,7 +295,6 @@ fn run_guests<O: Sink, E: Sink, R: MicroRam>(
     requires ranges { IsShareInRange options.now }
     requires count { IsShareCount (length guests.items) }
     requires guests { AreGuests guests.items }
-    requires unfed { All (λ x. x.input.left ≡ []) guests.items }
     requires bytes { 4 * most_words guests.items ≤ cache_bytes }
     requires limit { cache_bytes ≤ 2 ^ 23 }
     requires held { cache_bytes ≤ 4 * length (R.state ram.old).words }

@@ -10,7 +10,7 @@ use Rattle.swi_share_command.specs.declared.command.GuestFile.{GuestFile}
 use Rattle.swi_task.specs.Devices.{Devices}
 use Rattle.swi_share_command.specs.RunShared.{FilesRead, IsGuestOf, bytes_of, limits_by, share_task}
 use Rattle.swi_task.proofs.Refusals.{refusal_is, size_refused}
-use Rattle.swi_share_command.proofs.SharedGuests.{guests_count, guests_unfed}
+use Rattle.swi_share_command.proofs.SharedGuests.{guests_count}
 use Rattle.swi_share_command.proofs.SharedRuns.{cache_small, files_unread, guests_unmade, shared_answers}
 use Rattle.swi_share_command.proofs.command.share.Goals as goal
 
@@ -62,11 +62,6 @@ run_guests-requires-clause-count g c =
     let count : length c.in_ok-guests.guests.items ≡ length c.args.names.now =
     count_is (limits_by c.args.options.now) c.args.cache.now.block_words c.args.names.now (g.F.Shelf.state c.args.shelf.now) (g.F.Shelf.state c.read_guests.new.shelf) c.in_ok-files.files.items c.in_ok-guests.guests.items read made in
     subst IsShareCount (sym count) c.requires.count
-
-pub run_guests-requires-clause-unfed : goal.run_guests-requires-clause-unfed
-run_guests-requires-clause-unfed g c =
-    let made = rw (c.limits_by-limits.ensures.value, c.deref.ensures.value) at c.in_ok-guests.ensures.guests in
-    guests_unfed (limits_by c.args.options.now) c.args.cache.now.block_words (bytes_of c.in_ok-files.files.items) c.in_ok-guests.guests.items made
 
 pub returns-in_err-check_block : goal.returns-in_err-check_block
 returns-in_err-check_block g c =
