@@ -10,6 +10,3 @@ pub use beside::{step, turn};
 pub use engine::CopyEngine;
 pub use laws::laws_of_prefetch;
 pub use prefetch::Prefetch;
-
-#[cfg(test)]
-mod tests;

@@ -28,6 +28,7 @@ use Rattle.swi_run_laws.specs.After.{IsAfter}
 use Rattle.swi_run_laws.proofs.After.{goes_before, is_after}
 use Rattle.swi_run_laws.proofs.RunLaws.{flat_at, most_fetched, words_front}
 use Rattle.swi_share.specs.Shared.{Context, Event, enters, entered_if, begun_if, event_of, flat_of, step_event}
+use Rattle.swi_share.specs.Cuts.{RamCut, SinkCut}
 use Rattle.swi_share.specs.Event.{EntryBroke, EventBroke, EventDevices, StepBroke, instructions_from, moment_of}
 use Rattle.swi_share.proofs.Few.{run_one}
 
@@ -92,27 +93,6 @@ fetches_some v s p going place = at (is_some s.machine.ending) (ap (λ (e : Opti
     at false is u = rest u _ _ refl
 
 -- ---- the event
-
--- a sink broke it off: each sink has gained a front of what the event writes, and one to which it gives nothing was not asked
-pub record SinkCut (e : Event) (before after : EventDevices) : Type 0 where
-  pub output_front : ℕ
-  pub output : Appends before.out.held after.out.held (take output_front e.output)
-  pub error_front : ℕ
-  pub error : Appends before.err.held after.err.held (take error_front e.error)
-  pub words : FetchedFront e.words before.ram after.ram
-  pub output_unasked : e.output ≡ [] → after.out.faults ≡ before.out.faults
-  pub error_unasked : e.error ≡ [] → after.err.faults ≡ before.err.faults
-
--- The ram broke it off, after so many fetches: the sinks have gained what the event writes where all its fetches were made, and else
--- nothing. No call of it comes behind the one that failed.
-pub record RamCut (e : Event) (before after : EventDevices) : Type 0 where
-  pub fetched : ℕ
-  pub fetches : after.ram.fetches ≡ risen before.ram.fetches fetched
-  pub most : fetched ≤ e.fetches
-  pub output : Appends before.out.held after.out.held (if nat_le e.fetches fetched then e.output else [])
-  pub error : Appends before.err.held after.err.held (if nat_le e.fetches fetched then e.error else [])
-  pub words : FetchedFront e.words before.ram after.ram
-  pub last_failed : after.ram.last_failed ≡ true
 
 module _ (by : Setting) (r : Record) (c : Context) (going : c.machine.ending ≡ None) (before after : EventDevices) where
   abbrev e : Event

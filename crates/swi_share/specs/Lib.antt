@@ -5,3 +5,4 @@ pub mod Event
 pub mod Starting
 pub mod Run
 pub mod Laws
+pub mod Cuts

@@ -3,8 +3,10 @@
 
 mod event;
 mod input;
+mod laws;
 mod process;
 mod share;
 
+pub use laws::laws_of_share;
 pub use process::{Guest, most_words};
 pub use share::{Share, ShareCounts};

@@ -32,6 +32,7 @@ use Rattle.swi_hart.specs.declared.fault.BoardFault.{BoardFault}
 use Rattle.swi_hart.specs.declared.fault.BoardFault.TheVariants.{RamFault, SinkFault, SourceFault}
 use Rattle.swi_share.specs.declared.process.Guest.{Guest}
 use Rattle.swi_share.specs.declared.process.Process.{Process}
+use Rattle.swi_share.specs.Cuts.{RamCut, SinkCut}
 use Rattle.swi_share.specs.Event.{Quiet, context}
 use Rattle.swi_share.specs.Laws.{counts_of, events_of, fetched_words, follows}
 use Rattle.swi_share.specs.Run.{CanRun, RunDone, RunStopped, ScheduleRan}
@@ -39,7 +40,6 @@ use Rattle.swi_share.specs.Shared.{Context, Event, Shared, event_by, event_in, e
 use Rattle.swi_share.specs.Sharing.{Came, IsSharing, ShareData, ShareWith, context_by, devices_with, kept_in, seen, setting_in}
 use Rattle.swi_share.specs.Starting.{first_context, most_words, shared_start}
 use Rattle.swi_share.proofs.Bounds.{can_start, counted, process_at}
-use Rattle.swi_share.proofs.Breaking.{RamCut, SinkCut}
 use Rattle.swi_share.proofs.Scheduling.{anew, fetched_both, run_next}
 use Rattle.swi_share.proofs.Stopped.{ram_stopped, sink_stopped}
 use Rattle.swi_answer.specs.declared.answer.Ending.TheVariants as ending
