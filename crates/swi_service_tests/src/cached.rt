@@ -8,7 +8,7 @@ ghost use Rattle.swi_render.specs.ImageOf.{IsImageOf};
 use crate::programs::{COUNT, carry, file_with, program_in};
 use std::alloc::Global;
 use std::test::Fail;
-use swi_board::Board;
+use swi_board::{Board, BoardFault};
 use swi_cached::{AskedRun, CachedStop, run_cached, slots_for};
 use swi_calls::End::{self, *};
 use swi_cut::cut;
@@ -559,7 +559,7 @@ fn each_call_of_the_ram_fails(rt: HostRuntime) -> Result<(), Fail> {
                 ..PLAIN
             };
             let done = stands_after(rt.alloc(), &run, 17)?;
-            let stop = (ram_fails < calls).then_some(CachedStop::RamFault);
+            let stop = (ram_fails < calls).then_some(CachedStop::Fault(BoardFault::RamFault));
             assert_eq!(rt; done.stop, stop, "call {ram_fails}");
             let held: &[u8] = if ram_fails < whole { b"" } else { bytes };
             assert_eq!(rt; done.out.as_slice(), held, "call {ram_fails}");
@@ -576,7 +576,7 @@ static BROKEN: [(Run, CachedStop); 2] = [
             input_fails: 1,
             ..PLAIN
         },
-        CachedStop::SourceFault,
+        CachedStop::Fault(BoardFault::SourceFault),
     ),
     (
         Run {
@@ -584,7 +584,7 @@ static BROKEN: [(Run, CachedStop); 2] = [
             out_fails: 1,
             ..PLAIN
         },
-        CachedStop::SinkFault,
+        CachedStop::Fault(BoardFault::SinkFault),
     ),
 ];
 
