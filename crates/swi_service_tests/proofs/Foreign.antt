@@ -1,5 +1,5 @@
 -- A word of another hand under control.
-use Rattle.std.proofs.Common.{◌≡◌, ℕ, ◌<◌, true, false, List, length, slice_index, slice_set, Option, Some, None, Result, Ok, Err, is_err, is_some, OnOk, refl, sym, ap, subst, ◌∙◌, get_or-set_same}
+use Rattle.std.proofs.Common.{◌≡◌, ℕ, ◌<◌, true, false, List, length, slice_index, slice_set, Option, Some, None, Result, Ok, Err, is_err, is_some, OnOk, Unit, refl, sym, ap, subst, ◌∙◌, get_or-set_same}
 use Rattle.std.proofs.lemmas.List.{set-get_or, set-set}
 use Rattle.swi_isa.specs.Decode.{decoded, decoded_by}
 use Rattle.swi_calls.specs.declared.end.End.{End}
@@ -10,6 +10,10 @@ use Rattle.swi_hart.specs.declared.hart.Control.{Control}
 use Rattle.swi_hart.specs.declared.hart.Control.TheVariants.{At, Outside}
 use Rattle.swi_hart.specs.Hart.{index_of, place_under, is_between}
 use Rattle.swi_hart.specs.Exchanged.{Exchanged, PlainAt, is_plain}
+use Rattle.swi_hart.specs.declared.fault.BoardFault.{BoardFault}
+use Rattle.swi_rom.specs.Service.{ServiceOf}
+use Rattle.swi_board.specs.Board.{BoardWithDevices}
+use Rattle.swi_board.specs.BoardRan.{BoardRan, BoardStays}
 
 held_or : {X : Type 0} → Option X → X → X
 held_or None x = x
@@ -77,3 +81,9 @@ on_ok (Err e) fine p = cc
 pub none_of : {X : Type 0} (x : Option X) → is_some x ≡ false → x ≡ None
 none_of None is = refl
 none_of (Some x) is = cc
+
+-- what holds along a run that came to its end holds of its board
+pub ran_on : {S : Type 0} (k : ServiceOf S) (v : ImageData) (n : ℕ) (old new : BoardWithDevices S) (r : Result Unit BoardFault) →
+    BoardRan k v n old new r → is_err r ≡ false → BoardStays k v n old new
+ran_on k v n old new (Ok u) ran fine = subst (BoardStays k v n old) (sym ran.ends.0) ran.along.stays
+ran_on k v n old new (Err e) ran fine = cc

@@ -129,8 +129,8 @@ fn goes_on<R: CacheRom>(board: &Board<R>) -> bool
         && board.rom().counts().services < 10
 }
 
-/// The index of the word under control, its block and its offset there, where the service shows the same, and the image
-/// and a ram of eight words have the text's own second word there.
+/// The index of the word under control between two instructions, its block and its offset there, where the service shows
+/// the same, and the image and a ram of eight words have the text's own second word there.
 fn under<R: CacheRom>(
     hart: &Hart,
     rom: &R,
@@ -139,6 +139,7 @@ fn under<R: CacheRom>(
 ) -> Option<(u32, (u32, u32))>
     ensures at { IfSome result (λ p. index_of hart.now.machine.ending hart.now.control ≡ Some p.0) }
     ensures place { IfSome result (λ p. place_under hart.now.machine.ending hart.now.control ≡ Some p.1) }
+    ensures between { IfSome result (λ p. is_between hart.now.control ≡ true) }
     ensures shown { IfSome result (λ p. R.service.shown rom.now p.0 ≡ Some p.1) }
     ensures inside { IfSome result (λ p. p.0 < length ram.now.words) }
     ensures own { IfSome result (λ p. word_at image.now p.1.0 p.1.1 ≡ 0x00700513) }
@@ -146,7 +147,8 @@ fn under<R: CacheRom>(
 {
     let i = hart.at()?;
     let place = hart.place()?;
-    if rom.at(i) != Some(place)
+    if !hart.is_between()
+        || rom.at(i) != Some(place)
         || i != 1
         || place.0 >= image.blocks()
         || place.1 >= image.length(place.0)
