@@ -305,8 +305,11 @@ module _ (a : AheadAsked) (v : ImageData) (p : ProgramData) (l : Layout) (d : De
       DeviceCause middle.faults ram.faults (IsErrOf {T = Unit {0}} (Err f) fault.RamFault) → RunsToEnd a v p l d (ran_all d i out e ram) (Err (fault_refusal f))
   run_failed f last i out e ram kept broke streams cause = record {
     ended = tt;
-    refused = inr (is_run f, λ left told. by f left first
-        (run_breaks v a.bytes m left a.run.limits.steps a.rate d.ram middle (around d).devices first told boots begins f (whole last (around (ran_all d i out e ram))) broke));
+    refused = inr (
+      is_run f,
+      λ left told. by f left first
+          (run_breaks v a.bytes m left a.run.limits.steps a.rate d.ram middle (around d).devices first told boots begins f (whole last (around (ran_all d i out e ram))) broke),
+    );
     beyond = both_kept ram kept;
     causes = fault_causes {T = Unit {0}} f d (ran_all d i out e ram) refl (cause_from boot_quiet cause) streams;
   }
@@ -332,7 +335,7 @@ work_is b s count ending kept each =
     ap (λ (n : ℕ). record (board_work n b.hart.machine.ending (kept_by b.rom)) { writes = min (writes (kept_by b.rom) + engine_words (kept_by b.rom)) (2 ^ 64 - 1) }) count
     ∙ ap (λ (x : Option End). record (board_work s.count x (kept_by b.rom)) { writes = min (writes (kept_by b.rom) + engine_words (kept_by b.rom)) (2 ^ 64 - 1) }) ending
     ∙ ap (λ (r : Record). record (board_work s.count s.flat.machine.ending r) { writes = min (writes r + engine_words r) (2 ^ 64 - 1) }) kept
-    ∙ ap (λ (n : ℕ). record (ahead_work s) { fetches = n }) (fetches_are s.count s.fetches _ each)
+    ∙ ap (λ (n : ℕ). record (ahead_work s) { fetches = n }) (fetches_are s.count (length s.words) _ each)
 
 stops_from : (s : FlatState) → StopsFrom s
 stops_from s = λ n k less never at.
