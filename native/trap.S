@@ -5,8 +5,8 @@
 # vector has saved three registers, or all, mscratch holds the program's sp. A trap of the runtime itself so finds the
 # frame and ends with its own pc and cause. The C code is built so that it needs neither gp nor tp.
 #
-# A jump over a register to a placed block, as a return mostly is, is served here without C where its rd is x0 or ra
-# (with SERVE_IN_VECTOR). A jump over a register that is served in C may read and write any register, so all of them are
+# A return whose target is in the memo takes the first path. Another jump over a register to a placed block is served here
+# without C too, where its rd is x0 or ra (with SERVE_IN_VECTOR), and fills the memo. A jump over a register that is served in C may read and write any register, so all of them are
 # saved; for all else those are that a C function may change.
 
 #include "runtime.h"
