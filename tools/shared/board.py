@@ -30,7 +30,7 @@ class Board:
         self.alternatives = Alternatives(elf, [0] * (elf.text_bytes // 4), weights)
 
     def places(self, kind, cache):
-        return self.weights.bytes_of(kind, cache.slots, self.images.blocks[cache.block], self.elf.text_bytes // 4)
+        return self.weights.bytes_of(kind, cache.slots, self.images.blocks.get(cache.block, 0), self.elf.text_bytes // 4)
 
     def ram(self, cache):
         """The cache, the runtime and its tables."""
@@ -38,7 +38,7 @@ class Board:
 
     def flash(self, cache):
         """The text, since constants stand between, the image, the runtime and its tables."""
-        return self.elf.text_bytes + self.images.bytes[cache.block] + self.places("flash", cache)
+        return self.elf.text_bytes + self.images.bytes.get(cache.block, 0) + self.places("flash", cache)
 
     def spares(self, cache):
         """Whether a cache takes less fast RAM than the whole text, which would cost less there."""

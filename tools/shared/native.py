@@ -17,7 +17,6 @@ if __name__ == "__main__":
 
 from shared.pictures import plain  # noqa: E402
 from shared.runs import NAMES, Cache, Counts, Wrong, file_of, plot, prefix_of, write  # noqa: E402
-from shared.weights import LOAD  # noqa: E402
 
 NATIVE = TOP / "native"
 KEPT = "services misses evictions links unlinks writes".split()
@@ -108,7 +107,6 @@ class Sweep:
         self.options = options
         self.file = file_of(options.file, "file", folder)
         self.name = pathlib.Path(options.file).name
-        self.load = LOAD if options.load is None else options.load
         self.prefix = prefix_of(options, self.name, "sweep")
         self.steps = steps_of(self.file, options.native, options.until)
         self.rows, self.left = {}, []
@@ -125,7 +123,7 @@ class Sweep:
             if run is None:
                 self.left.append(cache)
             else:
-                self.rows[cache] = Row(cache, run, run.instructions + self.load * run.loads)
+                self.rows[cache] = Row(cache, run, run.instructions + self.options.load * run.loads)
 
     def within(self):
         bar = min(row.cost for row in self.rows.values()) * (1 + self.options.within / 100)
@@ -136,7 +134,7 @@ class Sweep:
         """Whether it stays within the bar with one slot less."""
         less = row.cache.used().less()
         run = self.make(less) if less.slots else None
-        cost = run.instructions + self.load * run.loads if run else bar + 1
+        cost = run.instructions + self.options.load * run.loads if run else bar + 1
         row.note = "recommended" if cost <= bar else f"{cost:.3f} with one slot less" if run else "has one slot alone"
         return cost <= bar
 
@@ -168,7 +166,7 @@ class Sweep:
         least = min(row.cost for row in self.rows.values())
         yield f"smallest cache within {self.options.within:g}% of the least cost ({least:.3f} a step): {smallest.cache}: {smallest.cost:.3f}"
         yield f"recommended: {recommended.cache}: {recommended.cost:.3f}" if recommended else "recommended: none of these"
-        yield f"out of flash a step costs {1 + self.load:.3f}"
+        yield f"out of flash a step costs {1 + self.options.load:.3f}"
 
 
 def picture(sweep):

@@ -60,9 +60,9 @@ def fewest(found, after, slots):
 def main():
     order, blocks_of, behind, numbers = pickle.load(sys.stdin.buffer)
     found = entered(order, blocks_of, behind)
-    after = next_uses(found)
+    after, blocks = next_uses(found), len(set(found))
     for slots in numbers:
-        print(slots, first_out(found, slots), fewest(found, after, slots))
+        print(slots, *((blocks, blocks) if slots >= blocks else (first_out(found, slots), fewest(found, after, slots))))
 
 
 if __name__ == "__main__":

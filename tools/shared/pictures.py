@@ -6,6 +6,7 @@ MARKS = [5, 6, 7, 8, 9, 13, 11, 12]
 # Marks are small, so that they cover the point of no other cache.
 MARKED = {"smallest": ("circle", "pt 6 ps 1.4"), "recommended": ("square", "pt 4 ps 1.6")}
 LABELS = 14  # of an axis, at most
+WIDTH, LEGEND = 470, 190  # points of a panel, and of the legend at the right
 ROOMS = 64  # sizes of fast RAM for which the hottest functions are drawn
 
 
@@ -49,11 +50,12 @@ def block_of(name, lines):
 def sweep(report):
     """Curves against the size of the cache or of all fast RAM: a colour for each length of blocks, and broken lines for rings."""
     panels = panels_of(report)
-    lines = [f"set terminal svg size {470 * len(panels) + 130},520 font 'sans-serif,13' background '#ffffff'", "set output '@OUT@'"]
+    lines = [f"set terminal svg size {WIDTH * len(panels) + LEGEND},500 font 'sans-serif,13' background '#ffffff'", "set output '@OUT@'"]
     for k, panel in enumerate(panels):
         lines += data(report, panel, k)
-    lines += [f"set multiplot title '{heading(report)}' noenhanced font 'sans-serif,14' offset 0,-0.4", f"set logscale xy; set ytics ({tens()}); set mytics 1",
+    lines += [f"set multiplot title '{heading(report)}' noenhanced font 'sans-serif,14' offset 0,0.1", f"set logscale xy; set ytics ({tens()}); set mytics 1",
               "set grid xtics ytics lc rgb '#dddddd' lt 1; set border 3; set tics nomirror"]
+    lines += [f"set label {k} '{text}' at screen 0.5, screen {0.935 - 0.04 * k:.3f} center font 'sans-serif,12' tc rgb '#444444'" for k, text in enumerate(legend(report), 1)]
     lines += [f"set style line {k + 1} lc rgb '#{colour}' lw 2 pt {mark} ps 0.5" for k, (colour, mark) in enumerate(zip(COLOURS, MARKS))]
     for k, panel in enumerate(panels):
         lines += drawn(report, panel, k, len(panels))
@@ -64,7 +66,7 @@ def panels_of(report):
     size = ("bytes of the cache", lambda cache: cache.size)
     found = [Panel(*size, "misses for each 1000 steps", lambda counts: counts.of_thousand("misses"))]
     if report.board:
-        return [*found, Panel("bytes of fast RAM: cache, runtime and tables", report.board.ram, "time of a step, beside one in slow memory", report.sweep.value, True, report.board)]
+        return [*found, Panel("bytes of fast RAM: cache, runtime and tables", report.board.ram, "time of a step; in slow memory it is 1", report.sweep.value, True, report.board)]
     found.append(Panel(*size, "words fetched and written, for each step", lambda counts: counts.work))
     return [*found, Panel(*size, "cost beside no cache", report.sweep.value, True)] if report.weights else found
 
@@ -78,16 +80,17 @@ def heading(report):
 
 def drawn(report, panel, k, count):
     """A panel in its place; the last has the legend at its right."""
-    width, left = 470 / (470 * count + 130), 470 * k / (470 * count + 130)
+    total, last = WIDTH * count + LEGEND, k + 1 == count
     values = [panel.y(row.counts) for row in report.rows] + [panel.y(row.jump) for row in report.rows if row.jump] + [1.0] * panel.beside
     values += [panel.board.alternatives.whole] if panel.board else []
     places = [panel.x(row.cache) for row in report.rows] + ([report.runs.elf.text_bytes] if panel.board else [])
     low, high = decade_steps(min(value for value in values if value > 0), max(values))
-    key = "set key outside right top vertical title 'words of a block' samplen 2 spacing 1.1" if k + 1 == count else "unset key"
-    yield f"set origin {left:.4f},0; set size {width if k + 1 < count else 1 - left:.4f},0.93; set lmargin 9; set bmargin 6; set tmargin 4; set rmargin {3 if k + 1 < count else 24}"
-    yield f"set xlabel '{panel.across}' offset 0,-0.6; set ylabel '{panel.up}'; {key}; set xtics ({tics(places)}) rotate by -45"
+    key = f"set key at screen {1 - 10 / total:.4f}, screen 0.82 right top vertical title 'words of a block' samplen 2 spacing 1.1" if last else "unset key"
+    yield f"set lmargin at screen {(WIDTH * k + 92) / total:.4f}; set rmargin at screen {WIDTH * (k + 1) / total - 0.01:.4f}; set bmargin at screen 0.19; set tmargin at screen 0.82"
+    yield f"set xlabel '{panel.across}' offset 0,-0.2; set ylabel '{panel.up}' offset 0.8,0; {key}; set xtics ({tics(places)}) rotate by -45"
     yield from marks(report, panel)
-    yield f"set xrange [{min(places)} / 1.3:{max(places)} * 1.3]; set yrange [{low:g}:{high:g}]; plot {', '.join(curves(report, panel, k))}"
+    yield f"set xrange [{min(places)} / 1.2:{max(places)} * 1.2]; set yrange [{low:g}:{high:g}]; plot {', '.join(curves(report, panel, k))}"
+    yield "unset label"
 
 
 def data(report, panel, k):
@@ -149,18 +152,20 @@ def curves(report, panel, k):
 
 
 def tics(places):
-    """Labels at powers of 2, or where there are none at the places themselves."""
-    powers = [1 << bits for bits in range(3, 32) if min(places) <= 1 << bits <= max(places)] or sorted(set(places))
-    every = (len(powers) + LABELS - 1) // LABELS
-    return ", ".join(f'"{size_label(size)}" {size}' for size in powers[::every])
+    """Labels at powers of 2, with those between where they are few; or where there are none at the places themselves."""
+    least, most = min(places), max(places)
+    powers = [1 << bits for bits in range(3, 32) if least <= 1 << bits <= most]
+    if len(powers) < LABELS // 2:
+        powers = [size for bits in range(3, 32) for size in (1 << bits, 3 << bits - 1) if least <= size <= most]
+    labelled = powers or sorted(set(places))
+    every = (len(labelled) + LABELS - 1) // LABELS
+    return ", ".join(f'"{size_label(size)}" {size}' for size in labelled[::every])
 
 
 def marks(report, panel):
-    """A line at each cache that is marked; what they are stands above."""
+    """A line at each cache that is marked."""
     for k, row in enumerate([row for rows in marked(report).values() for row in rows], 1):
         yield f"set arrow {k} from {panel.x(row.cache)}, graph 0 to {panel.x(row.cache)}, graph 1 nohead dt 2 lc rgb '#888888'"
-    for k, text in enumerate(legend(report), 1):
-        yield f"set label {k} '{text}' at graph 0.5, graph {1.17 - 0.055 * k} center font 'sans-serif,12' tc rgb '#444444'"
 
 
 def legend(report):
