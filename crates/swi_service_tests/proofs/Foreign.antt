@@ -1,5 +1,5 @@
 -- A word of another hand under control.
-use Rattle.std.proofs.Common.{◌≡◌, ℕ, ◌<◌, true, false, List, length, slice_index, slice_set, Option, Some, None, Result, Ok, Err, is_err, is_some, OnOk, Unit, refl, sym, ap, subst, ◌∙◌, get_or-set_same}
+use Rattle.std.proofs.Common.{◌≡◌, ℕ, ◌<◌, true, false, List, length, slice_index, slice_set, Option, Some, None, Result, Ok, Err, is_err, is_some, OnOk, refl, sym, ap, subst, ◌∙◌, get_or-set_same}
 use Rattle.std.proofs.lemmas.List.{set-get_or, set-set}
 use Rattle.swi_isa.specs.Decode.{decoded, decoded_by}
 use Rattle.swi_calls.specs.declared.end.End.{End}
