@@ -1,12 +1,15 @@
-ghost use Rattle.std.specs.Prelude.{◌≡◌, ◌≤◌, None, IfOk, OnOk, length};
+ghost use Rattle.std.specs.Prelude.{◌≡◌, ◌≤◌, [], None, IfOk, OnOk, length};
 ghost use Rattle.swi_outside.specs.Shelf.{Same, SameElsewhere, Stands, IsLonger};
 ghost use Rattle.swi_devices.specs.Folders.{TakesAll, TakesMore};
 
 use crate::Folder;
+use crate::byte_log::ByteLog;
+use crate::get_log::{GetLog, note_answer};
 use crate::real::write_whole;
 use crate::shelf_call::{ShelfCall, key_of};
 use std::alloc::Global;
 use std::io::Read;
+use std::snapshot::Snapshot;
 use swi_outside::{Failed, Shelf, ShelfError};
 
 /// The files of a folder, by their names. It tells the contents that the folder tells; the system's
@@ -20,28 +23,32 @@ pub struct FolderShelf<D> {
     calls: u64,
     faults: u64,
     last: Option<(ShelfCall, String)>,
+    got: Snapshot<GetLog>,
 }
 
 impl<D: Folder> FolderShelf<D> {
     /// A shelf over a folder, as `SystemFolder::new(rt)`, without a fault.
     pub fn new(folder: D) -> FolderShelf<D>
         ensures { ⟦<FolderShelf<D> as Shelf>⟧.state result
-            ≡ record { contents = D.contents folder; calls = 0; faults = 0; last_failed = None } }
+            ≡ record { contents = D.contents folder; got = []; calls = 0; faults = 0; last_failed = None } }
     {
         FolderShelf {
             folder,
             calls: 0,
             faults: 0,
             last: None,
+            got: Snapshot::of(&GetLog::None),
         }
     }
 }
 
 impl<D: Folder> Shelf for FolderShelf<D> {
+    ghost use Rattle.swi_devices.specs.GetLog.{gets_in};
     ghost use Rattle.swi_devices.specs.Stored.{last_asked};
 
     ghost state = { λ s. record {
       contents = D.contents s.folder;
+      got = gets_in s.got.value;
       calls = s.calls;
       faults = s.faults;
       last_failed = last_asked s.last;
@@ -50,7 +57,9 @@ impl<D: Folder> Shelf for FolderShelf<D> {
     fn get(&mut self, alloc: Global, name: &str, limit: u32) -> Result<Vec<u8>, ShelfError> {
         self.calls = self.calls.saturating_add(1);
         let key = key_of(alloc, name)?;
-        match read_file(&mut self.folder, alloc, name, limit) {
+        let answer = read_file(&mut self.folder, alloc, name, limit);
+        note_answer(&mut self.got, &key, &answer);
+        match answer {
             Err(ShelfError::Failed) => {
                 self.faults = self.faults.saturating_add(1);
                 self.last = Some((ShelfCall::Get, key));
@@ -118,6 +127,7 @@ fn write_file<D: Folder>(folder: &mut D, name: &str, bytes: &[u8]) -> Result<(),
     ensures stands { OnOk result (Stands (D.contents folder.new) name.now bytes.now) }
 {
     let mut file = folder.create(name)?;
-    write_whole(&mut file, bytes)?;
+    let mut took = Snapshot::of(&ByteLog::None);
+    write_whole(&mut file, bytes, &mut took)?;
     folder.close(name, file)
 }

@@ -2,10 +2,12 @@
 //! device is, the traits of `swi_outside` say.
 #![tactic(auto)]
 
+mod byte_log;
 mod fault_plan;
 mod fault_ram;
 mod folder;
 mod folder_shelf;
+mod get_log;
 mod mem_shelf;
 mod mem_sink;
 mod mem_source;

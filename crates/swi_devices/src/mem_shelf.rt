@@ -1,13 +1,15 @@
-ghost use Rattle.std.specs.Prelude.{◌≡◌, ◌≤◌, ◌<◌, ◌⊎◌, ℕ, length, Option, None, Some, IfOk, OnOk, OnErr, Contains, MatchOption, map, position, string_bytes};
+ghost use Rattle.std.specs.Prelude.{◌≡◌, ◌≤◌, ◌<◌, ◌⊎◌, ℕ, [], length, Option, None, Some, IfOk, OnOk, OnErr, Contains, MatchOption, map, position, string_bytes};
 ghost use Rattle.std.specs.Str.{bytes_eq};
 ghost use Rattle.swi_outside.specs.Causes.{counted};
 ghost use Rattle.swi_outside.specs.Shelf.{SameElsewhere, WasGot, WasPut};
 ghost use Rattle.swi_devices.specs.Stored.{told_of, lookup, entry_of};
 
 use crate::fault_plan::FaultPlan;
+use crate::get_log::{GetLog, note_answer};
 use crate::shelf_call::{ShelfCall, key_of};
 use std::alloc::Global;
 use std::marker::Model;
+use std::snapshot::Snapshot;
 use swi_outside::{Shelf, ShelfError};
 
 /// Contents in memory.
@@ -16,16 +18,19 @@ pub struct MemShelf {
     entries: Vec<(String, Vec<u8>)>,
     plan: FaultPlan,
     last: Option<(ShelfCall, String)>,
+    got: Snapshot<GetLog>,
 }
 
 impl Model for MemShelf {
     ghost use Rattle.std.specs.Prelude.{map};
+    ghost use Rattle.swi_devices.specs.GetLog.{gets_in};
     ghost use Rattle.swi_devices.specs.Stored.{StoredShelf, entry_of, last_asked};
 
     ghost Value = { StoredShelf };
 
     ghost view = { λ s. record {
       entries = map entry_of s.entries.items;
+      got = gets_in s.got.value;
       failing = s.plan.failing.items;
       calls = s.plan.calls;
       faults = s.plan.faults;
@@ -40,6 +45,7 @@ impl MemShelf {
     pub fn new(contents: Vec<(String, Vec<u8>)>, failing: Vec<u32>) -> MemShelf
         ensures { result ≡ record {
           entries = map entry_of contents.items;
+          got = [];
           failing = failing.items;
           calls = 0;
           faults = 0;
@@ -50,6 +56,7 @@ impl MemShelf {
             entries: contents,
             plan: FaultPlan::new(failing),
             last: None,
+            got: Snapshot::of(&GetLog::None),
         }
     }
 
@@ -115,6 +122,7 @@ impl Shelf for MemShelf {
         ensures failed { result ≡ Err ShelfError.Failed →
             Contains self.old.failing (counted self.old.calls) ⊎ (lookup self.old.entries name.now ≡ None) }
         ensures counted { self.new ≡ record self.old {
+          got = self.new.got;
           calls = counted self.old.calls;
           faults = self.new.faults;
           last = self.new.last;
@@ -123,7 +131,11 @@ impl Shelf for MemShelf {
         let fails = self.plan.count_call();
         let key = key_of(alloc, name)?;
         match find(&self.entries, name) {
-            Some(bytes) if !fails => copy_within(alloc, bytes, limit),
+            Some(bytes) if !fails => {
+                let answer = copy_within(alloc, bytes, limit);
+                note_answer(&mut self.got, &key, &answer);
+                answer
+            }
             _ => {
                 self.plan.count_fault();
                 self.last = Some((ShelfCall::Get, key));

@@ -1,4 +1,5 @@
 use Rattle.swi_devices.proofs.Folders.{elsewhere-trans, stands-ended}
+use Rattle.swi_devices.proofs.Logs.{handed_whole}
 use Rattle.swi_devices.proofs.folder_shelf.write_file.Goals as goal
 
 pub returns-clause-others : goal.returns-clause-others
@@ -6,4 +7,4 @@ returns-clause-others g c = elsewhere-trans _ _ _ _ c.create.ensures.others c.cl
 
 pub returns-clause-stands : goal.returns-clause-stands
 returns-clause-stands g c =
-    stands-ended _ _ _ _ _ _ _ c.in_ok-file.ensures.empty c.in_ok-write_whole.ensures c.close.ensures.stands
+    stands-ended _ _ _ _ _ _ _ c.in_ok-file.ensures.empty (handed_whole c.in_ok-write_whole.ensures) c.close.ensures.stands
