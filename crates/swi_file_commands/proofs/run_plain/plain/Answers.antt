@@ -4,7 +4,7 @@ use Rattle.swi_program.specs.Program.{ProgramData}
 use Rattle.swi_task.specs.Devices.{Devices}
 use Rattle.swi_file_commands.specs.RunPlain.{RunsPlain, plain_task}
 use Rattle.swi_task.specs.Task.{Task}
-use Rattle.swi_task.proofs.Refusals.{check_refused, read_refused, told_is, too_long, was_read}
+use Rattle.swi_task.proofs.Refusals.{check_refused, read_is, read_refused, too_long, was_read}
 use Rattle.swi_file_commands.proofs.Flats.{plain_answers, ran_to}
 use Rattle.swi_file_commands.proofs.run_plain.plain.Goals as goal
 
@@ -12,7 +12,7 @@ pub returns-in_err-file : goal.returns-in_err-file
 returns-in_err-file g c =
     let p = err_from_is_err_and c.from_residual.result c.from_residual.ensures.1 in
     let t : Task = plain_task c.args.name.now c.args.options.now in
-    rw (p.1, p.2) (λ d. read_refused t c.args.name.now _ _ _ refl refl (λ longer file told. inl (too_long _ c.args.name.now file longer told)) c.in_err-file.ensures.read)
+    rw (p.1, p.2) (λ d. read_refused t c.args.name.now _ _ _ refl refl (λ longer file tells. inl (too_long _ c.args.name.now file longer tells.0)) c.in_err-file.ensures.read)
 
 pub returns-in_err-prepared : goal.returns-in_err-prepared
 returns-in_err-prepared g c =
@@ -21,8 +21,8 @@ returns-in_err-prepared g c =
     let t : Task = plain_task c.args.name.now c.args.options.now in
     rw (p.1, p.2) (λ d.
     let before : Devices = record d { shelf = g.F.Shelf.state c.args.shelf.now; input = g.I.Source.state c.args.input.now; output = g.O.Sink.state c.args.out.now; error = g.E.Sink.state c.args.err.now } in
-    check_refused t before (g.F.Shelf.state c.read_file.new.shelf) c.args.name.now c.in_ok-file.file.items c.in_ok-file.file.items c.in_err-prepared.field-0.0 refl refl read
-    (λ file told. told_is _ c.args.name.now file _ told read.stands) (rw c.deref.ensures.value at c.in_err-prepared.ensures.refused))
+    check_refused t before (g.F.Shelf.state c.read_file.new.shelf) c.args.name.now c.in_ok-file.file.items c.in_ok-file.file.items c.in_err-prepared.field-0.0 refl refl read (read.within, tt)
+    (λ file are. read_is read are refl) (rw c.deref.ensures.value at c.in_err-prepared.ensures.refused))
 
 pub returns : goal.returns
 returns g c =

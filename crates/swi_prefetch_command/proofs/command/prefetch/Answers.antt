@@ -5,7 +5,7 @@ use Rattle.swi_task.specs.Devices.{Devices, seen}
 use Rattle.swi_prefetch_command.specs.RunAhead.{RunsWithReport, ahead_asked, ahead_task}
 use Rattle.swi_task.specs.Subject.{view_of}
 use Rattle.swi_task.specs.Task.{Task}
-use Rattle.swi_task.proofs.Refusals.{check_refused, read_refused, size_refused, told_is, too_long, was_read}
+use Rattle.swi_task.proofs.Refusals.{check_refused, read_is, read_refused, size_refused, too_long, was_read}
 use Rattle.swi_prefetch_command.proofs.Ahead.{ahead_answers}
 use Rattle.swi_cached_command.proofs.Caching.{cached_to}
 use Rattle.swi_prefetch_command.proofs.command.prefetch.Goals as goal
@@ -22,7 +22,7 @@ returns-in_err-file g c =
     let t : Task = ahead_task c.args.name.now c.args.cache.now c.args.options.now c.args.rate in
     let before : Devices = seen (g.F.Shelf.state c.args.shelf.now) (g.I.Source.state c.args.input.now) (g.O.Sink.state c.args.out.now) (g.E.Sink.state c.args.err.now) (g.R.CacheRam.state c.args.ram.now) in
     rw (p.1, p.2)
-    (read_refused t c.args.name.now before _ _ refl c.in_ok-check_size.ensures.ok (λ longer file told. inl (too_long _ c.args.name.now file longer told)) c.in_err-file.ensures.read)
+    (read_refused t c.args.name.now before _ _ refl c.in_ok-check_size.ensures.ok (λ longer file tells. inl (too_long _ c.args.name.now file longer tells.0)) c.in_err-file.ensures.read)
 
 pub returns-in_err-placed : goal.returns-in_err-placed
 returns-in_err-placed g c =
@@ -31,8 +31,8 @@ returns-in_err-placed g c =
     let t : Task = ahead_task c.args.name.now c.args.cache.now c.args.options.now c.args.rate in
     let before : Devices = seen (g.F.Shelf.state c.args.shelf.now) (g.I.Source.state c.args.input.now) (g.O.Sink.state c.args.out.now) (g.E.Sink.state c.args.err.now) (g.R.CacheRam.state c.args.ram.now) in
     rw (p.1, p.2)
-    (check_refused t before (g.F.Shelf.state c.read_file.new.shelf) c.args.name.now c.in_ok-file.file.items c.in_ok-file.file.items c.in_err-placed.field-0.0 c.in_ok-check_size.ensures.ok refl read
-    (λ file told. told_is _ c.args.name.now file _ told read.stands) (rw c.deref.ensures.value at c.in_err-placed.ensures.refused))
+    (check_refused t before (g.F.Shelf.state c.read_file.new.shelf) c.args.name.now c.in_ok-file.file.items c.in_ok-file.file.items c.in_err-placed.field-0.0 c.in_ok-check_size.ensures.ok refl read (read.within, tt)
+    (λ file are. read_is read are refl) (rw c.deref.ensures.value at c.in_err-placed.ensures.refused))
 
 pub returns : goal.returns
 returns g c =
