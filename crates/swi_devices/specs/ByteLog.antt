@@ -1,5 +1,5 @@
 -- What bytes passed through a device over the system's streams.
-use Rattle.std.specs.Prelude.{◌≡◌, ℕ, Bool, true, false, List, [], ◌∷◌, ◌++◌, length, take, Option, Some, Result, OnOk}
+use Rattle.std.specs.Prelude.{◌≡◌, ℕ, Bool, true, false, List, [], ◌∷◌, ◌++◌, Option, Some, Result, OnOk}
 use Rattle.std.specs.Io.KnownBytes.{Appends}
 use Rattle.swi_devices.specs.declared.byte_log.ByteLog.{ByteLog}
 use Rattle.swi_devices.specs.declared.byte_log.ByteLog.TheVariants.{None, Then'}

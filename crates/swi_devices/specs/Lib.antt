@@ -1,5 +1,5 @@
 pub mod ByteLog
 pub mod Folders
-pub mod GetLog
 pub mod RamCalls
+pub mod ShelfLog
 pub mod Stored

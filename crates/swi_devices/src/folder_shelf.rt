@@ -1,12 +1,13 @@
 ghost use Rattle.std.specs.Prelude.{◌≡◌, ◌≤◌, [], None, IfOk, OnOk, length};
 ghost use Rattle.swi_outside.specs.Shelf.{Same, SameElsewhere, Stands, IsLonger};
+ghost use Rattle.swi_devices.specs.ByteLog.{bytes_in};
 ghost use Rattle.swi_devices.specs.Folders.{TakesAll, TakesMore};
 
 use crate::Folder;
 use crate::byte_log::ByteLog;
-use crate::get_log::{GetLog, note_answer};
 use crate::real::write_whole;
 use crate::shelf_call::{ShelfCall, key_of};
+use crate::shelf_log::{ShelfLog, note_got, note_taken};
 use std::alloc::Global;
 use std::io::Read;
 use std::snapshot::Snapshot;
@@ -23,32 +24,35 @@ pub struct FolderShelf<D> {
     calls: u64,
     faults: u64,
     last: Option<(ShelfCall, String)>,
-    got: Snapshot<GetLog>,
+    got: Snapshot<ShelfLog>,
+    stored: Snapshot<ShelfLog>,
 }
 
 impl<D: Folder> FolderShelf<D> {
     /// A shelf over a folder, as `SystemFolder::new(rt)`, without a fault.
     pub fn new(folder: D) -> FolderShelf<D>
         ensures { ⟦<FolderShelf<D> as Shelf>⟧.state result
-            ≡ record { contents = D.contents folder; got = []; calls = 0; faults = 0; last_failed = None } }
+            ≡ record { contents = D.contents folder; got = []; stored = []; calls = 0; faults = 0; last_failed = None } }
     {
         FolderShelf {
             folder,
             calls: 0,
             faults: 0,
             last: None,
-            got: Snapshot::of(&GetLog::None),
+            got: Snapshot::of(&ShelfLog::None),
+            stored: Snapshot::of(&ShelfLog::None),
         }
     }
 }
 
 impl<D: Folder> Shelf for FolderShelf<D> {
-    ghost use Rattle.swi_devices.specs.GetLog.{gets_in};
+    ghost use Rattle.swi_devices.specs.ShelfLog.{passed_in};
     ghost use Rattle.swi_devices.specs.Stored.{last_asked};
 
     ghost state = { λ s. record {
       contents = D.contents s.folder;
-      got = gets_in s.got.value;
+      got = passed_in s.got.value;
+      stored = passed_in s.stored.value;
       calls = s.calls;
       faults = s.faults;
       last_failed = last_asked s.last;
@@ -58,7 +62,7 @@ impl<D: Folder> Shelf for FolderShelf<D> {
         self.calls = self.calls.saturating_add(1);
         let key = key_of(alloc, name)?;
         let answer = read_file(&mut self.folder, alloc, name, limit);
-        note_answer(&mut self.got, &key, &answer);
+        note_got(&mut self.got, &key, &answer);
         match answer {
             Err(ShelfError::Failed) => {
                 self.faults = self.faults.saturating_add(1);
@@ -73,7 +77,10 @@ impl<D: Folder> Shelf for FolderShelf<D> {
         self.calls = self.calls.saturating_add(1);
         let key = key_of(alloc, name)?;
         match write_file(&mut self.folder, name, bytes) {
-            Ok(()) => Ok(()),
+            Ok(took) => {
+                note_taken(&mut self.stored, &key, took);
+                Ok(())
+            }
             Err(_) => {
                 self.faults = self.faults.saturating_add(1);
                 self.last = Some((ShelfCall::Put, key));
@@ -122,12 +129,19 @@ fn read_within<F: Read>(alloc: Global, file: &mut F, limit: u32) -> Result<Vec<u
     Err(ShelfError::Long)
 }
 
-fn write_file<D: Folder>(folder: &mut D, name: &str, bytes: &[u8]) -> Result<(), Failed>
+// What its file took is handed on.
+fn write_file<D: Folder>(
+    folder: &mut D,
+    name: &str,
+    bytes: &[u8],
+) -> Result<Snapshot<ByteLog>, Failed>
     ensures others { SameElsewhere (D.contents folder.old) (D.contents folder.new) name.now }
     ensures stands { OnOk result (Stands (D.contents folder.new) name.now bytes.now) }
+    ensures taken { IfOk result (λ took. bytes_in took.value ≡ bytes.now) }
 {
     let mut file = folder.create(name)?;
     let mut took = Snapshot::of(&ByteLog::None);
     write_whole(&mut file, bytes, &mut took)?;
-    folder.close(name, file)
+    folder.close(name, file)?;
+    Ok(took)
 }

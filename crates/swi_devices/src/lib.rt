@@ -7,13 +7,13 @@ mod fault_plan;
 mod fault_ram;
 mod folder;
 mod folder_shelf;
-mod get_log;
 mod mem_shelf;
 mod mem_sink;
 mod mem_source;
 mod ram_calls;
 mod real;
 mod shelf_call;
+mod shelf_log;
 mod vec_ram;
 
 pub use fault_ram::FaultRam;
