@@ -3,16 +3,16 @@ use Rattle.std.proofs.Common.{◌≡◌, ℕ, suc, zero, ◌+◌, ◌*◌, ◌/�
 use Rattle.std.proofs.lemmas.Bool.{cases_Bool, cases_eq}
 use Rattle.std.proofs.lemmas.Nat.{div-mul-add, div-add-mod', mod_below, row_fits}
 use Rattle.swi_outside.specs.CacheRam.{RamState}
-use Rattle.swi_chain.specs.Chains.{ChainsData}
-use Rattle.swi_chain.specs.Holders.{holder_of}
-use Rattle.swi_chain.specs.Lists.{holder_most}
+use Rattle.swi_links.specs.Chains.{ChainsData}
+use Rattle.swi_links.specs.Holders.{holder_of}
+use Rattle.swi_links.specs.Lists.{holder_most}
 use Rattle.swi_rom.specs.Record.{ebreak}
 use Rattle.swi_rom.specs.Writing.{Wrote}
 use Rattle.swi_slots.specs.Steps.{Cleared, leads_in, is_dropped, leading_in}
 use Rattle.swi_slots.specs.Tells.{own_tells, leads_tells, none_tells}
-use Rattle.swi_undo.specs.Undone.{is_own, comes_in, coming_in, is_dropped as is_gone}
-use Rattle.swi_undo.specs.Gone.{Gone}
-use Rattle.swi_undo.specs.Tells.{own_is, own_not, own_tells as owned, comes_tells, none_tells as neither}
+use Rattle.swi_links.specs.Undone.{is_own, comes_in, coming_in, is_dropped as is_gone}
+use Rattle.swi_links.specs.Gone.{Gone}
+use Rattle.swi_links.specs.Tells.{own_is, own_not, own_tells as owned, comes_tells, none_tells as neither}
 use Rattle.swi_fifo.specs.Homes.{TableData}
 use Rattle.swi_fifo.specs.Targets.{targets_of}
 use Rattle.swi_fifo.proofs.Targets.{length_targets, target_at, target_past}

@@ -8,10 +8,10 @@ use Rattle.swi_slots.specs.Sound.{SlotsServe, SlotsSound, LinkStands}
 use Rattle.swi_slots.specs.Queue.{has_slot, slot_has as placed_has}
 use Rattle.swi_slots.specs.SlotLinks.{link_of, link_key, linked_word, word_linked, word_is, word_below}
 use Rattle.swi_slots.specs.Coheres.{tidy_of, target_owner}
-use Rattle.swi_chain.specs.Chains.{ChainsData, Has, IsApart, list_of}
+use Rattle.swi_links.specs.Chains.{ChainsData, Has, IsApart, list_of}
 use Rattle.swi_fifo.specs.Homes.{TableData}
-use Rattle.swi_chain.specs.Holders.{holder_of}
-use Rattle.swi_chain.specs.Lists.{holder_has, holder_is}
+use Rattle.swi_links.specs.Holders.{holder_of}
+use Rattle.swi_links.specs.Lists.{holder_has, holder_is}
 use Rattle.swi_fifo.specs.Targets.{targets_of}
 use Rattle.swi_fifo.specs.Chained.{LinkInto}
 use Rattle.swi_fifo.proofs.Targets.{length_targets, target_at}

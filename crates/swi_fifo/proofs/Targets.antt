@@ -2,9 +2,9 @@
 use Rattle.std.proofs.Common.{◌≡◌, ℕ, suc, zero, ◌+◌, ◌<◌, ◌≤◌, List, [], replicate, length, slice_index, slice_set, arith, refl, sym, ◌∙◌, ap, subst, inl, inr}
 use Rattle.std.proofs.lemmas.Bool.{cases_eq}
 use Rattle.std.proofs.lemmas.List.{length-set, length-replicate, get_or-set_same, get_or-set_other, get_or_past, get_or-replicate, ext_get_or}
-use Rattle.swi_chain.specs.Chains.{ChainsData, IsFree}
-use Rattle.swi_chain.specs.Holders.{holder_of}
-use Rattle.swi_chain.specs.Lists.{linked_lists, linked_here, linked_other, holder_below, holder_empty}
+use Rattle.swi_links.specs.Chains.{ChainsData, IsFree}
+use Rattle.swi_links.specs.Holders.{holder_of}
+use Rattle.swi_links.specs.Lists.{linked_lists, linked_here, linked_other, holder_below, holder_empty}
 use Rattle.swi_fifo.specs.Homes.{TableData}
 use Rattle.swi_fifo.specs.Targets.{targets_from, targets_of}
 

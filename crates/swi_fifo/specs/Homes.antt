@@ -1,6 +1,6 @@
 -- Which slot each block has.
 use Rattle.std.specs.Prelude.{◌≡◌, ℕ, ◌-◌, ◌^◌, ◌<◌, ◌≤◌, List, length, slice_index}
-use Rattle.swi_chain.specs.Chains.{ChainsData}
+use Rattle.swi_links.specs.Chains.{ChainsData}
 
 pub record TableData : Type 0 where
   -- the words of a slot

@@ -1,7 +1,7 @@
 -- The slot to which each word is linked, as the lists tell.
 use Rattle.std.specs.Prelude.{ℕ, zero, suc, ◌+◌, List, [], ◌∷◌}
-use Rattle.swi_chain.specs.Chains.{ChainsData}
-use Rattle.swi_chain.specs.Holders.{holder_of}
+use Rattle.swi_links.specs.Chains.{ChainsData}
+use Rattle.swi_links.specs.Holders.{holder_of}
 
 -- of n words from the i-th on
 unfoldable pub targets_from : List (List ℕ) → ℕ → ℕ → List ℕ

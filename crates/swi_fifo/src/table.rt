@@ -7,16 +7,15 @@ ghost use Rattle.swi_slots.specs.Slots.{kept_by};
 ghost use Rattle.swi_slots.specs.Sound.{SlotsSound};
 ghost use Rattle.swi_rom.specs.Writing.{FailedBelow};
 ghost use Rattle.swi_slots.specs.Steps.{Cleared, leading_in};
-ghost use Rattle.swi_chain.specs.Chains.{list_of, Has};
+ghost use Rattle.swi_links.specs.Chains.{list_of, Has};
 ghost use Rattle.swi_fifo.specs.Chained.{LinkInto};
 ghost use Rattle.swi_fifo.specs.Homes.{nowhere};
 
 use std::alloc::Global;
 use std::marker::Model;
-use swi_chain::Chains;
+use swi_links::{Chains, undo};
 use swi_outside::{CacheRam, Failed, Memory};
 use swi_slots::{LinkTable, SlotRom};
-use swi_undo::undo;
 
 /// The service that keeps a list of links for each slot, and a slot for each block. An eviction takes the links
 /// into the block from its slot's list, and no call but `new` takes memory.

@@ -7,7 +7,7 @@ use Rattle.swi_image.specs.Format.{ImageData}
 use Rattle.swi_image.specs.Place.{word_at, length_at}
 use Rattle.swi_image.specs.Sound.{IsImage}
 use Rattle.swi_outside.specs.CacheRam.{RamState}
-use Rattle.swi_chain.specs.Chains.{Has}
+use Rattle.swi_links.specs.Chains.{Has}
 use Rattle.swi_rom.specs.Record.{Record, Placement, Link, Placed, has_link, IsJump}
 use Rattle.swi_rom.specs.Record.{Has as HasPlacement}
 use Rattle.swi_rom.specs.Policy.{is_placed, counted, more_services}

@@ -1,5 +1,5 @@
 use std::test::Fail;
-use swi_chain::Chains;
+use swi_links::Chains;
 
 #[test]
 fn words_leave_a_list_in_any_order(rt: HostRuntime) -> Result<(), Fail> {

@@ -1,9 +1,8 @@
 use std::test::Fail;
-use swi_chain::Chains;
+use swi_links::{Chains, undo};
 use swi_devices::VecRam;
 use swi_outside::CacheRam;
 use swi_rom::EBREAK;
-use swi_undo::undo;
 
 #[test]
 fn block_leaves_with_its_links(rt: HostRuntime) -> Result<(), Fail> {

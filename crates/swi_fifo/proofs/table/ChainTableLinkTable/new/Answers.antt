@@ -1,6 +1,6 @@
 use Rattle.std.proofs.Common.{ℕ, List, length, ap, ◌∙◌}
 use Rattle.std.proofs.lemmas.List.{length-replicate}
-use Rattle.swi_chain.specs.Chains.{ChainsData}
+use Rattle.swi_links.specs.Chains.{ChainsData}
 use Rattle.swi_fifo.specs.Targets.{targets_of}
 use Rattle.swi_fifo.proofs.Targets.{targets_empty}
 use Rattle.swi_fifo.proofs.Knowing.{knows_none}
