@@ -16,8 +16,8 @@ ghost use Rattle.swi_ring.specs.Steps.{empty_ring, marked, Left, MadeRoom, Fille
 use crate::queue::BlockQueue;
 use std::alloc::Global;
 use std::marker::Model;
-use swi_links::{Chains, undo};
 use swi_image::{Hints, ImageView};
+use swi_links::{Chains, undo};
 use swi_outside::{CacheRam, Failed, Memory};
 use swi_rom::{CacheRom, Counts, RomStop, copy, jump, reach};
 

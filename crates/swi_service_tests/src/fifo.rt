@@ -12,11 +12,10 @@ use std::alloc::Global;
 use std::process::Abort;
 use std::test::Fail;
 use swi_devices::VecRam;
-use swi_fifo::{FifoRom, chains};
 use swi_image::ImageView;
 use swi_outside::CacheRam;
 use swi_rom::CacheRom;
-use swi_slots::{LinkTable, ScanRom, SlotRom};
+use swi_slots::{FifoRom, LinkTable, ScanRom, SlotRom, chains};
 
 /// What stands after some transfers, each of one of so many programs, of which program 1 has the second image and the
 /// others the first: the first words of the ram, the oldest block of the program that came last, with its first word, the

@@ -1,6 +1,6 @@
 use std::test::Fail;
-use swi_links::{Chains, undo};
 use swi_devices::VecRam;
+use swi_links::{Chains, undo};
 use swi_outside::CacheRam;
 use swi_rom::EBREAK;
 

@@ -9,12 +9,12 @@ use Rattle.swi_slots.specs.Queue.{has_slot, slot_has as placed_has}
 use Rattle.swi_slots.specs.SlotLinks.{link_of, link_key, linked_word, word_linked, word_is, word_below}
 use Rattle.swi_slots.specs.Coheres.{tidy_of, target_owner}
 use Rattle.swi_links.specs.Chains.{ChainsData, Has, IsApart, list_of}
-use Rattle.swi_fifo.specs.Homes.{TableData}
+use Rattle.swi_slots.specs.Homes.{TableData}
 use Rattle.swi_links.specs.Holders.{holder_of}
 use Rattle.swi_links.specs.Lists.{holder_has, holder_is}
-use Rattle.swi_fifo.specs.Targets.{targets_of}
-use Rattle.swi_fifo.specs.Chained.{LinkInto}
-use Rattle.swi_fifo.proofs.Targets.{length_targets, target_at}
+use Rattle.swi_slots.specs.Targets.{targets_of}
+use Rattle.swi_slots.specs.Chained.{LinkInto}
+use Rattle.swi_slots.proofs.Targets.{length_targets, target_at}
 
 -- the table and the slots speak of the same words and slots
 pub record Agrees (c : ChainsData) (s : Slots) : Type 0 where

@@ -3,7 +3,7 @@ use Rattle.std.proofs.Common.{◌≡◌, ℕ, ◌+◌, ◌<◌, ◌≤◌, ◌^�
 use Rattle.std.proofs.lemmas.Bool.{cases_eq, cases_lt, lt-ltb, le-ltb}
 use Rattle.std.proofs.lemmas.List.{length-set, length-replicate, get_or-replicate, get_or-set_same, get_or-set_other}
 use Rattle.swi_slots.specs.Table.{NotAmong}
-use Rattle.swi_fifo.specs.Homes.{KnowsHomes, nowhere}
+use Rattle.swi_slots.specs.Homes.{KnowsHomes, nowhere}
 
 pub knows_none : (homes blocks : List ℕ) (n : ℕ) → homes ≡ replicate n nowhere → KnowsHomes homes 0 blocks
 knows_none homes blocks n e = record {

@@ -1,8 +1,8 @@
 use Rattle.std.proofs.Common.{ℕ, arith, ap, subst, OnErr}
 use Rattle.swi_rom.specs.Writing.{FailedBelow}
-use Rattle.swi_fifo.specs.Homes.{TableData}
-use Rattle.swi_fifo.proofs.Clearing.{words_are, same_length, own_within, ok_gives, number_gives, cleared_call, number_call}
-use Rattle.swi_fifo.proofs.table.ChainTableLinkTable.clear.Goals as goal
+use Rattle.swi_slots.specs.Homes.{TableData}
+use Rattle.swi_slots.proofs.ClearingChains.{words_are, same_length, own_within, ok_gives, number_gives, cleared_call, number_call}
+use Rattle.swi_slots.proofs.chain_table.ChainTableLinkTable.clear.Goals as goal
 
 pub undo-requires-clause-words : goal.undo-requires-clause-words
 undo-requires-clause-words g c = omega (arith, c.requires.few, words_are c.args.self.now _ (ap (λ (t : TableData). t.chains) c.self.view_is) c.requires.long)

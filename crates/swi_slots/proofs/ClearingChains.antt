@@ -13,9 +13,9 @@ use Rattle.swi_slots.specs.Tells.{own_tells, leads_tells, none_tells}
 use Rattle.swi_links.specs.Undone.{is_own, comes_in, coming_in, is_dropped as is_gone}
 use Rattle.swi_links.specs.Gone.{Gone}
 use Rattle.swi_links.specs.Tells.{own_is, own_not, own_tells as owned, comes_tells, none_tells as neither}
-use Rattle.swi_fifo.specs.Homes.{TableData}
-use Rattle.swi_fifo.specs.Targets.{targets_of}
-use Rattle.swi_fifo.proofs.Targets.{length_targets, target_at, target_past}
+use Rattle.swi_slots.specs.Homes.{TableData}
+use Rattle.swi_slots.specs.Targets.{targets_of}
+use Rattle.swi_slots.proofs.Targets.{length_targets, target_at, target_past}
 
 -- where the words of a slot stand
 row_own : (slot size i : ℕ) → 0 < size → i / size ≡ slot → (slot * size ≤ i) × (i < slot * size + size)

@@ -1,7 +1,7 @@
 use Rattle.std.proofs.Common.{ap}
-use Rattle.swi_fifo.specs.Homes.{TableData}
-use Rattle.swi_fifo.proofs.Targets.{at_call, free_call, link_call}
-use Rattle.swi_fifo.proofs.table.ChainTableLinkTable.link.Goals as goal
+use Rattle.swi_slots.specs.Homes.{TableData}
+use Rattle.swi_slots.proofs.Targets.{at_call, free_call, link_call}
+use Rattle.swi_slots.proofs.chain_table.ChainTableLinkTable.link.Goals as goal
 
 pub link-requires-clause-at : goal.link-requires-clause-at
 link-requires-clause-at c = at_call c.args.self.now _ _ (ap (λ (t : TableData). t.chains) c.self.view_is) c.requires.at

@@ -5,8 +5,8 @@ use Rattle.std.proofs.lemmas.List.{length-set, length-replicate, get_or-set_same
 use Rattle.swi_links.specs.Chains.{ChainsData, IsFree}
 use Rattle.swi_links.specs.Holders.{holder_of}
 use Rattle.swi_links.specs.Lists.{linked_lists, linked_here, linked_other, holder_below, holder_empty}
-use Rattle.swi_fifo.specs.Homes.{TableData}
-use Rattle.swi_fifo.specs.Targets.{targets_from, targets_of}
+use Rattle.swi_slots.specs.Homes.{TableData}
+use Rattle.swi_slots.specs.Targets.{targets_from, targets_of}
 
 pub length_targets : (ls : List (List ℕ)) (i n : ℕ) → length (targets_from ls i n) ≡ n
 unfolding targets_from

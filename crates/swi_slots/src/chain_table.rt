@@ -8,14 +8,15 @@ ghost use Rattle.swi_slots.specs.Sound.{SlotsSound};
 ghost use Rattle.swi_rom.specs.Writing.{FailedBelow};
 ghost use Rattle.swi_slots.specs.Steps.{Cleared, leading_in};
 ghost use Rattle.swi_links.specs.Chains.{list_of, Has};
-ghost use Rattle.swi_fifo.specs.Chained.{LinkInto};
-ghost use Rattle.swi_fifo.specs.Homes.{nowhere};
+ghost use Rattle.swi_slots.specs.Chained.{LinkInto};
+ghost use Rattle.swi_slots.specs.Homes.{nowhere};
 
+use crate::slots::SlotRom;
+use crate::table::LinkTable;
 use std::alloc::Global;
 use std::marker::Model;
 use swi_links::{Chains, undo};
 use swi_outside::{CacheRam, Failed, Memory};
-use swi_slots::{LinkTable, SlotRom};
 
 /// The service that keeps a list of links for each slot, and a slot for each block. An eviction takes the links
 /// into the block from its slot's list, and no call but `new` takes memory.
@@ -33,7 +34,7 @@ pub struct ChainTable {
 }
 
 impl Model for ChainTable {
-    ghost use Rattle.swi_fifo.specs.Homes.{TableData};
+    ghost use Rattle.swi_slots.specs.Homes.{TableData};
 
     ghost Value = { TableData };
 
@@ -61,8 +62,8 @@ fn forget(homes: &mut Vec<u32>, blocks: &[u32], filled: u32, slot: u32)
 
 impl LinkTable for ChainTable {
     ghost use Rattle.std.specs.Prelude.{length};
-    ghost use Rattle.swi_fifo.specs.Targets.{targets_of};
-    ghost use Rattle.swi_fifo.specs.Homes.{KnowsHomes};
+    ghost use Rattle.swi_slots.specs.Targets.{targets_of};
+    ghost use Rattle.swi_slots.specs.Homes.{KnowsHomes};
 
     ghost slot_count = { λ t. length t.chains.lists };
 
