@@ -1,6 +1,6 @@
 use Rattle.std.proofs.Common.{◌≡◌, ◌==◌, ℕ, length, if◌then◌else◌}
 use Rattle.swi_slots.specs.Sound.{SlotsServe}
-use Rattle.swi_service_tests.proofs.fifo.after_all.Given as goal
+use Rattle.swi_service_tests.proofs.slots.after_all.Given as goal
 
 abbrev pub invariant-loop-program : goal.invariant-loop-program
 invariant-loop-program g l = (l.rom.programs ≡ l.row.programs)

@@ -3,7 +3,7 @@ use Rattle.swi_rom.specs.Service.{Setting}
 use Rattle.swi_slots.specs.Keys.{Images}
 use Rattle.swi_slots.specs.Slots.{Slots}
 use Rattle.swi_service_tests.proofs.TwoImages.{in_turn}
-use Rattle.swi_service_tests.proofs.fifo.after_all.Goals as goal
+use Rattle.swi_service_tests.proofs.slots.after_all.Goals as goal
 
 pub make-requires : goal.make-requires
 make-requires g c =

@@ -1,7 +1,7 @@
 use Rattle.std.proofs.Common.{◌==◌, ℕ, if◌then◌else◌, arith}
 use Rattle.swi_image.specs.Format.{ImageData}
 use Rattle.swi_service_tests.proofs.TwoImages.{both_sound, both_most, new_long}
-use Rattle.swi_service_tests.proofs.fifo.assert_stands.Goals as goal
+use Rattle.swi_service_tests.proofs.slots.assert_stands.Goals as goal
 
 pub after_all-rom-requires-clause-serves : goal.after_all-rom-requires-clause-serves
 after_all-rom-requires-clause-serves g c =
