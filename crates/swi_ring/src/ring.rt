@@ -131,14 +131,7 @@ impl RingRom {
             owners,
             chains,
             goals,
-            counts: Counts {
-                services: 0,
-                misses: 0,
-                evictions: 0,
-                links: 0,
-                unlinks: 0,
-                copied: 0,
-            },
+            counts: Counts::NONE,
             hints,
         })
     }
