@@ -3,6 +3,7 @@
 #![tactic(auto)]
 
 mod byte_log;
+mod count;
 mod fault_plan;
 mod fault_ram;
 mod folder;
@@ -15,6 +16,8 @@ mod real;
 mod shelf_call;
 mod shelf_log;
 mod vec_ram;
+mod watched;
+mod watched_folder;
 
 pub use fault_ram::FaultRam;
 pub use folder::{Folder, SystemFolder};

@@ -10,4 +10,5 @@ returns-clause-others g c = elsewhere-trans _ _ _ _ c.create.ensures.others c.cl
 
 pub returns-clause-stands : goal.returns-clause-stands
 returns-clause-stands g c =
-    stands-kept _ _ _ _ _ _ c.in_ok-file.ensures.empty (handed_whole c.in_ok-write_whole.ensures) c.in_ok-close.ensures.stands
+    let handed = handed_whole c.in_ok-write_whole.ensures.handed in
+    stands-kept _ _ _ _ _ _ c.in_ok-create.ensures.empty (rw c.new-file.ensures at handed) (rw c.into_inner.ensures at c.in_ok-close.ensures.stands)
