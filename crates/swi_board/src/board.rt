@@ -228,8 +228,9 @@ impl<R: CacheRom> Board<R> {
     /// as long as the service is sound with the image's word put back: the word that was fetched is executed, and the
     /// step goes on as over the image's. The image fits again behind either word, whatever the register holds then.
     ///
-    /// It follows each flat machine that the board matches: by a step, or by none where the word completes no
-    /// instruction. A word of the ram that changes is of a newly placed block, or a link that was made or undone.
+    /// It follows each flat machine that the board matches, on each input from which what was given may have been read:
+    /// by a step, or by none where the word completes no instruction. A word of the ram that changes is of a newly
+    /// placed block, or a link that was made or undone.
     ///
     /// After an error `failed` is true, and the hart is as it was but for that. The input or a sink fails at a system
     /// call alone: a front of the buffer of a read may be filled then, the service is as it was, and a sink to which the
@@ -289,6 +290,8 @@ impl<R: CacheRom> Board<R> {
     /// made; no device has failed; the image fits the board and the service is sound for it and the ram, as `boot`,
     /// `step` and `run` leave them; at most 2^55 machine instructions and 2^49 services are counted.
     ///
+    /// The run is that of the flat machine on each input from which what was given may have been read: what the run
+    /// leaves of it is the rest.
     /// Where the run goes on, control has come to where the flat steps lead. Which words of the ram change is said of `step`
     /// alone: along a run a block can come and leave again.
     ///
