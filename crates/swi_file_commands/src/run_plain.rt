@@ -33,12 +33,13 @@ fn run_plain<I: Source, O: Sink, E: Sink>(
     requires ranges { IsInRange options.now.limits }
     requires laid_out { IsLayoutOf prepared.now.program.segments prepared.now.layout }
     ensures gave { HasGiven (I.state input.old) (I.state input.new) }
-    ensures ran { (d : Devices) → RunsPlain options.now prepared.now.program prepared.now.layout
+    ensures ran { (d : Devices) → AsTold (I.state input.old) (I.state input.new) (λ old new. RunsPlain
+        options.now prepared.now.program prepared.now.layout
+        (record d { input = old; output = O.state out.old; error = E.state err.old })
+        (record d { input = new; output = O.state out.new; error = E.state err.new }) result) }
+    ensures ran_directly { (d : Devices) → RunsPlain options.now prepared.now.program prepared.now.layout
         (record d { input = I.state input.old; output = O.state out.old; error = E.state err.old })
         (record d { input = I.state input.new; output = O.state out.new; error = E.state err.new }) result }
-    ensures over_streams { (d : Devices) → AsTold (I.state input.old) (I.state input.new) (λ before after. RunsPlain options.now prepared.now.program prepared.now.layout
-        (record d { input = before; output = O.state out.old; error = E.state err.old })
-        (record d { input = after; output = O.state out.new; error = E.state err.new }) result) }
 {
     let Ok(mut machine) = Flat::start(
         alloc,
@@ -93,14 +94,14 @@ pub fn plain<F: Shelf, I: Source, O: Sink, E: Sink>(
     err: &mut E,
 ) -> Result<Ending, Refusal>
     requires ranges { IsInRange options.now.limits }
-    ensures answers { (d : Devices) → Answers (plain_task name.now options.now)
+    ensures gave { HasGiven (I.state input.old) (I.state input.new) }
+    ensures answers { (d : Devices) → AsTold (I.state input.old) (I.state input.new) (λ old new. Answers (plain_task name.now options.now)
+        (record d { shelf = F.state shelf.old; input = old; output = O.state out.old; error = E.state err.old })
+        (record d { shelf = F.state shelf.new; input = new; output = O.state out.new; error = E.state err.new }) result []) }
+    // Over a source that tells what is left, the same of just that.
+    ensures answers_directly { (d : Devices) → Answers (plain_task name.now options.now)
         (record d { shelf = F.state shelf.old; input = I.state input.old; output = O.state out.old; error = E.state err.old })
         (record d { shelf = F.state shelf.new; input = I.state input.new; output = O.state out.new; error = E.state err.new }) result [] }
-    // The same over an input that tells nothing: of each from which what it gave may have been read.
-    ensures gave { HasGiven (I.state input.old) (I.state input.new) }
-    ensures over_streams { (d : Devices) → AsTold (I.state input.old) (I.state input.new) (λ before after. Answers (plain_task name.now options.now)
-        (record d { shelf = F.state shelf.old; input = before; output = O.state out.old; error = E.state err.old })
-        (record d { shelf = F.state shelf.new; input = after; output = O.state out.new; error = E.state err.new }) result []) }
 {
     let file = read_file(alloc, shelf, name)?;
     let prepared = accepted(alloc, &file, options)?;

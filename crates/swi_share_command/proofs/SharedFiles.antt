@@ -109,18 +109,19 @@ files_same limits most names old new read files was (inr tells) = tells_same old
 
 -- ---- the names and the contents that were given, side by side
 
-pub as_many : {R : List ℕ → GuestFile → Type 0} (names : List (List ℕ)) (read : List GuestFile) → AllZip R names read → length (bytes_of read) ≡ length names
-as_many [] [] all = refl
-as_many [] (f ∷ fs) all = absurd all
-as_many (n ∷ ns) [] all = absurd all
-as_many (n ∷ ns) (f ∷ fs) all = ap (λ (k : ℕ). suc k) (as_many ns fs all.1)
+pub as_many : (contents : Option Contents) (names : List (List ℕ)) (read : List GuestFile) → AllZip (λ n f. Stands contents n f.bytes.items) names read →
+    length (bytes_of read) ≡ length names
+as_many contents [] [] all = refl
+as_many contents [] (f ∷ fs) all = absurd all
+as_many contents (n ∷ ns) [] all = absurd all
+as_many contents (n ∷ ns) (f ∷ fs) all = ap (λ (k : ℕ). suc k) (as_many contents ns fs all.1)
 
-zip_more : {R : List ℕ → GuestFile → Type 0} (names : List (List ℕ)) (read : List GuestFile) (more behind : List (List ℕ)) → AllZip R names read →
+zip_more : (contents : Option Contents) (names : List (List ℕ)) (read : List GuestFile) (more behind : List (List ℕ)) → AllZip (λ n f. Stands contents n f.bytes.items) names read →
     zip (names ++ more) (bytes_of read ++ behind) ≡ zip names (bytes_of read) ++ zip more behind
-zip_more [] [] more behind all = refl
-zip_more [] (f ∷ fs) more behind all = absurd all
-zip_more (n ∷ ns) [] more behind all = absurd all
-zip_more (n ∷ ns) (f ∷ fs) more behind all = ap (λ (l : Passed). (n, f.bytes.items) ∷ l) (zip_more ns fs more behind all.1)
+zip_more contents [] [] more behind all = refl
+zip_more contents [] (f ∷ fs) more behind all = absurd all
+zip_more contents (n ∷ ns) [] more behind all = absurd all
+zip_more contents (n ∷ ns) (f ∷ fs) more behind all = ap (λ (l : Passed). (n, f.bytes.items) ∷ l) (zip_more contents ns fs more behind all.1)
 
 stand_more : (contents : Option Contents) (names : List (List ℕ)) (read : List GuestFile) (more behind : List (List ℕ)) → AllZip (λ n f. Stands contents n f.bytes.items) names read →
     StandFirst contents more behind → StandFirst contents (names ++ more) (bytes_of read ++ behind)
@@ -139,9 +140,9 @@ stand_all contents (n ∷ ns) (f ∷ fs) all = (all.0, stand_all contents ns fs 
 gave_behind : (limits : RunLimits) (most : ℕ) (front more behind : List (List ℕ)) (old mid new : ShelfState) (read : List GuestFile) → FilesRead limits most front old mid read →
     length behind ≤ length more → new.got ≡ mid.got ++ zip more behind → GaveFirst (front ++ more) (bytes_of read ++ behind) old new
 gave_behind limits most front more behind old mid new read was few got = record {
-  few = let same = as_many front read was.stand in let one = length-append (bytes_of read) behind in let other = length-append front more in omega (arith, same, one, other, few);
+  few = let same = as_many old.contents front read was.stand in let one = length-append (bytes_of read) behind in let other = length-append front more in omega (arith, same, one, other, few);
   got = got ∙ ap (λ (l : Passed). l ++ zip more behind) was.gave.got ∙ append_assoc old.got (zip front (bytes_of read)) (zip more behind)
-      ∙ ap (λ (l : Passed). old.got ++ l) (sym (zip_more front read more behind was.stand));
+      ∙ ap (λ (l : Passed). old.got ++ l) (sym (zip_more old.contents front read more behind was.stand));
 }
 
 -- ---- one file more
@@ -265,7 +266,7 @@ last_read limits most front rest name old mid new read bytes was h = record {
 }
 
 but_one : (limits : RunLimits) (most : ℕ) (front : List (List ℕ)) (old mid : ShelfState) (read : List GuestFile) → FilesRead limits most front old mid read → length front + 1 ≡ length (bytes_of read) + 1
-but_one limits most front old mid read was = ap (λ (k : ℕ). k + 1) (sym (as_many front read was.stand))
+but_one limits most front old mid read was = ap (λ (k : ℕ). k + 1) (sym (as_many old.contents front read was.stand))
 
 with_one : (limits : RunLimits) (most : ℕ) (front : List (List ℕ)) (old mid : ShelfState) (read : List GuestFile) (bytes : List ℕ) → FilesRead limits most front old mid read →
     length front + 1 ≡ length (bytes_of read ++ bytes ∷ [])
@@ -326,9 +327,11 @@ file_unread limits most front rest name old mid new read r was h = by h.answer h
         let quiet = got.cause.quiet (λ x. let never : ⊥ = cc in never) in
         inr (subst (λ (x : Refusal). FilesRefused limits most (front ++ name ∷ rest) old new x) (sym e)
         (file_refused limits most front rest name old mid new read (bytes_of read) (refusal.FileLong file_limit) was got.same got.asked quiet.0 quiet.1 tt
-        (first_read limits most front (name ∷ rest) old mid new read was got.gave got.none_stored)
-        (but_one limits most front old mid read was, λ files told. refused_at limits most old.contents (refusal.FileLong file_limit) front read name rest files was.stand was.accepted told
-        (λ file tells. inl (too_long old.contents name file (longer_before old.contents mid.contents name (was.got.same name) (got.long refl)) tells)))))
+        (first_read limits most front (name ∷ rest) old mid new read was got.gave got.none_stored) (
+          but_one limits most front old mid read was,
+          λ files told. refused_at limits most old.contents (refusal.FileLong file_limit) front read name rest files was.stand was.accepted told
+              (λ file tells. inl (too_long old.contents name file (longer_before old.contents mid.contents name (was.got.same name) (got.long refl)) tells)),
+        )))
     by (Err error.Memory) got same =
         let e : r ≡ refusal.Memory = cc in
         let quiet = got.cause.quiet (λ x. let never : ⊥ = cc in never) in

@@ -245,7 +245,7 @@ guests_unmade names cache o d s read r size h e = subst (λ (x : Refusal). Answe
     (none_long (share_task names cache o) d.shelf.contents refusal.Memory (λ x. x))
     (let none : length names ≡ length names + 0 = omega arith in subst (λ (k : ℕ). s.calls ≡ risen d.shelf.calls k) none h.got.calls)
     (omega arith, omega arith, λ _. refl)
-    (passed_all names cache o d.shelf s read (Err refusal.Memory) h (let same = as_many names read h.stand in (omega (arith, same), omega (arith, same)))))
+    (passed_all names cache o d.shelf s read (Err refusal.Memory) h (let same = as_many d.shelf.contents names read h.stand in (omega (arith, same), omega (arith, same)))))
 
 -- the most words of a block, as the programs have them
 pub most_is : (limits : RunLimits) (most : ℕ) (files : List (List ℕ)) (guests : List Guest) → AllZip (IsGuestOf limits most) files guests → most_words guests ≡ most_block most files
@@ -271,7 +271,7 @@ cache_small names cache o d s read guests r size h made fails =
     (none_long (share_task names cache o) d.shelf.contents r (λ long. subst IsTooLong fails.1 long))
     (let none : length names ≡ length names + 0 = omega arith in subst (λ (k : ℕ). s.calls ≡ risen d.shelf.calls k) none h.got.calls)
     (subst (λ (x : Refusal). IsAskedFor (length names) 0 s.last_failed (Err x) (length names) 0) (sym fails.1) (refl, refl))
-    (passed_all names cache o d.shelf s read (Err r) h (subst (λ (x : Refusal). AreGiven s.last_failed (Err x) (length names) (length (bytes_of read))) (sym fails.1) (sym (as_many names read h.stand))))
+    (passed_all names cache o d.shelf s read (Err r) h (subst (λ (x : Refusal). AreGiven s.last_failed (Err x) (length names) (length (bytes_of read))) (sym fails.1) (sym (as_many d.shelf.contents names read h.stand))))
 
 -- ---- the run
 
@@ -358,7 +358,7 @@ shared_answers names cache o d s out e ram read guests (Ok x) size h made holds 
       done = λ files are. (guests, (passes_all names cache o d.shelf s read guests files h are made holds).1, shares_again o cache.cache_bytes guests d m s x run.done);
       failed = tt;
       refused = tt;
-      shelf = keeps_files (share_task names cache o) d.shelf s (length names) (Ok x) h.got (refl, refl) (passed_all names cache o d.shelf s read (Ok x) h (sym (as_many names read h.stand))) (λ y. let never : ⊥ = cc in never);
+      shelf = keeps_files (share_task names cache o) d.shelf s (length names) (Ok x) h.got (refl, refl) (passed_all names cache o d.shelf s read (Ok x) h (sym (as_many d.shelf.contents names read h.stand))) (λ y. let never : ⊥ = cc in never);
       input = refl;
       ram = run.beyond;
       causes = causes_behind d s m (Ok x) h.got.faults run.causes;
@@ -377,7 +377,7 @@ shared_answers names cache o d s out e ram read guests (Err r) size h made holds
         subst (λ (y : SinkState). Appends d.error.held y.held []) (sym (ap (λ (y : Devices). y.error) same_all)) (Appends-none d.error.held),
       );
       shelf = keeps_files (share_task names cache o) d.shelf s (length names) (Err r) h.got (err_asked (length names) s.last_failed r run.refused)
-          (passed_all names cache o d.shelf s read (Err r) h (err_given s.last_failed (length names) (length (bytes_of read)) r run.refused (sym (as_many names read h.stand)))) (err_not r refusal.ShelfFault run.refused (λ x. x));
+          (passed_all names cache o d.shelf s read (Err r) h (err_given s.last_failed (length names) (length (bytes_of read)) r run.refused (sym (as_many d.shelf.contents names read h.stand)))) (err_not r refusal.ShelfFault run.refused (λ x. x));
       input = refl;
       ram = run.beyond;
       causes = causes_behind d s m (Err r) h.got.faults run.causes;

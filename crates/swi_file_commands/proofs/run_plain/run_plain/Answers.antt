@@ -15,20 +15,20 @@ use Rattle.swi_file_commands.proofs.run_plain.run_plain.Goals as goal
 pub returns-in_default-clause-gave : goal.returns-in_default-clause-gave
 returns-in_default-clause-gave g c = given_still _
 
-pub returns-in_default-clause-ran : goal.returns-in_default-clause-ran
-returns-in_default-clause-ran g c = λ d.
+pub returns-in_default-clause-ran_directly : goal.returns-in_default-clause-ran_directly
+returns-in_default-clause-ran_directly g c = λ d.
     no_memory c.args.options.now c.args.prepared.now.program c.args.prepared.now.layout _
 
-pub returns-in_default-clause-over_streams : goal.returns-in_default-clause-over_streams
-returns-in_default-clause-over_streams g c = λ d input rest read.
+pub returns-in_default-clause-ran : goal.returns-in_default-clause-ran
+returns-in_default-clause-ran g c = λ d input rest read.
     let before : Devices = record d { input = told_as (g.I.Source.state c.args.input.now) input; output = g.O.Sink.state c.args.out.now; error = g.E.Sink.state c.args.err.now } in
     subst (λ (l : List ℕ). RunsPlain c.args.options.now c.args.prepared.now.program c.args.prepared.now.layout before (record before { input = told_as (g.I.Source.state c.args.input.now) l }) (Err refusal.Memory)) (sym (rest_is read)) (no_memory c.args.options.now c.args.prepared.now.program c.args.prepared.now.layout before)
 
 pub returns-in-Err-SourceFault-clause-gave : goal.returns-in-Err-SourceFault-clause-gave
 returns-in-Err-SourceFault-clause-gave g c = c.in-Err-SourceFault.ensures.gave
 
-pub returns-in-Err-SourceFault-clause-ran : goal.returns-in-Err-SourceFault-clause-ran
-returns-in-Err-SourceFault-clause-ran g c = λ d.
+pub returns-in-Err-SourceFault-clause-ran_directly : goal.returns-in-Err-SourceFault-clause-ran_directly
+returns-in-Err-SourceFault-clause-ran_directly g c = λ d.
     let before : Devices = record d { input = g.I.Source.state c.args.input.now; output = g.O.Sink.state c.args.out.now; error = g.E.Sink.state c.args.err.now } in
     let from : streams.Devices = record { input = g.I.Source.state c.args.input.now; output = g.O.Sink.state c.args.out.now; error = g.E.Sink.state c.args.err.now } in
     let to : streams.Devices = record { input = g.I.Source.state c.run.new.input; output = g.O.Sink.state c.run.new.out; error = g.E.Sink.state c.run.new.err } in
@@ -38,8 +38,8 @@ returns-in-Err-SourceFault-clause-ran g c = λ d.
     (run_failed c.in-Err-SourceFault.field-0 c.args.options.now c.args.prepared.now.program c.args.prepared.now.layout c.in-Ok.machine c.run.new.self before (g.I.Source.state c.run.new.input) (g.O.Sink.state c.run.new.out) (g.E.Sink.state c.run.new.err)
     c.in-Ok.ensures.machine (ran_told c.in-Ok.machine.machine c.args.options.now.limits.steps c.run.new.self from to _ e))
 
-pub returns-in-Err-SourceFault-clause-over_streams : goal.returns-in-Err-SourceFault-clause-over_streams
-returns-in-Err-SourceFault-clause-over_streams g c = λ d input rest read.
+pub returns-in-Err-SourceFault-clause-ran : goal.returns-in-Err-SourceFault-clause-ran
+returns-in-Err-SourceFault-clause-ran g c = λ d input rest read.
     let before : Devices = record d { input = told_as (g.I.Source.state c.args.input.now) input; output = g.O.Sink.state c.args.out.now; error = g.E.Sink.state c.args.err.now } in
     let from : streams.Devices = record { input = g.I.Source.state c.args.input.now; output = g.O.Sink.state c.args.out.now; error = g.E.Sink.state c.args.err.now } in
     let to : streams.Devices = record { input = g.I.Source.state c.run.new.input; output = g.O.Sink.state c.run.new.out; error = g.E.Sink.state c.run.new.err } in
@@ -52,8 +52,8 @@ returns-in-Err-SourceFault-clause-over_streams g c = λ d input rest read.
 pub returns-in-Err-SinkFault-clause-gave : goal.returns-in-Err-SinkFault-clause-gave
 returns-in-Err-SinkFault-clause-gave g c = c.in-Err-SinkFault.ensures.gave
 
-pub returns-in-Err-SinkFault-clause-ran : goal.returns-in-Err-SinkFault-clause-ran
-returns-in-Err-SinkFault-clause-ran g c = λ d.
+pub returns-in-Err-SinkFault-clause-ran_directly : goal.returns-in-Err-SinkFault-clause-ran_directly
+returns-in-Err-SinkFault-clause-ran_directly g c = λ d.
     let before : Devices = record d { input = g.I.Source.state c.args.input.now; output = g.O.Sink.state c.args.out.now; error = g.E.Sink.state c.args.err.now } in
     let from : streams.Devices = record { input = g.I.Source.state c.args.input.now; output = g.O.Sink.state c.args.out.now; error = g.E.Sink.state c.args.err.now } in
     let to : streams.Devices = record { input = g.I.Source.state c.run.new.input; output = g.O.Sink.state c.run.new.out; error = g.E.Sink.state c.run.new.err } in
@@ -63,8 +63,8 @@ returns-in-Err-SinkFault-clause-ran g c = λ d.
     (run_failed c.in-Err-SinkFault.field-0 c.args.options.now c.args.prepared.now.program c.args.prepared.now.layout c.in-Ok.machine c.run.new.self before (g.I.Source.state c.run.new.input) (g.O.Sink.state c.run.new.out) (g.E.Sink.state c.run.new.err)
     c.in-Ok.ensures.machine (ran_told c.in-Ok.machine.machine c.args.options.now.limits.steps c.run.new.self from to _ e))
 
-pub returns-in-Err-SinkFault-clause-over_streams : goal.returns-in-Err-SinkFault-clause-over_streams
-returns-in-Err-SinkFault-clause-over_streams g c = λ d input rest read.
+pub returns-in-Err-SinkFault-clause-ran : goal.returns-in-Err-SinkFault-clause-ran
+returns-in-Err-SinkFault-clause-ran g c = λ d input rest read.
     let before : Devices = record d { input = told_as (g.I.Source.state c.args.input.now) input; output = g.O.Sink.state c.args.out.now; error = g.E.Sink.state c.args.err.now } in
     let from : streams.Devices = record { input = g.I.Source.state c.args.input.now; output = g.O.Sink.state c.args.out.now; error = g.E.Sink.state c.args.err.now } in
     let to : streams.Devices = record { input = g.I.Source.state c.run.new.input; output = g.O.Sink.state c.run.new.out; error = g.E.Sink.state c.run.new.err } in
@@ -77,8 +77,8 @@ returns-in-Err-SinkFault-clause-over_streams g c = λ d input rest read.
 pub returns-in-Ok-write_report-clause-gave : goal.returns-in-Ok-write_report-clause-gave
 returns-in-Ok-write_report-clause-gave g c = c.in-Ok-run.ensures.gave
 
-pub returns-in-Ok-write_report-clause-ran : goal.returns-in-Ok-write_report-clause-ran
-returns-in-Ok-write_report-clause-ran g c = λ d.
+pub returns-in-Ok-write_report-clause-ran_directly : goal.returns-in-Ok-write_report-clause-ran_directly
+returns-in-Ok-write_report-clause-ran_directly g c = λ d.
     let before : Devices = record d { input = g.I.Source.state c.args.input.now; output = g.O.Sink.state c.args.out.now; error = g.E.Sink.state c.args.err.now } in
     let from : streams.Devices = record { input = g.I.Source.state c.args.input.now; output = g.O.Sink.state c.args.out.now; error = g.E.Sink.state c.args.err.now } in
     let to : streams.Devices = record { input = g.I.Source.state c.run.new.input; output = g.O.Sink.state c.run.new.out; error = g.E.Sink.state c.run.new.err } in
@@ -90,8 +90,8 @@ returns-in-Ok-write_report-clause-ran g c = λ d.
     run_done c.args.options.now c.args.prepared.now.program c.args.prepared.now.layout c.in-Ok.machine c.run.new.self before (g.I.Source.state c.run.new.input) (g.O.Sink.state c.run.new.out) (g.O.Sink.state c.write_report.new.out) (g.E.Sink.state c.run.new.err) _
     c.in-Ok.ensures.machine (ran_told c.in-Ok.machine.machine c.args.options.now.limits.steps c.run.new.self from to _ e) ends written c.in-Ok-write_report.ensures.cause.quiet
 
-pub returns-in-Ok-write_report-clause-over_streams : goal.returns-in-Ok-write_report-clause-over_streams
-returns-in-Ok-write_report-clause-over_streams g c = λ d input rest read.
+pub returns-in-Ok-write_report-clause-ran : goal.returns-in-Ok-write_report-clause-ran
+returns-in-Ok-write_report-clause-ran g c = λ d input rest read.
     let before : Devices = record d { input = told_as (g.I.Source.state c.args.input.now) input; output = g.O.Sink.state c.args.out.now; error = g.E.Sink.state c.args.err.now } in
     let from : streams.Devices = record { input = g.I.Source.state c.args.input.now; output = g.O.Sink.state c.args.out.now; error = g.E.Sink.state c.args.err.now } in
     let to : streams.Devices = record { input = g.I.Source.state c.run.new.input; output = g.O.Sink.state c.run.new.out; error = g.E.Sink.state c.run.new.err } in
@@ -106,8 +106,8 @@ returns-in-Ok-write_report-clause-over_streams g c = λ d input rest read.
 pub returns-clause-gave : goal.returns-clause-gave
 returns-clause-gave g c = c.in-Ok-run.ensures.gave
 
-pub returns-clause-ran : goal.returns-clause-ran
-returns-clause-ran g c = λ d.
+pub returns-clause-ran_directly : goal.returns-clause-ran_directly
+returns-clause-ran_directly g c = λ d.
     let before : Devices = record d { input = g.I.Source.state c.args.input.now; output = g.O.Sink.state c.args.out.now; error = g.E.Sink.state c.args.err.now } in
     let from : streams.Devices = record { input = g.I.Source.state c.args.input.now; output = g.O.Sink.state c.args.out.now; error = g.E.Sink.state c.args.err.now } in
     let to : streams.Devices = record { input = g.I.Source.state c.run.new.input; output = g.O.Sink.state c.run.new.out; error = g.E.Sink.state c.run.new.err } in
@@ -117,8 +117,8 @@ returns-clause-ran g c = λ d.
     report_failed c.args.options.now c.args.prepared.now.program c.args.prepared.now.layout c.in-Ok.machine c.run.new.self before (g.I.Source.state c.run.new.input) (g.O.Sink.state c.run.new.out) (g.O.Sink.state c.write_report.new.out) (g.E.Sink.state c.run.new.err)
     c.in-Ok.ensures.machine (ran_told c.in-Ok.machine.machine c.args.options.now.limits.steps c.run.new.self from to _ e) part due c.in-Err.ensures.cause.later c.in-Err.ensures.cause.failed
 
-pub returns-clause-over_streams : goal.returns-clause-over_streams
-returns-clause-over_streams g c = λ d input rest read.
+pub returns-clause-ran : goal.returns-clause-ran
+returns-clause-ran g c = λ d input rest read.
     let before : Devices = record d { input = told_as (g.I.Source.state c.args.input.now) input; output = g.O.Sink.state c.args.out.now; error = g.E.Sink.state c.args.err.now } in
     let from : streams.Devices = record { input = g.I.Source.state c.args.input.now; output = g.O.Sink.state c.args.out.now; error = g.E.Sink.state c.args.err.now } in
     let to : streams.Devices = record { input = g.I.Source.state c.run.new.input; output = g.O.Sink.state c.run.new.out; error = g.E.Sink.state c.run.new.err } in

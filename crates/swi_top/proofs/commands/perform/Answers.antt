@@ -10,7 +10,7 @@ returns-in-Rewrite g c =
 pub returns-in-Plain : goal.returns-in-Plain
 returns-in-Plain g c =
     let before : Devices = seen (g.F.Shelf.state c.args.shelf.now) (g.I.Source.state c.args.input.now) (g.O.Sink.state c.args.out.now) (g.E.Sink.state c.args.err.now) (g.R.CacheRam.state c.args.ram.now) in
-    let answers = rw c.as_str-in-Plain.ensures.value at (c.plain.ensures before) in
+    let answers = rw c.as_str-in-Plain.ensures.value at (c.plain.ensures.answers_directly before) in
     rw c.in-Plain.is answers
 
 pub returns-in-Listing : goal.returns-in-Listing
