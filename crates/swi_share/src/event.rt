@@ -17,12 +17,12 @@ ghost use Rattle.swi_share.specs.Event.{Boarded, HartEvent, context};
 
 use crate::input::Input;
 use swi_board::Board;
-use swi_slots::FifoRom;
 use swi_hart::{BoardFault, Hart};
 use swi_image::ImageView;
 use swi_micro::MicroRam;
 use swi_outside::{CacheRam, Failed, Sink};
 use swi_rom::CacheRom;
+use swi_slots::FifoRom;
 
 /// Whether the service shows the hart's place at the index under its control: then its block still stands there. A hart
 /// at an address where no text word stands asks for none.
