@@ -252,6 +252,10 @@ sink_failed {T} o cache v p l d i out e ram kept words broke h = record {
   causes = stop_causes {T = T} (stop.Fault board.SinkFault) d (ran_all d i out e ram) refl h;
 }
 
+-- there was no memory for it
+pub none_run : (o : RunOptions) (cache : Cache) (v : ImageData) (p : ProgramData) (l : Layout) (d : Devices) → RunsOver o cache v p l d d (Err refusal.Memory)
+none_run o cache v p l d = memory_after o cache v p l d d.input d.output d.error d.ram (refl, refl, refl, refl)
+
 -- it stopped before its end
 pub run_stopped : {T : Type 0} {o : RunOptions} {cache : Cache} {v : ImageData} {p : ProgramData} {l : Layout} {d : Devices} {i : SourceState} {out e : SinkState} {ram : RamState}
     (f : CachedStop) (r : Refusal) → r ≡ refusal_of f → KeepsBeyond cache.span d.ram ram →
