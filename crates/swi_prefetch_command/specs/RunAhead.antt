@@ -65,7 +65,6 @@ ahead_work s = record {
   machine = s.count;
   fetches = length s.words;
   writes = min (writes s.kept + engine_words s.kept) (2 ^ 64 - 1);
-  takes_input = true;
   counts = s.kept.counts;
 }
 
@@ -174,6 +173,7 @@ ahead_task name cache o rate = record {
   Files = List ℕ;
   contents = λ file. file ∷ [];
   writes = None;
+  takes_input = true;
   cache = Some cache.cache_bytes;
   checks = cached_checks o.limits cache;
   ends = λ e. ⊤;
