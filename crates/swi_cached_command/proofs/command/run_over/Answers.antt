@@ -7,14 +7,14 @@ pub returns-in_err-ended : goal.returns-in_err-ended
 returns-in_err-ended g c =
     let p = err_from_is_err_and c.from_residual.result c.from_residual.ensures.1 in
     let stopped = handed_on _ _ c.in_err-ended.ensures.cases in
-    let e = c.run_cached.ensures.in_steps in
+    let e = c.run_cached.ensures.in_steps_directly in
     rw (p.1, p.2) (λ d.
     run_stopped stopped.0 c.in_err-ended.field-0.0 stopped.2 e.kept (rw stopped.1 at e.fetched_at) (rw stopped.1 at e.memory) (rw stopped.1 at e.failed)
     (record { streams = rw stopped.1 at e.causes; ram_cause = rw stopped.1 at e.ram_cause }))
 
 pub returns-in_default : goal.returns-in_default
 returns-in_default g c = λ d.
-    let e = c.run_cached.ensures.in_steps in
+    let e = c.run_cached.ensures.in_steps_directly in
     let is = c.in_ok-ended.ensures.cases in
     let so = let_through _ _ _ e.ended is in
     let broke = c.in_default.ensures in
@@ -29,7 +29,7 @@ returns-in_default g c = λ d.
 
 pub returns-in-Ok-write_last : goal.returns-in-Ok-write_last
 returns-in-Ok-write_last g c = λ d.
-    let e = c.run_cached.ensures.in_steps in
+    let e = c.run_cached.ensures.in_steps_directly in
     let is = c.in_ok-ended.ensures.cases in
     let so = let_through _ _ _ e.ended is in
     let wrote = c.in-Ok.ensures in
@@ -46,7 +46,7 @@ returns-in-Ok-write_last g c = λ d.
 
 pub returns : goal.returns
 returns g c = λ d.
-    let e = c.run_cached.ensures.in_steps in
+    let e = c.run_cached.ensures.in_steps_directly in
     let is = c.in_ok-ended.ensures.cases in
     let so = let_through _ _ _ e.ended is in
     let wrote = c.in-Ok.ensures in
