@@ -22,7 +22,7 @@ returns-in-Ok-run-clause-ran g c = λ d.
     let b = c.in-Ok.ensures in
     let q = c.in-Ok-run.ensures in
     run_done c.args.asked.now c.args.image.now c.args.program.now c.args.layout.now before c.in-Ok.prefetch.board (g.R.CacheRam.state c.boot.new.ram) b.booted b.begins c.run.new.self
-    (g.I.Source.state c.run.new.input) (g.O.Sink.state c.run.new.out) (g.E.Sink.state c.run.new.err) (g.R.CacheRam.state c.run.new.ram) c.carry.ensures.word q.kept q.ran (ok_unmoved q.causes)
+    (g.I.Source.state c.run.new.input) (g.O.Sink.state c.run.new.out) (g.E.Sink.state c.run.new.err) (g.R.CacheRam.state c.run.new.ram) c.carry.ensures.word q.kept q.ran_directly (ok_unmoved q.causes)
     (same_count q.ram_cause (λ x. let bad : ⊥ = cc in bad))
 
 pub returns-in-Err-clause-ran : goal.returns-in-Err-clause-ran
@@ -32,4 +32,4 @@ returns-in-Err-clause-ran g c = λ d.
     let q = c.in-Err.ensures in
     rw c.refusal_of.ensures
     (run_failed c.args.asked.now c.args.image.now c.args.program.now c.args.layout.now before c.in-Ok.prefetch.board (g.R.CacheRam.state c.boot.new.ram) b.booted b.begins c.in-Err.fault c.run.new.self.board
-    (g.I.Source.state c.run.new.input) (g.O.Sink.state c.run.new.out) (g.E.Sink.state c.run.new.err) (g.R.CacheRam.state c.run.new.ram) q.kept q.broke q.causes q.ram_cause)
+    (g.I.Source.state c.run.new.input) (g.O.Sink.state c.run.new.out) (g.E.Sink.state c.run.new.err) (g.R.CacheRam.state c.run.new.ram) q.kept q.broke_directly q.causes q.ram_cause)
