@@ -599,8 +599,11 @@ run_err_given failed refusal.Memory h = (omega arith, omega arith)
 run_err_given failed _ h = absurd h
 
 pub run_err_short : (r : Refusal) → IsRunErr r → IsTooLong r → ⊥
-run_err_short (refusal.FileLong limit) h long = h
-run_err_short _ h long = long
+run_err_short refusal.SourceFault h long = long
+run_err_short refusal.SinkFault h long = long
+run_err_short refusal.RamFault h long = long
+run_err_short refusal.Memory h long = long
+run_err_short _ h long = h
 
 pub run_err_checked : (checks : List Check) (last : Option Asked) (r : Refusal) → IsRunErr r → IsAccepted checks → IsChecked checks last (Err r)
 run_err_checked checks last refusal.SourceFault h passed = passed
