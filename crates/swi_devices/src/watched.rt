@@ -8,7 +8,7 @@ use std::io::{Read, Write};
 use swi_outside::Failed;
 
 /// A reader or a writer, and how often it was asked and failed. It is all that an adapter holds of the two, so that no call
-/// of theirs goes uncounted.
+/// of theirs goes uncounted: std's contracts count none. Of the built program `tools/check_streams` tests it.
 #[derive(Drop)]
 pub struct Watched<T> {
     device: T,
