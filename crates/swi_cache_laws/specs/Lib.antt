@@ -1,0 +1,5 @@
+pub mod Transfers
+pub mod Paging
+pub mod Writes
+pub mod Room
+pub mod Example
