@@ -10,7 +10,7 @@ ghost use Rattle.swi_cached.specs.Cached.{IsFresh};
 ghost use Rattle.swi_cached.specs.Slotted.{slot_setting, slotted};
 
 use std::alloc::Global;
-use swi_fifo::FifoRom;
+use swi_slots::FifoRom;
 use swi_image::ImageView;
 use swi_outside::Memory;
 

@@ -17,7 +17,7 @@ ghost use Rattle.swi_share.specs.Event.{Boarded, HartEvent, context};
 
 use crate::input::Input;
 use swi_board::Board;
-use swi_fifo::FifoRom;
+use swi_slots::FifoRom;
 use swi_hart::{BoardFault, Hart};
 use swi_image::ImageView;
 use swi_micro::MicroRam;

@@ -10,7 +10,7 @@ use crate::event::make_event;
 use crate::process::{Guest, Process, most_words, start_all};
 use std::alloc::Global;
 use std::marker::Model;
-use swi_fifo::FifoRom;
+use swi_slots::FifoRom;
 use swi_hart::{BoardFault, Hart};
 use swi_micro::MicroRam;
 use swi_outside::{Memory, Sink};

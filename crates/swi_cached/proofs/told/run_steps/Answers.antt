@@ -26,13 +26,13 @@ loop-telling-preserved g c =
     let more : c.loop-telling.board.hart.machine.steps < c.args.limit = omega (arith, c.loop-telling-test.true, c.steps.ensures) in
     let running : c.loop-telling.board.hart.machine.ending ≡ None = sym c.ending.ensures ∙ c.in-None.is in
     rw c.in-Ok.ensures.count (told_more c.requires.first (g.E.Sink.state c.tell.new.err) c.loop-telling.invariant g.met.S.CacheRom.laws more running c.in-Ok.ensures.word c.in-Ok.ensures.cause.quiet
-    (record { wrote = c.in-Ok.ensures.line; noted = c.in-Ok.ensures.noted; rests = λ is. (let same = c.in-Ok.ensures.told is in (same.0, ap (λ (l : List ℕ). Some l) same.1)) }) refl c.in_ok-step.ensures.stepped)
+    (record { wrote = c.in-Ok.ensures.line; noted = c.in-Ok.ensures.noted; rests = λ is. (let same = c.in-Ok.ensures.told is in (same.0, ap (λ (l : List ℕ). Some l) same.1)) }) refl c.in_ok-step.ensures.stepped_directly)
 
 pub loop-telling-smaller : goal.loop-telling-smaller
 loop-telling-smaller g c =
     let more : c.loop-telling.board.hart.machine.steps < c.args.limit = omega (arith, c.loop-telling-test.true, c.steps.ensures) in
     let running : c.loop-telling.board.hart.machine.ending ≡ None = sym c.ending.ensures ∙ c.in-None.is in
-    falls more running (c.in_ok-step.ensures.stepped.grown c.loop-telling.invariant.stays.sound)
+    falls more running (c.in_ok-step.ensures.stepped_directly.grown c.loop-telling.invariant.stays.sound)
 
 pub returns-in_err-step : goal.returns-in_err-step
 returns-in_err-step g c =
@@ -40,7 +40,7 @@ returns-in_err-step g c =
     let more : c.loop-telling.board.hart.machine.steps < c.args.limit = omega (arith, c.loop-telling-test.true, c.steps.ensures) in
     let running : c.loop-telling.board.hart.machine.ending ≡ None = sym c.ending.ensures ∙ c.in-None.is in
     rw (p.1, p.2) (told_broken c.requires.first {history' = Some c.tell.new.history} (g.E.Sink.state c.tell.new.err) c.loop-telling.invariant more running c.in-Ok.ensures.word c.in-Ok.ensures.cause.quiet
-    (record { wrote = c.in-Ok.ensures.line; noted = c.in-Ok.ensures.noted; rests = λ is. (let same = c.in-Ok.ensures.told is in (same.0, ap (λ (l : List ℕ). Some l) same.1)) }) c.in_err-step.ensures.stepped)
+    (record { wrote = c.in-Ok.ensures.line; noted = c.in-Ok.ensures.noted; rests = λ is. (let same = c.in-Ok.ensures.told is in (same.0, ap (λ (l : List ℕ). Some l) same.1)) }) c.in_err-step.ensures.stepped_directly)
 
 pub returns-in-Err : goal.returns-in-Err
 returns-in-Err g c =
@@ -60,9 +60,9 @@ returns g c =
     told_ended c.requires.first c.loop-telling.invariant (inl least)
 
 pub returns-in_default : goal.returns-in_default
-returns-in_default g c = quiet_ended c.requires.first c.args.telling (nothing_told c.args.telling (sym c.in_default.is ∙ c.requires.empty)) c.in_ok-run.ensures
+returns-in_default g c = quiet_ended c.requires.first c.args.telling (nothing_told c.args.telling (sym c.in_default.is ∙ c.requires.empty)) c.in_ok-run.ensures.ran_directly
 
 pub returns-in_err-run : goal.returns-in_err-run
 returns-in_err-run g c =
     let p = err_from_is_err_and c.from_residual.result c.from_residual.ensures.1 in
-    rw (p.1, p.2) (quiet_broken c.requires.first c.args.telling (nothing_told c.args.telling (sym c.in_default.is ∙ c.requires.empty)) c.in_err-run.ensures)
+    rw (p.1, p.2) (quiet_broken c.requires.first c.args.telling (nothing_told c.args.telling (sym c.in_default.is ∙ c.requires.empty)) c.in_err-run.ensures.ran_directly)

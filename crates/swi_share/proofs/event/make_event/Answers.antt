@@ -31,7 +31,7 @@ returns-in-Ok-run g c =
     let after : EventDevices = record { ram = g.M.CacheRam.state c.run.new.ram; left = c.run.new.input; out = g.O.Sink.state c.run.new.out; err = g.E.Sink.state c.run.new.err } in
     let entry : Entry c.args.image.now old c.in-Ok.board before.ram mid = record { waited = c.requires.waits; going = c.requires.running; boarded = b.boarded; setting = b.setting; ram = b.ram; unused = b.unused; keeps = b.keeps } in
     rw (c.part.ensures.hart, c.part.ensures.rom)
-    (hart_made c.args.image.now old c.in-Ok.board before mid entry _ (ap (λ (k : ℕ). k + 1) c.steps-n.ensures) c.run.new.self after c.run.result c.run.ensures c.in-Ok-run.is)
+    (hart_made c.args.image.now old c.in-Ok.board before mid entry _ (ap (λ (k : ℕ). k + 1) c.steps-n.ensures) c.run.new.self after c.run.result c.run.ensures.ran_directly c.in-Ok-run.is)
 
 pub returns-in-Err-run : goal.returns-in-Err-run
 returns-in-Err-run g c =
@@ -41,4 +41,4 @@ returns-in-Err-run g c =
     let before : EventDevices = record { ram = g.M.CacheRam.state c.args.ram.now; left = c.args.input.now; out = g.O.Sink.state c.args.out.now; err = g.E.Sink.state c.args.err.now } in
     let after : EventDevices = record { ram = g.M.CacheRam.state c.run.new.ram; left = c.run.new.input; out = g.O.Sink.state c.run.new.out; err = g.E.Sink.state c.run.new.err } in
     let entry : Entry c.args.image.now old c.in-Ok.board before.ram mid = record { waited = c.requires.waits; going = c.requires.running; boarded = b.boarded; setting = b.setting; ram = b.ram; unused = b.unused; keeps = b.keeps } in
-    hart_broke c.args.image.now old c.in-Ok.board before mid entry _ (ap (λ (k : ℕ). k + 1) c.steps-n.ensures) c.run.new.self after c.run.result c.in-Err-run.fault c.run.ensures c.in-Err-run.is
+    hart_broke c.args.image.now old c.in-Ok.board before mid entry _ (ap (λ (k : ℕ). k + 1) c.steps-n.ensures) c.run.new.self after c.run.result c.in-Err-run.fault c.run.ensures.ran_directly c.in-Err-run.is
