@@ -10,3 +10,6 @@ pub mod Keeping
 pub mod Roomy
 pub mod Seating
 pub mod Computed
+pub mod Exiting
+pub mod Along
+pub mod Costing

@@ -3,3 +3,4 @@ pub mod Paging
 pub mod Writes
 pub mod Room
 pub mod Example
+pub mod Runs

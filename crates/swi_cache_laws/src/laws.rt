@@ -8,6 +8,7 @@ ghost use Rattle.swi_slots.specs.Service.{slots_service};
 ghost use Rattle.swi_cache_laws.specs.Example.{HasAll, MissesAll};
 ghost use Rattle.swi_cache_laws.specs.Paging.{MissesFew};
 ghost use Rattle.swi_cache_laws.specs.Room.{RoomInRing, RoomInSlots};
+ghost use Rattle.swi_cache_laws.specs.Runs.{AreOfRuns, StepsCostFew, StepsWriteFew};
 ghost use Rattle.swi_cache_laws.specs.Writes.{WritesFew, WritesOnce};
 
 /// A law of first in, first out over slots, for who reads it; it does nothing.
@@ -38,4 +39,15 @@ pub fn laws_of_writes()
     ensures ring_once { WritesOnce ring_service }
     ensures slots_few { WritesFew fifo }
     ensures ring_few { WritesFew ring }
+{}
+
+/// Laws of the transfers that a program's run makes, for who reads them; it does nothing.
+///
+/// They are such as the laws above speak of, so that these hold of a run, by `record_after` of a cached run. And a step costs
+/// few machine instructions and services.
+pub fn laws_of_programs()
+    ensures are { AreOfRuns }
+    ensures cost { StepsCostFew }
+    ensures slots_write { StepsWriteFew fifo }
+    ensures ring_writes { StepsWriteFew ring }
 {}

@@ -3,4 +3,4 @@
 
 mod laws;
 
-pub use laws::{laws_of_paging, laws_of_room, laws_of_writes};
+pub use laws::{laws_of_paging, laws_of_programs, laws_of_room, laws_of_writes};
