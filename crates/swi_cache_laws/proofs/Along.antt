@@ -1,19 +1,19 @@
 -- All transfers of a run, step by step.
-use Rattle.std.proofs.Common.{◌≡◌, ◌⊎◌, ◌==◌, if◌then◌else◌, ℕ, suc, zero, ◌+◌, ◌*◌, ◌≤◌, Bool, true, false, not, ◌&&◌, Option, Some, None, is_some, List, [], ◌∷◌, ◌++◌, length, arith, refl, sym, ◌∙◌, ap, subst, inl, inr}
+use Rattle.std.proofs.Common.{◌≡◌, ◌==◌, if◌then◌else◌, ℕ, suc, zero, ◌+◌, Bool, true, false, not, ◌&&◌, Option, Some, None, is_some, List, [], ◌∷◌, ◌++◌, length, refl, sym, ◌∙◌, ap, subst, inl, inr}
 use Rattle.std.proofs.lemmas.Bool.{false≢true, both_ways, and_parts, eqb-true}
 use Rattle.swi_isa.specs.declared.instr.Instr.{Instr}
 use Rattle.swi_isa.specs.Decode.{decoded}
 use Rattle.swi_memory.specs.Bus.{fetched}
 use Rattle.swi_calls.specs.declared.end.End.{End}
 use Rattle.swi_calls.specs.declared.machine.Machine.{Machine}
-use Rattle.swi_calls.specs.Flat.{Made, made, with_word, started}
+use Rattle.swi_calls.specs.Flat.{made, with_word, started}
 use Rattle.swi_calls.specs.Held.{held, held_made, held_step}
 use Rattle.swi_calls.specs.State.{FlatState}
 use Rattle.swi_calls.specs.StoresText.{next_store}
 use Rattle.swi_image.specs.Format.{ImageData}
-use Rattle.swi_image.specs.Place.{place_of, word_at}
-use Rattle.swi_render.specs.Rendering.{Slot, rendering_of}
-use Rattle.swi_render.specs.Carried.{Carries, GoesOn, FallAt}
+use Rattle.swi_image.specs.Place.{place_of}
+use Rattle.swi_render.specs.Rendering.{Slot}
+use Rattle.swi_render.specs.Carried.{Carries, GoesOn}
 use Rattle.swi_rom.specs.Record.{Transfer, Has, direct}
 use Rattle.swi_hart.specs.Hart.{original, slots, is_place}
 use Rattle.swi_hart.specs.declared.hart.Control.TheVariants.{Outside}

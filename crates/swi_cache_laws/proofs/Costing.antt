@@ -1,5 +1,5 @@
 -- What one step costs at most, and what n steps write.
-use Rattle.std.proofs.Common.{◌≡◌, if◌then◌else◌, ℕ, suc, zero, ◌+◌, ◌*◌, ◌%◌, ◌^◌, ◌≤◌, ◌==◌, Bool, true, false, Option, Some, None, is_some, List, [], ◌∷◌, length, arith, refl, sym, ◌∙◌, ap}
+use Rattle.std.proofs.Common.{if◌then◌else◌, ℕ, ◌+◌, ◌*◌, ◌%◌, ◌^◌, ◌≤◌, ◌==◌, Bool, true, false, Option, Some, None, is_some, arith}
 use Rattle.std.proofs.lemmas.Nat.{mul-le}
 use Rattle.swi_isa.specs.declared.instr.Instr.{Instr}
 use Rattle.swi_isa.specs.declared.instr.Instr.TheVariants as instr
@@ -12,13 +12,13 @@ use Rattle.swi_calls.specs.Flat.{started}
 use Rattle.swi_calls.specs.State.{FlatState}
 use Rattle.swi_image.specs.Format.{ImageData}
 use Rattle.swi_render.specs.Rendering.{jump, rendering, rendering_of}
-use Rattle.swi_hart.specs.Hart.{original, instruction, slots, slots_at, leads}
-use Rattle.swi_rom.specs.Record.{Transfer, writes}
+use Rattle.swi_hart.specs.Hart.{instruction, slots_at, leads}
+use Rattle.swi_rom.specs.Record.{writes}
 use Rattle.swi_rom.specs.Service.{Setting}
-use Rattle.swi_board.specs.Transfers.{Here, at_fall, settled, branch_words, before_last, step_size, size, cost, transfers}
+use Rattle.swi_board.specs.Transfers.{Here, at_fall, settled, before_last, step_size, size, cost}
 use Rattle.swi_board.proofs.Counting.{transfers_few}
 use Rattle.swi_cache_laws.specs.Transfers.{Policy, after_boot}
-use Rattle.swi_cache_laws.specs.Writes.{HasWritten, WritesFew}
+use Rattle.swi_cache_laws.specs.Writes.{WritesFew}
 use Rattle.swi_cache_laws.specs.Runs.{StepsCostFew, StepsWriteFew, transfers_from}
 
 one_or_none : (t : Bool) → (if t then 1 else 0) ≤ 1

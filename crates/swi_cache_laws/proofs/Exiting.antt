@@ -1,39 +1,31 @@
 -- The transfers of a run leave blocks that were entered, by exits of the image: read off the flat steps.
-use Rattle.std.proofs.Common.{◌≡◌, ◌⊎◌, ◌==◌, if◌then◌else◌, ℕ, suc, zero, ◌+◌, ◌*◌, ◌%◌, ◌≤◌, ◌<◌, Bool, true, false, not, ◌&&◌, Option, Some, None, is_some, List, [], ◌∷◌, ◌++◌, length, arith, refl, sym, ◌∙◌, ap, subst, inl, inr}
-use Rattle.std.proofs.lemmas.Bool.{false≢true, both_ways, and_parts, eqb-true}
+use Rattle.std.proofs.Common.{◌≡◌, ◌==◌, if◌then◌else◌, ℕ, ◌+◌, ◌%◌, ◌<◌, Bool, true, false, Option, Some, None, List, ◌∷◌, ◌++◌, length, arith, refl, sym, ◌∙◌, ap, subst}
+use Rattle.std.proofs.lemmas.Bool.{false≢true, eqb-true}
 use Rattle.swi_isa.specs.declared.instr.BranchOp.{BranchOp}
 use Rattle.swi_isa.specs.declared.instr.Instr.{Instr}
 use Rattle.swi_isa.specs.declared.instr.Instr.TheVariants as instr
 use Rattle.swi_isa.specs.Decode.{decoded}
 use Rattle.swi_memory.specs.Bus.{fetched}
 use Rattle.swi_exec.specs.Arithmetic.{sum_of}
-use Rattle.swi_exec.specs.Registers.{Registers, reg, with_reg}
+use Rattle.swi_exec.specs.Registers.{reg, with_reg}
 use Rattle.swi_exec.specs.Execute.{is_taken, branches}
 use Rattle.swi_calls.specs.declared.end.End.{End}
 use Rattle.swi_calls.specs.declared.machine.Machine.{Machine}
-use Rattle.swi_calls.specs.Flat.{Made, with_effect, with_word, made, started}
-use Rattle.swi_calls.specs.Held.{held, held_made, held_step}
-use Rattle.swi_calls.specs.State.{FlatState}
-use Rattle.swi_calls.specs.StoresText.{next_store}
+use Rattle.swi_calls.specs.Flat.{Made, with_effect}
+use Rattle.swi_calls.specs.Held.{held_made}
 use Rattle.swi_image.specs.Format.{ImageData}
 use Rattle.swi_image.specs.Place.{place_of, word_at, length_at}
 use Rattle.swi_render.specs.Rendering.{Slot, jump, rendering_of}
-use Rattle.swi_render.specs.Carried.{Carries, GoesOn, FallAt}
-use Rattle.swi_rom.specs.Record.{Transfer, Has, direct, indirect, target_of, ebreak}
-use Rattle.swi_rom.specs.Coherent.{IsExit}
-use Rattle.swi_hart.specs.Hart.{links, original, slots, is_place, leads}
-use Rattle.swi_hart.specs.declared.hart.Control.TheVariants.{Outside}
-use Rattle.swi_hart.proofs.Cases.{Known, known, held_is, original_is, length_is}
-use Rattle.swi_hart.proofs.Kept.{next_text, image_same}
+use Rattle.swi_render.specs.Carried.{GoesOn}
+use Rattle.swi_rom.specs.Record.{Transfer, Has, direct, ebreak}
+use Rattle.swi_hart.specs.Hart.{links, leads}
+use Rattle.swi_hart.proofs.Cases.{Known, held_is}
 use Rattle.swi_hart.proofs.Own.{is_own, whole_pc, own_made}
-use Rattle.swi_hart.proofs.Standing.{linked_jump, plain_jump, plain_leads, plain_within, linked_leads, are_within, slots_are}
-use Rattle.swi_hart.proofs.Stepping.{jumped, not_jumped, same_place}
-use Rattle.swi_board.specs.Transfers.{Here, at_fall, settled, jumps_as, before_last, leaves_by, step_transfers, here_after, fall_transfers, transfers}
-use Rattle.swi_board.proofs.Counting.{transfers_more, over_transfers}
+use Rattle.swi_hart.proofs.Standing.{linked_jump, plain_jump, plain_leads, plain_within, linked_leads, are_within}
+use Rattle.swi_hart.proofs.Stepping.{jumped, not_jumped}
+use Rattle.swi_board.specs.Transfers.{jumps_as, leaves_by}
 use Rattle.swi_cache_laws.specs.Transfers.{block_entered}
 use Rattle.swi_cache_laws.specs.Room.{LeavesByExit, AreTransfers}
-use Rattle.swi_cache_laws.specs.Runs.{AreOfRuns}
-use Rattle.swi_cache_laws.proofs.Few.{has_right}
 
 -- a direct transfer over an exit that stands there
 pub by_exit : (v : ImageData) (before : List ℕ) (b o t pc : ℕ) → Has before b → word_at v b o ≡ ebreak → word_at v b (o + 1) ≡ t → o + 1 < length_at v b → t % 4 ≡ 0 → pc ≡ t → LeavesByExit v before (direct b o pc)
