@@ -1,6 +1,6 @@
 /*
- * What Frama-C's EVA runs of image.c (test/alarms): image_read of up to WORDS_MOST words, all of them any words. They stand at the
- * end of their array, so that an alarm would be a read behind them.
+ * What Frama-C's EVA runs of image.c (test/alarms): image_read of up to WORDS_MOST words, all of them any words. They
+ * stand at the end of their array, so that an alarm would be a read behind them.
  */
 #include <__fc_builtin.h>
 
@@ -15,7 +15,8 @@ static uint32_t any(void)
     return Frama_C_unsigned_int_interval(0, 0xffffffff);
 }
 
-/* The numbers of blocks and text words are each tried apart, as far as the words have room for the tables; else they are any. */
+/* The numbers of blocks and text words are each tried apart, as far as the words have room for the tables; else they
+ * are any. */
 static void read_one(uint32_t count, uint32_t blocks, uint32_t text_words)
 {
     struct image image;

@@ -1,7 +1,8 @@
 /*
- * What Frama-C's EVA runs of service.c (test/alarms): lists of calls of any length, for two images of three blocks in one slot or two.
- * EVA keeps each state apart, and ends when each call from each state leads to one that it has: so it has seen each list. An alarm
- * would be an access beside an array, a read of what was never written, or another thing that C leaves undefined.
+ * What Frama-C's EVA runs of service.c (test/alarms): lists of calls of any length, for two images of three blocks in
+ * one slot or two. EVA keeps each state apart, and ends when each call from each state leads to one that it has: so it
+ * has seen each list. An alarm would be an access beside an array, a read of what was never written, or another thing
+ * that C leaves undefined.
  *
  * The program's registers are any words, and targets any addresses.
  */
@@ -59,8 +60,8 @@ void board_poll(void)
 {
 }
 
-/* What a call finds beside the state that it leads to: the program's registers, and whether the vector has filled its memo. The
- * counts are left out, since calls only add to them. */
+/* What a call finds beside the state that it leads to: the program's registers, and whether the vector has filled its
+ * memo. The counts are left out, since calls only add to them. */
 static void set_free(void)
 {
     service.counts = (struct counts){0};

@@ -481,8 +481,8 @@ static void try_states(void)
     all_states += state_count;
 }
 
-/* Images of two to four blocks of two to five words, of at most 16 words together, in one to three slots, with bounds of 1, 2 and any.
- * A block has one direct exit or two, but in its last three words a jump over a register. */
+/* Images of two to four blocks of two to five words, of at most 16 words together, in one to three slots, with bounds
+ * of 1, 2 and any. A block has one direct exit or two, but in its last three words a jump over a register. */
 static void try_all(void)
 {
     static const uint32_t bounds[] = {1, 2, LINKS_ANY};
@@ -509,7 +509,8 @@ int main(int count, char **words)
         printf("%llu lists of calls: all as in the model\n", (unsigned long long)lists);
     } else if (count == 2 && strcmp(words[1], "states") == 0) {
         try_all();
-        printf("%llu states, %llu calls: all as in the model\n", (unsigned long long)all_states, (unsigned long long)all_calls);
+        printf("%llu states, %llu calls: all as in the model\n", (unsigned long long)all_states,
+               (unsigned long long)all_calls);
     } else {
         fprintf(stderr, "usage: service_test lists N SEED, or states\n");
         return 2;
