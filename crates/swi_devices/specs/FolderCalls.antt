@@ -1,4 +1,4 @@
--- What a shelf asks of its folder.
+-- A shelf over a folder: what it asks of the folder, and what it tells.
 use Rattle.std.specs.Prelude.{◌≡◌, ◌⊎◌, ℕ, ◌+◌, Option, Result, Ok, Err}
 use Rattle.swi_outside.specs.Shelf.{Contents, ShelfState}
 use Rattle.swi_outside.specs.declared.shelf.ShelfError.{ShelfError}
