@@ -5,7 +5,7 @@
  * addresses have 32 bits.
  *
  *   service_test lists N SEED   N lists of calls at random, each with an image, a cache and a bound at random
- *   service_test all DEPTH      each list of at most DEPTH calls, for small images, caches and bounds
+ *   service_test states         each list of calls, of any length, for small images, caches and bounds
  */
 #include <stdio.h>
 #include <stdlib.h>
@@ -84,14 +84,14 @@ static void equal(const char *what, uint32_t found, uint32_t expected)
 
 /* Numbers at random (xorshift) */
 
-static uint64_t state;
+static uint64_t random_state;
 
 static uint32_t below(uint32_t bound)
 {
-    state ^= state << 13;
-    state ^= state >> 7;
-    state ^= state << 17;
-    return (uint32_t)(state >> 32) % bound;
+    random_state ^= random_state << 13;
+    random_state ^= random_state >> 7;
+    random_state ^= random_state << 17;
+    return (uint32_t)(random_state >> 32) % bound;
 }
 
 /* Images */
@@ -125,7 +125,7 @@ static void add_block(uint32_t block, uint32_t length, bool is_at_random)
     uint32_t begin = first_word(block);
     given.starts[block] = given.image.text_words;
     for (uint32_t at = 0; at < length;) {
-        enum kind kind = is_at_random ? (enum kind)below(3) : DIRECT;
+        enum kind kind = is_at_random ? (enum kind)below(3) : length - at == 3 ? REGISTER : DIRECT;
         given.offsets[given.image.text_words++] = at;
         at += add_instruction(begin + at, length - at, kind);
     }
@@ -165,6 +165,12 @@ static void start(uint32_t slots, uint32_t links_most)
     memset(&service, 0, sizeof service);
     service_fill_places(&given.image, given.places);
     struct service_memory tables = {memory.slots, memory.first_of_block, given.places};
+#ifdef SCAN
+    tables.first_of_block = NULL;
+#endif
+#ifdef SEARCH
+    tables.places = NULL;
+#endif
     service_start(&given.image, &tables, &memory.cache[0].bits, slots, links_most);
     model.slots = slots;
     model.links_most = links_most;
@@ -283,7 +289,7 @@ static void compare_list(uint32_t slot)
 
 static void compare_tables(void)
 {
-    for (uint32_t block = 0; block < given.image.blocks; block++) {
+    for (uint32_t block = 0; block < given.image.blocks && frame.first_of_block; block++) {
         uint32_t slot = slot_of(block);
         equal("the place of a block", memory.first_of_block[block], slot == NONE ? 0 : slot * size() + 1);
     }
@@ -382,68 +388,132 @@ static void run_list(void)
     }
 }
 
-/* Each list: the state is kept beside each call, and put back behind it */
+/* Each list: from each state that calls lead to each call is made, until all that they lead to are known */
 
-static uint64_t lists;
+#define STATES_MOST 400000u
+#define TABLE_SIZE (1u << 20)
 
-static void try_each(uint32_t depth);
+/* Without the counts, which calls only add to, and the program's registers. */
+struct state {
+    uint8_t memory[sizeof memory], model[sizeof model], frame[sizeof frame], service[sizeof service];
+};
+static struct state *states;
+static uint32_t state_count, *table; /* the numbers of states, plus 1, by their hashes */
+static uint64_t all_states, all_calls;
 
-static void try_one(uint32_t depth, uint32_t index, uint32_t text_word)
+static struct state state_now(void)
 {
-    uint8_t held[sizeof memory + sizeof model + sizeof frame + sizeof service];
-    uint8_t *at = held;
-    memcpy(at, &memory, sizeof memory);
-    memcpy(at += sizeof memory, &model, sizeof model);
-    memcpy(at += sizeof model, &frame, sizeof frame);
-    memcpy(at += sizeof frame, &service, sizeof service);
+    struct state now;
+    frame.services = 0;
+    memset(frame.x, 0, sizeof frame.x);
+    service.counts = model.counts = (struct counts){0};
+    memcpy(now.memory, &memory, sizeof memory);
+    memcpy(now.model, &model, sizeof model);
+    memcpy(now.frame, &frame, sizeof frame);
+    memcpy(now.service, &service, sizeof service);
+    return now;
+}
+
+static void go_back(const struct state *to)
+{
+    memcpy(&memory, to->memory, sizeof memory);
+    memcpy(&model, to->model, sizeof model);
+    memcpy(&frame, to->frame, sizeof frame);
+    memcpy(&service, to->service, sizeof service);
+}
+
+static uint32_t hash(const struct state *of)
+{
+    uint64_t found = 0;
+    for (const uint8_t *at = of->memory, *end = at + sizeof *of; at + 4 <= end; at += 4) {
+        uint32_t word;
+        memcpy(&word, at, 4);
+        found = (found ^ word) * 0x9e3779b97f4a7c15u;
+        found ^= found >> 29;
+    }
+    return (uint32_t)found;
+}
+
+/* Adds the state that stands now, where it is a new one. */
+static void keep(void)
+{
+    struct state now = state_now();
+    uint32_t at = hash(&now) % TABLE_SIZE;
+    for (; table[at]; at = (at + 1) % TABLE_SIZE)
+        if (memcmp(&states[table[at] - 1], &now, sizeof now) == 0)
+            return;
+    if (state_count == STATES_MOST)
+        fail("states", state_count, 0);
+    states[state_count++] = now;
+    table[at] = state_count;
+}
+
+static void try_one(uint32_t from, uint32_t index, uint32_t text_word)
+{
+    go_back(&states[from]);
     if (index == NONE)
         call_enter(text_word);
     else
         call_exit(index, text_word);
-    lists++;
-    try_each(depth - 1);
-    memcpy(&service, at, sizeof service);
-    memcpy(&frame, at -= sizeof frame, sizeof frame);
-    memcpy(&model, at -= sizeof model, sizeof model);
-    memcpy(&memory, at -= sizeof memory, sizeof memory);
+    all_calls++;
+    keep();
 }
 
-static void try_each(uint32_t depth)
+static void try_each(uint32_t from)
 {
-    if (!depth)
-        return;
     for (uint32_t block = 0; block < given.image.blocks; block++)
-        try_one(depth, NONE, given.starts[block]);
-    for (uint32_t index = 0; index < model.slots * size(); index++)
-        if (is_exit(index))
-            try_one(depth, index, 0);
+        try_one(from, NONE, given.starts[block]);
+    for (uint32_t index = 0; index < model.slots * size(); index++) {
+        go_back(&states[from]);
+        uint32_t words = !is_exit(index) ? 0 : given.kinds[given_at(index)] == DIRECT ? 1 : given.image.text_words;
+        for (uint32_t word = 0; word < words; word++)
+            try_one(from, index, word);
+    }
 }
 
-/* Images of two to four blocks of one or two direct exits, in one to three slots, with bounds of 1, 2 and any. */
-static void try_all(uint32_t depth)
+static void try_states(void)
+{
+    state_count = 0;
+    memset(table, 0, TABLE_SIZE * sizeof *table);
+    keep();
+    for (uint32_t from = 0; from < state_count; from++)
+        try_each(from);
+    all_states += state_count;
+}
+
+/* Images of two to four blocks of two to five words, of at most 16 words together, in one to three slots, with bounds
+ * of 1, 2 and any. A block has one direct exit or two, but in its last three words a jump over a register. */
+static void try_all(void)
 {
     static const uint32_t bounds[] = {1, 2, LINKS_ANY};
+    states = malloc(STATES_MOST * sizeof *states);
+    table = malloc(TABLE_SIZE * sizeof *table);
     for (uint32_t blocks = 2; blocks <= 4; blocks++)
-        for (uint32_t words = 2; words <= 4; words += 2)
+        for (uint32_t words = 2; words <= 5 && blocks * words <= 16; words++)
             for (uint32_t k = 0; k < 9; k++) {
                 make_image(blocks, words, false);
                 start(1 + k / 3, bounds[k % 3]);
-                try_each(depth);
+                try_states();
             }
+    free(states);
+    free(table);
 }
 
 int main(int count, char **words)
 {
     if (count == 4 && strcmp(words[1], "lists") == 0) {
-        state = strtoull(words[3], NULL, 10) * 2654435761u + 88172645463325252u;
-        for (lists = 0; lists < strtoull(words[2], NULL, 10); lists++)
+        uint64_t lists = strtoull(words[2], NULL, 10);
+        random_state = strtoull(words[3], NULL, 10) * 2654435761u + 88172645463325252u;
+        for (uint64_t k = 0; k < lists; k++)
             run_list();
-    } else if (count == 3 && strcmp(words[1], "all") == 0) {
-        try_all((uint32_t)strtoul(words[2], NULL, 10));
+        printf("%llu lists of calls: all as in the model\n", (unsigned long long)lists);
+    } else if (count == 2 && strcmp(words[1], "states") == 0) {
+        try_all();
+        printf("%llu states, %llu calls: all as in the model\n", (unsigned long long)all_states,
+               (unsigned long long)all_calls);
     } else {
-        fprintf(stderr, "usage: service_test lists N SEED, or all DEPTH\n");
+        fprintf(stderr, "usage: service_test lists N SEED, or states\n");
         return 2;
     }
-    printf("%llu lists of calls: all as in the model\n", (unsigned long long)lists);
     return 0;
 }

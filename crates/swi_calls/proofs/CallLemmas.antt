@@ -3,8 +3,9 @@ use Rattle.std.proofs.Common.{◌≡◌, ℕ, Bool, true, false, List, [], ◌�
 use Rattle.std.specs.Io.KnownBytes.{Appends}
 use Rattle.swi_outside.specs.Causes.{HasCause}
 use Rattle.swi_outside.specs.Sink.{SinkState, AppendsPrefix}
-use Rattle.swi_outside.specs.Devices.{Devices, Faults, HasCauses}
-use Rattle.swi_outside.specs.Laws.{unmoved, named_as}
+use Rattle.swi_outside.specs.Source.{ReadFrom}
+use Rattle.swi_outside.specs.Devices.{Devices, Faults, HasCauses, faults_of}
+use Rattle.swi_outside.specs.Laws.{unmoved, named_as, ok_causes}
 use Rattle.swi_outside.specs.Laws.{Appends-none, Appends-append}
 use Rattle.swi_outside.proofs.SinkLemmas.{prefix_first, prefix_whole, prefix_last}
 use Rattle.swi_calls.specs.declared.end.CallFault.{CallFault}
@@ -57,7 +58,20 @@ module _ (m : Machine) (d e : Devices) where
   -- the call failed
   pub call_failed : {T U : Type 0} (f : CallFault) → Exchanged {T = T} call_does d e (Err f) → Exchanged {T = U} step_does d e (Err f)
   unfolding called
-  call_failed f h = search (rules, prefix_first, none_first, causes_as)
+  call_failed {T} {U} f h = record {
+    gave = h.gave;
+    input = tt;
+    output = tt;
+    error = tt;
+    output_prefix = h.output_prefix;
+    error_prefix = λ left rest r. prefix_first d.error.held e.error.held (call_does left).error (line left) (h.error_prefix left rest r);
+    failed_input = λ (n : IsErrOf {T = U} (Err f) SourceFault). let m : IsErrOf {T = T} (Err f) SourceFault = cc in h.failed_input m;
+    failed_output = h.failed_output;
+    failed_error = h.failed_error;
+    unasked_output = h.unasked_output;
+    unasked_error = λ left none. h.unasked_error left (none_first (call_does left).error (line left) none);
+    causes = causes_as f (faults_of d) (faults_of e) h.causes;
+  }
 
   -- it didn't, and its line, or a part of it, went to the errors
   module _ {T : Type 0} (v : T) (x : SinkState) (h : Exchanged call_does d e (Ok v)) (unasked : m.log ≡ false → x ≡ e.error) where
@@ -67,16 +81,17 @@ module _ (m : Machine) (d e : Devices) where
         let last = unasked (no_line m.log (request_of m.regs) (served m.regs m.bus m.heap left).answer (none_last (call_does left).error (line left) none)) in
         last ∙ first
 
-    pub line_failed : {U V : Type 0} (t : Result V U) → is_err t ≡ true → ((left : List ℕ) → d.input.left ≡ Some left → AppendsPrefix e.error.held x.held (line left)) →
+    pub line_failed : {U V : Type 0} (t : Result V U) → is_err t ≡ true → ((left rest : List ℕ) → ReadFrom d.input e.input left rest → AppendsPrefix e.error.held x.held (line left)) →
         HasCause e.error.faults x.faults t → Exchanged {T = Unit {0}} step_does d (record e { error = x }) (Err SinkFault)
     unfolding called
     line_failed (Ok u) failed gained cause = cc
     line_failed (Err f) failed gained cause = record {
+      gave = h.gave;
       input = tt;
       output = tt;
       error = tt;
-      output_prefix = λ left told. prefix_whole d.output.held e.output.held (call_does left).output (h.output left told);
-      error_prefix = λ left told. prefix_last d.error.held e.error.held x.held (call_does left).error (line left) (h.error left told) (gained left told);
+      output_prefix = λ left rest told. prefix_whole d.output.held e.output.held (call_does left).output (h.output left rest told);
+      error_prefix = λ left rest told. prefix_last d.error.held e.error.held x.held (call_does left).error (line left) (h.error left rest told) (gained left rest told);
       failed_input = λ other. let never : ⊥ = cc in absurd never;
       failed_output = λ rose. absurd (rose (ap (λ (f : Faults). f.output) (unmoved h.causes (λ e. cc) (λ e. cc))));
       failed_error = λ rose. h.output;
@@ -85,7 +100,23 @@ module _ (m : Machine) (d e : Devices) where
       causes = search rules;
     }
 
-    pub line_told : x.faults ≡ e.error.faults → ((left : List ℕ) → d.input.left ≡ Some left → Appends e.error.held x.held (line left)) →
+    pub line_told : x.faults ≡ e.error.faults → ((left rest : List ℕ) → ReadFrom d.input e.input left rest → Appends e.error.held x.held (line left)) →
         Exchanged {T = Unit {0}} step_does d (record e { error = x }) (Ok tt)
     unfolding called
-    line_told same gained = search (rules, Appends-append, line_unasked)
+    line_told same gained =
+        let still : faults_of e ≡ faults_of d = unmoved h.causes (λ e. cc) (λ e. cc) in
+        let told_only : faults_of (record e { error = x }) ≡ faults_of e = ap (λ (n : ℕ). let y : Faults = record { input = e.input.faults; output = e.output.faults; error = n } in y) same in
+        record {
+          gave = h.gave;
+          input = h.input;
+          output = h.output;
+          error = λ left rest r. Appends-append d.error.held e.error.held x.held (call_does left).error (line left) (h.error left rest r) (gained left rest r);
+          output_prefix = tt;
+          error_prefix = tt;
+          failed_input = λ other. let never : ⊥ = cc in absurd never;
+          failed_output = tt;
+          failed_error = tt;
+          unasked_output = h.unasked_output;
+          unasked_error = line_unasked;
+          causes = ok_causes (told_only ∙ still);
+        }

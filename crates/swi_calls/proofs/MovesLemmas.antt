@@ -1,22 +1,43 @@
 -- Pieces of the input that were put into memory, one behind the other.
-use Rattle.std.proofs.Common.{◌≡◌, ℕ, ◌+◌, ◌-◌, ◌≤◌, List, ◌++◌, length, refl, sym, ap, ◌∙◌, arith, Option, length-append}
+use Rattle.std.proofs.Common.{◌≡◌, ℕ, ◌+◌, ◌-◌, ◌<◌, ◌≤◌, true, List, [], ◌++◌, length, refl, sym, ap, ◌∙◌, arith, Option, Some, length-append}
 use Rattle.std.specs.Io.KnownBytes.{Appends}
 use Rattle.swi_outside.specs.Sink.{AppendsPrefix}
-use Rattle.swi_memory.specs.Bus.{AreaData, bytes_at}
+use Rattle.swi_memory.specs.Bus.{AreaData, bytes_at, holds}
 use Rattle.swi_calls.specs.Moves.{ReadsInto}
 use Rattle.swi_memory.specs.Laws.{bytes_at-add, with_bytes-append}
-use Rattle.swi_outside.specs.Laws.{Appends-append, Consumes-append}
+use Rattle.swi_outside.specs.Laws.{Appends-append}
+use Rattle.swi_outside.specs.Source.{SourceState, ReadFrom}
 use Rattle.swi_outside.proofs.SinkLemmas.{prefix_behind}
+use Rattle.swi_outside.proofs.SourceLemmas.{gave_more, read_counted}
+use Rattle.swi_memory.specs.declared.right.Right.TheVariants.{Write}
+use Rattle.swi_calls.specs.Call.{read_served}
 
 -- two pieces, one behind the other
-pub reads_join : (bus mid next : List AreaData) (first now last : Option (List ℕ)) (a d k : ℕ) → ReadsInto bus mid first now a d → ReadsInto mid next now last (a + d) k →
+pub reads_join : (bus mid next : List AreaData) (first now last : SourceState) (a d k : ℕ) → ReadsInto bus mid first now a d → ReadsInto mid next now last (a + d) k →
     ReadsInto bus next first last a (d + k)
 reads_join bus mid next first now last a d k h i = record {
   bytes = h.bytes ++ i.bytes;
   number = simp length-append (rw (h.number, i.number) refl);
   stored = i.stored ∙ rw (h.stored, ← h.number) (sym (with_bytes-append bus a h.bytes i.bytes));
-  consumed = Consumes-append first now last h.bytes i.bytes h.consumed i.consumed;
+  gave = gave_more h.gave i.gave;
 }
+
+-- A read that was made is the definition's, of each input from which its bytes may have been read.
+pub record ReadDone (first buffer count k : ℕ) (bus bus' : List AreaData) (input rest : List ℕ) : Type 0 where
+  pub answer : (read_served first buffer count bus input).answer ≡ Some k
+  pub bus_is : (read_served first buffer count bus input).bus ≡ bus'
+  pub rest_is : (read_served first buffer count bus input).input ≡ rest
+
+pub read_done : (first buffer count k : ℕ) (bus bus' : List AreaData) (old new : SourceState) (input rest : List ℕ) → first ≡ 0 → holds bus Write buffer count ≡ true → ReadsInto bus bus' old new buffer k →
+    k ≤ count → (k < count → new.left ≡ Some []) → ReadFrom old new input rest → ReadDone first buffer count k bus bus' input rest
+read_done first buffer count k bus bus' old new input rest zero_first held reads within ended r =
+    let number = reads.number in
+    let both = read_counted count reads.gave (omega (arith, number, within)) (λ fewer. ended (omega (arith, number, fewer))) r in
+    record {
+      answer = rw (zero_first, held, both.0) (ap (λ n. Some n) number);
+      bus_is = rw (zero_first, held, both.0) (sym reads.stored);
+      rest_is = rw (zero_first, held) both.1;
+    }
 
 -- a buffer that is written in pieces: one piece more
 pub written_more : (bus : List AreaData) (a d : ℕ) (piece : List ℕ) (first now next : Option (List ℕ)) → Appends first now (bytes_at bus a d) → piece ≡ bytes_at bus (a + d) (length piece) →

@@ -9,3 +9,4 @@ pub mod Moves
 pub mod State
 pub mod StoresText
 pub mod Text
+pub mod Told

@@ -2,13 +2,13 @@
 #![tactic(auto)]
 
 ghost use Rattle.std.specs.Prelude.{◌≡◌, ◌<◌, ◌≤◌, ◌+◌, ◌^◌, ◌%◌, ℕ, None, OnOk, OnErr};
-ghost use Rattle.std.specs.Option.{ForSome};
 ghost use Rattle.swi_calls.specs.Call.{room_of_call, second_argument};
 ghost use Rattle.swi_calls.specs.Exchange.{Exchanged};
 ghost use Rattle.swi_calls.specs.Flat.{ended, call_made, exchange_of};
 ghost use Rattle.swi_calls.specs.Moves.{ReadsInto};
 ghost use Rattle.swi_calls.specs.StoresText.{read_into_text};
 ghost use Rattle.swi_memory.specs.Bus.{fetched};
+ghost use Rattle.swi_outside.specs.Source.{ForInput};
 
 use crate::request::{Called, Request};
 use crate::system_call::{heap_after, serve, tell};
@@ -84,14 +84,14 @@ impl Machine {
         err: &mut E,
     ) -> Result<(), CallFault>
         requires few { self.old.steps < 2 ^ 48 }
-        ensures machine { OnOk result (ForSome (I.state input.old).left (λ left.
+        ensures machine { OnOk result (ForInput (I.state input.old) (I.state input.new) (λ left rest.
             self.new ≡ (call_made self.old left).machine)) }
         ensures counted { OnOk result (self.new.steps ≡ self.old.steps + 1) }
         ensures goes_on { OnOk result (self.new.ending ≡ None → self.new.pc ≡ (self.old.pc + 4) % 2 ^ 32) }
         ensures aligned { self.old.pc % 4 ≡ 0 → self.new.pc % 4 ≡ 0 }
         ensures stays { OnErr result (self.new ≡ record self.old { bus = self.new.bus }) }
         ensures moved { (k : ℕ) × (k ≤ room_of_call self.old.regs self.old.bus) ×
-            ReadsInto self.old.bus self.new.bus (I.state input.old).left (I.state input.new).left
+            ReadsInto self.old.bus self.new.bus (I.state input.old) (I.state input.new)
             (second_argument self.old.regs) k }
         ensures text { read_into_text self.old.regs self.old.bus ≡ None → (a : ℕ) →
             fetched self.new.bus a ≡ fetched self.old.bus a }

@@ -1,8 +1,7 @@
 //! Bytes between memory and the outside, in pieces, without memory of their own.
 #![tactic(auto)]
 
-ghost use Rattle.std.specs.Prelude.{◌≡◌, ◌≤◌, ◌<◌, ◌+◌, ℕ, true, IfOk, OnOk, OnErr, length, []};
-ghost use Rattle.std.specs.Io.KnownBytes.{IsAtEnd};
+ghost use Rattle.std.specs.Prelude.{◌≡◌, ◌≤◌, ◌<◌, ◌+◌, ℕ, true, Some, IfOk, OnOk, OnErr, length, []};
 ghost use Rattle.swi_outside.specs.Causes.{HasCause};
 ghost use Rattle.swi_outside.specs.Sink.{WasWritten};
 ghost use Rattle.swi_memory.specs.declared.right.Right.TheVariants.{Read, Write};
@@ -40,10 +39,10 @@ fn read_piece<I: Source>(
     requires held { holds bus.old Write a count ≡ true }
     requires more { done < count }
     ensures within { IfOk result (λ k. done + k ≤ count) }
-    ensures reads { IfOk result (λ k. ReadsInto bus.old bus.new (I.state input.old).left (I.state input.new).left (a + done) k) }
-    ensures at_end { IfOk result (λ k. k ≡ 0 → IsAtEnd (I.state input.new).left) }
+    ensures reads { IfOk result (λ k. ReadsInto bus.old bus.new (I.state input.old) (I.state input.new) (a + done) k) }
+    ensures at_end { IfOk result (λ k. k ≡ 0 → (I.state input.new).left ≡ Some []) }
     ensures held_still { holds bus.new Write a count ≡ true }
-    ensures failed { OnErr result (ReadsInto bus.old bus.new (I.state input.old).left (I.state input.new).left (a + done) 0) }
+    ensures failed { OnErr result (ReadsInto bus.old bus.new (I.state input.old) (I.state input.new) (a + done) 0) }
     ensures cause { HasCause (I.state input.old).faults (I.state input.new).faults result }
 {
     let mut piece = [0u8; PIECE];
@@ -54,6 +53,7 @@ fn read_piece<I: Source>(
 }
 
 /// Reads up to `count` bytes of the input into memory at `a`, and answers how many. Fewer come only at the input's end.
+#[tactic(auto, using(swi_outside::proofs::SourceLemmas::gave_none))]
 pub(crate) fn read_into<I: Source>(
     bus: &mut Bus,
     a: u32,
@@ -62,10 +62,10 @@ pub(crate) fn read_into<I: Source>(
 ) -> Result<u32, Failed>
     requires held { holds bus.old Write a count ≡ true }
     ensures within { IfOk result (λ k. k ≤ count) }
-    ensures reads { IfOk result (λ k. ReadsInto bus.old bus.new (I.state input.old).left (I.state input.new).left a k) }
-    ensures at_end { IfOk result (λ k. k < count → IsAtEnd (I.state input.new).left) }
+    ensures reads { IfOk result (λ k. ReadsInto bus.old bus.new (I.state input.old) (I.state input.new) a k) }
+    ensures at_end { IfOk result (λ k. k < count → (I.state input.new).left ≡ Some []) }
     ensures failed { OnErr result ((k : ℕ) × (k ≤ count)
-        × ReadsInto bus.old bus.new (I.state input.old).left (I.state input.new).left a k) }
+        × ReadsInto bus.old bus.new (I.state input.old) (I.state input.new) a k) }
     ensures cause { HasCause (I.state input.old).faults (I.state input.new).faults result }
 {
     let mut done = 0;

@@ -2,10 +2,10 @@
 #![tactic(auto)]
 
 ghost use Rattle.std.specs.Prelude.{◌≡◌, ◌≤◌, ℕ, Some, [], IfOk, IfErr, OnOk, MatchResult, true, false, length, ◌+◌, ◌++◌};
-ghost use Rattle.std.specs.Option.{ForSome};
 ghost use Rattle.std.specs.Io.KnownBytes.{Appends};
 ghost use Rattle.swi_outside.specs.Causes.{HasCause};
 ghost use Rattle.swi_outside.specs.Sink.{AppendsPrefix, WasWritten};
+ghost use Rattle.swi_outside.specs.Source.{ForInput};
 ghost use Rattle.swi_calls.specs.Call.{IsServed, answer_of, brk_heap, exchange_of_call, heap_by, read_room, read_served, room_by, served_by, told_by, write_answer, written};
 ghost use Rattle.swi_calls.specs.Exchange.{Exchanged};
 ghost use Rattle.swi_calls.specs.Moves.{ReadsInto};
@@ -38,15 +38,16 @@ const BAD_ADDRESS: u32 = u32::MAX - 13;
 const UNKNOWN_CALL: u32 = u32::MAX - 37;
 
 /// read(descriptor, buffer, count), which takes bytes of the input.
+#[tactic(auto, using(swi_outside::proofs::SourceLemmas::gave_none))]
 fn read<I: Source>(request: Request, bus: &mut Bus, input: &mut I) -> Result<u32, CallFault>
-    ensures answered { IfOk result (λ v. ForSome (I.state input.old).left (λ left.
+    ensures answered { IfOk result (λ v. ForInput (I.state input.old) (I.state input.new) (λ left rest.
         Some v ≡ (read_served request.first request.second request.third bus.old left).answer)) }
-    ensures bus { OnOk result (ForSome (I.state input.old).left (λ left.
+    ensures bus { OnOk result (ForInput (I.state input.old) (I.state input.new) (λ left rest.
         bus.new ≡ (read_served request.first request.second request.third bus.old left).bus)) }
-    ensures input { OnOk result (ForSome (I.state input.old).left (λ left.
-        (I.state input.new).left ≡ Some (read_served request.first request.second request.third bus.old left).input)) }
+    ensures input { OnOk result (ForInput (I.state input.old) (I.state input.new) (λ left rest.
+        rest ≡ (read_served request.first request.second request.third bus.old left).input)) }
     ensures moved { (k : ℕ) × (k ≤ read_room request.first request.second request.third bus.old)
-        × ReadsInto bus.old bus.new (I.state input.old).left (I.state input.new).left request.second k }
+        × ReadsInto bus.old bus.new (I.state input.old) (I.state input.new) request.second k }
     ensures fault { IfErr result (λ fault. fault ≡ CallFault.SourceFault) }
     ensures cause { HasCause (I.state input.old).faults (I.state input.new).faults result }
 {
@@ -56,7 +57,10 @@ fn read<I: Source>(request: Request, bus: &mut Bus, input: &mut I) -> Result<u32
     if !bus.writable(request.second, request.third) {
         return Ok(BAD_ADDRESS);
     }
-    read_into(bus, request.second, request.third, input).map_err(|_| CallFault::SourceFault)
+    match read_into(bus, request.second, request.third, input) {
+        Ok(count) => Ok(count),
+        Err(_) => Err(CallFault::SourceFault),
+    }
 }
 
 /// write(descriptor, buffer, count) to the sink of a good descriptor.
@@ -99,7 +103,7 @@ pub(crate) fn heap_after(request: Request, heap: Heap) -> Heap
 }
 
 /// Does the call, but for its line and what becomes of the registers and the break.
-#[tactic(auto, using(crate::proofs::CallLemmas::nothing_gained))]
+#[tactic(auto, using(crate::proofs::CallLemmas::nothing_gained, swi_outside::proofs::SourceLemmas::given_still, swi_outside::proofs::SourceLemmas::gave_none))]
 pub(crate) fn serve<I: Source, O: Sink, E: Sink>(
     request: Request,
     bus: &mut Bus,
@@ -108,10 +112,10 @@ pub(crate) fn serve<I: Source, O: Sink, E: Sink>(
     out: &mut O,
     err: &mut E,
 ) -> Result<Called, CallFault>
-    ensures served { IfOk result (λ called. ForSome (I.state input.old).left (λ left.
+    ensures served { IfOk result (λ called. ForInput (I.state input.old) (I.state input.new) (λ left rest.
         IsServed request (served_by request bus.old heap left) called bus.new)) }
     ensures moved { (k : ℕ) × (k ≤ room_by request bus.old)
-        × ReadsInto bus.old bus.new (I.state input.old).left (I.state input.new).left request.second k }
+        × ReadsInto bus.old bus.new (I.state input.old) (I.state input.new) request.second k }
     ensures devices { Exchanged (λ left. exchange_of_call (served_by request bus.old heap left))
         (record { input = I.state input.old; output = O.state out.old; error = E.state err.old })
         (record { input = I.state input.new; output = O.state out.new; error = E.state err.new }) result }

@@ -2,6 +2,8 @@
 //! device is, the traits of `swi_outside` say.
 #![tactic(auto)]
 
+mod byte_log;
+mod count;
 mod fault_plan;
 mod fault_ram;
 mod folder;
@@ -12,7 +14,10 @@ mod mem_source;
 mod ram_calls;
 mod real;
 mod shelf_call;
+mod shelf_log;
 mod vec_ram;
+mod watched;
+mod watched_folder;
 
 pub use fault_ram::FaultRam;
 pub use folder::{Folder, SystemFolder};

@@ -1,4 +1,4 @@
-ghost use Rattle.std.specs.Prelude.{◌≡◌, ◌≤◌, ◌<◌, ◌⊎◌, ℕ, length, Option, None, Some, IfOk, OnOk, OnErr, Contains, MatchOption, map, position, string_bytes};
+ghost use Rattle.std.specs.Prelude.{◌≡◌, ◌≤◌, ◌<◌, ◌⊎◌, ℕ, [], length, Option, None, Some, IfOk, OnOk, OnErr, Contains, MatchOption, map, position, string_bytes};
 ghost use Rattle.std.specs.Str.{bytes_eq};
 ghost use Rattle.swi_outside.specs.Causes.{counted};
 ghost use Rattle.swi_outside.specs.Shelf.{SameElsewhere, WasGot, WasPut};
@@ -6,8 +6,10 @@ ghost use Rattle.swi_devices.specs.Stored.{told_of, lookup, entry_of};
 
 use crate::fault_plan::FaultPlan;
 use crate::shelf_call::{ShelfCall, key_of};
+use crate::shelf_log::{ShelfLog, note_got};
 use std::alloc::Global;
 use std::marker::Model;
+use std::snapshot::Snapshot;
 use swi_outside::{Shelf, ShelfError};
 
 /// Contents in memory.
@@ -16,16 +18,21 @@ pub struct MemShelf {
     entries: Vec<(String, Vec<u8>)>,
     plan: FaultPlan,
     last: Option<(ShelfCall, String)>,
+    got: Snapshot<ShelfLog>,
+    stored: Snapshot<ShelfLog>,
 }
 
 impl Model for MemShelf {
     ghost use Rattle.std.specs.Prelude.{map};
+    ghost use Rattle.swi_devices.specs.ShelfLog.{passed_in};
     ghost use Rattle.swi_devices.specs.Stored.{StoredShelf, entry_of, last_asked};
 
     ghost Value = { StoredShelf };
 
     ghost view = { λ s. record {
       entries = map entry_of s.entries.items;
+      got = passed_in s.got.value;
+      stored = passed_in s.stored.value;
       failing = s.plan.failing.items;
       calls = s.plan.calls;
       faults = s.plan.faults;
@@ -40,6 +47,8 @@ impl MemShelf {
     pub fn new(contents: Vec<(String, Vec<u8>)>, failing: Vec<u32>) -> MemShelf
         ensures { result ≡ record {
           entries = map entry_of contents.items;
+          got = [];
+          stored = [];
           failing = failing.items;
           calls = 0;
           faults = 0;
@@ -50,6 +59,8 @@ impl MemShelf {
             entries: contents,
             plan: FaultPlan::new(failing),
             last: None,
+            got: Snapshot::of(&ShelfLog::None),
+            stored: Snapshot::of(&ShelfLog::None),
         }
     }
 
@@ -115,6 +126,7 @@ impl Shelf for MemShelf {
         ensures failed { result ≡ Err ShelfError.Failed →
             Contains self.old.failing (counted self.old.calls) ⊎ (lookup self.old.entries name.now ≡ None) }
         ensures counted { self.new ≡ record self.old {
+          got = self.new.got;
           calls = counted self.old.calls;
           faults = self.new.faults;
           last = self.new.last;
@@ -123,7 +135,11 @@ impl Shelf for MemShelf {
         let fails = self.plan.count_call();
         let key = key_of(alloc, name)?;
         match find(&self.entries, name) {
-            Some(bytes) if !fails => copy_within(alloc, bytes, limit),
+            Some(bytes) if !fails => {
+                let answer = copy_within(alloc, bytes, limit);
+                note_got(&mut self.got, &key, &answer);
+                answer
+            }
             _ => {
                 self.plan.count_fault();
                 self.last = Some((ShelfCall::Get, key));
@@ -142,6 +158,7 @@ impl Shelf for MemShelf {
         ensures kept { OnErr result (self.new.entries ≡ self.old.entries) }
         ensures counted { self.new ≡ record self.old {
           entries = self.new.entries;
+          stored = self.new.stored;
           calls = counted self.old.calls;
           faults = self.new.faults;
           last = self.new.last;
@@ -155,7 +172,11 @@ impl Shelf for MemShelf {
             return Err(ShelfError::Failed);
         }
         let copy = Vec::from_slice(alloc, bytes).map_err(|_| ShelfError::Memory)?;
-        put_entry(&mut self.entries, key, copy)
+        let name = Snapshot::of(&key);
+        let content = Snapshot::of(&copy);
+        put_entry(&mut self.entries, key, copy)?;
+        self.stored = Snapshot::of(&ShelfLog::Held(Snapshot::of(&self.stored), name, content));
+        Ok(())
     }
 }
 

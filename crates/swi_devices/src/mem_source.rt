@@ -1,4 +1,4 @@
-ghost use Rattle.std.specs.Prelude.{◌≡◌, ◌+◌, ◌<◌, ◌≤◌, ◌-◌, ◌↔◌, ◌++◌, length, min, take, drop, IfOk, IsErr, OnErr, Contains, Some};
+ghost use Rattle.std.specs.Prelude.{◌≡◌, ◌+◌, ◌<◌, ◌≤◌, ◌-◌, ◌↔◌, ◌++◌, [], length, min, take, drop, IfOk, IsErr, OnErr, Contains, Some};
 ghost use Rattle.std.specs.Io.{ReadsAtMost};
 ghost use Rattle.swi_outside.specs.Causes.{counted};
 ghost use Rattle.swi_outside.specs.Source.{WasRead};
@@ -16,12 +16,13 @@ pub struct MemSource {
 }
 
 impl Model for MemSource {
-    ghost use Rattle.std.specs.Prelude.{◌≤◌, drop, length};
+    ghost use Rattle.std.specs.Prelude.{◌≤◌, drop, take, length};
     ghost use Rattle.swi_devices.specs.Stored.{StoredSource};
 
     ghost Value = { StoredSource };
 
     ghost view = { λ s. record {
+      given = take s.taken s.bytes.items;
       left = drop s.taken s.bytes.items;
       failing = s.plan.failing.items;
       calls = s.plan.calls;
@@ -35,7 +36,7 @@ impl MemSource {
     /// A source of these bytes. The calls of `read` with the numbers in `failing`, from 1, fail, and
     /// no other.
     pub fn new(bytes: Vec<u8>, failing: Vec<u32>) -> MemSource
-        ensures { result ≡ record { left = bytes.items; failing = failing.items; calls = 0; faults = 0 } }
+        ensures { result ≡ record { given = []; left = bytes.items; failing = failing.items; calls = 0; faults = 0 } }
     {
         MemSource {
             bytes,
@@ -57,6 +58,7 @@ fn copy_front(bytes: &[u8], taken: usize, buf: &mut [u8]) -> usize
     requires { taken ≤ length bytes.now }
     ensures count { result ≡ min (length buf.old) (length bytes.now - taken) }
     ensures bytes { drop taken bytes.now ≡ take result buf.new ++ drop (taken + result) bytes.now }
+    ensures front { take (taken + result) bytes.now ≡ take taken bytes.now ++ take result buf.new }
     ensures rest { drop result buf.new ≡ drop result buf.old }
 {
     let count = buf.len().min(bytes.len() - taken);
@@ -65,13 +67,13 @@ fn copy_front(bytes: &[u8], taken: usize, buf: &mut [u8]) -> usize
 }
 
 impl Source for MemSource {
-    ghost state = { λ s. record { left = Some s.left; faults = s.faults } };
+    ghost state = { λ s. record { given = s.given; left = Some s.left; faults = s.faults } };
 
     fn read(&mut self, buf: &mut [u8]) -> Result<usize, Failed>
         requires { 0 < length buf.old }
         ensures bound { ReadsAtMost result buf.new }
-        ensures read { WasRead (record { left = Some self.old.left; faults = self.old.faults })
-            (record { left = Some self.new.left; faults = self.new.faults }) result buf.new }
+        ensures read { WasRead (record { given = self.old.given; left = Some self.old.left; faults = self.old.faults })
+            (record { given = self.new.given; left = Some self.new.left; faults = self.new.faults }) result buf.new }
 
         // No other call fails, and an answer is as many bytes as there are and fit.
         ensures listed { IsErr result ↔ Contains self.old.failing (counted self.old.calls) }
@@ -81,6 +83,7 @@ impl Source for MemSource {
         ensures rest { IfOk result (λ k. drop k buf.new ≡ drop k buf.old) }
         ensures untouched { OnErr result (buf.new ≡ buf.old) }
         ensures counted { self.new ≡ record self.old {
+          given = self.new.given;
           left = self.new.left;
           calls = counted self.old.calls;
           faults = self.new.faults;

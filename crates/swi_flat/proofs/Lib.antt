@@ -1,3 +1,5 @@
 pub mod Runs
 pub mod Quiet
 pub mod Stepping
+pub mod ToldRuns
+pub mod QuietSteps

@@ -1,9 +1,8 @@
 -- The flat machine as contracts see it, and a run of it that a device broke off.
-use Rattle.std.specs.Prelude.{ℕ, ◌-◌, ◌≤◌, List, Bool, Option, Some, false, true}
-use Rattle.swi_memory.specs.Bus.{AreaData}
+use Rattle.std.specs.Prelude.{◌≡◌, ℕ, ◌-◌, ◌≤◌, List, ◌++◌, length, Bool, false, true}
+use Rattle.swi_memory.specs.Bus.{AreaData, with_bytes}
 use Rattle.swi_calls.specs.Call.{room_of_call, second_argument}
 use Rattle.swi_calls.specs.Flat.{Made, made, flat_run, started}
-use Rattle.swi_calls.specs.Moves.{ReadsInto}
 use Rattle.swi_calls.specs.declared.machine.Machine.{Machine}
 use Rattle.swi_calls.specs.State.{FlatState}
 
@@ -30,6 +29,8 @@ next_made s = made s.machine s.input
 
 -- memory and the input that is left after a step that failed in this state: a front of the buffer of the read that the registers
 -- ask for may be filled, with just the bytes that were taken from the input; where they ask for no read, both are as they were
-abbrev pub FillsFront : FlatState → List AreaData → Option (List ℕ) → Type 0
-FillsFront s bus left = (k : ℕ) × (k ≤ room_of_call s.machine.regs s.machine.bus) ×
-    ReadsInto s.machine.bus bus (Some s.input) left (second_argument s.machine.regs) k
+pub record FillsFront (s : FlatState) (bus : List AreaData) (rest : List ℕ) : Type 0 where
+  pub taken : List ℕ
+  pub within : length taken ≤ room_of_call s.machine.regs s.machine.bus
+  pub stored : bus ≡ with_bytes s.machine.bus (second_argument s.machine.regs) taken
+  pub left : s.input ≡ taken ++ rest

@@ -2,7 +2,6 @@
 #![tactic(auto)]
 
 ghost use Rattle.std.specs.Prelude.{◌≡◌, ◌<◌, ◌≤◌, ◌+◌, ◌^◌, ℕ, None, false, is_err, IfOk, OnOk, OnErr};
-ghost use Rattle.std.specs.Option.{ForSome};
 ghost use Rattle.swi_calls.specs.Call.{room_of_call, second_argument};
 ghost use Rattle.swi_calls.specs.Exchange.{Exchanged};
 ghost use Rattle.swi_calls.specs.Flat.{made, exchange_of, machine_of};
@@ -10,6 +9,7 @@ ghost use Rattle.swi_calls.specs.Moves.{ReadsInto};
 ghost use Rattle.swi_flat.specs.FlatData.{unfailed, stopped};
 ghost use Rattle.swi_flat.specs.Ran.{Ran};
 ghost use Rattle.swi_memory.specs.Bus.{fetched};
+ghost use Rattle.swi_outside.specs.Source.{ForInput};
 ghost use Rattle.swi_program.specs.Layout.{IsLayoutOf};
 ghost use Rattle.swi_program.specs.Text.{text_of, word_of};
 
@@ -132,7 +132,7 @@ impl Flat {
     ///
     /// Afterwards the machine is one step further, or a device has failed in a system call. Then `failed` is true,
     /// and the machine is as it was, its steps included, but that of a read a front of the buffer may be filled.
-    #[tactic(auto, unfolding(swi_calls::specs::Flat::made))]
+    #[tactic(auto, unfolding(swi_calls::specs::Flat::made), using(swi_outside::proofs::SourceLemmas::given_still, swi_outside::proofs::SourceLemmas::rest_is))]
     pub fn step<I: Source, O: Sink, E: Sink>(
         &mut self,
         input: &mut I,
@@ -142,13 +142,13 @@ impl Flat {
         requires going { self.old.machine.ending ≡ None }
         requires few { self.old.machine.steps < 2 ^ 48 }
         requires unfailed { self.old.failed ≡ false }
-        ensures machine { OnOk result (ForSome (I.state input.old).left (λ left.
+        ensures machine { OnOk result (ForInput (I.state input.old) (I.state input.new) (λ left rest.
             self.new ≡ unfailed (made self.old.machine left).machine)) }
         ensures counted { OnOk result (self.new.machine.steps ≡ self.old.machine.steps + 1) }
         ensures failed { self.new.failed ≡ is_err result }
         ensures stays { OnErr result (self.new ≡ stopped self.old.machine self.new.machine.bus) }
         ensures moved { OnErr result ((k : ℕ) × (k ≤ room_of_call self.old.machine.regs self.old.machine.bus) ×
-            ReadsInto self.old.machine.bus self.new.machine.bus (I.state input.old).left (I.state input.new).left
+            ReadsInto self.old.machine.bus self.new.machine.bus (I.state input.old) (I.state input.new)
             (second_argument self.old.machine.regs) k) }
         ensures devices { Exchanged (λ left. exchange_of (made self.old.machine left))
             (record { input = I.state input.old; output = O.state out.old; error = E.state err.old })

@@ -16,7 +16,7 @@ use Rattle.swi_calls.specs.declared.heap.Heap.{Heap}
 use Rattle.swi_calls.specs.declared.end.End.{End}
 use Rattle.swi_calls.specs.declared.machine.Machine.{Machine}
 use Rattle.swi_calls.specs.Call.{Served, CallEffect, called, served, room_of_call, read_room, number_of, first_argument, second_argument, third_argument, ends_run}
-use Rattle.swi_calls.specs.Moves.{ReadsInto}
+use Rattle.swi_calls.specs.Told.{ReadsIntoTold as ReadsInto}
 use Rattle.swi_calls.specs.StoresText.{text_store_of, next_store, instruction_store, word_store}
 use Rattle.swi_calls.specs.Flat.{Made, made, quiet, ends, after, call_made, past_call, with_call, with_instruction, with_word as with_fetched}
 use Rattle.swi_image.specs.Format.{ImageData}

@@ -12,10 +12,9 @@ use Rattle.swi_isa.specs.declared.instr.Instr.{Instr}
 use Rattle.swi_isa.specs.declared.instr.Instr.TheVariants as instr
 use Rattle.swi_calls.specs.declared.end.CallFault.{CallFault}
 use Rattle.swi_outside.specs.Devices.{Devices}
-use Rattle.swi_calls.specs.Exchange.{Exchanged}
+use Rattle.swi_calls.specs.Told.{ExchangedTold as Exchanged, ReadsIntoTold as ReadsInto}
 use Rattle.swi_calls.specs.Flat.{call_made, exchange_of}
 use Rattle.swi_calls.specs.StoresText.{text_store_of}
-use Rattle.swi_calls.specs.Moves.{ReadsInto}
 use Rattle.swi_calls.specs.declared.machine.Machine.{Machine}
 use Rattle.swi_hart.specs.declared.hart.Stage.{Stage}
 use Rattle.swi_hart.specs.declared.hart.Stage.TheVariants.{Start}

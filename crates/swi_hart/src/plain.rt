@@ -1,11 +1,13 @@
 //! A step over a plain word, which need not be the image's.
 #![tactic(auto)]
 
-ghost use Rattle.std.specs.Prelude.{◌≡◌, ◌⊎◌, ◌^◌, ◌<◌, ℕ, OnOk, MatchOption, Some, None, true, false};
+ghost use Rattle.std.specs.Prelude.{◌≡◌, ◌⊎◌, ◌^◌, ◌<◌, ℕ, IsErrOf, OnOk, MatchOption, Some, None, true, false};
 ghost use Rattle.swi_isa.specs.Decode.{decoded};
 ghost use Rattle.swi_memory.specs.Bus.{fetched};
 ghost use Rattle.swi_image.specs.Place.{word_at};
 ghost use Rattle.swi_rom.specs.Record.{Record};
+ghost use Rattle.swi_outside.specs.Told.{AsTold};
+ghost use Rattle.swi_outside.specs.Source.{HasGiven};
 ghost use Rattle.swi_hart.specs.Matching.{Fits};
 ghost use Rattle.swi_hart.specs.Exchanged.{Exchanged, PlainAt, ExecutesHeld, is_plain};
 ghost use Rattle.swi_hart.specs.Leaving.{Home};
@@ -78,11 +80,13 @@ pub fn plain_step<R: CacheRom, M: CacheRam, I: Source, O: Sink, E: Sink>(
     requires plain { is_plain (decoded own) ≡ true }
     requires sound { R.service.sound rom.old image.now (M.state ram.old).words
         ⊎ Exchanged (λ words. R.service.sound rom.old image.now words) image.now (M.state ram.old).words hart.old.control }
-    ensures stepped { BoardStepped R.service image.now
+    ensures gave { HasGiven (I.state input.old) (I.state input.new) }
+    ensures unasked { IsErrOf result BoardFault.RamFault → I.state input.new ≡ I.state input.old }
+    ensures stepped { AsTold (I.state input.old) (I.state input.new) (λ old new. BoardStepped R.service image.now
         (record { hart = hart.old; rom = rom.old; ram = M.state ram.old })
         (record { hart = hart.new; rom = rom.new; ram = M.state ram.new })
-        (record { input = I.state input.old; output = O.state out.old; error = E.state err.old })
-        (record { input = I.state input.new; output = O.state out.new; error = E.state err.new }) result }
+        (record { input = old; output = O.state out.old; error = E.state err.old })
+        (record { input = new; output = O.state out.new; error = E.state err.new }) result) }
     ensures executes { OnOk result ((i b o : ℕ) (stage : Stage) →
         PlainAt image.now (M.state ram.old).words hart.old.control i b o stage →
         ExecutesHeld hart.old hart.new rom.old rom.new i b o stage (M.state ram.old).words (M.state ram.new).words

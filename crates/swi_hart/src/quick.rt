@@ -1,8 +1,10 @@
 //! A step whose fetched word is the image's, or a link.
 #![tactic(auto)]
 
-ghost use Rattle.std.specs.Prelude.{◌≡◌, ◌^◌, ◌<◌, slice_index, Some, true};
+ghost use Rattle.std.specs.Prelude.{◌≡◌, ◌^◌, ◌<◌, slice_index, IsErrOf, Some, true};
 ghost use Rattle.swi_outside.specs.CacheRam.{RamState};
+ghost use Rattle.swi_outside.specs.Told.{AsTold};
+ghost use Rattle.swi_outside.specs.Source.{HasGiven};
 ghost use Rattle.swi_hart.specs.MachineStep.{BoardStepped, ReadyToStep, Answered};
 ghost use Rattle.swi_hart.specs.Leaving.{Home, leaves, offset_of};
 
@@ -41,6 +43,7 @@ fn offset_of(x: &Instr) -> u32
 ///
 /// Each fault comes only where its device's count rose; of the hart only `failed` and the memory can then have changed.
 #[inline(always)]
+#[tactic(auto, using(swi_outside::proofs::SourceLemmas::given_still))]
 pub fn at_word<R: CacheRom, M: CacheRam, I: Source, O: Sink, E: Sink>(
     hart: &mut Hart,
     rom: &mut R,
@@ -58,12 +61,14 @@ pub fn at_word<R: CacheRom, M: CacheRam, I: Source, O: Sink, E: Sink>(
     requires home { Home image.now (R.service.kept rom.old) hart.old.machine at.0 at.1 at.2 at.3 }
     requires sound { R.service.sound rom.old image.now (M.state ram.old).words }
     requires got { got ≡ slice_index (M.state ram.old).words at.0 }
-    ensures { (before : RamState) → Answered (Some got) before at.0 (M.state ram.old) →
+    ensures gave { HasGiven (I.state input.old) (I.state input.new) }
+    ensures unasked { IsErrOf result BoardFault.RamFault → I.state input.new ≡ I.state input.old }
+    ensures stepped { AsTold (I.state input.old) (I.state input.new) (λ old new. (before : RamState) → Answered (Some got) before at.0 (M.state ram.old) →
         BoardStepped R.service image.now
         (record { hart = hart.old; rom = rom.old; ram = before })
         (record { hart = hart.new; rom = rom.new; ram = M.state ram.new })
-        (record { input = I.state input.old; output = O.state out.old; error = E.state err.old })
-        (record { input = I.state input.new; output = O.state out.new; error = E.state err.new }) result }
+        (record { input = old; output = O.state out.old; error = E.state err.old })
+        (record { input = new; output = O.state out.new; error = E.state err.new }) result) }
 {
     let Some(x) = decode(got) else { unreachable!() };
     if leaves(&x) {
@@ -89,6 +94,7 @@ pub fn at_word<R: CacheRom, M: CacheRam, I: Source, O: Sink, E: Sink>(
 
 /// A step at a word of the ram.
 #[inline(always)]
+#[tactic(auto, using(swi_outside::proofs::SourceLemmas::given_still))]
 fn at_step<R: CacheRom, M: CacheRam, I: Source, O: Sink, E: Sink>(
     hart: &mut Hart,
     rom: &mut R,
@@ -104,11 +110,13 @@ fn at_step<R: CacheRom, M: CacheRam, I: Source, O: Sink, E: Sink>(
     requires control { hart.old.control ≡ Control.At at.0 at.1 at.2 at.3 }
     requires home { Home image.now (R.service.kept rom.old) hart.old.machine at.0 at.1 at.2 at.3 }
     requires sound { R.service.sound rom.old image.now (M.state ram.old).words }
-    ensures { BoardStepped R.service image.now
+    ensures gave { HasGiven (I.state input.old) (I.state input.new) }
+    ensures unasked { IsErrOf result BoardFault.RamFault → I.state input.new ≡ I.state input.old }
+    ensures stepped { AsTold (I.state input.old) (I.state input.new) (λ old new. BoardStepped R.service image.now
         (record { hart = hart.old; rom = rom.old; ram = M.state ram.old })
         (record { hart = hart.new; rom = rom.new; ram = M.state ram.new })
-        (record { input = I.state input.old; output = O.state out.old; error = E.state err.old })
-        (record { input = I.state input.new; output = O.state out.new; error = E.state err.new }) result }
+        (record { input = old; output = O.state out.old; error = E.state err.old })
+        (record { input = new; output = O.state out.new; error = E.state err.new }) result) }
 {
     let got = match ram.fetch(at.0) {
         Ok(got) => got,
@@ -123,6 +131,7 @@ fn at_step<R: CacheRom, M: CacheRam, I: Source, O: Sink, E: Sink>(
 /// One machine step: the word under control is fetched, and then as for `at_word`. Where no text word is under control
 /// the run ends. Faults are as for `at_word`.
 #[inline(never)]
+#[tactic(auto, using(swi_outside::proofs::SourceLemmas::given_still))]
 pub fn quick_step<R: CacheRom, M: CacheRam, I: Source, O: Sink, E: Sink>(
     hart: &mut Hart,
     rom: &mut R,
@@ -135,11 +144,13 @@ pub fn quick_step<R: CacheRom, M: CacheRam, I: Source, O: Sink, E: Sink>(
     requires ready { ReadyToStep image.now (R.service.kept rom.old) hart.old }
     requires sound { R.service.sound rom.old image.now (M.state ram.old).words }
     ensures word { hart.old.machine.pc < 2 ^ 32 }
-    ensures stepped { BoardStepped R.service image.now
+    ensures gave { HasGiven (I.state input.old) (I.state input.new) }
+    ensures unasked { IsErrOf result BoardFault.RamFault → I.state input.new ≡ I.state input.old }
+    ensures stepped { AsTold (I.state input.old) (I.state input.new) (λ old new. BoardStepped R.service image.now
         (record { hart = hart.old; rom = rom.old; ram = M.state ram.old })
         (record { hart = hart.new; rom = rom.new; ram = M.state ram.new })
-        (record { input = I.state input.old; output = O.state out.old; error = E.state err.old })
-        (record { input = I.state input.new; output = O.state out.new; error = E.state err.new }) result }
+        (record { input = old; output = O.state out.old; error = E.state err.old })
+        (record { input = new; output = O.state out.new; error = E.state err.new }) result) }
 {
     let pc = hart.origin_pc();
     match hart.control.control() {

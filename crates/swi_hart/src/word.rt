@@ -5,6 +5,8 @@ ghost use Rattle.std.specs.Prelude.{◌≡◌, ◌+◌, ◌^◌, ◌<◌, ℕ, L
 ghost use Rattle.swi_calls.specs.StoresText.{text_store_of};
 ghost use Rattle.swi_calls.specs.Flat.{ended};
 ghost use Rattle.swi_hart.specs.Hart.{word_stepped, call_stepped};
+ghost use Rattle.swi_outside.specs.Told.{AsTold};
+ghost use Rattle.swi_outside.specs.Source.{HasGiven};
 ghost use Rattle.swi_hart.specs.Calling.{Called as CalledAt, Moved, QuietWord, ReadyAt, WordExecuted, WordStepped};
 
 use crate::hart::{Hart, Role, Stage};
@@ -126,11 +128,13 @@ pub(crate) fn call_word<I: Source, O: Sink, E: Sink>(
     err: &mut E,
 ) -> Result<(), CallFault>
     requires { ReadyAt hart.old at.0 at.1 at.2 at.3 }
-    ensures word { WordExecuted (λ left. call_stepped at.0 at.1 at.2 at.3 hart.old.machine left) hart.old hart.new
-        (record { input = I.state input.old; output = O.state out.old; error = E.state err.old })
-        (record { input = I.state input.new; output = O.state out.new; error = E.state err.new }) result }
+    ensures gave { HasGiven (I.state input.old) (I.state input.new) }
+    ensures word { AsTold (I.state input.old) (I.state input.new) (λ old new.
+        WordExecuted (λ left. call_stepped at.0 at.1 at.2 at.3 hart.old.machine left) hart.old hart.new
+        (record { input = old; output = O.state out.old; error = E.state err.old })
+        (record { input = new; output = O.state out.new; error = E.state err.new }) result) }
     ensures goes { OnOk result (CalledAt at.0 at.1 at.2 at.3 hart.old hart.new) }
-    ensures moved { Moved hart.old.machine hart.new.machine.bus (I.state input.old).left (I.state input.new).left }
+    ensures moved { AsTold (I.state input.old) (I.state input.new) (λ old new. Moved hart.old.machine hart.new.machine.bus old.left new.left) }
 {
     hart.machine.call_step(input, out, err)?;
     if hart.machine.ending.is_none() {
@@ -152,10 +156,11 @@ pub(crate) fn word_step<I: Source, O: Sink, E: Sink>(
     err: &mut E,
 ) -> Result<(), CallFault>
     requires { ReadyAt hart.old at.0 at.1 at.2 at.3 }
-    ensures { WordStepped x.now at.0 at.1 at.2 at.3
+    ensures gave { HasGiven (I.state input.old) (I.state input.new) }
+    ensures word { AsTold (I.state input.old) (I.state input.new) (λ old new. WordStepped x.now at.0 at.1 at.2 at.3
         (λ left. word_stepped role at.0 at.1 at.2 at.3 hart.old.machine x.now left) hart.old hart.new
-        (record { input = I.state input.old; output = O.state out.old; error = E.state err.old })
-        (record { input = I.state input.new; output = O.state out.new; error = E.state err.new }) result }
+        (record { input = old; output = O.state out.old; error = E.state err.old })
+        (record { input = new; output = O.state out.new; error = E.state err.new }) result) }
 {
     if run_word(hart, at, x, role) {
         call_word(hart, (at.0, at.1, at.2, at.3), input, out, err)

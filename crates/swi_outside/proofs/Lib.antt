@@ -1,1 +1,3 @@
 pub mod SinkLemmas
+pub mod SourceLemmas
+pub mod ToldLemmas

@@ -9,6 +9,10 @@ pub record Devices : Type 0 where
   pub output : SinkState
   pub error : SinkState
 
+-- a run's three streams, as the devices of a run
+abbrev pub streams : SourceState → SinkState → SinkState → Devices
+streams input output error = record { input = input; output = output; error = error }
+
 -- their counts of faults
 pub record Faults : Type 0 where
   pub input : ℕ

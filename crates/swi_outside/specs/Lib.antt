@@ -5,3 +5,4 @@ pub mod Laws
 pub mod Shelf
 pub mod Sink
 pub mod Source
+pub mod Told

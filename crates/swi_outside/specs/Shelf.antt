@@ -1,5 +1,5 @@
 -- Contents under names, and the last call that failed.
-use Rattle.std.specs.Prelude.{◌≡◌, ◌≢◌, ℕ, ◌<◌, ◌≤◌, List, length, Option, Some, None, ⊤, Result, Err, IfOk, OnOk, Vec}
+use Rattle.std.specs.Prelude.{◌≡◌, ◌≢◌, ℕ, ◌<◌, ◌≤◌, List, [], ◌∷◌, ◌++◌, length, Option, Some, None, ⊤, Result, Ok, Err, IfOk, OnOk, Vec}
 use Rattle.std.specs.declared.alloc.Global.{Global}
 use Rattle.swi_outside.specs.Causes.{Rose, counted}
 use Rattle.swi_outside.specs.declared.shelf.ShelfError.{ShelfError}
@@ -38,12 +38,20 @@ abbrev pub IsLonger : Option Contents → List ℕ → ℕ → Type 0
 IsLonger None name limit = ⊤
 IsLonger (Some m) name limit = (bytes : List ℕ) × (m name ≡ Some bytes) × (limit < length bytes)
 
--- a shelf, as far as it tells: its contents, how often it was asked, its count of faults, and the last call that answered `Failed`; the
--- counts stand still at 2^64 - 1
+-- names, each with a content, in the order in which they passed
+abbrev pub Passed : Type 0
+Passed = List (List ℕ × List ℕ)
+
 pub record ShelfState : Type 0 where
+  -- what stands under each name, where the shelf tells it
   pub contents : Option Contents
+  -- what its gets gave, and what its puts stored, the first one first
+  pub got : Passed
+  pub stored : Passed
+  -- how often it was asked, and a count of the calls that answered `Failed`; both stand still at 2^64 - 1
   pub calls : ℕ
   pub faults : ℕ
+  -- the last call that answered `Failed`
   pub last_failed : Option Asked
 
 -- the count never falls, `Failed` comes only where it rose, and only `Failed` raises it and changes
@@ -53,20 +61,34 @@ pub record ShelfCause {T : Type 0} (old new : ShelfState) (asked : Asked) (resul
   pub failed : result ≡ Err Failed → Rose old.faults new.faults × (new.last_failed ≡ Some asked)
   pub quiet : (result ≡ Err Failed → ⊥) → (new.faults ≡ old.faults) × (new.last_failed ≡ old.last_failed)
 
--- A get of a name, by its answer: it changes no content. `Long` comes only where the content has more bytes than the limit.
+-- what was given, after a get of a name that answered so
+abbrev pub got_after : Passed → List ℕ → Result (Vec ℕ Global) ShelfError → Passed
+got_after got name (Ok bytes) = got ++ (name, bytes.items) ∷ []
+got_after got name (Err e) = got
+
+-- what was stored, after a put of these bytes under a name that answered so
+abbrev pub stored_after : Passed → List ℕ → List ℕ → Result Unit ShelfError → Passed
+stored_after stored name bytes (Ok u) = stored ++ (name, bytes) ∷ []
+stored_after stored name bytes (Err e) = stored
+
+-- A get of a name, by its answer: it changes no content, and what it gives is noted. `Long` comes only where the content has more bytes than the limit.
 pub record WasGot (old new : ShelfState) (name : List ℕ) (limit : ℕ) (result : Result (Vec ℕ Global) ShelfError) : Type 0 where
   pub same : Same old.contents new.contents
   pub content : IfOk result (λ bytes. Stands old.contents name bytes.items)
   pub within : IfOk result (λ bytes. length bytes.items ≤ limit)
   pub long : result ≡ Err Long → IsLonger old.contents name limit
+  pub gave : new.got ≡ got_after old.got name result
+  pub none_stored : new.stored ≡ old.stored
   pub asked : new.calls ≡ counted old.calls
   pub cause : ShelfCause old new (get_of name) result
 
--- A put under a name, by its answer: all others stay, and after `Memory` every content. It never answers `Long`.
+-- A put under a name, by its answer: all others stay, and after `Memory` every content. What it stores is noted. It never answers `Long`.
 pub record WasPut (old new : ShelfState) (name bytes : List ℕ) (result : Result Unit ShelfError) : Type 0 where
   pub others : SameElsewhere old.contents new.contents name
   pub stands : OnOk result (Stands new.contents name bytes)
   pub not_long : result ≡ Err Long → ⊥
   pub memory : result ≡ Err Memory → Same old.contents new.contents
+  pub none_given : new.got ≡ old.got
+  pub stores : new.stored ≡ stored_after old.stored name bytes result
   pub asked : new.calls ≡ counted old.calls
   pub cause : ShelfCause old new (put_of name) result

@@ -15,7 +15,8 @@ pub enum ShelfError {
 
 /// Contents under names, as files in a folder.
 pub trait Shelf {
-    /// What stands under each name, where the shelf tells it, how often it was asked, and its failed calls.
+    /// What stands under each name, where the shelf tells it, what it gave and stored, how often it was asked, and its
+    /// failed calls.
     ghost state: { Self → ShelfState };
 
     /// The whole content under `name`, of at most `limit` bytes. It changes no content.

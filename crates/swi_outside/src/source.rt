@@ -6,11 +6,11 @@ use crate::Failed;
 
 /// Input, byte after byte.
 pub trait Source {
-    /// Its bytes, and its count of failed calls.
+    /// The bytes that it gave, those that are left, and its count of failed calls.
     ghost state: { Self → SourceState };
 
     /// Puts the next bytes at the front of a buffer that is not empty, and answers how many: at most
-    /// the buffer's length, and 0 where the input has ended.
+    /// the buffer's length, and 0 where the input has ended. No byte comes behind its end.
     ///
     /// `Failed` takes nothing from the input. What the buffer holds behind these bytes, and all of it
     /// after `Failed`, is not said.

@@ -7,7 +7,7 @@ use Rattle.swi_calls.proofs.moves.read_into.Given as goal
 abbrev pub invariant-loop-done : goal.invariant-loop-done
 invariant-loop-done g l = record {
   within : l.done ≤ l.count;
-  reads : ReadsInto l.fn.bus l.bus (g.I.Source.state l.fn.input).left (g.I.Source.state l.input).left l.a l.done;
+  reads : ReadsInto l.fn.bus l.bus (g.I.Source.state l.fn.input) (g.I.Source.state l.input) l.a l.done;
   held : holds l.bus Write l.a l.count ≡ true;
   still : (g.I.Source.state l.input).faults ≡ (g.I.Source.state l.fn.input).faults;
 }

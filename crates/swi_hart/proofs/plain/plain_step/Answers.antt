@@ -1,6 +1,7 @@
 use Rattle.std.proofs.Common.{ℕ, List, [], refl, sym, ap, ◌∙◌, slice_index, arith}
 use Rattle.swi_isa.specs.Decode.{decoded}
 use Rattle.swi_outside.specs.CacheRam.{RamState}
+use Rattle.swi_outside.proofs.SourceLemmas.{given_still, rest_is}
 use Rattle.swi_hart.specs.Hart.{HartData}
 use Rattle.swi_hart.specs.Exchanged.{is_plain}
 use Rattle.swi_hart.specs.Leaving.{broken}
@@ -24,7 +25,7 @@ returns-in-Err g c =
     let plain = ap (λ (w : ℕ). is_plain (decoded w)) (sym c.requires.own) ∙ c.requires.plain in
     let below = plain_below v r h.machine span ram.words c.args.at.0 c.args.at.1 c.args.at.2 c.args.at.3 sound coherent c.requires.home h.control c.requires.control plain c.requires.sound in
     let failed = ram_unfetched v h.machine h.control _ c.args.at.0 c.args.at.1 c.args.at.2 c.args.at.3 _ _ c.requires.control below c.in-Err.ensures.fetched in
-    record { stepped = ram_stopped _ _ _ _ _ (ap broken c.hart.view_is) refl failed; executes = tt }
+    record { gave = given_still _; unasked = λ e. refl; stepped = λ i rest read. rw (rest_is read) (ram_stopped _ _ _ _ _ (ap broken c.hart.view_is) refl failed); executes = tt }
 
 pub run_word-requires : goal.run_word-requires
 run_word-requires g c =
@@ -69,7 +70,9 @@ returns g c =
     let fetched = c.in-Ok.ensures.fetched.1 in
     let ran = (c.run_word.ensures.ran runs).ran [] in
     record {
-      stepped = record {
+      gave = given_still _;
+      unasked = λ e. refl;
+      stepped = λ i rest read. rw (rest_is read) (record {
         made = λ s left told. made_plain v r h c.run_word.new.hart ram.words c.args.at.0 c.args.at.1 c.args.at.2 c.args.at.3 c.requires.home c.requires.control plain c.in-Some-Some.image_word c.in-Some-Some.x c.role-role.result own_is held_is c.role-role.ensures ((c.run_word.ensures.ran runs).ran) (own_word v r h.machine span ram.words c.args.at.0 c.args.at.1 c.args.at.2 c.args.at.3 sound coherent c.requires.home h.control c.requires.control plain s) (c.run_word.ensures.ran runs).took (c.run_word.ensures.ran runs).output (c.run_word.ensures.ran runs).error left _ _ _ told;
         fits = fits_plain v r h c.run_word.new.hart ram.words c.args.at.0 c.args.at.1 c.args.at.2 c.args.at.3 c.requires.home c.requires.control plain c.in-Some-Some.image_word c.in-Some-Some.x c.role-role.result own_is held_is c.role-role.ensures ((c.run_word.ensures.ran runs).ran) (ap is_plain held_is ∙ held) c.requires.ready.fits c.requires.ready.running c.requires.word;
         counted = record { count = ap (λ (k : HartData). k.count) ran; failed = ap (λ (k : HartData). k.failed) ran; booted = ap (λ (k : HartData). k.booted) ran };
@@ -91,7 +94,7 @@ returns g c =
         kept = (ram_exit _ _ c.args.at.0 c.args.at.1 c.args.at.2 c.args.at.3 h.control _ _ _ c.requires.control below fetched same).kept;
         causes = none_named refl (λ e. cc) (λ e. cc);
         ram_cause = no_cause (ap (λ (k : RamState). k.faults) fetched) (λ e. cc);
-      };
+      });
       executes = λ i b o stage p. same_at h c.run_word.new.hart c.args.rom.now ram.words (g.M.CacheRam.state c.fetch.new.self).words c.args.at.0 c.args.at.1 c.args.at.2 c.args.at.3 i b o stage _ _ _ (sym c.requires.control ∙ p.control) (ap (λ (k : RamState). k.words) fetched)
           (λ y is. executes_plain v r h c.run_word.new.hart ram.words c.args.at.0 c.args.at.1 c.args.at.2 c.args.at.3 c.requires.home c.requires.control plain c.in-Some-Some.image_word c.in-Some-Some.x c.role-role.result own_is held_is c.role-role.ensures (c.run_word.ensures.ran runs).ran y is);
     }

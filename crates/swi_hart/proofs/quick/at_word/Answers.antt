@@ -1,7 +1,8 @@
-use Rattle.std.proofs.Common.{Option, ap, subst, ◌+◌, ℕ, List, slice_index, sym, ◌∙◌, refl}
+use Rattle.std.proofs.Common.{Option, Some, ap, subst, ◌+◌, ℕ, List, slice_index, sym, ◌∙◌, refl}
 use Rattle.swi_outside.specs.CacheRam.{RamState}
 use Rattle.swi_image.specs.Place.{word_at}
 use Rattle.swi_memory.specs.Bus.{AreaData}
+use Rattle.swi_outside.proofs.SourceLemmas.{rest_is}
 use Rattle.swi_hart.specs.Calling.{Moved, with_memory}
 use Rattle.swi_hart.specs.Hart.{HartData, Stepped, exit_kind}
 use Rattle.swi_hart.specs.Leaving.{exit_transfer, broken}
@@ -24,8 +25,9 @@ exit_step-requires-clause-home g c =
     exit_home c.args.image.now (g.R.CacheRom.service.kept c.args.rom.now) c.args.hart.now.machine _ _ c.args.at.0 c.args.at.1 c.args.at.2 c.args.at.3
     (g.met.R.CacheRom.laws.coherent _ _ _ c.requires.sound) c.requires.home c.args.got c.in-Some.x c.requires.got (sym c.in-Some.is ∙ c.decode.ensures) (sym c.leaves.ensures ∙ c.if-leaves.true)
 
-pub returns-in-Ok : goal.returns-in-Ok
-returns-in-Ok g c = λ before fetched.
+pub returns-in-Ok-clause-stepped : goal.returns-in-Ok-clause-stepped
+returns-in-Ok-clause-stepped g c i rest read before fetched =
+    rw (rest_is read) (
     let v = c.args.image.now in
     let r = g.R.CacheRom.service.kept c.args.rom.now in
     let new = g.R.CacheRom.service.kept c.exit_step.new.rom in
@@ -60,10 +62,11 @@ returns-in-Ok g c = λ before fetched.
       kept = kept_after _ c.args.at.0 before _ _ below fetched.1 s.served.ram.kept;
       causes = none_named refl (λ e. cc) (λ e. cc);
       ram_cause = no_cause (s.served.ram.quiet ∙ ap (λ (k : RamState). k.faults) fetched.1) (λ e. cc);
-    }
+    })
 
-pub returns-in-Err : goal.returns-in-Err
-returns-in-Err g c = λ before fetched.
+pub returns-in-Err-clause-stepped : goal.returns-in-Err-clause-stepped
+returns-in-Err-clause-stepped g c i rest read before fetched =
+    rw (rest_is read) (
     let v = c.args.image.now in
     let r = g.R.CacheRom.service.kept c.args.rom.now in
     let h = c.args.hart.now in
@@ -74,10 +77,10 @@ returns-in-Err g c = λ before fetched.
     let s = c.in-Err.ensures in
     ram_stopped _ _ _ _ _ (ap broken (c.hart.view_is ∙ s.stays)) s.served.setting
     (ram_unserved v h.machine h.control _ c.args.at.0 c.args.at.1 c.args.at.2 c.args.at.3 before _ _ c.requires.control below fetched.1 s.served.failed
-    (exit_placed v h.machine h.control c.args.at.0 c.args.at.1 c.args.at.2 c.args.at.3 c.requires.control e s.served.placed))
+    (exit_placed v h.machine h.control c.args.at.0 c.args.at.1 c.args.at.2 c.args.at.3 c.requires.control e s.served.placed)))
 
-pub returns-in-Ok-word_step : goal.returns-in-Ok-word_step
-returns-in-Ok-word_step g c = λ before fetched.
+pub returns-in-Ok-word_step-clause-stepped : goal.returns-in-Ok-word_step-clause-stepped
+returns-in-Ok-word_step-clause-stepped g c i rest read before fetched =
     let v = c.args.image.now in
     let r = g.R.CacheRom.service.kept c.args.rom.now in
     let h = c.args.hart.now in
@@ -86,7 +89,7 @@ returns-in-Ok-word_step g c = λ before fetched.
     coherent c.requires.home c.args.got c.in-Some.x c.requires.got (sym c.in-Some.is ∙ c.decode.ensures) (sym c.leaves.ensures ∙ c.if-leaves.false) in
     let below = index_below v r h.machine _ _ c.args.at.0 c.args.at.1 c.args.at.2 c.args.at.3 coherent c.requires.home in
     let same = ram_same (g.R.CacheRom.service.span (g.R.CacheRom.service.setting c.args.rom.now)) r (g.M.CacheRam.state c.args.ram.now) in
-    let s = c.in-Ok-word_step.ensures in
+    let s = c.in-Ok-word_step.ensures.word i rest read in
     let grows = grown_word v r r h c.word_step.new.hart c.args.at.0 c.args.at.1 c.args.at.2 c.args.at.3 c.requires.control
     (sym c.requires.ready.running) c.in-Some.x c.role-role.result _ _ refl w c.role-role.ensures s.went in
     record {
@@ -116,8 +119,8 @@ returns-in-Ok-word_step g c = λ before fetched.
       ram_cause = no_cause (ap (λ (k : RamState). k.faults) fetched.1) (λ e. cc);
     }
 
-pub returns-in-Err-word_step : goal.returns-in-Err-word_step
-returns-in-Err-word_step g c = λ before fetched.
+pub returns-in-Err-word_step-clause-stepped : goal.returns-in-Err-word_step-clause-stepped
+returns-in-Err-word_step-clause-stepped g c i rest read before fetched =
     let v = c.args.image.now in
     let r = g.R.CacheRom.service.kept c.args.rom.now in
     let h = c.args.hart.now in
@@ -125,7 +128,7 @@ returns-in-Err-word_step g c = λ before fetched.
     let below = index_below v r h.machine _ _ c.args.at.0 c.args.at.1 c.args.at.2 c.args.at.3 coherent c.requires.home in
     let w = word_home v r h.machine _ _ c.args.at.0 c.args.at.1 c.args.at.2 c.args.at.3
     coherent c.requires.home c.args.got c.in-Some.x c.requires.got (sym c.in-Some.is ∙ c.decode.ensures) (sym c.leaves.ensures ∙ c.if-leaves.false) in
-    let s = c.in-Err-word_step.ensures in
+    let s = c.in-Err-word_step.ensures.word i rest read in
     record {
       made = λ sound. tt;
       fits = tt;
@@ -141,11 +144,11 @@ returns-in-Err-word_step g c = λ before fetched.
       broke = λ sound. on_device Unit _ c.in-Err-word_step.fault c.fault_of.result c.fault_of.ensures (λ left told.
           broken_word v r h c.word_step.new.hart.machine.bus c.args.at.0 c.args.at.1 c.args.at.2 c.args.at.3 c.requires.control
           c.in-Some.x c.role-role.result left _ _ _ _ _ w c.role-role.ensures s.asked
-          (subst (λ (k : Option (List ℕ)). Moved h.machine c.word_step.new.hart.machine.bus k (g.I.Source.state c.word_step.new.input).left) told s.moved)
+          (subst (λ (k : Option (List ℕ)). Moved h.machine c.word_step.new.hart.machine.bus k (Some rest)) told s.moved)
           (s.executed.devices.output_prefix left told) (s.executed.devices.error_prefix left told));
       call = on_device Unit _ c.in-Err-word_step.fault c.fault_of.result c.fault_of.ensures (record {
         between = between_call v h.machine h.control c.args.at.0 c.args.at.1 c.args.at.2 c.args.at.3 c.requires.control c.in-Some.x w s.call;
-        moved = subst (λ (k : List AreaData). Moved h.machine k (g.I.Source.state c.args.input.now).left (g.I.Source.state c.word_step.new.input).left) (sym (ap (λ (k : HartData). k.machine.bus) c.hart-2.view_is)) s.moved;
+        moved = subst (λ (k : List AreaData). Moved h.machine k (Some i) (Some rest)) (sym (ap (λ (k : HartData). k.machine.bus) c.hart-2.view_is)) s.moved;
         unasked_output = λ left none. s.executed.devices.unasked_output left (ap (λ (k : Stepped). k.made.output) (s.asked left) ∙ none);
         unasked_error = λ left none. s.executed.devices.unasked_error left (ap (λ (k : Stepped). k.made.error) (s.asked left) ∙ none);
       });

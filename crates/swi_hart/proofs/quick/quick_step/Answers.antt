@@ -2,6 +2,7 @@ use Rattle.std.proofs.Common.{◌≡◌, ◌+◌, sym, ◌∙◌, refl, subst, a
 use Rattle.swi_exec.specs.declared.done.FaultKind.TheVariants as kind
 use Rattle.swi_calls.specs.declared.end.End.TheVariants.{Faulted}
 use Rattle.swi_calls.specs.Flat.{ended}
+use Rattle.swi_outside.proofs.SourceLemmas.{rest_is}
 use Rattle.swi_hart.specs.Hart.{HartData}
 use Rattle.swi_hart.specs.declared.hart.Control.{Control}
 use Rattle.swi_hart.specs.declared.hart.Control.TheVariants.{Outside}
@@ -19,7 +20,8 @@ at_step-requires-clause-home g c =
     (sym (ap (λ (h : HartData). h.control) c.hart.view_is) ∙ sym c.control.ensures ∙ c.in-At.is) c.requires.ready.running c.origin_pc-pc.ensures.word
 
 pub returns-in-Outside-clause-stepped : goal.returns-in-Outside-clause-stepped
-returns-in-Outside-clause-stepped g c =
+returns-in-Outside-clause-stepped g c i rest read =
+    rw (rest_is read) (
     let v = c.args.image.now in
     let r = g.R.CacheRom.service.kept c.args.rom.now in
     let h = c.args.hart.now in
@@ -50,4 +52,4 @@ returns-in-Outside-clause-stepped g c =
       kept = (ram_same span r (g.M.CacheRam.state c.args.ram.now)).kept;
       causes = none_named refl (λ e. cc) (λ e. cc);
       ram_cause = no_cause refl (λ e. cc);
-    }
+    })

@@ -1,4 +1,4 @@
-use Rattle.std.proofs.Common.{◌≡◌, Option, Some, false, List, ℕ, Result, None, is_some, ap, subst, sym, ◌∙◌}
+use Rattle.std.proofs.Common.{◌≡◌, Option, Some, false, List, ℕ, Result, None, is_some, ap, subst, sym, ◌∙◌, rules}
 use Rattle.swi_calls.specs.declared.end.CallFault.{CallFault}
 use Rattle.swi_outside.specs.Devices.{Devices}
 use Rattle.swi_calls.specs.Exchange.{Exchange, Exchanged}
@@ -10,6 +10,7 @@ use Rattle.swi_exec.specs.Registers.{Registers}
 use Rattle.swi_memory.specs.Bus.{AreaData, fetched}
 use Rattle.swi_micro.specs.Decoded.{AreDecoded}
 use Rattle.swi_micro.proofs.Forgetting.{same_words}
+use Rattle.swi_flat.proofs.QuietSteps.{made_by, no_call, no_instruction, no_word, not_break, not_fault, not_next, quiet_step}
 use Rattle.swi_flat.proofs.Stepping.{calls, written_back, fetches_beside}
 use Rattle.swi_flat.proofs.flat.Flat.step.Goals as goal
 use Rattle.swi_flat.proofs.flat.Flat.step.Goals.{then-is_some, else-is_some}
@@ -65,3 +66,48 @@ returns-after-is_some-clause-devices g c =
     (c.exec.ensures.call c.in-Call.is) c.in-Call.ensures.unchanged.0 c.in-Call.ensures.unchanged.1 left
     ∙ ap (λ f. made f.machine left) c.self.view_is in
     spelled (λ left. ap exchange_of (is left)) c.call_step-result.ensures.devices
+
+-- steps that ask for no device
+pub returns-in_default-clause-devices : goal.returns-in_default-clause-devices
+returns-in_default-clause-devices g c =
+    rw (← c.self.view_is) (quiet_step c.self.inside.machine _ _ _ (no_word c.self.inside.machine c.fetch.result c.fetch.ensures.value c.in_default.is))
+
+pub returns-in_default-decode-clause-devices : goal.returns-in_default-decode-clause-devices
+returns-in_default-decode-clause-devices g c =
+    rw (← c.self.view_is) (quiet_step c.self.inside.machine _ _ _
+    (no_instruction c.self.inside.machine c.in-Some.word c.fetch.result c.decode.result c.fetch.ensures.value c.in-Some.is c.decode.ensures c.in_default-decode.is))
+
+pub returns-in-Some-stored-clause-devices : goal.returns-in-Some-stored-clause-devices
+returns-in-Some-stored-clause-devices g c =
+    rw (← c.self.view_is) (quiet_step c.self.inside.machine _ _ _
+    (no_call c.self.inside.machine c.in-Some.word c.in-Some-decode.instruction c.fetch.result c.decode.result c.exec.result c.fetch.ensures.value c.in-Some.is c.decode.ensures c.in-Some-decode.is
+    c.exec.ensures.done (not_next c.exec.result c.in-Next.pc c.in-Next.is)))
+
+pub returns-in_default-stored-clause-devices : goal.returns-in_default-stored-clause-devices
+returns-in_default-stored-clause-devices g c =
+    rw (← c.self.view_is) (quiet_step c.self.inside.machine _ _ _
+    (no_call c.self.inside.machine c.in-Some.word c.in-Some-decode.instruction c.fetch.result c.decode.result c.exec.result c.fetch.ensures.value c.in-Some.is c.decode.ensures c.in-Some-decode.is
+    c.exec.ensures.done (not_next c.exec.result c.in-Next.pc c.in-Next.is)))
+
+pub returns-in-Break-clause-devices : goal.returns-in-Break-clause-devices
+returns-in-Break-clause-devices g c =
+    rw (← c.self.view_is) (quiet_step c.self.inside.machine _ _ _
+    (no_call c.self.inside.machine c.in-Some.word c.in-Some-decode.instruction c.fetch.result c.decode.result c.exec.result c.fetch.ensures.value c.in-Some.is c.decode.ensures c.in-Some-decode.is
+    c.exec.ensures.done (not_break c.exec.result c.in-Break.is)))
+
+pub returns-in-Fault-clause-devices : goal.returns-in-Fault-clause-devices
+returns-in-Fault-clause-devices g c =
+    rw (← c.self.view_is) (quiet_step c.self.inside.machine _ _ _
+    (no_call c.self.inside.machine c.in-Some.word c.in-Some-decode.instruction c.fetch.result c.decode.result c.exec.result c.fetch.ensures.value c.in-Some.is c.decode.ensures c.in-Some-decode.is
+    c.exec.ensures.done (not_fault c.exec.result c.in-Fault.kind c.in-Fault.address c.in-Fault.is)))
+
+-- the step of a call
+pub returns-after-is_some-clause-machine : goal.returns-after-is_some-clause-machine
+returns-after-is_some-clause-machine g c =
+    let m = c.self.inside.machine in
+    let is : (left : List ℕ) → call_made (record m { regs = c.exec.new.regs; bus = c.exec.new.bus }) left ≡ made c.args.self.now.machine left =
+    λ left.
+    calls m c.exec.new.regs c.exec.new.bus c.in-Some.word c.in-Some-decode.instruction c.fetch.result c.decode.result c.fetch.ensures.value c.in-Some.is c.decode.ensures c.in-Some-decode.is
+    (c.exec.ensures.call c.in-Call.is) c.in-Call.ensures.unchanged.0 c.in-Call.ensures.unchanged.1 left
+    ∙ ap (λ f. made f.machine left) c.self.view_is in
+    made_by c.call_step-result.result _ c.call_step-result.new.self c.args.self.now.machine (record m { regs = c.exec.new.regs; bus = c.exec.new.bus }) _ _ (search rules) is c.call_step-result.ensures.machine
