@@ -55,6 +55,8 @@ SECTIONS
     *(.sbss .sbss.*)
     *(.bss .bss.* COMMON)
     . = ALIGN(16);
+    /* Never empty: else the heap begins behind the text, in a page of text. */
+    . = SIZEOF(.data) + SIZEOF(.tdata) + . == 0 ? 16 : .;
   } :data
 
   /DISCARD/ : { *(.comment) *(.note .note.*) *(.eh_frame .eh_frame_hdr) *(.riscv.attributes) }

@@ -39,12 +39,13 @@ EXPORT extern int qemu_plugin_version;
 EXPORT int qemu_plugin_version = 1;
 EXPORT int qemu_plugin_install(qemu_plugin_id_t, const struct qemu_info_t *, int, char **);
 
-/* The places in the runtime that are watched. Those from MISS on tell what a service does. */
+/* The places in the runtime that are watched. Those from RETURN_EXIT on tell what a service does. */
 enum watched {
     TRAP_VECTOR,
     TRAP_RETURN,
     TRAP_RETURN_SHORT,
     TRAP_RETURN_FIND,
+    RETURN_EXIT,
     MISS,
     EVICT,
     LINK,
@@ -55,8 +56,8 @@ enum watched {
     WATCHED
 };
 static const char *const watched_names[WATCHED] = {
-    "trap_vector", "trap_return", "trap_return_short", "trap_return_find", "miss", "evict", "link",
-    "undo",        "call",        "board_word",        "deliver"};
+    "trap_vector", "trap_return", "trap_return_short", "trap_return_find", "return_exit", "miss",
+    "evict",       "link",        "undo",              "call",             "board_word",  "deliver"};
 static uint64_t watched_at[WATCHED];
 
 enum bound { CACHE, CACHE_END, RUNTIME, RUNTIME_END, FAST, FAST_END, BOUNDS };
@@ -67,8 +68,8 @@ static char out_name[4096] = "count.txt";
 
 static uint64_t in_cache, in_runtime, elsewhere, slow_loads;
 
-/* Services by kind: a kind is the set of what they did, a bit for each place from MISS on. */
-#define KINDS (1u << (WATCHED - MISS))
+/* Services by kind: a kind is the set of what they did, a bit for each place from RETURN_EXIT on. */
+#define KINDS (1u << (WATCHED - RETURN_EXIT))
 static struct {
     uint64_t count, instructions, least, most, slow_loads;
 } kinds[KINDS];
@@ -105,10 +106,10 @@ static void passed(unsigned int hart, void *which)
     (void)hart;
     if (at == TRAP_VECTOR)
         begin_service();
-    else if (at < MISS)
+    else if (at < RETURN_EXIT)
         end_service();
     else
-        kind |= 1u << (at - MISS);
+        kind |= 1u << (at - RETURN_EXIT);
 }
 
 static void touched(unsigned int hart, qemu_plugin_meminfo_t info, uint64_t address, void *data)
@@ -147,9 +148,9 @@ static void translated(qemu_plugin_id_t id, struct qemu_plugin_tb *block)
 static void write_kind(FILE *out, unsigned int which)
 {
     fprintf(out, "kind %s", which ? "" : "placed");
-    for (unsigned int k = MISS; k < WATCHED; k++)
-        if (which & 1u << (k - MISS))
-            fprintf(out, "%s%s", which & ((1u << (k - MISS)) - 1) ? "+" : "", watched_names[k]);
+    for (unsigned int k = RETURN_EXIT; k < WATCHED; k++)
+        if (which & 1u << (k - RETURN_EXIT))
+            fprintf(out, "%s%s", which & ((1u << (k - RETURN_EXIT)) - 1) ? "+" : "", watched_names[k]);
     fprintf(out, " %" PRIu64 " instructions %" PRIu64 " least %" PRIu64 " most %" PRIu64 " slow %" PRIu64 "\n",
             kinds[which].count, kinds[which].instructions, kinds[which].least, kinds[which].most,
             kinds[which].slow_loads);

@@ -2,7 +2,8 @@
 
 native/run --firmware FILE --gdb PORT tells the words by which gdb begins with this file. `original` tells where the firmware stands: the
 original address of a pc in the cache, its function and line, and the callers. `original-break LOCATION` stops where the instruction of a
-location, as a function or FILE:LINE, is executed in the cache. It takes a hardware breakpoint for each slot, of which qemu has any number.
+location, as a function or FILE:LINE, is executed in the cache. It takes two hardware breakpoints: one goes with the block to the slot where it
+stands, the other stops for a moment where a block is copied, and so sees to that.
 """
 import gdb
 
@@ -12,6 +13,11 @@ EBREAK = 0x00100073
 
 def address_of(symbol):
     return int(gdb.parse_and_eval(f"(unsigned int)&{symbol}"))
+
+
+def service(field):
+    """A number that the service keeps; the firmware may have such names too."""
+    return int(gdb.parse_and_eval(f"'service.c'::service.{field}"))
 
 
 def word(address):
@@ -103,6 +109,42 @@ class SlotBreak(gdb.Breakpoint):
         return self.image.block_in(self.slot) == self.block
 
 
+class CopyBreak(gdb.Breakpoint):
+    """Stops where the service is about to copy a block, or to take its slot for another; then its SlotBreak is set or deleted."""
+    known = []
+
+    def __init__(self, image, block, offset, named):
+        self.image, self.block, self.offset, self.named = image, block, offset, named
+        super().__init__("*&'service.c'::miss", type=gdb.BP_HARDWARE_BREAKPOINT, internal=True)
+        self.silent = True
+        self.commands = "silent\npython CopyBreak.follow()\ncontinue"  # a breakpoint may not be set within `stop`
+        self.known.append(self)
+        self.there = None
+        filled = image.slots if service("is_full") else service("next_slot")
+        for slot in range(filled):
+            if image.block_in(slot) == block:
+                self.put(slot)
+
+    def put(self, slot):
+        self.there = SlotBreak(self.image, slot, self.block, self.offset, self.named)
+
+    def is_copied(self):
+        return int(gdb.parse_and_eval("(unsigned int)$a0")) == self.block
+
+    def stop(self):
+        return self.is_copied() or self.there is not None and self.there.slot == service("next_slot")
+
+    @classmethod
+    def follow(cls):
+        for each in cls.known:
+            if each.stop():
+                if each.there is not None:
+                    each.there.delete()
+                    each.there = None
+                if each.is_copied():
+                    each.put(service("next_slot"))
+
+
 class OriginalBreak(gdb.Command):
     """original-break LOCATION: stops where the instruction there is executed in the cache."""
 
@@ -115,13 +157,12 @@ class OriginalBreak(gdb.Command):
             _, found = gdb.decode_line(named)
         except gdb.error as error:
             raise gdb.GdbError(str(error)) from None
-        text_word = (found[0].pc - image.base) // 4
-        if not 0 <= text_word < image.text_words:
-            raise gdb.GdbError(f"{named}, {found[0].pc:08x}, is not in the text")
-        block = image.block_of(text_word)
-        for slot in range(image.slots):
-            SlotBreak(image, slot, block, image.offset(text_word), named)
-        print(f"stops at {named}, {image.base + 4 * text_word:08x}, in each of {image.slots} slots")
+        for pc in sorted({each.pc for each in found}): # an inlined function has several places
+            text_word = (pc - image.base) // 4
+            if not 0 <= text_word < image.text_words:
+                raise gdb.GdbError(f"{named}, {pc:08x}, is not in the text")
+            CopyBreak(image, image.block_of(text_word), image.offset(text_word), named)
+            print(f"stops at {named}, {pc:08x}")
 
 
 def tell(event):

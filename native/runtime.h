@@ -22,7 +22,9 @@
 #define FRAME_BYTES ((FRAME_MEMO_PLACES + 4 * MEMO_ENTRIES + 15) / 16 * 16)
 
 /* The memo of targets of jumps over registers: an entry's number is a target's bits from 2 on. A power of 2. */
+#ifndef MEMO_ENTRIES
 #define MEMO_ENTRIES 16
+#endif
 
 /* A text word's place in one word: its block from this bit on, its offset in the block below. */
 #define PLACE_BLOCK_SHIFT 13

@@ -84,6 +84,8 @@ trap_vector:
     lw      t1, 4(t0)               # the descriptor
     li      t0, 0x00008067          # ret: JALR x0, 0(ra)
     bne     t1, t0, other_exit
+    .globl  return_exit
+return_exit:
     entry_for ra
     lw      t1, FRAME_MEMO_TARGETS(t0)
     bne     t1, ra, unknown_return

@@ -58,7 +58,7 @@ static bool is_text_page(uint32_t address)
     if (!touches_text(address, 4096))
         return false;
     if (!touches_text(address, 1) || !touches_text(address + 4095, 1))
-        refuse(STATUS_BOARD, "native: text, and data that may be written, share a page of 4096 bytes");
+        refuse(STATUS_BOARD, "native: text, and data that may be written, share a page of 4096 bytes: link them apart");
     return true;
 }
 

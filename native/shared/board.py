@@ -34,7 +34,7 @@ class Board:
 
 def read_board(name):
     """A board by its name in native/boards, or by the path of a folder elsewhere."""
-    folder = pathlib.Path(name) if "/" in name else BOARDS / name
+    folder = BOARDS / name if (BOARDS / name).is_dir() else pathlib.Path(name)
     try:
         held = tomllib.loads((folder / "board.toml").read_text(encoding="utf-8"))
         ram = range(held["ram"], held["ram"] + held["ram_bytes"])

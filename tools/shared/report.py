@@ -77,7 +77,8 @@ class Report:
             kind = f"  {kind_of(row.cache):5}" if self.has_rings else ""
             yield f"{row.cache.size:9} {row.cache.block:6}{kind} {self.line(row)}{'  ' + row.note if row.note else ''}"
         if self.sweep.registers is not None:
-            yield f"of the services, in each of these caches, jumps over registers: {1000 * self.sweep.registers / max(first.steps, 1):.3f}"
+            returns = "" if self.sweep.returns is None else f", and of these returns: {1000 * self.sweep.returns / max(first.steps, 1):.3f}"
+            yield f"of the services, in each of these caches, jumps over registers: {1000 * self.sweep.registers / max(first.steps, 1):.3f}{returns}"
         if self.board and self.sweep.traced and not self.board.alternatives.functions:
             yield "hot: the file names no functions (it was stripped), so the hottest are not told"
         if self.sweep.traced and not self.sweep.traced.whole:
@@ -103,18 +104,18 @@ class Report:
     def csv(self):
         costs = ["cost", "cost_without_cache", "ratio"] if self.weights else []
         bytes_of = ["ram", "flash", "hot", "hot_bytes"] if self.board else []
-        yield ",".join(["file", "cache", "block", "in", *runs.NAMES, "least_misses", *costs, *bytes_of, "register_services", "image", "text"])
+        yield ",".join(["file", "cache", "block", "in", *runs.NAMES, "least_misses", *costs, *bytes_of, "return_services", "register_services", "image", "text"])
         for row in self.rows:
             yield f"{quoted(self.runs.name)}," + ",".join("" if each is None else str(each) for each in self.fields(row))
 
     def fields(self, row):
         yield from (row.cache.size, row.cache.block, kind_of(row.cache), *dataclasses.astuple(row.counts), row.fewest_misses)
         if self.weights:
-            yield from (f"{self.weights.cost(row.counts, self.sweep.registers or 0):.0f}", f"{self.weights.alone(row.counts):.0f}", f"{row.value:.4f}")
+            yield from (f"{self.weights.cost(row.counts, self.sweep.jumps()):.0f}", f"{self.weights.alone(row.counts):.0f}", f"{row.value:.4f}")
         if self.board:
             ram, hot = self.board.ram(row.cache), self.hot(row)
             yield from (ram, self.board.flash(row.cache), hot and f"{hot:.4f}", None if hot is None else self.board.alternatives.hottest(ram).size)
-        yield from (self.sweep.registers, self.image(row.cache.block)[0] or None, self.runs.elf.text_bytes)
+        yield from (self.sweep.returns, self.sweep.registers, self.image(row.cache.block)[0] or None, self.runs.elf.text_bytes)
 
     def unit(self, value):
         return f"{value:.3f} {weights.unit(self.weights)}"
@@ -188,7 +189,7 @@ class Report:
     def even(self, row):
         """From how many wait states on the cache costs less than that."""
         steps = max(row.counts.steps, 1)
-        instructions, loads = (part / steps for part in self.weights.parts(row.counts, self.sweep.registers or 0))
+        instructions, loads = (part / steps for part in self.weights.parts(row.counts, self.sweep.jumps()))
         cold = self.board.alternatives.cold(self.board.ram(row.cache)) if self.hot(row) is not None else 1.0
         even = self.board.alternatives.even(instructions, loads, cold)
         return "the cache costs less at no number of wait states" if even is None else f"the cache costs less from {math.floor(even) + 1} wait states on"

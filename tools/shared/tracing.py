@@ -20,6 +20,7 @@ LINE = re.compile(rb"([0-9a-f]{8}) ([0-9a-f]{8}|--------) ")
 SPENT = re.compile(rb"spent: [0-9]+ steps, pc ([0-9a-f]{8})\n")
 BATCH = 1 << 18  # lines between two looks at the clock
 PLAIN, BRANCH, JUMP, REGISTER = range(4)
+RETURN = 0x00008067  # JALR x0, 0(ra)
 KINDS = {0x63: BRANCH, 0x6F: JUMP, 0x67: REGISTER}
 # What leads to a service. A call is a JAL that links.
 SERVED = ["jumps over registers", "branches", "jumps and calls", "ends of blocks", "the boot"]
@@ -41,6 +42,14 @@ class Text:
         self.target = [self.target_of(k) for k in range(self.count)]
         # the machine instructions that stand for a word: AUIPC takes two, and a JAL that links two more than one that does not
         self.cost = [2 if word & 0x7F == 0x17 else 3 if word & 0x7F == 0x6F and word & 0xF80 else 1 for word in self.words]
+
+    def is_return(self, k):
+        return 0 <= k < self.count and self.words[k] == RETURN
+
+    def jumps(self, executed):
+        """How many steps are jumps over registers, and how many of these are returns, where each word was executed so often."""
+        registers = sum(times for kind, times in zip(self.kind, executed) if kind == REGISTER)
+        return registers, sum(times for word, times in zip(self.words, executed) if word == RETURN)
 
     def target_of(self, k):
         """The index that a branch or a JAL leads to."""

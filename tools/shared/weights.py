@@ -15,23 +15,31 @@ from shared.runs import Wrong
 NUMBER = r"(?:[0-9]+|[0-9]*\.[0-9]+)"
 LOAD = 10.0  # wait states, where none are given
 BOARD = runs.TOP / "native/weights"
-# What can have a weight, and how many a run has of it: `c` are its counts, `r` its services for jumps over registers.
+# What can have a weight, and how many a run has of it: `c` are its counts, `j` its jumps over registers.
 EVENTS = {
-    "instruction": lambda c, r: c.instructions,
-    "service": lambda c, r: c.services,
-    "register": lambda c, r: r,
-    "direct": lambda c, r: c.services - r,
-    "jump": lambda c, r: c.services - c.links,
-    "link": lambda c, r: c.links,
-    "unlink": lambda c, r: c.unlinks,
-    "miss": lambda c, r: c.misses - 1,  # the first block is the boot's
-    "eviction": lambda c, r: c.evictions,
-    "word": lambda c, r: c.copied,
-    "write": lambda c, r: c.writes,
+    "instruction": lambda c, j: c.instructions,
+    "service": lambda c, j: c.services,
+    "register": lambda c, j: j.registers,
+    "direct": lambda c, j: c.services - j.registers,
+    "return": lambda c, j: j.returns,
+    "jump": lambda c, j: c.services - c.links - j.returns,
+    "link": lambda c, j: c.links,
+    "unlink": lambda c, j: c.unlinks,
+    "miss": lambda c, j: c.misses - 1,  # the first block is the boot's
+    "eviction": lambda c, j: c.evictions,
+    "word": lambda c, j: c.copied,
+    "write": lambda c, j: c.writes,
 }
 STEP = "step"  # in a file the weight of a step without a cache; else that of an instruction
 NAMES = [STEP, *EVENTS]
 PLACES = ["ram", "ram-slot", "ram-block", "ram-word", "flash", "flash-block", "flash-word"]
+
+
+@dataclasses.dataclass(frozen=True)
+class Jumps:
+    """The services of a run that are jumps over registers, and those of them that are returns. They are the same in each cache."""
+    registers: int = 0
+    returns: int = 0
 
 
 @dataclasses.dataclass(frozen=True)
@@ -60,20 +68,26 @@ class Weights:
         """Whether they are those of a board: the program without a cache runs from slow memory, and the bytes are told."""
         return self.step[1] > 0 and bool(self.places)
 
-    def parts(self, counts, registers):
+    @property
+    def has_returns(self):
+        """Whether a return has a weight of its own; else it is a jump like others."""
+        return "return" in self.of
+
+    def parts(self, counts, jumps):
         """The cost of a run but for the wait states, and its loads from slow memory."""
-        numbers = [(weight, EVENTS[event](counts, registers)) for event, weight in self.of.items()]
+        jumps = jumps if self.has_returns else dataclasses.replace(jumps, returns=0)
+        numbers = [(weight, EVENTS[event](counts, jumps)) for event, weight in self.of.items()]
         return sum(cost * number for (cost, _), number in numbers), sum(loads * number for (_, loads), number in numbers)
 
-    def cost(self, counts, registers):
-        return self.with_loads(self.parts(counts, registers))
+    def cost(self, counts, jumps):
+        return self.with_loads(self.parts(counts, jumps))
 
     def alone(self, counts):
         """The cost without a cache."""
         return self.with_loads(self.step) * max(counts.steps, 1)
 
-    def ratio(self, counts, registers):
-        return self.cost(counts, registers) / self.alone(counts)
+    def ratio(self, counts, jumps):
+        return self.cost(counts, jumps) / self.alone(counts)
 
     def bytes_of(self, kind, slots, blocks, words):
         """What the runtime and its tables take, beside the cache and the blocks."""
@@ -94,9 +108,9 @@ def add_options(call):
     call.add_argument("--words", action="store_true", help="no costs of a board: only the words that the cache RAM gives and takes count")
 
 
-def value(weights, counts, registers):
+def value(weights, counts, jumps):
     """What a step costs: beside a step without a cache, or without weights the words that the cache RAM gives and takes."""
-    return weights.ratio(counts, registers) if weights else counts.work
+    return weights.ratio(counts, jumps) if weights else counts.work
 
 
 def unit(weights):

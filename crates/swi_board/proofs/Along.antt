@@ -1,5 +1,5 @@
 -- A run over whole boards: what holds all along it, and what stands at its end.
-use Rattle.std.proofs.Common.{◌≡◌, ◌⊎◌, ℕ, suc, ◌^◌, ◌<◌, ◌≤◌, List, ◌++◌, Option, Some, None, is_some, true, Ok, Err, slice_index, refl, sym, subst, ap, ◌∙◌, inl, inr, arith}
+use Rattle.std.proofs.Common.{◌≡◌, ◌⊎◌, ℕ, suc, ◌^◌, ◌<◌, ◌≤◌, List, ◌++◌, Option, Some, None, is_some, true, Ok, Err, slice_index, refl, sym, subst, ap, ◌∙◌, arith}
 use Rattle.std.proofs.lemmas.Bool.{false≢true}
 use Rattle.swi_outside.specs.CacheRam.{RamState}
 use Rattle.swi_outside.specs.Source.{SourceState, HasGiven, ReadFrom}
@@ -25,19 +25,6 @@ use Rattle.swi_board.specs.BoardRan.{Along, BoardRan, BoardStays, course_of, wit
 use Rattle.swi_board.specs.Tracking.{point_of}
 use Rattle.swi_board.proofs.Running.{came_none, came_on, no_less, stays_none, stays_on}
 use Rattle.swi_board.proofs.Blocks.{Stretch, begins}
-
--- the machines have the same memory
-same_memory : (v : ImageData) (r : Record) (f m : Machine) (c : Control) → Matches v r f m c → m.bus ≡ f.bus
-same_memory v r f m c same = by m.ending c same
-  where
-    by : (e : Option End) (c : Control) → Agrees e v r f m c → m.bus ≡ f.bus
-    by (Some e) c a = ap (λ (k : Machine). k.bus) a
-    by None (At i b o Start) a = ap (λ (k : Machine). k.bus) a.1.0
-    by None (At i b o Low) a = ap (λ (k : Machine). k.bus) a.1.done
-    by None (At i b o Return) a = ap (λ (k : Machine). k.bus) a.1.done
-    by None (At i b o Leave) (a, inl x) = ap (λ (k : Machine). k.bus) x.done
-    by None (At i b o Leave) (a, inr x) = ap (λ (k : Machine). k.bus) x.done
-    by None Outside a = ap (λ (k : Machine). k.bus) a.0
 
 -- and between two instructions they are the same
 pub same_between : (v : ImageData) (r : Record) (f m : Machine) (c : Control) → (m.ending ≡ None → is_between c ≡ true) → Matches v r f m c → m ≡ f

@@ -14,4 +14,3 @@ pub mod Along
 pub mod Knowing
 pub mod Coming
 pub mod Remembering
-pub mod Untold

@@ -2,8 +2,6 @@
 #![tactic(auto)]
 
 ghost use Rattle.std.specs.Prelude.{◌≡◌, ◌⊎◌, ◌+◌, ◌^◌, ◌<◌, ◌≤◌, ℕ, IfOk, OnOk, OnErr, IsErrOf, Some, None, true, false};
-ghost use Rattle.std.specs.Option.{ForSome};
-ghost use Rattle.swi_outside.specs.CacheRam.{RamState};
 ghost use Rattle.swi_outside.specs.Source.{ForInput, HasGiven};
 ghost use Rattle.swi_outside.specs.Told.{AsTold};
 ghost use Rattle.swi_memory.specs.Bus.{fetched};
@@ -267,17 +265,6 @@ impl<R: CacheRom> Board<R> {
             (record { hart = self.new.hart; rom = self.new.rom; ram = M.state ram.new })
             (record { input = old; output = O.state out.old; error = E.state err.old })
             (record { input = new; output = O.state out.new; error = E.state err.new }) result) }
-        ensures follows_directly { R.service.sound self.old.rom image.now (M.state ram.old).words →
-            OnOk result (ForSome (I.state input.old).left (λ left. (f : Machine) → Carries (fetched f.bus) image.now →
-            Matches image.now (R.service.kept self.old.rom) f self.old.hart.machine self.old.hart.control →
-            Followed image.now (R.service.kept self.new.rom) self.new.hart
-            (next_made image.now self.old.hart.machine self.old.hart.control f left)
-            (I.state input.new).left (O.state out.old).held (O.state out.new).held (E.state err.old).held (E.state err.new).held)) }
-        ensures stepped_directly { BoardStepped R.service image.now
-            (record { hart = self.old.hart; rom = self.old.rom; ram = M.state ram.old })
-            (record { hart = self.new.hart; rom = self.new.rom; ram = M.state ram.new })
-            (record { input = I.state input.old; output = O.state out.old; error = E.state err.old })
-            (record { input = I.state input.new; output = O.state out.new; error = E.state err.new }) result }
     {
         let Board { hart, rom, .. } = self;
         if let Some((at, own)) = plain_place(hart, image) {
@@ -330,19 +317,6 @@ impl<R: CacheRom> Board<R> {
               ram = M.state ram.new;
               devices = record { input = new; output = O.state out.new; error = E.state err.new };
             }) result) }
-        ensures ran_directly { BoardRan R.service image.now n
-            (record {
-              hart = self.old.hart;
-              rom = self.old.rom;
-              ram = M.state ram.old;
-              devices = record { input = I.state input.old; output = O.state out.old; error = E.state err.old };
-            })
-            (record {
-              hart = self.new.hart;
-              rom = self.new.rom;
-              ram = M.state ram.new;
-              devices = record { input = I.state input.new; output = O.state out.new; error = E.state err.new };
-            }) result }
     {
         let Board { hart, rom, targets } = self;
         while hart.machine.steps < n && hart.machine.ending.is_none() {

@@ -7,7 +7,6 @@ mod Ringed
 pub mod Tells
 pub mod Telling
 mod ToldOn
-mod Untold
 mod Unasked
 pub mod Starting
 pub mod Ended

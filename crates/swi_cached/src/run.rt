@@ -162,10 +162,6 @@ pub fn run_cached<I: Source, O: Sink, E: Sink, R: MicroRam, S: CacheRom>(
         (record { ram = R.state ram.old; devices = record { input = old; output = O.state out.old; error = E.state err.old } })
         (record { ram = R.state ram.new; devices = record { input = new; output = O.state out.new; error = E.state err.new } })
         result) }
-    ensures in_steps_directly { InSteps S.service (given_of image.now (cache_of S.service rom) program.now layout.now asked) rom
-        (record { ram = R.state ram.old; devices = record { input = I.state input.old; output = O.state out.old; error = E.state err.old } })
-        (record { ram = R.state ram.new; devices = record { input = I.state input.new; output = O.state out.new; error = E.state err.new } })
-        result }
 {
     carry(image, program);
     boot_and_run(

@@ -19,7 +19,6 @@ use Rattle.swi_image.specs.Format.{ImageData}
 use Rattle.swi_command.specs.declared.command.CacheKind.{CacheKind}
 use Rattle.swi_command.specs.declared.command.CacheKind.TheVariants as kind
 use Rattle.swi_command.specs.declared.command.CacheOptions.{CacheOptions}
-use Rattle.swi_command.specs.declared.command.RunLimits.{RunLimits}
 use Rattle.swi_command.specs.declared.command.RunOptions.{RunOptions}
 use Rattle.swi_calls.specs.declared.end.End.{End}
 use Rattle.swi_calls.specs.declared.machine.Machine.{Machine}
@@ -51,7 +50,7 @@ use Rattle.swi_answer.specs.Lines.{ending_line}
 use Rattle.swi_task.specs.Answers.{Answers, AreGiven, IsAskedFor, IsChecked, IsSizeRefusal}
 use Rattle.swi_cached_command.specs.Caching.{IsCachedRun, RamCounted, board_work, cache_by, cache_for, work_of}
 use Rattle.swi_task.specs.Causes.{HasCauses}
-use Rattle.swi_task.specs.Checks.{Check, HoldsBlock, Fails, IsAccepted, IsRefusedOr, block_words, file_limit, least_cache, room_in, size_refusal, subject_checks}
+use Rattle.swi_task.specs.Checks.{Check, IsAccepted, block_words, room_in, size_refusal}
 use Rattle.swi_task.specs.Devices.{Devices, stream_faults}
 use Rattle.swi_cached_command.specs.RunCached.{BrokeIn, CachedFailed, IsRunErr, RamBroke, RunsCached, RunsOver, addresses_in, cached_checks, cached_report, cached_run, held_next, last_lines, last_told, refusal_of, cached_task, shown_error}
 use Rattle.swi_task.specs.Runs.{FailedAfterRun, ending_by, report, start_of}
@@ -59,7 +58,6 @@ use Rattle.swi_task.specs.Subject.{IsImageFor}
 use Rattle.swi_task.proofs.Due.{left_empty}
 use Rattle.swi_cached_command.proofs.Tracing.{all_shown, last_is, shown_split, some_shown}
 use Rattle.swi_task.proofs.Refusals.{IsRead, IsTooLong, calm_causes, causes_behind, causes_of, keeps_read, none_long, out_causes, read_is, same_count, sized_along, sized_err, sized_ok}
-use Rattle.swi_task.proofs.Images.{front_refused, last_fails, last_passes, run_passes, run_refused, size_is}
 use Rattle.swi_task.proofs.Starts.{start_is}
 use Rattle.swi_task.proofs.Lines.{IsLined, after_line, after_run_line, appends_last, at_step_line, holds_then, ran_line}
 
@@ -495,29 +493,6 @@ pub in_cache : (o : RunOptions) (cache : CacheOptions) (v : ImageData) (p : Prog
 in_cache o cache v p l d m r k is run = subst (λ (x : Cache). RunsOver o x v p l d m r) is run
 
 -- ---- a file whose program is placed passes every check
-
-pub placed_checks : (file : List ℕ) (limits : RunLimits) (cache : CacheOptions) (l : Layout) (v : ImageData) → length file ≤ file_limit → elf.first_refusal file ≡ None →
-    room_in file limits ≡ Ok l → IsAccepted (subject_checks cache.block_words file) → IsImageFor file cache.block_words (image_in file) v →
-    4 * v.block_words ≤ cache.cache_bytes → IsAccepted (cached_checks limits cache file)
-placed_checks file limits cache l v short accepted room passed own holds =
-    let size : block_words (image_in file) cache.block_words ≡ v.block_words = size_is file cache.block_words (image_in file) v own in
-    run_passes file limits l (subject_checks cache.block_words file ++ (HoldsBlock cache.cache_bytes (least_cache file cache) ∷ [])) short accepted room
-    (last_passes (subject_checks cache.block_words file) (HoldsBlock cache.cache_bytes (least_cache file cache)) passed (omega arith))
-
-pub subject_refused : (file : List ℕ) (limits : RunLimits) (cache : CacheOptions) (l : Layout) (r : Refusal) → length file ≤ file_limit → elf.first_refusal file ≡ None →
-    room_in file limits ≡ Ok l → IsRefusedOr (subject_checks cache.block_words file) r → IsRefusedOr (cached_checks limits cache file) r
-subject_refused file limits cache l r short accepted room why =
-    run_refused file limits l (subject_checks cache.block_words file ++ (HoldsBlock cache.cache_bytes (least_cache file cache) ∷ [])) r short accepted room
-    (front_refused (subject_checks cache.block_words file) (HoldsBlock cache.cache_bytes (least_cache file cache) ∷ []) r why)
-
-pub block_refused : (file : List ℕ) (limits : RunLimits) (cache : CacheOptions) (l : Layout) (v : ImageData) (r : Refusal) → length file ≤ file_limit → elf.first_refusal file ≡ None →
-    room_in file limits ≡ Ok l → IsAccepted (subject_checks cache.block_words file) → IsImageFor file cache.block_words (image_in file) v →
-    Fails (HoldsBlock cache.cache_bytes (4 * v.block_words)) r → IsRefusedOr (cached_checks limits cache file) r
-block_refused file limits cache l v r short accepted room passed own fails =
-    let size : 4 * v.block_words ≡ least_cache file cache = ap (λ (n : ℕ). 4 * n) (sym (size_is file cache.block_words (image_in file) v own)) in
-    run_refused file limits l (subject_checks cache.block_words file ++ (HoldsBlock cache.cache_bytes (least_cache file cache) ∷ [])) r short accepted room
-    (inr (last_fails (subject_checks cache.block_words file) (HoldsBlock cache.cache_bytes (least_cache file cache)) r passed
-    (subst (λ (n : ℕ). Fails (HoldsBlock cache.cache_bytes n) r) size fails)))
 
 -- ---- what the command answers
 

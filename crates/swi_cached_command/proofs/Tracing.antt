@@ -1,7 +1,6 @@
 -- The lines of a history.
 use Rattle.std.proofs.Common.{◌≡◌, ℕ, ◌<◌, zero, suc, ◌+◌, List, [], ◌∷◌, ◌++◌, length, take, drop, slice_get, Option, None, Some, refl, sym, ap, ◌∙◌, subst, arith, append_assoc}
 use Rattle.std.proofs.lemmas.List.{append-nil, take-append-drop}
-use Rattle.std.proofs.Math.Seq.{take-length}
 use Rattle.std.specs.Io.KnownBytes.{Appends}
 use Rattle.swi_outside.specs.Laws.{Appends-append}
 use Rattle.swi_outside.specs.Sink.{AppendsPrefix}
@@ -45,10 +44,6 @@ line_broken bus xs k old mid new h i =
     ∙ append_assoc (lines_at bus (take k xs)) (lines_at bus (one_of (slice_get xs k))) (lines_at bus (drop (suc k) xs)) in
     subst (λ (l : List ℕ). AppendsPrefix old new l) (sym whole)
     (prefix_behind old mid new (lines_at bus (take k xs)) (lines_at bus (one_of (slice_get xs k))) (lines_at bus (drop (suc k) xs)) h i)
-
-pub all_lines : (bus : List AreaData) (xs : List ℕ) (n : ℕ) (old new : Option (List ℕ)) → n ≡ length xs → Appends old new (lines_at bus (take n xs)) → Appends old new (lines_at bus xs)
-all_lines bus xs n old new all h =
-    subst (λ (l : List ℕ). Appends old new (lines_at bus l)) (ap (λ (k : ℕ). take k xs) all ∙ take-length xs) h
 
 -- ---- what is told behind a run
 

@@ -125,6 +125,7 @@ cached_task name cache o = record {
   takes_input = true;
   cache = Some cache.cache_bytes;
   checks = cached_checks o.limits cache;
+  before_next = λ file. [];
   ends = λ e. ⊤;
   does = λ file before after e last. (v : ImageData) × IsImageFor file cache.block_words (image_in file) v
       × KeepsBeyond (cache_for cache v).span before.ram after.ram

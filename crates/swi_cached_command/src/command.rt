@@ -70,9 +70,6 @@ fn run_over<I: Source, O: Sink, E: Sink, R: MicroRam, S: CacheRom>(
     ensures ran { (d : Devices) → AsTold (I.state input.old) (I.state input.new) (λ before after. RunsOver options.now (cache_of S.service rom) image.now program.now layout.now
         (record d { input = before; output = O.state out.old; error = E.state err.old; ram = R.state ram.old })
         (record d { input = after; output = O.state out.new; error = E.state err.new; ram = R.state ram.new }) result) }
-    ensures ran_directly { (d : Devices) → RunsOver options.now (cache_of S.service rom) image.now program.now layout.now
-        (record d { input = I.state input.old; output = O.state out.old; error = E.state err.old; ram = R.state ram.old })
-        (record d { input = I.state input.new; output = O.state out.new; error = E.state err.new; ram = R.state ram.new }) result }
 {
     let reports = &options.reports;
     let asked = AskedRun {
@@ -117,9 +114,6 @@ fn run_program<I: Source, O: Sink, E: Sink, R: MicroRam>(
     ensures ran { (d : Devices) → AsTold (I.state input.old) (I.state input.new) (λ before after. RunsOver options.now (cache_for cache.now image.now) image.now program.now layout.now
         (record d { input = before; output = O.state out.old; error = E.state err.old; ram = R.state ram.old })
         (record d { input = after; output = O.state out.new; error = E.state err.new; ram = R.state ram.new }) result) }
-    ensures ran_directly { (d : Devices) → RunsOver options.now (cache_for cache.now image.now) image.now program.now layout.now
-        (record d { input = I.state input.old; output = O.state out.old; error = E.state err.old; ram = R.state ram.old })
-        (record d { input = I.state input.new; output = O.state out.new; error = E.state err.new; ram = R.state ram.new }) result }
 {
     match cache.kind {
         CacheKind::Slots => {
@@ -191,9 +185,6 @@ fn run_placed<I: Source, O: Sink, E: Sink, R: MicroRam>(
     ensures ran { (d : Devices) → AsTold (I.state input.old) (I.state input.new) (λ before after. RunsOver options.now (cache_for cache.now (view_of placed.now.subject.image)) (view_of placed.now.subject.image) placed.now.subject.program placed.now.layout
         (record d { input = before; output = O.state out.old; error = E.state err.old; ram = R.state ram.old })
         (record d { input = after; output = O.state out.new; error = E.state err.new; ram = R.state ram.new }) result) }
-    ensures ran_directly { (d : Devices) → RunsOver options.now (cache_for cache.now (view_of placed.now.subject.image)) (view_of placed.now.subject.image) placed.now.subject.program placed.now.layout
-        (record d { input = I.state input.old; output = O.state out.old; error = E.state err.old; ram = R.state ram.old })
-        (record d { input = I.state input.new; output = O.state out.new; error = E.state err.new; ram = R.state ram.new }) result }
 {
     let (program, layout) = (&placed.subject.program, &placed.layout);
     match &placed.subject.image {
@@ -233,9 +224,6 @@ pub fn cached<F: Shelf, I: Source, O: Sink, E: Sink, R: MicroRam>(
     ensures answers { AsTold (I.state input.old) (I.state input.new) (λ before after. Answers (cached_task name.now cache.now options.now)
         (seen (F.state shelf.old) before (O.state out.old) (E.state err.old) (R.state ram.old))
         (seen (F.state shelf.new) after (O.state out.new) (E.state err.new) (R.state ram.new)) result []) }
-    ensures answers_directly { Answers (cached_task name.now cache.now options.now)
-        (seen (F.state shelf.old) (I.state input.old) (O.state out.old) (E.state err.old) (R.state ram.old))
-        (seen (F.state shelf.new) (I.state input.new) (O.state out.new) (E.state err.new) (R.state ram.new)) result [] }
 {
     check_size(cache.cache_bytes, ram)?;
     let file = read_file(alloc, shelf, name)?;

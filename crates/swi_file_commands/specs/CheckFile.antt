@@ -43,6 +43,7 @@ check_task name = record {
   takes_input = false;
   cache = None;
   checks = image_checks;
+  before_next = λ file. [];
   ends = λ e. e ≡ ending.Done;
   does = λ file before after e last. Confirms file before after e;
   fails = ConfirmFailed;

@@ -54,6 +54,7 @@ list_task name most = record {
   takes_input = false;
   cache = None;
   checks = list_checks most;
+  before_next = λ file. [];
   ends = λ e. e ≡ ending.Done;
   does = λ file before after e last. Lists file most before after e;
   fails = λ file before after r last. ListFailed file most before after r last;

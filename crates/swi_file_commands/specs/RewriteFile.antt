@@ -36,6 +36,7 @@ rewrite_task input output block whole = record {
   takes_input = false;
   cache = None;
   checks = rewrite_checks block;
+  before_next = λ file. [];
   ends = λ e. e ≡ ending.Done;
   does = λ file before after e last. Puts (IsRewritten file block whole) output before after e;
   fails = λ file before after r last. ⊥;

@@ -49,6 +49,7 @@ plain_task name o = record {
   takes_input = true;
   cache = None;
   checks = plain_checks o.limits;
+  before_next = λ file. [];
   ends = λ e. ⊤;
   does = λ file before after e last. (input : List ℕ) → before.input.left ≡ Some input → Runs o file input before after e last;
   fails = λ file before after r last. (input : List ℕ) → before.input.left ≡ Some input → RunFailed o file input before after r last;

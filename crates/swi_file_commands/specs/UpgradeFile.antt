@@ -31,6 +31,7 @@ upgrade_task input output = record {
   takes_input = false;
   cache = None;
   checks = image_checks;
+  before_next = λ file. [];
   ends = λ e. e ≡ ending.Done;
   does = λ file before after e last. Puts (IsUpgraded file) output before after e;
   fails = λ file before after r last. ⊥;

@@ -37,9 +37,6 @@ fn run_plain<I: Source, O: Sink, E: Sink>(
         options.now prepared.now.program prepared.now.layout
         (record d { input = old; output = O.state out.old; error = E.state err.old })
         (record d { input = new; output = O.state out.new; error = E.state err.new }) result) }
-    ensures ran_directly { (d : Devices) → RunsPlain options.now prepared.now.program prepared.now.layout
-        (record d { input = I.state input.old; output = O.state out.old; error = E.state err.old })
-        (record d { input = I.state input.new; output = O.state out.new; error = E.state err.new }) result }
 {
     let Ok(mut machine) = Flat::start(
         alloc,
@@ -98,10 +95,6 @@ pub fn plain<F: Shelf, I: Source, O: Sink, E: Sink>(
     ensures answers { (d : Devices) → AsTold (I.state input.old) (I.state input.new) (λ old new. Answers (plain_task name.now options.now)
         (record d { shelf = F.state shelf.old; input = old; output = O.state out.old; error = E.state err.old })
         (record d { shelf = F.state shelf.new; input = new; output = O.state out.new; error = E.state err.new }) result []) }
-    // Over a source that tells what is left, the same of just that.
-    ensures answers_directly { (d : Devices) → Answers (plain_task name.now options.now)
-        (record d { shelf = F.state shelf.old; input = I.state input.old; output = O.state out.old; error = E.state err.old })
-        (record d { shelf = F.state shelf.new; input = I.state input.new; output = O.state out.new; error = E.state err.new }) result [] }
 {
     let file = read_file(alloc, shelf, name)?;
     let prepared = accepted(alloc, &file, options)?;

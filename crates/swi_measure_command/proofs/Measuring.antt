@@ -41,8 +41,16 @@ use Rattle.swi_cached_command.specs.Caching.{IsCachedRun, board_work, cache_for}
 use Rattle.swi_task.specs.Causes.{HasCauses}
 use Rattle.swi_task.specs.Checks.{HoldsBlock, Fails, IsLong, IsRefusedBy, size_refusal}
 use Rattle.swi_task.specs.Devices.{Devices, stream_faults}
-use Rattle.swi_measure_command.specs.MeasureMade.{IsMadeRun, MadeRamFailed, MadeRan, MadeRunBroke, MeasuresOver, SummaryBroke, board_summary, made_ending, made_ending_by, made_run, made_summary, measure_checks, measure_task, summary_by}
-use Rattle.swi_task.proofs.Refusals.{asked_none, calm_causes, causes_of, checked_by, contents_stay, gave_none, given_all, late, none_long, out_causes, passed_none, refused_late, rose_cause, same_all, short_refused, sized_along, sized_err, sized_ok, stores_none}
+use Rattle.swi_outside.specs.Source.{SourceState, HasGiven}
+use Rattle.swi_outside.specs.Told.{AsTold}
+use Rattle.swi_outside.proofs.ToldLemmas.{as_told_said}
+use Rattle.swi_rom.specs.Service.{ServiceOf}
+use Rattle.swi_board.specs.Board.{BoardOf}
+use Rattle.swi_cached.specs.declared.run.CachedStop.{CachedStop}
+use Rattle.swi_cached.specs.Answers.{InSteps}
+use Rattle.swi_cached.specs.CachedRan.{Around, Given}
+use Rattle.swi_measure_command.specs.MeasureMade.{IsMadeRun, MadeRamFailed, MadeRan, MadeRunBroke, MeasuresOver, SummaryBroke, board_summary, made_ending, made_ending_by, made_run, made_summary, measure_checks, measure_task, nowhere, summary_by}
+use Rattle.swi_task.proofs.Refusals.{asked_none, calm_causes, causes_of, checked_by, contents_stay, gave_none, given_all, given_short, late, none_before, none_long, none_longer, out_causes, passed_none, refused_late, rose_cause, same_all, short_refused, sized_along, sized_err, sized_ok, stores_none}
 use Rattle.swi_cached_command.proofs.Caching.{cached_run_is, keeps_run, work_is}
 use Rattle.swi_task.proofs.Due.{some_bytes}
 use Rattle.swi_task.proofs.Lines.{IsLined, appends_as, appends_last, behind_ending, take_all}
@@ -93,6 +101,15 @@ pub made_ran : (c : CachedRun) (h : HartData) (r : Record) (i o p e f : Option (
     run.RamAfter c before after → IsCounted c → MadeRan c h r before after
 made_ran c h r i o p e f before after b s ram counted =
     record { machine = b.machine; count = b.count; kept = b.record_is; ran = cached_run_is c h r i o p e f before after b s ram counted }
+
+-- a ram, beside an input without bytes and sinks that keep nothing
+abbrev beside : RamState → SourceState → Around
+beside ram input = record (nowhere ram) { devices = record (nowhere ram).devices { input = input } }
+
+pub ran_nowhere : {S : Type 0} (k : ServiceOf S) (g : Given) (rom : S) (before after : RamState) (result : Result (BoardOf S × Option (List ℕ)) CachedStop) →
+    HasGiven (nowhere before).devices.input (nowhere after).devices.input →
+    AsTold (nowhere before).devices.input (nowhere after).devices.input (λ from to. InSteps k g rom (beside before from) (beside after to) result) → InSteps k g rom (nowhere before) (nowhere after) result
+ran_nowhere k g rom before after result gave all = as_told_said (λ from to. InSteps k g rom (beside before from) (beside after to) result) gave refl all
 
 summary_is : (functions : ℕ) (p : ProgramData) (v : ImageData) (c : CachedRun) (h : HartData) (r : Record) (before after : RamState) → MadeRan c h r before after →
     board_summary functions p v h r ≡ made_summary functions p v c
@@ -198,6 +215,7 @@ none_passed : (seed functions : ℕ) (cache : CacheOptions) (s : ShelfState) (r 
     HasPassed (measure_task seed functions cache) s s (Err r) 0
 none_passed seed functions cache s r by = passed_none (measure_task seed functions cache) s s r 0 refl refl
     (given_all 0 s.last_failed r (refused_late (measure_checks seed functions cache) r by) (short_refused (measure_checks seed functions cache) r tt by))
+    (none_longer (measure_task seed functions cache) s.contents r 0 (short_refused (measure_checks seed functions cache) r tt by))
 
 -- the cache holds no block
 pub small_refused : (seed functions : ℕ) (cache : CacheOptions) (p : ProgramData) (d : Devices) (r : Refusal) → size_refusal cache.cache_bytes (length d.ram.words) ≡ None →
@@ -227,6 +245,8 @@ keeps_shelf t s r none unwritten asked given never = record {
     gave = gave_none t.reads s s refl;
     all = given;
     stood = tt;
+    accepted = none_before t 0;
+    long = λ limit is. absurd (given_short s.last_failed r 0 given limit is);
     stored = subst (λ (o : Option (List ℕ)). HasStored r o s.stored s.stored) (sym unwritten) (stores_none r s.stored);
   };
 }
@@ -312,7 +332,8 @@ no_measure : (seed functions : ℕ) (cache : CacheOptions) (d : Devices) → siz
 no_measure seed functions cache d size =
     late (measure_task seed functions cache) d d.shelf refusal.Memory 0 0 tt size (contents_stay d) refl refl (λ _ _. tt)
     (none_long (measure_task seed functions cache) d.shelf.contents refusal.Memory (λ x. x)) (asked_none d.shelf.calls) (omega arith, omega arith, λ _. refl)
-    (passed_none (measure_task seed functions cache) d.shelf d.shelf refusal.Memory 0 refl refl (omega arith, omega arith))
+    (passed_none (measure_task seed functions cache) d.shelf d.shelf refusal.Memory 0 refl refl (omega arith, omega arith)
+    (none_longer (measure_task seed functions cache) d.shelf.contents refusal.Memory 0 (λ x. x)))
 
 pub made_memory : (seed functions : ℕ) (cache : CacheOptions) (d : Devices) (r : Refusal) → size_refusal cache.cache_bytes (length d.ram.words) ≡ None → r ≡ refusal.Memory →
     Answers (measure_task seed functions cache) d d (Err r) []

@@ -17,6 +17,7 @@ use Rattle.swi_rom.specs.Record.{Record}
 use Rattle.swi_rom.specs.Service.{Cache}
 use Rattle.swi_hart.specs.Hart.{HartData}
 use Rattle.swi_cached.specs.Cached.{CachedRun, run_of, end_of, instructions_after, record_after, words_after}
+use Rattle.swi_cached.specs.CachedRan.{Around}
 use Rattle.swi_trace.specs.declared.trace.Trace.TheVariants as trace
 use Rattle.swi_board.specs.Fetching.{FetchedFront}
 use Rattle.swi_report.specs.declared.stats.Work.{Work}
@@ -33,6 +34,13 @@ use Rattle.swi_task.specs.Checks.{Check, FitsMade, HoldsBlock}
 use Rattle.swi_task.specs.Devices.{Devices}
 use Rattle.swi_task.specs.Runs.{FailedBehind}
 use Rattle.swi_task.specs.Task.{Task}
+
+-- a ram, beside an input without bytes and sinks that keep nothing
+abbrev pub nowhere : RamState → Around
+nowhere ram = record {
+  ram = ram;
+  devices = record { input = record { given = []; left = Some []; faults = 0 }; output = record { held = None; faults = 0 }; error = record { held = None; faults = 0 } };
+}
 
 -- done where the made program exited; else its ending
 abbrev pub made_ending_by : Option End → ℕ → ℕ → Ending
@@ -123,6 +131,7 @@ measure_task seed functions cache = record {
   takes_input = false;
   cache = Some cache.cache_bytes;
   checks = λ files. measure_checks seed functions cache;
+  before_next = λ file. [];
   ends = λ e. ⊤;
   does = λ files before after e last. Measures seed functions cache before after e last;
   fails = λ files before after r last. MeasureFailed seed functions cache before after r last;

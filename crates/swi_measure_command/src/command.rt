@@ -6,7 +6,9 @@ ghost use Rattle.std.specs.Io.KnownBytes.{Appends};
 ghost use Rattle.swi_outside.specs.CacheRam.{KeepsBeyond};
 ghost use Rattle.swi_outside.specs.Causes.{DeviceCause, HasCause};
 ghost use Rattle.swi_outside.specs.Sink.{AppendsPrefix};
+ghost use Rattle.swi_cached.specs.Answers.{InSteps};
 ghost use Rattle.swi_cached.specs.Cached.{IsFresh};
+ghost use Rattle.swi_cached.specs.CachedRan.{given_of};
 ghost use Rattle.swi_command.specs.CommandLine.{IsCacheInRange, IsFunctionCount};
 ghost use Rattle.swi_make.specs.Made.{IsMade};
 ghost use Rattle.swi_program.specs.Layout.{IsLayoutOf, laid_out};
@@ -16,7 +18,7 @@ ghost use Rattle.swi_render.specs.ImageOf.{IsImageOf};
 ghost use Rattle.swi_rom.specs.Service.{cache_of};
 ghost use Rattle.swi_task.specs.Answers.{Answers};
 ghost use Rattle.swi_task.specs.Devices.{Devices};
-ghost use Rattle.swi_measure_command.specs.MeasureMade.{MadeRan, MeasuresOver, board_summary, made_ending_by, made_run, measure_task, MadeRamFailed};
+ghost use Rattle.swi_measure_command.specs.MeasureMade.{MadeRan, MeasuresOver, board_summary, made_ending_by, made_run, measure_task, nowhere, MadeRamFailed};
 
 use crate::nowhere::Nowhere;
 use std::alloc::Global;
@@ -34,7 +36,7 @@ use swi_program::{Program, lay_out, one_text};
 use swi_report::{Measured, summary_text};
 use swi_rom::CacheRom;
 use swi_task::{Prepared, check_block, check_size, cut_image, ending_by};
-use swi_trace::Trace;
+use swi_trace::{History, Trace};
 
 /// The bytes of the heap and of the stack.
 const HEAP: u32 = 1 << 20;
@@ -82,6 +84,29 @@ fn prepare_text<'a>(alloc: Global, text: &'a [u8]) -> Result<Prepared<'a>, Refus
 
 /// Runs a made program on the cached machine over a service that has done nothing yet. It has no input, and nobody sees what
 /// it writes.
+fn run_nowhere<R: MicroRam, S: CacheRom>(
+    alloc: Global,
+    image: &ImageView<'_>,
+    prepared: &Prepared<'_>,
+    rom: S,
+    ram: &mut R,
+) -> Result<(Board<S>, Option<History>), CachedStop>
+    requires laid_out { IsLayoutOf prepared.now.program.segments prepared.now.layout }
+    requires own { IsImageOf (text_of prepared.now.program.segments) image.now }
+    requires sound { S.service.sound rom image.now (R.state ram.old).words }
+    requires fresh { IsFresh (S.service.kept rom) }
+    ensures in_steps { InSteps S.service
+        (given_of image.now (cache_of S.service rom) prepared.now.program prepared.now.layout UNTOLD) rom
+        (nowhere (R.state ram.old)) (nowhere (R.state ram.new)) result }
+{
+    let (program, layout) = (&prepared.program, &prepared.layout);
+    let (mut input, mut out, mut err) = (Nowhere, Nowhere, Nowhere);
+    run_cached(
+        alloc, image, program, layout, rom, UNTOLD, &mut input, &mut out, &mut err, ram,
+    )
+}
+
+/// The board of such a run. It fails for want of memory, or because the ram does.
 fn run_made<R: MicroRam, S: CacheRom>(
     alloc: Global,
     image: &ImageView<'_>,
@@ -104,11 +129,7 @@ fn run_made<R: MicroRam, S: CacheRom>(
     ensures kept { KeepsBeyond (cache_of S.service rom).span (R.state ram.old) (R.state ram.new) }
     ensures cause { DeviceCause (R.state ram.old).faults (R.state ram.new).faults (IsErrOf result Refusal.RamFault) }
 {
-    let (program, layout) = (&prepared.program, &prepared.layout);
-    let (mut input, mut out, mut err) = (Nowhere, Nowhere, Nowhere);
-    match run_cached(
-        alloc, image, program, layout, rom, UNTOLD, &mut input, &mut out, &mut err, ram,
-    ) {
+    match run_nowhere(alloc, image, prepared, rom, ram) {
         Ok((board, _history)) => Ok(board),
         Err(CachedStop::Memory) => Err(Refusal::Memory),
         Err(CachedStop::Fault(BoardFault::RamFault)) => Err(Refusal::RamFault),

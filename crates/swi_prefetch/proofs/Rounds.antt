@@ -651,9 +651,6 @@ broke_causes v ts rate w0 w2 result (inr engine) =
 
 -- ---- the words behind the slots
 
-pub came_kept : (v : ImageData) (ts : List Turn) (w0 w1 : Whole) → CameOn v ts w0 w1 → KeepsBehind w0.board w0.around.ram w1.around.ram
-came_kept v ts w0 w1 came = came.kept
-
 hart_kept : (v : ImageData) (old new : Whole) (result : Result Unit BoardFault) → HartEvent v (state_of old) (state_of new) old.around.devices new.around.devices result → KeepsBehind old.board old.around.ram new.around.ram
 hart_kept v old new result event = by old.board new.board event
   where

@@ -57,12 +57,6 @@ shown_under v r span words shown h fits short coherent shows i at = by_parts h.m
     by_parts None Outside none here is at = absurd cc
     by_parts (Some e) c none here is at = absurd cc
 
--- the run has ended, or control is at no text word, and so at no index
-pub none_under : (e : Option End) (c : Control) (i : ℕ) → place_under e c ≡ None → index_of e c ≡ Some i → ⊥
-none_under None (At j b o stage) i none at = cc
-none_under None Outside i none at = cc
-none_under (Some e) c i none at = cc
-
 same_services : (o : Option Event) (wrote : Bool) (span : ℕ) (r r' : Record) (a b : RamState) → ((n : Event) → o ≡ Some n → n.next.counts.services ≡ r.counts.services) → GoesTo o wrote span r r' a b → r'.counts.services ≡ r.counts.services
 same_services None wrote span r r' a b quiet goes = ap (λ (x : Record). x.counts.services) goes.1
 same_services (Some n) wrote span r r' a b quiet goes = ap (λ (x : Record). x.counts.services) goes.1 ∙ quiet n refl

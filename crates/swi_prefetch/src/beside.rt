@@ -66,11 +66,6 @@ pub fn step<R: CopyEngine, M: CacheRam, I: Source, O: Sink, E: Sink>(
         (record { hart = board.new.hart; rom = board.new.rom; ram = M.state ram.new })
         (record { input = old; output = O.state out.old; error = E.state err.old })
         (record { input = new; output = O.state out.new; error = E.state err.new }) result) }
-    ensures turned_directly { HartTurned R.service image.now
-        (record { hart = board.old.hart; rom = board.old.rom; ram = M.state ram.old })
-        (record { hart = board.new.hart; rom = board.new.rom; ram = M.state ram.new })
-        (record { input = I.state input.old; output = O.state out.old; error = E.state err.old })
-        (record { input = I.state input.new; output = O.state out.new; error = E.state err.new }) result }
 {
     if board.ending().is_some() {
         return Ok(());

@@ -128,20 +128,6 @@ impl Prefetch {
               ram = M.state ram.new;
               devices = record { input = new; output = O.state out.new; error = E.state err.new };
             }))) }
-        ensures turned_directly { HartEvent image.now
-            (record { board = self.old.board; ram = M.state ram.old })
-            (record { board = self.new.board; ram = M.state ram.new })
-            (record { input = I.state input.old; output = O.state out.old; error = E.state err.old })
-            (record { input = I.state input.new; output = O.state out.new; error = E.state err.new }) result }
-        ensures leads_directly { OnOk result (Leads image.now (of_hart ∷ []) self.old.board self.new.board
-            (record {
-              ram = M.state ram.old;
-              devices = record { input = I.state input.old; output = O.state out.old; error = E.state err.old };
-            })
-            (record {
-              ram = M.state ram.new;
-              devices = record { input = I.state input.new; output = O.state out.new; error = E.state err.new };
-            })) }
     {
         let Some(board) = &mut self.board else {
             unreachable!()
@@ -234,24 +220,6 @@ impl Prefetch {
               ram = M.state ram.new;
               devices = record { input = new; output = O.state out.new; error = E.state err.new };
             })) result)) }
-        ensures came_directly { OnOk result (CameOn image.now (round rate)
-            (whole self.old.board (record {
-              ram = M.state ram.old;
-              devices = record { input = I.state input.old; output = O.state out.old; error = E.state err.old };
-            }))
-            (whole self.new.board (record {
-              ram = M.state ram.new;
-              devices = record { input = I.state input.new; output = O.state out.new; error = E.state err.new };
-            }))) }
-        ensures broke_directly { OnErr result (BrokeIn image.now [] rate
-            (whole self.old.board (record {
-              ram = M.state ram.old;
-              devices = record { input = I.state input.old; output = O.state out.old; error = E.state err.old };
-            }))
-            (whole self.new.board (record {
-              ram = M.state ram.new;
-              devices = record { input = I.state input.new; output = O.state out.new; error = E.state err.new };
-            })) result) }
     {
         self.hart(image, ram, input, out, err)?;
         match self.work_ahead(image, ram, rate) {
@@ -310,24 +278,6 @@ impl Prefetch {
               ram = M.state ram.new;
               devices = record { input = new; output = O.state out.new; error = E.state err.new };
             })) result)) }
-        ensures ran_directly { OnOk result (RanTo image.now limit rate
-            (whole self.old.board (record {
-              ram = M.state ram.old;
-              devices = record { input = I.state input.old; output = O.state out.old; error = E.state err.old };
-            }))
-            (whole self.new.board (record {
-              ram = M.state ram.new;
-              devices = record { input = I.state input.new; output = O.state out.new; error = E.state err.new };
-            }))) }
-        ensures broke_directly { OnErr result (RunBroke image.now limit rate
-            (whole self.old.board (record {
-              ram = M.state ram.old;
-              devices = record { input = I.state input.old; output = O.state out.old; error = E.state err.old };
-            }))
-            (whole self.new.board (record {
-              ram = M.state ram.new;
-              devices = record { input = I.state input.new; output = O.state out.new; error = E.state err.new };
-            })) result) }
         ensures kept { KeepsBehind self.old.board (M.state ram.old) (M.state ram.new) }
         ensures causes { HasCauses
             (record { input = (I.state input.old).faults; output = (O.state out.old).faults; error = (E.state err.old).faults })

@@ -176,6 +176,7 @@ ahead_task name cache o rate = record {
   takes_input = true;
   cache = Some cache.cache_bytes;
   checks = cached_checks o.limits cache;
+  before_next = λ file. [];
   ends = λ e. ⊤;
   does = λ file before after e last. (v : ImageData) × IsImageFor file cache.block_words (image_in file) v
       × KeepsBeyond (ahead_span cache.cache_bytes v) before.ram after.ram

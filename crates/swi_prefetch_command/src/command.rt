@@ -89,9 +89,6 @@ fn run_to_end<I: Source, O: Sink, E: Sink, R: CacheRam>(
     ensures ran { (d : Devices) → AsTold (I.state input.old) (I.state input.new) (λ before after. RunsToEnd asked.now image.now program.now layout.now
         (record d { input = before; output = O.state out.old; error = E.state err.old; ram = R.state ram.old })
         (record d { input = after; output = O.state out.new; error = E.state err.new; ram = R.state ram.new }) result) }
-    ensures ran_directly { (d : Devices) → RunsToEnd asked.now image.now program.now layout.now
-        (record d { input = I.state input.old; output = O.state out.old; error = E.state err.old; ram = R.state ram.old })
-        (record d { input = I.state input.new; output = O.state out.new; error = E.state err.new; ram = R.state ram.new }) result }
     ensures unfailed { IfOk result (λ x. has_failed x.board ≡ false) }
 {
     carry(image, program);
@@ -175,9 +172,6 @@ fn run_over<I: Source, O: Sink, E: Sink, R: CacheRam>(
     ensures ran { (d : Devices) → AsTold (I.state input.old) (I.state input.new) (λ before after. RunsWithReport asked.now image.now program.now layout.now
         (record d { input = before; output = O.state out.old; error = E.state err.old; ram = R.state ram.old })
         (record d { input = after; output = O.state out.new; error = E.state err.new; ram = R.state ram.new }) result) }
-    ensures ran_directly { (d : Devices) → RunsWithReport asked.now image.now program.now layout.now
-        (record d { input = I.state input.old; output = O.state out.old; error = E.state err.old; ram = R.state ram.old })
-        (record d { input = I.state input.new; output = O.state out.new; error = E.state err.new; ram = R.state ram.new }) result }
 {
     let prefetch = run_to_end(alloc, image, program, layout, asked, input, out, err, ram)?;
     let board = prefetch.board();
@@ -208,9 +202,6 @@ fn run_placed<I: Source, O: Sink, E: Sink, R: CacheRam>(
     ensures ran { (d : Devices) → AsTold (I.state input.old) (I.state input.new) (λ before after. RunsWithReport asked.now (view_of placed.now.subject.image) placed.now.subject.program placed.now.layout
         (record d { input = before; output = O.state out.old; error = E.state err.old; ram = R.state ram.old })
         (record d { input = after; output = O.state out.new; error = E.state err.new; ram = R.state ram.new }) result) }
-    ensures ran_directly { (d : Devices) → RunsWithReport asked.now (view_of placed.now.subject.image) placed.now.subject.program placed.now.layout
-        (record d { input = I.state input.old; output = O.state out.old; error = E.state err.old; ram = R.state ram.old })
-        (record d { input = I.state input.new; output = O.state out.new; error = E.state err.new; ram = R.state ram.new }) result }
 {
     let (program, layout) = (&placed.subject.program, &placed.layout);
     match &placed.subject.image {
@@ -252,9 +243,6 @@ pub fn prefetch<F: Shelf, I: Source, O: Sink, E: Sink, R: CacheRam>(
     ensures answers { AsTold (I.state input.old) (I.state input.new) (λ before after. Answers (ahead_task name.now cache.now options.now rate)
         (seen (F.state shelf.old) before (O.state out.old) (E.state err.old) (R.state ram.old))
         (seen (F.state shelf.new) after (O.state out.new) (E.state err.new) (R.state ram.new)) result []) }
-    ensures answers_directly { Answers (ahead_task name.now cache.now options.now rate)
-        (seen (F.state shelf.old) (I.state input.old) (O.state out.old) (E.state err.old) (R.state ram.old))
-        (seen (F.state shelf.new) (I.state input.new) (O.state out.new) (E.state err.new) (R.state ram.new)) result [] }
 {
     check_size(cache.cache_bytes, ram)?;
     let file = read_file(alloc, shelf, name)?;

@@ -90,20 +90,6 @@ goes_at v r m (At i b o Return) shown law at shows = absurd at
 goes_at v r m (At i b o Leave) shown law at shows = absurd at
 goes_at v r m Outside shown law at shows = record { stands = (refl, at); stays = refl; here = refl; spent_none = refl }
 
-pub goes_on_shown : (e : Option End) (c : Control) (shown : ℕ → Option (ℕ × ℕ)) (i : ℕ) → shows_place (index_of e c) (place_under e c) shown ≡ true → index_of e c ≡ Some i → shown i ≡ place_under e c
-goes_on_shown None (At j b o stage) shown i shows is =
-    let same : j ≡ i = some_index j i is in
-    ap shown (sym same) ∙ place_same (shown j) b o shows
-  where
-    index_in : Option ℕ → ℕ
-    index_in None = 0
-    index_in (Some n) = n
-
-    some_index : (a b : ℕ) → (let x : Option ℕ = Some a in let y : Option ℕ = Some b in x ≡ y) → a ≡ b
-    some_index a b e = ap index_in e
-goes_on_shown None Outside shown i shows is = absurd (cc)
-goes_on_shown (Some x) c shown i shows is = absurd (cc)
-
 -- ---- the context of a hart that is to make a step
 
 begun_on : (t : Bool) (c : Context) (here : Here) → t ≡ false → c.booted ≡ true → here ≡ c.place → begun_if t c ≡ record c { booted = true; place = here }

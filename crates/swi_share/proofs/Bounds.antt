@@ -12,7 +12,7 @@ use Rattle.swi_hart.specs.Hart.{HartData}
 use Rattle.swi_board.proofs.Held.{held_steps}
 use Rattle.swi_share.specs.Shared.{Context, Shared, event_by, event_in, flat_of, shared_event, shared_run}
 use Rattle.swi_share.specs.Event.{context}
-use Rattle.swi_share.specs.Sharing.{ShareData, HasRoom, IsSharing, Tells, context_by, context_of, seen}
+use Rattle.swi_share.specs.Sharing.{ShareData, IsSharing, context_by, context_of, seen}
 use Rattle.swi_share.specs.Starting.{first_context, shared_start}
 use Rattle.swi_share.specs.Waiting.{most_steps}
 use Rattle.swi_share.specs.declared.process.Guest.{Guest}
@@ -106,16 +106,6 @@ can_run order s within few = λ k below. (
     taken k n l below is = grind arith
 
 -- ---- what a hart tells
-
-told_steps : (h : HartData) (most : ℕ) (x : Option Context) (c : Context) → x ≡ Some c → Tells h x → h.machine.steps < most → c.machine.steps < most
-told_steps h most None c is told few = absurd (told)
-told_steps h most (Some d) c is told few =
-    let same = ap (λ (y : Context). y.machine.steps) (same_Some d c is) in
-    let own = ap (λ (m : Machine). m.steps) told.machine in
-    omega (arith, same, own, few)
-
-pub room_told : (h : HartData) (s : Shared) (g : ℕ) → Tells h (slice_index_or s.contexts g None) → h.machine.steps < 2 ^ 44 → HasRoom s g
-room_told h s g told few = λ c is. told_steps h (2 ^ 44) (slice_index_or s.contexts g None) c is told few
 
 -- ---- from the start
 

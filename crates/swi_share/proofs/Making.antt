@@ -35,7 +35,7 @@ use Rattle.swi_board.specs.Moments.{GoesOn, Moment, events}
 use Rattle.swi_board.specs.Ran.{RamRan, Unasked, next_of}
 use Rattle.swi_board.specs.Tracking.{Came, Tracks, point_of}
 use Rattle.swi_board.specs.Transfers.{Here, here_of, here_run, transfers, cost, fetches}
-use Rattle.swi_board.proofs.Along.{same_between}
+use Rattle.swi_board.proofs.Along.{same_between, with_source}
 use Rattle.swi_board.proofs.Held.{same_steps}
 use Rattle.swi_board.proofs.Tracks.{kept_both}
 use Rattle.swi_run_laws.specs.Broken.{Broke}
@@ -47,6 +47,9 @@ use Rattle.swi_outside.specs.CacheRam.{KeepsBeyond, RamState}
 use Rattle.swi_outside.specs.Causes.{Rose, risen}
 use Rattle.swi_outside.specs.Devices.{Faults, HasCauses, faults_of}
 use Rattle.swi_outside.specs.Laws.{Appends-none, cause_as, cause_from, causes_from, named_as}
+use Rattle.swi_outside.specs.Source.{HasGiven}
+use Rattle.swi_outside.specs.Told.{AsTold}
+use Rattle.swi_outside.proofs.ToldLemmas.{as_told_said}
 use Rattle.swi_share.specs.Waiting.{WaitsAt, Holds, Waits, most_steps}
 use Rattle.swi_share.specs.Shared.{Context, Event, place_by, enters, begun_if, step_event}
 use Rattle.swi_share.specs.Event.{Boarded, EventDevices, EventMade, HartEvent, StepBroke, board_with, context, devices_of, event_at, instructions_from, moment_by, moment_of, point_with}
@@ -405,19 +408,38 @@ entry_broke v old before ram anew inside failed = record {
 }
 
 module _ (v : ImageData) (old b : BoardOf Slots) (before : EventDevices) (given given' : List ℕ) (mid : RamState) (entry : Entry v old b before.ram mid) (n : ℕ) (one : n ≡ old.hart.machine.steps + 1) (new : BoardOf Slots) (after : EventDevices) where
+  abbrev first : BoardWithDevices Slots
+  first = boarded_with b before given mid
+
+  abbrev last : BoardWithDevices Slots
+  last = board_on new after given'
+
+  -- the run of the board over an input that tells what is left
+  abbrev RanOver : Result Unit BoardFault → Type 0
+  RanOver result = HasGiven first.devices.input last.devices.input
+      × AsTold first.devices.input last.devices.input (λ from to. BoardRan slots_service v n (with_source first from) (with_source last to) result)
+
+  ran_over : (result : Result Unit BoardFault) → RanOver result → BoardRan slots_service v n first last result
+  ran_over result (gave, ran) = as_told_said (λ from to. BoardRan slots_service v n (with_source first from) (with_source last to) result) gave refl ran
+
+  -- no device failed in it
+  pub hart_unfailed : {u : Unit} (result : Result Unit BoardFault) → RanOver result → result ≡ Ok u → b.hart.failed ≡ false → new.hart.failed ≡ false
+  hart_unfailed {u} result ran is unfailed =
+      let r = subst (λ (x : Result Unit BoardFault). BoardRan slots_service v n first last x) is (ran_over result ran) in
+      let stays = subst (λ (w : BoardWithDevices Slots). BoardStays slots_service v n first w) (sym r.ends.0) r.along.stays in
+      stays.point.failed ∙ unfailed
+
   -- the event was made
-  pub hart_made : {u : Unit} (result : Result Unit BoardFault) → BoardRan slots_service v n (boarded_with b before given mid) (board_on new after given') result → result ≡ Ok u →
-      HartEvent v old before after (Ok (new.hart, new.rom))
+  pub hart_made : {u : Unit} (result : Result Unit BoardFault) → RanOver result → result ≡ Ok u → HartEvent v old before after (Ok (new.hart, new.rom))
   hart_made {u} result ran is =
-      let r = subst (λ (x : Result Unit BoardFault). BoardRan slots_service v n (boarded_with b before given mid) (board_on new after given') x) is ran in
+      let r = subst (λ (x : Result Unit BoardFault). BoardRan slots_service v n first last x) is (ran_over result ran) in
       let made = made_event v old b before given given' mid entry n one new after {u = u} r in
       record { made = made; broke = tt; kept = made.ram.kept }
 
   -- a device broke it off
-  pub hart_broke : (result : Result Unit BoardFault) (fault : BoardFault) → BoardRan slots_service v n (boarded_with b before given mid) (board_on new after given') result → result ≡ Err fault →
-      HartEvent v old before after (Err fault)
+  pub hart_broke : (result : Result Unit BoardFault) (fault : BoardFault) → RanOver result → result ≡ Err fault → HartEvent v old before after (Err fault)
   hart_broke result fault ran is =
-      let r = subst (λ (x : Result Unit BoardFault). BoardRan slots_service v n (boarded_with b before given mid) (board_on new after given') x) is ran in
+      let r = subst (λ (x : Result Unit BoardFault). BoardRan slots_service v n first last x) is (ran_over result ran) in
       let stays = r.along.stays in
       let setting : setting_of r.mid.rom ≡ setting_of old.rom = stays.setting ∙ entry.setting in
       let causes = named {T = Unit} fault (causes_from stays.quiet r.ends.broke.causes) in

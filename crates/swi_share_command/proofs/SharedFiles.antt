@@ -1,10 +1,10 @@
 -- The files of programs that share a cache, read one behind the other.
 use Rattle.std.proofs.Common.{◌≡◌, ◌⊎◌, inl, inr, ℕ, ◌+◌, ◌≤◌, suc, append_assoc, List, [], ◌∷◌, ◌++◌, length, map, Option, Some, None, Result, Ok, Err, refl, sym, ◌∙◌, ap, subst, arith}
-use Rattle.std.specs.Prelude.{All, Vec, option_map, zip}
+use Rattle.std.specs.Prelude.{All, Vec, option_map, slice_get, take, zip, ◌-◌}
 use Rattle.std.specs.declared.alloc.Global.{Global}
 use Rattle.std.specs.List.{AllZip}
-use Rattle.std.proofs.lemmas.List.{append-nil, length-append, length_push, map-append}
-use Rattle.std.proofs.lemmas.List.Elements.{All-head, All-nil, All-push, All-tail, Contains-append_right}
+use Rattle.std.proofs.lemmas.List.{append-nil, length-append, length_push, map-append, take-append-le}
+use Rattle.std.proofs.lemmas.List.Elements.{All-head, All-map, All-nil, All-push, All-same, All-tail, All-take}
 use Rattle.swi_outside.specs.Causes.{Rose, counted, risen}
 use Rattle.swi_outside.specs.Shelf.{Contents, IsLonger, Passed, Same, SameAt, ShelfState, Stands, WasGot}
 use Rattle.swi_outside.specs.declared.shelf.ShelfError.{ShelfError}
@@ -18,7 +18,7 @@ use Rattle.swi_answer.specs.declared.answer.Refusal.{Refusal}
 use Rattle.swi_answer.specs.declared.answer.Refusal.TheVariants as refusal
 use Rattle.swi_share_command.specs.declared.command.GuestFile.{GuestFile}
 use Rattle.swi_task.specs.Checks.{Check, IsAccepted, IsRefusedBy, IsRefusedOr, file_limit}
-use Rattle.swi_task.specs.Answers.{StandFirst}
+use Rattle.swi_task.specs.Answers.{IsLast, StandFirst}
 use Rattle.swi_task.specs.Files.{FileRead, answer_by}
 use Rattle.swi_share_command.specs.RunShared.{FilesRead, FilesRefused, FilesUnread, FirstRead, GotSome, IsFileRefusal, IsGuestFile, IsRefusedSo, ShelfBroke, bytes_of, files_checks, guest_checks}
 use Rattle.swi_task.specs.Task.{GaveFirst, Tells, TellsAll}
@@ -245,25 +245,51 @@ shorter (n ∷ ns) rest name = let less = shorter ns rest name in omega (arith, 
 rose_from : (a b c : ℕ) → b ≡ a → Rose b c → Rose a c
 rose_from a b c is rose = subst (λ (n : ℕ). Rose n c) is rose
 
+-- each of the files before it passes its checks
+pub each_accepted : (limits : RunLimits) (most : ℕ) (read : List GuestFile) → All (IsGuestFile limits most) read → All (λ file. IsAccepted (guest_checks limits most file)) (bytes_of read)
+each_accepted limits most read ok =
+    let Passes : List ℕ → Type 0 = λ file. IsAccepted (guest_checks limits most file) in
+    All-map Passes (λ (f : GuestFile). f.bytes.items) read (λ k d lt. (ok k d lt).accepted)
+
+front_accepted : (limits : RunLimits) (most : ℕ) (front behind : List (List ℕ)) (old mid : ShelfState) (read : List GuestFile) → FilesRead limits most front old mid read →
+    All (λ file. IsAccepted (guest_checks limits most file)) (take (length front + 1 - 1) (bytes_of read ++ behind))
+front_accepted limits most front behind old mid read was =
+    let Passes : List ℕ → Type 0 = λ file. IsAccepted (guest_checks limits most file) in
+    let same = as_many old.contents front read was.stand in
+    All-same Passes (take (length front + 1 - 1) (bytes_of read ++ behind)) (take (length front + 1 - 1) (bytes_of read))
+    (take-append-le (length front + 1 - 1) (bytes_of read) behind (omega (arith, same)))
+    (All-take Passes (length front + 1 - 1) (bytes_of read) (each_accepted limits most read was.accepted))
+
 -- what was read before it
 first_read : (limits : RunLimits) (most : ℕ) (front more : List (List ℕ)) (old mid new : ShelfState) (read : List GuestFile) → FilesRead limits most front old mid read →
-    new.got ≡ mid.got → new.stored ≡ mid.stored → FirstRead (front ++ more) (bytes_of read) old new
+    new.got ≡ mid.got → new.stored ≡ mid.stored → FirstRead limits most (front ++ more) (length front + 1) (bytes_of read) old new
 first_read limits most front more old mid new read was got stored = record {
   gave = subst (λ (l : List (List ℕ)). GaveFirst (front ++ more) l old new) (append-nil (bytes_of read))
       (gave_behind limits most front more [] old mid new read was (omega arith) (got ∙ sym (append-nil mid.got) ∙ ap (λ (l : Passed). mid.got ++ l) (sym (zip_none more))));
   stood = subst (λ (l : List (List ℕ)). StandFirst old.contents (front ++ more) l) (append-nil (bytes_of read)) (stand_more old.contents front read more [] was.stand tt);
+  accepted = subst (λ (l : List (List ℕ)). All (λ (file : List ℕ). IsAccepted (guest_checks limits most file)) (take (length front + 1 - 1) l)) (append-nil (bytes_of read))
+      (front_accepted limits most front [] old mid read was);
   stored = stored ∙ was.got.stored;
 }
 
 -- and with it
 last_read : (limits : RunLimits) (most : ℕ) (front rest : List (List ℕ)) (name : List ℕ) (old mid new : ShelfState) (read : List GuestFile) (bytes : List ℕ) → FilesRead limits most front old mid read →
-    IsRead mid new name bytes → FirstRead (front ++ name ∷ rest) (bytes_of read ++ bytes ∷ []) old new
+    IsRead mid new name bytes → FirstRead limits most (front ++ name ∷ rest) (length front + 1) (bytes_of read ++ bytes ∷ []) old new
 last_read limits most front rest name old mid new read bytes was h = record {
   gave = gave_behind limits most front (name ∷ rest) (bytes ∷ []) old mid new read was (omega arith)
       (h.got ∙ ap (λ (l : Passed). mid.got ++ (name, bytes) ∷ l) (sym (zip_none rest)));
   stood = stand_more old.contents front read (name ∷ rest) (bytes ∷ []) was.stand (stands_before old.contents mid.contents name bytes (was.got.same name) h.stands, tt);
+  accepted = front_accepted limits most front (bytes ∷ []) old mid read was;
   stored = h.stored ∙ was.got.stored;
 }
+
+-- it is the one that was got last
+pub last_is : (front rest : List (List ℕ)) (name : List ℕ) → IsLast (front ++ name ∷ rest) (length front + 1) name
+last_is front rest name = let back : length front + 1 - 1 ≡ length front = omega arith in ap (λ (n : ℕ). slice_get (front ++ name ∷ rest) n) back ∙ get_behind front
+  where
+    get_behind : (front : List (List ℕ)) → slice_get (front ++ name ∷ rest) (length front) ≡ Some name
+    get_behind [] = refl
+    get_behind (n ∷ ns) = get_behind ns
 
 but_one : (limits : RunLimits) (most : ℕ) (front : List (List ℕ)) (old mid : ShelfState) (read : List GuestFile) → FilesRead limits most front old mid read → length front + 1 ≡ length (bytes_of read) + 1
 but_one limits most front old mid read was = ap (λ (k : ℕ). k + 1) (sym (as_many old.contents front read was.stand))
@@ -274,14 +300,14 @@ with_one limits most front old mid read bytes was = but_one limits most front ol
 
 -- by the shelf
 pub shelf_failed : (limits : RunLimits) (most : ℕ) (front rest : List (List ℕ)) (name : List ℕ) (old mid new : ShelfState) (read : List GuestFile) →
-    FilesRead limits most front old mid read → WasGot mid new name file_limit (Err error.Failed) → ShelfBroke (front ++ name ∷ rest) old new
+    FilesRead limits most front old mid read → WasGot mid new name file_limit (Err error.Failed) → ShelfBroke limits most (front ++ name ∷ rest) old new
 shelf_failed limits most front rest name old mid new read was got =
     let failed = got.cause.failed refl in record {
+      gets = length front + 1;
       name = name;
-      asked = Contains-append_right front (name ∷ rest) name (0, omega arith, refl);
+      asked = last_is front rest name;
       last_failed = failed.1;
       same = same_again old.contents mid.contents new.contents was.got.same got.same;
-      gets = length front + 1;
       given = bytes_of read;
       read = first_read limits most front (name ∷ rest) old mid new read was got.gave got.none_stored;
       but_one = but_one limits most front old mid read was;
@@ -295,7 +321,7 @@ shelf_failed limits most front rest name old mid new read was got =
 -- for want of memory, or by a check
 pub file_refused : (limits : RunLimits) (most : ℕ) (front rest : List (List ℕ)) (name : List ℕ) (old mid new : ShelfState) (read : List GuestFile) (given : List (List ℕ)) (r : Refusal) →
     FilesRead limits most front old mid read → Same mid.contents new.contents → new.calls ≡ counted mid.calls → new.faults ≡ mid.faults → new.last_failed ≡ mid.last_failed → IsFileRefusal r →
-    FirstRead (front ++ name ∷ rest) given old new → IsRefusedSo limits most (front ++ name ∷ rest) old.contents (length front + 1) given r → FilesRefused limits most (front ++ name ∷ rest) old new r
+    FirstRead limits most (front ++ name ∷ rest) (length front + 1) given old new → IsRefusedSo limits most (front ++ name ∷ rest) old.contents (length front + 1) given r → FilesRefused limits most (front ++ name ∷ rest) old new r
 file_refused limits most front rest name old mid new read given r was same calls faults last by first why = record {
   gets = length front + 1;
   some = omega arith;
@@ -329,6 +355,7 @@ file_unread limits most front rest name old mid new read r was h = by h.answer h
         (file_refused limits most front rest name old mid new read (bytes_of read) (refusal.FileLong file_limit) was got.same got.asked quiet.0 quiet.1 tt
         (first_read limits most front (name ∷ rest) old mid new read was got.gave got.none_stored) (
           but_one limits most front old mid read was,
+          (name, last_is front rest name, longer_before old.contents mid.contents name (was.got.same name) (got.long refl)),
           λ files told. refused_at limits most old.contents (refusal.FileLong file_limit) front read name rest files was.stand was.accepted told
               (λ file tells. inl (too_long old.contents name file (longer_before old.contents mid.contents name (was.got.same name) (got.long refl)) tells)),
         )))

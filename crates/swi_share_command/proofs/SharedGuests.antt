@@ -1,12 +1,10 @@
 -- The programs of files that share a cache, and what is told of them.
 use Rattle.std.proofs.Common.{◌≡◌, inl, inr, ℕ, suc, ◌+◌, ◌<◌, ◌≤◌, ◌-◌, ◌^◌, min, Bool, true, if◌then◌else◌, List, [], ◌∷◌, ◌++◌, length, drop, get_or, slice_index_or, take, Option, Some, None, refl, sym, ◌∙◌, ap, subst, arith}
-use Rattle.std.specs.Prelude.{All}
 use Rattle.std.specs.List.{AllZip}
 use Rattle.std.proofs.lemmas.Bool.{cases_eq}
 use Rattle.std.proofs.lemmas.List.{drop_all, drop_more, length-map, map-append, take_more}
 use Rattle.std.proofs.lemmas.Option.{same_Some}
 use Rattle.swi_outside.specs.Shelf.{ShelfState}
-use Rattle.swi_image.specs.Checks.{first_refusal}
 use Rattle.swi_image.specs.Format.{image_of}
 use Rattle.swi_render.specs.Cut.{IsCut}
 use Rattle.swi_render.specs.ImageOf.{IsImageOf}
@@ -39,26 +37,12 @@ cut_none file most own bytes is = subst (λ (o : Option (List ℕ)). IsCutFor fi
 pub cut_some : (file : List ℕ) (most : ℕ) (own : Option (List ℕ)) (cut : List ℕ) → own ≡ None → IsCut (text_in file) most (image_of cut) → IsCutFor file most own (Some cut)
 cut_some file most own cut is h = subst (λ (o : Option (List ℕ)). IsCutFor file most o (Some cut)) (sym is) h
 
--- that which was cut
-pub cut_is : (file : List ℕ) (most : ℕ) (own : Option (List ℕ)) (cut : List ℕ) → IsCutFor file most own (Some cut) → IsImageFor file most own (image_of cut) × IsImageOf (text_in file) (image_of cut)
-cut_is file most None cut h = (h, h.image)
-cut_is file most (Some bytes) cut h = absurd h
-
--- or its own
-pub has_own : (file : List ℕ) (most : ℕ) (own : Option (List ℕ)) → IsCutFor file most own None → own ≡ None → ⊥
-has_own file most None h is = h
-has_own file most (Some bytes) h is = let bad : ⊥ = cc in bad
-
 pub own_is : (file : List ℕ) (most : ℕ) (own : Option (List ℕ)) (bytes : List ℕ) → own ≡ Some bytes → OfImage own (λ b. IsImageOf (text_in file) (image_of b)) →
     IsImageFor file most own (image_of bytes) × IsImageOf (text_in file) (image_of bytes)
 own_is file most None bytes is h = absurd (let bad : ⊥ = cc in bad)
 own_is file most (Some held) bytes is h =
     let same : held ≡ bytes = same_Some held bytes is in
     (ap image_of (sym same), subst (λ (b : List ℕ). IsImageOf (text_in file) (image_of b)) same h)
-
-pub own_accepted : (own : Option (List ℕ)) (bytes : List ℕ) → own ≡ Some bytes → OfImage own (λ b. first_refusal b ≡ None) → first_refusal bytes ≡ None
-own_accepted None bytes is h = absurd (let bad : ⊥ = cc in bad)
-own_accepted (Some held) bytes is h = subst (λ (b : List ℕ). first_refusal b ≡ None) (same_Some held bytes is) h
 
 -- ---- the programs of the files
 

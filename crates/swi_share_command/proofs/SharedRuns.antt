@@ -1,7 +1,8 @@
 -- From what programs do over a cache to what the command `share` answers.
-use Rattle.std.proofs.Common.{◌≡◌, ◌⊎◌, inl, inr, ℕ, ◌+◌, ◌*◌, ◌<◌, ◌≤◌, List, [], ◌∷◌, length, Option, None, Result, Ok, Err, IsErrOf, refl, sym, ◌∙◌, ap, subst, arith}
+use Rattle.std.proofs.Common.{◌≡◌, ◌⊎◌, inl, inr, ℕ, ◌+◌, ◌-◌, ◌*◌, ◌<◌, ◌≤◌, List, [], ◌∷◌, length, Option, None, Result, Ok, Err, IsErrOf, refl, sym, ◌∙◌, ap, subst, arith}
 use Rattle.std.specs.Prelude.{All, OnErr}
 use Rattle.std.specs.List.{AllZip}
+use Rattle.std.proofs.lemmas.List.Elements.{All-take}
 use Rattle.std.specs.Io.KnownBytes.{Appends}
 use Rattle.swi_outside.specs.CacheRam.{RamState}
 use Rattle.swi_outside.specs.Causes.{risen}
@@ -18,15 +19,15 @@ use Rattle.swi_answer.specs.declared.answer.Ending.{Ending}
 use Rattle.swi_answer.specs.declared.answer.Refusal.{Refusal}
 use Rattle.swi_answer.specs.declared.answer.Refusal.TheVariants as refusal
 use Rattle.swi_share_command.specs.declared.command.GuestFile.{GuestFile}
-use Rattle.swi_task.specs.Answers.{Answers, AreGiven, HasPassed, HasStored, IsAskedFor, IsChecked, IsRunFault, IsSizeRefusal, KeepsShelf, writes_in}
+use Rattle.swi_task.specs.Answers.{Answers, AreGiven, HasPassed, HasStored, IsAskedFor, IsChecked, IsLastLonger, IsRunFault, IsSizeRefusal, KeepsShelf, writes_in}
 use Rattle.swi_task.specs.Checks.{Check, HoldsBlock, Fails, IsAccepted, IsRefusedBy, size_refusal}
 use Rattle.swi_task.specs.Devices.{Devices}
-use Rattle.swi_share_command.specs.RunShared.{AreGuestsOf, FilesRead, FilesRefused, FilesUnread, FirstRead, GotSome, IsFileRefusal, IsGuestOf, IsRefusedSo, IsShareErr, ShareFailed, Shares, SharesOver, ShelfBroke, bytes_of, files_checks, limits_by, most_block, share_checks, share_task}
+use Rattle.swi_share_command.specs.RunShared.{AreGuestsOf, FilesRead, FilesRefused, FilesUnread, FirstRead, GotSome, IsFileRefusal, IsGuestOf, IsRefusedSo, IsShareErr, ShareFailed, Shares, SharesOver, ShelfBroke, bytes_of, files_checks, guest_checks, limits_by, most_block, share_checks, share_task}
 use Rattle.swi_task.specs.Task.{GaveFirst, Task, TellsAll}
 use Rattle.swi_task.proofs.Images.{front_fails, size_is}
 use Rattle.swi_task.proofs.Lines.{IsLined, appends_last, done_lined, holds_then}
-use Rattle.swi_task.proofs.Refusals.{IsLate, IsTooLong, causes_behind, checked_by, gave_same, keeps_ram, late, none_long, shelf_causes, sized_along, sized_err, sized_ok, stores_none, untouched}
-use Rattle.swi_share_command.proofs.SharedFiles.{accepted_all, accepted_both, as_many, files_same, given_refused, refused_behind, stand_all}
+use Rattle.swi_task.proofs.Refusals.{IsLate, IsLongLast, IsTooLong, causes_behind, checked_by, gave_same, given_short, keeps_ram, late, none_long, none_longer, shelf_causes, sized_along, sized_err, sized_ok, stores_none, untouched}
+use Rattle.swi_share_command.proofs.SharedFiles.{accepted_all, accepted_both, as_many, each_accepted, files_same, given_refused, refused_behind, stand_all}
 
 -- ---- the last line behind it
 
@@ -108,12 +109,15 @@ passed_all names cache o before after read r h all = record {
   gave = h.gave;
   all = all;
   stood = stand_all before.contents names read h.stand;
+  accepted = All-take (λ (file : List ℕ). IsAccepted (guest_checks (limits_by o) cache.block_words file)) (length names - 1) (bytes_of read)
+      (each_accepted (limits_by o) cache.block_words read h.accepted);
+  long = λ limit is. absurd (given_short after.last_failed r (length names) (subst (λ (n : ℕ). AreGiven after.last_failed r (length names) n) (as_many before.contents names read h.stand) all) limit is);
   stored = subst (λ (s : Passed). HasStored r None before.stored s) (sym h.got.stored) (stores_none r before.stored);
 }
 
-passed_first : (names : List (List ℕ)) (cache : CacheOptions) (o : ShareOptions) (before after : ShelfState) (gets : ℕ) (given : List (List ℕ)) (r : Refusal) → FirstRead names given before after →
-    AreGiven after.last_failed (Err r) gets (length given) → HasPassed (share_task names cache o) before after (Err r) gets
-passed_first names cache o before after gets given r h all = record { given = given; gave = h.gave; all = all; stood = h.stood; stored = h.stored }
+passed_first : (names : List (List ℕ)) (cache : CacheOptions) (o : ShareOptions) (before after : ShelfState) (gets : ℕ) (given : List (List ℕ)) (r : Refusal) → FirstRead (limits_by o) cache.block_words names gets given before after →
+    AreGiven after.last_failed (Err r) gets (length given) → IsLongLast (share_task names cache o) before.contents r gets → HasPassed (share_task names cache o) before after (Err r) gets
+passed_first names cache o before after gets given r h all long = record { given = given; gave = h.gave; all = all; stood = h.stood; accepted = h.accepted; long = long; stored = h.stored }
 
 -- ---- a check of a file
 
@@ -173,12 +177,19 @@ refused_long : (limits : RunLimits) (most : ℕ) (names : List (List ℕ)) (cont
     (limit : ℕ) → IsErrOf {T = Ending} (Err r) (refusal.FileLong limit) → (files : List (List ℕ)) → TellsAll contents names files → IsRefusedBy (files_checks limits most files) (refusal.FileLong limit)
 refused_long limits most names contents gets given r why limit is =
     let same : r ≡ refusal.FileLong limit = cc in
+    (subst (λ (x : Refusal). IsRefusedSo limits most names contents gets given x) same why).2
+
+refused_last : (limits : RunLimits) (most : ℕ) (names : List (List ℕ)) (contents : Option Contents) (gets : ℕ) (given : List (List ℕ)) (r : Refusal) → IsRefusedSo limits most names contents gets given r →
+    (limit : ℕ) → IsErrOf {T = Ending} (Err r) (refusal.FileLong limit) → IsLastLonger contents names gets limit
+refused_last limits most names contents gets given r why limit is =
+    let same : r ≡ refusal.FileLong limit = cc in
     (subst (λ (x : Refusal). IsRefusedSo limits most names contents gets given x) same why).1
 
 -- the files of the command, or the first of them, are refused so
-first_refused : (names : List (List ℕ)) (cache : CacheOptions) (o : ShareOptions) (before after : ShelfState) (given files : List (List ℕ)) (r : Refusal) → FirstRead names given before after →
+first_refused : (names : List (List ℕ)) (cache : CacheOptions) (o : ShareOptions) (before after : ShelfState) (gets : ℕ) (given files : List (List ℕ)) (r : Refusal) →
+    FirstRead (limits_by o) cache.block_words names gets given before after →
     GaveFirst names files before after ⊎ TellsAll before.contents names files → IsRefusedBy (files_checks (limits_by o) cache.block_words given) r → IsRefusedBy (share_checks cache o files) r
-first_refused names cache o before after given files r h are by = front_fails (files_checks (limits_by o) cache.block_words files) _ r (elim are [
+first_refused names cache o before after gets given files r h are by = front_fails (files_checks (limits_by o) cache.block_words files) _ r (elim are [
   | inl gave ↦ subst (λ (l : List (List ℕ)). IsRefusedBy (files_checks (limits_by o) cache.block_words l) r) (gave_same names given files before after h.gave gave) by
   | inr tells ↦ given_refused (limits_by o) cache.block_words before.contents r names given files h.stood tells by
 ])
@@ -191,17 +202,18 @@ files_refused names cache o d s r size h =
       | inl e ↦ memory_checked (share_checks cache o files) s.last_failed r e
       | inr by ↦ elim by [
         | inl long ↦ long_checked (share_checks cache o files) s.last_failed r long
-        | inr by ↦ checked_by (share_checks cache o files) s.last_failed r (first_refused names cache o d.shelf s h.given files r h.read are by)
+        | inr by ↦ checked_by (share_checks cache o files) s.last_failed r (first_refused names cache o d.shelf s h.gets h.given files r h.read are by)
       ]
     ])
     (λ limit is files tells. front_fails (files_checks (limits_by o) cache.block_words files) _ (refusal.FileLong limit)
     (refused_long (limits_by o) cache.block_words names d.shelf.contents h.gets h.given r h.why limit is files tells))
     (let none : h.gets ≡ h.gets + 0 = omega arith in subst (λ (k : ℕ). s.calls ≡ risen d.shelf.calls k) none h.got.calls)
     (file_asked (length names) h.gets s.last_failed r h.by_file h.some h.few)
-    (passed_first names cache o d.shelf s h.gets h.given r h.read (refused_given (limits_by o) cache.block_words names d.shelf.contents h.gets h.given s.last_failed r h.by_file h.why))
+    (passed_first names cache o d.shelf s h.gets h.given r h.read (refused_given (limits_by o) cache.block_words names d.shelf.contents h.gets h.given s.last_failed r h.by_file h.why)
+    (refused_last (limits_by o) cache.block_words names d.shelf.contents h.gets h.given r h.why))
 
 pub shelf_broke : (names : List (List ℕ)) (cache : CacheOptions) (o : ShareOptions) (d : Devices) (s : ShelfState) → size_refusal cache.cache_bytes (length d.ram.words) ≡ None →
-    ShelfBroke names d.shelf s → Answers (share_task names cache o) d (record d { shelf = s }) (Err refusal.ShelfFault) []
+    ShelfBroke (limits_by o) cache.block_words names d.shelf s → Answers (share_task names cache o) d (record d { shelf = s }) (Err refusal.ShelfFault) []
 shelf_broke names cache o d s size h = record {
   asked = λ e. let bad : ⊥ = cc in bad;
   sized = sized_along _ _ size (sized_err refusal.ShelfFault (λ x. x));
@@ -221,7 +233,8 @@ shelf_broke names cache o d s size h = record {
     calls = let none : h.gets ≡ h.gets + 0 = omega arith in subst (λ (k : ℕ). s.calls ≡ risen d.shelf.calls k) none h.calls;
     asked = subst (λ (x : Option Asked). IsAskedFor (length names) 0 x (Err refusal.ShelfFault) h.gets 0) (sym h.last_failed) (h.some, h.few, refl);
     passed = passed_first names cache o d.shelf s h.gets h.given refusal.ShelfFault h.read
-        (subst (λ (x : Option Asked). AreGiven x (Err refusal.ShelfFault) h.gets (length h.given)) (sym h.last_failed) h.but_one);
+        (subst (λ (x : Option Asked). AreGiven x (Err refusal.ShelfFault) h.gets (length h.given)) (sym h.last_failed) h.but_one)
+        (none_longer (share_task names cache o) d.shelf.contents refusal.ShelfFault h.gets (λ x. x));
   };
   input = refl;
   ram = keeps_ram (share_task names cache o).cache d.ram;

@@ -43,7 +43,7 @@ use Rattle.swi_answer.specs.declared.answer.Refusal.{Refusal}
 use Rattle.swi_answer.specs.declared.answer.Refusal.TheVariants as refusal
 use Rattle.swi_answer.specs.Lines.{guest_line}
 use Rattle.swi_share_command.specs.declared.command.GuestFile.{GuestFile}
-use Rattle.swi_task.specs.Answers.{IsRunFault, StandFirst}
+use Rattle.swi_task.specs.Answers.{IsLast, IsLastLonger, IsRunFault, StandFirst}
 use Rattle.swi_task.specs.Causes.{HasCauses}
 use Rattle.swi_task.specs.Checks.{Check, IsShort, IsAcceptedElf, HasRoom, IsAcceptedImage, IsOwnImage, FitsUnlessImage, HoldsBlock, IsAccepted, IsRefusedBy, block_words, file_limit, room_in, text_in}
 use Rattle.swi_task.specs.Devices.{Devices}
@@ -237,6 +237,7 @@ share_task names cache o = record {
   takes_input = false;
   cache = Some cache.cache_bytes;
   checks = share_checks cache o;
+  before_next = guest_checks (limits_by o) cache.block_words;
   ends = λ e. e ≡ ending.Done;
   does = λ files before after e last. (guests : List Guest) × AreGuestsOf cache o files guests × Shares o cache.cache_bytes guests before after e last;
   fails = λ files before after r last. (guests : List Guest) × AreGuestsOf cache o files guests × ShareFailed o cache.cache_bytes guests before after r last;
@@ -276,21 +277,22 @@ pub record FilesRead (limits : RunLimits) (most : ℕ) (names : List (List ℕ))
   pub stand : AllZip (λ name f. Stands old.contents name f.bytes.items) names files
   pub accepted : All (IsGuestFile limits most) files
 
--- the first of these names were read
-pub record FirstRead (names given : List (List ℕ)) (old new : ShelfState) : Type 0 where
+-- so many of these names were got, and the first of them read; each but the one that was got last passes its checks
+pub record FirstRead (limits : RunLimits) (most : ℕ) (names : List (List ℕ)) (gets : ℕ) (given : List (List ℕ)) (old new : ShelfState) : Type 0 where
   pub gave : GaveFirst names given old new
   pub stood : StandFirst old.contents names given
+  pub accepted : All (λ file. IsAccepted (guest_checks limits most file)) (take (gets - 1) given)
   pub stored : new.stored ≡ old.stored
 
 -- the shelf failed at one of them
-pub record ShelfBroke (names : List (List ℕ)) (old new : ShelfState) : Type 0 where
+pub record ShelfBroke (limits : RunLimits) (most : ℕ) (names : List (List ℕ)) (old new : ShelfState) : Type 0 where
+  pub gets : ℕ
   pub name : List ℕ
-  pub asked : Contains names name
+  pub asked : IsLast names gets name
   pub last_failed : new.last_failed ≡ Some (get_of name)
   pub same : Same old.contents new.contents
-  pub gets : ℕ
   pub given : List (List ℕ)
-  pub read : FirstRead names given old new
+  pub read : FirstRead limits most names gets given old new
   pub but_one : gets ≡ length given + 1
   pub some : 0 < gets
   pub few : gets ≤ length names
@@ -309,12 +311,12 @@ IsFileRefusal (refusal.Long address needs) = ⊤
 IsFileRefusal refusal.Memory = ⊤
 IsFileRefusal _ = ⊥
 
--- for want of memory; as too long, by the first check that fails, where the shelf tells all of them; or by the first check that fails of those
--- that were given
+-- for want of memory; as too long, as the one that was got last is, and by the first check that fails, where the shelf tells all of them; or by
+-- the first check that fails of those that were given
 abbrev pub IsRefusedSo : RunLimits → ℕ → List (List ℕ) → Option Contents → (gets : ℕ) (given : List (List ℕ)) → Refusal → Type 0
 IsRefusedSo limits most names contents gets given refusal.Memory = (length given ≤ gets) × (gets ≤ length given + 1)
 IsRefusedSo limits most names contents gets given (refusal.FileLong limit) =
-    (gets ≡ length given + 1) × ((files : List (List ℕ)) → TellsAll contents names files → IsRefusedBy (files_checks limits most files) (refusal.FileLong limit))
+    (gets ≡ length given + 1) × IsLastLonger contents names gets limit × ((files : List (List ℕ)) → TellsAll contents names files → IsRefusedBy (files_checks limits most files) (refusal.FileLong limit))
 IsRefusedSo limits most names contents gets given r = (gets ≡ length given) × IsRefusedBy (files_checks limits most given) r
 
 -- or one of them is refused
@@ -324,13 +326,13 @@ pub record FilesRefused (limits : RunLimits) (most : ℕ) (names : List (List �
   pub few : gets ≤ length names
   pub got : GotSome gets old new
   pub given : List (List ℕ)
-  pub read : FirstRead names given old new
+  pub read : FirstRead limits most names gets given old new
   pub why : IsRefusedSo limits most names old.contents gets given r
   pub by_file : IsFileRefusal r
 
 abbrev pub FilesUnread : RunLimits → ℕ → List (List ℕ) → ShelfState → ShelfState → Refusal → Type 0
 FilesUnread limits most names old new r =
-    ((r ≡ refusal.ShelfFault) × ShelfBroke names old new) ⊎ FilesRefused limits most names old new r
+    ((r ≡ refusal.ShelfFault) × ShelfBroke limits most names old new) ⊎ FilesRefused limits most names old new r
 
 -- what programs are refused with over whose event a device broke off
 abbrev pub refusal_by : BoardFault → Refusal

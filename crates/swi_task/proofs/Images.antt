@@ -65,9 +65,6 @@ pub front_fails : (cs more : List Check) (r : Refusal) → IsRefusedBy cs r → 
 front_fails [] more r h = absurd h
 front_fails (c ∷ cs) more r h = elim h [ inl f ↦ inl f | inr rest ↦ inr (rest.0, front_fails cs more r rest.1) ]
 
-pub front_refused : (cs more : List Check) (r : Refusal) → IsRefusedOr cs r → IsRefusedOr (cs ++ more) r
-front_refused cs more r why = elim why [ inl e ↦ inl e | inr by ↦ inr (front_fails cs more r by) ]
-
 pub last_fails : (cs : List Check) (c : Check) (r : Refusal) → IsAccepted cs → Fails c r → IsRefusedBy (cs ++ (c ∷ [])) r
 last_fails [] c r passed fails = inl fails
 last_fails (x ∷ xs) c r passed fails = inr (passed.0, last_fails xs c r passed.1 fails)

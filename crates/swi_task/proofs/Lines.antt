@@ -278,6 +278,8 @@ ending_failed t lined d m e error a p never later rose = record {
       gave = p.gave;
       all = p.all;
       stood = p.stood;
+      accepted = p.accepted;
+      long = λ limit x. absurd (let bad : ⊥ = cc in bad);
       stored = none_stored t.writes e d.shelf.stored m.shelf.stored (λ name named. lined.unwritten e name a.ended never named) p.stored;
     };
   };

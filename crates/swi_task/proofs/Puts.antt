@@ -14,7 +14,7 @@ use Rattle.swi_task.specs.Answers.{Answers, AreGiven, HasPassed, HasStored, IsAs
 use Rattle.swi_task.specs.Checks.{IsAccepted, cache_refusal}
 use Rattle.swi_task.specs.Files.{FileWritten, answer_by}
 use Rattle.swi_task.specs.Task.{AreFiles, Task}
-use Rattle.swi_task.proofs.Refusals.{IsRead, asked_twice, calm_causes, gave_one, keeps_input, keeps_ram, late, none_long, one_stood, shelf_causes, sized_along, sized_err, sized_ok, untouched}
+use Rattle.swi_task.proofs.Refusals.{IsRead, asked_twice, calm_causes, gave_one, given_short, keeps_input, keeps_ram, late, none_long, one_before, one_stood, shelf_causes, sized_along, sized_err, sized_ok, untouched}
 
 -- what is told of a name over two calls
 same_then : (a b c : Option Contents) (name : List ℕ) → SameAt a b name → SameAt b c name → SameAt a c name
@@ -63,6 +63,8 @@ passed_both t before middle after input bytes output r one h given stored = reco
   gave = gave_one t before middle after input bytes one h.read h.got;
   all = given;
   stood = one_stood t before middle input bytes one h.read;
+  accepted = one_before t bytes;
+  long = λ limit is. absurd (given_short after.last_failed r 1 given limit is);
   stored = stored;
 }
 

@@ -1,7 +1,8 @@
 -- What stands after a refusal that changes nothing but the errors, for any command.
 use Rattle.std.proofs.Common.{◌*◌, Bool, true, false, nat_lt, if◌then◌else◌, ◌≡◌, ◌⊎◌, inl, inr, ℕ, ◌+◌, ◌≤◌, ◌<◌, List, [], ◌∷◌, ◌++◌, ◌∙◌, length, Option, Some, None, Result, Ok, Err, IsErrOf, refl, sym, subst, ap, arith, OnErr}
-use Rattle.std.proofs.lemmas.List.{append-nil, append_cancel_left}
-use Rattle.std.specs.Prelude.{option_map, Contains, Vec, zip}
+use Rattle.std.proofs.lemmas.List.{append-nil, append_cancel_left, take_all}
+use Rattle.std.proofs.lemmas.List.Elements.{All-nil, All-same}
+use Rattle.std.specs.Prelude.{option_map, Vec, take, zip, ◌-◌, All}
 use Rattle.std.specs.declared.alloc.Global.{Global}
 use Rattle.swi_outside.specs.CacheRam.{RamState}
 use Rattle.swi_outside.specs.Causes.{DeviceCause, Rose, counted, risen}
@@ -20,8 +21,8 @@ use Rattle.swi_answer.specs.declared.answer.Refusal.{Refusal}
 use Rattle.swi_answer.specs.declared.answer.Refusal.TheVariants as refusal
 use Rattle.swi_task.specs.Devices.{Devices, IsUntouched, stream_faults}
 use Rattle.swi_task.specs.Causes.{HasCauses}
-use Rattle.swi_task.specs.Checks.{Check, IsShort, IsAcceptedElf, HasRoom, HasImage, IsAcceptedImage, IsOwnImage, FitsBlocks, FitsUnlessImage, FitsMade, HoldsBlock, Fails, IsRefusedBy, IsRefusedOr, cache_limit, cache_refusal, file_limit, size_refusal}
-use Rattle.swi_task.specs.Answers.{Answers, AreGiven, HasPassed, HasStored, IsAskedFor, IsChecked, IsSized, IsSizeRefusal, IsRunFault, KeepsInput, KeepsRam, StandFirst, writes_in, KeepsShelf}
+use Rattle.swi_task.specs.Checks.{Check, IsShort, IsAcceptedElf, HasRoom, HasImage, IsAcceptedImage, IsOwnImage, FitsBlocks, FitsUnlessImage, FitsMade, HoldsBlock, Fails, IsAccepted, IsRefusedBy, IsRefusedOr, cache_limit, cache_refusal, file_limit, size_refusal}
+use Rattle.swi_task.specs.Answers.{Answers, AreGiven, HasPassed, HasStored, IsAskedFor, IsChecked, IsLast, IsLastLonger, IsSized, IsSizeRefusal, IsRunFault, KeepsInput, KeepsRam, StandFirst, writes_in, KeepsShelf}
 use Rattle.swi_task.specs.Files.{FileRead, answer_by}
 use Rattle.swi_task.specs.Task.{AreFiles, GaveFirst, Task, Tells, TellsAll}
 
@@ -237,8 +238,8 @@ told_is None name file bytes told stands = absurd told
 told_is (Some m) name file bytes told stands = cc
 
 -- a command reads the one file that it names
-pub reads_one : (name : List ℕ) → Contains (name ∷ []) name
-reads_one name = (0, omega arith, refl)
+pub reads_one : (t : Task) (name : List ℕ) → t.reads ≡ name ∷ [] → IsLast t.reads 1 name
+reads_one t name is = subst (λ (l : List (List ℕ)). IsLast l 1 name) (sym is) refl
 
 -- ---- how often the shelf was asked
 
@@ -358,6 +359,25 @@ given_all n failed (refusal.CacheSmall bytes least) h short = refl
 given_all n failed refusal.Memory h short = (omega arith, omega arith)
 given_all n failed _ h short = absurd h
 
+-- nor was it too long, where all were given
+pub given_short : (failed : Option Asked) (r : Result Ending Refusal) (n : ℕ) → AreGiven failed r n n → (limit : ℕ) → IsErrOf r (refusal.FileLong limit) → ⊥
+given_short failed r n given limit is =
+    let more : n ≡ n + 1 = subst (λ (x : Result Ending Refusal). AreGiven failed x n n) is given in omega (arith, more)
+
+-- a file that is too long is the one that was got last
+abbrev pub IsLongLast : Task → Option Contents → Refusal → ℕ → Type 0
+IsLongLast t contents r gets = (limit : ℕ) → IsErrOf {T = Ending} (Err r) (refusal.FileLong limit) → IsLastLonger contents t.reads gets limit
+
+pub none_longer : (t : Task) (contents : Option Contents) (r : Refusal) (gets : ℕ) → (IsTooLong r → ⊥) → IsLongLast t contents r gets
+none_longer t contents r gets never limit is = absurd (not_long r never limit is)
+
+-- of no file, or one, none comes before the last
+pub none_before : (t : Task) (n : ℕ) → All (λ file. IsAccepted (t.before_next file)) (take n [])
+none_before t n = All-same (λ (file : List ℕ). IsAccepted (t.before_next file)) (take n []) [] (take_all n [] (omega arith)) (All-nil (λ (file : List ℕ). IsAccepted (t.before_next file)))
+
+pub one_before : (t : Task) (bytes : List ℕ) → All (λ file. IsAccepted (t.before_next file)) (take (1 - 1) (bytes ∷ []))
+one_before t bytes = All-nil (λ (file : List ℕ). IsAccepted (t.before_next file))
+
 -- what passed where one file was read and none written
 pub passed_one : (t : Task) (before after : ShelfState) (name bytes : List ℕ) (r : Result Ending Refusal) → t.reads ≡ name ∷ [] → IsRead before after name bytes →
     AreGiven after.last_failed r 1 1 → HasStored r t.writes before.stored before.stored → HasPassed t before after r 1
@@ -366,17 +386,21 @@ passed_one t before after name bytes r is read given stored = record {
   gave = gave_one t before after after name bytes is read refl;
   all = given;
   stood = one_stood t before after name bytes is read;
+  accepted = one_before t bytes;
+  long = λ limit is. absurd (given_short after.last_failed r 1 given limit is);
   stored = subst (λ (s : Passed). HasStored r t.writes before.stored s) (sym read.stored) stored;
 }
 
 -- and where none was read
 pub passed_none : (t : Task) (before after : ShelfState) (r : Refusal) (gets : ℕ) → after.got ≡ before.got → after.stored ≡ before.stored →
-    AreGiven after.last_failed (Err r) gets 0 → HasPassed t before after (Err r) gets
-passed_none t before after r gets got stored given = record {
+    AreGiven after.last_failed (Err r) gets 0 → IsLongLast t before.contents r gets → HasPassed t before after (Err r) gets
+passed_none t before after r gets got stored given long = record {
   given = [];
   gave = gave_none t.reads before after got;
   all = given;
   stood = tt;
+  accepted = none_before t (gets - 1);
+  long = long;
   stored = stored;
 }
 
@@ -489,14 +513,14 @@ read_failed t name d s is size got =
         others = λ x _. got.same x;
         refused = λ never. absurd (never refl);
         quiet = λ never. absurd (never refl);
-        failed = λ _. inl (name, subst (λ (l : List (List ℕ)). Contains l name) (sym is) (reads_one name), failed.1, got.same);
+        failed = λ _. inl (name, reads_one t name is, failed.1, got.same);
         gets = 1;
         puts = 0;
         calls = got.asked;
         asked = subst (λ (x : Option Asked). IsAskedFor (length t.reads) (writes_in t.writes) x (Err refusal.ShelfFault) 1 0) (sym failed.1)
             (subst (λ (l : List (List ℕ)). IsAskedFor (length l) (writes_in t.writes) (Some (get_of name)) (Err refusal.ShelfFault) 1 0) (sym is) (omega arith, omega arith, refl));
         passed = passed_none t d.shelf s refusal.ShelfFault 1 got.gave got.none_stored
-            (subst (λ (x : Option Asked). AreGiven x (Err refusal.ShelfFault) 1 0) (sym failed.1) (omega arith));
+            (subst (λ (x : Option Asked). AreGiven x (Err refusal.ShelfFault) 1 0) (sym failed.1) (omega arith)) (none_longer t d.shelf.contents refusal.ShelfFault 1 (λ x. x));
       };
       input = keeps_input t.takes_input d.input;
       ram = keeps_ram t.cache d.ram;
@@ -520,12 +544,12 @@ read_refused t name d s r is size long h = by h.answer h.got h.handed_on
   where
     calm : (e : ShelfError) (x : Refusal) → (e ≡ error.Failed → ⊥) → IsLate x → WasGot d.shelf s name file_limit (Err e) →
         ((files : t.Files) → AreFiles t d.shelf s files → IsChecked (t.checks files) s.last_failed (Err x)) → IsLongBy t d.shelf.contents x →
-        AreGiven s.last_failed (Err x) 1 0 → Answers t d (record d { shelf = s }) (Err x) []
-    calm e x never h got checked long given =
+        IsLongLast t d.shelf.contents x 1 → AreGiven s.last_failed (Err x) 1 0 → Answers t d (record d { shelf = s }) (Err x) []
+    calm e x never h got checked long longer given =
         let quiet = got.cause.quiet (λ y. never (let same : e ≡ error.Failed = cc in same)) in
         late t d s x 1 0 h size got.same quiet.0 quiet.1 checked long got.asked
         (subst (λ (l : List (List ℕ)). IsAskedFor (length l) (writes_in t.writes) s.last_failed (Err x) 1 0) (sym is) (one_late (writes_in t.writes) s.last_failed x h))
-        (passed_none t d.shelf s x 1 got.gave got.none_stored given)
+        (passed_none t d.shelf s x 1 got.gave got.none_stored given longer)
 
     by : (answer : Result (Vec ℕ Global) ShelfError) → WasGot d.shelf s name file_limit answer → Err r ≡ answer_by answer → Answers t d (record d { shelf = s }) (Err r) []
     by (Ok v) got same = absurd (let never : ⊥ = cc in never)
@@ -537,11 +561,13 @@ read_refused t name d s r is size long h = by h.answer h.got h.handed_on
         subst (λ (x : Refusal). Answers t d (record d { shelf = s }) (Err x) []) (sym e)
         (calm error.Long (refusal.FileLong file_limit) (λ x. let never : ⊥ = cc in never) tt got (λ _ _. tt)
         (λ limit is files tells. subst (λ (n : ℕ). IsRefusedBy (t.checks files) (refusal.FileLong n)) (let same : file_limit ≡ limit = cc in same) (long (got.long refl) files tells))
+        (λ limit is'. subst (λ (n : ℕ). IsLastLonger d.shelf.contents t.reads 1 n) (let same : file_limit ≡ limit = cc in same) (name, reads_one t name is, got.long refl))
         (omega arith))
     by (Err error.Memory) got same =
         let e : r ≡ refusal.Memory = cc in
         subst (λ (x : Refusal). Answers t d (record d { shelf = s }) (Err x) []) (sym e)
-        (calm error.Memory refusal.Memory (λ x. let never : ⊥ = cc in never) tt got (λ _ _. tt) (none_long t d.shelf.contents refusal.Memory (λ x. x)) (omega arith, omega arith))
+        (calm error.Memory refusal.Memory (λ x. let never : ⊥ = cc in never) tt got (λ _ _. tt) (none_long t d.shelf.contents refusal.Memory (λ x. x)) (none_longer t d.shelf.contents refusal.Memory 1 (λ x. x))
+        (omega arith, omega arith))
 
 -- ---- nothing happened yet
 
@@ -556,7 +582,7 @@ pub memory_at_once : (t : Task) (d : Devices) → Answers t d d (Err refusal.Mem
 memory_at_once t d = refused t d d.shelf refusal.Memory 0 0 (late_not refusal.Memory refusal.Usage tt (λ x. x))
     (record { refused = λ r _. inr refl; only = λ f. absurd f }) (λ f. f) (late_shelf refusal.Memory tt) (calm_causes d d (Err refusal.Memory) tt refl refl refl) (contents_stay d) refl (λ _ _. tt)
     (none_long t d.shelf.contents refusal.Memory (λ x. x)) (asked_none d.shelf.calls) (omega arith, omega arith, λ some. absurd (omega (arith, some)))
-    (passed_none t d.shelf d.shelf refusal.Memory 0 refl refl (omega arith, omega arith))
+    (passed_none t d.shelf d.shelf refusal.Memory 0 refl refl (omega arith, omega arith) (none_longer t d.shelf.contents refusal.Memory 0 (λ x. x)))
 
 -- a size is refused
 size_is : (bytes words : ℕ) (r : Refusal) → size_refusal bytes words ≡ Some r → IsSizeRefusal r
@@ -582,9 +608,9 @@ size_refused t d r e = by r (cache_is t.cache (length d.ram.words) r e) e
     by (refusal.CacheLarge bytes) h e =
         refused t d d.shelf (refusal.CacheLarge bytes) 0 0 (λ x. let never : ⊥ = cc in never) (sized_so _ _ e) (λ x. x) (λ x. let never : ⊥ = cc in never)
         (calm_causes d d (Err (refusal.CacheLarge bytes)) tt refl refl refl) (contents_stay d) refl (λ _ _. tt) (none_long t d.shelf.contents (refusal.CacheLarge bytes) (λ x. x))
-        (asked_none d.shelf.calls) (refl, refl) (passed_none t d.shelf d.shelf (refusal.CacheLarge bytes) 0 refl refl refl)
+        (asked_none d.shelf.calls) (refl, refl) (passed_none t d.shelf d.shelf (refusal.CacheLarge bytes) 0 refl refl refl (none_longer t d.shelf.contents (refusal.CacheLarge bytes) 0 (λ x. x)))
     by (refusal.RamSmall bytes held) h e =
         refused t d d.shelf (refusal.RamSmall bytes held) 0 0 (λ x. let never : ⊥ = cc in never) (sized_so _ _ e) (λ x. x) (λ x. let never : ⊥ = cc in never)
         (calm_causes d d (Err (refusal.RamSmall bytes held)) tt refl refl refl) (contents_stay d) refl (λ _ _. tt) (none_long t d.shelf.contents (refusal.RamSmall bytes held) (λ x. x))
-        (asked_none d.shelf.calls) (refl, refl) (passed_none t d.shelf d.shelf (refusal.RamSmall bytes held) 0 refl refl refl)
+        (asked_none d.shelf.calls) (refl, refl) (passed_none t d.shelf d.shelf (refusal.RamSmall bytes held) 0 refl refl refl (none_longer t d.shelf.contents (refusal.RamSmall bytes held) 0 (λ x. x)))
     by _ h e = absurd h

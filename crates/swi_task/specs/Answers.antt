@@ -1,9 +1,9 @@
 -- Which answer comes, of any command, and what stands with it.
-use Rattle.std.specs.Prelude.{◌≡◌, ◌⊎◌, ℕ, ◌+◌, ◌/◌, ◌<◌, ◌≤◌, List, [], ◌∷◌, ◌++◌, length, take, Bool, true, false, Option, Some, None, Result, Ok, Err, IfOk, IfErr, OnOk, OnErr, IsErrOf, Contains, ⊤}
+use Rattle.std.specs.Prelude.{◌≡◌, ◌⊎◌, ℕ, ◌+◌, ◌-◌, ◌/◌, ◌<◌, ◌≤◌, List, [], ◌∷◌, ◌++◌, length, take, slice_get, All, Bool, true, false, Option, Some, None, Result, Ok, Err, IfOk, IfErr, OnOk, OnErr, IsErrOf, ⊤}
 use Rattle.std.specs.Io.KnownBytes.{Appends}
 use Rattle.swi_outside.specs.CacheRam.{KeepsBeyond, RamState}
 use Rattle.swi_outside.specs.Causes.{Rose, risen}
-use Rattle.swi_outside.specs.Shelf.{Asked, Contents, Passed, SameAt, Same, ShelfState, Stands, get_of, put_of}
+use Rattle.swi_outside.specs.Shelf.{Asked, Contents, IsLonger, Passed, SameAt, Same, ShelfState, Stands, get_of, put_of}
 use Rattle.swi_outside.specs.Source.{SourceState}
 use Rattle.swi_answer.specs.declared.answer.Ending.{Ending}
 use Rattle.swi_answer.specs.declared.answer.Refusal.{Refusal}
@@ -116,12 +116,23 @@ StandFirst contents names [] = ⊤
 StandFirst contents [] (file ∷ files) = ⊥
 StandFirst contents (name ∷ names) (file ∷ files) = Stands contents name file × StandFirst contents names files
 
+-- the name of the file that was got last, where so many were
+abbrev pub IsLast : List (List ℕ) → (gets : ℕ) (name : List ℕ) → Type 0
+IsLast names gets name = slice_get names (gets - 1) ≡ Some name
+
+-- the file that was got last is longer than the limit, as far as is told
+abbrev pub IsLastLonger : Option Contents → List (List ℕ) → (gets limit : ℕ) → Type 0
+IsLastLonger contents names gets limit = (name : List ℕ) × IsLast names gets name × IsLonger contents name limit
+
 -- what the shelf gave and stored for a command that asked it for so many files
 pub record HasPassed (t : Task) (before after : ShelfState) (result : Result Ending Refusal) (gets : ℕ) : Type 0 where
   pub given : List (List ℕ)
   pub gave : GaveFirst t.reads given before after
   pub all : AreGiven after.last_failed result gets (length given)
   pub stood : StandFirst before.contents t.reads given
+  -- each file passed its checks before the next one was asked for; and the last one is the one that is too long, where it is refused so
+  pub accepted : All (λ file. IsAccepted (t.before_next file)) (take (gets - 1) given)
+  pub long : (limit : ℕ) → IsErrOf result (refusal.FileLong limit) → IsLastLonger before.contents t.reads gets limit
   pub stored : HasStored result t.writes before.stored after.stored
 
 -- of the shelf
@@ -130,16 +141,16 @@ pub record KeepsShelf (t : Task) (before after : ShelfState) (result : Result En
   pub others : (name : List ℕ) → (t.writes ≡ Some name → ⊥) → SameAt before.contents after.contents name
   -- and so does OUT where the command is refused, unless the shelf failed in writing
   pub refused : OnErr result ((IsErrOf result refusal.ShelfFault → ⊥) → Same before.contents after.contents)
-  -- the last failed call is as it was, unless the shelf failed: in reading a file, or in writing OUT
-  pub quiet : (IsErrOf result refusal.ShelfFault → ⊥) → after.last_failed ≡ before.last_failed
-  pub failed : IsErrOf result refusal.ShelfFault →
-      ((input : List ℕ) × Contains t.reads input × (after.last_failed ≡ Some (get_of input)) × Same before.contents after.contents)
-      ⊎ ((output : List ℕ) × (t.writes ≡ Some output) × (after.last_failed ≡ Some (put_of output)))
   -- how often it was asked
   pub gets : ℕ
   pub puts : ℕ
   pub calls : after.calls ≡ risen before.calls (gets + puts)
   pub asked : IsAskedFor (length t.reads) (writes_in t.writes) after.last_failed result gets puts
+  -- the last failed call is as it was, unless the shelf failed: in giving the file that was got last, or in writing OUT
+  pub quiet : (IsErrOf result refusal.ShelfFault → ⊥) → after.last_failed ≡ before.last_failed
+  pub failed : IsErrOf result refusal.ShelfFault →
+      ((input : List ℕ) × IsLast t.reads gets input × (after.last_failed ≡ Some (get_of input)) × Same before.contents after.contents)
+      ⊎ ((output : List ℕ) × (t.writes ≡ Some output) × (after.last_failed ≡ Some (put_of output)))
   -- and what passed
   pub passed : HasPassed t before after result gets
 

@@ -35,6 +35,8 @@ pub record Task : Type 1 where
   pub cache : Option ℕ
   -- what is checked before it does anything, in this order
   pub checks : Files → List Check
+  -- what of it is checked of a file before the next one is asked for
+  pub before_next : List ℕ → List Check
   -- how it can end
   pub ends : Ending → Type 0
   -- what it does where it isn't refused and no device fails; the last argument is what the errors gain behind all else

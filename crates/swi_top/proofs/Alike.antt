@@ -104,7 +104,7 @@ completes q files before after (Err r) a free = absurd (not_refused (task_of q) 
 -- ---- both machines
 
 -- behind the state and the steps stand the counts of the cached machine
-report_more : (r : Reports) (m : Machine) (w : Work) → report r m (Some w) ≡ report r m None ++ (if r.stats then work_text w else [])
+pub report_more : (r : Reports) (m : Machine) (w : Work) → report r m (Some w) ≡ report r m None ++ (if r.stats then work_text w else [])
 report_more r m w = by r.stats (if r.state then state_text_of m.pc m.regs m.bus m.heap.now else [])
   where
     by : (t : Bool) (state : List ℕ) →
@@ -112,11 +112,11 @@ report_more r m w = by r.stats (if r.state then state_text_of m.pc m.regs m.bus 
     by true state = sym (append_assoc state (stats_text_of m.steps None) (work_text w))
     by false state = sym (append-nil (state ++ []))
 
-no_counts : (t : Bool) (l : List ℕ) → t ≡ false → (if t then l else []) ≡ []
+pub no_counts : (t : Bool) (l : List ℕ) → t ≡ false → (if t then l else []) ≡ []
 no_counts true l e = absurd (let bad : ⊥ = cc in bad)
 no_counts false l e = refl
 
-whole_line : (old new : Option (List ℕ)) (error line : List ℕ) (n : ℕ) → n ≡ length line → Appends old new (error ++ take n line) → Appends old new (error ++ line)
+pub whole_line : (old new : Option (List ℕ)) (error line : List ℕ) (n : ℕ) → n ≡ length line → Appends old new (error ++ take n line) → Appends old new (error ++ line)
 whole_line old new error line n all h =
     subst (λ (l : List ℕ). Appends old new (error ++ l)) (ap (λ (k : ℕ). take k line) all ∙ sym (take_all line)) h
 

@@ -34,6 +34,8 @@ mod runs;
 #[cfg(test)]
 mod share;
 #[cfg(test)]
+mod streams;
+#[cfg(test)]
 mod texts;
 #[cfg(test)]
 mod trace;

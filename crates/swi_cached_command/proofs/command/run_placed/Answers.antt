@@ -6,18 +6,10 @@ returns-in-Own-clause-gave g c = c.run_program.ensures.gave
 pub returns-in-Own-clause-ran : goal.returns-in-Own-clause-ran
 returns-in-Own-clause-ran g c = rw c.in-Own.is c.run_program.ensures.ran
 
-pub returns-in-Own-clause-ran_directly : goal.returns-in-Own-clause-ran_directly
-returns-in-Own-clause-ran_directly g c = rw c.in-Own.is c.run_program.ensures.ran_directly
-
 pub returns-in-Cut-clause-gave : goal.returns-in-Cut-clause-gave
 returns-in-Cut-clause-gave g c = c.run_program-in-Cut.ensures.gave
 
 pub returns-in-Cut-clause-ran : goal.returns-in-Cut-clause-ran
 returns-in-Cut-clause-ran g c =
     let ran = rw c.view.ensures.value at c.run_program-in-Cut.ensures.ran in
-    rw c.in-Cut.is ran
-
-pub returns-in-Cut-clause-ran_directly : goal.returns-in-Cut-clause-ran_directly
-returns-in-Cut-clause-ran_directly g c =
-    let ran = rw c.view.ensures.value at c.run_program-in-Cut.ensures.ran_directly in
     rw c.in-Cut.is ran

@@ -13,6 +13,12 @@ returns-in_err-check_size g c =
     let p = err_from_is_err_and c.from_residual.result c.from_residual.ensures.1 in
     rw (p.1, p.2) (λ d. size_refused (measure_task c.args.seed c.args.functions c.args.cache.now) (record d { output = g.O.Sink.state c.args.out.now; ram = g.R.CacheRam.state c.args.ram.now }) _ c.in_err-check_size.ensures.refused)
 
+pub returns-in_err-text : goal.returns-in_err-text
+returns-in_err-text g c =
+    let p = err_from_is_err_and c.from_residual-in_err-text.result c.from_residual-in_err-text.ensures.1 in
+    rw (p.1, p.2) (λ d.
+    made_memory c.args.seed c.args.functions c.args.cache.now (record d { output = g.O.Sink.state c.args.out.now; ram = g.R.CacheRam.state c.args.ram.now }) _ c.in_ok-check_size.ensures.ok (refusal_is c.in_err-text.ensures.memory))
+
 pub returns-in_err-prepared : goal.returns-in_err-prepared
 returns-in_err-prepared g c =
     let p = err_from_is_err_and c.from_residual-in_err-prepared.result c.from_residual-in_err-prepared.ensures.1 in
@@ -64,6 +70,9 @@ returns g c =
     (g.O.Sink.state c.measure_over-in-Ring.new.out) (g.R.CacheRam.state c.measure_over-in-Ring.new.ram) c.measure_over-in-Ring.result _
     (ring_chosen c.args.cache.now c.view-view.result _ c.in-Ring.is c.in-Ok-ring_for.ensures.cache) c.in_ok-check_size.ensures.ok is c.in_ok-image.ensures.fits c.in_ok-check_block.ensures.holds
     (c.measure_over-in-Ring.ensures d)
+
+pub measure_over-requires-clause-sound : goal.measure_over-requires-clause-sound
+measure_over-requires-clause-sound g c = c.in-Ok.ensures.sound (g.R.CacheRam.state c.args.ram.now).words (ram_holds _ _ c.in_ok-check_size.ensures.ok)
 
 pub measure_over-requires-in-Ring-clause-sound : goal.measure_over-requires-in-Ring-clause-sound
 measure_over-requires-in-Ring-clause-sound g c = c.in-Ok-ring_for.ensures.sound (g.R.CacheRam.state c.args.ram.now).words (ram_holds _ _ c.in_ok-check_size.ensures.ok)

@@ -1,8 +1,8 @@
-use Rattle.std.proofs.Common.{ℕ, ◌+◌, arith, ap}
+use Rattle.std.proofs.Common.{ℕ, ◌+◌, arith, ap, rules}
 use Rattle.swi_slots.specs.Slots.{Slots, kept_by}
 use Rattle.swi_board.specs.Board.{BoardOf}
 use Rattle.swi_share.specs.Event.{EventDevices}
-use Rattle.swi_share.proofs.Making.{Entry, count_few, entry_broke, hart_broke, hart_made, ready}
+use Rattle.swi_share.proofs.Making.{Entry, count_few, entry_broke, hart_broke, hart_made, hart_unfailed, ready}
 use Rattle.swi_share.proofs.event.make_event.Goals as goal
 
 pub returns-in-Err : goal.returns-in-Err
@@ -21,6 +21,19 @@ run-requires-clause-services g c =
     let old : BoardOf Slots = record { hart = c.args.hart; rom = c.args.rom } in
     omega (arith, (ready c.args.image.now old c.in-Ok.board c.in-Ok.ensures.boarded).3, c.requires.services)
 
+pub part-requires : goal.part-requires
+part-requires g c =
+    let old : BoardOf Slots = record { hart = c.args.hart; rom = c.args.rom } in
+    let b = c.in-Ok.ensures in
+    let mid = g.M.CacheRam.state c.board_of.new.ram in
+    let before : EventDevices = record { ram = g.M.CacheRam.state c.args.ram.now; left = c.args.input.now.left; out = g.O.Sink.state c.args.out.now; err = g.E.Sink.state c.args.err.now } in
+    let after : EventDevices = record { ram = g.M.CacheRam.state c.run.new.ram; left = c.run.new.input.left; out = g.O.Sink.state c.run.new.out; err = g.E.Sink.state c.run.new.err } in
+    let entry : Entry c.args.image.now old c.in-Ok.board before.ram mid = record { waited = c.requires.waits; going = c.requires.running; boarded = b.boarded; setting = b.setting; ram = b.ram; unused = b.unused; keeps = b.keeps } in
+    record {
+      unfailed = hart_unfailed c.args.image.now old c.in-Ok.board before c.args.input.now.given c.run.new.input.given mid entry _ (ap (λ (k : ℕ). k + 1) c.steps-n.ensures) c.run.new.self after
+          c.run.result (c.run.ensures.gave, c.run.ensures.ran) c.in-Ok-run.is (search rules);
+    }
+
 pub returns-in-Ok-run : goal.returns-in-Ok-run
 returns-in-Ok-run g c =
     let old : BoardOf Slots = record { hart = c.args.hart; rom = c.args.rom } in
@@ -30,7 +43,7 @@ returns-in-Ok-run g c =
     let after : EventDevices = record { ram = g.M.CacheRam.state c.run.new.ram; left = c.run.new.input.left; out = g.O.Sink.state c.run.new.out; err = g.E.Sink.state c.run.new.err } in
     let entry : Entry c.args.image.now old c.in-Ok.board before.ram mid = record { waited = c.requires.waits; going = c.requires.running; boarded = b.boarded; setting = b.setting; ram = b.ram; unused = b.unused; keeps = b.keeps } in
     rw (c.part.ensures.hart, c.part.ensures.rom)
-    (hart_made c.args.image.now old c.in-Ok.board before c.args.input.now.given c.run.new.input.given mid entry _ (ap (λ (k : ℕ). k + 1) c.steps-n.ensures) c.run.new.self after c.run.result c.run.ensures.ran_directly c.in-Ok-run.is)
+    (hart_made c.args.image.now old c.in-Ok.board before c.args.input.now.given c.run.new.input.given mid entry _ (ap (λ (k : ℕ). k + 1) c.steps-n.ensures) c.run.new.self after c.run.result (c.run.ensures.gave, c.run.ensures.ran) c.in-Ok-run.is)
 
 pub returns-in-Err-run : goal.returns-in-Err-run
 returns-in-Err-run g c =
@@ -40,4 +53,4 @@ returns-in-Err-run g c =
     let before : EventDevices = record { ram = g.M.CacheRam.state c.args.ram.now; left = c.args.input.now.left; out = g.O.Sink.state c.args.out.now; err = g.E.Sink.state c.args.err.now } in
     let after : EventDevices = record { ram = g.M.CacheRam.state c.run.new.ram; left = c.run.new.input.left; out = g.O.Sink.state c.run.new.out; err = g.E.Sink.state c.run.new.err } in
     let entry : Entry c.args.image.now old c.in-Ok.board before.ram mid = record { waited = c.requires.waits; going = c.requires.running; boarded = b.boarded; setting = b.setting; ram = b.ram; unused = b.unused; keeps = b.keeps } in
-    hart_broke c.args.image.now old c.in-Ok.board before c.args.input.now.given c.run.new.input.given mid entry _ (ap (λ (k : ℕ). k + 1) c.steps-n.ensures) c.run.new.self after c.run.result c.in-Err-run.fault c.run.ensures.ran_directly c.in-Err-run.is
+    hart_broke c.args.image.now old c.in-Ok.board before c.args.input.now.given c.run.new.input.given mid entry _ (ap (λ (k : ℕ). k + 1) c.steps-n.ensures) c.run.new.self after c.run.result c.in-Err-run.fault (c.run.ensures.gave, c.run.ensures.ran) c.in-Err-run.is

@@ -14,7 +14,6 @@ use Rattle.swi_board.specs.Board.{BoardOf}
 use Rattle.swi_outside.proofs.SourceLemmas.{given_more, read_first, read_last}
 use Rattle.swi_outside.proofs.ToldLemmas.{as_told_stands}
 use Rattle.swi_board.proofs.Along.{along_stretch, on_more, on_some, on_start, run_broken, run_ended, steps_on, stretch_from}
-use Rattle.swi_board.proofs.Untold.{ran_untold}
 use Rattle.swi_board.proofs.Blocks.{stands, walk, word_falls, falls_from, lower, at_limit, before_word, before_fault, home_at, used, same_index, not_ended}
 use Rattle.swi_board.proofs.Running.{count_small, calls_small, falls}
 use Rattle.swi_board.proofs.board.Board.run.Goals as goal
@@ -64,9 +63,6 @@ returns-in_err-quick_step-clause-ran g c i rest read =
     let running : c.loop-hart.hart.machine.ending ≡ None = search rules in
     rw (p.1, p.2) (run_broken (c.loop-hart.invariant.along i _ (read_first c.loop-hart.invariant.gave c.in_err-quick_step.ensures.gave read)) more running c.in_err-quick_step.ensures.word (c.in_err-quick_step.ensures.stepped _ rest (read_last c.loop-hart.invariant.gave c.in_err-quick_step.ensures.gave read)))
 
-pub returns-in_err-quick_step-clause-ran_directly : goal.returns-in_err-quick_step-clause-ran_directly
-returns-in_err-quick_step-clause-ran_directly g c = ran_untold g.R.CacheRom.service c.args.image.now c.args.n _ _ _ (returns-in_err-quick_step-clause-gave g c) (returns-in_err-quick_step-clause-ran g c)
-
 pub returns-else-is_none-clause-gave : goal.returns-else-is_none-clause-gave
 returns-else-is_none-clause-gave g c = c.loop-hart.invariant.gave
 
@@ -75,9 +71,6 @@ returns-else-is_none-clause-ran g c i rest read =
     let ended : is_some c.loop-hart.hart.machine.ending ≡ true = search rules in
     run_ended (c.loop-hart.invariant.along i rest read) (inr ended)
 
-pub returns-else-is_none-clause-ran_directly : goal.returns-else-is_none-clause-ran_directly
-returns-else-is_none-clause-ran_directly g c = ran_untold g.R.CacheRom.service c.args.image.now c.args.n _ _ _ (returns-else-is_none-clause-gave g c) (returns-else-is_none-clause-ran g c)
-
 pub returns-after-loop-hart-clause-gave : goal.returns-after-loop-hart-clause-gave
 returns-after-loop-hart-clause-gave g c = c.loop-hart.invariant.gave
 
@@ -85,9 +78,6 @@ pub returns-after-loop-hart-clause-ran : goal.returns-after-loop-hart-clause-ran
 returns-after-loop-hart-clause-ran g c i rest read =
     let done = subst (λ (h : HartData). c.args.n ≤ h.machine.steps) c.hart.view_is c.loop-hart-test.false in
     run_ended (c.loop-hart.invariant.along i rest read) (inl done)
-
-pub returns-after-loop-hart-clause-ran_directly : goal.returns-after-loop-hart-clause-ran_directly
-returns-after-loop-hart-clause-ran_directly g c = ran_untold g.R.CacheRom.service c.args.image.now c.args.n _ _ _ (returns-after-loop-hart-clause-gave g c) (returns-after-loop-hart-clause-ran g c)
 
 pub run_block-requires : goal.run_block-requires
 run_block-requires g c =
@@ -154,9 +144,6 @@ returns-in-Err-clause-ran g c i rest read =
     (g.M.CacheRam.state c.run_block.new.ram) ended.control (used s ended.control) ended.answered in
     run_broken mid ended.below s.going s.short
     (ram_stopped _ _ _ _ _ (ap (λ (h : HartData). record h { failed = true }) c.hart-in-Err.view_is) refl (subst (λ (m : Setting). RamBroken c.args.image.now c.run_block.new.hart.machine c.run_block.new.hart.control (g.R.CacheRom.service.span m) ended.before (g.M.CacheRam.state c.run_block.new.ram)) (sym mid.stays.setting) failed))
-
-pub returns-in-Err-clause-ran_directly : goal.returns-in-Err-clause-ran_directly
-returns-in-Err-clause-ran_directly g c = ran_untold g.R.CacheRom.service c.args.image.now c.args.n _ _ _ (returns-in-Err-clause-gave g c) (returns-in-Err-clause-ran g c)
 
 pub at_word-requires : goal.at_word-requires
 at_word-requires g c =
@@ -233,6 +220,3 @@ returns-in_err-at_word-clause-ran g c i rest read =
     let mid = along_stretch {ram = ended.before} was g.met.R.CacheRom.laws s c.run_block.ensures.setting sound
     (subst (λ (k : List ℕ). Keeps g.R.CacheRom.service c.args.image.now c.loop-hart.rom c.run_block.new.rom (g.M.CacheRam.state c.loop-hart.ram).words k) words c.run_block.ensures.keeps) in
     rw (p.1, p.2) (run_broken mid ended.below s.going s.short (c.in_err-at_word.ensures.stepped _ rest (read_last c.loop-hart.invariant.gave c.in_err-at_word.ensures.gave read) ended.before answered))
-
-pub returns-in_err-at_word-clause-ran_directly : goal.returns-in_err-at_word-clause-ran_directly
-returns-in_err-at_word-clause-ran_directly g c = ran_untold g.R.CacheRom.service c.args.image.now c.args.n _ _ _ (returns-in_err-at_word-clause-gave g c) (returns-in_err-at_word-clause-ran g c)

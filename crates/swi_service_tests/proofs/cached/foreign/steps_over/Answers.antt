@@ -1,4 +1,6 @@
-use Rattle.std.proofs.Common.{List, ℕ, sym, inl, inr, ◌∙◌, rules, arith}
+use Rattle.std.proofs.Common.{◌≡◌, List, ℕ, length, sym, ap, inl, inr, ◌∙◌, rules, arith}
+use Rattle.swi_outside.proofs.ToldLemmas.{as_told_stands}
+use Rattle.std.proofs.lemmas.List.{length-set}
 use Rattle.swi_hart.specs.declared.hart.Stage.TheVariants.{Start}
 use Rattle.swi_service_tests.proofs.Foreign.{control_is, plain_at, exchanged, still_sound, on_ok}
 use Rattle.swi_service_tests.proofs.cached.foreign.steps_over.Goals as goal
@@ -14,7 +16,7 @@ pub step-requires-2-clause-ready : goal.step-requires-2-clause-ready
 step-requires-2-clause-ready g c =
     let h = c.args.board.now.hart in
     let stands = control_is h.machine.ending h.control c.args.i c.args.place.0 c.args.place.1 c.requires.at c.requires.place c.requires.between in
-    let fits = on_ok c.step.result (sym c.is_err-2.ensures.value ∙ c.if-is_err-2.false) c.step.ensures.stepped_directly.fits in
+    let fits = as_told_stands c.step.ensures.gave (λ i rest read. on_ok c.step.result (sym c.is_err-2.ensures.value ∙ c.if-is_err-2.false) (c.step.ensures.stepped i rest read).fits) in
     record { running = search rules; few = search (rules, arith); count = search (rules, arith); services = search (rules, arith); fits = fits }
 
 pub step-requires-2-clause-sound : goal.step-requires-2-clause-sound
@@ -28,3 +30,9 @@ step-requires-2-clause-sound g c =
     inl (still_sound (λ r (words : List ℕ). g.R.CacheRom.service.sound r c.args.image.now words) c.args.board.now.rom c.step.new.self.rom
     c.args.ram.now.words c.put.new.ram.words c.step.new.ram.words c.put-else-not-goes_on-2.new.ram.words c.args.i
     c.requires.held c.put.ensures.words made.words_stay c.put-else-not-goes_on-2.ensures.words made.rom_stays c.requires.sound)
+
+pub put-requires-else-not-goes_on-2 : goal.put-requires-else-not-goes_on-2
+put-requires-else-not-goes_on-2 g c = as_told_stands c.step.ensures.gave (λ input rest read.
+    let put : length c.put.new.ram.words ≡ length c.args.ram.now.words = ap (λ (words : List ℕ). length words) c.put.ensures.words ∙ length-set _ _ _ in
+    let stepped = (c.step.ensures.stepped input rest read).kept.same_length in
+    omega (arith, c.requires.inside, put, stepped))

@@ -1,0 +1,4 @@
+pub mod Left
+pub mod Sizes
+pub mod Same
+pub mod Stored
