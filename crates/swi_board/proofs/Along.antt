@@ -6,7 +6,7 @@ use Rattle.swi_outside.specs.Source.{SourceState, HasGiven, ReadFrom}
 use Rattle.swi_outside.specs.Told.{AsTold, told_as}
 use Rattle.swi_outside.specs.Laws.{ok_unmoved}
 use Rattle.swi_outside.proofs.SourceLemmas.{given_more, given_still, read_first, read_last, rest_is}
-use Rattle.swi_outside.proofs.ToldLemmas.{as_told_stands}
+use Rattle.swi_outside.proofs.ToldLemmas.{told_some}
 use Rattle.swi_calls.specs.declared.end.End.{End}
 use Rattle.swi_calls.specs.declared.machine.Machine.{Machine}
 use Rattle.swi_image.specs.Format.{ImageData}
@@ -132,10 +132,6 @@ with_source b s = record b { devices = record b.devices { input = s } }
 pub record AlongOn {S : Type 0} (k : ServiceOf S) (v : ImageData) (n : ℕ) (old now : BoardWithDevices S) : Type 0 where
   pub gave : HasGiven old.devices.input now.devices.input
   pub along : AsTold old.devices.input now.devices.input (λ before after. Along k v n (with_source old before) (with_source now after))
-
--- what is said of each input, of some: there always is one
-pub told_some : {a b : SourceState} (P : SourceState → SourceState → Type 0) → HasGiven a b → AsTold a b P → (input rest : List ℕ) × P (told_as a input) (told_as b rest)
-told_some {a} {b} P gave all = as_told_stands {C = (input rest : List ℕ) × P (told_as a input) (told_as b rest)} gave (λ input rest read. (input, rest, all input rest read))
 
 module _ {S : Type 0} {k : ServiceOf S} {v : ImageData} {n : ℕ} {old : BoardWithDevices S} where
   pub on_start : Fits v (k.kept old.rom) old.hart → old.hart.machine.steps ≤ n → k.sound old.rom v old.ram.words → AlongOn k v n old old

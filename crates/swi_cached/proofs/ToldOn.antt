@@ -3,11 +3,12 @@ use Rattle.std.proofs.Common.{◌≡◌, ℕ, List, [], ◌++◌, Option, Some, 
 use Rattle.swi_outside.specs.Source.{HasGiven, ReadFrom}
 use Rattle.swi_outside.specs.Told.{AsTold, told_as}
 use Rattle.swi_outside.proofs.SourceLemmas.{given_more, given_still, read_first, read_last, rest_is}
+use Rattle.swi_outside.proofs.ToldLemmas.{told_some}
 use Rattle.swi_image.specs.Format.{ImageData}
 use Rattle.swi_rom.specs.Service.{ServiceOf}
 use Rattle.swi_hart.specs.Matching.{Fits}
 use Rattle.swi_board.specs.Board.{BoardWithDevices}
-use Rattle.swi_board.proofs.Along.{told_some, with_source}
+use Rattle.swi_board.proofs.Along.{with_source}
 use Rattle.swi_trace.specs.declared.trace.Trace.{Trace}
 use Rattle.swi_cached.specs.Traced.{ToldAlong, keeps_history}
 use Rattle.swi_cached.proofs.Telling.{told_start}

@@ -1,4 +1,4 @@
-ghost use Rattle.std.specs.Prelude.{◌≡◌, ◌<◌, ◌↔◌, length, slice_index, replicate, IfOk, IsErr, OnErr, Contains};
+ghost use Rattle.std.specs.Prelude.{◌≡◌, ◌<◌, ◌↔◌, false, length, slice_index, replicate, IfOk, IsErr, OnErr, Contains};
 ghost use Rattle.swi_outside.specs.CacheRam.{Fetched, WordSet};
 ghost use Rattle.swi_devices.specs.Stored.{new_ram};
 ghost use Rattle.swi_outside.specs.Causes.{counted};
@@ -8,7 +8,7 @@ use crate::ram_calls::RamCalls;
 use std::alloc::Global;
 use std::marker::Model;
 use std::snapshot::Snapshot;
-use swi_outside::{CacheRam, Failed, Memory};
+use swi_outside::{CacheRam, Failed, Memory, SteadyRam};
 
 /// A ram whose calls fail where a list says so.
 #[derive(Drop)]
@@ -128,5 +128,13 @@ impl CacheRam for FaultRam {
         self.words[i as usize] = w;
         self.sets = self.sets.saturating_add(1);
         Ok(())
+    }
+}
+
+impl SteadyRam for FaultRam {
+    ghost steady = { false };
+
+    fn is_steady(&self) -> bool {
+        false
     }
 }

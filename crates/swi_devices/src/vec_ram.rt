@@ -1,4 +1,4 @@
-ghost use Rattle.std.specs.Prelude.{◌≡◌, ◌+◌, ◌<◌, ◌≤◌, ◌^◌, ℕ, max, length, slice_index, replicate, IfOk, IsOk, OnErr, OnOk};
+ghost use Rattle.std.specs.Prelude.{◌≡◌, ◌+◌, ◌<◌, ◌≤◌, ◌^◌, ℕ, true, max, length, slice_index, replicate, IfOk, IsOk, OnErr, OnOk};
 ghost use Rattle.swi_outside.specs.CacheRam.{Fetched, WordSet, WordsBroke, WordsSet};
 ghost use Rattle.swi_devices.specs.Stored.{new_ram};
 ghost use Rattle.swi_outside.specs.Causes.{risen};
@@ -8,7 +8,7 @@ use crate::ram_calls::RamCalls;
 use std::alloc::Global;
 use std::marker::Model;
 use std::snapshot::Snapshot;
-use swi_outside::{CacheRam, Failed, Memory, Words};
+use swi_outside::{CacheRam, Failed, Memory, SteadyRam, Words};
 
 /// A ram that never fails. What contracts see of its calls takes no bytes and no time when it runs: it has no reader.
 #[derive(Drop)]
@@ -121,5 +121,16 @@ impl CacheRam for VecRam {
         note_sets(&mut self.calls, first, words.count());
         put_words(&mut self.words, first, words);
         Ok(())
+    }
+}
+
+impl SteadyRam for VecRam {
+    ghost steady = { true };
+
+    // Looked into, so that what its model says of faults is known.
+    #[inline(always)]
+    fn is_steady(&self) -> bool {
+        let _words = &self.words;
+        true
     }
 }

@@ -1,13 +1,8 @@
 -- What is said of sources that tell what is left carries over to every source, for each input from which what it gave may have been read.
-use Rattle.std.proofs.Common.{◌≡◌, ℕ, List, [], ◌++◌, Option, Some, None, refl, sym, ap, subst}
-use Rattle.std.specs.Option.{ForSome}
-use Rattle.swi_outside.specs.Source.{SourceState, HasGiven, MayBeLeft, ReadFrom, ForInput}
+use Rattle.std.proofs.Common.{◌≡◌, ℕ, List, ◌++◌, Option, Some, None, refl, sym, ap, subst}
+use Rattle.swi_outside.specs.Source.{SourceState, HasGiven, MayBeLeft, ReadFrom}
 use Rattle.swi_outside.specs.Told.{AsTold, told_as}
-use Rattle.swi_outside.proofs.SourceLemmas.{read_told, read_first, read_last}
-
--- what is said of each input, of the one that a source tells
-pub for_told : {old new : SourceState} (P : List ℕ → List ℕ → Type 0) → HasGiven old new → ForInput old new P → ForSome old.left (λ left. (rest : List ℕ) × (new.left ≡ Some rest) × P left rest)
-for_told P gave all = λ left told. let t = read_told gave told in (t.0, t.1, all left t.0 t.2)
+use Rattle.swi_outside.proofs.SourceLemmas.{read_told}
 
 -- of an input from which what was given may have been read
 pub narrow : {a b : SourceState} {i k l q : List ℕ} → ReadFrom a b i k → ReadFrom (told_as a i) (told_as b k) l q → ReadFrom a b l q
@@ -20,13 +15,6 @@ narrow {a} {b} {i} {k} {l} {q} r x = record {
 
 pub given_as : {a b : SourceState} {i k : List ℕ} → ReadFrom a b i k → HasGiven (told_as a i) (told_as b k)
 given_as r = (r.bytes, record { given = r.given; left = r.is })
-
--- two parts
-pub as_told_then : {a b c : SourceState} {P Q R : SourceState → SourceState → Type 0} → HasGiven a b → HasGiven b c → ((x y z : SourceState) → P x y → Q y z → R x z) →
-    AsTold a b P → AsTold b c Q → AsTold a c R
-as_told_then {a} {b} {c} first last both p q = λ input rest r.
-    let mid : List ℕ = last.0 ++ rest in
-    both (told_as a input) (told_as b mid) (told_as c rest) (p input mid (read_first first last r)) (q mid rest (read_last first last r))
 
 -- of a source that tells what is left it is just what is said of it
 same_as : (s : SourceState) (left : List ℕ) → s.left ≡ Some left → told_as s left ≡ s
@@ -46,3 +34,7 @@ pub as_told_stands : {a b : SourceState} {C : Type 0} → HasGiven a b → AsTol
 as_told_stands {a} {b} gave p =
     let s = some_input a.given b gave.0 b.left refl gave.1.given in
     p (gave.0 ++ s.0) s.0 (record { bytes = gave.0; given = gave.1.given; is = refl; left = s.1 })
+
+-- what is said of each input, of some: there always is one
+pub told_some : {a b : SourceState} (P : SourceState → SourceState → Type 0) → HasGiven a b → AsTold a b P → (input rest : List ℕ) × P (told_as a input) (told_as b rest)
+told_some {a} {b} P gave all = as_told_stands {C = (input rest : List ℕ) × P (told_as a input) (told_as b rest)} gave (λ input rest read. (input, rest, all input rest read))

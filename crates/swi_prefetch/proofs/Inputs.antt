@@ -3,9 +3,9 @@ use Rattle.std.proofs.Common.{◌≡◌, ℕ, List, [], ◌++◌, true, Err, sym
 use Rattle.swi_outside.specs.Source.{SourceState, HasGiven, ReadFrom}
 use Rattle.swi_outside.specs.Told.{AsTold, told_as}
 use Rattle.swi_outside.proofs.SourceLemmas.{given_more, given_still, read_first, read_last, rest_is}
+use Rattle.swi_outside.proofs.ToldLemmas.{told_some}
 use Rattle.swi_image.specs.Format.{ImageData}
 use Rattle.swi_hart.specs.declared.fault.BoardFault.{BoardFault}
-use Rattle.swi_board.proofs.Along.{told_some}
 use Rattle.swi_prefetch.specs.Prefetching.{TakesTurns}
 use Rattle.swi_prefetch.specs.Running.{BrokeIn, RunBroke, StepsUpTo, Whole, goes_below}
 use Rattle.swi_prefetch.proofs.Rounds.{RunsOn, run_broke, runs_none}

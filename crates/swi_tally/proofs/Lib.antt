@@ -1,0 +1,9 @@
+pub mod Sets
+pub mod Grouping
+pub mod Linking
+pub mod Queueing
+pub mod Evicting
+pub mod Arriving
+pub mod Crossing
+pub mod Siding
+pub mod Adding

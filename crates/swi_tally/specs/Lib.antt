@@ -1,0 +1,5 @@
+pub mod Masks
+pub mod Groups
+pub mod Exits
+pub mod Tally
+pub mod Tallies
