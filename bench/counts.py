@@ -1,12 +1,14 @@
 """Instructions of the computer that built programs take, counted by valgrind: counts.py PROGRAM..
 
-A step: between the 10^6th and the 3 * 10^6th of each guest. A miss, with all that follows it: the second 10^6 steps of guests/mix.elf through
-a small cache, less what they take through one in which each block stays, by the misses among them."""
+A step: between the 10^6th and the 3 * 10^6th of each guest; where blocks are copied all the time, between the 10^5th and the 10^6th. A miss,
+with all that follows it: the second 10^6 steps of guests/mix.elf through a small cache, less what they take through one in which each block
+stays, by the misses among them. The output: a row a machine, a column a guest, in the order of GUESTS and THRASHING."""
 import re
 import subprocess
 import sys
 
 GUESTS = ["bench/loop.elf", "guests/mix.elf", "bench/calls.elf", "bench/memory.elf"]
+THRASHING = ["guests/kinds/control.elf", "guests/kinds/sorting.elf"]
 MACHINES = {
     "plain": ["plain"],
     "cached 4096": ["cached", "--cache", "4096", "--block", "64"],
@@ -15,6 +17,7 @@ MACHINES = {
 SMALL = [(128, 32), (256, 32), (256, 64)]
 COUNTING = ["valgrind", "--tool=cachegrind", "--cache-sim=no", "--cachegrind-out-file=/dev/null"]
 MILLION = 1_000_000
+START = 100_000
 
 
 def run(words, steps, before=()):
@@ -39,6 +42,13 @@ def print_steps(program):
         print(f"{machine:12}", *(f"{count:6.1f}" for count in each), f"  {program}", flush=True)
 
 
+def print_thrashing(program):
+    for machine in ("plain", "cached 1024"):
+        command, *options = MACHINES[machine]
+        each = (between(instructions, [program, command, guest, *options], START, MILLION) / (MILLION - START) for guest in THRASHING)
+        print(f"{machine:12}", *(f"{count:6.1f}" for count in each), "  where it thrashes", flush=True)
+
+
 def print_misses(program):
     for cache, block in SMALL:
         words = [program, "cached", "guests/mix.elf", "--block", str(block), "--cache"]
@@ -49,4 +59,5 @@ def print_misses(program):
 
 for program in sys.argv[1:]:
     print_steps(program)
+    print_thrashing(program)
     print_misses(program)
