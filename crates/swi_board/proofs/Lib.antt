@@ -4,6 +4,7 @@ pub mod Counting
 pub mod Fetching
 pub mod Spending
 pub mod Tracks
+pub mod Events
 pub mod Running
 pub mod Entering
 pub mod Following

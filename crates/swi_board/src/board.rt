@@ -25,19 +25,19 @@ ghost use Rattle.swi_board.specs.BoardRan.{BoardRan};
 ghost use Rattle.swi_board.specs.Entered.{Entered};
 ghost use Rattle.swi_board.specs.Ran.{Followed};
 
-use crate::block::{block_place, run_block};
-use crate::targets::Targets;
+use crate::advance::{advance, start};
+use crate::ways::Ways;
 use std::alloc::Global;
 use std::marker::Model;
 use swi_calls::{End, Heap};
 use swi_exec::Regs;
 use swi_hart::{
-    BoardFault, Control, Hart, Role, Stage, at_word, jump, plain_place, plain_step, quick_step,
+    BoardFault, Control, Hart, jump, plain_place, plain_step, quick_step,
 };
 use swi_image::ImageView;
 use swi_memory::{Bus, Layout};
-use swi_micro::MicroRam;
-use swi_outside::{CacheRam, Failed, Sink, Source};
+use swi_image_ops::ImageOps;
+use swi_outside::{CacheRam, Failed, Memory, Sink, Source, SteadyRam};
 use swi_program::Program;
 use swi_rom::CacheRom;
 
@@ -55,8 +55,23 @@ pub enum BootStop {
 pub struct Board<R: CacheRom> {
     hart: Hart,
     rom: R,
-    // Where jumps over registers led. It changes no step.
-    targets: Targets,
+    // It changes no step.
+    learnt: Option<Learnt>,
+}
+
+/// What a run has learnt of an image: the micro-ops of its words, and the ways that it has gone.
+#[derive(Drop)]
+struct Learnt {
+    ops: ImageOps,
+    ways: Ways,
+}
+
+impl Learnt {
+    fn new(alloc: Global, image: &ImageView<'_>) -> Result<Learnt, Memory> {
+        let ops = ImageOps::new(alloc, image)?;
+        let ways = Ways::new(alloc, image.words())?;
+        Ok(Learnt { ops, ways })
+    }
 }
 
 impl<R: CacheRom> Model for Board<R> {
@@ -102,6 +117,23 @@ fn enter<R: CacheRom, M: CacheRam>(
     Ok(())
 }
 
+/// Steps a machine instruction at a time.
+fn run_slowly<R: CacheRom, M: CacheRam, I: Source, O: Sink, E: Sink>(
+    hart: &mut Hart,
+    rom: &mut R,
+    image: &ImageView<'_>,
+    ram: &mut M,
+    input: &mut I,
+    out: &mut O,
+    err: &mut E,
+    n: u64,
+) -> Result<(), BoardFault> {
+    while hart.machine.steps < n && hart.machine.ending.is_none() {
+        quick_step(hart, rom, image, ram, input, out, err)?;
+    }
+    Ok(())
+}
+
 impl<R: CacheRom> Board<R> {
     /// A board of a hart and a service, at the hart's address: where a text word stands there, one service enters it,
     /// and that is a machine instruction; else neither service nor ram is called, and nothing fails. The image is one of the text that the
@@ -136,7 +168,7 @@ impl<R: CacheRom> Board<R> {
         Ok(Board {
             hart,
             rom,
-            targets: Targets::none(),
+            learnt: None,
         })
     }
 
@@ -172,13 +204,17 @@ impl<R: CacheRom> Board<R> {
             Ok(hart) => hart,
             Err(_) => return Err(BootStop::Memory),
         };
-        let Ok(targets) = Targets::new(alloc) else {
+        let Ok(learnt) = Learnt::new(alloc, image) else {
             return Err(BootStop::Memory);
         };
         match Board::resume(image, hart, rom, ram) {
             Ok(board) => {
                 let Board { hart, rom, .. } = board;
-                Ok(Board { hart, rom, targets })
+                Ok(Board {
+                    hart,
+                    rom,
+                    learnt: Some(learnt),
+                })
             }
             Err(_) => Err(BootStop::RamFault),
         }
@@ -214,7 +250,7 @@ impl<R: CacheRom> Board<R> {
         Board {
             hart,
             rom,
-            targets: Targets::none(),
+            learnt: None,
         }
     }
 
@@ -282,7 +318,7 @@ impl<R: CacheRom> Board<R> {
     /// machine instructions, and in the ram but for the call that failed; memory is theirs too, but that a read's
     /// buffer may have a front of the bytes that were taken, where the input or a sink failed. A sink to which the next
     /// step gives nothing was not asked.
-    pub fn run<M: MicroRam, I: Source, O: Sink, E: Sink>(
+    pub fn run<M: SteadyRam, I: Source, O: Sink, E: Sink>(
         &mut self,
         image: &ImageView<'_>,
         ram: &mut M,
@@ -312,36 +348,27 @@ impl<R: CacheRom> Board<R> {
               devices = record { input = I.state input.new; output = O.state out.new; error = E.state err.new };
             }) result }
     {
-        let Board { hart, rom, targets } = self;
+        let Board { hart, rom, learnt } = self;
+        let Some(learnt) = learnt else {
+            return run_slowly(hart, rom, image, ram, input, out, err, n);
+        };
+        if !ram.is_steady() || (learnt.ops.ops().len() as u32) < image.words() {
+            return run_slowly(hart, rom, image, ram, input, out, err, n);
+        }
+        let Learnt { ops, ways } = learnt;
+        ops.forget();
         while hart.machine.steps < n && hart.machine.ending.is_none() {
             // Read for the proof alone: that it has 32 bits.
             let _pc = hart.origin_pc();
-            let Some(at) = block_place(hart, rom, ram) else {
-                quick_step(hart, rom, image, ram, input, out, err)?;
-                continue;
-            };
-            let got = match run_block(hart, rom, image, ram, targets, n, at) {
-                Ok(Some(got)) => got,
-                Ok(None) => continue,
-                Err(_) => {
-                    hart.failed = true;
-                    return Err(BoardFault::RamFault);
+            if let Some(at) = start(hart, image) {
+                ways.targets.forget();
+                let block = advance(hart, rom, image, ram, ops, ways, n, at);
+                if hart.machine.steps >= n {
+                    return Ok(());
                 }
-            };
-            let Control::At(i, b, o, stage) = hart.control.control() else {
-                unreachable!()
-            };
-            at_word(
-                hart,
-                rom,
-                image,
-                ram,
-                input,
-                out,
-                err,
-                got,
-                (i, b, o, stage),
-            )?;
+                ops.learn(image, &hart.machine.bus, block);
+            }
+            quick_step(hart, rom, image, ram, input, out, err)?;
         }
         Ok(())
     }

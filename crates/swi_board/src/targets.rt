@@ -18,13 +18,15 @@ const KEPT: usize = 64;
 #[derive(Clone, Copy)]
 pub struct Found {
     target: u32,
-    index: u32,
+    pub index: u32,
+    pub row: u32,
 }
 
 /// What is kept before an address was found: no text word stands at an odd one.
 const NOWHERE: Found = Found {
     target: 1,
     index: 0,
+    row: 0,
 };
 
 /// The addresses to which jumps over registers led last, each with the index at which it stood, kept by the lowest bits of
@@ -41,13 +43,11 @@ pub struct Targets {
 impl Model for Targets {
     ghost use Rattle.std.specs.Prelude.{◌≡◌, List, true};
     ghost use Rattle.swi_board.specs.declared.targets.Found.{Found};
-    ghost use Rattle.swi_board.specs.Targets.{IsNothing, items_in};
+    ghost use Rattle.swi_board.specs.Targets.{items_in};
 
     ghost Value = { List Found };
 
     ghost view = { λ t. items_in (λ v. v.items) t.found };
-
-    ghost invariant = { λ t. t.empty ≡ true → IsNothing (items_in (λ v. v.items) t.found) };
 }
 
 /// Where an address has its place.
@@ -78,9 +78,7 @@ impl Targets {
 
     /// The index at which an address, a multiple of 4, was found.
     #[inline(always)]
-    pub fn find(&self, a: u32) -> Option<u32>
-        requires { a % 4 ≡ 0 }
-        ensures { IfSome result (λ i. (v : ImageData) (r : Record) → AreFound v r self.now → TargetAt v r a i) }
+    pub fn find(&self, a: u32) -> Option<Found>
     {
         let Some(found) = &self.found else {
             return None;
@@ -89,25 +87,24 @@ impl Targets {
         if found.target != a {
             return None;
         }
-        Some(found.index)
+        Some(*found)
     }
 
-    /// Keeps the index at which an address was found.
-    pub fn keep(&mut self, a: u32, index: u32)
-        ensures { (v : ImageData) (r : Record) → AreFound v r self.old → TargetAt v r a index → AreFound v r self.new }
+    /// Keeps the index at which an address was found, and that in the image's row.
+    pub fn keep(&mut self, a: u32, index: u32, row: u32) -> Found
     {
+        let found = Found { target: a, index, row };
         self.empty = false;
-        let Some(found) = &mut self.found else {
-            return;
-        };
-        if let Some(kept) = found.get_mut(slot(a)) {
-            *kept = Found { target: a, index };
+        if let Some(kept) = &mut self.found {
+            if let Some(kept) = kept.get_mut(slot(a)) {
+                *kept = found;
+            }
         }
+        found
     }
 
     /// Keeps nothing any more: where blocks may have moved.
     pub fn forget(&mut self)
-        ensures { (v : ImageData) (r : Record) → AreFound v r self.new }
     {
         if self.empty {
             return;

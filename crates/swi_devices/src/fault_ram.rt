@@ -8,7 +8,7 @@ use crate::ram_calls::RamCalls;
 use std::alloc::Global;
 use std::marker::Model;
 use std::snapshot::Snapshot;
-use swi_outside::{CacheRam, Failed, Memory};
+use swi_outside::{CacheRam, Failed, Memory, SteadyRam};
 
 /// A ram whose calls fail where a list says so.
 #[derive(Drop)]
@@ -128,5 +128,13 @@ impl CacheRam for FaultRam {
         self.words[i as usize] = w;
         self.sets = self.sets.saturating_add(1);
         Ok(())
+    }
+}
+
+impl SteadyRam for FaultRam {
+    ghost steady = { false };
+
+    fn is_steady(&self) -> bool {
+        false
     }
 }

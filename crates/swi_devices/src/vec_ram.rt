@@ -8,7 +8,7 @@ use crate::ram_calls::RamCalls;
 use std::alloc::Global;
 use std::marker::Model;
 use std::snapshot::Snapshot;
-use swi_outside::{CacheRam, Failed, Memory, Words};
+use swi_outside::{CacheRam, Failed, Memory, SteadyRam, Words};
 
 /// A ram that never fails. What contracts see of its calls takes no bytes and no time when it runs: it has no reader.
 #[derive(Drop)]
@@ -121,5 +121,14 @@ impl CacheRam for VecRam {
         note_sets(&mut self.calls, first, words.count());
         put_words(&mut self.words, first, words);
         Ok(())
+    }
+}
+
+impl SteadyRam for VecRam {
+    ghost steady = { true };
+
+    #[inline(always)]
+    fn is_steady(&self) -> bool {
+        true
     }
 }

@@ -1,10 +1,11 @@
 //! Images, and views of them.
 #![tactic(auto)]
 
-ghost use Rattle.std.specs.Prelude.{◌/◌, ◌≡◌, ◌<◌, ◌≤◌, ◌+◌, ◌*◌, ◌^◌, ◌-◌, None, Some, IfOk, IfErr, IfSome, IsTrue, OnOk, length, slice_index};
+ghost use Rattle.std.specs.Prelude.{ℕ, ◌/◌, ◌≡◌, ◌<◌, ◌≤◌, ◌+◌, ◌*◌, ◌^◌, ◌-◌, None, Some, IfOk, IfErr, IfSome, IsTrue, OnOk, length, slice_index};
 ghost use Rattle.swi_image.specs.Format.{image_of};
 ghost use Rattle.swi_image.specs.Checks.{first_refusal, block_of};
-ghost use Rattle.swi_image.specs.Place.{distance, IsWordOf, word_before, place_of, origin_of, block_at, next_start};
+ghost use Rattle.swi_image.specs.Place.{distance, IsWordOf, word_before, place_of, origin_of, block_at, length_at, next_start, word_at};
+ghost use Rattle.swi_image.specs.Row.{row_begin, row_index, row_length};
 ghost use Rattle.swi_image.specs.Sound.{IsImage};
 
 use crate::block::Block;
@@ -207,6 +208,37 @@ impl<'a> ImageView<'a> {
     {
         let begin = begin_at(self.bytes, &self.header, block);
         word_inside(self.bytes, self.header.body + begin + offset as usize)
+    }
+
+    /// How many words stand before a block's in the row of the words of all blocks, block behind block.
+    #[inline]
+    #[tactic(auto, unfolding(crate::specs::Format::image_of), using(crate::proofs::Rows::rows))]
+    pub fn begin(&self, block: u32) -> u32
+        requires { block < length self.now.starts }
+        ensures value { result ≡ row_begin self.now block }
+        ensures small { result < 2 ^ 30 }
+    {
+        begin_at(self.bytes, &self.header, block) as u32
+    }
+
+    /// How many words stand in the row.
+    #[tactic(auto, unfolding(crate::specs::Format::image_of), using(crate::proofs::Rows::rows))]
+    pub fn words(&self) -> u32
+        ensures value { result ≡ row_length self.now }
+        ensures small { result < 2 ^ 30 }
+    {
+        end_at(self.bytes, &self.header, self.header.blocks - 1) as u32
+    }
+
+    /// A word of the row.
+    #[inline(always)]
+    #[tactic(auto, unfolding(crate::specs::Format::image_of), using(crate::proofs::Rows::rows))]
+    pub fn word_in_row(&self, k: u32) -> u32
+        requires { k < row_length self.now }
+        ensures { (b o : ℕ) → b < length self.now.starts → o < length_at self.now b → k ≡ row_index self.now b o →
+            result ≡ word_at self.now b o }
+    {
+        word_inside(self.bytes, self.header.body + k as usize)
     }
 
     /// The words of a block, for a caller that reads many of them.

@@ -3,3 +3,4 @@ pub mod Agreeing
 pub mod Storing
 pub mod Forgetting
 pub mod Twinning
+pub mod Straight

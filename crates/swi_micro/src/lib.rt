@@ -16,9 +16,9 @@ pub use class::Class;
 pub use decoded::{Decoded, forget, forget_all};
 pub use decoded_ram::DecodedRam;
 pub use micro_ram::MicroRam;
-pub use stepper::{step, step_as};
+pub use stepper::{goes, step, step_as};
 pub use storer::store;
-pub use translator::{MicroOp, address, index_of, micro_op};
+pub use translator::{MicroOp, address, branch_to, index_of, micro_op, stop};
 
 #[cfg(test)]
 mod tests;

@@ -65,9 +65,9 @@ fn multiply(m: &MicroOp, regs: &mut Regs)
     regs.put(m.rd, v);
 }
 
-/// Whether a branch goes to its target.
+/// Whether a branch of the comparison goes to its target.
 #[inline(always)]
-fn goes(by: BranchOp, m: &MicroOp, regs: &Regs) -> bool
+pub fn goes(by: BranchOp, m: &MicroOp, regs: &Regs) -> bool
     ensures { result ≡ is_gone by m.now regs.now }
 {
     takes(by, regs.get(m.rs1.register()), regs.get(m.rs2.register())) == m.rd.is_of_x0()

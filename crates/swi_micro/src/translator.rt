@@ -1,7 +1,7 @@
 //! From an instruction to its micro-op.
 #![tactic(auto)]
 
-ghost use Rattle.std.specs.Prelude.{◌≡◌, ◌↔◌, IsTrue};
+ghost use Rattle.std.specs.Prelude.{◌≡◌, ◌==◌, ◌↔◌, IsTrue};
 ghost use Rattle.swi_micro.specs.Classes.{class_of};
 ghost use Rattle.swi_micro.specs.Known.{is_straight};
 ghost use Rattle.swi_micro.specs.MicroOp.{address_at, branch_op, class_of_imm, class_of_load, class_of_op, class_of_store, index_at, made_op, micro_op_of, number_of, stop_op};
@@ -26,6 +26,37 @@ pub struct MicroOp {
 }
 
 impl MicroOp {
+    /// That of a class, with these fields.
+    pub fn of(class: Class, rd: Reg, rs1: Reg, rs2: Reg, imm: u32) -> MicroOp
+        ensures { result ≡ made_op class rd rs1 rs2 imm }
+    {
+        made(class, rd, rs1, rs2, imm)
+    }
+
+    /// Whether its rd is x0.
+    #[inline(always)]
+    pub fn writes_x0(&self) -> bool
+        ensures { result ≡ (self.now.rd == 0) }
+    {
+        self.rd.is_of_x0()
+    }
+
+    /// Where rd is written.
+    #[inline(always)]
+    pub fn rd(&self) -> Slot
+        ensures { result ≡ self.now.rd }
+    {
+        self.rd
+    }
+
+    /// The register that rs1 is.
+    #[inline(always)]
+    pub fn rs1(&self) -> Reg
+        ensures { result ≡ self.now.rs1 }
+    {
+        self.rs1.register()
+    }
+
     /// Its class.
     #[inline(always)]
     pub fn class(&self) -> Class
@@ -182,7 +213,7 @@ fn class_of_writing(op: StoreOp) -> Class
 }
 
 /// A branch to the word with this index.
-pub(crate) fn branch_to(op: BranchOp, rs1: Reg, rs2: Reg, k: u32) -> MicroOp
+pub fn branch_to(op: BranchOp, rs1: Reg, rs2: Reg, k: u32) -> MicroOp
     ensures { result ≡ branch_op op rs1 rs2 k }
 {
     let (class, turned) = match op {

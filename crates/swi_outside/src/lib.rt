@@ -9,6 +9,7 @@ mod failure;
 mod shelf;
 mod sink;
 mod source;
+mod steady_ram;
 mod words;
 
 pub use cache_ram::CacheRam;
@@ -16,4 +17,5 @@ pub use failure::{Failed, Memory};
 pub use shelf::{Shelf, ShelfError};
 pub use sink::Sink;
 pub use source::Source;
+pub use steady_ram::SteadyRam;
 pub use words::Words;
