@@ -1,8 +1,8 @@
 //! Steps of a ram that never fails, that ask no device.
 #![tactic(auto)]
 
-use crate::ways::{Ways, jump_back, pass};
-use swi_hart::{Control, Hart, Stage};
+use crate::ways::{Ways, jump, pass};
+use swi_hart::{Control, Hart, Stage, register_target};
 use swi_image::ImageView;
 use swi_image_ops::{ImageOps, is_exit, is_marked, place_in_row};
 use swi_isa::BranchOp;
@@ -159,10 +159,14 @@ pub(crate) fn advance<R: CacheRom, M: SteadyRam>(
                 left -= 1;
             },
             Class::Jalr => {
-                let Some(found) = jump_back(rom, image, ram, ways, m, k, &mut machine.regs) else {
+                let target = register_target(machine.regs.get(m.rs1()), m.target());
+                let Some(found) = jump(rom, image, ram, &mut ways.targets, target) else {
                     break;
                 };
                 fetch(ram, index(k, delta));
+                if !m.writes_x0() {
+                    machine.regs.put(m.rd(), image.word_in_row(k as u32 + 2));
+                }
                 k = u64::from(found.row);
                 delta = found.index.wrapping_sub(found.row);
                 left -= 1;

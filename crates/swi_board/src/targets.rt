@@ -1,11 +1,7 @@
 //! Where the targets of jumps over registers stood.
 #![tactic(auto)]
 
-ghost use Rattle.std.specs.Prelude.{◌≡◌, ◌<◌, ◌%◌, IfSome};
-ghost use Rattle.swi_image.specs.Format.{ImageData};
-ghost use Rattle.swi_rom.specs.Record.{Record};
-ghost use Rattle.swi_rom.specs.Coherent.{TargetAt};
-ghost use Rattle.swi_board.specs.Targets.{AreFound};
+ghost use Rattle.std.specs.Prelude.{◌<◌};
 
 use std::alloc::Global;
 use std::marker::Model;
@@ -29,25 +25,26 @@ const NOWHERE: Found = Found {
     row: 0,
 };
 
-/// The addresses to which jumps over registers led last, each with the index at which it stood, kept by the lowest bits of
-/// the address above the two that every text word's has alike: so a return that repeats costs no search. What it keeps holds
-/// as long as the blocks stand where they stood. In clauses it is the list of them.
+/// The addresses to which jumps over registers led last, each with the index at which it stood, and that in the image's
+/// row, kept by the lowest bits of the address above the two that every text word's has alike: so a return that repeats costs
+/// no search. What it keeps holds as long as the blocks stand where they stood. In clauses it is the list of them.
 #[derive(Drop)]
 pub struct Targets {
-    // None where nothing is ever kept.
-    found: Option<Vec<Found>>,
+    found: Vec<Found>,
     // Nothing was kept since all was forgotten.
     empty: bool,
 }
 
 impl Model for Targets {
-    ghost use Rattle.std.specs.Prelude.{◌≡◌, List, true};
+    ghost use Rattle.std.specs.Prelude.{◌≡◌, List, length, true};
     ghost use Rattle.swi_board.specs.declared.targets.Found.{Found};
-    ghost use Rattle.swi_board.specs.Targets.{items_in};
+    ghost use Rattle.swi_board.specs.Targets.{IsNothing};
 
     ghost Value = { List Found };
 
-    ghost view = { λ t. items_in (λ v. v.items) t.found };
+    ghost view = { λ t. t.found.items };
+
+    ghost invariant = { λ t. (length t.found.items ≡ 64) × (t.empty ≡ true → IsNothing t.found.items) };
 }
 
 /// Where an address has its place.
@@ -59,31 +56,16 @@ fn slot(a: u32) -> usize
 }
 
 impl Targets {
-    /// Nothing was found yet. Memory where there is not enough of it: it takes 512 bytes.
+    /// Nothing was found yet. Memory where there is not enough of it: it takes 768 bytes.
     pub fn new(alloc: Global) -> Result<Targets, Memory> {
         let found = vec![in alloc; NOWHERE; KEPT].map_err(|_| Memory)?;
-        Ok(Targets {
-            found: Some(found),
-            empty: true,
-        })
+        Ok(Targets { found, empty: true })
     }
 
-    /// One that never keeps anything, and takes no memory.
-    pub fn none() -> Targets {
-        Targets {
-            found: None,
-            empty: true,
-        }
-    }
-
-    /// The index at which an address, a multiple of 4, was found.
+    /// Where an address, a multiple of 4, was found.
     #[inline(always)]
-    pub fn find(&self, a: u32) -> Option<Found>
-    {
-        let Some(found) = &self.found else {
-            return None;
-        };
-        let found = found.get(slot(a))?;
+    pub fn find(&self, a: u32) -> Option<Found> {
+        let found = &self.found[slot(a)];
         if found.target != a {
             return None;
         }
@@ -91,27 +73,23 @@ impl Targets {
     }
 
     /// Keeps the index at which an address was found, and that in the image's row.
-    pub fn keep(&mut self, a: u32, index: u32, row: u32) -> Found
-    {
-        let found = Found { target: a, index, row };
+    pub fn keep(&mut self, a: u32, index: u32, row: u32) -> Found {
+        let found = Found {
+            target: a,
+            index,
+            row,
+        };
         self.empty = false;
-        if let Some(kept) = &mut self.found {
-            if let Some(kept) = kept.get_mut(slot(a)) {
-                *kept = found;
-            }
-        }
+        self.found[slot(a)] = found;
         found
     }
 
     /// Keeps nothing any more: where blocks may have moved.
-    pub fn forget(&mut self)
-    {
+    pub fn forget(&mut self) {
         if self.empty {
             return;
         }
-        if let Some(found) = &mut self.found {
-            found.fill(NOWHERE);
-        }
+        self.found.fill(NOWHERE);
         self.empty = true;
     }
 }

@@ -4,12 +4,10 @@
 use crate::links::Links;
 use crate::targets::{Found, Targets};
 use std::alloc::Global;
-use swi_exec::Regs;
 use swi_hart::{EBREAK, jump_index};
 use swi_image::ImageView;
 use swi_image_ops::index_in_row;
 use swi_isa::{Instr, decode};
-use swi_micro::MicroOp;
 use swi_outside::{Memory, SteadyRam};
 use swi_rom::CacheRom;
 
@@ -71,43 +69,31 @@ fn jump_anew<R: CacheRom, M: SteadyRam>(
     target: u32,
 ) -> Option<Found> {
     let row = index_in_row(image, target)?;
-    let index = match rom.revisit(image, ram, target) {
-        Some(index) => index,
-        None => {
-            targets.forget();
-            match rom.enter(image, ram, target) {
-                Ok(index) => index,
-                Err(_) => unreachable!(),
-            }
-        }
-    };
-    Some(targets.keep(target, index, row))
+    if let Some(index) = rom.revisit(image, ram, target) {
+        return Some(targets.keep(target, index, row));
+    }
+    targets.forget();
+    match rom.enter(image, ram, target) {
+        Ok(index) => Some(targets.keep(target, index, row)),
+        Err(_) => unreachable!(),
+    }
 }
 
-/// Jumps over a register, by the micro-op of a JALR at an index in the row.
+/// Jumps over a register: where the target stands. None, and nothing has changed, where no text word stands there.
 #[inline(always)]
-pub(crate) fn jump_back<R: CacheRom, M: SteadyRam>(
+pub(crate) fn jump<R: CacheRom, M: SteadyRam>(
     rom: &mut R,
     image: &ImageView<'_>,
     ram: &mut M,
-    ways: &mut Ways,
-    m: &MicroOp,
-    k: u64,
-    regs: &mut Regs,
+    targets: &mut Targets,
+    target: u32,
 ) -> Option<Found> {
-    let target = regs.get(m.rs1()).wrapping_add(m.target()) & !1;
     if target % 4 != 0 {
         return None;
     }
-    let found = match ways.targets.find(target) {
-        Some(found) => {
-            rom.visit(image, ram, target, found.index);
-            found
-        }
-        None => jump_anew(rom, image, ram, &mut ways.targets, target)?,
+    let Some(found) = targets.find(target) else {
+        return jump_anew(rom, image, ram, targets, target);
     };
-    if !m.writes_x0() {
-        regs.put(m.rd(), image.word_in_row(k as u32 + 2));
-    }
+    rom.visit(image, ram, target, found.index);
     Some(found)
 }

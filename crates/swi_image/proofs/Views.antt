@@ -22,7 +22,7 @@ before : ℕ → List ℕ → ℕ → ℕ
 before from ends zero = from
 before from ends (suc b) = get_or ends b 0
 
-pub begin_is : (ends : List ℕ) (b : ℕ) → begin_of ends b ≡ before 0 ends b
+begin_is : (ends : List ℕ) (b : ℕ) → begin_of ends b ≡ before 0 ends b
 unfolding before
 begin_is ends zero = refl
 begin_is ends (suc b) =

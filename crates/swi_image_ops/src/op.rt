@@ -1,10 +1,10 @@
 //! From an instruction of a text to the micro-op at its place in an image.
 #![tactic(auto)]
 
-ghost use Rattle.std.specs.Prelude.{◌≡◌, ◌==◌, ◌^◌, ◌<◌, Option, true, false};
-ghost use Rattle.swi_micro.specs.Classes.{class_of};
+ghost use Rattle.std.specs.Prelude.{◌≡◌, ◌==◌, ◌↔◌, IsTrue};
+ghost use Rattle.swi_micro.specs.Classes.{code_of};
 ghost use Rattle.swi_micro.specs.MicroOp.{branch_or_stop};
-ghost use Rattle.swi_image_ops.specs.ImageOp.{exit_op, fall_op, jump_or_stop, pair_op, text_op};
+ghost use Rattle.swi_image_ops.specs.ImageOp.{fall_op, jump_or_stop, pair_op, text_op};
 
 use crate::row::index_in_row;
 use swi_image::ImageView;
@@ -77,11 +77,10 @@ pub(crate) fn text_op(image: &ImageView<'_>, a: u32, instr: &Instr) -> MicroOp
 
 /// Whether a micro-op is that of an exit, and not of a jump that keeps its return address.
 #[inline(always)]
-pub fn is_exit(m: &MicroOp) -> bool {
-    match m.class() {
-        Class::Jal => m.writes_x0(),
-        _ => false,
-    }
+pub fn is_exit(m: &MicroOp) -> bool
+    ensures { IsTrue result ↔ (m.now.code ≡ code_of Class.Jal) × (m.now.rd ≡ 0) }
+{
+    m.is_jal() && m.writes_x0()
 }
 
 /// Whether an exit is no step; whether two words put a value into a register.

@@ -2,7 +2,7 @@
 #![tactic(auto)]
 
 ghost use Rattle.std.specs.Prelude.{◌≡◌, ◌==◌, ◌↔◌, IsTrue};
-ghost use Rattle.swi_micro.specs.Classes.{class_of};
+ghost use Rattle.swi_micro.specs.Classes.{class_of, code_of};
 ghost use Rattle.swi_micro.specs.Known.{is_straight};
 ghost use Rattle.swi_micro.specs.MicroOp.{address_at, branch_op, class_of_imm, class_of_load, class_of_op, class_of_store, index_at, made_op, micro_op_of, number_of, stop_op};
 
@@ -11,6 +11,9 @@ use crate::source::Source;
 use swi_exec::Slot;
 use swi_isa::{BranchOp, ImmOp, Instr, LoadOp, Reg, RegOp, StoreOp};
 use swi_memory::WordRange;
+
+/// The code of a JAL's class.
+const JAL: u8 = 0b0_1101;
 
 /// All that a step at a word of a range takes, in eight bytes: the class, the registers, and the immediate, already
 /// extended. The immediate of a jump or a branch is the index of its target.
@@ -31,6 +34,14 @@ impl MicroOp {
         ensures { result ≡ made_op class rd rs1 rs2 imm }
     {
         made(class, rd, rs1, rs2, imm)
+    }
+
+    /// Whether its code is that of a JAL: fewer tests than its class asks for.
+    #[inline(always)]
+    pub fn is_jal(&self) -> bool
+        ensures { IsTrue result ↔ self.now.code ≡ code_of Class.Jal }
+    {
+        self.code == JAL
     }
 
     /// Whether its rd is x0.
