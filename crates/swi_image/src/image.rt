@@ -217,6 +217,7 @@ impl<'a> ImageView<'a> {
         requires { block < length self.now.starts }
         ensures value { result ≡ row_begin self.now block }
         ensures small { result < 2 ^ 30 }
+        ensures sound { IsImage self.now }
     {
         begin_at(self.bytes, &self.header, block) as u32
     }

@@ -2,7 +2,8 @@ use Rattle.std.proofs.Common.{◌≡◌, ◌<◌, ℕ, length, arith, subst, sym
 use Rattle.swi_image.specs.Words.{words_of}
 use Rattle.swi_image.specs.Format.{ImageData, blocks_of, image_of}
 use Rattle.swi_image.specs.Row.{row_begin}
-use Rattle.swi_image.proofs.Views.{seen_blocks}
+use Rattle.swi_image.specs.Sound.{IsImage}
+use Rattle.swi_image.proofs.Views.{image_sound, seen_blocks}
 use Rattle.swi_image.proofs.Rows.{begin_few, seen_begin}
 use Rattle.swi_image.proofs.image.ImageView.begin.Goals as goal
 
@@ -29,3 +30,6 @@ returns-clause-small c =
     let few = seen_blocks (words_of c.self.inside.bytes.now) c.self.invariant.kept.sizes in
     let small = begin_few c.self.inside.header c.self.inside.bytes.now c.args.block c.self.invariant (omega arith) in
     omega (arith, small, c.begin_at.ensures.begin)
+
+pub returns-clause-sound : goal.returns-clause-sound
+returns-clause-sound c = subst (λ (v : ImageData). IsImage v) c.self.view_is (image_sound c.self.inside.bytes.now c.self.invariant.kept)
