@@ -1,2 +1,5 @@
 pub mod Rows
 pub mod Learning
+pub mod Forms
+pub mod Standing
+pub mod Strides

@@ -90,8 +90,9 @@ fn learn_text(ops: &mut [MicroOp], image: &ImageView<'_>, bus: &Bus, block: u32,
     requires ops { AreImageOps (fetched bus.now) image.now ops.old }
     ensures { AreImageOps (fetched bus.now) image.now ops.new }
 {
+    let next = image.next(block);
     learn_first(ops, image, bus, image.base().wrapping_add(4 * t), block);
-    let end = if t + 1 < image.next(block) {
+    let end = if t + 1 < next {
         image.offset(t + 1)
     } else {
         image.length(block)
@@ -123,7 +124,8 @@ fn learn_exit(ops: &mut [MicroOp], image: &ImageView<'_>, block: u32, offset: u3
     requires room { row_length image.now ≤ length ops.old }
     ensures { (text : ℕ → Option ℕ) → AreImageOps text image.now ops.old → AreImageOps text image.now ops.new }
 {
-    if offset + 1 >= image.length(block) || image.word(block, offset) != EBREAK {
+    let end = image.length(block);
+    if offset + 1 >= end || image.word(block, offset) != EBREAK {
         return;
     }
     let descriptor = image.word(block, offset + 1);
