@@ -8,11 +8,10 @@ pub mod Events
 pub mod Running
 pub mod Entering
 pub mod Following
-pub mod Turning
-pub mod Walking
-pub mod Blocks
 pub mod Along
-pub mod Knowing
-pub mod Coming
 pub mod Remembering
-pub mod Untold
+pub mod Strides
+pub mod Turns
+pub mod Passing
+pub mod Arms
+pub mod OpSteps

@@ -25,21 +25,20 @@ ghost use Rattle.swi_hart.specs.Staying.{StaysUnder};
 ghost use Rattle.swi_board.specs.Board.{BoardOf, entry_transfer, entries};
 ghost use Rattle.swi_board.specs.BoardRan.{BoardRan};
 ghost use Rattle.swi_board.specs.Entered.{Entered};
+ghost use Rattle.swi_board.specs.Learnt.{HasRoom};
 ghost use Rattle.swi_board.specs.Ran.{Followed};
 
-use crate::advance::{advance, start};
-use crate::ways::Ways;
+use crate::learnt::Learnt;
 use std::alloc::Global;
 use std::marker::Model;
 use swi_calls::{End, Heap};
 use swi_exec::Regs;
 use swi_hart::{
-    BoardFault, Control, Hart, jump, plain_place, plain_step, quick_step,
+    BoardFault, Control, Hart, Stage, jump, plain_place, plain_step, quick_step,
 };
 use swi_image::ImageView;
 use swi_memory::{Bus, Layout};
-use swi_image_ops::ImageOps;
-use swi_outside::{CacheRam, Failed, Memory, Sink, Source, SteadyRam};
+use swi_outside::{CacheRam, Failed, Sink, Source, SteadyRam};
 use swi_program::Program;
 use swi_rom::CacheRom;
 
@@ -59,21 +58,6 @@ pub struct Board<R: CacheRom> {
     rom: R,
     // It changes no step.
     learnt: Option<Learnt>,
-}
-
-/// What a run has learnt of an image: the micro-ops of its words, and the ways that it has gone.
-#[derive(Drop)]
-struct Learnt {
-    ops: ImageOps,
-    ways: Ways,
-}
-
-impl Learnt {
-    fn new(alloc: Global, image: &ImageView<'_>) -> Result<Learnt, Memory> {
-        let ops = ImageOps::new(alloc, image)?;
-        let ways = Ways::new(alloc, image.words())?;
-        Ok(Learnt { ops, ways })
-    }
 }
 
 impl<R: CacheRom> Model for Board<R> {
@@ -119,7 +103,7 @@ fn enter<R: CacheRom, M: CacheRam>(
     Ok(())
 }
 
-/// Steps a machine instruction at a time.
+/// Runs a machine instruction at a time.
 fn run_slowly<R: CacheRom, M: CacheRam, I: Source, O: Sink, E: Sink>(
     hart: &mut Hart,
     rom: &mut R,
@@ -129,8 +113,77 @@ fn run_slowly<R: CacheRom, M: CacheRam, I: Source, O: Sink, E: Sink>(
     out: &mut O,
     err: &mut E,
     n: u64,
-) -> Result<(), BoardFault> {
+) -> Result<(), BoardFault>
+    requires fits { Fits image.now (R.service.kept rom.old) hart.old }
+    requires sound { R.service.sound rom.old image.now (M.state ram.old).words }
+    requires steps { hart.old.machine.steps ≤ n }
+    requires limit { n ≤ 2 ^ 48 }
+    requires count { hart.old.count ≤ 2 ^ 55 }
+    requires services { (R.service.kept rom.old).counts.services ≤ 2 ^ 49 }
+    ensures gave { HasGiven (I.state input.old) (I.state input.new) }
+    ensures ran { AsTold (I.state input.old) (I.state input.new) (λ old new. BoardRan R.service image.now n
+        (record {
+          hart = hart.old;
+          rom = rom.old;
+          ram = M.state ram.old;
+          devices = record { input = old; output = O.state out.old; error = E.state err.old };
+        })
+        (record {
+          hart = hart.new;
+          rom = rom.new;
+          ram = M.state ram.new;
+          devices = record { input = new; output = O.state out.new; error = E.state err.new };
+        }) result) }
+{
     while hart.machine.steps < n && hart.machine.ending.is_none() {
+        quick_step(hart, rom, image, ram, input, out, err)?;
+    }
+    Ok(())
+}
+
+/// Runs out of a steady ram, from between two instructions: by micro-ops, but for the steps that are left to the machine
+/// step.
+fn run_by_words<R: CacheRom, M: SteadyRam, I: Source, O: Sink, E: Sink>(
+    hart: &mut Hart,
+    rom: &mut R,
+    image: &ImageView<'_>,
+    ram: &mut M,
+    learnt: &mut Learnt,
+    input: &mut I,
+    out: &mut O,
+    err: &mut E,
+    n: u64,
+) -> Result<(), BoardFault>
+    requires fits { Fits image.now (R.service.kept rom.old) hart.old }
+    requires sound { R.service.sound rom.old image.now (M.state ram.old).words }
+    requires steps { hart.old.machine.steps ≤ n }
+    requires limit { n ≤ 2 ^ 48 }
+    requires count { hart.old.count ≤ 2 ^ 55 }
+    requires services { (R.service.kept rom.old).counts.services ≤ 2 ^ 49 }
+    requires steady { M.steady ≡ true }
+    requires between { is_between hart.old.control ≡ true }
+    requires room { HasRoom image.now learnt.old }
+    ensures gave { HasGiven (I.state input.old) (I.state input.new) }
+    ensures ran { AsTold (I.state input.old) (I.state input.new) (λ old new. BoardRan R.service image.now n
+        (record {
+          hart = hart.old;
+          rom = rom.old;
+          ram = M.state ram.old;
+          devices = record { input = old; output = O.state out.old; error = E.state err.old };
+        })
+        (record {
+          hart = hart.new;
+          rom = rom.new;
+          ram = M.state ram.new;
+          devices = record { input = new; output = O.state out.new; error = E.state err.new };
+        }) result) }
+{
+    learnt.forget();
+    while hart.machine.steps < n && hart.machine.ending.is_none() {
+        learnt.advance(hart, rom, image, ram, n);
+        if hart.machine.steps >= n {
+            return Ok(());
+        }
         quick_step(hart, rom, image, ram, input, out, err)?;
     }
     Ok(())
@@ -303,17 +356,6 @@ impl<R: CacheRom> Board<R> {
             (record { hart = self.new.hart; rom = self.new.rom; ram = M.state ram.new })
             (record { input = old; output = O.state out.old; error = E.state err.old })
             (record { input = new; output = O.state out.new; error = E.state err.new }) result) }
-        ensures follows_directly { R.service.sound self.old.rom image.now (M.state ram.old).words →
-            OnOk result (ForSome (I.state input.old).left (λ left. (f : Machine) → Carries (fetched f.bus) image.now →
-            Matches image.now (R.service.kept self.old.rom) f self.old.hart.machine self.old.hart.control →
-            Followed image.now (R.service.kept self.new.rom) self.new.hart
-            (next_made image.now self.old.hart.machine self.old.hart.control f left)
-            (I.state input.new).left (O.state out.old).held (O.state out.new).held (E.state err.old).held (E.state err.new).held)) }
-        ensures stepped_directly { BoardStepped R.service image.now
-            (record { hart = self.old.hart; rom = self.old.rom; ram = M.state ram.old })
-            (record { hart = self.new.hart; rom = self.new.rom; ram = M.state ram.new })
-            (record { input = I.state input.old; output = O.state out.old; error = E.state err.old })
-            (record { input = I.state input.new; output = O.state out.new; error = E.state err.new }) result }
     {
         let Board { hart, rom, .. } = self;
         if let Some((at, own)) = plain_place(hart, image) {
@@ -366,43 +408,14 @@ impl<R: CacheRom> Board<R> {
               ram = M.state ram.new;
               devices = record { input = new; output = O.state out.new; error = E.state err.new };
             }) result) }
-        ensures ran_directly { BoardRan R.service image.now n
-            (record {
-              hart = self.old.hart;
-              rom = self.old.rom;
-              ram = M.state ram.old;
-              devices = record { input = I.state input.old; output = O.state out.old; error = E.state err.old };
-            })
-            (record {
-              hart = self.new.hart;
-              rom = self.new.rom;
-              ram = M.state ram.new;
-              devices = record { input = I.state input.new; output = O.state out.new; error = E.state err.new };
-            }) result }
     {
         let Board { hart, rom, learnt } = self;
-        let Some(learnt) = learnt else {
-            return run_slowly(hart, rom, image, ram, input, out, err, n);
-        };
-        if !ram.is_steady() || (learnt.ops.ops().len() as u32) < image.words() {
-            return run_slowly(hart, rom, image, ram, input, out, err, n);
-        }
-        let Learnt { ops, ways } = learnt;
-        ops.forget();
-        while hart.machine.steps < n && hart.machine.ending.is_none() {
-            // Read for the proof alone: that it has 32 bits.
-            let _pc = hart.origin_pc();
-            if let Some(at) = start(hart, image) {
-                ways.targets.forget();
-                let block = advance(hart, rom, image, ram, ops, ways, n, at);
-                if hart.machine.steps >= n {
-                    return Ok(());
-                }
-                ops.learn(image, &hart.machine.bus, block);
+        match learnt {
+            Some(learnt) if ram.is_steady() && hart.is_between() && learnt.has_room(image) => {
+                run_by_words(hart, rom, image, ram, learnt, input, out, err, n)
             }
-            quick_step(hart, rom, image, ram, input, out, err)?;
+            _ => run_slowly(hart, rom, image, ram, input, out, err, n),
         }
-        Ok(())
     }
 
     /// How the run has ended; None while it goes on.

@@ -3,6 +3,7 @@
 
 mod advance;
 mod board;
+mod learnt;
 mod links;
 mod targets;
 mod ways;

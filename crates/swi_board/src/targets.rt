@@ -1,7 +1,10 @@
 //! Where the targets of jumps over registers stood.
 #![tactic(auto)]
 
-ghost use Rattle.std.specs.Prelude.{◌<◌};
+ghost use Rattle.std.specs.Prelude.{◌≡◌, ◌<◌, ◌%◌, ℕ, IfSome, Some};
+ghost use Rattle.swi_image.specs.Format.{ImageData};
+ghost use Rattle.swi_rom.specs.Record.{Record};
+ghost use Rattle.swi_board.specs.Targets.{AreFound, FoundAt};
 
 use std::alloc::Global;
 use std::marker::Model;
@@ -10,7 +13,7 @@ use swi_outside::Memory;
 /// How many targets are kept.
 const KEPT: usize = 64;
 
-/// An address, and the index at which it was found.
+/// An address, the index in the ram at which it was found, and that in the image's row.
 #[derive(Clone, Copy)]
 pub struct Found {
     target: u32,
@@ -25,9 +28,9 @@ const NOWHERE: Found = Found {
     row: 0,
 };
 
-/// The addresses to which jumps over registers led last, each with the index at which it stood, and that in the image's
-/// row, kept by the lowest bits of the address above the two that every text word's has alike: so a return that repeats costs
-/// no search. What it keeps holds as long as the blocks stand where they stood. In clauses it is the list of them.
+/// The addresses to which jumps over registers led last, each with where it stood, kept by the lowest bits of the address
+/// above the two that every text word's has alike: so a return that repeats costs no search. What it keeps holds as long as
+/// the blocks stand where they stood. In clauses it is the list of them.
 #[derive(Drop)]
 pub struct Targets {
     found: Vec<Found>,
@@ -64,7 +67,10 @@ impl Targets {
 
     /// Where an address, a multiple of 4, was found.
     #[inline(always)]
-    pub fn find(&self, a: u32) -> Option<Found> {
+    pub fn find(&self, a: u32) -> Option<Found>
+        requires { a % 4 ≡ 0 }
+        ensures { IfSome result (λ f. (v : ImageData) (r : Record) → AreFound v r self.now → FoundAt v r a f) }
+    {
         let found = &self.found[slot(a)];
         if found.target != a {
             return None;
@@ -73,7 +79,11 @@ impl Targets {
     }
 
     /// Keeps the index at which an address was found, and that in the image's row.
-    pub fn keep(&mut self, a: u32, index: u32, row: u32) -> Found {
+    pub fn keep(&mut self, a: u32, index: u32, row: u32) -> Found
+        ensures index { result.index ≡ index }
+        ensures row { result.row ≡ row }
+        ensures kept { (v : ImageData) (r : Record) → AreFound v r self.old → FoundAt v r a result → AreFound v r self.new }
+    {
         let found = Found {
             target: a,
             index,
@@ -85,7 +95,9 @@ impl Targets {
     }
 
     /// Keeps nothing any more: where blocks may have moved.
-    pub fn forget(&mut self) {
+    pub fn forget(&mut self)
+        ensures { (v : ImageData) (r : Record) → AreFound v r self.new }
+    {
         if self.empty {
             return;
         }
