@@ -266,9 +266,9 @@ text_on {S} {k} {v} {n} {old} {now} on between fits x =
     text_along {k = k} {v = v} {n = n} {old = with_source old (told_as old.devices.input some.0)} {now = with_source now (told_as now.devices.input some.1)} some.2 refl between fits x
 
 -- a stretch raises the bound of machine instructions, or leaves it
-pub onward_most : {S : Type 0} {k : ServiceOf S} {v : ImageData} {n : ℕ} {old new : BoardWithRam S} → Onward k v n old new → Fits v (k.kept old.rom) old.hart → old.hart.machine.steps ≤ n →
+pub onward_most : {S : Type 0} (k : ServiceOf S) {v : ImageData} {n : ℕ} {old new : BoardWithRam S} → Onward k v n old new → Fits v (k.kept old.rom) old.hart → old.hart.machine.steps ≤ n →
     most v old.hart.machine old.hart.control ≤ most v new.hart.machine new.hart.control
-onward_most {S} {k} {v} {n} {old} {new} onward fits le =
+onward_most {S} k {v} {n} {old} {new} onward fits le =
     let self : Point = record { hart = old.hart; kept = k.kept old.rom; ram = old.ram; left = None; out = None; err = None } in
     let there = onward self self (record {
       made = 0;

@@ -83,7 +83,7 @@ module _ (v : ImageData) (f : Machine) (w : ℕ) (x : Instr) (ss : List Slot) (r
     pub here_target : here_after v f (Some p) m ≡ place_of v m.pc
     here_target = ap (λ (t : Bool). if t then place_of v m.pc else Some (p.0, p.1 + length (slots f))) goes_as
 
-itself_jumps : (f : Machine) (x : Instr) → stands_as_itself x ≡ true → jumps_as f (Some x) ≡ false
+pub itself_jumps : (f : Machine) (x : Instr) → stands_as_itself x ≡ true → jumps_as f (Some x) ≡ false
 itself_jumps f (instr.Lui rd imm) e = refl
 itself_jumps f (instr.Load op rd rs1 imm) e = refl
 itself_jumps f (instr.Store op rs1 rs2 imm) e = refl
@@ -92,7 +92,7 @@ itself_jumps f (instr.Op op rd rs1 rs2) e = refl
 itself_jumps f instr.Fence e = refl
 itself_jumps f x e = absurd (cc)
 
-itself_words : (f : Machine) (x : Instr) → stands_as_itself x ≡ true → branch_words f (Some x) ≡ 0
+pub itself_words : (f : Machine) (x : Instr) → stands_as_itself x ≡ true → branch_words f (Some x) ≡ 0
 itself_words f (instr.Lui rd imm) e = refl
 itself_words f (instr.Load op rd rs1 imm) e = refl
 itself_words f (instr.Store op rs1 rs2 imm) e = refl
@@ -228,6 +228,7 @@ module _ {S : Type 0} {k : ServiceOf S} {v : ImageData} {limit : ℕ} {first : T
       }
 
       pub stay_arm : Turned k v limit first u.at stayed
+      unfolding stayed_at
       stay_arm =
           text_arm some stayed stayed_at n refl refl more words.0 place step
           (here_next v (machine_at limit t i.at.pc) w x ss reads decodes rendered (i.at.block, i.at.offset) (went (machine_at limit t i.at.pc) (sum_of i.at.pc 4) regs bus) stays
@@ -244,7 +245,7 @@ module _ {S : Type 0} {k : ServiceOf S} {v : ImageData} {limit : ℕ} {first : T
     module _ (transfer : Transfer) (left : RamState) (rom : S) (ram : RamState) (a there row delta : ℕ) (short : a < 2 ^ 32)
         (reached : Reached k v transfer (record { rom = t.rom; ram = left }) (record { rom = rom; ram = ram }) there) (to : target_of transfer ≡ a)
         (target : row_of v a ≡ Some row) (lands : sum_of row delta ≡ there) where
-      stands : TargetAt v (k.kept rom) a there
+      pub stands : TargetAt v (k.kept rom) a there
       stands = subst (λ (b : ℕ). TargetAt v (k.kept rom) b there) to reached.stands
 
       in_block : (stands.block < length v.starts) × (stands.offset < length_at v stands.block)
@@ -302,6 +303,7 @@ module _ {S : Type 0} {k : ServiceOf S} {v : ImageData} {limit : ℕ} {first : T
         }
 
         pub leap_arm : Turned k v limit first u.at leapt
+        unfolding reached_at
         leap_arm =
             text_arm some leapt reached_at n refl refl more words.0 place step
             (here_target v (machine_at limit t i.at.pc) w x ss reads decodes rendered (i.at.block, i.at.offset) (went (machine_at limit t i.at.pc) a regs t.machine.bus) jumps ∙ reached_place)
@@ -330,6 +332,7 @@ module _ {S : Type 0} {k : ServiceOf S} {v : ImageData} {limit : ℕ} {first : T
 
         moves_fall : (h : HartData) (p : Point) → Moves (k.span (k.setting first.rom)) 1 (sum_of t.cursor.row t.cursor.delta) (i.at.block, i.at.offset) (stands.block, stands.offset) (sum_of row delta)
             (with_board k p (board_at k v h limit t i.at)) (with_board k p (board_at k v h limit fallen fallen_at))
+        unfolding stands fallen_at reached_at
         moves_fall h p = record {
           control = refl;
           lands = refl;
@@ -346,6 +349,7 @@ module _ {S : Type 0} {k : ServiceOf S} {v : ImageData} {limit : ℕ} {first : T
         }
 
         pub fall_arm : Turned k v limit first u.at fallen
+        unfolding stands fallen_at reached_at
         fall_arm =
             turned_on laws i some fallen_at i.going
             (let left_is = i.within.left in let all = i.within.counted in record { left = omega (arith, left_is, same); counted = omega (arith, all, more, same) })

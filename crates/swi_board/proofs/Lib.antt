@@ -15,3 +15,6 @@ pub mod Turns
 pub mod Passing
 pub mod Arms
 pub mod OpSteps
+pub mod Falling
+pub mod Knowing
+pub mod Origins

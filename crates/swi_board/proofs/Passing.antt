@@ -17,10 +17,7 @@ use Rattle.swi_hart.proofs.Leaving.{exit_unlinked, index_small, jump_linked, lin
 use Rattle.swi_board.specs.Links.{IsLink}
 use Rattle.swi_board.specs.Reached.{ExitInRow, Passed, Reached}
 
-module _ {S : Type 0} {k : ServiceOf S} (laws : IsService k) {v : ImageData} {rom : S} {ram : RamState} (sound : k.sound rom v ram.words) where
-  abbrev coherent : Coherent v (k.kept rom) (k.span (k.setting rom)) ram.words
-  coherent = laws.coherent rom v ram.words sound
-
+module _ {S : Type 0} {k : ServiceOf S} (laws : IsService k) (v : ImageData) (rom : S) (ram : RamState) (sound : k.sound rom v ram.words) where
   -- an exit in the row
   module _ {exit at : ℕ} (e : ExitInRow v (k.kept rom) exit at) where
     pub leave_at : (w : ℕ) → w ≡ slice_index ram.words at → LeaveAt v (k.kept rom) ram.words w at e.block e.offset
@@ -50,8 +47,6 @@ module _ {S : Type 0} {k : ServiceOf S} (laws : IsService k) {v : ImageData} {ro
     pub over_link : (w distance : ℕ) → w ≡ slice_index ram.words at → IsLink w distance →
         Passed k v exit (record { rom = rom; ram = ram }) (record { rom = rom; ram = ram }) (sum_of at distance)
     over_link w distance got is =
-        let span = k.span (k.setting rom) in
-        let leave = leave_at w got in
         let small = laws.small rom v ram.words sound in
         let linked = jump_linked v (k.kept rom) (k.span (k.setting rom)) ram.words w at e.block e.offset (laws.coherent rom v ram.words sound) (leave_at w got) is.linked in
         let link = link_at v (k.kept rom) (k.span (k.setting rom)) ram.words w at e.block e.offset (laws.coherent rom v ram.words sound) (laws.image rom v ram.words sound) (leave_at w got) is.linked in

@@ -1,8 +1,8 @@
 -- Targets and links that are kept.
-use Rattle.std.proofs.Common.{◌≡◌, ◌+◌, ◌*◌, ◌/◌, ◌%◌, ◌^◌, ◌<◌, ◌≤◌, ℕ, List, length, get_or, slice_set, replicate, Some, None, arith, ap, sym, subst, ◌∙◌, inl, inr}
+use Rattle.std.proofs.Common.{◌≡◌, ◌+◌, ◌*◌, ◌/◌, ◌%◌, ◌^◌, ◌<◌, ◌≤◌, ℕ, List, length, get_or, slice_set, replicate, Some, None, arith, refl, ap, sym, subst, ◌∙◌, inl, inr}
 use Rattle.std.proofs.lemmas.List.{get_or-replicate, get_or-set_other, get_or-set_same, length-replicate, length-set}
 use Rattle.std.proofs.lemmas.Bool.{cases_eq, cases_lt}
-use Rattle.swi_isa.specs.Decode.{decoded}
+use Rattle.swi_isa.specs.Decode.{decoded, decoded_by}
 use Rattle.swi_isa.specs.declared.instr.Instr.TheVariants.{Jal}
 use Rattle.swi_exec.specs.Arithmetic.{sum_of}
 use Rattle.swi_image.specs.Format.{ImageData}
@@ -55,11 +55,15 @@ distance_ahead i j w off jumps is low high near = ahead i j off (offset_is i j w
 pub distance_back : (i j w off : ℕ) → IsJump i j w → off ≡ offset_of (decoded w) → i < 2 ^ 21 → j < 2 ^ 21 → 2 ^ 31 ≤ off → sum_of i (off / 4 + 3 * 2 ^ 30) ≡ j
 distance_back i j w off jumps is low high far = back i j off (offset_is i j w off jumps is) low high far
 
--- 0 is no jump
+-- 0 is no instruction, and so no jump
+no_instruction : decoded 0 ≡ None
+unfolding decoded decoded_by
+no_instruction = refl
+
 pub none_link : (distance : ℕ) → IsLink 0 distance
 none_link distance = record {
   linked = λ e. absurd (omega (arith, e));
-  leads = λ i j jumps low high. absurd (let never : None ≡ Some (Jal 0 (jump_offset i j)) = jumps in cc);
+  leads = λ i j jumps low high. absurd (let never : None ≡ Some (Jal 0 (jump_offset i j)) = sym no_instruction ∙ jumps in cc);
 }
 
 -- so no link is one

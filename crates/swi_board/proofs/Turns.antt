@@ -171,43 +171,43 @@ module _ {S : Type 0} {k : ServiceOf S} {v : ImageData} {limit : ℕ} {first : T
 
 -- ---- the turn at which a stretch of a board begins
 
-module _ {S : Type 0} {k : ServiceOf S} {v : ImageData} (limit : ℕ) (h : HartData) (rom : S) (ram : RamState) (row delta : ℕ) where
-  abbrev pub first_turn : Turn S
-  first_turn = record {
-    machine = h.machine;
-    rom = rom;
-    ram = ram;
-    cursor = record { row = row; delta = delta; left = limit - h.machine.steps; total = h.count + (limit - h.machine.steps) };
+abbrev pub first_turn : {S : Type 0} → ℕ → HartData → S → RamState → ℕ → ℕ → Turn S
+first_turn limit h rom ram row delta = record {
+  machine = h.machine;
+  rom = rom;
+  ram = ram;
+  cursor = record { row = row; delta = delta; left = limit - h.machine.steps; total = h.count + (limit - h.machine.steps) };
+}
+
+module _ {S : Type 0} (k : ServiceOf S) (v : ImageData) (h : HartData) (rom : S) (row delta : ℕ) (fits : Fits v (k.kept rom) h) (going : h.machine.ending ≡ None) (at : StandsInRow v h row delta) where
+  placed : StandsBy None v (k.kept rom) h.machine (At at.index at.block at.offset Start)
+  placed = subst (λ (c : Control). StandsBy None v (k.kept rom) h.machine c) at.control (subst (λ (e : Option End). StandsBy e v (k.kept rom) h.machine h.control) going fits.place)
+
+  pub first_stood : Stood v (k.kept rom) row delta
+  first_stood = record {
+    block = at.block;
+    offset = at.offset;
+    first = placed.0.0;
+    pc = h.machine.pc;
+    known = at.known;
+    inside = at.inside;
+    is_row = at.is_row;
+    is_placed = placed.0.1;
+    index = at.is_index ∙ placed.0.2;
+    goes = placed.1;
+    short = at.short;
   }
 
-  module _ (fits : Fits v (k.kept rom) h) (going : h.machine.ending ≡ None) (at : StandsInRow v h row delta) where
-    placed : StandsBy None v (k.kept rom) h.machine (At at.index at.block at.offset Start)
-    placed = subst (λ (c : Control). StandsBy None v (k.kept rom) h.machine c) at.control (subst (λ (e : Option End). StandsBy e v (k.kept rom) h.machine h.control) going fits.place)
-
-    pub first_stood : Stood v (k.kept rom) row delta
-    first_stood = record {
-      block = at.block;
-      offset = at.offset;
-      first = placed.0.0;
-      pc = h.machine.pc;
-      known = at.known;
-      inside = at.inside;
-      is_row = at.is_row;
-      is_placed = placed.0.1;
-      index = at.is_index ∙ placed.0.2;
-      goes = placed.1;
-      short = at.short;
-    }
-
-    pub first_board : h.machine.steps ≤ limit → board_at k v h limit first_turn first_stood ≡ record { hart = h; rom = rom; ram = ram }
-    first_board le =
-        let steps : limit - (limit - h.machine.steps) ≡ h.machine.steps = omega (arith, le) in
-        let count : h.count + (limit - h.machine.steps) - (limit - h.machine.steps) ≡ h.count = omega arith in
-        let control : At (sum_of row delta) at.block at.offset Start ≡ h.control = ap (λ (i : ℕ). At i at.block at.offset Start) at.is_index ∙ sym at.control in
-        ap (λ (c : Control). record {
-          hart = record h { control = c; machine = record h.machine { steps = limit - (limit - h.machine.steps) }; count = h.count + (limit - h.machine.steps) - (limit - h.machine.steps) };
-          rom = rom;
-          ram = ram;
-        }) control
-        ∙ ap (λ (n : ℕ). record { hart = record h { machine = record h.machine { steps = n }; count = h.count + (limit - h.machine.steps) - (limit - h.machine.steps) }; rom = rom; ram = ram }) steps
-        ∙ ap (λ (n : ℕ). record { hart = record h { count = n }; rom = rom; ram = ram }) count
+  pub first_board : (limit : ℕ) (ram : RamState) → h.machine.steps ≤ limit → board_at k v h limit (first_turn limit h rom ram row delta) first_stood ≡ record { hart = h; rom = rom; ram = ram }
+  unfolding first_stood
+  first_board limit ram le =
+      let steps : limit - (limit - h.machine.steps) ≡ h.machine.steps = omega (arith, le) in
+      let count : h.count + (limit - h.machine.steps) - (limit - h.machine.steps) ≡ h.count = omega arith in
+      let control : At (sum_of row delta) at.block at.offset Start ≡ h.control = ap (λ (i : ℕ). At i at.block at.offset Start) at.is_index ∙ sym at.control in
+      ap (λ (c : Control). record {
+        hart = record h { control = c; machine = record h.machine { steps = limit - (limit - h.machine.steps) }; count = h.count + (limit - h.machine.steps) - (limit - h.machine.steps) };
+        rom = rom;
+        ram = ram;
+      }) control
+      ∙ ap (λ (n : ℕ). record { hart = record h { machine = record h.machine { steps = n }; count = h.count + (limit - h.machine.steps) - (limit - h.machine.steps) }; rom = rom; ram = ram }) steps
+      ∙ ap (λ (n : ℕ). record { hart = record h { count = n }; rom = rom; ram = ram }) count

@@ -1,13 +1,13 @@
 use Rattle.std.proofs.Common.{◌*◌, ◌+◌, ◌-◌}
 use Rattle.swi_hart.specs.Bounds.{most}
 use Rattle.swi_board.proofs.Along.{AlongOn}
-use Rattle.swi_board.proofs.board.Board.run.Given as goal
+use Rattle.swi_board.proofs.board.run_slowly.Given as goal
 
 abbrev pub invariant-loop-hart : goal.invariant-loop-hart
 invariant-loop-hart g l = AlongOn g.R.CacheRom.service l.image l.n
     (record {
-      hart = l.fn.self.hart;
-      rom = l.fn.self.rom;
+      hart = l.fn.hart;
+      rom = l.fn.rom;
       ram = g.M.CacheRam.state l.fn.ram;
       devices = record { input = g.I.Source.state l.fn.input; output = g.O.Sink.state l.fn.out; error = g.E.Sink.state l.fn.err };
     })
