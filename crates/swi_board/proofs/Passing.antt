@@ -1,6 +1,9 @@
 -- Transfers over exits and registers, as the service answers.
 use Rattle.std.proofs.Common.{◌≡◌, ℕ, ◌+◌, ◌^◌, ◌<◌, ◌≤◌, List, length, slice_index, Option, Some, None, Result, Ok, Err, refl, sym, ap, subst, ◌∙◌, arith}
 use Rattle.swi_outside.specs.CacheRam.{RamState}
+use Rattle.swi_outside.specs.Causes.{Rose}
+use Rattle.swi_rom.specs.declared.rom.RomStop.{RomStop}
+use Rattle.swi_rom.specs.declared.rom.RomStop.TheVariants.{Outside, RamFault}
 use Rattle.swi_exec.specs.Arithmetic.{sum_of}
 use Rattle.swi_image.specs.Format.{ImageData}
 use Rattle.swi_image.specs.Place.{length_at, place_of, word_at}
@@ -16,6 +19,14 @@ use Rattle.swi_hart.proofs.Falls.{ram_same, words_same}
 use Rattle.swi_hart.proofs.Leaving.{exit_unlinked, index_small, jump_linked, link_at, served_at}
 use Rattle.swi_board.specs.Links.{IsLink}
 use Rattle.swi_board.specs.Reached.{ExitInRow, Passed, Reached}
+
+rose_none : (a b : ℕ) → Rose a b → b ≡ 0 → ⊥
+rose_none a b rose none = grind (arith, rose, none)
+
+-- a transfer to a text word's place, by a ram that counts no fault, is served
+pub never : {v : ImageData} {span t : ℕ} {old next new : Record} {before after : RamState} (e : RomStop) → Served v span t old next new before after (Err e) → (place_of v t ≡ None → ⊥) → after.faults ≡ 0 → ⊥
+never {before = before} {after = after} Outside s some none = some (s.outside refl)
+never {before = before} {after = after} RamFault s some none = rose_none before.faults after.faults (s.failed refl) none
 
 module _ {S : Type 0} {k : ServiceOf S} (laws : IsService k) (v : ImageData) (rom : S) (ram : RamState) (sound : k.sound rom v ram.words) where
   -- an exit in the row

@@ -67,7 +67,7 @@ none_link distance = record {
 }
 
 -- so no link is one
-abbrev no_link : Link
+abbrev pub no_link : Link
 no_link = record { word = 0; distance = 0 }
 
 pub none_links : (n : ℕ) → AreLinks (replicate n no_link)

@@ -87,6 +87,8 @@ fn pass<R: CacheRom, M: SteadyRam>(
         return at.wrapping_add(distance);
     }
     ways.targets.forget();
+    // Read for the proof alone: that an index in the row has 32 bits.
+    let _words = image.words();
     let target = image.word_in_row(exit as u32 + 1);
     match rom.cross(image, ram, at, target) {
         Ok(index) => index,
