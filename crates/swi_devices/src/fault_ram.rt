@@ -1,4 +1,4 @@
-ghost use Rattle.std.specs.Prelude.{◌≡◌, ◌<◌, ◌↔◌, length, slice_index, replicate, IfOk, IsErr, OnErr, Contains};
+ghost use Rattle.std.specs.Prelude.{◌≡◌, ◌<◌, ◌↔◌, false, length, slice_index, replicate, IfOk, IsErr, OnErr, Contains};
 ghost use Rattle.swi_outside.specs.CacheRam.{Fetched, WordSet};
 ghost use Rattle.swi_devices.specs.Stored.{new_ram};
 ghost use Rattle.swi_outside.specs.Causes.{counted};

@@ -1,4 +1,4 @@
-ghost use Rattle.std.specs.Prelude.{◌≡◌, ◌+◌, ◌<◌, ◌≤◌, ◌^◌, ℕ, max, length, slice_index, replicate, IfOk, IsOk, OnErr, OnOk};
+ghost use Rattle.std.specs.Prelude.{◌≡◌, ◌+◌, ◌<◌, ◌≤◌, ◌^◌, ℕ, true, max, length, slice_index, replicate, IfOk, IsOk, OnErr, OnOk};
 ghost use Rattle.swi_outside.specs.CacheRam.{Fetched, WordSet, WordsBroke, WordsSet};
 ghost use Rattle.swi_devices.specs.Stored.{new_ram};
 ghost use Rattle.swi_outside.specs.Causes.{risen};
@@ -127,8 +127,10 @@ impl CacheRam for VecRam {
 impl SteadyRam for VecRam {
     ghost steady = { true };
 
+    // Looked into, so that what its model says of faults is known.
     #[inline(always)]
     fn is_steady(&self) -> bool {
+        let _words = &self.words;
         true
     }
 }

@@ -1,13 +1,13 @@
 -- Where blocks begin in the row of all words.
-use Rattle.std.proofs.Common.{◌≡◌, ℕ, zero, suc, [], ◌+◌, ◌-◌, ◌<◌, ◌≤◌, ◌==◌, false, List, length, get_or, arith, refl, sym, ap, ◌∙◌, None, ◌^◌, if◌then◌else◌}
+use Rattle.std.proofs.Common.{◌≡◌, ℕ, zero, suc, [], ◌+◌, ◌-◌, ◌<◌, ◌≤◌, ◌==◌, false, List, length, get_or, arith, refl, sym, ap, ◌∙◌, None, ◌^◌}
 use Rattle.std.proofs.lemmas.Bool.Decides.{nat_tests}
 use Rattle.swi_image.specs.Words.{words_of}
 use Rattle.swi_image.specs.Format.{image_of_words, blocks_of, body_of, ends_of, starts_of, len_of, offsets_at, pieces}
-use Rattle.swi_image.specs.Checks.{begin_of, first_refusal, length_of}
-use Rattle.swi_image.specs.Kept.{IsAccepted, IsHeader, IsView}
+use Rattle.swi_image.specs.Checks.{begin_of, first_refusal}
+use Rattle.swi_image.specs.Kept.{IsAccepted, IsView}
 use Rattle.swi_image.specs.declared.checks.Header.{Header}
-use Rattle.swi_image.specs.Place.{block_at, length_at}
-use Rattle.swi_image.specs.Row.{row_begin, row_length}
+use Rattle.swi_image.specs.Place.{block_at}
+use Rattle.swi_image.specs.Row.{row_begin}
 use Rattle.swi_image.proofs.Reading.{length_words}
 use Rattle.swi_image.proofs.Views.{block_length, end_within, few_bytes, length_right, seen_word}
 use Rattle.swi_image.proofs.Counting.{length_starts, length_ends}

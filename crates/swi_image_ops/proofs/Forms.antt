@@ -1,8 +1,7 @@
 -- Which instructions have a micro-op of a class.
 use Rattle.std.proofs.Common.{◌≡◌, ◌==◌, ℕ, Bool, true, false, Option, Some, None, refl, sym, ap, ◌∙◌}
-use Rattle.std.proofs.lemmas.Bool.{cases_Bool}
 use Rattle.swi_isa.specs.declared.instr.BranchOp.{BranchOp}
-use Rattle.swi_isa.specs.declared.instr.BranchOp.TheVariants.{Beq, Bne, Blt, Bge, Bltu, Bgeu}
+use Rattle.swi_isa.specs.declared.instr.BranchOp.TheVariants.{Beq}
 use Rattle.swi_isa.specs.declared.instr.ImmOp.{ImmOp}
 use Rattle.swi_isa.specs.declared.instr.ImmOp.TheVariants.{Addi}
 use Rattle.swi_isa.specs.declared.instr.Instr.{Instr}
@@ -19,7 +18,7 @@ use Rattle.swi_micro.specs.declared.class.Class.{Class}
 use Rattle.swi_micro.specs.declared.class.Class.TheVariants as class
 use Rattle.swi_micro.specs.declared.translator.MicroOp.{MicroOp}
 use Rattle.swi_micro.specs.Classes.{class_of, code_of}
-use Rattle.swi_micro.specs.MicroOp.{branch_op, branch_or_stop, class_of_imm, class_of_load, class_of_op, class_of_store, made_op}
+use Rattle.swi_micro.specs.MicroOp.{branch_op, branch_or_stop, class_of_imm, class_of_load, class_of_op, class_of_store}
 use Rattle.swi_image_ops.specs.ImageOp.{jump_op, jump_or_stop, row_of, text_op}
 
 -- what a step does with control: it puts a value into a register, jumps, jumps over a register, compares, goes on at the next word

@@ -7,7 +7,7 @@ use Rattle.swi_memory.specs.Bus.{fetched}
 use Rattle.swi_calls.specs.declared.machine.Machine.{Machine}
 use Rattle.swi_image.specs.Format.{ImageData}
 use Rattle.swi_image.specs.Sound.{IsImage}
-use Rattle.swi_image.specs.Place.{distance, length_at, next_start, origin_of, place_of, word_at, word_before}
+use Rattle.swi_image.specs.Place.{distance, length_at, next_start, origin_of, place_of, word_before}
 use Rattle.swi_image.specs.Laws.{place_found, place_inside, place_is, place_lands, place_whole}
 use Rattle.swi_image.specs.Row.{row_index}
 use Rattle.swi_image.proofs.Views.{Narrowed, narrowed_word}
@@ -15,7 +15,6 @@ use Rattle.swi_render.specs.Carried.{Carries, FallAt, GoesOn, StandsFor}
 use Rattle.swi_micro.specs.declared.class.Class.TheVariants as class
 use Rattle.swi_micro.specs.declared.translator.MicroOp.{MicroOp}
 use Rattle.swi_micro.specs.Classes.{class_of}
-use Rattle.swi_micro.specs.MicroOp.{stop_op}
 use Rattle.swi_image_ops.specs.ImageOp.{IsExitOp, IsTextOp, IsWordOp, fall_op, row_at, row_of, text_op}
 use Rattle.swi_image_ops.proofs.Learning.{rises}
 use Rattle.swi_image_ops.proofs.Forms.{jal_unmarked}

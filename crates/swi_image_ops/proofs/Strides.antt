@@ -1,5 +1,5 @@
 -- What a step by an image's micro-op is to the flat machine, and what stands for its instruction.
-use Rattle.std.proofs.Common.{◌≡◌, ◌⊎◌, ◌==◌, ◌&&◌, ℕ, ◌+◌, ◌*◌, ◌/◌, ◌%◌, ◌^◌, ◌<◌, ◌≤◌, Bool, true, false, not, List, [], ◌∷◌, length, Option, Some, None, arith, if◌then◌else◌, refl, sym, ap, subst, ◌∙◌, inl, inr}
+use Rattle.std.proofs.Common.{◌≡◌, ◌==◌, ◌&&◌, ℕ, ◌+◌, ◌*◌, ◌/◌, ◌%◌, ◌^◌, ◌<◌, ◌≤◌, Bool, true, false, not, List, [], ◌∷◌, length, Option, Some, None, arith, if◌then◌else◌, refl, sym, ap, subst, ◌∙◌, inl, inr}
 use Rattle.std.proofs.lemmas.Bool.{cases_Bool, cond-false, cond-true, eq-eqb, eqb-true}
 use Rattle.swi_isa.specs.Decode.{decoded}
 use Rattle.swi_isa.specs.declared.instr.BranchOp.{BranchOp}
@@ -16,7 +16,6 @@ use Rattle.swi_exec.specs.Arithmetic.{sum_of}
 use Rattle.swi_exec.specs.Execute
 use Rattle.swi_exec.specs.Execute.{Effect, address_of, executed, goes_on, is_taken, store_size}
 use Rattle.swi_exec.specs.Registers.{Registers, reg, with_reg}
-use Rattle.swi_exec.specs.StoresText.{into_text}
 use Rattle.swi_exec.specs.declared.done.Done.TheVariants.{Next}
 use Rattle.swi_exec.specs.declared.done.FaultKind.TheVariants.{FetchMisaligned}
 use Rattle.swi_calls.specs.declared.machine.Machine.{Machine}
@@ -24,7 +23,7 @@ use Rattle.swi_calls.specs.Flat.{made, quiet, with_effect, with_instruction, wit
 use Rattle.swi_calls.specs.Held.{held, held_made}
 use Rattle.swi_calls.specs.StoresText.{instruction_store, text_store_of, word_store}
 use Rattle.swi_image.specs.Format.{ImageData}
-use Rattle.swi_image.specs.Place.{place_of, length_at, word_at}
+use Rattle.swi_image.specs.Place.{length_at, word_at}
 use Rattle.swi_render.specs.declared.parts.Part.TheVariants.{Lead, Step, Skip, Leave, Indirect, Inert}
 use Rattle.swi_render.specs.Rendering.{Slot, Is, Decodes, add_lower, ebreak, falls, falls_of, jump, load_upper, opposite, rendering, rendering_of, slot, sum}
 use Rattle.swi_render.specs.Carried.{Carries, GoesOn, StandAt, StandsFor}
@@ -33,12 +32,12 @@ use Rattle.swi_micro.specs.declared.class.Class.TheVariants as class
 use Rattle.swi_micro.specs.declared.translator.MicroOp.{MicroOp}
 use Rattle.swi_micro.specs.Classes.{class_of, code_of}
 use Rattle.swi_micro.specs.Known.{is_straight}
-use Rattle.swi_micro.specs.MicroOp.{branch_op, class_of_store, made_op, micro_op_of, stop_op}
-use Rattle.swi_micro.specs.Ran.{Ran, goes_to, is_gone, leaves, ran, ran_as, stores}
+use Rattle.swi_micro.specs.MicroOp.{branch_op, class_of_store, made_op, micro_op_of}
+use Rattle.swi_micro.specs.Ran.{Ran, goes_to, is_gone, leaves, ran, ran_as}
 use Rattle.swi_micro.proofs.Agreeing.{agrees, gone}
 use Rattle.swi_micro.proofs.Straight.{same_at}
-use Rattle.swi_image_ops.specs.ImageOp.{IsExitOp, IsTextOp, IsWordOp, exit_op, jump_op, row_of, text_op}
-use Rattle.swi_image_ops.proofs.Forms.{Kind, Value, Jump, Register, Compare, Plain, Left, branch_is, jal_is, kind_by, kind_of, kind_of_class}
+use Rattle.swi_image_ops.specs.ImageOp.{IsWordOp, exit_op, jump_op, row_of, text_op}
+use Rattle.swi_image_ops.proofs.Forms.{Kind, Value, Register, Compare, Plain, Left, branch_is, jal_is, kind_by, kind_of, kind_of_class}
 use Rattle.swi_image_ops.proofs.Standing.{AtText, in_row, stands_here}
 
 -- ---- the machine's step

@@ -1,5 +1,5 @@
 -- Micro-ops that go on at the next word alone: what they do is the same wherever their word stands.
-use Rattle.std.proofs.Common.{◌≡◌, ℕ, ◌+◌, Bool, true, false, if◌then◌else◌, Option, Some, None, List, refl, sym, ap, ◌∙◌}
+use Rattle.std.proofs.Common.{◌≡◌, ℕ, ◌+◌, Bool, true, false, if◌then◌else◌, Some, None, List, refl}
 use Rattle.swi_memory.specs.Bus.{AreaData}
 use Rattle.swi_memory.specs.declared.word_range.WordRange.{WordRange}
 use Rattle.swi_exec.specs.Registers.{Registers}

@@ -3,7 +3,7 @@ use Rattle.swi_image.specs.Place.{length_at, word_at}
 use Rattle.swi_image.specs.Row.{row_index, row_inside}
 use Rattle.swi_render.specs.Rendering.{ebreak}
 use Rattle.swi_micro.specs.declared.translator.MicroOp.{MicroOp}
-use Rattle.swi_image_ops.specs.ImageOp.{AreImageOps, fall_op, row_of}
+use Rattle.swi_image_ops.specs.ImageOp.{AreImageOps, row_of}
 use Rattle.swi_image_ops.proofs.Learning.{exit_learnt}
 use Rattle.swi_image_ops.proofs.words.learn_exit.Goals as goal
 

@@ -1,4 +1,4 @@
-use Rattle.std.proofs.Common.{◌≡◌, ◌+◌, ◌<◌, ◌≤◌, arith, length, subst, sym}
+use Rattle.std.proofs.Common.{◌+◌, ◌<◌, ◌≤◌, arith, length, subst}
 use Rattle.swi_memory.specs.Bus.{fetched}
 use Rattle.swi_image.specs.Place.{next_start}
 use Rattle.swi_image_ops.proofs.Learning.{none_between, own_inside, own_short}

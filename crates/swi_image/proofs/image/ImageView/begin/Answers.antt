@@ -1,6 +1,6 @@
-use Rattle.std.proofs.Common.{◌≡◌, ◌<◌, ℕ, length, arith, subst, sym, ap, ◌∙◌}
+use Rattle.std.proofs.Common.{◌<◌, length, arith, subst, sym, ap, ◌∙◌}
 use Rattle.swi_image.specs.Words.{words_of}
-use Rattle.swi_image.specs.Format.{ImageData, blocks_of, image_of}
+use Rattle.swi_image.specs.Format.{ImageData, image_of}
 use Rattle.swi_image.specs.Row.{row_begin}
 use Rattle.swi_image.specs.Sound.{IsImage}
 use Rattle.swi_image.proofs.Views.{image_sound, seen_blocks}

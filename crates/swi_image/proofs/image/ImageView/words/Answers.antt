@@ -1,6 +1,4 @@
-use Rattle.std.proofs.Common.{◌<◌, ◌-◌, ℕ, arith}
-use Rattle.swi_image.specs.Words.{words_of}
-use Rattle.swi_image.specs.Format.{blocks_of}
+use Rattle.std.proofs.Common.{◌-◌, arith}
 use Rattle.swi_image.proofs.Rows.{end_few}
 use Rattle.swi_image.proofs.image.ImageView.words.Goals as goal
 
