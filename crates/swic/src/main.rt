@@ -10,7 +10,6 @@ use std::io::ErrorKind;
 use std::process::ExitCode;
 use std::{env, io};
 use swi_devices::{FolderShelf, RealSink, RealSource, SystemFolder, VecRam};
-use swi_micro::DecodedRam;
 use swi_outside::Memory;
 use swi_top::{Refusal, status_of, top};
 
@@ -37,12 +36,11 @@ fn refusal_of(error: &io::Error) -> Refusal
 
 /// A cache RAM of so many words, which holds the largest cache. A run makes a place of eight bytes for the micro-op of
 /// each word that its service uses.
-fn cache_ram(alloc: Global, words: u32) -> Result<DecodedRam<VecRam>, Memory>
+fn cache_ram(alloc: Global, words: u32) -> Result<VecRam, Memory>
     requires { 2 ^ 21 ≤ words }
-    ensures { IfOk result (λ ram. words ≤ length ram.ram.words) }
+    ensures { IfOk result (λ ram. words ≤ length ram.words) }
 {
-    let ram = VecRam::new(alloc, words)?;
-    Ok(DecodedRam::new(alloc, ram))
+    VecRam::new(alloc, words)
 }
 
 /// The status of the command that the words mean.
