@@ -37,6 +37,19 @@ use Rattle.swi_board.specs.Tracking.{Point, Running, Tracks, point_of}
 use Rattle.swi_board.specs.Transfers.{Here, at_fall, before_last, here_of, spent_run}
 use Rattle.swi_board.proofs.Running.{came_none, came_on, no_less, stays_none, stays_on}
 
+-- the machines have the same memory
+same_memory : (v : ImageData) (r : Record) (f m : Machine) (c : Control) → Matches v r f m c → m.bus ≡ f.bus
+same_memory v r f m c same = by m.ending c same
+  where
+    by : (e : Option End) (c : Control) → Agrees e v r f m c → m.bus ≡ f.bus
+    by (Some e) c a = ap (λ (k : Machine). k.bus) a
+    by None (At i b o Start) a = ap (λ (k : Machine). k.bus) a.1.0
+    by None (At i b o Low) a = ap (λ (k : Machine). k.bus) a.1.done
+    by None (At i b o Return) a = ap (λ (k : Machine). k.bus) a.1.done
+    by None (At i b o Leave) (a, inl x) = ap (λ (k : Machine). k.bus) x.done
+    by None (At i b o Leave) (a, inr x) = ap (λ (k : Machine). k.bus) x.done
+    by None Outside a = ap (λ (k : Machine). k.bus) a.0
+
 -- and between two instructions they are the same
 pub same_between : (v : ImageData) (r : Record) (f m : Machine) (c : Control) → (m.ending ≡ None → is_between c ≡ true) → Matches v r f m c → m ≡ f
 same_between v r f m c = by m.ending c
