@@ -34,7 +34,7 @@ word_at_place (Some p) r n = (index_in r p + n) ∷ []
 abbrev pub word_under : ImageData → Record → Machine → Control → List ℕ
 word_under v r f c = word_at_place (here_of v f c) r (spent f c)
 
-first_is : (r : Record) (b f : ℕ) → ((b f g : ℕ) → Placed r b f → Placed r b g → f ≡ g) → Placed r b f → first_of r b ≡ f
+pub first_is : (r : Record) (b f : ℕ) → ((b f g : ℕ) → Placed r b f → Placed r b g → f ≡ g) → Placed r b f → first_of r b ≡ f
 unfolding Placed first_of
 first_is r b f once at = first_in_has r.placed r.turn b f at (λ g other. once b g f other at)
 

@@ -31,7 +31,7 @@ unfolding events
 came_none by span v n old = record { tracks = λ s from at. at; going = λ s from at j lt. absurd (omega (arith, lt)) }
 
 -- the run goes on where the hart does
-goes_with : (span : ℕ) (v : ImageData) (n : ℕ) (s : Moment) (from now : Point) → Tracks span v s from now → now.hart.machine.ending ≡ None → now.hart.machine.steps < n → GoesOn n s
+pub goes_with : (span : ℕ) (v : ImageData) (n : ℕ) (s : Moment) (from now : Point) → Tracks span v s from now → now.hart.machine.ending ≡ None → now.hart.machine.steps < n → GoesOn n s
 goes_with span v n s from now at running more =
     let same = same_steps v now.kept s.flat.machine now.hart.machine now.hart.control at.matches in
     (sym same.1 ∙ running, subst (λ (k : ℕ). k < n) same.0 more)

@@ -61,7 +61,7 @@ ram_on span f n w k c a b d is ran step = record {
     more (At i b o stage) w is a f = risen_more a f 1 ∙ ap (λ (x : ℕ). risen a (f + x)) (sym is)
     more Outside w is a f = let none : f ≡ f + w = omega (arith, is) in ap (λ (x : ℕ). risen a x) none
 
-running_spent : (f : Machine) (c : Control) → f.ending ≡ None → spent_run f c ≡ spent f c
+pub running_spent : (f : Machine) (c : Control) → f.ending ≡ None → spent_run f c ≡ spent f c
 running_spent f c on = ap (λ (e : Option End). spent_by e f c) on
 
 over_spent : (f : Machine) (c : Control) (e : Option End) → is_some e ≡ true → spent_by e f c ≡ 0

@@ -23,21 +23,20 @@ ghost use Rattle.swi_hart.specs.Staying.{StaysUnder};
 ghost use Rattle.swi_board.specs.Board.{BoardOf, entry_transfer, entries};
 ghost use Rattle.swi_board.specs.BoardRan.{BoardRan};
 ghost use Rattle.swi_board.specs.Entered.{Entered};
+ghost use Rattle.swi_board.specs.Learnt.{HasRoom};
 ghost use Rattle.swi_board.specs.Ran.{Followed};
 
-use crate::block::{block_place, run_block};
-use crate::targets::Targets;
+use crate::learnt::Learnt;
 use std::alloc::Global;
 use std::marker::Model;
 use swi_calls::{End, Heap};
 use swi_exec::Regs;
 use swi_hart::{
-    BoardFault, Control, Hart, Role, Stage, at_word, jump, plain_place, plain_step, quick_step,
+    BoardFault, Control, Hart, Stage, jump, plain_place, plain_step, quick_step,
 };
 use swi_image::ImageView;
 use swi_memory::{Bus, Layout};
-use swi_micro::MicroRam;
-use swi_outside::{CacheRam, Failed, Sink, Source};
+use swi_outside::{CacheRam, Failed, Sink, Source, SteadyRam};
 use swi_program::Program;
 use swi_rom::CacheRom;
 
@@ -55,8 +54,8 @@ pub enum BootStop {
 pub struct Board<R: CacheRom> {
     hart: Hart,
     rom: R,
-    // Where jumps over registers led. It changes no step.
-    targets: Targets,
+    // It changes no step.
+    learnt: Option<Learnt>,
 }
 
 impl<R: CacheRom> Model for Board<R> {
@@ -102,6 +101,92 @@ fn enter<R: CacheRom, M: CacheRam>(
     Ok(())
 }
 
+/// Runs a machine instruction at a time.
+fn run_slowly<R: CacheRom, M: CacheRam, I: Source, O: Sink, E: Sink>(
+    hart: &mut Hart,
+    rom: &mut R,
+    image: &ImageView<'_>,
+    ram: &mut M,
+    input: &mut I,
+    out: &mut O,
+    err: &mut E,
+    n: u64,
+) -> Result<(), BoardFault>
+    requires fits { Fits image.now (R.service.kept rom.old) hart.old }
+    requires sound { R.service.sound rom.old image.now (M.state ram.old).words }
+    requires steps { hart.old.machine.steps ≤ n }
+    requires limit { n ≤ 2 ^ 48 }
+    requires count { hart.old.count ≤ 2 ^ 55 }
+    requires services { (R.service.kept rom.old).counts.services ≤ 2 ^ 49 }
+    ensures gave { HasGiven (I.state input.old) (I.state input.new) }
+    ensures ran { AsTold (I.state input.old) (I.state input.new) (λ old new. BoardRan R.service image.now n
+        (record {
+          hart = hart.old;
+          rom = rom.old;
+          ram = M.state ram.old;
+          devices = record { input = old; output = O.state out.old; error = E.state err.old };
+        })
+        (record {
+          hart = hart.new;
+          rom = rom.new;
+          ram = M.state ram.new;
+          devices = record { input = new; output = O.state out.new; error = E.state err.new };
+        }) result) }
+{
+    while hart.machine.steps < n && hart.machine.ending.is_none() {
+        quick_step(hart, rom, image, ram, input, out, err)?;
+    }
+    Ok(())
+}
+
+/// Runs out of a steady ram, from between two instructions: by micro-ops, but for the steps that are left to the machine
+/// step.
+fn run_by_words<R: CacheRom, M: SteadyRam, I: Source, O: Sink, E: Sink>(
+    hart: &mut Hart,
+    rom: &mut R,
+    image: &ImageView<'_>,
+    ram: &mut M,
+    learnt: &mut Learnt,
+    input: &mut I,
+    out: &mut O,
+    err: &mut E,
+    n: u64,
+) -> Result<(), BoardFault>
+    requires fits { Fits image.now (R.service.kept rom.old) hart.old }
+    requires sound { R.service.sound rom.old image.now (M.state ram.old).words }
+    requires steps { hart.old.machine.steps ≤ n }
+    requires limit { n ≤ 2 ^ 48 }
+    requires count { hart.old.count ≤ 2 ^ 55 }
+    requires services { (R.service.kept rom.old).counts.services ≤ 2 ^ 49 }
+    requires steady { M.steady ≡ true }
+    requires between { is_between hart.old.control ≡ true }
+    requires room { HasRoom image.now learnt.old }
+    ensures gave { HasGiven (I.state input.old) (I.state input.new) }
+    ensures ran { AsTold (I.state input.old) (I.state input.new) (λ old new. BoardRan R.service image.now n
+        (record {
+          hart = hart.old;
+          rom = rom.old;
+          ram = M.state ram.old;
+          devices = record { input = old; output = O.state out.old; error = E.state err.old };
+        })
+        (record {
+          hart = hart.new;
+          rom = rom.new;
+          ram = M.state ram.new;
+          devices = record { input = new; output = O.state out.new; error = E.state err.new };
+        }) result) }
+{
+    learnt.forget();
+    while hart.machine.steps < n && hart.machine.ending.is_none() {
+        learnt.advance(hart, rom, image, ram, n);
+        if hart.machine.steps >= n {
+            return Ok(());
+        }
+        quick_step(hart, rom, image, ram, input, out, err)?;
+    }
+    Ok(())
+}
+
 impl<R: CacheRom> Board<R> {
     /// A board of a hart and a service, at the hart's address: where a text word stands there, one service enters it,
     /// and that is a machine instruction; else neither service nor ram is called, and nothing fails. The image is one of the text that the
@@ -136,7 +221,7 @@ impl<R: CacheRom> Board<R> {
         Ok(Board {
             hart,
             rom,
-            targets: Targets::none(),
+            learnt: None,
         })
     }
 
@@ -172,13 +257,17 @@ impl<R: CacheRom> Board<R> {
             Ok(hart) => hart,
             Err(_) => return Err(BootStop::Memory),
         };
-        let Ok(targets) = Targets::new(alloc) else {
+        let Ok(learnt) = Learnt::new(alloc, image) else {
             return Err(BootStop::Memory);
         };
         match Board::resume(image, hart, rom, ram) {
             Ok(board) => {
                 let Board { hart, rom, .. } = board;
-                Ok(Board { hart, rom, targets })
+                Ok(Board {
+                    hart,
+                    rom,
+                    learnt: Some(learnt),
+                })
             }
             Err(_) => Err(BootStop::RamFault),
         }
@@ -214,7 +303,7 @@ impl<R: CacheRom> Board<R> {
         Board {
             hart,
             rom,
-            targets: Targets::none(),
+            learnt: None,
         }
     }
 
@@ -287,7 +376,7 @@ impl<R: CacheRom> Board<R> {
     /// machine instructions, and in the ram but for the call that failed; memory is theirs too, but that a read's
     /// buffer may have a front of the bytes that were taken, where the input or a sink failed. A sink to which the next
     /// step gives nothing was not asked.
-    pub fn run<M: MicroRam, I: Source, O: Sink, E: Sink>(
+    pub fn run<M: SteadyRam, I: Source, O: Sink, E: Sink>(
         &mut self,
         image: &ImageView<'_>,
         ram: &mut M,
@@ -318,38 +407,13 @@ impl<R: CacheRom> Board<R> {
               devices = record { input = new; output = O.state out.new; error = E.state err.new };
             }) result) }
     {
-        let Board { hart, rom, targets } = self;
-        while hart.machine.steps < n && hart.machine.ending.is_none() {
-            // Read for the proof alone: that it has 32 bits.
-            let _pc = hart.origin_pc();
-            let Some(at) = block_place(hart, rom, ram) else {
-                quick_step(hart, rom, image, ram, input, out, err)?;
-                continue;
-            };
-            let got = match run_block(hart, rom, image, ram, targets, n, at) {
-                Ok(Some(got)) => got,
-                Ok(None) => continue,
-                Err(_) => {
-                    hart.failed = true;
-                    return Err(BoardFault::RamFault);
-                }
-            };
-            let Control::At(i, b, o, stage) = hart.control.control() else {
-                unreachable!()
-            };
-            at_word(
-                hart,
-                rom,
-                image,
-                ram,
-                input,
-                out,
-                err,
-                got,
-                (i, b, o, stage),
-            )?;
+        let Board { hart, rom, learnt } = self;
+        match learnt {
+            Some(learnt) if ram.is_steady() && hart.is_between() && learnt.has_room(image) => {
+                run_by_words(hart, rom, image, ram, learnt, input, out, err, n)
+            }
+            _ => run_slowly(hart, rom, image, ram, input, out, err, n),
         }
-        Ok(())
     }
 
     /// How the run has ended; None while it goes on.

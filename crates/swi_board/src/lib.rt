@@ -1,10 +1,12 @@
 //! The machine that runs out of a cache ram.
 #![tactic(auto)]
 
-mod block;
+mod advance;
 mod board;
-mod known;
+mod learnt;
+mod links;
 mod targets;
+mod ways;
 
 pub use board::{Board, BootStop};
 pub use swi_hart::{BoardFault, Control, Hart, Stage};

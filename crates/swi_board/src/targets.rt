@@ -1,11 +1,10 @@
 //! Where the targets of jumps over registers stood.
 #![tactic(auto)]
 
-ghost use Rattle.std.specs.Prelude.{◌≡◌, ◌<◌, ◌%◌, IfSome};
+ghost use Rattle.std.specs.Prelude.{◌≡◌, ◌<◌, ◌%◌, ℕ, IfSome, Some};
 ghost use Rattle.swi_image.specs.Format.{ImageData};
 ghost use Rattle.swi_rom.specs.Record.{Record};
-ghost use Rattle.swi_rom.specs.Coherent.{TargetAt};
-ghost use Rattle.swi_board.specs.Targets.{AreFound};
+ghost use Rattle.swi_board.specs.Targets.{AreFound, FoundAt};
 
 use std::alloc::Global;
 use std::marker::Model;
@@ -14,40 +13,41 @@ use swi_outside::Memory;
 /// How many targets are kept.
 const KEPT: usize = 64;
 
-/// An address, and the index at which it was found.
+/// An address, the index in the ram at which it was found, and that in the image's row.
 #[derive(Clone, Copy)]
 pub struct Found {
     target: u32,
-    index: u32,
+    pub index: u32,
+    pub row: u32,
 }
 
 /// What is kept before an address was found: no text word stands at an odd one.
 const NOWHERE: Found = Found {
     target: 1,
     index: 0,
+    row: 0,
 };
 
-/// The addresses to which jumps over registers led last, each with the index at which it stood, kept by the lowest bits of
-/// the address above the two that every text word's has alike: so a return that repeats costs no search. What it keeps holds
-/// as long as the blocks stand where they stood. In clauses it is the list of them.
+/// The addresses to which jumps over registers led last, each with where it stood, kept by the lowest bits of the address
+/// above the two that every text word's has alike: so a return that repeats costs no search. What it keeps holds as long as
+/// the blocks stand where they stood. In clauses it is the list of them.
 #[derive(Drop)]
 pub struct Targets {
-    // None where nothing is ever kept.
-    found: Option<Vec<Found>>,
+    found: Vec<Found>,
     // Nothing was kept since all was forgotten.
     empty: bool,
 }
 
 impl Model for Targets {
-    ghost use Rattle.std.specs.Prelude.{◌≡◌, List, true};
+    ghost use Rattle.std.specs.Prelude.{◌≡◌, List, length, true};
     ghost use Rattle.swi_board.specs.declared.targets.Found.{Found};
-    ghost use Rattle.swi_board.specs.Targets.{IsNothing, items_in};
+    ghost use Rattle.swi_board.specs.Targets.{IsNothing};
 
     ghost Value = { List Found };
 
-    ghost view = { λ t. items_in (λ v. v.items) t.found };
+    ghost view = { λ t. t.found.items };
 
-    ghost invariant = { λ t. t.empty ≡ true → IsNothing (items_in (λ v. v.items) t.found) };
+    ghost invariant = { λ t. (length t.found.items ≡ 64) × (t.empty ≡ true → IsNothing t.found.items) };
 }
 
 /// Where an address has its place.
@@ -59,50 +59,39 @@ fn slot(a: u32) -> usize
 }
 
 impl Targets {
-    /// Nothing was found yet. Memory where there is not enough of it: it takes 512 bytes.
+    /// Nothing was found yet. Memory where there is not enough of it: it takes 768 bytes.
     pub fn new(alloc: Global) -> Result<Targets, Memory> {
         let found = vec![in alloc; NOWHERE; KEPT].map_err(|_| Memory)?;
-        Ok(Targets {
-            found: Some(found),
-            empty: true,
-        })
+        Ok(Targets { found, empty: true })
     }
 
-    /// One that never keeps anything, and takes no memory.
-    pub fn none() -> Targets {
-        Targets {
-            found: None,
-            empty: true,
-        }
-    }
-
-    /// The index at which an address, a multiple of 4, was found.
+    /// Where an address, a multiple of 4, was found.
     #[inline(always)]
-    pub fn find(&self, a: u32) -> Option<u32>
+    pub fn find(&self, a: u32) -> Option<Found>
         requires { a % 4 ≡ 0 }
-        ensures { IfSome result (λ i. (v : ImageData) (r : Record) → AreFound v r self.now → TargetAt v r a i) }
+        ensures { IfSome result (λ f. (v : ImageData) (r : Record) → AreFound v r self.now → FoundAt v r a f) }
     {
-        let Some(found) = &self.found else {
-            return None;
-        };
-        let found = found.get(slot(a))?;
+        let found = &self.found[slot(a)];
         if found.target != a {
             return None;
         }
-        Some(found.index)
+        Some(*found)
     }
 
-    /// Keeps the index at which an address was found.
-    pub fn keep(&mut self, a: u32, index: u32)
-        ensures { (v : ImageData) (r : Record) → AreFound v r self.old → TargetAt v r a index → AreFound v r self.new }
+    /// Keeps the index at which an address was found, and that in the image's row.
+    pub fn keep(&mut self, a: u32, index: u32, row: u32) -> Found
+        ensures index { result.index ≡ index }
+        ensures row { result.row ≡ row }
+        ensures kept { (v : ImageData) (r : Record) → AreFound v r self.old → FoundAt v r a result → AreFound v r self.new }
     {
-        self.empty = false;
-        let Some(found) = &mut self.found else {
-            return;
+        let found = Found {
+            target: a,
+            index,
+            row,
         };
-        if let Some(kept) = found.get_mut(slot(a)) {
-            *kept = Found { target: a, index };
-        }
+        self.empty = false;
+        self.found[slot(a)] = found;
+        found
     }
 
     /// Keeps nothing any more: where blocks may have moved.
@@ -112,9 +101,7 @@ impl Targets {
         if self.empty {
             return;
         }
-        if let Some(found) = &mut self.found {
-            found.fill(NOWHERE);
-        }
+        self.found.fill(NOWHERE);
         self.empty = true;
     }
 }

@@ -19,8 +19,7 @@ use std::alloc::Global;
 use swi_board::{Board, BoardFault, BootStop};
 use swi_image::ImageView;
 use swi_memory::Layout;
-use swi_micro::MicroRam;
-use swi_outside::{Sink, Source};
+use swi_outside::{Sink, Source, SteadyRam};
 use swi_program::Program;
 use swi_rom::CacheRom;
 use swi_trace::{History, Trace};
@@ -58,7 +57,7 @@ pub(crate) fn carry(image: &ImageView<'_>, program: &Program<'_>)
 }
 
 /// Boots a program and runs its steps, on each input from which what was given may have been read.
-fn boot_and_run<I: Source, O: Sink, E: Sink, R: MicroRam, S: CacheRom>(
+fn boot_and_run<I: Source, O: Sink, E: Sink, R: SteadyRam, S: CacheRom>(
     alloc: Global,
     image: &ImageView<'_>,
     program: &Program<'_>,
@@ -87,9 +86,6 @@ fn boot_and_run<I: Source, O: Sink, E: Sink, R: MicroRam, S: CacheRom>(
     let Ok(history) = first_history(alloc, asked.trace) else {
         return Err(CachedStop::Memory);
     };
-    if ram.keep(alloc, rom.span()).is_err() {
-        return Err(CachedStop::Memory);
-    }
     let mut board = match Board::boot(alloc, image, program, layout, asked.calls, rom, ram) {
         Ok(board) => board,
         Err(BootStop::Memory) => return Err(CachedStop::Memory),
@@ -132,7 +128,7 @@ fn boot_and_run<I: Source, O: Sink, E: Sink, R: MicroRam, S: CacheRom>(
 /// they hold what the steps made have written, with `Each` the line of the step that was broken off too. After one of a
 /// sink they hold what the steps made have written, and a front of what the next step writes, its line first. The words
 /// of the ram behind those of the service never change.
-pub fn run_cached<I: Source, O: Sink, E: Sink, R: MicroRam, S: CacheRom>(
+pub fn run_cached<I: Source, O: Sink, E: Sink, R: SteadyRam, S: CacheRom>(
     alloc: Global,
     image: &ImageView<'_>,
     program: &Program<'_>,

@@ -15,8 +15,7 @@ ghost use Rattle.swi_cached.specs.Traced.{ToldRan};
 use std::alloc::Global;
 use swi_board::{Board, BoardFault};
 use swi_image::ImageView;
-use swi_micro::MicroRam;
-use swi_outside::{Failed, Memory, Sink, Source};
+use swi_outside::{Failed, Memory, Sink, Source, SteadyRam};
 use swi_rom::CacheRom;
 use swi_trace::{History, Trace, trace_line};
 
@@ -69,7 +68,7 @@ fn tell<E: Sink, S: CacheRom>(
 
 /// Makes steps until `limit` are made or the run has ended, each told before it is made where steps are told. Answers
 /// the history. The run is that on each input from which what was given may have been read.
-pub(crate) fn run_steps<I: Source, O: Sink, E: Sink, R: MicroRam, S: CacheRom>(
+pub(crate) fn run_steps<I: Source, O: Sink, E: Sink, R: SteadyRam, S: CacheRom>(
     board: &mut Board<S>,
     image: &ImageView<'_>,
     limit: u64,

@@ -26,8 +26,7 @@ use swi_cached::{AskedRun, CachedStop, ring_for, run_cached, slots_for};
 use swi_command::{CacheKind, CacheOptions, RunLimits, RunOptions};
 use swi_image::ImageView;
 use swi_memory::Layout;
-use swi_micro::MicroRam;
-use swi_outside::{Shelf, Sink, Source};
+use swi_outside::{Shelf, Sink, Source, SteadyRam};
 use swi_program::Program;
 use swi_rom::CacheRom;
 use swi_task::{
@@ -49,7 +48,7 @@ fn refusal_of(stop: CachedStop) -> Refusal
 
 /// Runs a program on the cached machine over a service that has done nothing yet, and writes what is asked for of its steps
 /// and of its end.
-fn run_over<I: Source, O: Sink, E: Sink, R: MicroRam, S: CacheRom>(
+fn run_over<I: Source, O: Sink, E: Sink, R: SteadyRam, S: CacheRom>(
     alloc: Global,
     image: &ImageView<'_>,
     program: &Program<'_>,
@@ -92,7 +91,7 @@ fn run_over<I: Source, O: Sink, E: Sink, R: MicroRam, S: CacheRom>(
 }
 
 /// Runs a program on the cached machine, in the cache that the options name.
-fn run_program<I: Source, O: Sink, E: Sink, R: MicroRam>(
+fn run_program<I: Source, O: Sink, E: Sink, R: SteadyRam>(
     alloc: Global,
     image: &ImageView<'_>,
     program: &Program<'_>,
@@ -165,7 +164,7 @@ pub fn place<'a>(
 }
 
 /// Runs a placed program on the cached machine, in the cache that the options name.
-fn run_placed<I: Source, O: Sink, E: Sink, R: MicroRam>(
+fn run_placed<I: Source, O: Sink, E: Sink, R: SteadyRam>(
     alloc: Global,
     placed: &Placed<'_>,
     cache: &CacheOptions,
@@ -207,7 +206,7 @@ fn run_placed<I: Source, O: Sink, E: Sink, R: MicroRam>(
 }
 
 /// Runs the program of a file on the cached machine.
-pub fn cached<F: Shelf, I: Source, O: Sink, E: Sink, R: MicroRam>(
+pub fn cached<F: Shelf, I: Source, O: Sink, E: Sink, R: SteadyRam>(
     alloc: Global,
     name: &str,
     cache: &CacheOptions,

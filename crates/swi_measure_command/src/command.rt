@@ -30,8 +30,7 @@ use swi_calls::End;
 use swi_command::{CacheKind, CacheOptions};
 use swi_image::ImageView;
 use swi_make::{BASE, make};
-use swi_micro::MicroRam;
-use swi_outside::Sink;
+use swi_outside::{Sink, SteadyRam};
 use swi_program::{Program, lay_out, one_text};
 use swi_report::{Measured, summary_text};
 use swi_rom::CacheRom;
@@ -84,7 +83,7 @@ fn prepare_text<'a>(alloc: Global, text: &'a [u8]) -> Result<Prepared<'a>, Refus
 
 /// Runs a made program on the cached machine over a service that has done nothing yet. It has no input, and nobody sees what
 /// it writes.
-fn run_nowhere<R: MicroRam, S: CacheRom>(
+fn run_nowhere<R: SteadyRam, S: CacheRom>(
     alloc: Global,
     image: &ImageView<'_>,
     prepared: &Prepared<'_>,
@@ -107,7 +106,7 @@ fn run_nowhere<R: MicroRam, S: CacheRom>(
 }
 
 /// The board of such a run. It fails for want of memory, or because the ram does.
-fn run_made<R: MicroRam, S: CacheRom>(
+fn run_made<R: SteadyRam, S: CacheRom>(
     alloc: Global,
     image: &ImageView<'_>,
     prepared: &Prepared<'_>,
@@ -175,7 +174,7 @@ fn summarize<O: Sink, S: CacheRom>(
 
 /// Runs a made program of so many functions on the cached machine over a service that has done nothing yet, and writes
 /// its summary where it exits.
-fn measure_over<O: Sink, R: MicroRam, S: CacheRom>(
+fn measure_over<O: Sink, R: SteadyRam, S: CacheRom>(
     alloc: Global,
     functions: u32,
     image: &ImageView<'_>,
@@ -198,7 +197,7 @@ fn measure_over<O: Sink, R: MicroRam, S: CacheRom>(
 
 /// Makes a program of a seed with so many functions (1 to 4096), runs it on the cached machine to its end, and writes
 /// the summary where it exits.
-pub fn measure<O: Sink, R: MicroRam>(
+pub fn measure<O: Sink, R: SteadyRam>(
     alloc: Global,
     seed: u32,
     functions: u32,

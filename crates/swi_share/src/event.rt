@@ -19,8 +19,7 @@ use crate::input::Input;
 use swi_board::Board;
 use swi_hart::{BoardFault, Hart};
 use swi_image::ImageView;
-use swi_micro::MicroRam;
-use swi_outside::{CacheRam, Failed, Sink};
+use swi_outside::{CacheRam, Failed, Sink, SteadyRam};
 use swi_rom::CacheRom;
 use swi_slots::FifoRom;
 
@@ -83,7 +82,7 @@ fn board_of<M: CacheRam>(
 }
 
 /// One original instruction of a hart that has not ended, with its services. Its program is in turn.
-pub(crate) fn make_event<M: MicroRam, O: Sink, E: Sink>(
+pub(crate) fn make_event<M: SteadyRam, O: Sink, E: Sink>(
     image: &ImageView<'_>,
     hart: Hart,
     rom: FifoRom,

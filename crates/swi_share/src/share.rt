@@ -11,8 +11,7 @@ use crate::process::{Guest, Process, most_words, start_all};
 use std::alloc::Global;
 use std::marker::Model;
 use swi_hart::{BoardFault, Hart};
-use swi_micro::MicroRam;
-use swi_outside::{Memory, Sink};
+use swi_outside::{Memory, Sink, SteadyRam};
 use swi_rom::CacheRom;
 use swi_slots::FifoRom;
 
@@ -82,7 +81,7 @@ impl<'a> Share<'a> {
     /// gives nothing is not asked.
     ///
     /// Each fault comes only where its device's count rose, and no input fails. After an error `failed` is true.
-    pub fn event<M: MicroRam, O: Sink, E: Sink>(
+    pub fn event<M: SteadyRam, O: Sink, E: Sink>(
         &mut self,
         g: u32,
         ram: &mut M,
@@ -107,7 +106,7 @@ impl<'a> Share<'a> {
 
     /// Events in order, each of a guest's number, under the conditions of `event`. After an error the events before the one
     /// that a device broke off are made, and `failed` is true.
-    pub fn run<M: MicroRam, O: Sink, E: Sink>(
+    pub fn run<M: SteadyRam, O: Sink, E: Sink>(
         &mut self,
         order: &[u32],
         ram: &mut M,

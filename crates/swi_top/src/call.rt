@@ -16,8 +16,7 @@ use crate::commands::perform;
 use std::alloc::Global;
 use swi_answer::{Ending, Refusal, line_of_ending, line_of_refusal};
 use swi_command::{Command, CommandError, parse_command};
-use swi_micro::MicroRam;
-use swi_outside::{Failed, Shelf, Sink, Source};
+use swi_outside::{Failed, Shelf, Sink, Source, SteadyRam};
 
 /// Writes the line of an ending, where it has one.
 fn write_ending<E: Sink>(ending: &Ending, err: &mut E) -> Result<(), Failed>
@@ -44,7 +43,7 @@ fn refuse<E: Sink>(refusal: Refusal, err: &mut E) -> Refusal
 }
 
 /// Does what a command asks for, and writes its last line.
-fn run_command<F: Shelf, I: Source, O: Sink, E: Sink, R: MicroRam>(
+fn run_command<F: Shelf, I: Source, O: Sink, E: Sink, R: SteadyRam>(
     alloc: Global,
     command: &Command,
     shelf: &mut F,
@@ -69,7 +68,7 @@ fn run_command<F: Shelf, I: Source, O: Sink, E: Sink, R: MicroRam>(
 }
 
 /// Does what the words after the program's name ask for, over the devices that are handed in, and answers how it ended.
-pub fn top<F: Shelf, I: Source, O: Sink, E: Sink, R: MicroRam>(
+pub fn top<F: Shelf, I: Source, O: Sink, E: Sink, R: SteadyRam>(
     alloc: Global,
     words: &[String],
     shelf: &mut F,

@@ -15,13 +15,12 @@ use swi_cached_command::cached;
 use swi_command::Command;
 use swi_file_commands::{check, list, plain, rewrite, upgrade};
 use swi_measure_command::measure;
-use swi_micro::MicroRam;
-use swi_outside::{Shelf, Sink, Source};
+use swi_outside::{Shelf, Sink, Source, SteadyRam};
 use swi_prefetch_command::prefetch;
 use swi_share_command::share;
 
 /// Does what a command asks for, but for its last line on the error sink.
-pub(crate) fn perform<F: Shelf, I: Source, O: Sink, E: Sink, R: MicroRam>(
+pub(crate) fn perform<F: Shelf, I: Source, O: Sink, E: Sink, R: SteadyRam>(
     alloc: Global,
     command: &Command,
     shelf: &mut F,
