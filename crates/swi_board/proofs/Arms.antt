@@ -24,7 +24,7 @@ use Rattle.swi_micro.specs.declared.class.Class.{Class}
 use Rattle.swi_micro.specs.declared.class.Class.TheVariants as class
 use Rattle.swi_micro.specs.declared.translator.MicroOp.{MicroOp}
 use Rattle.swi_micro.specs.Classes.{class_of, code_of}
-use Rattle.swi_micro.specs.Known.{is_straight}
+use Rattle.swi_micro.specs.Classes.{is_straight}
 use Rattle.swi_micro.specs.Ran.{is_gone, ran_as}
 use Rattle.swi_image_ops.specs.ImageOp.{AreImageOps, IsWordOp, fall_op, row_at, row_of}
 use Rattle.swi_image_ops.proofs.Standing.{AtFall, AtText, InRow, IsKnown, fall_of_exit, in_row, known, on_inside, text_of_class, text_of_exit, text_of_return}

@@ -78,6 +78,14 @@ impl FaultRam {
     {
         self.sets
     }
+
+    /// The word at index `i`, for who looks into a ram beside a run: this counts as no call.
+    pub fn word(&self, i: u32) -> u32
+        requires { i < length self.now.ram.words }
+        ensures { result ≡ slice_index self.now.ram.words i }
+    {
+        self.words[i as usize]
+    }
 }
 
 impl CacheRam for FaultRam {
@@ -102,14 +110,6 @@ impl CacheRam for FaultRam {
         self.fetches = self.fetches.saturating_add(1);
         self.fetched = Snapshot::of(&RamCalls::Fetched(Snapshot::of(&self.fetched), i));
         Ok(self.words[i as usize])
-    }
-
-    /// This counts as no call.
-    fn word(&self, i: u32) -> u32
-        requires { i < length self.now.ram.words }
-        ensures { result ≡ slice_index self.now.ram.words i }
-    {
-        self.words[i as usize]
     }
 
     fn set(&mut self, i: u32, w: u32) -> Result<(), Failed>

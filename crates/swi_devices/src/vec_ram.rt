@@ -74,6 +74,14 @@ impl VecRam {
             calls: Snapshot::of(&RamCalls::None),
         })
     }
+
+    /// The word at index `i`, for who looks into a ram beside a run: it counts as no fetch.
+    pub fn word(&self, i: u32) -> u32
+        requires { i < length self.now.words }
+        ensures { result ≡ slice_index self.now.words i }
+    {
+        self.words[i as usize]
+    }
 }
 
 impl CacheRam for VecRam {
@@ -92,11 +100,6 @@ impl CacheRam for VecRam {
     {
         self.calls = Snapshot::of(&RamCalls::Fetched(Snapshot::of(&self.calls), i));
         Ok(self.words[i as usize])
-    }
-
-    #[inline(always)]
-    fn word(&self, i: u32) -> u32 {
-        self.words[i as usize]
     }
 
     #[inline(always)]

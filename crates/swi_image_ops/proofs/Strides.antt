@@ -31,7 +31,7 @@ use Rattle.swi_micro.specs.declared.class.Class.{Class}
 use Rattle.swi_micro.specs.declared.class.Class.TheVariants as class
 use Rattle.swi_micro.specs.declared.translator.MicroOp.{MicroOp}
 use Rattle.swi_micro.specs.Classes.{class_of, code_of}
-use Rattle.swi_micro.specs.Known.{is_straight}
+use Rattle.swi_micro.specs.Classes.{is_straight}
 use Rattle.swi_micro.specs.MicroOp.{branch_op, class_of_store, made_op, micro_op_of}
 use Rattle.swi_micro.specs.Ran.{Ran, goes_to, is_gone, leaves, ran, ran_as}
 use Rattle.swi_micro.proofs.Agreeing.{agrees, gone}

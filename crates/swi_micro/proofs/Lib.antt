@@ -2,5 +2,4 @@ pub mod Sums
 pub mod Agreeing
 pub mod Storing
 pub mod Forgetting
-pub mod Twinning
 pub mod Straight

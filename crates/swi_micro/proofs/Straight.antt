@@ -6,7 +6,7 @@ use Rattle.swi_exec.specs.Registers.{Registers}
 use Rattle.swi_micro.specs.declared.class.Class.{Class}
 use Rattle.swi_micro.specs.declared.class.Class.TheVariants as class
 use Rattle.swi_micro.specs.declared.translator.MicroOp.{MicroOp}
-use Rattle.swi_micro.specs.Known.{is_straight}
+use Rattle.swi_micro.specs.Classes.{is_straight}
 use Rattle.swi_micro.specs.Ran.{Ran, goes_to, leaves, ran_as}
 
 -- a micro-op went on at the next word, and at another index of another range it does the same

@@ -100,3 +100,13 @@ class_of-code_of Below = refl
 class_of-code_of Jal = refl
 class_of-code_of Jalr = refl
 class_of-code_of Stop = refl
+
+-- whether a micro-op of the class goes on at the next word, if it goes on
+abbrev pub is_straight : Class → Bool
+is_straight Equal = false
+is_straight Less = false
+is_straight Below = false
+is_straight Jal = false
+is_straight Jalr = false
+is_straight Stop = false
+is_straight _ = true

@@ -3,5 +3,3 @@ pub mod MicroOp
 pub mod Ran
 pub mod Stored
 pub mod Decoded
-pub mod Twins
-pub mod Known

@@ -4,9 +4,6 @@
 
 mod class;
 mod decoded;
-mod decoded_ram;
-mod known;
-mod micro_ram;
 mod source;
 mod stepper;
 mod storer;
@@ -14,11 +11,6 @@ mod translator;
 
 pub use class::Class;
 pub use decoded::{Decoded, forget, forget_all};
-pub use decoded_ram::DecodedRam;
-pub use micro_ram::MicroRam;
 pub use stepper::{goes, step, step_as};
 pub use storer::store;
 pub use translator::{MicroOp, address, branch_to, index_of, micro_op, stop};
-
-#[cfg(test)]
-mod tests;

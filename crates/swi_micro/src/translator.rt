@@ -3,7 +3,6 @@
 
 ghost use Rattle.std.specs.Prelude.{◌≡◌, ◌==◌, ◌↔◌, IsTrue};
 ghost use Rattle.swi_micro.specs.Classes.{class_of, code_of};
-ghost use Rattle.swi_micro.specs.Known.{is_straight};
 ghost use Rattle.swi_micro.specs.MicroOp.{address_at, branch_op, class_of_imm, class_of_load, class_of_op, class_of_store, index_at, made_op, micro_op_of, number_of, stop_op};
 
 use crate::class::{Class, class_of_code, code};
@@ -90,17 +89,6 @@ impl MicroOp {
         ensures { IsTrue result ↔ class_of self.now.code ≡ Class.Stop }
     {
         matches!(class_of_code(self.code), Class::Stop)
-    }
-
-    /// Whether it goes on at the next word, if it goes on: it is no jump and no branch, and doesn't stop.
-    #[inline(always)]
-    pub(crate) fn is_straight(&self) -> bool
-        ensures { result ≡ is_straight (class_of self.now.code) }
-    {
-        !matches!(
-            class_of_code(self.code),
-            Class::Equal | Class::Less | Class::Below | Class::Jal | Class::Jalr | Class::Stop
-        )
     }
 }
 

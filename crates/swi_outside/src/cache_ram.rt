@@ -1,4 +1,4 @@
-ghost use Rattle.std.specs.Prelude.{◌≡◌, ◌+◌, ◌<◌, ◌≤◌, length, slice_index, OnErr, OnOk};
+ghost use Rattle.std.specs.Prelude.{◌≡◌, ◌+◌, ◌<◌, ◌≤◌, length, OnErr, OnOk};
 ghost use Rattle.swi_outside.specs.CacheRam.{RamState, Fetched, WordSet, WordsSet, WordsBroke};
 
 use crate::{Failed, Words};
@@ -18,12 +18,6 @@ pub trait CacheRam {
     fn fetch(&mut self, i: u32) -> Result<u32, Failed>
         requires { i < length (state self.old).words }
         ensures fetched { Fetched (state self.old) i result (state self.new) };
-
-    /// The word at index `i`, which is below `words()`, read as data and not to be executed: that is no fetch, and never
-    /// fails.
-    fn word(&self, i: u32) -> u32
-        requires { i < length (state self.now).words }
-        ensures { result ≡ slice_index (state self.now).words i };
 
     /// Puts `w` at index `i`, which is below `words()`.
     ///

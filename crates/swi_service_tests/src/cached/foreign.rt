@@ -60,10 +60,6 @@ impl CacheRam for Counted {
         self.ram.fetch(i)
     }
 
-    fn word(&self, i: u32) -> u32 {
-        self.ram.word(i)
-    }
-
     fn set(&mut self, i: u32, w: u32) -> Result<(), Failed>
         requires { i < length self.old.words }
         ensures set { WordSet self.old i w result self.new }
