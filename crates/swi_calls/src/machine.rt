@@ -8,6 +8,7 @@ ghost use Rattle.swi_calls.specs.Flat.{ended, call_made, exchange_of};
 ghost use Rattle.swi_calls.specs.Moves.{ReadsInto};
 ghost use Rattle.swi_calls.specs.StoresText.{read_into_text};
 ghost use Rattle.swi_memory.specs.Bus.{fetched};
+ghost use Rattle.swi_outside.specs.Devices.{streams};
 ghost use Rattle.swi_outside.specs.Source.{ForInput};
 
 use crate::request::{Called, Request};
@@ -96,8 +97,8 @@ impl Machine {
         ensures text { read_into_text self.old.regs self.old.bus ≡ None → (a : ℕ) →
             fetched self.new.bus a ≡ fetched self.old.bus a }
         ensures devices { Exchanged (λ left. exchange_of (call_made self.old left))
-            (record { input = I.state input.old; output = O.state out.old; error = E.state err.old })
-            (record { input = I.state input.new; output = O.state out.new; error = E.state err.new }) result }
+            (streams (I.state input.old) (O.state out.old) (E.state err.old))
+            (streams (I.state input.new) (O.state out.new) (E.state err.new)) result }
     {
         let request = Request::of(&self.regs);
         let called = serve(request, &mut self.bus, self.heap, input, out, err)?;

@@ -4,6 +4,7 @@
 ghost use Rattle.std.specs.Prelude.{◌≡◌, ◌≤◌, ℕ, Some, [], IfOk, IfErr, OnOk, MatchResult, true, false, length, ◌+◌, ◌++◌};
 ghost use Rattle.std.specs.Io.KnownBytes.{Appends};
 ghost use Rattle.swi_outside.specs.Causes.{HasCause};
+ghost use Rattle.swi_outside.specs.Devices.{streams};
 ghost use Rattle.swi_outside.specs.Sink.{AppendsPrefix, WasWritten};
 ghost use Rattle.swi_outside.specs.Source.{ForInput};
 ghost use Rattle.swi_calls.specs.Call.{IsServed, answer_of, brk_heap, exchange_of_call, heap_by, read_room, read_served, room_by, served_by, told_by, write_answer, written};
@@ -117,8 +118,8 @@ pub(crate) fn serve<I: Source, O: Sink, E: Sink>(
     ensures moved { (k : ℕ) × (k ≤ room_by request bus.old)
         × ReadsInto bus.old bus.new (I.state input.old) (I.state input.new) request.second k }
     ensures devices { Exchanged (λ left. exchange_of_call (served_by request bus.old heap left))
-        (record { input = I.state input.old; output = O.state out.old; error = E.state err.old })
-        (record { input = I.state input.new; output = O.state out.new; error = E.state err.new }) result }
+        (streams (I.state input.old) (O.state out.old) (E.state err.old))
+        (streams (I.state input.new) (O.state out.new) (E.state err.new)) result }
 {
     match request.number {
         READ => Ok(Called::Returned(read(request, bus, input)?)),

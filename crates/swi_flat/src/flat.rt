@@ -9,6 +9,7 @@ ghost use Rattle.swi_calls.specs.Moves.{ReadsInto};
 ghost use Rattle.swi_flat.specs.FlatData.{unfailed, stopped};
 ghost use Rattle.swi_flat.specs.Ran.{Ran};
 ghost use Rattle.swi_memory.specs.Bus.{fetched};
+ghost use Rattle.swi_outside.specs.Devices.{streams};
 ghost use Rattle.swi_outside.specs.Source.{ForInput};
 ghost use Rattle.swi_program.specs.Layout.{IsLayoutOf};
 ghost use Rattle.swi_program.specs.Text.{text_of, word_of};
@@ -151,8 +152,8 @@ impl Flat {
             ReadsInto self.old.machine.bus self.new.machine.bus (I.state input.old) (I.state input.new)
             (second_argument self.old.machine.regs) k) }
         ensures devices { Exchanged (λ left. exchange_of (made self.old.machine left))
-            (record { input = I.state input.old; output = O.state out.old; error = E.state err.old })
-            (record { input = I.state input.new; output = O.state out.new; error = E.state err.new }) result }
+            (streams (I.state input.old) (O.state out.old) (E.state err.old))
+            (streams (I.state input.new) (O.state out.new) (E.state err.new)) result }
     {
         let machine = &mut self.machine;
         let Some(word) = machine.bus.fetch(machine.pc) else {
@@ -217,8 +218,8 @@ impl Flat {
         requires few { limit ≤ 2 ^ 48 }
         requires unfailed { self.old.failed ≡ false }
         ensures { Ran self.old.machine limit self.new
-            (record { input = I.state input.old; output = O.state out.old; error = E.state err.old })
-            (record { input = I.state input.new; output = O.state out.new; error = E.state err.new }) result }
+            (streams (I.state input.old) (O.state out.old) (E.state err.old))
+            (streams (I.state input.new) (O.state out.new) (E.state err.new)) result }
     {
         while self.machine.steps < limit && self.machine.ending.is_none() {
             advance(&mut self.machine, &mut self.decoded, limit);
