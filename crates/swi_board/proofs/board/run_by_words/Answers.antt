@@ -42,16 +42,16 @@ advance-requires-clause-knows g c =
     knows_same (λ a. fetched c.args.hart.now.machine.bus a) (λ a. fetched c.loop-hart.hart.machine.bus a) (text_on c.loop-hart.invariant.along c.requires.between c.requires.fits)
     c.args.image.now c.loop-hart.learnt c.loop-hart.invariant.knows
 
-pub returns-then-ge-clause-ran : goal.returns-then-ge-clause-ran
-returns-then-ge-clause-ran g c i rest read =
+pub returns-then-hart-n-clause-ran : goal.returns-then-hart-n-clause-ran
+returns-then-hart-n-clause-ran g c i rest read =
     let on = on_onward c.loop-hart.invariant.along c.advance.ensures.onward c.advance.ensures.stays in
-    let done = subst (λ (h : HartData). c.args.n ≤ h.machine.steps) c.hart-3.view_is c.if-ge.true in
+    let done = subst (λ (h : HartData). c.args.n ≤ h.machine.steps) c.hart-in-loop-hart.view_is c.if-hart-n.true in
     run_ended (on.along i rest read) (inl done)
 
 pub quick_step-requires-clause-ready : goal.quick_step-requires-clause-ready
 quick_step-requires-clause-ready g c =
     let on = on_onward c.loop-hart.invariant.along c.advance.ensures.onward c.advance.ensures.stays in
-    let more = subst (λ (h : HartData). h.machine.steps < c.args.n) c.hart-3.view_is c.if-ge.false in
+    let more = subst (λ (h : HartData). h.machine.steps < c.args.n) c.hart-in-loop-hart.view_is c.if-hart-n.false in
     let point = (on_some on).2.stays.point in
     record {
       running = c.advance.ensures.going;
@@ -69,7 +69,7 @@ quick_step-requires-clause-sound g c =
 pub loop-hart-preserved : goal.loop-hart-preserved
 loop-hart-preserved g c =
     let on = on_onward c.loop-hart.invariant.along c.advance.ensures.onward c.advance.ensures.stays in
-    let more = subst (λ (h : HartData). h.machine.steps < c.args.n) c.hart-3.view_is c.if-ge.false in
+    let more = subst (λ (h : HartData). h.machine.steps < c.args.n) c.hart-in-loop-hart.view_is c.if-hart-n.false in
     record {
       along = on_more on c.in_ok-quick_step.ensures.gave (λ i mid rest was read. steps_on was g.met.R.CacheRom.laws more c.advance.ensures.going c.in_ok-quick_step.ensures.word (c.in_ok-quick_step.ensures.stepped mid rest read));
       knows = knows_same (λ a. fetched c.advance.new.hart.machine.bus a) (λ a. fetched c.args.hart.now.machine.bus a) (λ a. sym (text_on on c.requires.between c.requires.fits a))
@@ -79,7 +79,7 @@ loop-hart-preserved g c =
 pub loop-hart-smaller : goal.loop-hart-smaller
 loop-hart-smaller g c =
     let on = on_onward c.loop-hart.invariant.along c.advance.ensures.onward c.advance.ensures.stays in
-    let more = subst (λ (h : HartData). h.machine.steps < c.args.n) c.hart-3.view_is c.if-ge.false in
+    let more = subst (λ (h : HartData). h.machine.steps < c.args.n) c.hart-in-loop-hart.view_is c.if-hart-n.false in
     let before = (on_some c.loop-hart.invariant.along).2.stays.point in
     let raised = onward_most g.R.CacheRom.service c.advance.ensures.onward before.fits before.steps in
     let step = falls more c.advance.ensures.going (as_told_stands c.in_ok-quick_step.ensures.gave (λ i rest read. (c.in_ok-quick_step.ensures.stepped i rest read).grown (on_some on).2.stays.sound)) in
@@ -89,5 +89,5 @@ pub returns-in_err-quick_step-clause-ran : goal.returns-in_err-quick_step-clause
 returns-in_err-quick_step-clause-ran g c i rest read =
     let on = on_onward c.loop-hart.invariant.along c.advance.ensures.onward c.advance.ensures.stays in
     let p = err_from_is_err_and c.from_residual.result c.from_residual.ensures.1 in
-    let more = subst (λ (h : HartData). h.machine.steps < c.args.n) c.hart-3.view_is c.if-ge.false in
+    let more = subst (λ (h : HartData). h.machine.steps < c.args.n) c.hart-in-loop-hart.view_is c.if-hart-n.false in
     rw (p.1, p.2) (run_broken (on.along i _ (read_first on.gave c.in_err-quick_step.ensures.gave read)) more c.advance.ensures.going c.in_err-quick_step.ensures.word (c.in_err-quick_step.ensures.stepped _ rest (read_last on.gave c.in_err-quick_step.ensures.gave read)))
