@@ -1,5 +1,5 @@
 -- What is said of sources that tell what is left carries over to every source, for each input from which what it gave may have been read.
-use Rattle.std.proofs.Common.{◌≡◌, ℕ, List, ◌++◌, Option, Some, None, refl, sym, ap, subst}
+use Rattle.std.proofs.Common.{◌≡◌, ℕ, List, [], ◌++◌, Option, Some, None, refl, sym, ap, subst}
 use Rattle.swi_outside.specs.Source.{SourceState, HasGiven, MayBeLeft, ReadFrom}
 use Rattle.swi_outside.specs.Told.{AsTold, told_as}
 use Rattle.swi_outside.proofs.SourceLemmas.{read_told}
