@@ -1,5 +1,6 @@
 -- A step of the loop: what it may count on, and what it leaves, by what its calls gave.
-use Rattle.std.proofs.Common.{◌≡◌, ◌⊎◌, ◌==◌, if◌then◌else◌, ℕ, ◌+◌, ◌-◌, ◌*◌, ◌/◌, ◌%◌, ◌^◌, ◌<◌, ◌≤◌, Bool, true, false, List, length, slice_set, Option, Some, None, refl, sym, ap, subst, ◌∙◌, inl, inr, arith}
+use Rattle.std.proofs.Common.{◌≡◌, ◌⊎◌, ◌==◌, if◌then◌else◌, ℕ, ◌+◌, ◌-◌, ◌*◌, ◌/◌, ◌%◌, ◌^◌, ◌<◌, ◌≤◌, Bool, true, false, List, length, get_or, slice_set, Option, Some, None, refl, sym, ap, subst, ◌∙◌, inl, inr, arith}
+use Rattle.std.proofs.lemmas.List.{get_or_default}
 use Rattle.swi_isa.specs.declared.instr.BranchOp.{BranchOp}
 use Rattle.swi_isa.specs.declared.instr.BranchOp.TheVariants.{Beq, Blt, Bltu}
 use Rattle.swi_memory.specs.Bus.{AreaData, fetched}
@@ -18,9 +19,10 @@ use Rattle.swi_micro.specs.declared.class.Class.TheVariants as class
 use Rattle.swi_micro.specs.declared.translator.MicroOp.{MicroOp}
 use Rattle.swi_micro.specs.Classes.{class_of, code_of}
 use Rattle.swi_micro.specs.Known.{is_straight}
+use Rattle.swi_micro.specs.MicroOp.{stop_op}
 use Rattle.swi_micro.specs.Ran.{is_gone, ran_as}
-use Rattle.swi_image_ops.specs.ImageOp.{IsWordOp, row_at, row_of}
-use Rattle.swi_image_ops.proofs.Standing.{AtFall, AtText, IsKnown, fall_of_exit, known, on_inside, text_of_class, text_of_exit, text_of_return}
+use Rattle.swi_image_ops.specs.ImageOp.{AreImageOps, IsWordOp, row_at, row_of}
+use Rattle.swi_image_ops.proofs.Standing.{AtFall, AtText, InRow, IsKnown, fall_of_exit, in_row, known, on_inside, text_of_class, text_of_exit, text_of_return}
 use Rattle.swi_image_ops.proofs.Strides.{Branches, Calls, ExitTo, Exits, Pair, Returns, Straight, behind_pair, branches, call_room, calls, comparison_of, exits, pair, returns, straight, upper}
 use Rattle.swi_rom.specs.Record.{Record, indirect}
 use Rattle.swi_rom.specs.Coherent.{IsExit}
@@ -30,6 +32,7 @@ use Rattle.swi_board.specs.declared.advance.Cursor.{Cursor}
 use Rattle.swi_board.specs.Reached.{ExitInRow, Passed, Reached}
 use Rattle.swi_board.specs.Turning.{Begins, Going, IsComparison, IsOpInRow, Turn, Turned, machine_at}
 use Rattle.swi_board.proofs.Arms.{carries, inside_ram, next_index}
+use Rattle.swi_board.proofs.Falling.{is_fall_op, place_unmarked, turn_falls}
 use Rattle.swi_board.proofs.OpSteps.{call_turn, exit_turn, fall_turn, pair_turn, passed_turn, return_turn, straight_turn, taken_turn}
 use Rattle.swi_board.proofs.Turns.{count_room, services_room}
 
@@ -58,6 +61,32 @@ no_stop c d is other stops = other (sym is ∙ stops)
 -- x0 keeps what it has
 pub kept_zero : (regs : Registers) (r n : ℕ) → (r == 0) ≡ true → regs ≡ with_reg regs r n
 kept_zero regs r n is = ap (λ (b : Bool). record regs { words = if b then regs.words else slice_set regs.words r n }) (sym is)
+
+-- a class that is none of the others is straight
+pub straight_class : (c : Class) → (c ≡ class.Equal → ⊥) → (c ≡ class.Less → ⊥) → (c ≡ class.Below → ⊥) → (c ≡ class.Jal → ⊥) → (c ≡ class.Jalr → ⊥) → (c ≡ class.Stop → ⊥) → is_straight c ≡ true
+straight_class class.Equal e l b j r s = absurd (e refl)
+straight_class class.Less e l b j r s = absurd (l refl)
+straight_class class.Below e l b j r s = absurd (b refl)
+straight_class class.Jal e l b j r s = absurd (j refl)
+straight_class class.Jalr e l b j r s = absurd (r refl)
+straight_class class.Stop e l b j r s = absurd (s refl)
+straight_class _ e l b j r s = refl
+
+-- the micro-ops of a row, one by one
+pub op_in_row : {text : ℕ → Option ℕ} {v : ImageData} {ops : List MicroOp} → AreImageOps text v ops → (row : ℕ) (d m : MicroOp) → m ≡ get_or ops row d → IsOpInRow text v row m
+op_in_row {text} {v} {ops} are row d m is b o known inside at =
+    subst (λ (q : MicroOp). IsWordOp text v b o q) (sym is)
+    (subst (λ (n : ℕ). IsWordOp text v b o (get_or ops n d)) (sym at) (are.each b o known inside d))
+
+-- ---- turns are fewer and fewer
+
+pub stays_fewer : (left next : ℕ) (x y : Bool) → 0 < left → next ≡ left → 2 * (next - 1) + (if x then 1 else 0) < 2 * left + (if y then 1 else 0)
+stays_fewer left next x y some is = subst (λ (n : ℕ). 2 * (n - 1) + (if x then 1 else 0) < 2 * left + (if y then 1 else 0)) (sym is) (turn_falls left x y some)
+
+falls_fewer : (left next : ℕ) (x y : Bool) → next ≡ left + 1 → x ≡ false → y ≡ true → 2 * (next - 1) + (if x then 1 else 0) < 2 * left + (if y then 1 else 0)
+falls_fewer left next false true is none falls = omega (arith, is)
+falls_fewer left next true y is none falls = absurd (let never : true ≡ false = none in cc)
+falls_fewer left next false false is none falls = absurd (let never : false ≡ true = falls in cc)
 
 module _ {S : Type 0} {k : ServiceOf S} {v : ImageData} {limit : ℕ} {first : Turn S} (laws : IsService k) (u : Begins k v limit first)
     {t : Turn S} (i : Turned k v limit first u.at t) (some : 0 < t.cursor.left) where
@@ -439,3 +468,36 @@ module _ {S : Type 0} {k : ServiceOf S} {v : ImageData} {limit : ℕ} {first : T
             cursor = record { row = n; delta = t.cursor.delta; left = t.cursor.left - 1; total = t.cursor.total + 1 };
           })) on
           (pair_turn laws u i some m upper_text regs two pair_is regs_is pair_room fetches)
+
+  -- ---- behind an exit a text word stands
+
+  module _ {ops : List MicroOp} (are : AreImageOps (fetched t.machine.bus) v ops) (m : MicroOp) (m_is : m ≡ get_or ops t.cursor.row m) (jumps : class_of m.code ≡ class.Jal) where
+    op : IsOpInRow (fetched t.machine.bus) v t.cursor.row m
+    op = op_in_row are t.cursor.row m m m_is
+
+    lands_unmarked : (row : ℕ) → (a : ℕ) × (row_of v a ≡ Some row) → is_fall_op (get_or ops row stop_op) ≡ false
+    lands_unmarked row to =
+        let at = in_row v to.0 row to.1 in
+        let inside = on_inside (fetched t.machine.bus) v to.0 at.block at.offset (carries laws u i) (inl at.place) in
+        place_unmarked (fetched t.machine.bus) v to.0 at.block at.offset (get_or ops row stop_op) at.place
+        (subst (λ (n : ℕ). IsWordOp (fetched t.machine.bus) v at.block at.offset (get_or ops n stop_op)) (sym at.index) (are.each at.block at.offset inside.0 inside.1 stop_op))
+
+    here_marked : (m.rs1 == 1) ≡ true → is_fall_op (get_or ops t.cursor.row stop_op) ≡ true
+    here_marked marked =
+        let count = are.count in
+        let within = row_in in
+        let same : get_or ops t.cursor.row stop_op ≡ m = get_or_default ops t.cursor.row stop_op m (omega (arith, count, within)) ∙ sym m_is in
+        ap (λ (q : MicroOp). is_fall_op q) (same ∙ (fall_is m op jumps marked).is)
+
+    pub exit_fewer : (next row : ℕ) → next ≡ (if m.rs1 == 1 then t.cursor.left + 1 else t.cursor.left) → (a : ℕ) × (row_of v a ≡ Some row) →
+        2 * (next - 1) + (if is_fall_op (get_or ops row stop_op) then 1 else 0) < 2 * t.cursor.left + (if is_fall_op (get_or ops t.cursor.row stop_op) then 1 else 0)
+    exit_fewer next row is to = by (m.rs1 == 1) refl
+      where
+        by : (q : Bool) → (m.rs1 == 1) ≡ q →
+            2 * (next - 1) + (if is_fall_op (get_or ops row stop_op) then 1 else 0) < 2 * t.cursor.left + (if is_fall_op (get_or ops t.cursor.row stop_op) then 1 else 0)
+        by true marked =
+            falls_fewer t.cursor.left next (is_fall_op (get_or ops row stop_op)) (is_fall_op (get_or ops t.cursor.row stop_op))
+            (is ∙ ap (λ (q : Bool). if q then t.cursor.left + 1 else t.cursor.left) marked) (lands_unmarked row to) (here_marked marked)
+        by false unmarked =
+            stays_fewer t.cursor.left next (is_fall_op (get_or ops row stop_op)) (is_fall_op (get_or ops t.cursor.row stop_op)) some
+            (is ∙ ap (λ (q : Bool). if q then t.cursor.left + 1 else t.cursor.left) unmarked)

@@ -19,3 +19,4 @@ pub mod Falling
 pub mod Knowing
 pub mod Origins
 pub mod Going
+pub mod Ends
