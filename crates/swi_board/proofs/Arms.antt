@@ -141,10 +141,12 @@ module _ {S : Type 0} {k : ServiceOf S} {v : ImageData} {limit : ℕ} {first : T
         let fits = c.fits in
         omega (arith, below, end, fits)
 
-    pub op_known : (ops : List MicroOp) (d m : MicroOp) → AreImageOps (fetched t.machine.bus) v ops → m ≡ get_or ops t.cursor.row d → (class_of m.code ≡ class.Stop → ⊥) → IsKnown v (machine_at limit t i.at.pc) i.at.block i.at.offset m
-    op_known ops d m are is some =
-        let own = subst (λ (n : ℕ). IsWordOp (fetched t.machine.bus) v i.at.block i.at.offset (get_or ops n d)) (sym i.at.is_row) (are.each i.at.block i.at.offset i.at.known i.at.inside d) in
-        known v (machine_at limit t i.at.pc) i.at.block i.at.offset m carries i.at.short i.at.goes (subst (λ (n : MicroOp). IsWordOp (fetched t.machine.bus) v i.at.block i.at.offset n) (sym is) own) some
+    -- the ram's index of a word behind it
+    pub next_index : (n : ℕ) → i.at.offset + n < length_at v i.at.block → sum_of (t.cursor.row + n) t.cursor.delta ≡ sum_of t.cursor.row t.cursor.delta + n
+    next_index n inside =
+        let end = inside_span (i.at.offset + n) inside in
+        let at = i.at.index in
+        index_on t.cursor.row t.cursor.delta n (k.span (k.setting first.rom)) (omega (arith, end, at)) span_small
 
     -- an original step
     module _ (some : 0 < t.cursor.left) (next : Turn S) (to : StoodAt k v next) (n : ℕ)

@@ -18,3 +18,4 @@ pub mod OpSteps
 pub mod Falling
 pub mod Knowing
 pub mod Origins
+pub mod Going

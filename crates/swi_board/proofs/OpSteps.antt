@@ -33,7 +33,7 @@ use Rattle.swi_board.specs.declared.advance.Cursor.{Cursor}
 use Rattle.swi_board.specs.Reached.{Passed, Reached}
 use Rattle.swi_board.specs.Transfers.{branch_words, jumps_as, leaves_by, step_cost}
 use Rattle.swi_board.specs.Turning.{Begins, Stood, StoodAt, Turn, Turned, machine_at}
-use Rattle.swi_board.proofs.Arms.{carries, fall_arm, index_on, inside_span, itself_jumps, itself_words, leap_arm, span_small, stay_arm}
+use Rattle.swi_board.proofs.Arms.{carries, fall_arm, itself_jumps, itself_words, leap_arm, next_index, stay_arm}
 use Rattle.swi_board.proofs.Turns.{FetchedRow, fetched_one, fetched_three, fetched_two}
 
 module _ {S : Type 0} {k : ServiceOf S} {v : ImageData} {limit : ℕ} {first : Turn S} (laws : IsService k) (u : Begins k v limit first)
@@ -57,13 +57,6 @@ module _ {S : Type 0} {k : ServiceOf S} {v : ImageData} {limit : ℕ} {first : T
       s.step (behind_straight v (machine_at limit t i.at.pc) i.at.block i.at.offset m x regs bus s) (omega arith, omega arith, omega arith)
       (subst (λ (r : RamState). FetchedRow 1 (sum_of t.cursor.row t.cursor.delta) t.ram r) (sym is) (fetched_one (sum_of t.cursor.row t.cursor.delta) t.ram)) refl
 
-  -- the index of a word behind it
-  pub next_index : (n : ℕ) → i.at.offset + n < length_at v i.at.block → sum_of (t.cursor.row + n) t.cursor.delta ≡ sum_of t.cursor.row t.cursor.delta + n
-  next_index n inside =
-      let end = inside_span laws u i (i.at.offset + n) inside in
-      let at = i.at.index in
-      index_on t.cursor.row t.cursor.delta n (k.span (k.setting first.rom)) (omega (arith, end, at)) (span_small laws u i)
-
   pub pair_turn : (x : AtText v (machine_at limit t i.at.pc) i.at.block i.at.offset m) (regs : Registers) (ram : RamState) → Pair (machine_at limit t i.at.pc) x.word m →
       regs ≡ with_reg t.machine.regs m.rd m.imm → i.at.offset + 2 < length_at v i.at.block →
       ram ≡ with_fetch (with_fetch t.ram (sum_of t.cursor.row t.cursor.delta)) (sum_of (t.cursor.row + 1) t.cursor.delta) →
@@ -79,7 +72,7 @@ module _ {S : Type 0} {k : ServiceOf S} {v : ImageData} {limit : ℕ} {first : T
       (subst (λ (r : Registers). (input : List ℕ) → held_made (machine_at limit t i.at.pc) input ≡ quiet (went (machine_at limit t i.at.pc) (sum_of i.at.pc 4) r t.machine.bus) input) (sym regs_is) p.step)
       (behind_pair v (machine_at limit t i.at.pc) i.at.block i.at.offset m x p) (omega arith, omega arith, omega arith)
       (subst (λ (r : RamState). FetchedRow 2 (sum_of t.cursor.row t.cursor.delta) t.ram r) (sym is)
-      (fetched_two (sum_of t.cursor.row t.cursor.delta) (sum_of (t.cursor.row + 1) t.cursor.delta) t.ram (next_index 1 (omega (arith, inside))))) (omega arith)
+      (fetched_two (sum_of t.cursor.row t.cursor.delta) (sum_of (t.cursor.row + 1) t.cursor.delta) t.ram (next_index laws u i 1 (omega (arith, inside))))) (omega arith)
 
   pub passed_turn : (by : BranchOp) (x : AtText v (machine_at limit t i.at.pc) i.at.block i.at.offset m) (ram : RamState) → Branches by v (machine_at limit t i.at.pc) i.at.block i.at.offset x.word m →
       is_gone by m t.machine.regs ≡ false → ram ≡ with_fetch t.ram (sum_of t.cursor.row t.cursor.delta) →
@@ -128,7 +121,7 @@ module _ {S : Type 0} {k : ServiceOf S} {v : ImageData} {limit : ℕ} {first : T
       taken (ap (λ (q : Bool). 0 + (if q then 1 else 0) + 1) taken)
       (ap (λ (q : Bool). direct i.at.block (i.at.offset + (0 + (if q then 1 else 0))) (sum_of i.at.pc b.off) ∷ []) taken)
       (b.taken goes) (omega arith, omega arith) (omega (arith, room))
-      (fetched_two (sum_of t.cursor.row t.cursor.delta) (sum_of (t.cursor.row + 1) t.cursor.delta) t.ram (next_index 1 (omega (arith, room)))) (omega arith)
+      (fetched_two (sum_of t.cursor.row t.cursor.delta) (sum_of (t.cursor.row + 1) t.cursor.delta) t.ram (next_index laws u i 1 (omega (arith, room)))) (omega arith)
 
   pub exit_turn : (x : AtText v (machine_at limit t i.at.pc) i.at.block i.at.offset m) (e : Exits v (machine_at limit t i.at.pc) i.at.block i.at.offset x.word m.imm) (rom : S) (ram : RamState) (there delta : ℕ) →
       Passed k v t.cursor.row (record { rom = t.rom; ram = with_fetch t.ram (sum_of t.cursor.row t.cursor.delta) }) (record { rom = rom; ram = ram }) there → sum_of m.imm delta ≡ there →
@@ -175,7 +168,7 @@ module _ {S : Type 0} {k : ServiceOf S} {v : ImageData} {limit : ℕ} {first : T
       (subst (λ (r : Registers). (input : List ℕ) → held_made (machine_at limit t i.at.pc) input ≡ quiet (went (machine_at limit t i.at.pc) (sum_of i.at.pc c.off) r t.machine.bus) input) (sym regs_is) c.step)
       (omega arith, omega arith) (omega (arith, room))
       (fetched_three (sum_of t.cursor.row t.cursor.delta) (sum_of (t.cursor.row + 1) t.cursor.delta) (sum_of (t.cursor.row + 2) t.cursor.delta) t.ram
-      (next_index 1 (omega (arith, room))) (next_index 2 (omega (arith, room)))) (omega arith)
+      (next_index laws u i 1 (omega (arith, room))) (next_index laws u i 2 (omega (arith, room)))) (omega arith)
 
   pub return_turn : (x : AtText v (machine_at limit t i.at.pc) i.at.block i.at.offset m) (r : Returns v (machine_at limit t i.at.pc) i.at.block i.at.offset x.word m) (a row : ℕ) (regs : Registers) →
       a ≡ address_of t.machine.regs m.rs1 m.imm / 2 * 2 → a % 4 ≡ 0 → a < 2 ^ 32 → row_of v a ≡ Some row → regs ≡ with_reg t.machine.regs m.rd (word_at v i.at.block (i.at.offset + 2)) →

@@ -152,7 +152,7 @@ module _ {S : Type 0} {k : ServiceOf S} {v : ImageData} {limit : ℕ} {first : T
     ran = λ h begin now running.
         let below = i.within.left in
         runs_stride (i.ran h begin now running) (stride h now) (omega (arith, some, below)) (laws_of laws (k.setting first.rom))
-            (laws.coherent t.rom v t.ram.words i.stays.sound.0).once;
+        (laws.coherent t.rom v t.ram.words i.stays.sound.0).once;
     stays = stays_more i.stays stays;
   }
 

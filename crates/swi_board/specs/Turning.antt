@@ -1,8 +1,12 @@
 -- Where the steps of a stretch have come that asks no device.
-use Rattle.std.specs.Prelude.{◌≡◌, ℕ, ◌+◌, ◌-◌, ◌^◌, ◌<◌, ◌≤◌, length, Option, None}
+use Rattle.std.specs.Prelude.{◌≡◌, ◌⊎◌, ℕ, ◌+◌, ◌-◌, ◌^◌, ◌<◌, ◌≤◌, length, Option, None}
 use Rattle.swi_image.specs.Format.{ImageData}
 use Rattle.swi_image.specs.Place.{length_at}
 use Rattle.swi_image.specs.Row.{row_index}
+use Rattle.swi_image_ops.specs.ImageOp.{IsWordOp}
+use Rattle.swi_micro.specs.declared.class.Class.{Class}
+use Rattle.swi_micro.specs.declared.class.Class.TheVariants.{Below, Equal, Less}
+use Rattle.swi_micro.specs.declared.translator.MicroOp.{MicroOp}
 use Rattle.swi_render.specs.Carried.{Carries, GoesOn}
 use Rattle.swi_exec.specs.Arithmetic.{sum_of}
 use Rattle.swi_outside.specs.CacheRam.{RamState}
@@ -90,3 +94,32 @@ pub record Begins {S : Type 0} (k : ServiceOf S) (v : ImageData) (limit : ℕ) (
   pub small : limit ≤ 2 ^ 48
   pub within : Within limit t.cursor
   pub sound : k.sound t.rom v t.ram.words
+
+-- ---- a step of a stretch
+
+abbrev pub turn : {S : Type 0} → Machine → S → RamState → Cursor → Turn S
+turn machine rom ram cursor = record { machine = machine; rom = rom; ram = ram; cursor = cursor }
+
+-- one step fewer is left
+abbrev pub fewer : Cursor → Cursor
+fewer c = record c { left = c.left - 1 }
+
+-- a stretch has come to a turn, and a step is left
+pub record Going {S : Type 0} (k : ServiceOf S) (v : ImageData) (t : Turn S) : Type 0 where
+  pub limit : ℕ
+  pub first : Turn S
+  pub begins : Begins k v limit first
+  pub turned : Turned k v limit first begins.at t
+  pub some : 0 < t.cursor.left
+
+-- each stretch that has come to the one turn has come to the other
+abbrev pub TurnsTo : {S : Type 0} → ServiceOf S → ImageData → Turn S → Turn S → Type 0
+TurnsTo {S} k v old new = (limit : ℕ) (first : Turn S) (b : Begins k v limit first) → Turned k v limit first b.at old → Turned k v limit first b.at new
+
+-- the micro-op is that of the word with an index in the row, unless it stops
+abbrev pub IsOpInRow : (ℕ → Option ℕ) → ImageData → ℕ → MicroOp → Type 0
+IsOpInRow text v row m = (b o : ℕ) → b < length v.starts → o < length_at v b → row ≡ row_index v b o → IsWordOp text v b o m
+
+-- a class of branches
+abbrev pub IsComparison : Class → Type 0
+IsComparison c = (c ≡ Equal) ⊎ (c ≡ Less) ⊎ (c ≡ Below)

@@ -1,20 +1,22 @@
 //! Steps out of a ram that never fails, that ask no device.
 #![tactic(auto)]
 
-ghost use Rattle.std.specs.Prelude.{◌≡◌, ◌+◌, ◌-◌, ◌^◌, ◌<◌, ◌≤◌, ℕ, IfSome, None, length, true};
+ghost use Rattle.std.specs.Prelude.{◌≡◌, ◌==◌, ◌+◌, ◌-◌, ◌^◌, ◌<◌, ◌≤◌, if◌then◌else◌, ℕ, IfSome, None, Some, false, length, true};
 ghost use Rattle.swi_exec.specs.Arithmetic.{sum_of};
 ghost use Rattle.swi_image.specs.Place.{length_at};
 ghost use Rattle.swi_image.specs.Row.{row_length};
-ghost use Rattle.swi_image_ops.specs.ImageOp.{AreImageOps};
+ghost use Rattle.swi_image_ops.specs.ImageOp.{AreImageOps, row_of};
 ghost use Rattle.swi_memory.specs.Bus.{fetched};
-ghost use Rattle.swi_micro.specs.declared.class.Class.TheVariants.{Below, Equal, Less};
+ghost use Rattle.swi_micro.specs.declared.class.Class.TheVariants.{Below, Equal, Jal, Jalr, Less};
+ghost use Rattle.swi_micro.specs.Classes.{class_of, code_of};
 ghost use Rattle.swi_micro.specs.Ran.{is_gone};
 ghost use Rattle.swi_rom.specs.Record.{Record};
 ghost use Rattle.swi_hart.specs.Matching.{Fits};
 ghost use Rattle.swi_board.specs.Advancing.{Onward, ServiceStays, StandsInRow, Underway};
 ghost use Rattle.swi_board.specs.Targets.{AreFound};
-ghost use Rattle.swi_board.specs.Turning.{Begins, Origin, Turned};
+ghost use Rattle.swi_board.specs.Turning.{Begins, Going, IsComparison, IsOpInRow, Origin, Turned, TurnsTo, fewer, turn};
 
+use crate::targets::Targets;
 use crate::ways::{Ways, fetch, jump, leave};
 use swi_calls::Machine;
 use swi_exec::Regs;
@@ -85,6 +87,165 @@ fn goes_by(class: Class, m: &MicroOp, regs: &Regs) -> bool
     }
 }
 
+/// A step at a branch, whose class is `class`: over the exit behind it where it is taken, and else past that.
+#[inline(always)]
+fn branch_step<R: CacheRom, M: SteadyRam>(
+    m: &MicroOp,
+    class: Class,
+    machine: &Machine,
+    rom: &mut R,
+    image: &ImageView<'_>,
+    ram: &mut M,
+    ways: &mut Ways,
+    at: &mut Cursor,
+)
+    requires steady { M.steady ≡ true }
+    requires small { row_length image.now < 2 ^ 30 }
+    requires going { Going R.service image.now
+        (turn machine.now rom.old (M.state ram.old) at.old) }
+    requires op { IsOpInRow (fetched machine.now.bus) image.now at.old.row m.now }
+    requires class { class ≡ class_of m.now.code }
+    requires compares { IsComparison class }
+    requires links { row_length image.now ≤ length ways.old.links }
+    requires found { AreFound image.now (R.service.kept rom.old) ways.old.targets }
+    ensures turns { TurnsTo R.service image.now
+        (turn machine.now rom.old (M.state ram.old) at.old)
+        (turn machine.now rom.new (M.state ram.new) (fewer at.new)) }
+    ensures left { at.new.left ≡ at.old.left }
+    ensures links { length ways.new.links ≡ length ways.old.links }
+    ensures found { AreFound image.now (R.service.kept rom.new) ways.new.targets }
+{
+    fetch(ram, index(at.row, at.delta));
+    if !goes_by(class, m, &machine.regs) {
+        at.row += 3;
+        return;
+    }
+    let exit = at.row + 1;
+    let there = leave(rom, image, ram, ways, exit, index(exit, at.delta));
+    at.row = u64::from(m.target());
+    at.delta = distance(there, m.target());
+    at.total += 1;
+}
+
+/// Goes over an exit: the step of a jump that keeps no return address, or none where the exit stands behind a block's last
+/// text word.
+#[inline(always)]
+fn exit_step<R: CacheRom, M: SteadyRam>(
+    m: &MicroOp,
+    machine: &Machine,
+    rom: &mut R,
+    image: &ImageView<'_>,
+    ram: &mut M,
+    ways: &mut Ways,
+    at: &mut Cursor,
+)
+    requires steady { M.steady ≡ true }
+    requires small { row_length image.now < 2 ^ 30 }
+    requires going { Going R.service image.now
+        (turn machine.now rom.old (M.state ram.old) at.old) }
+    requires op { IsOpInRow (fetched machine.now.bus) image.now at.old.row m.now }
+    requires class { class_of m.now.code ≡ Jal }
+    requires exit { m.now.rd ≡ 0 }
+    requires links { row_length image.now ≤ length ways.old.links }
+    requires found { AreFound image.now (R.service.kept rom.old) ways.old.targets }
+    ensures turns { TurnsTo R.service image.now
+        (turn machine.now rom.old (M.state ram.old) at.old)
+        (turn machine.now rom.new (M.state ram.new) (fewer at.new)) }
+    ensures left { at.new.left ≡ (if m.now.rs1 == 1 then at.old.left + 1 else at.old.left) }
+    ensures lands { (a : ℕ) × row_of image.now a ≡ Some at.new.row }
+    ensures links { length ways.new.links ≡ length ways.old.links }
+    ensures found { AreFound image.now (R.service.kept rom.new) ways.new.targets }
+{
+    let there = leave(rom, image, ram, ways, at.row, index(at.row, at.delta));
+    at.row = u64::from(m.target());
+    at.delta = distance(there, m.target());
+    if is_marked(m) {
+        at.total += 1;
+        at.left += 1;
+    }
+}
+
+/// A step at a jump that keeps its return address, over the exit two words on.
+#[inline(always)]
+fn call_step<R: CacheRom, M: SteadyRam>(
+    m: &MicroOp,
+    exit: &MicroOp,
+    machine: &mut Machine,
+    rom: &mut R,
+    image: &ImageView<'_>,
+    ram: &mut M,
+    ways: &mut Ways,
+    at: &mut Cursor,
+)
+    requires steady { M.steady ≡ true }
+    requires small { row_length image.now < 2 ^ 30 }
+    requires going { Going R.service image.now
+        (turn machine.old rom.old (M.state ram.old) at.old) }
+    requires op { IsOpInRow (fetched machine.old.bus) image.now at.old.row m.now }
+    requires class { class_of m.now.code ≡ Jal }
+    requires keeps { m.now.rd ≡ 0 → ⊥ }
+    requires exit { IsOpInRow (fetched machine.old.bus) image.now (at.old.row + 2) exit.now }
+    requires leaves { (exit.now.code ≡ code_of Jal) × (exit.now.rd ≡ 0) }
+    requires links { row_length image.now ≤ length ways.old.links }
+    requires found { AreFound image.now (R.service.kept rom.old) ways.old.targets }
+    ensures turns { TurnsTo R.service image.now
+        (turn machine.old rom.old (M.state ram.old) at.old)
+        (turn machine.new rom.new (M.state ram.new) (fewer at.new)) }
+    ensures bus { machine.new.bus ≡ machine.old.bus }
+    ensures left { at.new.left ≡ at.old.left }
+    ensures links { length ways.new.links ≡ length ways.old.links }
+    ensures found { AreFound image.now (R.service.kept rom.new) ways.new.targets }
+{
+    machine.regs.put(m.rd(), m.target());
+    fetch(ram, index(at.row, at.delta));
+    fetch(ram, index(at.row + 1, at.delta));
+    let last = at.row + 2;
+    let there = leave(rom, image, ram, ways, last, index(last, at.delta));
+    at.row = u64::from(exit.target());
+    at.delta = distance(there, exit.target());
+    at.total += 2;
+}
+
+/// A step at a jump over a register. False, and nothing has changed, where no text word stands at its target.
+#[inline(always)]
+fn jalr_step<R: CacheRom, M: SteadyRam>(
+    m: &MicroOp,
+    machine: &mut Machine,
+    rom: &mut R,
+    image: &ImageView<'_>,
+    ram: &mut M,
+    targets: &mut Targets,
+    at: &mut Cursor,
+) -> bool
+    requires steady { M.steady ≡ true }
+    requires small { row_length image.now < 2 ^ 30 }
+    requires going { Going R.service image.now
+        (turn machine.old rom.old (M.state ram.old) at.old) }
+    requires op { IsOpInRow (fetched machine.old.bus) image.now at.old.row m.now }
+    requires class { class_of m.now.code ≡ Jalr }
+    requires found { AreFound image.now (R.service.kept rom.old) targets.old }
+    ensures turns { result ≡ true → TurnsTo R.service image.now
+        (turn machine.old rom.old (M.state ram.old) at.old)
+        (turn machine.new rom.new (M.state ram.new) (fewer at.new)) }
+    ensures stays { result ≡ false → turn machine.new rom.new (M.state ram.new) at.new ≡ turn machine.old rom.old (M.state ram.old) at.old }
+    ensures bus { machine.new.bus ≡ machine.old.bus }
+    ensures left { at.new.left ≡ at.old.left }
+    ensures found { AreFound image.now (R.service.kept rom.new) targets.new }
+{
+    let target = register_target(machine.regs.get(m.rs1()), m.target());
+    let Some(found) = jump(rom, image, ram, targets, index(at.row, at.delta), target) else {
+        return false;
+    };
+    if !m.writes_x0() {
+        machine
+            .regs
+            .put(m.rd(), image.word_in_row(at.row as u32 + 2));
+    }
+    at.row = u64::from(found.row);
+    at.delta = distance(found.index, found.row);
+    true
+}
+
 /// Steps up to the last that is left, or to the first that is left to the machine step.
 #[inline(never)]
 fn step_through<R: CacheRom, M: SteadyRam>(
@@ -110,88 +271,62 @@ fn step_through<R: CacheRom, M: SteadyRam>(
     ensures text { (a : ℕ) → fetched machine.new.bus a ≡ fetched machine.old.bus a }
     ensures links { length ways.new.links ≡ length ways.old.links }
 {
+    // Read for the proof alone: that an index in the row has 32 bits.
+    let _words = image.words();
     let range = WordRange { from: 0, words: 0 };
-    let mut row = cursor.row;
-    let mut delta = cursor.delta;
-    let mut left = cursor.left;
-    let mut total = cursor.total;
-    while left > 0 {
-        let m = &ops[row as usize];
+    let mut at = *cursor;
+    while at.left > 0 {
+        let m = &ops[at.row as usize];
         let class = m.class();
         match class {
             Class::Equal | Class::Less | Class::Below => {
-                fetch(ram, index(row, delta));
-                if goes_by(class, m, &machine.regs) {
-                    let there = leave(rom, image, ram, ways, row + 1, index(row + 1, delta));
-                    row = u64::from(m.target());
-                    delta = distance(there, m.target());
-                    total += 1;
-                } else {
-                    row += 3;
-                }
+                branch_step(m, class, machine, rom, image, ram, ways, &mut at);
             }
             Class::Lui => {
                 machine.regs.put(m.rd(), m.target());
-                fetch(ram, index(row, delta));
+                fetch(ram, index(at.row, at.delta));
+                at.row += 1;
                 if is_marked(m) {
-                    fetch(ram, index(row + 1, delta));
-                    row += 2;
-                    total += 1;
-                } else {
-                    row += 1;
+                    fetch(ram, index(at.row, at.delta));
+                    at.row += 1;
+                    at.total += 1;
                 }
             }
             Class::Jal => {
                 if m.writes_x0() {
-                    let there = leave(rom, image, ram, ways, row, index(row, delta));
-                    row = u64::from(m.target());
-                    delta = distance(there, m.target());
-                    if is_marked(m) {
-                        total += 1;
-                        left += 1;
-                    }
+                    exit_step(m, machine, rom, image, ram, ways, &mut at);
                 } else {
-                    let exit = &ops[row as usize + 2];
+                    let exit = &ops[at.row as usize + 2];
                     if !is_exit(exit) {
                         break;
                     }
-                    machine.regs.put(m.rd(), m.target());
-                    fetch(ram, index(row, delta));
-                    fetch(ram, index(row + 1, delta));
-                    let there = leave(rom, image, ram, ways, row + 2, index(row + 2, delta));
-                    row = u64::from(exit.target());
-                    delta = distance(there, exit.target());
-                    total += 2;
+                    call_step(m, exit, machine, rom, image, ram, ways, &mut at);
                 }
             }
             Class::Jalr => {
-                let target = register_target(machine.regs.get(m.rs1()), m.target());
-                let Some(found) = jump(rom, image, ram, &mut ways.targets, index(row, delta), target) else {
+                if !jalr_step(m, machine, rom, image, ram, &mut ways.targets, &mut at) {
                     break;
-                };
-                if !m.writes_x0() {
-                    machine.regs.put(m.rd(), image.word_in_row(row as u32 + 2));
                 }
-                row = u64::from(found.row);
-                delta = distance(found.index, found.row);
             }
             Class::Stop => break,
             _ => {
-                let Some(next) = step_as(class, m, &range, row, &mut machine.regs, &mut machine.bus) else {
+                let Some(next) = step_as(
+                    class,
+                    m,
+                    &range,
+                    at.row,
+                    &mut machine.regs,
+                    &mut machine.bus,
+                ) else {
                     break;
                 };
-                fetch(ram, index(row, delta));
-                row = next;
+                fetch(ram, index(at.row, at.delta));
+                at.row = next;
             }
         }
-        left -= 1;
+        at.left -= 1;
     }
-    *cursor = Cursor {
-        row,
-        delta,
-        left,
-        total,
-    };
+    *cursor = at;
 }
 
 /// Where the hart is between two instructions at a word of a block: its index in the row, and how far that is from the
@@ -249,7 +384,15 @@ pub(crate) fn advance<R: CacheRom, M: SteadyRam>(
         left,
         total: hart.count + left,
     };
-    step_through(&mut hart.machine, rom, image, ram, ops.ops(), ways, &mut cursor);
+    step_through(
+        &mut hart.machine,
+        rom,
+        image,
+        ram,
+        ops.ops(),
+        ways,
+        &mut cursor,
+    );
     let Cursor {
         row,
         delta,
@@ -257,8 +400,7 @@ pub(crate) fn advance<R: CacheRom, M: SteadyRam>(
         total,
     } = cursor;
     let (block, offset) = place_in_row(image, row as u32);
-    hart.control
-        .go(Control::At(index(row, delta), block, offset, Stage::Start));
+    hart.control.go(Control::At(index(row, delta), block, offset, Stage::Start));
     hart.machine.pc = address_at(image, block, offset);
     hart.machine.steps = limit - left;
     hart.count = total - left;

@@ -31,9 +31,7 @@ use std::alloc::Global;
 use std::marker::Model;
 use swi_calls::{End, Heap};
 use swi_exec::Regs;
-use swi_hart::{
-    BoardFault, Control, Hart, Stage, jump, plain_place, plain_step, quick_step,
-};
+use swi_hart::{BoardFault, Control, Hart, Stage, jump, plain_place, plain_step, quick_step};
 use swi_image::ImageView;
 use swi_memory::{Bus, Layout};
 use swi_outside::{CacheRam, Failed, Sink, Source, SteadyRam};

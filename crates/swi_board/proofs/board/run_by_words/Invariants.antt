@@ -8,18 +8,18 @@ use Rattle.swi_board.proofs.board.run_by_words.Given as goal
 abbrev pub invariant-loop-hart : goal.invariant-loop-hart
 invariant-loop-hart g l = record {
   along : AlongOn g.R.CacheRom.service l.image l.n
-    (record {
-      hart = l.fn.hart;
-      rom = l.fn.rom;
-      ram = g.M.CacheRam.state l.fn.ram;
-      devices = record { input = g.I.Source.state l.fn.input; output = g.O.Sink.state l.fn.out; error = g.E.Sink.state l.fn.err };
-    })
-    (record {
-      hart = l.hart;
-      rom = l.rom;
-      ram = g.M.CacheRam.state l.ram;
-      devices = record { input = g.I.Source.state l.input; output = g.O.Sink.state l.out; error = g.E.Sink.state l.err };
-    });
+      (record {
+        hart = l.fn.hart;
+        rom = l.fn.rom;
+        ram = g.M.CacheRam.state l.fn.ram;
+        devices = record { input = g.I.Source.state l.fn.input; output = g.O.Sink.state l.fn.out; error = g.E.Sink.state l.fn.err };
+      })
+      (record {
+        hart = l.hart;
+        rom = l.rom;
+        ram = g.M.CacheRam.state l.ram;
+        devices = record { input = g.I.Source.state l.input; output = g.O.Sink.state l.out; error = g.E.Sink.state l.err };
+      });
   knows : Knows (λ a. fetched l.fn.hart.machine.bus a) l.image l.learnt;
 }
 
