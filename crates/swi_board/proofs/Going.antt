@@ -18,7 +18,7 @@ use Rattle.swi_micro.specs.declared.class.Class.{Class}
 use Rattle.swi_micro.specs.declared.class.Class.TheVariants as class
 use Rattle.swi_micro.specs.declared.translator.MicroOp.{MicroOp}
 use Rattle.swi_micro.specs.Classes.{class_of, code_of}
-use Rattle.swi_micro.specs.Known.{is_straight}
+use Rattle.swi_micro.specs.Classes.{is_straight}
 use Rattle.swi_micro.specs.MicroOp.{stop_op}
 use Rattle.swi_micro.specs.Ran.{is_gone, ran_as}
 use Rattle.swi_image_ops.specs.ImageOp.{AreImageOps, IsWordOp, row_at, row_of}
