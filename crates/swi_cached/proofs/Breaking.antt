@@ -144,13 +144,13 @@ module _ {S : Type 0} {k : ServiceOf S} (laws : IsService k) {v : ImageData} {ro
           unwritten = λ e. let bad : ⊥ = cc in absurd bad;
           output_failed = λ rose. absurd (rose (ap (λ (f : Faults). f.output) (quiet_run boot along).0));
           error_failed = λ _. inl (
-              told_some (is_each telling) (program_after c steps).machine broke.is_each,
-              subst (λ (q : FlatState). Appends before.devices.output.held mid.devices.output.held q.output) here to.tracks.output,
-              (
-                p.0,
-                subst (λ (l : List ℕ). Appends before.devices.error.held sink.held (l ++ front)) told_so
-                    (Appends-append before.devices.error.held mid.devices.error.held sink.held to.error front to.tracks.error piece),
-              ),
+            told_some (is_each telling) (program_after c steps).machine broke.is_each,
+            subst (λ (q : FlatState). Appends before.devices.output.held mid.devices.output.held q.output) here to.tracks.output,
+            (
+              p.0,
+              subst (λ (l : List ℕ). Appends before.devices.error.held sink.held (l ++ front)) told_so
+                  (Appends-append before.devices.error.held mid.devices.error.held sink.held to.error front to.tracks.error piece),
+            ),
           );
           taken = [];
           input = subst (λ (x : Option (List ℕ)). Consumes (Some (program_after c steps).input) x []) (sym (to.tracks.input ∙ ap (λ (q : FlatState). Some q.input) here)) refl;
