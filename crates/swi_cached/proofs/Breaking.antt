@@ -26,7 +26,7 @@ use Rattle.swi_board.specs.Transfers.{cost}
 use Rattle.swi_board.proofs.Held.{run_snoc, same_steps}
 use Rattle.swi_run_laws.specs.Broken.{Broke, DeviceBroke, RamBroke}
 use Rattle.swi_run_laws.proofs.After.{is_after}
-use Rattle.swi_run_laws.proofs.Broken.{broke_off, off_unasked}
+use Rattle.swi_run_laws.proofs.Broken.{broke_off, off_in_order, off_unasked}
 use Rattle.swi_run_laws.proofs.RunLaws.{flat_at, goes_short, most_fetched, steps_are, words_front}
 use Rattle.swi_trace.specs.declared.trace.Trace.{Trace}
 use Rattle.swi_cached.specs.Answers.{Failed, RamFailed, StepFailed}
@@ -36,7 +36,7 @@ use Rattle.swi_cached.specs.Told.{error_by, is_each, told_line}
 use Rattle.swi_cached.specs.Traced.{BegunTo, LineBroke, StepBroke, Tells, ToldAlong, ToldTo, with_errors, with_sink}
 use Rattle.swi_cached.proofs.Starting.{begins, first_moment, from_point, given_for, led_to, quiet_run, setting_is}
 use Rattle.swi_cached.proofs.Tells.{error_next, event_told, line_is, same_at, tells_as}
-use Rattle.swi_cached.proofs.Unasked.{line_unasked, told_unasked}
+use Rattle.swi_cached.proofs.Unasked.{line_unasked, told_some, told_unasked}
 
 seam : (j : ℕ) (xs ys : List ℕ) → take (length (take j xs)) (xs ++ ys) ≡ take j xs
 seam j xs ys =
@@ -142,6 +142,16 @@ module _ {S : Type 0} {k : ServiceOf S} (laws : IsService k) {v : ImageData} {ro
               (subst (λ (l : List ℕ). Appends before.devices.error.held sink.held (l ++ front)) told_so
               (Appends-append before.devices.error.held mid.devices.error.held sink.held to.error front to.tracks.error piece));
           unwritten = λ e. let bad : ⊥ = cc in absurd bad;
+          output_failed = λ rose. absurd (rose (ap (λ (f : Faults). f.output) (quiet_run boot along).0));
+          error_failed = λ _. inl (
+            told_some (is_each telling) (program_after c steps).machine broke.is_each,
+            subst (λ (q : FlatState). Appends before.devices.output.held mid.devices.output.held q.output) here to.tracks.output,
+            (
+              p.0,
+              subst (λ (l : List ℕ). Appends before.devices.error.held sink.held (l ++ front)) told_so
+                  (Appends-append before.devices.error.held mid.devices.error.held sink.held to.error front to.tracks.error piece),
+            ),
+          );
           taken = [];
           input = subst (λ (x : Option (List ℕ)). Consumes (Some (program_after c steps).input) x []) (sym (to.tracks.input ∙ ap (λ (q : FlatState). Some q.input) here)) refl;
           few = let shrinks = input_shrinks (program_after c steps).machine (program_after c steps).input in omega (arith, shrinks);
@@ -194,6 +204,7 @@ module _ {S : Type 0} {k : ServiceOf S} (laws : IsService k) {v : ImageData} {ro
         StepFailed c f new.devices.input.left before.devices.output.held new.devices.output.held before.devices.error.held new.devices.error.held (faults_of before.devices) (faults_of new.devices)
     device_failed f is other d =
         let asked = off_unasked k v n (with_sink mid broke.sink) new fault (λ e. other (sym is ∙ e)) along.stays.sound broke.broke (with_errors begun.error last) (from_point boot) tracks_mid in
+        let order = off_in_order k v n (with_sink mid broke.sink) new fault (λ e. other (sym is ∙ e)) along.stays.sound broke.broke (with_errors begun.error last) (from_point boot) tracks_mid in
         record {
           steps = steps;
           fewer = more;
@@ -207,6 +218,10 @@ module _ {S : Type 0} {k : ServiceOf S} (laws : IsService k) {v : ImageData} {ro
               ∙ ap (λ (q : FlatState). error_by (is_each telling) steps start.flat ++ (line ++ take d.error_front (next_of q).error)) here
               ∙ ap (λ (l : List ℕ). error_by (is_each telling) steps start.flat ++ l) (sym (take-append-add line written d.error_front)))
               d.error;
+          output_failed = λ rose. subst (λ (l : List ℕ). Appends before.devices.error.held new.devices.error.held l) begun.begun.0
+              (order.output_failed (λ same. rose (same ∙ ap (λ (f : Faults). f.output) faults_so_far)));
+          error_failed = λ rose. inr (subst (λ (q : FlatState). Appends before.devices.output.held new.devices.output.held (q.output ++ (next_of q).output)) here
+              (order.error_failed (λ same. rose (same ∙ ap (λ (f : Faults). f.error) faults_so_far))));
           unwritten = λ e. (let fronts = d.unwritten e in let empty = fronts.1 in (fronts.0, (let sum : length line + d.error_front ≡ length line = omega (arith, empty) in sum)));
           taken = d.taken;
           input = subst (λ (q : FlatState). Consumes (Some q.input) new.devices.input.left d.taken) here d.input;

@@ -21,7 +21,7 @@ line_some : (a : ℕ) (w : Option ℕ) → trace_line_of a w ≡ [] → ⊥
 line_some a None e = let tail : codes " -------- outside\n" ≡ [] = rest_none _ (codes " -------- outside\n") e in cc
 line_some a (Some w) e = let tail : codes "\n" ≡ [] = rest_none _ (codes "\n") e in cc
 
-told_some : (each : Bool) (m : Machine) → each ≡ true → told_line each m ≡ [] → ⊥
+pub told_some : (each : Bool) (m : Machine) → each ≡ true → told_line each m ≡ [] → ⊥
 told_some true m is e = line_some m.pc (fetched m.bus m.pc) e
 told_some false m is e = cc
 

@@ -78,6 +78,12 @@ pub record RamFailed (c : CachedRun) (before after : RamState)
 abbrev pub step_after : CachedRun → ℕ → Made
 step_after c n = next_told c.trace (program_after c n)
 
+-- The error sink failed at the line of the step that comes after so many, of which a front was written; the step was not begun.
+abbrev pub FailedAtLine : CachedRun → ℕ → (out out' err err' : Option (List ℕ)) → Type 0
+FailedAtLine c n out out' err err' = (told_line c.trace (program_after c n).machine ≡ [] → ⊥)
+    × Appends out out' (program_after c n).output
+    × ((front : ℕ) × Appends err err' ((told_after c n).error ++ take front (told_line c.trace (program_after c n).machine)))
+
 -- The input or a sink failed at a step: so many were made before it; each sink gained what they wrote, and then a front
 -- of what the next one writes: where the input failed, nothing but its line. Of the input no more is gone than what they took, and a
 -- front of what the next one takes. A sink to which that step gives nothing was not asked by it.
@@ -90,6 +96,10 @@ pub record StepFailed (c : CachedRun) (fault : BoardFault) (left' out out' err e
   pub error_front : ℕ
   pub error : Appends err err' ((told_after c steps).error ++ take error_front (step_after c steps).error)
   pub unwritten : fault ≡ SourceFault → (output_front ≡ 0) × (error_front ≡ length (told_line c.trace (program_after c steps).machine))
+  -- what that step writes to the output comes before what it writes to the errors, as the line of a call comes behind the call's output: where
+  -- the output failed, the errors hold nothing of the step but its own line; where they failed behind that line, the output has all of it
+  pub output_failed : (faults_after.output ≡ faults.output → ⊥) → Appends err err' ((told_after c steps).error ++ told_line c.trace (program_after c steps).machine)
+  pub error_failed : (faults_after.error ≡ faults.error → ⊥) → FailedAtLine c steps out out' err err' ⊎ Appends out out' ((program_after c steps).output ++ (step_after c steps).output)
   pub taken : List ℕ
   pub input : Consumes (Some (program_after c steps).input) left' taken
   pub few : length taken + length (step_after c steps).input ≤ length (program_after c steps).input

@@ -1,5 +1,5 @@
 -- A run on the cached machine, from what its parts say.
-use Rattle.std.proofs.Common.{◌≡◌, inl, inr, ℕ, ◌+◌, ◌-◌, ◌*◌, ◌/◌, ◌^◌, ◌≤◌, min, List, [], ◌∷◌, ◌++◌, length, take, drop, append_assoc, if◌then◌else◌, Option, None, Some, Result, Ok, Err, IsErrOf, MatchResult, refl, sym, ◌∙◌, subst, ap, arith}
+use Rattle.std.proofs.Common.{◌≡◌, ◌⊎◌, inl, inr, ℕ, ◌+◌, ◌-◌, ◌*◌, ◌/◌, ◌^◌, ◌≤◌, min, List, [], ◌∷◌, ◌++◌, length, take, drop, append_assoc, if◌then◌else◌, Option, None, Some, Result, Ok, Err, IsErrOf, MatchResult, refl, sym, ◌∙◌, subst, ap, arith}
 use Rattle.std.proofs.Math.Nat.{div-mul-le_self}
 use Rattle.std.proofs.lemmas.List.{append-nil}
 use Rattle.std.specs.Io.KnownBytes.{Appends}
@@ -53,7 +53,7 @@ use Rattle.swi_task.specs.Causes.{HasCauses}
 use Rattle.swi_task.specs.Checks.{Check, IsAccepted, block_words, room_in, size_refusal}
 use Rattle.swi_task.specs.Devices.{Devices, stream_faults}
 use Rattle.swi_cached_command.specs.RunCached.{BrokeIn, CachedFailed, IsRunErr, RamBroke, RunsCached, RunsOver, addresses_in, cached_checks, cached_report, cached_run, held_next, last_lines, last_told, refusal_of, cached_task, shown_error}
-use Rattle.swi_task.specs.Runs.{FailedAfterRun, ending_by, report, start_of}
+use Rattle.swi_task.specs.Runs.{FailedAfterRun, FailedAtLine, ending_by, report, start_of}
 use Rattle.swi_task.specs.Subject.{IsImageFor}
 use Rattle.swi_task.proofs.Due.{left_empty}
 use Rattle.swi_cached_command.proofs.Tracing.{all_shown, last_is, shown_split, some_shown}
@@ -145,6 +145,13 @@ all_words c before after h = ([], record { fetched = words_after c c.limit; are 
 pub to_nil : (a b : Option (List ℕ)) (x : List ℕ) → Appends a b x → Appends a b (x ++ [])
 to_nil a b x h = subst (λ (y : List ℕ). Appends a b y) (sym (append-nil x)) h
 
+-- the error sink failed at the line of a step, or behind all of its output
+at_line : (c : CachedRun) (n : ℕ) (d m : Devices) →
+    run.FailedAtLine c n d.output.held m.output.held d.error.held m.error.held ⊎ Appends d.output.held m.output.held ((program_after c n).output ++ (held_next (program_after c n)).output) →
+    FailedAtLine (told_after c n) ((told_after c n).error ++ told_line c.trace (program_after c n).machine) [] d m ⊎ Appends d.output.held m.output.held ((program_after c n).output ++ (held_next (program_after c n)).output)
+at_line c n d m (inl h) = inl (told_line c.trace (program_after c n).machine, refl, h.0, h.1, (h.2.0, to_nil d.error.held m.error.held _ h.2.1))
+at_line c n d m (inr all) = inr all
+
 ram_failed : {T : Type 0} (o : RunOptions) (cache : Cache) (v : ImageData) (p : ProgramData) (l : Layout) (d : Devices) (i : SourceState) (out e : SinkState) (ram : RamState) →
     KeepsBeyond cache.span d.ram ram →
     ((left : List ℕ) → d.input.left ≡ Some left → FetchedFront (words_after (run_with o cache v p l left) o.limits.steps) d.ram ram) →
@@ -208,6 +215,8 @@ source_failed {T} o cache v p l d i out e ram kept words broke h = record {
                 (ap (λ (k : ℕ). take k (next_error c.trace (program_after c b.steps))) none.1
                 ∙ take-append_seam (told_line c.trace (program_after c b.steps).machine) (held_next (program_after c b.steps)).error) b.error),
           );
+          output_failed = λ rose. to_nil d.error.held e.held _ (b.output_failed rose);
+          error_failed = λ rose. at_line c b.steps d (ran_all d i out e ram) (b.error_failed rose);
           unasked = b.unasked;
           taken = b.taken;
           no_more = let few : length b.taken + length (held_next (program_after c b.steps)).input ≤ length (program_after c b.steps).input = b.few in omega arith;
@@ -240,6 +249,8 @@ sink_failed {T} o cache v p l d i out e ram kept words broke h = record {
           error_front = b.error_front;
           error = to_nil d.error.held e.held _ b.error;
           source = λ x. absurd (let bad : ⊥ = cc in bad);
+          output_failed = λ rose. to_nil d.error.held e.held _ (b.output_failed rose);
+          error_failed = λ rose. at_line c b.steps d (ran_all d i out e ram) (b.error_failed rose);
           unasked = b.unasked;
           taken = b.taken;
           no_more = let few : length b.taken + length (held_next (program_after c b.steps)).input ≤ length (program_after c b.steps).input = b.few in omega arith;
@@ -541,6 +552,8 @@ left_again o k d m s r h = failed_so o k d m r [] (elim h.broke [
         error_front = f.error_front;
         error = f.error;
         source = f.source;
+        output_failed = f.output_failed;
+        error_failed = f.error_failed;
         unasked = f.unasked;
         taken = f.taken;
         no_more = f.no_more;

@@ -50,8 +50,10 @@ pub step_failed : {T : Type 0} (f : CallFault) (s : FlatState) (bus : List AreaD
     s.machine.ending ≡ None → AppendsThenPrefix before.output.held after.output.held s.output (next_made s).output →
     AppendsThenPrefix before.error.held after.error.held s.error (next_made s).error →
     (IsErrOf {T = T} (Err f) call.SourceFault → Appends before.output.held after.output.held s.output × Appends before.error.held after.error.held s.error) →
+    ((after.output.faults ≡ before.output.faults → ⊥) → Appends before.error.held after.error.held s.error) →
+    ((after.error.faults ≡ before.error.faults → ⊥) → Appends before.output.held after.output.held (s.output ++ (next_made s).output)) →
     FillsFrontTold s bus after.input.left → Unasked (next_made s) (stream_faults before) (stream_faults after) → StepFailed s s.error (next_made s) (read_room_of s) before after (refusal_of f) []
-step_failed {T} f s bus before after going output error source front unasked = record {
+step_failed {T} f s bus before after going output error source first behind front unasked = record {
   fault = named f;
   going = going;
   output = output;
@@ -59,6 +61,8 @@ step_failed {T} f s bus before after going output error source front unasked = r
   error = subst (λ (x : List ℕ). Appends before.error.held after.error.held x) (sym (append-nil (s.error ++ take error.0 (next_made s).error))) error.1;
   source = λ e. let both = source (let same : f ≡ call.SourceFault = source_is f e in subst (λ (x : CallFault). IsErrOf {T = T} (Err x) call.SourceFault) (sym same) refl) in
       (both.0, subst (λ (x : List ℕ). Appends before.error.held after.error.held x) (sym (append-nil s.error)) both.1);
+  output_failed = λ rose. subst (λ (x : List ℕ). Appends before.error.held after.error.held x) (sym (append-nil s.error)) (first rose);
+  error_failed = λ rose. inr (behind rose);
   unasked = unasked;
   taken = front.2.bytes;
   no_more = let size : length front.2.bytes ≡ front.0 = front.2.number in let room : front.0 ≤ read_room_of s = front.1 in omega arith;
@@ -123,7 +127,7 @@ run_failed f o p l first new d i out e first_is ran = record {
         let ended : state.machine.ending ≡ None = sym (ap (λ (x : FlatData). x.machine.ending) (ran.stays input left)) ∙ ran.going in
         subst (λ (s : FlatState). StepFailed s s.error (next_made s) (read_room_of s) d (run_to d i out e) (refusal_of f) [])
         (start_same o p l first new.machine.steps input first_is)
-        (step_failed {T = Unit {0}} f state new.machine.bus d (run_to d i out e) ended (ran.output_part input left) (ran.error_part input left) (λ x. ran.failed_input x input left) (ran.front input left)
+        (step_failed {T = Unit {0}} f state new.machine.bus d (run_to d i out e) ended (ran.output_part input left) (ran.error_part input left) (λ x. ran.failed_input x input left) (λ rose. ran.failed_output rose input left) (λ rose. ran.failed_error rose input left) (ran.front input left)
         (record { output = ran.unasked_output input left; error = ran.unasked_error input left }));
   });
   causes = run_causes {T = Unit {0}} {U = Ending} f d i out e ran.causes;

@@ -107,12 +107,15 @@ pub record BrokenStep (v : ImageData) (r : Record) (h : HartData) (left : List �
   pub calls : stepped.made ≡ call_made h.machine left
 
 -- What such a step leaves besides. It comes between two instructions, a front of the buffer of a read may be filled, and a sink to which
--- the call gives nothing is not asked.
+-- the call gives nothing is not asked. What it writes to the output comes before what it writes to the errors, as its line is: where the
+-- output failed the errors are as before, and where they failed the output has all of it.
 pub record BrokenCall (h h' : HartData) (before after : Devices) : Type 0 where
   pub between : is_between h.control ≡ true
   pub moved : Moved h.machine h'.machine.bus before.input.left after.input.left
   pub unasked_output : (left : List ℕ) → (call_made h.machine left).output ≡ [] → after.output ≡ before.output
   pub unasked_error : (left : List ℕ) → (call_made h.machine left).error ≡ [] → after.error ≡ before.error
+  pub failed_output : (after.output.faults ≡ before.output.faults → ⊥) → after.error ≡ before.error
+  pub failed_error : (after.error.faults ≡ before.error.faults → ⊥) → ForSome before.input.left (λ left. Appends before.output.held after.output.held (call_made h.machine left).output)
 
 -- the fact holds where the input or a sink failed
 abbrev pub OnDevice : {T : Type 0} → Result T BoardFault → Type 0 → Type 0

@@ -8,6 +8,7 @@ use Rattle.swi_outside.specs.Causes.{DeviceCause}
 use Rattle.swi_outside.specs.CacheRam.{KeepsBeyond, RamState}
 use Rattle.swi_outside.specs.Laws.{cause_from, causes_from, no_cause, none_named, ok_causes, ok_unmoved}
 use Rattle.swi_calls.specs.declared.end.End.{End}
+use Rattle.swi_calls.specs.State.{FlatState}
 use Rattle.swi_image.specs.Format.{ImageData}
 use Rattle.swi_rom.specs.Record.{Record, Transfer}
 use Rattle.swi_hart.specs.Bounds.{depth, most, most_by}
@@ -25,9 +26,9 @@ use Rattle.swi_board.specs.Runs.{unfetched}
 use Rattle.swi_board.specs.Tracking.{Point}
 use Rattle.swi_board.proofs.Held.{same_steps}
 use Rattle.swi_board.proofs.Running.{kept_both}
-use Rattle.swi_run_laws.specs.Broken.{Broke}
+use Rattle.swi_run_laws.specs.Broken.{Broke, InOrder}
 use Rattle.swi_run_laws.proofs.Between.{most_any}
-use Rattle.swi_run_laws.proofs.Broken.{broke_off, off_unasked}
+use Rattle.swi_run_laws.proofs.Broken.{broke_off, off_in_order, off_unasked}
 use Rattle.swi_rom.specs.Rams.{wrote_one}
 use Rattle.swi_rom.specs.Service.{Setting}
 use Rattle.swi_engine.specs.Engine.{Event, beside, engine_words, event, span_of}
@@ -405,6 +406,9 @@ broke_around by v SourceFault s from a c w h =
 broke_around by v SinkFault s from a c w h =
     record { output_front = h.output_front; output = h.output; error_front = h.error_front; error = h.error; unwritten = h.unwritten; taken = h.taken; input = h.input; few = h.few; words = h.words }
 
+order_around : (s : FlatState) (from : Point) (a c : BoardOf EngineData) (w : Around) (before after : Faults) → InOrder s from (point_around c w) before after → InOrder s from (point_around a w) before after
+order_around s from a c w before after h = record { output_failed = h.output_failed; error_failed = h.error_failed }
+
 -- of the hart's event
 hart_stopped : (v : ImageData) (rate made : ℕ) (w0 w2 : Whole) (fault : BoardFault) → HartBroke v (rounds rate made) w0 w2 (Err fault) →
     FromHere v w0.board w0.around (λ b s from.
@@ -440,6 +444,9 @@ hart_stopped v rate made w0 w2 fault hart = by w0.board hart.mid.board w2.board 
                   (subst (λ (q : Setting). Broke (beside q) v fault (turned_all (setting_of a.rom) v (rounds rate made) s) from (point_around c w2.around)) led.setting broke);
               unasked = λ other. subst (λ (f : Faults). Unasked (next_of (turned_all (setting_of a.rom) v (rounds rate made) s).flat) f (faults_of w2.around.devices)) hart.came.quiet
                   (off_unasked engine_service v (suc b.hart.machine.steps) mid last fault other turns.sound (off running) (turned_all (setting_of a.rom) v (rounds rate made) s) from there);
+              in_order = λ other. subst (λ (f : Faults). InOrder (turned_all (setting_of a.rom) v (rounds rate made) s).flat from (point_around a w2.around) f (faults_of w2.around.devices)) hart.came.quiet
+                  (order_around (turned_all (setting_of a.rom) v (rounds rate made) s).flat from a c w2.around _ _
+                  (off_in_order engine_service v (suc b.hart.machine.steps) mid last fault other turns.sound (off running) (turned_all (setting_of a.rom) v (rounds rate made) s) from there));
             }
 
 -- and of one of the engine's

@@ -17,7 +17,7 @@ use Rattle.swi_board.specs.Ran.{Unasked, next_of}
 use Rattle.swi_board.specs.Tracking.{Point}
 use Rattle.swi_engine.specs.Engine.{beside, engine_words, span_of}
 use Rattle.swi_engine.specs.State.{EngineData, kept_by, setting_of}
-use Rattle.swi_run_laws.specs.Broken.{Broke}
+use Rattle.swi_run_laws.specs.Broken.{Broke, InOrder}
 use Rattle.swi_prefetch.specs.Events.{Turn, of_hart, of_engine, round, rounds, turned_all}
 use Rattle.swi_prefetch.specs.Prefetching.{GivenUp, HartEvent, OfBoards, PcShort, TakesTurns}
 use Rattle.swi_prefetch.specs.Tracking.{Around, BoardTracks, Leads, board_around, point_around}
@@ -106,10 +106,11 @@ pub record EngineBroke (v : ImageData) (ts : List Turn) (rate : ℕ) (old new : 
 abbrev pub BrokeIn : ImageData → List Turn → ℕ → Whole → Whole → Result Unit BoardFault → Type 0
 BrokeIn v ts rate old new result = HartBroke v ts old new result ⊎ EngineBroke v ts rate old new result
 
--- Behind this moment a device broke off the hart's next machine instruction: what stands then, and which sinks it asked.
+-- Behind this moment a device broke off the hart's next machine instruction: what stands then, which sinks it asked, and in which order.
 pub record HartStopped (by : Setting) (v : ImageData) (fault : BoardFault) (s : Moment) (from new : Point) (before after : Faults) : Type 0 where
   pub broke : Broke (beside by) v fault s from new
   pub unasked : (fault ≡ RamFault → ⊥) → Unasked (next_of s.flat) before after
+  pub in_order : (fault ≡ RamFault → ⊥) → InOrder s.flat from new before after
 
 -- Or the ram failed in one of the engine's events behind that: no word was fetched, taken or written in it.
 pub record EngineStopped (by : Setting) (v : ImageData) (rate : ℕ) (fault : BoardFault) (s : Moment) (from new : Point) : Type 0 where

@@ -41,7 +41,7 @@ use Rattle.swi_board.specs.Board.{BoardOf}
 use Rattle.swi_board.specs.Fetching.{HasFetched}
 use Rattle.swi_board.specs.Moments.{Moment, event as instruction}
 use Rattle.swi_board.specs.Ran.{Unasked, next_of}
-use Rattle.swi_run_laws.specs.Broken.{Broke, DeviceBroke}
+use Rattle.swi_run_laws.specs.Broken.{Broke, DeviceBroke, InOrder}
 use Rattle.swi_board.proofs.Running.{kept_both}
 use Rattle.swi_engine.specs.Engine.{beside, engine_copies, engine_words, span_of}
 use Rattle.swi_engine.specs.State.{EngineData, kept_by}
@@ -200,8 +200,8 @@ ram_from c d m b before after h = elim h.stopped [
 
 step_at : (f : BoardFault) (c : AheadRun) (d m : Devices) (b : BoardOf EngineData) → (f ≡ fault.RamFault → ⊥) → (h : AheadBroke c f (point_around b (around d)) (point_around b (around m)) (stream_faults d) (stream_faults m)) →
     DeviceBroke (beside (setting_for c)) c.image f (moment_after c h.made) (point_around b (around d)) (point_around b (around m)) → Unasked (next_of (moment_after c h.made).flat) (stream_faults d) (stream_faults m) →
-    StepBrokeAhead c d m (fault_refusal f) []
-step_at f c d m b other h broke unasked =
+    InOrder (moment_after c h.made).flat (point_around b (around d)) (point_around b (around m)) (stream_faults d) (stream_faults m) → StepBrokeAhead c d m (fault_refusal f) []
+step_at f c d m b other h broke unasked order =
     let going = h.going h.made (omega arith) in
     record {
       events = rounds c.rate h.made;
@@ -217,6 +217,8 @@ step_at f c d m b other h broke unasked =
           front_none d.output.held m.output.held s.output (held_next s).output broke.output_front none.0 broke.output,
           to_nil d.error.held m.error.held s.error (front_none d.error.held m.error.held s.error (held_next s).error broke.error_front none.1 broke.error),
         );
+        output_failed = λ rose. to_nil d.error.held m.error.held s.error (order.output_failed rose);
+        error_failed = λ rose. inr (order.error_failed rose);
         unasked = unasked;
         taken = broke.taken;
         no_more = let few : length broke.taken + length (held_next s).input ≤ length s.input = broke.few in omega arith;
@@ -240,7 +242,7 @@ step_at f c d m b other h broke unasked =
 step_from : (f : BoardFault) (c : AheadRun) (d m : Devices) (b : BoardOf EngineData) → (f ≡ fault.RamFault → ⊥) → AheadBroke c f (point_around b (around d)) (point_around b (around m)) (stream_faults d) (stream_faults m) →
     StepBrokeAhead c d m (fault_refusal f) []
 step_from f c d m b other h = elim h.stopped [
-  | inl hart ↦ step_at f c d m b other h (of_device f other hart.broke) (hart.unasked other)
+  | inl hart ↦ step_at f c d m b other h (of_device f other hart.broke) (hart.unasked other) (hart.in_order other)
   | inr engine ↦ absurd (other engine.told)
 ]
   where
@@ -540,6 +542,8 @@ left_again o c d m s r h = record {
           error_front = f.error_front;
           error = f.error;
           source = f.source;
+          output_failed = f.output_failed;
+          error_failed = f.error_failed;
           unasked = f.unasked;
           taken = f.taken;
           no_more = f.no_more;

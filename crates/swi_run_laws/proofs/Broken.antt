@@ -9,7 +9,7 @@ use Rattle.swi_outside.specs.Laws.{Appends-append, Appends-none}
 use Rattle.swi_outside.specs.Sink.{AppendsPrefix, SinkState}
 use Rattle.swi_calls.specs.declared.end.End.{End}
 use Rattle.swi_calls.specs.declared.machine.Machine.{Machine}
-use Rattle.swi_calls.specs.Flat.{Made as Step, quiet}
+use Rattle.swi_calls.specs.Flat.{Made as Step, call_made, quiet}
 use Rattle.swi_calls.specs.Held.{held_made}
 use Rattle.swi_image.specs.Format.{ImageData}
 use Rattle.swi_rom.specs.Record.{Record, Placed}
@@ -21,6 +21,8 @@ use Rattle.swi_hart.specs.declared.hart.Control.TheVariants.{At, Outside}
 use Rattle.swi_hart.specs.Calling.{BrokenCall, BrokenStep}
 use Rattle.swi_hart.specs.Hart.{HartData, completes, original, slots}
 use Rattle.swi_hart.specs.Leaving.{RamBroken, indexes_after}
+use Rattle.swi_exec.specs.declared.done.Done.TheVariants as done
+use Rattle.swi_hart.proofs.Growing.{after_one}
 use Rattle.swi_hart.proofs.Midway.{step_follows}
 use Rattle.swi_hart.proofs.Taking.{input_shrinks}
 use Rattle.swi_board.specs.Board.{BoardWithDevices}
@@ -29,7 +31,7 @@ use Rattle.swi_board.specs.Ran.{Unasked, next_of}
 use Rattle.swi_board.specs.Transfers.{Here, at_fall, before_last, spent, spent_by}
 use Rattle.swi_board.proofs.Fetching.{under_is, word_at_place}
 use Rattle.swi_board.proofs.Held.{same_steps}
-use Rattle.swi_run_laws.specs.Broken.{Broke, DeviceBroke, RamBroke}
+use Rattle.swi_run_laws.specs.Broken.{Broke, DeviceBroke, InOrder, RamBroke}
 use Rattle.swi_board.specs.Moments.{Moment, Policy, completed, counted, event, executed, fell, led, stepped_at}
 use Rattle.swi_board.specs.BoardRan.{BrokeOff}
 use Rattle.swi_board.specs.Tracking.{Point, Tracks, point_of}
@@ -218,4 +220,43 @@ off_unasked {S} k v n mid new SourceFault other sound off s from at =
     off.broke.call (off.broke.broke sound s.flat.input at.input)
 off_unasked {S} k v n mid new SinkFault other sound off s from at =
     call_unasked v s (k.span (k.setting mid.rom)) from (point_of k mid) new.hart new.devices.input.left mid.devices.output.held new.devices.output.held mid.devices.error.held new.devices.error.held mid.devices new.devices at off.running off.short
+    off.broke.call (off.broke.broke sound s.flat.input at.input)
+
+-- the board's step that a device broke off completes one of the flat machine
+call_completes : (t : Bool) (f m : Machine) (input : List ℕ) → m.steps ≡ f.steps → (call_made m input).machine.steps ≡ (if t then held_made f input else quiet f input).machine.steps → t ≡ true
+call_completes true f m input same one = refl
+call_completes false f m input same one = let more = after_one m done.Call input in absurd (omega (arith, same, one, more))
+
+-- and its output came first
+call_in_order : (v : ImageData) (s : Moment) (span : ℕ) (from a b : Point) (h' : HartData) (d d' : Devices) → Tracks span v s from a → a.hart.machine.ending ≡ None → a.hart.machine.pc < 2 ^ 32 → d.input.left ≡ Some s.flat.input →
+    a.out ≡ d.output.held → b.out ≡ d'.output.held → a.err ≡ d.error.held → b.err ≡ d'.error.held →
+    BrokenCall a.hart h' d d' → BrokenStep v a.kept a.hart s.flat.input b.left a.out b.out a.err b.err → InOrder s.flat from b (faults_of d) (faults_of d')
+call_in_order v s span from a b h' d d' at running word told out_a out_b err_a err_b call step =
+    let follows = step_follows v a.kept a.kept s.flat.machine a.hart.machine a.hart.control step.stepped s.flat.input at.image at.matches running word (λ e. refl) step.step in
+    let t : Bool = completes v a.hart.machine a.hart.control in
+    let same = (same_steps v a.kept s.flat.machine a.hart.machine a.hart.control at.matches).0 in
+    let one = (same_steps v a.kept (if t then held_made s.flat.machine s.flat.input else quiet s.flat.machine s.flat.input).machine step.stepped.made.machine step.stepped.control follows.matches).0 in
+    let whole : t ≡ true = call_completes t s.flat.machine a.hart.machine s.flat.input same (ap (λ (m : Step). m.machine.steps) (sym step.calls) ∙ one) in
+    let bytes : (call_made a.hart.machine s.flat.input).output ≡ (next_of s.flat).output =
+    ap (λ (m : Step). m.output) (sym step.calls) ∙ follows.output ∙ ap (λ (x : Bool). (if x then held_made s.flat.machine s.flat.input else quiet s.flat.machine s.flat.input).output) whole in
+    record {
+      output_failed = λ rose.
+          let stays : b.err ≡ a.err = err_b ∙ ap (λ (x : SinkState). x.held) (call.failed_output rose) ∙ sym err_a in
+          subst (λ (o : Option (List ℕ)). Appends from.err o s.flat.error) (sym stays) at.error;
+      error_failed = λ rose.
+          let gained : Appends a.out b.out (next_of s.flat).output =
+          subst (λ (o : Option (List ℕ)). Appends a.out o (next_of s.flat).output) (sym out_b)
+          (subst (λ (o : Option (List ℕ)). Appends o d'.output.held (next_of s.flat).output) (sym out_a)
+          (subst (λ (l : List ℕ). Appends d.output.held d'.output.held l) bytes (call.failed_error rose s.flat.input told))) in
+          Appends-append from.out a.out b.out s.flat.output (next_of s.flat).output at.output gained;
+    }
+
+pub off_in_order : {S : Type 0} (k : ServiceOf S) (v : ImageData) (n : ℕ) (mid new : BoardWithDevices S) (fault : BoardFault) → (fault ≡ RamFault → ⊥) → k.sound mid.rom v mid.ram.words → BrokeOff k v n mid new fault →
+    (s : Moment) (from : Point) → Tracks (k.span (k.setting mid.rom)) v s from (point_of k mid) → InOrder s.flat from (point_of k new) (faults_of mid.devices) (faults_of new.devices)
+off_in_order {S} k v n mid new RamFault other sound off s from at = absurd (other refl)
+off_in_order {S} k v n mid new SourceFault other sound off s from at =
+    call_in_order v s (k.span (k.setting mid.rom)) from (point_of k mid) (point_of k new) new.hart mid.devices new.devices at off.running off.short at.input refl refl refl refl
+    off.broke.call (off.broke.broke sound s.flat.input at.input)
+off_in_order {S} k v n mid new SinkFault other sound off s from at =
+    call_in_order v s (k.span (k.setting mid.rom)) from (point_of k mid) (point_of k new) new.hart mid.devices new.devices at off.running off.short at.input refl refl refl refl
     off.broke.call (off.broke.broke sound s.flat.input at.input)

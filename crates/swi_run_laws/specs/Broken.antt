@@ -2,6 +2,7 @@
 use Rattle.std.specs.Prelude.{◌≡◌, ◌⊎◌, ℕ, ◌+◌, ◌≤◌, List, ◌++◌, length, take, None, Some, true}
 use Rattle.std.specs.Io.KnownBytes.{Appends, Consumes}
 use Rattle.swi_outside.specs.Causes.{risen}
+use Rattle.swi_outside.specs.Devices.{Faults}
 use Rattle.swi_calls.specs.State.{FlatState}
 use Rattle.swi_image.specs.Format.{ImageData}
 use Rattle.swi_hart.specs.declared.fault.BoardFault.{BoardFault}
@@ -43,6 +44,12 @@ pub record DeviceBroke (by : Policy) (v : ImageData) (fault : BoardFault) (s : M
   pub input : Consumes (Some s.flat.input) new.left taken
   pub few : length taken + length (next_of s.flat).input ≤ length s.flat.input
   pub words : new.ram.fetched_at ≡ (event by v s).words ++ from.ram.fetched_at
+
+-- Which sink failed. What the next step writes to the output comes before what it writes to the errors, as the line of a call comes behind
+-- the call's output: where the output failed the errors hold nothing of that step, and where they failed the output has all of it.
+pub record InOrder (s : FlatState) (from new : Point) (before after : Faults) : Type 0 where
+  pub output_failed : (after.output ≡ before.output → ⊥) → Appends from.err new.err s.error
+  pub error_failed : (after.error ≡ before.error → ⊥) → Appends from.out new.out (s.output ++ (next_of s).output)
 
 abbrev pub Broke : Policy → ImageData → BoardFault → Moment → Point → Point → Type 0
 Broke by v RamFault s from new = RamBroke by v s from new

@@ -57,6 +57,11 @@ step_line s begun next most d m r held line h p = record {
   error_front = h.error_front;
   error = appends_last d.error.held m.error.held held (s.error ++ take h.error_front next.error) line h.error p;
   unasked = h.unasked;
+  output_failed = λ rose. appends_last d.error.held m.error.held held begun line (h.output_failed rose) p;
+  error_failed = λ rose. elim (h.error_failed rose) [
+    | inl at ↦ inl (at.0, at.1, at.2, at.3, (at.4.0, appends_last d.error.held m.error.held held (s.error ++ take at.4.0 at.0) line at.4.1 p))
+    | inr all ↦ inr all
+  ];
   source = λ e. let both = h.source e in (both.0, appends_last d.error.held m.error.held held begun line both.1 p);
   taken = h.taken;
   no_more = h.no_more;

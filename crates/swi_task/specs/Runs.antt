@@ -63,6 +63,12 @@ pub record Ran (s : FlatState) (report : List ℕ) (before after : Devices) (e :
   pub output : Appends before.output.held after.output.held (s.output ++ report)
   pub error : Appends before.error.held after.error.held (s.error ++ last)
 
+-- The error sink failed at what is told of the next step before it is made, of which a front was written; the step was not begun.
+abbrev pub FailedAtLine : FlatState → (begun last : List ℕ) → Devices → Devices → Type 0
+FailedAtLine s begun last before after = (told : List ℕ) × (begun ≡ s.error ++ told) × (told ≡ [] → ⊥)
+    × Appends before.output.held after.output.held s.output
+    × ((front : ℕ) × Appends before.error.held after.error.held ((s.error ++ take front told) ++ last))
+
 -- A source or a sink failed in a state, at the step that would come next, which takes so many bytes of the input at most. Where the source
 -- fails, the errors hold `begun`.
 pub record StepFailed (s : FlatState) (begun : List ℕ) (next : Made) (most : ℕ) (before after : Devices) (r : Refusal) (last : List ℕ) : Type 0 where
@@ -74,6 +80,10 @@ pub record StepFailed (s : FlatState) (begun : List ℕ) (next : Made) (most : �
   pub error : Appends before.error.held after.error.held ((s.error ++ take error_front next.error) ++ last)
   -- and nothing of that but what was told of it before, where the source failed
   pub source : r ≡ refusal.SourceFault → Appends before.output.held after.output.held s.output × Appends before.error.held after.error.held (begun ++ last)
+  -- what that step writes to the output comes before what it writes to the errors, as the line of a call comes behind the call's output: where
+  -- the output failed, the errors hold nothing of it but what was told before; where they failed behind that, the output has all of it
+  pub output_failed : (after.output.faults ≡ before.output.faults → ⊥) → Appends before.error.held after.error.held (begun ++ last)
+  pub error_failed : (after.error.faults ≡ before.error.faults → ⊥) → FailedAtLine s begun last before after ⊎ Appends before.output.held after.output.held (s.output ++ next.output)
   -- a sink to which that step gives nothing was not asked by it
   pub unasked : Unasked next (stream_faults before) (stream_faults after)
   -- of the input what those steps took is gone, and a front of what the next one reads

@@ -1,3 +1,4 @@
+use Rattle.std.specs.Io.KnownBytes.{Appends}
 use Rattle.std.proofs.Common.{Option, Some, ap, subst, ◌+◌, ℕ, List, slice_index, sym, ◌∙◌, refl}
 use Rattle.swi_outside.specs.CacheRam.{RamState}
 use Rattle.swi_image.specs.Place.{word_at}
@@ -151,6 +152,8 @@ returns-in-Err-word_step-clause-stepped g c i rest read before fetched =
         moved = subst (λ (k : List AreaData). Moved h.machine k (Some i) (Some rest)) (sym (ap (λ (k : HartData). k.machine.bus) c.hart-2.view_is)) s.moved;
         unasked_output = λ left none. s.executed.devices.unasked_output left (ap (λ (k : Stepped). k.made.output) (s.asked left) ∙ none);
         unasked_error = λ left none. s.executed.devices.unasked_error left (ap (λ (k : Stepped). k.made.error) (s.asked left) ∙ none);
+        failed_output = s.executed.devices.failed_output;
+        failed_error = λ rose left told. subst (λ (k : Stepped). Appends (g.O.Sink.state c.args.out.now).held (g.O.Sink.state c.word_step.new.out).held k.made.output) (s.asked left) (s.executed.devices.failed_error rose left told);
       });
       unserved = on_device Unit _ c.in-Err-word_step.fault c.fault_of.result c.fault_of.ensures (refl, ram_exit _ _ c.args.at.0 c.args.at.1 c.args.at.2 c.args.at.3 h.control before _ _ c.requires.control below fetched.1 (ram_none _ _));
       unmoved = λ is. absurd (ram_unfailed c.in-Err-word_step.fault c.fault_of.result c.fault_of.ensures is);
