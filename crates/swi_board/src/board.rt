@@ -17,21 +17,21 @@ ghost use Rattle.swi_hart.specs.Hart.{is_between, index_of, place_under, next_ma
 ghost use Rattle.swi_hart.specs.Exchanged.{Exchanged, PlainAt, ExecutesHeld};
 ghost use Rattle.swi_hart.specs.Leaving.{RamFailed};
 ghost use Rattle.swi_hart.specs.MachineStep.{BoardStepped, ReadyToStep};
-ghost use Rattle.swi_hart.specs.Matching.{Arrives, Fits, Matches};
-ghost use Rattle.swi_hart.specs.Service.{TransferServed};
+ghost use Rattle.swi_hart.specs.Matching.{Fits, Matches};
 ghost use Rattle.swi_hart.specs.Staying.{StaysUnder};
-ghost use Rattle.swi_board.specs.Board.{BoardOf, entry_transfer, entries};
+ghost use Rattle.swi_board.specs.Board.{BoardOf};
 ghost use Rattle.swi_board.specs.BoardRan.{BoardRan};
 ghost use Rattle.swi_board.specs.Entered.{Entered};
 ghost use Rattle.swi_board.specs.Learnt.{HasRoom};
 ghost use Rattle.swi_board.specs.Ran.{Followed};
 
 use crate::learnt::Learnt;
+use crate::stepwise::{enter, run_stepwise};
 use std::alloc::Global;
 use std::marker::Model;
 use swi_calls::{End, Heap};
 use swi_exec::Regs;
-use swi_hart::{BoardFault, Control, Hart, Stage, jump, plain_place, plain_step, quick_step};
+use swi_hart::{BoardFault, Hart, Stage, plain_place, plain_step, quick_step};
 use swi_image::ImageView;
 use swi_memory::{Bus, Layout};
 use swi_outside::{CacheRam, Failed, Sink, Source, SteadyRam};
@@ -47,11 +47,12 @@ pub enum BootStop {
     Memory,
 }
 
-/// A machine that runs a program out of a cache ram: a hart, and the service that keeps the ram's words.
+/// A machine that runs a program out of a cache ram: a hart, and the service that keeps the ram's words. What a step or a
+/// run needs to hold of them is asked by its contract.
 #[derive(Drop)]
 pub struct Board<R: CacheRom> {
-    hart: Hart,
-    rom: R,
+    pub hart: Hart,
+    pub rom: R,
     // It changes no step.
     learnt: Option<Learnt>,
 }
@@ -62,79 +63,6 @@ impl<R: CacheRom> Model for Board<R> {
     ghost Value = { BoardOf R };
 
     ghost view = { λ b. record { hart = b.hart; rom = b.rom } };
-}
-
-/// Enters the ram at the hart's address.
-fn enter<R: CacheRom, M: CacheRam>(
-    hart: &mut Hart,
-    rom: &mut R,
-    image: &ImageView<'_>,
-    ram: &mut M,
-) -> Result<(), Failed>
-    requires count { hart.old.count < 2 ^ 56 }
-    requires sound { R.service.sound rom.old image.now (M.state ram.old).words }
-    requires services { (R.service.kept rom.old).counts.services < 2 ^ 50 }
-    ensures hart { OnOk result (hart.new
-        ≡ record hart.old {
-          control = hart.new.control;
-          count = hart.old.count + entries image.now hart.old.machine.pc;
-          booted = true;
-        }) }
-    ensures control { OnOk result (Arrives image.now (R.service.kept rom.new) hart.old.machine.pc hart.new.control) }
-    ensures served { TransferServed R.service image.now (entry_transfer image.now hart.old.machine.pc)
-        (record { rom = rom.old; ram = M.state ram.old })
-        (record { rom = rom.new; ram = M.state ram.new }) result }
-    ensures outside { place_of image.now hart.old.machine.pc ≡ None →
-        (rom.new ≡ rom.old) × (M.state ram.new ≡ M.state ram.old) }
-{
-    let pc = hart.origin_pc();
-    if image.place(pc).is_some() {
-        let control = jump(rom, image, ram, pc)?;
-        hart.control.go(control);
-        hart.count += 1;
-    } else {
-        hart.control.go(Control::Outside);
-    }
-    hart.booted = true;
-    Ok(())
-}
-
-/// Runs a machine instruction at a time.
-fn run_slowly<R: CacheRom, M: CacheRam, I: Source, O: Sink, E: Sink>(
-    hart: &mut Hart,
-    rom: &mut R,
-    image: &ImageView<'_>,
-    ram: &mut M,
-    input: &mut I,
-    out: &mut O,
-    err: &mut E,
-    n: u64,
-) -> Result<(), BoardFault>
-    requires fits { Fits image.now (R.service.kept rom.old) hart.old }
-    requires sound { R.service.sound rom.old image.now (M.state ram.old).words }
-    requires steps { hart.old.machine.steps ≤ n }
-    requires limit { n ≤ 2 ^ 48 }
-    requires count { hart.old.count ≤ 2 ^ 55 }
-    requires services { (R.service.kept rom.old).counts.services ≤ 2 ^ 49 }
-    ensures gave { HasGiven (I.state input.old) (I.state input.new) }
-    ensures ran { AsTold (I.state input.old) (I.state input.new) (λ old new. BoardRan R.service image.now n
-        (record {
-          hart = hart.old;
-          rom = rom.old;
-          ram = M.state ram.old;
-          devices = record { input = old; output = O.state out.old; error = E.state err.old };
-        })
-        (record {
-          hart = hart.new;
-          rom = rom.new;
-          ram = M.state ram.new;
-          devices = record { input = new; output = O.state out.new; error = E.state err.new };
-        }) result) }
-{
-    while hart.machine.steps < n && hart.machine.ending.is_none() {
-        quick_step(hart, rom, image, ram, input, out, err)?;
-    }
-    Ok(())
 }
 
 /// Runs out of a steady ram, from between two instructions: by micro-ops, but for the steps that are left to the machine
@@ -410,7 +338,7 @@ impl<R: CacheRom> Board<R> {
             Some(learnt) if ram.is_steady() && hart.is_between() && learnt.has_room(image) => {
                 run_by_words(hart, rom, image, ram, learnt, input, out, err, n)
             }
-            _ => run_slowly(hart, rom, image, ram, input, out, err, n),
+            _ => run_stepwise(hart, rom, image, ram, input, out, err, n),
         }
     }
 

@@ -5,8 +5,10 @@ mod advance;
 mod board;
 mod learnt;
 mod links;
+mod stepwise;
 mod targets;
 mod ways;
 
 pub use board::{Board, BootStop};
+pub use stepwise::{enter, run_stepwise};
 pub use swi_hart::{BoardFault, Control, Hart, Stage};

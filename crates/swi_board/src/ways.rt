@@ -54,8 +54,8 @@ pub(crate) fn fetch<M: SteadyRam>(ram: &mut M, i: u32) -> u32
     }
 }
 
-/// Goes over an exit whose link isn't known, or that isn't linked: the service serves it then. The index in the ram where
-/// its target stands.
+/// Goes over an exit, by the word that was fetched there, whose link isn't known, or that isn't linked: the service serves it
+/// then. The index in the ram where its target stands.
 #[cold]
 #[inline(never)]
 fn pass<R: CacheRom, M: SteadyRam>(
@@ -65,11 +65,13 @@ fn pass<R: CacheRom, M: SteadyRam>(
     ways: &mut Ways,
     exit: u64,
     at: u32,
+    word: u32,
 ) -> u32
     requires steady { M.steady ≡ true }
     requires sound { R.service.sound rom.old image.now (M.state ram.old).words }
     requires services { (R.service.kept rom.old).counts.services < 2 ^ 50 }
     requires exit { ExitInRow image.now (R.service.kept rom.old) exit at }
+    requires word { word ≡ slice_index (M.state ram.old).words at }
     requires known { exit < length ways.old.links }
     requires found { AreFound image.now (R.service.kept rom.old) ways.old.targets }
     ensures passed { Passed R.service image.now exit (record { rom = rom.old; ram = M.state ram.old })
@@ -77,7 +79,6 @@ fn pass<R: CacheRom, M: SteadyRam>(
     ensures known { length ways.new.links ≡ length ways.old.links }
     ensures found { AreFound image.now (R.service.kept rom.new) ways.new.targets }
 {
-    let word = ram.word(at);
     if word != EBREAK {
         let Some(Instr::Jal { off, .. }) = decode(word) else {
             unreachable!()
@@ -123,7 +124,7 @@ pub(crate) fn leave<R: CacheRom, M: SteadyRam>(
     let word = fetch(ram, at);
     match ways.links.find(exit, word) {
         Some(distance) => at.wrapping_add(distance),
-        None => pass(rom, image, ram, ways, exit, at),
+        None => pass(rom, image, ram, ways, exit, at, word),
     }
 }
 

@@ -8,10 +8,10 @@ use Rattle.swi_board.proofs.ways.pass.Goals as goal
 
 pub returns-then-word-ne-EBREAK-clause-passed : goal.returns-then-word-ne-EBREAK-clause-passed
 returns-then-word-ne-EBREAK-clause-passed g c =
-    let off : c.in-Some-Jal.off ≡ offset_of (decoded c.word-word.result) = search rules in
-    over_link g.met.R.CacheRom.laws c.args.image.now c.args.rom.now (g.M.CacheRam.state c.args.ram.now) c.requires.sound c.requires.exit c.word-word.result c.distance-distance.result c.word-word.ensures (record {
+    let off : c.in-Some-Jal.off ≡ offset_of (decoded c.args.word) = search rules in
+    over_link g.met.R.CacheRom.laws c.args.image.now c.args.rom.now (g.M.CacheRam.state c.args.ram.now) c.requires.sound c.requires.exit c.args.word c.distance-distance.result c.requires.word (record {
       linked = c.if-word-ne-EBREAK.true;
-      leads = λ i j jumps low high. c.distance-distance.ensures i j c.word-word.result jumps off low high;
+      leads = λ i j jumps low high. c.distance-distance.ensures i j c.args.word jumps off low high;
     })
 
 pub overflow_cast-exit : goal.overflow_cast-exit
@@ -47,7 +47,7 @@ cross-requires-clause-exit g c =
     let e = c.requires.exit in
     let at = e.row in
     let to = c.word_in_row-target.ensures e.block (e.offset + 1) e.known e.is_exit.inside (omega (arith, at)) in
-    exit_at g.met.R.CacheRom.laws c.args.image.now c.args.rom.now (g.M.CacheRam.state c.args.ram.now) c.requires.sound c.requires.exit c.word-word.result c.word_in_row-target.result c.word-word.ensures c.if-word-ne-EBREAK.false to
+    exit_at g.met.R.CacheRom.laws c.args.image.now c.args.rom.now (g.M.CacheRam.state c.args.ram.now) c.requires.sound c.requires.exit c.args.word c.word_in_row-target.result c.requires.word c.if-word-ne-EBREAK.false to
 
 pub unreachable-requires-in-Err : goal.unreachable-requires-in-Err
 unreachable-requires-in-Err g c =

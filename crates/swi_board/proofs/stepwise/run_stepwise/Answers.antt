@@ -5,7 +5,7 @@ use Rattle.swi_outside.proofs.SourceLemmas.{read_first, read_last}
 use Rattle.swi_outside.proofs.ToldLemmas.{as_told_stands}
 use Rattle.swi_board.proofs.Along.{on_more, on_some, on_start, run_broken, run_ended, steps_on}
 use Rattle.swi_board.proofs.Running.{calls_small, count_small, falls}
-use Rattle.swi_board.proofs.board.run_slowly.Goals as goal
+use Rattle.swi_board.proofs.stepwise.run_stepwise.Goals as goal
 
 pub loop-hart-init : goal.loop-hart-init
 loop-hart-init g c = on_start c.requires.fits c.requires.steps c.requires.sound

@@ -1,7 +1,7 @@
 use Rattle.std.proofs.Common.{◌*◌, ◌+◌, ◌-◌}
 use Rattle.swi_hart.specs.Bounds.{most}
 use Rattle.swi_board.proofs.Along.{AlongOn}
-use Rattle.swi_board.proofs.board.run_slowly.Given as goal
+use Rattle.swi_board.proofs.stepwise.run_stepwise.Given as goal
 
 abbrev pub invariant-loop-hart : goal.invariant-loop-hart
 invariant-loop-hart g l = AlongOn g.R.CacheRom.service l.image l.n
