@@ -15,8 +15,7 @@ ghost use Rattle.swi_cached.specs.Traced.{ToldRan};
 use std::alloc::Global;
 use swi_board::{Board, BoardFault};
 use swi_image::ImageView;
-use swi_outside::SteadyRam;
-use swi_outside::{Failed, Memory, Sink, Source};
+use swi_outside::{Failed, Memory, Sink, Source, SteadyRam};
 use swi_rom::CacheRom;
 use swi_trace::{History, Trace, trace_line};
 

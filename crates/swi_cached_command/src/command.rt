@@ -26,8 +26,7 @@ use swi_cached::{AskedRun, CachedStop, ring_for, run_cached, slots_for};
 use swi_command::{CacheKind, CacheOptions, RunLimits, RunOptions};
 use swi_image::ImageView;
 use swi_memory::Layout;
-use swi_outside::SteadyRam;
-use swi_outside::{Shelf, Sink, Source};
+use swi_outside::{Shelf, Sink, Source, SteadyRam};
 use swi_program::Program;
 use swi_rom::CacheRom;
 use swi_task::{

@@ -16,7 +16,6 @@ use swi_devices::{FaultRam, MemSink, MemSource};
 use swi_exec::FaultKind::*;
 use swi_image::ImageView;
 use swi_memory::Layout;
-use swi_micro::DecodedRam;
 use swi_outside::CacheRam;
 use swi_program::{Program, lay_out};
 use swi_rom::CacheRom;
@@ -100,21 +99,18 @@ struct Devices {
     input: MemSource,
     out: MemSink,
     err: MemSink,
-    ram: DecodedRam<FaultRam>,
+    ram: FaultRam,
 }
 
 /// The input `abc`, two sinks, and a ram of so many words, with a run's failing calls.
 fn devices_of(alloc: Global, run: &Run, words: u32) -> Result<Devices, Fail>
-    ensures { IfOk result (λ d. length d.ram.ram.ram.words ≡ words) }
+    ensures { IfOk result (λ d. length d.ram.ram.words ≡ words) }
 {
     Ok(Devices {
         input: MemSource::new(b"abc".to_vec(alloc)?, [run.input_fails].to_vec(alloc)?),
         out: MemSink::new(alloc, 4096, [run.out_fails].to_vec(alloc)?)?,
         err: MemSink::new(alloc, 4096, Vec::new(alloc))?,
-        ram: DecodedRam::new(
-            alloc,
-            FaultRam::new(alloc, words, [run.ram_fails].to_vec(alloc)?)?,
-        ),
+        ram: FaultRam::new(alloc, words, [run.ram_fails].to_vec(alloc)?)?,
     })
 }
 
@@ -185,7 +181,7 @@ fn stands_after(alloc: Global, run: &Run, words: u32) -> Result<Stands, Fail> {
     let answer = run_cached(
         alloc, &view, &program, &layout, rom, asked, &mut input, &mut out, &mut err, &mut ram,
     );
-    stands_of(alloc, &answer, &out, &err, ram.ram())
+    stands_of(alloc, &answer, &out, &err, &ram)
 }
 
 /// The first 64 words of a ram, or all.
@@ -460,7 +456,7 @@ fn in_two_runs(
         steps,
         board.ending(),
         board.origin_pc(),
-        counts_of(&board, ram.ram()),
+        counts_of(&board, &ram),
     ))
 }
 

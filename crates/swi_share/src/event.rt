@@ -19,8 +19,7 @@ use crate::input::Input;
 use swi_board::Board;
 use swi_hart::{BoardFault, Hart};
 use swi_image::ImageView;
-use swi_outside::SteadyRam;
-use swi_outside::{CacheRam, Failed, Sink};
+use swi_outside::{CacheRam, Failed, Sink, SteadyRam};
 use swi_rom::CacheRom;
 use swi_slots::FifoRom;
 

@@ -11,8 +11,7 @@ use crate::process::{Guest, Process, most_words, start_all};
 use std::alloc::Global;
 use std::marker::Model;
 use swi_hart::{BoardFault, Hart};
-use swi_outside::SteadyRam;
-use swi_outside::{Memory, Sink};
+use swi_outside::{Memory, Sink, SteadyRam};
 use swi_rom::CacheRom;
 use swi_slots::FifoRom;
 

@@ -23,8 +23,7 @@ use swi_elf_read::{Elf, image_bytes, read_elf};
 use swi_hart::BoardFault;
 use swi_image::{Image, ImageView, read_image};
 use swi_make::next_number;
-use swi_outside::SteadyRam;
-use swi_outside::{Failed, Shelf, Sink};
+use swi_outside::{Failed, Shelf, Sink, SteadyRam};
 use swi_report::{SharedWork, shared_text};
 use swi_share::{Guest, Share, most_words};
 use swi_task::{

@@ -16,8 +16,7 @@ use crate::commands::perform;
 use std::alloc::Global;
 use swi_answer::{Ending, Refusal, line_of_ending, line_of_refusal};
 use swi_command::{Command, CommandError, parse_command};
-use swi_outside::SteadyRam;
-use swi_outside::{Failed, Shelf, Sink, Source};
+use swi_outside::{Failed, Shelf, Sink, Source, SteadyRam};
 
 /// Writes the line of an ending, where it has one.
 fn write_ending<E: Sink>(ending: &Ending, err: &mut E) -> Result<(), Failed>

@@ -15,8 +15,7 @@ use swi_cached_command::cached;
 use swi_command::Command;
 use swi_file_commands::{check, list, plain, rewrite, upgrade};
 use swi_measure_command::measure;
-use swi_outside::SteadyRam;
-use swi_outside::{Shelf, Sink, Source};
+use swi_outside::{Shelf, Sink, Source, SteadyRam};
 use swi_prefetch_command::prefetch;
 use swi_share_command::share;
 

@@ -4,8 +4,7 @@ use crate::texts::{SEVEN, file_of};
 use std::alloc::Global;
 use std::test::Fail;
 use swi_devices::{FaultRam, MemShelf, MemSink, MemSource};
-use swi_micro::{DecodedRam, MicroRam};
-use swi_outside::CacheRam;
+use swi_outside::{CacheRam, SteadyRam};
 use swi_top::Ending::{self, *};
 use swi_top::{Refusal, top};
 
@@ -59,7 +58,7 @@ pub struct Devices {
 
 /// Does a command over these devices. All tests go through this one call of `top`: a function's proof grows with its steps
 /// times its locals, so the tests' own bodies stay small.
-pub fn answer_to<R: MicroRam>(
+pub fn answer_to<R: SteadyRam>(
     alloc: Global,
     command: &str,
     devices: &mut Devices,
@@ -148,10 +147,9 @@ pub fn stands_of(
 /// Does a command, with this file under the name `A` and the row's other devices.
 pub fn run_words(alloc: Global, command: &str, row: &Row, file: Vec<u8>) -> Result<Stands, Fail> {
     let mut devices = devices_of(alloc, row, file)?;
-    let ram = FaultRam::new(alloc, row.ram, [row.ram_fails].to_vec(alloc)?)?;
-    let mut ram = DecodedRam::new(alloc, ram);
+    let mut ram = FaultRam::new(alloc, row.ram, [row.ram_fails].to_vec(alloc)?)?;
     let answer = answer_to(alloc, command, &mut devices, &mut ram)?;
-    stands_of(alloc, answer, &devices, ram.ram())
+    stands_of(alloc, answer, &devices, &ram)
 }
 
 /// The same of the row's own command.

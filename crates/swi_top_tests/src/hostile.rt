@@ -13,7 +13,6 @@ use swi_check::Mismatch as Difference;
 use swi_devices::{FaultRam, MemSource};
 use swi_elf_read::ElfRefusal::*;
 use swi_image::ImageRefusal;
-use swi_micro::DecodedRam;
 use swi_top::Ending::{self, *};
 use swi_top::Refusal::{self, *};
 
@@ -292,8 +291,7 @@ fn expect_echo(alloc: Global, command: &str, input: &[u8], echo: &[u8]) -> Resul
     let row = row!(room: 2000);
     let mut devices = devices_of(alloc, &row, file_of(alloc, LONG_ECHO, 5, 0x10000)?)?;
     devices.input = MemSource::new(input.to_vec(alloc)?, Vec::new(alloc));
-    let ram = FaultRam::new(alloc, 1024, Vec::new(alloc))?;
-    let mut ram = DecodedRam::new(alloc, ram);
+    let mut ram = FaultRam::new(alloc, 1024, Vec::new(alloc))?;
     let answer = answer_to(alloc, command, &mut devices, &mut ram)?;
     holds(
         command,

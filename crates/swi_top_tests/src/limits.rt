@@ -5,7 +5,6 @@ use crate::texts::{PLAIN, SEVEN, bytes_of};
 use std::alloc::Global;
 use std::test::Fail;
 use swi_devices::{MemShelf, MemSink, MemSource, VecRam};
-use swi_micro::DecodedRam;
 use swi_top::Ending::*;
 
 /// As many program headers as a file may have.
@@ -39,8 +38,7 @@ fn the_greatest_sizes_find_memory(rt: HostRuntime) -> Result<(), Fail> {
             out: MemSink::new(alloc, 64, Vec::new(alloc))?,
             err: MemSink::new(alloc, 64, Vec::new(alloc))?,
         };
-        let ram = VecRam::new(alloc, 1 << 21)?;
-        let mut ram = DecodedRam::new(alloc, ram);
+        let mut ram = VecRam::new(alloc, 1 << 21)?;
         let answer = answer_to(alloc, &line, &mut devices, &mut ram)?;
         holds(
             command,

@@ -14,7 +14,6 @@ use std::alloc::Global;
 use std::io::{Cursor, Read, Write};
 use std::test::Fail;
 use swi_devices::{Folder, FolderShelf, RealSink, RealSource, VecRam};
-use swi_micro::DecodedRam;
 use swi_outside::Failed;
 use swi_top::Ending::{self, *};
 use swi_top::{Refusal, top};
@@ -57,7 +56,7 @@ fn plain_over<D: Folder, R: Read, W: Write, V: Write>(
     input: &mut RealSource<R>,
     out: &mut RealSink<W>,
     err: &mut RealSink<V>,
-    ram: &mut DecodedRam<VecRam>,
+    ram: &mut VecRam,
 ) -> Result<Ending, Refusal>
     ensures took { (name file : List ℕ) (o : RunOptions) →
         command_of (map (λ w. string_bytes w) words.now) ≡ Some (RunPlain name o) →
@@ -83,7 +82,7 @@ fn an_echo_over_streams_writes_what_its_run_writes(rt: HostRuntime) -> Result<()
     let mut lines = Vec::new(alloc);
     let mut out = RealSink::new(&mut written);
     let mut err = RealSink::new(&mut lines);
-    let mut ram = DecodedRam::new(alloc, VecRam::new(alloc, 16)?);
+    let mut ram = VecRam::new(alloc, 16)?;
     let answer = plain_over(
         alloc, &words, &mut shelf, &mut input, &mut out, &mut err, &mut ram,
     );

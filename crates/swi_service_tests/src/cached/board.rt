@@ -11,7 +11,6 @@ use super::*;
 use swi_board::{BoardFault, BootStop};
 use swi_image::ImageView;
 use swi_memory::Layout;
-use swi_micro::MicroRam;
 use swi_slots::ScanRom;
 
 /// Adds 2 to the stack pointer, and loads from there with a reservation.
@@ -107,7 +106,7 @@ fn run_by<R: CacheRom>(
 ) -> Result<Came, Fail>
     requires laid_out { IsLayoutOf program.now.segments layout.now }
     requires own { IsImageOf (text_of program.now.segments) image.now }
-    requires sound { R.service.sound rom image.now devices.old.ram.ram.ram.words }
+    requires sound { R.service.sound rom image.now devices.old.ram.ram.words }
 {
     carry(image, program);
     if rom.counts().services > 0 {
@@ -119,7 +118,6 @@ fn run_by<R: CacheRom>(
         err,
         ram,
     } = devices;
-    ram.keep(alloc, rom.span())?;
     let mut board = match Board::boot(alloc, image, program, layout, false, rom, ram) {
         Ok(board) => board,
         Err(BootStop::RamFault) => return not_booted(alloc),
@@ -137,9 +135,9 @@ fn run_by<R: CacheRom>(
         failed,
         ending: board.ending(),
         pc: board.origin_pc(),
-        counts: counts_of(&board, ram.ram()),
+        counts: counts_of(&board, ram),
         out: out.held().to_vec(alloc)?,
-        words: front_of(alloc, ram.ram())?,
+        words: front_of(alloc, ram)?,
     })
 }
 

@@ -16,10 +16,9 @@ use std::marker::Model;
 use swi_board::Hart;
 use swi_devices::VecRam;
 use swi_image::ImageView;
-use swi_isa::{Instr, Reg};
-use swi_memory::{Layout, WordRange};
-use swi_micro::{MicroOp, MicroRam, micro_op};
-use swi_outside::{CacheRam, Failed, Memory};
+use swi_isa::Reg;
+use swi_memory::Layout;
+use swi_outside::{CacheRam, Failed, SteadyRam};
 use swi_slots::ScanRom;
 
 /// Sets a0 to 7, as the text has it, and to 8.
@@ -36,8 +35,6 @@ type Steps = ((u64, u32), (Option<End>, u64, u64, u64));
 struct Counted {
     ram: VecRam,
     fetches: u64,
-    // One that stops.
-    op: MicroOp,
 }
 
 impl Model for Counted {
@@ -46,11 +43,6 @@ impl Model for Counted {
     ghost Value = { RamState };
 
     ghost view = { λ r. r.ram };
-
-    ghost use Rattle.std.specs.Prelude.{◌≡◌};
-    ghost use Rattle.swi_micro.specs.MicroOp.{stop_op};
-
-    ghost invariant = { λ r. r.op ≡ stop_op };
 }
 
 impl CacheRam for Counted {
@@ -82,36 +74,12 @@ impl CacheRam for Counted {
     }
 }
 
-/// It has a place for one micro-op at most, which it never learns.
-impl MicroRam for Counted {
-    ghost use Rattle.std.specs.Prelude.{length, min};
+impl SteadyRam for Counted {
+    ghost steady = { true };
 
-    ghost kept = { λ r. min 1 (length r.words) };
-
-    fn keep(&mut self, _alloc: Global, _count: u32) -> Result<(), Memory> {
-        Err(Memory)
+    fn is_steady(&self) -> bool {
+        self.ram.is_steady()
     }
-
-    fn kept(&self) -> u32 {
-        self.ram.words().min(1)
-    }
-
-    fn range(&self) -> WordRange {
-        WordRange {
-            from: 0,
-            words: self.ram.words().min(1),
-        }
-    }
-
-    fn fetch_kept(&mut self, i: u32) -> Result<u32, Failed> {
-        self.fetch(i)
-    }
-
-    fn op(&self, _i: u32) -> &MicroOp {
-        &self.op
-    }
-
-    fn learn(&mut self, _i: u32) {}
 }
 
 /// Whether a board may make a step.
@@ -271,11 +239,9 @@ fn stepped_alone<R: CacheRom>(
     let mut input = MemSource::new(Vec::new(alloc), Vec::new(alloc));
     let mut out = MemSink::new(alloc, 16, Vec::new(alloc))?;
     let mut err = MemSink::new(alloc, 16, Vec::new(alloc))?;
-    let one = WordRange { from: 0, words: 1 };
     let mut ram = Counted {
         ram: VecRam::new(alloc, 8)?,
         fetches: 0,
-        op: micro_op(&Instr::Ecall, &one, 0),
     };
     stepped(
         alloc, rom, image, program, layout, &mut ram, &mut input, &mut out, &mut err,
