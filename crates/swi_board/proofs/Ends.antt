@@ -1,5 +1,5 @@
 -- A stretch of a board's steps: the turn at which it begins, and the board with which it ends.
-use Rattle.std.proofs.Common.{◌≡◌, ℕ, ◌+◌, ◌-◌, ◌^◌, ◌<◌, ◌≤◌, length, Option, None, refl, sym, ap, subst, ◌∙◌, arith}
+use Rattle.std.proofs.Common.{◌≡◌, ℕ, ◌-◌, ◌^◌, ◌<◌, ◌≤◌, None, sym, ap, subst, ◌∙◌, arith}
 use Rattle.swi_memory.specs.Bus.{fetched}
 use Rattle.swi_outside.specs.CacheRam.{RamState}
 use Rattle.swi_exec.specs.Arithmetic.{sum_of}

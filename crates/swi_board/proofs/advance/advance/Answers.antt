@@ -1,4 +1,4 @@
-use Rattle.std.proofs.Common.{◌≡◌, ℕ, ◌+◌, ◌^◌, ◌<◌, ◌≤◌, sym, subst, ◌∙◌, arith}
+use Rattle.std.proofs.Common.{sym, subst, arith}
 use Rattle.swi_hart.specs.Hart.{HartData}
 use Rattle.swi_board.specs.Advancing.{Onward}
 use Rattle.swi_board.proofs.Ends.{begins, end_board, end_inside, end_onward, end_origin, starts}
