@@ -1,7 +1,6 @@
 -- A run over whole boards: what holds all along it, and what stands at its end.
-use Rattle.std.proofs.Common.{◌≡◌, ◌⊎◌, if◌then◌else◌, ℕ, zero, suc, ◌+◌, ◌-◌, ◌*◌, ◌^◌, ◌<◌, ◌≤◌, Bool, List, [], ◌++◌, Option, Some, None, is_some, nat_lt, true, false, Ok, Err, slice_index, refl, sym, subst, ap, ◌∙◌, inl, inr, arith, append-nil}
+use Rattle.std.proofs.Common.{◌≡◌, ◌⊎◌, if◌then◌else◌, ℕ, zero, suc, ◌^◌, ◌<◌, ◌≤◌, Bool, List, [], ◌++◌, Option, Some, None, is_some, nat_lt, true, false, Ok, Err, refl, sym, subst, ap, ◌∙◌, inl, inr, arith, append-nil}
 use Rattle.std.proofs.lemmas.Bool.{false≢true}
-use Rattle.swi_outside.specs.CacheRam.{RamState}
 use Rattle.swi_outside.specs.Source.{SourceState, HasGiven, ReadFrom}
 use Rattle.swi_outside.specs.Told.{AsTold, told_as}
 use Rattle.swi_outside.specs.Laws.{ok_unmoved}
@@ -13,16 +12,15 @@ use Rattle.swi_outside.specs.Causes.{risen}
 use Rattle.std.specs.Io.KnownBytes.{Appends}
 use Rattle.swi_calls.specs.declared.machine.Machine.{Machine}
 use Rattle.swi_calls.specs.Held.{held_step}
-use Rattle.swi_calls.specs.State.{FlatState}
 use Rattle.swi_image.specs.Format.{ImageData}
 use Rattle.swi_rom.specs.Record.{Record}
 use Rattle.swi_rom.specs.Service.{ServiceOf, IsService, Setting}
-use Rattle.swi_rom.specs.Served.{Keeps, SameFrom}
+use Rattle.swi_rom.specs.Served.{SameFrom}
 use Rattle.swi_hart.specs.declared.fault.BoardFault.{BoardFault}
 use Rattle.swi_hart.specs.declared.hart.Stage.TheVariants.{Start, Low, Return, Leave}
 use Rattle.swi_hart.specs.declared.hart.Control.{Control}
 use Rattle.swi_hart.specs.declared.hart.Control.TheVariants.{At, Outside}
-use Rattle.swi_hart.specs.Hart.{HartData, is_between, original, slots}
+use Rattle.swi_hart.specs.Hart.{is_between, original, slots}
 use Rattle.swi_hart.specs.Matching.{Agrees, Fits, Matches}
 use Rattle.swi_hart.specs.MachineStep.{BoardStepped, BoardWithRam}
 use Rattle.swi_hart.specs.Bounds.{most}
@@ -32,7 +30,6 @@ use Rattle.swi_board.specs.Board.{BoardWithDevices}
 use Rattle.swi_board.specs.BoardRan.{Along, BoardRan, BoardStays, course_of, with_ram}
 use Rattle.swi_board.specs.Advancing.{Onward, ServiceStays, Underway, course_from, service_of, with_board}
 use Rattle.swi_board.specs.Moments.{Moment, Policy, completed, event, events, executed, fell, led, stepped_at}
-use Rattle.swi_board.specs.Ran.{RamRan}
 use Rattle.swi_board.specs.Tracking.{Point, Running, Tracks, point_of}
 use Rattle.swi_board.specs.Transfers.{Here, at_fall, before_last, here_of, spent_run}
 use Rattle.swi_board.proofs.Running.{came_none, came_on, no_less, stays_none, stays_on}

@@ -1,48 +1,35 @@
 -- What each arm of the loop of steps leaves.
-use Rattle.std.proofs.Common.{◌≡◌, ◌⊎◌, ◌==◌, if◌then◌else◌, ℕ, ◌+◌, ◌-◌, ◌*◌, ◌/◌, ◌%◌, ◌^◌, ◌<◌, ◌≤◌, Bool, true, false, not, ◌&&◌, List, [], ◌∷◌, length, get_or, Option, Some, None, is_some, refl, sym, ap, subst, ◌∙◌, inl, inr, arith}
-use Rattle.std.proofs.lemmas.Bool.{false≢true}
+use Rattle.std.proofs.Common.{◌≡◌, ◌⊎◌, if◌then◌else◌, ℕ, ◌+◌, ◌-◌, ◌^◌, ◌<◌, ◌≤◌, Bool, true, false, not, ◌&&◌, List, [], ◌∷◌, length, Option, Some, None, is_some, refl, sym, ap, subst, ◌∙◌, inl, inr, arith}
 use Rattle.swi_isa.specs.declared.instr.Instr.{Instr}
 use Rattle.swi_isa.specs.declared.instr.Instr.TheVariants as instr
-use Rattle.swi_isa.specs.declared.instr.BranchOp.{BranchOp}
 use Rattle.swi_isa.specs.Decode.{decoded}
 use Rattle.swi_memory.specs.Bus.{AreaData, fetched}
-use Rattle.swi_memory.specs.declared.word_range.WordRange.{WordRange}
-use Rattle.swi_outside.specs.CacheRam.{RamState, with_fetch}
+use Rattle.swi_outside.specs.CacheRam.{RamState}
 use Rattle.swi_exec.specs.Arithmetic.{sum_of}
-use Rattle.swi_exec.specs.Execute.{address_of, is_taken}
-use Rattle.swi_exec.specs.Registers.{Registers, reg, with_reg}
+use Rattle.swi_exec.specs.Registers.{Registers}
 use Rattle.swi_calls.specs.declared.end.End.{End}
 use Rattle.swi_calls.specs.declared.machine.Machine.{Machine}
 use Rattle.swi_calls.specs.Flat.{quiet}
-use Rattle.swi_calls.specs.Held.{held_made}
 use Rattle.swi_image.specs.Format.{ImageData}
-use Rattle.swi_image.specs.Place.{length_at, place_of, word_at}
+use Rattle.swi_image.specs.Place.{length_at, place_of}
 use Rattle.swi_image.specs.Row.{row_index}
 use Rattle.swi_render.specs.Carried.{Carries, FallAt, GoesOn}
 use Rattle.swi_render.specs.Rendering.{Slot, rendering}
-use Rattle.swi_micro.specs.declared.class.Class.{Class}
-use Rattle.swi_micro.specs.declared.class.Class.TheVariants as class
-use Rattle.swi_micro.specs.declared.translator.MicroOp.{MicroOp}
-use Rattle.swi_micro.specs.Classes.{class_of, code_of}
-use Rattle.swi_micro.specs.Classes.{is_straight}
-use Rattle.swi_micro.specs.Ran.{is_gone, ran_as}
-use Rattle.swi_image_ops.specs.ImageOp.{AreImageOps, IsWordOp, fall_op, row_at, row_of}
-use Rattle.swi_image_ops.proofs.Standing.{AtFall, AtText, InRow, IsKnown, fall_of_exit, in_row, known, on_inside, text_of_class, text_of_exit, text_of_return}
-use Rattle.swi_image_ops.proofs.Strides.{Branches, Calls, ExitTo, Exits, Goes, Pair, Returns, Straight, behind_pair, behind_straight, branches, calls, comparison_of, exits, pair, returns, stands_as_itself, straight, upper, went}
-use Rattle.swi_rom.specs.Record.{Placed, Record, Transfer, direct, indirect, target_of, writes}
+use Rattle.swi_image_ops.specs.ImageOp.{row_at, row_of}
+use Rattle.swi_image_ops.proofs.Standing.{on_inside}
+use Rattle.swi_image_ops.proofs.Strides.{Goes, stands_as_itself, went}
+use Rattle.swi_rom.specs.Record.{Record, Transfer, direct, target_of, writes}
 use Rattle.swi_rom.specs.Coherent.{TargetAt}
 use Rattle.swi_rom.specs.Service.{IsService, ServiceOf, Setting}
 use Rattle.swi_hart.specs.Hart.{HartData, instruction, original, slots, slots_at}
 use Rattle.swi_hart.specs.Leaving.{RamServed}
 use Rattle.swi_hart.proofs.Falls.{ram_same}
-use Rattle.swi_hart.specs.Service.{ServiceWithRam}
-use Rattle.swi_board.specs.declared.advance.Cursor.{Cursor}
 use Rattle.swi_board.specs.Advancing.{ServiceStays, with_board}
 use Rattle.swi_board.specs.Moments.{Policy}
 use Rattle.swi_board.specs.Reached.{Reached}
 use Rattle.swi_board.specs.Tracking.{Point}
-use Rattle.swi_board.specs.Transfers.{Here, after_all, here_after, jumps_as, branch_words, leaves_by, step_cost, step_transfers}
-use Rattle.swi_board.specs.Turning.{Begins, Stood, StoodAt, Turn, Turned, Within, board_at, machine_at, service_at}
+use Rattle.swi_board.specs.Transfers.{after_all, here_after, jumps_as, branch_words, leaves_by, step_cost, step_transfers}
+use Rattle.swi_board.specs.Turning.{Begins, Stood, StoodAt, Turn, Turned, board_at, machine_at, service_at}
 use Rattle.swi_board.proofs.Strides.{Moves, RamStrode, fall_stride, text_stride}
 use Rattle.swi_board.proofs.Turns.{FetchedRow, laws_of, stays_fetched, stays_more, stays_reached, strode, turned_on, turned_running}
 

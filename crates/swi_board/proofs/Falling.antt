@@ -1,5 +1,5 @@
 -- Exits behind blocks' last text words take turns, but no steps: behind one stands a text word.
-use Rattle.std.proofs.Common.{◌≡◌, ◌⊎◌, ◌==◌, ℕ, ◌+◌, ◌-◌, ◌*◌, ◌<◌, ◌≤◌, Bool, true, false, ◌&&◌, List, get_or, Option, Some, None, if◌then◌else◌, refl, sym, ap, subst, ◌∙◌, inl, inr, arith}
+use Rattle.std.proofs.Common.{◌≡◌, ◌==◌, ℕ, ◌+◌, ◌-◌, ◌*◌, ◌<◌, Bool, true, false, ◌&&◌, Option, Some, None, if◌then◌else◌, refl, ap, ◌∙◌, inl, inr, arith}
 use Rattle.swi_isa.specs.declared.instr.BranchOp.{BranchOp}
 use Rattle.swi_isa.specs.declared.instr.BranchOp.TheVariants as branch
 use Rattle.swi_isa.specs.declared.instr.ImmOp.{ImmOp}
@@ -14,14 +14,12 @@ use Rattle.swi_exec.specs.Arithmetic.{sum_of}
 use Rattle.swi_isa.specs.declared.instr.Instr.{Instr}
 use Rattle.swi_isa.specs.declared.instr.Instr.TheVariants as instr
 use Rattle.swi_image.specs.Format.{ImageData}
-use Rattle.swi_image.specs.Place.{length_at, place_of}
-use Rattle.swi_image.specs.Row.{row_index}
-use Rattle.swi_micro.specs.declared.class.Class.{Class}
+use Rattle.swi_image.specs.Place.{place_of}
 use Rattle.swi_micro.specs.declared.class.Class.TheVariants as class
 use Rattle.swi_micro.specs.declared.translator.MicroOp.{MicroOp}
 use Rattle.swi_micro.specs.Classes.{code_of}
-use Rattle.swi_micro.specs.MicroOp.{branch_op, branch_or_stop, class_of_imm, class_of_load, class_of_op, class_of_store, stop_op}
-use Rattle.swi_image_ops.specs.ImageOp.{AreImageOps, IsExitOp, IsTextOp, IsWordOp, jump_op, jump_or_stop, row_of, text_op}
+use Rattle.swi_micro.specs.MicroOp.{branch_op, branch_or_stop, class_of_imm, class_of_load, class_of_op, class_of_store}
+use Rattle.swi_image_ops.specs.ImageOp.{IsWordOp, jump_op, jump_or_stop, row_of, text_op}
 
 -- whether a micro-op is that of such an exit
 abbrev pub is_fall_op : MicroOp → Bool

@@ -1,5 +1,5 @@
 -- A step of the loop: what it may count on, and what it leaves, by what its calls gave.
-use Rattle.std.proofs.Common.{◌≡◌, ◌⊎◌, ◌==◌, if◌then◌else◌, ℕ, ◌+◌, ◌-◌, ◌*◌, ◌/◌, ◌%◌, ◌^◌, ◌<◌, ◌≤◌, Bool, true, false, List, length, get_or, slice_set, Option, Some, None, refl, sym, ap, subst, ◌∙◌, inl, inr, arith}
+use Rattle.std.proofs.Common.{◌≡◌, ◌==◌, if◌then◌else◌, ℕ, ◌+◌, ◌-◌, ◌*◌, ◌/◌, ◌%◌, ◌^◌, ◌<◌, ◌≤◌, Bool, true, false, List, length, get_or, slice_set, Option, Some, None, refl, sym, ap, subst, ◌∙◌, inl, inr, arith}
 use Rattle.std.proofs.lemmas.List.{get_or_default}
 use Rattle.swi_isa.specs.declared.instr.BranchOp.{BranchOp}
 use Rattle.swi_isa.specs.declared.instr.BranchOp.TheVariants.{Beq, Blt, Bltu}
@@ -9,11 +9,9 @@ use Rattle.swi_outside.specs.CacheRam.{RamState, with_fetch}
 use Rattle.swi_exec.specs.Arithmetic.{sum_of}
 use Rattle.swi_exec.specs.Execute.{address_of}
 use Rattle.swi_exec.specs.Registers.{Registers, with_reg}
-use Rattle.swi_calls.specs.declared.machine.Machine.{Machine}
 use Rattle.swi_image.specs.Format.{ImageData}
 use Rattle.swi_image.specs.Place.{length_at, place_of, word_at}
 use Rattle.swi_image.specs.Row.{row_index, row_inside, row_length}
-use Rattle.swi_render.specs.Carried.{Carries}
 use Rattle.swi_micro.specs.declared.class.Class.{Class}
 use Rattle.swi_micro.specs.declared.class.Class.TheVariants as class
 use Rattle.swi_micro.specs.declared.translator.MicroOp.{MicroOp}
@@ -22,15 +20,12 @@ use Rattle.swi_micro.specs.Classes.{is_straight}
 use Rattle.swi_micro.specs.MicroOp.{stop_op}
 use Rattle.swi_micro.specs.Ran.{is_gone, ran_as}
 use Rattle.swi_image_ops.specs.ImageOp.{AreImageOps, IsWordOp, row_at, row_of}
-use Rattle.swi_image_ops.proofs.Standing.{AtFall, AtText, InRow, IsKnown, fall_of_exit, in_row, known, on_inside, text_of_class, text_of_exit, text_of_return}
+use Rattle.swi_image_ops.proofs.Standing.{AtFall, AtText, IsKnown, fall_of_exit, in_row, known, on_inside, text_of_class, text_of_exit, text_of_return}
 use Rattle.swi_image_ops.proofs.Strides.{Branches, Calls, ExitTo, Exits, Pair, Returns, Straight, behind_pair, branches, call_room, calls, comparison_of, exits, pair, returns, straight, upper}
 use Rattle.swi_rom.specs.Record.{Record, indirect}
-use Rattle.swi_rom.specs.Coherent.{IsExit}
 use Rattle.swi_rom.specs.Service.{IsService, ServiceOf}
-use Rattle.swi_hart.specs.Service.{ServiceWithRam}
-use Rattle.swi_board.specs.declared.advance.Cursor.{Cursor}
 use Rattle.swi_board.specs.Reached.{ExitInRow, Passed, Reached}
-use Rattle.swi_board.specs.Turning.{Begins, Going, IsComparison, IsOpInRow, Turn, Turned, machine_at}
+use Rattle.swi_board.specs.Turning.{Begins, IsComparison, IsOpInRow, Turn, Turned, machine_at}
 use Rattle.swi_board.proofs.Arms.{carries, inside_ram, next_index}
 use Rattle.swi_board.proofs.Falling.{is_fall_op, place_unmarked, turn_falls}
 use Rattle.swi_board.proofs.OpSteps.{call_turn, exit_turn, fall_turn, pair_turn, passed_turn, return_turn, straight_turn, taken_turn}

@@ -1,11 +1,8 @@
 -- What the loop leaves behind each kind of micro-op.
-use Rattle.std.proofs.Common.{◌≡◌, ◌==◌, if◌then◌else◌, ℕ, ◌+◌, ◌-◌, ◌*◌, ◌/◌, ◌%◌, ◌^◌, ◌<◌, ◌≤◌, Bool, true, false, not, List, [], ◌∷◌, length, get_or, Option, Some, None, refl, sym, ap, subst, ◌∙◌, inl, inr, arith}
-use Rattle.std.proofs.lemmas.Bool.{false≢true}
-use Rattle.swi_isa.specs.declared.instr.Instr.{Instr}
+use Rattle.std.proofs.Common.{◌≡◌, if◌then◌else◌, ℕ, ◌+◌, ◌-◌, ◌*◌, ◌/◌, ◌%◌, ◌^◌, ◌<◌, Bool, true, false, List, [], ◌∷◌, Some, refl, sym, ap, subst, ◌∙◌, arith}
 use Rattle.swi_isa.specs.declared.instr.Instr.TheVariants as instr
 use Rattle.swi_isa.specs.declared.instr.BranchOp.{BranchOp}
-use Rattle.swi_memory.specs.Bus.{AreaData, fetched}
-use Rattle.swi_memory.specs.declared.word_range.WordRange.{WordRange}
+use Rattle.swi_memory.specs.Bus.{AreaData}
 use Rattle.swi_outside.specs.CacheRam.{RamState, with_fetch}
 use Rattle.swi_exec.specs.Arithmetic.{sum_of}
 use Rattle.swi_exec.specs.Execute.{address_of, is_taken}
@@ -14,26 +11,17 @@ use Rattle.swi_calls.specs.declared.machine.Machine.{Machine}
 use Rattle.swi_calls.specs.Flat.{quiet}
 use Rattle.swi_calls.specs.Held.{held_made}
 use Rattle.swi_image.specs.Format.{ImageData}
-use Rattle.swi_image.specs.Place.{length_at, place_of, word_at}
-use Rattle.swi_image.specs.Row.{row_index}
-use Rattle.swi_render.specs.Rendering.{Slot}
-use Rattle.swi_micro.specs.declared.class.Class.{Class}
-use Rattle.swi_micro.specs.declared.class.Class.TheVariants as class
+use Rattle.swi_image.specs.Place.{length_at, word_at}
 use Rattle.swi_micro.specs.declared.translator.MicroOp.{MicroOp}
-use Rattle.swi_micro.specs.Classes.{class_of, code_of}
-use Rattle.swi_micro.specs.Classes.{is_straight}
-use Rattle.swi_micro.specs.Ran.{is_gone, ran_as}
-use Rattle.swi_image_ops.specs.ImageOp.{AreImageOps, IsWordOp, row_of}
+use Rattle.swi_micro.specs.Ran.{is_gone}
+use Rattle.swi_image_ops.specs.ImageOp.{row_of}
 use Rattle.swi_image_ops.proofs.Standing.{AtFall, AtText}
-use Rattle.swi_image_ops.proofs.Strides.{Branches, Calls, ExitTo, Exits, Pair, Returns, Straight, behind_pair, behind_straight, branches, calls, comparison_of, exits, pair, returns, straight, upper, went}
-use Rattle.swi_rom.specs.Record.{Transfer, direct, indirect, target_of}
+use Rattle.swi_image_ops.proofs.Strides.{Branches, Calls, ExitTo, Exits, Pair, Returns, Straight, behind_pair, behind_straight, went}
+use Rattle.swi_rom.specs.Record.{direct, indirect}
 use Rattle.swi_rom.specs.Service.{IsService, ServiceOf}
-use Rattle.swi_hart.specs.Service.{ServiceWithRam}
-use Rattle.swi_board.specs.declared.advance.Cursor.{Cursor}
 use Rattle.swi_board.specs.Reached.{Passed, Reached}
-use Rattle.swi_board.specs.Transfers.{branch_words, jumps_as, leaves_by, step_cost}
-use Rattle.swi_board.specs.Turning.{Begins, Stood, StoodAt, Turn, Turned, machine_at}
-use Rattle.swi_board.proofs.Arms.{carries, fall_arm, itself_jumps, itself_words, leap_arm, next_index, stay_arm}
+use Rattle.swi_board.specs.Turning.{Begins, Turn, Turned, machine_at}
+use Rattle.swi_board.proofs.Arms.{fall_arm, itself_jumps, itself_words, leap_arm, next_index, stay_arm}
 use Rattle.swi_board.proofs.Turns.{FetchedRow, fetched_one, fetched_three, fetched_two}
 
 module _ {S : Type 0} {k : ServiceOf S} {v : ImageData} {limit : ℕ} {first : Turn S} (laws : IsService k) (u : Begins k v limit first)

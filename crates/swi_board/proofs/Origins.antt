@@ -1,10 +1,10 @@
 -- Where a stretch of steps begins and ends: between two instructions, at a word of a block.
-use Rattle.std.proofs.Common.{◌≡◌, ◌⊎◌, ℕ, ◌+◌, ◌^◌, ◌<◌, ◌≤◌, length, Option, Some, None, refl, sym, ap, subst, ◌∙◌, inl, inr, arith}
+use Rattle.std.proofs.Common.{◌≡◌, ℕ, ◌^◌, ◌<◌, length, Option, Some, None, ap, subst, ◌∙◌, inl, inr, arith}
 use Rattle.swi_memory.specs.Bus.{fetched}
 use Rattle.swi_exec.specs.Arithmetic.{sum_of}
 use Rattle.swi_calls.specs.declared.end.End.{End}
 use Rattle.swi_image.specs.Format.{ImageData}
-use Rattle.swi_image.specs.Place.{length_at, origin_of, place_of, word_at}
+use Rattle.swi_image.specs.Place.{length_at, origin_of, place_of}
 use Rattle.swi_image.specs.Row.{row_index}
 use Rattle.swi_render.specs.Carried.{FallAt, GoesOn}
 use Rattle.swi_image_ops.proofs.Standing.{on_inside, origin_is, place_once}

@@ -1,5 +1,5 @@
 -- Transfers over exits and registers, as the service answers.
-use Rattle.std.proofs.Common.{◌≡◌, ℕ, ◌+◌, ◌^◌, ◌<◌, ◌≤◌, List, length, slice_index, Option, Some, None, Result, Ok, Err, refl, sym, ap, subst, ◌∙◌, arith}
+use Rattle.std.proofs.Common.{◌≡◌, ℕ, ◌+◌, ◌<◌, slice_index, None, Ok, Err, refl, sym, subst, ◌∙◌, arith}
 use Rattle.swi_outside.specs.CacheRam.{RamState}
 use Rattle.swi_outside.specs.Causes.{Rose}
 use Rattle.swi_rom.specs.declared.rom.RomStop.{RomStop}
@@ -7,10 +7,10 @@ use Rattle.swi_rom.specs.declared.rom.RomStop.TheVariants.{Outside, RamFault}
 use Rattle.swi_exec.specs.Arithmetic.{sum_of}
 use Rattle.swi_image.specs.Format.{ImageData}
 use Rattle.swi_image.specs.Place.{length_at, place_of, word_at}
-use Rattle.swi_image.specs.Row.{row_index, row_once}
+use Rattle.swi_image.specs.Row.{row_once}
 use Rattle.swi_render.specs.Rendering.{ebreak}
-use Rattle.swi_rom.specs.Record.{Placed, Record, Transfer, direct, indirect, is_linked}
-use Rattle.swi_rom.specs.Coherent.{Coherent, ExitAt, TargetAt}
+use Rattle.swi_rom.specs.Record.{Placed, Record, direct, indirect}
+use Rattle.swi_rom.specs.Coherent.{ExitAt, TargetAt}
 use Rattle.swi_rom.specs.Served.{Keeps, SameFrom, Served}
 use Rattle.swi_rom.specs.Service.{IsService, ServiceOf}
 use Rattle.swi_hart.specs.Leaving.{LeaveAt}

@@ -1,12 +1,11 @@
 -- Targets and links that are kept.
 use Rattle.std.proofs.Common.{◌≡◌, ◌+◌, ◌*◌, ◌/◌, ◌%◌, ◌^◌, ◌<◌, ◌≤◌, ℕ, List, length, get_or, slice_set, replicate, Some, None, arith, refl, ap, sym, subst, ◌∙◌, inl, inr}
 use Rattle.std.proofs.lemmas.List.{get_or-replicate, get_or-set_other, get_or-set_same, length-replicate, length-set}
-use Rattle.std.proofs.lemmas.Bool.{cases_eq, cases_lt}
+use Rattle.std.proofs.lemmas.Bool.{cases_eq}
 use Rattle.swi_isa.specs.Decode.{decoded, decoded_by}
 use Rattle.swi_isa.specs.declared.instr.Instr.TheVariants.{Jal}
 use Rattle.swi_exec.specs.Arithmetic.{sum_of}
 use Rattle.swi_image.specs.Format.{ImageData}
-use Rattle.swi_render.specs.Rendering.{ebreak}
 use Rattle.swi_rom.specs.Record.{IsJump, Record, jump_offset}
 use Rattle.swi_rom.specs.Still.{still_at}
 use Rattle.swi_hart.specs.Leaving.{offset_of}

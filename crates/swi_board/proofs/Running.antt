@@ -110,17 +110,13 @@ fetched_one h0 h h' later running one outside =
 sum_less : (a b c : ℕ) → a ≤ b → b ≤ c → b - a + (c - b) ≡ c - a
 sum_less a b c p q = omega arith
 
-pub count_short : {run : Course} {now : Point} → Stays run now → now.hart.machine.ending ≡ None → run.limit ≤ 2 ^ 48 → run.from.hart.count ≤ 2 ^ 55 → now.hart.count < 2 ^ 56
-count_short {run} {now} so_far running small le =
-    let m = most_running run.image now.hart.machine now.hart.control running in
-    let d = depth_most run.image now.hart.machine now.hart.control in
-    let c = so_far.count in
-    let s = so_far.steps in
-    omega arith
-
 module _ {run : Course} {now : Point} (so_far : Stays run now) (more : now.hart.machine.steps < run.limit) (running : now.hart.machine.ending ≡ None) where
   pub count_small : run.limit ≤ 2 ^ 48 → run.from.hart.count ≤ 2 ^ 55 → now.hart.count < 2 ^ 56
-  count_small small le = count_short so_far running small le
+  count_small small le =
+      let m = most_running run.image now.hart.machine now.hart.control running in
+      let d = depth_most run.image now.hart.machine now.hart.control in
+      let c = so_far.count in
+      omega arith
 
   pub calls_small : run.limit ≤ 2 ^ 48 → run.from.kept.counts.services ≤ 2 ^ 49 → now.kept.counts.services < 2 ^ 50
   calls_small small le =

@@ -1,6 +1,6 @@
 -- One original step, or the exit before it, of a hart that is between two instructions: the machine instructions that it takes lead where
 -- the definition's do.
-use Rattle.std.proofs.Common.{◌≡◌, ◌⊎◌, if◌then◌else◌, ℕ, zero, suc, ◌+◌, ◌-◌, ◌*◌, ◌^◌, ◌<◌, ◌≤◌, Bool, true, false, not, ◌&&◌, List, [], ◌∷◌, ◌++◌, length, reverse, Option, Some, None, is_some, refl, sym, ap, subst, ◌∙◌, inl, inr, arith}
+use Rattle.std.proofs.Common.{◌≡◌, ◌⊎◌, if◌then◌else◌, ℕ, zero, suc, ◌+◌, ◌-◌, ◌*◌, ◌<◌, ◌≤◌, Bool, true, false, not, ◌&&◌, List, [], ◌∷◌, ◌++◌, length, reverse, Option, Some, None, is_some, refl, sym, ap, subst, ◌∙◌, inl, inr, arith}
 use Rattle.std.proofs.lemmas.Bool.{cases_lt, false≢true}
 use Rattle.std.proofs.lemmas.List.{append_assoc, append-nil}
 use Rattle.std.specs.Io.KnownBytes.{Appends}
@@ -14,24 +14,23 @@ use Rattle.swi_calls.specs.Held.{held_made, held_step}
 use Rattle.swi_calls.specs.State.{FlatState}
 use Rattle.swi_image.specs.Format.{ImageData}
 use Rattle.swi_image.specs.Place.{place_of}
-use Rattle.swi_render.specs.Carried.{FallAt, GoesOn}
+use Rattle.swi_render.specs.Carried.{GoesOn}
 use Rattle.swi_rom.specs.Record.{Record, Transfer, Placed, direct, is_linked, writes}
 use Rattle.swi_rom.specs.Rams.{risen_more}
 use Rattle.swi_hart.specs.declared.hart.Stage.TheVariants.{Start}
 use Rattle.swi_hart.specs.declared.hart.Control.{Control}
 use Rattle.swi_hart.specs.declared.hart.Control.TheVariants.{At, Outside}
-use Rattle.swi_hart.specs.Bounds.{calls_by, depth, is_outside, most, most_calls}
-use Rattle.swi_hart.specs.Hart.{HartData, is_fall, is_place, original, slots}
+use Rattle.swi_hart.specs.Bounds.{calls_by, depth, is_outside, most_calls}
+use Rattle.swi_hart.specs.Hart.{HartData, original, slots}
 use Rattle.swi_hart.specs.Matching.{Agrees, IsIn, Stands, StandsBy}
 use Rattle.swi_hart.proofs.Kept.{image_same, next_text}
 use Rattle.swi_hart.proofs.Stepping.{no_fall, two_places}
-use Rattle.swi_hart.proofs.Growing.{calls_most}
 use Rattle.swi_board.specs.Fetching.{index_in, indexes_from}
-use Rattle.swi_board.specs.Moments.{GoesOn as Runs, Moment, Policy, counted, event, events, fell, here_behind}
+use Rattle.swi_board.specs.Moments.{Moment, Policy, counted, events, fell, here_behind}
 use Rattle.swi_board.specs.Ran.{RamRan}
 use Rattle.swi_board.specs.Runs.{fetched_by, unfetched}
 use Rattle.swi_board.specs.Tracking.{Came, Course, Point, Running, Stays, Tracks}
-use Rattle.swi_board.specs.Transfers.{Here, after_all, at_fall, here_after, here_of, spent, spent_by, spent_run, step_cost, step_transfers}
+use Rattle.swi_board.specs.Transfers.{after_all, at_fall, here_after, here_of, spent, step_cost, step_transfers}
 use Rattle.swi_board.proofs.Events.{events_more, events_one, events_none, fall_event, plain_made}
 use Rattle.swi_board.proofs.Fetching.{first_is}
 use Rattle.swi_board.proofs.Held.{held_steps}

@@ -1,42 +1,28 @@
 -- The loop of steps out of a steady ram: what each of its arms leaves.
-use Rattle.std.proofs.Common.{◌≡◌, ◌⊎◌, ◌==◌, if◌then◌else◌, ℕ, ◌+◌, ◌-◌, ◌%◌, ◌^◌, ◌<◌, ◌≤◌, max, Bool, true, false, not, ◌&&◌, List, [], ◌∷◌, ◌++◌, length, reverse, slice_index, Option, Some, None, is_some, refl, sym, ap, subst, ◌∙◌, inl, inr, arith}
-use Rattle.std.proofs.lemmas.Bool.{false≢true}
-use Rattle.swi_isa.specs.declared.instr.Instr.{Instr}
-use Rattle.swi_isa.specs.declared.instr.Instr.TheVariants as instr
-use Rattle.swi_memory.specs.Bus.{AreaData, fetched}
+use Rattle.std.proofs.Common.{◌≡◌, ℕ, ◌+◌, ◌-◌, ◌^◌, ◌<◌, ◌≤◌, max, List, ◌∷◌, ◌++◌, length, reverse, slice_index, Option, None, refl, sym, ap, subst, ◌∙◌, arith}
 use Rattle.swi_outside.specs.Causes.{risen}
-use Rattle.swi_outside.specs.CacheRam.{RamState, KeepsBeyond, with_fetch}
+use Rattle.swi_outside.specs.CacheRam.{RamState, with_fetch}
 use Rattle.swi_exec.specs.Arithmetic.{sum_of}
-use Rattle.swi_exec.specs.Registers.{Registers}
 use Rattle.swi_calls.specs.declared.end.End.{End}
-use Rattle.swi_calls.specs.declared.machine.Machine.{Machine}
-use Rattle.swi_calls.specs.Flat.{Made, quiet}
-use Rattle.swi_calls.specs.Held.{held_made}
 use Rattle.swi_image.specs.Format.{ImageData}
-use Rattle.swi_image.specs.Place.{length_at, place_of, word_at}
-use Rattle.swi_render.specs.Rendering.{Slot}
-use Rattle.swi_rom.specs.Record.{Placed, Record, Transfer, direct, target_of, writes}
+use Rattle.swi_rom.specs.Record.{Record, Transfer}
 use Rattle.swi_rom.specs.Rams.{risen_more}
 use Rattle.swi_rom.specs.Served.{SameFrom}
 use Rattle.swi_rom.specs.Service.{IsService, ServiceOf, Setting}
-use Rattle.swi_hart.specs.Hart.{HartData, original, slots}
+use Rattle.swi_hart.specs.Hart.{HartData}
 use Rattle.swi_hart.specs.Leaving.{RamServed}
 use Rattle.swi_hart.specs.Service.{ServiceWithRam}
-use Rattle.swi_board.specs.declared.advance.Cursor.{Cursor}
-use Rattle.swi_board.specs.Advancing.{Onward, ServiceStays, StandsInRow, Underway, course_from, with_board}
+use Rattle.swi_board.specs.Advancing.{ServiceStays, StandsInRow, Underway, course_from, with_board}
 use Rattle.swi_board.specs.Fetching.{indexes_from}
-use Rattle.swi_board.specs.Moments.{Policy}
 use Rattle.swi_board.specs.Reached.{Reached}
 use Rattle.swi_board.specs.Tracking.{Point, Running}
-use Rattle.swi_board.specs.Transfers.{after_all, here_after, step_cost, step_transfers}
-use Rattle.swi_board.specs.Turning.{Begins, Stood, StoodAt, Turn, Turned, Within, board_at, machine_at, service_at}
+use Rattle.swi_board.specs.Turning.{Stood, StoodAt, Turn, Turned, Within, board_at, service_at}
 use Rattle.swi_hart.specs.declared.hart.Stage.TheVariants.{Start}
 use Rattle.swi_hart.specs.declared.hart.Control.{Control}
 use Rattle.swi_hart.specs.declared.hart.Control.TheVariants.{At}
 use Rattle.swi_hart.specs.Matching.{Fits, StandsBy}
-use Rattle.swi_hart.specs.MachineStep.{BoardWithRam}
 use Rattle.swi_board.proofs.Running.{calls_small, count_small}
-use Rattle.swi_board.proofs.Strides.{Laws, Moves, RamStrode, Stride, fall_stride, runs_stride, text_stride}
+use Rattle.swi_board.proofs.Strides.{Laws, RamStrode, Stride, runs_stride}
 
 -- ---- services
 

@@ -393,6 +393,8 @@ pub(crate) fn advance<R: CacheRom, M: SteadyRam>(
         ways,
         &mut cursor,
     );
+    // Read for the proof alone, as there.
+    let _words = image.words();
     let Cursor {
         row,
         delta,

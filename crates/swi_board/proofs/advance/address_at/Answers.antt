@@ -1,5 +1,5 @@
-use Rattle.std.proofs.Common.{◌≡◌, ◌+◌, ◌*◌, ◌%◌, ◌^◌, ◌<◌, ℕ, Some, ap, arith, rules, sym, ◌∙◌}
-use Rattle.swi_image.specs.Place.{place_of, word_before}
+use Rattle.std.proofs.Common.{◌≡◌, ◌+◌, ◌*◌, ◌%◌, ◌^◌, ℕ, Some, ap, arith, rules, sym, ◌∙◌}
+use Rattle.swi_image.specs.Place.{word_before}
 use Rattle.swi_board.proofs.Origins.{origin_at, origin_behind}
 use Rattle.swi_board.proofs.advance.address_at.Goals as goal
 

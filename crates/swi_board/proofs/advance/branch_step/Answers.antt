@@ -1,4 +1,4 @@
-use Rattle.std.proofs.Common.{◌≡◌, ◌+◌, ℕ, Some, false, true, sym, ap, subst, ◌∙◌, arith, rules}
+use Rattle.std.proofs.Common.{◌≡◌, ◌+◌, ℕ, false, true, sym, ap, subst, ◌∙◌, arith, rules}
 use Rattle.swi_exec.specs.Arithmetic.{sum_of}
 use Rattle.swi_micro.specs.declared.class.Class.{Class}
 use Rattle.swi_image_ops.proofs.Strides.{comparison_of}

@@ -1,4 +1,4 @@
-use Rattle.std.proofs.Common.{◌≡◌, ◌==◌, ◌+◌, ℕ, Some, false, true, sym, ap, subst, ◌∙◌, arith, rules}
+use Rattle.std.proofs.Common.{◌≡◌, ◌==◌, ℕ, Some, false, true, sym, ap, subst, ◌∙◌, arith}
 use Rattle.swi_exec.specs.Arithmetic.{sum_of}
 use Rattle.swi_board.specs.Reached.{ExitInRow}
 use Rattle.swi_board.proofs.Going.{exit_made, fall_made, few_services, jal_exit, jal_lands, row_in, total_short}

@@ -1,9 +1,8 @@
-use Rattle.std.proofs.Common.{◌≡◌, ◌==◌, ◌+◌, ◌*◌, ◌/◌, ◌^◌, ◌<◌, ℕ, Some, false, true, refl, sym, ap, subst, ◌∙◌, arith, rules}
+use Rattle.std.proofs.Common.{◌≡◌, ◌==◌, ◌+◌, ◌*◌, ◌/◌, ◌^◌, ◌<◌, ℕ, Some, true, refl, sym, ap, ◌∙◌, arith}
 use Rattle.swi_exec.specs.Arithmetic.{sum_of}
 use Rattle.swi_exec.specs.Execute.{address_of}
-use Rattle.swi_exec.specs.Registers.{Registers, reg, with_reg}
+use Rattle.swi_exec.specs.Registers.{reg, with_reg}
 use Rattle.swi_image.specs.Place.{word_at}
-use Rattle.swi_board.specs.Turning.{Begins, Turned, turn, Turn, fewer}
 use Rattle.swi_board.proofs.Going.{at_inside, few_services, kept_zero, link_at, link_inside, return_made, row_in}
 use Rattle.swi_board.proofs.advance.jalr_step.Goals as goal
 use Rattle.swi_board.proofs.advance.jalr_step.Goals.{then-not-writes_x0, else-not-writes_x0}

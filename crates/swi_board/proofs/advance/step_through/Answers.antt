@@ -1,14 +1,8 @@
-use Rattle.std.proofs.Common.{◌≡◌, ◌==◌, if◌then◌else◌, ℕ, ◌+◌, ◌-◌, ◌*◌, ◌^◌, ◌<◌, ◌≤◌, Bool, true, false, List, length, get_or, Some, None, refl, sym, ap, subst, ◌∙◌, inl, inr, arith, rules}
+use Rattle.std.proofs.Common.{◌≡◌, ◌==◌, ℕ, ◌+◌, Bool, true, false, List, length, refl, sym, ap, subst, ◌∙◌, arith, rules}
 use Rattle.swi_memory.specs.Bus.{AreaData, fetched}
 use Rattle.swi_outside.specs.CacheRam.{RamState}
 use Rattle.swi_exec.specs.Registers.{Registers, with_reg}
-use Rattle.swi_calls.specs.declared.machine.Machine.{Machine}
-use Rattle.swi_micro.specs.declared.class.Class.{Class}
-use Rattle.swi_micro.specs.declared.class.Class.TheVariants as class
-use Rattle.swi_micro.specs.declared.translator.MicroOp.{MicroOp}
-use Rattle.swi_micro.specs.Classes.{class_of, code_of}
-use Rattle.swi_micro.specs.MicroOp.{stop_op}
-use Rattle.swi_board.specs.Turning.{Begins, Going, Turn, Turned, turn}
+use Rattle.swi_board.specs.Turning.{Turn, Turned, turn}
 use Rattle.swi_board.proofs.Going.{at_inside, call_inside, exit_fewer, op_in_row, pair_inside, pair_made, row_in, stays_fewer, straight_class, straight_made, total_short, upper_made}
 use Rattle.swi_board.proofs.Knowing.{ops_same}
 use Rattle.swi_board.proofs.Turns.{turned_none}

@@ -1,7 +1,7 @@
-use Rattle.std.proofs.Common.{◌≡◌, ◌+◌, ◌<◌, ◌^◌, ap, sym, arith, rules, subst, ◌∙◌, None}
+use Rattle.std.proofs.Common.{◌≡◌, ◌+◌, ap, sym, arith, rules, ◌∙◌}
 use Rattle.swi_isa.specs.Decode.{decoded}
-use Rattle.swi_image.specs.Place.{length_at, place_of, word_at}
-use Rattle.swi_image.specs.Row.{row_index, row_inside, row_length}
+use Rattle.swi_image.specs.Place.{place_of}
+use Rattle.swi_image.specs.Row.{row_inside}
 use Rattle.swi_hart.specs.Leaving.{offset_of}
 use Rattle.swi_board.proofs.Passing.{crossed, exit_at, never, over_link}
 use Rattle.swi_board.proofs.ways.pass.Goals as goal

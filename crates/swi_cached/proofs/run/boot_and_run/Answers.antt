@@ -1,10 +1,8 @@
-use Rattle.std.proofs.Common.{refl, ap, subst, inr, arith, rules}
-use Rattle.swi_outside.specs.CacheRam.{RamState}
+use Rattle.std.proofs.Common.{refl, ap, inr, arith, rules}
 use Rattle.swi_outside.specs.Told.{told_as}
 use Rattle.swi_outside.proofs.SourceLemmas.{rest_is}
 use Rattle.swi_calls.specs.Flat.{machine_of}
-use Rattle.swi_hart.specs.Hart.{HartData, unbooted}
-use Rattle.swi_board.specs.Entered.{Entered}
+use Rattle.swi_hart.specs.Hart.{HartData}
 use Rattle.swi_cached.proofs.Boot.{services_booted}
 use Rattle.swi_cached.proofs.run.boot_and_run.Goals as goal
 
@@ -35,9 +33,6 @@ run_steps-requires-clause-services g c =
 pub returns-in_default-clause-ran : goal.returns-in_default-clause-ran
 returns-in_default-clause-ran g c i rest read = rw (rest_is read) refl
 
-pub returns-then-is_err-clause-ran : goal.returns-then-is_err-clause-ran
-returns-then-is_err-clause-ran g c i rest read = rw (rest_is read) (search rules)
-
 pub returns-in-Err-Memory-clause-ran : goal.returns-in-Err-Memory-clause-ran
 returns-in-Err-Memory-clause-ran g c i rest read = rw (rest_is read) (search rules)
 
@@ -57,8 +52,7 @@ returns-in-Ok-run_steps-clause-ran g c i rest read =
         devices = record { input = told_as (g.I.Source.state c.args.input.now) i; output = g.O.Sink.state c.args.out.now; error = g.E.Sink.state c.args.err.now };
       };
       booted = record {
-        entered = subst (λ (r : RamState). Entered g.S.CacheRom.service c.args.image.now (unbooted (machine_of c.args.program.now c.args.layout.now c.args.asked.calls)) (record { rom = c.args.rom; ram = r })
-            (record { hart = c.in-Ok-boot.board.hart; rom = c.in-Ok-boot.board.rom; ram = g.R.CacheRam.state c.boot.new.ram })) c.keep.ensures.same c.in-Ok-boot.ensures.entered;
+        entered = c.in-Ok-boot.ensures.entered;
         count = c.in-Ok-boot.ensures.count;
         policy = c.in-Ok-boot.ensures.policy;
         devices = refl;
@@ -81,8 +75,7 @@ returns-in-Err-clause-ran g c i rest read =
           devices = record { input = told_as (g.I.Source.state c.args.input.now) i; output = g.O.Sink.state c.args.out.now; error = g.E.Sink.state c.args.err.now };
         };
         booted = record {
-          entered = subst (λ (r : RamState). Entered g.S.CacheRom.service c.args.image.now (unbooted (machine_of c.args.program.now c.args.layout.now c.args.asked.calls)) (record { rom = c.args.rom; ram = r })
-              (record { hart = c.in-Ok-boot.board.hart; rom = c.in-Ok-boot.board.rom; ram = g.R.CacheRam.state c.boot.new.ram })) c.keep.ensures.same c.in-Ok-boot.ensures.entered;
+          entered = c.in-Ok-boot.ensures.entered;
           count = c.in-Ok-boot.ensures.count;
           policy = c.in-Ok-boot.ensures.policy;
           devices = refl;

@@ -1,9 +1,8 @@
-use Rattle.std.proofs.Common.{◌≡◌, ◌<◌, arith, subst, sym}
+use Rattle.std.proofs.Common.{subst, sym}
 use Rattle.swi_memory.specs.Bus.{fetched}
 use Rattle.swi_image_ops.specs.ImageOp.{AreImageOps}
 use Rattle.swi_hart.specs.Hart.{HartData}
 use Rattle.swi_board.proofs.Knowing.{ops_same}
-use Rattle.swi_board.proofs.Turns.{stays_none}
 use Rattle.swi_board.proofs.learnt.Learnt.advance.Goals as goal
 
 pub start-requires-clause-fits : goal.start-requires-clause-fits
