@@ -26,6 +26,7 @@ ghost use Rattle.swi_board.specs.Entered.{Entered};
 ghost use Rattle.swi_board.specs.Ran.{Followed};
 
 use crate::block::{block_place, run_block};
+use crate::stepwise::enter;
 use crate::targets::Targets;
 use std::alloc::Global;
 use std::marker::Model;
@@ -65,41 +66,6 @@ impl<R: CacheRom> Model for Board<R> {
     ghost Value = { BoardOf R };
 
     ghost view = { λ b. record { hart = b.hart; rom = b.rom } };
-}
-
-/// Enters the ram at the hart's address.
-fn enter<R: CacheRom, M: CacheRam>(
-    hart: &mut Hart,
-    rom: &mut R,
-    image: &ImageView<'_>,
-    ram: &mut M,
-) -> Result<(), Failed>
-    requires count { hart.old.count < 2 ^ 56 }
-    requires sound { R.service.sound rom.old image.now (M.state ram.old).words }
-    requires services { (R.service.kept rom.old).counts.services < 2 ^ 50 }
-    ensures hart { OnOk result (hart.new
-        ≡ record hart.old {
-          control = hart.new.control;
-          count = hart.old.count + entries image.now hart.old.machine.pc;
-          booted = true;
-        }) }
-    ensures control { OnOk result (Arrives image.now (R.service.kept rom.new) hart.old.machine.pc hart.new.control) }
-    ensures served { TransferServed R.service image.now (entry_transfer image.now hart.old.machine.pc)
-        (record { rom = rom.old; ram = M.state ram.old })
-        (record { rom = rom.new; ram = M.state ram.new }) result }
-    ensures outside { place_of image.now hart.old.machine.pc ≡ None →
-        (rom.new ≡ rom.old) × (M.state ram.new ≡ M.state ram.old) }
-{
-    let pc = hart.origin_pc();
-    if image.place(pc).is_some() {
-        let control = jump(rom, image, ram, pc)?;
-        hart.control.go(control);
-        hart.count += 1;
-    } else {
-        hart.control.go(Control::Outside);
-    }
-    hart.booted = true;
-    Ok(())
 }
 
 impl<R: CacheRom> Board<R> {

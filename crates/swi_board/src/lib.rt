@@ -4,7 +4,9 @@
 mod block;
 mod board;
 mod known;
+mod stepwise;
 mod targets;
 
 pub use board::{Board, BootStop};
+pub use stepwise::{enter, run_stepwise};
 pub use swi_hart::{BoardFault, Control, Hart, Stage};
