@@ -51,11 +51,12 @@ pub enum BootStop {
     Memory,
 }
 
-/// A machine that runs a program out of a cache ram: a hart, and the service that keeps the ram's words.
+/// A machine that runs a program out of a cache ram: a hart, and the service that keeps the ram's words. What a step or a
+/// run needs to hold of them is asked by its contract.
 #[derive(Drop)]
 pub struct Board<R: CacheRom> {
-    hart: Hart,
-    rom: R,
+    pub hart: Hart,
+    pub rom: R,
     // Where jumps over registers led. It changes no step.
     targets: Targets,
 }

@@ -37,26 +37,6 @@ under_placed v r h p fits under = by_parts h.machine.ending h.control fits.place
     by_parts None Outside is under = absurd cc
     by_parts (Some e) c is under = absurd cc
 
-inside_of : (v : ImageData) (r : Record) (m : Machine) (i b o : ℕ) (stage : Stage) → Home v r m i b o stage → o < length_at v b
-inside_of v r m i b o stage at = elim at.kind [ inl x ↦ omega (arith, x.inside) | inr x ↦ x.inside ]
-
--- the service shows the place under control
-pub shown_under : (v : ImageData) (r : Record) (span : ℕ) (words : List ℕ) (shown : ℕ → Option (ℕ × ℕ)) (h : HartData) → Fits v r h → h.machine.pc < 2 ^ 32 → Coherent v r span words → ((i : ℕ) → StandsAt v r i (shown i)) →
-    (i : ℕ) → index_of h.machine.ending h.control ≡ Some i → shown i ≡ place_under h.machine.ending h.control
-shown_under v r span words shown h fits short coherent shows i at = by_parts h.machine.ending h.control refl refl fits.place at
-  where
-    number : Option ℕ → ℕ
-    number None = 0
-    number (Some n) = n
-
-    by_parts : (e : Option End) (c : Control) → h.machine.ending ≡ e → h.control ≡ c → StandsBy e v r h.machine c → index_of e c ≡ Some i → shown i ≡ place_under e c
-    by_parts None (At j b o stage) none here is at =
-        let same : j ≡ i = ap number at in
-        let place = home v r h j b o stage fits here none short in
-        shown_place v r span words i b o (shown i) coherent (is.0.0, is.0.1, inside_of v r h.machine j b o stage place, sym same ∙ is.0.2) (shows i)
-    by_parts None Outside none here is at = absurd cc
-    by_parts (Some e) c none here is at = absurd cc
-
 same_services : (o : Option Event) (wrote : Bool) (span : ℕ) (r r' : Record) (a b : RamState) → ((n : Event) → o ≡ Some n → n.next.counts.services ≡ r.counts.services) → GoesTo o wrote span r r' a b → r'.counts.services ≡ r.counts.services
 same_services None wrote span r r' a b quiet goes = ap (λ (x : Record). x.counts.services) goes.1
 same_services (Some n) wrote span r r' a b quiet goes = ap (λ (x : Record). x.counts.services) goes.1 ∙ quiet n refl
