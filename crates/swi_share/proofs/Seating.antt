@@ -1,8 +1,11 @@
 -- A program in turn, and what its event leaves of the share.
-use Rattle.std.proofs.Common.{◌≡◌, ℕ, ◌^◌, ◌<◌, List, length, slice_get, slice_index_or, slice_set, Option, Some, None, Ok, Err, arith, refl, sym, ◌∙◌, ap, subst}
+use Rattle.std.proofs.Common.{◌≡◌, ℕ, zero, suc, ◌^◌, ◌<◌, true, false, List, [], ◌∷◌, length, slice_get, slice_index_or, slice_set, Option, Some, None, is_some, Ok, Err, arith, refl, sym, ◌∙◌, ap, subst}
+use Rattle.std.proofs.lemmas.Bool.{false≢true}
 use Rattle.std.proofs.lemmas.List.{length-set}
 use Rattle.std.proofs.lemmas.Option.{same_Some, slice_get_read}
 use Rattle.swi_outside.specs.CacheRam.{KeepsBeyond}
+use Rattle.swi_calls.specs.declared.end.End.{End}
+use Rattle.swi_calls.specs.declared.machine.Machine.{Machine}
 use Rattle.swi_rom.specs.Record.{Record}
 use Rattle.swi_slots.specs.Slots.{Slots, kept_by, setting_of, span_of}
 use Rattle.swi_slots.specs.Sound.{SlotsServe, Serves}
@@ -14,13 +17,48 @@ use Rattle.swi_board.specs.Board.{BoardOf}
 use Rattle.swi_share.specs.declared.process.Process.{Process}
 use Rattle.swi_share.specs.Shared.{Context, shared_event}
 use Rattle.swi_share.specs.Event.{EventBroke, EventDevices, EventMade, HartEvent, InputData, context, event_at}
-use Rattle.swi_share.specs.Sharing.{ShareData, ShareWith, IsSharing, Came, EventRan, HasEnded, HasRoom, seen, setting_in, turned}
+use Rattle.swi_share.specs.Sharing.{ShareData, ShareWith, IsSharing, Came, EventRan, HasEnded, HasRoom, Tells, seen, setting_in, turned}
 use Rattle.swi_share.specs.Waiting.{Waits}
 use Rattle.swi_share.proofs.Turning.{Turned, came_idle, came_of, context_at, get_set_other, made_turned, services_few, share_of, sharing_of}
+
+-- ---- what a hart tells of its program
+
+seat : (ps : List Process) (g : ℕ) → g < length ps → (p : Process) × (slice_get ps g ≡ Some p)
+seat [] g lt = absurd (omega (arith, lt))
+seat (p ∷ ps) zero lt = (p, refl)
+seat (p ∷ ps) (suc g) lt = seat ps g (omega (arith, lt))
+
+told_machine : (s : ShareData) (g : ℕ) (p : Process) (k : HartData) → slice_get s.processes g ≡ Some p → Tells k (slice_index_or (seen s).contexts g None) → p.hart.machine ≡ k.machine
+told_machine s g p k at tells = (subst (λ (c : Option Context). Tells k c) (context_at s.processes g p at) tells).machine
+
+pub told_ended : (s : ShareData) (g : ℕ) (k : HartData) → g < length s.processes → Tells k (slice_index_or (seen s).contexts g None) → is_some k.machine.ending ≡ true → HasEnded s g
+told_ended s g k lt tells ended =
+    let w = seat s.processes g lt in
+    let same = told_machine s g w.0 k w.1 tells in
+    record {
+      process = w.0;
+      process_is = w.1;
+      ended = λ none. false≢true (sym (ap (λ (x : Option End). is_some x) none) ∙ ap (λ (m : Machine). is_some m.ending) same ∙ ended);
+    }
+
+pub told_running : (s : ShareData) (g : ℕ) (p : Process) (k : HartData) → slice_get s.processes g ≡ Some p → Tells k (slice_index_or (seen s).contexts g None) → is_some k.machine.ending ≡ false → p.hart.machine.ending ≡ None
+told_running s g p k at tells going = ap (λ (m : Machine). m.ending) (told_machine s g p k at tells) ∙ none_of k.machine.ending going
+  where
+    none_of : (e : Option End) → is_some e ≡ false → e ≡ None
+    none_of None t = refl
+    none_of (Some e) t = absurd (false≢true (sym t))
+
+-- ---- a program in turn
 
 -- the program that the code reads
 pub seat_read : (s : ShareData) (items : List Process) (g : ℕ) (p : Process) → items ≡ s.processes → g < length s.processes → p ≡ slice_index_or items g p → slice_get s.processes g ≡ Some p
 seat_read s items g p is below read = slice_get_read s.processes (length s.processes) g p refl below (read ∙ ap (λ (ps : List Process). slice_index_or ps g p) is)
+
+pub turn_below : {s : ShareData} {words : List ℕ} (g : ℕ) (rom : Slots) → IsSharing s words → s.rom ≡ Some rom → g < length s.processes → g < rom.programs
+turn_below {s} g rom q is below =
+    let same : q.rom.programs ≡ rom.programs = ap (λ (x : Slots). x.programs) (same_Some q.rom rom (sym q.is ∙ is)) in
+    let all = q.programs in
+    omega (arith, same, all, below)
 
 -- program g of a share has not ended, and the service is turned to it
 pub record InTurn (s : ShareData) (g : ℕ) (p : Process) (before rom : Slots) : Type 0 where
@@ -108,9 +146,9 @@ module _ {s : ShareData} {g : ℕ} {p : Process} {before_rom rom : Slots} (t : I
     not_ended : HasEnded s g → ⊥
     not_ended w = w.ended (ap (λ (x : Process). x.hart.machine.ending) (same_Some w.process p (sym w.process_is ∙ t.at)) ∙ t.going)
 
-    pub event_done : {u : Unit} (s' : ShareData) → before.left ≡ p.input.left → after.left ≡ i.left → IsSharing s before.ram.words → HasRoom (seen s) g →
+    pub event_done : {u w : Unit} (s' : ShareData) → before.left ≡ p.input.left → after.left ≡ i.left → IsSharing s before.ram.words → HasRoom (seen s) g →
         HartEvent p.image first (record { hart = h'; rom = rom' }) before after (Ok u) → s' ≡ share_of (slice_set s.processes g left) rom' →
-        EventRan g (record { share = s; ram = before.ram; out = before.out; err = before.err }) (record { share = s'; ram = after.ram; out = after.out; err = after.err }) (Ok u)
+        EventRan g (record { share = s; ram = before.ram; out = before.out; err = before.err }) (record { share = s'; ram = after.ram; out = after.out; err = after.err }) (Ok w)
     event_done {u} s' first_left last q room ran is =
         let made = subst (λ (l : List ℕ). EventMade p.image (event_at first p.image l) first (record { hart = h'; rom = rom' }) before after) first_left ran.made in
         let turn = turned_by room last made in

@@ -93,16 +93,23 @@ impl<'a> Share<'a> {
             (record { share = self.old; ram = M.state ram.old; out = O.state out.old; err = E.state err.old })
             (record { share = self.new; ram = M.state ram.new; out = O.state out.new; err = E.state err.new }) result }
     {
-        let process = &mut self.processes[g as usize];
-        let hart = &mut process.hart;
-        if hart.ending().is_some() {
+        if self.hart(g).ending().is_some() {
             return Ok(());
         }
         let Some(rom) = &mut self.rom else {
             unreachable!()
         };
         rom.turn_to(g);
-        match make_event(&process.image, hart, rom, ram, &mut process.input, out, err) {
+        let process = &mut self.processes[g as usize];
+        match make_event(
+            &process.image,
+            &mut process.hart,
+            rom,
+            ram,
+            &mut process.input,
+            out,
+            err,
+        ) {
             Ok(_) => Ok(()),
             Err(fault) => {
                 self.rom = None;
