@@ -1,18 +1,13 @@
 -- A turn of the engine leaves the hart where it stands.
-use Rattle.std.proofs.Common.{◌≡◌, ℕ, ◌^◌, ◌<◌, Bool, List, Option, Some, None, arith, refl, sym, ◌∙◌, ap, subst, inl, inr}
+use Rattle.std.proofs.Common.{◌≡◌, ℕ, Bool, Option, Some, None, Result, Ok, Err, IfOk, arith, refl, sym, ◌∙◌, ap, subst}
 use Rattle.swi_calls.specs.declared.end.End.{End}
-use Rattle.swi_calls.specs.declared.machine.Machine.{Machine}
 use Rattle.swi_image.specs.Format.{ImageData}
-use Rattle.swi_image.specs.Place.{length_at}
 use Rattle.swi_rom.specs.Record.{Record, Placed}
 use Rattle.swi_rom.specs.Service.{ServiceOf}
-use Rattle.swi_rom.specs.Coherent.{Coherent, StandsAt}
-use Rattle.swi_hart.specs.declared.hart.Stage.{Stage}
 use Rattle.swi_hart.specs.declared.hart.Control.{Control}
 use Rattle.swi_hart.specs.declared.hart.Control.TheVariants.{At, Outside}
-use Rattle.swi_hart.specs.Hart.{HartData, index_of, place_under}
+use Rattle.swi_hart.specs.Hart.{HartData, place_under}
 use Rattle.swi_hart.specs.Matching.{StandsBy, Fits}
-use Rattle.swi_hart.specs.Leaving.{Home}
 use Rattle.swi_hart.specs.MachineStep.{BoardWithRam}
 use Rattle.swi_hart.specs.Service.{ServiceWithRam}
 use Rattle.swi_hart.specs.Staying.{StaysAt, StaysUnder, fits_on, matches_on}
@@ -21,8 +16,6 @@ use Rattle.swi_engine.specs.Engine.{Event}
 use Rattle.swi_engine.specs.Worked.{GoesTo}
 use Rattle.swi_prefetch.specs.Engines.{EngineOf, IsEngine, EventMade}
 use Rattle.swi_prefetch.specs.Turns.{Beside, EngineTurned, event_at}
-use Rattle.swi_hart.proofs.Homes.{home}
-use Rattle.swi_hart.proofs.Leaving.{shown_place}
 
 -- the block under control is placed
 pub under_placed : (v : ImageData) (r : Record) (h : HartData) (p : ℕ × ℕ) → Fits v r h → place_under h.machine.ending h.control ≡ Some p → (f : ℕ) × Placed r p.0 f
@@ -50,9 +43,10 @@ abbrev pub board_with : {S : Type 0} → HartData → ServiceWithRam S → Board
 board_with h s = record { hart = h; rom = s.rom; ram = s.ram }
 
 -- the turn is the event
-pub turned_on : {S : Type 0} (k : ServiceOf S) (e : EngineOf) (v : ImageData) (h : HartData) (p : ℕ × ℕ) (a b : ServiceWithRam S) (wrote : Bool) → IsEngine k e → place_under h.machine.ending h.control ≡ Some p → EventMade k e v p.0 a b wrote →
-    Beside k v (board_with h a) → EngineTurned k e v (board_with h a) (board_with h b) wrote
-turned_on k e v h p a b wrote laws under made beside =
+pub turned_on : {S E : Type 0} (k : ServiceOf S) (e : EngineOf) (v : ImageData) (h : HartData) (p : ℕ × ℕ) (a b : ServiceWithRam S) (result : Result Bool E) → IsEngine k e → place_under h.machine.ending h.control ≡ Some p →
+    IfOk result (λ (wrote : Bool). EventMade k e v p.0 a b wrote) → Beside k v (board_with h a) → IfOk result (λ (wrote : Bool). EngineTurned k e v (board_with h a) (board_with h b) wrote)
+turned_on k e v h p a b (Err x) laws under made beside = tt
+turned_on k e v h p a b (Ok wrote) laws under made beside =
     let stays = stays_under k e v h p a b wrote under made in
     let services = same_services _ wrote _ (k.kept a.rom) (k.kept b.rom) a.ram b.ram (λ x is. laws.uncounted _ _ v p.0 x is) made.moves in
     record {

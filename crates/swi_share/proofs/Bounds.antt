@@ -8,7 +8,6 @@ use Rattle.swi_calls.specs.declared.machine.Machine.{Machine}
 use Rattle.swi_calls.specs.Held.{held_step, held_run}
 use Rattle.swi_calls.specs.Laws.{held_run_none, held_run_over, held_run_more}
 use Rattle.swi_calls.specs.State.{FlatState}
-use Rattle.swi_hart.specs.Hart.{HartData}
 use Rattle.swi_board.proofs.Held.{held_steps}
 use Rattle.swi_share.specs.Shared.{Context, Shared, event_by, event_in, flat_of, shared_event, shared_run}
 use Rattle.swi_share.specs.Event.{context}

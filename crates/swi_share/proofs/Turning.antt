@@ -19,13 +19,12 @@ use Rattle.swi_slots.specs.Slots.{Slots, kept_by, setting_of, span_of}
 use Rattle.swi_slots.specs.Sound.{SlotsServe}
 use Rattle.swi_outside.specs.Sink.{SinkState}
 use Rattle.swi_hart.specs.Hart.{HartData}
-use Rattle.swi_hart.specs.declared.fault.BoardFault.{BoardFault}
 use Rattle.swi_board.specs.Board.{BoardOf}
 use Rattle.swi_board.specs.Ran.{RamRan}
 use Rattle.swi_share.specs.declared.process.Process.{Process}
 use Rattle.swi_share.specs.Shared.{Context, Event, Shared, enters, entered_if, begun_if, flat_of, step_event, with_event, event_by, event_in, shared_event, event_of}
 use Rattle.swi_share.specs.Waiting.{Waits, most_services}
-use Rattle.swi_share.specs.Event.{EventBroke, EventDevices, EventMade, context, event_at}
+use Rattle.swi_share.specs.Event.{EventDevices, EventMade, context, event_at}
 use Rattle.swi_share.specs.Sharing.{ShareData, IsSharing, Seated, Came, seen, turned, context_of, services_by, services_most, HasEnded}
 use Rattle.swi_share.proofs.Few.{Counted, run_counted, services_after, event_services}
 use Rattle.swi_share.proofs.Breaking.{flat_same}

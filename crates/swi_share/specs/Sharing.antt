@@ -1,5 +1,5 @@
 -- What several programs over one cache keep between their events, and what an event or a schedule leaves.
-use Rattle.std.specs.Prelude.{◌≡◌, ℕ, ◌+◌, ◌-◌, ◌^◌, ◌<◌, ◌≤◌, ⊤, List, [], ◌∷◌, map, length, slice_get, slice_index_or, slice_set, Option, Some, None, Result, Ok, Err}
+use Rattle.std.specs.Prelude.{◌≡◌, ℕ, ◌+◌, ◌-◌, ◌^◌, ◌<◌, ◌≤◌, List, [], ◌∷◌, map, length, slice_get, slice_index_or, slice_set, Option, Some, None, Result, Ok, Err}
 use Rattle.std.specs.Io.KnownBytes.{Appends}
 use Rattle.swi_outside.specs.CacheRam.{RamState, KeepsBeyond}
 use Rattle.swi_outside.specs.Sink.{SinkState}
@@ -9,8 +9,7 @@ use Rattle.swi_rom.specs.Service.{Setting}
 use Rattle.swi_rom.specs.Served.{SameFrom}
 use Rattle.swi_slots.specs.Fifo.{extent_of}
 use Rattle.swi_slots.specs.Slots.{Slots, kept_by, setting_of, span_of}
-use Rattle.swi_slots.specs.Keys.{Images}
-use Rattle.swi_slots.specs.Sound.{SlotsServe, Serves}
+use Rattle.swi_slots.specs.Sound.{SlotsServe}
 use Rattle.swi_hart.specs.Hart.{HartData, place_under}
 use Rattle.swi_board.specs.Fetching.{HasFetched}
 use Rattle.swi_board.specs.Ran.{RamRan}

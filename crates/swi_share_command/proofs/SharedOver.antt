@@ -24,7 +24,6 @@ use Rattle.swi_rom.specs.Record.{Record, writes}
 use Rattle.swi_slots.specs.Coheres.{coheres}
 use Rattle.swi_slots.specs.Slots.{Slots, kept_by, setting_of, span_of}
 use Rattle.swi_slots.proofs.Turned.{turned_kept, turned_serves}
-use Rattle.swi_hart.specs.Hart.{HartData}
 use Rattle.swi_image.specs.Format.{ImageData}
 use Rattle.swi_board.specs.Fetching.{FetchedFront, HasFetched}
 use Rattle.swi_board.specs.Ran.{RamRan}
