@@ -1,18 +1,13 @@
 -- A turn of the engine leaves the hart where it stands.
-use Rattle.std.proofs.Common.{◌≡◌, ℕ, ◌^◌, ◌<◌, Bool, List, Option, Some, None, arith, refl, sym, ◌∙◌, ap, subst, inl, inr}
+use Rattle.std.proofs.Common.{◌≡◌, ℕ, Bool, Option, Some, None, Result, Ok, Err, IfOk, arith, refl, sym, ◌∙◌, ap, subst}
 use Rattle.swi_calls.specs.declared.end.End.{End}
-use Rattle.swi_calls.specs.declared.machine.Machine.{Machine}
 use Rattle.swi_image.specs.Format.{ImageData}
-use Rattle.swi_image.specs.Place.{length_at}
 use Rattle.swi_rom.specs.Record.{Record, Placed}
 use Rattle.swi_rom.specs.Service.{ServiceOf}
-use Rattle.swi_rom.specs.Coherent.{Coherent, StandsAt}
-use Rattle.swi_hart.specs.declared.hart.Stage.{Stage}
 use Rattle.swi_hart.specs.declared.hart.Control.{Control}
 use Rattle.swi_hart.specs.declared.hart.Control.TheVariants.{At, Outside}
-use Rattle.swi_hart.specs.Hart.{HartData, index_of, place_under}
+use Rattle.swi_hart.specs.Hart.{HartData, place_under}
 use Rattle.swi_hart.specs.Matching.{StandsBy, Fits}
-use Rattle.swi_hart.specs.Leaving.{Home}
 use Rattle.swi_hart.specs.MachineStep.{BoardWithRam}
 use Rattle.swi_hart.specs.Service.{ServiceWithRam}
 use Rattle.swi_hart.specs.Staying.{StaysAt, StaysUnder, fits_on, matches_on}
@@ -21,8 +16,6 @@ use Rattle.swi_engine.specs.Engine.{Event}
 use Rattle.swi_engine.specs.Worked.{GoesTo}
 use Rattle.swi_prefetch.specs.Engines.{EngineOf, IsEngine, EventMade}
 use Rattle.swi_prefetch.specs.Turns.{Beside, EngineTurned, event_at}
-use Rattle.swi_hart.proofs.Homes.{home}
-use Rattle.swi_hart.proofs.Leaving.{shown_place}
 
 -- the block under control is placed
 pub under_placed : (v : ImageData) (r : Record) (h : HartData) (p : ℕ × ℕ) → Fits v r h → place_under h.machine.ending h.control ≡ Some p → (f : ℕ) × Placed r p.0 f
@@ -37,26 +30,6 @@ under_placed v r h p fits under = by_parts h.machine.ending h.control fits.place
     by_parts None Outside is under = absurd cc
     by_parts (Some e) c is under = absurd cc
 
-inside_of : (v : ImageData) (r : Record) (m : Machine) (i b o : ℕ) (stage : Stage) → Home v r m i b o stage → o < length_at v b
-inside_of v r m i b o stage at = elim at.kind [ inl x ↦ omega (arith, x.inside) | inr x ↦ x.inside ]
-
--- the service shows the place under control
-pub shown_under : (v : ImageData) (r : Record) (span : ℕ) (words : List ℕ) (shown : ℕ → Option (ℕ × ℕ)) (h : HartData) → Fits v r h → h.machine.pc < 2 ^ 32 → Coherent v r span words → ((i : ℕ) → StandsAt v r i (shown i)) →
-    (i : ℕ) → index_of h.machine.ending h.control ≡ Some i → shown i ≡ place_under h.machine.ending h.control
-shown_under v r span words shown h fits short coherent shows i at = by_parts h.machine.ending h.control refl refl fits.place at
-  where
-    number : Option ℕ → ℕ
-    number None = 0
-    number (Some n) = n
-
-    by_parts : (e : Option End) (c : Control) → h.machine.ending ≡ e → h.control ≡ c → StandsBy e v r h.machine c → index_of e c ≡ Some i → shown i ≡ place_under e c
-    by_parts None (At j b o stage) none here is at =
-        let same : j ≡ i = ap number at in
-        let place = home v r h j b o stage fits here none short in
-        shown_place v r span words i b o (shown i) coherent (is.0.0, is.0.1, inside_of v r h.machine j b o stage place, sym same ∙ is.0.2) (shows i)
-    by_parts None Outside none here is at = absurd cc
-    by_parts (Some e) c none here is at = absurd cc
-
 same_services : (o : Option Event) (wrote : Bool) (span : ℕ) (r r' : Record) (a b : RamState) → ((n : Event) → o ≡ Some n → n.next.counts.services ≡ r.counts.services) → GoesTo o wrote span r r' a b → r'.counts.services ≡ r.counts.services
 same_services None wrote span r r' a b quiet goes = ap (λ (x : Record). x.counts.services) goes.1
 same_services (Some n) wrote span r r' a b quiet goes = ap (λ (x : Record). x.counts.services) goes.1 ∙ quiet n refl
@@ -70,9 +43,10 @@ abbrev pub board_with : {S : Type 0} → HartData → ServiceWithRam S → Board
 board_with h s = record { hart = h; rom = s.rom; ram = s.ram }
 
 -- the turn is the event
-pub turned_on : {S : Type 0} (k : ServiceOf S) (e : EngineOf) (v : ImageData) (h : HartData) (p : ℕ × ℕ) (a b : ServiceWithRam S) (wrote : Bool) → IsEngine k e → place_under h.machine.ending h.control ≡ Some p → EventMade k e v p.0 a b wrote →
-    Beside k v (board_with h a) → EngineTurned k e v (board_with h a) (board_with h b) wrote
-turned_on k e v h p a b wrote laws under made beside =
+pub turned_on : {S E : Type 0} (k : ServiceOf S) (e : EngineOf) (v : ImageData) (h : HartData) (p : ℕ × ℕ) (a b : ServiceWithRam S) (result : Result Bool E) → IsEngine k e → place_under h.machine.ending h.control ≡ Some p →
+    IfOk result (λ (wrote : Bool). EventMade k e v p.0 a b wrote) → Beside k v (board_with h a) → IfOk result (λ (wrote : Bool). EngineTurned k e v (board_with h a) (board_with h b) wrote)
+turned_on k e v h p a b (Err x) laws under made beside = tt
+turned_on k e v h p a b (Ok wrote) laws under made beside =
     let stays = stays_under k e v h p a b wrote under made in
     let services = same_services _ wrote _ (k.kept a.rom) (k.kept b.rom) a.ram b.ram (λ x is. laws.uncounted _ _ v p.0 x is) made.moves in
     record {

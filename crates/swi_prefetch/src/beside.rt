@@ -13,35 +13,30 @@ use swi_hart::BoardFault;
 use swi_image::ImageView;
 use swi_outside::{CacheRam, Failed, Sink, Source};
 
-/// One turn of the engine between two machine steps, also midway in an instruction: the board, and whether a word was
-/// written. Where the run has ended, or control is at no text word, nothing is done. The hart is as before, control's
+/// One turn of the engine between two machine steps, also midway in an instruction: whether a word was written. Where the run has ended, or control is at no text word, nothing is done. The hart is as before, control's
 /// block stays, and the board matches the same flat machines.
 ///
 /// The board is as `Board::boot`, `step` and `turn` leave it, for this image and the ram; the engine has written fewer
-/// than 2^60 words to copy. `Failed` comes only where the ram's count of faults rose; the board is given up then, and of
-/// the ram only the words beyond the service's are known.
+/// than 2^60 words to copy. `Failed` comes only where the ram's count of faults rose; no further turn is possible then,
+/// and of the ram only the words beyond the service's are known.
 pub fn turn<R: CopyEngine, M: CacheRam>(
-    board: Board<R>,
+    board: &mut Board<R>,
     image: &ImageView<'_>,
     ram: &mut M,
-) -> Result<(Board<R>, bool), Failed>
-    requires beside { Beside R.service image.now (record { hart = board.hart; rom = board.rom; ram = M.state ram.old }) }
-    requires few { R.engine.written (R.service.kept board.rom) < 2 ^ 60 }
-    ensures turned { IfOk result (λ x. EngineTurned R.service R.engine image.now
-        (record { hart = board.hart; rom = board.rom; ram = M.state ram.old })
-        (record { hart = x.0.hart; rom = x.0.rom; ram = M.state ram.new }) x.1) }
-    ensures failed { OnErr result (FailedBelow (R.service.span (R.service.setting board.rom))
+) -> Result<bool, Failed>
+    requires beside { Beside R.service image.now
+        (record { hart = board.old.hart; rom = board.old.rom; ram = M.state ram.old }) }
+    requires few { R.engine.written (R.service.kept board.old.rom) < 2 ^ 60 }
+    ensures turned { IfOk result (λ wrote. EngineTurned R.service R.engine image.now
+        (record { hart = board.old.hart; rom = board.old.rom; ram = M.state ram.old })
+        (record { hart = board.new.hart; rom = board.new.rom; ram = M.state ram.new }) wrote) }
+    ensures failed { OnErr result (FailedBelow (R.service.span (R.service.setting board.old.rom))
         (M.state ram.old) (M.state ram.new)) }
 {
-    let (hart, rom) = board.part();
-    let mut rom = rom;
-    // Read for the proof alone: that it has 32 bits.
-    let _pc = hart.origin_pc();
-    let Some((block, _)) = hart.place() else {
-        return Ok((Board::join(hart, rom), false));
+    let Some((block, _)) = board.hart.place() else {
+        return Ok(false);
     };
-    let wrote = rom.work(image, ram, block)?;
-    Ok((Board::join(hart, rom), wrote))
+    board.rom.work(image, ram, block)
 }
 
 /// One machine step of the hart; where the run has ended nothing is done. It follows each flat machine that the board

@@ -154,12 +154,16 @@ impl Prefetch {
         ensures leads { OnOk result ((d : Devices) → Leads image.now (of_engine ∷ []) self.old.board self.new.board
             (record { ram = M.state ram.old; devices = d }) (record { ram = M.state ram.new; devices = d })) }
     {
-        let Some(board) = self.board.take() else {
+        let Some(board) = &mut self.board else {
             unreachable!()
         };
-        let (board, wrote) = turn(board, image, ram)?;
-        self.board = Some(board);
-        Ok(wrote)
+        match turn(board, image, ram) {
+            Ok(wrote) => Ok(wrote),
+            Err(stop) => {
+                self.board = None;
+                Err(stop)
+            }
+        }
     }
 
     // So many events of the engine in a row, which leave the hart as it was.

@@ -1,5 +1,5 @@
 -- A hart that goes on where it stands, or enters the ram anew.
-use Rattle.std.proofs.Common.{◌≡◌, ℕ, ◌+◌, ◌<◌, ◌==◌, ◌&&◌, ◌||◌, Bool, true, false, not, List, [], ◌∷◌, Option, Some, None, Result, Ok, Err, IfOk, OnErr, arith, refl, sym, ◌∙◌, ap, subst, inl, inr}
+use Rattle.std.proofs.Common.{◌≡◌, ℕ, ◌+◌, ◌<◌, ◌==◌, ◌&&◌, ◌||◌, Bool, true, false, not, List, [], ◌∷◌, Option, Some, None, Result, Ok, Err, OnOk, OnErr, arith, refl, sym, ◌∙◌, ap, subst, inl, inr}
 use Rattle.std.proofs.lemmas.Bool.{cases_Bool, and_parts, and_from, or_left, or_right, or_cases, both_ways, eq-eqb, eqb-true, false_from_ne_true}
 use Rattle.std.specs.List.{list_any}
 use Rattle.swi_calls.specs.declared.end.End.{End}
@@ -167,9 +167,9 @@ is_anew v r span words h shown waits running coherent image law e left = elim (c
 abbrev pub EnteredAs : ImageData → BoardOf Slots → RamState → BoardOf Slots → RamState → Type 0
 EnteredAs v old before b after = Entered slots_service v old.hart (record { rom = old.rom; ram = before }) (record { hart = b.hart; rom = b.rom; ram = after })
 
-pub resumed : {E : Type 0} (v : ImageData) (old : BoardOf Slots) (before after : RamState) (result : Result (BoardOf Slots) E) → ((left : List ℕ) → enters (kept_by old.rom) (context old.hart v left) ≡ true) →
-    IfOk result (λ (b : BoardOf Slots). EnteredAs v old before b after) → IfOk result (λ (b : BoardOf Slots). Boarded v old b)
-resumed v old before after (Ok b) anew e =
+pub entered : {T E : Type 0} (v : ImageData) (old b : BoardOf Slots) (before after : RamState) (result : Result T E) → ((left : List ℕ) → enters (kept_by old.rom) (context old.hart v left) ≡ true) →
+    OnOk result (EnteredAs v old before b after) → OnOk result (Boarded v old b)
+entered v old b before after (Ok x) anew e =
     let count : b.hart.count ≡ old.hart.count + entries v old.hart.machine.pc = ap (λ (h : HartData). h.count) e.hart in
     record {
       hart = e.hart ∙ ap (λ (n : ℕ). let x : HartData = record old.hart { control = b.hart.control; count = n; booted = true } in x) (sym count);
@@ -180,7 +180,7 @@ resumed v old before after (Ok b) anew e =
       between = e.between;
       kept = λ left. e.policy ∙ ap (λ (t : Bool). entered_if t (setting_of old.rom) (kept_by old.rom) (context old.hart v left)) (sym (anew left));
     }
-resumed v old before after (Err x) anew e = tt
+entered v old b before after (Err x) anew e = tt
 
 pub on_err : {T E P : Type 0} (result : Result T E) → P → OnErr result P
 on_err (Ok x) p = tt

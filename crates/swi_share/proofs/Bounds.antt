@@ -8,11 +8,10 @@ use Rattle.swi_calls.specs.declared.machine.Machine.{Machine}
 use Rattle.swi_calls.specs.Held.{held_step, held_run}
 use Rattle.swi_calls.specs.Laws.{held_run_none, held_run_over, held_run_more}
 use Rattle.swi_calls.specs.State.{FlatState}
-use Rattle.swi_hart.specs.Hart.{HartData}
 use Rattle.swi_board.proofs.Held.{held_steps}
 use Rattle.swi_share.specs.Shared.{Context, Shared, event_by, event_in, flat_of, shared_event, shared_run}
 use Rattle.swi_share.specs.Event.{context}
-use Rattle.swi_share.specs.Sharing.{ShareData, IsSharing, context_by, context_of, seen}
+use Rattle.swi_share.specs.Sharing.{ShareData, IsSharing, context_of, seen}
 use Rattle.swi_share.specs.Starting.{first_context, shared_start}
 use Rattle.swi_share.specs.Waiting.{most_steps}
 use Rattle.swi_share.specs.declared.process.Guest.{Guest}
@@ -141,9 +140,7 @@ counted s words g c sharing is =
     let at = process_at s.processes g c is in
     let p : Process = at.0 in
     let seat = sharing.seated g p at.1 in
-    let h : HartData = seat.hart in
-    let own : ◌≡◌ {A = Option Context} (Some (context h p.image p.input.left)) (Some c) = sym (ap (λ (x : Option HartData). context_by x p.image p.input.left) seat.is) ∙ at.2 in
-    let same : context h p.image p.input.left ≡ c = same_Some (context h p.image p.input.left) c own in (
+    let same : context p.hart p.image p.input.left ≡ c = same_Some (context p.hart p.image p.input.left) c at.2 in (
       subst (λ (x : Context). x.count ≤ most_steps x.machine.ending x.machine.steps) same seat.waits.bounded,
       subst (λ (x : Context). x.booted ≡ false → x.count ≡ 0) same seat.waits.unbooted,
     )

@@ -394,9 +394,9 @@ never_rose n none rose = at (subst (λ (k : ℕ). Rose k 0) none rose)
     at le = grind arith
 
 -- the entry failed
-pub entry_broke : (v : ImageData) (old : BoardOf Slots) (before : EventDevices) (ram : RamState) → ((left : List ℕ) → enters (kept_by old.rom) (context old.hart v left) ≡ true) → (place_of v old.hart.machine.pc ≡ None → ⊥) →
-    RamFailed (span_of (setting_of old.rom)) before.ram ram → HartEvent v old before (record before { ram = ram }) (Err RamFault)
-entry_broke v old before ram anew inside failed = record {
+pub entry_broke : (v : ImageData) (old new : BoardOf Slots) (before : EventDevices) (ram : RamState) → ((left : List ℕ) → enters (kept_by old.rom) (context old.hart v left) ≡ true) → (place_of v old.hart.machine.pc ≡ None → ⊥) →
+    RamFailed (span_of (setting_of old.rom)) before.ram ram → HartEvent v old new before (record before { ram = ram }) (Err RamFault)
+entry_broke v old new before ram anew inside failed = record {
   made = tt;
   broke = record {
     at = inl (record { fault_is = refl; anew = anew before.left; inside = inside; ram = failed; devices = refl });
@@ -422,24 +422,14 @@ module _ (v : ImageData) (old b : BoardOf Slots) (before : EventDevices) (given 
   ran_over : (result : Result Unit BoardFault) → RanOver result → BoardRan slots_service v n first last result
   ran_over result (gave, ran) = as_told_said (λ from to. BoardRan slots_service v n (with_source first from) (with_source last to) result) gave refl ran
 
-  -- no device failed in it
-  pub hart_unfailed : {u : Unit} (result : Result Unit BoardFault) → RanOver result → result ≡ Ok u → b.hart.failed ≡ false → new.hart.failed ≡ false
-  hart_unfailed {u} result ran is unfailed =
-      let r = subst (λ (x : Result Unit BoardFault). BoardRan slots_service v n first last x) is (ran_over result ran) in
-      let stays = subst (λ (w : BoardWithDevices Slots). BoardStays slots_service v n first w) (sym r.ends.0) r.along.stays in
-      stays.point.failed ∙ unfailed
-
-  -- the event was made
-  pub hart_made : {u : Unit} (result : Result Unit BoardFault) → RanOver result → result ≡ Ok u → HartEvent v old before after (Ok (new.hart, new.rom))
-  hart_made {u} result ran is =
-      let r = subst (λ (x : Result Unit BoardFault). BoardRan slots_service v n first last x) is (ran_over result ran) in
+  -- the event was made, or a device broke it off
+  pub hart_event : (result : Result Unit BoardFault) → RanOver result → HartEvent v old new before after result
+  hart_event (Ok u) ran =
+      let r = ran_over (Ok u) ran in
       let made = made_event v old b before given given' mid entry n one new after {u = u} r in
       record { made = made; broke = tt; kept = made.ram.kept }
-
-  -- a device broke it off
-  pub hart_broke : (result : Result Unit BoardFault) (fault : BoardFault) → RanOver result → result ≡ Err fault → HartEvent v old before after (Err fault)
-  hart_broke result fault ran is =
-      let r = subst (λ (x : Result Unit BoardFault). BoardRan slots_service v n first last x) is (ran_over result ran) in
+  hart_event (Err fault) ran =
+      let r = ran_over (Err fault) ran in
       let stays = r.along.stays in
       let setting : setting_of r.mid.rom ≡ setting_of old.rom = stays.setting ∙ entry.setting in
       let causes = named {T = Unit} fault (causes_from stays.quiet r.ends.broke.causes) in

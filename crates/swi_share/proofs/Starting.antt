@@ -1,5 +1,5 @@
 -- Programs before their first events.
-use Rattle.std.proofs.Common.{◌≡◌, ℕ, zero, suc, ◌+◌, ◌*◌, ◌/◌, ◌<◌, ◌≤◌, max, false, List, [], ◌∷◌, ◌++◌, map, length, slice_get, slice_index_or, drop, Option, Some, None, arith, refl, sym, ◌∙◌, ap, subst}
+use Rattle.std.proofs.Common.{◌≡◌, ℕ, zero, suc, ◌+◌, ◌*◌, ◌/◌, ◌<◌, ◌≤◌, max, false, List, [], ◌∷◌, ◌++◌, map, length, slice_get, slice_index_or, drop, Option, Some, arith, refl, sym, ◌∙◌, ap, subst}
 use Rattle.std.proofs.lemmas.Bool.{false≢true}
 use Rattle.std.proofs.lemmas.List.{drop_more, drop_all}
 use Rattle.std.proofs.lemmas.Option.{same_Some}
@@ -20,7 +20,7 @@ use Rattle.swi_share.specs.declared.process.Process.{Process}
 use Rattle.swi_share.specs.Shared.{Context, Shared}
 use Rattle.swi_share.specs.Waiting.{Waits}
 use Rattle.swi_share.specs.Event.{context}
-use Rattle.swi_share.specs.Sharing.{IsSharing, IsWhole, Seated, seen, turned, context_by, context_of}
+use Rattle.swi_share.specs.Sharing.{IsSharing, Seated, seen, turned, context_of}
 use Rattle.swi_share.specs.Starting.{Started, AllStarted, most_words, first_context, shared_start}
 use Rattle.swi_share.proofs.Turning.{share_of}
 
@@ -38,7 +38,7 @@ long_as (y ∷ ys) (q ∷ qs) all = ap suc (long_as ys qs all.1)
 
 context_first : (x : Guest) (p : Process) → Started x p → context_of p ≡ first_context x
 context_first x p s =
-    ap (λ (h : Option HartData). context_by h p.image p.input.left) s.hart
+    ap (λ (h : HartData). Some (context h p.image p.input.left)) s.hart
     ∙ ap (λ (v : ImageData). Some (context (unbooted (machine_of x.program x.layout false)) v p.input.left)) s.image
     ∙ ap (λ (i : List ℕ). Some (context (unbooted (machine_of x.program x.layout false)) x.image i)) s.input
 
@@ -96,11 +96,10 @@ seated_first d (x ∷ xs) (q ∷ qs) rom n (suc g) p all at = seated_first d xs 
 
 seat_of : (x : Guest) (p : Process) (rom : Slots) (images : ℕ → ImageData) (g : ℕ) → images g ≡ x.image → Started x p → Seated rom images g p
 seat_of x p rom images g is s = record {
-  hart = unbooted (machine_of x.program x.layout false);
-  is = s.hart;
   image = is ∙ sym s.image;
-  waits = subst (λ (v : ImageData). Waits v (turned rom g) (unbooted (machine_of x.program x.layout false))) (sym s.image) (waits_first x.image (turned rom g) (machine_of x.program x.layout false) s.carries);
-  few = omega arith;
+  waits = subst (λ (h : HartData). Waits p.image (turned rom g) h) (sym s.hart)
+      (subst (λ (v : ImageData). Waits v (turned rom g) (unbooted (machine_of x.program x.layout false))) (sym s.image) (waits_first x.image (turned rom g) (machine_of x.program x.layout false) s.carries));
+  few = let none : p.hart.machine.steps ≡ 0 = ap (λ (h : HartData). h.machine.steps) s.hart in omega (arith, none);
 }
 
 first_most : (x : Guest) (xs : List Guest) (n : ℕ) → most_words (x ∷ xs) ≤ n → x.image.block_words ≤ n
@@ -139,16 +138,6 @@ seen_first xs ps rom bytes n all most is kept =
     ∙ ap (λ (r : Record). let y : Shared = record { setting = record { slots = bytes / 4 / most_words xs; slot_words = most_words xs; programs = length xs }; kept = r; contexts = map context_of ps; output = []; error = []; fetches = 0; words = [] } in y) kept
     ∙ ap (λ (cs : List (Option Context)). let y : Shared = record { setting = record { slots = bytes / 4 / most_words xs; slot_words = most_words xs; programs = length xs }; kept = empty_record; contexts = cs; output = []; error = []; fetches = 0; words = [] } in y)
     (contexts_first xs ps all)
-
-whole_get : (xs : List Guest) (ps : List Process) → AllStarted xs ps → (g : ℕ) (p : Process) → slice_get ps g ≡ Some p → p.hart ≡ None → ⊥
-whole_get [] [] all g p at none = absurd (cc)
-whole_get [] (q ∷ qs) all g p at none = absurd all
-whole_get (x ∷ xs) [] all g p at none = absurd all
-whole_get (x ∷ xs) (q ∷ qs) all zero p at none = let h = sym all.0.hart ∙ ap (λ (k : Process). k.hart) (same_Some q p at) ∙ none in cc
-whole_get (x ∷ xs) (q ∷ qs) all (suc g) p at none = whole_get xs qs all.1 g p at none
-
-pub whole_first : (xs : List Guest) (ps : List Process) (rom : Slots) → AllStarted xs ps → IsWhole (Some rom) ps
-whole_first xs ps rom all = whole_get xs ps all
 
 -- ---- the most words of a block
 

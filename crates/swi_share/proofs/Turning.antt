@@ -19,14 +19,13 @@ use Rattle.swi_slots.specs.Slots.{Slots, kept_by, setting_of, span_of}
 use Rattle.swi_slots.specs.Sound.{SlotsServe}
 use Rattle.swi_outside.specs.Sink.{SinkState}
 use Rattle.swi_hart.specs.Hart.{HartData}
-use Rattle.swi_hart.specs.declared.fault.BoardFault.{BoardFault}
 use Rattle.swi_board.specs.Board.{BoardOf}
 use Rattle.swi_board.specs.Ran.{RamRan}
 use Rattle.swi_share.specs.declared.process.Process.{Process}
 use Rattle.swi_share.specs.Shared.{Context, Event, Shared, enters, entered_if, begun_if, flat_of, step_event, with_event, event_by, event_in, shared_event, event_of}
 use Rattle.swi_share.specs.Waiting.{Waits, most_services}
-use Rattle.swi_share.specs.Event.{EventBroke, EventDevices, EventMade, context, event_at}
-use Rattle.swi_share.specs.Sharing.{ShareData, IsSharing, Seated, Came, seen, turned, context_by, context_of, services_by, services_most, HasEnded}
+use Rattle.swi_share.specs.Event.{EventDevices, EventMade, context, event_at}
+use Rattle.swi_share.specs.Sharing.{ShareData, IsSharing, Seated, Came, seen, turned, context_of, services_by, services_most, HasEnded}
 use Rattle.swi_share.proofs.Few.{Counted, run_counted, services_after, event_services}
 use Rattle.swi_share.proofs.Breaking.{flat_same}
 use Rattle.swi_share.proofs.Others.{Passes, event_passes, waits_on}
@@ -52,24 +51,24 @@ set_own (z ∷ zs) (suc i) x is = ap (λ ys. z ∷ ys) (set_own zs i x is)
 
 -- ---- what is seen
 
-pub context_at : (ps : List Process) (g : ℕ) (p : Process) (h : HartData) → slice_get ps g ≡ Some p → p.hart ≡ Some h → slice_index_or (map context_of ps) g None ≡ Some (context h p.image p.input.left)
-context_at [] g p h is hart = absurd (cc)
-context_at (q ∷ qs) zero p h is hart = ap context_of (same_Some q p is) ∙ ap (λ (x : Option HartData). context_by x p.image p.input.left) hart
-context_at (q ∷ qs) (suc g) p h is hart = context_at qs g p h is hart
+pub context_at : (ps : List Process) (g : ℕ) (p : Process) → slice_get ps g ≡ Some p → slice_index_or (map context_of ps) g None ≡ context_of p
+context_at [] g p is = absurd (cc)
+context_at (q ∷ qs) zero p is = ap context_of (same_Some q p is)
+context_at (q ∷ qs) (suc g) p is = context_at qs g p is
 
 abbrev pub share_of : List Process → Slots → ShareData
 share_of ps rom = record { processes = ps; rom = Some rom }
 
-pub next_is : (ps : List Process) (rom : Slots) (g : ℕ) (p : Process) (h : HartData) → slice_get ps g ≡ Some p → p.hart ≡ Some h → h.machine.ending ≡ None →
-    shared_event g (seen (share_of ps rom)) ≡ with_event g (seen (share_of ps rom)) (event_of (setting_of rom) (turned rom g) (context h p.image p.input.left))
-next_is ps rom g p h is hart going =
-    ap (λ (c : Option Context). event_in g (seen (share_of ps rom)) c) (context_at ps g p h is hart)
-    ∙ ap (λ (e : Option End). event_by g (seen (share_of ps rom)) (context h p.image p.input.left) e) going
+next_is : (ps : List Process) (rom : Slots) (g : ℕ) (p : Process) → slice_get ps g ≡ Some p → p.hart.machine.ending ≡ None →
+    shared_event g (seen (share_of ps rom)) ≡ with_event g (seen (share_of ps rom)) (event_of (setting_of rom) (turned rom g) (context p.hart p.image p.input.left))
+next_is ps rom g p is going =
+    ap (λ (c : Option Context). event_in g (seen (share_of ps rom)) c) (context_at ps g p is)
+    ∙ ap (λ (e : Option End). event_by g (seen (share_of ps rom)) (context p.hart p.image p.input.left) e) going
 
-pub stays_as : (ps : List Process) (rom : Slots) (g : ℕ) (p : Process) (h : HartData) (e : End) → slice_get ps g ≡ Some p → p.hart ≡ Some h → h.machine.ending ≡ Some e → shared_event g (seen (share_of ps rom)) ≡ seen (share_of ps rom)
-stays_as ps rom g p h e is hart ended =
-    ap (λ (c : Option Context). event_in g (seen (share_of ps rom)) c) (context_at ps g p h is hart)
-    ∙ ap (λ (x : Option End). event_by g (seen (share_of ps rom)) (context h p.image p.input.left) x) ended
+stays_as : (ps : List Process) (rom : Slots) (g : ℕ) (p : Process) (e : End) → slice_get ps g ≡ Some p → p.hart.machine.ending ≡ Some e → shared_event g (seen (share_of ps rom)) ≡ seen (share_of ps rom)
+stays_as ps rom g p e is ended =
+    ap (λ (c : Option Context). event_in g (seen (share_of ps rom)) c) (context_at ps g p is)
+    ∙ ap (λ (x : Option End). event_by g (seen (share_of ps rom)) (context p.hart p.image p.input.left) x) ended
 
 -- ---- services
 
@@ -85,20 +84,19 @@ most_three (Some (end.Exited code)) n = omega arith
 most_three (Some (end.Faulted k a)) n = omega arith
 most_three (Some (end.StoreText a)) n = omega arith
 
-few_by : (h : Option HartData) → ((k : HartData) → h ≡ Some k → k.machine.steps ≤ 2 ^ 44) → services_by h ≤ 3 * 2 ^ 44 + 3
-few_by None few = omega arith
-few_by (Some k) few = omega (arith, few k refl, most_three k.machine.ending k.machine.steps)
+few_by : (h : HartData) → h.machine.steps ≤ 2 ^ 44 → services_by h ≤ 3 * 2 ^ 44 + 3
+few_by h few = omega (arith, few, most_three h.machine.ending h.machine.steps)
 
-services_each : (ps : List Process) → ((g : ℕ) (p : Process) (h : HartData) → slice_get ps g ≡ Some p → p.hart ≡ Some h → h.machine.steps ≤ 2 ^ 44) → services_most ps ≤ length ps * (3 * 2 ^ 44 + 3)
+services_each : (ps : List Process) → ((g : ℕ) (p : Process) → slice_get ps g ≡ Some p → p.hart.machine.steps ≤ 2 ^ 44) → services_most ps ≤ length ps * (3 * 2 ^ 44 + 3)
 unfolding services_most
 services_each [] few = omega arith
 services_each (p ∷ ps) few =
-    omega (arith, few_by p.hart (λ k is. few 0 p k refl is), services_each ps (λ g q h at is. few (suc g) q h at is))
+    omega (arith, few_by p.hart (few 0 p refl), services_each ps (λ g q at. few (suc g) q at))
 
 pub services_few : (s : ShareData) (words : List ℕ) → (q : IsSharing s words) → q.rom.counts.services < 2 ^ 49
 services_few s words q =
     let most : q.rom.programs ≤ 8 = q.serves.shape.programs_most in
-    let each = services_each s.processes (λ g p h at is. let w = q.seated g p at in subst (λ (k : HartData). k.machine.steps ≤ 2 ^ 44) (same_Some w.hart h (sym w.is ∙ is)) w.few) in
+    let each = services_each s.processes (λ g p at. (q.seated g p at).few) in
     let all = q.services in
     let long = q.programs in
     omega (arith, most, each, all, long, product (length s.processes) (omega (arith, most, long)))
@@ -111,16 +109,12 @@ services_few s words q =
 -- program g of a share, with the service for which it is in turn, and what its event left
 pub record Turned (g : ℕ) (ps : List Process) (rom rom' : Slots) (p p' : Process) (before after : EventDevices) : Type 0 where
   pub at : slice_get ps g ≡ Some p
-  pub hart : HartData
-  pub hart_is : p.hart ≡ Some hart
-  pub going : hart.machine.ending ≡ None
-  pub few : hart.machine.steps < 2 ^ 44
+  pub going : p.hart.machine.ending ≡ None
+  pub few : p.hart.machine.steps < 2 ^ 44
   pub image_stays : p'.image ≡ p.image
-  pub hart' : HartData
-  pub hart_left : p'.hart ≡ Some hart'
   pub input_left : after.left ≡ p'.input.left
   pub setting : setting_of rom' ≡ setting_of rom
-  pub made : EventMade p.image (event_of (setting_of rom) (turned rom g) (context hart p.image p.input.left)) (record { hart = hart; rom = record rom { turn = g } }) (record { hart = hart'; rom = rom' }) before after
+  pub made : EventMade p.image (event_of (setting_of rom) (turned rom g) (context p.hart p.image p.input.left)) (record { hart = p.hart; rom = record rom { turn = g } }) (record { hart = p'.hart; rom = rom' }) before after
 
 -- the event, by the service as it is and by that for which the program is in turn
 pub event_turned : (g : ℕ) (rom now : Slots) (h : HartData) (v : ImageData) (left : List ℕ) → now ≡ record rom { turn = g } → kept_by now ≡ turned rom g →
@@ -136,11 +130,10 @@ made_turned g rom now h v left new before after is kept made =
     subst (λ (x : Slots). EventMade v (event_of (setting_of rom) (turned rom g) (context h v left)) (record { hart = h; rom = x }) new before after) is
     (subst (λ (e : Event). EventMade v e (record { hart = h; rom = now }) new before after) (event_turned g rom now h v left is kept) made)
 
-context_left : (p' : Process) (h' : HartData) (v : ImageData) (c : Context) → p'.hart ≡ Some h' → p'.image ≡ v → p'.input.left ≡ c.input → context h' v c.input ≡ c → context_of p' ≡ Some c
-context_left p' h' v c hart image input is =
-    ap (λ (x : Option HartData). context_by x p'.image p'.input.left) hart
-    ∙ ap (λ (x : ImageData). Some (context h' x p'.input.left)) image
-    ∙ ap (λ (l : List ℕ). Some (context h' v l)) input
+context_left : (p' : Process) (v : ImageData) (c : Context) → p'.image ≡ v → p'.input.left ≡ c.input → context p'.hart v c.input ≡ c → context_of p' ≡ Some c
+context_left p' v c image input is =
+    ap (λ (x : ImageData). Some (context p'.hart x p'.input.left)) image
+    ∙ ap (λ (l : List ℕ). Some (context p'.hart v l)) input
     ∙ ap (λ (x : Context). Some x) is
 
 shared_as : (ps : List Process) (rom rom' : Slots) (g : ℕ) (p' : Process) (e : Event) → setting_of rom' ≡ setting_of rom → kept_by rom' ≡ e.kept → context_of p' ≡ Some e.context →
@@ -155,12 +148,12 @@ pub came_of : (g : ℕ) (ps : List Process) (rom rom' : Slots) (p p' : Process) 
     Came (shared_event g (seen (share_of ps rom))) (record { share = share_of ps rom; ram = before.ram; out = before.out; err = before.err })
     (record { share = share_of (slice_set ps g p') rom'; ram = after.ram; out = after.out; err = after.err })
 came_of g ps rom rom' p p' before after t =
-    let e = event_of (setting_of rom) (turned rom g) (context t.hart p.image p.input.left) in
+    let e = event_of (setting_of rom) (turned rom g) (context p.hart p.image p.input.left) in
     let input : p'.input.left ≡ e.context.input = sym t.input_left ∙ t.made.input in
-    let left : context_of p' ≡ Some e.context = context_left p' t.hart' p.image e.context t.hart_left t.image_stays input t.made.context in
+    let left : context_of p' ≡ Some e.context = context_left p' p.image e.context t.image_stays input t.made.context in
     subst (λ (s : Shared). Came s (record { share = share_of ps rom; ram = before.ram; out = before.out; err = before.err })
     (record { share = share_of (slice_set ps g p') rom'; ram = after.ram; out = after.out; err = after.err }))
-    (sym (next_is ps rom g p t.hart t.at t.hart_is t.going)) (record {
+    (sym (next_is ps rom g p t.at t.going)) (record {
       share = shared_as ps rom rom' g p' e t.setting t.made.kept left;
       output = t.made.output;
       error = t.made.error;
@@ -192,11 +185,11 @@ few_steps n m lt (inr w) = omega (arith, lt, w.2)
 pub sharing_of : (s : ShareData) (words words' : List ℕ) (g : ℕ) (rom' : Slots) (p p' : Process) (before after : EventDevices) → (q : IsSharing s words) → Turned g s.processes q.rom rom' p p' before after →
     SlotsServe rom' q.images words' → IsSharing (share_of (slice_set s.processes g p') rom') words'
 sharing_of s words words' g rom' p p' before after q t serves =
-    let c = context t.hart p.image p.input.left in
+    let c = context p.hart p.image p.input.left in
     let e = event_of (setting_of q.rom) (turned q.rom g) c in
     let passes : Passes (turned q.rom g) e.kept = event_passes (setting_of q.rom) (turned q.rom g) c in
     let own : turned rom' g ≡ e.kept = ap (λ (r : Record). let x : Record = record r { turn = g } in x) t.made.kept ∙ kept_turn e.kept g passes.turn in
-    let counted : Counted t.hart.machine.steps t.hart'.machine = counted_in t.hart t.hart' p.image p.input.left (setting_of q.rom) (turned q.rom g) t.going (ap (λ (x : Context). x.machine) t.made.context) in
+    let counted : Counted p.hart.machine.steps p'.hart.machine = counted_in p.hart p'.hart p.image p.input.left (setting_of q.rom) (turned q.rom g) t.going (ap (λ (x : Context). x.machine) t.made.context) in
     record {
       rom = rom';
       is = refl;
@@ -207,68 +200,31 @@ sharing_of s words words' g rom' p p' before after q t serves =
         | inl same ↦ own_seat m r same at own counted
         | inr other ↦ (
             let w = q.seated m r (sym (get_set_other s.processes g m p' other) ∙ at) in record {
-              hart = w.hart;
-              is = w.is;
               image = w.image;
-              waits = subst (λ (k : Record). Waits r.image (record k { turn = m }) w.hart) (sym t.made.kept) (waits_on r.image m (turned q.rom g) e.kept w.hart passes other w.waits);
+              waits = subst (λ (k : Record). Waits r.image (record k { turn = m }) r.hart) (sym t.made.kept) (waits_on r.image m (turned q.rom g) e.kept r.hart passes other w.waits);
               few = w.few;
             })
       ];
       services = more_services (ap (λ (r : Record). r.counts.services) t.made.kept) counted;
     }
   where
-    own_seat : (m : ℕ) (r : Process) → m ≡ g → slice_get (slice_set s.processes g p') m ≡ Some r → turned rom' g ≡ (event_of (setting_of q.rom) (turned q.rom g) (context t.hart p.image p.input.left)).kept → Counted t.hart.machine.steps t.hart'.machine → Seated rom' q.images m r
+    own_seat : (m : ℕ) (r : Process) → m ≡ g → slice_get (slice_set s.processes g p') m ≡ Some r → turned rom' g ≡ (event_of (setting_of q.rom) (turned q.rom g) (context p.hart p.image p.input.left)).kept → Counted p.hart.machine.steps p'.hart.machine → Seated rom' q.images m r
     own_seat m r same at own counted =
         let is : p' ≡ r = same_Some p' r (sym (get_set_same s.processes g p p' t.at) ∙ ap (λ (k : ℕ). slice_get (slice_set s.processes g p') k) (sym same) ∙ at) in
         subst (λ (x : Process). Seated rom' q.images m x) is (record {
-          hart = t.hart';
-          is = t.hart_left;
           image = (q.seated m p (ap (λ (k : ℕ). slice_get s.processes k) same ∙ t.at)).image ∙ sym t.image_stays;
-          waits = subst (λ (v : ImageData). Waits v (turned rom' m) t.hart') (sym t.image_stays) (subst (λ (k : ℕ). Waits p.image (turned rom' k) t.hart') (sym same) (subst (λ (k : Record). Waits p.image k t.hart') (sym own) t.made.waits));
-          few = few_steps t.hart.machine.steps t.hart'.machine t.few counted;
+          waits = subst (λ (v : ImageData). Waits v (turned rom' m) p'.hart) (sym t.image_stays) (subst (λ (k : ℕ). Waits p.image (turned rom' k) p'.hart) (sym same) (subst (λ (k : Record). Waits p.image k p'.hart) (sym own) t.made.waits));
+          few = few_steps p.hart.machine.steps p'.hart.machine t.few counted;
         })
 
-    more_services : rom'.counts.services ≡ (event_of (setting_of q.rom) (turned q.rom g) (context t.hart p.image p.input.left)).kept.counts.services → Counted t.hart.machine.steps t.hart'.machine → rom'.counts.services ≤ services_most (slice_set s.processes g p')
+    more_services : rom'.counts.services ≡ (event_of (setting_of q.rom) (turned q.rom g) (context p.hart p.image p.input.left)).kept.counts.services → Counted p.hart.machine.steps p'.hart.machine → rom'.counts.services ≤ services_most (slice_set s.processes g p')
     more_services is counted =
-        let few = event_services (setting_of q.rom) (turned q.rom g) (context t.hart p.image p.input.left) in
-        let at_first : services_by p.hart ≡ 3 * t.hart.machine.steps = ap services_by t.hart_is ∙ ap (λ (e : Option End). most_services e t.hart.machine.steps) t.going in
-        let at_last : services_by p'.hart ≡ most_services t.hart'.machine.ending t.hart'.machine.steps = ap services_by t.hart_left in
-        let more = services_after t.hart'.machine.ending t.hart'.machine t.hart.machine.steps refl counted in
+        let few = event_services (setting_of q.rom) (turned q.rom g) (context p.hart p.image p.input.left) in
+        let at_first : services_by p.hart ≡ 3 * p.hart.machine.steps = ap (λ (e : Option End). most_services e p.hart.machine.steps) t.going in
+        let more = services_after p'.hart.machine.ending p'.hart.machine p.hart.machine.steps refl counted in
         let sum = services_set s.processes g p p' t.at in
         let all = q.services in
-        omega (arith, is, few, at_first, at_last, more, sum, all)
-
--- ---- what the code reads
-
--- the service, program g and its hart, as they are read
-pub record Read (s : ShareData) (words : List ℕ) (g : ℕ) (rom : Slots) (p : Process) (h : HartData) : Type 0 where
-  pub share : s ≡ share_of s.processes rom
-  pub at : slice_get s.processes g ≡ Some p
-  pub hart_is : p.hart ≡ Some h
-  pub images : ℕ → ImageData
-  pub serves : SlotsServe rom images words
-  pub image : images g ≡ p.image
-  pub waits : Waits p.image (turned rom g) h
-  pub services : rom.counts.services < 2 ^ 49
-
-pub read_at : (s : ShareData) (words : List ℕ) (g : ℕ) (rom : Slots) (p : Process) (h : HartData) → IsSharing s words → s.rom ≡ Some rom → slice_get s.processes g ≡ Some p → p.hart ≡ Some h → Read s words g rom p h
-read_at s words g rom p h q rom_is at hart =
-    let w = q.seated g p at in
-    let same : q.rom ≡ rom = same_Some q.rom rom (sym q.is ∙ rom_is) in
-    let own : w.hart ≡ h = same_Some w.hart h (sym w.is ∙ hart) in
-    record {
-      share = ap (λ (r : Option Slots). let x : ShareData = record { processes = s.processes; rom = r } in x) rom_is;
-      at = at;
-      hart_is = hart;
-      images = q.images;
-      serves = subst (λ (x : Slots). SlotsServe x q.images words) same q.serves;
-      image = w.image;
-      waits = subst (λ (x : Slots). Waits p.image (turned x g) h) same (subst (λ (k : HartData). Waits p.image (turned q.rom g) k) own w.waits);
-      services = subst (λ (x : Slots). x.counts.services < 2 ^ 49) same (services_few s words q);
-    }
-
-pub context_read : (s : ShareData) (words : List ℕ) (g : ℕ) (rom : Slots) (p : Process) (h : HartData) → Read s words g rom p h → slice_index_or (seen s).contexts g None ≡ Some (context h p.image p.input.left)
-context_read s words g rom p h r = context_at s.processes g p h r.at r.hart_is
+        omega (arith, is, few, at_first, more, sum, all)
 
 -- ---- a program that has ended
 
@@ -287,13 +243,13 @@ came_idle s s' words g ram out err q w same =
     share : s ≡ share_of s.processes q.rom
     share = ap (λ (r : Option Slots). let x : ShareData = record { processes = s.processes; rom = r } in x) q.is
 
-    by_end : (e : Option End) → (e ≡ None → ⊥) → w.hart.machine.ending ≡ e → shared_event g (seen s) ≡ seen s
+    by_end : (e : Option End) → (e ≡ None → ⊥) → w.process.hart.machine.ending ≡ e → shared_event g (seen s) ≡ seen s
     by_end None never is = absurd (never refl)
     by_end (Some e) never is =
-        subst (λ (x : ShareData). shared_event g (seen x) ≡ seen x) (sym share) (stays_as s.processes q.rom g w.process w.hart e w.process_is w.hart_is is)
+        subst (λ (x : ShareData). shared_event g (seen x) ≡ seen x) (sym share) (stays_as s.processes q.rom g w.process e w.process_is is)
 
     stays : shared_event g (seen s) ≡ seen s
-    stays = by_end w.hart.machine.ending w.ended refl
+    stays = by_end w.process.hart.machine.ending w.ended refl
 
     risen_none : (n : ℕ) → n ≡ risen n 0
     risen_none n = grind arith
@@ -303,20 +259,3 @@ came_idle s s' words g ram out err q w same =
 
     reach_most : (n m : ℕ) → n ≤ max n m
     reach_most n m = grind arith
-
--- ---- a device that failed
-
--- the service for which a program is in turn, as the share is seen
-pub broke_seen : (s : ShareData) (words : List ℕ) (g : ℕ) (rom now : Slots) (p : Process) (h : HartData) → Read s words g rom p h → now ≡ record rom { turn = g } → kept_by now ≡ turned rom g →
-    (fault : BoardFault) (before after : EventDevices) → EventBroke (setting_of now) (kept_by now) (context h p.image p.input.left) fault before after →
-    EventBroke (seen s).setting (record (seen s).kept { turn = g }) (context h p.image p.input.left) fault before after
-broke_seen s words g rom now p h r is kept fault before after broke =
-    subst (λ (x : ShareData). EventBroke (seen x).setting (record (seen x).kept { turn = g }) (context h p.image p.input.left) fault before after) (sym r.share)
-    (subst (λ (k : Record). EventBroke (setting_of rom) k (context h p.image p.input.left) fault before after) kept
-    (subst (λ (x : Slots). EventBroke (setting_of x) (kept_by now) (context h p.image p.input.left) fault before after) is broke))
-
-pub not_ended : (s : ShareData) (words : List ℕ) (g : ℕ) (rom : Slots) (p : Process) (h : HartData) → Read s words g rom p h → h.machine.ending ≡ None → HasEnded s g → ⊥
-not_ended s words g rom p h r going w =
-    let own : w.process ≡ p = same_Some w.process p (sym w.process_is ∙ r.at) in
-    let same : w.hart ≡ h = same_Some w.hart h (sym w.hart_is ∙ ap (λ (x : Process). x.hart) own ∙ r.hart_is) in
-    w.ended (ap (λ (k : HartData). k.machine.ending) same ∙ going)

@@ -1,5 +1,5 @@
 -- What an event of one program leaves of its hart, of the service and of the devices.
-use Rattle.std.specs.Prelude.{◌≡◌, ◌⊎◌, ℕ, ◌-◌, ◌<◌, true, List, [], Some, None, Result, IfOk, IfErr}
+use Rattle.std.specs.Prelude.{◌≡◌, ◌⊎◌, ℕ, ◌-◌, ◌<◌, true, List, [], Some, None, Result, OnOk, IfErr}
 use Rattle.std.specs.Io.KnownBytes.{Appends}
 use Rattle.swi_outside.specs.CacheRam.{RamState, KeepsBeyond}
 use Rattle.swi_outside.specs.Causes.{DeviceCause, PairCause}
@@ -121,8 +121,8 @@ pub record EventBroke (by : Setting) (r : Record) (c : Context) (fault : BoardFa
   pub ram : DeviceCause before.ram.faults after.ram.faults (fault ≡ RamFault)
 
 -- An event of a hart that waits and has not ended, by its answer.
-pub record HartEvent (v : ImageData) (old : BoardOf Slots) (before after : EventDevices) (result : Result (HartData × Slots) BoardFault) : Type 0 where
-  pub made : IfOk result (λ p. EventMade v (event_at old v before.left) old (record { hart = p.0; rom = p.1 }) before after)
+pub record HartEvent (v : ImageData) (old new : BoardOf Slots) (before after : EventDevices) (result : Result Unit BoardFault) : Type 0 where
+  pub made : OnOk result (EventMade v (event_at old v before.left) old new before after)
   pub broke : IfErr result (λ fault. EventBroke (setting_of old.rom) (kept_by old.rom) (context old.hart v before.left) fault before after)
   pub kept : KeepsBeyond (span_of (setting_of old.rom)) before.ram after.ram
 

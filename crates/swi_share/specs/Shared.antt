@@ -84,8 +84,7 @@ step_event by r c = record {
 abbrev pub event_of : Setting → Record → Context → Event
 event_of by r c = step_event by (entered_if (enters r c) by r c) (begun_if (enters r c) c)
 
--- All programs with the one cache: its setting, its queue with links and counts, the contexts (none of a program whose event a device
--- broke off); and the bytes that the events have written, in their order, how many words they have fetched, and which.
+-- All programs with the one cache: its setting, its queue with links and counts, the contexts; and the bytes that the events have written, in their order, how many words they have fetched, and which.
 pub record Shared : Type 0 where
   pub setting : Setting
   pub kept : Record

@@ -1,5 +1,5 @@
 -- What several programs over one cache keep between their events, and what an event or a schedule leaves.
-use Rattle.std.specs.Prelude.{◌≡◌, ℕ, ◌+◌, ◌-◌, ◌^◌, ◌<◌, ◌≤◌, ⊤, List, [], ◌∷◌, map, length, slice_get, slice_index_or, slice_set, Option, Some, None, Result, Ok, Err}
+use Rattle.std.specs.Prelude.{◌≡◌, ℕ, ◌+◌, ◌-◌, ◌^◌, ◌<◌, ◌≤◌, List, [], ◌∷◌, map, length, slice_get, slice_index_or, slice_set, Option, Some, None, Result, Ok, Err}
 use Rattle.std.specs.Io.KnownBytes.{Appends}
 use Rattle.swi_outside.specs.CacheRam.{RamState, KeepsBeyond}
 use Rattle.swi_outside.specs.Sink.{SinkState}
@@ -9,8 +9,7 @@ use Rattle.swi_rom.specs.Service.{Setting}
 use Rattle.swi_rom.specs.Served.{SameFrom}
 use Rattle.swi_slots.specs.Fifo.{extent_of}
 use Rattle.swi_slots.specs.Slots.{Slots, kept_by, setting_of, span_of}
-use Rattle.swi_slots.specs.Keys.{Images}
-use Rattle.swi_slots.specs.Sound.{SlotsServe, Serves}
+use Rattle.swi_slots.specs.Sound.{SlotsServe}
 use Rattle.swi_hart.specs.Hart.{HartData, place_under}
 use Rattle.swi_board.specs.Fetching.{HasFetched}
 use Rattle.swi_board.specs.Ran.{RamRan}
@@ -27,12 +26,8 @@ pub record ShareData : Type 0 where
   pub processes : List Process
   pub rom : Option Slots
 
-abbrev pub context_by : Option HartData → ImageData → List ℕ → Option Context
-context_by None v left = None
-context_by (Some h) v left = Some (context h v left)
-
 abbrev pub context_of : Process → Option Context
-context_of p = context_by p.hart p.image p.input.left
+context_of p = Some (context p.hart p.image p.input.left)
 
 abbrev pub setting_in : Option Slots → Setting
 setting_in None = record { slots = 0; slot_words = 0; programs = 0 }
@@ -78,9 +73,7 @@ devices_with s left = record { ram = s.ram; left = left; out = s.out; err = s.er
 pub record HasEnded (s : ShareData) (g : ℕ) : Type 0 where
   pub process : Process
   pub process_is : slice_get s.processes g ≡ Some process
-  pub hart : HartData
-  pub hart_is : process.hart ≡ Some hart
-  pub ended : hart.machine.ending ≡ None → ⊥
+  pub ended : process.hart.machine.ending ≡ None → ⊥
 
 -- the service's record with a program in turn
 abbrev pub turned : Slots → ℕ → Record
@@ -88,16 +81,13 @@ turned rom g = record (kept_by rom) { turn = g }
 
 -- program g, which waits for its next event
 pub record Seated (rom : Slots) (images : ℕ → ImageData) (g : ℕ) (p : Process) : Type 0 where
-  pub hart : HartData
-  pub is : p.hart ≡ Some hart
   pub image : images g ≡ p.image
-  pub waits : Waits p.image (turned rom g) hart
-  pub few : hart.machine.steps ≤ 2 ^ 44
+  pub waits : Waits p.image (turned rom g) p.hart
+  pub few : p.hart.machine.steps ≤ 2 ^ 44
 
 -- a bound of the services that a program's events have asked for
-abbrev pub services_by : Option HartData → ℕ
-services_by None = 0
-services_by (Some h) = most_services h.machine.ending h.machine.steps
+abbrev pub services_by : HartData → ℕ
+services_by h = most_services h.machine.ending h.machine.steps
 
 unfoldable pub services_most : List Process → ℕ
 services_most [] = 0
@@ -146,33 +136,6 @@ pub record EventRan (g : ℕ) (before after : ShareWith) (result : Result Unit B
   pub others : (k : ℕ) → (k ≡ g → ⊥) → slice_get after.share.processes k ≡ slice_get before.share.processes k
   pub kept : KeepsBeyond (span_of (seen before.share).setting) before.ram after.ram
   pub ends : EventEnds g before after result
-
--- Program g has not ended: its hart is taken out for its next event, with the service, for which it is in turn. Nothing else changes.
-pub record TakenOut (g : ℕ) (hart : HartData) (rom : Slots) (old new : ShareData) : Type 0 where
-  pub process : Process
-  pub process_is : slice_get old.processes g ≡ Some process
-  pub hart_is : process.hart ≡ Some hart
-  pub running : hart.machine.ending ≡ None
-  pub before : Slots
-  pub before_is : old.rom ≡ Some before
-  pub rom_is : rom ≡ record before { turn = g }
-  pub kept : kept_by rom ≡ turned before g
-  pub serves : (v : ImageData) (images : Images) (words : List ℕ) → Serves before v images words → Serves rom (images g) images words
-  pub left : new ≡ record { processes = slice_set old.processes g (record process { hart = None }); rom = None }
-
--- the hart of program g and the service are there again
-abbrev pub IsPutBack : ℕ → HartData → Slots → ShareData → ShareData → Type 0
-IsPutBack g hart rom old new = (p : Process) → slice_get old.processes g ≡ Some p →
-    new ≡ record { processes = slice_set old.processes g (record p { hart = Some hart }); rom = Some rom }
-
--- the harts of all programs but g are there
-abbrev pub OthersWhole : ℕ → List Process → Type 0
-OthersWhole g ps = (k : ℕ) (p : Process) → (k ≡ g → ⊥) → slice_get ps k ≡ Some p → p.hart ≡ None → ⊥
-
--- where there is a service all harts are there
-abbrev pub IsWhole : Option Slots → List Process → Type 0
-IsWhole None ps = ⊤
-IsWhole (Some rom) ps = (g : ℕ) (p : Process) → slice_get ps g ≡ Some p → p.hart ≡ None → ⊥
 
 -- the counts but for that of services
 pub record CountsTold (told : ShareCounts) (counts : Counts) : Type 0 where

@@ -1,7 +1,7 @@
 //! One original instruction of one program.
 #![tactic(auto)]
 
-ghost use Rattle.std.specs.Prelude.{◌≡◌, ◌-◌, ◌^◌, ◌<◌, ◌&&◌, List, ℕ, None, true, IfOk, OnErr};
+ghost use Rattle.std.specs.Prelude.{◌≡◌, ◌-◌, ◌^◌, ◌<◌, ◌&&◌, List, ℕ, None, true, OnOk, OnErr};
 ghost use Rattle.swi_image.specs.Place.{place_of};
 ghost use Rattle.swi_rom.specs.Record.{writes};
 ghost use Rattle.swi_rom.specs.Served.{Keeps, SameFrom};
@@ -16,10 +16,10 @@ ghost use Rattle.swi_share.specs.Waiting.{Waits, shows_place};
 ghost use Rattle.swi_share.specs.Event.{Boarded, HartEvent, context};
 
 use crate::input::Input;
-use swi_board::Board;
+use swi_board::{enter, run_stepwise};
 use swi_hart::{BoardFault, Hart};
 use swi_image::ImageView;
-use swi_outside::{CacheRam, Failed, Sink, SteadyRam};
+use swi_outside::{CacheRam, Failed, Sink};
 use swi_rom::CacheRom;
 use swi_slots::FifoRom;
 
@@ -49,64 +49,61 @@ fn goes_on(hart: &Hart, rom: &FifoRom) -> bool
     hart.booted && stands(hart, rom)
 }
 
-/// The board of a hart whose program is in turn. One that was not yet booted, or whose block has left the ram, enters the
-/// ram anew.
-fn board_of<M: CacheRam>(
+/// Makes a hart whose program is in turn ready for its step. One that was not yet booted, or whose block has left the ram,
+/// enters the ram anew.
+fn make_ready<M: CacheRam>(
     image: &ImageView<'_>,
-    hart: Hart,
-    rom: FifoRom,
+    hart: &mut Hart,
+    rom: &mut FifoRom,
     ram: &mut M,
-) -> Result<Board<FifoRom>, Failed>
-    requires waits { Waits image.now (kept_by rom) hart }
-    requires running { hart.machine.ending ≡ None }
-    requires count { hart.count < 2 ^ 56 }
-    requires sound { SlotsSound rom image.now (M.state ram.old).words }
-    requires services { (kept_by rom).counts.services < 2 ^ 50 }
-    ensures boarded { IfOk result (λ b. Boarded image.now (record { hart = hart; rom = rom }) b) }
-    ensures setting { IfOk result (λ b. setting_of b.rom ≡ setting_of rom) }
-    ensures sound { IfOk result (λ b. SlotsSound b.rom image.now (M.state ram.new).words) }
-    ensures keeps { IfOk result (λ b. Keeps slots_service image.now rom b.rom
+) -> Result<(), Failed>
+    requires waits { Waits image.now (kept_by rom.old) hart.old }
+    requires running { hart.old.machine.ending ≡ None }
+    requires count { hart.old.count < 2 ^ 56 }
+    requires sound { SlotsSound rom.old image.now (M.state ram.old).words }
+    requires services { (kept_by rom.old).counts.services < 2 ^ 50 }
+    ensures boarded { OnOk result (Boarded image.now (record { hart = hart.old; rom = rom.old })
+        (record { hart = hart.new; rom = rom.new })) }
+    ensures setting { OnOk result (setting_of rom.new ≡ setting_of rom.old) }
+    ensures sound { OnOk result (SlotsSound rom.new image.now (M.state ram.new).words) }
+    ensures keeps { OnOk result (Keeps slots_service image.now rom.old rom.new
         (M.state ram.old).words (M.state ram.new).words) }
-    ensures ram { IfOk result (λ b. RamServed (span_of (setting_of rom))
-        (writes (kept_by b.rom) - writes (kept_by rom)) (M.state ram.old) (M.state ram.new)) }
-    ensures unused { IfOk result (λ b. SameFrom (extent_of (setting_of rom) (kept_by b.rom))
+    ensures ram { OnOk result (RamServed (span_of (setting_of rom.old))
+        (writes (kept_by rom.new) - writes (kept_by rom.old)) (M.state ram.old) (M.state ram.new)) }
+    ensures unused { OnOk result (SameFrom (extent_of (setting_of rom.old) (kept_by rom.new))
         (M.state ram.old).words (M.state ram.new).words) }
-    ensures failed { OnErr result (RamFailed (span_of (setting_of rom)) (M.state ram.old) (M.state ram.new)) }
-    ensures entering { OnErr result ((left : List ℕ) → enters (kept_by rom) (context hart image.now left) ≡ true) }
-    ensures placed { OnErr result (place_of image.now hart.machine.pc ≡ None → ⊥) }
+    ensures failed { OnErr result (RamFailed (span_of (setting_of rom.old)) (M.state ram.old) (M.state ram.new)) }
+    ensures entering { OnErr result ((left : List ℕ) → enters (kept_by rom.old) (context hart.old image.now left) ≡ true) }
+    ensures placed { OnErr result (place_of image.now hart.old.machine.pc ≡ None → ⊥) }
 {
-    if goes_on(&hart, &rom) {
-        return Ok(Board::join(hart, rom));
+    if goes_on(hart, rom) {
+        return Ok(());
     }
-    Board::resume(image, hart, rom, ram)
+    enter(hart, rom, image, ram)
 }
 
 /// One original instruction of a hart that has not ended, with its services. Its program is in turn.
-pub(crate) fn make_event<M: SteadyRam, O: Sink, E: Sink>(
+pub(crate) fn make_event<M: CacheRam, O: Sink, E: Sink>(
     image: &ImageView<'_>,
-    hart: Hart,
-    rom: FifoRom,
+    hart: &mut Hart,
+    rom: &mut FifoRom,
     ram: &mut M,
     input: &mut Input,
     out: &mut O,
     err: &mut E,
-) -> Result<(Hart, FifoRom), BoardFault>
-    requires waits { Waits image.now (kept_by rom) hart }
-    requires running { hart.machine.ending ≡ None }
-    requires few { hart.machine.steps < 2 ^ 44 }
-    requires sound { SlotsSound rom image.now (M.state ram.old).words }
-    requires services { (kept_by rom).counts.services < 2 ^ 49 }
-    ensures { HartEvent image.now (record { hart = hart; rom = rom })
+) -> Result<(), BoardFault>
+    requires waits { Waits image.now (kept_by rom.old) hart.old }
+    requires running { hart.old.machine.ending ≡ None }
+    requires few { hart.old.machine.steps < 2 ^ 44 }
+    requires sound { SlotsSound rom.old image.now (M.state ram.old).words }
+    requires services { (kept_by rom.old).counts.services < 2 ^ 49 }
+    ensures { HartEvent image.now (record { hart = hart.old; rom = rom.old }) (record { hart = hart.new; rom = rom.new })
         (record { ram = M.state ram.old; left = input.old.left; out = O.state out.old; err = E.state err.old })
         (record { ram = M.state ram.new; left = input.new.left; out = O.state out.new; err = E.state err.new }) result }
 {
     let n = hart.steps() + 1;
-    let mut board = match board_of(image, hart, rom, ram) {
-        Ok(board) => board,
-        Err(_) => return Err(BoardFault::RamFault),
-    };
-    match board.run(image, ram, input, out, err, n) {
-        Ok(_) => Ok(board.part()),
-        Err(fault) => Err(fault),
+    match make_ready(image, hart, rom, ram) {
+        Ok(_) => run_stepwise(hart, rom, image, ram, input, out, err, n),
+        Err(_) => Err(BoardFault::RamFault),
     }
 }

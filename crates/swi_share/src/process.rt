@@ -24,8 +24,7 @@ pub struct Guest<'a> {
 /// A guest that runs.
 #[derive(Drop)]
 pub(crate) struct Process<'a> {
-    /// None while it makes an event, and once a device has failed there.
-    pub(crate) hart: Option<Hart>,
+    pub(crate) hart: Hart,
     pub(crate) image: ImageView<'a>,
     pub(crate) input: Input,
 }
@@ -61,7 +60,7 @@ fn start<'a>(alloc: Global, guest: Guest<'a>) -> Result<Process<'a>, Memory>
         return Err(Memory);
     };
     Ok(Process {
-        hart: Some(hart),
+        hart,
         image,
         input: Input::new(alloc, input),
     })

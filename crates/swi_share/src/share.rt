@@ -1,9 +1,9 @@
 //! Programs that share one cache.
 #![tactic(auto)]
 
-ghost use Rattle.std.specs.Prelude.{◌≡◌, ◌*◌, ◌^◌, ◌<◌, ◌≤◌, ℕ, List, not, length, slice_index_or, None, is_some, MatchOption, IfOk};
+ghost use Rattle.std.specs.Prelude.{◌≡◌, ◌*◌, ◌^◌, ◌<◌, ◌≤◌, ℕ, List, not, length, slice_index_or, None, is_some, IfOk};
 ghost use Rattle.swi_share.specs.Run.{CanRun, ScheduleRan};
-ghost use Rattle.swi_share.specs.Sharing.{seen, EventRan, IsSharing, HasRoom, HasEnded, IsPutBack, OthersWhole, TakenOut, CountsTold, Tells};
+ghost use Rattle.swi_share.specs.Sharing.{seen, EventRan, IsSharing, HasRoom, CountsTold, Tells};
 ghost use Rattle.swi_share.specs.Starting.{AreGuests, most_words, shared_start};
 
 use crate::event::make_event;
@@ -11,7 +11,7 @@ use crate::process::{Guest, Process, most_words, start_all};
 use std::alloc::Global;
 use std::marker::Model;
 use swi_hart::{BoardFault, Hart};
-use swi_outside::{Memory, Sink, SteadyRam};
+use swi_outside::{CacheRam, Memory, Sink};
 use swi_rom::CacheRom;
 use swi_slots::FifoRom;
 
@@ -40,13 +40,11 @@ pub struct Share<'a> {
 }
 
 impl<'a> Model for Share<'a> {
-    ghost use Rattle.swi_share.specs.Sharing.{ShareData, IsWhole};
+    ghost use Rattle.swi_share.specs.Sharing.{ShareData};
 
     ghost Value = { ShareData };
 
     ghost view = { λ s. record { processes = s.processes.items; rom = s.rom } };
-
-    ghost invariant = { λ s. IsWhole s.rom s.processes.items };
 }
 
 impl<'a> Share<'a> {
@@ -81,7 +79,7 @@ impl<'a> Share<'a> {
     /// gives nothing is not asked.
     ///
     /// Each fault comes only where its device's count rose, and no input fails. After an error `failed` is true.
-    pub fn event<M: SteadyRam, O: Sink, E: Sink>(
+    pub fn event<M: CacheRam, O: Sink, E: Sink>(
         &mut self,
         g: u32,
         ram: &mut M,
@@ -95,18 +93,34 @@ impl<'a> Share<'a> {
             (record { share = self.old; ram = M.state ram.old; out = O.state out.old; err = E.state err.old })
             (record { share = self.new; ram = M.state ram.new; out = O.state out.new; err = E.state err.new }) result }
     {
-        let Some((hart, rom)) = self.take_turn(g) else {
+        if self.hart(g).ending().is_some() {
             return Ok(());
+        }
+        let Some(rom) = &mut self.rom else {
+            unreachable!()
         };
+        rom.turn_to(g);
         let process = &mut self.processes[g as usize];
-        let (hart, rom) = make_event(&process.image, hart, rom, ram, &mut process.input, out, err)?;
-        self.put_back(g, hart, rom);
-        Ok(())
+        match make_event(
+            &process.image,
+            &mut process.hart,
+            rom,
+            ram,
+            &mut process.input,
+            out,
+            err,
+        ) {
+            Ok(_) => Ok(()),
+            Err(fault) => {
+                self.rom = None;
+                Err(fault)
+            }
+        }
     }
 
     /// Events in order, each of a guest's number, under the conditions of `event`. After an error the events before the one
     /// that a device broke off are made, and `failed` is true.
-    pub fn run<M: SteadyRam, O: Sink, E: Sink>(
+    pub fn run<M: CacheRam, O: Sink, E: Sink>(
         &mut self,
         order: &[u32],
         ram: &mut M,
@@ -138,10 +152,7 @@ impl<'a> Share<'a> {
         requires unfailed { self.now.rom ≡ None → ⊥ }
         ensures { Tells result.now (slice_index_or (seen self.now).contexts g None) }
     {
-        match &self.processes[g as usize].hart {
-            Some(hart) => hart,
-            None => unreachable!(),
-        }
+        &self.processes[g as usize].hart
     }
 
     /// What the cache has done. No device has failed.
@@ -158,37 +169,5 @@ impl<'a> Share<'a> {
             unlinks: counts.unlinks,
             copied: counts.copied,
         }
-    }
-
-    /// Takes out the hart of program `g` for its next event, and the service, for which it is then in turn. None, and
-    /// nothing is taken, where the program has ended. No device has failed.
-    fn take_turn(&mut self, g: u32) -> Option<(Hart, FifoRom)>
-        requires guest { g < length self.old.processes }
-        requires unfailed { self.old.rom ≡ None → ⊥ }
-        requires turn { g < (seen self.old).setting.programs }
-        ensures { MatchOption result ((self.new ≡ self.old) × HasEnded self.old g)
-            (λ p. TakenOut g p.0 p.1 self.old self.new) }
-    {
-        if self.hart(g).ending().is_some() {
-            return None;
-        }
-        let Some(hart) = self.processes[g as usize].hart.take() else {
-            unreachable!()
-        };
-        let Some(mut rom) = self.rom.take() else {
-            unreachable!()
-        };
-        rom.turn_to(g);
-        Some((hart, rom))
-    }
-
-    /// Puts back what `take_turn` took, as the event has left it.
-    fn put_back(&mut self, g: u32, hart: Hart, rom: FifoRom)
-        requires guest { g < length self.old.processes }
-        requires others { OthersWhole g self.old.processes }
-        ensures { IsPutBack g hart rom self.old self.new }
-    {
-        self.processes[g as usize].hart = Some(hart);
-        self.rom = Some(rom);
     }
 }

@@ -24,7 +24,6 @@ use Rattle.swi_rom.specs.Record.{Record, writes}
 use Rattle.swi_slots.specs.Coheres.{coheres}
 use Rattle.swi_slots.specs.Slots.{Slots, kept_by, setting_of, span_of}
 use Rattle.swi_slots.proofs.Turned.{turned_kept, turned_serves}
-use Rattle.swi_hart.specs.Hart.{HartData}
 use Rattle.swi_image.specs.Format.{ImageData}
 use Rattle.swi_board.specs.Fetching.{FetchedFront, HasFetched}
 use Rattle.swi_board.specs.Ran.{RamRan}
@@ -37,7 +36,7 @@ use Rattle.swi_share.specs.Event.{Quiet, context}
 use Rattle.swi_share.specs.Laws.{counts_of, events_of, fetched_words, follows}
 use Rattle.swi_share.specs.Run.{CanRun, RunDone, RunStopped, ScheduleRan}
 use Rattle.swi_share.specs.Shared.{Context, Event, Shared, event_by, event_in, event_of, shared_event, shared_run, with_event}
-use Rattle.swi_share.specs.Sharing.{Came, IsSharing, ShareData, ShareWith, context_by, devices_with, kept_in, seen, setting_in}
+use Rattle.swi_share.specs.Sharing.{Came, IsSharing, ShareData, ShareWith, devices_with, kept_in, seen, setting_in}
 use Rattle.swi_share.specs.Starting.{first_context, most_words, shared_start}
 use Rattle.swi_share.proofs.Bounds.{can_start, counted, process_at}
 use Rattle.swi_share.proofs.Scheduling.{anew, fetched_both, run_next}
@@ -100,7 +99,7 @@ placed_at share words g c sharing is =
     let at = process_at share.processes g c is in
     let p : Process = at.0 in
     let seat = sharing.seated g p at.1 in
-    let same : context seat.hart p.image p.input.left ≡ c = same_Some (context seat.hart p.image p.input.left) c (sym (ap (λ (o : Option HartData). context_by o p.image p.input.left) seat.is) ∙ at.2) in
+    let same : context p.hart p.image p.input.left ≡ c = same_Some (context p.hart p.image p.input.left) c at.2 in
     let image : sharing.images g ≡ c.image = seat.image ∙ ap (λ (x : Context). x.image) same in
     let below : g < rom.programs = let few = process_below share.processes g p at.1 in let all = sharing.programs in omega (arith, few, all) in
     let turned_to : Slots = record rom { turn = g } in

@@ -13,7 +13,7 @@ returns c =
     let x = c.args.guest in
     let carries = image_carries (text_of x.program.segments) x.image c.text-text.ensures.sized c.blocks-blocks.ensures.sound c.requires.own in
     record {
-      hart = ap (λ (h : HartData). Some h) c.in-Ok.ensures.hart;
+      hart = c.in-Ok.ensures.hart;
       image = refl;
       input = ap (λ (i : InputData). i.left) c.new.ensures;
       carries = image_same x.image (word_of (text_of x.program.segments)) (λ (a : ℕ). fetched (machine_of x.program x.layout false).bus a)

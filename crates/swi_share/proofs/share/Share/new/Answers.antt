@@ -2,11 +2,8 @@ use Rattle.std.proofs.Common.{◌≡◌, ℕ, ◌/◌, List, length, rules, arit
 use Rattle.swi_slots.specs.Slots.{empty_slots}
 use Rattle.swi_share.specs.declared.process.Guest.{Guest}
 use Rattle.swi_share.specs.Starting.{most_words}
-use Rattle.swi_share.proofs.Starting.{long_as, seen_first, sharing_first, whole_first}
+use Rattle.swi_share.proofs.Starting.{long_as, seen_first, sharing_first}
 use Rattle.swi_share.proofs.share.Share.new.Goals as goal
-
-pub invariant_of-result : goal.invariant_of-result
-invariant_of-result c = whole_first c.args.guests.items c.in_ok-processes.processes.items c.in_ok-rom.rom c.in_ok-processes.ensures
 
 pub returns-clause-programs : goal.returns-clause-programs
 returns-clause-programs c = sym (long_as c.args.guests.items c.in_ok-processes.processes.items c.in_ok-processes.ensures)
