@@ -1,7 +1,7 @@
 //! A hart with its service.
 #![tactic(auto)]
 
-ghost use Rattle.std.specs.Prelude.{◌≡◌, ◌⊎◌, ◌+◌, ◌^◌, ◌<◌, ◌≤◌, ℕ, IfOk, OnOk, OnErr, IsErrOf, Some, None, true, false};
+ghost use Rattle.std.specs.Prelude.{◌≡◌, ◌⊎◌, ◌^◌, ◌<◌, ◌≤◌, ℕ, IfOk, OnOk, OnErr, IsErrOf, Some, None, true, false};
 ghost use Rattle.swi_outside.specs.Source.{ForInput, HasGiven};
 ghost use Rattle.swi_outside.specs.Told.{AsTold};
 ghost use Rattle.swi_memory.specs.Bus.{fetched};
@@ -17,10 +17,9 @@ ghost use Rattle.swi_hart.specs.Hart.{is_between, index_of, place_under, next_ma
 ghost use Rattle.swi_hart.specs.Exchanged.{Exchanged, PlainAt, ExecutesHeld};
 ghost use Rattle.swi_hart.specs.Leaving.{RamFailed};
 ghost use Rattle.swi_hart.specs.MachineStep.{BoardStepped, ReadyToStep};
-ghost use Rattle.swi_hart.specs.Matching.{Arrives, Fits, Matches};
-ghost use Rattle.swi_hart.specs.Service.{TransferServed};
+ghost use Rattle.swi_hart.specs.Matching.{Fits, Matches};
 ghost use Rattle.swi_hart.specs.Staying.{StaysUnder};
-ghost use Rattle.swi_board.specs.Board.{BoardOf, entry_transfer, entries};
+ghost use Rattle.swi_board.specs.Board.{BoardOf};
 ghost use Rattle.swi_board.specs.BoardRan.{BoardRan};
 ghost use Rattle.swi_board.specs.Entered.{Entered};
 ghost use Rattle.swi_board.specs.Ran.{Followed};
@@ -33,7 +32,7 @@ use std::marker::Model;
 use swi_calls::{End, Heap};
 use swi_exec::Regs;
 use swi_hart::{
-    BoardFault, Control, Hart, Role, Stage, at_word, jump, plain_place, plain_step, quick_step,
+    BoardFault, Control, Hart, Role, Stage, at_word, plain_place, plain_step, quick_step,
 };
 use swi_image::ImageView;
 use swi_memory::{Bus, Layout};
