@@ -1,2 +1,4 @@
 pub mod Masks
 pub mod Groups
+pub mod Exits
+pub mod Tally

@@ -3,3 +3,6 @@
 
 mod groups;
 mod masks;
+mod tally;
+
+pub use tally::Placing;

@@ -1,0 +1,37 @@
+-- The direct exits of an image whose targets are text words, and those of them that are links.
+use Rattle.std.specs.Prelude.{◌≡◌, ℕ, ◌^◌, ◌<◌, ◌≤◌, Bool, List, length, slice_index, Option, Some, None, if◌then◌else◌}
+use Rattle.swi_rom.specs.Record.{Link}
+use Rattle.swi_rom.specs.Collected.{collected}
+
+pub record ExitsData : Type 0 where
+  -- of how many blocks
+  pub blocks : ℕ
+  -- of each exit its block and its offset there
+  pub from : List ℕ
+  pub offsets : List ℕ
+  -- and the block of its target, with the offset there
+  pub into : List ℕ
+  pub ats : List ℕ
+
+-- no two exits stand at one place
+pub record AreExits (e : ExitsData) : Type 0 where
+  pub few : length e.from ≤ 2 ^ 21
+  pub offsets_long : length e.offsets ≡ length e.from
+  pub into_long : length e.into ≡ length e.from
+  pub ats_long : length e.ats ≡ length e.from
+  pub distinct : (x y : ℕ) → x < length e.from → y < length e.from → slice_index e.from x ≡ slice_index e.from y → slice_index e.offsets x ≡ slice_index e.offsets y → x ≡ y
+
+-- the exit as a link
+abbrev pub link_of : ExitsData → ℕ → Link
+link_of e x = record { program = 0; block = slice_index e.from x; offset = slice_index e.offsets x; into = slice_index e.into x }
+
+-- if it is one
+abbrev pub link_if : ExitsData → Bool → ℕ → Option Link
+link_if e linked x = if linked then Some (link_of e x) else None
+
+abbrev pub link_at : ExitsData → (ℕ → Bool) → ℕ → Option Link
+link_at e linked x = link_if e (linked x) x
+
+-- the links, in ascending order
+unfoldable pub links_of : ExitsData → (ℕ → Bool) → List Link
+links_of e linked = collected (link_at e linked) (length e.from)

@@ -1,0 +1,92 @@
+-- A cache without a ram as plain data, and what it keeps.
+use Rattle.std.specs.Prelude.{◌≡◌, ℕ, zero, suc, ◌+◌, ◌*◌, ◌^◌, ◌<◌, ◌≤◌, ◌⊎◌, Bool, List, [], ◌∷◌, map, length, slice_index}
+use Rattle.swi_image.specs.Format.{ImageData}
+use Rattle.swi_rom.specs.Record.{Record, Placement, Transfer}
+use Rattle.swi_rom.specs.Service.{Setting}
+use Rattle.swi_rom.specs.Policy.{Arrival}
+use Rattle.swi_rom.specs.declared.rom.Counts.{Counts}
+use Rattle.swi_slots.specs.Fifo as slots
+use Rattle.swi_ring.specs.Fifo as ring
+use Rattle.swi_tally.specs.declared.tally.Placing.{Placing}
+use Rattle.swi_tally.specs.declared.tally.Placing.TheVariants.{Slots, Ring}
+use Rattle.swi_tally.specs.Exits.{ExitsData, links_of}
+
+pub record TallyData : Type 0 where
+  -- how blocks are placed: in how many slots, of how many words each; a ring is one slot
+  pub placing : Placing
+  pub slots : ℕ
+  pub slot_words : ℕ
+  -- of a ring the word behind the block that was placed last
+  pub next : ℕ
+  -- the placed blocks, the oldest first
+  pub queue : List ℕ
+  -- of each block its first word; of one that isn't placed the number of all words
+  pub homes : List ℕ
+  pub counts : Counts
+
+abbrev pub span : TallyData → ℕ
+span s = s.slots * s.slot_words
+
+abbrev pub setting_of : TallyData → Setting
+setting_of s = record { slots = s.slots; slot_words = s.slot_words; programs = 1 }
+
+-- a block where it stands
+abbrev pub spot : List ℕ → ℕ → Placement
+spot homes b = record { program = 0; block = b; first = slice_index homes b }
+
+unfoldable pub queue_of : List ℕ → List ℕ → List Placement
+queue_of homes queue = map (spot homes) queue
+
+-- a ring keeps the word behind the block that was placed last, once one was placed
+abbrev pub behind : ℕ → List ℕ
+behind zero = []
+behind (suc n) = suc n ∷ []
+
+abbrev pub more_of : Placing → ℕ → List ℕ
+more_of Slots next = []
+more_of Ring next = behind next
+
+-- what it keeps, with these exits linked
+abbrev pub kept_by : ExitsData → (ℕ → Bool) → TallyData → Record
+kept_by e linked s = record { turn = 0; placed = queue_of s.homes s.queue; links = links_of e linked; counts = s.counts; more = more_of s.placing s.next }
+
+-- the policy by which that goes on
+abbrev pub policy_of : Placing → Setting → Record → ImageData → Transfer → Record
+policy_of Slots = slots.fifo
+policy_of Ring = ring.ring
+
+abbrev pub arrival_of : Placing → Arrival
+arrival_of Slots = slots.arrived
+arrival_of Ring = ring.arrived
+
+-- the list has the block
+abbrev pub Has : List ℕ → ℕ → Type 0
+Has [] b = ⊥
+Has (x ∷ xs) b = (x ≡ b) ⊎ Has xs b
+
+abbrev pub Distinct : List ℕ → Type 0
+Distinct [] = Unit {0}
+Distinct (x ∷ xs) = (Has xs x → ⊥) × Distinct xs
+
+-- the numbers keep their shape
+pub record InShape (s : TallyData) : Type 0 where
+  pub some_slot : 1 ≤ s.slots
+  pub words_few : s.slots * s.slot_words ≤ 2 ^ 21
+  pub words_most : s.slot_words ≤ 2 ^ 21
+  pub next_most : s.next ≤ span s
+  pub few : length s.homes ≤ 2 ^ 19
+  -- no block stands twice, and those that stand are placed
+  pub distinct : Distinct s.queue
+  pub known : (b : ℕ) → Has s.queue b → b < length s.homes
+  pub placed : (b : ℕ) → Has s.queue b → slice_index s.homes b < span s
+  pub absent : (b : ℕ) → b < length s.homes → (Has s.queue b → ⊥) → slice_index s.homes b ≡ span s
+
+-- and the counts are bounded by the services
+pub record Bounded (e : ExitsData) (linked : ℕ → Bool) (s : TallyData) : Type 0 where
+  pub misses : s.counts.misses ≤ s.counts.services + 1
+  pub links : s.counts.links ≤ s.counts.services + 1
+  pub unmissed : length s.queue ≡ 0 → s.counts.misses ≡ 0
+  pub unlinked : length s.queue ≡ 0 → s.counts.links ≡ 0
+  pub evictions : s.counts.evictions + length s.queue ≡ s.counts.misses
+  pub copied : s.counts.copied ≤ 1024 * s.counts.misses
+  pub undone : s.counts.unlinks + length (links_of e linked) ≤ s.counts.links
