@@ -89,7 +89,7 @@ pub held_none : (keys : List ℕ) (g : ℕ) (masks : List ℕ) (c : ℕ) → hel
 unfolding held_in
 held_none keys g masks c = refl
 
-held_more : (t u : Bool) (keys : List ℕ) (g : ℕ) (masks : List ℕ) (c n : ℕ) → is_in keys g n ≡ t → has_at masks c n ≡ u →
+pub held_more : (t u : Bool) (keys : List ℕ) (g : ℕ) (masks : List ℕ) (c n : ℕ) → is_in keys g n ≡ t → has_at masks c n ≡ u →
     held_in keys g masks c (suc n) ≡ (if t && u then held_in keys g masks c n + 1 else held_in keys g masks c n)
 unfolding held_in
 held_more t u keys g masks c n e f = rw (e, f) refl

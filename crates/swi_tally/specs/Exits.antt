@@ -19,6 +19,10 @@ pub record AreExits (e : ExitsData) : Type 0 where
   pub offsets_long : length e.offsets ≡ length e.from
   pub into_long : length e.into ≡ length e.from
   pub ats_long : length e.ats ≡ length e.from
+  pub from_known : (x : ℕ) → x < length e.from → slice_index e.from x < e.blocks
+  pub into_known : (x : ℕ) → x < length e.from → slice_index e.into x < e.blocks
+  pub offsets_small : (x : ℕ) → x < length e.from → slice_index e.offsets x < 1024
+  pub ats_small : (x : ℕ) → x < length e.from → slice_index e.ats x < 1024
   pub distinct : (x y : ℕ) → x < length e.from → y < length e.from → slice_index e.from x ≡ slice_index e.from y → slice_index e.offsets x ≡ slice_index e.offsets y → x ≡ y
 
 -- the exit as a link

@@ -1,5 +1,5 @@
 -- A cache without a ram as plain data, and what it keeps.
-use Rattle.std.specs.Prelude.{◌≡◌, ℕ, zero, suc, ◌+◌, ◌*◌, ◌^◌, ◌<◌, ◌≤◌, ◌⊎◌, Bool, List, [], ◌∷◌, map, length, slice_index}
+use Rattle.std.specs.Prelude.{◌≡◌, ℕ, zero, suc, ◌+◌, ◌*◌, ◌^◌, ◌<◌, ◌≤◌, ◌⊎◌, Bool, List, [], ◌∷◌, ◌++◌, map, length, slice_index, slice_set}
 use Rattle.swi_image.specs.Format.{ImageData}
 use Rattle.swi_rom.specs.Record.{Record, Placement, Transfer}
 use Rattle.swi_rom.specs.Service.{Setting}
@@ -9,6 +9,7 @@ use Rattle.swi_slots.specs.Fifo as slots
 use Rattle.swi_ring.specs.Fifo as ring
 use Rattle.swi_tally.specs.declared.tally.Placing.{Placing}
 use Rattle.swi_tally.specs.declared.tally.Placing.TheVariants.{Slots, Ring}
+use Rattle.swi_tally.specs.Masks.{has_at}
 use Rattle.swi_tally.specs.Exits.{ExitsData, links_of}
 
 pub record TallyData : Type 0 where
@@ -22,6 +23,8 @@ pub record TallyData : Type 0 where
   pub queue : List ℕ
   -- of each block its first word; of one that isn't placed the number of all words
   pub homes : List ℕ
+  -- how many blocks the queue has room for
+  pub room : ℕ
   pub counts : Counts
 
 abbrev pub span : TallyData → ℕ
@@ -75,18 +78,50 @@ pub record InShape (s : TallyData) : Type 0 where
   pub words_most : s.slot_words ≤ 2 ^ 21
   pub next_most : s.next ≤ span s
   pub few : length s.homes ≤ 2 ^ 19
+  pub room_is : s.room ≡ length s.homes
   -- no block stands twice, and those that stand are placed
   pub distinct : Distinct s.queue
   pub known : (b : ℕ) → Has s.queue b → b < length s.homes
   pub placed : (b : ℕ) → Has s.queue b → slice_index s.homes b < span s
   pub absent : (b : ℕ) → b < length s.homes → (Has s.queue b → ⊥) → slice_index s.homes b ≡ span s
 
--- and the counts are bounded by the services
+-- the counts are bounded by the services
 pub record Bounded (e : ExitsData) (linked : ℕ → Bool) (s : TallyData) : Type 0 where
   pub misses : s.counts.misses ≤ s.counts.services + 1
   pub links : s.counts.links ≤ s.counts.services + 1
-  pub unmissed : length s.queue ≡ 0 → s.counts.misses ≡ 0
-  pub unlinked : length s.queue ≡ 0 → s.counts.links ≡ 0
   pub evictions : s.counts.evictions + length s.queue ≡ s.counts.misses
   pub copied : s.counts.copied ≤ 1024 * s.counts.misses
   pub undone : s.counts.unlinks + length (links_of e linked) ≤ s.counts.links
+
+-- while no block stands, none was missed and no exit linked
+pub record IsFresh (s : TallyData) : Type 0 where
+  pub misses : length s.queue ≡ 0 → s.counts.misses ≡ 0
+  pub links : length s.queue ≡ 0 → s.counts.links ≡ 0
+
+-- the oldest block has left, but for the links that it had
+abbrev pub without_oldest : TallyData → ℕ → List ℕ → TallyData
+without_oldest s b rest = record s {
+  queue = rest;
+  homes = slice_set s.homes b (span s);
+  counts = record s.counts { evictions = s.counts.evictions + 1 };
+}
+
+-- a block stands from a word on, in so many words
+abbrev pub settled : TallyData → ℕ → ℕ → ℕ → TallyData
+settled s b first n = record s {
+  next = first + n;
+  queue = s.queue ++ b ∷ [];
+  homes = slice_set s.homes b first;
+  counts = record s.counts { misses = s.counts.misses + 1; copied = s.counts.copied + n };
+}
+
+-- nothing else has changed but what stands, what is linked and what is counted; the links of other caches stay
+pub record Moved (e : ExitsData) (cache : ℕ) (s t : TallyData) (old new : List ℕ) : Type 0 where
+  pub placing : t.placing ≡ s.placing
+  pub slots : t.slots ≡ s.slots
+  pub slot_words : t.slot_words ≡ s.slot_words
+  pub homes : length t.homes ≡ length s.homes
+  pub masks : length new ≡ length old
+  pub others : (d x : ℕ) → d < 64 → (d ≡ cache → ⊥) → x < length e.from → has_at new d x ≡ has_at old d x
+  pub shape : InShape t
+  pub bounded : Bounded e (has_at new cache) t

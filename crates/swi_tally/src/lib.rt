@@ -1,8 +1,11 @@
 //! Caches without a ram: what a policy keeps and counts, for many caches of one image.
 #![tactic(auto)]
 
+mod exits;
 mod groups;
 mod masks;
+mod queue;
 mod tally;
 
-pub use tally::Placing;
+pub use exits::{Exit, Exits};
+pub use tally::{Placing, Tally};

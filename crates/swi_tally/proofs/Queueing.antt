@@ -1,0 +1,189 @@
+-- The queue of a cache: which blocks it has, and where they stand.
+use Rattle.std.proofs.Common.{◌≡◌, ◌⊎◌, ℕ, zero, suc, ◌+◌, ◌<◌, ◌≤◌, ◌^◌, ◌++◌, ◌==◌, Bool, true, false, List, [], ◌∷◌, map, length, slice_index, slice_set, slice_index_or, nat_lt, IsTrue, arith, refl, sym, ◌∙◌, ap, subst, inl, inr, ◌↔◌}
+use Rattle.std.proofs.lemmas.Bool.{cases_eq, or_cases, eqb-true, ne_eqb, both_ways, ltb-true, lt-ltb}
+use Rattle.std.proofs.lemmas.List.{length-set, length-map, length-append, length_push, get_or-set_same, get_or-set_other, get_or_read}
+use Rattle.std.proofs.lemmas.Map.Steps.{length-le_from_distinct_below}
+use Rattle.std.specs.List.{AllByRecursion, IsDistinct, list_any}
+use Rattle.swi_rom.specs.Record.{Placement}
+use Rattle.swi_tally.specs.Tally.{TallyData, InShape, Has, Distinct, span, spot, queue_of, without_oldest, settled}
+
+pub oldest_has : (s : TallyData) (b : ℕ) (rest : List ℕ) → s.queue ≡ b ∷ rest → Has s.queue b
+oldest_has s b rest is = subst (λ (xs : List ℕ). Has xs b) (sym is) (inl refl)
+
+pub rest_has : (s : TallyData) (b : ℕ) (rest : List ℕ) → s.queue ≡ b ∷ rest → (x : ℕ) → Has rest x → Has s.queue x
+rest_has s b rest is x h = subst (λ (xs : List ℕ). Has xs x) (sym is) (inr h)
+
+rest_distinct : (s : TallyData) (b : ℕ) (rest : List ℕ) → InShape s → s.queue ≡ b ∷ rest → Distinct (b ∷ rest)
+rest_distinct s b rest shape is = subst (λ (xs : List ℕ). Distinct xs) is shape.distinct
+
+pub rest_other : (s : TallyData) (b : ℕ) (rest : List ℕ) → InShape s → s.queue ≡ b ∷ rest → (x : ℕ) → Has rest x → x ≡ b → ⊥
+rest_other s b rest shape is x h same = (rest_distinct s b rest shape is).0 (subst (λ (y : ℕ). Has rest y) same h)
+
+other_rest : (s : TallyData) (b : ℕ) (rest : List ℕ) → s.queue ≡ b ∷ rest → (x : ℕ) → Has s.queue x → (x ≡ b → ⊥) → Has rest x
+other_rest s b rest is x h ne = ways (subst (λ (xs : List ℕ). Has xs x) is h)
+  where
+    ways : Has (b ∷ rest) x → Has rest x
+    ways (inl same) = absurd (ne (sym same))
+    ways (inr h) = h
+
+pub queue_same : (homes homes' : List ℕ) (queue : List ℕ) → ((x : ℕ) → Has queue x → slice_index homes' x ≡ slice_index homes x) → queue_of homes' queue ≡ queue_of homes queue
+unfolding queue_of
+queue_same homes homes' [] same = refl
+queue_same homes homes' (x ∷ xs) same = rw (same x (inl refl), queue_same homes homes' xs (λ y h. same y (inr h))) refl
+
+pub queue_next : (homes : List ℕ) (b : ℕ) (rest : List ℕ) → queue_of homes (b ∷ rest) ≡ spot homes b ∷ queue_of homes rest
+unfolding queue_of
+queue_next homes b rest = refl
+
+pub queue_none : (homes : List ℕ) → queue_of homes [] ≡ []
+unfolding queue_of
+queue_none homes = refl
+
+pub queue_long : (homes queue : List ℕ) → length (queue_of homes queue) ≡ length queue
+unfolding queue_of
+queue_long homes queue = length-map queue (spot homes)
+
+pub queue_more : (homes xs : List ℕ) (b : ℕ) → queue_of homes (xs ++ b ∷ []) ≡ queue_of homes xs ++ spot homes b ∷ []
+unfolding queue_of
+queue_more homes [] b = refl
+queue_more homes (x ∷ xs) b = ap (λ (ps : List Placement). spot homes x ∷ ps) (queue_more homes xs b)
+
+-- the shape without the oldest
+pub without_shape : (s : TallyData) (b : ℕ) (rest : List ℕ) → InShape s → s.queue ≡ b ∷ rest → InShape (without_oldest s b rest)
+without_shape s b rest shape is =
+    let within : b < length s.homes = shape.known b (oldest_has s b rest is) in
+    record {
+      some_slot = shape.some_slot;
+      words_few = shape.words_few;
+      words_most = shape.words_most;
+      next_most = shape.next_most;
+      few = omega (arith, shape.few, length-set s.homes b (span s));
+      room_is = shape.room_is ∙ sym (length-set s.homes b (span s));
+      distinct = (rest_distinct s b rest shape is).1;
+      known = λ x h. omega (arith, shape.known x (rest_has s b rest is x h), length-set s.homes b (span s));
+      placed = λ x h. omega (arith, get_or-set_other s.homes b x (span s) 0 (rest_other s b rest shape is x h), shape.placed x (rest_has s b rest is x h));
+      absent = λ x lt none. elim (cases_eq x b) [
+        | inl same ↦ rw same (get_or-set_same s.homes b (span s) 0 within)
+        | inr ne ↦
+            get_or-set_other s.homes b x (span s) 0 ne
+            ∙ shape.absent x (omega (arith, lt, length-set s.homes b (span s))) (λ h. none (other_rest s b rest is x h ne))
+      ];
+    }
+
+pub without_queue : (s : TallyData) (b : ℕ) (rest : List ℕ) → InShape s → s.queue ≡ b ∷ rest → queue_of (slice_set s.homes b (span s)) rest ≡ queue_of s.homes rest
+without_queue s b rest shape is =
+    queue_same s.homes (slice_set s.homes b (span s)) rest (λ x h. get_or-set_other s.homes b x (span s) 0 (rest_other s b rest shape is x h))
+
+-- a block behind all others
+has_more : (xs : List ℕ) (b x : ℕ) → Has (xs ++ b ∷ []) x → Has xs x ⊎ (b ≡ x)
+has_more [] b x (inl same) = inr same
+has_more [] b x (inr h) = absurd h
+has_more (y ∷ ys) b x (inl same) = inl (inl same)
+has_more (y ∷ ys) b x (inr h) = elim (has_more ys b x h) [ inl i ↦ inl (inr i) | inr same ↦ inr same ]
+
+more_has : (xs : List ℕ) (b x : ℕ) → Has xs x → Has (xs ++ b ∷ []) x
+more_has [] b x h = absurd h
+more_has (y ∷ ys) b x (inl same) = inl same
+more_has (y ∷ ys) b x (inr h) = inr (more_has ys b x h)
+
+pub more_here : (xs : List ℕ) (b : ℕ) → Has (xs ++ b ∷ []) b
+more_here [] b = inl refl
+more_here (y ∷ ys) b = inr (more_here ys b)
+
+distinct_more : (xs : List ℕ) (b : ℕ) → Distinct xs → (Has xs b → ⊥) → Distinct (xs ++ b ∷ [])
+distinct_more [] b d none = (λ h. h, tt)
+distinct_more (x ∷ xs) b d none =
+    (λ h. elim (has_more xs b x h) [ inl i ↦ d.0 i | inr same ↦ none (inl (sym same)) ], distinct_more xs b d.1 (λ h. none (inr h)))
+
+pub settled_shape : (s : TallyData) (b first n : ℕ) → InShape s → b < length s.homes → (Has s.queue b → ⊥) → 1 ≤ n → first + n ≤ span s → InShape (settled s b first n)
+settled_shape s b first n shape within none some fits = record {
+  some_slot = shape.some_slot;
+  words_few = shape.words_few;
+  words_most = shape.words_most;
+  next_most = fits;
+  few = omega (arith, shape.few, length-set s.homes b first);
+  room_is = shape.room_is ∙ sym (length-set s.homes b first);
+  distinct = distinct_more s.queue b shape.distinct none;
+  known = λ x h. omega (arith, length-set s.homes b first, known x (has_more s.queue b x h));
+  placed = λ x h. placed x (has_more s.queue b x h);
+  absent = λ x lt away.
+      get_or-set_other s.homes b x first 0 (λ (same : x ≡ b). away (subst (λ (y : ℕ). Has (s.queue ++ b ∷ []) y) (sym same) (more_here s.queue b)))
+      ∙ shape.absent x (omega (arith, lt, length-set s.homes b first)) (λ h. away (more_has s.queue b x h));
+}
+  where
+    known : (x : ℕ) → Has s.queue x ⊎ (b ≡ x) → x < length s.homes
+    known x (inl h) = shape.known x h
+    known x (inr same) = omega (arith, same, within)
+
+    placed : (x : ℕ) → Has s.queue x ⊎ (b ≡ x) → slice_index (slice_set s.homes b first) x < span s
+    placed x (inl h) = omega (arith, get_or-set_other s.homes b x first 0 (λ (same : x ≡ b). none (subst (λ (y : ℕ). Has s.queue y) same h)), shape.placed x h)
+    placed x (inr same) = subst (λ (y : ℕ). slice_index (slice_set s.homes b first) y < span s) same (omega (arith, get_or-set_same s.homes b first 0 within, fits, some))
+
+pub settled_queue : (s : TallyData) (b first : ℕ) → b < length s.homes → (Has s.queue b → ⊥) →
+    let here : Placement = record { program = 0; block = b; first = first } in queue_of (slice_set s.homes b first) (s.queue ++ b ∷ []) ≡ queue_of s.homes s.queue ++ here ∷ []
+settled_queue s b first within none =
+    queue_more (slice_set s.homes b first) s.queue b
+    ∙ ap (λ (ps : List Placement). ps ++ spot (slice_set s.homes b first) b ∷ [])
+    (queue_same s.homes (slice_set s.homes b first) s.queue (λ x h. get_or-set_other s.homes b x first 0 (λ (same : x ≡ b). none (subst (λ (y : ℕ). Has s.queue y) same h))))
+    ∙ ap (λ (f : ℕ). queue_of s.homes s.queue ++ record { program = 0; block = b; first = f } ∷ []) (get_or-set_same s.homes b first 0 within)
+
+-- numbers that are all different
+lacking : (x : ℕ) (xs : List ℕ) → (Has xs x → ⊥) → AllByRecursion (λ (y : ℕ). (x == y) ≡ false) xs
+lacking x [] lacks = tt
+lacking x (y ∷ ys) lacks = (ne_eqb x y (λ (e : x ≡ y). lacks (inl (sym e))), lacking x ys (λ h. lacks (inr h)))
+
+distinct_is : (xs : List ℕ) → Distinct xs → IsDistinct (λ (x y : ℕ). x == y) xs
+unfolding IsDistinct
+distinct_is [] d = tt
+distinct_is (x ∷ xs) d = (lacking x xs d.0, distinct_is xs d.1)
+
+any_has : (xs : List ℕ) (q : ℕ) → list_any (λ (y : ℕ). q == y) xs ≡ true → Has xs q
+any_has [] q h = absurd (both_ways false refl h)
+any_has (y ∷ ys) q h = elim (or_cases (q == y) (list_any (λ (z : ℕ). q == z) ys) h) [
+  | inl e ↦ inl (sym (eqb-true q y e))
+  | inr i ↦ inr (any_has ys q i)
+]
+
+-- there is room for a block that doesn't stand
+pub absent_short : (s : TallyData) (b : ℕ) → InShape s → b < length s.homes → (Has s.queue b → ⊥) → length s.queue < length s.homes
+absent_short s b shape lt none =
+    let all : length (b ∷ s.queue) ≤ length s.homes =
+    length-le_from_distinct_below (b ∷ s.queue) (length s.homes) (distinct_is (b ∷ s.queue) (none, shape.distinct)) (λ q h. below q (any_has (b ∷ s.queue) q h)) in
+    omega (arith, all)
+  where
+    below : (q : ℕ) → Has (b ∷ s.queue) q → q < length s.homes
+    below q (inl e) = omega (arith, e, lt)
+    below q (inr h) = shape.known q h
+
+-- whether a block stands, by the number that is kept of it, and by the record
+in_queue : (xs : List ℕ) (b : ℕ) → Has xs b ⊎ (Has xs b → ⊥)
+in_queue [] b = inr (λ h. h)
+in_queue (x ∷ xs) b = elim (cases_eq x b) [
+  | inl same ↦ inl (inl same)
+  | inr ne ↦ elim (in_queue xs b) [
+    | inl h ↦ inl (inr h)
+    | inr none ↦ inr (λ (h : Has (x ∷ xs) b). later x xs b h ne none)
+  ]
+]
+  where
+    later : (x : ℕ) (xs : List ℕ) (b : ℕ) → Has (x ∷ xs) b → (x ≡ b → ⊥) → (Has xs b → ⊥) → ⊥
+    later x xs b (inl same) ne none = ne same
+    later x xs b (inr h) ne none = none h
+
+pub home_tells : (s : TallyData) (b : ℕ) → InShape s → b < length s.homes → (slice_index s.homes b < span s) ↔ Has s.queue b
+home_tells s b shape lt = elim (in_queue s.queue b) [
+  | inl h ↦ ((λ below. h), (λ i. shape.placed b i))
+  | inr none ↦ ((λ below. absurd (omega (arith, shape.absent b lt none))), (λ i. absurd (none i)))
+]
+
+-- the calls, as their code meets them
+pub placed_call : (s : TallyData) (homes : List ℕ) (b home n : ℕ) → InShape s → b < length s.homes → homes ≡ s.homes → home ≡ slice_index_or homes b home → n ≡ span s → IsTrue (nat_lt home n) ↔ Has s.queue b
+placed_call s homes b home n shape lt same read all =
+    let here : home ≡ slice_index s.homes b = get_or_read homes b home (omega (arith, lt, ap (λ (xs : List ℕ). length xs) same)) read 0 ∙ ap (λ (xs : List ℕ). slice_index xs b) same in
+    let tells = home_tells s b shape lt in (
+      (λ t. tells.0 (omega (arith, ltb-true home n t, here, all))),
+      (λ h. lt-ltb home n (omega (arith, tells.1 h, here, all))),
+    )
+
+pub oldest_known : (s : TallyData) (b : ℕ) (rest : List ℕ) → InShape s → s.queue ≡ b ∷ rest → b < length s.homes
+oldest_known s b rest shape is = shape.known b (oldest_has s b rest is)
