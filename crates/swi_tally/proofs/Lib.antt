@@ -4,3 +4,4 @@ pub mod Linking
 pub mod Turning
 pub mod Queueing
 pub mod Evicting
+pub mod Arriving

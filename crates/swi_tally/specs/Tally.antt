@@ -1,16 +1,17 @@
 -- A cache without a ram as plain data, and what it keeps.
-use Rattle.std.specs.Prelude.{◌≡◌, ℕ, zero, suc, ◌+◌, ◌*◌, ◌^◌, ◌<◌, ◌≤◌, ◌⊎◌, Bool, List, [], ◌∷◌, ◌++◌, map, length, slice_index, slice_set}
+use Rattle.std.specs.Prelude.{◌≡◌, ℕ, zero, suc, ◌+◌, ◌*◌, ◌^◌, ◌<◌, ◌≤◌, ◌⊎◌, Bool, List, [], ◌∷◌, ◌++◌, map, length, slice_index, slice_set, nat_lt, if◌then◌else◌}
 use Rattle.swi_image.specs.Format.{ImageData}
 use Rattle.swi_rom.specs.Record.{Record, Placement, Transfer}
 use Rattle.swi_rom.specs.Service.{Setting}
-use Rattle.swi_rom.specs.Policy.{Arrival}
+use Rattle.swi_image.specs.Sound.{IsImage}
+use Rattle.swi_rom.specs.Policy.{Arrival, evicted, more_service}
 use Rattle.swi_rom.specs.declared.rom.Counts.{Counts}
 use Rattle.swi_slots.specs.Fifo as slots
 use Rattle.swi_ring.specs.Fifo as ring
 use Rattle.swi_tally.specs.declared.tally.Placing.{Placing}
 use Rattle.swi_tally.specs.declared.tally.Placing.TheVariants.{Slots, Ring}
 use Rattle.swi_tally.specs.Masks.{has_at}
-use Rattle.swi_tally.specs.Exits.{ExitsData, links_of}
+use Rattle.swi_tally.specs.Exits.{ExitsData, AreExits, links_of}
 
 pub record TallyData : Type 0 where
   -- how blocks are placed: in how many slots, of how many words each; a ring is one slot
@@ -93,11 +94,6 @@ pub record Bounded (e : ExitsData) (linked : ℕ → Bool) (s : TallyData) : Typ
   pub copied : s.counts.copied ≤ 1024 * s.counts.misses
   pub undone : s.counts.unlinks + length (links_of e linked) ≤ s.counts.links
 
--- while no block stands, none was missed and no exit linked
-pub record IsFresh (s : TallyData) : Type 0 where
-  pub misses : length s.queue ≡ 0 → s.counts.misses ≡ 0
-  pub links : length s.queue ≡ 0 → s.counts.links ≡ 0
-
 -- the oldest block has left, but for the links that it had
 abbrev pub without_oldest : TallyData → ℕ → List ℕ → TallyData
 without_oldest s b rest = record s {
@@ -115,6 +111,14 @@ settled s b first n = record s {
   counts = record s.counts { misses = s.counts.misses + 1; copied = s.counts.copied + n };
 }
 
+-- one more service, but for the boot
+abbrev pub counted_tally : TallyData → TallyData
+counted_tally s = record s { counts = record s.counts { services = s.counts.services + more_service (length s.queue) } }
+
+-- where all slots are taken, the oldest block leaves
+abbrev pub freed : Setting → Record → Record
+freed by r = if nat_lt (length r.placed) by.slots then r else evicted r r.placed
+
 -- nothing else has changed but what stands, what is linked and what is counted; the links of other caches stay
 pub record Moved (e : ExitsData) (cache : ℕ) (s t : TallyData) (old new : List ℕ) : Type 0 where
   pub placing : t.placing ≡ s.placing
@@ -125,3 +129,32 @@ pub record Moved (e : ExitsData) (cache : ℕ) (s t : TallyData) (old new : List
   pub others : (d x : ℕ) → d < 64 → (d ≡ cache → ⊥) → x < length e.from → has_at new d x ≡ has_at old d x
   pub shape : InShape t
   pub bounded : Bounded e (has_at new cache) t
+
+-- it may serve the image, with these exits, as this one of the caches in these sets
+pub record Stands (v : ImageData) (e : ExitsData) (cache : ℕ) (masks : List ℕ) (s : TallyData) : Type 0 where
+  pub image : IsImage v
+  pub are : AreExits e
+  pub blocks : length v.starts ≡ e.blocks
+  pub homes : e.blocks ≡ length s.homes
+  pub masks_long : length masks ≡ length e.from
+  pub cache_below : cache < 64
+  pub words : v.block_words ≤ s.slot_words
+  pub shape : InShape s
+  pub bounded : Bounded e (has_at masks cache) s
+
+-- some of the oldest blocks have left
+pub record Receded (s t : TallyData) : Type 0 where
+  pub services : t.counts.services ≡ s.counts.services
+  pub misses : t.counts.misses ≡ s.counts.misses
+  pub links : t.counts.links ≡ s.counts.links
+  pub next : t.next ≡ s.next
+  pub fewer : (x : ℕ) → Has t.queue x → Has s.queue x
+
+-- a block has come to stand, by the policy
+pub record Arrives (v : ImageData) (e : ExitsData) (cache b : ℕ) (s t : TallyData) (old new : List ℕ) : Type 0 where
+  pub kept : kept_by e (has_at new cache) t ≡ arrival_of s.placing (setting_of s) v (kept_by e (has_at old cache) s) b
+  pub moved : Moved e cache s t old new
+  pub stands : Stands v e cache new t
+  pub here : Has t.queue b
+  pub services : t.counts.services ≡ s.counts.services
+  pub links : t.counts.links ≡ s.counts.links

@@ -1,18 +1,19 @@
 //! One cache without a ram.
 #![tactic(auto)]
 
-ghost use Rattle.std.specs.Prelude.{◌≡◌, ◌+◌, ◌*◌, ◌^◌, ◌<◌, ◌≤◌, ◌↔◌, ◌++◌, [], ◌∷◌, ℕ, false, Some, IsTrue, IfOk, length, replicate, slice_index, slice_set};
-ghost use Rattle.swi_tally.specs.Exits.{ExitsData, links_of};
+ghost use Rattle.std.specs.Prelude.{◌≡◌, ◌+◌, ◌*◌, ◌%◌, ◌^◌, ◌<◌, ◌≤◌, ◌↔◌, ◌++◌, [], ◌∷◌, ℕ, Bool, IsTrue, length, slice_index};
+ghost use Rattle.std.specs.List.{list_any};
+ghost use Rattle.swi_tally.specs.Exits.{ExitsData};
 ghost use Rattle.swi_tally.specs.Masks.{has_at};
-ghost use Rattle.swi_tally.specs.Tally.{Bounded, Has, InShape, IsFresh, Moved, kept_by, queue_of, settled, span, without_oldest};
+ghost use Rattle.swi_tally.specs.Tally.{Arrives, Bounded, Has, InShape, Moved, Receded, Stands, counted_tally, freed, kept_by, queue_of, setting_of, settled, span, spot, without_oldest};
+ghost use Rattle.swi_ring.specs.Fifo.{cleared, first_for, meets};
 ghost use Rattle.swi_rom.specs.Policy.{evicted};
 
 use crate::exits::Exits;
 use crate::groups::leave;
 use crate::queue::BlockQueue;
-use std::alloc::Global;
 use std::marker::Model;
-use swi_outside::Memory;
+use swi_image::ImageView;
 use swi_rom::Counts;
 
 /// How blocks are placed in a cache: each in a slot, or one behind the other.
@@ -100,15 +101,18 @@ impl Tally {
         requires shape { InShape self.old }
         requires some { 0 < length self.old.queue }
         requires bounded { Bounded exits.now (has_at masks.old cache) self.old }
-        requires services { self.old.counts.services < 2 ^ 50 }
+        requires services { self.old.counts.services ≤ 2 ^ 50 }
         requires blocks { exits.now.blocks ≡ length self.old.homes }
         requires masks { length masks.old ≡ length exits.now.from }
         requires cache { cache < 64 }
         ensures kept { kept_by exits.now (has_at masks.new cache) self.new
             ≡ evicted (kept_by exits.now (has_at masks.old cache) self.old) (queue_of self.old.homes self.old.queue) }
         ensures moved { Moved exits.now cache self.old self.new masks.old masks.new }
-        ensures counts { self.new.counts.services ≡ self.old.counts.services }
+        ensures services { self.new.counts.services ≡ self.old.counts.services }
+        ensures misses { self.new.counts.misses ≡ self.old.counts.misses }
+        ensures links { self.new.counts.links ≡ self.old.counts.links }
         ensures next { self.new.next ≡ self.old.next }
+        ensures oldest { (b : ℕ) × (self.old.queue ≡ b ∷ self.new.queue) }
     {
         let _ = exits.len();
         let block = self.take_oldest();
@@ -132,5 +136,182 @@ impl Tally {
         self.next = first + size;
         self.counts.misses += 1;
         self.counts.copied += size as u64;
+    }
+
+    // Counts a service, but for the boot.
+    fn count_service(&mut self)
+        requires { self.old.counts.services < 2 ^ 50 }
+        ensures { self.new ≡ counted_tally self.old }
+    {
+        if self.queue.len() > 0 {
+            self.counts.services += 1;
+        }
+    }
+
+    // The first word of the slot that is filled next.
+    fn next_slot(&self) -> u32
+        requires { InShape self.now }
+        ensures value { result ≡ self.now.counts.misses % self.now.slots * self.now.slot_words }
+        ensures within { result + self.now.slot_words ≤ span self.now }
+    {
+        (self.counts.misses % self.slots as u64) as u32 * self.slot_words
+    }
+
+    // Where all slots are taken, the oldest block leaves.
+    fn free_slot(&mut self, image: &ImageView<'_>, exits: &Exits, masks: &mut [u64], cache: u32)
+        requires stands { Stands image.now exits.now cache masks.old self.old }
+        requires services { self.old.counts.services ≤ 2 ^ 50 }
+        ensures kept { kept_by exits.now (has_at masks.new cache) self.new
+            ≡ freed (setting_of self.old) (kept_by exits.now (has_at masks.old cache) self.old) }
+        ensures stands { Stands image.now exits.now cache masks.new self.new }
+        ensures moved { Moved exits.now cache self.old self.new masks.old masks.new }
+        ensures receded { Receded self.old self.new }
+    {
+        if self.queue.len() >= self.slots {
+            self.evict(exits, masks, cache);
+        }
+    }
+
+    // A block that doesn't stand is placed in the next slot.
+    fn fill_slot(
+        &mut self,
+        image: &ImageView<'_>,
+        exits: &Exits,
+        masks: &mut [u64],
+        cache: u32,
+        block: u32,
+    )
+        requires stands { Stands image.now exits.now cache masks.old self.old }
+        requires services { self.old.counts.services ≤ 2 ^ 50 }
+        requires missed { self.old.counts.misses ≤ self.old.counts.services }
+        requires placing { self.old.placing ≡ Placing.Slots }
+        requires block { block < exits.now.blocks }
+        requires absent { Has self.old.queue block → ⊥ }
+        ensures arrives { Arrives image.now exits.now cache block self.old self.new masks.old masks.new }
+    {
+        let _ = image.blocks();
+        let size = image.length(block);
+        let first = self.next_slot();
+        self.free_slot(image, exits, masks, cache);
+        self.settle(block, first, size);
+    }
+
+    // Whether the k-th oldest block has one of some words.
+    fn is_in_way(&self, image: &ImageView<'_>, k: u32, first: u32, size: u32) -> bool
+        requires shape { InShape self.now }
+        requires blocks { length image.now.starts ≡ length self.now.homes }
+        requires few { image.now.block_words ≤ 1024 }
+        requires within { first + size ≤ span self.now }
+        requires k { k < length self.now.queue }
+        ensures { result ≡ meets image.now first size (spot self.now.homes (slice_index self.now.queue k)) }
+    {
+        let block = self.queue.get(k);
+        let home = self.homes[block as usize];
+        let end = home + image.length(block);
+        home < first + size && first < end
+    }
+
+    // Whether a block that stands has one of some words.
+    fn is_met(&self, image: &ImageView<'_>, first: u32, size: u32) -> bool
+        requires shape { InShape self.now }
+        requires blocks { length image.now.starts ≡ length self.now.homes }
+        requires few { image.now.block_words ≤ 1024 }
+        requires within { first + size ≤ span self.now }
+        ensures { result ≡ list_any (meets image.now first size) (queue_of self.now.homes self.now.queue) }
+    {
+        for k in 0..self.queue.len() {
+            if self.is_in_way(image, k, first, size) {
+                return true;
+            }
+        }
+        false
+    }
+
+    // The oldest blocks leave, until none has one of some words.
+    fn make_room(
+        &mut self,
+        image: &ImageView<'_>,
+        exits: &Exits,
+        masks: &mut [u64],
+        cache: u32,
+        first: u32,
+        size: u32,
+    )
+        requires stands { Stands image.now exits.now cache masks.old self.old }
+        requires services { self.old.counts.services ≤ 2 ^ 50 }
+        requires within { first + size ≤ span self.old }
+        ensures kept { kept_by exits.now (has_at masks.new cache) self.new
+            ≡ cleared image.now first size (queue_of self.old.homes self.old.queue) (kept_by exits.now (has_at masks.old cache) self.old) }
+        ensures stands { Stands image.now exits.now cache masks.new self.new }
+        ensures moved { Moved exits.now cache self.old self.new masks.old masks.new }
+        ensures receded { Receded self.old self.new }
+    {
+        while self.is_met(image, first, size) {
+            self.evict(exits, masks, cache);
+        }
+    }
+
+    // Where a block of some words is placed in a ring.
+    fn ring_place(&self, size: u32) -> u32
+        requires shape { InShape self.now }
+        requires size { size ≤ span self.now }
+        ensures value { (e : ExitsData) (linked : ℕ → Bool) → self.now.placing ≡ Placing.Ring → result ≡ first_for (span self.now) (kept_by e linked self.now) size }
+        ensures within { result + size ≤ span self.now }
+    {
+        if self.next + size <= self.span() {
+            self.next
+        } else {
+            0
+        }
+    }
+
+    // A block that doesn't stand is placed behind the one that was placed last.
+    fn fill_ring(
+        &mut self,
+        image: &ImageView<'_>,
+        exits: &Exits,
+        masks: &mut [u64],
+        cache: u32,
+        block: u32,
+    )
+        requires stands { Stands image.now exits.now cache masks.old self.old }
+        requires services { self.old.counts.services ≤ 2 ^ 50 }
+        requires missed { self.old.counts.misses ≤ self.old.counts.services }
+        requires placing { self.old.placing ≡ Placing.Ring }
+        requires one { self.old.slots ≡ 1 }
+        requires block { block < exits.now.blocks }
+        requires absent { Has self.old.queue block → ⊥ }
+        ensures arrives { Arrives image.now exits.now cache block self.old self.new masks.old masks.new }
+    {
+        let _ = image.blocks();
+        let size = image.length(block);
+        let first = self.ring_place(size);
+        self.make_room(image, exits, masks, cache, first, size);
+        self.settle(block, first, size);
+    }
+
+    // A block comes to stand.
+    fn arrive(
+        &mut self,
+        image: &ImageView<'_>,
+        exits: &Exits,
+        masks: &mut [u64],
+        cache: u32,
+        block: u32,
+    )
+        requires stands { Stands image.now exits.now cache masks.old self.old }
+        requires services { self.old.counts.services ≤ 2 ^ 50 }
+        requires missed { self.old.counts.misses ≤ self.old.counts.services }
+        requires one { self.old.placing ≡ Placing.Ring → self.old.slots ≡ 1 }
+        requires block { block < exits.now.blocks }
+        ensures arrives { Arrives image.now exits.now cache block self.old self.new masks.old masks.new }
+    {
+        if self.is_placed(block) {
+            return;
+        }
+        match self.placing {
+            Placing::Slots => self.fill_slot(image, exits, masks, cache, block),
+            Placing::Ring => self.fill_ring(image, exits, masks, cache, block),
+        }
     }
 }
