@@ -1,7 +1,7 @@
 -- A block comes to stand.
-use Rattle.std.proofs.Common.{◌≡◌, ℕ, zero, suc, ◌+◌, ◌*◌, ◌%◌, ◌^◌, ◌<◌, ◌≤◌, ◌==◌, ◌&&◌, Bool, true, false, List, [], ◌∷◌, ◌++◌, length, slice_index, nat_lt, nat_le, if◌then◌else◌, arith, refl, sym, ◌∙◌, ap, subst, inl, inr}
+use Rattle.std.proofs.Common.{◌≡◌, ℕ, zero, suc, ◌+◌, ◌*◌, ◌%◌, ◌^◌, ◌<◌, ◌≤◌, ◌==◌, ◌&&◌, Bool, true, false, List, [], ◌∷◌, ◌++◌, length, slice_index, slice_index_or, nat_lt, nat_le, if◌then◌else◌, arith, refl, sym, ◌∙◌, ap, subst, inl, inr}
 use Rattle.std.proofs.lemmas.Bool.{le-ltb, lt-ltb, le-leb, lt-leb, or_left, or_right, or_from, ne_eqb, eq-eqb}
-use Rattle.std.proofs.lemmas.List.{length-set, length_push}
+use Rattle.std.proofs.lemmas.List.{length-set, length_push, get_or_read}
 use Rattle.std.specs.List.{list_any}
 use Rattle.swi_image.specs.Format.{ImageData}
 use Rattle.swi_image.specs.Place.{length_at}
@@ -342,3 +342,30 @@ pub queue_known : (s : TallyData) (k b : ℕ) → InShape s → k < length s.que
 queue_known s k b shape lt is =
     let h : Has s.queue b = subst (λ (x : ℕ). Has s.queue x) (sym is) (has_index s.queue k lt) in
     (shape.known b h, shape.placed b h)
+
+-- the k-th oldest block, as it is read
+pub home_read : (s : TallyData) (homes : List ℕ) (k b home : ℕ) → InShape s → k < length s.queue → b ≡ slice_index s.queue k → homes ≡ s.homes → home ≡ slice_index_or homes b home → home ≡ slice_index s.homes (slice_index s.queue k)
+home_read s homes k b home shape lt is same read =
+    get_or_read homes b home (omega (arith, (queue_known s k b shape lt is).0, ap (λ (xs : List ℕ). length xs) same)) read 0 ∙ ap (λ (xs : List ℕ). slice_index xs b) same ∙ ap (λ (x : ℕ). slice_index s.homes x) is
+
+pub home_small : (s : TallyData) (k b home : ℕ) → InShape s → k < length s.queue → b ≡ slice_index s.queue k → home ≡ slice_index s.homes (slice_index s.queue k) → home < 2 ^ 21
+home_small s k b home shape lt is at = omega (arith, at, (queue_known s k (slice_index s.queue k) shape lt refl).1, shape.words_few)
+
+pub way_then : (v : ImageData) (s : TallyData) (k b home first n len : ℕ) → b ≡ slice_index s.queue k → home ≡ slice_index s.homes (slice_index s.queue k) → len ≡ length_at v b → home < first + n →
+    nat_lt first (home + len) ≡ meets v first n (spot s.homes (slice_index s.queue k))
+way_then v s k b home first n len is at size before =
+    ap (λ (m : ℕ). nat_lt first (home + m)) (size ∙ ap (length_at v) is)
+    ∙ ap (λ (t : Bool). t && nat_lt first (home + length_at v (slice_index s.queue k))) (sym (lt-ltb home (first + n) before))
+    ∙ ap (λ (h : ℕ). nat_lt h (first + n) && nat_lt first (h + length_at v (slice_index s.queue k))) at
+
+pub way_else : (v : ImageData) (s : TallyData) (k home first n : ℕ) → home ≡ slice_index s.homes (slice_index s.queue k) → first + n ≤ home →
+    nat_lt home (first + n) ≡ meets v first n (spot s.homes (slice_index s.queue k))
+way_else v s k home first n at past =
+    le-ltb home (first + n) past
+    ∙ ap (λ (t : Bool). t && nat_lt first (home + length_at v (slice_index s.queue k))) (sym (le-ltb home (first + n) past))
+    ∙ ap (λ (h : ℕ). nat_lt h (first + n) && nat_lt first (h + length_at v (slice_index s.queue k))) at
+
+pub met_some : (v : ImageData) (first n : ℕ) (homes queue : List ℕ) → list_any (meets v first n) (queue_of homes queue) ≡ true → 0 < length queue
+unfolding queue_of
+met_some v first n homes [] met = absurd cc
+met_some v first n homes (b ∷ bs) met = omega arith
