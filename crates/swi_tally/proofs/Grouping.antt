@@ -150,8 +150,8 @@ leaving_more keys ends befores g c old masks new count more x end before is long
     let e : before ≡ end_of keys g x = next ∙ is.earlier x inside ∙ ap (λ (k : ℕ). end_of keys k x) member in
     let in_it : is_in keys g x ≡ true = eq-eqb _ _ member in
     let same : has_at masks c x ≡ has_at old c x = at.left.sets c x small (omega (arith, inside, long))
-        ∙ ap (λ (t : Bool). has_at old c x && not (c == c && t)) (and_right (is_in keys g x) (nat_le end x) (lt-leb end x (omega (arith, ending))))
-        ∙ and_false (has_at old c x) (c == c) in
+    ∙ ap (λ (t : Bool). has_at old c x && not (c == c && t)) (and_right (is_in keys g x) (nat_le end x) (lt-leb end x (omega (arith, ending))))
+    ∙ and_false (has_at old c x) (c == c) in
     rw e (record {
       left = record {
         long = drops.long ∙ at.left.long;
@@ -159,10 +159,10 @@ leaving_more keys ends befores g c old masks new count more x end before is long
           | inl eq ↦ rw eq (
               drops.here d lt
               ∙ ap (λ (t : Bool). t && not (d == c)) (at.left.sets d x lt (omega (arith, inside, long))
-                ∙ ap (λ (t : Bool). has_at old d x && not (d == c && t)) (and_right (is_in keys g x) (nat_le end x) (lt-leb end x (omega (arith, ending))))
-                ∙ and_false (has_at old d x) (d == c))
+              ∙ ap (λ (t : Bool). has_at old d x && not (d == c && t)) (and_right (is_in keys g x) (nat_le end x) (lt-leb end x (omega (arith, ending))))
+              ∙ and_false (has_at old d x) (d == c))
               ∙ sym (ap (λ (t : Bool). has_at old d x && not (d == c && t)) (ap (λ (t : Bool). t && nat_le (end_of keys g x) x) in_it ∙ le-leb _ _ (end_within keys g x))
-                ∙ ap (λ (t : Bool). has_at old d x && not t) (and_all (d == c))))
+              ∙ ap (λ (t : Bool). has_at old d x && not t) (and_all (d == c))))
           | inr ne ↦
               ap (λ (m : ℕ). has m d) (drops.others y ne)
               ∙ at.left.sets d y lt within
