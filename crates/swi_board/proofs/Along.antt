@@ -1,8 +1,12 @@
 -- A run over whole boards: what holds all along it, and what stands at its end.
-use Rattle.std.proofs.Common.{◌≡◌, ◌⊎◌, ℕ, suc, ◌^◌, ◌<◌, ◌≤◌, List, Option, Some, None, is_some, true, Ok, Err, slice_index, refl, ap, ◌∙◌, inl, inr, arith}
+use Rattle.std.proofs.Common.{◌≡◌, ◌⊎◌, ℕ, suc, ◌^◌, ◌<◌, ◌≤◌, List, ◌++◌, Option, Some, None, is_some, true, Ok, Err, slice_index, refl, sym, subst, ap, ◌∙◌, inl, inr, arith}
 use Rattle.std.proofs.lemmas.Bool.{false≢true}
 use Rattle.swi_outside.specs.CacheRam.{RamState}
+use Rattle.swi_outside.specs.Source.{SourceState, HasGiven, ReadFrom}
+use Rattle.swi_outside.specs.Told.{AsTold, told_as}
 use Rattle.swi_outside.specs.Laws.{ok_unmoved}
+use Rattle.swi_outside.proofs.SourceLemmas.{given_more, given_still, read_first, read_last, rest_is}
+use Rattle.swi_outside.proofs.ToldLemmas.{as_told_stands}
 use Rattle.swi_calls.specs.declared.end.End.{End}
 use Rattle.swi_calls.specs.declared.machine.Machine.{Machine}
 use Rattle.swi_image.specs.Format.{ImageData}
@@ -133,3 +137,35 @@ module _ {S : Type 0} {k : ServiceOf S} {v : ImageData} {n : ℕ} {old : BoardWi
   pub run_broken : {now next : BoardWithDevices S} {fault : BoardFault} → Along k v n old now → now.hart.machine.steps < n → now.hart.machine.ending ≡ None → now.hart.machine.pc < 2 ^ 32 →
       BoardStepped k v (with_ram now) (with_ram next) now.devices next.devices (Err fault) → BoardRan k v n old next (Err fault)
   run_broken {now} {next} {fault} was more running word s = record { mid = now; along = was; ends = record { running = running; more = more; short = word; broke = s } }
+
+abbrev pub with_source : {S : Type 0} → BoardWithDevices S → SourceState → BoardWithDevices S
+with_source b s = record b { devices = record b.devices { input = s } }
+
+-- Machine instructions in a row, over each input from which what the source gave may have been read.
+pub record AlongOn {S : Type 0} (k : ServiceOf S) (v : ImageData) (n : ℕ) (old now : BoardWithDevices S) : Type 0 where
+  pub gave : HasGiven old.devices.input now.devices.input
+  pub along : AsTold old.devices.input now.devices.input (λ before after. Along k v n (with_source old before) (with_source now after))
+
+-- what is said of each input, of some: there always is one
+pub told_some : {a b : SourceState} (P : SourceState → SourceState → Type 0) → HasGiven a b → AsTold a b P → (input rest : List ℕ) × P (told_as a input) (told_as b rest)
+told_some {a} {b} P gave all = as_told_stands {C = (input rest : List ℕ) × P (told_as a input) (told_as b rest)} gave (λ input rest read. (input, rest, all input rest read))
+
+module _ {S : Type 0} {k : ServiceOf S} {v : ImageData} {n : ℕ} {old : BoardWithDevices S} where
+  pub on_start : Fits v (k.kept old.rom) old.hart → old.hart.machine.steps ≤ n → k.sound old.rom v old.ram.words → AlongOn k v n old old
+  on_start fits le sound = record {
+    gave = given_still old.devices.input;
+    along = λ input rest read. subst (λ (left : List ℕ). Along k v n (with_source old (told_as old.devices.input input)) (with_source old (told_as old.devices.input left)))
+        (sym (rest_is read)) (along_start {k = k} fits le sound);
+  }
+
+  pub on_some : {now : BoardWithDevices S} → AlongOn k v n old now → (input rest : List ℕ) × Along k v n (with_source old (told_as old.devices.input input)) (with_source now (told_as now.devices.input rest))
+  on_some {now} on = told_some (λ before after. Along k v n (with_source old before) (with_source now after)) on.gave on.along
+
+  pub on_more : {now next : BoardWithDevices S} → AlongOn k v n old now → HasGiven now.devices.input next.devices.input →
+      ((input mid rest : List ℕ) → Along k v n (with_source old (told_as old.devices.input input)) (with_source now (told_as now.devices.input mid)) →
+      ReadFrom now.devices.input next.devices.input mid rest → Along k v n (with_source old (told_as old.devices.input input)) (with_source next (told_as next.devices.input rest))) →
+      AlongOn k v n old next
+  on_more {now} {next} on gave step = record {
+    gave = given_more on.gave gave;
+    along = λ input rest read. step input (gave.0 ++ rest) rest (on.along input (gave.0 ++ rest) (read_first on.gave gave read)) (read_last on.gave gave read);
+  }

@@ -14,3 +14,4 @@ pub mod Along
 pub mod Knowing
 pub mod Coming
 pub mod Remembering
+pub mod Untold

@@ -4,6 +4,8 @@
 ghost use Rattle.std.specs.Prelude.{◌≡◌, ◌⊎◌, ◌+◌, ◌^◌, ◌<◌, ◌≤◌, ℕ, IfOk, OnOk, OnErr, IsErrOf, Some, None, true, false};
 ghost use Rattle.std.specs.Option.{ForSome};
 ghost use Rattle.swi_outside.specs.CacheRam.{RamState};
+ghost use Rattle.swi_outside.specs.Source.{ForInput, HasGiven};
+ghost use Rattle.swi_outside.specs.Told.{AsTold};
 ghost use Rattle.swi_memory.specs.Bus.{fetched};
 ghost use Rattle.swi_calls.specs.declared.machine.Machine.{Machine};
 ghost use Rattle.swi_calls.specs.Flat.{machine_of};
@@ -226,8 +228,9 @@ impl<R: CacheRom> Board<R> {
     /// as long as the service is sound with the image's word put back: the word that was fetched is executed, and the
     /// step goes on as over the image's. The image fits again behind either word, whatever the register holds then.
     ///
-    /// It follows each flat machine that the board matches: by a step, or by none where the word completes no
-    /// instruction. A word of the ram that changes is of a newly placed block, or a link that was made or undone.
+    /// It follows each flat machine that the board matches, on each input from which what was given may have been read:
+    /// by a step, or by none where the word completes no instruction. A word of the ram that changes is of a newly
+    /// placed block, or a link that was made or undone.
     ///
     /// After an error `failed` is true, and the hart is as it was but for that. The input or a sink fails at a system
     /// call alone: a front of the buffer of a read may be filled then, the service is as it was, and a sink to which the
@@ -246,18 +249,31 @@ impl<R: CacheRom> Board<R> {
         requires sound { R.service.sound self.old.rom image.now (M.state ram.old).words
             ⊎ Exchanged (λ words. R.service.sound self.old.rom image.now words) image.now
             (M.state ram.old).words self.old.hart.control }
-        ensures follows { R.service.sound self.old.rom image.now (M.state ram.old).words →
-            OnOk result (ForSome (I.state input.old).left (λ left. (f : Machine) → Carries (fetched f.bus) image.now →
+        ensures gave { HasGiven (I.state input.old) (I.state input.new) }
+        ensures follows { ForInput (I.state input.old) (I.state input.new) (λ left rest.
+            R.service.sound self.old.rom image.now (M.state ram.old).words →
+            OnOk result ((f : Machine) → Carries (fetched f.bus) image.now →
             Matches image.now (R.service.kept self.old.rom) f self.old.hart.machine self.old.hart.control →
             Followed image.now (R.service.kept self.new.rom) self.new.hart
             (next_made image.now self.old.hart.machine self.old.hart.control f left)
-            (I.state input.new).left (O.state out.old).held (O.state out.new).held (E.state err.old).held (E.state err.new).held)) }
+            (Some rest) (O.state out.old).held (O.state out.new).held (E.state err.old).held (E.state err.new).held)) }
         ensures executes { OnOk result ((i b o : ℕ) (stage : Stage) →
             PlainAt image.now (M.state ram.old).words self.old.hart.control i b o stage →
             ExecutesHeld self.old.hart self.new.hart self.old.rom self.new.rom i b o stage (M.state ram.old).words
             (M.state ram.new).words
             (I.state input.old).left (I.state input.new).left (O.state out.old).held (O.state out.new).held (E.state err.old).held (E.state err.new).held) }
-        ensures stepped { BoardStepped R.service image.now
+        ensures stepped { AsTold (I.state input.old) (I.state input.new) (λ old new. BoardStepped R.service image.now
+            (record { hart = self.old.hart; rom = self.old.rom; ram = M.state ram.old })
+            (record { hart = self.new.hart; rom = self.new.rom; ram = M.state ram.new })
+            (record { input = old; output = O.state out.old; error = E.state err.old })
+            (record { input = new; output = O.state out.new; error = E.state err.new }) result) }
+        ensures follows_directly { R.service.sound self.old.rom image.now (M.state ram.old).words →
+            OnOk result (ForSome (I.state input.old).left (λ left. (f : Machine) → Carries (fetched f.bus) image.now →
+            Matches image.now (R.service.kept self.old.rom) f self.old.hart.machine self.old.hart.control →
+            Followed image.now (R.service.kept self.new.rom) self.new.hart
+            (next_made image.now self.old.hart.machine self.old.hart.control f left)
+            (I.state input.new).left (O.state out.old).held (O.state out.new).held (E.state err.old).held (E.state err.new).held)) }
+        ensures stepped_directly { BoardStepped R.service image.now
             (record { hart = self.old.hart; rom = self.old.rom; ram = M.state ram.old })
             (record { hart = self.new.hart; rom = self.new.rom; ram = M.state ram.new })
             (record { input = I.state input.old; output = O.state out.old; error = E.state err.old })
@@ -274,6 +290,8 @@ impl<R: CacheRom> Board<R> {
     /// made; no device has failed; the image fits the board and the service is sound for it and the ram, as `boot`,
     /// `step` and `run` leave them; at most 2^55 machine instructions and 2^49 services are counted.
     ///
+    /// The run is that of the flat machine on each input from which what was given may have been read: what the run
+    /// leaves of it is the rest.
     /// Where the run goes on, control has come to where the flat steps lead. Which words of the ram change is said of `step`
     /// alone: along a run a block can come and leave again.
     ///
@@ -298,7 +316,21 @@ impl<R: CacheRom> Board<R> {
         requires limit { n ≤ 2 ^ 48 }
         requires count { self.old.hart.count ≤ 2 ^ 55 }
         requires services { (R.service.kept self.old.rom).counts.services ≤ 2 ^ 49 }
-        ensures { BoardRan R.service image.now n
+        ensures gave { HasGiven (I.state input.old) (I.state input.new) }
+        ensures ran { AsTold (I.state input.old) (I.state input.new) (λ old new. BoardRan R.service image.now n
+            (record {
+              hart = self.old.hart;
+              rom = self.old.rom;
+              ram = M.state ram.old;
+              devices = record { input = old; output = O.state out.old; error = E.state err.old };
+            })
+            (record {
+              hart = self.new.hart;
+              rom = self.new.rom;
+              ram = M.state ram.new;
+              devices = record { input = new; output = O.state out.new; error = E.state err.new };
+            }) result) }
+        ensures ran_directly { BoardRan R.service image.now n
             (record {
               hart = self.old.hart;
               rom = self.old.rom;

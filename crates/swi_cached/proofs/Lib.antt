@@ -6,6 +6,8 @@ pub mod Slotted
 mod Ringed
 pub mod Tells
 pub mod Telling
+mod ToldOn
+mod Untold
 mod Unasked
 pub mod Starting
 pub mod Ended

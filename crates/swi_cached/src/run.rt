@@ -1,7 +1,9 @@
 //! The run over a cache service: the boot, and the steps.
 #![tactic(auto)]
 
-ghost use Rattle.std.specs.Prelude.{◌≡◌, ◌^◌, ◌<◌, ◌≤◌, true, is_some};
+ghost use Rattle.std.specs.Prelude.{◌≡◌, ◌^◌, ◌<◌, ◌≤◌, IsErrOf, true, is_some};
+ghost use Rattle.swi_outside.specs.Source.{HasGiven};
+ghost use Rattle.swi_outside.specs.Told.{AsTold};
 ghost use Rattle.swi_image.specs.Place.{place_of};
 ghost use Rattle.swi_program.specs.Layout.{IsLayoutOf};
 ghost use Rattle.swi_program.specs.Text.{text_of, word_of};
@@ -55,7 +57,7 @@ pub(crate) fn carry(image: &ImageView<'_>, program: &Program<'_>)
     let _entry = program.entry();
 }
 
-/// Boots a program and runs its steps.
+/// Boots a program and runs its steps, on each input from which what was given may have been read.
 fn boot_and_run<I: Source, O: Sink, E: Sink, R: MicroRam, S: CacheRom>(
     alloc: Global,
     image: &ImageView<'_>,
@@ -73,10 +75,13 @@ fn boot_and_run<I: Source, O: Sink, E: Sink, R: MicroRam, S: CacheRom>(
     requires sound { S.service.sound rom image.now (R.state ram.old).words }
     requires fresh { IsFresh (S.service.kept rom) }
     requires limit { asked.limit ≤ 2 ^ 48 }
-    ensures { CachedRan S.service (given_of image.now (cache_of S.service rom) program.now layout.now asked) rom
-        (record { ram = R.state ram.old; devices = record { input = I.state input.old; output = O.state out.old; error = E.state err.old } })
-        (record { ram = R.state ram.new; devices = record { input = I.state input.new; output = O.state out.new; error = E.state err.new } })
-        result }
+    ensures gave { HasGiven (I.state input.old) (I.state input.new) }
+    ensures unasked { IsErrOf result CachedStop.Memory → I.state input.new ≡ I.state input.old }
+    ensures ran { AsTold (I.state input.old) (I.state input.new) (λ old new. CachedRan S.service
+        (given_of image.now (cache_of S.service rom) program.now layout.now asked) rom
+        (record { ram = R.state ram.old; devices = record { input = old; output = O.state out.old; error = E.state err.old } })
+        (record { ram = R.state ram.new; devices = record { input = new; output = O.state out.new; error = E.state err.new } })
+        result) }
 {
     carry(image, program);
     let Ok(history) = first_history(alloc, asked.trace) else {
@@ -118,13 +123,15 @@ fn boot_and_run<I: Source, O: Sink, E: Sink, R: MicroRam, S: CacheRom>(
 /// `Each` a step has its line before its first word is fetched, also one that ends the run by a fault, and one that
 /// would store into the text, which isn't made.
 ///
-/// The program's steps, its registers and memory and the bytes that it reads and writes are those of the flat machine,
-/// up to a step that would store into the text: the run ends before it.
+/// The run is that on each input from which what was given may have been read: what it leaves of it is the rest. The
+/// program's steps, its registers and memory and the bytes that it reads and writes are those of the flat machine, up to
+/// a step that would store into the text: the run ends before it.
 ///
-/// After `Memory` nothing has changed. After a fault of the ram the sinks hold just what the steps wrote whose fetches were
-/// made; with `Each` the line of the next step may stand behind it. After one of the input they hold what the steps made
-/// have written, with `Each` the line of the step that was broken off too. After one of a sink they hold what the steps made have written, and a front of what the
-/// next step writes, its line first. The words of the ram behind those of the service never change.
+/// After `Memory` nothing has changed, and the input was not asked. After a fault of the ram the sinks hold just what the
+/// steps wrote whose fetches were made; with `Each` the line of the next step may stand behind it. After one of the input
+/// they hold what the steps made have written, with `Each` the line of the step that was broken off too. After one of a
+/// sink they hold what the steps made have written, and a front of what the next step writes, its line first. The words
+/// of the ram behind those of the service never change.
 pub fn run_cached<I: Source, O: Sink, E: Sink, R: MicroRam, S: CacheRom>(
     alloc: Global,
     image: &ImageView<'_>,
@@ -142,12 +149,20 @@ pub fn run_cached<I: Source, O: Sink, E: Sink, R: MicroRam, S: CacheRom>(
     requires sound { S.service.sound rom image.now (R.state ram.old).words }
     requires fresh { IsFresh (S.service.kept rom) }
     requires limit { asked.limit ≤ 2 ^ 48 }
-    ensures ran { CachedRan S.service (given_of image.now (cache_of S.service rom) program.now layout.now asked) rom
-        (record { ram = R.state ram.old; devices = record { input = I.state input.old; output = O.state out.old; error = E.state err.old } })
-        (record { ram = R.state ram.new; devices = record { input = I.state input.new; output = O.state out.new; error = E.state err.new } })
-        result }
+    ensures gave { HasGiven (I.state input.old) (I.state input.new) }
+    ensures unasked { IsErrOf result CachedStop.Memory → I.state input.new ≡ I.state input.old }
+    ensures ran { AsTold (I.state input.old) (I.state input.new) (λ old new. CachedRan S.service
+        (given_of image.now (cache_of S.service rom) program.now layout.now asked) rom
+        (record { ram = R.state ram.old; devices = record { input = old; output = O.state out.old; error = E.state err.old } })
+        (record { ram = R.state ram.new; devices = record { input = new; output = O.state out.new; error = E.state err.new } })
+        result) }
     // A law of that, in the words of the original steps.
-    ensures in_steps { InSteps S.service (given_of image.now (cache_of S.service rom) program.now layout.now asked) rom
+    ensures in_steps { AsTold (I.state input.old) (I.state input.new) (λ old new. InSteps S.service
+        (given_of image.now (cache_of S.service rom) program.now layout.now asked) rom
+        (record { ram = R.state ram.old; devices = record { input = old; output = O.state out.old; error = E.state err.old } })
+        (record { ram = R.state ram.new; devices = record { input = new; output = O.state out.new; error = E.state err.new } })
+        result) }
+    ensures in_steps_directly { InSteps S.service (given_of image.now (cache_of S.service rom) program.now layout.now asked) rom
         (record { ram = R.state ram.old; devices = record { input = I.state input.old; output = O.state out.old; error = E.state err.old } })
         (record { ram = R.state ram.new; devices = record { input = I.state input.new; output = O.state out.new; error = E.state err.new } })
         result }

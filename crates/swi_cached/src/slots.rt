@@ -10,9 +10,9 @@ ghost use Rattle.swi_cached.specs.Cached.{IsFresh};
 ghost use Rattle.swi_cached.specs.Slotted.{slot_setting, slotted};
 
 use std::alloc::Global;
-use swi_fifo::FifoRom;
 use swi_image::ImageView;
 use swi_outside::Memory;
+use swi_slots::FifoRom;
 
 /// An empty service with slots of the image's blocks: as many as a cache of so many bytes has room for, which evicts the
 /// oldest first. The cache holds a block, and has at most 8 MiB; the service is sound for each ram that holds the cache.

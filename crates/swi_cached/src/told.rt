@@ -5,6 +5,8 @@ ghost use Rattle.std.specs.Prelude.{◌≡◌, ◌⊎◌, ◌+◌, ◌^◌, ◌<
 ghost use Rattle.std.specs.Io.KnownBytes.{Appends};
 ghost use Rattle.swi_outside.specs.Causes.{HasCause};
 ghost use Rattle.swi_outside.specs.Sink.{AppendsPrefix};
+ghost use Rattle.swi_outside.specs.Source.{HasGiven};
+ghost use Rattle.swi_outside.specs.Told.{AsTold};
 ghost use Rattle.swi_trace.specs.History.{IsLastOf};
 ghost use Rattle.swi_hart.specs.Matching.{Fits};
 ghost use Rattle.swi_cached.specs.Told.{history_of, is_each, told_line};
@@ -66,7 +68,7 @@ fn tell<E: Sink, S: CacheRom>(
 }
 
 /// Makes steps until `limit` are made or the run has ended, each told before it is made where steps are told. Answers
-/// the history.
+/// the history. The run is that on each input from which what was given may have been read.
 pub(crate) fn run_steps<I: Source, O: Sink, E: Sink, R: MicroRam, S: CacheRom>(
     board: &mut Board<S>,
     image: &ImageView<'_>,
@@ -87,19 +89,20 @@ pub(crate) fn run_steps<I: Source, O: Sink, E: Sink, R: MicroRam, S: CacheRom>(
     requires count { board.old.hart.count ≤ 2 ^ 55 }
     requires services { (S.service.kept board.old.rom).counts.services ≤ 2 ^ 49 }
     requires empty { history ≡ history_of telling [] }
-    ensures { ToldRan S.service image.now telling limit
+    ensures gave { HasGiven (I.state input.old) (I.state input.new) }
+    ensures ran { AsTold (I.state input.old) (I.state input.new) (λ old new. ToldRan S.service image.now telling limit
         (record {
           hart = board.old.hart;
           rom = board.old.rom;
           ram = R.state ram.old;
-          devices = record { input = I.state input.old; output = O.state out.old; error = E.state err.old };
+          devices = record { input = old; output = O.state out.old; error = E.state err.old };
         })
         (record {
           hart = board.new.hart;
           rom = board.new.rom;
           ram = R.state ram.new;
-          devices = record { input = I.state input.new; output = O.state out.new; error = E.state err.new };
-        }) result }
+          devices = record { input = new; output = O.state out.new; error = E.state err.new };
+        }) result) }
 {
     let Some(mut last) = history else {
         board.run(image, ram, input, out, err, limit)?;

@@ -48,7 +48,7 @@ use Rattle.swi_answer.specs.declared.answer.Ending.{Ending}
 use Rattle.swi_answer.specs.declared.answer.Refusal.{Refusal}
 use Rattle.swi_answer.specs.declared.answer.Refusal.TheVariants as refusal
 use Rattle.swi_answer.specs.Lines.{ending_line}
-use Rattle.swi_task.specs.Answers.{Answers, IsAskedFor, IsChecked, IsSizeRefusal}
+use Rattle.swi_task.specs.Answers.{Answers, AreGiven, IsAskedFor, IsChecked, IsSizeRefusal}
 use Rattle.swi_cached_command.specs.Caching.{IsCachedRun, RamCounted, board_work, cache_by, cache_for, work_of}
 use Rattle.swi_task.specs.Causes.{HasCauses}
 use Rattle.swi_task.specs.Checks.{Check, HoldsBlock, Fails, IsAccepted, IsRefusedOr, block_words, file_limit, least_cache, room_in, size_refusal, subject_checks}
@@ -58,7 +58,7 @@ use Rattle.swi_task.specs.Runs.{FailedAfterRun, ending_by, report, start_of}
 use Rattle.swi_task.specs.Subject.{IsImageFor}
 use Rattle.swi_task.proofs.Due.{left_empty}
 use Rattle.swi_cached_command.proofs.Tracing.{all_shown, last_is, shown_split, some_shown}
-use Rattle.swi_task.proofs.Refusals.{IsRead, calm_causes, causes_behind, causes_of, keeps_read, out_causes, same_count, sized_along, sized_err, sized_ok, told_is}
+use Rattle.swi_task.proofs.Refusals.{IsRead, IsTooLong, calm_causes, causes_behind, causes_of, keeps_read, none_long, out_causes, read_is, same_count, sized_along, sized_err, sized_ok}
 use Rattle.swi_task.proofs.Images.{front_refused, last_fails, last_passes, run_passes, run_refused, size_is}
 use Rattle.swi_task.proofs.Starts.{start_is}
 use Rattle.swi_task.proofs.Lines.{IsLined, after_line, after_run_line, appends_last, at_step_line, holds_then, ran_line}
@@ -251,6 +251,10 @@ sink_failed {T} o cache v p l d i out e ram kept words broke h = record {
   beyond = kept;
   causes = stop_causes {T = T} (stop.Fault board.SinkFault) d (ran_all d i out e ram) refl h;
 }
+
+-- there was no memory for it
+pub none_run : (o : RunOptions) (cache : Cache) (v : ImageData) (p : ProgramData) (l : Layout) (d : Devices) → RunsOver o cache v p l d d (Err refusal.Memory)
+none_run o cache v p l d = memory_after o cache v p l d d.input d.output d.error d.ram (refl, refl, refl, refl)
 
 -- it stopped before its end
 pub run_stopped : {T : Type 0} {o : RunOptions} {cache : Cache} {v : ImageData} {p : ProgramData} {l : Layout} {d : Devices} {i : SourceState} {out e : SinkState} {ram : RamState}
@@ -587,6 +591,20 @@ run_err_asked failed refusal.RamFault h = (refl, refl)
 run_err_asked failed refusal.Memory h = (omega arith, omega arith, λ _. refl)
 run_err_asked failed _ h = absurd h
 
+pub run_err_given : (failed : Option Asked) (r : Refusal) → IsRunErr r → AreGiven failed (Err r) 1 1
+run_err_given failed refusal.SourceFault h = refl
+run_err_given failed refusal.SinkFault h = refl
+run_err_given failed refusal.RamFault h = refl
+run_err_given failed refusal.Memory h = (omega arith, omega arith)
+run_err_given failed _ h = absurd h
+
+pub run_err_short : (r : Refusal) → IsRunErr r → IsTooLong r → ⊥
+run_err_short refusal.SourceFault h long = long
+run_err_short refusal.SinkFault h long = long
+run_err_short refusal.RamFault h long = long
+run_err_short refusal.Memory h long = long
+run_err_short _ h long = h
+
 pub run_err_checked : (checks : List Check) (last : Option Asked) (r : Refusal) → IsRunErr r → IsAccepted checks → IsChecked checks last (Err r)
 run_err_checked checks last refusal.SourceFault h passed = passed
 run_err_checked checks last refusal.SinkFault h passed = passed
@@ -604,9 +622,10 @@ cached_answers name cache o d s i out e ram bytes v l (Ok x) size read accepted 
     let m : Devices = cached_to d s i out e ram in record {
       asked = λ y. let bad : ⊥ = cc in bad;
       sized = sized_along (size_refusal cache.cache_bytes (length d.ram.words)) (Ok x) size (sized_ok x);
-      checked = λ file told. subst (λ (f : List ℕ). IsAccepted (cached_checks o.limits cache f)) (told_is d.shelf.contents name file bytes told read.stands) accepted;
+      checked = λ file are. subst (λ (f : List ℕ). IsAccepted (cached_checks o.limits cache f)) (read_is read are refl) accepted;
+      long = λ limit y. absurd (let bad : ⊥ = cc in bad);
       ended = tt;
-      done = λ file told. subst (λ (f : List ℕ). (cached_task name cache o).does f d m x []) (told_is d.shelf.contents name file bytes told read.stands) (
+      done = λ file are. subst (λ (f : List ℕ). (cached_task name cache o).does f d m x []) (read_is read are refl) (
         v,
         own,
         run.beyond,
@@ -615,7 +634,8 @@ cached_answers name cache o d s i out e ram bytes v l (Ok x) size read accepted 
       );
       failed = tt;
       refused = tt;
-      shelf = keeps_read (cached_task name cache o) d.shelf s name bytes (Ok x) refl read (refl, refl) (λ y. let never : ⊥ = cc in never);
+      shelf = keeps_read (cached_task name cache o) d.shelf s name bytes (Ok x) refl refl read (refl, refl) refl (λ y. let never : ⊥ = cc in never);
+      input = tt;
       ram = keeps_run cache v d.ram ram run.beyond;
       causes = causes_behind d s m (Ok x) read.faults run.causes;
     }
@@ -623,11 +643,12 @@ cached_answers name cache o d s i out e ram bytes v l (Err r) size read accepted
     let m : Devices = cached_to d s i out e ram in record {
       asked = run_err_not r refusal.Usage run.refused (λ x. x);
       sized = sized_along (size_refusal cache.cache_bytes (length d.ram.words)) (Err r) size (sized_err r (run_err_size r run.refused));
-      checked = λ file told. subst (λ (f : List ℕ). IsChecked (cached_checks o.limits cache f) s.last_failed (Err r)) (told_is d.shelf.contents name file bytes told read.stands)
+      checked = λ file are. subst (λ (f : List ℕ). IsChecked (cached_checks o.limits cache f) s.last_failed (Err r)) (read_is read are refl)
           (run_err_checked (cached_checks o.limits cache bytes) s.last_failed r run.refused accepted);
+      long = none_long (cached_task name cache o) d.shelf.contents r (run_err_short r run.refused);
       ended = tt;
       done = tt;
-      failed = λ fault file told. subst (λ (f : List ℕ). (cached_task name cache o).fails f d m r []) (told_is d.shelf.contents name file bytes told read.stands) (
+      failed = λ fault file are. subst (λ (f : List ℕ). (cached_task name cache o).fails f d m r []) (read_is read are refl) (
         v,
         own,
         run.beyond,
@@ -638,7 +659,8 @@ cached_answers name cache o d s i out e ram bytes v l (Err r) size read accepted
         record { input = ap (λ (y : Devices). y.input) same_all; output = ap (λ (y : Devices). y.output) same_all; ram = ap (λ (y : Devices). y.ram) same_all },
         subst (λ (y : SinkState). Appends d.error.held y.held []) (sym (ap (λ (y : Devices). y.error) same_all)) (Appends-none d.error.held),
       );
-      shelf = keeps_read (cached_task name cache o) d.shelf s name bytes (Err r) refl read (run_err_asked s.last_failed r run.refused) (run_err_not r refusal.ShelfFault run.refused (λ x. x));
+      shelf = keeps_read (cached_task name cache o) d.shelf s name bytes (Err r) refl refl read (run_err_asked s.last_failed r run.refused) (run_err_given s.last_failed r run.refused) (run_err_not r refusal.ShelfFault run.refused (λ x. x));
+      input = tt;
       ram = keeps_run cache v d.ram ram run.beyond;
       causes = causes_behind d s m (Err r) read.faults run.causes;
     }

@@ -37,7 +37,7 @@ use Rattle.swi_task.specs.Checks.{Check, IsShort, IsAcceptedElf, HasRoom, IsAcce
 use Rattle.swi_task.specs.Devices.{Devices}
 use Rattle.swi_task.specs.Runs.{Ran, FailedAtStep, FailedAfterRun, report, start_of}
 use Rattle.swi_task.specs.Subject.{IsImageFor, IsSubject, view_of}
-use Rattle.swi_task.specs.Task.{Task, Tells}
+use Rattle.swi_task.specs.Task.{Task}
 
 -- the same program's run, out of a cache; `trace` tells its steps too
 abbrev pub cached_run : Cache → RunOptions → ImageData → FlatState → CachedRun
@@ -120,8 +120,9 @@ abbrev pub cached_task : List ℕ → CacheOptions → RunOptions → Task
 cached_task name cache o = record {
   reads = name ∷ [];
   Files = List ℕ;
-  told = λ contents file. Tells contents name file;
+  contents = λ file. file ∷ [];
   writes = None;
+  takes_input = true;
   cache = Some cache.cache_bytes;
   checks = cached_checks o.limits cache;
   ends = λ e. ⊤;

@@ -2,6 +2,8 @@
 #![tactic(auto)]
 
 ghost use Rattle.std.specs.Prelude.{◌≡◌, ◌*◌, ◌^◌, ◌≤◌, IfOk, IfErr, OnOk, [], length};
+ghost use Rattle.swi_outside.specs.Source.{HasGiven};
+ghost use Rattle.swi_outside.specs.Told.{AsTold};
 ghost use Rattle.swi_command.specs.CommandLine.{IsCacheInRange, IsInRange};
 ghost use Rattle.swi_program.specs.Layout.{IsLayoutOf};
 ghost use Rattle.swi_program.specs.Text.{text_of};
@@ -64,7 +66,11 @@ fn run_over<I: Source, O: Sink, E: Sink, R: MicroRam, S: CacheRom>(
     requires fresh { IsFresh (S.service.kept rom) }
     requires laid_out { IsLayoutOf program.now.segments layout.now }
     requires own { IsImageOf (text_of program.now.segments) image.now }
-    ensures { (d : Devices) → RunsOver options.now (cache_of S.service rom) image.now program.now layout.now
+    ensures gave { HasGiven (I.state input.old) (I.state input.new) }
+    ensures ran { (d : Devices) → AsTold (I.state input.old) (I.state input.new) (λ before after. RunsOver options.now (cache_of S.service rom) image.now program.now layout.now
+        (record d { input = before; output = O.state out.old; error = E.state err.old; ram = R.state ram.old })
+        (record d { input = after; output = O.state out.new; error = E.state err.new; ram = R.state ram.new }) result) }
+    ensures ran_directly { (d : Devices) → RunsOver options.now (cache_of S.service rom) image.now program.now layout.now
         (record d { input = I.state input.old; output = O.state out.old; error = E.state err.old; ram = R.state ram.old })
         (record d { input = I.state input.new; output = O.state out.new; error = E.state err.new; ram = R.state ram.new }) result }
 {
@@ -107,7 +113,11 @@ fn run_program<I: Source, O: Sink, E: Sink, R: MicroRam>(
     requires held { cache.now.cache_bytes ≤ 4 * length (R.state ram.old).words }
     requires laid_out { IsLayoutOf program.now.segments layout.now }
     requires own { IsImageOf (text_of program.now.segments) image.now }
-    ensures { (d : Devices) → RunsOver options.now (cache_for cache.now image.now) image.now program.now layout.now
+    ensures gave { HasGiven (I.state input.old) (I.state input.new) }
+    ensures ran { (d : Devices) → AsTold (I.state input.old) (I.state input.new) (λ before after. RunsOver options.now (cache_for cache.now image.now) image.now program.now layout.now
+        (record d { input = before; output = O.state out.old; error = E.state err.old; ram = R.state ram.old })
+        (record d { input = after; output = O.state out.new; error = E.state err.new; ram = R.state ram.new }) result) }
+    ensures ran_directly { (d : Devices) → RunsOver options.now (cache_for cache.now image.now) image.now program.now layout.now
         (record d { input = I.state input.old; output = O.state out.old; error = E.state err.old; ram = R.state ram.old })
         (record d { input = I.state input.new; output = O.state out.new; error = E.state err.new; ram = R.state ram.new }) result }
 {
@@ -177,7 +187,11 @@ fn run_placed<I: Source, O: Sink, E: Sink, R: MicroRam>(
     requires held { cache.now.cache_bytes ≤ 4 * length (R.state ram.old).words }
     requires laid_out { IsLayoutOf placed.now.subject.program.segments placed.now.layout }
     requires own { IsImageOf (text_of placed.now.subject.program.segments) (view_of placed.now.subject.image) }
-    ensures { (d : Devices) → RunsOver options.now (cache_for cache.now (view_of placed.now.subject.image)) (view_of placed.now.subject.image) placed.now.subject.program placed.now.layout
+    ensures gave { HasGiven (I.state input.old) (I.state input.new) }
+    ensures ran { (d : Devices) → AsTold (I.state input.old) (I.state input.new) (λ before after. RunsOver options.now (cache_for cache.now (view_of placed.now.subject.image)) (view_of placed.now.subject.image) placed.now.subject.program placed.now.layout
+        (record d { input = before; output = O.state out.old; error = E.state err.old; ram = R.state ram.old })
+        (record d { input = after; output = O.state out.new; error = E.state err.new; ram = R.state ram.new }) result) }
+    ensures ran_directly { (d : Devices) → RunsOver options.now (cache_for cache.now (view_of placed.now.subject.image)) (view_of placed.now.subject.image) placed.now.subject.program placed.now.layout
         (record d { input = I.state input.old; output = O.state out.old; error = E.state err.old; ram = R.state ram.old })
         (record d { input = I.state input.new; output = O.state out.new; error = E.state err.new; ram = R.state ram.new }) result }
 {
@@ -215,7 +229,11 @@ pub fn cached<F: Shelf, I: Source, O: Sink, E: Sink, R: MicroRam>(
 ) -> Result<Ending, Refusal>
     requires ranges { IsInRange options.now.limits }
     requires sizes { IsCacheInRange cache.now }
-    ensures { Answers (cached_task name.now cache.now options.now)
+    ensures gave { HasGiven (I.state input.old) (I.state input.new) }
+    ensures answers { AsTold (I.state input.old) (I.state input.new) (λ before after. Answers (cached_task name.now cache.now options.now)
+        (seen (F.state shelf.old) before (O.state out.old) (E.state err.old) (R.state ram.old))
+        (seen (F.state shelf.new) after (O.state out.new) (E.state err.new) (R.state ram.new)) result []) }
+    ensures answers_directly { Answers (cached_task name.now cache.now options.now)
         (seen (F.state shelf.old) (I.state input.old) (O.state out.old) (E.state err.old) (R.state ram.old))
         (seen (F.state shelf.new) (I.state input.new) (O.state out.new) (E.state err.new) (R.state ram.new)) result [] }
 {

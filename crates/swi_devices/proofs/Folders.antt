@@ -1,5 +1,5 @@
 -- What stands under the names of a folder after two calls.
-use Rattle.std.proofs.Common.{ℕ, List, [], Option, Some, None, Result, Ok, Err, OnOk, ◌∙◌, subst}
+use Rattle.std.proofs.Common.{ℕ, List, [], Option, Some, None, ◌∙◌, subst}
 use Rattle.std.specs.Io.KnownBytes.{Appends}
 use Rattle.swi_outside.specs.Shelf.{Contents, SameAt, SameElsewhere, Stands}
 use Rattle.swi_devices.specs.Folders.{IsNew, Keeps}
@@ -23,9 +23,3 @@ kept-some m b name bytes (Some xs) adds kept = rw (← adds) kept
 pub stands-kept : (a b : Option Contents) (name bytes : List ℕ) (w v : Option (List ℕ)) → IsNew a w → Appends w v bytes → Keeps a b name v → Stands b name bytes
 stands-kept None b name bytes w v new adds kept = rw kept tt
 stands-kept (Some m) b name bytes w v new adds kept = kept-some m b name bytes v (subst (λ o. Appends o v bytes) new adds) kept
-
--- and so it does where ending the file succeeded
-pub stands-ended : {E : Type 0} (r : Result (Unit {0}) E) (a b : Option Contents) (name bytes : List ℕ) (w v : Option (List ℕ)) → IsNew a w → Appends w v bytes
-    → OnOk r (Keeps a b name v) → OnOk r (Stands b name bytes)
-stands-ended (Ok x) a b name bytes w v new adds kept = stands-kept a b name bytes w v new adds kept
-stands-ended (Err e) a b name bytes w v new adds kept = tt

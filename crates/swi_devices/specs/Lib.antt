@@ -1,5 +1,8 @@
 pub mod ByteLog
+pub mod Counts
+pub mod FolderCalls
 pub mod Folders
-pub mod GetLog
 pub mod RamCalls
+pub mod ShelfLog
 pub mod Stored
+pub mod Streams

@@ -3,7 +3,7 @@ use Rattle.std.specs.Prelude.{ℕ, List, [], ◌∷◌, Option, Some, None, if�
 use Rattle.std.specs.declared.alloc.Global.{Global}
 use Rattle.std.specs.Str.{bytes_eq}
 use Rattle.swi_outside.specs.CacheRam.{RamState}
-use Rattle.swi_outside.specs.Shelf.{Asked, ShelfState, get_of, put_of}
+use Rattle.swi_outside.specs.Shelf.{Asked, Passed, ShelfState, get_of, put_of}
 use Rattle.swi_devices.specs.declared.shelf_call.ShelfCall.{ShelfCall}
 use Rattle.swi_devices.specs.declared.shelf_call.ShelfCall.TheVariants.{Get, Put}
 
@@ -34,11 +34,12 @@ abbrev pub last_asked : Option (ShelfCall × String Global) → Option Asked
 last_asked None = None
 last_asked (Some p) = Some (asked_of p.0 (string_bytes p.1))
 
--- a shelf in memory: its entries of a name and a content, those that it gave, the numbers of the calls that fail, from 1,
+-- a shelf in memory: its entries of a name and a content, those that it gave and stored, the numbers of the calls that fail, from 1,
 -- the calls so far, the faults so far, and the last call that failed
 pub record StoredShelf : Type 0 where
   pub entries : List (List ℕ × List ℕ)
-  pub got : List (List ℕ × List ℕ)
+  pub got : Passed
+  pub stored : Passed
   pub failing : List ℕ
   pub calls : ℕ
   pub faults : ℕ
@@ -54,7 +55,7 @@ entry_of e = (string_bytes e.0, e.1.items)
 
 -- a shelf in memory as a shelf
 abbrev pub told_of : StoredShelf → ShelfState
-told_of s = record { contents = Some (lookup s.entries); got = s.got; calls = s.calls; faults = s.faults; last_failed = s.last }
+told_of s = record { contents = Some (lookup s.entries); got = s.got; stored = s.stored; calls = s.calls; faults = s.faults; last_failed = s.last }
 
 -- a ram that was just made
 abbrev pub new_ram : List ℕ → RamState

@@ -36,7 +36,8 @@ pub trait Folder {
             (Keeps (contents self.old) (contents self.new) name.now (Self.Writer.contents file)) };
 }
 
-/// The files that a runtime reaches, by their paths. It tells no contents.
+/// The files that a runtime reaches, by their paths. It tells no contents: no contract of std names them. That it asks for the
+/// file of just that name, once, `tools/check_streams` tests.
 #[derive(Drop)]
 pub struct SystemFolder<R> {
     files: R,

@@ -1,12 +1,16 @@
-ghost use Rattle.std.specs.Prelude.{◌≡◌, ◌≤◌, [], None, IfOk, OnOk, length};
-ghost use Rattle.swi_outside.specs.Shelf.{Same, SameElsewhere, Stands, IsLonger};
+ghost use Rattle.std.specs.Prelude.{◌≡◌, ◌≤◌, [], None, IfOk, OnErr, OnOk, length};
+ghost use Rattle.swi_outside.specs.Shelf.{Same, SameElsewhere, Stands, IsLonger, WasGot, WasPut};
+ghost use Rattle.swi_devices.specs.ByteLog.{bytes_in};
+ghost use Rattle.swi_devices.specs.FolderCalls.{BreaksOff, GetAsks, PutAsks, asked_by, calls_of, closed, created, file_failures, shelf_of};
 ghost use Rattle.swi_devices.specs.Folders.{TakesAll, TakesMore};
 
 use crate::Folder;
 use crate::byte_log::ByteLog;
-use crate::get_log::{GetLog, note_answer};
 use crate::real::write_whole;
 use crate::shelf_call::{ShelfCall, key_of};
+use crate::shelf_log::{ShelfLog, note_got, note_taken};
+use crate::watched::Watched;
+use crate::watched_folder::WatchedFolder;
 use std::alloc::Global;
 use std::io::Read;
 use std::snapshot::Snapshot;
@@ -19,46 +23,42 @@ use swi_outside::{Failed, Shelf, ShelfError};
 /// takes nothing of bytes that are to be written.
 #[derive(Drop)]
 pub struct FolderShelf<D> {
-    folder: D,
+    folder: WatchedFolder<D>,
     calls: u64,
     faults: u64,
     last: Option<(ShelfCall, String)>,
-    got: Snapshot<GetLog>,
+    got: Snapshot<ShelfLog>,
+    stored: Snapshot<ShelfLog>,
 }
 
 impl<D: Folder> FolderShelf<D> {
     /// A shelf over a folder, as `SystemFolder::new(rt)`, without a fault.
     pub fn new(folder: D) -> FolderShelf<D>
         ensures { ⟦<FolderShelf<D> as Shelf>⟧.state result
-            ≡ record { contents = D.contents folder; got = []; calls = 0; faults = 0; last_failed = None } }
+            ≡ record { contents = D.contents folder; got = []; stored = []; calls = 0; faults = 0; last_failed = None } }
     {
         FolderShelf {
-            folder,
+            folder: WatchedFolder::new(folder),
             calls: 0,
             faults: 0,
             last: None,
-            got: Snapshot::of(&GetLog::None),
+            got: Snapshot::of(&ShelfLog::None),
+            stored: Snapshot::of(&ShelfLog::None),
         }
     }
 }
 
 impl<D: Folder> Shelf for FolderShelf<D> {
-    ghost use Rattle.swi_devices.specs.GetLog.{gets_in};
-    ghost use Rattle.swi_devices.specs.Stored.{last_asked};
+    ghost state = { shelf_of D.contents };
 
-    ghost state = { λ s. record {
-      contents = D.contents s.folder;
-      got = gets_in s.got.value;
-      calls = s.calls;
-      faults = s.faults;
-      last_failed = last_asked s.last;
-    } };
-
-    fn get(&mut self, alloc: Global, name: &str, limit: u32) -> Result<Vec<u8>, ShelfError> {
+    fn get(&mut self, alloc: Global, name: &str, limit: u32) -> Result<Vec<u8>, ShelfError>
+        ensures got { WasGot (shelf_of D.contents self.old) (shelf_of D.contents self.new) name.now limit result }
+        ensures asks { GetAsks (asked_by self.old) (asked_by self.new) result }
+    {
         self.calls = self.calls.saturating_add(1);
         let key = key_of(alloc, name)?;
         let answer = read_file(&mut self.folder, alloc, name, limit);
-        note_answer(&mut self.got, &key, &answer);
+        note_got(&mut self.got, &key, &answer);
         match answer {
             Err(ShelfError::Failed) => {
                 self.faults = self.faults.saturating_add(1);
@@ -69,11 +69,17 @@ impl<D: Folder> Shelf for FolderShelf<D> {
         }
     }
 
-    fn put(&mut self, alloc: Global, name: &str, bytes: &[u8]) -> Result<(), ShelfError> {
+    fn put(&mut self, alloc: Global, name: &str, bytes: &[u8]) -> Result<(), ShelfError>
+        ensures put { WasPut (shelf_of D.contents self.old) (shelf_of D.contents self.new) name.now bytes.now result }
+        ensures asks { PutAsks (asked_by self.old) (asked_by self.new) result }
+    {
         self.calls = self.calls.saturating_add(1);
         let key = key_of(alloc, name)?;
         match write_file(&mut self.folder, name, bytes) {
-            Ok(()) => Ok(()),
+            Ok(took) => {
+                note_taken(&mut self.stored, &key, took);
+                Ok(())
+            }
             Err(_) => {
                 self.faults = self.faults.saturating_add(1);
                 self.last = Some((ShelfCall::Put, key));
@@ -84,25 +90,31 @@ impl<D: Folder> Shelf for FolderShelf<D> {
 }
 
 fn read_file<D: Folder>(
-    folder: &mut D,
+    folder: &mut WatchedFolder<D>,
     alloc: Global,
     name: &str,
     limit: u32,
 ) -> Result<Vec<u8>, ShelfError>
-    ensures same { Same (D.contents folder.old) (D.contents folder.new) }
-    ensures content { IfOk result (λ bytes. Stands (D.contents folder.old) name.now bytes.items) }
+    ensures same { Same (D.contents folder.old.folder) (D.contents folder.new.folder) }
+    ensures content { IfOk result (λ bytes. Stands (D.contents folder.old.folder) name.now bytes.items) }
     ensures within { IfOk result (λ bytes. length bytes.items ≤ limit) }
-    ensures long { result ≡ Err ShelfError.Long → IsLonger (D.contents folder.old) name.now limit }
+    ensures long { result ≡ Err ShelfError.Long → IsLonger (D.contents folder.old.folder) name.now limit }
+    ensures asks { GetAsks (calls_of folder.old) (calls_of folder.new) result }
 {
-    let mut file = folder.open(name).map_err(|_| ShelfError::Failed)?;
+    let mut file = Watched::new(folder.open(name).map_err(|_| ShelfError::Failed)?);
     read_within(alloc, &mut file, limit)
 }
 
 // Reads until the end, or one byte past the limit, at least one byte a turn.
-fn read_within<F: Read>(alloc: Global, file: &mut F, limit: u32) -> Result<Vec<u8>, ShelfError>
-    ensures whole { IfOk result (λ bytes. TakesAll (F.remaining file.old) (F.remaining file.new) bytes.items) }
+fn read_within<F: Read>(
+    alloc: Global,
+    file: &mut Watched<F>,
+    limit: u32,
+) -> Result<Vec<u8>, ShelfError>
+    ensures whole { IfOk result (λ bytes. TakesAll (F.remaining file.old.device) (F.remaining file.new.device) bytes.items) }
     ensures within { IfOk result (λ bytes. length bytes.items ≤ limit) }
-    ensures long { result ≡ Err ShelfError.Long → TakesMore (F.remaining file.old) (F.remaining file.new) limit }
+    ensures long { result ≡ Err ShelfError.Long → TakesMore (F.remaining file.old.device) (F.remaining file.new.device) limit }
+    ensures failed { file.new.failures ≡ file_failures file.old.failures result }
 {
     let limit = limit as usize;
     let mut bytes = Vec::new(alloc);
@@ -122,12 +134,21 @@ fn read_within<F: Read>(alloc: Global, file: &mut F, limit: u32) -> Result<Vec<u
     Err(ShelfError::Long)
 }
 
-fn write_file<D: Folder>(folder: &mut D, name: &str, bytes: &[u8]) -> Result<(), Failed>
-    ensures others { SameElsewhere (D.contents folder.old) (D.contents folder.new) name.now }
-    ensures stands { OnOk result (Stands (D.contents folder.new) name.now bytes.now) }
+// What its file took is handed on.
+fn write_file<D: Folder>(
+    folder: &mut WatchedFolder<D>,
+    name: &str,
+    bytes: &[u8],
+) -> Result<Snapshot<ByteLog>, Failed>
+    ensures others { SameElsewhere (D.contents folder.old.folder) (D.contents folder.new.folder) name.now }
+    ensures stands { OnOk result (Stands (D.contents folder.new.folder) name.now bytes.now) }
+    ensures taken { IfOk result (λ took. bytes_in took.value ≡ bytes.now) }
+    ensures asks { OnOk result (calls_of folder.new ≡ closed (created (calls_of folder.old))) }
+    ensures broke { OnErr result (BreaksOff (calls_of folder.old) (calls_of folder.new)) }
 {
-    let mut file = folder.create(name)?;
+    let mut file = Watched::new(folder.create(name)?);
     let mut took = Snapshot::of(&ByteLog::None);
     write_whole(&mut file, bytes, &mut took)?;
-    folder.close(name, file)
+    folder.close(name, file.into_inner())?;
+    Ok(took)
 }

@@ -3,18 +3,21 @@
 #![tactic(auto)]
 
 mod byte_log;
+mod count;
 mod fault_plan;
 mod fault_ram;
 mod folder;
 mod folder_shelf;
-mod get_log;
 mod mem_shelf;
 mod mem_sink;
 mod mem_source;
 mod ram_calls;
 mod real;
 mod shelf_call;
+mod shelf_log;
 mod vec_ram;
+mod watched;
+mod watched_folder;
 
 pub use fault_ram::FaultRam;
 pub use folder::{Folder, SystemFolder};

@@ -5,8 +5,8 @@ ghost use Rattle.swi_outside.specs.Shelf.{SameElsewhere, WasGot, WasPut};
 ghost use Rattle.swi_devices.specs.Stored.{told_of, lookup, entry_of};
 
 use crate::fault_plan::FaultPlan;
-use crate::get_log::{GetLog, note_answer};
 use crate::shelf_call::{ShelfCall, key_of};
+use crate::shelf_log::{ShelfLog, note_got};
 use std::alloc::Global;
 use std::marker::Model;
 use std::snapshot::Snapshot;
@@ -18,19 +18,21 @@ pub struct MemShelf {
     entries: Vec<(String, Vec<u8>)>,
     plan: FaultPlan,
     last: Option<(ShelfCall, String)>,
-    got: Snapshot<GetLog>,
+    got: Snapshot<ShelfLog>,
+    stored: Snapshot<ShelfLog>,
 }
 
 impl Model for MemShelf {
     ghost use Rattle.std.specs.Prelude.{map};
-    ghost use Rattle.swi_devices.specs.GetLog.{gets_in};
+    ghost use Rattle.swi_devices.specs.ShelfLog.{passed_in};
     ghost use Rattle.swi_devices.specs.Stored.{StoredShelf, entry_of, last_asked};
 
     ghost Value = { StoredShelf };
 
     ghost view = { λ s. record {
       entries = map entry_of s.entries.items;
-      got = gets_in s.got.value;
+      got = passed_in s.got.value;
+      stored = passed_in s.stored.value;
       failing = s.plan.failing.items;
       calls = s.plan.calls;
       faults = s.plan.faults;
@@ -46,6 +48,7 @@ impl MemShelf {
         ensures { result ≡ record {
           entries = map entry_of contents.items;
           got = [];
+          stored = [];
           failing = failing.items;
           calls = 0;
           faults = 0;
@@ -56,7 +59,8 @@ impl MemShelf {
             entries: contents,
             plan: FaultPlan::new(failing),
             last: None,
-            got: Snapshot::of(&GetLog::None),
+            got: Snapshot::of(&ShelfLog::None),
+            stored: Snapshot::of(&ShelfLog::None),
         }
     }
 
@@ -133,7 +137,7 @@ impl Shelf for MemShelf {
         match find(&self.entries, name) {
             Some(bytes) if !fails => {
                 let answer = copy_within(alloc, bytes, limit);
-                note_answer(&mut self.got, &key, &answer);
+                note_got(&mut self.got, &key, &answer);
                 answer
             }
             _ => {
@@ -154,6 +158,7 @@ impl Shelf for MemShelf {
         ensures kept { OnErr result (self.new.entries ≡ self.old.entries) }
         ensures counted { self.new ≡ record self.old {
           entries = self.new.entries;
+          stored = self.new.stored;
           calls = counted self.old.calls;
           faults = self.new.faults;
           last = self.new.last;
@@ -167,7 +172,11 @@ impl Shelf for MemShelf {
             return Err(ShelfError::Failed);
         }
         let copy = Vec::from_slice(alloc, bytes).map_err(|_| ShelfError::Memory)?;
-        put_entry(&mut self.entries, key, copy)
+        let name = Snapshot::of(&key);
+        let content = Snapshot::of(&copy);
+        put_entry(&mut self.entries, key, copy)?;
+        self.stored = Snapshot::of(&ShelfLog::Held(Snapshot::of(&self.stored), name, content));
+        Ok(())
     }
 }
 

@@ -49,6 +49,16 @@ impl MemSink {
         })
     }
 
+    // Appends as much of the piece as there is room for, and answers how many bytes that was.
+    fn append(&mut self, piece: &[u8]) -> usize
+        ensures count { result ≡ min (length piece.now) (self.old.room - length self.old.held) }
+        ensures appended { self.new ≡ record self.old { held = self.old.held ++ take result piece.now } }
+    {
+        let count = copy_behind(&mut self.bytes, self.len, piece);
+        self.len += count;
+        count
+    }
+
     /// The bytes that were written. This counts as no call.
     pub fn held(&self) -> &[u8]
         ensures { result.now ≡ self.now.held }
@@ -92,8 +102,7 @@ impl Sink for MemSink {
         } }
     {
         self.plan.try_call()?;
-        let count = copy_behind(&mut self.bytes, self.len, piece);
-        self.len += count;
+        let count = self.append(piece);
         if count < piece.len() {
             self.plan.count_fault();
             return Err(Failed);

@@ -1,9 +1,14 @@
-ghost use Rattle.std.specs.Prelude.{◌≡◌, [], Some, IsErr, MatchResult};
-ghost use Rattle.swi_devices.specs.ByteLog.{bytes_in, left_by, HandsOn};
-ghost use Rattle.swi_outside.specs.Causes.{counted};
+ghost use Rattle.std.specs.Prelude.{◌≡◌, ◌+◌, ◌<◌, [], false, if◌then◌else◌, length};
+ghost use Rattle.std.specs.Io.{ReadsAtMost};
+ghost use Rattle.swi_devices.specs.ByteLog.{bytes_in};
+ghost use Rattle.swi_devices.specs.Counts.{failures_after};
+ghost use Rattle.swi_devices.specs.Streams.{HandsOn, ended_after, sink_of, source_of};
+ghost use Rattle.swi_outside.specs.Causes.{HasCause};
 ghost use Rattle.swi_outside.specs.Sink.{WasWritten};
+ghost use Rattle.swi_outside.specs.Source.{WasRead};
 
 use crate::byte_log::{ByteLog, note_bytes};
+use crate::watched::Watched;
 use std::io::{Read, Write};
 use std::marker::Model;
 use std::snapshot::Snapshot;
@@ -13,23 +18,38 @@ use swi_outside::{Failed, Sink, Source};
 /// input and files tell none.
 ///
 /// Each `Err` of the reader is a fault, and is answered at once. Where the reader gave none, the input has ended, and the
-/// reader is not asked again. What contracts see of the bytes that it gave takes no bytes and no time when it runs.
+/// reader is not asked again. What contracts see of the bytes and of the calls takes no bytes and no time when it runs.
 #[derive(Drop)]
-pub struct RealSource<R> {
-    reader: R,
+pub struct RealSource<R: Read> {
+    reader: Watched<R>,
     ended: bool,
     faults: u64,
     given: Snapshot<ByteLog>,
 }
 
+impl<R: Read> Model for RealSource<R> {
+    ghost use Rattle.swi_devices.specs.ByteLog.{bytes_in};
+    ghost use Rattle.swi_devices.specs.Streams.{ReaderSource};
+
+    ghost Value = { ReaderSource };
+
+    ghost view = { λ s. record {
+      given = bytes_in s.given.value;
+      remaining = R.remaining s.reader.device;
+      ended = s.ended;
+      asks = s.reader.asks;
+      faults = s.faults;
+    } };
+}
+
 impl<R: Read> RealSource<R> {
     /// A source over a reader, as `rt.stdin()`, without a fault.
     pub fn new(reader: R) -> RealSource<R>
-        ensures { ⟦<RealSource<R> as Source>⟧.state result
-            ≡ record { given = []; left = R.remaining reader; faults = 0 } }
+        ensures { result
+            ≡ record { given = []; remaining = R.remaining reader; ended = false; asks = 0; faults = 0 } }
     {
         RealSource {
-            reader,
+            reader: Watched::new(reader),
             ended: false,
             faults: 0,
             given: Snapshot::of(&ByteLog::None),
@@ -38,13 +58,17 @@ impl<R: Read> RealSource<R> {
 }
 
 impl<R: Read> Source for RealSource<R> {
-    ghost state = { λ s. record {
-      given = bytes_in s.given.value;
-      left = left_by s.ended (R.remaining s.reader);
-      faults = s.faults;
-    } };
+    ghost state = { source_of };
 
-    fn read(&mut self, buf: &mut [u8]) -> Result<usize, Failed> {
+    fn read(&mut self, buf: &mut [u8]) -> Result<usize, Failed>
+        requires { 0 < length buf.old }
+        ensures bound { ReadsAtMost result buf.new }
+        ensures read { WasRead (source_of self.old) (source_of self.new) result buf.new }
+
+        // The reader is asked once, and behind the end not at all.
+        ensures asked { self.new.asks ≡ (if self.old.ended then self.old.asks else self.old.asks + 1) }
+        ensures ended { self.new.ended ≡ ended_after self.old.ended result }
+    {
         if self.ended {
             return Ok(0);
         }
@@ -62,19 +86,21 @@ impl<R: Read> Source for RealSource<R> {
 /// one that you flush afterwards. What contracts see of the bytes takes no bytes and no time when it runs.
 #[derive(Drop)]
 pub struct RealSink<W: Write> {
-    writer: W,
+    writer: Watched<W>,
     faults: u64,
     took: Snapshot<ByteLog>,
 }
 
 impl<W: Write> Model for RealSink<W> {
-    ghost use Rattle.swi_devices.specs.ByteLog.{TookSink, bytes_in};
+    ghost use Rattle.swi_devices.specs.ByteLog.{bytes_in};
+    ghost use Rattle.swi_devices.specs.Streams.{WriterSink};
 
-    ghost Value = { TookSink };
+    ghost Value = { WriterSink };
 
     ghost view = { λ s. record {
-      contents = W.contents s.writer;
+      contents = W.contents s.writer.device;
       took = bytes_in s.took.value;
+      failures = s.writer.failures;
       faults = s.faults;
     } };
 }
@@ -82,10 +108,10 @@ impl<W: Write> Model for RealSink<W> {
 impl<W: Write> RealSink<W> {
     /// A sink over a writer, as `rt.stdout()`, without a fault.
     pub fn new(writer: W) -> RealSink<W>
-        ensures { result ≡ record { contents = W.contents writer; took = []; faults = 0 } }
+        ensures { result ≡ record { contents = W.contents writer; took = []; failures = 0; faults = 0 } }
     {
         RealSink {
-            writer,
+            writer: Watched::new(writer),
             faults: 0,
             took: Snapshot::of(&ByteLog::None),
         }
@@ -93,14 +119,16 @@ impl<W: Write> RealSink<W> {
 }
 
 impl<W: Write> Sink for RealSink<W> {
-    ghost state = { λ s. record { held = Some s.took; faults = s.faults } };
+    ghost state = { sink_of };
 
     fn write(&mut self, piece: &[u8]) -> Result<(), Failed>
-        ensures written { WasWritten (record { held = Some self.old.took; faults = self.old.faults })
-            (record { held = Some self.new.took; faults = self.new.faults }) result piece.now }
+        ensures written { WasWritten (sink_of self.old) (sink_of self.new) result piece.now }
 
         // The writer was handed just what is noted.
         ensures handed { HandsOn self.old.contents self.new.contents self.old.took self.new.took result piece.now }
+
+        // Its first failure is answered, and it is not asked again.
+        ensures failed { self.new.failures ≡ failures_after self.old.failures result }
     {
         count_failure(
             &mut self.faults,
@@ -109,40 +137,32 @@ impl<W: Write> Sink for RealSink<W> {
     }
 }
 
-/// Hands an answer on; an `Err` is a fault, and is counted.
-fn count_failure<T, E: Drop>(faults: &mut u64, answer: Result<T, E>) -> Result<T, Failed>
-    ensures handed { MatchResult answer (λ value. result ≡ Ok value) (λ _. IsErr result) }
-    ensures counted { MatchResult answer (λ _. faults.new ≡ faults.old) (λ _. faults.new ≡ counted faults.old) }
+/// Hands an answer on, and counts a failure.
+fn count_failure<T>(faults: &mut u64, answer: Result<T, Failed>) -> Result<T, Failed>
+    ensures handed { result ≡ answer }
+    ensures cause { HasCause faults.old faults.new answer }
 {
-    match answer {
-        Ok(value) => Ok(value),
-        Err(_) => {
-            *faults = faults.saturating_add(1);
-            Err(Failed)
-        }
+    if answer.is_err() {
+        *faults = faults.saturating_add(1);
     }
+    answer
 }
 
-/// Writes the whole piece, and gives up at the first `Err` and where the writer takes nothing. What the writer took is
-/// noted.
+/// Writes the whole piece, and gives up where the writer fails. What the writer took is noted.
 pub(crate) fn write_whole<W: Write>(
-    writer: &mut W,
+    writer: &mut Watched<W>,
     piece: &[u8],
     took: &mut Snapshot<ByteLog>,
 ) -> Result<(), Failed>
-    ensures { HandsOn (W.contents writer.old) (W.contents writer.new)
+    ensures handed { HandsOn (W.contents writer.old.device) (W.contents writer.new.device)
         (bytes_in took.old.value) (bytes_in took.new.value) result piece.now }
+    ensures failed { writer.new.failures ≡ failures_after writer.old.failures result }
 {
     let mut rest = piece;
     while !rest.is_empty() {
-        match writer.write(rest) {
-            Ok(0) => return Err(Failed),
-            Err(_) => return Err(Failed),
-            Ok(count) => {
-                note_bytes(took, &rest[..count]);
-                rest = &rest[count..];
-            }
-        }
+        let count = writer.write(rest)?;
+        note_bytes(took, &rest[..count]);
+        rest = &rest[count..];
     }
     Ok(())
 }

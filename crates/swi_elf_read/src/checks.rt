@@ -6,6 +6,10 @@ ghost use Rattle.std.specs.List.{list_any};
 ghost use Rattle.swi_elf_read.specs.ProgramHeaders.{word_at, half_at, is_dynamic, is_extent_wrong, is_overlap, is_second_text, is_too_large, passes_limit, memory_taken, first_among, shares_address, is_text, is_loaded, has_text_word, is_text_word};
 ghost use Rattle.swi_elf_read.specs.Elf.{identification_refusal, header_refusal, table_refusal, e_phoff, e_phnum};
 
+use crate::elf_header::{
+    E_EHSIZE, E_ENTRY, E_FLAGS, E_MACHINE, E_PHENTSIZE, E_PHNUM, E_PHOFF, E_TYPE, E_VERSION,
+    EI_CLASS, EI_DATA, EI_VERSION, ELF_HEADER_SIZE,
+};
 use crate::program_header::{HEADER_SIZE, MAX_HEADERS, ProgramHeader, half_at, word_at};
 use crate::refusal::ElfRefusal;
 
@@ -30,20 +34,20 @@ pub(crate) fn identification_refusal(bytes: &[u8]) -> Option<ElfRefusal>
     ensures refusal { result ≡ identification_refusal bytes.now }
     ensures whole { IfNone result (52 ≤ length bytes.now) }
 {
-    if bytes.len() < 52 {
+    if bytes.len() < ELF_HEADER_SIZE {
         return Some(ElfRefusal::Short(bytes.len() as u32));
     }
     if !bytes.starts_with(&MAGIC) {
         return Some(ElfRefusal::Magic(0));
     }
-    if bytes[4] != 1 {
-        return Some(ElfRefusal::Class(4));
+    if bytes[EI_CLASS] != 1 {
+        return Some(ElfRefusal::Class(EI_CLASS as u32));
     }
-    if bytes[5] != 1 {
-        return Some(ElfRefusal::Order(5));
+    if bytes[EI_DATA] != 1 {
+        return Some(ElfRefusal::Order(EI_DATA as u32));
     }
-    if bytes[6] != 1 {
-        return Some(ElfRefusal::Version(6));
+    if bytes[EI_VERSION] != 1 {
+        return Some(ElfRefusal::Version(EI_VERSION as u32));
     }
     None
 }
@@ -55,30 +59,30 @@ pub(crate) fn header_refusal(bytes: &[u8]) -> Option<ElfRefusal>
     ensures few { IfNone result (e_phnum bytes.now ≤ 64) }
     ensures inside { IfNone result (e_phoff bytes.now + 32 * e_phnum bytes.now ≤ length bytes.now) }
 {
-    if word_at(bytes, 20) != 1 {
-        return Some(ElfRefusal::Version(20));
+    if word_at(bytes, E_VERSION) != 1 {
+        return Some(ElfRefusal::Version(E_VERSION as u32));
     }
-    if half_at(bytes, 16) != ET_EXEC {
-        return Some(ElfRefusal::FileType(16));
+    if half_at(bytes, E_TYPE) != ET_EXEC {
+        return Some(ElfRefusal::FileType(E_TYPE as u32));
     }
-    if half_at(bytes, 18) != EM_RISCV {
-        return Some(ElfRefusal::Machine(18));
+    if half_at(bytes, E_MACHINE) != EM_RISCV {
+        return Some(ElfRefusal::Machine(E_MACHINE as u32));
     }
-    if word_at(bytes, 36) % 16 != 0 {
-        return Some(ElfRefusal::Flags(36));
+    if word_at(bytes, E_FLAGS) % 16 != 0 {
+        return Some(ElfRefusal::Flags(E_FLAGS as u32));
     }
-    if half_at(bytes, 40) != 52 {
-        return Some(ElfRefusal::HeaderSize(40));
+    if usize::from(half_at(bytes, E_EHSIZE)) != ELF_HEADER_SIZE {
+        return Some(ElfRefusal::HeaderSize(E_EHSIZE as u32));
     }
-    if usize::from(half_at(bytes, 42)) != HEADER_SIZE {
-        return Some(ElfRefusal::HeaderSize(42));
+    if usize::from(half_at(bytes, E_PHENTSIZE)) != HEADER_SIZE {
+        return Some(ElfRefusal::HeaderSize(E_PHENTSIZE as u32));
     }
-    let count = usize::from(half_at(bytes, 44));
+    let count = usize::from(half_at(bytes, E_PHNUM));
     if count > MAX_HEADERS {
-        return Some(ElfRefusal::Many(44));
+        return Some(ElfRefusal::Many(E_PHNUM as u32));
     }
-    if word_at(bytes, 28) as usize + HEADER_SIZE * count > bytes.len() {
-        return Some(ElfRefusal::Table(28));
+    if word_at(bytes, E_PHOFF) as usize + HEADER_SIZE * count > bytes.len() {
+        return Some(ElfRefusal::Table(E_PHOFF as u32));
     }
     None
 }
@@ -240,7 +244,7 @@ pub(crate) fn table_refusal(
         return Some(ElfRefusal::Large(i as u32));
     }
     if !has_text_word_at(headers, entry) {
-        return Some(ElfRefusal::Entry(24));
+        return Some(ElfRefusal::Entry(E_ENTRY as u32));
     }
     None
 }

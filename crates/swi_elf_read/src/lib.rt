@@ -4,6 +4,7 @@
 #![tactic(auto)]
 
 mod checks;
+mod elf_header;
 mod parts;
 mod program_header;
 mod reader;

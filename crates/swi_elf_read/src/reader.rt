@@ -8,6 +8,7 @@ ghost use Rattle.swi_elf_read.specs.ProgramHeaders.{is_loaded, is_image};
 ghost use Rattle.swi_elf_read.specs.Loaded.{loaded_segments, image_of, can_execute, has_word_at, AreLoadable, AreApart, bytes_of};
 
 use crate::checks::{header_refusal, identification_refusal, table_refusal};
+use crate::elf_header::{E_ENTRY, E_FLAGS, E_PHNUM, E_PHOFF};
 use crate::parts::{Kind, Loaded};
 use crate::program_header::{MAX_HEADERS, ProgramHeader, half_at, table_at, word_at};
 use crate::refusal::ElfRefusal;
@@ -54,10 +55,10 @@ pub fn read_elf<'a>(bytes: &'a [u8]) -> Result<Elf<'a>, ElfRefusal>
     }
     let headers = table_at(
         bytes,
-        word_at(bytes, 28) as usize,
-        half_at(bytes, 44) as usize,
+        word_at(bytes, E_PHOFF) as usize,
+        half_at(bytes, E_PHNUM) as usize,
     );
-    if let Some(refusal) = table_refusal(bytes.len(), word_at(bytes, 24), &headers) {
+    if let Some(refusal) = table_refusal(bytes.len(), word_at(bytes, E_ENTRY), &headers) {
         return Err(refusal);
     }
     Ok(Elf { bytes, headers })
@@ -155,7 +156,7 @@ pub fn elf_entry(e: &Elf) -> u32
     ensures value { result ≡ e_entry e.now }
     ensures word { IsTrue (list_any (has_word_at result) (loaded_segments e.now)) }
 {
-    word_at(e.bytes, 24)
+    word_at(e.bytes, E_ENTRY)
 }
 
 /// The flags of the ELF header, of which bits 0 to 3 are clear.
@@ -164,7 +165,7 @@ pub fn elf_flags(e: &Elf) -> u32
     ensures value { result ≡ e_flags e.now }
     ensures plain { result % 16 ≡ 0 }
 {
-    word_at(e.bytes, 36)
+    word_at(e.bytes, E_FLAGS)
 }
 
 /// How many segments a run loads.

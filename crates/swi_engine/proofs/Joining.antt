@@ -7,10 +7,10 @@ use Rattle.std.proofs.lemmas.List.{length-set, length-map, length-replicate, get
 use Rattle.swi_image.specs.Format.{ImageData}
 use Rattle.swi_image.specs.Place.{length_at}
 use Rattle.swi_outside.specs.CacheRam.{RamState}
-use Rattle.swi_chain.specs.Chains
-use Rattle.swi_chain.specs.Chains.{ChainsData, IsFree, list_of, without}
-use Rattle.swi_undo.specs.Undone.{is_own}
-use Rattle.swi_undo.specs.Tells.{own_is, own_not, is_own_from}
+use Rattle.swi_links.specs.Chains
+use Rattle.swi_links.specs.Chains.{ChainsData, IsFree, list_of, without}
+use Rattle.swi_links.specs.Undone.{is_own}
+use Rattle.swi_links.specs.Tells.{own_is, own_not, is_own_from}
 use Rattle.swi_rom.specs.Record.{Has, ebreak}
 use Rattle.swi_engine.specs.declared.joints.Joint.{Joint}
 use Rattle.swi_engine.specs.State.{EngineData}

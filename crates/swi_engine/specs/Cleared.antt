@@ -7,7 +7,7 @@ use Rattle.swi_rom.specs.Writing.{Wrote}
 use Rattle.swi_engine.specs.declared.joints.Joint.{Joint}
 use Rattle.swi_engine.specs.State.{EngineData}
 use Rattle.swi_engine.specs.Sound.{Standing}
-use Rattle.swi_undo.specs.Undone.{is_own}
+use Rattle.swi_links.specs.Undone.{is_own}
 use Rattle.swi_engine.specs.Joints.{NoneInto}
 use Rattle.swi_engine.specs.Moves.{leads_in, left_data}
 

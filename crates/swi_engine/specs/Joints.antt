@@ -1,7 +1,7 @@
 -- The links, as lists of the words at which they stand.
 use Rattle.std.specs.Prelude.{◌≡◌, ℕ, ◌<◌, ◌==◌, Bool, true, false, List, ◌∷◌, filter, length, slice_get, slice_set, slice_index_or, Some, None}
 use Rattle.std.specs.List.{position_from}
-use Rattle.swi_chain.specs.Chains.{ChainsData, list_of}
+use Rattle.swi_links.specs.Chains.{ChainsData, list_of}
 use Rattle.swi_engine.specs.declared.joints.Joint.{Joint}
 use Rattle.swi_engine.specs.Moves.{leads_in}
 

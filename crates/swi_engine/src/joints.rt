@@ -2,14 +2,14 @@
 #![tactic(auto)]
 
 ghost use Rattle.std.specs.Prelude.{◌≡◌, ◌+◌, ◌^◌, ◌<◌, ◌≤◌, [], ◌∷◌, filter, map, not, length, IfOk, MatchOption};
-ghost use Rattle.swi_chain.specs.Chains.{list_of, without, IsFree};
-ghost use Rattle.swi_undo.specs.Undone.{is_own};
+ghost use Rattle.swi_links.specs.Chains.{list_of, without, IsFree};
+ghost use Rattle.swi_links.specs.Undone.{is_own};
 ghost use Rattle.swi_rom.specs.Record.{Has};
 ghost use Rattle.swi_engine.specs.Joints.{NoneInto, NewestInto, stands_at, linked_into};
 
 use std::alloc::Global;
 use std::marker::Model;
-use swi_chain::Chains;
+use swi_links::Chains;
 use swi_outside::Memory;
 
 /// A link: its block and offset there, the word of the ram where it stands, and the block to which it leads.
@@ -34,7 +34,7 @@ pub struct Joints {
 
 impl Model for Joints {
     ghost use Rattle.std.specs.Prelude.{map, length};
-    ghost use Rattle.swi_chain.specs.Chains.{list_of};
+    ghost use Rattle.swi_links.specs.Chains.{list_of};
     ghost use Rattle.swi_engine.specs.Joints.{JointsData, read_at, Tied};
 
     ghost Value = { JointsData };

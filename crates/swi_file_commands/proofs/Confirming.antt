@@ -14,7 +14,7 @@ use Rattle.swi_task.specs.Answers.{Answers}
 use Rattle.swi_file_commands.specs.CheckFile.{Confirms, ConfirmFailed, check_task, checked_line}
 use Rattle.swi_task.specs.Checks.{IsAccepted, image_checks}
 use Rattle.swi_task.proofs.Lines.{IsLined, done_lined}
-use Rattle.swi_task.proofs.Refusals.{IsRead, calm_causes, sized_ok, sized_err, told_is, keeps_read, out_causes}
+use Rattle.swi_task.proofs.Refusals.{IsRead, calm_causes, keeps_read, none_long, out_causes, read_is, sized_err, sized_ok}
 
 pub confirmed : (d : Devices) (s : ShelfState) (out : SinkState) (name bytes held : List ℕ) → IsRead d.shelf s name bytes →
     IsAccepted (image_checks bytes) → image_in bytes ≡ Some held → Appends d.output.held out.held (checked_line (image_of held)) → out.faults ≡ d.output.faults →
@@ -22,13 +22,15 @@ pub confirmed : (d : Devices) (s : ShelfState) (out : SinkState) (name bytes hel
 confirmed d s out name bytes held read accepted has written still = record {
   asked = λ e. let bad : ⊥ = cc in bad;
   sized = sized_ok ending.Done;
-  checked = λ file told. subst (λ (f : List ℕ). IsAccepted (image_checks f)) (told_is d.shelf.contents name file bytes told read.stands) accepted;
+  checked = λ file are. subst (λ (f : List ℕ). IsAccepted (image_checks f)) (read_is read are refl) accepted;
+  long = λ limit e. absurd (let bad : ⊥ = cc in bad);
   ended = refl;
-  done = λ file told. subst (λ (f : List ℕ). Confirms f d (record d { shelf = s; output = out }) ending.Done) (told_is d.shelf.contents name file bytes told read.stands)
+  done = λ file are. subst (λ (f : List ℕ). Confirms f d (record d { shelf = s; output = out }) ending.Done) (read_is read are refl)
       (record { ending = refl; own = held; has = has; output = written; others = refl });
   failed = tt;
   refused = tt;
-  shelf = keeps_read (check_task name) d.shelf s name bytes (Ok ending.Done) refl read (refl, refl) (λ e. let never : ⊥ = cc in never);
+  shelf = keeps_read (check_task name) d.shelf s name bytes (Ok ending.Done) refl refl read (refl, refl) refl (λ e. let never : ⊥ = cc in never);
+  input = refl;
   ram = refl;
   causes = calm_causes d (record d { shelf = s; output = out }) (Ok ending.Done) tt read.faults refl (ap (λ (n : ℕ). record (stream_faults d) { output = n }) still);
 }
@@ -40,15 +42,17 @@ pub confirm_failed : (d : Devices) (s : ShelfState) (out : SinkState) (name byte
 confirm_failed d s out name bytes held read accepted has written later rose = record {
   asked = λ e. let bad : ⊥ = cc in bad;
   sized = sized_err refusal.SinkFault (λ x. x);
-  checked = λ file told. subst (λ (f : List ℕ). IsAccepted (image_checks f)) (told_is d.shelf.contents name file bytes told read.stands) accepted;
+  checked = λ file are. subst (λ (f : List ℕ). IsAccepted (image_checks f)) (read_is read are refl) accepted;
+  long = none_long (check_task name) d.shelf.contents refusal.SinkFault (λ x. x);
   ended = tt;
   done = tt;
-  failed = λ _ file told.
+  failed = λ _ file are.
       subst (λ (f : List ℕ). ConfirmFailed f d (record d { shelf = s; output = out }) refusal.SinkFault [])
-      (told_is d.shelf.contents name file bytes told read.stands)
+      (read_is read are refl)
       (record { own = held; has = has; output = written; error = Appends-none d.error.held; fault = refl; cause = rose });
   refused = λ never. absurd (never tt);
-  shelf = keeps_read (check_task name) d.shelf s name bytes (Err refusal.SinkFault) refl read (refl, refl) (λ e. let never : ⊥ = cc in never);
+  shelf = keeps_read (check_task name) d.shelf s name bytes (Err refusal.SinkFault) refl refl read (refl, refl) refl (λ e. let never : ⊥ = cc in never);
+  input = refl;
   ram = refl;
   causes = out_causes d (record d { shelf = s; output = out }) read.faults refl refl refl later rose;
 }

@@ -17,13 +17,13 @@ use Rattle.swi_answer.specs.Lines.{ending_line}
 use Rattle.swi_answer.specs.declared.answer.Refusal.{Refusal}
 use Rattle.swi_answer.specs.declared.answer.Refusal.TheVariants as refusal
 use Rattle.swi_task.specs.Devices.{Devices}
-use Rattle.swi_task.specs.Answers.{Answers, IsAskedFor, IsChecked, IsRunFault, IsSized}
+use Rattle.swi_task.specs.Answers.{Answers, AreGiven, IsAskedFor, IsChecked, IsRunFault, IsSized}
 use Rattle.swi_task.specs.Checks.{Check, IsAccepted, room_in}
 use Rattle.swi_file_commands.specs.RunPlain.{RunsPlain, plain_checks, plain_report, plain_run, read_room_of, plain_task}
 use Rattle.swi_task.specs.Runs.{Ran, FailedAtStep, FailedAfterRun, layout_in, start_of}
 use Rattle.swi_task.proofs.Starts.{start_is}
 use Rattle.swi_task.proofs.Lines.{IsLined, after_line, after_run_line, at_step_line, ran_line}
-use Rattle.swi_task.proofs.Refusals.{IsRead, causes_behind, keeps_read, sized_err, sized_ok, told_is}
+use Rattle.swi_task.proofs.Refusals.{IsRead, IsTooLong, causes_behind, keeps_read, none_long, read_is, sized_err, sized_ok}
 
 -- what a run from a start does, and where it fails
 abbrev pub RanFrom : RunOptions → FlatState → Devices → Devices → Ending → Type 0
@@ -74,6 +74,18 @@ plain_asked failed refusal.SinkFault h = (refl, refl)
 plain_asked failed refusal.Memory h = (omega arith, omega arith, λ _. refl)
 plain_asked failed _ h = absurd h
 
+plain_given : (failed : Option Asked) (r : Refusal) → IsPlainErr r → AreGiven failed (Err r) 1 1
+plain_given failed refusal.SourceFault h = refl
+plain_given failed refusal.SinkFault h = refl
+plain_given failed refusal.Memory h = (omega arith, omega arith)
+plain_given failed _ h = absurd h
+
+plain_short : (r : Refusal) → IsPlainErr r → IsTooLong r → ⊥
+plain_short refusal.SourceFault h long = long
+plain_short refusal.SinkFault h long = long
+plain_short refusal.Memory h long = long
+plain_short _ h long = h
+
 plain_memory : (r : Refusal) → IsPlainErr r → (IsRunFault r → ⊥) → r ≡ refusal.Memory
 plain_memory refusal.SourceFault h never = absurd (never tt)
 plain_memory refusal.SinkFault h never = absurd (never tt)
@@ -90,14 +102,16 @@ pub plain_ok : (name : List ℕ) (o : RunOptions) (d : Devices) (s : ShelfState)
 plain_ok name o d s i out e bytes l x read accepted room run = record {
   asked = λ y. let bad : ⊥ = cc in bad;
   sized = sized_ok x;
-  checked = λ file told. subst (λ (f : List ℕ). IsAccepted (plain_checks o.limits f)) (told_is d.shelf.contents name file bytes told read.stands) accepted;
+  checked = λ file are. subst (λ (f : List ℕ). IsAccepted (plain_checks o.limits f)) (read_is read are refl) accepted;
+  long = λ limit y. absurd (let bad : ⊥ = cc in bad);
   ended = tt;
-  done = λ file told. subst (λ (f : List ℕ). (plain_task name o).does f d (ran_to d s i out e) x []) (told_is d.shelf.contents name file bytes told read.stands)
+  done = λ file are. subst (λ (f : List ℕ). (plain_task name o).does f d (ran_to d s i out e) x []) (read_is read are refl)
       (λ input left. subst (λ (q : FlatState). RanFrom o q d (ran_to d s i out e) x) (start_is o bytes input l room)
       (let r = run.done input left in record { ending = r.ending; input = r.input; output = r.output; error = r.error }));
   failed = tt;
   refused = tt;
-  shelf = keeps_read (plain_task name o) d.shelf s name bytes (Ok x) refl read (refl, refl) (λ y. let never : ⊥ = cc in never);
+  shelf = keeps_read (plain_task name o) d.shelf s name bytes (Ok x) refl refl read (refl, refl) refl (λ y. let never : ⊥ = cc in never);
+  input = tt;
   ram = refl;
   causes = causes_behind d s _ (Ok x) read.faults run.causes;
 }
@@ -131,18 +145,20 @@ plain_refused name o d s i out e bytes l r read accepted room run =
     let kind = plain_err r run.refused in record {
       asked = λ y. let p : r ≡ refusal.Usage = cc in subst IsPlainErr p kind;
       sized = plain_size r kind;
-      checked = λ file told. subst (λ (f : List ℕ). IsChecked (plain_checks o.limits f) s.last_failed (Err r)) (told_is d.shelf.contents name file bytes told read.stands)
+      checked = λ file are. subst (λ (f : List ℕ). IsChecked (plain_checks o.limits f) s.last_failed (Err r)) (read_is read are refl)
           (plain_err_checked (plain_checks o.limits bytes) s.last_failed r run.refused accepted);
+      long = none_long (plain_task name o) d.shelf.contents r (plain_short r kind);
       ended = tt;
       done = tt;
-      failed = λ fault file told. subst (λ (f : List ℕ). (plain_task name o).fails f d (ran_to d s i out e) r []) (told_is d.shelf.contents name file bytes told read.stands)
+      failed = λ fault file are. subst (λ (f : List ℕ). (plain_task name o).fails f d (ran_to d s i out e) r []) (read_is read are refl)
           (λ input left. subst (λ (q : FlatState). FailedFrom o q d (ran_to d s i out e) r) (start_is o bytes input l room)
           (failed_again o _ d (ran_to d s i out e) s r (run.failed (run_not_memory r fault) input left)));
       refused = λ never. let same_all : ran_to d s i out e ≡ record d { shelf = s } = run.memory (ap (λ (y : Refusal). Err y) (plain_memory r kind never)) in (
         record { input = ap (λ (y : Devices). y.input) same_all; output = ap (λ (y : Devices). y.output) same_all; ram = refl },
         subst (λ (y : SinkState). Appends d.error.held y.held []) (sym (ap (λ (y : Devices). y.error) same_all)) (Appends-none d.error.held),
       );
-      shelf = keeps_read (plain_task name o) d.shelf s name bytes (Err r) refl read (plain_asked s.last_failed r kind) (plain_shelf r kind);
+      shelf = keeps_read (plain_task name o) d.shelf s name bytes (Err r) refl refl read (plain_asked s.last_failed r kind) (plain_given s.last_failed r kind) (plain_shelf r kind);
+      input = tt;
       ram = refl;
       causes = causes_behind d s _ (Err r) read.faults run.causes;
     }

@@ -22,7 +22,7 @@ use Rattle.swi_task.specs.Devices.{Devices, stream_faults}
 use Rattle.swi_file_commands.specs.ListFile.{Lists, ListFailed, first_blocks, list_checks, list_task, listing}
 use Rattle.swi_task.specs.Subject.{IsImageFor}
 use Rattle.swi_task.proofs.Lines.{IsLined, done_lined}
-use Rattle.swi_task.proofs.Refusals.{IsRead, calm_causes, keeps_read, out_causes, sized_err, sized_ok, told_is}
+use Rattle.swi_task.proofs.Refusals.{IsRead, calm_causes, keeps_read, none_long, out_causes, read_is, sized_err, sized_ok}
 
 -- ---- block by block
 
@@ -72,13 +72,15 @@ listed name most d s out bytes v (Ok e) read accepted own written broke cause =
     let m : Devices = record d { shelf = s; output = out } in record {
       asked = λ x. let bad : ⊥ = cc in bad;
       sized = sized_ok e;
-      checked = λ file told. subst (λ (f : List ℕ). IsAccepted (list_checks most f)) (told_is d.shelf.contents name file bytes told read.stands) accepted;
+      checked = λ file are. subst (λ (f : List ℕ). IsAccepted (list_checks most f)) (read_is read are refl) accepted;
+      long = λ limit x. absurd (let bad : ⊥ = cc in bad);
       ended = written.0;
-      done = λ file told. subst (λ (f : List ℕ). Lists f most d m e) (told_is d.shelf.contents name file bytes told read.stands)
+      done = λ file are. subst (λ (f : List ℕ). Lists f most d m e) (read_is read are refl)
           (record { ending = written.0; image = v; own = own; output = written.1; others = refl });
       failed = tt;
       refused = tt;
-      shelf = keeps_read (list_task name most) d.shelf s name bytes (Ok e) refl read (refl, refl) (λ x. let never : ⊥ = cc in never);
+      shelf = keeps_read (list_task name most) d.shelf s name bytes (Ok e) refl refl read (refl, refl) refl (λ x. let never : ⊥ = cc in never);
+      input = refl;
       ram = refl;
       causes = calm_causes d m (Ok e) tt read.faults refl (ap (λ (n : ℕ). record (stream_faults d) { output = n }) cause.quiet);
     }
@@ -87,13 +89,15 @@ listed name most d s out bytes v (Err r) read accepted own written broke cause =
     subst (λ (x : Refusal). Answers (list_task name most) d m (Err x) []) (sym broke.0) (record {
       asked = λ e. let bad : ⊥ = cc in bad;
       sized = sized_err refusal.SinkFault (λ x. x);
-      checked = λ file told. subst (λ (f : List ℕ). IsAccepted (list_checks most f)) (told_is d.shelf.contents name file bytes told read.stands) accepted;
+      checked = λ file are. subst (λ (f : List ℕ). IsAccepted (list_checks most f)) (read_is read are refl) accepted;
+      long = none_long (list_task name most) d.shelf.contents refusal.SinkFault (λ x. x);
       ended = tt;
       done = tt;
-      failed = λ _ file told. subst (λ (f : List ℕ). ListFailed f most d m refusal.SinkFault []) (told_is d.shelf.contents name file bytes told read.stands)
+      failed = λ _ file are. subst (λ (f : List ℕ). ListFailed f most d m refusal.SinkFault []) (read_is read are refl)
           (record { image = v; own = own; output = broke.1; error = Appends-none d.error.held; fault = refl; cause = cause.failed });
       refused = λ never. absurd (never tt);
-      shelf = keeps_read (list_task name most) d.shelf s name bytes (Err refusal.SinkFault) refl read (refl, refl) (λ x. let never : ⊥ = cc in never);
+      shelf = keeps_read (list_task name most) d.shelf s name bytes (Err refusal.SinkFault) refl refl read (refl, refl) refl (λ x. let never : ⊥ = cc in never);
+      input = refl;
       ram = refl;
       causes = out_causes d m read.faults refl refl refl cause.later cause.failed;
     })

@@ -1,9 +1,8 @@
 -- A run on the flat machine, from what its functions say.
 use Rattle.std.proofs.Common.{◌≡◌, ◌⊎◌, inl, inr, ℕ, ◌-◌, ◌<◌, ◌≤◌, List, [], ◌++◌, length, take, Option, None, Some, Ok, Err, IsErrOf, refl, sym, ◌∙◌, subst, ap, arith}
 use Rattle.std.proofs.lemmas.List.{append-nil}
-use Rattle.std.specs.Option.{ForSome}
 use Rattle.std.specs.Io.KnownBytes.{Appends}
-use Rattle.swi_outside.specs.Laws.{Appends-append, named_as, no_cause}
+use Rattle.swi_outside.specs.Laws.{Appends-append, named_as, no_cause, ok_unmoved}
 use Rattle.swi_outside.specs.Causes.{Rose}
 use Rattle.swi_outside.specs.Sink.{AppendsPrefix, AppendsThenPrefix, SinkState}
 use Rattle.swi_outside.specs.Source.{SourceState}
@@ -15,7 +14,8 @@ use Rattle.swi_outside.specs.Devices as outside
 use Rattle.swi_calls.specs.Flat.{flat_run, machine_of, started}
 use Rattle.swi_calls.specs.State.{FlatState}
 use Rattle.swi_board.specs.Ran.{Unasked}
-use Rattle.swi_flat.specs.FlatData.{FlatData, FillsFront, next_made, state_at, stopped, unfailed}
+use Rattle.swi_flat.specs.FlatData.{FlatData, next_made, state_at, unfailed}
+use Rattle.swi_flat.proofs.ToldRuns.{FillsFrontTold, RanTold}
 use Rattle.swi_memory.specs.declared.layout.Layout.{Layout}
 use Rattle.swi_program.specs.Program.{ProgramData}
 use Rattle.swi_command.specs.declared.command.RunOptions.{RunOptions}
@@ -50,7 +50,7 @@ pub step_failed : {T : Type 0} (f : CallFault) (s : FlatState) (bus : List AreaD
     s.machine.ending ≡ None → AppendsThenPrefix before.output.held after.output.held s.output (next_made s).output →
     AppendsThenPrefix before.error.held after.error.held s.error (next_made s).error →
     (IsErrOf {T = T} (Err f) call.SourceFault → Appends before.output.held after.output.held s.output × Appends before.error.held after.error.held s.error) →
-    FillsFront s bus after.input.left → Unasked (next_made s) (stream_faults before) (stream_faults after) → StepFailed s s.error (next_made s) (read_room_of s) before after (refusal_of f) []
+    FillsFrontTold s bus after.input.left → Unasked (next_made s) (stream_faults before) (stream_faults after) → StepFailed s s.error (next_made s) (read_room_of s) before after (refusal_of f) []
 step_failed {T} f s bus before after going output error source front unasked = record {
   fault = named f;
   going = going;
@@ -94,89 +94,90 @@ not_memory : {T : Type 0} (f : CallFault) → IsErrOf {T = T} (Err (refusal_of f
 not_memory call.SourceFault e = let bad : ⊥ = cc in bad
 not_memory call.SinkFault e = let bad : ⊥ = cc in bad
 
-pub run_failed : {T : Type 0} (f : CallFault) (o : RunOptions) (p : ProgramData) (l : Layout) (first new : FlatData) (d : Devices) (i : SourceState) (out e : SinkState) →
-    first ≡ unfailed (machine_of p l o.reports.calls) → new.machine.ending ≡ None → new.machine.steps < o.limits.steps →
-    ForSome d.input.left (λ left. new ≡ stopped (state_at new.machine.steps first.machine left).machine new.machine.bus) →
-    ForSome d.input.left (λ left. FillsFront (state_at new.machine.steps first.machine left) new.machine.bus i.left) →
-    ForSome d.input.left (λ left. AppendsThenPrefix d.output.held out.held (state_at new.machine.steps first.machine left).output (next_made (state_at new.machine.steps first.machine left)).output) →
-    ForSome d.input.left (λ left. AppendsThenPrefix d.error.held e.held (state_at new.machine.steps first.machine left).error (next_made (state_at new.machine.steps first.machine left)).error) →
-    (IsErrOf {T = T} (Err f) call.SourceFault → ForSome d.input.left (λ left.
-    Appends d.output.held out.held (state_at new.machine.steps first.machine left).output × Appends d.error.held e.held (state_at new.machine.steps first.machine left).error)) →
-    ForSome d.input.left (λ left. (next_made (state_at new.machine.steps first.machine left)).output ≡ [] → out.faults ≡ d.output.faults) →
-    ForSome d.input.left (λ left. (next_made (state_at new.machine.steps first.machine left)).error ≡ [] → e.faults ≡ d.error.faults) →
-    outside.HasCauses (stream_faults d) (stream_faults (run_to d i out e))
-    (IsErrOf {T = T} (Err f) call.SourceFault) (IsErrOf {T = T} (Err f) call.SinkFault) →
+-- there was no memory, and nothing changed
+pub no_memory : (o : RunOptions) (p : ProgramData) (l : Layout) (d : Devices) → RunsPlain o p l d d (Err refusal.Memory)
+no_memory o p l d = record {
+  done = tt;
+  refused = inr (inr refl);
+  memory = λ _. refl;
+  failed = λ never. absurd (never refl);
+  causes = calm_causes d d (Err refusal.Memory) tt refl refl refl;
+}
+
+-- the streams of all devices
+abbrev pub streams_of : Devices → outside.Devices
+streams_of d = record { input = d.input; output = d.output; error = d.error }
+
+pub run_failed : (f : CallFault) (o : RunOptions) (p : ProgramData) (l : Layout) (first new : FlatData) (d : Devices) (i : SourceState) (out e : SinkState) →
+    first ≡ unfailed (machine_of p l o.reports.calls) → RanTold first.machine o.limits.steps new (streams_of d) (streams_of (run_to d i out e)) (Err f) →
     RunsPlain o p l d (run_to d i out e) (Err (refusal_of f))
-run_failed {T} f o p l first new d i out e first_is going fewer stays front output error source unasked_output unasked_error causes = record {
+run_failed f o p l first new d i out e first_is ran = record {
   done = tt;
   refused = kind_of f;
   memory = λ x. absurd (not_memory f x);
   failed = λ _ input left. inl (record {
     steps = new.machine.steps;
-    fewer = fewer;
+    fewer = ran.uncounted;
     failed =
         let state = state_at new.machine.steps first.machine input in
-        let ended : state.machine.ending ≡ None = sym (ap (λ (x : FlatData). x.machine.ending) (stays input left)) ∙ going in
+        let ended : state.machine.ending ≡ None = sym (ap (λ (x : FlatData). x.machine.ending) (ran.stays input left)) ∙ ran.going in
         subst (λ (s : FlatState). StepFailed s s.error (next_made s) (read_room_of s) d (run_to d i out e) (refusal_of f) [])
         (start_same o p l first new.machine.steps input first_is)
-        (step_failed {T = T} f state new.machine.bus d (run_to d i out e) ended (output input left) (error input left) (λ x. source x input left) (front input left)
-        (record { output = unasked_output input left; error = unasked_error input left }));
+        (step_failed {T = Unit {0}} f state new.machine.bus d (run_to d i out e) ended (ran.output_part input left) (ran.error_part input left) (λ x. ran.failed_input x input left) (ran.front input left)
+        (record { output = ran.unasked_output input left; error = ran.unasked_error input left }));
   });
-  causes = run_causes {T = T} {U = Ending} f d i out e causes;
+  causes = run_causes {T = Unit {0}} {U = Ending} f d i out e ran.causes;
 }
 
 -- the run came to its end, and the report was written
-pub run_done : (o : RunOptions) (p : ProgramData) (l : Layout) (first new : FlatData) (d : Devices) (i : SourceState) (mid : Option (List ℕ)) (out e : SinkState) (x : Ending) →
-    first ≡ unfailed (machine_of p l o.reports.calls) →
-    ForSome d.input.left (λ left. new ≡ unfailed (state_at o.limits.steps first.machine left).machine) →
-    ForSome d.input.left (λ left. i.left ≡ Some (state_at o.limits.steps first.machine left).input) →
-    ForSome d.input.left (λ left. Appends d.output.held mid (state_at o.limits.steps first.machine left).output) →
-    ForSome d.input.left (λ left. Appends d.error.held e.held (state_at o.limits.steps first.machine left).error) →
-    x ≡ ending_by new.machine.ending new.machine.pc new.machine.steps → Appends mid out.held (report o.reports new.machine None) →
-    stream_faults (run_to d i out e) ≡ stream_faults d → RunsPlain o p l d (run_to d i out e) (Ok x)
-run_done o p l first new d i mid out e x first_is machine input output error ending written still = record {
+pub run_done : {u : Unit} (o : RunOptions) (p : ProgramData) (l : Layout) (first new : FlatData) (d : Devices) (i : SourceState) (mid out e : SinkState) (x : Ending) →
+    first ≡ unfailed (machine_of p l o.reports.calls) → RanTold first.machine o.limits.steps new (streams_of d) (streams_of (run_to d i mid e)) (Ok u) →
+    x ≡ ending_by new.machine.ending new.machine.pc new.machine.steps → Appends mid.held out.held (report o.reports new.machine None) → out.faults ≡ mid.faults →
+    RunsPlain o p l d (run_to d i out e) (Ok x)
+run_done o p l first new d i mid out e x first_is ran ending written still = record {
   done = λ left told.
       let state = state_at o.limits.steps first.machine left in
-      let same : new.machine ≡ state.machine = ap (λ (y : FlatData). y.machine) (machine left told) in
+      let same : new.machine ≡ state.machine = ap (λ (y : FlatData). y.machine) (ran.machine left told) in
       subst (λ (s : FlatState). Ran s (plain_report o s) d (run_to d i out e) x []) (start_same o p l first o.limits.steps left first_is) (record {
         ending = ending ∙ ap (λ (m : Machine). ending_by m.ending m.pc m.steps) same;
-        input = input left told;
-        output = Appends-append d.output.held mid out.held state.output (plain_report o state) (output left told)
-            (subst (λ (m : Machine). Appends mid out.held (report o.reports m None)) same written);
-        error = subst (λ (y : List ℕ). Appends d.error.held e.held y) (sym (append-nil state.error)) (error left told);
+        input = ran.input left told;
+        output = Appends-append d.output.held mid.held out.held state.output (plain_report o state) (ran.output left told)
+            (subst (λ (m : Machine). Appends mid.held out.held (report o.reports m None)) same written);
+        error = subst (λ (y : List ℕ). Appends d.error.held e.held y) (sym (append-nil state.error)) (ran.error left told);
       });
   refused = tt;
   memory = λ y. let bad : ⊥ = cc in absurd bad;
   failed = tt;
-  causes = calm_causes d (run_to d i out e) (Ok x) tt refl refl still;
+  causes = calm_causes d (run_to d i out e) (Ok x) tt refl refl
+      (ap (λ (n : ℕ). record (stream_faults (run_to d i mid e)) { output = n }) still ∙ ok_unmoved ran.causes);
 }
 
 -- or not to its end
-pub report_failed : (o : RunOptions) (p : ProgramData) (l : Layout) (first new : FlatData) (d : Devices) (i : SourceState) (mid : Option (List ℕ)) (out e : SinkState) →
-    first ≡ unfailed (machine_of p l o.reports.calls) →
-    ForSome d.input.left (λ left. new ≡ unfailed (state_at o.limits.steps first.machine left).machine) →
-    ForSome d.input.left (λ left. i.left ≡ Some (state_at o.limits.steps first.machine left).input) →
-    ForSome d.input.left (λ left. Appends d.output.held mid (state_at o.limits.steps first.machine left).output) →
-    ForSome d.input.left (λ left. Appends d.error.held e.held (state_at o.limits.steps first.machine left).error) →
-    AppendsPrefix mid out.held (report o.reports new.machine None) → (report o.reports new.machine None ≡ [] → ⊥) →
-    i.faults ≡ d.input.faults → e.faults ≡ d.error.faults → d.output.faults ≤ out.faults → Rose d.output.faults out.faults → RunsPlain o p l d (run_to d i out e) (Err refusal.SinkFault)
-report_failed o p l first new d i mid out e first_is machine input output error part due input_is error_is later rose = record {
-  done = tt;
-  refused = inr (inl refl);
-  memory = λ y. let bad : ⊥ = cc in absurd bad;
-  failed = λ _ left told. inr (
-      let state = state_at o.limits.steps first.machine left in
-      let same : new.machine ≡ state.machine = ap (λ (y : FlatData). y.machine) (machine left told) in
-      subst (λ (s : FlatState). FailedAfterRun s (plain_report o s) [] d (run_to d i out e) refusal.SinkFault []) (start_same o p l first o.limits.steps left first_is) (record {
-        output_front = part.0;
-        output = Appends-append d.output.held mid out.held state.output (take part.0 (plain_report o state)) (output left told)
-            (subst (λ (m : Machine). Appends mid out.held (take part.0 (report o.reports m None))) same part.1);
-        error_front = 0;
-        error = subst (λ (y : List ℕ). Appends d.error.held e.held y) (sym (append-nil (state.error ++ [])))
-            (subst (λ (y : List ℕ). Appends d.error.held e.held y) (sym (append-nil state.error)) (error left told));
-        behind = inl (refl, subst (λ (m : Machine). report o.reports m None ≡ [] → ⊥) same due, rose);
-        input = input left told;
-        fault = refl;
-      }));
-  causes = out_causes d (run_to d i out e) refl refl input_is error_is later rose;
-}
+pub report_failed : {u : Unit} (o : RunOptions) (p : ProgramData) (l : Layout) (first new : FlatData) (d : Devices) (i : SourceState) (mid out e : SinkState) →
+    first ≡ unfailed (machine_of p l o.reports.calls) → RanTold first.machine o.limits.steps new (streams_of d) (streams_of (run_to d i mid e)) (Ok u) →
+    AppendsPrefix mid.held out.held (report o.reports new.machine None) → (report o.reports new.machine None ≡ [] → ⊥) →
+    mid.faults ≤ out.faults → Rose mid.faults out.faults → RunsPlain o p l d (run_to d i out e) (Err refusal.SinkFault)
+report_failed o p l first new d i mid out e first_is ran part due later rose =
+    let quiet : stream_faults (run_to d i mid e) ≡ stream_faults d = ok_unmoved ran.causes in
+    let still : mid.faults ≡ d.output.faults = ap (λ (x : outside.Faults). x.output) quiet in
+    let up : Rose d.output.faults out.faults = subst (λ (n : ℕ). Rose n out.faults) still rose in record {
+      done = tt;
+      refused = inr (inl refl);
+      memory = λ y. let bad : ⊥ = cc in absurd bad;
+      failed = λ _ left told. inr (
+          let state = state_at o.limits.steps first.machine left in
+          let same : new.machine ≡ state.machine = ap (λ (y : FlatData). y.machine) (ran.machine left told) in
+          subst (λ (s : FlatState). FailedAfterRun s (plain_report o s) [] d (run_to d i out e) refusal.SinkFault []) (start_same o p l first o.limits.steps left first_is) (record {
+            output_front = part.0;
+            output = Appends-append d.output.held mid.held out.held state.output (take part.0 (plain_report o state)) (ran.output left told)
+                (subst (λ (m : Machine). Appends mid.held out.held (take part.0 (report o.reports m None))) same part.1);
+            error_front = 0;
+            error = subst (λ (y : List ℕ). Appends d.error.held e.held y) (sym (append-nil (state.error ++ [])))
+                (subst (λ (y : List ℕ). Appends d.error.held e.held y) (sym (append-nil state.error)) (ran.error left told));
+            behind = inl (refl, subst (λ (m : Machine). report o.reports m None ≡ [] → ⊥) same due, up);
+            input = ran.input left told;
+            fault = refl;
+          }));
+      causes = out_causes d (run_to d i out e) refl refl (ap (λ (x : outside.Faults). x.input) quiet) (ap (λ (x : outside.Faults). x.error) quiet)
+          (subst (λ (n : ℕ). n ≤ out.faults) still later) up;
+    }

@@ -1,5 +1,5 @@
 -- The command `check`.
-use Rattle.std.specs.Prelude.{◌≡◌, ℕ, List, [], ◌∷◌, length, Some, None}
+use Rattle.std.specs.Prelude.{◌≡◌, ℕ, List, [], ◌∷◌, length, Some, None, false}
 use Rattle.std.specs.Io.KnownBytes.{Appends}
 use Rattle.swi_outside.specs.Causes.{Rose}
 use Rattle.swi_outside.specs.Sink.{AppendsPrefix}
@@ -12,7 +12,7 @@ use Rattle.swi_answer.specs.declared.answer.Refusal.{Refusal}
 use Rattle.swi_answer.specs.declared.answer.Refusal.TheVariants as refusal
 use Rattle.swi_task.specs.Checks.{image_checks}
 use Rattle.swi_task.specs.Devices.{Devices}
-use Rattle.swi_task.specs.Task.{Task, Tells}
+use Rattle.swi_task.specs.Task.{Task}
 
 -- a line says how many blocks the image has, and of how many words
 abbrev pub checked_line : ImageData → List ℕ
@@ -38,8 +38,9 @@ abbrev pub check_task : List ℕ → Task
 check_task name = record {
   reads = name ∷ [];
   Files = List ℕ;
-  told = λ contents file. Tells contents name file;
+  contents = λ file. file ∷ [];
   writes = None;
+  takes_input = false;
   cache = None;
   checks = image_checks;
   ends = λ e. e ≡ ending.Done;

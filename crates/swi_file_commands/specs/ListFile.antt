@@ -1,5 +1,5 @@
 -- The command `list`.
-use Rattle.std.specs.Prelude.{◌≡◌, ℕ, zero, suc, List, [], ◌∷◌, ◌++◌, length, None}
+use Rattle.std.specs.Prelude.{◌≡◌, ℕ, zero, suc, List, [], ◌∷◌, ◌++◌, length, None, false}
 use Rattle.std.specs.Io.KnownBytes.{Appends}
 use Rattle.swi_outside.specs.Causes.{Rose}
 use Rattle.swi_outside.specs.Sink.{AppendsPrefix}
@@ -14,7 +14,7 @@ use Rattle.swi_answer.specs.declared.answer.Refusal.TheVariants as refusal
 use Rattle.swi_task.specs.Checks.{Check, IsShort, IsAcceptedElf, IsAcceptedImage, IsOwnImage, FitsUnlessImage, text_in}
 use Rattle.swi_task.specs.Devices.{Devices}
 use Rattle.swi_task.specs.Subject.{IsImageFor}
-use Rattle.swi_task.specs.Task.{Task, Tells}
+use Rattle.swi_task.specs.Task.{Task}
 
 -- the lines of an image's first blocks
 unfoldable pub first_blocks : TextData → ImageData → ℕ → List ℕ
@@ -49,8 +49,9 @@ abbrev pub list_task : List ℕ → ℕ → Task
 list_task name most = record {
   reads = name ∷ [];
   Files = List ℕ;
-  told = λ contents file. Tells contents name file;
+  contents = λ file. file ∷ [];
   writes = None;
+  takes_input = false;
   cache = None;
   checks = list_checks most;
   ends = λ e. e ≡ ending.Done;

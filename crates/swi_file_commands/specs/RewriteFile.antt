@@ -10,7 +10,7 @@ use Rattle.swi_elf_write.specs.Rewritten.{rewritten_file}
 use Rattle.swi_answer.specs.declared.answer.Ending.TheVariants as ending
 use Rattle.swi_task.specs.Checks.{Check, IsShort, IsAcceptedElf, FitsBlocks, text_in}
 use Rattle.swi_task.specs.Puts.{Puts}
-use Rattle.swi_task.specs.Task.{Task, Tells}
+use Rattle.swi_task.specs.Task.{Task}
 
 -- how a text is cut whose loops are to stay whole, or not
 abbrev pub cutting_of : Bool → Cutting
@@ -31,8 +31,9 @@ abbrev pub rewrite_task : List ℕ → List ℕ → ℕ → Bool → Task
 rewrite_task input output block whole = record {
   reads = input ∷ [];
   Files = List ℕ;
-  told = λ contents file. Tells contents input file;
+  contents = λ file. file ∷ [];
   writes = Some output;
+  takes_input = false;
   cache = None;
   checks = rewrite_checks block;
   ends = λ e. e ≡ ending.Done;

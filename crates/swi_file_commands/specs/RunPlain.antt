@@ -1,5 +1,5 @@
 -- The command `plain`: a run on the flat machine.
-use Rattle.std.specs.Prelude.{◌≡◌, ◌⊎◌, ℕ, List, [], ◌∷◌, Some, None, Result, IfOk, IfErr, IsErrOf, ⊤}
+use Rattle.std.specs.Prelude.{◌≡◌, ◌⊎◌, ℕ, List, [], ◌∷◌, Some, None, Result, IfOk, IfErr, IsErrOf, ⊤, true}
 use Rattle.swi_memory.specs.declared.layout.Layout.{Layout}
 use Rattle.swi_program.specs.Program.{ProgramData}
 use Rattle.swi_command.specs.declared.command.RunLimits.{RunLimits}
@@ -15,7 +15,7 @@ use Rattle.swi_task.specs.Causes.{HasCauses}
 use Rattle.swi_task.specs.Checks.{Check, IsShort, IsAcceptedElf, HasRoom, IsAcceptedImage, IsOwnImage}
 use Rattle.swi_task.specs.Devices.{Devices}
 use Rattle.swi_task.specs.Runs.{Ran, FailedAtStep, FailedAfterRun, report, start_of}
-use Rattle.swi_task.specs.Task.{Task, Tells}
+use Rattle.swi_task.specs.Task.{Task}
 
 abbrev pub plain_run : RunOptions → List ℕ → List ℕ → ℕ → FlatState
 plain_run o file input n = flat_run n (start_of o file input)
@@ -44,8 +44,9 @@ abbrev pub plain_task : List ℕ → RunOptions → Task
 plain_task name o = record {
   reads = name ∷ [];
   Files = List ℕ;
-  told = λ contents file. Tells contents name file;
+  contents = λ file. file ∷ [];
   writes = None;
+  takes_input = true;
   cache = None;
   checks = plain_checks o.limits;
   ends = λ e. ⊤;

@@ -1,5 +1,5 @@
 -- The command `upgrade`.
-use Rattle.std.specs.Prelude.{◌≡◌, ℕ, List, [], ◌∷◌, Some, None}
+use Rattle.std.specs.Prelude.{◌≡◌, ℕ, List, [], ◌∷◌, Some, None, false}
 use Rattle.swi_elf_read.specs.Loaded.{image_of as image_in}
 use Rattle.swi_image.specs.Checks.{first_refusal}
 use Rattle.swi_image.specs.Format.{image_of}
@@ -9,7 +9,7 @@ use Rattle.swi_elf_write.specs.Rewritten.{rewritten_file}
 use Rattle.swi_answer.specs.declared.answer.Ending.TheVariants as ending
 use Rattle.swi_task.specs.Checks.{image_checks, text_in}
 use Rattle.swi_task.specs.Puts.{Puts}
-use Rattle.swi_task.specs.Task.{Task, Tells}
+use Rattle.swi_task.specs.Task.{Task}
 
 -- the bytes are the file's program with the version 2 image that has the same blocks as the file's image
 pub record IsUpgraded (file bytes : List ℕ) : Type 0 where
@@ -26,8 +26,9 @@ abbrev pub upgrade_task : List ℕ → List ℕ → Task
 upgrade_task input output = record {
   reads = input ∷ [];
   Files = List ℕ;
-  told = λ contents file. Tells contents input file;
+  contents = λ file. file ∷ [];
   writes = Some output;
+  takes_input = false;
   cache = None;
   checks = image_checks;
   ends = λ e. e ≡ ending.Done;

@@ -2,6 +2,8 @@
 #![tactic(auto)]
 
 ghost use Rattle.std.specs.Prelude.{◌≤◌, IfOk, IfErr, OnOk, [], length};
+ghost use Rattle.swi_outside.specs.Source.{HasGiven};
+ghost use Rattle.swi_outside.specs.Told.{AsTold};
 ghost use Rattle.swi_command.specs.CommandLine.{IsInRange};
 ghost use Rattle.swi_program.specs.Layout.{IsLayoutOf};
 ghost use Rattle.swi_task.specs.Answers.{Answers};
@@ -30,7 +32,12 @@ fn run_plain<I: Source, O: Sink, E: Sink>(
 ) -> Result<Ending, Refusal>
     requires ranges { IsInRange options.now.limits }
     requires laid_out { IsLayoutOf prepared.now.program.segments prepared.now.layout }
-    ensures { (d : Devices) → RunsPlain options.now prepared.now.program prepared.now.layout
+    ensures gave { HasGiven (I.state input.old) (I.state input.new) }
+    ensures ran { (d : Devices) → AsTold (I.state input.old) (I.state input.new) (λ old new. RunsPlain
+        options.now prepared.now.program prepared.now.layout
+        (record d { input = old; output = O.state out.old; error = E.state err.old })
+        (record d { input = new; output = O.state out.new; error = E.state err.new }) result) }
+    ensures ran_directly { (d : Devices) → RunsPlain options.now prepared.now.program prepared.now.layout
         (record d { input = I.state input.old; output = O.state out.old; error = E.state err.old })
         (record d { input = I.state input.new; output = O.state out.new; error = E.state err.new }) result }
 {
@@ -87,7 +94,12 @@ pub fn plain<F: Shelf, I: Source, O: Sink, E: Sink>(
     err: &mut E,
 ) -> Result<Ending, Refusal>
     requires ranges { IsInRange options.now.limits }
-    ensures { (d : Devices) → Answers (plain_task name.now options.now)
+    ensures gave { HasGiven (I.state input.old) (I.state input.new) }
+    ensures answers { (d : Devices) → AsTold (I.state input.old) (I.state input.new) (λ old new. Answers (plain_task name.now options.now)
+        (record d { shelf = F.state shelf.old; input = old; output = O.state out.old; error = E.state err.old })
+        (record d { shelf = F.state shelf.new; input = new; output = O.state out.new; error = E.state err.new }) result []) }
+    // Over a source that tells what is left, the same of just that.
+    ensures answers_directly { (d : Devices) → Answers (plain_task name.now options.now)
         (record d { shelf = F.state shelf.old; input = I.state input.old; output = O.state out.old; error = E.state err.old })
         (record d { shelf = F.state shelf.new; input = I.state input.new; output = O.state out.new; error = E.state err.new }) result [] }
 {

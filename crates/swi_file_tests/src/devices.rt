@@ -289,6 +289,7 @@ fn sink_over_a_writer_writes_whole_pieces(rt: HostRuntime) -> Result<(), Fail> {
     let mut bytes = Vec::new(alloc);
     let mut whole = RealSink::new(&mut bytes);
     assert_writes(&rt, &mut whole, &WHOLE_WRITES);
+    drop(whole);
     assert_eq!(rt; bytes.as_slice(), b"abcde".as_slice());
     let mut stuck = RealSink::new(Faulty { calls: 0 });
     assert_writes(&rt, &mut stuck, &STUCK_WRITES);
@@ -327,6 +328,39 @@ static ENDING_READS: [(Result<usize, Failed>, &[u8]); 2] = [(Ok(2), b"ab\0\0"), 
 fn source_over_a_reader_ends_where_it_ends(rt: HostRuntime) -> Result<(), Fail> {
     let mut source = RealSource::new(b"ab".as_slice());
     assert_reads(&rt, &mut source, &mut [0; 4], &ENDING_READS);
+    Ok(())
+}
+
+/// A reader that gives a byte, then none, then bytes again.
+#[derive(Drop)]
+struct Resuming {
+    calls: u32,
+}
+
+impl io::Read for Resuming {
+    fn read(&mut self, buf: &mut [u8]) -> io::Result<usize> {
+        self.calls = self.calls.saturating_add(1);
+        if self.calls == 2 || buf.is_empty() {
+            return Ok(0);
+        }
+        buf[0] = b'a';
+        Ok(1)
+    }
+}
+
+static RESUMED_READS: [(Result<usize, Failed>, &[u8]); 3] = [
+    (Ok(1), b"a\0"),
+    (Ok(0), b"a\0"),
+    (Ok(0), b"a\0"),
+];
+
+#[test]
+fn source_over_a_reader_gives_nothing_behind_its_end(rt: HostRuntime) -> Result<(), Fail> {
+    let mut reader = Resuming { calls: 0 };
+    let mut source = RealSource::new(&mut reader);
+    assert_reads(&rt, &mut source, &mut [0; 2], &RESUMED_READS);
+    drop(source);
+    assert_eq!(rt; reader.calls, 2);
     Ok(())
 }
 

@@ -1,7 +1,7 @@
 //! A step over a plain word, which need not be the image's.
 #![tactic(auto)]
 
-ghost use Rattle.std.specs.Prelude.{◌≡◌, ◌⊎◌, ◌^◌, ◌<◌, ℕ, OnOk, MatchOption, Some, None, true, false};
+ghost use Rattle.std.specs.Prelude.{◌≡◌, ◌⊎◌, ◌^◌, ◌<◌, ℕ, IsErrOf, OnOk, MatchOption, Some, None, true, false};
 ghost use Rattle.swi_isa.specs.Decode.{decoded};
 ghost use Rattle.swi_memory.specs.Bus.{fetched};
 ghost use Rattle.swi_image.specs.Place.{word_at};
@@ -81,6 +81,7 @@ pub fn plain_step<R: CacheRom, M: CacheRam, I: Source, O: Sink, E: Sink>(
     requires sound { R.service.sound rom.old image.now (M.state ram.old).words
         ⊎ Exchanged (λ words. R.service.sound rom.old image.now words) image.now (M.state ram.old).words hart.old.control }
     ensures gave { HasGiven (I.state input.old) (I.state input.new) }
+    ensures unasked { IsErrOf result BoardFault.RamFault → I.state input.new ≡ I.state input.old }
     ensures stepped { AsTold (I.state input.old) (I.state input.new) (λ old new. BoardStepped R.service image.now
         (record { hart = hart.old; rom = rom.old; ram = M.state ram.old })
         (record { hart = hart.new; rom = rom.new; ram = M.state ram.new })

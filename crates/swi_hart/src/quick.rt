@@ -1,7 +1,7 @@
 //! A step whose fetched word is the image's, or a link.
 #![tactic(auto)]
 
-ghost use Rattle.std.specs.Prelude.{◌≡◌, ◌^◌, ◌<◌, slice_index, Some, true};
+ghost use Rattle.std.specs.Prelude.{◌≡◌, ◌^◌, ◌<◌, slice_index, IsErrOf, Some, true};
 ghost use Rattle.swi_outside.specs.CacheRam.{RamState};
 ghost use Rattle.swi_outside.specs.Told.{AsTold};
 ghost use Rattle.swi_outside.specs.Source.{HasGiven};
@@ -62,6 +62,7 @@ pub fn at_word<R: CacheRom, M: CacheRam, I: Source, O: Sink, E: Sink>(
     requires sound { R.service.sound rom.old image.now (M.state ram.old).words }
     requires got { got ≡ slice_index (M.state ram.old).words at.0 }
     ensures gave { HasGiven (I.state input.old) (I.state input.new) }
+    ensures unasked { IsErrOf result BoardFault.RamFault → I.state input.new ≡ I.state input.old }
     ensures stepped { AsTold (I.state input.old) (I.state input.new) (λ old new. (before : RamState) → Answered (Some got) before at.0 (M.state ram.old) →
         BoardStepped R.service image.now
         (record { hart = hart.old; rom = rom.old; ram = before })
@@ -110,6 +111,7 @@ fn at_step<R: CacheRom, M: CacheRam, I: Source, O: Sink, E: Sink>(
     requires home { Home image.now (R.service.kept rom.old) hart.old.machine at.0 at.1 at.2 at.3 }
     requires sound { R.service.sound rom.old image.now (M.state ram.old).words }
     ensures gave { HasGiven (I.state input.old) (I.state input.new) }
+    ensures unasked { IsErrOf result BoardFault.RamFault → I.state input.new ≡ I.state input.old }
     ensures stepped { AsTold (I.state input.old) (I.state input.new) (λ old new. BoardStepped R.service image.now
         (record { hart = hart.old; rom = rom.old; ram = M.state ram.old })
         (record { hart = hart.new; rom = rom.new; ram = M.state ram.new })
@@ -143,6 +145,7 @@ pub fn quick_step<R: CacheRom, M: CacheRam, I: Source, O: Sink, E: Sink>(
     requires sound { R.service.sound rom.old image.now (M.state ram.old).words }
     ensures word { hart.old.machine.pc < 2 ^ 32 }
     ensures gave { HasGiven (I.state input.old) (I.state input.new) }
+    ensures unasked { IsErrOf result BoardFault.RamFault → I.state input.new ≡ I.state input.old }
     ensures stepped { AsTold (I.state input.old) (I.state input.new) (λ old new. BoardStepped R.service image.now
         (record { hart = hart.old; rom = rom.old; ram = M.state ram.old })
         (record { hart = hart.new; rom = rom.new; ram = M.state ram.new })

@@ -4,14 +4,14 @@
 ghost use Rattle.std.specs.Prelude.{◌≡◌, None, IfOk};
 
 use std::alloc::Global;
+use std::io;
 use std::process::Abort;
 use std::test::Fail;
 use swi_calls::{CallFault, End, Heap, Machine, text_store};
-use swi_devices::{MemSink, MemSource};
+use swi_devices::{MemSink, MemSource, RealSource};
 use swi_exec::Regs;
 use swi_isa::{Instr, Reg, decode};
 use swi_memory::{Bus, Layout, Segment};
-use swi_outside::{Failed, Source};
 
 /// A text of two words that can be written, "wxyz" with four zeros that adjoin a heap of 1016 bytes, and four zeros
 /// that can be read and four that can be written.
@@ -354,18 +354,15 @@ fn failed_devices_leave_a_prefix_a0_and_the_break(rt: HostRuntime) -> Result<(),
     Ok(())
 }
 
-/// A source that gives at most so many bytes at once.
+/// A reader that gives at most so many bytes at once.
 #[derive(Drop)]
 struct Trickle<'a> {
     rest: &'a [u8],
     most: usize,
-    faults: u64,
 }
 
-impl Source for Trickle<'_> {
-    ghost state = { λ s. record { left = None; faults = s.faults } };
-
-    fn read(&mut self, buf: &mut [u8]) -> Result<usize, Failed> {
+impl io::Read for Trickle<'_> {
+    fn read(&mut self, buf: &mut [u8]) -> io::Result<usize> {
         let count = buf.len().min(self.most).min(self.rest.len());
         let (front, rest) = self.rest.split_at(count);
         buf[..count].copy_from_slice(front);
@@ -390,11 +387,7 @@ fn reads_go_on_until_the_count_or_the_end(rt: HostRuntime) -> Result<(), Fail> {
     ] {
         let mut machine = machine_at(alloc, (63, 0, 0x20010, 1000), false)?;
         let whole = bytes.get(..length).unwrap_or(&[]);
-        let mut input = Trickle {
-            rest: whole,
-            most,
-            faults: 0,
-        };
+        let mut input = RealSource::new(Trickle { rest: whole, most });
         let mut out = MemSink::new(alloc, 1000, Vec::new(alloc))?;
         let mut err = MemSink::new(alloc, 0, Vec::new(alloc))?;
         let read = machine.call_step(&mut input, &mut out, &mut err);

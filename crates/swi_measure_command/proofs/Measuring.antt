@@ -35,14 +35,14 @@ use Rattle.swi_answer.specs.declared.answer.Ending.{Ending}
 use Rattle.swi_answer.specs.declared.answer.Refusal.{Refusal}
 use Rattle.swi_answer.specs.declared.answer.Refusal.TheVariants as refusal
 use Rattle.swi_answer.specs.Lines.{ending_line}
-use Rattle.swi_task.specs.Answers.{Answers, IsAskedFor, KeepsShelf, writes_in}
+use Rattle.swi_task.specs.Answers.{Answers, AreGiven, HasPassed, HasStored, IsAskedFor, KeepsShelf, writes_in}
 use Rattle.swi_task.specs.Task.{Task}
 use Rattle.swi_cached_command.specs.Caching.{IsCachedRun, board_work, cache_for}
 use Rattle.swi_task.specs.Causes.{HasCauses}
 use Rattle.swi_task.specs.Checks.{HoldsBlock, Fails, IsLong, IsRefusedBy, size_refusal}
 use Rattle.swi_task.specs.Devices.{Devices, stream_faults}
 use Rattle.swi_measure_command.specs.MeasureMade.{IsMadeRun, MadeRamFailed, MadeRan, MadeRunBroke, MeasuresOver, SummaryBroke, board_summary, made_ending, made_ending_by, made_run, made_summary, measure_checks, measure_task, summary_by}
-use Rattle.swi_task.proofs.Refusals.{asked_none, calm_causes, causes_of, checked_by, contents_stay, late, out_causes, refused_late, rose_cause, same_all, sized_along, sized_err, sized_ok}
+use Rattle.swi_task.proofs.Refusals.{asked_none, calm_causes, causes_of, checked_by, contents_stay, gave_none, given_all, late, none_long, out_causes, passed_none, refused_late, rose_cause, same_all, short_refused, sized_along, sized_err, sized_ok, stores_none}
 use Rattle.swi_cached_command.proofs.Caching.{cached_run_is, keeps_run, work_is}
 use Rattle.swi_task.proofs.Due.{some_bytes}
 use Rattle.swi_task.proofs.Lines.{IsLined, appends_as, appends_last, behind_ending, take_all}
@@ -193,6 +193,12 @@ over_summarized functions k p l v d out ram h m (Err r) ran beyond ram_is done f
 
 -- ---- from the run over a service to what the command answers
 
+-- nothing passed
+none_passed : (seed functions : ℕ) (cache : CacheOptions) (s : ShelfState) (r : Refusal) → IsRefusedBy (measure_checks seed functions cache) r →
+    HasPassed (measure_task seed functions cache) s s (Err r) 0
+none_passed seed functions cache s r by = passed_none (measure_task seed functions cache) s s r 0 refl refl
+    (given_all 0 s.last_failed r (refused_late (measure_checks seed functions cache) r by) (short_refused (measure_checks seed functions cache) r tt by))
+
 -- the cache holds no block
 pub small_refused : (seed functions : ℕ) (cache : CacheOptions) (p : ProgramData) (d : Devices) (r : Refusal) → size_refusal cache.cache_bytes (length d.ram.words) ≡ None →
     IsMade seed functions p → Fits (text_of p.segments) cache.block_words → Fails (HoldsBlock cache.cache_bytes (4 * cache.block_words)) r →
@@ -200,13 +206,14 @@ pub small_refused : (seed functions : ℕ) (cache : CacheOptions) (p : ProgramDa
 small_refused seed functions cache p d r size made fits fails =
     let by = inr (fits_made seed functions cache.block_words p made fits, inl fails) in
     late (measure_task seed functions cache) d d.shelf r 0 0 (refused_late (measure_checks seed functions cache) r by) size (contents_stay d) refl refl
-    (λ _ _. checked_by (measure_checks seed functions cache) d.shelf.last_failed r by) (asked_none d.shelf.calls)
-    (subst (λ (x : Refusal). IsAskedFor 0 0 d.shelf.last_failed (Err x) 0 0) (sym fails.1) (refl, refl))
+    (λ _ _. checked_by (measure_checks seed functions cache) d.shelf.last_failed r by) (none_long (measure_task seed functions cache) d.shelf.contents r (short_refused (measure_checks seed functions cache) r tt by))
+    (asked_none d.shelf.calls) (subst (λ (x : Refusal). IsAskedFor 0 0 d.shelf.last_failed (Err x) 0 0) (sym fails.1) (refl, refl))
+    (none_passed seed functions cache d.shelf r by)
 
 -- it leaves the shelf alone
-keeps_shelf : (t : Task) (s : ShelfState) (r : Result Ending Refusal) → length t.reads ≡ 0 → IsAskedFor 0 (writes_in t.writes) s.last_failed r 0 0 →
-    (IsErrOf r refusal.ShelfFault → ⊥) → KeepsShelf t s s r
-keeps_shelf t s r none asked never = record {
+keeps_shelf : (t : Task) (s : ShelfState) (r : Result Ending Refusal) → length t.reads ≡ 0 → t.writes ≡ None → IsAskedFor 0 (writes_in t.writes) s.last_failed r 0 0 →
+    AreGiven s.last_failed r 0 0 → (IsErrOf r refusal.ShelfFault → ⊥) → KeepsShelf t s s r
+keeps_shelf t s r none unwritten asked given never = record {
   others = λ x _. same_all s.contents x;
   refused = on_err r (λ _. same_all s.contents);
   quiet = λ _. refl;
@@ -215,6 +222,13 @@ keeps_shelf t s r none asked never = record {
   puts = 0;
   calls = asked_none s.calls;
   asked = subst (λ (n : ℕ). IsAskedFor n (writes_in t.writes) s.last_failed r 0 0) (sym none) asked;
+  passed = record {
+    given = [];
+    gave = gave_none t.reads s s refl;
+    all = given;
+    stood = tt;
+    stored = subst (λ (o : Option (List ℕ)). HasStored r o s.stored s.stored) (sym unwritten) (stores_none r s.stored);
+  };
 }
   where
     on_err : {P : Type 0} (r : Result Ending Refusal) → P → OnErr r P
@@ -229,6 +243,7 @@ made_done seed functions cache p l v d out ram e size is fits held run = record 
   asked = λ x. let bad : ⊥ = cc in bad;
   sized = sized_along _ _ size (sized_ok e);
   checked = λ _ _. (fits_made seed functions cache.block_words p is.made fits, (held, tt));
+  long = λ limit x. absurd (let bad : ⊥ = cc in bad);
   ended = tt;
   done = λ _ _. record {
     program = p;
@@ -244,7 +259,8 @@ made_done seed functions cache p l v d out ram e size is fits held run = record 
   };
   failed = tt;
   refused = tt;
-  shelf = keeps_shelf (measure_task seed functions cache) d.shelf (Ok e) refl (refl, refl) (λ x. let never : ⊥ = cc in never);
+  shelf = keeps_shelf (measure_task seed functions cache) d.shelf (Ok e) refl refl (refl, refl) refl (λ x. let never : ⊥ = cc in never);
+  input = refl;
   ram = keeps_run cache v d.ram ram run.beyond;
   causes = run.causes;
 }
@@ -260,11 +276,13 @@ made_failed seed functions cache p l v d out ram refusal.RamFault kind size is f
   asked = λ x. let bad : ⊥ = cc in bad;
   sized = sized_along _ _ size (sized_err refusal.RamFault (λ x. x));
   checked = λ _ _. (fits_made seed functions cache.block_words p is.made fits, (held, tt));
+  long = none_long (measure_task seed functions cache) d.shelf.contents refusal.RamFault (λ x. x);
   ended = tt;
   done = tt;
   failed = λ _ _ _. record { program = p; layout = l; image = v; is = is; broke = broke; input = refl; beyond = beyond };
   refused = λ never. absurd (never tt);
-  shelf = keeps_shelf (measure_task seed functions cache) d.shelf (Err refusal.RamFault) refl (refl, refl) (λ x. let never : ⊥ = cc in never);
+  shelf = keeps_shelf (measure_task seed functions cache) d.shelf (Err refusal.RamFault) refl refl (refl, refl) refl (λ x. let never : ⊥ = cc in never);
+  input = refl;
   ram = keeps_run cache v d.ram ram beyond;
   causes = causes;
 }
@@ -272,11 +290,13 @@ made_failed seed functions cache p l v d out ram refusal.SinkFault kind size is 
   asked = λ x. let bad : ⊥ = cc in bad;
   sized = sized_along _ _ size (sized_err refusal.SinkFault (λ x. x));
   checked = λ _ _. (fits_made seed functions cache.block_words p is.made fits, (held, tt));
+  long = none_long (measure_task seed functions cache) d.shelf.contents refusal.SinkFault (λ x. x);
   ended = tt;
   done = tt;
   failed = λ _ _ _. record { program = p; layout = l; image = v; is = is; broke = broke; input = refl; beyond = beyond };
   refused = λ never. absurd (never tt);
-  shelf = keeps_shelf (measure_task seed functions cache) d.shelf (Err refusal.SinkFault) refl (refl, refl) (λ x. let never : ⊥ = cc in never);
+  shelf = keeps_shelf (measure_task seed functions cache) d.shelf (Err refusal.SinkFault) refl refl (refl, refl) refl (λ x. let never : ⊥ = cc in never);
+  input = refl;
   ram = keeps_run cache v d.ram ram beyond;
   causes = causes;
 }
@@ -290,7 +310,9 @@ ram_holds bytes words e = grind (arith, nat_tests)
 no_measure : (seed functions : ℕ) (cache : CacheOptions) (d : Devices) → size_refusal cache.cache_bytes (length d.ram.words) ≡ None →
     Answers (measure_task seed functions cache) d d (Err refusal.Memory) []
 no_measure seed functions cache d size =
-    late (measure_task seed functions cache) d d.shelf refusal.Memory 0 0 tt size (contents_stay d) refl refl (λ _ _. tt) (asked_none d.shelf.calls) (omega arith, omega arith, λ _. refl)
+    late (measure_task seed functions cache) d d.shelf refusal.Memory 0 0 tt size (contents_stay d) refl refl (λ _ _. tt)
+    (none_long (measure_task seed functions cache) d.shelf.contents refusal.Memory (λ x. x)) (asked_none d.shelf.calls) (omega arith, omega arith, λ _. refl)
+    (passed_none (measure_task seed functions cache) d.shelf d.shelf refusal.Memory 0 refl refl (omega arith, omega arith))
 
 pub made_memory : (seed functions : ℕ) (cache : CacheOptions) (d : Devices) (r : Refusal) → size_refusal cache.cache_bytes (length d.ram.words) ≡ None → r ≡ refusal.Memory →
     Answers (measure_task seed functions cache) d d (Err r) []
@@ -307,7 +329,9 @@ made_long seed functions cache p d r size made why = elim why [
     by : IsRefusedBy (measure_checks seed functions cache) r → IsAskedFor 0 0 d.shelf.last_failed (Err r) 0 0 → Answers (measure_task seed functions cache) d d (Err r) []
     by fails asked =
         late (measure_task seed functions cache) d d.shelf r 0 0 (refused_late (measure_checks seed functions cache) r fails) size (contents_stay d) refl refl
-        (λ _ _. checked_by (measure_checks seed functions cache) d.shelf.last_failed r fails) (asked_none d.shelf.calls) asked
+        (λ _ _. checked_by (measure_checks seed functions cache) d.shelf.last_failed r fails)
+        (none_long (measure_task seed functions cache) d.shelf.contents r (short_refused (measure_checks seed functions cache) r tt fails)) (asked_none d.shelf.calls) asked
+        (none_passed seed functions cache d.shelf r fails)
 
 -- the command answers what the run over its cache does
 pub measured_so : (seed functions : ℕ) (cache : CacheOptions) (p : ProgramData) (l : Layout) (v : ImageData) (d : Devices) (out : SinkState) (ram : RamState) (r : Result Ending Refusal) (k : Cache) → k ≡ cache_for cache v →

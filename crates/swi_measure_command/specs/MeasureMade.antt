@@ -118,8 +118,9 @@ abbrev pub measure_task : ℕ → ℕ → CacheOptions → Task
 measure_task seed functions cache = record {
   reads = [];
   Files = ⊤;
-  told = λ contents files. ⊤;
+  contents = λ files. [];
   writes = None;
+  takes_input = false;
   cache = Some cache.cache_bytes;
   checks = λ files. measure_checks seed functions cache;
   ends = λ e. ⊤;

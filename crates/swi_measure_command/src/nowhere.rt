@@ -10,7 +10,7 @@ use swi_outside::{Failed, Sink, Source};
 pub(crate) struct Nowhere;
 
 impl Source for Nowhere {
-    ghost state = { λ s. record { left = Some []; faults = 0 } };
+    ghost state = { λ s. record { given = []; left = Some []; faults = 0 } };
 
     fn read(&mut self, _: &mut [u8]) -> Result<usize, Failed> {
         Ok(0)

@@ -1,4 +1,5 @@
 pub mod Turning
+pub mod Stepping
 pub mod Bounds
 pub mod Booting
 pub mod Tracks
@@ -8,4 +9,5 @@ pub mod Standing
 pub mod Writing
 pub mod Apart
 pub mod Rounds
+pub mod Inputs
 pub mod RunLaws

@@ -222,7 +222,7 @@ pub record RunsOn (v : ImageData) (limit rate : ℕ) (old new : Whole) : Type 0 
 
 pub no_devices : Devices
 no_devices = record {
-  input = record { left = None; faults = 0 };
+  input = record { given = []; left = None; faults = 0 };
   output = record { held = None; faults = 0 };
   error = record { held = None; faults = 0 };
 }

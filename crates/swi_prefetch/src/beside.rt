@@ -2,6 +2,8 @@
 #![tactic(auto)]
 
 ghost use Rattle.std.specs.Prelude.{◌^◌, ◌<◌, IfOk, OnErr};
+ghost use Rattle.swi_outside.specs.Source.{HasGiven};
+ghost use Rattle.swi_outside.specs.Told.{AsTold};
 ghost use Rattle.swi_rom.specs.Writing.{FailedBelow};
 ghost use Rattle.swi_prefetch.specs.Turns.{Beside, EngineTurned, HartTurned};
 
@@ -43,7 +45,7 @@ pub fn turn<R: CopyEngine, M: CacheRam>(
 }
 
 /// One machine step of the hart; where the run has ended nothing is done. It follows each flat machine that the board
-/// matches, by a step or by none.
+/// matches, by a step or by none, on each input from which what was given may have been read.
 ///
 /// The board is as `Board::boot`, `step` and `turn` leave it, for this image and the ram; fewer than 2^48 original steps
 /// were made. After an error `failed` is true; each comes only where its device's count of faults rose.
@@ -58,7 +60,13 @@ pub fn step<R: CopyEngine, M: CacheRam, I: Source, O: Sink, E: Sink>(
     requires few { board.old.hart.machine.steps < 2 ^ 48 }
     requires beside { Beside R.service image.now
         (record { hart = board.old.hart; rom = board.old.rom; ram = M.state ram.old }) }
-    ensures turned { HartTurned R.service image.now
+    ensures gave { HasGiven (I.state input.old) (I.state input.new) }
+    ensures turned { AsTold (I.state input.old) (I.state input.new) (λ old new. HartTurned R.service image.now
+        (record { hart = board.old.hart; rom = board.old.rom; ram = M.state ram.old })
+        (record { hart = board.new.hart; rom = board.new.rom; ram = M.state ram.new })
+        (record { input = old; output = O.state out.old; error = E.state err.old })
+        (record { input = new; output = O.state out.new; error = E.state err.new }) result) }
+    ensures turned_directly { HartTurned R.service image.now
         (record { hart = board.old.hart; rom = board.old.rom; ram = M.state ram.old })
         (record { hart = board.new.hart; rom = board.new.rom; ram = M.state ram.new })
         (record { input = I.state input.old; output = O.state out.old; error = E.state err.old })

@@ -13,6 +13,8 @@ ghost use Rattle.swi_engine.specs.State.{setting_of};
 ghost use Rattle.swi_engine.specs.Sound.{EngineSound};
 ghost use Rattle.swi_outside.specs.Causes.{DeviceCause};
 ghost use Rattle.swi_outside.specs.Devices.{Devices, HasCauses};
+ghost use Rattle.swi_outside.specs.Source.{HasGiven};
+ghost use Rattle.swi_outside.specs.Told.{AsTold};
 ghost use Rattle.swi_prefetch.specs.Events.{of_hart, of_engine, round};
 ghost use Rattle.swi_prefetch.specs.Running.{AheadFailed, BrokeIn, CameOn, KeepsBehind, RanTo, RoundRises, RunBroke, SameHart, StepsUpTo, WordsUpTo, goes_below, whole};
 ghost use Rattle.swi_prefetch.specs.Tracking.{Begins, Leads};
@@ -109,13 +111,29 @@ impl Prefetch {
     ) -> Result<(), BoardFault>
         requires takes_turns { TakesTurns image.now self.old.board (M.state ram.old) }
         requires few { StepsFew self.old.board }
-        ensures turned { HartEvent image.now
+        ensures gave { HasGiven (I.state input.old) (I.state input.new) }
+        ensures turned { AsTold (I.state input.old) (I.state input.new) (λ old new. HartEvent image.now
+            (record { board = self.old.board; ram = M.state ram.old })
+            (record { board = self.new.board; ram = M.state ram.new })
+            (record { input = old; output = O.state out.old; error = E.state err.old })
+            (record { input = new; output = O.state out.new; error = E.state err.new }) result) }
+        ensures short { PcShort self.old.board }
+        ensures leads { AsTold (I.state input.old) (I.state input.new) (λ old new. OnOk result (Leads image.now
+            (of_hart ∷ []) self.old.board self.new.board
+            (record {
+              ram = M.state ram.old;
+              devices = record { input = old; output = O.state out.old; error = E.state err.old };
+            })
+            (record {
+              ram = M.state ram.new;
+              devices = record { input = new; output = O.state out.new; error = E.state err.new };
+            }))) }
+        ensures turned_directly { HartEvent image.now
             (record { board = self.old.board; ram = M.state ram.old })
             (record { board = self.new.board; ram = M.state ram.new })
             (record { input = I.state input.old; output = O.state out.old; error = E.state err.old })
             (record { input = I.state input.new; output = O.state out.new; error = E.state err.new }) result }
-        ensures short { PcShort self.old.board }
-        ensures leads { OnOk result (Leads image.now (of_hart ∷ []) self.old.board self.new.board
+        ensures leads_directly { OnOk result (Leads image.now (of_hart ∷ []) self.old.board self.new.board
             (record {
               ram = M.state ram.old;
               devices = record { input = I.state input.old; output = O.state out.old; error = E.state err.old };
@@ -196,7 +214,27 @@ impl Prefetch {
         requires few { StepsFew self.old.board }
         requires rate { rate ≤ 1024 }
         requires words { WordsUpTo (2 ^ 60 - 2048) self.old.board }
-        ensures came { OnOk result (CameOn image.now (round rate)
+        ensures gave { HasGiven (I.state input.old) (I.state input.new) }
+        ensures came { AsTold (I.state input.old) (I.state input.new) (λ old new. OnOk result (CameOn image.now (round rate)
+            (whole self.old.board (record {
+              ram = M.state ram.old;
+              devices = record { input = old; output = O.state out.old; error = E.state err.old };
+            }))
+            (whole self.new.board (record {
+              ram = M.state ram.new;
+              devices = record { input = new; output = O.state out.new; error = E.state err.new };
+            })))) }
+        ensures rises { OnOk result (RoundRises image.now self.old.board self.new.board) }
+        ensures broke { AsTold (I.state input.old) (I.state input.new) (λ old new. OnErr result (BrokeIn image.now [] rate
+            (whole self.old.board (record {
+              ram = M.state ram.old;
+              devices = record { input = old; output = O.state out.old; error = E.state err.old };
+            }))
+            (whole self.new.board (record {
+              ram = M.state ram.new;
+              devices = record { input = new; output = O.state out.new; error = E.state err.new };
+            })) result)) }
+        ensures came_directly { OnOk result (CameOn image.now (round rate)
             (whole self.old.board (record {
               ram = M.state ram.old;
               devices = record { input = I.state input.old; output = O.state out.old; error = E.state err.old };
@@ -205,8 +243,7 @@ impl Prefetch {
               ram = M.state ram.new;
               devices = record { input = I.state input.new; output = O.state out.new; error = E.state err.new };
             }))) }
-        ensures rises { OnOk result (RoundRises image.now self.old.board self.new.board) }
-        ensures broke { OnErr result (BrokeIn image.now [] rate
+        ensures broke_directly { OnErr result (BrokeIn image.now [] rate
             (whole self.old.board (record {
               ram = M.state ram.old;
               devices = record { input = I.state input.old; output = O.state out.old; error = E.state err.old };
@@ -236,7 +273,7 @@ impl Prefetch {
     /// Events in rounds, each of one machine step of the hart and then `rate` events of the engine, until `limit`
     /// original steps are made, or the run has ended. `limit` is at most 2^48, and no less than the steps made; `rate` is
     /// at most 1024. No device has failed, image and ram are as the last call left them, and the engine has written at
-    /// most 2^57 words to copy.
+    /// most 2^57 words to copy. The rounds are those on each input from which what was given may have been read.
     ///
     /// Each fault comes only where its device's count rose; then `failed` is true.
     pub fn run<M: CacheRam, I: Source, O: Sink, E: Sink>(
@@ -254,7 +291,26 @@ impl Prefetch {
         requires limit { limit ≤ 2 ^ 48 }
         requires rate { rate ≤ 1024 }
         requires words { WordsUpTo (2 ^ 57) self.old.board }
-        ensures ran { OnOk result (RanTo image.now limit rate
+        ensures gave { HasGiven (I.state input.old) (I.state input.new) }
+        ensures ran { AsTold (I.state input.old) (I.state input.new) (λ old new. OnOk result (RanTo image.now limit rate
+            (whole self.old.board (record {
+              ram = M.state ram.old;
+              devices = record { input = old; output = O.state out.old; error = E.state err.old };
+            }))
+            (whole self.new.board (record {
+              ram = M.state ram.new;
+              devices = record { input = new; output = O.state out.new; error = E.state err.new };
+            })))) }
+        ensures broke { AsTold (I.state input.old) (I.state input.new) (λ old new. OnErr result (RunBroke image.now limit rate
+            (whole self.old.board (record {
+              ram = M.state ram.old;
+              devices = record { input = old; output = O.state out.old; error = E.state err.old };
+            }))
+            (whole self.new.board (record {
+              ram = M.state ram.new;
+              devices = record { input = new; output = O.state out.new; error = E.state err.new };
+            })) result)) }
+        ensures ran_directly { OnOk result (RanTo image.now limit rate
             (whole self.old.board (record {
               ram = M.state ram.old;
               devices = record { input = I.state input.old; output = O.state out.old; error = E.state err.old };
@@ -263,7 +319,7 @@ impl Prefetch {
               ram = M.state ram.new;
               devices = record { input = I.state input.new; output = O.state out.new; error = E.state err.new };
             }))) }
-        ensures broke { OnErr result (RunBroke image.now limit rate
+        ensures broke_directly { OnErr result (RunBroke image.now limit rate
             (whole self.old.board (record {
               ram = M.state ram.old;
               devices = record { input = I.state input.old; output = O.state out.old; error = E.state err.old };

@@ -1,5 +1,5 @@
 -- A run on the cached machine beside whose hart an engine copies ahead, from what its parts say.
-use Rattle.std.proofs.Common.{◌≡◌, ◌⊎◌, inl, inr, ℕ, suc, ◌+◌, ◌-◌, ◌/◌, ◌^◌, ◌<◌, ◌≤◌, min, List, [], ◌∷◌, ◌++◌, length, reverse, take, if◌then◌else◌, Bool, true, Option, None, Some, Result, Ok, Err, IsErrOf, refl, sym, ◌∙◌, subst, ap, arith}
+use Rattle.std.proofs.Common.{◌≡◌, ◌⊎◌, inl, inr, ℕ, suc, ◌+◌, ◌-◌, ◌/◌, ◌^◌, ◌<◌, ◌≤◌, min, List, [], ◌∷◌, ◌++◌, length, take, if◌then◌else◌, Bool, true, Option, None, Some, Result, Ok, Err, IsErrOf, refl, sym, ◌∙◌, subst, ap, arith}
 use Rattle.std.proofs.Math.Nat.{div-mul-le_self}
 use Rattle.std.proofs.lemmas.List.{append-nil, reverse-reverse}
 use Rattle.std.specs.Io.KnownBytes.{Appends}
@@ -67,12 +67,12 @@ use Rattle.swi_prefetch_command.specs.RunAhead.{AheadFailed, HasFetchedEach, IsA
 use Rattle.swi_cached_command.specs.RunCached.{IsRunErr, cached_checks, held_next}
 use Rattle.swi_task.specs.Runs.{ending_by, start_of}
 use Rattle.swi_task.specs.Subject.{IsImageFor}
-use Rattle.swi_cached_command.proofs.Caching.{cached_to, fetches_are, front_none, keeps_all, keeps_less, ran_all, risen_min, run_err_asked, run_err_checked, run_err_not, run_err_size, to_nil}
+use Rattle.swi_cached_command.proofs.Caching.{cached_to, fetches_are, front_none, keeps_all, keeps_less, ran_all, risen_min, run_err_asked, run_err_given, run_err_short, run_err_checked, run_err_not, run_err_size, to_nil}
 use Rattle.swi_task.proofs.Due.{left_empty, right_empty}
 use Rattle.swi_task.proofs.Starts.{start_is}
 use Rattle.swi_task.proofs.Lines.{IsLined, after_line, after_run_line, appends_last, holds_then, ran_line, step_line}
 use Rattle.swi_prefetch_command.proofs.Losing.{fetched_each}
-use Rattle.swi_task.proofs.Refusals.{IsRead, calm_causes, causes_behind, causes_of, keeps_read, out_causes, rose_cause, same_count, sized_along, sized_err, sized_ok, told_is}
+use Rattle.swi_task.proofs.Refusals.{IsRead, calm_causes, causes_behind, causes_of, keeps_read, none_long, out_causes, read_is, rose_cause, same_count, sized_along, sized_err, sized_ok}
 
 -- ---- numbers and texts
 
@@ -566,9 +566,10 @@ ahead_answers name cache o rate d s i out e ram bytes v l (Ok x) size read accep
     let m : Devices = cached_to d s i out e ram in record {
       asked = λ y. let bad : ⊥ = cc in bad;
       sized = sized_along (size_refusal cache.cache_bytes (length d.ram.words)) (Ok x) size (sized_ok x);
-      checked = λ file told. subst (λ (f : List ℕ). IsAccepted (cached_checks o.limits cache f)) (told_is d.shelf.contents name file bytes told read.stands) accepted;
+      checked = λ file are. subst (λ (f : List ℕ). IsAccepted (cached_checks o.limits cache f)) (read_is read are refl) accepted;
+      long = λ limit y. absurd (let bad : ⊥ = cc in bad);
       ended = tt;
-      done = λ file told. subst (λ (f : List ℕ). (ahead_task name cache o rate).does f d m x []) (told_is d.shelf.contents name file bytes told read.stands) (
+      done = λ file are. subst (λ (f : List ℕ). (ahead_task name cache o rate).does f d m x []) (read_is read are refl) (
         v,
         own,
         run.beyond,
@@ -577,7 +578,8 @@ ahead_answers name cache o rate d s i out e ram bytes v l (Ok x) size read accep
       );
       failed = tt;
       refused = tt;
-      shelf = keeps_read (ahead_task name cache o rate) d.shelf s name bytes (Ok x) refl read (refl, refl) (λ y. let never : ⊥ = cc in never);
+      shelf = keeps_read (ahead_task name cache o rate) d.shelf s name bytes (Ok x) refl refl read (refl, refl) refl (λ y. let never : ⊥ = cc in never);
+      input = tt;
       ram = keeps_ahead cache.cache_bytes v d.ram ram run.beyond;
       causes = causes_behind d s m (Ok x) read.faults run.causes;
     }
@@ -585,11 +587,12 @@ ahead_answers name cache o rate d s i out e ram bytes v l (Err r) size read acce
     let m : Devices = cached_to d s i out e ram in record {
       asked = run_err_not r refusal.Usage run.refused (λ x. x);
       sized = sized_along (size_refusal cache.cache_bytes (length d.ram.words)) (Err r) size (sized_err r (run_err_size r run.refused));
-      checked = λ file told. subst (λ (f : List ℕ). IsChecked (cached_checks o.limits cache f) s.last_failed (Err r)) (told_is d.shelf.contents name file bytes told read.stands)
+      checked = λ file are. subst (λ (f : List ℕ). IsChecked (cached_checks o.limits cache f) s.last_failed (Err r)) (read_is read are refl)
           (run_err_checked (cached_checks o.limits cache bytes) s.last_failed r run.refused accepted);
+      long = none_long (ahead_task name cache o rate) d.shelf.contents r (run_err_short r run.refused);
       ended = tt;
       done = tt;
-      failed = λ fault file told. subst (λ (f : List ℕ). (ahead_task name cache o rate).fails f d m r []) (told_is d.shelf.contents name file bytes told read.stands) (
+      failed = λ fault file are. subst (λ (f : List ℕ). (ahead_task name cache o rate).fails f d m r []) (read_is read are refl) (
         v,
         own,
         run.beyond,
@@ -600,7 +603,8 @@ ahead_answers name cache o rate d s i out e ram bytes v l (Err r) size read acce
         record { input = ap (λ (y : Devices). y.input) same_all; output = ap (λ (y : Devices). y.output) same_all; ram = ap (λ (y : Devices). y.ram) same_all },
         subst (λ (y : SinkState). Appends d.error.held y.held []) (sym (ap (λ (y : Devices). y.error) same_all)) (Appends-none d.error.held),
       );
-      shelf = keeps_read (ahead_task name cache o rate) d.shelf s name bytes (Err r) refl read (run_err_asked s.last_failed r run.refused) (run_err_not r refusal.ShelfFault run.refused (λ x. x));
+      shelf = keeps_read (ahead_task name cache o rate) d.shelf s name bytes (Err r) refl refl read (run_err_asked s.last_failed r run.refused) (run_err_given s.last_failed r run.refused) (run_err_not r refusal.ShelfFault run.refused (λ x. x));
+      input = tt;
       ram = keeps_ahead cache.cache_bytes v d.ram ram run.beyond;
       causes = causes_behind d s m (Err r) read.faults run.causes;
     }

@@ -47,7 +47,7 @@ use Rattle.swi_task.specs.Devices.{Devices}
 use Rattle.swi_cached_command.specs.RunCached.{IsRunErr, cached_checks, held_next, held_taken}
 use Rattle.swi_task.specs.Runs.{FailedAfterRun, Ran, StepFailed, report, start_of}
 use Rattle.swi_task.specs.Subject.{IsImageFor}
-use Rattle.swi_task.specs.Task.{Task, Tells}
+use Rattle.swi_task.specs.Task.{Task}
 
 -- the run of a program in an image's blocks
 abbrev pub ahead_run : AheadAsked → ImageData → FlatState → AheadRun
@@ -171,8 +171,9 @@ abbrev pub ahead_task : List ℕ → CacheOptions → RunOptions → ℕ → Tas
 ahead_task name cache o rate = record {
   reads = name ∷ [];
   Files = List ℕ;
-  told = λ contents file. Tells contents name file;
+  contents = λ file. file ∷ [];
   writes = None;
+  takes_input = true;
   cache = Some cache.cache_bytes;
   checks = cached_checks o.limits cache;
   ends = λ e. ⊤;

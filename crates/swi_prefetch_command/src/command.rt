@@ -6,6 +6,8 @@ ghost use Rattle.swi_command.specs.CommandLine.{IsCacheInRange, IsInRange};
 ghost use Rattle.swi_engine.specs.State.{kept_by};
 ghost use Rattle.swi_outside.specs.Causes.{HasCause};
 ghost use Rattle.swi_outside.specs.Sink.{WritesPiece};
+ghost use Rattle.swi_outside.specs.Source.{HasGiven};
+ghost use Rattle.swi_outside.specs.Told.{AsTold};
 ghost use Rattle.swi_prefetch.specs.Prefetching.{has_failed};
 ghost use Rattle.swi_program.specs.Layout.{IsLayoutOf};
 ghost use Rattle.swi_program.specs.Text.{text_of, word_of};
@@ -83,7 +85,11 @@ fn run_to_end<I: Source, O: Sink, E: Sink, R: CacheRam>(
     requires held { asked.now.bytes ≤ 4 * length (R.state ram.old).words }
     requires laid_out { IsLayoutOf program.now.segments layout.now }
     requires own { IsImageOf (text_of program.now.segments) image.now }
-    ensures ran { (d : Devices) → RunsToEnd asked.now image.now program.now layout.now
+    ensures gave { HasGiven (I.state input.old) (I.state input.new) }
+    ensures ran { (d : Devices) → AsTold (I.state input.old) (I.state input.new) (λ before after. RunsToEnd asked.now image.now program.now layout.now
+        (record d { input = before; output = O.state out.old; error = E.state err.old; ram = R.state ram.old })
+        (record d { input = after; output = O.state out.new; error = E.state err.new; ram = R.state ram.new }) result) }
+    ensures ran_directly { (d : Devices) → RunsToEnd asked.now image.now program.now layout.now
         (record d { input = I.state input.old; output = O.state out.old; error = E.state err.old; ram = R.state ram.old })
         (record d { input = I.state input.new; output = O.state out.new; error = E.state err.new; ram = R.state ram.new }) result }
     ensures unfailed { IfOk result (λ x. has_failed x.board ≡ false) }
@@ -165,7 +171,11 @@ fn run_over<I: Source, O: Sink, E: Sink, R: CacheRam>(
     requires held { asked.now.bytes ≤ 4 * length (R.state ram.old).words }
     requires laid_out { IsLayoutOf program.now.segments layout.now }
     requires own { IsImageOf (text_of program.now.segments) image.now }
-    ensures { (d : Devices) → RunsWithReport asked.now image.now program.now layout.now
+    ensures gave { HasGiven (I.state input.old) (I.state input.new) }
+    ensures ran { (d : Devices) → AsTold (I.state input.old) (I.state input.new) (λ before after. RunsWithReport asked.now image.now program.now layout.now
+        (record d { input = before; output = O.state out.old; error = E.state err.old; ram = R.state ram.old })
+        (record d { input = after; output = O.state out.new; error = E.state err.new; ram = R.state ram.new }) result) }
+    ensures ran_directly { (d : Devices) → RunsWithReport asked.now image.now program.now layout.now
         (record d { input = I.state input.old; output = O.state out.old; error = E.state err.old; ram = R.state ram.old })
         (record d { input = I.state input.new; output = O.state out.new; error = E.state err.new; ram = R.state ram.new }) result }
 {
@@ -194,7 +204,11 @@ fn run_placed<I: Source, O: Sink, E: Sink, R: CacheRam>(
     requires held { asked.now.bytes ≤ 4 * length (R.state ram.old).words }
     requires laid_out { IsLayoutOf placed.now.subject.program.segments placed.now.layout }
     requires own { IsImageOf (text_of placed.now.subject.program.segments) (view_of placed.now.subject.image) }
-    ensures { (d : Devices) → RunsWithReport asked.now (view_of placed.now.subject.image) placed.now.subject.program placed.now.layout
+    ensures gave { HasGiven (I.state input.old) (I.state input.new) }
+    ensures ran { (d : Devices) → AsTold (I.state input.old) (I.state input.new) (λ before after. RunsWithReport asked.now (view_of placed.now.subject.image) placed.now.subject.program placed.now.layout
+        (record d { input = before; output = O.state out.old; error = E.state err.old; ram = R.state ram.old })
+        (record d { input = after; output = O.state out.new; error = E.state err.new; ram = R.state ram.new }) result) }
+    ensures ran_directly { (d : Devices) → RunsWithReport asked.now (view_of placed.now.subject.image) placed.now.subject.program placed.now.layout
         (record d { input = I.state input.old; output = O.state out.old; error = E.state err.old; ram = R.state ram.old })
         (record d { input = I.state input.new; output = O.state out.new; error = E.state err.new; ram = R.state ram.new }) result }
 {
@@ -234,7 +248,11 @@ pub fn prefetch<F: Shelf, I: Source, O: Sink, E: Sink, R: CacheRam>(
     requires ranges { IsInRange options.now.limits }
     requires sizes { IsCacheInRange cache.now }
     requires rate { rate ≤ 1024 }
-    ensures { Answers (ahead_task name.now cache.now options.now rate)
+    ensures gave { HasGiven (I.state input.old) (I.state input.new) }
+    ensures answers { AsTold (I.state input.old) (I.state input.new) (λ before after. Answers (ahead_task name.now cache.now options.now rate)
+        (seen (F.state shelf.old) before (O.state out.old) (E.state err.old) (R.state ram.old))
+        (seen (F.state shelf.new) after (O.state out.new) (E.state err.new) (R.state ram.new)) result []) }
+    ensures answers_directly { Answers (ahead_task name.now cache.now options.now rate)
         (seen (F.state shelf.old) (I.state input.old) (O.state out.old) (E.state err.old) (R.state ram.old))
         (seen (F.state shelf.new) (I.state input.new) (O.state out.new) (E.state err.new) (R.state ram.new)) result [] }
 {

@@ -6,7 +6,7 @@ use Rattle.swi_image.specs.Format.{ImageData}
 use Rattle.swi_image.specs.Place.{place_of, word_at, length_at}
 use Rattle.swi_image.specs.Laws.{place_inside}
 use Rattle.swi_outside.specs.CacheRam.{RamState}
-use Rattle.swi_chain.specs.Chains.{Has}
+use Rattle.swi_links.specs.Chains.{Has}
 use Rattle.swi_rom.specs.Record.{Record, Placement, Link, Transfer, direct, indirect, target_of, Placed, has_link, same_link, exit_among, is_linked, writes, reaches}
 use Rattle.swi_rom.specs.Record.{Has as HasPlacement}
 use Rattle.swi_rom.specs.Coherent.{TargetAt, ExitAt, IsExit}

@@ -5,13 +5,13 @@ use Rattle.swi_image.specs.Format.{ImageData}
 use Rattle.swi_image.specs.Sound.{IsImage}
 use Rattle.swi_rom.specs.Record.{Link, empty_record}
 use Rattle.swi_rom.specs.Collected.{collected}
-use Rattle.swi_chain.specs.Chains.{ChainsData}
+use Rattle.swi_links.specs.Chains.{ChainsData}
 use Rattle.swi_ring.specs.Queue.{QueueData}
 use Rattle.swi_ring.specs.Ring.{Ring, InShape, target_at, queue_of, link_at, links_of, kept_by}
 use Rattle.swi_ring.specs.Sound.{RingSound}
 use Rattle.swi_ring.specs.Steps.{empty_ring}
 use Rattle.swi_ring.specs.Coheres.{none_link_at}
-use Rattle.swi_chain.specs.Lists.{holder_empty}
+use Rattle.swi_links.specs.Lists.{holder_empty}
 
 blocks_long : (words blocks : ℕ) → length (empty_ring words blocks).firsts ≡ blocks
 blocks_long words blocks = length-replicate {A = ℕ} blocks words

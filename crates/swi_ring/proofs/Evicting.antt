@@ -1,14 +1,14 @@
 -- The oldest block leaves, as the code meets it.
 use Rattle.std.proofs.Common.{◌≡◌, ℕ, ◌+◌, ◌<◌, ◌≤◌, List, ◌∷◌, length, slice_index, slice_index_or, slice_set, if◌then◌else◌, arith, sym, ◌∙◌, ap, subst}
 use Rattle.std.proofs.lemmas.List.{get_or_read}
-use Rattle.swi_chain.specs.Chains.{ChainsData, Has}
+use Rattle.swi_links.specs.Chains.{ChainsData, Has}
 use Rattle.swi_ring.specs.Ring.{Ring, InShape, first_at, target_at}
 use Rattle.swi_ring.proofs.Shapes.{index_has}
 use Rattle.swi_outside.specs.CacheRam.{RamState}
 use Rattle.swi_rom.specs.Writing.{Wrote}
 use Rattle.swi_rom.specs.declared.rom.Counts.{Counts}
-use Rattle.swi_undo.specs.Undone.{coming_in, is_dropped}
-use Rattle.swi_undo.specs.Gone.{Gone}
+use Rattle.swi_links.specs.Undone.{coming_in, is_dropped}
+use Rattle.swi_links.specs.Gone.{Gone}
 use Rattle.swi_ring.specs.Steps.{Left}
 use Rattle.swi_ring.proofs.Receding.{left_shape}
 

@@ -5,18 +5,18 @@ use Rattle.std.proofs.lemmas.List.{get_or-set_same, get_or-set_other}
 use Rattle.swi_image.specs.Format.{ImageData}
 use Rattle.swi_image.specs.Place.{place_of, word_at, length_at}
 use Rattle.swi_outside.specs.CacheRam.{RamState}
-use Rattle.swi_chain.specs.Chains.{Has}
+use Rattle.swi_links.specs.Chains.{Has}
 use Rattle.swi_rom.specs.Record.{Link, Placed, is_linked, IsJump}
 use Rattle.swi_rom.specs.Policy.{with_link, first_of}
 use Rattle.swi_rom.specs.Coherent.{IsExit}
 use Rattle.swi_rom.specs.Collected.{length_with_all}
 use Rattle.swi_rom.specs.Found.{first_in_has}
-use Rattle.swi_chain.specs.Holders.{holder_of}
+use Rattle.swi_links.specs.Holders.{holder_of}
 use Rattle.swi_ring.specs.Ring.{Ring, first_at, target_at, queue_of, link_at, links_of, kept_by}
 use Rattle.swi_ring.specs.Sound.{RingSound}
 use Rattle.swi_ring.specs.Steps.{Linked}
 use Rattle.swi_ring.specs.Coheres.{Tidy, placed_has, has_placed, word_below, some_link_at, none_link_at, differ_at, exit_is, same_word, linked_is}
-use Rattle.swi_chain.specs.Lists.{linked_lists, linked_here, linked_other, unheld_free}
+use Rattle.swi_links.specs.Lists.{linked_lists, linked_here, linked_other, unheld_free}
 use Rattle.swi_ring.proofs.Gathered.{collected_more}
 use Rattle.swi_ring.proofs.Shapes.{linked_shape}
 

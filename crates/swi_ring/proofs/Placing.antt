@@ -7,7 +7,7 @@ use Rattle.swi_image.specs.Format.{ImageData}
 use Rattle.swi_image.specs.Place.{word_at, length_at}
 use Rattle.swi_image.specs.Sound.{IsImage}
 use Rattle.swi_outside.specs.CacheRam.{RamState}
-use Rattle.swi_chain.specs.Chains.{Has}
+use Rattle.swi_links.specs.Chains.{Has}
 use Rattle.swi_rom.specs.Record.{Record, Placement, Link, Placed, has_link, IsJump}
 use Rattle.swi_rom.specs.Record.{Has as HasPlacement}
 use Rattle.swi_rom.specs.Policy.{is_placed, counted, more_services}
@@ -15,6 +15,7 @@ use Rattle.swi_rom.specs.Served.{WordsMove, NewlyPlaced, LinkChanged}
 use Rattle.swi_rom.specs.Writing.{Wrote, Copied}
 use Rattle.swi_rom.specs.Policy.{more_service}
 use Rattle.swi_rom.specs.Rams.{wrote_none, wrote_more, wrote_wider}
+use Rattle.swi_rom.proofs.Moving.{moves_from}
 use Rattle.swi_rom.specs.declared.rom.Counts.{Counts}
 use Rattle.swi_ring.specs.Fifo.{appended, placed, arrived, first_for}
 use Rattle.swi_ring.specs.Ring.{Ring, first_at, target_at, spot, queue_of, exit_of, link_at, links_of, behind, kept_by}
@@ -303,38 +304,6 @@ unchanged v r t a e = record {
   changes = λ i. inl refl;
   restored = λ k f was is h h'. absurd (both_ways (has_link t.links k) is (ap (λ (ls : List Link). has_link ls k) (sym e) ∙ was));
 }
-
--- the counts are no part of what changes
-moves_from : (v : ImageData) (old r new : Record) (before after : RamState) → old.placed ≡ r.placed → old.links ≡ r.links → old.turn ≡ r.turn → WordsMove v old new before after → WordsMove v r new before after
-unfolding Placed
-moves_from v old r new before after e f g w = record {
-  changes = λ i. elim (w.changes i) [
-    | inl same ↦ inl same
-    | inr c ↦ elim c [
-      | inl n ↦ inr (inl (record {
-        block = n.block;
-        first = n.first;
-        offset = n.offset;
-        stands = n.stands;
-        is_new = λ h. n.is_new (was_has old r n.block n.first e g h);
-        inside = n.inside;
-        index = n.index;
-      }))
-      | inr l ↦ inr (inr (record {
-        link = l.link;
-        first = l.first;
-        stood = elim l.stood [ inl h ↦ inl (subst (λ (es : List Placement). HasPlacement es (record { program = l.link.program; block = l.link.block; first = l.first })) e h) | inr h ↦ inr h ];
-        changed = λ same. l.changed (ap (λ (ls : List Link). has_link ls l.link) f ∙ same);
-        index = l.index;
-      }))
-    ]
-  ];
-  restored = λ k f' was is h h'. w.restored k f' (ap (λ (ls : List Link). has_link ls k) f ∙ was) is
-      (subst (λ (es : List Placement). HasPlacement es (record { program = k.program; block = k.block; first = f' })) (sym e) h) h';
-}
-  where
-    was_has : (old r : Record) (b g : ℕ) → old.placed ≡ r.placed → old.turn ≡ r.turn → HasPlacement r.placed (record { program = r.turn; block = b; first = g }) → HasPlacement old.placed (record { program = old.turn; block = b; first = g })
-    was_has old r b g e t h = subst (λ (p : ℕ). HasPlacement old.placed (record { program = p; block = b; first = g })) (sym t) (subst (λ (es : List Placement). HasPlacement es (record { program = r.turn; block = b; first = g })) (sym e) h)
 
 -- which words have changed
 filled_words : (v : ImageData) (s u : Ring) (c p n : ℕ) (a b d : RamState) → RingSound s v a.words → (Has s.queue c → ⊥) → Receded v s u a b → Taken v u c p n b d → WordsMove v (kept_by s) (kept_by (settled u c p n)) a d

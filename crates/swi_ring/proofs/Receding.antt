@@ -5,7 +5,7 @@ use Rattle.std.proofs.lemmas.List.{length-set, get_or-set_same, get_or-set_other
 use Rattle.swi_image.specs.Format.{ImageData}
 use Rattle.swi_image.specs.Place.{word_at, length_at}
 use Rattle.swi_outside.specs.CacheRam.{RamState}
-use Rattle.swi_chain.specs.Chains.{ChainsData, Has, Distinct}
+use Rattle.swi_links.specs.Chains.{ChainsData, Has, Distinct}
 use Rattle.swi_rom.specs.Record.{Record, Placement, Link, has_link, ebreak, IsJump}
 use Rattle.swi_rom.specs.Record.{Has as HasPlacement}
 use Rattle.swi_rom.specs.Policy.{is_undone, is_kept, evicted}
@@ -14,13 +14,13 @@ use Rattle.swi_rom.specs.Rams.{wrote_more}
 use Rattle.swi_rom.specs.Collected.{has_filter, length_collected, passing, passes}
 use Rattle.swi_rom.specs.Collected.{undone_apart}
 use Rattle.swi_rom.specs.declared.rom.Counts.{Counts}
-use Rattle.swi_chain.specs.Holders.{holder_of}
-use Rattle.swi_undo.specs.Undone.{is_own, comes_in, coming_in, is_dropped}
+use Rattle.swi_links.specs.Holders.{holder_of}
+use Rattle.swi_links.specs.Undone.{is_own, comes_in, coming_in, is_dropped}
 use Rattle.swi_ring.specs.Ring.{Ring, InShape, first_at, target_at, spot, queue_of, exit_of, link_at, links_of, behind, kept_by}
 use Rattle.swi_ring.specs.Sound.{RingSound, LinkStands, IsOwned}
 use Rattle.swi_ring.specs.Steps.{Left, Undid, Receded}
 use Rattle.swi_ring.specs.Coheres.{spots_have, have_spots, word_below, link_at_some, some_link_at, differ_at, link_of, found_at, has_found, same_word}
-use Rattle.swi_undo.specs.Tells.{own_is, is_own_from, own_tells, comes_tells, none_tells, other_tells}
+use Rattle.swi_links.specs.Tells.{own_is, is_own_from, own_tells, comes_tells, none_tells, other_tells}
 use Rattle.swi_ring.proofs.Gathered.{collected_filter}
 
 -- the ring without its oldest block

@@ -2,15 +2,15 @@
 use Rattle.std.proofs.Common.{◌≡◌, ℕ, ◌+◌, ◌-◌, ◌<◌, ◌↔◌, List, Option, Some, None, length, slice_index, arith, sym, ◌∙◌, ap, subst}
 use Rattle.swi_image.specs.Format.{ImageData}
 use Rattle.swi_image.specs.Place.{length_at}
-use Rattle.swi_chain.specs.Chains.{Has, IsApart, list_of}
-use Rattle.swi_chain.specs.Holders.{holder_of}
+use Rattle.swi_links.specs.Chains.{Has, IsApart, list_of}
+use Rattle.swi_links.specs.Holders.{holder_of}
 use Rattle.swi_ring.specs.Ring.{Ring, first_at, target_at, links_of, kept_by}
 use Rattle.swi_ring.specs.Sound.{RingSound}
 use Rattle.swi_ring.specs.Chained.{LinkTo}
 use Rattle.swi_ring.specs.Coheres.{placed_has, has_placed, link_of, has_found, link_found}
 use Rattle.swi_rom.specs.Links.{has_among}
-use Rattle.swi_chain.specs.Lists.{holder_has}
-use Rattle.swi_chain.specs.Lists.{holder_is}
+use Rattle.swi_links.specs.Lists.{holder_has}
+use Rattle.swi_links.specs.Lists.{holder_is}
 
 into : (s : Ring) (v : ImageData) (words : List ℕ) (b i : ℕ) → IsApart s.chains → RingSound s v words → Has (list_of s.chains b) i → LinkTo v (kept_by s) b i
 into s v words b i apart sound h =

@@ -5,14 +5,14 @@ use Rattle.std.proofs.lemmas.Bool.Decides.{nat_tests}
 use Rattle.std.proofs.lemmas.List.{length-set, get_or_read, get_or-set_same, get_or-set_other}
 use Rattle.std.proofs.lemmas.Map.Steps.{length-le_from_distinct_below}
 use Rattle.std.specs.List.{AllByRecursion, IsDistinct, list_any}
-use Rattle.swi_chain.specs.Chains.{ChainsData, Has, Distinct, IsFree}
+use Rattle.swi_links.specs.Chains.{ChainsData, Has, Distinct, IsFree}
 use Rattle.swi_rom.specs.Coherent.{resident_of}
 use Rattle.swi_rom.specs.declared.rom.Counts.{Counts}
 use Rattle.swi_ring.specs.Fifo.{first_for}
 use Rattle.swi_ring.specs.Ring.{Ring, InShape, first_at, target_at, stands_at, shown_by, behind, kept_by}
 use Rattle.swi_ring.specs.Steps.{marked, first_in}
 use Rattle.swi_ring.specs.Coheres.{has_or, resident_is, resident_none}
-use Rattle.swi_chain.specs.Lists.{linked_lists, unheld_free}
+use Rattle.swi_links.specs.Lists.{linked_lists, unheld_free}
 
 -- lists of blocks
 pub index_has : (xs : List ℕ) (k : ℕ) → k < length xs → Has xs (slice_index xs k)

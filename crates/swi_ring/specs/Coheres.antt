@@ -5,7 +5,7 @@ use Rattle.std.proofs.lemmas.Bool.Decides.{nat_tests}
 use Rattle.swi_image.specs.Format.{ImageData}
 use Rattle.swi_image.specs.Place.{word_at, length_at}
 use Rattle.swi_image.specs.Sound.{IsImage}
-use Rattle.swi_chain.specs.Chains.{Has, Distinct}
+use Rattle.swi_links.specs.Chains.{Has, Distinct}
 use Rattle.swi_rom.specs.Record.{Placement, Link, has_link, is_linked, Placed, IsJump}
 use Rattle.swi_rom.specs.Record.{Has as HasPlacement}
 use Rattle.swi_rom.specs.Coherent.{Coherent, TargetAt, StandsAt, resident_of, pair_of}

@@ -3,9 +3,9 @@ use Rattle.std.specs.Prelude.{◌≡◌, ℕ, suc, zero, ◌+◌, ◌-◌, ◌<�
 use Rattle.swi_rom.specs.Record.{Record, Placement, Link}
 use Rattle.swi_rom.specs.Service.{Setting}
 use Rattle.swi_rom.specs.Collected.{collected}
-use Rattle.swi_chain.specs.Chains.{ChainsData, Has, Distinct}
+use Rattle.swi_links.specs.Chains.{ChainsData, Has, Distinct}
 use Rattle.swi_rom.specs.declared.rom.Counts.{Counts}
-use Rattle.swi_chain.specs.Holders.{holder_of}
+use Rattle.swi_links.specs.Holders.{holder_of}
 
 pub record Ring : Type 0 where
   -- how many words

@@ -6,7 +6,7 @@ use Rattle.swi_image.specs.Sound.{IsImage}
 use Rattle.swi_rom.specs.Record.{IsJump}
 use Rattle.swi_rom.specs.Coherent.{IsExit}
 use Rattle.swi_rom.specs.Policy.{more_service}
-use Rattle.swi_chain.specs.Chains.{Has}
+use Rattle.swi_links.specs.Chains.{Has}
 use Rattle.swi_ring.specs.Ring.{Ring, InShape, first_at, target_at, links_of, goals_by}
 
 -- word o of a placed block is a link, the jump that stands there leads to its target's place, and its goal is kept

@@ -8,8 +8,8 @@ use Rattle.swi_rom.specs.Record.{Has as HasPlacement}
 use Rattle.swi_rom.specs.Served.{WordsMove}
 use Rattle.swi_rom.specs.Writing.{Wrote, Copied}
 use Rattle.swi_rom.specs.Policy.{more_service}
-use Rattle.swi_chain.specs.Chains.{Has, list_of}
-use Rattle.swi_undo.specs.Undone.{comes_in, coming_in, is_dropped}
+use Rattle.swi_links.specs.Chains.{Has, list_of}
+use Rattle.swi_links.specs.Undone.{comes_in, coming_in, is_dropped}
 use Rattle.swi_ring.specs.Fifo.{cleared, arrived, first_for}
 use Rattle.swi_rom.specs.Policy.{counted}
 use Rattle.swi_ring.specs.Ring.{Ring, first_at, target_at, links_of, kept_by, setting_of, queue_of}

@@ -7,7 +7,7 @@ ghost use Rattle.swi_image.specs.Place.{length_at};
 ghost use Rattle.swi_image.specs.Sound.{IsImage};
 ghost use Rattle.swi_rom.specs.Record.{empty_record, reaches};
 ghost use Rattle.swi_rom.specs.Writing.{FailedBelow};
-ghost use Rattle.swi_chain.specs.Chains.{Has, list_of};
+ghost use Rattle.swi_links.specs.Chains.{Has, list_of};
 ghost use Rattle.swi_ring.specs.Chained.{LinkTo};
 ghost use Rattle.swi_ring.specs.Ring.{Ring, InShape, shown_by, kept_by, stands_at, target_at};
 ghost use Rattle.swi_ring.specs.Sound.{RingSound};
@@ -16,11 +16,10 @@ ghost use Rattle.swi_ring.specs.Steps.{empty_ring, marked, Left, MadeRoom, Fille
 use crate::queue::BlockQueue;
 use std::alloc::Global;
 use std::marker::Model;
-use swi_chain::Chains;
 use swi_image::{Hints, ImageView};
+use swi_links::{Chains, undo};
 use swi_outside::{CacheRam, Failed, Memory};
 use swi_rom::{CacheRom, Counts, RomStop, copy, jump, reach};
-use swi_undo::undo;
 
 /// A cache in which each block takes as many words as it has: it stands behind the block that was placed last, or from
 /// the first word on where it doesn't fit there. While the words where it is to stand are not free, the oldest block
@@ -132,14 +131,7 @@ impl RingRom {
             owners,
             chains,
             goals,
-            counts: Counts {
-                services: 0,
-                misses: 0,
-                evictions: 0,
-                links: 0,
-                unlinks: 0,
-                copied: 0,
-            },
+            counts: Counts::NONE,
             hints,
         })
     }

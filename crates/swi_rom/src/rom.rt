@@ -27,6 +27,18 @@ pub struct Counts {
     pub copied: u64,
 }
 
+impl Counts {
+    /// The counts of a service that has done nothing.
+    pub const NONE: Counts = Counts {
+        services: 0,
+        misses: 0,
+        evictions: 0,
+        links: 0,
+        unlinks: 0,
+        copied: 0,
+    };
+}
+
 /// Why a service gives no index.
 #[derive(Clone, Copy, Debug, PartialEq, Eq)]
 pub enum RomStop {

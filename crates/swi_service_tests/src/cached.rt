@@ -14,13 +14,13 @@ use swi_calls::End::{self, *};
 use swi_cut::cut;
 use swi_devices::{FaultRam, MemSink, MemSource};
 use swi_exec::FaultKind::*;
-use swi_fifo::FifoRom;
 use swi_image::ImageView;
 use swi_memory::Layout;
 use swi_micro::DecodedRam;
 use swi_outside::CacheRam;
 use swi_program::{Program, lay_out};
 use swi_rom::CacheRom;
+use swi_slots::FifoRom;
 use swi_trace::{History, Trace};
 
 mod board;

@@ -4,11 +4,9 @@
 #[cfg(test)]
 mod cached;
 #[cfg(test)]
-mod chain;
-#[cfg(test)]
 mod engine;
 #[cfg(test)]
-mod fifo;
+mod links;
 #[cfg(test)]
 mod prefetch;
 #[cfg(test)]
@@ -16,6 +14,6 @@ mod programs;
 #[cfg(test)]
 mod ring;
 #[cfg(test)]
-mod transfers;
+mod slots;
 #[cfg(test)]
-mod undo;
+mod transfers;

@@ -152,8 +152,8 @@ counted s words g c sharing is =
     let p : Process = at.0 in
     let seat = sharing.seated g p at.1 in
     let h : HartData = seat.hart in
-    let own : ◌≡◌ {A = Option Context} (Some (context h p.image p.input)) (Some c) = sym (ap (λ (x : Option HartData). context_by x p.image p.input) seat.is) ∙ at.2 in
-    let same : context h p.image p.input ≡ c = same_Some (context h p.image p.input) c own in (
+    let own : ◌≡◌ {A = Option Context} (Some (context h p.image p.input.left)) (Some c) = sym (ap (λ (x : Option HartData). context_by x p.image p.input.left) seat.is) ∙ at.2 in
+    let same : context h p.image p.input.left ≡ c = same_Some (context h p.image p.input.left) c own in (
       subst (λ (x : Context). x.count ≤ most_steps x.machine.ending x.machine.steps) same seat.waits.bounded,
       subst (λ (x : Context). x.booted ≡ false → x.count ≡ 0) same seat.waits.unbooted,
     )

@@ -1,8 +1,7 @@
 -- A run of one step makes an event.
-use Rattle.std.proofs.Common.{◌≡◌, ◌⊎◌, ℕ, ◌+◌, ◌-◌, ◌*◌, ◌<◌, ◌≤◌, ◌^◌, Bool, true, false, not, List, [], ◌++◌, length, reverse, Option, Some, None, is_some, if◌then◌else◌, Result, Ok, Err, IsErrOf, arith, refl, sym, ◌∙◌, ap, subst, inl, inr, append-nil}
+use Rattle.std.proofs.Common.{◌≡◌, ℕ, ◌+◌, ◌-◌, ◌*◌, ◌<◌, ◌≤◌, ◌^◌, Bool, true, false, not, List, [], ◌++◌, reverse, Option, Some, None, is_some, if◌then◌else◌, Result, Ok, Err, IsErrOf, arith, refl, sym, ◌∙◌, ap, subst, inl, inr}
 use Rattle.std.proofs.lemmas.Bool.{false≢true, and_from, eq-eqb}
 use Rattle.std.proofs.lemmas.Option.{same_Some}
-use Rattle.std.specs.Io.KnownBytes.{Appends}
 use Rattle.swi_calls.specs.declared.end.End.{End}
 use Rattle.swi_calls.specs.declared.machine.Machine.{Machine}
 use Rattle.swi_calls.specs.Flat.{started}
@@ -26,7 +25,7 @@ use Rattle.swi_hart.specs.declared.hart.Control.TheVariants.{At, Outside}
 use Rattle.swi_hart.specs.Hart.{HartData, is_between, is_place, is_fall, place_under}
 use Rattle.swi_hart.specs.Bounds.{depth, most, most_by}
 use Rattle.swi_hart.specs.Leaving.{RamFailed, RamServed}
-use Rattle.swi_hart.specs.Matching.{StandsBy, Fits, Matches}
+use Rattle.swi_hart.specs.Matching.{StandsBy, Fits}
 use Rattle.swi_hart.specs.declared.fault.BoardFault.{BoardFault}
 use Rattle.swi_hart.specs.declared.fault.BoardFault.TheVariants.{RamFault, SourceFault, SinkFault}
 use Rattle.swi_board.specs.Board.{BoardOf, BoardWithDevices, entries}
@@ -34,8 +33,8 @@ use Rattle.swi_board.specs.BoardRan.{Along, BoardRan, BoardStays, BrokeOff}
 use Rattle.swi_board.specs.Fetching.{words_run}
 use Rattle.swi_board.specs.Moments.{GoesOn, Moment, events}
 use Rattle.swi_board.specs.Ran.{RamRan, Unasked, next_of}
-use Rattle.swi_board.specs.Tracking.{Came, Point, Tracks, point_of}
-use Rattle.swi_board.specs.Transfers.{Here, here_of, here_run, transfers, cost, fetches, after_all}
+use Rattle.swi_board.specs.Tracking.{Came, Tracks, point_of}
+use Rattle.swi_board.specs.Transfers.{Here, here_of, here_run, transfers, cost, fetches}
 use Rattle.swi_board.proofs.Along.{same_between}
 use Rattle.swi_board.proofs.Held.{same_steps}
 use Rattle.swi_board.proofs.Tracks.{kept_both}
@@ -49,7 +48,7 @@ use Rattle.swi_outside.specs.Causes.{Rose, risen}
 use Rattle.swi_outside.specs.Devices.{Faults, HasCauses, faults_of}
 use Rattle.swi_outside.specs.Laws.{Appends-none, cause_as, cause_from, causes_from, named_as}
 use Rattle.swi_share.specs.Waiting.{WaitsAt, Holds, Waits, most_steps}
-use Rattle.swi_share.specs.Shared.{Context, Event, place_by, enters, entered_if, begun_if, step_event}
+use Rattle.swi_share.specs.Shared.{Context, Event, place_by, enters, begun_if, step_event}
 use Rattle.swi_share.specs.Event.{Boarded, EventDevices, EventMade, HartEvent, StepBroke, board_with, context, devices_of, event_at, instructions_from, moment_by, moment_of, point_with}
 use Rattle.swi_share.proofs.Few.{Counted, run_counted, bounded_after, entered_services, entered_writes, all_writes, all_extent}
 
@@ -186,14 +185,17 @@ pub record Entry (v : ImageData) (old b : BoardOf Slots) (before mid : RamState)
   pub unused : SameFrom (extent_of (setting_of old.rom) (kept_by b.rom)) before.words mid.words
   pub keeps : Keeps slots_service v old.rom b.rom before.words mid.words
 
--- the board before its run
-abbrev pub boarded_with : BoardOf Slots → EventDevices → RamState → BoardWithDevices Slots
-boarded_with b before mid = board_with b (record before { ram = mid })
+-- the board with the devices of an event, whose input gave these bytes before; and so before its run
+abbrev pub board_on : BoardOf Slots → EventDevices → List ℕ → BoardWithDevices Slots
+board_on b d given = record (board_with b d) { devices = record (devices_of d) { input = record { given = given; left = Some d.left; faults = 0 } } }
+
+abbrev pub boarded_with : BoardOf Slots → EventDevices → List ℕ → RamState → BoardWithDevices Slots
+boarded_with b before given mid = board_on b (record before { ram = mid }) given
 
 risen_none : (n : ℕ) → n ≡ risen n 0
 risen_none n = grind arith
 
-module _ (v : ImageData) (old b : BoardOf Slots) (before : EventDevices) (mid : RamState) (entry : Entry v old b before.ram mid) (n : ℕ) (one : n ≡ old.hart.machine.steps + 1) where
+module _ (v : ImageData) (old b : BoardOf Slots) (before : EventDevices) (given given' : List ℕ) (mid : RamState) (entry : Entry v old b before.ram mid) (n : ℕ) (one : n ≡ old.hart.machine.steps + 1) where
   abbrev by : Setting
   by = setting_of old.rom
 
@@ -207,20 +209,20 @@ module _ (v : ImageData) (old b : BoardOf Slots) (before : EventDevices) (mid : 
   steps_same = ap (λ (h : HartData). h.machine.steps) entry.boarded.hart
 
   -- the run came to its end, and left hart and service so
-  module _ (new : BoardOf Slots) (after : EventDevices) {u : Unit} (ran : BoardRan slots_service v n (boarded_with b before mid) (board_with new after) (Ok u)) where
+  module _ (new : BoardOf Slots) (after : EventDevices) {u : Unit} (ran : BoardRan slots_service v n (boarded_with b before given mid) (board_on new after given') (Ok u)) where
     abbrev done : FlatState
     done = held_run 1 flat
 
-    stays : BoardStays slots_service v n (boarded_with b before mid) (board_with new after)
-    stays = subst (λ (w : BoardWithDevices Slots). BoardStays slots_service v n (boarded_with b before mid) w) (sym ran.ends.0) ran.along.stays
+    stays : BoardStays slots_service v n (boarded_with b before given mid) (board_on new after given')
+    stays = subst (λ (w : BoardWithDevices Slots). BoardStays slots_service v n (boarded_with b before given mid) w) (sym ran.ends.0) ran.along.stays
 
-    made : RanSteps (fifo by) v 1 flat (point_of slots_service (boarded_with b before mid)) (point_with new after)
+    made : RanSteps (fifo by) v 1 flat (point_of slots_service (boarded_with b before given mid)) (point_with new after)
     made =
         let same = steps_same in
         let all : n - b.hart.machine.steps ≡ 1 = omega (arith, one, same) in
-        subst (λ (s : Setting). RanSteps (fifo s) v 1 flat (point_of slots_service (boarded_with b before mid)) (point_with new after)) entry.setting
-        (subst (λ (k : ℕ). RanSteps (fifo (setting_of b.rom)) v k flat (point_of slots_service (boarded_with b before mid)) (point_with new after)) all
-        (ran_steps slots_service v (boarded_with b before mid) before.left refl old.hart.machine entry.waited.image entry.boarded.matches n (board_with new after) u ran (omega (arith, one, same)) entry.boarded.spent))
+        subst (λ (s : Setting). RanSteps (fifo s) v 1 flat (point_of slots_service (boarded_with b before given mid)) (point_with new after)) entry.setting
+        (subst (λ (k : ℕ). RanSteps (fifo (setting_of b.rom)) v k flat (point_of slots_service (boarded_with b before given mid)) (point_with new after)) all
+        (ran_steps slots_service v (boarded_with b before given mid) before.left refl old.hart.machine entry.waited.image entry.boarded.matches n (board_on new after given') u ran (omega (arith, one, same)) entry.boarded.spent))
 
     machine : new.hart.machine ≡ done.machine
     machine = same_between v (kept_by new.rom) done.machine new.hart.machine new.hart.control made.between made.matches
@@ -295,14 +297,14 @@ module _ (v : ImageData) (old b : BoardOf Slots) (before : EventDevices) (mid : 
 
   -- ---- a device broke it off
 
-  module _ (now : BoardWithDevices Slots) (along : Along slots_service v n (boarded_with b before mid) now) (fault : BoardFault) (new : BoardOf Slots) (after : EventDevices) (off : BrokeOff slots_service v n now (board_with new after) fault) where
+  module _ (now : BoardWithDevices Slots) (along : Along slots_service v n (boarded_with b before given mid) now) (fault : BoardFault) (new : BoardOf Slots) (after : EventDevices) (off : BrokeOff slots_service v n now (board_on new after given') fault) where
     abbrev start : Moment
     start = begun_moment v before.left old b
 
     abbrev reached : Moment
     reached = events (fifo by) v along.made start
 
-    begins : Tracks (span_of by) v start (point_with new before) (point_of slots_service (boarded_with b before mid))
+    begins : Tracks (span_of by) v start (point_with new before) (point_of slots_service (boarded_with b before given mid))
     begins = record {
       image = entry.waited.image;
       matches = entry.boarded.matches;
@@ -322,8 +324,8 @@ module _ (v : ImageData) (old b : BoardOf Slots) (before : EventDevices) (mid : 
       };
     }
 
-    came : Came (fifo by) (span_of by) v n along.made (point_of slots_service (boarded_with b before mid)) (point_of slots_service now)
-    came = subst (λ (s : Setting). Came (fifo s) (span_of s) v n along.made (point_of slots_service (boarded_with b before mid)) (point_of slots_service now)) entry.setting along.came
+    came : Came (fifo by) (span_of by) v n along.made (point_of slots_service (boarded_with b before given mid)) (point_of slots_service now)
+    came = subst (λ (s : Setting). Came (fifo s) (span_of s) v n along.made (point_of slots_service (boarded_with b before given mid)) (point_of slots_service now)) entry.setting along.came
 
     tracks : Tracks (span_of by) v reached (point_with new before) (point_of slots_service now)
     tracks = came.tracks start (point_with new before) begins
@@ -348,11 +350,11 @@ module _ (v : ImageData) (old b : BoardOf Slots) (before : EventDevices) (mid : 
 
     broke : Broke (fifo by) v fault reached (point_with new before) (point_with new after)
     broke = subst (λ (k : Setting). Broke (fifo k) v fault reached (point_with new before) (point_with new after)) setting
-        (broke_off slots_service slots_laws v n now (board_with new after) fault along.stays.sound off reached (point_with new before) tracks_now)
+        (broke_off slots_service slots_laws v n now (board_on new after given') fault along.stays.sound off reached (point_with new before) tracks_now)
 
     unasked : (fault ≡ RamFault → ⊥) → Unasked (next_of reached.flat) (faults_of (devices_of before)) (faults_of (devices_of after))
     unasked other = subst (λ (f : Faults). Unasked (next_of reached.flat) f (faults_of (devices_of after))) along.stays.quiet
-        (off_unasked slots_service v n now (board_with new after) fault other along.stays.sound off reached (point_with new before) tracks_now)
+        (off_unasked slots_service v n now (board_on new after given') fault other along.stays.sound off reached (point_with new before) tracks_now)
 
     pub step_broke : StepBroke by (kept_by old.rom) (context old.hart v before.left) fault before after
     step_broke =
@@ -402,20 +404,20 @@ entry_broke v old before ram anew inside failed = record {
   kept = failed.kept;
 }
 
-module _ (v : ImageData) (old b : BoardOf Slots) (before : EventDevices) (mid : RamState) (entry : Entry v old b before.ram mid) (n : ℕ) (one : n ≡ old.hart.machine.steps + 1) (new : BoardOf Slots) (after : EventDevices) where
+module _ (v : ImageData) (old b : BoardOf Slots) (before : EventDevices) (given given' : List ℕ) (mid : RamState) (entry : Entry v old b before.ram mid) (n : ℕ) (one : n ≡ old.hart.machine.steps + 1) (new : BoardOf Slots) (after : EventDevices) where
   -- the event was made
-  pub hart_made : {u : Unit} (result : Result Unit BoardFault) → BoardRan slots_service v n (boarded_with b before mid) (board_with new after) result → result ≡ Ok u →
+  pub hart_made : {u : Unit} (result : Result Unit BoardFault) → BoardRan slots_service v n (boarded_with b before given mid) (board_on new after given') result → result ≡ Ok u →
       HartEvent v old before after (Ok (new.hart, new.rom))
   hart_made {u} result ran is =
-      let r = subst (λ (x : Result Unit BoardFault). BoardRan slots_service v n (boarded_with b before mid) (board_with new after) x) is ran in
-      let made = made_event v old b before mid entry n one new after {u = u} r in
+      let r = subst (λ (x : Result Unit BoardFault). BoardRan slots_service v n (boarded_with b before given mid) (board_on new after given') x) is ran in
+      let made = made_event v old b before given given' mid entry n one new after {u = u} r in
       record { made = made; broke = tt; kept = made.ram.kept }
 
   -- a device broke it off
-  pub hart_broke : (result : Result Unit BoardFault) (fault : BoardFault) → BoardRan slots_service v n (boarded_with b before mid) (board_with new after) result → result ≡ Err fault →
+  pub hart_broke : (result : Result Unit BoardFault) (fault : BoardFault) → BoardRan slots_service v n (boarded_with b before given mid) (board_on new after given') result → result ≡ Err fault →
       HartEvent v old before after (Err fault)
   hart_broke result fault ran is =
-      let r = subst (λ (x : Result Unit BoardFault). BoardRan slots_service v n (boarded_with b before mid) (board_with new after) x) is ran in
+      let r = subst (λ (x : Result Unit BoardFault). BoardRan slots_service v n (boarded_with b before given mid) (board_on new after given') x) is ran in
       let stays = r.along.stays in
       let setting : setting_of r.mid.rom ≡ setting_of old.rom = stays.setting ∙ entry.setting in
       let causes = named {T = Unit} fault (causes_from stays.quiet r.ends.broke.causes) in
@@ -423,7 +425,7 @@ module _ (v : ImageData) (old b : BoardOf Slots) (before : EventDevices) (mid : 
       record {
         made = tt;
         broke = record {
-          at = inr (step_broke v old b before mid entry n one r.mid r.along fault new after r.ends);
+          at = inr (step_broke v old b before given given' mid entry n one r.mid r.along fault new after r.ends);
           fed = λ e. never_rose 0 refl (causes.input.cause e);
           sinks = causes.sinks;
           ram = ram;

@@ -1,7 +1,7 @@
 -- A hart and the service that are taken out for an event, and put back behind it.
 use Rattle.std.proofs.Common.{◌≡◌, ℕ, zero, suc, ◌^◌, ◌<◌, true, false, List, [], ◌∷◌, map, length, slice_get, slice_index_or, slice_set, Option, Some, None, is_some, Ok, Err, arith, refl, sym, ◌∙◌, ap, subst, inl, inr}
 use Rattle.std.proofs.lemmas.Bool.{cases_eq, false≢true}
-use Rattle.std.proofs.lemmas.List.{length-set, map-set, set-set}
+use Rattle.std.proofs.lemmas.List.{length-set, set-set}
 use Rattle.std.proofs.lemmas.Option.{same_Some, slice_get_read}
 use Rattle.swi_outside.specs.CacheRam.{KeepsBeyond}
 use Rattle.swi_calls.specs.declared.end.End.{End}
@@ -12,16 +12,16 @@ use Rattle.swi_slots.specs.Sound.{SlotsServe, Serves}
 use Rattle.swi_hart.specs.Hart.{HartData}
 use Rattle.swi_hart.specs.declared.fault.BoardFault.{BoardFault}
 use Rattle.swi_share.specs.declared.process.Process.{Process}
-use Rattle.swi_share.specs.Shared.{Context, Event, shared_event}
-use Rattle.swi_share.specs.Event.{EventBroke, EventDevices, EventMade, HartEvent, context, event_at}
-use Rattle.swi_share.specs.Sharing.{ShareData, ShareWith, IsSharing, IsPutBack, IsWhole, OthersWhole, Came, EventRan, HasEnded, HasRoom, TakenOut, Tells, context_of, seen, setting_in, turned}
+use Rattle.swi_share.specs.Shared.{Context, shared_event}
+use Rattle.swi_share.specs.Event.{EventBroke, EventDevices, EventMade, HartEvent, InputData, context, event_at}
+use Rattle.swi_share.specs.Sharing.{ShareData, ShareWith, IsSharing, IsPutBack, IsWhole, OthersWhole, Came, EventRan, HasEnded, HasRoom, TakenOut, Tells, context_of, seen, setting_in}
 use Rattle.swi_share.specs.Waiting.{Waits}
-use Rattle.swi_share.proofs.Turning.{Read, Turned, broke_seen, came_idle, came_of, context_at, context_read, get_set_other, get_set_same, made_turned, not_ended, read_at, set_own, share_of, sharing_of}
+use Rattle.swi_share.proofs.Turning.{Read, Turned, broke_seen, came_idle, came_of, context_at, context_read, get_set_other, get_set_same, made_turned, not_ended, read_at, share_of, sharing_of}
 
 abbrev pub with_hart : Process → Option HartData → Process
 with_hart p o = record p { hart = o }
 
-abbrev pub with_input : Process → List ℕ → Process
+abbrev pub with_input : Process → InputData → Process
 with_input p i = record p { input = i }
 
 -- ---- what a hart tells of its program
@@ -111,7 +111,7 @@ module _ {g : ℕ} {h : HartData} {rom : Slots} {s s1 : ShareData} (t : TakenOut
   taken_read words q = read_at s words g t.before (with_hart p (Some h)) h q t.before_is was_at refl
 
   pub taken_few : (words : List ℕ) → IsSharing s words → HasRoom (seen s) g → h.machine.steps < 2 ^ 44
-  taken_few words q room = room (context h p.image p.input) (context_read s words g t.before (with_hart p (Some h)) h (taken_read words q))
+  taken_few words q room = room (context h p.image p.input.left) (context_read s words g t.before (with_hart p (Some h)) h (taken_read words q))
 
   pub taken_waits : (words : List ℕ) → IsSharing s words → Waits p.image (kept_by rom) h
   taken_waits words q = subst (λ (k : Record). Waits p.image k h) (sym t.kept) (taken_read words q).waits
@@ -131,12 +131,12 @@ module _ {g : ℕ} {h : HartData} {rom : Slots} {s s1 : ShareData} (t : TakenOut
   put_on r = ap (λ (x : ShareData). slice_set x.processes g r) t.left ∙ set-set s.processes g (with_hart t.process None) r
 
   -- what an event leaves of the programs, where a device broke it off
-  pub left_broken : (i : List ℕ) (s' : ShareData) → s' ≡ record s1 { processes = slice_set s1.processes g (with_input p i) } → (s'.rom ≡ None) × (s'.processes ≡ slice_set s.processes g (with_input p i))
+  pub left_broken : (i : InputData) (s' : ShareData) → s' ≡ record s1 { processes = slice_set s1.processes g (with_input p i) } → (s'.rom ≡ None) × (s'.processes ≡ slice_set s.processes g (with_input p i))
   left_broken i s' is =
       (ap (λ (x : ShareData). x.rom) is ∙ ap (λ (x : ShareData). x.rom) t.left, ap (λ (x : ShareData). x.processes) is ∙ put_on (with_input p i))
 
   -- and where it was made
-  pub left_put : (i : List ℕ) (h' : HartData) (rom' : Slots) (s2 s' : ShareData) → s2 ≡ record s1 { processes = slice_set s1.processes g (with_input p i) } → IsPutBack g h' rom' s2 s' →
+  pub left_put : (i : InputData) (h' : HartData) (rom' : Slots) (s2 s' : ShareData) → s2 ≡ record s1 { processes = slice_set s1.processes g (with_input p i) } → IsPutBack g h' rom' s2 s' →
       s' ≡ share_of (slice_set s.processes g (with_input (with_hart p (Some h')) i)) rom'
   left_put i h' rom' s2 s' is put =
       let q = with_input p i in
@@ -158,8 +158,8 @@ module _ {g : ℕ} {h : HartData} {rom : Slots} {s s1 : ShareData} (t : TakenOut
 
   -- ---- an event that was made
 
-  pub turned_by : {words : List ℕ} (h' : HartData) (rom' : Slots) (i : List ℕ) (before after : EventDevices) → IsSharing s words → HasRoom (seen s) g → after.left ≡ i →
-      EventMade p.image (event_at (record { hart = h; rom = rom }) p.image p.input) (record { hart = h; rom = rom }) (record { hart = h'; rom = rom' }) before after →
+  pub turned_by : {words : List ℕ} (h' : HartData) (rom' : Slots) (i : InputData) (before after : EventDevices) → IsSharing s words → HasRoom (seen s) g → after.left ≡ i.left →
+      EventMade p.image (event_at (record { hart = h; rom = rom }) p.image p.input.left) (record { hart = h; rom = rom }) (record { hart = h'; rom = rom' }) before after →
       Turned g s.processes t.before rom' (with_hart p (Some h)) (with_input (with_hart p (Some h')) i) before after
   turned_by {words} h' rom' i before after q room last made = record {
     at = was_at;
@@ -172,7 +172,7 @@ module _ {g : ℕ} {h : HartData} {rom : Slots} {s s1 : ShareData} (t : TakenOut
     hart_left = refl;
     input_left = last;
     setting = made.setting ∙ ap (λ (x : Slots). setting_of x) t.rom_is;
-    made = made_turned g t.before rom h p.image p.input _ _ _ t.rom_is t.kept made;
+    made = made_turned g t.before rom h p.image p.input.left _ _ _ t.rom_is t.kept made;
   }
 
   pub came_by : (rom' : Slots) (q : Process) (s' : ShareData) (before after : EventDevices) → s' ≡ share_of (slice_set s.processes g q) rom' → Turned g s.processes t.before rom' (with_hart p (Some h)) q before after →
@@ -197,13 +197,13 @@ module _ {g : ℕ} {h : HartData} {rom : Slots} {s s1 : ShareData} (t : TakenOut
       (subst (λ (x : Slots). KeepsBeyond (span_of (setting_of x)) before.ram after.ram) t.rom_is kept)
 
   -- where hart and service were put back
-  pub event_done : {u : Unit} (h' : HartData) (rom' : Slots) (before after : EventDevices) (s' : ShareData) → before.left ≡ p.input → IsSharing s before.ram.words → HasRoom (seen s) g →
-      HartEvent p.image (record { hart = h; rom = rom }) before after (Ok (h', rom')) → s' ≡ share_of (slice_set s.processes g (with_input (with_hart p (Some h')) after.left)) rom' →
+  pub event_done : {u : Unit} (h' : HartData) (rom' : Slots) (i : InputData) (before after : EventDevices) (s' : ShareData) → before.left ≡ p.input.left → after.left ≡ i.left → IsSharing s before.ram.words → HasRoom (seen s) g →
+      HartEvent p.image (record { hart = h; rom = rom }) before after (Ok (h', rom')) → s' ≡ share_of (slice_set s.processes g (with_input (with_hart p (Some h')) i)) rom' →
       EventRan g (record { share = s; ram = before.ram; out = before.out; err = before.err }) (record { share = s'; ram = after.ram; out = after.out; err = after.err }) (Ok u)
-  event_done {u} h' rom' before after s' first q room ran is =
+  event_done {u} h' rom' i before after s' first last q room ran is =
       let made = subst (λ (l : List ℕ). EventMade p.image (event_at (record { hart = h; rom = rom }) p.image l) (record { hart = h; rom = rom }) (record { hart = h'; rom = rom' }) before after) first ran.made in
-      let turn = turned_by h' rom' after.left before after q room refl made in
-      let r = with_input (with_hart p (Some h')) after.left in
+      let turn = turned_by h' rom' i before after q room last made in
+      let r = with_input (with_hart p (Some h')) i in
       let left = ap (λ (x : ShareData). x.processes) is in
       record {
         programs = programs_stay r s'.processes left;
@@ -218,25 +218,25 @@ module _ {g : ℕ} {h : HartData} {rom : Slots} {s s1 : ShareData} (t : TakenOut
       }
 
   -- and where a device broke it off
-  pub event_stopped : (fault : BoardFault) (before after : EventDevices) (s' : ShareData) → before.left ≡ p.input → IsSharing s before.ram.words →
-      HartEvent p.image (record { hart = h; rom = rom }) before after (Err fault) → (s'.rom ≡ None) × (s'.processes ≡ slice_set s.processes g (with_input p after.left)) →
+  pub event_stopped : (fault : BoardFault) (i : InputData) (before after : EventDevices) (s' : ShareData) → before.left ≡ p.input.left → after.left ≡ i.left → IsSharing s before.ram.words →
+      HartEvent p.image (record { hart = h; rom = rom }) before after (Err fault) → (s'.rom ≡ None) × (s'.processes ≡ slice_set s.processes g (with_input p i)) →
       EventRan g (record { share = s; ram = before.ram; out = before.out; err = before.err }) (record { share = s'; ram = after.ram; out = after.out; err = after.err }) (Err fault)
-  event_stopped fault before after s' first q ran left =
+  event_stopped fault i before after s' first last q ran left =
       let r = taken_read before.ram.words q in
-      let c = context h p.image p.input in
+      let c = context h p.image p.input.left in
       let broke = subst (λ (l : List ℕ). EventBroke (setting_of rom) (kept_by rom) (context h p.image l) fault (record before { left = l }) after) first ran.broke in
       record {
-        programs = programs_stay (with_input p after.left) s'.processes left.1;
-        others = others_stay (with_input p after.left) s'.processes left.1;
+        programs = programs_stay (with_input p i) s'.processes left.1;
+        others = others_stay (with_input p i) s'.processes left.1;
         kept = kept_as before after ran.kept;
         ends = record {
           failed = left.0;
           context = c;
           context_is = context_read s before.ram.words g t.before (with_hart p (Some h)) h r;
           running = t.running;
-          process = with_input p after.left;
+          process = with_input p i;
           processes = left.1;
-          broke = broke_seen s before.ram.words g t.before rom (with_hart p (Some h)) h r t.rom_is t.kept fault (record before { left = p.input }) after broke;
+          broke = broke_seen s before.ram.words g t.before rom (with_hart p (Some h)) h r t.rom_is t.kept fault (record before { left = p.input.left }) (record after { left = i.left }) (subst (λ (l : List ℕ). EventBroke (setting_of rom) (kept_by rom) c fault (record before { left = p.input.left }) (record after { left = l })) last broke);
         };
       }
 

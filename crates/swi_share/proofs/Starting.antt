@@ -38,8 +38,8 @@ long_as (y ∷ ys) (q ∷ qs) all = ap suc (long_as ys qs all.1)
 
 context_first : (x : Guest) (p : Process) → Started x p → context_of p ≡ first_context x
 context_first x p s =
-    ap (λ (h : Option HartData). context_by h p.image p.input) s.hart
-    ∙ ap (λ (v : ImageData). Some (context (unbooted (machine_of x.program x.layout false)) v p.input)) s.image
+    ap (λ (h : Option HartData). context_by h p.image p.input.left) s.hart
+    ∙ ap (λ (v : ImageData). Some (context (unbooted (machine_of x.program x.layout false)) v p.input.left)) s.image
     ∙ ap (λ (i : List ℕ). Some (context (unbooted (machine_of x.program x.layout false)) x.image i)) s.input
 
 contexts_first : (xs : List Guest) (ps : List Process) → AllStarted xs ps → map context_of ps ≡ map first_context xs

@@ -1,8 +1,8 @@
 -- An event of one of several programs.
-use Rattle.std.proofs.Common.{◌≡◌, ℕ, zero, suc, ◌+◌, ◌-◌, ◌*◌, ◌^◌, ◌<◌, ◌≤◌, max, Bool, true, List, [], ◌∷◌, map, length, slice_get, slice_index_or, slice_set, Option, Some, None, is_some, arith, refl, sym, ◌∙◌, ap, subst, inl, inr}
+use Rattle.std.proofs.Common.{◌≡◌, ℕ, zero, suc, ◌+◌, ◌-◌, ◌*◌, ◌^◌, ◌<◌, ◌≤◌, max, Bool, List, [], ◌∷◌, map, length, slice_get, slice_index_or, slice_set, Option, Some, None, arith, refl, sym, ◌∙◌, ap, subst, inl, inr}
 use Rattle.std.proofs.lemmas.Bool.{cases_eq}
 use Rattle.std.proofs.lemmas.List.{length-set, map-set}
-use Rattle.std.proofs.lemmas.Option.{same_Some, slice_get_read}
+use Rattle.std.proofs.lemmas.Option.{same_Some}
 use Rattle.swi_outside.specs.Causes.{risen}
 use Rattle.swi_outside.specs.Laws.{Appends-none}
 use Rattle.swi_outside.specs.CacheRam.{RamState}
@@ -52,24 +52,24 @@ set_own (z ∷ zs) (suc i) x is = ap (λ ys. z ∷ ys) (set_own zs i x is)
 
 -- ---- what is seen
 
-pub context_at : (ps : List Process) (g : ℕ) (p : Process) (h : HartData) → slice_get ps g ≡ Some p → p.hart ≡ Some h → slice_index_or (map context_of ps) g None ≡ Some (context h p.image p.input)
+pub context_at : (ps : List Process) (g : ℕ) (p : Process) (h : HartData) → slice_get ps g ≡ Some p → p.hart ≡ Some h → slice_index_or (map context_of ps) g None ≡ Some (context h p.image p.input.left)
 context_at [] g p h is hart = absurd (cc)
-context_at (q ∷ qs) zero p h is hart = ap context_of (same_Some q p is) ∙ ap (λ (x : Option HartData). context_by x p.image p.input) hart
+context_at (q ∷ qs) zero p h is hart = ap context_of (same_Some q p is) ∙ ap (λ (x : Option HartData). context_by x p.image p.input.left) hart
 context_at (q ∷ qs) (suc g) p h is hart = context_at qs g p h is hart
 
 abbrev pub share_of : List Process → Slots → ShareData
 share_of ps rom = record { processes = ps; rom = Some rom }
 
 pub next_is : (ps : List Process) (rom : Slots) (g : ℕ) (p : Process) (h : HartData) → slice_get ps g ≡ Some p → p.hart ≡ Some h → h.machine.ending ≡ None →
-    shared_event g (seen (share_of ps rom)) ≡ with_event g (seen (share_of ps rom)) (event_of (setting_of rom) (turned rom g) (context h p.image p.input))
+    shared_event g (seen (share_of ps rom)) ≡ with_event g (seen (share_of ps rom)) (event_of (setting_of rom) (turned rom g) (context h p.image p.input.left))
 next_is ps rom g p h is hart going =
     ap (λ (c : Option Context). event_in g (seen (share_of ps rom)) c) (context_at ps g p h is hart)
-    ∙ ap (λ (e : Option End). event_by g (seen (share_of ps rom)) (context h p.image p.input) e) going
+    ∙ ap (λ (e : Option End). event_by g (seen (share_of ps rom)) (context h p.image p.input.left) e) going
 
 pub stays_as : (ps : List Process) (rom : Slots) (g : ℕ) (p : Process) (h : HartData) (e : End) → slice_get ps g ≡ Some p → p.hart ≡ Some h → h.machine.ending ≡ Some e → shared_event g (seen (share_of ps rom)) ≡ seen (share_of ps rom)
 stays_as ps rom g p h e is hart ended =
     ap (λ (c : Option Context). event_in g (seen (share_of ps rom)) c) (context_at ps g p h is hart)
-    ∙ ap (λ (x : Option End). event_by g (seen (share_of ps rom)) (context h p.image p.input) x) ended
+    ∙ ap (λ (x : Option End). event_by g (seen (share_of ps rom)) (context h p.image p.input.left) x) ended
 
 -- ---- services
 
@@ -118,9 +118,9 @@ pub record Turned (g : ℕ) (ps : List Process) (rom rom' : Slots) (p p' : Proce
   pub image_stays : p'.image ≡ p.image
   pub hart' : HartData
   pub hart_left : p'.hart ≡ Some hart'
-  pub input_left : after.left ≡ p'.input
+  pub input_left : after.left ≡ p'.input.left
   pub setting : setting_of rom' ≡ setting_of rom
-  pub made : EventMade p.image (event_of (setting_of rom) (turned rom g) (context hart p.image p.input)) (record { hart = hart; rom = record rom { turn = g } }) (record { hart = hart'; rom = rom' }) before after
+  pub made : EventMade p.image (event_of (setting_of rom) (turned rom g) (context hart p.image p.input.left)) (record { hart = hart; rom = record rom { turn = g } }) (record { hart = hart'; rom = rom' }) before after
 
 -- the event, by the service as it is and by that for which the program is in turn
 pub event_turned : (g : ℕ) (rom now : Slots) (h : HartData) (v : ImageData) (left : List ℕ) → now ≡ record rom { turn = g } → kept_by now ≡ turned rom g →
@@ -136,10 +136,10 @@ made_turned g rom now h v left new before after is kept made =
     subst (λ (x : Slots). EventMade v (event_of (setting_of rom) (turned rom g) (context h v left)) (record { hart = h; rom = x }) new before after) is
     (subst (λ (e : Event). EventMade v e (record { hart = h; rom = now }) new before after) (event_turned g rom now h v left is kept) made)
 
-context_left : (p' : Process) (h' : HartData) (v : ImageData) (c : Context) → p'.hart ≡ Some h' → p'.image ≡ v → p'.input ≡ c.input → context h' v c.input ≡ c → context_of p' ≡ Some c
+context_left : (p' : Process) (h' : HartData) (v : ImageData) (c : Context) → p'.hart ≡ Some h' → p'.image ≡ v → p'.input.left ≡ c.input → context h' v c.input ≡ c → context_of p' ≡ Some c
 context_left p' h' v c hart image input is =
-    ap (λ (x : Option HartData). context_by x p'.image p'.input) hart
-    ∙ ap (λ (x : ImageData). Some (context h' x p'.input)) image
+    ap (λ (x : Option HartData). context_by x p'.image p'.input.left) hart
+    ∙ ap (λ (x : ImageData). Some (context h' x p'.input.left)) image
     ∙ ap (λ (l : List ℕ). Some (context h' v l)) input
     ∙ ap (λ (x : Context). Some x) is
 
@@ -155,8 +155,8 @@ pub came_of : (g : ℕ) (ps : List Process) (rom rom' : Slots) (p p' : Process) 
     Came (shared_event g (seen (share_of ps rom))) (record { share = share_of ps rom; ram = before.ram; out = before.out; err = before.err })
     (record { share = share_of (slice_set ps g p') rom'; ram = after.ram; out = after.out; err = after.err })
 came_of g ps rom rom' p p' before after t =
-    let e = event_of (setting_of rom) (turned rom g) (context t.hart p.image p.input) in
-    let input : p'.input ≡ e.context.input = sym t.input_left ∙ t.made.input in
+    let e = event_of (setting_of rom) (turned rom g) (context t.hart p.image p.input.left) in
+    let input : p'.input.left ≡ e.context.input = sym t.input_left ∙ t.made.input in
     let left : context_of p' ≡ Some e.context = context_left p' t.hart' p.image e.context t.hart_left t.image_stays input t.made.context in
     subst (λ (s : Shared). Came s (record { share = share_of ps rom; ram = before.ram; out = before.out; err = before.err })
     (record { share = share_of (slice_set ps g p') rom'; ram = after.ram; out = after.out; err = after.err }))
@@ -192,11 +192,11 @@ few_steps n m lt (inr w) = omega (arith, lt, w.2)
 pub sharing_of : (s : ShareData) (words words' : List ℕ) (g : ℕ) (rom' : Slots) (p p' : Process) (before after : EventDevices) → (q : IsSharing s words) → Turned g s.processes q.rom rom' p p' before after →
     SlotsServe rom' q.images words' → IsSharing (share_of (slice_set s.processes g p') rom') words'
 sharing_of s words words' g rom' p p' before after q t serves =
-    let c = context t.hart p.image p.input in
+    let c = context t.hart p.image p.input.left in
     let e = event_of (setting_of q.rom) (turned q.rom g) c in
     let passes : Passes (turned q.rom g) e.kept = event_passes (setting_of q.rom) (turned q.rom g) c in
     let own : turned rom' g ≡ e.kept = ap (λ (r : Record). let x : Record = record r { turn = g } in x) t.made.kept ∙ kept_turn e.kept g passes.turn in
-    let counted : Counted t.hart.machine.steps t.hart'.machine = counted_in t.hart t.hart' p.image p.input (setting_of q.rom) (turned q.rom g) t.going (ap (λ (x : Context). x.machine) t.made.context) in
+    let counted : Counted t.hart.machine.steps t.hart'.machine = counted_in t.hart t.hart' p.image p.input.left (setting_of q.rom) (turned q.rom g) t.going (ap (λ (x : Context). x.machine) t.made.context) in
     record {
       rom = rom';
       is = refl;
@@ -217,7 +217,7 @@ sharing_of s words words' g rom' p p' before after q t serves =
       services = more_services (ap (λ (r : Record). r.counts.services) t.made.kept) counted;
     }
   where
-    own_seat : (m : ℕ) (r : Process) → m ≡ g → slice_get (slice_set s.processes g p') m ≡ Some r → turned rom' g ≡ (event_of (setting_of q.rom) (turned q.rom g) (context t.hart p.image p.input)).kept → Counted t.hart.machine.steps t.hart'.machine → Seated rom' q.images m r
+    own_seat : (m : ℕ) (r : Process) → m ≡ g → slice_get (slice_set s.processes g p') m ≡ Some r → turned rom' g ≡ (event_of (setting_of q.rom) (turned q.rom g) (context t.hart p.image p.input.left)).kept → Counted t.hart.machine.steps t.hart'.machine → Seated rom' q.images m r
     own_seat m r same at own counted =
         let is : p' ≡ r = same_Some p' r (sym (get_set_same s.processes g p p' t.at) ∙ ap (λ (k : ℕ). slice_get (slice_set s.processes g p') k) (sym same) ∙ at) in
         subst (λ (x : Process). Seated rom' q.images m x) is (record {
@@ -228,9 +228,9 @@ sharing_of s words words' g rom' p p' before after q t serves =
           few = few_steps t.hart.machine.steps t.hart'.machine t.few counted;
         })
 
-    more_services : rom'.counts.services ≡ (event_of (setting_of q.rom) (turned q.rom g) (context t.hart p.image p.input)).kept.counts.services → Counted t.hart.machine.steps t.hart'.machine → rom'.counts.services ≤ services_most (slice_set s.processes g p')
+    more_services : rom'.counts.services ≡ (event_of (setting_of q.rom) (turned q.rom g) (context t.hart p.image p.input.left)).kept.counts.services → Counted t.hart.machine.steps t.hart'.machine → rom'.counts.services ≤ services_most (slice_set s.processes g p')
     more_services is counted =
-        let few = event_services (setting_of q.rom) (turned q.rom g) (context t.hart p.image p.input) in
+        let few = event_services (setting_of q.rom) (turned q.rom g) (context t.hart p.image p.input.left) in
         let at_first : services_by p.hart ≡ 3 * t.hart.machine.steps = ap services_by t.hart_is ∙ ap (λ (e : Option End). most_services e t.hart.machine.steps) t.going in
         let at_last : services_by p'.hart ≡ most_services t.hart'.machine.ending t.hart'.machine.steps = ap services_by t.hart_left in
         let more = services_after t.hart'.machine.ending t.hart'.machine t.hart.machine.steps refl counted in
@@ -267,7 +267,7 @@ read_at s words g rom p h q rom_is at hart =
       services = subst (λ (x : Slots). x.counts.services < 2 ^ 49) same (services_few s words q);
     }
 
-pub context_read : (s : ShareData) (words : List ℕ) (g : ℕ) (rom : Slots) (p : Process) (h : HartData) → Read s words g rom p h → slice_index_or (seen s).contexts g None ≡ Some (context h p.image p.input)
+pub context_read : (s : ShareData) (words : List ℕ) (g : ℕ) (rom : Slots) (p : Process) (h : HartData) → Read s words g rom p h → slice_index_or (seen s).contexts g None ≡ Some (context h p.image p.input.left)
 context_read s words g rom p h r = context_at s.processes g p h r.at r.hart_is
 
 -- ---- a program that has ended
@@ -308,12 +308,12 @@ came_idle s s' words g ram out err q w same =
 
 -- the service for which a program is in turn, as the share is seen
 pub broke_seen : (s : ShareData) (words : List ℕ) (g : ℕ) (rom now : Slots) (p : Process) (h : HartData) → Read s words g rom p h → now ≡ record rom { turn = g } → kept_by now ≡ turned rom g →
-    (fault : BoardFault) (before after : EventDevices) → EventBroke (setting_of now) (kept_by now) (context h p.image p.input) fault before after →
-    EventBroke (seen s).setting (record (seen s).kept { turn = g }) (context h p.image p.input) fault before after
+    (fault : BoardFault) (before after : EventDevices) → EventBroke (setting_of now) (kept_by now) (context h p.image p.input.left) fault before after →
+    EventBroke (seen s).setting (record (seen s).kept { turn = g }) (context h p.image p.input.left) fault before after
 broke_seen s words g rom now p h r is kept fault before after broke =
-    subst (λ (x : ShareData). EventBroke (seen x).setting (record (seen x).kept { turn = g }) (context h p.image p.input) fault before after) (sym r.share)
-    (subst (λ (k : Record). EventBroke (setting_of rom) k (context h p.image p.input) fault before after) kept
-    (subst (λ (x : Slots). EventBroke (setting_of x) (kept_by now) (context h p.image p.input) fault before after) is broke))
+    subst (λ (x : ShareData). EventBroke (seen x).setting (record (seen x).kept { turn = g }) (context h p.image p.input.left) fault before after) (sym r.share)
+    (subst (λ (k : Record). EventBroke (setting_of rom) k (context h p.image p.input.left) fault before after) kept
+    (subst (λ (x : Slots). EventBroke (setting_of x) (kept_by now) (context h p.image p.input.left) fault before after) is broke))
 
 pub not_ended : (s : ShareData) (words : List ℕ) (g : ℕ) (rom : Slots) (p : Process) (h : HartData) → Read s words g rom p h → h.machine.ending ≡ None → HasEnded s g → ⊥
 not_ended s words g rom p h r going w =

@@ -35,10 +35,10 @@ abbrev pub event_seen : ℕ → ShareWith → Context → Event
 event_seen g w c = event_of (seen w.share).setting (record (seen w.share).kept { turn = g }) c
 
 abbrev pub CutsBySink : Type 0
-CutsBySink = (g : ℕ) (before after : ShareWith) → (s : Stopped SinkFault g before after) → SinkCut (event_seen g before s.context) (devices_with before s.context.input) (devices_with after s.process.input)
+CutsBySink = (g : ℕ) (before after : ShareWith) → (s : Stopped SinkFault g before after) → SinkCut (event_seen g before s.context) (devices_with before s.context.input) (devices_with after s.process.input.left)
 
 abbrev pub CutsByRam : Type 0
-CutsByRam = (g : ℕ) (before after : ShareWith) → (s : Stopped RamFault g before after) → RamCut (event_seen g before s.context) (devices_with before s.context.input) (devices_with after s.process.input)
+CutsByRam = (g : ℕ) (before after : ShareWith) → (s : Stopped RamFault g before after) → RamCut (event_seen g before s.context) (devices_with before s.context.input) (devices_with after s.process.input.left)
 
 -- each program stands where as many steps of the flat machine lead as it had events
 abbrev pub EachFollows : Type 0

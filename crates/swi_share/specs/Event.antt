@@ -55,6 +55,11 @@ moment_of by r c = moment_by r (entered_if (enters r c) by r c) (begun_if (enter
 abbrev pub instructions_from : ImageData → Moment → ℕ
 instructions_from v s = cost v 1 s.flat s.here
 
+-- the input of a program: what it gave, and what is left of it
+pub record InputData : Type 0 where
+  pub given : List ℕ
+  pub left : List ℕ
+
 -- the devices of an event: the ram, the input that is left to the program, and the sinks
 pub record EventDevices : Type 0 where
   pub ram : RamState
@@ -62,8 +67,9 @@ pub record EventDevices : Type 0 where
   pub out : SinkState
   pub err : SinkState
 
+-- what it gave before the event doesn't matter
 abbrev pub devices_of : EventDevices → Devices
-devices_of d = record { input = record { left = Some d.left; faults = 0 }; output = d.out; error = d.err }
+devices_of d = record { input = record { given = []; left = Some d.left; faults = 0 }; output = d.out; error = d.err }
 
 abbrev pub board_with : BoardOf Slots → EventDevices → BoardWithDevices Slots
 board_with b d = record { hart = b.hart; rom = b.rom; ram = d.ram; devices = devices_of d }

@@ -32,7 +32,7 @@ context_by None v left = None
 context_by (Some h) v left = Some (context h v left)
 
 abbrev pub context_of : Process → Option Context
-context_of p = context_by p.hart p.image p.input
+context_of p = context_by p.hart p.image p.input.left
 
 abbrev pub setting_in : Option Slots → Setting
 setting_in None = record { slots = 0; slot_words = 0; programs = 0 }
@@ -134,7 +134,7 @@ pub record Stopped (fault : BoardFault) (g : ℕ) (before after : ShareWith) : T
   pub process : Process
   pub processes : after.share.processes ≡ slice_set before.share.processes g process
   pub broke : EventBroke (seen before.share).setting (record (seen before.share).kept { turn = g }) context fault
-      (devices_with before context.input) (devices_with after process.input)
+      (devices_with before context.input) (devices_with after process.input.left)
 
 abbrev pub EventEnds : ℕ → ShareWith → ShareWith → Result Unit BoardFault → Type 0
 EventEnds g before after (Ok u) = EventDone g before after

@@ -53,7 +53,7 @@ shared_start bytes guests = record {
 pub record Started (x : Guest) (p : Process) : Type 0 where
   pub hart : p.hart ≡ Some (unbooted (machine_of x.program x.layout false))
   pub image : p.image ≡ x.image
-  pub input : p.input ≡ x.input.items
+  pub input : p.input.left ≡ x.input.items
   pub carries : Carries (fetched (machine_of x.program x.layout false).bus) x.image
 
 abbrev pub AllStarted : List Guest → List Process → Type 0

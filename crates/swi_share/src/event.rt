@@ -17,12 +17,12 @@ ghost use Rattle.swi_share.specs.Event.{Boarded, HartEvent, context};
 
 use crate::input::Input;
 use swi_board::Board;
-use swi_fifo::FifoRom;
 use swi_hart::{BoardFault, Hart};
 use swi_image::ImageView;
 use swi_micro::MicroRam;
 use swi_outside::{CacheRam, Failed, Sink};
 use swi_rom::CacheRom;
+use swi_slots::FifoRom;
 
 /// Whether the service shows the hart's place at the index under its control: then its block still stands there. A hart
 /// at an address where no text word stands asks for none.
@@ -98,8 +98,8 @@ pub(crate) fn make_event<M: MicroRam, O: Sink, E: Sink>(
     requires sound { SlotsSound rom image.now (M.state ram.old).words }
     requires services { (kept_by rom).counts.services < 2 ^ 49 }
     ensures { HartEvent image.now (record { hart = hart; rom = rom })
-        (record { ram = M.state ram.old; left = input.old; out = O.state out.old; err = E.state err.old })
-        (record { ram = M.state ram.new; left = input.new; out = O.state out.new; err = E.state err.new }) result }
+        (record { ram = M.state ram.old; left = input.old.left; out = O.state out.old; err = E.state err.old })
+        (record { ram = M.state ram.new; left = input.new.left; out = O.state out.new; err = E.state err.new }) result }
 {
     let n = hart.steps() + 1;
     let mut board = match board_of(image, hart, rom, ram) {

@@ -1,7 +1,7 @@
 //! The input of a program: bytes in memory.
 #![tactic(auto)]
 
-ghost use Rattle.std.specs.Prelude.{◌≡◌, Some};
+ghost use Rattle.std.specs.Prelude.{◌≡◌, [], Some};
 
 use std::alloc::Global;
 use std::marker::Model;
@@ -15,11 +15,12 @@ pub(crate) struct Input {
 }
 
 impl Model for Input {
-    ghost use Rattle.std.specs.Prelude.{◌≡◌, List, [], ℕ};
+    ghost use Rattle.std.specs.Prelude.{◌≡◌, []};
+    ghost use Rattle.swi_share.specs.Event.{InputData};
 
-    ghost Value = { List ℕ };
+    ghost Value = { InputData };
 
-    ghost view = { λ s. s.source.left };
+    ghost view = { λ s. record { given = s.source.given; left = s.source.left } };
 
     ghost invariant = { λ s. s.source.failing ≡ [] };
 }
@@ -27,7 +28,7 @@ impl Model for Input {
 impl Input {
     /// The bytes, of which none is taken.
     pub(crate) fn new(alloc: Global, bytes: Vec<u8>) -> Input
-        ensures { result ≡ bytes.items }
+        ensures { result ≡ record { given = []; left = bytes.items } }
     {
         Input {
             source: MemSource::new(bytes, Vec::new(alloc)),
@@ -36,7 +37,7 @@ impl Input {
 }
 
 impl Source for Input {
-    ghost state = { λ s. record { left = Some s; faults = 0 } };
+    ghost state = { λ s. record { given = s.given; left = Some s.left; faults = 0 } };
 
     fn read(&mut self, buf: &mut [u8]) -> Result<usize, Failed> {
         self.source.read(buf)

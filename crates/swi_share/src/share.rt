@@ -10,11 +10,11 @@ use crate::event::make_event;
 use crate::process::{Guest, Process, most_words, start_all};
 use std::alloc::Global;
 use std::marker::Model;
-use swi_fifo::FifoRom;
 use swi_hart::{BoardFault, Hart};
 use swi_micro::MicroRam;
 use swi_outside::{Memory, Sink};
 use swi_rom::CacheRom;
+use swi_slots::FifoRom;
 
 /// What the cache has done for all programs.
 #[derive(Clone, Copy, Debug, PartialEq, Eq)]

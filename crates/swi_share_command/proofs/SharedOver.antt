@@ -100,7 +100,7 @@ placed_at share words g c sharing is =
     let at = process_at share.processes g c is in
     let p : Process = at.0 in
     let seat = sharing.seated g p at.1 in
-    let same : context seat.hart p.image p.input ≡ c = same_Some (context seat.hart p.image p.input) c (sym (ap (λ (o : Option HartData). context_by o p.image p.input) seat.is) ∙ at.2) in
+    let same : context seat.hart p.image p.input.left ≡ c = same_Some (context seat.hart p.image p.input.left) c (sym (ap (λ (o : Option HartData). context_by o p.image p.input.left) seat.is) ∙ at.2) in
     let image : sharing.images g ≡ c.image = seat.image ∙ ap (λ (x : Context). x.image) same in
     let below : g < rom.programs = let few = process_below share.processes g p at.1 in let all = sharing.programs in omega (arith, few, all) in
     let turned_to : Slots = record rom { turn = g } in
@@ -346,7 +346,7 @@ module _ (o : ShareOptions) (bytes : ℕ) (guests : List Guest) (d : Devices) (f
     made = st.made;
     fewer = few st;
     broke = inl (subst (λ (q : Shared). EventCutOff (shared_run (take st.made order) q) (shared_run (take (st.made + 1) order) q) (with_streams d first) (with_streams d after) refusal.SinkFault []) start
-        (cut_off (shared_run (take st.made order) (seen first.share)) (shared_run (take (st.made + 1) order) (seen first.share)) _ d first st.mid after st.stopped.context.input st.stopped.process.input
+        (cut_off (shared_run (take st.made order) (seen first.share)) (shared_run (take (st.made + 1) order) (seen first.share)) _ d first st.mid after st.stopped.context.input st.stopped.process.input.left
         (added st) st.done.came st.done.quiet (sink_stopped (slice_index order st.made) st.mid after st.stopped)));
   }
 
@@ -355,7 +355,7 @@ module _ (o : ShareOptions) (bytes : ℕ) (guests : List Guest) (d : Devices) (f
     made = st.made;
     fewer = few st;
     broke = inr (subst (λ (q : Shared). EventUnfetched (shared_run (take st.made order) q) (shared_run (take (st.made + 1) order) q) (with_streams d first) (with_streams d after) refusal.RamFault []) start
-        (unfetched_off (shared_run (take st.made order) (seen first.share)) (shared_run (take (st.made + 1) order) (seen first.share)) _ d first st.mid after st.stopped.context.input st.stopped.process.input
+        (unfetched_off (shared_run (take st.made order) (seen first.share)) (shared_run (take (st.made + 1) order) (seen first.share)) _ d first st.mid after st.stopped.context.input st.stopped.process.input.left
         (added st) st.done.came (ram_stopped (slice_index order st.made) st.mid after st.stopped)));
   }
 

@@ -43,19 +43,15 @@ use Rattle.swi_answer.specs.declared.answer.Refusal.{Refusal}
 use Rattle.swi_answer.specs.declared.answer.Refusal.TheVariants as refusal
 use Rattle.swi_answer.specs.Lines.{guest_line}
 use Rattle.swi_share_command.specs.declared.command.GuestFile.{GuestFile}
-use Rattle.swi_task.specs.Answers.{IsRunFault}
+use Rattle.swi_task.specs.Answers.{IsRunFault, StandFirst}
 use Rattle.swi_task.specs.Causes.{HasCauses}
 use Rattle.swi_task.specs.Checks.{Check, IsShort, IsAcceptedElf, HasRoom, IsAcceptedImage, IsOwnImage, FitsUnlessImage, HoldsBlock, IsAccepted, IsRefusedBy, block_words, file_limit, room_in, text_in}
 use Rattle.swi_task.specs.Devices.{Devices}
 use Rattle.swi_task.specs.Runs.{ending_by}
 use Rattle.swi_task.specs.Subject.{IsImageFor}
-use Rattle.swi_task.specs.Task.{Task, Tells}
+use Rattle.swi_task.specs.Task.{GaveFirst, Task, TellsAll}
 
 -- ---- the files, and their checks
-
--- the shelf tells that these contents stand under the names, in their order
-abbrev pub TellsAll : Option Contents → List (List ℕ) → List (List ℕ) → Type 0
-TellsAll contents names files = AllZip (Tells contents) names files
 
 -- the limits of each program: none makes more steps than there are events
 abbrev pub limits_by : ShareOptions → RunLimits
@@ -236,8 +232,9 @@ abbrev pub share_task : List (List ℕ) → CacheOptions → ShareOptions → Ta
 share_task names cache o = record {
   reads = names;
   Files = List (List ℕ);
-  told = λ contents files. TellsAll contents names files;
+  contents = λ files. files;
   writes = None;
+  takes_input = false;
   cache = Some cache.cache_bytes;
   checks = share_checks cache o;
   ends = λ e. e ≡ ending.Done;
@@ -268,14 +265,22 @@ bytes_of files = map (λ f. f.bytes.items) files
 pub record GotSome (n : ℕ) (old new : ShelfState) : Type 0 where
   pub same : Same old.contents new.contents
   pub calls : new.calls ≡ risen old.calls n
+  pub stored : new.stored ≡ old.stored
   pub faults : new.faults ≡ old.faults
   pub last_failed : new.last_failed ≡ old.last_failed
 
 -- the contents of these names were read, and each passes its checks
 pub record FilesRead (limits : RunLimits) (most : ℕ) (names : List (List ℕ)) (old new : ShelfState) (files : List GuestFile) : Type 0 where
   pub got : GotSome (length names) old new
+  pub gave : GaveFirst names (bytes_of files) old new
   pub stand : AllZip (λ name f. Stands old.contents name f.bytes.items) names files
   pub accepted : All (IsGuestFile limits most) files
+
+-- the first of these names were read
+pub record FirstRead (names given : List (List ℕ)) (old new : ShelfState) : Type 0 where
+  pub gave : GaveFirst names given old new
+  pub stood : StandFirst old.contents names given
+  pub stored : new.stored ≡ old.stored
 
 -- the shelf failed at one of them
 pub record ShelfBroke (names : List (List ℕ)) (old new : ShelfState) : Type 0 where
@@ -284,6 +289,9 @@ pub record ShelfBroke (names : List (List ℕ)) (old new : ShelfState) : Type 0 
   pub last_failed : new.last_failed ≡ Some (get_of name)
   pub same : Same old.contents new.contents
   pub gets : ℕ
+  pub given : List (List ℕ)
+  pub read : FirstRead names given old new
+  pub but_one : gets ≡ length given + 1
   pub some : 0 < gets
   pub few : gets ≤ length names
   pub calls : new.calls ≡ risen old.calls gets
@@ -301,13 +309,23 @@ IsFileRefusal (refusal.Long address needs) = ⊤
 IsFileRefusal refusal.Memory = ⊤
 IsFileRefusal _ = ⊥
 
--- or one of them is refused, for want of memory or by the first check that fails, where the shelf tells all of them
+-- for want of memory; as too long, by the first check that fails, where the shelf tells all of them; or by the first check that fails of those
+-- that were given
+abbrev pub IsRefusedSo : RunLimits → ℕ → List (List ℕ) → Option Contents → (gets : ℕ) (given : List (List ℕ)) → Refusal → Type 0
+IsRefusedSo limits most names contents gets given refusal.Memory = (length given ≤ gets) × (gets ≤ length given + 1)
+IsRefusedSo limits most names contents gets given (refusal.FileLong limit) =
+    (gets ≡ length given + 1) × ((files : List (List ℕ)) → TellsAll contents names files → IsRefusedBy (files_checks limits most files) (refusal.FileLong limit))
+IsRefusedSo limits most names contents gets given r = (gets ≡ length given) × IsRefusedBy (files_checks limits most given) r
+
+-- or one of them is refused
 pub record FilesRefused (limits : RunLimits) (most : ℕ) (names : List (List ℕ)) (old new : ShelfState) (r : Refusal) : Type 0 where
   pub gets : ℕ
   pub some : 0 < gets
   pub few : gets ≤ length names
   pub got : GotSome gets old new
-  pub why : (r ≡ refusal.Memory) ⊎ ((files : List (List ℕ)) → TellsAll old.contents names files → IsRefusedBy (files_checks limits most files) r)
+  pub given : List (List ℕ)
+  pub read : FirstRead names given old new
+  pub why : IsRefusedSo limits most names old.contents gets given r
   pub by_file : IsFileRefusal r
 
 abbrev pub FilesUnread : RunLimits → ℕ → List (List ℕ) → ShelfState → ShelfState → Refusal → Type 0

@@ -14,3 +14,7 @@ pub mod Calls
 pub mod Rows
 pub mod Unused
 pub mod Turned
+mod Targets
+mod ClearingChains
+mod Knowing
+mod Seen

@@ -1,10 +1,9 @@
 -- A miss is what the policy says.
 use Rattle.std.proofs.Common.{◌≡◌, ℕ, ◌+◌, ◌-◌, ◌*◌, ◌%◌, ◌^◌, ◌<◌, ◌≤◌, min, true, false, List, [], ◌∷◌, ◌++◌, filter, length, slice_index, slice_set, nat_lt, arith, refl, sym, ◌∙◌, ap, subst, inl, inr}
 use Rattle.std.proofs.lemmas.Bool.{cases_lt, lt-ltb, le-ltb}
-use Rattle.swi_image.specs.Format.{ImageData}
 use Rattle.swi_image.specs.Place.{word_at, length_at}
 use Rattle.swi_outside.specs.CacheRam.{RamState}
-use Rattle.swi_rom.specs.Record.{Record, Placement, Link, Has, Placed, has_link, writes}
+use Rattle.swi_rom.specs.Record.{Record, Placement, Link, writes}
 use Rattle.swi_rom.specs.Policy.{is_kept, is_undone, is_placed, evicted}
 use Rattle.swi_slots.specs.Fifo.{appended, arrived}
 use Rattle.swi_rom.specs.Served.{WordsMove}
@@ -16,6 +15,7 @@ use Rattle.swi_slots.specs.Steps.{Filled, IsAbsent, counted_slots, settled, lead
 use Rattle.swi_slots.specs.Arrived.{Arrived}
 use Rattle.swi_rom.specs.declared.rom.Counts.{Counts}
 use Rattle.swi_rom.specs.Rams.{wrote_more, wrote_wider}
+use Rattle.swi_rom.proofs.Moving.{moves_from}
 use Rattle.swi_slots.proofs.Filling.{slot_fits}
 use Rattle.swi_slots.specs.Queue.{spot, length_queue, queue_free, queue_full}
 use Rattle.swi_slots.proofs.Missing.{Roomy, roomy_free, roomy_full, CountsMove, filled_slots, next_filled, here_block, moved_sound}
@@ -222,38 +222,6 @@ missed vs s t b before after sound few absent known f =
           (copied_as word (key_words_of vs s b) (s.next * s.size) n f.between after same_words
           (subst (λ (x : Slots). Copied word (x.next * x.size) n f.between after) w.1 f.copied))))
     ]
-
--- the counts are no part of what changes
-moves_from : (v : ImageData) (old r new : Record) (before after : RamState) → old.placed ≡ r.placed → old.links ≡ r.links → old.turn ≡ r.turn → WordsMove v old new before after → WordsMove v r new before after
-unfolding Placed
-moves_from v old r new before after e f g w = record {
-  changes = λ i. elim (w.changes i) [
-    | inl same ↦ inl same
-    | inr c ↦ elim c [
-      | inl n ↦ inr (inl (record {
-        block = n.block;
-        first = n.first;
-        offset = n.offset;
-        stands = n.stands;
-        is_new = λ h. n.is_new (was_has old r n.block n.first e g h);
-        inside = n.inside;
-        index = n.index;
-      }))
-      | inr l ↦ inr (inr (record {
-        link = l.link;
-        first = l.first;
-        stood = elim l.stood [ inl h ↦ inl (subst (λ (es : List Placement). Has es (record { program = l.link.program; block = l.link.block; first = l.first })) e h) | inr h ↦ inr h ];
-        changed = λ same. l.changed (ap (λ (ls : List Link). has_link ls l.link) f ∙ same);
-        index = l.index;
-      }))
-    ]
-  ];
-  restored = λ k f' was is h h'. w.restored k f' (ap (λ (ls : List Link). has_link ls k) f ∙ was) is
-      (subst (λ (es : List Placement). Has es (record { program = k.program; block = k.block; first = f' })) (sym e) h) h';
-}
-  where
-    was_has : (old r : Record) (b g : ℕ) → old.placed ≡ r.placed → old.turn ≡ r.turn → Has r.placed (record { program = r.turn; block = b; first = g }) → Has old.placed (record { program = old.turn; block = b; first = g })
-    was_has old r b g e t h = subst (λ (p : ℕ). Has old.placed (record { program = p; block = b; first = g })) (sym t) (subst (λ (es : List Placement). Has es (record { program = r.turn; block = b; first = g })) (sym e) h)
 
 counted_queue : (s : Slots) → queue_of (counted_slots s) ≡ queue_of s
 unfolding queue_of

@@ -14,3 +14,6 @@ pub mod Inside
 pub mod Coheres
 pub mod Readers
 pub mod Laws
+pub mod Targets
+pub mod Homes
+pub mod Chained

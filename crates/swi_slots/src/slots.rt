@@ -182,14 +182,7 @@ impl<T: LinkTable> SlotRom<T> {
             lengths,
             table,
             goals,
-            counts: Counts {
-                services: 0,
-                misses: 0,
-                evictions: 0,
-                links: 0,
-                unlinks: 0,
-                copied: 0,
-            },
+            counts: Counts::NONE,
             hints,
         })
     }

@@ -5,6 +5,7 @@ use Rattle.std.specs.Io.KnownBytes.{Appends}
 use Rattle.swi_outside.specs.Causes.{Rose}
 use Rattle.swi_outside.specs.Devices as outside
 use Rattle.swi_outside.specs.Laws.{Appends-append, no_cause, ok_unmoved}
+use Rattle.swi_outside.specs.Shelf.{Passed}
 use Rattle.swi_outside.specs.Sink.{AppendsPrefix, SinkState, WasWritten}
 use Rattle.swi_answer.specs.declared.answer.Ending.{Ending}
 use Rattle.swi_answer.specs.declared.answer.Ending.TheVariants as ending
@@ -18,7 +19,7 @@ use Rattle.swi_task.specs.Devices.{Devices, ShowsLine, stream_faults}
 use Rattle.swi_task.specs.Causes.{HasCauses}
 use Rattle.swi_task.specs.Checks.{cache_refusal}
 use Rattle.swi_task.specs.Runs.{Ran, StepFailed, FailedAtStep, FailedAfterRun, FailedBehind, ending_of}
-use Rattle.swi_task.specs.Answers.{Answers, AnswersWithLine, IsRefusedAtOnce, IsSized, writes_in}
+use Rattle.swi_task.specs.Answers.{Answers, AnswersWithLine, HasStored, IsRefusedAtOnce, IsSized, writes_in}
 use Rattle.swi_task.specs.Task.{Task}
 use Rattle.swi_task.proofs.Due.{right_empty}
 use Rattle.swi_task.proofs.Refusals.{causes_of, same_count}
@@ -110,14 +111,16 @@ refused_line t lined d m r error a line later = record {
     asked = a.asked;
     sized = a.sized;
     checked = a.checked;
+    long = a.long;
     ended = tt;
     done = tt;
-    failed = λ f files told. lined.failed files d m r error.held (take line.shown (refusal_line r)) (a.failed f files told) line.bytes;
+    failed = λ f files are. lined.failed files d m r error.held (take line.shown (refusal_line r)) (a.failed f files are) line.bytes;
     refused = λ never. let u = a.refused never in (
       record { input = u.0.input; output = u.0.output; ram = u.0.ram },
       Appends-append d.error.held m.error.held error.held [] (take line.shown (refusal_line r)) u.1 line.bytes,
     );
     shelf = a.shelf;
+    input = a.input;
     ram = a.ram;
     causes = let h = a.causes in record { shelf = h.shelf; ram = h.ram; streams = h.streams };
   };
@@ -169,12 +172,14 @@ ended_line t lined d m e error still a p same = record {
     asked = a.asked;
     sized = a.sized;
     checked = a.checked;
+    long = a.long;
     ended = a.ended;
-    done = λ files told. subst (λ (l : List ℕ). t.does files d (told_to m error) e l) (take_all (ending_line e))
-        (lined.done files d m e error a.ended (a.done files told) p same);
+    done = λ files are. subst (λ (l : List ℕ). t.does files d (told_to m error) e l) (take_all (ending_line e))
+        (lined.done files d m e error a.ended (a.done files are) p same);
     failed = tt;
     refused = tt;
     shelf = a.shelf;
+    input = a.input;
     ram = a.ram;
     causes = let h = a.causes in record {
       shelf = h.shelf;
@@ -242,6 +247,11 @@ no_writes : (x : Option (List ℕ)) → ((name : List ℕ) → x ≡ Some name �
 no_writes None never = refl
 no_writes (Some name) never = absurd (never name refl)
 
+-- and stores none
+none_stored : (x : Option (List ℕ)) (e : Ending) (before after : Passed) → ((name : List ℕ) → x ≡ Some name → ⊥) → HasStored (Ok e) x before after → after ≡ before
+none_stored None e before after never same = same
+none_stored (Some name) e before after never stored = absurd (never name refl)
+
 pub ending_failed : (t : Task) (lined : IsLined t) (d m : Devices) (e : Ending) (error : SinkState) → Answers t d m (Ok e) [] →
     AppendsPrefix m.error.held error.held (ending_line e) → (ending_line e ≡ [] → ⊥) → m.error.faults ≤ error.faults → Rose m.error.faults error.faults →
     Answers t d (told_to m error) (Err refusal.SinkFault) []
@@ -249,9 +259,10 @@ ending_failed t lined d m e error a p never later rose = record {
   asked = λ x. let bad : ⊥ = cc in bad;
   sized = sized_fault (cache_refusal t.cache (length d.ram.words)) e a.sized;
   checked = a.checked;
+  long = λ limit x. absurd (let bad : ⊥ = cc in bad);
   ended = tt;
   done = tt;
-  failed = λ _ files told. lined.unended files d m e error a.ended (a.done files told) p never (quiet_streams d m e a.causes) rose;
+  failed = λ _ files are. lined.unended files d m e error a.ended (a.done files are) p never (quiet_streams d m e a.causes) rose;
   refused = λ run. absurd (run tt);
   shelf = let k = a.shelf in record {
     others = k.others;
@@ -262,7 +273,15 @@ ending_failed t lined d m e error a p never later rose = record {
     puts = k.puts;
     calls = k.calls;
     asked = (k.asked.0, k.asked.1 ∙ no_writes t.writes (λ name named. lined.unwritten e name a.ended never named));
+    passed = let p = k.passed in record {
+      given = p.given;
+      gave = p.gave;
+      all = p.all;
+      stood = p.stood;
+      stored = none_stored t.writes e d.shelf.stored m.shelf.stored (λ name named. lined.unwritten e name a.ended never named) p.stored;
+    };
   };
+  input = a.input;
   ram = a.ram;
   causes = err_causes d m error e a.causes later rose;
 }

@@ -1,14 +1,16 @@
 -- What stands after a refusal that changes nothing but the errors, for any command.
-use Rattle.std.proofs.Common.{◌*◌, Bool, true, false, nat_lt, if◌then◌else◌, ◌≡◌, inl, inr, ℕ, ◌+◌, ◌≤◌, ◌<◌, List, [], ◌∷◌, length, Option, Some, None, Result, Ok, Err, IsErrOf, refl, sym, subst, ap, arith, OnErr}
-use Rattle.std.specs.Prelude.{option_map, Contains, Vec}
+use Rattle.std.proofs.Common.{◌*◌, Bool, true, false, nat_lt, if◌then◌else◌, ◌≡◌, ◌⊎◌, inl, inr, ℕ, ◌+◌, ◌≤◌, ◌<◌, List, [], ◌∷◌, ◌++◌, ◌∙◌, length, Option, Some, None, Result, Ok, Err, IsErrOf, refl, sym, subst, ap, arith, OnErr}
+use Rattle.std.proofs.lemmas.List.{append-nil, append_cancel_left}
+use Rattle.std.specs.Prelude.{option_map, Contains, Vec, zip}
 use Rattle.std.specs.declared.alloc.Global.{Global}
 use Rattle.swi_outside.specs.CacheRam.{RamState}
 use Rattle.swi_outside.specs.Causes.{DeviceCause, Rose, counted, risen}
 use Rattle.swi_outside.specs.Devices as outside
 use Rattle.swi_outside.specs.Laws.{Appends-none, cause_from, no_cause, none_named}
-use Rattle.swi_outside.specs.Shelf.{Asked, Contents, Same, ShelfState, Stands, IsLonger, WasGot, get_of}
+use Rattle.swi_outside.specs.Shelf.{Asked, Contents, Passed, Same, ShelfState, Stands, IsLonger, WasGot, get_of}
 use Rattle.swi_outside.specs.declared.shelf.ShelfError.{ShelfError}
 use Rattle.swi_outside.specs.declared.shelf.ShelfError.TheVariants as error
+use Rattle.swi_outside.specs.Source.{SourceState}
 use Rattle.swi_elf_read.specs.declared.refusal.ElfRefusal.{ElfRefusal}
 use Rattle.swi_elf_read.specs.Elf as elf
 use Rattle.swi_image.specs.declared.refusal.ImageRefusal.{ImageRefusal}
@@ -19,9 +21,9 @@ use Rattle.swi_answer.specs.declared.answer.Refusal.TheVariants as refusal
 use Rattle.swi_task.specs.Devices.{Devices, IsUntouched, stream_faults}
 use Rattle.swi_task.specs.Causes.{HasCauses}
 use Rattle.swi_task.specs.Checks.{Check, IsShort, IsAcceptedElf, HasRoom, HasImage, IsAcceptedImage, IsOwnImage, FitsBlocks, FitsUnlessImage, FitsMade, HoldsBlock, Fails, IsRefusedBy, IsRefusedOr, cache_limit, cache_refusal, file_limit, size_refusal}
-use Rattle.swi_task.specs.Answers.{Answers, IsAskedFor, IsChecked, IsSized, IsSizeRefusal, IsRunFault, KeepsRam, writes_in, KeepsShelf}
+use Rattle.swi_task.specs.Answers.{Answers, AreGiven, HasPassed, HasStored, IsAskedFor, IsChecked, IsSized, IsSizeRefusal, IsRunFault, KeepsInput, KeepsRam, StandFirst, writes_in, KeepsShelf}
 use Rattle.swi_task.specs.Files.{FileRead, answer_by}
-use Rattle.swi_task.specs.Task.{Task, Tells}
+use Rattle.swi_task.specs.Task.{AreFiles, GaveFirst, Task, Tells, TellsAll}
 
 -- a refusal by a check of the file, or want of memory
 abbrev pub IsLate : Refusal → Type 0
@@ -64,7 +66,7 @@ refused_late [] r h = absurd h
 refused_late (c ∷ cs) r h = elim h [ inl a ↦ fails_late c r a | inr b ↦ refused_late cs r b.1 ]
 
 pub checked_by : (cs : List Check) (last : Option Asked) (r : Refusal) → IsRefusedBy cs r → IsChecked cs last (Err r)
-checked_by cs last (refusal.FileLong limit) h = h
+checked_by cs last (refusal.FileLong limit) h = tt
 checked_by cs last (refusal.Elf r) h = h
 checked_by cs last (refusal.Room end) h = h
 checked_by cs last refusal.NoImage h = h
@@ -80,6 +82,51 @@ checked_by cs last refusal.ShelfFault h = absurd (refused_late cs refusal.ShelfF
 checked_by cs last refusal.SourceFault h = absurd (refused_late cs refusal.SourceFault h)
 checked_by cs last refusal.SinkFault h = absurd (refused_late cs refusal.SinkFault h)
 checked_by cs last refusal.RamFault h = absurd (refused_late cs refusal.RamFault h)
+
+-- the lengths that are checked are those of files that are not too long
+abbrev pub AreShort : List Check → Type 0
+AreShort [] = Unit {0}
+AreShort (IsShort file ∷ cs) = (length file ≤ file_limit) × AreShort cs
+AreShort (c ∷ cs) = AreShort cs
+
+abbrev pub IsTooLong : Refusal → Type 0
+IsTooLong (refusal.FileLong limit) = Unit {0}
+IsTooLong _ = ⊥
+
+elf_short : (x : Option ElfRefusal) (r : Refusal) → option_map (λ e. refusal.Elf e) x ≡ Some r → IsTooLong r → ⊥
+elf_short None r e long = let never : ⊥ = cc in never
+elf_short (Some x) r e long = let p : r ≡ refusal.Elf x = cc in subst IsTooLong p long
+
+image_short : (x : Option ImageRefusal) (r : Refusal) → option_map (λ e. refusal.Image e) x ≡ Some r → IsTooLong r → ⊥
+image_short None r e long = let never : ⊥ = cc in never
+image_short (Some x) r e long = let p : r ≡ refusal.Image x = cc in subst IsTooLong p long
+
+pub short_refused : (cs : List Check) (r : Refusal) → AreShort cs → IsRefusedBy cs r → IsTooLong r → ⊥
+short_refused [] r short h long = h
+short_refused (IsShort file ∷ cs) r short (inl a) long = let within : length file ≤ file_limit = short.0 in omega (arith, a.0, within)
+short_refused (IsAcceptedElf file ∷ cs) r short (inl a) long = elf_short (elf.first_refusal file) r a long
+short_refused (HasRoom file limits ∷ cs) r short (inl a) long = subst IsTooLong a.2 long
+short_refused (HasImage file ∷ cs) r short (inl a) long = subst IsTooLong a.1 long
+short_refused (IsAcceptedImage file ∷ cs) r short (inl a) long = image_short (image.first_refusal a.0) r a.2 long
+short_refused (IsOwnImage file ∷ cs) r short (inl a) long = subst IsTooLong a.2.2 long
+short_refused (FitsBlocks file most ∷ cs) r short (inl a) long = subst IsTooLong a.2 long
+short_refused (FitsUnlessImage file most ∷ cs) r short (inl a) long = subst IsTooLong a.1.2 long
+short_refused (FitsMade seed functions most ∷ cs) r short (inl a) long = subst IsTooLong a.2.2 long
+short_refused (HoldsBlock bytes least ∷ cs) r short (inl a) long = subst IsTooLong a.1 long
+short_refused (IsShort file ∷ cs) r short (inr b) long = short_refused cs r short.1 b.1 long
+short_refused (IsAcceptedElf file ∷ cs) r short (inr b) long = short_refused cs r short b.1 long
+short_refused (HasRoom file limits ∷ cs) r short (inr b) long = short_refused cs r short b.1 long
+short_refused (HasImage file ∷ cs) r short (inr b) long = short_refused cs r short b.1 long
+short_refused (IsAcceptedImage file ∷ cs) r short (inr b) long = short_refused cs r short b.1 long
+short_refused (IsOwnImage file ∷ cs) r short (inr b) long = short_refused cs r short b.1 long
+short_refused (FitsBlocks file most ∷ cs) r short (inr b) long = short_refused cs r short b.1 long
+short_refused (FitsUnlessImage file most ∷ cs) r short (inr b) long = short_refused cs r short b.1 long
+short_refused (FitsMade seed functions most ∷ cs) r short (inr b) long = short_refused cs r short b.1 long
+short_refused (HoldsBlock bytes least ∷ cs) r short (inr b) long = short_refused cs r short b.1 long
+
+-- a refusal is no other
+pub not_long : (r : Refusal) → (IsTooLong r → ⊥) → (limit : ℕ) → IsErrOf {T = Ending} (Err r) (refusal.FileLong limit) → ⊥
+not_long r never limit is = never (let p : refusal.FileLong limit ≡ r = cc in subst IsTooLong p tt)
 
 pub late_run : (r : Refusal) → IsLate r → IsRunFault r → ⊥
 late_run refusal.SourceFault h f = h
@@ -181,6 +228,10 @@ pub keeps_ram : (cache : Option ℕ) (r : RamState) → KeepsRam cache r r
 keeps_ram None r = refl
 keeps_ram (Some bytes) r = record { beyond = λ i h. refl; same_length = refl; reached = omega arith }
 
+pub keeps_input : (takes : Bool) (s : SourceState) → KeepsInput takes s s
+keeps_input true s = tt
+keeps_input false s = refl
+
 pub told_is : (c : Option Contents) (name file bytes : List ℕ) → Tells c name file → Stands c name bytes → bytes ≡ file
 told_is None name file bytes told stands = absurd told
 told_is (Some m) name file bytes told stands = cc
@@ -219,6 +270,9 @@ causes_behind d s m r same h = record { shelf = cause_from same h.shelf; ram = h
 pub record IsRead (before after : ShelfState) (name bytes : List ℕ) : Type 0 where
   pub same : Same before.contents after.contents
   pub stands : Stands before.contents name bytes
+  pub within : length bytes ≤ file_limit
+  pub got : after.got ≡ before.got ++ (name, bytes) ∷ []
+  pub stored : after.stored ≡ before.stored
   pub asked : after.calls ≡ counted before.calls
   pub faults : after.faults ≡ before.faults
   pub last_failed : after.last_failed ≡ before.last_failed
@@ -231,13 +285,110 @@ was_read {before} {after} {name} {v} h = by h.answer h.got h.handed_on
         let calm = got.cause.quiet (λ e. let never : ⊥ = cc in never) in
         let same : w ≡ v = cc in
         subst (λ (x : Vec ℕ Global). IsRead before after name x.items) same
-        (record { same = got.same; stands = got.content; asked = got.asked; faults = calm.0; last_failed = calm.1 })
+        (record {
+          same = got.same;
+          stands = got.content;
+          within = got.within;
+          got = got.gave;
+          stored = got.none_stored;
+          asked = got.asked;
+          faults = calm.0;
+          last_failed = calm.1;
+        })
     by (Err e) got is = absurd (let never : ⊥ = cc in never)
 
+-- the content that passed first
+abbrev first_content : Passed → List ℕ
+first_content [] = []
+first_content (p ∷ ps) = p.1
+
+-- the file that was given is the one that was read
+pub read_is : {before middle after : ShelfState} {name bytes file : List ℕ} → IsRead before middle name bytes →
+    GaveFirst (name ∷ []) (file ∷ []) before after ⊎ TellsAll before.contents (name ∷ []) (file ∷ []) → after.got ≡ middle.got → bytes ≡ file
+read_is {before} {middle} {after} {name} {bytes} {file} read (inl gave) same =
+    ap first_content (append_cancel_left before.got ((name, bytes) ∷ []) ((name, file) ∷ []) (sym read.got ∙ sym same ∙ gave.got))
+read_is {before} {middle} {after} {name} {bytes} {file} read (inr tells) same = told_is before.contents name file bytes tells.0 read.stands
+
+zip_same : (names xs ys : List (List ℕ)) → length xs ≤ length names → length ys ≤ length names → zip names xs ≡ zip names ys → xs ≡ ys
+zip_same names [] [] few less same = refl
+zip_same [] (x ∷ xs) ys few less same = absurd (omega (arith, few))
+zip_same [] [] (y ∷ ys) few less same = absurd (omega (arith, less))
+zip_same (n ∷ ns) [] (y ∷ ys) few less same = absurd (let never : ⊥ = cc in never)
+zip_same (n ∷ ns) (x ∷ xs) [] few less same = absurd (let never : ⊥ = cc in never)
+zip_same (n ∷ ns) (x ∷ xs) (y ∷ ys) few less same =
+    let first : x ≡ y = ap first_content same in
+    let rest : zip ns xs ≡ zip ns ys = cc in
+    let more = zip_same ns xs ys (omega (arith, few)) (omega (arith, less)) rest in
+    ap (λ (l : List (List ℕ)). x ∷ l) more ∙ ap (λ (z : List ℕ). z ∷ ys) first
+
+-- what was given of these names is one list
+pub gave_same : (names xs ys : List (List ℕ)) (before after : ShelfState) → GaveFirst names xs before after → GaveFirst names ys before after → xs ≡ ys
+gave_same names xs ys before after one other =
+    zip_same names xs ys one.few other.few (append_cancel_left before.got (zip names xs) (zip names ys) (sym one.got ∙ other.got))
+
+-- one file was given, or none
+pub gave_one : (t : Task) (before middle after : ShelfState) (name bytes : List ℕ) → t.reads ≡ name ∷ [] → IsRead before middle name bytes → after.got ≡ middle.got →
+    GaveFirst t.reads (bytes ∷ []) before after
+gave_one t before middle after name bytes is read same =
+    subst (λ (l : List (List ℕ)). GaveFirst l (bytes ∷ []) before after) (sym is) (record { few = omega arith; got = same ∙ read.got })
+
+pub zip_none : (names : List (List ℕ)) → ◌≡◌ {A = Passed} (zip names []) []
+zip_none [] = refl
+zip_none (name ∷ names) = refl
+
+pub gave_none : (names : List (List ℕ)) (before after : ShelfState) → after.got ≡ before.got → GaveFirst names [] before after
+gave_none names before after same = record {
+  few = omega arith;
+  got = same ∙ sym (append-nil before.got) ∙ ap (λ (l : Passed). before.got ++ l) (sym (zip_none names));
+}
+
+pub one_stood : (t : Task) (before after : ShelfState) (name bytes : List ℕ) → t.reads ≡ name ∷ [] → IsRead before after name bytes → StandFirst before.contents t.reads (bytes ∷ [])
+one_stood t before after name bytes is read = subst (λ (l : List (List ℕ)). StandFirst before.contents l (bytes ∷ [])) (sym is) (read.stands, tt)
+
+-- with such an answer all were given that were asked for
+pub given_all : (n : ℕ) (failed : Option Asked) (r : Refusal) → IsLate r → (IsTooLong r → ⊥) → AreGiven failed (Err r) n n
+given_all n failed (refusal.FileLong limit) h short = absurd (short tt)
+given_all n failed (refusal.Elf r) h short = refl
+given_all n failed (refusal.Room end) h short = refl
+given_all n failed refusal.NoImage h short = refl
+given_all n failed (refusal.Image r) h short = refl
+given_all n failed (refusal.Mismatch m) h short = refl
+given_all n failed (refusal.Long address needs) h short = refl
+given_all n failed (refusal.CacheSmall bytes least) h short = refl
+given_all n failed refusal.Memory h short = (omega arith, omega arith)
+given_all n failed _ h short = absurd h
+
+-- what passed where one file was read and none written
+pub passed_one : (t : Task) (before after : ShelfState) (name bytes : List ℕ) (r : Result Ending Refusal) → t.reads ≡ name ∷ [] → IsRead before after name bytes →
+    AreGiven after.last_failed r 1 1 → HasStored r t.writes before.stored before.stored → HasPassed t before after r 1
+passed_one t before after name bytes r is read given stored = record {
+  given = bytes ∷ [];
+  gave = gave_one t before after after name bytes is read refl;
+  all = given;
+  stood = one_stood t before after name bytes is read;
+  stored = subst (λ (s : Passed). HasStored r t.writes before.stored s) (sym read.stored) stored;
+}
+
+-- and where none was read
+pub passed_none : (t : Task) (before after : ShelfState) (r : Refusal) (gets : ℕ) → after.got ≡ before.got → after.stored ≡ before.stored →
+    AreGiven after.last_failed (Err r) gets 0 → HasPassed t before after (Err r) gets
+passed_none t before after r gets got stored given = record {
+  given = [];
+  gave = gave_none t.reads before after got;
+  all = given;
+  stood = tt;
+  stored = stored;
+}
+
+-- a command that writes none stores nothing
+pub stores_none : (r : Result Ending Refusal) (s : Passed) → HasStored r None s s
+stores_none (Ok v) s = refl
+stores_none (Err e) s = refl
+
 -- what a command that read one file and writes none leaves of the shelf
-pub keeps_read : (t : Task) (before after : ShelfState) (name bytes : List ℕ) (r : Result Ending Refusal) → length t.reads ≡ 1 → IsRead before after name bytes →
-    IsAskedFor 1 (writes_in t.writes) after.last_failed r 1 0 → (IsErrOf r refusal.ShelfFault → ⊥) → KeepsShelf t before after r
-keeps_read t before after name bytes r one read asked never = record {
+pub keeps_read : (t : Task) (before after : ShelfState) (name bytes : List ℕ) (r : Result Ending Refusal) → t.reads ≡ name ∷ [] → t.writes ≡ None → IsRead before after name bytes →
+    IsAskedFor 1 (writes_in t.writes) after.last_failed r 1 0 → AreGiven after.last_failed r 1 1 → (IsErrOf r refusal.ShelfFault → ⊥) → KeepsShelf t before after r
+keeps_read t before after name bytes r is unwritten read asked given never = record {
   others = λ x _. read.same x;
   refused = on_err r (λ _. read.same);
   quiet = λ _. read.last_failed;
@@ -245,7 +396,9 @@ keeps_read t before after name bytes r one read asked never = record {
   gets = 1;
   puts = 0;
   calls = read.asked;
-  asked = subst (λ (n : ℕ). IsAskedFor n (writes_in t.writes) after.last_failed r 1 0) (sym one) asked;
+  asked = subst (λ (l : List (List ℕ)). IsAskedFor (length l) (writes_in t.writes) after.last_failed r 1 0) (sym is) asked;
+  passed = passed_one t before after name bytes r is read given
+      (subst (λ (o : Option (List ℕ)). HasStored r o before.stored before.stored) (sym unwritten) (stores_none r before.stored));
 }
   where
     on_err : {P : Type 0} (r : Result Ending Refusal) → P → OnErr r P
@@ -254,16 +407,25 @@ keeps_read t before after name bytes r one read asked never = record {
 
 -- ---- a refusal that is none by a device
 
+-- a file that is too long is one that the shelf tells, and the first check that fails
+abbrev pub IsLongBy : Task → Option Contents → Refusal → Type 0
+IsLongBy t contents r = (limit : ℕ) → IsErrOf {T = Ending} (Err r) (refusal.FileLong limit) → (files : t.Files) → TellsAll contents t.reads (t.contents files) →
+    IsRefusedBy (t.checks files) (refusal.FileLong limit)
+
+pub none_long : (t : Task) (contents : Option Contents) (r : Refusal) → (IsTooLong r → ⊥) → IsLongBy t contents r
+none_long t contents r never limit is = absurd (not_long r never limit is)
+
 pub refused : (t : Task) (d : Devices) (s : ShelfState) (r : Refusal) (gets puts : ℕ) →
     (IsErrOf {T = Ending} (Err r) refusal.Usage → ⊥) → IsSized (cache_refusal t.cache (length d.ram.words)) (Err r) → (IsRunFault r → ⊥) → (IsErrOf {T = Ending} (Err r) refusal.ShelfFault → ⊥) →
     HasCauses {T = Ending} d (record d { shelf = s }) (Err r) → Same d.shelf.contents s.contents → s.last_failed ≡ d.shelf.last_failed →
-    ((files : t.Files) → t.told d.shelf.contents files → IsChecked (t.checks files) s.last_failed (Err r)) →
+    ((files : t.Files) → AreFiles t d.shelf s files → IsChecked (t.checks files) s.last_failed (Err r)) → IsLongBy t d.shelf.contents r →
     s.calls ≡ risen d.shelf.calls (gets + puts) → IsAskedFor (length t.reads) (writes_in t.writes) s.last_failed (Err r) gets puts →
-    Answers t d (record d { shelf = s }) (Err r) []
-refused t d s r gets puts asked sized calm shelf causes same last checked calls asks = record {
+    HasPassed t d.shelf s (Err r) gets → Answers t d (record d { shelf = s }) (Err r) []
+refused t d s r gets puts asked sized calm shelf causes same last checked long calls asks passed = record {
   asked = asked;
   sized = sized;
   checked = checked;
+  long = long;
   ended = tt;
   done = tt;
   failed = λ f. absurd (calm f);
@@ -277,32 +439,37 @@ refused t d s r gets puts asked sized calm shelf causes same last checked calls 
     puts = puts;
     calls = calls;
     asked = asks;
+    passed = passed;
   };
+  input = keeps_input t.takes_input d.input;
   ram = keeps_ram t.cache d.ram;
   causes = causes;
 }
 
 pub late : (t : Task) (d : Devices) (s : ShelfState) (r : Refusal) (gets puts : ℕ) → IsLate r → cache_refusal t.cache (length d.ram.words) ≡ None →
     Same d.shelf.contents s.contents → s.faults ≡ d.shelf.faults → s.last_failed ≡ d.shelf.last_failed →
-    ((files : t.Files) → t.told d.shelf.contents files → IsChecked (t.checks files) s.last_failed (Err r)) →
+    ((files : t.Files) → AreFiles t d.shelf s files → IsChecked (t.checks files) s.last_failed (Err r)) → IsLongBy t d.shelf.contents r →
     s.calls ≡ risen d.shelf.calls (gets + puts) → IsAskedFor (length t.reads) (writes_in t.writes) s.last_failed (Err r) gets puts →
-    Answers t d (record d { shelf = s }) (Err r) []
-late t d s r gets puts h size same faults last checked calls asks =
+    HasPassed t d.shelf s (Err r) gets → Answers t d (record d { shelf = s }) (Err r) []
+late t d s r gets puts h size same faults last checked long calls asks passed =
     refused t d s r gets puts (late_not r refusal.Usage h (λ x. x)) (sized_along _ _ size (sized_late r h)) (late_run r h) (late_shelf r h)
-    (calm_causes d (record d { shelf = s }) (Err r) (late_own r h) faults refl refl) same last checked calls asks
+    (calm_causes d (record d { shelf = s }) (Err r) (late_own r h) faults refl refl) same last checked long calls asks passed
 
 -- by a check of the file that was read, or for want of memory
 pub check_refused : (t : Task) (d : Devices) (s : ShelfState) (name bytes : List ℕ) (files : t.Files) (r : Refusal) → cache_refusal t.cache (length d.ram.words) ≡ None →
-    length t.reads ≡ 1 → IsRead d.shelf s name bytes → ((told : t.Files) → t.told d.shelf.contents told → files ≡ told) → IsRefusedOr (t.checks files) r → Answers t d (record d { shelf = s }) (Err r) []
-check_refused t d s name bytes files r size one read only why = elim why [
-  | inl e ↦ subst (λ (x : Refusal). Answers t d (record d { shelf = s }) (Err x) []) (sym e) (so refusal.Memory tt (λ _ _. tt))
-  | inr by ↦ so r (refused_late (t.checks files) r by) (λ other told.
-      subst (λ (f : t.Files). IsChecked (t.checks f) s.last_failed (Err r)) (only other told) (checked_by (t.checks files) s.last_failed r by))
+    t.reads ≡ name ∷ [] → IsRead d.shelf s name bytes → AreShort (t.checks files) → ((others : t.Files) → AreFiles t d.shelf s others → files ≡ others) →
+    IsRefusedOr (t.checks files) r → Answers t d (record d { shelf = s }) (Err r) []
+check_refused t d s name bytes files r size is read short only why = elim why [
+  | inl e ↦ subst (λ (x : Refusal). Answers t d (record d { shelf = s }) (Err x) []) (sym e) (so refusal.Memory tt (λ x. x) (λ _ _. tt))
+  | inr by ↦ so r (refused_late (t.checks files) r by) (short_refused (t.checks files) r short by) (λ others are.
+      subst (λ (f : t.Files). IsChecked (t.checks f) s.last_failed (Err r)) (only others are) (checked_by (t.checks files) s.last_failed r by))
 ]
   where
-    so : (x : Refusal) → IsLate x → ((files : t.Files) → t.told d.shelf.contents files → IsChecked (t.checks files) s.last_failed (Err x)) → Answers t d (record d { shelf = s }) (Err x) []
-    so x h checked = late t d s x 1 0 h size read.same read.faults read.last_failed checked read.asked
-        (subst (λ (n : ℕ). IsAskedFor n (writes_in t.writes) s.last_failed (Err x) 1 0) (sym one) (one_late (writes_in t.writes) s.last_failed x h))
+    so : (x : Refusal) → IsLate x → (IsTooLong x → ⊥) → ((others : t.Files) → AreFiles t d.shelf s others → IsChecked (t.checks others) s.last_failed (Err x)) →
+        Answers t d (record d { shelf = s }) (Err x) []
+    so x h never checked = late t d s x 1 0 h size read.same read.faults read.last_failed checked (none_long t d.shelf.contents x never) read.asked
+        (subst (λ (l : List (List ℕ)). IsAskedFor (length l) (writes_in t.writes) s.last_failed (Err x) 1 0) (sym is) (one_late (writes_in t.writes) s.last_failed x h))
+        (passed_one t d.shelf s name bytes (Err x) is read (given_all 1 s.last_failed x h never) refl)
 
 -- ---- the file was not read
 
@@ -312,7 +479,8 @@ read_failed t name d s is size got =
     let failed = got.cause.failed refl in record {
       asked = λ e. let bad : ⊥ = cc in bad;
       sized = sized_along _ _ size (sized_err refusal.ShelfFault (λ x. x));
-      checked = λ files told. subst (λ (x : Option Asked). IsChecked (t.checks files) x (Err refusal.ShelfFault)) (sym failed.1) (λ put. absurd put);
+      checked = λ files are. subst (λ (x : Option Asked). IsChecked (t.checks files) x (Err refusal.ShelfFault)) (sym failed.1) (λ put. absurd put);
+      long = none_long t d.shelf.contents refusal.ShelfFault (λ x. x);
       ended = tt;
       done = tt;
       failed = λ f. absurd f;
@@ -327,7 +495,10 @@ read_failed t name d s is size got =
         calls = got.asked;
         asked = subst (λ (x : Option Asked). IsAskedFor (length t.reads) (writes_in t.writes) x (Err refusal.ShelfFault) 1 0) (sym failed.1)
             (subst (λ (l : List (List ℕ)). IsAskedFor (length l) (writes_in t.writes) (Some (get_of name)) (Err refusal.ShelfFault) 1 0) (sym is) (omega arith, omega arith, refl));
+        passed = passed_none t d.shelf s refusal.ShelfFault 1 got.gave got.none_stored
+            (subst (λ (x : Option Asked). AreGiven x (Err refusal.ShelfFault) 1 0) (sym failed.1) (omega arith));
       };
+      input = keeps_input t.takes_input d.input;
       ram = keeps_ram t.cache d.ram;
       causes = shelf_causes d s got.cause.later failed.0;
     }
@@ -343,19 +514,18 @@ too_long c name file longer told = (longer_is c name file file_limit told longer
 
 -- the shelf failed, it was too long, or there was no memory for it
 pub read_refused : (t : Task) (name : List ℕ) (d : Devices) (s : ShelfState) (r : Refusal) → t.reads ≡ name ∷ [] → cache_refusal t.cache (length d.ram.words) ≡ None →
-    (IsLonger d.shelf.contents name file_limit → (files : t.Files) → t.told d.shelf.contents files → IsRefusedBy (t.checks files) (refusal.FileLong file_limit)) →
+    (IsLonger d.shelf.contents name file_limit → (files : t.Files) → TellsAll d.shelf.contents t.reads (t.contents files) → IsRefusedBy (t.checks files) (refusal.FileLong file_limit)) →
     FileRead d.shelf s name (Err r) → Answers t d (record d { shelf = s }) (Err r) []
 read_refused t name d s r is size long h = by h.answer h.got h.handed_on
   where
-    one : length t.reads ≡ 1
-    one = ap (λ (l : List (List ℕ)). length l) is
-
-    calm : (e : ShelfError) → (e ≡ error.Failed → ⊥) → IsLate r → WasGot d.shelf s name file_limit (Err e) →
-        ((files : t.Files) → t.told d.shelf.contents files → IsChecked (t.checks files) s.last_failed (Err r)) → Answers t d (record d { shelf = s }) (Err r) []
-    calm e never h got checked =
-        let quiet = got.cause.quiet (λ x. never (let same : e ≡ error.Failed = cc in same)) in
-        late t d s r 1 0 h size got.same quiet.0 quiet.1 checked got.asked
-        (subst (λ (n : ℕ). IsAskedFor n (writes_in t.writes) s.last_failed (Err r) 1 0) (sym one) (one_late (writes_in t.writes) s.last_failed r h))
+    calm : (e : ShelfError) (x : Refusal) → (e ≡ error.Failed → ⊥) → IsLate x → WasGot d.shelf s name file_limit (Err e) →
+        ((files : t.Files) → AreFiles t d.shelf s files → IsChecked (t.checks files) s.last_failed (Err x)) → IsLongBy t d.shelf.contents x →
+        AreGiven s.last_failed (Err x) 1 0 → Answers t d (record d { shelf = s }) (Err x) []
+    calm e x never h got checked long given =
+        let quiet = got.cause.quiet (λ y. never (let same : e ≡ error.Failed = cc in same)) in
+        late t d s x 1 0 h size got.same quiet.0 quiet.1 checked long got.asked
+        (subst (λ (l : List (List ℕ)). IsAskedFor (length l) (writes_in t.writes) s.last_failed (Err x) 1 0) (sym is) (one_late (writes_in t.writes) s.last_failed x h))
+        (passed_none t d.shelf s x 1 got.gave got.none_stored given)
 
     by : (answer : Result (Vec ℕ Global) ShelfError) → WasGot d.shelf s name file_limit answer → Err r ≡ answer_by answer → Answers t d (record d { shelf = s }) (Err r) []
     by (Ok v) got same = absurd (let never : ⊥ = cc in never)
@@ -364,12 +534,14 @@ read_refused t name d s r is size long h = by h.answer h.got h.handed_on
         subst (λ (x : Refusal). Answers t d (record d { shelf = s }) (Err x) []) (sym e) (read_failed t name d s is size got)
     by (Err error.Long) got same =
         let e : r ≡ refusal.FileLong file_limit = cc in
-        calm error.Long (λ x. let never : ⊥ = cc in never) (late_along e tt) got (λ files told.
-        subst (λ (x : Refusal). IsChecked (t.checks files) s.last_failed (Err x)) (sym e) (long (got.long refl) files told))
+        subst (λ (x : Refusal). Answers t d (record d { shelf = s }) (Err x) []) (sym e)
+        (calm error.Long (refusal.FileLong file_limit) (λ x. let never : ⊥ = cc in never) tt got (λ _ _. tt)
+        (λ limit is files tells. subst (λ (n : ℕ). IsRefusedBy (t.checks files) (refusal.FileLong n)) (let same : file_limit ≡ limit = cc in same) (long (got.long refl) files tells))
+        (omega arith))
     by (Err error.Memory) got same =
         let e : r ≡ refusal.Memory = cc in
-        calm error.Memory (λ x. let never : ⊥ = cc in never) (late_along e tt) got (λ files told.
-        subst (λ (x : Refusal). IsChecked (t.checks files) s.last_failed (Err x)) (sym e) tt)
+        subst (λ (x : Refusal). Answers t d (record d { shelf = s }) (Err x) []) (sym e)
+        (calm error.Memory refusal.Memory (λ x. let never : ⊥ = cc in never) tt got (λ _ _. tt) (none_long t d.shelf.contents refusal.Memory (λ x. x)) (omega arith, omega arith))
 
 -- ---- nothing happened yet
 
@@ -383,7 +555,8 @@ contents_stay d = same_all d.shelf.contents
 pub memory_at_once : (t : Task) (d : Devices) → Answers t d d (Err refusal.Memory) []
 memory_at_once t d = refused t d d.shelf refusal.Memory 0 0 (late_not refusal.Memory refusal.Usage tt (λ x. x))
     (record { refused = λ r _. inr refl; only = λ f. absurd f }) (λ f. f) (late_shelf refusal.Memory tt) (calm_causes d d (Err refusal.Memory) tt refl refl refl) (contents_stay d) refl (λ _ _. tt)
-    (asked_none d.shelf.calls) (omega arith, omega arith, λ some. absurd (omega (arith, some)))
+    (none_long t d.shelf.contents refusal.Memory (λ x. x)) (asked_none d.shelf.calls) (omega arith, omega arith, λ some. absurd (omega (arith, some)))
+    (passed_none t d.shelf d.shelf refusal.Memory 0 refl refl (omega arith, omega arith))
 
 -- a size is refused
 size_is : (bytes words : ℕ) (r : Refusal) → size_refusal bytes words ≡ Some r → IsSizeRefusal r
@@ -408,8 +581,10 @@ size_refused t d r e = by r (cache_is t.cache (length d.ram.words) r e) e
     by : (r : Refusal) → IsSizeRefusal r → cache_refusal t.cache (length d.ram.words) ≡ Some r → Answers t d d (Err r) []
     by (refusal.CacheLarge bytes) h e =
         refused t d d.shelf (refusal.CacheLarge bytes) 0 0 (λ x. let never : ⊥ = cc in never) (sized_so _ _ e) (λ x. x) (λ x. let never : ⊥ = cc in never)
-        (calm_causes d d (Err (refusal.CacheLarge bytes)) tt refl refl refl) (contents_stay d) refl (λ _ _. tt) (asked_none d.shelf.calls) (refl, refl)
+        (calm_causes d d (Err (refusal.CacheLarge bytes)) tt refl refl refl) (contents_stay d) refl (λ _ _. tt) (none_long t d.shelf.contents (refusal.CacheLarge bytes) (λ x. x))
+        (asked_none d.shelf.calls) (refl, refl) (passed_none t d.shelf d.shelf (refusal.CacheLarge bytes) 0 refl refl refl)
     by (refusal.RamSmall bytes held) h e =
         refused t d d.shelf (refusal.RamSmall bytes held) 0 0 (λ x. let never : ⊥ = cc in never) (sized_so _ _ e) (λ x. x) (λ x. let never : ⊥ = cc in never)
-        (calm_causes d d (Err (refusal.RamSmall bytes held)) tt refl refl refl) (contents_stay d) refl (λ _ _. tt) (asked_none d.shelf.calls) (refl, refl)
+        (calm_causes d d (Err (refusal.RamSmall bytes held)) tt refl refl refl) (contents_stay d) refl (λ _ _. tt) (none_long t d.shelf.contents (refusal.RamSmall bytes held) (λ x. x))
+        (asked_none d.shelf.calls) (refl, refl) (passed_none t d.shelf d.shelf (refusal.RamSmall bytes held) 0 refl refl refl)
     by _ h e = absurd h

@@ -1,9 +1,10 @@
 -- Which answer comes, of any command, and what stands with it.
-use Rattle.std.specs.Prelude.{◌≡◌, ◌⊎◌, ℕ, ◌+◌, ◌/◌, ◌<◌, ◌≤◌, List, length, take, Option, Some, None, Result, Ok, Err, IfOk, IfErr, OnOk, OnErr, IsErrOf, Contains, ⊤}
+use Rattle.std.specs.Prelude.{◌≡◌, ◌⊎◌, ℕ, ◌+◌, ◌/◌, ◌<◌, ◌≤◌, List, [], ◌∷◌, ◌++◌, length, take, Bool, true, false, Option, Some, None, Result, Ok, Err, IfOk, IfErr, OnOk, OnErr, IsErrOf, Contains, ⊤}
 use Rattle.std.specs.Io.KnownBytes.{Appends}
 use Rattle.swi_outside.specs.CacheRam.{KeepsBeyond, RamState}
 use Rattle.swi_outside.specs.Causes.{Rose, risen}
-use Rattle.swi_outside.specs.Shelf.{Asked, SameAt, Same, ShelfState, get_of, put_of}
+use Rattle.swi_outside.specs.Shelf.{Asked, Contents, Passed, SameAt, Same, ShelfState, Stands, get_of, put_of}
+use Rattle.swi_outside.specs.Source.{SourceState}
 use Rattle.swi_answer.specs.declared.answer.Ending.{Ending}
 use Rattle.swi_answer.specs.declared.answer.Refusal.{Refusal}
 use Rattle.swi_answer.specs.declared.answer.Refusal.TheVariants as refusal
@@ -11,7 +12,7 @@ use Rattle.swi_answer.specs.Lines.{ending_line, refusal_line}
 use Rattle.swi_task.specs.Devices.{Devices, IsUntouched, with_error_faults}
 use Rattle.swi_task.specs.Checks.{Check, IsAccepted, IsRefusedBy, cache_refusal}
 use Rattle.swi_task.specs.Causes.{HasCauses}
-use Rattle.swi_task.specs.Task.{Task}
+use Rattle.swi_task.specs.Task.{AreFiles, GaveFirst, Task, TellsAll}
 
 -- the last call that failed was one that writes
 abbrev pub IsPut : Option Asked → Type 0
@@ -27,7 +28,8 @@ IsChecked checks failed (Err refusal.SourceFault) = IsAccepted checks
 IsChecked checks failed (Err refusal.SinkFault) = IsAccepted checks
 IsChecked checks failed (Err refusal.RamFault) = IsAccepted checks
 IsChecked checks failed (Err refusal.ShelfFault) = IsPut failed → IsAccepted checks
-IsChecked checks failed (Err (refusal.FileLong limit)) = IsRefusedBy checks (refusal.FileLong limit)
+-- of a file that is too long no bytes are given
+IsChecked checks failed (Err (refusal.FileLong limit)) = ⊤
 IsChecked checks failed (Err (refusal.Elf r)) = IsRefusedBy checks (refusal.Elf r)
 IsChecked checks failed (Err (refusal.Room end)) = IsRefusedBy checks (refusal.Room end)
 IsChecked checks failed (Err refusal.NoImage) = IsRefusedBy checks refusal.NoImage
@@ -93,6 +95,35 @@ IsAskedFor reads writes failed (Err refusal.Memory) gets puts = (gets ≤ reads)
 -- the cache is checked, and the command runs, when all are got, and before one is put
 IsAskedFor reads writes failed (Err r) gets puts = (gets ≡ reads) × (puts ≡ 0)
 
+-- of so many files that were asked for so many were given: all, but for the last one where the shelf failed, it was too long, or there was no
+-- memory
+abbrev pub AreGiven : Option Asked → Result Ending Refusal → (gets given : ℕ) → Type 0
+AreGiven failed (Err (refusal.FileLong limit)) gets given = gets ≡ given + 1
+AreGiven (Some (put_of name)) (Err refusal.ShelfFault) gets given = gets ≡ given
+AreGiven failed (Err refusal.ShelfFault) gets given = gets ≡ given + 1
+AreGiven failed (Err refusal.Memory) gets given = (given ≤ gets) × (gets ≤ given + 1)
+AreGiven failed r gets given = gets ≡ given
+
+-- what the shelf stored for a command: one content under OUT, where the command has ended, and nothing else
+abbrev pub HasStored : Result Ending Refusal → Option (List ℕ) → Passed → Passed → Type 0
+HasStored (Err r) writes before after = after ≡ before
+HasStored (Ok e) None before after = after ≡ before
+HasStored (Ok e) (Some output) before after = (bytes : List ℕ) × (after ≡ before ++ (output, bytes) ∷ [])
+
+-- these stand under the first of these names, as far as is told
+abbrev pub StandFirst : Option Contents → (names files : List (List ℕ)) → Type 0
+StandFirst contents names [] = ⊤
+StandFirst contents [] (file ∷ files) = ⊥
+StandFirst contents (name ∷ names) (file ∷ files) = Stands contents name file × StandFirst contents names files
+
+-- what the shelf gave and stored for a command that asked it for so many files
+pub record HasPassed (t : Task) (before after : ShelfState) (result : Result Ending Refusal) (gets : ℕ) : Type 0 where
+  pub given : List (List ℕ)
+  pub gave : GaveFirst t.reads given before after
+  pub all : AreGiven after.last_failed result gets (length given)
+  pub stood : StandFirst before.contents t.reads given
+  pub stored : HasStored result t.writes before.stored after.stored
+
 -- of the shelf
 pub record KeepsShelf (t : Task) (before after : ShelfState) (result : Result Ending Refusal) : Type 0 where
   -- each name but OUT keeps its content
@@ -109,6 +140,13 @@ pub record KeepsShelf (t : Task) (before after : ShelfState) (result : Result En
   pub puts : ℕ
   pub calls : after.calls ≡ risen before.calls (gets + puts)
   pub asked : IsAskedFor (length t.reads) (writes_in t.writes) after.last_failed result gets puts
+  -- and what passed
+  pub passed : HasPassed t before after result gets
+
+-- of the input: a command that takes none of it doesn't ask it
+abbrev pub KeepsInput : Bool → SourceState → SourceState → Type 0
+KeepsInput true before after = ⊤
+KeepsInput false before after = after ≡ before
 
 -- of the ram: a command with a cache keeps the words behind it, any other all
 abbrev pub KeepsRam : Option ℕ → RamState → RamState → Type 0
@@ -121,19 +159,23 @@ KeepsRam (Some bytes) before after = KeepsBeyond (bytes / 4) before after
 pub record Answers (t : Task) (before after : Devices) (result : Result Ending Refusal) (last : List ℕ) : Type 0 where
   -- the words were a command
   pub asked : IsErrOf result refusal.Usage → ⊥
-  -- the sizes are checked first, and then the files, where the shelf tells them
+  -- the sizes are checked first, and then the files
   pub sized : IsSized (cache_refusal t.cache (length before.ram.words)) result
-  pub checked : (files : t.Files) → t.told before.shelf.contents files → IsChecked (t.checks files) after.shelf.last_failed result
+  pub checked : (files : t.Files) → AreFiles t before.shelf after.shelf files → IsChecked (t.checks files) after.shelf.last_failed result
+  -- one is too long only where the shelf tells no files, or this is the first check that fails
+  pub long : (limit : ℕ) → IsErrOf result (refusal.FileLong limit) → (files : t.Files) → TellsAll before.shelf.contents t.reads (t.contents files) →
+      IsRefusedBy (t.checks files) (refusal.FileLong limit)
   -- where there is an ending, it is one of the command's
   pub ended : IfOk result (λ e. t.ends e)
   -- and the command did what it is for
-  pub done : IfOk result (λ e. (files : t.Files) → t.told before.shelf.contents files → t.does files before after e last)
+  pub done : IfOk result (λ e. (files : t.Files) → AreFiles t before.shelf after.shelf files → t.does files before after e last)
   -- where a device failed in the run, each sink holds a front of that
-  pub failed : IfErr result (λ r. IsRunFault r → (files : t.Files) → t.told before.shelf.contents files → t.fails files before after r last)
+  pub failed : IfErr result (λ r. IsRunFault r → (files : t.Files) → AreFiles t before.shelf after.shelf files → t.fails files before after r last)
   -- every other refusal leaves input, output and ram as they were, and the errors gain its line alone
   pub refused : IfErr result (λ r. (IsRunFault r → ⊥) → IsUntouched before after × Appends before.error.held after.error.held last)
   -- whatever the devices tell, these stay
   pub shelf : KeepsShelf t before.shelf after.shelf result
+  pub input : KeepsInput t.takes_input before.input after.input
   pub ram : KeepsRam t.cache before.ram after.ram
   -- each fault has its cause, and each failure is answered
   pub causes : HasCauses before after result

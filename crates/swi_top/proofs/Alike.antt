@@ -1,5 +1,5 @@
 -- A command in whose way nothing stands ends, and a program ends alike on both machines.
-use Rattle.std.proofs.Common.{◌≡◌, inl, inr, ℕ, ◌<◌, Bool, true, false, List, [], ◌∷◌, ◌++◌, length, take, Option, Some, None, Result, Ok, Err, if◌then◌else◌, refl, sym, ◌∙◌, subst, ap, arith}
+use Rattle.std.proofs.Common.{◌≡◌, inl, inr, ℕ, ◌+◌, ◌<◌, ◌≤◌, Bool, true, false, List, [], ◌∷◌, ◌++◌, length, take, Option, Some, None, Result, Ok, Err, if◌then◌else◌, refl, sym, ◌∙◌, subst, ap, arith}
 use Rattle.std.proofs.lemmas.List.{append-nil, append_assoc}
 use Rattle.std.specs.Io.KnownBytes.{Appends}
 use Rattle.swi_calls.specs.FirstStore.{StoresAt}
@@ -36,6 +36,7 @@ use Rattle.swi_task.specs.Task.{Task}
 use Rattle.swi_top.specs.Tasks.{task_of}
 use Rattle.swi_top.specs.Alike.{IsFree, LeavesAlike}
 use Rattle.swi_task.proofs.Lines.{errors_later, rose_above, rose_below, take_all}
+use Rattle.swi_task.proofs.Refusals.{gave_same}
 
 -- ---- a file does not both pass a check and fail it
 
@@ -77,14 +78,23 @@ not_refused t files before after refusal.SinkFault a free = elim (a.answers.caus
 not_refused t files before after refusal.RamFault a free = free.quiet.ram (a.answers.causes.ram.cause refl)
 not_refused t files before after (refusal.CacheLarge bytes) a free = size_not (cache_refusal t.cache (length before.ram.words)) (refusal.CacheLarge bytes) free.sized (a.answers.sized.only tt)
 not_refused t files before after (refusal.RamSmall bytes held) a free = size_not (cache_refusal t.cache (length before.ram.words)) (refusal.RamSmall bytes held) free.sized (a.answers.sized.only tt)
-not_refused t files before after (refusal.FileLong limit) a free = not_both (t.checks files) (refusal.FileLong limit) free.accepted (a.answers.checked files free.told)
-not_refused t files before after (refusal.Elf r) a free = not_both (t.checks files) (refusal.Elf r) free.accepted (a.answers.checked files free.told)
-not_refused t files before after (refusal.Room end) a free = not_both (t.checks files) (refusal.Room end) free.accepted (a.answers.checked files free.told)
-not_refused t files before after refusal.NoImage a free = not_both (t.checks files) refusal.NoImage free.accepted (a.answers.checked files free.told)
-not_refused t files before after (refusal.Image r) a free = not_both (t.checks files) (refusal.Image r) free.accepted (a.answers.checked files free.told)
-not_refused t files before after (refusal.Mismatch m) a free = not_both (t.checks files) (refusal.Mismatch m) free.accepted (a.answers.checked files free.told)
-not_refused t files before after (refusal.Long address needs) a free = not_both (t.checks files) (refusal.Long address needs) free.accepted (a.answers.checked files free.told)
-not_refused t files before after (refusal.CacheSmall bytes least) a free = not_both (t.checks files) (refusal.CacheSmall bytes least) free.accepted (a.answers.checked files free.told)
+not_refused t files before after (refusal.FileLong limit) a free = elim free.are [
+  | inl gave ↦
+      let passed = a.answers.shelf.passed in
+      let same : passed.given ≡ t.contents files = gave_same t.reads passed.given (t.contents files) before.shelf after.shelf passed.gave gave in
+      let as_many : length passed.given ≡ length t.reads = ap (λ (l : List (List ℕ)). length l) same ∙ free.all in
+      let one_more : a.answers.shelf.gets ≡ length passed.given + 1 = passed.all in
+      let most : a.answers.shelf.gets ≤ length t.reads = a.answers.shelf.asked.1 in
+      omega (arith, as_many, one_more, most)
+  | inr tells ↦ not_both (t.checks files) (refusal.FileLong limit) free.accepted (a.answers.long limit refl files tells)
+]
+not_refused t files before after (refusal.Elf r) a free = not_both (t.checks files) (refusal.Elf r) free.accepted (a.answers.checked files free.are)
+not_refused t files before after (refusal.Room end) a free = not_both (t.checks files) (refusal.Room end) free.accepted (a.answers.checked files free.are)
+not_refused t files before after refusal.NoImage a free = not_both (t.checks files) refusal.NoImage free.accepted (a.answers.checked files free.are)
+not_refused t files before after (refusal.Image r) a free = not_both (t.checks files) (refusal.Image r) free.accepted (a.answers.checked files free.are)
+not_refused t files before after (refusal.Mismatch m) a free = not_both (t.checks files) (refusal.Mismatch m) free.accepted (a.answers.checked files free.are)
+not_refused t files before after (refusal.Long address needs) a free = not_both (t.checks files) (refusal.Long address needs) free.accepted (a.answers.checked files free.are)
+not_refused t files before after (refusal.CacheSmall bytes least) a free = not_both (t.checks files) (refusal.CacheSmall bytes least) free.accepted (a.answers.checked files free.are)
 
 pub completes : (q : Request) (files : (task_of q).Files) (before after : Devices) (result : Result Ending Refusal) →
     AnswersWithLine (task_of q) before after result → IsFree (task_of q) files before after result → (e : Ending) × (result ≡ Ok e)
@@ -150,8 +160,8 @@ ended_alike : (name : List ℕ) (cache : CacheOptions) (o : RunOptions) (file in
     AnswersWithLine (cached_task name cache o) before cached (Ok f) → IsFree (cached_task name cache o) file before cached (Ok f) →
     before.input.left ≡ Some input → ((j : ℕ) → j < o.limits.steps → StoresAt (start_of o file input) j → ⊥) → (f ≡ e) × LeavesAlike o before plain cached
 ended_alike name cache o file input before plain cached e f one free other free' told never =
-    let ran = ran_seen _ _ before plain one.untold e _ (one.answers.done file free.told input told) in
-    let does = other.answers.done file free'.told in
+    let ran = ran_seen _ _ before plain one.untold e _ (one.answers.done file free.are input told) in
+    let does = other.answers.done file free'.are in
     let runs = does.3 input told in
     let c = cached_run (cache_for cache does.0) o does.0 (start_of o file input) in
     let flat = runs.cached.flat o.limits.steps never in

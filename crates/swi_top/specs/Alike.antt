@@ -16,7 +16,7 @@ use Rattle.swi_task.specs.Runs.{start_of}
 use Rattle.swi_task.specs.Answers.{AnswersWithLine}
 use Rattle.swi_cached_command.specs.RunCached.{cached_task}
 use Rattle.swi_file_commands.specs.RunPlain.{plain_task}
-use Rattle.swi_task.specs.Task.{Task}
+use Rattle.swi_task.specs.Task.{AreFiles, Task}
 use Rattle.swi_top.specs.Tasks.{task_of}
 
 -- no device's count of faults rose
@@ -27,10 +27,11 @@ pub record NoneRose (before after : Devices) : Type 0 where
   pub error : Rose before.error.faults after.error.faults → ⊥
   pub ram : Rose before.ram.faults after.ram.faults → ⊥
 
--- nothing stood in a command's way: the shelf tells its files, all checks pass; its cache, where it has one, is neither too large nor larger
--- than the ram; no device failed, and there was memory
+-- nothing stood in a command's way: all its files were given, or are told, and all checks pass; its cache, where it has one, is neither too large
+-- nor larger than the ram; no device failed, and there was memory
 pub record IsFree (t : Task) (files : t.Files) (before after : Devices) (result : Result Ending Refusal) : Type 0 where
-  pub told : t.told before.shelf.contents files
+  pub are : AreFiles t before.shelf after.shelf files
+  pub all : length (t.contents files) ≡ length t.reads
   pub accepted : IsAccepted (t.checks files)
   pub sized : cache_refusal t.cache (length before.ram.words) ≡ None
   pub quiet : NoneRose before after

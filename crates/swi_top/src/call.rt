@@ -4,6 +4,8 @@
 ghost use Rattle.std.specs.Prelude.{◌≡◌, ◌⊎◌, ◌≤◌, [], Some, None, OnErr, IsErrOf, map, string_bytes};
 ghost use Rattle.swi_outside.specs.Causes.{HasCause};
 ghost use Rattle.swi_outside.specs.Sink.{WritesPiece};
+ghost use Rattle.swi_outside.specs.Source.{HasGiven};
+ghost use Rattle.swi_outside.specs.Told.{AsTold};
 ghost use Rattle.swi_answer.specs.Lines.{ending_line, refusal_line};
 ghost use Rattle.swi_command.specs.CommandLine.{HasLimitsInRange, Request, command_of, request_of};
 ghost use Rattle.swi_task.specs.Answers.{AnswersWithLine, IsRefusedAtOnce};
@@ -52,9 +54,10 @@ fn run_command<F: Shelf, I: Source, O: Sink, E: Sink, R: MicroRam>(
     ram: &mut R,
 ) -> Result<Ending, Refusal>
     requires limits { HasLimitsInRange command.now }
-    ensures { AnswersWithLine (task_of (request_of command.now))
-        (seen (F.state shelf.old) (I.state input.old) (O.state out.old) (E.state err.old) (R.state ram.old))
-        (seen (F.state shelf.new) (I.state input.new) (O.state out.new) (E.state err.new) (R.state ram.new)) result }
+    ensures gave { HasGiven (I.state input.old) (I.state input.new) }
+    ensures answers { AsTold (I.state input.old) (I.state input.new) (λ before after. AnswersWithLine (task_of (request_of command.now))
+        (seen (F.state shelf.old) before (O.state out.old) (E.state err.old) (R.state ram.old))
+        (seen (F.state shelf.new) after (O.state out.new) (E.state err.new) (R.state ram.new)) result) }
 {
     match perform(alloc, command, shelf, input, out, err, ram) {
         Ok(ending) => match write_ending(&ending, err) {
@@ -84,11 +87,13 @@ pub fn top<F: Shelf, I: Source, O: Sink, E: Sink, R: MicroRam>(
         (seen (F.state shelf.old) (I.state input.old) (O.state out.old) (E.state err.old) (R.state ram.old))
         (seen (F.state shelf.new) (I.state input.new) (O.state out.new) (E.state err.new) (R.state ram.new)) result }
 
-    // A command is checked, and then done as it says.
+    // A command is checked, and then done as it says: for each input from which what was given may have been read, and
+    // of which it leaves the rest.
+    ensures gave { HasGiven (I.state input.old) (I.state input.new) }
     ensures answers { (request : Request) → command_of (map (λ w. string_bytes w) words.now) ≡ Some request →
-        AnswersWithLine (task_of request)
-        (seen (F.state shelf.old) (I.state input.old) (O.state out.old) (E.state err.old) (R.state ram.old))
-        (seen (F.state shelf.new) (I.state input.new) (O.state out.new) (E.state err.new) (R.state ram.new)) result }
+        AsTold (I.state input.old) (I.state input.new) (λ before after. AnswersWithLine (task_of request)
+        (seen (F.state shelf.old) before (O.state out.old) (E.state err.old) (R.state ram.old))
+        (seen (F.state shelf.new) after (O.state out.new) (E.state err.new) (R.state ram.new)) result) }
 {
     match parse_command(alloc, words) {
         Ok(command) => run_command(alloc, &command, shelf, input, out, err, ram),

@@ -2,6 +2,8 @@
 #![tactic(auto)]
 
 ghost use Rattle.std.specs.Prelude.{[]};
+ghost use Rattle.swi_outside.specs.Source.{HasGiven};
+ghost use Rattle.swi_outside.specs.Told.{AsTold};
 ghost use Rattle.swi_command.specs.CommandLine.{HasLimitsInRange, request_of};
 ghost use Rattle.swi_task.specs.Answers.{Answers};
 ghost use Rattle.swi_task.specs.Devices.{seen};
@@ -29,9 +31,10 @@ pub(crate) fn perform<F: Shelf, I: Source, O: Sink, E: Sink, R: MicroRam>(
     ram: &mut R,
 ) -> Result<Ending, Refusal>
     requires limits { HasLimitsInRange command.now }
-    ensures { Answers (task_of (request_of command.now))
-        (seen (F.state shelf.old) (I.state input.old) (O.state out.old) (E.state err.old) (R.state ram.old))
-        (seen (F.state shelf.new) (I.state input.new) (O.state out.new) (E.state err.new) (R.state ram.new)) result [] }
+    ensures gave { HasGiven (I.state input.old) (I.state input.new) }
+    ensures answers { AsTold (I.state input.old) (I.state input.new) (λ before after. Answers (task_of (request_of command.now))
+        (seen (F.state shelf.old) before (O.state out.old) (E.state err.old) (R.state ram.old))
+        (seen (F.state shelf.new) after (O.state out.new) (E.state err.new) (R.state ram.new)) result []) }
 {
     match command {
         Command::Rewrite {

@@ -1,5 +1,7 @@
-use Rattle.std.proofs.Common.{refl, ap, subst, inr, arith}
+use Rattle.std.proofs.Common.{refl, ap, subst, inr, arith, rules}
 use Rattle.swi_outside.specs.CacheRam.{RamState}
+use Rattle.swi_outside.specs.Told.{told_as}
+use Rattle.swi_outside.proofs.SourceLemmas.{rest_is}
 use Rattle.swi_calls.specs.Flat.{machine_of}
 use Rattle.swi_hart.specs.Hart.{HartData, unbooted}
 use Rattle.swi_board.specs.Entered.{Entered}
@@ -29,14 +31,30 @@ run_steps-requires-clause-services g c =
     let none = services_booted g.S.CacheRom.service g.met.S.CacheRom.laws c.args.image.now c.args.rom (machine_of c.args.program.now c.args.layout.now c.args.asked.calls) (g.S.CacheRom.service.kept c.in-Ok-boot.board.rom) c.requires.fresh c.in-Ok-boot.ensures.policy in
     omega (arith, none)
 
-pub returns-in-Ok-run_steps : goal.returns-in-Ok-run_steps
-returns-in-Ok-run_steps g c =
+-- the input wasn't asked yet
+pub returns-in_default-clause-ran : goal.returns-in_default-clause-ran
+returns-in_default-clause-ran g c i rest read = rw (rest_is read) refl
+
+pub returns-then-is_err-clause-ran : goal.returns-then-is_err-clause-ran
+returns-then-is_err-clause-ran g c i rest read = rw (rest_is read) (search rules)
+
+pub returns-in-Err-Memory-clause-ran : goal.returns-in-Err-Memory-clause-ran
+returns-in-Err-Memory-clause-ran g c i rest read = rw (rest_is read) (search rules)
+
+pub returns-in-Err-RamFault-clause-ran : goal.returns-in-Err-RamFault-clause-ran
+returns-in-Err-RamFault-clause-ran g c i rest read = rw (rest_is read) (search rules)
+
+pub returns-in-Ok-run_steps-clause-gave : goal.returns-in-Ok-run_steps-clause-gave
+returns-in-Ok-run_steps-clause-gave g c = c.in-Ok-run_steps.ensures.gave
+
+pub returns-in-Ok-run_steps-clause-ran : goal.returns-in-Ok-run_steps-clause-ran
+returns-in-Ok-run_steps-clause-ran g c i rest read =
     record {
       board = record {
         hart = c.in-Ok-boot.board.hart;
         rom = c.in-Ok-boot.board.rom;
         ram = g.R.CacheRam.state c.boot.new.ram;
-        devices = record { input = g.I.Source.state c.args.input.now; output = g.O.Sink.state c.args.out.now; error = g.E.Sink.state c.args.err.now };
+        devices = record { input = told_as (g.I.Source.state c.args.input.now) i; output = g.O.Sink.state c.args.out.now; error = g.E.Sink.state c.args.err.now };
       };
       booted = record {
         entered = subst (λ (r : RamState). Entered g.S.CacheRom.service c.args.image.now (unbooted (machine_of c.args.program.now c.args.layout.now c.args.asked.calls)) (record { rom = c.args.rom; ram = r })
@@ -45,11 +63,14 @@ returns-in-Ok-run_steps g c =
         policy = c.in-Ok-boot.ensures.policy;
         devices = refl;
       };
-      ran = c.in-Ok-run_steps.ensures;
+      ran = c.in-Ok-run_steps.ensures.ran i rest read;
     }
 
-pub returns-in-Err : goal.returns-in-Err
-returns-in-Err g c =
+pub returns-in-Err-clause-gave : goal.returns-in-Err-clause-gave
+returns-in-Err-clause-gave g c = c.in-Err.ensures.gave
+
+pub returns-in-Err-clause-ran : goal.returns-in-Err-clause-ran
+returns-in-Err-clause-ran g c i rest read =
     inr (record {
       given_up = record { hart = c.run_steps.new.board.hart; rom = c.run_steps.new.board.rom };
       ran = record {
@@ -57,7 +78,7 @@ returns-in-Err g c =
           hart = c.in-Ok-boot.board.hart;
           rom = c.in-Ok-boot.board.rom;
           ram = g.R.CacheRam.state c.boot.new.ram;
-          devices = record { input = g.I.Source.state c.args.input.now; output = g.O.Sink.state c.args.out.now; error = g.E.Sink.state c.args.err.now };
+          devices = record { input = told_as (g.I.Source.state c.args.input.now) i; output = g.O.Sink.state c.args.out.now; error = g.E.Sink.state c.args.err.now };
         };
         booted = record {
           entered = subst (λ (r : RamState). Entered g.S.CacheRom.service c.args.image.now (unbooted (machine_of c.args.program.now c.args.layout.now c.args.asked.calls)) (record { rom = c.args.rom; ram = r })
@@ -66,6 +87,6 @@ returns-in-Err g c =
           policy = c.in-Ok-boot.ensures.policy;
           devices = refl;
         };
-        ran = c.in-Err.ensures;
+        ran = c.in-Err.ensures.ran i rest read;
       };
     })

@@ -1,10 +1,10 @@
 use Rattle.std.proofs.Common.{◌*◌, ◌+◌, ◌-◌, Some}
 use Rattle.swi_hart.specs.Bounds.{most}
-use Rattle.swi_cached.specs.Traced.{ToldAlong}
+use Rattle.swi_cached.proofs.ToldOn.{ToldAlongOn}
 use Rattle.swi_cached.proofs.told.run_steps.Given as goal
 
 abbrev pub invariant-loop-telling : goal.invariant-loop-telling
-invariant-loop-telling g l = ToldAlong g.S.CacheRom.service l.image l.telling l.limit l.lines
+invariant-loop-telling g l = ToldAlongOn g.S.CacheRom.service l.image l.telling l.limit l.lines
     (record {
       hart = l.fn.board.hart;
       rom = l.fn.board.rom;

@@ -1,41 +1,79 @@
 use Rattle.std.proofs.Common.{inl, refl, subst}
 use Rattle.std.proofs.lemmas.Result.{err_from_is_err_and}
+use Rattle.swi_outside.proofs.SourceLemmas.{given_still, rest_is}
+use Rattle.swi_outside.specs.Told.{told_as}
 use Rattle.swi_program.specs.Program.{ProgramData}
 use Rattle.swi_cached_command.specs.Caching.{cache_for}
 use Rattle.swi_task.specs.Devices.{Devices, seen}
 use Rattle.swi_cached_command.specs.RunCached.{RunsOver, cached_task}
 use Rattle.swi_task.specs.Subject.{view_of}
 use Rattle.swi_task.specs.Task.{Task}
-use Rattle.swi_task.proofs.Refusals.{check_refused, read_refused, size_refused, told_is, too_long, was_read}
+use Rattle.swi_task.proofs.Refusals.{check_refused, read_is, read_refused, size_refused, too_long, was_read}
 use Rattle.swi_cached_command.proofs.Caching.{cached_answers, cached_to}
 use Rattle.swi_cached_command.proofs.command.cached.Goals as goal
 
-pub returns-in_err-check_size : goal.returns-in_err-check_size
-returns-in_err-check_size g c =
+pub returns-in_err-check_size-clause-gave : goal.returns-in_err-check_size-clause-gave
+returns-in_err-check_size-clause-gave g c = given_still _
+
+pub returns-in_err-check_size-clause-answers_directly : goal.returns-in_err-check_size-clause-answers_directly
+returns-in_err-check_size-clause-answers_directly g c =
     let p = err_from_is_err_and c.from_residual.result c.from_residual.ensures.1 in
     let before : Devices = seen (g.F.Shelf.state c.args.shelf.now) (g.I.Source.state c.args.input.now) (g.O.Sink.state c.args.out.now) (g.E.Sink.state c.args.err.now) (g.R.CacheRam.state c.args.ram.now) in
     rw (p.1, p.2) (size_refused (cached_task c.args.name.now c.args.cache.now c.args.options.now) before _ c.in_err-check_size.ensures.refused)
 
-pub returns-in_err-file : goal.returns-in_err-file
-returns-in_err-file g c =
+pub returns-in_err-check_size-clause-answers : goal.returns-in_err-check_size-clause-answers
+returns-in_err-check_size-clause-answers g c = λ input rest was.
+    let p = err_from_is_err_and c.from_residual.result c.from_residual.ensures.1 in
+    let before : Devices = seen (g.F.Shelf.state c.args.shelf.now) (told_as (g.I.Source.state c.args.input.now) input) (g.O.Sink.state c.args.out.now) (g.E.Sink.state c.args.err.now) (g.R.CacheRam.state c.args.ram.now) in
+    rw (p.1, p.2, rest_is was) (size_refused (cached_task c.args.name.now c.args.cache.now c.args.options.now) before _ c.in_err-check_size.ensures.refused)
+
+pub returns-in_err-file-clause-gave : goal.returns-in_err-file-clause-gave
+returns-in_err-file-clause-gave g c = given_still _
+
+pub returns-in_err-file-clause-answers_directly : goal.returns-in_err-file-clause-answers_directly
+returns-in_err-file-clause-answers_directly g c =
     let p = err_from_is_err_and c.from_residual-in_err-file.result c.from_residual-in_err-file.ensures.1 in
     let t : Task = cached_task c.args.name.now c.args.cache.now c.args.options.now in
     let before : Devices = seen (g.F.Shelf.state c.args.shelf.now) (g.I.Source.state c.args.input.now) (g.O.Sink.state c.args.out.now) (g.E.Sink.state c.args.err.now) (g.R.CacheRam.state c.args.ram.now) in
     rw (p.1, p.2)
-    (read_refused t c.args.name.now before _ _ refl c.in_ok-check_size.ensures.ok (λ longer file told. inl (too_long _ c.args.name.now file longer told)) c.in_err-file.ensures.read)
+    (read_refused t c.args.name.now before _ _ refl c.in_ok-check_size.ensures.ok (λ longer file tells. inl (too_long _ c.args.name.now file longer tells.0)) c.in_err-file.ensures.read)
 
-pub returns-in_err-placed : goal.returns-in_err-placed
-returns-in_err-placed g c =
+pub returns-in_err-file-clause-answers : goal.returns-in_err-file-clause-answers
+returns-in_err-file-clause-answers g c = λ input rest was.
+    let p = err_from_is_err_and c.from_residual-in_err-file.result c.from_residual-in_err-file.ensures.1 in
+    let t : Task = cached_task c.args.name.now c.args.cache.now c.args.options.now in
+    let before : Devices = seen (g.F.Shelf.state c.args.shelf.now) (told_as (g.I.Source.state c.args.input.now) input) (g.O.Sink.state c.args.out.now) (g.E.Sink.state c.args.err.now) (g.R.CacheRam.state c.args.ram.now) in
+    rw (p.1, p.2, rest_is was)
+    (read_refused t c.args.name.now before _ _ refl c.in_ok-check_size.ensures.ok (λ longer file tells. inl (too_long _ c.args.name.now file longer tells.0)) c.in_err-file.ensures.read)
+
+pub returns-in_err-placed-clause-gave : goal.returns-in_err-placed-clause-gave
+returns-in_err-placed-clause-gave g c = given_still _
+
+pub returns-in_err-placed-clause-answers_directly : goal.returns-in_err-placed-clause-answers_directly
+returns-in_err-placed-clause-answers_directly g c =
     let p = err_from_is_err_and c.from_residual-in_err-placed.result c.from_residual-in_err-placed.ensures.1 in
     let read = was_read c.in_ok-file.ensures.read in
     let t : Task = cached_task c.args.name.now c.args.cache.now c.args.options.now in
     let before : Devices = seen (g.F.Shelf.state c.args.shelf.now) (g.I.Source.state c.args.input.now) (g.O.Sink.state c.args.out.now) (g.E.Sink.state c.args.err.now) (g.R.CacheRam.state c.args.ram.now) in
     rw (p.1, p.2)
-    (check_refused t before (g.F.Shelf.state c.read_file.new.shelf) c.args.name.now c.in_ok-file.file.items c.in_ok-file.file.items c.in_err-placed.field-0.0 c.in_ok-check_size.ensures.ok refl read
-    (λ file told. told_is _ c.args.name.now file _ told read.stands) (rw c.deref.ensures.value at c.in_err-placed.ensures.refused))
+    (check_refused t before (g.F.Shelf.state c.read_file.new.shelf) c.args.name.now c.in_ok-file.file.items c.in_ok-file.file.items c.in_err-placed.field-0.0 c.in_ok-check_size.ensures.ok refl read (read.within, tt)
+    (λ file are. read_is read are refl) (rw c.deref.ensures.value at c.in_err-placed.ensures.refused))
 
-pub returns : goal.returns
-returns g c =
+pub returns-in_err-placed-clause-answers : goal.returns-in_err-placed-clause-answers
+returns-in_err-placed-clause-answers g c = λ input rest was.
+    let p = err_from_is_err_and c.from_residual-in_err-placed.result c.from_residual-in_err-placed.ensures.1 in
+    let read = was_read c.in_ok-file.ensures.read in
+    let t : Task = cached_task c.args.name.now c.args.cache.now c.args.options.now in
+    let before : Devices = seen (g.F.Shelf.state c.args.shelf.now) (told_as (g.I.Source.state c.args.input.now) input) (g.O.Sink.state c.args.out.now) (g.E.Sink.state c.args.err.now) (g.R.CacheRam.state c.args.ram.now) in
+    rw (p.1, p.2, rest_is was)
+    (check_refused t before (g.F.Shelf.state c.read_file.new.shelf) c.args.name.now c.in_ok-file.file.items c.in_ok-file.file.items c.in_err-placed.field-0.0 c.in_ok-check_size.ensures.ok refl read (read.within, tt)
+    (λ file are. read_is read are refl) (rw c.deref.ensures.value at c.in_err-placed.ensures.refused))
+
+pub returns-clause-gave : goal.returns-clause-gave
+returns-clause-gave g c = c.run_placed.ensures.gave
+
+pub returns-clause-answers_directly : goal.returns-clause-answers_directly
+returns-clause-answers_directly g c =
     let read = was_read c.in_ok-file.ensures.read in
     let is = rw c.deref.ensures.value at c.in_ok-placed.ensures.placed in
     let v = view_of c.in_ok-placed.placed.subject.image in
@@ -46,4 +84,18 @@ returns g c =
     cached_answers c.args.name.now c.args.cache.now c.args.options.now before (g.F.Shelf.state c.read_file.new.shelf) (g.I.Source.state c.run_placed.new.input) (g.O.Sink.state c.run_placed.new.out)
     (g.E.Sink.state c.run_placed.new.err) (g.R.CacheRam.state c.run_placed.new.ram) c.in_ok-file.file.items v c.in_ok-placed.placed.layout c.run_placed.result c.in_ok-check_size.ensures.ok read
     (rw c.deref.ensures.value at c.in_ok-placed.ensures.accepted) is.subject.image is.layout
-    (subst (λ (p : ProgramData). RunsOver c.args.options.now (cache_for c.args.cache.now v) v p c.in_ok-placed.placed.layout now after c.run_placed.result) is.subject.program (c.run_placed.ensures now))
+    (subst (λ (p : ProgramData). RunsOver c.args.options.now (cache_for c.args.cache.now v) v p c.in_ok-placed.placed.layout now after c.run_placed.result) is.subject.program (c.run_placed.ensures.ran_directly now))
+
+pub returns-clause-answers : goal.returns-clause-answers
+returns-clause-answers g c = λ input rest was.
+    let read = was_read c.in_ok-file.ensures.read in
+    let is = rw c.deref.ensures.value at c.in_ok-placed.ensures.placed in
+    let v = view_of c.in_ok-placed.placed.subject.image in
+    let before : Devices = seen (g.F.Shelf.state c.args.shelf.now) (told_as (g.I.Source.state c.args.input.now) input) (g.O.Sink.state c.args.out.now) (g.E.Sink.state c.args.err.now) (g.R.CacheRam.state c.args.ram.now) in
+    let now : Devices = record before { shelf = g.F.Shelf.state c.read_file.new.shelf } in
+    let after : Devices = cached_to before (g.F.Shelf.state c.read_file.new.shelf) (told_as (g.I.Source.state c.run_placed.new.input) rest) (g.O.Sink.state c.run_placed.new.out) (g.E.Sink.state c.run_placed.new.err)
+    (g.R.CacheRam.state c.run_placed.new.ram) in
+    cached_answers c.args.name.now c.args.cache.now c.args.options.now before (g.F.Shelf.state c.read_file.new.shelf) (told_as (g.I.Source.state c.run_placed.new.input) rest) (g.O.Sink.state c.run_placed.new.out)
+    (g.E.Sink.state c.run_placed.new.err) (g.R.CacheRam.state c.run_placed.new.ram) c.in_ok-file.file.items v c.in_ok-placed.placed.layout c.run_placed.result c.in_ok-check_size.ensures.ok read
+    (rw c.deref.ensures.value at c.in_ok-placed.ensures.accepted) is.subject.image is.layout
+    (subst (λ (p : ProgramData). RunsOver c.args.options.now (cache_for c.args.cache.now v) v p c.in_ok-placed.placed.layout now after c.run_placed.result) is.subject.program (c.run_placed.ensures.ran now input rest was))

@@ -6,8 +6,8 @@ use Rattle.swi_devices.proofs.real.write_whole.Given as goal
 
 abbrev pub invariant-loop-rest : goal.invariant-loop-rest
 invariant-loop-rest g l =
-    (done : List ℕ) × (l.piece ≡ done ++ l.rest) × Appends (g.W.Write.contents l.initial.writer) (g.W.Write.contents l.writer) done
-    × (bytes_in l.took.value ≡ bytes_in l.initial.took.value ++ done)
+    (done : List ℕ) × (l.piece ≡ done ++ l.rest) × Appends (g.W.Write.contents l.initial.writer.device) (g.W.Write.contents l.writer.device) done
+    × (bytes_in l.took.value ≡ bytes_in l.initial.took.value ++ done) × (l.writer.failures ≡ l.initial.writer.failures)
 
 abbrev pub decreases-loop-rest : goal.decreases-loop-rest
 decreases-loop-rest g l = length l.rest

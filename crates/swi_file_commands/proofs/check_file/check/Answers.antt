@@ -7,7 +7,7 @@ use Rattle.swi_image.specs.Format.{ImageData}
 use Rattle.swi_task.specs.Devices.{Devices}
 use Rattle.swi_file_commands.specs.CheckFile.{check_task, checked_line}
 use Rattle.swi_task.specs.Task.{Task}
-use Rattle.swi_task.proofs.Refusals.{check_refused, read_refused, told_is, too_long, was_read}
+use Rattle.swi_task.proofs.Refusals.{check_refused, read_is, read_refused, too_long, was_read}
 use Rattle.swi_file_commands.proofs.Confirming.{confirmed, confirm_failed}
 use Rattle.swi_file_commands.proofs.check_file.check.Goals as goal
 
@@ -15,7 +15,7 @@ pub returns-in_err-file : goal.returns-in_err-file
 returns-in_err-file g c =
     let p = err_from_is_err_and c.from_residual.result c.from_residual.ensures.1 in
     let t : Task = check_task c.args.name.now in
-    rw (p.1, p.2) (λ d. read_refused t c.args.name.now _ _ _ refl refl (λ longer file told. inl (too_long _ c.args.name.now file longer told)) c.in_err-file.ensures.read)
+    rw (p.1, p.2) (λ d. read_refused t c.args.name.now _ _ _ refl refl (λ longer file tells. inl (too_long _ c.args.name.now file longer tells.0)) c.in_err-file.ensures.read)
 
 pub returns-in_err-view : goal.returns-in_err-view
 returns-in_err-view g c =
@@ -24,8 +24,8 @@ returns-in_err-view g c =
     let t : Task = check_task c.args.name.now in
     rw (p.1, p.2) (λ d.
     let before : Devices = record d { shelf = g.F.Shelf.state c.args.shelf.now; output = g.O.Sink.state c.args.out.now } in
-    check_refused t before (g.F.Shelf.state c.read_file.new.shelf) c.args.name.now c.in_ok-file.file.items c.in_ok-file.file.items c.in_err-view.field-0.0 refl refl read
-    (λ file told. told_is _ c.args.name.now file _ told read.stands) (rw c.deref.ensures.value at c.in_err-view.ensures.refused))
+    check_refused t before (g.F.Shelf.state c.read_file.new.shelf) c.args.name.now c.in_ok-file.file.items c.in_ok-file.file.items c.in_err-view.field-0.0 refl refl read (read.within, tt)
+    (λ file are. read_is read are refl) (rw c.deref.ensures.value at c.in_err-view.ensures.refused))
 
 pub returns-in-Ok : goal.returns-in-Ok
 returns-in-Ok g c =

@@ -3,7 +3,7 @@ use Rattle.std.proofs.lemmas.Result.{err_from_is_err_and}
 use Rattle.swi_task.specs.Devices.{Devices}
 use Rattle.swi_file_commands.specs.ListFile.{list_task}
 use Rattle.swi_task.specs.Task.{Task}
-use Rattle.swi_task.proofs.Refusals.{check_refused, read_refused, told_is, too_long, was_read}
+use Rattle.swi_task.proofs.Refusals.{check_refused, read_is, read_refused, too_long, was_read}
 use Rattle.swi_file_commands.proofs.Listings.{listed}
 use Rattle.swi_file_commands.proofs.list_file.list.Goals as goal
 
@@ -11,7 +11,7 @@ pub returns-in_err-file : goal.returns-in_err-file
 returns-in_err-file g c =
     let p = err_from_is_err_and c.from_residual.result c.from_residual.ensures.1 in
     let t : Task = list_task c.args.name.now c.args.block_words in
-    rw (p.1, p.2) (λ d. read_refused t c.args.name.now _ _ _ refl refl (λ longer file told. inl (too_long _ c.args.name.now file longer told)) c.in_err-file.ensures.read)
+    rw (p.1, p.2) (λ d. read_refused t c.args.name.now _ _ _ refl refl (λ longer file tells. inl (too_long _ c.args.name.now file longer tells.0)) c.in_err-file.ensures.read)
 
 pub returns-in_err-subject : goal.returns-in_err-subject
 returns-in_err-subject g c =
@@ -20,8 +20,8 @@ returns-in_err-subject g c =
     let t : Task = list_task c.args.name.now c.args.block_words in
     rw (p.1, p.2) (λ d.
     let before : Devices = record d { shelf = g.F.Shelf.state c.args.shelf.now; output = g.O.Sink.state c.args.out.now } in
-    check_refused t before (g.F.Shelf.state c.read_file.new.shelf) c.args.name.now c.in_ok-file.file.items c.in_ok-file.file.items c.in_err-subject.field-0.0 refl refl read
-    (λ file told. told_is _ c.args.name.now file _ told read.stands) (rw c.deref.ensures.value at c.in_err-subject.ensures.refused))
+    check_refused t before (g.F.Shelf.state c.read_file.new.shelf) c.args.name.now c.in_ok-file.file.items c.in_ok-file.file.items c.in_err-subject.field-0.0 refl refl read (read.within, tt)
+    (λ file are. read_is read are refl) (rw c.deref.ensures.value at c.in_err-subject.ensures.refused))
 
 pub returns : goal.returns
 returns g c =

@@ -3,7 +3,7 @@ use Rattle.std.proofs.lemmas.Result.{err_from_is_err_and}
 use Rattle.swi_task.specs.Devices.{Devices}
 use Rattle.swi_file_commands.specs.RewriteFile.{rewrite_task}
 use Rattle.swi_task.specs.Task.{Task}
-use Rattle.swi_task.proofs.Refusals.{check_refused, read_refused, told_is, too_long, was_read}
+use Rattle.swi_task.proofs.Refusals.{check_refused, read_is, read_refused, too_long, was_read}
 use Rattle.swi_task.proofs.Puts.{put_done, put_refused}
 use Rattle.swi_file_commands.proofs.rewrite_file.rewrite.Goals as goal
 
@@ -11,7 +11,7 @@ pub returns-in_err-file : goal.returns-in_err-file
 returns-in_err-file g c =
     let p = err_from_is_err_and c.from_residual.result c.from_residual.ensures.1 in
     let t : Task = rewrite_task c.args.input.now c.args.output.now c.args.block_words c.args.whole_loops in
-    rw (p.1, p.2) (λ d. read_refused t c.args.input.now _ _ _ refl refl (λ longer file told. inl (too_long _ c.args.input.now file longer told)) c.in_err-file.ensures.read)
+    rw (p.1, p.2) (λ d. read_refused t c.args.input.now _ _ _ refl refl (λ longer file tells. inl (too_long _ c.args.input.now file longer tells.0)) c.in_err-file.ensures.read)
 
 pub returns-in_err-bytes : goal.returns-in_err-bytes
 returns-in_err-bytes g c =
@@ -20,8 +20,8 @@ returns-in_err-bytes g c =
     let t : Task = rewrite_task c.args.input.now c.args.output.now c.args.block_words c.args.whole_loops in
     rw (p.1, p.2) (λ d.
     let before : Devices = record d { shelf = g.F.Shelf.state c.args.shelf.now } in
-    check_refused t before (g.F.Shelf.state c.read_file.new.shelf) c.args.input.now c.in_ok-file.file.items c.in_ok-file.file.items c.in_err-bytes.field-0.0 refl refl read
-    (λ file told. told_is _ c.args.input.now file _ told read.stands) (rw c.deref.ensures.value at c.in_err-bytes.ensures.refused))
+    check_refused t before (g.F.Shelf.state c.read_file.new.shelf) c.args.input.now c.in_ok-file.file.items c.in_ok-file.file.items c.in_err-bytes.field-0.0 refl refl read (read.within, tt)
+    (λ file are. read_is read are refl) (rw c.deref.ensures.value at c.in_err-bytes.ensures.refused))
 
 pub returns-in_err-write_file : goal.returns-in_err-write_file
 returns-in_err-write_file g c =
@@ -31,7 +31,7 @@ returns-in_err-write_file g c =
     rw (p.1, p.2) (λ d.
     let before : Devices = record d { shelf = g.F.Shelf.state c.args.shelf.now } in
     put_refused t before _ _ _ _ c.args.output.now _ c.in_ok-file.file.items _ refl refl refl read c.in_err-write_file.ensures.written
-    (λ file told. told_is _ c.args.input.now file _ told read.stands) (rw c.deref.ensures.value at c.in_ok-bytes.ensures.accepted))
+    (λ file are. read_is read are c.in_err-write_file.ensures.written.put.none_given) (rw c.deref.ensures.value at c.in_ok-bytes.ensures.accepted))
 
 pub returns : goal.returns
 returns g c =
@@ -40,11 +40,12 @@ returns g c =
     λ d.
     let before : Devices = record d { shelf = g.F.Shelf.state c.args.shelf.now } in
     put_done t before _ (g.F.Shelf.state c.write_file.new.shelf) _ _ c.args.output.now _ c.in_ok-file.file.items refl refl refl read c.in_ok-write_file.ensures.written
-    (λ file told. told_is _ c.args.input.now file _ told read.stands) (rw c.deref.ensures.value at c.in_ok-bytes.ensures.accepted) refl
-    (λ stands. record {
+    (λ file are. read_is read are c.in_ok-write_file.ensures.written.put.none_given) (rw c.deref.ensures.value at c.in_ok-bytes.ensures.accepted) refl
+    (λ stored stands. record {
       ending = refl;
       bytes = c.in_ok-bytes.bytes.items;
       made = rw c.deref.ensures.value at c.in_ok-bytes.ensures.file;
+      stored = rw c.deref-2.ensures.value at stored;
       stands = rw c.deref-2.ensures.value at stands;
       others = refl;
     })

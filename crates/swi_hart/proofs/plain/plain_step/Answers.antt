@@ -25,7 +25,7 @@ returns-in-Err g c =
     let plain = ap (λ (w : ℕ). is_plain (decoded w)) (sym c.requires.own) ∙ c.requires.plain in
     let below = plain_below v r h.machine span ram.words c.args.at.0 c.args.at.1 c.args.at.2 c.args.at.3 sound coherent c.requires.home h.control c.requires.control plain c.requires.sound in
     let failed = ram_unfetched v h.machine h.control _ c.args.at.0 c.args.at.1 c.args.at.2 c.args.at.3 _ _ c.requires.control below c.in-Err.ensures.fetched in
-    record { gave = given_still _; stepped = λ i rest read. rw (rest_is read) (ram_stopped _ _ _ _ _ (ap broken c.hart.view_is) refl failed); executes = tt }
+    record { gave = given_still _; unasked = λ e. refl; stepped = λ i rest read. rw (rest_is read) (ram_stopped _ _ _ _ _ (ap broken c.hart.view_is) refl failed); executes = tt }
 
 pub run_word-requires : goal.run_word-requires
 run_word-requires g c =
@@ -71,6 +71,7 @@ returns g c =
     let ran = (c.run_word.ensures.ran runs).ran [] in
     record {
       gave = given_still _;
+      unasked = λ e. refl;
       stepped = λ i rest read. rw (rest_is read) (record {
         made = λ s left told. made_plain v r h c.run_word.new.hart ram.words c.args.at.0 c.args.at.1 c.args.at.2 c.args.at.3 c.requires.home c.requires.control plain c.in-Some-Some.image_word c.in-Some-Some.x c.role-role.result own_is held_is c.role-role.ensures ((c.run_word.ensures.ran runs).ran) (own_word v r h.machine span ram.words c.args.at.0 c.args.at.1 c.args.at.2 c.args.at.3 sound coherent c.requires.home h.control c.requires.control plain s) (c.run_word.ensures.ran runs).took (c.run_word.ensures.ran runs).output (c.run_word.ensures.ran runs).error left _ _ _ told;
         fits = fits_plain v r h c.run_word.new.hart ram.words c.args.at.0 c.args.at.1 c.args.at.2 c.args.at.3 c.requires.home c.requires.control plain c.in-Some-Some.image_word c.in-Some-Some.x c.role-role.result own_is held_is c.role-role.ensures ((c.run_word.ensures.ran runs).ran) (ap is_plain held_is ∙ held) c.requires.ready.fits c.requires.ready.running c.requires.word;

@@ -1,9 +1,23 @@
 use Rattle.swi_prefetch_command.proofs.command.run_placed.Goals as goal
 
-pub returns-in-Own : goal.returns-in-Own
-returns-in-Own g c = rw c.in-Own.is c.run_over.ensures
+pub returns-in-Own-clause-gave : goal.returns-in-Own-clause-gave
+returns-in-Own-clause-gave g c = c.run_over.ensures.gave
 
-pub returns-in-Cut : goal.returns-in-Cut
-returns-in-Cut g c =
-    let ran = rw c.view.ensures.value at c.run_over-in-Cut.ensures in
+pub returns-in-Own-clause-ran : goal.returns-in-Own-clause-ran
+returns-in-Own-clause-ran g c = rw c.in-Own.is c.run_over.ensures.ran
+
+pub returns-in-Own-clause-ran_directly : goal.returns-in-Own-clause-ran_directly
+returns-in-Own-clause-ran_directly g c = rw c.in-Own.is c.run_over.ensures.ran_directly
+
+pub returns-in-Cut-clause-gave : goal.returns-in-Cut-clause-gave
+returns-in-Cut-clause-gave g c = c.run_over-in-Cut.ensures.gave
+
+pub returns-in-Cut-clause-ran : goal.returns-in-Cut-clause-ran
+returns-in-Cut-clause-ran g c =
+    let ran = rw c.view.ensures.value at c.run_over-in-Cut.ensures.ran in
+    rw c.in-Cut.is ran
+
+pub returns-in-Cut-clause-ran_directly : goal.returns-in-Cut-clause-ran_directly
+returns-in-Cut-clause-ran_directly g c =
+    let ran = rw c.view.ensures.value at c.run_over-in-Cut.ensures.ran_directly in
     rw c.in-Cut.is ran

@@ -1,53 +1,82 @@
+use Rattle.swi_outside.proofs.SourceLemmas.{given_still, rest_is}
+use Rattle.swi_outside.specs.Told.{told_as}
 use Rattle.swi_task.specs.Devices.{Devices, seen}
 use Rattle.swi_top.proofs.commands.perform.Goals as goal
 
-pub returns-in-Rewrite : goal.returns-in-Rewrite
-returns-in-Rewrite g c =
-    let before : Devices = seen (g.F.Shelf.state c.args.shelf.now) (g.I.Source.state c.args.input.now) (g.O.Sink.state c.args.out.now) (g.E.Sink.state c.args.err.now) (g.R.CacheRam.state c.args.ram.now) in
-    let answers = rw (c.as_str.ensures.value, c.as_str-in-Rewrite.ensures.value) at (c.rewrite.ensures before) in
-    rw c.in-Rewrite.is answers
+pub returns-in-Rewrite-clause-gave : goal.returns-in-Rewrite-clause-gave
+returns-in-Rewrite-clause-gave g c = given_still _
 
-pub returns-in-Plain : goal.returns-in-Plain
-returns-in-Plain g c =
-    let before : Devices = seen (g.F.Shelf.state c.args.shelf.now) (g.I.Source.state c.args.input.now) (g.O.Sink.state c.args.out.now) (g.E.Sink.state c.args.err.now) (g.R.CacheRam.state c.args.ram.now) in
-    let answers = rw c.as_str-in-Plain.ensures.value at (c.plain.ensures before) in
+pub returns-in-Rewrite-clause-answers : goal.returns-in-Rewrite-clause-answers
+returns-in-Rewrite-clause-answers g c = λ input rest was.
+    let before : Devices = seen (g.F.Shelf.state c.args.shelf.now) (told_as (g.I.Source.state c.args.input.now) input) (g.O.Sink.state c.args.out.now) (g.E.Sink.state c.args.err.now) (g.R.CacheRam.state c.args.ram.now) in
+    let answers = rw (c.as_str.ensures.value, c.as_str-in-Rewrite.ensures.value) at (c.rewrite.ensures before) in
+    rw (c.in-Rewrite.is, rest_is was) answers
+
+pub returns-in-Plain-clause-gave : goal.returns-in-Plain-clause-gave
+returns-in-Plain-clause-gave g c = c.plain.ensures.gave
+
+pub returns-in-Plain-clause-answers : goal.returns-in-Plain-clause-answers
+returns-in-Plain-clause-answers g c = λ input rest was.
+    let before : Devices = seen (g.F.Shelf.state c.args.shelf.now) (told_as (g.I.Source.state c.args.input.now) input) (g.O.Sink.state c.args.out.now) (g.E.Sink.state c.args.err.now) (g.R.CacheRam.state c.args.ram.now) in
+    let answers = rw c.as_str-in-Plain.ensures.value at (c.plain.ensures.answers before input rest was) in
     rw c.in-Plain.is answers
 
-pub returns-in-Listing : goal.returns-in-Listing
-returns-in-Listing g c =
-    let before : Devices = seen (g.F.Shelf.state c.args.shelf.now) (g.I.Source.state c.args.input.now) (g.O.Sink.state c.args.out.now) (g.E.Sink.state c.args.err.now) (g.R.CacheRam.state c.args.ram.now) in
+pub returns-in-Listing-clause-gave : goal.returns-in-Listing-clause-gave
+returns-in-Listing-clause-gave g c = given_still _
+
+pub returns-in-Listing-clause-answers : goal.returns-in-Listing-clause-answers
+returns-in-Listing-clause-answers g c = λ input rest was.
+    let before : Devices = seen (g.F.Shelf.state c.args.shelf.now) (told_as (g.I.Source.state c.args.input.now) input) (g.O.Sink.state c.args.out.now) (g.E.Sink.state c.args.err.now) (g.R.CacheRam.state c.args.ram.now) in
     let answers = rw c.as_str-in-Listing.ensures.value at (c.list.ensures before) in
-    rw c.in-Listing.is answers
+    rw (c.in-Listing.is, rest_is was) answers
 
-pub returns-in-Check : goal.returns-in-Check
-returns-in-Check g c =
-    let before : Devices = seen (g.F.Shelf.state c.args.shelf.now) (g.I.Source.state c.args.input.now) (g.O.Sink.state c.args.out.now) (g.E.Sink.state c.args.err.now) (g.R.CacheRam.state c.args.ram.now) in
+pub returns-in-Check-clause-gave : goal.returns-in-Check-clause-gave
+returns-in-Check-clause-gave g c = given_still _
+
+pub returns-in-Check-clause-answers : goal.returns-in-Check-clause-answers
+returns-in-Check-clause-answers g c = λ input rest was.
+    let before : Devices = seen (g.F.Shelf.state c.args.shelf.now) (told_as (g.I.Source.state c.args.input.now) input) (g.O.Sink.state c.args.out.now) (g.E.Sink.state c.args.err.now) (g.R.CacheRam.state c.args.ram.now) in
     let answers = rw c.as_str-in-Check.ensures.value at (c.check.ensures before) in
-    rw c.in-Check.is answers
+    rw (c.in-Check.is, rest_is was) answers
 
-pub returns-in-Upgrade : goal.returns-in-Upgrade
-returns-in-Upgrade g c =
-    let before : Devices = seen (g.F.Shelf.state c.args.shelf.now) (g.I.Source.state c.args.input.now) (g.O.Sink.state c.args.out.now) (g.E.Sink.state c.args.err.now) (g.R.CacheRam.state c.args.ram.now) in
+pub returns-in-Upgrade-clause-gave : goal.returns-in-Upgrade-clause-gave
+returns-in-Upgrade-clause-gave g c = given_still _
+
+pub returns-in-Upgrade-clause-answers : goal.returns-in-Upgrade-clause-answers
+returns-in-Upgrade-clause-answers g c = λ input rest was.
+    let before : Devices = seen (g.F.Shelf.state c.args.shelf.now) (told_as (g.I.Source.state c.args.input.now) input) (g.O.Sink.state c.args.out.now) (g.E.Sink.state c.args.err.now) (g.R.CacheRam.state c.args.ram.now) in
     let answers = rw (c.as_str-in-Upgrade.ensures.value, c.as_str-in-Upgrade-2.ensures.value) at (c.upgrade.ensures before) in
-    rw c.in-Upgrade.is answers
+    rw (c.in-Upgrade.is, rest_is was) answers
 
-pub returns-in-Cached : goal.returns-in-Cached
-returns-in-Cached g c =
-    let answers = rw c.as_str-in-Cached.ensures.value at c.cached.ensures in
+pub returns-in-Cached-clause-gave : goal.returns-in-Cached-clause-gave
+returns-in-Cached-clause-gave g c = c.cached.ensures.gave
+
+pub returns-in-Cached-clause-answers : goal.returns-in-Cached-clause-answers
+returns-in-Cached-clause-answers g c = λ input rest was.
+    let answers = rw c.as_str-in-Cached.ensures.value at (c.cached.ensures.answers input rest was) in
     rw c.in-Cached.is answers
 
-pub returns-in-Prefetch : goal.returns-in-Prefetch
-returns-in-Prefetch g c =
-    let answers = rw c.as_str-in-Prefetch.ensures.value at c.prefetch.ensures in
+pub returns-in-Prefetch-clause-gave : goal.returns-in-Prefetch-clause-gave
+returns-in-Prefetch-clause-gave g c = c.prefetch.ensures.gave
+
+pub returns-in-Prefetch-clause-answers : goal.returns-in-Prefetch-clause-answers
+returns-in-Prefetch-clause-answers g c = λ input rest was.
+    let answers = rw c.as_str-in-Prefetch.ensures.value at (c.prefetch.ensures.answers input rest was) in
     rw c.in-Prefetch.is answers
 
-pub returns-in-Measure : goal.returns-in-Measure
-returns-in-Measure g c =
-    let before : Devices = seen (g.F.Shelf.state c.args.shelf.now) (g.I.Source.state c.args.input.now) (g.O.Sink.state c.args.out.now) (g.E.Sink.state c.args.err.now) (g.R.CacheRam.state c.args.ram.now) in
-    rw c.in-Measure.is (c.measure.ensures before)
+pub returns-in-Measure-clause-gave : goal.returns-in-Measure-clause-gave
+returns-in-Measure-clause-gave g c = given_still _
 
-pub returns-in-Share : goal.returns-in-Share
-returns-in-Share g c =
-    let before : Devices = seen (g.F.Shelf.state c.args.shelf.now) (g.I.Source.state c.args.input.now) (g.O.Sink.state c.args.out.now) (g.E.Sink.state c.args.err.now) (g.R.CacheRam.state c.args.ram.now) in
+pub returns-in-Measure-clause-answers : goal.returns-in-Measure-clause-answers
+returns-in-Measure-clause-answers g c = λ input rest was.
+    let before : Devices = seen (g.F.Shelf.state c.args.shelf.now) (told_as (g.I.Source.state c.args.input.now) input) (g.O.Sink.state c.args.out.now) (g.E.Sink.state c.args.err.now) (g.R.CacheRam.state c.args.ram.now) in
+    rw (c.in-Measure.is, rest_is was) (c.measure.ensures before)
+
+pub returns-in-Share-clause-gave : goal.returns-in-Share-clause-gave
+returns-in-Share-clause-gave g c = given_still _
+
+pub returns-in-Share-clause-answers : goal.returns-in-Share-clause-answers
+returns-in-Share-clause-answers g c = λ input rest was.
+    let before : Devices = seen (g.F.Shelf.state c.args.shelf.now) (told_as (g.I.Source.state c.args.input.now) input) (g.O.Sink.state c.args.out.now) (g.E.Sink.state c.args.err.now) (g.R.CacheRam.state c.args.ram.now) in
     let answers = rw c.as_slice.ensures.value at (c.share.ensures before) in
-    rw c.in-Share.is answers
+    rw (c.in-Share.is, rest_is was) answers

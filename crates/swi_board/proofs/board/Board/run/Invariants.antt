@@ -1,10 +1,10 @@
 use Rattle.std.proofs.Common.{◌*◌, ◌+◌, ◌-◌}
 use Rattle.swi_hart.specs.Bounds.{most}
-use Rattle.swi_board.specs.BoardRan.{Along}
+use Rattle.swi_board.proofs.Along.{AlongOn}
 use Rattle.swi_board.proofs.board.Board.run.Given as goal
 
 abbrev pub invariant-loop-hart : goal.invariant-loop-hart
-invariant-loop-hart g l = Along g.R.CacheRom.service l.image l.n
+invariant-loop-hart g l = AlongOn g.R.CacheRom.service l.image l.n
     (record {
       hart = l.fn.self.hart;
       rom = l.fn.self.rom;

@@ -1,8 +1,11 @@
-use Rattle.std.proofs.Common.{◌≡◌, sym, ◌∙◌, ap, subst, None, inl, inr}
+use Rattle.std.proofs.Common.{◌≡◌, sym, ◌∙◌, ap, subst, None, inl, inr, refl}
 use Rattle.std.proofs.lemmas.Bool.{false≢true}
 use Rattle.swi_board.specs.Board.{BoardOf}
+use Rattle.swi_hart.specs.MachineStep.{BoardWithRam}
 use Rattle.swi_hart.specs.Matching.{Fits}
+use Rattle.swi_outside.proofs.ToldLemmas.{as_told_stands}
 use Rattle.swi_board.proofs.Following.{followed}
+use Rattle.swi_board.proofs.Untold.{stepped_untold}
 use Rattle.swi_hart.proofs.Homes.{home}
 use Rattle.swi_hart.proofs.Results.{ok_map, ok_map_2}
 use Rattle.swi_board.proofs.board.Board.step.Goals as goal
@@ -15,17 +18,18 @@ plain_step-requires-clause-home g c =
     c.in-Some.ensures.place.0 running c.plain_place.ensures.word
 
 pub returns-clause-follows : goal.returns-clause-follows
-returns-clause-follows g c =
+returns-clause-follows g c left rest read =
     let running : c.self.inside.hart.machine.ending ≡ None = ap (λ (b : BoardOf g.row.R.Denot). b.hart.machine.ending) c.self.view_is ∙ c.requires.ready.running in
+    let s = c.quick_step.ensures.stepped left rest read in
     rw (← c.self.view_is) (λ sound.
     ok_map_2 c.quick_step.result
-    (λ made moves. λ left told f image same. followed (g.R.CacheRom.service.policy (g.R.CacheRom.service.setting c.self.inside.rom)) c.args.image.now (g.R.CacheRom.service.kept c.self.inside.rom) (g.R.CacheRom.service.kept c.quick_step.new.rom) c.self.inside.hart c.quick_step.new.hart f left _ _ _ _ _
-    running c.quick_step.ensures.word image same moves (made left told))
-    (c.quick_step.ensures.stepped.made sound) c.quick_step.ensures.stepped.policy)
+    (λ made moves. λ f image same. followed (g.R.CacheRom.service.policy (g.R.CacheRom.service.setting c.self.inside.rom)) c.args.image.now (g.R.CacheRom.service.kept c.self.inside.rom) (g.R.CacheRom.service.kept c.quick_step.new.rom) c.self.inside.hart c.quick_step.new.hart f left _ _ _ _ _
+    running c.quick_step.ensures.word image same moves (made left refl))
+    (s.made sound) s.policy)
 
 pub returns-clause-executes : goal.returns-clause-executes
 returns-clause-executes g c =
-    rw (← c.self.view_is) (ok_map c.quick_step.result (λ made. λ i b o stage p. absurd (false≢true (sym (c.in_default.ensures.place i b o stage p.control) ∙ p.own))) c.quick_step.ensures.stepped.policy)
+    rw (← c.self.view_is) (ok_map c.quick_step.result (λ made. λ i b o stage p. absurd (false≢true (sym (c.in_default.ensures.place i b o stage p.control) ∙ p.own))) (as_told_stands c.quick_step.ensures.gave (λ i rest read. (c.quick_step.ensures.stepped i rest read).policy)))
 
 pub quick_step-requires-clause-sound : goal.quick_step-requires-clause-sound
 quick_step-requires-clause-sound g c =
@@ -40,13 +44,47 @@ returns-in-Some-clause-executes g c =
     rw (← c.self.view_is) c.plain_step.ensures.executes
 
 pub returns-in-Some-clause-follows : goal.returns-in-Some-clause-follows
-returns-in-Some-clause-follows g c =
+returns-in-Some-clause-follows g c left rest read =
     let running : c.self.inside.hart.machine.ending ≡ None = ap (λ (b : BoardOf g.row.R.Denot). b.hart.machine.ending) c.self.view_is ∙ c.requires.ready.running in
+    let s = c.plain_step.ensures.stepped left rest read in
+    rw (← c.self.view_is) (λ sound.
+    ok_map_2 c.plain_step.result
+    (λ made moves. λ f image same. followed (g.R.CacheRom.service.policy (g.R.CacheRom.service.setting c.self.inside.rom)) c.args.image.now (g.R.CacheRom.service.kept c.self.inside.rom) (g.R.CacheRom.service.kept c.plain_step.new.rom) c.self.inside.hart c.plain_step.new.hart f left _ _ _ _ _
+    running c.plain_place.ensures.word image same moves (made left refl))
+    (s.made sound) s.policy)
+
+pub returns-in-Some-clause-stepped : goal.returns-in-Some-clause-stepped
+returns-in-Some-clause-stepped g c = rw (← c.self.view_is) c.plain_step.ensures.stepped
+
+pub returns-clause-stepped : goal.returns-clause-stepped
+returns-clause-stepped g c = rw (← c.self.view_is) c.quick_step.ensures.stepped
+
+pub returns-clause-stepped_directly : goal.returns-clause-stepped_directly
+returns-clause-stepped_directly g c = stepped_untold g.R.CacheRom.service c.args.image.now _ _ _ c.quick_step.ensures.gave c.quick_step.ensures.unasked (returns-clause-stepped g c)
+
+pub returns-clause-follows_directly : goal.returns-clause-follows_directly
+returns-clause-follows_directly g c =
+    let running : c.self.inside.hart.machine.ending ≡ None = ap (λ (b : BoardOf g.row.R.Denot). b.hart.machine.ending) c.self.view_is ∙ c.requires.ready.running in
+    let old : BoardWithRam g.row.R.Denot = record { hart = c.self.inside.hart; rom = c.self.inside.rom; ram = g.M.CacheRam.state c.args.ram.now } in
+    let new : BoardWithRam g.row.R.Denot = record { hart = c.quick_step.new.hart; rom = c.quick_step.new.rom; ram = g.M.CacheRam.state c.quick_step.new.ram } in
+    let s = stepped_untold g.R.CacheRom.service c.args.image.now old new c.quick_step.result c.quick_step.ensures.gave c.quick_step.ensures.unasked c.quick_step.ensures.stepped in
+    rw (← c.self.view_is) (λ sound.
+    ok_map_2 c.quick_step.result
+    (λ made moves. λ left told f image same. followed (g.R.CacheRom.service.policy (g.R.CacheRom.service.setting c.self.inside.rom)) c.args.image.now (g.R.CacheRom.service.kept c.self.inside.rom) (g.R.CacheRom.service.kept c.quick_step.new.rom) c.self.inside.hart c.quick_step.new.hart f left _ _ _ _ _
+    running c.quick_step.ensures.word image same moves (made left told))
+    (s.made sound) s.policy)
+
+pub returns-in-Some-clause-stepped_directly : goal.returns-in-Some-clause-stepped_directly
+returns-in-Some-clause-stepped_directly g c = stepped_untold g.R.CacheRom.service c.args.image.now _ _ _ c.plain_step.ensures.gave c.plain_step.ensures.unasked (returns-in-Some-clause-stepped g c)
+
+pub returns-in-Some-clause-follows_directly : goal.returns-in-Some-clause-follows_directly
+returns-in-Some-clause-follows_directly g c =
+    let running : c.self.inside.hart.machine.ending ≡ None = ap (λ (b : BoardOf g.row.R.Denot). b.hart.machine.ending) c.self.view_is ∙ c.requires.ready.running in
+    let old : BoardWithRam g.row.R.Denot = record { hart = c.self.inside.hart; rom = c.self.inside.rom; ram = g.M.CacheRam.state c.args.ram.now } in
+    let new : BoardWithRam g.row.R.Denot = record { hart = c.plain_step.new.hart; rom = c.plain_step.new.rom; ram = g.M.CacheRam.state c.plain_step.new.ram } in
+    let s = stepped_untold g.R.CacheRom.service c.args.image.now old new c.plain_step.result c.plain_step.ensures.gave c.plain_step.ensures.unasked c.plain_step.ensures.stepped in
     rw (← c.self.view_is) (λ sound.
     ok_map_2 c.plain_step.result
     (λ made moves. λ left told f image same. followed (g.R.CacheRom.service.policy (g.R.CacheRom.service.setting c.self.inside.rom)) c.args.image.now (g.R.CacheRom.service.kept c.self.inside.rom) (g.R.CacheRom.service.kept c.plain_step.new.rom) c.self.inside.hart c.plain_step.new.hart f left _ _ _ _ _
     running c.plain_place.ensures.word image same moves (made left told))
-    (c.plain_step.ensures.stepped.made sound) c.plain_step.ensures.stepped.policy)
-
-pub returns-in-Some-clause-stepped : goal.returns-in-Some-clause-stepped
-returns-in-Some-clause-stepped g c = rw (← c.self.view_is) c.plain_step.ensures.stepped
+    (s.made sound) s.policy)

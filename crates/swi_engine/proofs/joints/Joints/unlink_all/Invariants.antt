@@ -1,5 +1,5 @@
 use Rattle.std.proofs.Common.{◌≡◌, ◌-◌, ◌≤◌, filter, not}
-use Rattle.swi_undo.specs.Undone.{is_own}
+use Rattle.swi_links.specs.Undone.{is_own}
 use Rattle.swi_engine.proofs.joints.Joints.unlink_all.Given as goal
 
 abbrev pub invariant-loop-at : goal.invariant-loop-at

@@ -1,22 +1,40 @@
+use Rattle.swi_prefetch.proofs.Inputs.{RunsOnInput}
 use Rattle.swi_prefetch.proofs.Rounds.{RunsOn, left_of}
 use Rattle.swi_prefetch.proofs.prefetch.Prefetch.run.Given as goal
 
 abbrev pub invariant-loop-self : goal.invariant-loop-self
-invariant-loop-self g l = RunsOn l.image l.limit l.rate
-    (record {
-      board = l.initial.self.board;
-      around = record {
-        ram = g.M.CacheRam.state l.initial.ram;
-        devices = record { input = g.I.Source.state l.initial.input; output = g.O.Sink.state l.initial.out; error = g.E.Sink.state l.initial.err };
-      };
-    })
-    (record {
-      board = l.self.board;
-      around = record {
-        ram = g.M.CacheRam.state l.ram;
-        devices = record { input = g.I.Source.state l.input; output = g.O.Sink.state l.out; error = g.E.Sink.state l.err };
-      };
-    })
+invariant-loop-self g l = record {
+  told : RunsOnInput l.image l.limit l.rate
+      (record {
+        board = l.initial.self.board;
+        around = record {
+          ram = g.M.CacheRam.state l.initial.ram;
+          devices = record { input = g.I.Source.state l.initial.input; output = g.O.Sink.state l.initial.out; error = g.E.Sink.state l.initial.err };
+        };
+      })
+      (record {
+        board = l.self.board;
+        around = record {
+          ram = g.M.CacheRam.state l.ram;
+          devices = record { input = g.I.Source.state l.input; output = g.O.Sink.state l.out; error = g.E.Sink.state l.err };
+        };
+      });
+  directly : RunsOn l.image l.limit l.rate
+      (record {
+        board = l.initial.self.board;
+        around = record {
+          ram = g.M.CacheRam.state l.initial.ram;
+          devices = record { input = g.I.Source.state l.initial.input; output = g.O.Sink.state l.initial.out; error = g.E.Sink.state l.initial.err };
+        };
+      })
+      (record {
+        board = l.self.board;
+        around = record {
+          ram = g.M.CacheRam.state l.ram;
+          devices = record { input = g.I.Source.state l.input; output = g.O.Sink.state l.out; error = g.E.Sink.state l.err };
+        };
+      });
+}
 
 abbrev pub decreases-loop-self : goal.decreases-loop-self
 decreases-loop-self g l = left_of l.image l.limit l.self.board

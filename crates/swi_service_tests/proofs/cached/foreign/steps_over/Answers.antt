@@ -14,7 +14,7 @@ pub step-requires-2-clause-ready : goal.step-requires-2-clause-ready
 step-requires-2-clause-ready g c =
     let h = c.args.board.now.hart in
     let stands = control_is h.machine.ending h.control c.args.i c.args.place.0 c.args.place.1 c.requires.at c.requires.place c.requires.between in
-    let fits = on_ok c.step.result (sym c.is_err-2.ensures.value ∙ c.if-is_err-2.false) c.step.ensures.stepped.fits in
+    let fits = on_ok c.step.result (sym c.is_err-2.ensures.value ∙ c.if-is_err-2.false) c.step.ensures.stepped_directly.fits in
     record { running = search rules; few = search (rules, arith); count = search (rules, arith); services = search (rules, arith); fits = fits }
 
 pub step-requires-2-clause-sound : goal.step-requires-2-clause-sound

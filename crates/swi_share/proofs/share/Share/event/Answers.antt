@@ -1,4 +1,4 @@
-use Rattle.std.proofs.Common.{Some, slice_set, refl, ap}
+use Rattle.std.proofs.Common.{slice_set, refl, ap}
 use Rattle.std.proofs.lemmas.Result.{err_from_is_err_and}
 use Rattle.swi_share.specs.Event.{EventDevices}
 use Rattle.swi_share.specs.Sharing.{ShareData}
@@ -46,21 +46,21 @@ returns-in_err-hart g c =
     let p = c.index_mut-process.result.now in
     let t = c.in-Some.ensures in
     let at = taken_at t c.self.inside.processes.items p (ap (λ (x : ShareData). x.processes) c.self.view_is) c.requires.guest c.index_mut-process.ensures.value in
-    let before : EventDevices = record { ram = g.M.CacheRam.state c.args.ram.now; left = p.input; out = g.O.Sink.state c.args.out.now; err = g.E.Sink.state c.args.err.now } in
-    let after : EventDevices = record { ram = g.M.CacheRam.state c.make_event.new.ram; left = c.make_event.new.input; out = g.O.Sink.state c.make_event.new.out; err = g.E.Sink.state c.make_event.new.err } in
+    let before : EventDevices = record { ram = g.M.CacheRam.state c.args.ram.now; left = p.input.left; out = g.O.Sink.state c.args.out.now; err = g.E.Sink.state c.args.err.now } in
+    let after : EventDevices = record { ram = g.M.CacheRam.state c.make_event.new.ram; left = c.make_event.new.input.left; out = g.O.Sink.state c.make_event.new.out; err = g.E.Sink.state c.make_event.new.err } in
     let left = left_broken t p at c.make_event.new.input _ (ap (λ (x : ShareData). let y : ShareData = record x { processes = slice_set x.processes c.args.g (with_input p c.make_event.new.input) } in y) c.self.view_is) in
     let e = err_from_is_err_and c.from_residual.result c.from_residual.ensures.1 in
-    rw (e.1, e.2) (event_stopped t p at c.in_err-hart.field-0.0 before after _ refl c.requires.sharing c.in_err-hart.ensures left)
+    rw (e.1, e.2) (event_stopped t p at c.in_err-hart.field-0.0 c.make_event.new.input before after _ refl refl c.requires.sharing c.in_err-hart.ensures left)
 
 pub returns : goal.returns
 returns g c =
     let p = c.index_mut-process.result.now in
     let t = c.in-Some.ensures in
     let at = taken_at t c.self.inside.processes.items p (ap (λ (x : ShareData). x.processes) c.self.view_is) c.requires.guest c.index_mut-process.ensures.value in
-    let before : EventDevices = record { ram = g.M.CacheRam.state c.args.ram.now; left = p.input; out = g.O.Sink.state c.args.out.now; err = g.E.Sink.state c.args.err.now } in
-    let after : EventDevices = record { ram = g.M.CacheRam.state c.make_event.new.ram; left = c.make_event.new.input; out = g.O.Sink.state c.make_event.new.out; err = g.E.Sink.state c.make_event.new.err } in
+    let before : EventDevices = record { ram = g.M.CacheRam.state c.args.ram.now; left = p.input.left; out = g.O.Sink.state c.args.out.now; err = g.E.Sink.state c.args.err.now } in
+    let after : EventDevices = record { ram = g.M.CacheRam.state c.make_event.new.ram; left = c.make_event.new.input.left; out = g.O.Sink.state c.make_event.new.out; err = g.E.Sink.state c.make_event.new.err } in
     let left = left_put t p at c.make_event.new.input c.in_ok-hart.hart c.in_ok-hart.rom _ c.put_back.new.self (ap (λ (x : ShareData). let y : ShareData = record x { processes = slice_set x.processes c.args.g (with_input p c.make_event.new.input) } in y) c.self.view_is) c.put_back.ensures in
-    event_done t p at c.in_ok-hart.hart c.in_ok-hart.rom before after c.put_back.new.self refl c.requires.sharing c.requires.room c.in_ok-hart.ensures left
+    event_done t p at c.in_ok-hart.hart c.in_ok-hart.rom c.make_event.new.input before after c.put_back.new.self refl refl c.requires.sharing c.requires.room c.in_ok-hart.ensures left
 
 pub returns-in_default : goal.returns-in_default
 returns-in_default g c =

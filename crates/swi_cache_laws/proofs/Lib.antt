@@ -1,0 +1,15 @@
+pub mod Few
+pub mod Queue
+pub mod Moving
+pub mod Phases
+pub mod Serving
+pub mod Standing
+pub mod Exits
+pub mod Linked
+pub mod Keeping
+pub mod Roomy
+pub mod Seating
+pub mod Computed
+pub mod Exiting
+pub mod Along
+pub mod Costing

@@ -1,5 +1,0 @@
-use Rattle.swi_chain.specs.Chains.{AreFree}
-use Rattle.swi_chain.proofs.chains.Chains.first_linked.Given as goal
-
-abbrev pub invariant-loop-at : goal.invariant-loop-at
-invariant-loop-at l = AreFree l.self l.from l.at

@@ -1,5 +1,0 @@
-pub mod Chains
-pub mod Tied
-pub mod Laws
-pub mod Holders
-pub mod Lists

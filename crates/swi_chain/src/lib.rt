@@ -1,6 +1,0 @@
-//! Which words are linked to which slot.
-#![tactic(auto)]
-
-mod chains;
-
-pub use chains::Chains;

@@ -1,4 +1,0 @@
-mod Targets
-mod Clearing
-mod Knowing
-mod Seen

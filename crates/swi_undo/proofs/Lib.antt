@@ -1,2 +1,0 @@
-mod Leaving
-mod Undoing

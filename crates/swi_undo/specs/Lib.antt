@@ -1,3 +1,0 @@
-pub mod Undone
-pub mod Tells
-pub mod Gone
