@@ -4,4 +4,5 @@
 mod queue;
 mod ring;
 
+pub use queue::BlockQueue;
 pub use ring::{RingRom, chains};

@@ -180,7 +180,7 @@ unfolding queue_of
 any_placed homes [] b none = refl
 any_placed homes (x ∷ xs) b none = or_from _ _ (ne_eqb x b (λ (same : x ≡ b). none (inl same))) (any_placed homes xs b (λ h. none (inr h)))
 
-placed_any : (homes queue : List ℕ) (b : ℕ) → Has queue b → list_any (λ (p : Placement). p.program == 0 && p.block == b) (queue_of homes queue) ≡ true
+pub placed_any : (homes queue : List ℕ) (b : ℕ) → Has queue b → list_any (λ (p : Placement). p.program == 0 && p.block == b) (queue_of homes queue) ≡ true
 unfolding queue_of
 placed_any homes [] b h = absurd h
 placed_any homes (x ∷ xs) b (inl same) = or_left _ _ (eq-eqb x b same)

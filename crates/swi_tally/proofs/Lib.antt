@@ -1,7 +1,9 @@
 pub mod Sets
 pub mod Grouping
 pub mod Linking
-pub mod Turning
 pub mod Queueing
 pub mod Evicting
 pub mod Arriving
+pub mod Crossing
+pub mod Siding
+pub mod Adding

@@ -8,7 +8,7 @@ pub tested : (m c : ℕ) → (bit_and (m / 2 ^ c) 1 == 1) ≡ has m c
 unfolding has
 tested m c = ap (λ (n : ℕ). n == 1) (shr_and_one m c)
 
-or_none : (x : Bool) → (x || false) ≡ x
+pub or_none : (x : Bool) → (x || false) ≡ x
 or_none true = refl
 or_none false = refl
 

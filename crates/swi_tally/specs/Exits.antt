@@ -1,5 +1,5 @@
 -- The direct exits of an image whose targets are text words, and those of them that are links.
-use Rattle.std.specs.Prelude.{◌≡◌, ℕ, ◌^◌, ◌<◌, ◌≤◌, Bool, List, length, slice_index, Option, Some, None, if◌then◌else◌}
+use Rattle.std.specs.Prelude.{◌≡◌, ℕ, ◌^◌, ◌<◌, ◌≤◌, Bool, List, [], ◌∷◌, ◌++◌, length, slice_index, Option, Some, None, if◌then◌else◌}
 use Rattle.swi_rom.specs.Record.{Link}
 use Rattle.swi_rom.specs.Collected.{collected}
 
@@ -24,6 +24,14 @@ pub record AreExits (e : ExitsData) : Type 0 where
   pub offsets_small : (x : ℕ) → x < length e.from → slice_index e.offsets x < 1024
   pub ats_small : (x : ℕ) → x < length e.from → slice_index e.ats x < 1024
   pub distinct : (x y : ℕ) → x < length e.from → y < length e.from → slice_index e.from x ≡ slice_index e.from y → slice_index e.offsets x ≡ slice_index e.offsets y → x ≡ y
+
+-- none stands at the place
+abbrev pub IsFree : ExitsData → ℕ → ℕ → Type 0
+IsFree e b o = (x : ℕ) → x < length e.from → slice_index e.from x ≡ b → slice_index e.offsets x ≡ o → ⊥
+
+-- with one more behind all others: its block and offset, and those of its target
+abbrev pub with_exit : ExitsData → ℕ → ℕ → ℕ → ℕ → ExitsData
+with_exit e b o into at = record e { from = e.from ++ b ∷ []; offsets = e.offsets ++ o ∷ []; into = e.into ++ into ∷ []; ats = e.ats ++ at ∷ [] }
 
 -- the exit as a link
 abbrev pub link_of : ExitsData → ℕ → Link

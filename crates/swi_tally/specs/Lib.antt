@@ -1,5 +1,5 @@
 pub mod Masks
 pub mod Groups
 pub mod Exits
-pub mod Queue
 pub mod Tally
+pub mod Tallies

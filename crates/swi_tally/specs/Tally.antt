@@ -1,10 +1,10 @@
 -- A cache without a ram as plain data, and what it keeps.
-use Rattle.std.specs.Prelude.{◌≡◌, ℕ, zero, suc, ◌+◌, ◌*◌, ◌^◌, ◌<◌, ◌≤◌, ◌⊎◌, Bool, List, [], ◌∷◌, ◌++◌, map, length, slice_index, slice_set, nat_lt, if◌then◌else◌}
+use Rattle.std.specs.Prelude.{◌≡◌, ℕ, zero, suc, ◌+◌, ◌*◌, ◌^◌, ◌<◌, ◌≤◌, ◌⊎◌, Bool, List, [], ◌∷◌, ◌++◌, map, length, replicate, slice_index, slice_set, nat_lt, if◌then◌else◌}
 use Rattle.swi_image.specs.Format.{ImageData}
 use Rattle.swi_rom.specs.Record.{Record, Placement, Transfer}
 use Rattle.swi_rom.specs.Service.{Setting}
 use Rattle.swi_image.specs.Sound.{IsImage}
-use Rattle.swi_rom.specs.Policy.{Arrival, evicted, more_service}
+use Rattle.swi_rom.specs.Policy.{Arrival, evicted, linked, more_service, with_link}
 use Rattle.swi_rom.specs.declared.rom.Counts.{Counts}
 use Rattle.swi_slots.specs.Fifo as slots
 use Rattle.swi_ring.specs.Fifo as ring
@@ -158,3 +158,31 @@ pub record Arrives (v : ImageData) (e : ExitsData) (cache b : ℕ) (s t : TallyD
   pub here : Has t.queue b
   pub services : t.counts.services ≡ s.counts.services
   pub links : t.counts.links ≡ s.counts.links
+
+-- it may serve the image, where a ring is one slot; and before a block has stood nothing is counted
+pub record Serves (v : ImageData) (e : ExitsData) (cache : ℕ) (masks : List ℕ) (s : TallyData) : Type 0 where
+  pub stands : Stands v e cache masks s
+  pub one : s.placing ≡ Ring → s.slots ≡ 1
+  pub unmissed : s.queue ≡ [] → s.counts.misses ≡ 0
+  pub unlinked : s.queue ≡ [] → s.counts.links ≡ 0
+
+-- an exit has become a link where the policy says so; the same blocks stand
+pub record Links (e : ExitsData) (cache x : ℕ) (s t : TallyData) (old new : List ℕ) : Type 0 where
+  pub kept : kept_by e (has_at new cache) t ≡ linked with_link (kept_by e (has_at old cache) s) (slice_index e.from x) (slice_index e.offsets x)
+      (slice_index e.into x, slice_index e.ats x)
+  pub moved : Moved e cache s t old new
+  pub queue : t.queue ≡ s.queue
+  pub services : t.counts.services ≡ s.counts.services
+
+-- a cache in which nothing stands and nothing was counted, of so many slots of so many words, for so many blocks
+abbrev pub empty_tally : Placing → ℕ → ℕ → ℕ → TallyData
+empty_tally placing slots slot_words blocks = record {
+  placing = placing;
+  slots = slots;
+  slot_words = slot_words;
+  next = 0;
+  queue = [];
+  homes = replicate blocks (slots * slot_words);
+  room = blocks;
+  counts = record { services = 0; misses = 0; evictions = 0; links = 0; unlinks = 0; copied = 0 };
+}

@@ -1,10 +1,10 @@
 //! The direct exits of an image.
 #![tactic(auto)]
 
-ghost use Rattle.std.specs.Prelude.{◌≡◌, ◌<◌, ◌^◌, ◌++◌, [], ◌∷◌, ℕ, IfOk, length, slice_index};
-ghost use Rattle.swi_tally.specs.Exits.{AreExits, ExitsData};
+ghost use Rattle.std.specs.Prelude.{◌≡◌, ◌<◌, ◌^◌, ◌++◌, [], ◌∷◌, ℕ, IfOk, OnOk, OnErr, length, slice_index};
+ghost use Rattle.swi_tally.specs.Exits.{AreExits, ExitsData, IsFree, with_exit};
 
-use crate::groups::Groups;
+use crate::groups::{Groups, append};
 use std::alloc::Global;
 use std::marker::Model;
 use swi_outside::Memory;
@@ -43,7 +43,8 @@ impl Model for Exits {
 impl Exits {
     /// No exits yet, of so many blocks. Memory is the only error.
     pub fn new(alloc: Global, blocks: u32) -> Result<Exits, Memory>
-        ensures { IfOk result (λ e. e ≡ record { blocks = blocks; from = []; offsets = []; into = []; ats = [] }) }
+        ensures value { IfOk result (λ e. e ≡ record { blocks = blocks; from = []; offsets = []; into = []; ats = [] }) }
+        ensures are { IfOk result (λ e. AreExits e) }
     {
         let from = Groups::new(alloc, blocks)?;
         let into = Groups::new(alloc, blocks)?;
@@ -52,6 +53,35 @@ impl Exits {
             into,
             offsets: Vec::new(alloc),
             ats: Vec::new(alloc),
+        })
+    }
+
+    /// With one more exit, at a place where none stands, behind all others. Memory is the only error.
+    pub fn with(self, exit: Exit) -> Result<Exits, Memory>
+        requires few { length self.from < 2 ^ 21 }
+        requires block { exit.block < self.blocks }
+        requires into { exit.into < self.blocks }
+        requires offset { exit.offset < 1024 }
+        requires at { exit.at < 1024 }
+        requires free { IsFree self exit.block exit.offset }
+        ensures value { IfOk result (λ e. e ≡ with_exit self exit.block exit.offset exit.into exit.at) }
+        ensures are { IfOk result (λ e. AreExits e) }
+    {
+        let Exits {
+            mut from,
+            mut into,
+            mut offsets,
+            mut ats,
+        } = self;
+        from.push(exit.block)?;
+        into.push(exit.into)?;
+        append(&mut offsets, exit.offset)?;
+        append(&mut ats, exit.at)?;
+        Ok(Exits {
+            from,
+            into,
+            offsets,
+            ats,
         })
     }
 

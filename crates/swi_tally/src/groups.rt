@@ -32,8 +32,8 @@ impl Model for Groups {
     ghost invariant = { λ g. Grouped g.keys.items g.ends.items g.befores.items };
 }
 
-// Puts a number behind all others. Memory is the only error; nothing changes then.
-fn append(xs: &mut Vec<u32>, x: u32) -> Result<(), Memory>
+/// Puts a number behind all others. Memory is the only error; nothing changes then.
+pub(crate) fn append(xs: &mut Vec<u32>, x: u32) -> Result<(), Memory>
     ensures pushed { OnOk result (xs.new.items ≡ xs.old.items ++ x ∷ []) }
     ensures same { OnErr result (xs.new.items ≡ xs.old.items) }
 {

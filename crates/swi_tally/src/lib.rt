@@ -4,8 +4,10 @@
 mod exits;
 mod groups;
 mod masks;
-mod queue;
+mod tallies;
 mod tally;
 
 pub use exits::{Exit, Exits};
+pub use masks::CACHES;
+pub use tallies::{Frame, Tallies};
 pub use tally::{Placing, Tally};

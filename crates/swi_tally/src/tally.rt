@@ -1,20 +1,25 @@
 //! One cache without a ram.
 #![tactic(auto)]
 
-ghost use Rattle.std.specs.Prelude.{◌≡◌, ◌+◌, ◌*◌, ◌%◌, ◌^◌, ◌<◌, ◌≤◌, ◌↔◌, ◌++◌, [], ◌∷◌, ℕ, Bool, IsTrue, length, slice_index};
+ghost use Rattle.std.specs.Prelude.{◌≡◌, ◌+◌, ◌*◌, ◌%◌, ◌^◌, ◌<◌, ◌≤◌, ◌↔◌, ◌++◌, [], ◌∷◌, ℕ, Bool, false, Some, IfOk, IsTrue, length, slice_index};
 ghost use Rattle.std.specs.List.{list_any};
 ghost use Rattle.swi_tally.specs.Exits.{ExitsData};
 ghost use Rattle.swi_tally.specs.Masks.{has_at};
-ghost use Rattle.swi_tally.specs.Tally.{Arrives, Bounded, Has, InShape, Moved, Receded, Stands, counted_tally, freed, kept_by, queue_of, setting_of, settled, span, spot, without_oldest};
+ghost use Rattle.swi_tally.specs.Tally.{Arrives, Bounded, Has, InShape, Links, Moved, Receded, Serves, Stands, counted_tally, empty_tally, freed, kept_by, policy_of, queue_of, setting_of, settled, span, spot, without_oldest};
 ghost use Rattle.swi_ring.specs.Fifo.{cleared, first_for, meets};
+ghost use Rattle.swi_image.specs.Place.{place_of};
 ghost use Rattle.swi_rom.specs.Policy.{evicted};
+ghost use Rattle.swi_rom.specs.Record.{direct, indirect};
 
 use crate::exits::Exits;
 use crate::groups::leave;
-use crate::queue::BlockQueue;
+use crate::masks::with;
+use std::alloc::Global;
 use std::marker::Model;
 use swi_image::ImageView;
-use swi_rom::Counts;
+use swi_outside::Memory;
+use swi_ring::BlockQueue;
+use swi_rom::{Counts, reach};
 
 /// How blocks are placed in a cache: each in a slot, or one behind the other.
 #[derive(Clone, Copy, Debug, PartialEq, Eq)]
@@ -56,6 +61,47 @@ impl Model for Tally {
 }
 
 impl Tally {
+    /// A cache in which nothing stands: so many slots of so many words each, for an image of so many blocks. Memory is the
+    /// only error.
+    pub(crate) fn new(
+        alloc: Global,
+        placing: Placing,
+        slots: u32,
+        slot_words: u32,
+        blocks: u32,
+    ) -> Result<Tally, Memory>
+        requires words { slots * slot_words ≤ 2 ^ 21 }
+        requires some { 1 ≤ blocks }
+        requires few { blocks ≤ 2 ^ 19 }
+        ensures { IfOk result (λ s. s ≡ empty_tally placing slots slot_words blocks) }
+    {
+        let queue = BlockQueue::new(alloc, blocks)?;
+        let homes = vec![in alloc; slots * slot_words; blocks as usize].map_err(|_| Memory)?;
+        Ok(Tally {
+            placing,
+            slots,
+            slot_words,
+            next: 0,
+            queue,
+            homes,
+            counts: Counts {
+                services: 0,
+                misses: 0,
+                evictions: 0,
+                links: 0,
+                unlinks: 0,
+                copied: 0,
+            },
+        })
+    }
+
+    /// What was counted.
+    pub(crate) fn counts(&self) -> Counts
+        ensures { result ≡ self.now.counts }
+    {
+        self.counts
+    }
+
     // How many words there are.
     fn span(&self) -> u32
         requires { InShape self.now }
@@ -313,5 +359,77 @@ impl Tally {
             Placing::Slots => self.fill_slot(image, exits, masks, cache, block),
             Placing::Ring => self.fill_ring(image, exits, masks, cache, block),
         }
+    }
+
+    // The exit becomes a link, where its block still stands and a JAL reaches.
+    fn link(&mut self, image: &ImageView<'_>, exits: &Exits, masks: &mut [u64], cache: u32, x: u32)
+        requires stands { Stands image.now exits.now cache masks.old self.old }
+        requires exit { x < length exits.now.from }
+        requires unlinked { has_at masks.old cache x ≡ false }
+        requires here { Has self.old.queue (slice_index exits.now.into x) }
+        requires links { self.old.counts.links ≤ self.old.counts.services }
+        requires services { self.old.counts.services ≤ 2 ^ 50 }
+        ensures links { Links exits.now cache x self.old self.new masks.old masks.new }
+    {
+        let exit = exits.exit(x);
+        if !self.is_placed(exit.block) {
+            return;
+        }
+        let from = self.homes[exit.block as usize] + exit.offset;
+        let to = self.homes[exit.into as usize] + exit.at;
+        if reach(from, to) {
+            masks[x as usize] = with(masks[x as usize], cache);
+            self.counts.links += 1;
+        }
+    }
+
+    /// Serves a direct exit that isn't linked, by the policy.
+    pub(crate) fn cross(
+        &mut self,
+        image: &ImageView<'_>,
+        exits: &Exits,
+        masks: &mut [u64],
+        cache: u32,
+        x: u32,
+    )
+        requires serves { Serves image.now exits.now cache masks.old self.old }
+        requires services { self.old.counts.services < 2 ^ 50 }
+        requires exit { x < length exits.now.from }
+        requires unlinked { has_at masks.old cache x ≡ false }
+        ensures kept { (a : ℕ) → place_of image.now a ≡ Some (slice_index exits.now.into x, slice_index exits.now.ats x) →
+            kept_by exits.now (has_at masks.new cache) self.new
+            ≡ policy_of self.old.placing (setting_of self.old) (kept_by exits.now (has_at masks.old cache) self.old) image.now
+            (direct (slice_index exits.now.from x) (slice_index exits.now.offsets x) a) }
+        ensures serves { Serves image.now exits.now cache masks.new self.new }
+        ensures moved { Moved exits.now cache self.old self.new masks.old masks.new }
+        ensures services { self.new.counts.services ≤ self.old.counts.services + 1 }
+    {
+        let into = exits.exit(x).into;
+        self.count_service();
+        self.arrive(image, exits, masks, cache, into);
+        self.link(image, exits, masks, cache, x);
+    }
+
+    /// Serves a jump to an address in a block, by the policy.
+    pub(crate) fn enter(
+        &mut self,
+        image: &ImageView<'_>,
+        exits: &Exits,
+        masks: &mut [u64],
+        cache: u32,
+        block: u32,
+    )
+        requires serves { Serves image.now exits.now cache masks.old self.old }
+        requires services { self.old.counts.services < 2 ^ 50 }
+        requires block { block < exits.now.blocks }
+        ensures kept { (a o : ℕ) → place_of image.now a ≡ Some (block, o) →
+            kept_by exits.now (has_at masks.new cache) self.new
+            ≡ policy_of self.old.placing (setting_of self.old) (kept_by exits.now (has_at masks.old cache) self.old) image.now (indirect a) }
+        ensures serves { Serves image.now exits.now cache masks.new self.new }
+        ensures moved { Moved exits.now cache self.old self.new masks.old masks.new }
+        ensures services { self.new.counts.services ≤ self.old.counts.services + 1 }
+    {
+        self.count_service();
+        self.arrive(image, exits, masks, cache, block);
     }
 }
