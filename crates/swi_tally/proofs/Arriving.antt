@@ -14,7 +14,7 @@ use Rattle.swi_tally.specs.declared.tally.Placing.{Placing}
 use Rattle.swi_tally.specs.declared.tally.Placing.TheVariants.{Slots, Ring}
 use Rattle.swi_tally.specs.Masks.{has_at}
 use Rattle.swi_tally.specs.Exits.{ExitsData}
-use Rattle.swi_tally.specs.Tally.{TallyData, InShape, Bounded, Has, Moved, Stands, Receded, Arrives, arrival_of, behind, freed, kept_by, queue_of, setting_of, settled, span, spot}
+use Rattle.swi_tally.specs.Tally.{TallyData, InShape, Has, Moved, Stands, Receded, Arrives, arrival_of, behind, freed, kept_by, queue_of, setting_of, settled, span, spot}
 use Rattle.swi_tally.proofs.Queueing.{queue_long, queue_next, settled_shape, settled_queue, more_here}
 
 -- where all slots are taken, and where one is free

@@ -1,10 +1,10 @@
 -- A direct exit is served, and a jump to an address in a block.
-use Rattle.std.proofs.Common.{◌≡◌, ℕ, zero, suc, ◌+◌, ◌^◌, ◌<◌, ◌≤◌, ◌==◌, ◌&&◌, ◌||◌, Bool, true, false, List, [], ◌∷◌, length, filter, slice_index, slice_index_or, slice_set, nat_lt, IsTrue, ◌↔◌, Option, Some, if◌then◌else◌, arith, refl, sym, ◌∙◌, ap, subst, inl, inr}
-use Rattle.std.proofs.lemmas.Bool.{cases_eq, cases_Bool, and_parts, eq-eqb, ne_eqb, or_right, both_ways, false_from_ne_true}
+use Rattle.std.proofs.Common.{◌≡◌, ℕ, ◌+◌, ◌^◌, ◌<◌, ◌≤◌, ◌==◌, ◌&&◌, ◌||◌, Bool, true, false, List, [], ◌∷◌, length, filter, slice_index, slice_index_or, slice_set, nat_lt, IsTrue, ◌↔◌, Some, if◌then◌else◌, arith, refl, sym, ◌∙◌, ap, subst, inl, inr}
+use Rattle.std.proofs.lemmas.Bool.{cases_eq, and_parts, eq-eqb, ne_eqb, or_right, both_ways, false_from_ne_true}
 use Rattle.std.proofs.lemmas.List.{length-set, get_or-set_same, get_or-set_other, get_or_read}
 use Rattle.swi_image.specs.Format.{ImageData}
 use Rattle.swi_image.specs.Place.{place_of, length_at}
-use Rattle.swi_rom.specs.Record.{Link, Placement, Record, Transfer, direct, indirect, target_of, exit_among, is_linked, reaches}
+use Rattle.swi_rom.specs.Record.{Link, Placement, Record, Transfer, direct, indirect, target_of, exit_among, reaches}
 use Rattle.swi_rom.specs.Service.{Setting}
 use Rattle.swi_rom.specs.Policy.{Arrival, counted, evicted, first_in, first_of, is_kept, is_over_link, is_placed, linked, linked_over, more_service, served_by, went, with_link}
 use Rattle.swi_rom.specs.Links.{among_has, has_among}
@@ -16,7 +16,7 @@ use Rattle.swi_tally.specs.declared.tally.Placing.{Placing}
 use Rattle.swi_tally.specs.declared.tally.Placing.TheVariants.{Slots, Ring}
 use Rattle.swi_tally.specs.Masks.{has, has_at}
 use Rattle.swi_tally.specs.Exits.{ExitsData, AreExits, link_of, links_of}
-use Rattle.swi_tally.specs.Tally.{TallyData, InShape, Bounded, Has, Moved, Stands, Serves, Links, Arrives, arrival_of, counted_tally, kept_by, policy_of, queue_of, setting_of, spot}
+use Rattle.swi_tally.specs.Tally.{TallyData, InShape, Has, Moved, Stands, Serves, Links, Arrives, arrival_of, counted_tally, kept_by, policy_of, queue_of, setting_of}
 use Rattle.swi_tally.proofs.Sets.{or_none}
 use Rattle.swi_tally.proofs.Linking.{links_with, linked_is}
 use Rattle.swi_tally.proofs.Queueing.{queue_long}

@@ -1,8 +1,8 @@
 -- The oldest block leaves, with its links.
-use Rattle.std.proofs.Common.{◌≡◌, ℕ, zero, suc, ◌+◌, ◌-◌, ◌<◌, ◌≤◌, ◌^◌, ◌==◌, ◌&&◌, Bool, true, false, not, List, [], ◌∷◌, filter, length, slice_index, slice_set, nat_le, if◌then◌else◌, arith, refl, sym, ◌∙◌, ap, subst}
+use Rattle.std.proofs.Common.{◌≡◌, ℕ, ◌+◌, ◌<◌, ◌≤◌, ◌&&◌, Bool, not, List, ◌∷◌, filter, length, slice_set, nat_le, arith, refl, sym, ◌∙◌, ap, subst}
 use Rattle.std.proofs.lemmas.Bool.{eq-eqb, ne_eqb, le-leb}
-use Rattle.swi_rom.specs.Record.{Record, Placement}
-use Rattle.swi_rom.specs.Policy.{evicted, is_kept, is_undone}
+use Rattle.swi_rom.specs.Record.{Placement}
+use Rattle.swi_rom.specs.Policy.{evicted, is_undone}
 use Rattle.swi_rom.specs.Collected.{undone_apart}
 use Rattle.swi_tally.specs.Masks.{has_at}
 use Rattle.swi_tally.specs.Groups.{Left, held_in, is_in}

@@ -1,7 +1,7 @@
 -- Groups, and a cache that leaves the sets of one.
 use Rattle.std.proofs.Common.{◌≡◌, ℕ, zero, suc, ◌+◌, ◌-◌, ◌<◌, ◌≤◌, ◌==◌, ◌&&◌, ◌++◌, Bool, true, false, not, List, [], ◌∷◌, length, slice_index, slice_set, slice_index_or, replicate, nat_le, Result, Ok, Err, is_err, OnOk, if◌then◌else◌, arith, refl, sym, ◌∙◌, ap, subst, inl, inr}
-use Rattle.std.proofs.lemmas.Bool.{cases_Bool, cases_eq, cases_lt, eqb-true, eqb-false, eq-eqb, ne_eqb, both_ways, le-leb, lt-leb, leb-true, and_right}
-use Rattle.std.proofs.lemmas.List.{length-append, length-set, length_push, get_or_append_left, get_or_push, get_or-set_same, get_or-set_other, get_or_read, get_or-replicate, length-replicate}
+use Rattle.std.proofs.lemmas.Bool.{cases_eq, cases_lt, eqb-true, eq-eqb, ne_eqb, le-leb, lt-leb, and_right}
+use Rattle.std.proofs.lemmas.List.{length-set, length_push, get_or_append_left, get_or_push, get_or-set_same, get_or-set_other, get_or_read, get_or-replicate, length-replicate}
 use Rattle.swi_tally.specs.Masks.{has, has_at}
 use Rattle.swi_tally.specs.Groups.{GroupsData, Grouped, Drops, Left, end_of, held_in, is_in}
 use Rattle.swi_outside.specs.declared.failure.Memory.{Memory}

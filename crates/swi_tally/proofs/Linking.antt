@@ -1,10 +1,10 @@
 -- The links among the exits: as a block leaves, and as an exit is linked.
-use Rattle.std.proofs.Common.{◌≡◌, ℕ, zero, suc, ◌+◌, ◌<◌, ◌≤◌, ◌==◌, ◌&&◌, ◌||◌, Bool, true, false, not, List, filter, length, slice_index, Option, Some, None, if◌then◌else◌, arith, refl, sym, ◌∙◌, ap, subst, inl, inr}
-use Rattle.std.proofs.lemmas.Bool.{cases_Bool, cases_eq, and_parts, and_from, or_cases, or_left, or_right, false_from_ne_true, both_ways, eqb-true, eq-eqb}
+use Rattle.std.proofs.Common.{◌≡◌, ℕ, zero, suc, ◌+◌, ◌<◌, ◌==◌, ◌&&◌, ◌||◌, Bool, true, false, not, filter, length, slice_index, Option, Some, if◌then◌else◌, arith, refl, sym, ◌∙◌, ap, subst, inl, inr}
+use Rattle.std.proofs.lemmas.Bool.{and_parts, and_from, or_cases, or_left, or_right, false_from_ne_true, both_ways, eqb-true, eq-eqb}
 use Rattle.swi_rom.specs.Record.{Link, Placement, has_link, same_link, exit_among}
 use Rattle.swi_rom.specs.Policy.{is_undone, is_kept, is_from, leads_to, with_link}
 use Rattle.swi_rom.specs.Links.{same_ascending, same_tests, with_ascending, has_with, same_is, same_same, among_has, has_among}
-use Rattle.swi_rom.specs.Collected.{collected, add_link, collected_has, has_collected, collected_ascending, has_filter, filter_ascending, length_collected, passing, passes, Differ}
+use Rattle.swi_rom.specs.Collected.{collected, collected_has, has_collected, collected_ascending, has_filter, filter_ascending, length_collected, passing, passes, Differ}
 use Rattle.swi_tally.specs.Exits.{ExitsData, AreExits, link_of, link_if, link_at, links_of}
 
 -- what is collected depends on the numbers below n alone

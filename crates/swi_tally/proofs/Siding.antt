@@ -1,19 +1,18 @@
 -- Many caches side by side: one serves, and the others stay as they are.
-use Rattle.std.proofs.Common.{◌≡◌, ◌⊎◌, ℕ, zero, suc, ◌+◌, ◌-◌, ◌<◌, ◌≤◌, ◌^◌, Bool, true, false, List, [], ◌∷◌, length, slice_index, slice_index_or, slice_get, slice_set, Option, Some, None, IfSome, arith, refl, sym, ◌∙◌, ap, subst, inl, inr}
+use Rattle.std.proofs.Common.{◌≡◌, ℕ, zero, suc, ◌+◌, ◌<◌, ◌≤◌, Bool, true, List, [], ◌∷◌, length, slice_index, slice_index_or, slice_get, slice_set, Option, Some, None, IfSome, arith, refl, sym, ◌∙◌, ap, subst, inl, inr}
 use Rattle.std.proofs.lemmas.Bool.{cases_eq, cases_lt}
 use Rattle.std.proofs.lemmas.List.{length-set, get_or_read}
 use Rattle.std.proofs.lemmas.Option.{same_Some, slice_get_within, slice_get_past, slice_get_read}
 use Rattle.swi_image.specs.Format.{ImageData}
 use Rattle.swi_image.specs.Place.{place_of}
 use Rattle.swi_rom.specs.Record.{Link, Record, Transfer, direct, indirect}
-use Rattle.swi_rom.specs.Service.{Setting}
 use Rattle.swi_rom.specs.Policy.{served_over_link, with_link}
 use Rattle.swi_rom.specs.declared.rom.Counts.{Counts}
 use Rattle.swi_tally.specs.declared.tally.Placing.{Placing}
 use Rattle.swi_tally.specs.Masks.{has, has_at}
 use Rattle.swi_tally.specs.Exits.{ExitsData, AreExits, links_of}
-use Rattle.swi_tally.specs.Tally.{TallyData, Bounded, Moved, Stands, Serves, arrival_of, kept_by, policy_of, setting_of}
-use Rattle.swi_tally.specs.Tallies.{TalliesData, Row, AllServed, AreServing, OneMoved, OneServed, ServesAt, row_at, row_if, row_of, served_if, served_row}
+use Rattle.swi_tally.specs.Tally.{TallyData, Moved, Serves, arrival_of, kept_by, policy_of, setting_of}
+use Rattle.swi_tally.specs.Tallies.{TalliesData, Row, AllServed, AreServing, OneMoved, OneServed, ServesAt, row_at, row_if, row_of, served_if}
 use Rattle.swi_tally.proofs.Linking.{links_same, linked_is}
 use Rattle.swi_tally.proofs.Crossing.{Crossed, Entered, policy_is}
 

@@ -1,5 +1,5 @@
 -- Many caches of one image side by side.
-use Rattle.std.specs.Prelude.{◌≡◌, ℕ, suc, ◌*◌, ◌^◌, ◌<◌, ◌≤◌, List, length, map, replicate, slice_get, Option, Some, None, IfSome}
+use Rattle.std.specs.Prelude.{◌≡◌, ℕ, suc, ◌*◌, ◌^◌, ◌≤◌, List, length, map, replicate, slice_get, Option, Some, None, IfSome}
 use Rattle.swi_image.specs.Format.{ImageData}
 use Rattle.swi_rom.specs.Record.{Record, Transfer, empty_record}
 use Rattle.swi_rom.specs.Service.{Setting}

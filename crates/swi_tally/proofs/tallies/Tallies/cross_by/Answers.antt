@@ -1,11 +1,8 @@
 use Rattle.std.proofs.lemmas.List.{with_items_is}
-use Rattle.std.proofs.Common.{◌≡◌, ◌<◌, ◌∙◌, ℕ, List, length, arith, ap, subst, sym}
-use Rattle.swi_rom.specs.Record.{direct, indirect}
-use Rattle.swi_tally.specs.Exits.{ExitsData}
-use Rattle.swi_tally.specs.Tally.{TallyData}
+use Rattle.std.proofs.Common.{◌∙◌, length, arith, ap, subst, sym}
+use Rattle.swi_rom.specs.Record.{direct}
 use Rattle.swi_tally.specs.Tallies.{TalliesData, OneMoved, OneServed}
 use Rattle.std.proofs.Common.{slice_index}
-use Rattle.swi_tally.proofs.Crossing.{Crossed}
 use Rattle.swi_tally.proofs.Siding.{back_call, cache_call, crossed_call, linked_call, one_crossed, one_linked, one_moved}
 use Rattle.swi_tally.proofs.tallies.Tallies.cross_by.Goals as goal
 

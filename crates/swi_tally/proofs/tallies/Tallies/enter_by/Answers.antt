@@ -1,8 +1,6 @@
 use Rattle.std.proofs.lemmas.List.{with_items_is}
-use Rattle.std.proofs.Common.{◌≡◌, ◌<◌, ◌∙◌, ℕ, List, length, arith, ap, subst, sym}
-use Rattle.swi_rom.specs.Record.{direct, indirect}
-use Rattle.swi_tally.specs.Exits.{ExitsData}
-use Rattle.swi_tally.specs.Tally.{TallyData}
+use Rattle.std.proofs.Common.{◌∙◌, length, arith, ap, subst, sym}
+use Rattle.swi_rom.specs.Record.{indirect}
 use Rattle.swi_tally.specs.Tallies.{TalliesData, OneMoved, OneServed}
 use Rattle.swi_tally.proofs.Siding.{back_call, cache_call, entered_call, one_entered, one_moved}
 use Rattle.swi_tally.proofs.tallies.Tallies.enter_by.Goals as goal
