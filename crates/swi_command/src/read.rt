@@ -3,7 +3,7 @@
 ghost use Rattle.std.specs.Prelude.{◌≡◌, ◌≤◌, ◌+◌, ◌++◌, ◌%◌, IfSome, IfOk, OnOk, OnErr, Err, Some, None, [], ◌∷◌, length, map, option_map, string_bytes};
 ghost use Rattle.clap.specs.Words.{rows_of, found_of, first_of};
 ghost use Rattle.swi_command.specs.Arguments.{positional_name, form_of_number, flag_name, form_of};
-ghost use Rattle.swi_command.specs.CommandLine.{number_of, number_at, seed_of, count_of, is_set, limits_of, reports_of, options_of, trace_options_of, kind_of, cache_of, cache_with, rate_form, more_places, given_at, shared_files, schedule_of, share_options_of, request_of, IsBlockSize, IsFunctionCount, IsShareCount, IsCacheInRange, IsInRange, IsShareInRange, HasLimitsInRange};
+ghost use Rattle.swi_command.specs.CommandLine.{number_of, number_at, seed_of, count_of, is_set, limits_of, reports_of, options_of, trace_options_of, kind_of, cache_of, cache_with, rate_form, more_places, given_at, shared_files, schedule_of, share_options_of, request_of, sizes_in, sizes_of, AreSizes, IsBlockSize, IsFunctionCount, IsShareCount, IsCacheInRange, IsInRange, IsShareInRange, HasLimitsInRange};
 
 use crate::argument::{Flag, NumberOption, Positional};
 use crate::name::CommandName;
@@ -275,6 +275,40 @@ fn share_options(matches: &ArgMatches<'_>) -> Option<ShareOptions>
     })
 }
 
+/// The sizes that words write, each as `--cache` takes it.
+fn sizes_in(alloc: Global, texts: &[&str]) -> Result<Vec<u32>, CommandError>
+    ensures ok { IfOk result (λ ns. sizes_in (map (λ t. t.now) texts.now) ≡ Some ns.items) }
+    ensures usage { result ≡ Err CommandError.Usage → sizes_in (map (λ t. t.now) texts.now) ≡ None }
+{
+    let rule = NumberOption::Cache.rule();
+    let mut sizes = Vec::new(alloc);
+    for text in texts {
+        let Some(size) = read_number_in(text, rule) else {
+            return Err(CommandError::Usage);
+        };
+        if sizes.push(size as u32).is_err() {
+            return Err(CommandError::Memory);
+        }
+    }
+    Ok(sizes)
+}
+
+/// The sizes of caches, 1 to 64.
+fn sizes(alloc: Global, matches: &ArgMatches<'_>) -> Result<Vec<u32>, CommandError>
+    ensures ok { IfOk result (λ ns. sizes_of (rows_of (found_of matches.now)) ≡ Some ns.items) }
+    ensures usage { result ≡ Err CommandError.Usage → sizes_of (rows_of (found_of matches.now)) ≡ None }
+    ensures ranges { IfOk result (λ ns. AreSizes ns.items) }
+{
+    let Some(texts) = matches.get_strs(Positional::Sizes.name()) else {
+        return Err(CommandError::Usage);
+    };
+    let sizes = sizes_in(alloc, texts)?;
+    if sizes.is_empty() || sizes.len() > 64 {
+        return Err(CommandError::Usage);
+    }
+    Ok(sizes)
+}
+
 /// The events of the engine for each one of the hart.
 fn engine_rate(matches: &ArgMatches<'_>) -> Option<u32>
     ensures value { result ≡ number_of rate_form (rows_of (found_of matches.now)) }
@@ -338,6 +372,13 @@ pub fn command_from(
             files: shared_files(alloc, matches)?,
             cache: cache_with(matches, CacheKind::Slots).ok_or(usage)?,
             options: share_options(matches).ok_or(usage)?,
+        }),
+        CommandName::Survey => Ok(Command::Survey {
+            file: file_name(alloc, matches, Positional::File)?,
+            sizes: sizes(alloc, matches)?,
+            block_words: block_words(matches).ok_or(usage)?,
+            kind: cache_kind(matches),
+            limits: run_limits(matches).ok_or(usage)?,
         }),
         CommandName::Prefetch => Ok(Command::Prefetch {
             file: file_name(alloc, matches, Positional::File)?,
