@@ -1,7 +1,7 @@
 //! A command and its options, read from `clap`'s matches.
 
-ghost use Rattle.std.specs.Prelude.{◌≡◌, ◌≤◌, ◌+◌, ◌++◌, ◌%◌, IfSome, IfOk, OnOk, OnErr, Err, Some, None, [], ◌∷◌, length, map, option_map, string_bytes};
-ghost use Rattle.clap.specs.Words.{rows_of, found_of, first_of};
+ghost use Rattle.std.specs.Prelude.{◌≡◌, ◌<◌, ◌≤◌, ◌^◌, ◌+◌, All, ◌++◌, ◌%◌, IfSome, IfOk, OnOk, OnErr, Err, Some, None, [], ◌∷◌, length, map, option_map, string_bytes};
+ghost use Rattle.clap.specs.Words.{rows_of, found_of, all_of, first_of};
 ghost use Rattle.swi_command.specs.Arguments.{positional_name, form_of_number, flag_name, form_of};
 ghost use Rattle.swi_command.specs.CommandLine.{number_of, number_at, seed_of, count_of, is_set, limits_of, reports_of, options_of, trace_options_of, kind_of, cache_of, cache_with, rate_form, more_places, given_at, shared_files, schedule_of, share_options_of, request_of, sizes_in, sizes_of, AreSizes, IsBlockSize, IsFunctionCount, IsShareCount, IsCacheInRange, IsInRange, IsShareInRange, HasLimitsInRange};
 
@@ -21,6 +21,13 @@ fn value_of<'a>(matches: &ArgMatches<'a>, name: &str) -> Option<&'a str>
     ensures { option_map (λ s. s.now) result ≡ first_of name.now (rows_of (found_of matches.now)) }
 {
     matches.get_str(name)
+}
+
+/// All values that the words give the argument.
+fn values_of<'a, 'b>(matches: &'b ArgMatches<'a>, name: &str) -> Option<&'b [&'a str]>
+    ensures { option_map (λ s. map (λ t. t.now) s.now) result ≡ all_of name.now (rows_of (found_of matches.now)) }
+{
+    matches.get_strs(name)
 }
 
 /// The name of a file.
@@ -279,6 +286,7 @@ fn share_options(matches: &ArgMatches<'_>) -> Option<ShareOptions>
 fn sizes_in(alloc: Global, texts: &[&str]) -> Result<Vec<u32>, CommandError>
     ensures ok { IfOk result (λ ns. sizes_in (map (λ t. t.now) texts.now) ≡ Some ns.items) }
     ensures usage { result ≡ Err CommandError.Usage → sizes_in (map (λ t. t.now) texts.now) ≡ None }
+    ensures ranges { IfOk result (λ ns. All (λ n. (8 ≤ n) × (n < 2 ^ 32)) ns.items) }
 {
     let rule = NumberOption::Cache.rule();
     let mut sizes = Vec::new(alloc);
@@ -299,7 +307,7 @@ fn sizes(alloc: Global, matches: &ArgMatches<'_>) -> Result<Vec<u32>, CommandErr
     ensures usage { result ≡ Err CommandError.Usage → sizes_of (rows_of (found_of matches.now)) ≡ None }
     ensures ranges { IfOk result (λ ns. AreSizes ns.items) }
 {
-    let Some(texts) = matches.get_strs(Positional::Sizes.name()) else {
+    let Some(texts) = values_of(matches, Positional::Sizes.name()) else {
         return Err(CommandError::Usage);
     };
     let sizes = sizes_in(alloc, texts)?;
