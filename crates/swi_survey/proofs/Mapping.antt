@@ -1,5 +1,5 @@
 -- The exits of an image, text word by text word.
-use Rattle.std.proofs.Common.{◌≡◌, ◌⊎◌, ℕ, zero, suc, ◌+◌, ◌-◌, ◌*◌, ◌/◌, ◌%◌, ◌^◌, ◌<◌, ◌≤◌, ◌==◌, ◌&&◌, Bool, true, false, not, List, [], ◌∷◌, ◌++◌, length, slice_index, nat_lt, nat_le, Option, Some, None, if◌then◌else◌, arith, refl, sym, ◌∙◌, ap, subst, inl, inr}
+use Rattle.std.proofs.Common.{◌≡◌, ◌⊎◌, ℕ, zero, suc, ◌+◌, ◌-◌, ◌*◌, ◌/◌, ◌%◌, ◌^◌, ◌<◌, ◌≤◌, ◌==◌, ◌&&◌, Bool, true, false, not, List, [], ◌∷◌, ◌++◌, length, slice_get, slice_index, nat_lt, nat_le, Option, Some, None, if◌then◌else◌, arith, refl, sym, ◌∙◌, ap, subst, inl, inr}
 use Rattle.std.proofs.lemmas.Bool.{cases_Bool, cases_eq, cases_lt, and_parts, eq-eqb, eqb-true, le-leb, lt-ltb, both_ways}
 use Rattle.std.proofs.lemmas.List.{length_push, get_or_append_left, get_or_push}
 use Rattle.swi_isa.specs.Decode.{decoded}
@@ -20,7 +20,7 @@ use Rattle.swi_hart.specs.Hart.{is_place}
 use Rattle.swi_tally.specs.Exits.{AreExits, ExitsData, IsFree, with_exit}
 use Rattle.swi_tally.specs.declared.exits.Exit.{Exit}
 use Rattle.swi_survey.specs.declared.ways.Ways.{Ways}
-use Rattle.swi_survey.specs.Ways.{AllBefore, AreWays, Fits, FitsIf, HasNumber, Joins, exit_behind, exit_if, exit_to, instr_at, is_last, jump_of, number_if, own_exit, own_if, place_behind, with_if}
+use Rattle.swi_survey.specs.Ways.{AllBefore, AreAllWays, AreWays, Fits, FitsIf, HasNumber, Joins, exit_behind, exit_if, exit_to, instr_at, is_last, jump_of, number_if, own_exit, own_if, place_behind, with_if}
 
 same_some : {A : Type 0} (x y : A) → ◌≡◌ {A = Option A} (Some x) (Some y) → x ≡ y
 same_some x y e = cc
@@ -54,6 +54,7 @@ pub record Placed (t : TextData) (v : ImageData) (k : ℕ) (p : ℕ × ℕ) : Ty
   pub most : length_at v p.0 ≤ 1024
   pub goes : falls_of (instr_at t k) ≡ true → GoesOn v (sum (address_of t k) 4) p.0 (p.1 + length (rendering_at t k))
   pub offset : p.1 ≡ offset_in t (start_of v p.0) k
+  pub offset_is : p.1 ≡ slice_index v.offsets k
 
 distance_here : (base k n : ℕ) → base + 4 * n ≤ 2 ^ 32 → k < n → (base + 4 * k + 2 ^ 32 - base) % 2 ^ 32 ≡ 4 * k
 distance_here base k n end within = omega arith
@@ -75,6 +76,7 @@ placed t v k p s i of lt at =
     let index : distance v (address_of t k) / 4 ≡ k = quarter _ k (word_distance t v k s of lt) in
     let own : IsWordOf v p.0 k = subst (λ (n : ℕ). IsWordOf v p.0 n) index (place_lands v i (address_of t k) p.0 p.1 at) in
     let known : p.0 < length v.starts = omega (arith, inside.0, i.blocks) in
+    let offset_of : p.1 ≡ slice_index v.offsets k = ap (λ (q : ℕ × ℕ). q.1) (sym (same_some (place_of_word v k) p (sym (place_found v (address_of t k) k (word_distance t v k s of lt) (omega (arith, lt, of.len))) ∙ at))) in
     record {
       sized = s;
       image = i;
@@ -86,7 +88,8 @@ placed t v k p s i of lt at =
       small = stand_fits v p.0 p.1 (rendering_at t k) there.words;
       most = omega (arith, (i.lengths p.0 known).1, i.most);
       goes = there.behind;
-      offset = ap (λ (q : ℕ × ℕ). q.1) (sym (same_some _ _ (sym (place_found v (address_of t k) k (word_distance t v k s of lt) (omega (arith, lt, of.len))) ∙ at))) ∙ (of.blocks p.0 known).offsets k own.from own.to;
+      offset = offset_of ∙ (of.blocks p.0 known).offsets k own.from own.to;
+      offset_is = offset_of;
     }
 
 -- the exit of a JAL or branch stands before the end of its words
@@ -97,32 +100,29 @@ own_inside (Some (instr.Jal rd off)) w a d target is aligned =
     by (sum a off % 4 == 0) (rd == 0) (eq-eqb _ _ (ap (λ (n : ℕ). n % 4) same ∙ aligned)) at
   where
     by : (u z : Bool) → u ≡ true → (if z then 0 else 2) ≡ d → d < length (jump u z rd (sum a off) a)
-    by true true yes at = omega (arith, at)
-    by true false yes at = omega (arith, at)
-    by false z yes at = absurd cc
+    by true true whole at = omega (arith, at)
+    by true false whole at = omega (arith, at)
+    by false z whole at = absurd cc
 own_inside (Some (instr.Branch op rs1 rs2 off)) w a d target is aligned =
     let at : 1 ≡ d = ap (λ (q : ℕ × ℕ). q.0) (same_some _ _ is) in omega (arith, at)
 own_inside x w a d target is aligned = absurd cc
 
 -- an exit that is there can be added
-abbrev IsExitAt : ImageData → ℕ × ℕ → ℕ → Option Exit → Type 0
-IsExitAt v p a x = x ≡ exit_to v p a
-
 exit_fits : (t : TextData) (v : ImageData) (e : ExitsData) (p : ℕ × ℕ) (a : ℕ) → IsSized t → IsImage v → e.blocks ≡ length v.starts → p.0 < length v.starts → p.1 < 1024 → IsFree e p.0 p.1 → FitsIf e (exit_to v p a)
 exit_fits t v e p a s i blocks known small free = by (place_of v a) refl
   where
     by : (q : Option (ℕ × ℕ)) → place_of v a ≡ q → FitsIf e (exit_if p q)
     by None at = tt
     by (Some q) at = (
-      let inside = place_inside v i a q.0 q.1 at in
-      let led : q.0 < length v.starts = omega (arith, inside.0, i.blocks) in
-      record {
-        block = omega (arith, known, blocks);
-        into = omega (arith, led, blocks);
-        offset = small;
-        at = omega (arith, inside.1, (i.lengths q.0 led).1, i.most);
-        free = free;
-      })
+        let inside = place_inside v i a q.0 q.1 at in
+        let led : q.0 < length v.starts = omega (arith, inside.0, i.blocks) in
+        record {
+          block = omega (arith, known, blocks);
+          into = omega (arith, led, blocks);
+          offset = small;
+          at = omega (arith, inside.1, (i.lengths q.0 led).1, i.most);
+          free = free;
+        })
 
 none_fits : (e : ExitsData) (x : Option Exit) → x ≡ None → FitsIf e x
 none_fits e x is = subst (λ (y : Option Exit). FitsIf e y) (sym is) tt
@@ -145,10 +145,14 @@ own_case t v k p h = by (jump_of (instr_at t k) (address_of t k)) refl
   where
     at : (d a : ℕ) → jump_of (instr_at t k) (address_of t k) ≡ Some (d, a) → (q : Option (ℕ × ℕ)) → place_of v a ≡ q → (own_exit t v k p ≡ None) ⊎ ((d : ℕ) × (a : ℕ) × OwnCase t v k p d a)
     at d a jumps None there = inl (ap (own_if v p) jumps ∙ ap (exit_if (p.0, p.1 + d)) there)
-    at d a jumps (Some q) there = inr (d, a, record {
-      is = ap (own_if v p) jumps;
-      inside = own_inside (instr_at t k) (slice_index t.words k) (address_of t k) d a jumps ((image_carries t v h.sized h.image h.of).aligned a q.0 q.1 there);
-    })
+    at d a jumps (Some q) there = inr (
+      d,
+      a,
+      record {
+        is = ap (own_if v p) jumps;
+        inside = own_inside (instr_at t k) (slice_index t.words k) (address_of t k) d a jumps ((image_carries t v h.sized h.image h.of).aligned a q.0 q.1 there);
+      },
+    )
 
     by : (j : Option (ℕ × ℕ)) → jump_of (instr_at t k) (address_of t k) ≡ j → (own_exit t v k p ≡ None) ⊎ ((d : ℕ) × (a : ℕ) × OwnCase t v k p d a)
     by None jumps = inl (ap (own_if v p) jumps)
@@ -221,8 +225,8 @@ not_true false e = absurd cc
 stands_at : (q : Option (ℕ × ℕ)) (b o : ℕ) → is_place q b o ≡ true → q ≡ Some (b, o)
 stands_at None b o e = absurd cc
 stands_at (Some r) b o e = (
-  let parts = and_parts (r.0 == b) (r.1 == o) e in
-  ap (λ (n : ℕ). Some (n, r.1)) (eqb-true _ _ parts.0) ∙ ap (λ (n : ℕ). Some (b, n)) (eqb-true _ _ parts.1))
+    let parts = and_parts (r.0 == b) (r.1 == o) e in
+    ap (λ (n : ℕ). Some (n, r.1)) (eqb-true _ _ parts.0) ∙ ap (λ (n : ℕ). Some (b, n)) (eqb-true _ _ parts.1))
 
 at_stands : (q : Option (ℕ × ℕ)) (b o : ℕ) → q ≡ Some (b, o) → is_place q b o ≡ true
 at_stands q b o is = ap (λ (r : Option (ℕ × ℕ)). is_place r b o) is ∙ ap (λ (x : Bool). x && o == o) (eq-eqb b b refl) ∙ eq-eqb o o refl
@@ -231,10 +235,10 @@ behind_case : (t : TextData) (v : ImageData) (k : ℕ) (p : ℕ × ℕ) → Plac
 behind_case t v k p h = elim (cases_Bool (is_last t v k p)) [
   | inl last ↦ elim (cases_Bool (falls_of (instr_at t k))) [
     | inl on ↦ inr (record {
-        is = ap (λ (b : Bool). if b then (if falls_of (instr_at t k) then exit_to v (place_behind t k p) (sum (address_of t k) 4) else None) else None) last
-            ∙ ap (λ (b : Bool). if b then exit_to v (place_behind t k p) (sum (address_of t k) 4) else None) on;
-        small = by last (h.goes on);
-      })
+      is = ap (λ (b : Bool). if b then (if falls_of (instr_at t k) then exit_to v (place_behind t k p) (sum (address_of t k) 4) else None) else None) last
+          ∙ ap (λ (b : Bool). if b then exit_to v (place_behind t k p) (sum (address_of t k) 4) else None) on;
+      small = by last (h.goes on);
+    })
     | inr off ↦ inl (ap (λ (b : Bool). if b then (if falls_of (instr_at t k) then exit_to v (place_behind t k p) (sum (address_of t k) 4) else None) else None) last
         ∙ ap (λ (b : Bool). if b then exit_to v (place_behind t k p) (sum (address_of t k) 4) else None) off)
   ]
@@ -330,11 +334,11 @@ number_stays e (Some y) (Some x) (Some n) are has = (
   get_or_append_left e.ats (y.at ∷ []) 0 n (omega (arith, has.0, are.ats_long)) ∙ has.4,
 )
 
-few_more : (e : ExitsData) (x : Option Exit) → length (with_if e x).from ≤ length e.from + 1
+pub few_more : (e : ExitsData) (x : Option Exit) → length (with_if e x).from ≤ length e.from + 1
 few_more e None = omega arith
 few_more e (Some x) = omega (arith, length_push e.from x.block)
 
-same_blocks : (e : ExitsData) (x : Option Exit) → (with_if e x).blocks ≡ e.blocks
+pub same_blocks : (e : ExitsData) (x : Option Exit) → (with_if e x).blocks ≡ e.blocks
 same_blocks e None = refl
 same_blocks e (Some x) = refl
 
@@ -369,3 +373,93 @@ joins t v e f g k p w h are are_f are_g before is is' own behind last = record {
     behind_number =
         subst (λ (n : Option ℕ). HasNumber g (exit_behind t v k p) n) (sym behind)
         (subst (λ (q : ExitsData). HasNumber q (exit_behind t v k p) (number_if f (exit_behind t v k p))) (sym is') (number_here f (exit_behind t v k p) are_f))
+
+-- ---- the calls, as their code meets them
+
+pub behind_none : (t : TextData) (v : ImageData) (k : ℕ) (p : ℕ × ℕ) (last : Bool) → last ≡ is_last t v k p → last ≡ false → None ≡ exit_behind t v k p
+behind_none t v k p last is off =
+    sym (ap (λ (b : Bool). if b then (if falls_of (instr_at t k) then exit_to v (place_behind t k p) (sum (address_of t k) 4) else None) else None) (sym is ∙ off))
+
+falls_here : (t : TextData) (k w : ℕ) → w ≡ slice_index t.words k → falls w ≡ falls_of (instr_at t k)
+unfolding falls
+falls_here t k w is = ap (λ (n : ℕ). falls_of (decoded n)) is
+
+last_then : (t : TextData) (v : ImageData) (k : ℕ) (p : ℕ × ℕ) (last : Bool) → last ≡ is_last t v k p → last ≡ true →
+    exit_behind t v k p ≡ (if falls_of (instr_at t k) then exit_to v (place_behind t k p) (sum (address_of t k) 4) else None)
+last_then t v k p last is on =
+    ap (λ (b : Bool). if b then (if falls_of (instr_at t k) then exit_to v (place_behind t k p) (sum (address_of t k) 4) else None) else None) (sym is ∙ on)
+
+pub behind_stops : (t : TextData) (v : ImageData) (k : ℕ) (p : ℕ × ℕ) (last goes : Bool) (w : ℕ) → last ≡ is_last t v k p → last ≡ true → w ≡ slice_index t.words k → goes ≡ falls w → goes ≡ false → None ≡ exit_behind t v k p
+behind_stops t v k p last goes w is on word at off =
+    sym (last_then t v k p last is on ∙ ap (λ (b : Bool). if b then exit_to v (place_behind t k p) (sum (address_of t k) 4) else None) (sym (falls_here t k w word) ∙ sym at ∙ off))
+
+pub behind_goes : (t : TextData) (v : ImageData) (k : ℕ) (p : ℕ × ℕ) (last goes : Bool) (w len a : ℕ) (x : Option Exit) → last ≡ is_last t v k p → last ≡ true → w ≡ slice_index t.words k → goes ≡ falls w → goes ≡ true →
+    len ≡ length (rendering_at t k) → a ≡ sum (address_of t k) 4 → x ≡ exit_to v (p.0, p.1 + len) a → x ≡ exit_behind t v k p
+behind_goes t v k p last goes w len a x is on word at yes_goes long address made =
+    made ∙ ap (λ (n : ℕ). exit_to v (p.0, p.1 + n) a) long ∙ ap (λ (n : ℕ). exit_to v (place_behind t k p) n) address
+    ∙ sym (last_then t v k p last is on ∙ ap (λ (b : Bool). if b then exit_to v (place_behind t k p) (sum (address_of t k) 4) else None) (sym (falls_here t k w word) ∙ sym at ∙ yes_goes))
+
+pub word_small : (t : TextData) (v : ImageData) (k : ℕ) (p : ℕ × ℕ) → Placed t v k p → p.1 < 1024
+word_small t v k p h = omega (arith, h.own.inside, h.offset_is, h.most)
+
+-- ---- the loop over the text words
+
+pub word_placed : (t : TextData) (v : ImageData) (k : ℕ) → IsSized t → IsImageOf t v → k < length t.words → place_of v (address_of t k) ≡ Some (place_of_word v k)
+word_placed t v k s of lt = place_found v (address_of t k) k (word_distance t v k s of lt) (omega (arith, lt, of.len))
+
+pub record MapSoFar (t : TextData) (v : ImageData) (k : ℕ) (e : ExitsData) (ways : List Ways) : Type 0 where
+  pub are : AreExits e
+  pub blocks : e.blocks ≡ length v.starts
+  pub few : length e.from ≤ 2 * k
+  pub long : length ways ≡ k
+  pub each : (j : ℕ) (w : Ways) → slice_get ways j ≡ Some w → AreWays t v e j w
+  pub before : (p : ℕ × ℕ) → place_of v (address_of t k) ≡ Some p → k < length t.words → AllBefore e p
+
+pub map_first : (t : TextData) (v : ImageData) (e : ExitsData) (blocks : ℕ) → AreExits e → (let n : ExitsData = record { blocks = blocks; from = []; offsets = []; into = []; ats = [] } in e ≡ n) → blocks ≡ length v.starts → MapSoFar t v 0 e []
+map_first t v e blocks are is same = record {
+  are = are;
+  blocks = ap (λ (q : ExitsData). q.blocks) is ∙ same;
+  few = omega (arith, ap (λ (q : ExitsData). length q.from) is);
+  long = refl;
+  each = λ j w at. absurd (no_way j w at);
+  before = λ p at lt x lt'. absurd (omega (arith, lt', ap (λ (q : ExitsData). length q.from) is));
+}
+  where
+    no_way : (j : ℕ) (w : Ways) → slice_get [] j ≡ Some w → ⊥
+    no_way j w at = cc
+
+get_last : (xs : List Ways) (y z : Ways) (j : ℕ) → slice_get (xs ++ y ∷ []) j ≡ Some z → (slice_get xs j ≡ Some z) ⊎ ((j ≡ length xs) × (y ≡ z))
+get_last [] y z zero at = inr (refl, same_some y z at)
+get_last [] y z (suc j) at = absurd cc
+get_last (x ∷ xs) y z zero at = inl at
+get_last (x ∷ xs) y z (suc j) at = elim (get_last xs y z j at) [
+  | inl before ↦ inl before
+  | inr here ↦ inr (omega (arith, here.0), here.1)
+]
+
+ways_stay : (t : TextData) (v : ImageData) (k j : ℕ) (e f : ExitsData) (w z : Ways) → Joins t v k e f w → AreWays t v e j z → AreWays t v f j z
+ways_stay t v k j e f w z joined are = record {
+  own = λ p at. joined.stays (own_exit t v j p) z.own (are.own p at);
+  behind = λ p at. joined.stays (exit_behind t v j p) z.behind (are.behind p at);
+  last = are.last;
+}
+
+pub map_more : (t : TextData) (v : ImageData) (k : ℕ) (e f : ExitsData) (ways : List Ways) (w : Ways) → MapSoFar t v k e ways → Joins t v k e f w → MapSoFar t v (k + 1) f (ways ++ w ∷ [])
+map_more t v k e f ways w so_far joined = record {
+  are = joined.are;
+  blocks = joined.blocks ∙ so_far.blocks;
+  few = omega (arith, joined.few, so_far.few);
+  long = length_push ways w ∙ ap (λ (n : ℕ). n + 1) so_far.long;
+  each = λ j z at. each j z (get_last ways w z j at);
+  before = λ p at lt. joined.before p at lt;
+}
+  where
+    each : (j : ℕ) (z : Ways) → (slice_get ways j ≡ Some z) ⊎ ((j ≡ length ways) × (w ≡ z)) → AreWays t v f j z
+    each j z (inl before) = ways_stay t v k j e f w z joined (so_far.each j z before)
+    each j z (inr here) = subst (λ (n : ℕ). AreWays t v f n z) (sym (here.0 ∙ so_far.long)) (subst (λ (y : Ways). AreWays t v f k y) here.1 joined.ways)
+
+pub map_all : (t : TextData) (v : ImageData) (k : ℕ) (e : ExitsData) (ways : List Ways) → MapSoFar t v k e ways → AreAllWays t v e ways
+map_all t v k e ways so_far = record { blocks = sym so_far.blocks; each = so_far.each }
+
+pub not_there : (t : TextData) (v : ImageData) (k : ℕ) (o : Option (ℕ × ℕ)) → IsSized t → IsImageOf t v → k < length t.words → o ≡ place_of v (address_of t k) → o ≡ None → ⊥
+not_there t v k o s of lt is none = let differs : ◌≡◌ {A = Option (ℕ × ℕ)} None (Some (place_of_word v k)) = sym none ∙ is ∙ word_placed t v k s of lt in cc

@@ -1,8 +1,8 @@
 //! How a step leaves its text word.
 #![tactic(auto)]
 
-ghost use Rattle.std.specs.Prelude.{◌≡◌, ◌==◌, ◌%◌};
-ghost use Rattle.swi_survey.specs.Leaving.{jal_words, leaving_by};
+ghost use Rattle.std.specs.Prelude.{◌≡◌, Some};
+ghost use Rattle.swi_survey.specs.Leaving.{branch_by, jal_words, leaving_by};
 
 use swi_exec::{Regs, takes};
 use swi_isa::Instr;
@@ -26,6 +26,12 @@ pub struct Leaving {
     pub way: Way,
 }
 
+/// A word that is no instruction ends the run.
+pub(crate) const ILLEGAL: Leaving = Leaving {
+    words: 1,
+    way: Way::Away,
+};
+
 /// The words of a JAL from `a` by `off` to register `rd` that are executed: its return address is loaded by two.
 fn jal_words(rd: u32, a: u32, off: u32) -> u32
     ensures { result ≡ jal_words rd a off }
@@ -37,30 +43,46 @@ fn jal_words(rd: u32, a: u32, off: u32) -> u32
     }
 }
 
-/// How the next step leaves the text word at `pc`, an instruction if it is one.
-pub(crate) fn leaving_of(instr: Option<Instr>, regs: &Regs, pc: u32) -> Leaving
-    ensures { result ≡ leaving_by instr regs.now pc }
+/// How a branch leaves its text word: over its exit where it is taken.
+fn branch_leaving(taken: bool) -> Leaving
+    ensures { result ≡ branch_by taken }
 {
-    match instr {
-        None | Some(Instr::Ebreak) | Some(Instr::Jalr { .. }) => Leaving {
+    if taken {
+        Leaving {
+            words: 2,
+            way: Way::Over,
+        }
+    } else {
+        Leaving {
+            words: 1,
+            way: Way::Next,
+        }
+    }
+}
+
+/// How the next step leaves the instruction at `pc`.
+pub(crate) fn leaving_of(instr: &Instr, regs: &Regs, pc: u32) -> Leaving
+    ensures { result ≡ leaving_by (Some instr.now) regs.now pc }
+{
+    match *instr {
+        Instr::Ebreak | Instr::Jalr { .. } => Leaving {
             words: 1,
             way: Way::Away,
         },
-        Some(Instr::Auipc { .. }) => Leaving {
+        Instr::Auipc { .. } => Leaving {
             words: 2,
             way: Way::Next,
         },
-        Some(Instr::Jal { rd, off }) => Leaving {
+        Instr::Jal { rd, off } => Leaving {
             words: jal_words(rd.num(), pc, off),
             way: Way::Over,
         },
-        Some(Instr::Branch { op, rs1, rs2, .. }) if takes(op, regs.get(rs1), regs.get(rs2)) => {
-            Leaving {
-                words: 2,
-                way: Way::Over,
-            }
-        }
-        Some(_) => Leaving {
+        Instr::Branch { op, rs1, rs2, .. } => branch_leaving(takes(
+            op,
+            regs.get(rs1),
+            regs.get(rs2),
+        )),
+        _ => Leaving {
             words: 1,
             way: Way::Next,
         },

@@ -1,7 +1,7 @@
 //! One run, and all caches served by its transfers.
 #![tactic(auto)]
 
-use crate::leaving::{Leaving, Way, leaving_of};
+use crate::leaving::{ILLEGAL, Leaving, Way, leaving_of};
 use crate::ways::{Map, Ways, map_of};
 use std::alloc::Global;
 use swi_calls::{CallFault, End, text_store};
@@ -145,15 +145,15 @@ impl Survey {
         let Here::At(k) = self.here else {
             return Some(Step::Outside);
         };
-        let instr = decode(text.word(k));
-        if let Some(i) = &instr {
-            self.stored = text_store(i, self.flat.regs(), self.flat.bus());
-        }
+        let Some(instr) = decode(text.word(k)) else {
+            return Some(Step::From(k, ILLEGAL));
+        };
+        self.stored = text_store(&instr, self.flat.regs(), self.flat.bus());
         if self.stored.is_some() {
             self.fetches += 1;
             return None;
         }
-        let left = leaving_of(instr, self.flat.regs(), self.flat.pc());
+        let left = leaving_of(&instr, self.flat.regs(), self.flat.pc());
         Some(Step::From(k, left))
     }
 

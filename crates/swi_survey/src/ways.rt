@@ -3,7 +3,8 @@
 
 ghost use Rattle.std.specs.Prelude.{◌≡◌, ◌+◌, ◌*◌, ◌<◌, ◌≤◌, ◌^◌, [], Some, IfOk, length, slice_index};
 ghost use Rattle.swi_image.specs.Place.{place_of};
-ghost use Rattle.swi_isa.specs.Decode.{decoded};
+ghost use Rattle.swi_image.specs.Sound.{IsImage};
+ghost use Rattle.swi_program.specs.Text.{IsSized};
 ghost use Rattle.swi_render.specs.ImageOf.{IsImageOf, address_of};
 ghost use Rattle.swi_tally.specs.Exits.{AreExits};
 ghost use Rattle.swi_survey.specs.Ways.{AllBefore, AreAllWays, AreWays, FitsIf, Joins, exit_behind, exit_to, is_last, jump_of, number_if, own_exit, with_if};
@@ -36,15 +37,15 @@ pub struct Map {
 }
 
 /// How many words behind the first one of its rendering the exit of a JAL or branch at `a` stands, and its target.
-fn jump_of(instr: Option<Instr>, a: u32) -> Option<(u32, u32)>
-    ensures { result ≡ jump_of instr a }
+fn jump_of(instr: &Instr, a: u32) -> Option<(u32, u32)>
+    ensures { result ≡ jump_of (Some instr.now) a }
 {
-    match instr {
-        Some(Instr::Jal { rd, off }) => {
+    match *instr {
+        Instr::Jal { rd, off } => {
             let before = if rd.num() == 0 { 0 } else { 2 };
             Some((before, a.wrapping_add(off)))
         }
-        Some(Instr::Branch { off, .. }) => Some((1, a.wrapping_add(off))),
+        Instr::Branch { off, .. } => Some((1, a.wrapping_add(off))),
         _ => None,
     }
 }
@@ -68,7 +69,8 @@ fn own_exit(image: &ImageView<'_>, text: &TextView<'_>, k: u32, place: (u32, u32
     requires small { place.1 < 1024 }
     ensures { result ≡ own_exit text.now image.now k place }
 {
-    let (before, target) = jump_of(decode(text.word(k)), address_of(text, k))?;
+    let instr = decode(text.word(k))?;
+    let (before, target) = jump_of(&instr, address_of(text, k))?;
     exit_to(image, place.0, place.1 + before, target)
 }
 
@@ -96,8 +98,11 @@ fn exit_behind(
     requires small { place.1 < 1024 }
     ensures { result ≡ exit_behind text.now image.now k place }
 {
+    if !is_last(image, text, k, place) {
+        return None;
+    }
     let a = address_of(text, k);
-    if !is_last(image, text, k, place) || !falls(text.word(k), a) {
+    if !falls(text.word(k), a) {
         return None;
     }
     let len = sizes_of(text, k).len;
@@ -130,6 +135,8 @@ fn with_word(
     k: u32,
     place: (u32, u32),
 ) -> Result<(Exits, Ways), Memory>
+    requires sized { IsSized text.now }
+    requires image { IsImage image.now }
     requires are { AreExits exits }
     requires word { k < length text.now.words }
     requires few { length exits.from ≤ 2 * k }
@@ -153,6 +160,8 @@ pub(crate) fn map_of(
     image: &ImageView<'_>,
     text: &TextView<'_>,
 ) -> Result<Map, Memory>
+    requires sized { IsSized text.now }
+    requires image { IsImage image.now }
     requires own { IsImageOf text.now image.now }
     ensures ways { IfOk result (λ m. AreAllWays text.now image.now m.exits m.ways.items) }
     ensures long { IfOk result (λ m. length m.ways.items ≡ length text.now.words) }
