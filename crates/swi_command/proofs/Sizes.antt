@@ -47,5 +47,5 @@ reading_none texts i t sizes was lt is =
 pub reading_all : (texts : List (Bor Text)) (i : ℕ) (sizes : List ℕ) → Reading texts i sizes → length texts ≤ i → sizes_in (texts_of texts) ≡ Some sizes
 reading_all texts i sizes was past =
     was
-    ∙ ap (λ (ts : List (Bor Text)). option_map (λ (ns : List ℕ). sizes ++ ns) (sizes_in (texts_of ts))) (drop_all texts i past)
+    ∙ ap (λ (ts : List (Bor Text)). option_map (λ (ns : List ℕ). sizes ++ ns) (sizes_in (texts_of ts))) (drop_all i texts past)
     ∙ ap (λ (l : List ℕ). Some l) (append-nil sizes)
