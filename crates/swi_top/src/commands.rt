@@ -19,6 +19,7 @@ use swi_micro::MicroRam;
 use swi_outside::{Shelf, Sink, Source};
 use swi_prefetch_command::prefetch;
 use swi_share_command::share;
+use swi_survey_command::survey;
 
 /// Does what a command asks for, but for its last line on the error sink.
 pub(crate) fn perform<F: Shelf, I: Source, O: Sink, E: Sink, R: MicroRam>(
@@ -104,6 +105,27 @@ pub(crate) fn perform<F: Shelf, I: Source, O: Sink, E: Sink, R: MicroRam>(
             functions,
             cache,
         } => measure(alloc, *seed, *functions, cache, out, ram),
+        Command::Survey {
+            file,
+            sizes,
+            block_words,
+            kind,
+            limits,
+        } => {
+            survey(
+                alloc,
+                file.as_str(),
+                sizes.as_slice(),
+                *block_words,
+                *kind,
+                limits,
+                shelf,
+                input,
+                out,
+                err,
+                ram,
+            )
+        }
         Command::Share {
             files,
             cache,

@@ -1,0 +1,8 @@
+//! One run of a program for many caches: the flat machine, and beside it all caches, served by its transfers.
+#![tactic(auto)]
+
+mod leaving;
+mod survey;
+mod ways;
+
+pub use survey::Survey;
