@@ -1,17 +1,15 @@
 -- Where a run stands in an image beside the flat machine, and what its steps do to caches and counts.
-use Rattle.std.specs.Prelude.{◌≡◌, ◌⊎◌, ℕ, suc, ◌+◌, ◌-◌, ◌*◌, ◌<◌, ◌≤◌, Bool, true, false, List, [], ◌∷◌, ◌++◌, length, slice_get, Option, Some, None, is_some, Result, Ok, Err, IfOk, OnOk, IsErrOf, ⊤, if◌then◌else◌}
+use Rattle.std.specs.Prelude.{◌≡◌, ℕ, suc, ◌+◌, ◌-◌, ◌*◌, ◌^◌, ◌<◌, ◌≤◌, Bool, true, false, List, length, slice_get, Option, Some, None, Result, Err, IfOk, OnOk, IsErrOf, ⊤, if◌then◌else◌}
 use Rattle.std.specs.Io.KnownBytes.{Appends}
 use Rattle.swi_outside.specs.Source.{ForInput, HasGiven}
 use Rattle.swi_outside.specs.Devices.{Devices, HasCauses, faults_of}
 use Rattle.swi_memory.specs.Bus.{fetched}
-use Rattle.swi_isa.specs.declared.instr.Instr.{Instr}
 use Rattle.swi_calls.specs.declared.end.End.{End}
 use Rattle.swi_calls.specs.declared.end.End.TheVariants.{StoreText}
 use Rattle.swi_calls.specs.declared.end.CallFault.{CallFault}
 use Rattle.swi_calls.specs.declared.end.CallFault.TheVariants.{SourceFault, SinkFault}
 use Rattle.swi_calls.specs.declared.machine.Machine.{Machine}
-use Rattle.swi_calls.specs.State.{FlatState}
-use Rattle.swi_calls.specs.StoresText.{instruction_store, next_store}
+use Rattle.swi_calls.specs.StoresText.{instruction_store}
 use Rattle.swi_calls.specs.Flat.{started}
 use Rattle.swi_calls.specs.FirstStore.{StoresAt}
 use Rattle.swi_calls.specs.Held.{held_made, held_run}
@@ -19,22 +17,24 @@ use Rattle.swi_flat.specs.FlatData.{FlatData}
 use Rattle.swi_flat.specs.Ran.{Ran}
 use Rattle.swi_image.specs.Format.{ImageData}
 use Rattle.swi_image.specs.Place.{place_of}
-use Rattle.swi_image.specs.Sound.{IsImage}
-use Rattle.swi_program.specs.Text.{TextData, IsSized, word_of}
+use Rattle.swi_program.specs.Text.{TextData, word_of}
 use Rattle.swi_render.specs.Rendering.{falls_of, sum}
-use Rattle.swi_render.specs.ImageOf.{IsImageOf, address_of}
-use Rattle.swi_rom.specs.Record.{Transfer, indirect}
+use Rattle.swi_render.specs.ImageOf.{address_of}
+use Rattle.swi_rom.specs.Record.{Transfer, direct, indirect}
 use Rattle.swi_board.specs.Transfers.{Here as Place, after_all, at_fall, fall_transfers, here_after, settled, size, step_size, step_transfers, transfers}
 use Rattle.swi_tally.specs.Tally.{policy_of}
-use Rattle.swi_tally.specs.Tallies.{Row, TalliesData, AreServing, row_at}
-use Rattle.swi_survey.specs.declared.leaving.Leaving.{Leaving}
+use Rattle.swi_tally.specs.declared.tallies.Frame.{Frame}
+use Rattle.swi_tally.specs.Tallies.{Row, TalliesData, AllServed, AreServing, first_row, row_at, served_if}
+use Rattle.swi_survey.specs.declared.leaving.Way.{Way}
+use Rattle.swi_survey.specs.declared.leaving.Way.TheVariants as way
 use Rattle.swi_survey.specs.declared.track.Here.{Here}
 use Rattle.swi_survey.specs.declared.track.Here.TheVariants as here
 use Rattle.swi_survey.specs.declared.track.Step.{Step}
 use Rattle.swi_survey.specs.declared.track.Step.TheVariants as step
 use Rattle.swi_survey.specs.declared.track.Track.{Track}
+use Rattle.swi_survey.specs.declared.survey.Surveyed.{Surveyed}
 use Rattle.swi_survey.specs.Leaving.{leaving_by}
-use Rattle.swi_survey.specs.Ways.{AreAllWays, instr_at, is_last, place_behind}
+use Rattle.swi_survey.specs.Ways.{AreAllWays, HasNumber, exit_to, instr_at, is_last, place_behind}
 
 -- ---- where a run stands
 
@@ -76,7 +76,25 @@ StepIs t f (here.At k) step.Outside = ⊥
 StepIs t f (here.Behind k) s = ⊥
 StepIs t f here.Outside s = s ≡ step.Outside
 
+-- a text word is left where the run stands at it
+abbrev pub Leaves : TextData → Here → Step → Type 0
+Leaves t (here.At k) (step.From j left) = (j ≡ k) × (k < length t.words) × (left.words ≤ 3)
+Leaves t here.Outside step.Outside = ⊤
+Leaves t h s = ⊥
+
+-- where the run stands behind a step that left text word k so: at the next word, or at an exit; or where the address leads
+abbrev pub IsBehind : TextData → ℕ → Bool → Way → ℕ → Here → Type 0
+IsBehind t k last way.Next a h = h ≡ (if last then here.Behind k else here.At (suc k))
+IsBehind t k last way.Over a h = StandsAt t a h
+IsBehind t k last way.Away a h = StandsAt t a h
+
 -- ---- what is done beside it
+
+-- caches have served a step that left its text word so, over this exit or to this address
+abbrev pub ServedOn : ImageData → Way → Option ℕ → ℕ → TalliesData → TalliesData → Type 0
+ServedOn v way.Next x a old new = new ≡ old
+ServedOn v way.Over x a old new = (p : ℕ × ℕ) → HasNumber old.exits (exit_to v p a) x → AllServed v (direct p.0 p.1 a) old new
+ServedOn v way.Away x a old new = AllServed v (indirect a) old new
 
 -- a row that has served transfers by its policy
 abbrev pub after_row : ImageData → List Transfer → Option Row → Option Row
@@ -127,6 +145,14 @@ pub record IsStep (t : TextData) (f : Machine) (failed : Bool) (here : Here) (s 
 
 -- ---- a run
 
+-- what a step asks for
+pub record IsReady (t : TextData) (v : ImageData) (k : Track) : Type 0 where
+  pub ways_are : AreAllWays t v k.caches.exits k.ways.items
+  pub long : length k.ways.items ≡ length t.words
+  pub serving : AreServing v (2 ^ 50 - 1) k.caches
+  pub fetches_few : k.fetches < 2 ^ 60
+  pub outside_few : k.outside < 2 ^ 60
+
 -- the caches' exits are those of the text words' ways, and the counts leave room for the steps that are still to come
 pub record Tracks (t : TextData) (v : ImageData) (steps : ℕ) (k : Track) : Type 0 where
   pub ways_are : AreAllWays t v k.caches.exits k.ways.items
@@ -134,6 +160,17 @@ pub record Tracks (t : TextData) (v : ImageData) (steps : ℕ) (k : Track) : Typ
   pub serving : AreServing v (2 * steps + 1) k.caches
   pub fetches_few : k.fetches ≤ 4 * steps
   pub outside_few : k.outside ≤ steps
+
+-- a row before the first step, which the boot has entered
+abbrev pub booted : ImageData → ℕ → Option Frame → Option Row
+booted v pc None = None
+booted v pc (Some f) = served_if v (indirect pc) (Some (first_row f))
+
+-- what is kept before the first step
+pub record Starts (t : TextData) (v : ImageData) (frames : List Frame) (pc : ℕ) (k : Track) : Type 0 where
+  pub tracks : Tracks t v 0 k
+  pub stands : StandsAt t pc k.here
+  pub rows : (j : ℕ) → row_at k.caches j ≡ booted v pc (slice_get frames j)
 
 -- a run before its first step
 pub record Begun (t : TextData) (v : ImageData) (f : FlatData) (k : Track) : Type 0 where
@@ -143,8 +180,6 @@ pub record Begun (t : TextData) (v : ImageData) (f : FlatData) (k : Track) : Typ
   pub text : HasText t f.machine
   pub tracks : Tracks t v 0 k
   pub stands : Stands t v f.machine.pc k.here
-  pub fresh_fetches : k.fetches ≡ 0
-  pub fresh_outside : k.outside ≡ 0
 
 -- how the machine stands where it ended before a store at the address, if there is one
 abbrev pub ending_with : Option ℕ → Option End → Option End
@@ -173,3 +208,14 @@ pub record StepsRan (t : TextData) (v : ImageData) (limit : ℕ) (f new : FlatDa
   pub few : OnOk result (l.fetches + l.outside ≤ 2 ^ 60)
   pub failed : (fault : CallFault) → IsErrOf result fault → BrokeOff limit f.machine new before after fault
   pub causes : HasCauses (faults_of before) (faults_of after) (IsErrOf result SourceFault) (IsErrOf result SinkFault)
+
+-- what is told of it
+abbrev pub told_of : FlatData → Track → Option ℕ → Surveyed
+told_of f k stored = record {
+  ending = ending_with stored f.machine.ending;
+  pc = f.machine.pc;
+  steps = f.machine.steps;
+  instructions = 1 + k.fetches + k.outside;
+  fetches = k.fetches;
+  caches = k.caches;
+}

@@ -100,6 +100,25 @@ fn run_steps<I: Source, O: Sink, E: Sink>(
     Ok(None)
 }
 
+/// What is told of a run.
+fn told(flat: &Flat, track: Track, stored: Option<u32>) -> Surveyed
+    requires { track.fetches + track.outside ≤ 2 ^ 60 }
+    ensures { result ≡ told_of flat.now track stored }
+{
+    let ending = match stored {
+        Some(a) => Some(End::StoreText(a)),
+        None => flat.ending(),
+    };
+    Surveyed {
+        ending,
+        pc: flat.pc(),
+        steps: flat.steps(),
+        instructions: 1 + track.fetches + track.outside,
+        fetches: track.fetches,
+        caches: track.caches,
+    }
+}
+
 /// Runs a program once, as the flat machine, and counts for many caches at once what the cached machine would with each of
 /// them: up to 64 frames, each of which holds a block of the image. As many steps are made as are asked for, at most 2^48, or
 /// fewer where the program ends; the run ends before a step that would store into the text.
@@ -134,9 +153,7 @@ pub fn run_survey<I: Source, O: Sink, E: Sink>(
     let Ok(mut track) = Track::start(alloc, image, &text, frames, flat.pc()) else {
         return Err(SurveyStop::Memory);
     };
-    match run_steps(
-        &mut flat, &mut track, image, &text, limit, input, out, err,
-    ) {
+    match run_steps(&mut flat, &mut track, image, &text, limit, input, out, err) {
         Ok(stored) => Ok(told(&flat, track, stored)),
         Err(fault) => Err(SurveyStop::Fault(fault)),
     }
