@@ -3,6 +3,7 @@
 
 mod leaving;
 mod survey;
+mod track;
 mod ways;
 
-pub use survey::Survey;
+pub use survey::{SurveyStop, Surveyed, run_survey};

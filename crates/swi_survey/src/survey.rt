@@ -1,215 +1,160 @@
-//! One run, and all caches served by its transfers.
+//! One run of the flat machine, and all caches beside it.
 #![tactic(auto)]
 
-use crate::leaving::{ILLEGAL, Leaving, Way, leaving_of};
-use crate::ways::{Map, Ways, map_of};
+ghost use Rattle.std.specs.Prelude.{◌≡◌, ◌<◌, ◌≤◌, ◌^◌, All, None, false, length};
+ghost use Rattle.swi_calls.specs.Flat.{machine_of};
+ghost use Rattle.swi_image.specs.Sound.{IsImage};
+ghost use Rattle.swi_program.specs.Layout.{IsLayoutOf};
+ghost use Rattle.swi_program.specs.Text.{IsSized, text_of};
+ghost use Rattle.swi_render.specs.ImageOf.{IsImageOf};
+ghost use Rattle.swi_tally.specs.Tallies.{IsFrame};
+ghost use Rattle.swi_survey.specs.Survey.{SurveyRan};
+ghost use Rattle.swi_survey.specs.Track.{Begun, StandsAt, StepIs, StepsRan, Tracks};
+
+use crate::leaving::{ILLEGAL, leaving_of};
+use crate::track::{Here, Step, Track};
 use std::alloc::Global;
 use swi_calls::{CallFault, End, text_store};
 use swi_flat::Flat;
 use swi_image::ImageView;
 use swi_isa::decode;
 use swi_memory::Layout;
-use swi_outside::{Memory, Sink, Source};
+use swi_outside::{Sink, Source};
 use swi_program::{Program, TextView};
-use swi_rom::Counts;
 use swi_tally::{Frame, Tallies};
 
-/// Where a run stands.
-#[derive(Clone, Copy, Debug, PartialEq, Eq)]
-enum Here {
-    /// At the text word with a number.
-    At(u32),
-    /// At the exit behind the text word with a number, the last of its block.
-    Behind(u32),
-    /// Where no text word stands.
-    Outside,
-}
-
-/// A run of a program for many caches of one image.
+/// What a survey tells of its run, and its caches.
 #[derive(Drop)]
-pub struct Survey {
-    flat: Flat,
-    ways: Vec<Ways>,
-    caches: Tallies,
-    here: Here,
-    // Words fetched, and steps where no text word stands.
-    fetches: u64,
-    outside: u64,
-    // Where the next step would store into the text.
-    stored: Option<u32>,
-}
-
-/// A step that comes next.
-#[derive(Clone, Copy, Debug, PartialEq, Eq)]
-enum Step {
-    /// From the text word with a number.
-    From(u32, Leaving),
-    /// Where no text word stands.
-    Outside,
-}
-
-/// Where a run stands behind text word `k`.
-fn behind_word(k: u32, ways: Ways) -> Here {
-    if ways.last {
-        Here::Behind(k)
-    } else {
-        Here::At(k + 1)
-    }
-}
-
-/// Where a run at an address stands.
-fn here_at(text: &TextView<'_>, a: u32) -> Here {
-    let distance = a.wrapping_sub(text.base());
-    let k = distance / 4;
-    if distance % 4 == 0 && k < text.len() {
-        Here::At(k)
-    } else {
-        Here::Outside
-    }
-}
-
-impl Survey {
-    /// A program before its first step, and caches of these frames that have entered the block of its first instruction.
-    /// Memory is the only error.
-    pub fn start(
-        alloc: Global,
-        image: &ImageView<'_>,
-        program: &Program<'_>,
-        layout: &Layout,
-        frames: &[Frame],
-    ) -> Result<Survey, Memory> {
-        let text = program.text();
-        let Map { exits, ways } = map_of(alloc, image, &text)?;
-        let mut caches = Tallies::new(alloc, image.blocks(), exits, frames)?;
-        let flat = Flat::start(alloc, program, layout, false)?;
-        if let Some((block, _)) = image.place(flat.pc()) {
-            caches.enter(image, block);
-        }
-        let here = here_at(&text, flat.pc());
-        Ok(Survey {
-            flat,
-            ways,
-            caches,
-            here,
-            fetches: 0,
-            outside: 0,
-            stored: None,
-        })
-    }
-
-    /// How the run has ended; None while it goes on.
-    pub fn ending(&self) -> Option<End> {
-        match self.stored {
-            Some(a) => Some(End::StoreText(a)),
-            None => self.flat.ending(),
-        }
-    }
-
+pub struct Surveyed {
+    /// How the run ended; None where the most steps were made first.
+    pub ending: Option<End>,
     /// The address of the next instruction, or of the one that ended the run.
-    pub fn pc(&self) -> u32 {
-        self.flat.pc()
-    }
-
+    pub pc: u32,
     /// The number of steps made.
-    pub fn steps(&self) -> u64 {
-        self.flat.steps()
-    }
+    pub steps: u64,
+    /// How many machine instructions the cached machine makes for them, the boot included.
+    pub instructions: u64,
+    /// How many words it fetches.
+    pub fetches: u64,
+    /// What each cache has counted, in the order of the frames.
+    pub caches: Tallies,
+}
 
-    /// How many machine instructions were made, the boot included.
-    pub fn instructions(&self) -> u64 {
-        1 + self.fetches + self.outside
-    }
+/// What stops a survey.
+#[derive(Clone, Copy, Debug, PartialEq, Eq)]
+pub enum SurveyStop {
+    /// Memory was refused, before the first call of a device: nothing has changed.
+    Memory,
+    /// A device failed.
+    Fault(CallFault),
+}
 
-    /// How many words were fetched.
-    pub fn fetches(&self) -> u64 {
-        self.fetches
+/// How the next step leaves the place where the run stands.
+fn next_step(flat: &Flat, here: Here, text: &TextView<'_>) -> Step
+    requires { StandsAt text.now flat.now.machine.pc here }
+    ensures { StepIs text.now flat.now.machine here result }
+{
+    let Here::At(k) = here else {
+        return Step::Outside;
+    };
+    let Some(instr) = decode(text.word(k)) else {
+        return Step::From(k, ILLEGAL);
+    };
+    match text_store(&instr, flat.regs(), flat.bus()) {
+        Some(a) => Step::Store(a),
+        None => Step::From(k, leaving_of(&instr, flat.regs(), flat.pc())),
     }
+}
 
-    /// What the k-th cache has counted.
-    pub fn counts(&self, k: u32) -> Counts {
-        self.caches.counts(k)
-    }
-
-    // The exit behind a block's last text word is made, where the run stands at one.
-    fn settle(&mut self, image: &ImageView<'_>, text: &TextView<'_>) {
-        let Here::Behind(k) = self.here else { return };
-        if let Some(x) = self.ways[k as usize].behind {
-            self.caches.cross(image, x);
+/// Steps up to `limit`, and all caches follow. It gives the address at which the next step would store into the text, before
+/// which the run ends.
+fn run_steps<I: Source, O: Sink, E: Sink>(
+    flat: &mut Flat,
+    track: &mut Track,
+    image: &ImageView<'_>,
+    text: &TextView<'_>,
+    limit: u64,
+    input: &mut I,
+    out: &mut O,
+    err: &mut E,
+) -> Result<Option<u32>, CallFault>
+    requires sized { IsSized text.now }
+    requires image { IsImage image.now }
+    requires own { IsImageOf text.now image.now }
+    requires begun { Begun text.now image.now flat.old track.old }
+    requires few { limit ≤ 2 ^ 48 }
+    ensures { StepsRan text.now image.now limit flat.old flat.new track.old track.new
+        (record { input = I.state input.old; output = O.state out.old; error = E.state err.old })
+        (record { input = I.state input.new; output = O.state out.new; error = E.state err.new }) result }
+{
+    while flat.steps() < limit && flat.ending().is_none() {
+        track.settle(image, text, flat.pc());
+        let step = next_step(flat, track.here, text);
+        if let Step::Store(a) = step {
+            track.fetches += 1;
+            return Ok(Some(a));
         }
-        self.fetches += 1;
-        self.here = here_at(text, self.flat.pc());
+        flat.step(input, out, err)?;
+        track.follow(image, text, step, flat.pc(), flat.ending().is_some());
     }
+    Ok(None)
+}
 
-    // How the next step leaves the text word where the run stands; None where it would store into the text, and the run ends.
-    fn leave(&mut self, text: &TextView<'_>) -> Option<Step> {
-        let Here::At(k) = self.here else {
-            return Some(Step::Outside);
-        };
-        let Some(instr) = decode(text.word(k)) else {
-            return Some(Step::From(k, ILLEGAL));
-        };
-        self.stored = text_store(&instr, self.flat.regs(), self.flat.bus());
-        if self.stored.is_some() {
-            self.fetches += 1;
-            return None;
-        }
-        let left = leaving_of(&instr, self.flat.regs(), self.flat.pc());
-        Some(Step::From(k, left))
+/// What is told of a run.
+fn told(flat: &Flat, track: Track, stored: Option<u32>) -> Surveyed
+    requires { track.fetches + track.outside ≤ 2 ^ 60 }
+    ensures { result ≡ told_of flat.now track stored }
+{
+    let ending = match stored {
+        Some(a) => Some(End::StoreText(a)),
+        None => flat.ending(),
+    };
+    Surveyed {
+        ending,
+        pc: flat.pc(),
+        steps: flat.steps(),
+        instructions: 1 + track.fetches + track.outside,
+        fetches: track.fetches,
+        caches: track.caches,
     }
+}
 
-    // All caches follow a step that was made.
-    fn follow(&mut self, image: &ImageView<'_>, text: &TextView<'_>, step: Step) {
-        match step {
-            Step::Outside => self.outside += 1,
-            Step::From(k, left) => {
-                self.fetches += u64::from(left.words);
-                self.go(image, text, k, left.way);
-            }
-        }
-    }
-
-    // They follow it from text word `k` on its way.
-    fn go(&mut self, image: &ImageView<'_>, text: &TextView<'_>, k: u32, way: Way) {
-        let ways = self.ways[k as usize];
-        if way == Way::Next {
-            self.here = behind_word(k, ways);
-            return;
-        }
-        let pc = self.flat.pc();
-        self.here = here_at(text, pc);
-        if self.flat.ending().is_none() {
-            self.jump(image, ways.own, way, pc);
-        }
-    }
-
-    // They follow a jump to an address.
-    fn jump(&mut self, image: &ImageView<'_>, own: Option<u32>, way: Way, a: u32) {
-        if way == Way::Over {
-            if let Some(x) = own {
-                self.caches.cross(image, x);
-            }
-        } else if let Some((block, _)) = image.place(a) {
-            self.caches.enter(image, block);
-        }
-    }
-
-    /// Steps until `limit` steps are made since the start, or the run has ended, or a device fails.
-    pub fn run<I: Source, O: Sink, E: Sink>(
-        &mut self,
-        image: &ImageView<'_>,
-        text: &TextView<'_>,
-        limit: u64,
-        input: &mut I,
-        out: &mut O,
-        err: &mut E,
-    ) -> Result<(), CallFault> {
-        while self.flat.steps() < limit && self.ending().is_none() {
-            self.settle(image, text);
-            if let Some(step) = self.leave(text) {
-                self.flat.step(input, out, err)?;
-                self.follow(image, text, step);
-            }
-        }
-        Ok(())
+/// Runs a program once, as the flat machine, and counts for many caches at once what the cached machine would with each of
+/// them: up to 64 frames, each of which holds a block of the image. As many steps are made as are asked for, at most 2^48, or
+/// fewer where the program ends; the run ends before a step that would store into the text.
+///
+/// The image is one of the program's text, and the layout is the program's. All memory is taken before the first call of a
+/// device; after `Memory` nothing has changed. After a fault the sinks hold what the steps made have written, and a front of
+/// what the step that failed writes; of the input no more is gone than they took, and a front of what that step takes.
+pub fn run_survey<I: Source, O: Sink, E: Sink>(
+    alloc: Global,
+    image: &ImageView<'_>,
+    program: &Program<'_>,
+    layout: &Layout,
+    frames: &[Frame],
+    limit: u64,
+    input: &mut I,
+    out: &mut O,
+    err: &mut E,
+) -> Result<Surveyed, SurveyStop>
+    requires laid_out { IsLayoutOf program.now.segments layout.now }
+    requires own { IsImageOf (text_of program.now.segments) image.now }
+    requires caches { length frames.now ≤ 64 }
+    requires frames { All (IsFrame image.now.block_words) frames.now }
+    requires limit { limit ≤ 2 ^ 48 }
+    ensures { SurveyRan (record { image = image.now; frames = frames.now; first = machine_of program.now layout.now false; limit = limit })
+        (record { input = I.state input.old; output = O.state out.old; error = E.state err.old })
+        (record { input = I.state input.new; output = O.state out.new; error = E.state err.new }) result }
+{
+    let text = program.text();
+    let Ok(mut flat) = Flat::start(alloc, program, layout, false) else {
+        return Err(SurveyStop::Memory);
+    };
+    let Ok(mut track) = Track::start(alloc, image, &text, frames, flat.pc()) else {
+        return Err(SurveyStop::Memory);
+    };
+    match run_steps(&mut flat, &mut track, image, &text, limit, input, out, err) {
+        Ok(stored) => Ok(told(&flat, track, stored)),
+        Err(fault) => Err(SurveyStop::Fault(fault)),
     }
 }
