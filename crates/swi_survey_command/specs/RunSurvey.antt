@@ -1,5 +1,5 @@
 -- The command `survey`: one run of a program, and the counts of many caches.
-use Rattle.std.specs.Prelude.{◌≡◌, ◌⊎◌, ℕ, ◌*◌, ◌≤◌, List, [], ◌∷◌, ◌++◌, map, codes, decimal, true, false, Some, None, Result, Ok, IfOk, IfErr, ⊤}
+use Rattle.std.specs.Prelude.{◌≡◌, ◌⊎◌, ℕ, ◌*◌, ◌≤◌, List, [], ◌∷◌, map, true, false, Some, None, Result, Ok, IfOk, IfErr, ⊤}
 use Rattle.std.specs.List.{flat_map}
 use Rattle.swi_elf_read.specs.Loaded.{image_of as image_in}
 use Rattle.swi_memory.specs.declared.layout.Layout.{Layout}
@@ -13,11 +13,15 @@ use Rattle.swi_trace.specs.declared.trace.Trace.TheVariants as trace
 use Rattle.swi_calls.specs.State.{FlatState}
 use Rattle.swi_calls.specs.Flat.{flat_start}
 use Rattle.swi_calls.specs.Held.{held_run}
-use Rattle.swi_report.specs.declared.stats.Work.{Work}
-use Rattle.swi_report.specs.Stats.{work_counts}
+use Rattle.swi_calls.specs.declared.end.CallFault.TheVariants as call
+use Rattle.swi_flat.specs.FlatData.{next_made}
+use Rattle.swi_survey.specs.declared.survey.SurveyStop.{SurveyStop}
+use Rattle.swi_survey.specs.declared.survey.SurveyStop.TheVariants as stop
+use Rattle.swi_file_commands.specs.RunPlain.{read_room_of}
 use Rattle.swi_cached.specs.Cached.{CachedRun, IsFlatRun, StopsBeforeStore, end_of}
 use Rattle.swi_answer.specs.declared.answer.Ending.{Ending}
 use Rattle.swi_answer.specs.declared.answer.Refusal.{Refusal}
+use Rattle.swi_answer.specs.declared.answer.Refusal.TheVariants as refusal
 use Rattle.swi_task.specs.Answers.{IsRunFault}
 use Rattle.swi_task.specs.Causes.{HasCauses}
 use Rattle.swi_task.specs.Checks.{CountedFor, Check, IsShort, IsAcceptedElf, HasRoom, IsAcceptedImage, IsOwnImage, FitsUnlessImage, HoldsBlock, block_words, room_in}
@@ -27,7 +31,8 @@ use Rattle.swi_task.specs.Subject.{IsImageFor, IsSubject}
 use Rattle.swi_task.specs.Task.{Task}
 use Rattle.swi_cached_command.specs.declared.command.Placed.{Placed}
 use Rattle.swi_cached_command.specs.Caching.{cache_by, work_of}
-use Rattle.swi_cached_command.specs.RunCached.{IsRunErr, cached_run, held_next, held_taken}
+use Rattle.swi_survey_command.specs.Rows.{size_line}
+use Rattle.swi_cached_command.specs.RunCached.{IsRunErr, cached_run}
 
 -- what `cached --stats` is asked for, with these limits
 abbrev pub counting : RunLimits → RunOptions
@@ -47,19 +52,7 @@ run_through r bytes = cached_run (cache_by r.kind bytes r.image) (counting r.lim
 
 -- ---- what is written
 
--- a number behind a space
-abbrev pub spaced : ℕ → List ℕ
-spaced n = codes " " ++ decimal n
-
--- the numbers of `--stats`, in their order
-abbrev pub stats_numbers : ℕ → Work → List ℕ
-stats_numbers steps w = steps ∷ map (λ c. c.1) (work_counts w)
-
--- the line of a cache: its size, and behind it the numbers of `--stats`
-abbrev pub size_line : ℕ → ℕ → Work → List ℕ
-size_line bytes steps w = decimal bytes ++ (flat_map spaced (stats_numbers steps w) ++ codes "\n")
-
--- that of a cache of so many bytes: what `cached --stats` counts with it
+-- the line of a cache of so many bytes: what `cached --stats` counts with it
 abbrev pub line_through : SurveyRun → ℕ → List ℕ
 line_through r bytes = size_line bytes (end_of (run_through r bytes)).machine.steps (work_of (run_through r bytes))
 
@@ -85,9 +78,13 @@ pub record Surveys (r : SurveyRun) (before after : Devices) (e : Ending) (last :
   pub stops : (bytes : ℕ) → StopsBeforeStore (run_through r bytes)
 
 -- a source or a sink failed, in the run or behind it
+abbrev pub SurveyBroke : SurveyRun → Devices → Devices → Refusal → List ℕ → Type 0
+SurveyBroke r before after f last =
+    FailedAtStep (surveyed r) (λ s. s.error) next_made read_room_of (limit_of r) before after f last
+    ⊎ FailedAfterRun (surveyed r (limit_of r)) (survey_lines r) [] before after f last
+
 pub record SurveyFailed (r : SurveyRun) (before after : Devices) (f : Refusal) (last : List ℕ) : Type 0 where
-  pub broke : FailedAtStep (surveyed r) (λ s. s.error) held_next held_taken (limit_of r) before after f last
-      ⊎ FailedAfterRun (surveyed r (limit_of r)) (survey_lines r) [] before after f last
+  pub broke : SurveyBroke r before after f last
   -- the run so far is the flat machine's, as above
   pub flat : (bytes : ℕ) → IsFlatRun (run_through r bytes)
   pub stops : (bytes : ℕ) → StopsBeforeStore (run_through r bytes)
@@ -125,11 +122,17 @@ survey_task name sizes block kind limits = record {
 
 -- ---- as its functions say it
 
+-- what a survey is refused with that stopped so
+abbrev pub refusal_of : SurveyStop → Refusal
+refusal_of stop.Memory = refusal.Memory
+refusal_of (stop.Fault call.SourceFault) = refusal.SourceFault
+refusal_of (stop.Fault call.SinkFault) = refusal.SinkFault
+
 -- the survey of a program with this input
 abbrev pub survey_from : CacheKind → List ℕ → RunLimits → ImageData → ProgramData → Layout → List ℕ → SurveyRun
 survey_from kind sizes limits v p l input = record { image = v; kind = kind; sizes = sizes; limits = limits; start = flat_start p l false input }
 
--- what one does: it comes to its end, or a device fails in it or behind it; or there was no memory
+-- what it does: it comes to its end, or a device fails in it or behind it; or there was no memory
 pub record SurveysOver (r : List ℕ → SurveyRun) (before after : Devices) (result : Result Ending Refusal) : Type 0 where
   pub done : IfOk result (λ e. (input : List ℕ) → before.input.left ≡ Some input → Surveys (r input) before after e [])
   pub refused : IfErr result IsRunErr
