@@ -219,10 +219,14 @@ fn run_placed<I: Source, O: Sink, E: Sink>(
     }
 }
 
-/// Runs the program of a file once for 1 to 64 caches of one kind and one cut, in blocks of at most so many words, and writes
-/// behind the program's own bytes a line for each size, in their order: the size in bytes, and what `cached --stats` counts
-/// with it. The caches need no ram; that they are refused that have no room in it, is so that a survey tells of no run that
-/// `cached` would not make.
+/// Runs the program of a file once for 1 to 64 caches of one kind, in bytes 8 to 2^32 - 1 each, over one image: the file's
+/// own, or the greedy cut into blocks of at most so many words, 2 to 1024. Behind the program's own bytes it writes a line
+/// for each size, in their order: the size, and what `cached --stats` counts with it.
+///
+/// The first size that is too large, or larger than the ram, is refused by CacheLarge or RamSmall before the file is read;
+/// then the file by the first check that it fails; then by CacheSmall the first size that holds no block. The ram itself is
+/// not used: a survey tells of no run that `cached` would not make. After SourceFault or SinkFault the sinks hold what the
+/// steps made have written, and a front of what comes next; any other refusal, Memory too, leaves input and output alone.
 pub fn survey<F: Shelf, I: Source, O: Sink, E: Sink, R: CacheRam>(
     alloc: Global,
     name: &str,

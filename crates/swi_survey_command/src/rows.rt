@@ -92,12 +92,8 @@ pub(crate) fn write_rows<O: Sink>(
         (flat_map (λ bytes. size_line bytes surveyed.now.steps (work bytes)) sizes.now) }
 {
     for k in 0..surveyed.caches.len() {
-        write_row(
-            sizes[k as usize],
-            surveyed.steps,
-            &work_of(surveyed, k),
-            out,
-        )?;
+        let work = work_of(surveyed, k);
+        write_row(sizes[k as usize], surveyed.steps, &work, out)?;
     }
     Ok(())
 }
