@@ -105,6 +105,20 @@ pub(crate) fn perform<F: Shelf, I: Source, O: Sink, E: Sink, R: MicroRam>(
             functions,
             cache,
         } => measure(alloc, *seed, *functions, cache, out, ram),
+        Command::Share {
+            files,
+            cache,
+            options,
+        } => share(
+            alloc,
+            files.as_slice(),
+            cache,
+            options,
+            shelf,
+            out,
+            err,
+            ram,
+        ),
         Command::Survey {
             file,
             sizes,
@@ -126,19 +140,5 @@ pub(crate) fn perform<F: Shelf, I: Source, O: Sink, E: Sink, R: MicroRam>(
                 ram,
             )
         }
-        Command::Share {
-            files,
-            cache,
-            options,
-        } => share(
-            alloc,
-            files.as_slice(),
-            cache,
-            options,
-            shelf,
-            out,
-            err,
-            ram,
-        ),
     }
 }
