@@ -13,9 +13,10 @@ use Rattle.swi_command.specs.declared.command.RunLimits.{RunLimits}
 use Rattle.swi_answer.specs.declared.answer.Refusal.{Refusal}
 use Rattle.swi_tally.specs.declared.tally.Placing.TheVariants as placing
 use Rattle.swi_tally.specs.Tallies.{IsFrame}
-use Rattle.swi_task.specs.Checks.{Check, HoldsBlock, Fails, IsAccepted, IsRefusedBy, block_words, first_size_refusal, size_refusal}
+use Rattle.swi_task.specs.Checks.{Check, HoldsBlock, Fails, IsAccepted, IsRefusedBy, block_words, file_limit, first_size_refusal, size_refusal}
 use Rattle.swi_task.specs.Subject.{IsImageFor}
 use Rattle.swi_task.proofs.Images.{size_is}
+use Rattle.swi_task.proofs.Refusals.{AreShort}
 use Rattle.swi_survey_command.specs.Frames.{AreHeld, frame_by}
 use Rattle.swi_survey_command.specs.RunSurvey.{hold_block, survey_checks}
 
@@ -80,3 +81,13 @@ frame_is kind.Ring words bytes some few h = record {
 
 pub are_frames : (k : CacheKind) (words : ℕ) (sizes : List ℕ) → 2 ≤ words → words ≤ 1024 → AreHeld words sizes → All (IsFrame words) (map (frame_by k words) sizes)
 are_frames k words sizes some few held = All-map (IsFrame words) (frame_by k words) sizes (λ i d lt. frame_is k words _ some few (held i d lt))
+
+-- ---- the lengths that are checked
+
+holds_short : (sizes : List ℕ) (least : ℕ) → AreShort (hold_block sizes least)
+holds_short [] least = tt
+holds_short (bytes ∷ sizes) least = holds_short sizes least
+
+-- are those of the file
+pub are_short : (limits : RunLimits) (sizes : List ℕ) (block : ℕ) (file : List ℕ) → length file ≤ file_limit → AreShort (survey_checks limits sizes block file)
+are_short limits sizes block file within = (within, holds_short sizes (4 * block_words (image_in file) block))

@@ -9,6 +9,7 @@ use Rattle.swi_outside.specs.Shelf.{ShelfState}
 use Rattle.swi_outside.specs.Sink.{AppendsPrefix, SinkState}
 use Rattle.swi_outside.specs.Source.{ReadFrom, SourceState}
 use Rattle.swi_outside.specs.Told.{told_as}
+use Rattle.swi_outside.proofs.SourceLemmas.{rest_is}
 use Rattle.swi_elf_read.specs.Loaded.{image_of as image_in}
 use Rattle.swi_memory.specs.declared.layout.Layout.{Layout}
 use Rattle.swi_program.specs.Program.{ProgramData}
@@ -205,6 +206,21 @@ run_broke k sizes limits v p l d i j o n e f x input rest read h =
           (broke_at (survey_from k sizes limits v p l input) (flat_start p l false input) h.left before after x input refl refl refl refl ran (h.unstored input rest read)));
       causes = subst (λ (y : Refusal). HasCauses before after (Err y)) (same_refusal x) (run_causes {T = Unit {0}} {U = Ending} x before (told_as j rest) n f ran.causes);
     }
+
+-- without memory nothing has changed
+memory_run : (r : List ℕ → SurveyRun) (d : Devices) (i : SourceState) (o e : SinkState) (input rest : List ℕ) (after : outside.Devices) → after ≡ streams i o e → ReadFrom i after.input input rest →
+    SurveysOver r (run_to d (told_as i input) o e) (run_to d (told_as after.input rest) after.output after.error) (Err refusal.Memory)
+memory_run r d i o e input rest after same read =
+    let before : Devices = run_to d (told_as i input) o e in
+    subst (λ (y : outside.Devices). ReadFrom i y.input input rest → SurveysOver r before (run_to d (told_as y.input rest) y.output y.error) (Err refusal.Memory)) (sym same)
+    (λ read. subst (λ (l : List ℕ). SurveysOver r before (run_to d (told_as i l) o e) (Err refusal.Memory)) (sym (rest_is read)) (no_memory r before)) read
+
+-- either way
+pub run_stopped : (k : CacheKind) (sizes : List ℕ) (limits : RunLimits) (v : ImageData) (p : ProgramData) (l : Layout) (d : Devices) (i j : SourceState) (o n e f : SinkState) (x : SurveyStop) (input rest : List ℕ) →
+    ReadFrom i j input rest → survey.SurveyRan (run_as k sizes limits v p l) (streams i o e) (streams j n f) (Err x) →
+    SurveysOver (survey_from k sizes limits v p l) (run_to d (told_as i input) o e) (run_to d (told_as j rest) n f) (Err (refusal_of x))
+run_stopped k sizes limits v p l d i j o n e f stop.Memory input rest read h = memory_run (survey_from k sizes limits v p l) d i o e input rest (streams j n f) (h.memory refl) read
+run_stopped k sizes limits v p l d i j o n e f (stop.Fault x) input rest read h = run_broke k sizes limits v p l d i j o n e f x input rest read (h.failed x refl)
 
 -- ---- the whole answer
 
