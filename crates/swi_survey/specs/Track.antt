@@ -129,6 +129,7 @@ pub record Settles (t : TextData) (v : ImageData) (f : Machine) (old new : Track
 pub record Follows (t : TextData) (v : ImageData) (f next : Machine) (old new : Track) : Type 0 where
   pub moves : Moves t v (step_transfers f (place_at t v old.here) next) (here_after v f (place_at t v old.here) next)
       (step_size 0 f (place_at t v old.here)) (unfetched_at (place_at t v old.here)) old new
+  pub few : new.fetches ≤ old.fetches + 3
   pub stands : next.ending ≡ None → Stands t v next.pc new.here
 
 -- the memory's text is this one
