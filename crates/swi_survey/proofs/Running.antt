@@ -28,6 +28,7 @@ use Rattle.swi_flat.specs.Laws.{flat_run_sum}
 use Rattle.swi_flat.proofs.Runs.{Going, SoFar, going_first, going_on, ran_broken}
 use Rattle.swi_image.specs.Format.{ImageData}
 use Rattle.swi_program.specs.Text.{TextData, word_of}
+use Rattle.swi_render.specs.Rendering.{Slot}
 use Rattle.swi_render.specs.ImageOf.{address_of}
 use Rattle.swi_rom.specs.Record.{Transfer}
 use Rattle.swi_hart.specs.declared.hart.Control.TheVariants.{Outside}
@@ -46,7 +47,7 @@ use Rattle.swi_survey.specs.declared.ways.Ways.{Ways}
 use Rattle.swi_survey.specs.Ways.{AreAllWays, instr_at}
 use Rattle.swi_survey.specs.Track.{AllAfter, Begun, BrokeOff, CameTo, Follows, HasText, IsReady, IsStep, Leaves, Moves, Settles, Stands, StandsAt, StepIs, StepsRan, Tracks, after_row, place_at, unfetched_at}
 use Rattle.swi_survey.proofs.Places.{Ground, at_word, some_place}
-use Rattle.swi_survey.proofs.Rows.{after_more, serving_more}
+use Rattle.swi_survey.proofs.Rows.{after_more, after_none, serving_more}
 use Rattle.swi_survey.proofs.Stepping.{stores_alone, words_are, words_few}
 
 -- With this input: what is still to come, from where the first n steps have brought the run, is what is asked of the whole.
@@ -57,6 +58,10 @@ pub record ToCome (t : TextData) (v : ImageData) (limit : ℕ) (first : Machine)
   pub rows : (j : ℕ) → after_row v (transfers v (limit - n) (state_at n first input) (place_at t v now.here)) (row_at now.caches j)
       ≡ after_row v (transfers v limit (started first input) (place_at t v k.here)) (row_at k.caches j)
   pub unstored : (j : ℕ) → j < n - first.steps → StoresAt (started first input) j → ⊥
+
+and_off : (b : Bool) → (b && false) ≡ false
+and_off true = refl
+and_off false = refl
 
 -- a run that goes on
 pub record Running (t : TextData) (v : ImageData) (limit : ℕ) (first : FlatData) (k : Track) (f : FlatData) (now : Track) (d e : Devices) : Type 0 where
@@ -369,3 +374,131 @@ module _ {t : TextData} {v : ImageData} {limit : ℕ} {first : FlatData} {k : Tr
 
       whole : (input rest : List ℕ) (r : ReadFrom d.input e.input input rest) → held_run limit (started first.machine input) ≡ record { machine = f.machine; input = rest; output = (h.going.so_far input rest r).output; error = (h.going.so_far input rest r).error }
       whole input rest r = sym (h.come input rest r).ends ∙ (rest_none (limit - f.machine.steps) (state input rest r) (ends_so over input rest r)).0 ∙ state_is input rest r
+
+  -- the next step would store into the text at an address: the run ends before it
+  module _ (mid : Track) (a j : ℕ) (ground : Ground t v) (fewer : f.machine.steps < limit) (on : f.machine.ending ≡ None) (settles : Settles t v f.machine now mid)
+      (at : mid.here ≡ here.At j) (stands : StandsAt t f.machine.pc (here.At j)) (is : instruction_store f.machine (instr_at t j) ≡ Some a) where
+    stores : next_store f.machine ≡ Some a
+    stores = ap (λ (o : Option ℕ). word_store f.machine o) (at_word t f.machine j ground.sized h.text stands.0 stands.1).fetch ∙ is
+
+    abbrev here_before : Place
+    here_before = place_at t v now.here
+
+    abbrev here_then : Place
+    here_then = place_at t v mid.here
+
+    one_word : (o : ℕ) → step_size o f.machine here_then ≡ 1
+    one_word o =
+        let word = at_word t f.machine j ground.sized h.text stands.0 stands.1 in
+        ap (λ (p : Place). step_size o f.machine p) (ap (place_at t v) at ∙ some_place t v j ground stands.0)
+        ∙ ap (λ (y : Option Instr). step_cost f.machine y (slots f.machine)) word.original_is
+        ∙ ap (λ (ss : List Slot). step_cost f.machine (instr_at t j) ss) word.slots_is
+        ∙ words_are f.machine (slice_index t.words j) (instr_at t j) ∙ stores_alone f.machine (instr_at t j) a is
+
+    module _ (input rest : List ℕ) (r : ReadFrom d.input e.input input rest) where
+      abbrev there : FlatState
+      there = state_at f.machine.steps first.machine input
+
+      abbrev more : ℕ
+      more = limit - f.machine.steps - 1
+
+      more_is : limit - f.machine.steps ≡ suc more
+      more_is = omega (arith, fewer)
+
+      step_is : held_step there ≡ stopped_at there a
+      step_is = ap (λ (o : Option ℕ). joined there (held there.machine o (made there.machine there.input) there.input)) (ap next_store (machine_is input rest r) ∙ stores)
+
+      over : is_some (held_step there).machine.ending ≡ true
+      over = ap (λ (s : FlatState). is_some s.machine.ending) step_is
+
+      stop_whole : held_run limit (started first.machine input) ≡ stopped_at there a
+      stop_whole =
+          sym (h.come input rest r).ends ∙ ap (λ (m : ℕ). held_run m there) more_is ∙ held_run_more more there (state_on input rest r on)
+          ∙ held_run_over more (held_step there) over ∙ step_is
+
+      stop_size : (o : ℕ) → size o v (limit - f.machine.steps) there here_before ≡ (if at_fall v f.machine here_before then 1 else 0) + 1
+      stop_size o =
+          let none = over_cost o v more (held_step there) (here_after v there.machine (settled v there.machine here_before) (held_step there).machine) over in
+          let first_part : (if at_fall v there.machine here_before then 1 else 0) + step_size o there.machine (settled v there.machine here_before) ≡ (if at_fall v f.machine here_before then 1 else 0) + 1 =
+          ap (λ (m : Machine). (if at_fall v m here_before then 1 else 0) + step_size o m (settled v m here_before)) (machine_is input rest r)
+          ∙ ap (λ (p : Place). (if at_fall v f.machine here_before then 1 else 0) + step_size o f.machine p) (sym settles.moves.place_is)
+          ∙ ap (λ (m : ℕ). (if at_fall v f.machine here_before then 1 else 0) + m) (one_word o) in
+          ap (λ (m : ℕ). size o v m there here_before) more_is ∙ cost_more o v more there here_before (state_on input rest r on)
+          ∙ omega (arith, none, first_part)
+
+      no_more : (m : Machine) (p : Place) (next : Machine) → is_some next.ending ≡ true → step_transfers m p next ≡ []
+      no_more m None next done_so = refl
+      no_more m (Some p) next done_so =
+          ap (λ (b : Bool). if b then leaves_by m (original m) (slots m) p next.pc else []) (ap (λ (b : Bool). jumps_as m (original m) && not b) done_so ∙ and_off (jumps_as m (original m)))
+
+      stop_transfers : transfers v (limit - f.machine.steps) there here_before ≡ fall_transfers v f.machine here_before
+      stop_transfers =
+          ap (λ (m : ℕ). transfers v m there here_before) more_is ∙ transfers_more v more there here_before (state_on input rest r on)
+          ∙ ap (λ (l : List Transfer). fall_transfers v there.machine here_before ++ (l ++ transfers v more (held_step there) (here_after v there.machine (settled v there.machine here_before) (held_step there).machine)))
+          (no_more there.machine (settled v there.machine here_before) (held_step there).machine over)
+          ∙ ap (λ (l : List Transfer). fall_transfers v there.machine here_before ++ l) (over_transfers v more (held_step there) (here_after v there.machine (settled v there.machine here_before) (held_step there).machine) over)
+          ∙ append-nil (fall_transfers v there.machine here_before)
+          ∙ ap (λ (m : Machine). fall_transfers v m here_before) (machine_is input rest r)
+
+      came_to : (new : Track) → new.caches ≡ mid.caches → new.fetches ≡ mid.fetches + 1 → new.outside ≡ mid.outside → CameTo t v limit first.machine input f k new (Some a)
+      came_to new caches fetches outside =
+          let c = h.come input rest r in
+          record {
+            machine = ap (λ (s : FlatState). s.machine) stop_whole ∙ ap (λ (m : Machine). let q : Machine = record m { ending = Some (StoreText a) } in q) (machine_is input rest r);
+            fetches = omega (arith, c.fetches, stop_size 0, settles.moves.fetches_are, fetches);
+            instructions = omega (arith, c.instructions, stop_size 1, settles.moves.fetches_are, fetches, settles.moves.outside_is, outside);
+            rows = λ i. ap (λ (q : TalliesData). row_at q i) caches ∙ settles.moves.rows i ∙ ap (λ (l : List Transfer). after_row v l (row_at now.caches i)) (sym stop_transfers) ∙ c.rows i;
+          }
+
+    pub ran_stored : (new : Track) → limit ≤ 2 ^ 48 → new.caches ≡ mid.caches → new.fetches ≡ mid.fetches + 1 → new.outside ≡ mid.outside → StepsRan t v limit first f k new d e (Ok (Some a))
+    ran_stored new small caches fetches outside = record {
+      gave = h.going.gave;
+      came = λ input rest r. came_to input rest r new caches fetches outside;
+      input = λ input rest r. ap (λ (s : FlatState). s.input) (stop_whole input rest r ∙ ap (λ (s : FlatState). stopped_at s a) (state_is input rest r));
+      output = λ input rest r. subst (λ (l : List ℕ). Appends d.output.held e.output.held l)
+          (sym (ap (λ (s : FlatState). s.output) (stop_whole input rest r ∙ ap (λ (s : FlatState). stopped_at s a) (state_is input rest r)) ∙ append-nil (h.going.so_far input rest r).output)) (h.going.so_far input rest r).out;
+      error = λ input rest r. subst (λ (l : List ℕ). Appends d.error.held e.error.held l)
+          (sym (ap (λ (s : FlatState). s.error) (stop_whole input rest r ∙ ap (λ (s : FlatState). stopped_at s a) (state_is input rest r)) ∙ append-nil (h.going.so_far input rest r).error)) (h.going.so_far input rest r).err;
+      few = omega (arith, few_counted, fewer, small, fetches, outside, settles.moves.fetches_are, settles.moves.outside_is, one_at_most (at_fall v f.machine here_before));
+      failed = λ fault named. absurd (not_failed named);
+      causes = ok_causes h.going.still;
+    }
+      where
+        not_failed : {fault : CallFault} → IsErrOf {T = Option ℕ} (Ok (Some a)) fault → ⊥
+        not_failed named = cc
+
+  -- ---- a device failed
+
+  module _ (new : FlatData) (mid : Track) (s : Step) (n : Devices) (fault : CallFault) (ground : Ground t v) (fewer : f.machine.steps < limit) (on : f.machine.ending ≡ None) (stands : StandsAt t f.machine.pc mid.here)
+      (is : StepIs t f mid.here s) (other : (a : ℕ) → s ≡ step.Store a → ⊥) (stays : new ≡ stopped f.machine new.machine.bus)
+      (moved : (i : ℕ) × (i ≤ room_of_call f.machine.regs f.machine.bus) × ReadsInto f.machine.bus new.machine.bus e.input n.input (second_argument f.machine.regs) i)
+      (x : Exchanged {T = Unit {0}} (λ left. exchange_of (made f.machine left)) e n (Err fault)) where
+    no_store_there : (input rest : List ℕ) → ReadFrom d.input e.input input rest → StoresAt (started first.machine input) (f.machine.steps - first.machine.steps) → ⊥
+    no_store_there input rest r at =
+        let never : true ≡ false = sym at.stores ∙ ap (λ (m : Machine). is_some (next_store m)) (machine_is input rest r) ∙ ap (λ (o : Option ℕ). is_some o) (next_plain t v f mid.here s ground h.text stands is other) in cc
+
+    unstored_there : (input rest : List ℕ) → ReadFrom d.input n.input input rest → (i : ℕ) → i ≤ new.machine.steps - first.machine.steps → StoresAt (started first.machine input) i → ⊥
+    unstored_there input rest r i le at =
+        let before = read_first h.going.gave x.gave r in
+        let steps : new.machine.steps ≡ f.machine.steps = ap (λ (q : FlatData). q.machine.steps) stays in
+        elim (cases_eq i (f.machine.steps - first.machine.steps)) [
+          | inl same ↦ no_store_there input (x.gave.0 ++ rest) before (subst (λ (m : ℕ). StoresAt (started first.machine input) m) same at)
+          | inr ne ↦ (h.come input (x.gave.0 ++ rest) before).unstored i (let most : i ≤ f.machine.steps - first.machine.steps = omega (arith, le, steps) in grind (arith, ne, most)) at
+        ]
+
+    pub ran_failed : StepsRan t v limit first new k mid d n (Err fault)
+    ran_failed =
+        let broken = ran_broken h.going new n fault fewer on stays moved x in
+        record {
+          gave = broken.gave;
+          came = tt;
+          input = tt;
+          output = tt;
+          error = tt;
+          few = tt;
+          failed = λ f' named. subst (λ (g : CallFault). BrokeOff limit first.machine new d n g) (same_fault named) (record { ran = broken; unstored = unstored_there });
+          causes = named_as broken.causes (λ named. cc) (λ named. cc) (λ named. cc) (λ named. cc);
+        }
+      where
+        same_fault : {g : CallFault} → IsErrOf {T = Option ℕ} (Err fault) g → fault ≡ g
+        same_fault named = cc

@@ -69,7 +69,7 @@ module _ (v : ImageData) (f next : Machine) (w : ℕ) (p : ℕ × ℕ) (input : 
     goes = refl;
     exit = λ on. (
         let lands = jump_lands (sum f.pc off % 4 == 0) (sum f.pc off) (jumps (sum_of f.pc off) f.regs (with_reg f.regs rd (sum_of f.pc 4)) f.bus)
-            (goes_on 0 (with_reg f.regs rd (sum_of f.pc 4)) f.bus) refl made on in
+        (goes_on 0 (with_reg f.regs rd (sum_of f.pc 4)) f.bus) refl made on in
         ap (λ (n : ℕ). exit_to v (p.0, p.1 + n) (sum f.pc off)) (jal_leads (sum f.pc off % 4 == 0) (rd == 0) rd (sum f.pc off) lands.0)
         ∙ ap (exit_to v (p.0, p.1 + before_last f (Some (instr.Jal rd off)) (rendering_of (Some (instr.Jal rd off)) w f.pc))) (sym lands.1));
     transfers = λ on. refl;
