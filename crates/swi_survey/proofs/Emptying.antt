@@ -2,7 +2,7 @@
 use Rattle.std.proofs.Common.{◌≡◌, ℕ, zero, suc, ◌+◌, ◌*◌, ◌^◌, ◌<◌, ◌≤◌, ◌==◌, Bool, true, false, List, [], length, replicate, slice_get, slice_index, All, Option, Some, None, IfSome, option_map, ◌/◌, ◌%◌, arith, refl, sym, ◌∙◌, ap, subst, inl, inr}
 use Rattle.std.proofs.lemmas.Bool.{cases_lt}
 use Rattle.std.proofs.lemmas.List.{length-replicate, get_or-replicate, get_or_past}
-use Rattle.std.proofs.lemmas.Option.{slice_get-map, slice_get_within}
+use Rattle.std.proofs.lemmas.Option.{get_or_from_slice_get, slice_get-map, slice_get_within}
 use Rattle.std.proofs.lemmas.Nat.Bits.{bit_at-zero}
 use Rattle.swi_image.specs.Format.{ImageData}
 use Rattle.swi_image.specs.Sound.{IsImage}
@@ -79,7 +79,7 @@ module _ (v : ImageData) (e : ExitsData) (f : Frame) (image : IsImage v) (are : 
   }
 
 at_index : (frames : List Frame) (words k : ℕ) (f : Frame) → All (IsFrame words) frames → slice_get frames k ≡ Some f → IsFrame words f
-at_index frames words k f all at = search (all, at)
+at_index frames words k f all at = subst (IsFrame words) (get_or_from_slice_get frames k f f at) (all k f (slice_get_within frames k f at))
 
 pub empty_serving : (v : ImageData) (e : ExitsData) (frames : List Frame) (n : ℕ) → IsImage v → AreExits e → length v.starts ≡ e.blocks → length frames ≤ 64 → All (IsFrame v.block_words) frames → AreServing v n (empty_tallies e frames)
 empty_serving v e frames n image are blocks few all = record { each = λ k. by k (slice_get frames k) refl }

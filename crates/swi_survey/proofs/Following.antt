@@ -18,7 +18,7 @@ use Rattle.swi_rom.specs.Record.{Transfer, direct, indirect}
 use Rattle.swi_hart.specs.Hart.{original, slots, whole_made}
 use Rattle.swi_hart.proofs.Own.{held_as, held_none, is_own, own_made, whole_pc}
 use Rattle.swi_board.specs.Transfers.{Here as Place, before_last, here_after, jumps_as, leaves_by, step_cost, step_size, step_transfers}
-use Rattle.swi_tally.specs.Exits.{ExitsData}
+use Rattle.swi_tally.specs.declared.exits.Exit.{Exit}
 use Rattle.swi_tally.specs.Tallies.{TalliesData, AllServed, AreServing}
 use Rattle.swi_tally.proofs.Siding.{all_serving}
 use Rattle.swi_survey.specs.declared.leaving.Leaving.{Leaving}
@@ -40,7 +40,7 @@ use Rattle.swi_survey.proofs.Stepping.{Goes, GoesAway, GoesNext, GoesOver, goes,
 
 -- a step at an address where no text word stands fetches nothing, and makes no transfer
 pub followed_outside : (t : TextData) (v : ImageData) (f next : Machine) (input : List ℕ) (old new : Track) → old.here ≡ here.Outside → fetched f.bus f.pc ≡ None → next ≡ (held_made f input).machine →
-    new.caches ≡ old.caches → new.ways ≡ old.ways → new.here ≡ old.here → new.fetches ≡ old.fetches → new.outside ≡ old.outside + 1 → Follows t v f next old new
+    new.caches ≡ old.caches → new.ways.items ≡ old.ways.items → new.here ≡ old.here → new.fetches ≡ old.fetches → new.outside ≡ old.outside + 1 → Follows t v f next old new
 followed_outside t v f next input old new is none made caches ways same fetches outside =
     let here_is : place_at t v old.here ≡ None = ap (place_at t v) is in
     record {
@@ -180,7 +180,7 @@ module _ {t : TextData} {v : ImageData} {f next : Machine} {k : ℕ} (s : FromWo
       let none = none_of next.ending on in
       let same : own_exit t v k p ≡ exit_to v (p.0, p.1 + before_last f x (rendering_of x w f.pc)) next.pc = ap (λ (n : ℕ). own_if v p (jump_of x n)) (sym s.at) ∙ over.exit none in
       as_list v _ _ old new (sym (transfers_on true over.goes on ∙ over.transfers none))
-      (all_one v (direct p.0 (p.1 + before_last f x (rendering_of x w f.pc)) next.pc) old new (served (p.0, p.1 + before_last f x (rendering_of x w f.pc)) (subst (λ e. HasNumber old.exits e exit) same has)))
+      (all_one v (direct p.0 (p.1 + before_last f x (rendering_of x w f.pc)) next.pc) old new (served (p.0, p.1 + before_last f x (rendering_of x w f.pc)) (subst (λ (e : Option Exit). HasNumber old.exits e exit) same has)))
   served_by way.Away exit old new away has on served =
       as_list v _ _ old new (sym (transfers_on true away.goes on ∙ away.transfers (none_of next.ending on))) (all_one v (indirect next.pc) old new served)
 
@@ -188,7 +188,7 @@ module _ {t : TextData} {v : ImageData} {f next : Machine} {k : ℕ} (s : FromWo
   pub record Counts (old new : Track) (ways : Ways) : Type 0 where
     pub here_was : old.here ≡ here.At k
     pub ways_are : AreWays t v old.caches.exits k ways
-    pub same_ways : new.ways ≡ old.ways
+    pub same_ways : new.ways.items ≡ old.ways.items
     pub fetches : new.fetches ≡ old.fetches + left.words
     pub outside : new.outside ≡ old.outside
     pub behind : IsBehind t k ways.last left.way next.pc new.here

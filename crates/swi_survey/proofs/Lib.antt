@@ -6,3 +6,4 @@ mod Settling
 mod Stepping
 mod Following
 mod Running
+mod Surveying

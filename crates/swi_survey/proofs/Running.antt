@@ -38,6 +38,7 @@ use Rattle.swi_board.specs.Transfers.{Here as Place, at_fall, fall_transfers, he
 use Rattle.swi_board.proofs.Counting.{cost_more, cost_none, over_cost, over_transfers, transfers_more, transfers_none}
 use Rattle.swi_tally.specs.Exits.{ExitsData}
 use Rattle.swi_tally.specs.Tallies.{Row, TalliesData, AreServing, row_at}
+use Rattle.swi_survey.specs.declared.leaving.Leaving.{Leaving}
 use Rattle.swi_survey.specs.declared.track.Here.{Here}
 use Rattle.swi_survey.specs.declared.track.Here.TheVariants as here
 use Rattle.swi_survey.specs.declared.track.Step.{Step}
@@ -113,12 +114,12 @@ one_outside (Some p) = omega arith
 same_ways : {t : TextData} {v : ImageData} {list : List Transfer} {place : Place} {fetches outside : ℕ} {old new : Track} → Moves t v list place fetches outside old new →
     AreAllWays t v old.caches.exits old.ways.items → AreAllWays t v new.caches.exits new.ways.items
 same_ways {t = t} {v = v} {old = old} {new = new} m are =
-    subst (λ (e : ExitsData). AreAllWays t v e new.ways.items) (sym m.exits) (subst (λ (w : List Ways). AreAllWays t v old.caches.exits w) (ap (λ (w : _). w.items) (sym m.ways)) are)
+    subst (λ (e : ExitsData). AreAllWays t v e new.ways.items) (sym m.exits) (subst (λ (w : List Ways). AreAllWays t v old.caches.exits w) (sym m.ways) are)
 
 pub settled_ready : (t : TextData) (v : ImageData) (f : Machine) (steps : ℕ) (old new : Track) → Settles t v f old new → Tracks t v steps old → steps < 2 ^ 48 → IsReady t v new
 settled_ready t v f steps old new s h few = record {
   ways_are = same_ways s.moves h.ways_are;
-  long = ap (λ (w : _). length w.items) s.moves.ways ∙ h.long;
+  long = ap (λ (w : List Ways). length w) s.moves.ways ∙ h.long;
   serving = serving_more v (suc (2 * steps + 1)) (2 ^ 50 - 1) new.caches (omega (arith, few)) (s.moves.serving (2 * steps + 1) h.serving);
   fetches_few = omega (arith, few, h.fetches_few, s.moves.fetches_are, one_at_most (at_fall v f (place_at t v old.here)));
   outside_few = omega (arith, few, h.outside_few, s.moves.outside_is);
@@ -127,7 +128,7 @@ settled_ready t v f steps old new s h few = record {
 tracks_on : (t : TextData) (v : ImageData) (f next : Machine) (steps : ℕ) (old mid new : Track) → Settles t v f old mid → Follows t v f next mid new → Tracks t v steps old → Tracks t v (steps + 1) new
 tracks_on t v f next steps old mid new s g h = record {
   ways_are = same_ways g.moves (same_ways s.moves h.ways_are);
-  long = ap (λ (w : _). length w.items) g.moves.ways ∙ ap (λ (w : _). length w.items) s.moves.ways ∙ h.long;
+  long = ap (λ (w : List Ways). length w) g.moves.ways ∙ ap (λ (w : List Ways). length w) s.moves.ways ∙ h.long;
   serving = serving_more v (suc (suc (2 * steps + 1))) (2 * (steps + 1) + 1) new.caches (omega arith) (g.moves.serving (suc (2 * steps + 1)) (s.moves.serving (2 * steps + 1) h.serving));
   fetches_few = omega (arith, h.fetches_few, s.moves.fetches_are, one_at_most (at_fall v f (place_at t v old.here)), g.few);
   outside_few = omega (arith, h.outside_few, s.moves.outside_is, g.moves.outside_is, one_outside (place_at t v mid.here));
@@ -201,7 +202,7 @@ may_be : (o : Option (List ℕ)) → MayBeLeft o (rest_of o)
 may_be None = tt
 may_be (Some l) = refl
 
-some_read : (old new : SourceState) → HasGiven old new → (input : List ℕ) × (rest : List ℕ) × ReadFrom old new input rest
+pub some_read : (old new : SourceState) → HasGiven old new → (input : List ℕ) × (rest : List ℕ) × ReadFrom old new input rest
 some_read old new gave = (gave.0 ++ rest_of new.left, rest_of new.left, record { bytes = gave.0; given = gave.1.given; is = refl; left = may_be new.left })
 
 -- a step that would not store into the text
@@ -220,7 +221,7 @@ next_plain t v f (here.Behind k) s g text at is other = absurd is
 next_plain t v f here.Outside s g text at is other = ap (λ (o : Option ℕ). word_store f.machine o) (text f.machine.pc ∙ at)
 
 pub leaves : (t : TextData) (f : FlatData) (h : Here) (s : Step) → StandsAt t f.machine.pc h → StepIs t f h s → ((a : ℕ) → s ≡ step.Store a → ⊥) → Leaves t h s
-leaves t f (here.At k) (step.From j l) at is other = (is.0, at.0, subst (λ (m : _). m.words ≤ 3) (sym is.1) (words_few f.machine (instr_at t k)))
+leaves t f (here.At k) (step.From j l) at is other = (is.0, at.0, subst (λ (m : Leaving). m.words ≤ 3) (sym is.1) (words_few f.machine (instr_at t k)))
 leaves t f (here.At k) (step.Store a) at is other = absurd (other a refl)
 leaves t f (here.At k) step.Outside at is other = absurd is
 leaves t f (here.Behind k) s at is other = absurd is

@@ -10,6 +10,7 @@ use Rattle.swi_rom.specs.Record.{Transfer, direct}
 use Rattle.swi_hart.specs.Hart.{is_place}
 use Rattle.swi_board.specs.Transfers.{Here as Place, at_fall, fall_transfers, settled}
 use Rattle.swi_board.proofs.Counting.{place_not_fall}
+use Rattle.swi_tally.specs.declared.exits.Exit.{Exit}
 use Rattle.swi_tally.specs.Tallies.{AllServed, AreServing}
 use Rattle.swi_tally.proofs.Siding.{all_serving}
 use Rattle.swi_survey.specs.declared.track.Here.{Here}
@@ -70,10 +71,10 @@ module _ (t : TextData) (v : ImageData) (f : Machine) (pc k : ℕ) (old new : Tr
       ∙ ap (λ (n : ℕ). exit_to v (place_behind t k p) n) (sym (same ∙ at.pc_is))
 
   numbered : HasNumber old.caches.exits (exit_to v (place_behind t k p) f.pc) w.behind
-  numbered = subst (λ x. HasNumber old.caches.exits x w.behind) exit_is (ways.behind p (some_place t v k g at.word))
+  numbered = subst (λ (x : Option Exit). HasNumber old.caches.exits x w.behind) exit_is (ways.behind p (some_place t v k g at.word))
 
   pub settled_behind : ((q : ℕ × ℕ) (a : ℕ) → HasNumber old.caches.exits (exit_to v q a) w.behind → AllServed v (direct q.0 q.1 a) old.caches new.caches) →
-      ((n : ℕ) → AreServing v n old.caches → AreServing v (suc n) new.caches) → new.caches.exits ≡ old.caches.exits → new.ways ≡ old.ways → new.fetches ≡ old.fetches + 1 → new.outside ≡ old.outside →
+      ((n : ℕ) → AreServing v n old.caches → AreServing v (suc n) new.caches) → new.caches.exits ≡ old.caches.exits → new.ways.items ≡ old.ways.items → new.fetches ≡ old.fetches + 1 → new.outside ≡ old.outside →
       StandsAt t pc new.here → Settles t v f old new
   settled_behind served serving exits same_ways fetches outside stands =
       let on : at_fall v f (place_at t v old.here) ≡ true = ap (at_fall v f) here_is ∙ falls_here in

@@ -3,7 +3,7 @@ use Rattle.std.proofs.Common.{◌≡◌, ℕ, ◌+◌, ◌%◌, ◌==◌, ◌||�
 use Rattle.swi_isa.specs.declared.instr.Instr.{Instr}
 use Rattle.swi_isa.specs.declared.instr.Instr.TheVariants as instr
 use Rattle.swi_exec.specs.Registers.{reg, with_reg}
-use Rattle.swi_exec.specs.Execute.{Effect, faults, goes_on, is_taken, jumps}
+use Rattle.swi_exec.specs.Execute.{Effect, branches, faults, goes_on, is_taken, jumps}
 use Rattle.swi_exec.specs.Arithmetic.{sum_of}
 use Rattle.swi_exec.specs.declared.done.Done.TheVariants as done
 use Rattle.swi_exec.specs.declared.done.FaultKind.TheVariants as kind
@@ -101,7 +101,8 @@ module _ (v : ImageData) (f next : Machine) (w : ℕ) (p : ℕ × ℕ) (input : 
   goes (Some (instr.Auipc rd imm)) made own = record { stays = refl; falls = refl; pc = λ on. ap (λ (m : Machine). m.pc) made }
   goes (Some (instr.Jal rd off)) made own = jal_goes rd off made
   goes (Some (instr.Branch op rs1 rs2 off)) made own =
-      branch_goes (is_taken op (reg f.regs rs1) (reg f.regs rs2)) (instr.Branch op rs1 rs2 off) off _ refl refl refl refl (λ pc ss. refl) refl refl made
+      branch_goes (is_taken op (reg f.regs rs1) (reg f.regs rs2)) (instr.Branch op rs1 rs2 off) off
+      (branches (is_taken op (reg f.regs rs1) (reg f.regs rs2)) (sum_of f.pc off) f.pc f.regs f.bus) refl refl refl refl (λ pc ss. refl) refl refl made
   goes (Some y) made own = record { stays = refl; falls = refl; pc = own y refl refl }
 
 -- how many words it executes

@@ -115,7 +115,7 @@ pub record Moves (t : TextData) (v : ImageData) (list : List Transfer) (place : 
   pub rows : AllAfter v list old.caches new.caches
   pub serving : (n : ℕ) → AreServing v n old.caches → AreServing v (suc n) new.caches
   pub exits : new.caches.exits ≡ old.caches.exits
-  pub ways : new.ways ≡ old.ways
+  pub ways : new.ways.items ≡ old.ways.items
   pub place_is : place_at t v new.here ≡ place
   pub fetches_are : new.fetches ≡ old.fetches + fetched
   pub outside_is : new.outside ≡ old.outside + outside
