@@ -1,1 +1,9 @@
-pub mod Mapping
+mod Mapping
+mod Rows
+mod Emptying
+mod Places
+mod Settling
+mod Stepping
+mod Following
+mod Running
+mod Surveying

@@ -22,14 +22,14 @@ use Rattle.swi_tally.specs.declared.exits.Exit.{Exit}
 use Rattle.swi_survey.specs.declared.ways.Ways.{Ways}
 use Rattle.swi_survey.specs.Ways.{AllBefore, AreAllWays, AreWays, Fits, FitsIf, HasNumber, Joins, exit_behind, exit_if, exit_to, instr_at, is_last, jump_of, number_if, own_exit, own_if, place_behind, with_if}
 
-same_some : {A : Type 0} (x y : A) → ◌≡◌ {A = Option A} (Some x) (Some y) → x ≡ y
+pub same_some : {A : Type 0} (x y : A) → ◌≡◌ {A = Option A} (Some x) (Some y) → x ≡ y
 same_some x y e = cc
 
 -- the text word at its own address
 at_itself : (base k n : ℕ) → base % 4 ≡ 0 → k < n → base + 4 * n ≤ 2 ^ 32 → ((base + 4 * k) % 4 ≡ 0) × (base ≤ base + 4 * k) × (base + 4 * k + 4 ≤ base + 4 * n) × ((base + 4 * k - base) / 4 ≡ k)
 at_itself base k n even lt end = (omega arith, omega arith, omega arith, omega arith)
 
-word_here : (t : TextData) (k : ℕ) → IsSized t → k < length t.words → word_of t (address_of t k) ≡ Some (slice_index t.words k)
+pub word_here : (t : TextData) (k : ℕ) → IsSized t → k < length t.words → word_of t (address_of t k) ≡ Some (slice_index t.words k)
 word_here t k s lt =
     let a = at_itself t.base k (length t.words) s.aligned lt s.end in
     ap (λ (b : Bool). if b && (nat_le t.base (address_of t k) && nat_le (address_of t k + 4) (t.base + 4 * length t.words)) then Some (slice_index t.words ((address_of t k - t.base) / 4)) else None) (eq-eqb _ _ a.0)
@@ -218,11 +218,11 @@ not_false : (b : Bool) → not b ≡ true → b ≡ false
 not_false true e = absurd cc
 not_false false e = refl
 
-not_true : (b : Bool) → not b ≡ false → b ≡ true
+pub not_true : (b : Bool) → not b ≡ false → b ≡ true
 not_true true e = refl
 not_true false e = absurd cc
 
-stands_at : (q : Option (ℕ × ℕ)) (b o : ℕ) → is_place q b o ≡ true → q ≡ Some (b, o)
+pub stands_at : (q : Option (ℕ × ℕ)) (b o : ℕ) → is_place q b o ≡ true → q ≡ Some (b, o)
 stands_at None b o e = absurd cc
 stands_at (Some r) b o e = (
     let parts = and_parts (r.0 == b) (r.1 == o) e in

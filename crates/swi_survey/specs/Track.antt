@@ -115,7 +115,7 @@ pub record Moves (t : TextData) (v : ImageData) (list : List Transfer) (place : 
   pub rows : AllAfter v list old.caches new.caches
   pub serving : (n : ℕ) → AreServing v n old.caches → AreServing v (suc n) new.caches
   pub exits : new.caches.exits ≡ old.caches.exits
-  pub ways : new.ways ≡ old.ways
+  pub ways : new.ways.items ≡ old.ways.items
   pub place_is : place_at t v new.here ≡ place
   pub fetches_are : new.fetches ≡ old.fetches + fetched
   pub outside_is : new.outside ≡ old.outside + outside
@@ -129,6 +129,7 @@ pub record Settles (t : TextData) (v : ImageData) (f : Machine) (old new : Track
 pub record Follows (t : TextData) (v : ImageData) (f next : Machine) (old new : Track) : Type 0 where
   pub moves : Moves t v (step_transfers f (place_at t v old.here) next) (here_after v f (place_at t v old.here) next)
       (step_size 0 f (place_at t v old.here)) (unfetched_at (place_at t v old.here)) old new
+  pub few : new.fetches ≤ old.fetches + 3
   pub stands : next.ending ≡ None → Stands t v next.pc new.here
 
 -- the memory's text is this one

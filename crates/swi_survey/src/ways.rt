@@ -165,6 +165,7 @@ pub(crate) fn map_of(
     requires own { IsImageOf text.now image.now }
     ensures ways { IfOk result (λ m. AreAllWays text.now image.now m.exits m.ways.items) }
     ensures long { IfOk result (λ m. length m.ways.items ≡ length text.now.words) }
+    ensures exits { IfOk result (λ m. AreExits m.exits) }
 {
     let mut exits = Exits::new(alloc, image.blocks())?;
     let mut ways = Vec::new(alloc);
