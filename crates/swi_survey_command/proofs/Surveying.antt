@@ -2,6 +2,7 @@
 use Rattle.std.proofs.Common.{◌≡◌, ◌⊎◌, inl, inr, ℕ, ◌-◌, ◌<◌, ◌≤◌, List, [], ◌∷◌, ◌++◌, length, take, map, Option, None, Some, Result, Ok, Err, IsErrOf, refl, sym, ◌∙◌, subst, ap, arith, false}
 use Rattle.std.proofs.lemmas.List.{append-nil}
 use Rattle.std.specs.Io.KnownBytes.{Appends}
+use Rattle.swi_outside.specs.CacheRam.{RamState}
 use Rattle.swi_outside.specs.Causes.{Rose}
 use Rattle.swi_outside.specs.Devices as outside
 use Rattle.swi_outside.specs.Laws.{Appends-append, Appends-none, ok_unmoved}
@@ -122,7 +123,7 @@ survey_done r d m out s x input told shelf ram h ends written still =
       refused = tt;
       quiet = tt;
       failed = tt;
-      causes = calm_causes d (record m { output = out }) (Ok x) tt (ap (λ (y : ShelfState). y.faults) shelf) (ap (λ y. y.faults) ram)
+      causes = calm_causes d (record m { output = out }) (Ok x) tt (ap (λ (y : ShelfState). y.faults) shelf) (ap (λ (y : RamState). y.faults) ram)
           (ap (λ (n : ℕ). record (stream_faults m) { output = n }) still ∙ h.quiet);
     }
 
@@ -148,7 +149,7 @@ lines_broke r d m out s input told shelf ram h part some later rose =
             input = h.input;
             fault = refl;
           })));
-      causes = out_causes d (record m { output = out }) (ap (λ (y : ShelfState). y.faults) shelf) (ap (λ y. y.faults) ram) (ap (λ (x : outside.Faults). x.input) h.quiet) (ap (λ (x : outside.Faults). x.error) h.quiet)
+      causes = out_causes d (record m { output = out }) (ap (λ (y : ShelfState). y.faults) shelf) (ap (λ (y : RamState). y.faults) ram) (ap (λ (x : outside.Faults). x.input) h.quiet) (ap (λ (x : outside.Faults). x.error) h.quiet)
           (subst (λ (n : ℕ). n ≤ out.faults) still later) up;
     }
 
@@ -204,7 +205,7 @@ run_broke k sizes limits v p l d i j o n e f x input rest read h =
       failed = λ _ other told. subst (λ (y : List ℕ). SurveyFailed (survey_from k sizes limits v p l y) before after (refusal_of (stop.Fault x)) []) (same_input before input other refl told)
           (failed_so (survey_from k sizes limits v p l input) before after (refusal_of (stop.Fault x)) []
           (broke_at (survey_from k sizes limits v p l input) (flat_start p l false input) h.left before after x input refl refl refl refl ran (h.unstored input rest read)));
-      causes = subst (λ (y : Refusal). HasCauses before after (Err y)) (same_refusal x) (run_causes {T = Unit {0}} {U = Ending} x before (told_as j rest) n f ran.causes);
+      causes = subst (λ (y : Refusal). HasCauses {T = Ending} before after (Err y)) (same_refusal x) (run_causes {T = Unit {0}} {U = Ending} x before (told_as j rest) n f ran.causes);
     }
 
 -- without memory nothing has changed

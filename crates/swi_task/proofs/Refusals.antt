@@ -599,13 +599,14 @@ size_is bytes words r e = by (nat_lt cache_limit bytes) (nat_lt (4 * words) byte
 sized_so : (x : Option Refusal) (r : Refusal) → x ≡ Some r → IsSized x (Err r)
 sized_so x r e = record { refused = λ s is. inl (let same : r ≡ s = cc in ap (λ (y : Refusal). Err y) same); only = λ _. e }
 
+either_is : (x y : Option Refusal) (r : Refusal) → option_or x y ≡ Some r → (x ≡ Some r → IsSizeRefusal r) → (y ≡ Some r → IsSizeRefusal r) → IsSizeRefusal r
+either_is None y r e first rest = rest e
+either_is (Some s) y r e first rest = first e
+
 sizes_are : (sizes : List ℕ) (words : ℕ) (r : Refusal) → first_size_refusal sizes words ≡ Some r → IsSizeRefusal r
 sizes_are [] words r e = absurd (let never : ⊥ = cc in never)
-sizes_are (bytes ∷ sizes) words r e = by (size_refusal bytes words) refl e
-  where
-    by : (x : Option Refusal) → size_refusal bytes words ≡ x → option_or x (first_size_refusal sizes words) ≡ Some r → IsSizeRefusal r
-    by None is e = sizes_are sizes words r e
-    by (Some s) is e = size_is bytes words r (is ∙ e)
+sizes_are (bytes ∷ sizes) words r e =
+    either_is (size_refusal bytes words) (first_size_refusal sizes words) r e (λ this. size_is bytes words r this) (λ rest. sizes_are sizes words r rest)
 
 cache_is : (caches : Caches) (words : ℕ) (r : Refusal) → cache_refusal caches words ≡ Some r → IsSizeRefusal r
 cache_is NoCache words r e = absurd (let never : ⊥ = cc in never)
