@@ -33,7 +33,7 @@ use Rattle.swi_cached_command.specs.declared.command.Placed.{Placed}
 use Rattle.swi_task.specs.Answers.{IsRunFault}
 use Rattle.swi_cached_command.specs.Caching.{IsCachedRun, cache_for, work_of}
 use Rattle.swi_task.specs.Causes.{HasCauses}
-use Rattle.swi_task.specs.Checks.{Check, IsShort, IsAcceptedElf, HasRoom, IsAcceptedImage, IsOwnImage, FitsUnlessImage, HoldsBlock, least_cache, room_in}
+use Rattle.swi_task.specs.Checks.{InRam, Check, IsShort, IsAcceptedElf, HasRoom, IsAcceptedImage, IsOwnImage, FitsUnlessImage, HoldsBlock, least_cache, room_in}
 use Rattle.swi_task.specs.Devices.{Devices}
 use Rattle.swi_task.specs.Runs.{Ran, FailedAtStep, FailedAfterRun, report, start_of}
 use Rattle.swi_task.specs.Subject.{IsImageFor, IsSubject, view_of}
@@ -123,7 +123,7 @@ cached_task name cache o = record {
   contents = λ file. file ∷ [];
   writes = None;
   takes_input = true;
-  cache = Some cache.cache_bytes;
+  caches = InRam cache.cache_bytes;
   checks = cached_checks o.limits cache;
   before_next = λ file. [];
   ends = λ e. ⊤;

@@ -1,3 +1,4 @@
 pub mod Matching
 pub mod Naming
 pub mod Files
+pub mod Sizes

@@ -1,7 +1,7 @@
 -- The code's names of commands and arguments, in the words of the table of commands.
 use Rattle.std.specs.Prelude.{codes}
 use Rattle.clap.specs.Words.{Rule, Text}
-use Rattle.swi_command.specs.CommandLine.{Form, NumberForm, positional, further, option, flag, rewrite_form, cached_form, plain_form, trace_form, list_form, check_form, upgrade_form, measure_form, share_form, prefetch_form, steps_form, cache_form, block_form, heap_form, stack_form, events_form, seed_form, rate_form}
+use Rattle.swi_command.specs.CommandLine.{Form, NumberForm, positional, further, many, option, flag, rewrite_form, cached_form, plain_form, trace_form, list_form, check_form, upgrade_form, measure_form, share_form, prefetch_form, survey_form, steps_form, cache_form, block_form, heap_form, stack_form, events_form, seed_form, rate_form}
 use Rattle.swi_command.specs.declared.argument.Argument.{Argument}
 use Rattle.swi_command.specs.declared.argument.Argument.TheVariants as argument
 use Rattle.swi_command.specs.declared.argument.Flag.{Flag}
@@ -27,6 +27,7 @@ positional_name place.File5 = codes "FILE5"
 positional_name place.File6 = codes "FILE6"
 positional_name place.File7 = codes "FILE7"
 positional_name place.File8 = codes "FILE8"
+positional_name place.Sizes = codes "BYTES"
 
 abbrev pub form_of_number : NumberOption → NumberForm
 form_of_number number.Steps = steps_form
@@ -49,12 +50,14 @@ flag_name flag_named.WholeLoops = codes "whole-loops"
 abbrev pub argument_name : Argument → Text
 argument_name (argument.Positional p) = positional_name p
 argument_name (argument.Further p) = positional_name p
+argument_name (argument.Many p) = positional_name p
 argument_name (argument.Number n) = (form_of_number n).name
 argument_name (argument.Flag f) = flag_name f
 
 abbrev pub rule_of_argument : Argument → Rule
 rule_of_argument (argument.Positional p) = positional (positional_name p)
 rule_of_argument (argument.Further p) = further (positional_name p)
+rule_of_argument (argument.Many p) = many (positional_name p)
 rule_of_argument (argument.Number n) = option (form_of_number n).name
 rule_of_argument (argument.Flag f) = flag (flag_name f)
 
@@ -69,3 +72,4 @@ form_of name.Upgrade = upgrade_form
 form_of name.Measure = measure_form
 form_of name.Share = share_form
 form_of name.Prefetch = prefetch_form
+form_of name.Survey = survey_form

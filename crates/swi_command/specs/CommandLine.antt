@@ -1,19 +1,19 @@
 -- The command line: which words ask for which command. Over the meaning that the crate `clap`
 -- states of a command without subcommands: `fault_of`, which is empty where it takes the words, and
 -- `matches_of`, the values that the words give each argument.
-use Rattle.std.specs.Prelude.{◌≡◌, ◌≤◌, ◌<◌, ◌^◌, ◌-◌, ◌%◌, ◌==◌, ◌&&◌, ℕ, Bool, true, false, List, [], ◌∷◌, length, map, nat_le, codes, Option, Some, None, option_map, option_and_then, find, string_bytes, if◌then◌else◌}
+use Rattle.std.specs.Prelude.{◌≡◌, ◌≤◌, ◌<◌, ◌^◌, ◌-◌, ◌%◌, ◌==◌, ◌&&◌, ℕ, Bool, true, false, List, [], ◌∷◌, All, length, map, nat_le, codes, Option, Some, None, option_map, option_and_then, find, string_bytes, if◌then◌else◌}
 use Rattle.std.specs.Option.{option_map_or}
 use Rattle.std.specs.Str.{all_ascii_digits, bytes_eq}
 use Rattle.std.specs.Str.Parse.{digits_value}
-use Rattle.clap.specs.Words.{App, Row, Rule, Text, new_app, new_rule, with_rule, fault_of, matches_of, first_of}
+use Rattle.clap.specs.Words.{App, Row, Rule, Text, new_app, new_rule, with_rule, fault_of, matches_of, all_of, first_of}
 use Rattle.clap.specs.Simple.{on_top}
 use Rattle.clap.specs.Kinds.{Kinds}
-use Rattle.clap.specs.declared.builder.action.ArgAction.TheVariants.{Set, SetTrue}
+use Rattle.clap.specs.declared.builder.action.ArgAction.TheVariants.{Append, Set, SetTrue}
 use Rattle.swi_command.specs.declared.command.CacheKind.{CacheKind}
 use Rattle.swi_command.specs.declared.command.CacheKind.TheVariants.{Slots, Ring}
 use Rattle.swi_command.specs.declared.command.CacheOptions.{CacheOptions}
 use Rattle.swi_command.specs.declared.command.Command.{Command}
-use Rattle.swi_command.specs.declared.command.Command.TheVariants.{Rewrite, Cached, Plain, Listing, Check, Upgrade, Measure, Share, Prefetch}
+use Rattle.swi_command.specs.declared.command.Command.TheVariants.{Rewrite, Cached, Plain, Listing, Check, Upgrade, Measure, Share, Prefetch, Survey}
 use Rattle.swi_command.specs.declared.command.Reports.{Reports}
 use Rattle.swi_command.specs.declared.command.RunLimits.{RunLimits}
 use Rattle.swi_command.specs.declared.command.RunOptions.{RunOptions}
@@ -181,6 +181,18 @@ share_options_of rows = option_and_then (λ o. option_and_then (λ h. option_map
   stats = is_set (codes "stats") rows;
 }) (number_of stack_form rows)) (number_of heap_form rows)) (schedule_of rows)
 
+-- the sizes of caches that texts write, each as the option for the cache takes it
+abbrev pub sizes_in : List Text → Option (List ℕ)
+sizes_in [] = Some []
+sizes_in (t ∷ ts) = option_and_then (λ n. option_map (λ ns. n ∷ ns) (sizes_in ts)) (number_in cache_form.least cache_form.most cache_form.unit t)
+
+-- at least one of them, and at most 64
+abbrev pub few_sizes : List ℕ → Option (List ℕ)
+few_sizes ns = if nat_le 1 (length ns) && nat_le (length ns) 64 then Some ns else None
+
+abbrev pub sizes_of : List Row → Option (List ℕ)
+sizes_of rows = option_and_then few_sizes (option_and_then sizes_in (all_of (codes "BYTES") rows))
+
 -- ---- what words ask for
 
 -- a command with the names of its files and its options
@@ -194,6 +206,7 @@ pub data Request : Type 0 where
   MeasureMade : (seed : ℕ) (functions : ℕ) (cache : CacheOptions) → Request
   RunShared : (files : List Text) (cache : CacheOptions) (options : ShareOptions) → Request
   RunAhead : (file : Text) (cache : CacheOptions) (options : RunOptions) (rate : ℕ) → Request
+  RunSurvey : (file : Text) (sizes : List ℕ) (block_words : ℕ) (kind : CacheKind) (limits : RunLimits) → Request
 
 abbrev pub rewrite_request : List Row → Option Request
 rewrite_request rows = option_and_then (λ i. option_and_then (λ o.
@@ -241,6 +254,12 @@ prefetch_request rows = option_and_then (λ f. option_and_then (λ c. option_and
     option_map (λ n. RunAhead f c o n) (number_of rate_form rows)) (options_of rows))
     (cache_with Slots rows)) (first_of (codes "FILE") rows)
 
+-- all caches are of one kind, and of one cut
+abbrev pub survey_request : List Row → Option Request
+survey_request rows = option_and_then (λ f. option_and_then (λ ns. option_and_then (λ b.
+    option_map (λ l. RunSurvey f ns b (kind_of rows) l) (limits_of rows)) (number_of block_form rows))
+    (sizes_of rows)) (first_of (codes "FILE") rows)
+
 -- ---- the commands as `clap` takes them
 
 -- a word that must be given, by its place
@@ -250,6 +269,10 @@ positional name = record (new_rule name) { required = true }
 -- a word that may be given, by its place behind those that must be
 abbrev pub further : Text → Rule
 further name = record (new_rule name) { required = false }
+
+-- one or more words, by their places behind all others
+abbrev pub many : Text → Rule
+many name = record (new_rule name) { required = true; action = Some Append }
 
 -- `--name value`
 abbrev pub option : Text → Rule
@@ -369,9 +392,18 @@ prefetch_form = record {
   request = prefetch_request;
 }
 
+-- FILE BYTES, up to 63 BYTES more, --steps n --block n --heap n --stack n --ring
+abbrev pub survey_form : Form
+survey_form = record {
+  name = codes "survey";
+  rules = positional (codes "FILE") ∷ many (codes "BYTES") ∷ option (codes "steps")
+      ∷ option (codes "block") ∷ option (codes "heap") ∷ option (codes "stack") ∷ flag (codes "ring") ∷ [];
+  request = survey_request;
+}
+
 abbrev pub forms : List Form
 forms = rewrite_form ∷ cached_form ∷ plain_form ∷ trace_form ∷ list_form ∷ check_form ∷ upgrade_form ∷ measure_form
-    ∷ share_form ∷ prefetch_form ∷ []
+    ∷ share_form ∷ prefetch_form ∷ survey_form ∷ []
 
 -- the command of a name
 unfoldable pub form_named : Text → Option Form
@@ -416,6 +448,7 @@ request_of (Upgrade input output) = UpgradeFile (string_bytes input) (string_byt
 request_of (Measure seed functions cache) = MeasureMade seed functions cache
 request_of (Share files cache options) = RunShared (map (λ f. string_bytes f) files.items) cache options
 request_of (Prefetch file cache options rate) = RunAhead (string_bytes file) cache options rate
+request_of (Survey file sizes block_words kind limits) = RunSurvey (string_bytes file) sizes.items block_words kind limits
 
 -- ---- ranges
 
@@ -457,6 +490,12 @@ pub record IsShareInRange (o : ShareOptions) : Type 0 where
   pub stack_most : o.stack ≤ 16777216
   pub stack_aligned : o.stack % 16 ≡ 0
 
+-- how many sizes of caches there are, and each of them
+pub record AreSizes (sizes : List ℕ) : Type 0 where
+  pub some : 1 ≤ length sizes
+  pub few : length sizes ≤ 64
+  pub ranges : All (λ n. (8 ≤ n) × (n < 2 ^ 32)) sizes
+
 -- and so do those of a command
 abbrev pub HasLimitsInRange : Command → Type 0
 HasLimitsInRange (Rewrite input output block_words whole_loops) = IsBlockSize block_words
@@ -470,3 +509,4 @@ HasLimitsInRange (Share files cache options) =
     IsShareCount (length files.items) × (IsCacheInRange cache × IsShareInRange options)
 HasLimitsInRange (Prefetch file cache options rate) =
     IsCacheInRange cache × (IsInRange options.limits × rate ≤ 1024)
+HasLimitsInRange (Survey file sizes block_words kind limits) = AreSizes sizes.items × (IsBlockSize block_words × IsInRange limits)

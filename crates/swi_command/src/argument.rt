@@ -22,6 +22,8 @@ pub enum Positional {
     File6,
     File7,
     File8,
+    /// The sizes of caches.
+    Sizes,
 }
 
 /// An option with a number.
@@ -55,6 +57,8 @@ pub enum Argument {
     Positional(Positional),
     /// A word that may be given, behind those that must be.
     Further(Positional),
+    /// One or more words, behind all others.
+    Many(Positional),
     Number(NumberOption),
     Flag(Flag),
 }
@@ -77,6 +81,7 @@ impl Positional {
             Positional::File6 => "FILE6",
             Positional::File7 => "FILE7",
             Positional::File8 => "FILE8",
+            Positional::Sizes => "BYTES",
         }
     }
 }
@@ -185,7 +190,9 @@ impl Argument {
         ensures { result.now ≡ argument_name self }
     {
         match self {
-            Argument::Positional(place) | Argument::Further(place) => place.name(),
+            Argument::Positional(place) | Argument::Further(place) | Argument::Many(place) => {
+                place.name()
+            }
             Argument::Number(option) => option.name(),
             Argument::Flag(flag) => flag.name(),
         }

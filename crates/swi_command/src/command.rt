@@ -130,6 +130,15 @@ pub enum Command {
         options: RunOptions,
         rate: u32,
     },
+    /// A run of the file's program on the cached machine, once for many caches of the same cut: 1 to 64 sizes in bytes, 8 to
+    /// 2^32 - 1 each.
+    Survey {
+        file: String,
+        sizes: Vec<u32>,
+        block_words: u32,
+        kind: CacheKind,
+        limits: RunLimits,
+    },
 }
 
 /// Why words give no command.

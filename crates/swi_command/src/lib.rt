@@ -39,6 +39,7 @@ use syntax::command_matches;
 /// | `measure` | SEED COUNT `--cache` `--block` `--ring` |
 /// | `share` | FILE FILE, up to six FILE more, `--events` `--seed` `--cache` `--block` `--heap` `--stack` `--stats` |
 /// | `prefetch` | FILE `--rate` `--steps` `--cache` `--block` `--heap` `--stack` `--state` `--calls` `--stats` |
+/// | `survey` | FILE BYTES, up to 63 BYTES more, `--steps` `--block` `--heap` `--stack` `--ring` |
 ///
 /// | Option | Range | Where not given |
 /// |---|---|---|
@@ -51,7 +52,8 @@ use syntax::command_matches;
 /// | `--seed` | 0 to 2^32 - 1 | 0 |
 /// | `--rate` in events of the engine | 0 to 1024 | 1 |
 ///
-/// SEED is a number from 0 to 2^32 - 1, COUNT one from 1 to 4096; the other words by place are names of files.
+/// SEED is a number from 0 to 2^32 - 1, COUNT one from 1 to 4096, each of BYTES one that `--cache` takes; the other words by
+/// place are names of files.
 /// `--ring`, `--whole-loops`, `--state`, `--calls`, `--stats` and `--last` are flags. Options may stand before, between and after the
 /// files, as `--x v` or `--x=v`, each at most once. An option's value that begins with `-` is taken
 /// only as `--x=v`. `--` ends the options; a file that begins with `-` is `-` itself or stands

@@ -86,6 +86,16 @@ const SHARE: &[Argument] = &[
     Argument::Flag(Flag::Stats),
 ];
 
+const SURVEY: &[Argument] = &[
+    Argument::Positional(Positional::File),
+    Argument::Many(Positional::Sizes),
+    Argument::Number(NumberOption::Steps),
+    Argument::Number(NumberOption::Block),
+    Argument::Number(NumberOption::Heap),
+    Argument::Number(NumberOption::Stack),
+    Argument::Flag(Flag::Ring),
+];
+
 const PREFETCH: &[Argument] = &[
     Argument::Positional(Positional::File),
     Argument::Number(NumberOption::Rate),
@@ -111,6 +121,7 @@ pub enum CommandName {
     Measure,
     Share,
     Prefetch,
+    Survey,
 }
 
 impl CommandName {
@@ -129,6 +140,7 @@ impl CommandName {
             "measure" => Some(CommandName::Measure),
             "share" => Some(CommandName::Share),
             "prefetch" => Some(CommandName::Prefetch),
+            "survey" => Some(CommandName::Survey),
             _ => None,
         }
     }
@@ -148,6 +160,7 @@ impl CommandName {
             CommandName::Measure => "measure",
             CommandName::Share => "share",
             CommandName::Prefetch => "prefetch",
+            CommandName::Survey => "survey",
         }
     }
 
@@ -166,6 +179,7 @@ impl CommandName {
             CommandName::Measure => MEASURE,
             CommandName::Share => SHARE,
             CommandName::Prefetch => PREFETCH,
+            CommandName::Survey => SURVEY,
         }
     }
 }

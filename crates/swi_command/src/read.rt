@@ -1,9 +1,9 @@
 //! A command and its options, read from `clap`'s matches.
 
-ghost use Rattle.std.specs.Prelude.{◌≡◌, ◌≤◌, ◌+◌, ◌++◌, ◌%◌, IfSome, IfOk, OnOk, OnErr, Err, Some, None, [], ◌∷◌, length, map, option_map, string_bytes};
-ghost use Rattle.clap.specs.Words.{rows_of, found_of, first_of};
+ghost use Rattle.std.specs.Prelude.{◌≡◌, ◌<◌, ◌≤◌, ◌^◌, ◌+◌, All, ◌++◌, ◌%◌, IfSome, IfOk, OnOk, OnErr, Err, Some, None, [], ◌∷◌, length, map, option_map, string_bytes};
+ghost use Rattle.clap.specs.Words.{rows_of, found_of, all_of, first_of};
 ghost use Rattle.swi_command.specs.Arguments.{positional_name, form_of_number, flag_name, form_of};
-ghost use Rattle.swi_command.specs.CommandLine.{number_of, number_at, seed_of, count_of, is_set, limits_of, reports_of, options_of, trace_options_of, kind_of, cache_of, cache_with, rate_form, more_places, given_at, shared_files, schedule_of, share_options_of, request_of, IsBlockSize, IsFunctionCount, IsShareCount, IsCacheInRange, IsInRange, IsShareInRange, HasLimitsInRange};
+ghost use Rattle.swi_command.specs.CommandLine.{number_of, number_at, seed_of, count_of, is_set, limits_of, reports_of, options_of, trace_options_of, kind_of, cache_of, cache_with, rate_form, more_places, given_at, shared_files, schedule_of, share_options_of, request_of, sizes_in, sizes_of, AreSizes, IsBlockSize, IsFunctionCount, IsShareCount, IsCacheInRange, IsInRange, IsShareInRange, HasLimitsInRange};
 
 use crate::argument::{Flag, NumberOption, Positional};
 use crate::name::CommandName;
@@ -21,6 +21,13 @@ fn value_of<'a>(matches: &ArgMatches<'a>, name: &str) -> Option<&'a str>
     ensures { option_map (λ s. s.now) result ≡ first_of name.now (rows_of (found_of matches.now)) }
 {
     matches.get_str(name)
+}
+
+/// All values that the words give the argument.
+fn values_of<'a, 'b>(matches: &'b ArgMatches<'a>, name: &str) -> Option<&'b [&'a str]>
+    ensures { option_map (λ s. map (λ t. t.now) s.now) result ≡ all_of name.now (rows_of (found_of matches.now)) }
+{
+    matches.get_strs(name)
 }
 
 /// The name of a file.
@@ -275,6 +282,41 @@ fn share_options(matches: &ArgMatches<'_>) -> Option<ShareOptions>
     })
 }
 
+/// The sizes that words write, each as `--cache` takes it.
+fn sizes_in(alloc: Global, texts: &[&str]) -> Result<Vec<u32>, CommandError>
+    ensures ok { IfOk result (λ ns. sizes_in (map (λ t. t.now) texts.now) ≡ Some ns.items) }
+    ensures usage { result ≡ Err CommandError.Usage → sizes_in (map (λ t. t.now) texts.now) ≡ None }
+    ensures ranges { IfOk result (λ ns. All (λ n. (8 ≤ n) × (n < 2 ^ 32)) ns.items) }
+{
+    let rule = NumberOption::Cache.rule();
+    let mut sizes = Vec::new(alloc);
+    for text in texts {
+        let Some(size) = read_number_in(text, rule) else {
+            return Err(CommandError::Usage);
+        };
+        if sizes.push(size as u32).is_err() {
+            return Err(CommandError::Memory);
+        }
+    }
+    Ok(sizes)
+}
+
+/// The sizes of caches, 1 to 64.
+fn sizes(alloc: Global, matches: &ArgMatches<'_>) -> Result<Vec<u32>, CommandError>
+    ensures ok { IfOk result (λ ns. sizes_of (rows_of (found_of matches.now)) ≡ Some ns.items) }
+    ensures usage { result ≡ Err CommandError.Usage → sizes_of (rows_of (found_of matches.now)) ≡ None }
+    ensures ranges { IfOk result (λ ns. AreSizes ns.items) }
+{
+    let Some(texts) = values_of(matches, Positional::Sizes.name()) else {
+        return Err(CommandError::Usage);
+    };
+    let sizes = sizes_in(alloc, texts)?;
+    if sizes.is_empty() || sizes.len() > 64 {
+        return Err(CommandError::Usage);
+    }
+    Ok(sizes)
+}
+
 /// The events of the engine for each one of the hart.
 fn engine_rate(matches: &ArgMatches<'_>) -> Option<u32>
     ensures value { result ≡ number_of rate_form (rows_of (found_of matches.now)) }
@@ -338,6 +380,13 @@ pub fn command_from(
             files: shared_files(alloc, matches)?,
             cache: cache_with(matches, CacheKind::Slots).ok_or(usage)?,
             options: share_options(matches).ok_or(usage)?,
+        }),
+        CommandName::Survey => Ok(Command::Survey {
+            file: file_name(alloc, matches, Positional::File)?,
+            sizes: sizes(alloc, matches)?,
+            block_words: block_words(matches).ok_or(usage)?,
+            kind: cache_kind(matches),
+            limits: run_limits(matches).ok_or(usage)?,
         }),
         CommandName::Prefetch => Ok(Command::Prefetch {
             file: file_name(alloc, matches, Positional::File)?,

@@ -23,6 +23,7 @@ fn arg_of<'a>(alloc: Global, argument: Argument) -> Arg<'a>
     match argument {
         Argument::Positional(_) => arg.required(true),
         Argument::Further(_) => arg.required(false),
+        Argument::Many(_) => arg.required(true).action(ArgAction::Append),
         Argument::Number(_) => arg.long(name).action(ArgAction::Set),
         Argument::Flag(_) => arg.long(name).action(ArgAction::SetTrue),
     }

@@ -10,7 +10,7 @@ use Rattle.swi_answer.specs.declared.answer.Ending.{Ending}
 use Rattle.swi_answer.specs.declared.answer.Ending.TheVariants as ending
 use Rattle.swi_answer.specs.declared.answer.Refusal.{Refusal}
 use Rattle.swi_answer.specs.declared.answer.Refusal.TheVariants as refusal
-use Rattle.swi_task.specs.Checks.{image_checks}
+use Rattle.swi_task.specs.Checks.{NoCache, image_checks}
 use Rattle.swi_task.specs.Devices.{Devices}
 use Rattle.swi_task.specs.Task.{Task}
 
@@ -41,7 +41,7 @@ check_task name = record {
   contents = λ file. file ∷ [];
   writes = None;
   takes_input = false;
-  cache = None;
+  caches = NoCache;
   checks = image_checks;
   before_next = λ file. [];
   ends = λ e. e ≡ ending.Done;

@@ -11,7 +11,7 @@ use Rattle.swi_answer.specs.declared.answer.Ending.{Ending}
 use Rattle.swi_answer.specs.declared.answer.Ending.TheVariants as ending
 use Rattle.swi_answer.specs.declared.answer.Refusal.{Refusal}
 use Rattle.swi_answer.specs.declared.answer.Refusal.TheVariants as refusal
-use Rattle.swi_task.specs.Checks.{Check, IsShort, IsAcceptedElf, IsAcceptedImage, IsOwnImage, FitsUnlessImage, text_in}
+use Rattle.swi_task.specs.Checks.{NoCache, Check, IsShort, IsAcceptedElf, IsAcceptedImage, IsOwnImage, FitsUnlessImage, text_in}
 use Rattle.swi_task.specs.Devices.{Devices}
 use Rattle.swi_task.specs.Subject.{IsImageFor}
 use Rattle.swi_task.specs.Task.{Task}
@@ -52,7 +52,7 @@ list_task name most = record {
   contents = λ file. file ∷ [];
   writes = None;
   takes_input = false;
-  cache = None;
+  caches = NoCache;
   checks = list_checks most;
   before_next = λ file. [];
   ends = λ e. e ≡ ending.Done;

@@ -8,7 +8,7 @@ use Rattle.swi_cut.specs.declared.cutting.Cutting.{Cutting}
 use Rattle.swi_cut.specs.declared.cutting.Cutting.TheVariants as cutting
 use Rattle.swi_elf_write.specs.Rewritten.{rewritten_file}
 use Rattle.swi_answer.specs.declared.answer.Ending.TheVariants as ending
-use Rattle.swi_task.specs.Checks.{Check, IsShort, IsAcceptedElf, FitsBlocks, text_in}
+use Rattle.swi_task.specs.Checks.{NoCache, Check, IsShort, IsAcceptedElf, FitsBlocks, text_in}
 use Rattle.swi_task.specs.Puts.{Puts}
 use Rattle.swi_task.specs.Task.{Task}
 
@@ -34,7 +34,7 @@ rewrite_task input output block whole = record {
   contents = λ file. file ∷ [];
   writes = Some output;
   takes_input = false;
-  cache = None;
+  caches = NoCache;
   checks = rewrite_checks block;
   before_next = λ file. [];
   ends = λ e. e ≡ ending.Done;

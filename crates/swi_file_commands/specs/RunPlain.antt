@@ -12,7 +12,7 @@ use Rattle.swi_answer.specs.declared.answer.Ending.{Ending}
 use Rattle.swi_answer.specs.declared.answer.Refusal.{Refusal}
 use Rattle.swi_answer.specs.declared.answer.Refusal.TheVariants as refusal
 use Rattle.swi_task.specs.Causes.{HasCauses}
-use Rattle.swi_task.specs.Checks.{Check, IsShort, IsAcceptedElf, HasRoom, IsAcceptedImage, IsOwnImage}
+use Rattle.swi_task.specs.Checks.{NoCache, Check, IsShort, IsAcceptedElf, HasRoom, IsAcceptedImage, IsOwnImage}
 use Rattle.swi_task.specs.Devices.{Devices}
 use Rattle.swi_task.specs.Runs.{Ran, FailedAtStep, FailedAfterRun, report, start_of}
 use Rattle.swi_task.specs.Task.{Task}
@@ -47,7 +47,7 @@ plain_task name o = record {
   contents = λ file. file ∷ [];
   writes = None;
   takes_input = true;
-  cache = None;
+  caches = NoCache;
   checks = plain_checks o.limits;
   before_next = λ file. [];
   ends = λ e. ⊤;

@@ -7,7 +7,7 @@ use Rattle.swi_program.specs.ProgramOf.{program_of_file}
 use Rattle.swi_cut.specs.Upgrades.{IsUpgrade}
 use Rattle.swi_elf_write.specs.Rewritten.{rewritten_file}
 use Rattle.swi_answer.specs.declared.answer.Ending.TheVariants as ending
-use Rattle.swi_task.specs.Checks.{image_checks, text_in}
+use Rattle.swi_task.specs.Checks.{NoCache, image_checks, text_in}
 use Rattle.swi_task.specs.Puts.{Puts}
 use Rattle.swi_task.specs.Task.{Task}
 
@@ -29,7 +29,7 @@ upgrade_task input output = record {
   contents = λ file. file ∷ [];
   writes = Some output;
   takes_input = false;
-  cache = None;
+  caches = NoCache;
   checks = image_checks;
   before_next = λ file. [];
   ends = λ e. e ≡ ending.Done;

@@ -14,7 +14,7 @@ use swi_image::ImageRefusal;
 static REFUSALS: [(Refusal, &str, u8); 23] = [
     (
         Refusal::Usage,
-        "usage: swic rewrite, cached, plain, trace, list, check, measure, upgrade, share, prefetch\n",
+        "usage: swic rewrite, cached, plain, trace, list, check, measure, upgrade, share, prefetch, survey\n",
         250,
     ),
     (

@@ -30,7 +30,7 @@ use Rattle.swi_answer.specs.declared.answer.Refusal.TheVariants as refusal
 use Rattle.swi_answer.specs.Lines.{ending_line}
 use Rattle.swi_cached_command.specs.Caching.{IsCachedRun, board_work, cache_for, work_of}
 use Rattle.swi_task.specs.Causes.{HasCauses}
-use Rattle.swi_task.specs.Checks.{Check, FitsMade, HoldsBlock}
+use Rattle.swi_task.specs.Checks.{InRam, Check, FitsMade, HoldsBlock}
 use Rattle.swi_task.specs.Devices.{Devices}
 use Rattle.swi_task.specs.Runs.{FailedBehind}
 use Rattle.swi_task.specs.Task.{Task}
@@ -129,7 +129,7 @@ measure_task seed functions cache = record {
   contents = λ files. [];
   writes = None;
   takes_input = false;
-  cache = Some cache.cache_bytes;
+  caches = InRam cache.cache_bytes;
   checks = λ files. measure_checks seed functions cache;
   before_next = λ file. [];
   ends = λ e. ⊤;

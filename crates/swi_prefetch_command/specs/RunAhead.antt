@@ -43,6 +43,7 @@ use Rattle.swi_prefetch_command.specs.declared.command.AheadAsked.{AheadAsked}
 use Rattle.swi_task.specs.Answers.{IsRunFault}
 use Rattle.swi_cached_command.specs.Caching.{RamCounted, board_work}
 use Rattle.swi_task.specs.Causes.{HasCauses}
+use Rattle.swi_task.specs.Checks.{InRam}
 use Rattle.swi_task.specs.Devices.{Devices}
 use Rattle.swi_cached_command.specs.RunCached.{IsRunErr, cached_checks, held_next, held_taken}
 use Rattle.swi_task.specs.Runs.{FailedAfterRun, Ran, StepFailed, report, start_of}
@@ -174,7 +175,7 @@ ahead_task name cache o rate = record {
   contents = λ file. file ∷ [];
   writes = None;
   takes_input = true;
-  cache = Some cache.cache_bytes;
+  caches = InRam cache.cache_bytes;
   checks = cached_checks o.limits cache;
   before_next = λ file. [];
   ends = λ e. ⊤;

@@ -237,7 +237,7 @@ shelf_broke names cache o d s size h = record {
         (none_longer (share_task names cache o) d.shelf.contents refusal.ShelfFault h.gets (λ x. x));
   };
   input = refl;
-  ram = keeps_ram (share_task names cache o).cache d.ram;
+  ram = keeps_ram (share_task names cache o).caches d.ram;
   causes = shelf_causes d s h.later h.cause;
 }
 

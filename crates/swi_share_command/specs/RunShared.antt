@@ -45,7 +45,7 @@ use Rattle.swi_answer.specs.Lines.{guest_line}
 use Rattle.swi_share_command.specs.declared.command.GuestFile.{GuestFile}
 use Rattle.swi_task.specs.Answers.{IsLast, IsLastLonger, IsRunFault, StandFirst}
 use Rattle.swi_task.specs.Causes.{HasCauses}
-use Rattle.swi_task.specs.Checks.{Check, IsShort, IsAcceptedElf, HasRoom, IsAcceptedImage, IsOwnImage, FitsUnlessImage, HoldsBlock, IsAccepted, IsRefusedBy, block_words, file_limit, room_in, text_in}
+use Rattle.swi_task.specs.Checks.{InRam, Check, IsShort, IsAcceptedElf, HasRoom, IsAcceptedImage, IsOwnImage, FitsUnlessImage, HoldsBlock, IsAccepted, IsRefusedBy, block_words, file_limit, room_in, text_in}
 use Rattle.swi_task.specs.Devices.{Devices}
 use Rattle.swi_task.specs.Runs.{ending_by}
 use Rattle.swi_task.specs.Subject.{IsImageFor}
@@ -235,7 +235,7 @@ share_task names cache o = record {
   contents = λ files. files;
   writes = None;
   takes_input = false;
-  cache = Some cache.cache_bytes;
+  caches = InRam cache.cache_bytes;
   checks = share_checks cache o;
   before_next = guest_checks (limits_by o) cache.block_words;
   ends = λ e. e ≡ ending.Done;

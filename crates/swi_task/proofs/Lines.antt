@@ -262,7 +262,7 @@ pub ending_failed : (t : Task) (lined : IsLined t) (d m : Devices) (e : Ending) 
     Answers t d (told_to m error) (Err refusal.SinkFault) []
 ending_failed t lined d m e error a p never later rose = record {
   asked = λ x. let bad : ⊥ = cc in bad;
-  sized = sized_fault (cache_refusal t.cache (length d.ram.words)) e a.sized;
+  sized = sized_fault (cache_refusal t.caches (length d.ram.words)) e a.sized;
   checked = a.checked;
   long = λ limit x. absurd (let bad : ⊥ = cc in bad);
   ended = tt;

@@ -73,7 +73,7 @@ stored_none : {before middle : ShelfState} {input bytes : List ℕ} (after : She
 stored_none after read same = same ∙ read.stored
 
 -- it was written
-pub put_done : {u : Unit} (t : Task) (d : Devices) (m s : ShelfState) (input bytes output content : List ℕ) (files : t.Files) → cache_refusal t.cache (length d.ram.words) ≡ None →
+pub put_done : {u : Unit} (t : Task) (d : Devices) (m s : ShelfState) (input bytes output content : List ℕ) (files : t.Files) → cache_refusal t.caches (length d.ram.words) ≡ None →
     t.reads ≡ input ∷ [] → t.writes ≡ Some output → IsRead d.shelf m input bytes → FileWritten m s output content (Ok u) →
     ((others : t.Files) → AreFiles t d.shelf s others → files ≡ others) → IsAccepted (t.checks files) → t.ends ending.Done →
     (s.stored ≡ d.shelf.stored ++ (output, content) ∷ [] → Stands s.contents output content → t.does files d (record d { shelf = s }) ending.Done []) → Answers t d (record d { shelf = s }) (Ok ending.Done) []
@@ -107,12 +107,12 @@ put_done {u} t d m s input bytes output content files size one is read written o
                 (subst (λ (o : Option (List ℕ)). HasStored (Ok ending.Done) o d.shelf.stored s.stored) (sym is) (content, stored));
           };
           input = keeps_input t.takes_input d.input;
-          ram = keeps_ram t.cache d.ram;
+          ram = keeps_ram t.caches d.ram;
           causes = calm_causes d (record d { shelf = s }) (Ok ending.Done) tt (calm.0 ∙ read.faults) refl refl;
         }
 
 -- the shelf failed in writing
-put_failed : (t : Task) (d : Devices) (m s : ShelfState) (input bytes output content : List ℕ) (files : t.Files) → cache_refusal t.cache (length d.ram.words) ≡ None →
+put_failed : (t : Task) (d : Devices) (m s : ShelfState) (input bytes output content : List ℕ) (files : t.Files) → cache_refusal t.caches (length d.ram.words) ≡ None →
     t.reads ≡ input ∷ [] → t.writes ≡ Some output → IsRead d.shelf m input bytes → WasPut m s output content (Err error.Failed) →
     ((others : t.Files) → AreFiles t d.shelf s others → files ≡ others) → IsAccepted (t.checks files) → Answers t d (record d { shelf = s }) (Err refusal.ShelfFault) []
 put_failed t d m s input bytes output content files size one is read put only accepted =
@@ -140,12 +140,12 @@ put_failed t d m s input bytes output content files size one is read put only ac
             (subst (λ (l : Option Asked). AreGiven l (Err refusal.ShelfFault) 1 1) (sym failed.1) refl) (stored_none s read put.stores);
       };
       input = keeps_input t.takes_input d.input;
-      ram = keeps_ram t.cache d.ram;
+      ram = keeps_ram t.caches d.ram;
       causes = shelf_causes d s (subst (λ (n : ℕ). n ≤ s.faults) read.faults put.cause.later) (subst (λ (n : ℕ). Rose n s.faults) read.faults failed.0);
     }
 
 -- the file was read, and then the shelf failed in writing, or there was no memory for it
-pub put_refused : (t : Task) (d : Devices) (m s : ShelfState) (input bytes output content : List ℕ) (files : t.Files) (r : Refusal) → cache_refusal t.cache (length d.ram.words) ≡ None →
+pub put_refused : (t : Task) (d : Devices) (m s : ShelfState) (input bytes output content : List ℕ) (files : t.Files) (r : Refusal) → cache_refusal t.caches (length d.ram.words) ≡ None →
     t.reads ≡ input ∷ [] → t.writes ≡ Some output → IsRead d.shelf m input bytes → FileWritten m s output content (Err r) →
     ((others : t.Files) → AreFiles t d.shelf s others → files ≡ others) → IsAccepted (t.checks files) → Answers t d (record d { shelf = s }) (Err r) []
 put_refused t d m s input bytes output content files r size one is read written only accepted = by written.answer written.put written.handed_on

@@ -2,6 +2,7 @@
 use Rattle.std.proofs.Common.{◌*◌, Bool, true, false, nat_lt, if◌then◌else◌, ◌≡◌, ◌⊎◌, inl, inr, ℕ, ◌+◌, ◌≤◌, ◌<◌, List, [], ◌∷◌, ◌++◌, ◌∙◌, length, Option, Some, None, Result, Ok, Err, IsErrOf, refl, sym, subst, ap, arith, OnErr}
 use Rattle.std.proofs.lemmas.List.{append-nil, append_cancel_left, take_all}
 use Rattle.std.proofs.lemmas.List.Elements.{All-nil, All-same}
+use Rattle.std.specs.Option.{option_or}
 use Rattle.std.specs.Prelude.{option_map, Vec, take, zip, ◌-◌, All}
 use Rattle.std.specs.declared.alloc.Global.{Global}
 use Rattle.swi_outside.specs.CacheRam.{RamState}
@@ -21,7 +22,7 @@ use Rattle.swi_answer.specs.declared.answer.Refusal.{Refusal}
 use Rattle.swi_answer.specs.declared.answer.Refusal.TheVariants as refusal
 use Rattle.swi_task.specs.Devices.{Devices, IsUntouched, stream_faults}
 use Rattle.swi_task.specs.Causes.{HasCauses}
-use Rattle.swi_task.specs.Checks.{Check, IsShort, IsAcceptedElf, HasRoom, HasImage, IsAcceptedImage, IsOwnImage, FitsBlocks, FitsUnlessImage, FitsMade, HoldsBlock, Fails, IsAccepted, IsRefusedBy, IsRefusedOr, cache_limit, cache_refusal, file_limit, size_refusal}
+use Rattle.swi_task.specs.Checks.{Check, IsShort, IsAcceptedElf, HasRoom, HasImage, IsAcceptedImage, IsOwnImage, FitsBlocks, FitsUnlessImage, FitsMade, HoldsBlock, Fails, IsAccepted, IsRefusedBy, IsRefusedOr, Caches, NoCache, InRam, CountedFor, cache_limit, cache_refusal, file_limit, first_size_refusal, size_refusal}
 use Rattle.swi_task.specs.Answers.{Answers, AreGiven, HasPassed, HasStored, IsAskedFor, IsChecked, IsLast, IsLastLonger, IsSized, IsSizeRefusal, IsRunFault, KeepsInput, KeepsRam, StandFirst, writes_in, KeepsShelf}
 use Rattle.swi_task.specs.Files.{FileRead, answer_by}
 use Rattle.swi_task.specs.Task.{AreFiles, GaveFirst, Task, Tells, TellsAll}
@@ -225,9 +226,10 @@ out_causes d m shelf ram input error later rose =
 pub untouched : (d : Devices) (s : ShelfState) → IsUntouched d (record d { shelf = s })
 untouched d s = record { input = refl; output = refl; ram = refl }
 
-pub keeps_ram : (cache : Option ℕ) (r : RamState) → KeepsRam cache r r
-keeps_ram None r = refl
-keeps_ram (Some bytes) r = record { beyond = λ i h. refl; same_length = refl; reached = omega arith }
+pub keeps_ram : (caches : Caches) (r : RamState) → KeepsRam caches r r
+keeps_ram NoCache r = refl
+keeps_ram (InRam bytes) r = record { beyond = λ i h. refl; same_length = refl; reached = omega arith }
+keeps_ram (CountedFor sizes) r = refl
 
 pub keeps_input : (takes : Bool) (s : SourceState) → KeepsInput takes s s
 keeps_input true s = tt
@@ -440,7 +442,7 @@ pub none_long : (t : Task) (contents : Option Contents) (r : Refusal) → (IsToo
 none_long t contents r never limit is = absurd (not_long r never limit is)
 
 pub refused : (t : Task) (d : Devices) (s : ShelfState) (r : Refusal) (gets puts : ℕ) →
-    (IsErrOf {T = Ending} (Err r) refusal.Usage → ⊥) → IsSized (cache_refusal t.cache (length d.ram.words)) (Err r) → (IsRunFault r → ⊥) → (IsErrOf {T = Ending} (Err r) refusal.ShelfFault → ⊥) →
+    (IsErrOf {T = Ending} (Err r) refusal.Usage → ⊥) → IsSized (cache_refusal t.caches (length d.ram.words)) (Err r) → (IsRunFault r → ⊥) → (IsErrOf {T = Ending} (Err r) refusal.ShelfFault → ⊥) →
     HasCauses {T = Ending} d (record d { shelf = s }) (Err r) → Same d.shelf.contents s.contents → s.last_failed ≡ d.shelf.last_failed →
     ((files : t.Files) → AreFiles t d.shelf s files → IsChecked (t.checks files) s.last_failed (Err r)) → IsLongBy t d.shelf.contents r →
     s.calls ≡ risen d.shelf.calls (gets + puts) → IsAskedFor (length t.reads) (writes_in t.writes) s.last_failed (Err r) gets puts →
@@ -466,11 +468,11 @@ refused t d s r gets puts asked sized calm shelf causes same last checked long c
     passed = passed;
   };
   input = keeps_input t.takes_input d.input;
-  ram = keeps_ram t.cache d.ram;
+  ram = keeps_ram t.caches d.ram;
   causes = causes;
 }
 
-pub late : (t : Task) (d : Devices) (s : ShelfState) (r : Refusal) (gets puts : ℕ) → IsLate r → cache_refusal t.cache (length d.ram.words) ≡ None →
+pub late : (t : Task) (d : Devices) (s : ShelfState) (r : Refusal) (gets puts : ℕ) → IsLate r → cache_refusal t.caches (length d.ram.words) ≡ None →
     Same d.shelf.contents s.contents → s.faults ≡ d.shelf.faults → s.last_failed ≡ d.shelf.last_failed →
     ((files : t.Files) → AreFiles t d.shelf s files → IsChecked (t.checks files) s.last_failed (Err r)) → IsLongBy t d.shelf.contents r →
     s.calls ≡ risen d.shelf.calls (gets + puts) → IsAskedFor (length t.reads) (writes_in t.writes) s.last_failed (Err r) gets puts →
@@ -480,7 +482,7 @@ late t d s r gets puts h size same faults last checked long calls asks passed =
     (calm_causes d (record d { shelf = s }) (Err r) (late_own r h) faults refl refl) same last checked long calls asks passed
 
 -- by a check of the file that was read, or for want of memory
-pub check_refused : (t : Task) (d : Devices) (s : ShelfState) (name bytes : List ℕ) (files : t.Files) (r : Refusal) → cache_refusal t.cache (length d.ram.words) ≡ None →
+pub check_refused : (t : Task) (d : Devices) (s : ShelfState) (name bytes : List ℕ) (files : t.Files) (r : Refusal) → cache_refusal t.caches (length d.ram.words) ≡ None →
     t.reads ≡ name ∷ [] → IsRead d.shelf s name bytes → AreShort (t.checks files) → ((others : t.Files) → AreFiles t d.shelf s others → files ≡ others) →
     IsRefusedOr (t.checks files) r → Answers t d (record d { shelf = s }) (Err r) []
 check_refused t d s name bytes files r size is read short only why = elim why [
@@ -497,7 +499,7 @@ check_refused t d s name bytes files r size is read short only why = elim why [
 
 -- ---- the file was not read
 
-pub read_failed : (t : Task) (name : List ℕ) (d : Devices) (s : ShelfState) → t.reads ≡ name ∷ [] → cache_refusal t.cache (length d.ram.words) ≡ None →
+pub read_failed : (t : Task) (name : List ℕ) (d : Devices) (s : ShelfState) → t.reads ≡ name ∷ [] → cache_refusal t.caches (length d.ram.words) ≡ None →
     WasGot d.shelf s name file_limit (Err error.Failed) → Answers t d (record d { shelf = s }) (Err refusal.ShelfFault) []
 read_failed t name d s is size got =
     let failed = got.cause.failed refl in record {
@@ -523,7 +525,7 @@ read_failed t name d s is size got =
             (subst (λ (x : Option Asked). AreGiven x (Err refusal.ShelfFault) 1 0) (sym failed.1) (omega arith)) (none_longer t d.shelf.contents refusal.ShelfFault 1 (λ x. x));
       };
       input = keeps_input t.takes_input d.input;
-      ram = keeps_ram t.cache d.ram;
+      ram = keeps_ram t.caches d.ram;
       causes = shelf_causes d s got.cause.later failed.0;
     }
 
@@ -537,7 +539,7 @@ pub too_long : (c : Option Contents) (name file : List ℕ) → IsLonger c name 
 too_long c name file longer told = (longer_is c name file file_limit told longer, refl)
 
 -- the shelf failed, it was too long, or there was no memory for it
-pub read_refused : (t : Task) (name : List ℕ) (d : Devices) (s : ShelfState) (r : Refusal) → t.reads ≡ name ∷ [] → cache_refusal t.cache (length d.ram.words) ≡ None →
+pub read_refused : (t : Task) (name : List ℕ) (d : Devices) (s : ShelfState) (r : Refusal) → t.reads ≡ name ∷ [] → cache_refusal t.caches (length d.ram.words) ≡ None →
     (IsLonger d.shelf.contents name file_limit → (files : t.Files) → TellsAll d.shelf.contents t.reads (t.contents files) → IsRefusedBy (t.checks files) (refusal.FileLong file_limit)) →
     FileRead d.shelf s name (Err r) → Answers t d (record d { shelf = s }) (Err r) []
 read_refused t name d s r is size long h = by h.answer h.got h.handed_on
@@ -597,14 +599,24 @@ size_is bytes words r e = by (nat_lt cache_limit bytes) (nat_lt (4 * words) byte
 sized_so : (x : Option Refusal) (r : Refusal) → x ≡ Some r → IsSized x (Err r)
 sized_so x r e = record { refused = λ s is. inl (let same : r ≡ s = cc in ap (λ (y : Refusal). Err y) same); only = λ _. e }
 
-cache_is : (x : Option ℕ) (words : ℕ) (r : Refusal) → cache_refusal x words ≡ Some r → IsSizeRefusal r
-cache_is None words r e = absurd (let never : ⊥ = cc in never)
-cache_is (Some bytes) words r e = size_is bytes words r e
+either_is : (x y : Option Refusal) (r : Refusal) → option_or x y ≡ Some r → (x ≡ Some r → IsSizeRefusal r) → (y ≡ Some r → IsSizeRefusal r) → IsSizeRefusal r
+either_is None y r e first rest = rest e
+either_is (Some s) y r e first rest = first e
 
-pub size_refused : (t : Task) (d : Devices) (r : Refusal) → cache_refusal t.cache (length d.ram.words) ≡ Some r → Answers t d d (Err r) []
-size_refused t d r e = by r (cache_is t.cache (length d.ram.words) r e) e
+sizes_are : (sizes : List ℕ) (words : ℕ) (r : Refusal) → first_size_refusal sizes words ≡ Some r → IsSizeRefusal r
+sizes_are [] words r e = absurd (let never : ⊥ = cc in never)
+sizes_are (bytes ∷ sizes) words r e =
+    either_is (size_refusal bytes words) (first_size_refusal sizes words) r e (λ this. size_is bytes words r this) (λ rest. sizes_are sizes words r rest)
+
+cache_is : (caches : Caches) (words : ℕ) (r : Refusal) → cache_refusal caches words ≡ Some r → IsSizeRefusal r
+cache_is NoCache words r e = absurd (let never : ⊥ = cc in never)
+cache_is (InRam bytes) words r e = size_is bytes words r e
+cache_is (CountedFor sizes) words r e = sizes_are sizes words r e
+
+pub size_refused : (t : Task) (d : Devices) (r : Refusal) → cache_refusal t.caches (length d.ram.words) ≡ Some r → Answers t d d (Err r) []
+size_refused t d r e = by r (cache_is t.caches (length d.ram.words) r e) e
   where
-    by : (r : Refusal) → IsSizeRefusal r → cache_refusal t.cache (length d.ram.words) ≡ Some r → Answers t d d (Err r) []
+    by : (r : Refusal) → IsSizeRefusal r → cache_refusal t.caches (length d.ram.words) ≡ Some r → Answers t d d (Err r) []
     by (refusal.CacheLarge bytes) h e =
         refused t d d.shelf (refusal.CacheLarge bytes) 0 0 (λ x. let never : ⊥ = cc in never) (sized_so _ _ e) (λ x. x) (λ x. let never : ⊥ = cc in never)
         (calm_causes d d (Err (refusal.CacheLarge bytes)) tt refl refl refl) (contents_stay d) refl (λ _ _. tt) (none_long t d.shelf.contents (refusal.CacheLarge bytes) (λ x. x))

@@ -10,7 +10,7 @@ use Rattle.swi_answer.specs.declared.answer.Refusal.{Refusal}
 use Rattle.swi_answer.specs.declared.answer.Refusal.TheVariants as refusal
 use Rattle.swi_answer.specs.Lines.{ending_line, refusal_line}
 use Rattle.swi_task.specs.Devices.{Devices, IsUntouched, with_error_faults}
-use Rattle.swi_task.specs.Checks.{Check, IsAccepted, IsRefusedBy, cache_refusal}
+use Rattle.swi_task.specs.Checks.{Caches, NoCache, InRam, CountedFor, Check, IsAccepted, IsRefusedBy, cache_refusal}
 use Rattle.swi_task.specs.Causes.{HasCauses}
 use Rattle.swi_task.specs.Task.{AreFiles, GaveFirst, Task, TellsAll}
 
@@ -48,7 +48,7 @@ IsSizeRefusal (refusal.CacheLarge bytes) = ⊤
 IsSizeRefusal (refusal.RamSmall bytes held) = ⊤
 IsSizeRefusal _ = ⊥
 
--- the cache is refused, but for want of memory, exactly where it is too large, or larger than the ram
+-- a cache is refused, but for want of memory, exactly where one is too large, or larger than the ram: the first such one
 pub record IsSized (expected : Option Refusal) (result : Result Ending Refusal) : Type 0 where
   pub refused : (r : Refusal) → expected ≡ Some r → (result ≡ Err r) ⊎ IsErrOf result refusal.Memory
   pub only : IfErr result (λ r. IsSizeRefusal r → expected ≡ Some r)
@@ -159,10 +159,11 @@ abbrev pub KeepsInput : Bool → SourceState → SourceState → Type 0
 KeepsInput true before after = ⊤
 KeepsInput false before after = after ≡ before
 
--- of the ram: a command with a cache keeps the words behind it, any other all
-abbrev pub KeepsRam : Option ℕ → RamState → RamState → Type 0
-KeepsRam None before after = after ≡ before
-KeepsRam (Some bytes) before after = KeepsBeyond (bytes / 4) before after
+-- of the ram: a command with a cache in it keeps the words behind that, any other all
+abbrev pub KeepsRam : Caches → RamState → RamState → Type 0
+KeepsRam NoCache before after = after ≡ before
+KeepsRam (InRam bytes) before after = KeepsBeyond (bytes / 4) before after
+KeepsRam (CountedFor sizes) before after = after ≡ before
 
 -- ---- the whole answer
 
@@ -171,7 +172,7 @@ pub record Answers (t : Task) (before after : Devices) (result : Result Ending R
   -- the words were a command
   pub asked : IsErrOf result refusal.Usage → ⊥
   -- the sizes are checked first, and then the files
-  pub sized : IsSized (cache_refusal t.cache (length before.ram.words)) result
+  pub sized : IsSized (cache_refusal t.caches (length before.ram.words)) result
   pub checked : (files : t.Files) → AreFiles t before.shelf after.shelf files → IsChecked (t.checks files) after.shelf.last_failed result
   -- one is too long only where the shelf tells no files, or this is the first check that fails
   pub long : (limit : ℕ) → IsErrOf result (refusal.FileLong limit) → (files : t.Files) → TellsAll before.shelf.contents t.reads (t.contents files) →
@@ -187,7 +188,7 @@ pub record Answers (t : Task) (before after : Devices) (result : Result Ending R
   -- whatever the devices tell, these stay
   pub shelf : KeepsShelf t before.shelf after.shelf result
   pub input : KeepsInput t.takes_input before.input after.input
-  pub ram : KeepsRam t.cache before.ram after.ram
+  pub ram : KeepsRam t.caches before.ram after.ram
   -- each fault has its cause, and each failure is answered
   pub causes : HasCauses before after result
 

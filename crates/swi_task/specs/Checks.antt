@@ -1,5 +1,6 @@
 -- The checks that a command makes before it does anything: what each asks, and what it refuses with.
 use Rattle.std.specs.Prelude.{◌≡◌, ◌⊎◌, ℕ, ◌+◌, ◌*◌, ◌^◌, ◌<◌, ◌≤◌, nat_lt, List, [], ◌∷◌, length, Option, Some, None, option_map, Result, Ok, Err, ⊤, if◌then◌else◌}
+use Rattle.std.specs.Option.{option_or}
 use Rattle.swi_command.specs.declared.command.CacheOptions.{CacheOptions}
 use Rattle.swi_command.specs.declared.command.RunLimits.{RunLimits}
 use Rattle.swi_elf_read.specs.Elf as elf
@@ -32,10 +33,25 @@ size_refusal bytes words =
     else if nat_lt (4 * words) bytes then Some (refusal.RamSmall bytes (4 * words))
     else None
 
--- the refusal of a cache, where there is one, that is too large, or larger than a ram of so many words
-abbrev pub cache_refusal : Option ℕ → ℕ → Option Refusal
-cache_refusal None words = None
-cache_refusal (Some bytes) words = size_refusal bytes words
+-- the refusal by the first of several sizes that is refused
+abbrev pub first_size_refusal : List ℕ → ℕ → Option Refusal
+first_size_refusal [] words = None
+first_size_refusal (bytes ∷ sizes) words = option_or (size_refusal bytes words) (first_size_refusal sizes words)
+
+-- the caches of a command
+pub data Caches : Type 0 where
+  -- none
+  NoCache : Caches
+  -- one of so many bytes, in the ram
+  InRam : (bytes : ℕ) → Caches
+  -- of each of these sizes one, which is counted for without the ram
+  CountedFor : (sizes : List ℕ) → Caches
+
+-- the refusal of the first cache that is too large, or larger than a ram of so many words
+abbrev pub cache_refusal : Caches → ℕ → Option Refusal
+cache_refusal NoCache words = None
+cache_refusal (InRam bytes) words = size_refusal bytes words
+cache_refusal (CountedFor sizes) words = first_size_refusal sizes words
 
 -- ---- the checks of a file
 

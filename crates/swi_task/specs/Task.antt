@@ -5,7 +5,7 @@ use Rattle.swi_outside.specs.Shelf.{Contents, ShelfState}
 use Rattle.swi_answer.specs.declared.answer.Ending.{Ending}
 use Rattle.swi_answer.specs.declared.answer.Refusal.{Refusal}
 use Rattle.swi_task.specs.Devices.{Devices}
-use Rattle.swi_task.specs.Checks.{Check}
+use Rattle.swi_task.specs.Checks.{Caches, Check}
 
 -- the shelf tells that this stands under the name
 abbrev pub Tells : Option Contents → List ℕ → List ℕ → Type 0
@@ -31,8 +31,8 @@ pub record Task : Type 1 where
   pub writes : Option (List ℕ)
   -- whether it takes of the input; without that it leaves the input alone
   pub takes_input : Bool
-  -- the bytes of its cache in the ram; without one it leaves the ram alone
-  pub cache : Option ℕ
+  -- its caches; but for one in the ram it leaves the ram alone
+  pub caches : Caches
   -- what is checked before it does anything, in this order
   pub checks : Files → List Check
   -- what of it is checked of a file before the next one is asked for

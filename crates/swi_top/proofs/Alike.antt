@@ -76,8 +76,8 @@ not_refused t files before after refusal.SinkFault a free = elim (a.answers.caus
   | inr rose ↦ free.quiet.error (rose_above before.error.faults a.untold after.error.faults a.later rose)
 ]
 not_refused t files before after refusal.RamFault a free = free.quiet.ram (a.answers.causes.ram.cause refl)
-not_refused t files before after (refusal.CacheLarge bytes) a free = size_not (cache_refusal t.cache (length before.ram.words)) (refusal.CacheLarge bytes) free.sized (a.answers.sized.only tt)
-not_refused t files before after (refusal.RamSmall bytes held) a free = size_not (cache_refusal t.cache (length before.ram.words)) (refusal.RamSmall bytes held) free.sized (a.answers.sized.only tt)
+not_refused t files before after (refusal.CacheLarge bytes) a free = size_not (cache_refusal t.caches (length before.ram.words)) (refusal.CacheLarge bytes) free.sized (a.answers.sized.only tt)
+not_refused t files before after (refusal.RamSmall bytes held) a free = size_not (cache_refusal t.caches (length before.ram.words)) (refusal.RamSmall bytes held) free.sized (a.answers.sized.only tt)
 not_refused t files before after (refusal.FileLong limit) a free = elim free.are [
   | inl gave ↦
       let passed = a.answers.shelf.passed in

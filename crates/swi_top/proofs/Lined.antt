@@ -1,5 +1,5 @@
 -- How the last line stands behind what each command did, or left.
-use Rattle.swi_command.specs.CommandLine.{Request, RewriteFile, RunAhead, RunShared, RunCached, RunPlain, ListFile, CheckFile, UpgradeFile, MeasureMade}
+use Rattle.swi_command.specs.CommandLine.{Request, RewriteFile, RunAhead, RunShared, RunCached, RunPlain, ListFile, CheckFile, UpgradeFile, MeasureMade, RunSurvey}
 use Rattle.swi_top.specs.Tasks.{task_of}
 use Rattle.swi_task.proofs.Lines.{IsLined}
 use Rattle.swi_file_commands.proofs.Confirming.{check_lined}
@@ -10,6 +10,7 @@ use Rattle.swi_cached_command.proofs.Caching.{cached_lined}
 use Rattle.swi_measure_command.proofs.Measuring.{measure_lined}
 use Rattle.swi_prefetch_command.proofs.Ahead.{ahead_lined}
 use Rattle.swi_share_command.proofs.SharedRuns.{share_lined}
+use Rattle.swi_survey_command.proofs.Surveying.{survey_lined}
 
 pub lined : (q : Request) → IsLined (task_of q)
 lined (RewriteFile input output block whole) = rewrite_lined input output block whole
@@ -21,3 +22,4 @@ lined (RunCached name cache o) = cached_lined name cache o
 lined (RunAhead name cache o rate) = ahead_lined name cache o rate
 lined (MeasureMade seed functions cache) = measure_lined seed functions cache
 lined (RunShared names cache o) = share_lined names cache o
+lined (RunSurvey name sizes block kind limits) = survey_lined name sizes block kind limits

@@ -27,13 +27,13 @@ pub record NoneRose (before after : Devices) : Type 0 where
   pub error : Rose before.error.faults after.error.faults → ⊥
   pub ram : Rose before.ram.faults after.ram.faults → ⊥
 
--- nothing stood in a command's way: all its files were given, or are told, and all checks pass; its cache, where it has one, is neither too large
--- nor larger than the ram; no device failed, and there was memory
+-- nothing stood in a command's way: all its files were given, or are told, and all checks pass; none of its caches is too large, or larger than
+-- the ram; no device failed, and there was memory
 pub record IsFree (t : Task) (files : t.Files) (before after : Devices) (result : Result Ending Refusal) : Type 0 where
   pub are : AreFiles t before.shelf after.shelf files
   pub all : length (t.contents files) ≡ length t.reads
   pub accepted : IsAccepted (t.checks files)
-  pub sized : cache_refusal t.cache (length before.ram.words) ≡ None
+  pub sized : cache_refusal t.caches (length before.ram.words) ≡ None
   pub quiet : NoneRose before after
   pub memory : IsErrOf result refusal.Memory → ⊥
 

@@ -1,5 +1,5 @@
 -- The record of each command.
-use Rattle.swi_command.specs.CommandLine.{Request, RewriteFile, RunAhead, RunShared, RunCached, RunPlain, ListFile, CheckFile, UpgradeFile, MeasureMade}
+use Rattle.swi_command.specs.CommandLine.{Request, RewriteFile, RunAhead, RunShared, RunCached, RunPlain, ListFile, CheckFile, UpgradeFile, MeasureMade, RunSurvey}
 use Rattle.swi_task.specs.Task.{Task}
 use Rattle.swi_file_commands.specs.RewriteFile.{rewrite_task}
 use Rattle.swi_file_commands.specs.UpgradeFile.{upgrade_task}
@@ -10,6 +10,7 @@ use Rattle.swi_cached_command.specs.RunCached.{cached_task}
 use Rattle.swi_prefetch_command.specs.RunAhead.{ahead_task}
 use Rattle.swi_measure_command.specs.MeasureMade.{measure_task}
 use Rattle.swi_share_command.specs.RunShared.{share_task}
+use Rattle.swi_survey_command.specs.RunSurvey.{survey_task}
 
 abbrev pub task_of : Request → Task
 task_of (RewriteFile input output block whole) = rewrite_task input output block whole
@@ -21,3 +22,4 @@ task_of (RunCached name cache o) = cached_task name cache o
 task_of (RunAhead name cache o rate) = ahead_task name cache o rate
 task_of (MeasureMade seed functions cache) = measure_task seed functions cache
 task_of (RunShared names cache o) = share_task names cache o
+task_of (RunSurvey name sizes block kind limits) = survey_task name sizes block kind limits

@@ -18,6 +18,7 @@ use swi_measure_command::measure;
 use swi_outside::{Shelf, Sink, Source, SteadyRam};
 use swi_prefetch_command::prefetch;
 use swi_share_command::share;
+use swi_survey_command::survey;
 
 /// Does what a command asks for, but for its last line on the error sink.
 pub(crate) fn perform<F: Shelf, I: Source, O: Sink, E: Sink, R: SteadyRam>(
@@ -117,5 +118,26 @@ pub(crate) fn perform<F: Shelf, I: Source, O: Sink, E: Sink, R: SteadyRam>(
             err,
             ram,
         ),
+        Command::Survey {
+            file,
+            sizes,
+            block_words,
+            kind,
+            limits,
+        } => {
+            survey(
+                alloc,
+                file.as_str(),
+                sizes.as_slice(),
+                *block_words,
+                *kind,
+                limits,
+                shelf,
+                input,
+                out,
+                err,
+                ram,
+            )
+        }
     }
 }

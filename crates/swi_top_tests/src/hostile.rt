@@ -144,7 +144,7 @@ impl Device {
 
 /// A command on a text, or without one on `TABLE`; the device of which each call fails in turn; and how many calls of it
 /// the command makes, worked out by hand.
-static FAILING: [(Row, Device, u32); 14] = [
+static FAILING: [(Row, Device, u32); 16] = [
     // ten words are set for the block and its link, and eleven are fetched
     (
         row!(words: "cached A --block 16 --cache 64 --stats", text: COUNT, ram: 16),
@@ -172,6 +172,11 @@ static FAILING: [(Row, Device, u32); 14] = [
         Device::Input,
         2,
     ),
+    (
+        row!(words: "survey A 256", text: ECHO, input: "abc"),
+        Device::Input,
+        2,
+    ),
     // what the program writes, and a line of each count
     (row!(words: "plain A --stats", text: &[]), Device::Output, 2),
     (
@@ -190,6 +195,12 @@ static FAILING: [(Row, Device, u32); 14] = [
         5,
     ),
     (row!(words: "measure 1 1"), Device::Output, 13),
+    // a size, nine counts, and the line's end
+    (
+        row!(words: "survey A 256 --block 8", text: SEVEN),
+        Device::Output,
+        11,
+    ),
     (
         row!(words: "cached A --calls", text: ECHO, input: "abc"),
         Device::Errors,

@@ -36,6 +36,8 @@ mod share;
 #[cfg(test)]
 mod streams;
 #[cfg(test)]
+mod survey;
+#[cfg(test)]
 mod texts;
 #[cfg(test)]
 mod trace;

@@ -80,3 +80,11 @@ returns-in-Share-clause-answers g c = λ input rest was.
     let before : Devices = seen (g.F.Shelf.state c.args.shelf.now) (told_as (g.I.Source.state c.args.input.now) input) (g.O.Sink.state c.args.out.now) (g.E.Sink.state c.args.err.now) (g.R.CacheRam.state c.args.ram.now) in
     let answers = rw c.as_slice.ensures.value at (c.share.ensures before) in
     rw (c.in-Share.is, rest_is was) answers
+
+pub returns-in-Survey-clause-gave : goal.returns-in-Survey-clause-gave
+returns-in-Survey-clause-gave g c = c.survey.ensures.gave
+
+pub returns-in-Survey-clause-answers : goal.returns-in-Survey-clause-answers
+returns-in-Survey-clause-answers g c = λ input rest was.
+    let answers = rw (c.as_str-in-Survey.ensures.value, c.as_slice-in-Survey.ensures.value) at (c.survey.ensures.answers input rest was) in
+    rw c.in-Survey.is answers

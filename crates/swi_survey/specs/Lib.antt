@@ -1,0 +1,4 @@
+pub mod Ways
+pub mod Leaving
+pub mod Survey
+pub mod Track

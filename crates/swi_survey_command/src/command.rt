@@ -1,0 +1,255 @@
+//! The command.
+#![tactic(auto)]
+
+ghost use Rattle.std.specs.Prelude.{◌≡◌, ◌≤◌, ◌*◌, ◌^◌, All, None, Some, [], IfOk, IfErr, OnOk, length, map};
+ghost use Rattle.swi_outside.specs.Source.{HasGiven};
+ghost use Rattle.swi_outside.specs.Told.{AsTold};
+ghost use Rattle.swi_command.specs.CommandLine.{AreSizes, IsBlockSize, IsInRange};
+ghost use Rattle.swi_program.specs.Layout.{IsLayoutOf};
+ghost use Rattle.swi_program.specs.Text.{text_of};
+ghost use Rattle.swi_render.specs.ImageOf.{IsImageOf};
+ghost use Rattle.swi_task.specs.Answers.{Answers};
+ghost use Rattle.swi_task.specs.Checks.{IsAccepted, IsRefusedBy, IsRefusedOr, file_limit, first_size_refusal};
+ghost use Rattle.swi_task.specs.Devices.{Devices, seen};
+ghost use Rattle.swi_task.specs.Subject.{view_of};
+ghost use Rattle.swi_survey_command.specs.Frames.{AreHeld, frame_by};
+ghost use Rattle.swi_survey_command.specs.RunSurvey.{IsPlacedFor, SurveysOver, hold_block, refusal_of, survey_checks, survey_from, survey_task};
+
+use crate::rows::write_rows;
+use std::alloc::Global;
+use swi_answer::{Ending, Refusal};
+use swi_cached_command::Placed;
+use swi_calls::CallFault;
+use swi_command::{CacheKind, RunLimits};
+use swi_image::ImageView;
+use swi_memory::Layout;
+use swi_outside::{CacheRam, Memory, Shelf, Sink, Source};
+use swi_program::Program;
+use swi_survey::{SurveyStop, run_survey};
+use swi_tally::{Frame, Placing};
+use swi_task::{
+    Prepared, SubjectImage, accept, check_block, check_size, ending_by, prepare, read_file,
+    subject_of,
+};
+
+/// What a survey is refused with that stopped so.
+fn refusal_of(stop: SurveyStop) -> Refusal
+    ensures { result ≡ refusal_of stop }
+{
+    match stop {
+        SurveyStop::Memory => Refusal::Memory,
+        SurveyStop::Fault(CallFault::SourceFault) => Refusal::SourceFault,
+        SurveyStop::Fault(CallFault::SinkFault) => Refusal::SinkFault,
+    }
+}
+
+/// The frame of a cache of so many bytes, for blocks of so many words at most.
+fn frame_of(kind: CacheKind, block_words: u32, bytes: u32) -> Frame
+    requires some { 2 ≤ block_words }
+    requires most { block_words ≤ 1024 }
+    ensures { result ≡ frame_by kind block_words bytes }
+{
+    match kind {
+        CacheKind::Slots => Frame {
+            placing: Placing::Slots,
+            slots: bytes / (4 * block_words),
+            slot_words: block_words,
+        },
+        CacheKind::Ring => Frame {
+            placing: Placing::Ring,
+            slots: 1,
+            slot_words: bytes / 4,
+        },
+    }
+}
+
+/// The frames of the caches. Memory is the only error.
+fn frames_of(
+    alloc: Global,
+    kind: CacheKind,
+    block_words: u32,
+    sizes: &[u32],
+) -> Result<Vec<Frame>, Memory>
+    requires some { 2 ≤ block_words }
+    requires most { block_words ≤ 1024 }
+    ensures { IfOk result (λ fs. fs.items ≡ map (frame_by kind block_words) sizes.now) }
+{
+    let mut frames = Vec::new(alloc);
+    for bytes in sizes {
+        if frames.push(frame_of(kind, block_words, *bytes)).is_err() {
+            return Err(Memory);
+        }
+    }
+    Ok(frames)
+}
+
+/// Refuses the first cache that is too large, or larger than the ram.
+fn check_sizes<R: CacheRam>(sizes: &[u32], ram: &R) -> Result<(), Refusal>
+    ensures ok { OnOk result (first_size_refusal sizes.now (length (R.state ram.now).words) ≡ None) }
+    ensures refused { IfErr result (λ r. first_size_refusal sizes.now (length (R.state ram.now).words) ≡ Some r) }
+{
+    for bytes in sizes {
+        check_size(*bytes, ram)?;
+    }
+    Ok(())
+}
+
+/// Refuses the first cache that holds no block.
+fn check_blocks(sizes: &[u32], block_words: u32) -> Result<(), Refusal>
+    requires most { block_words ≤ 1024 }
+    ensures hold { OnOk result (IsAccepted (hold_block sizes.now (4 * block_words))) }
+    ensures refused { IfErr result (IsRefusedBy (hold_block sizes.now (4 * block_words))) }
+{
+    for bytes in sizes {
+        check_block(*bytes, block_words)?;
+    }
+    Ok(())
+}
+
+/// The program of a file with its layout, and with the image that the file has or else the greedy cut of its text: the file
+/// passes every check of a run in each of these caches.
+fn place<'a>(
+    alloc: Global,
+    file: &'a [u8],
+    sizes: &[u32],
+    block_words: u32,
+    limits: &RunLimits,
+) -> Result<Placed<'a>, Refusal>
+    requires within { length file.now ≤ file_limit }
+    requires ranges { IsInRange limits.now }
+    requires block { IsBlockSize block_words }
+    ensures placed { IfOk result (IsPlacedFor file.now limits.now sizes.now block_words) }
+    ensures accepted { OnOk result (IsAccepted (survey_checks limits.now sizes.now block_words file.now)) }
+    ensures refused { IfErr result (IsRefusedOr (survey_checks limits.now sizes.now block_words file.now)) }
+{
+    let elf = accept(file)?;
+    let Prepared { program, layout } = prepare(alloc, &elf, limits)?;
+    let subject = subject_of(alloc, &elf, program, block_words)?;
+    check_blocks(sizes, subject.block_words())?;
+    Ok(Placed { subject, layout })
+}
+
+/// Runs a program once, and writes a line for each cache.
+fn run_program<I: Source, O: Sink, E: Sink>(
+    alloc: Global,
+    image: &ImageView<'_>,
+    program: &Program<'_>,
+    layout: &Layout,
+    kind: CacheKind,
+    sizes: &[u32],
+    limits: &RunLimits,
+    input: &mut I,
+    out: &mut O,
+    err: &mut E,
+) -> Result<Ending, Refusal>
+    requires ranges { IsInRange limits.now }
+    requires sizes { AreSizes sizes.now }
+    requires held { AreHeld image.now.block_words sizes.now }
+    requires laid_out { IsLayoutOf program.now.segments layout.now }
+    requires own { IsImageOf (text_of program.now.segments) image.now }
+    ensures gave { HasGiven (I.state input.old) (I.state input.new) }
+    ensures ran { (d : Devices) → AsTold (I.state input.old) (I.state input.new) (λ before after. SurveysOver
+        (survey_from kind sizes.now limits.now image.now program.now layout.now)
+        (record d { input = before; output = O.state out.old; error = E.state err.old })
+        (record d { input = after; output = O.state out.new; error = E.state err.new }) result) }
+{
+    let Ok(frames) = frames_of(alloc, kind, image.block_words(), sizes) else {
+        return Err(Refusal::Memory);
+    };
+    let ran = run_survey(
+        alloc,
+        image,
+        program,
+        layout,
+        &frames,
+        limits.steps,
+        input,
+        out,
+        err,
+    );
+    let surveyed = match ran {
+        Ok(surveyed) => surveyed,
+        Err(stop) => return Err(refusal_of(stop)),
+    };
+    match write_rows(&surveyed, sizes, out) {
+        Ok(()) => Ok(ending_by(surveyed.ending, surveyed.pc, surveyed.steps)),
+        Err(_) => Err(Refusal::SinkFault),
+    }
+}
+
+/// Runs a placed program once, and writes a line for each cache.
+fn run_placed<I: Source, O: Sink, E: Sink>(
+    alloc: Global,
+    placed: &Placed<'_>,
+    kind: CacheKind,
+    sizes: &[u32],
+    limits: &RunLimits,
+    input: &mut I,
+    out: &mut O,
+    err: &mut E,
+) -> Result<Ending, Refusal>
+    requires ranges { IsInRange limits.now }
+    requires sizes { AreSizes sizes.now }
+    requires held { AreHeld (view_of placed.now.subject.image).block_words sizes.now }
+    requires laid_out { IsLayoutOf placed.now.subject.program.segments placed.now.layout }
+    requires own { IsImageOf (text_of placed.now.subject.program.segments) (view_of placed.now.subject.image) }
+    ensures gave { HasGiven (I.state input.old) (I.state input.new) }
+    ensures ran { (d : Devices) → AsTold (I.state input.old) (I.state input.new) (λ before after. SurveysOver
+        (survey_from kind sizes.now limits.now (view_of placed.now.subject.image) placed.now.subject.program placed.now.layout)
+        (record d { input = before; output = O.state out.old; error = E.state err.old })
+        (record d { input = after; output = O.state out.new; error = E.state err.new }) result) }
+{
+    let (program, layout) = (&placed.subject.program, &placed.layout);
+    match &placed.subject.image {
+        SubjectImage::Own(image) => run_program(
+            alloc, image, program, layout, kind, sizes, limits, input, out, err,
+        ),
+        SubjectImage::Cut(image) => run_program(
+            alloc,
+            &image.view(),
+            program,
+            layout,
+            kind,
+            sizes,
+            limits,
+            input,
+            out,
+            err,
+        ),
+    }
+}
+
+/// Runs the program of a file once for 1 to 64 caches of one kind, in bytes 8 to 2^32 - 1 each, over one image: the file's
+/// own, or the greedy cut into blocks of at most so many words, 2 to 1024. Behind the program's own bytes it writes a line
+/// for each size, in their order: the size, and what `cached --stats` counts with it.
+///
+/// The first size that is too large, or larger than the ram, is refused by CacheLarge or RamSmall before the file is read;
+/// then the file by the first check that it fails; then by CacheSmall the first size that holds no block. The ram itself is
+/// not used: a survey tells of no run that `cached` would not make. After SourceFault or SinkFault the sinks hold what the
+/// steps made have written, and a front of what comes next; any other refusal, Memory too, leaves input and output alone.
+pub fn survey<F: Shelf, I: Source, O: Sink, E: Sink, R: CacheRam>(
+    alloc: Global,
+    name: &str,
+    sizes: &[u32],
+    block_words: u32,
+    kind: CacheKind,
+    limits: &RunLimits,
+    shelf: &mut F,
+    input: &mut I,
+    out: &mut O,
+    err: &mut E,
+    ram: &R,
+) -> Result<Ending, Refusal>
+    requires sizes { AreSizes sizes.now }
+    requires block { IsBlockSize block_words }
+    requires ranges { IsInRange limits.now }
+    ensures gave { HasGiven (I.state input.old) (I.state input.new) }
+    ensures answers { AsTold (I.state input.old) (I.state input.new) (λ before after. Answers (survey_task name.now sizes.now block_words kind limits.now)
+        (seen (F.state shelf.old) before (O.state out.old) (E.state err.old) (R.state ram.now))
+        (seen (F.state shelf.new) after (O.state out.new) (E.state err.new) (R.state ram.now)) result []) }
+{
+    check_sizes(sizes, ram)?;
+    let file = read_file(alloc, shelf, name)?;
+    let placed = place(alloc, &file, sizes, block_words, limits)?;
+    run_placed(alloc, &placed, kind, sizes, limits, input, out, err)
+}
