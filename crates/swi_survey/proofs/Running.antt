@@ -194,7 +194,7 @@ module _ {t : TextData} {v : ImageData} {f next : Machine} {q q' : FlatState} {o
 -- ---- the next step
 
 -- what may be left of an input
-rest_of : Option (List ℕ) → List ℕ
+abbrev rest_of : Option (List ℕ) → List ℕ
 rest_of None = []
 rest_of (Some l) = l
 

@@ -52,7 +52,7 @@ pub enum SurveyStop {
 /// How the next step leaves the place where the run stands.
 fn next_step(flat: &Flat, here: Here, text: &TextView<'_>) -> Step
     requires { StandsAt text.now flat.now.machine.pc here }
-    ensures { StepIs text.now flat.now.machine here result }
+    ensures { StepIs text.now flat.now here result }
 {
     let Here::At(k) = here else {
         return Step::Outside;
