@@ -147,6 +147,7 @@ pub fn run_survey<I: Source, O: Sink, E: Sink>(
         (record { input = I.state input.new; output = O.state out.new; error = E.state err.new }) result }
 {
     let text = program.text();
+    let _blocks = image.blocks();
     let Ok(mut flat) = Flat::start(alloc, program, layout, false) else {
         return Err(SurveyStop::Memory);
     };
