@@ -1,7 +1,7 @@
 //! One run of the flat machine, and all caches beside it.
 #![tactic(auto)]
 
-ghost use Rattle.std.specs.Prelude.{◌≡◌, ◌<◌, ◌≤◌, ◌^◌, All, None, false, length};
+ghost use Rattle.std.specs.Prelude.{◌≡◌, ◌+◌, ◌≤◌, ◌^◌, All, false, length};
 ghost use Rattle.swi_calls.specs.Flat.{machine_of};
 ghost use Rattle.swi_image.specs.Sound.{IsImage};
 ghost use Rattle.swi_program.specs.Layout.{IsLayoutOf};
@@ -9,7 +9,7 @@ ghost use Rattle.swi_program.specs.Text.{IsSized, text_of};
 ghost use Rattle.swi_render.specs.ImageOf.{IsImageOf};
 ghost use Rattle.swi_tally.specs.Tallies.{IsFrame};
 ghost use Rattle.swi_survey.specs.Survey.{SurveyRan};
-ghost use Rattle.swi_survey.specs.Track.{Begun, StandsAt, StepIs, StepsRan, Tracks};
+ghost use Rattle.swi_survey.specs.Track.{Begun, StandsAt, StepIs, StepsRan, told_of};
 
 use crate::leaving::{ILLEGAL, leaving_of};
 use crate::track::{Here, Step, Track};
