@@ -24,7 +24,7 @@ none_has n d x = ap (λ (m : ℕ). m / 2 ^ d % 2 == 1) (zero_at n x) ∙ ap (λ 
     zero_at : (n x : ℕ) → slice_index (replicate n 0) x ≡ 0
     zero_at n x = elim (cases_lt x n) [
       | inl below ↦ get_or-replicate n x 0 0 below
-      | inr past ↦ get_or_past (replicate n 0) x 0 (omega (arith, past, length-replicate n 0))
+      | inr past ↦ get_or_past (replicate n 0) x 0 (omega (arith, past, length-replicate {A = ℕ} n 0))
     ]
 
 none_collected : (e : ExitsData) (linked : ℕ → Bool) (n : ℕ) → ((x : ℕ) → linked x ≡ false) → collected (link_at e linked) n ≡ []
@@ -61,7 +61,7 @@ module _ (v : ImageData) (e : ExitsData) (f : Frame) (image : IsImage v) (are : 
       are = are;
       blocks = blocks;
       homes = sym (length-replicate e.blocks (f.slots * f.slot_words));
-      masks_long = length-replicate (length e.from) 0;
+      masks_long = length-replicate {A = ℕ} (length e.from) 0;
       cache_below = lt;
       words = frame.holds;
       shape = empty_shape;
@@ -102,7 +102,7 @@ none_kept e f n d =
     ap (λ (ls : List Link). let r : Record = record (kept_by e (has_at (replicate n 0) d) (empty_of e.blocks f)) { links = ls } in r) (none_linked e n d)
     ∙ ap (λ (l : List ℕ). let r : Record = record empty_record { more = l } in r) (more_none f.placing)
 
-pub first_if : Option Frame → Option Row
+abbrev pub first_if : Option Frame → Option Row
 first_if None = None
 first_if (Some f) = Some (first_row f)
 

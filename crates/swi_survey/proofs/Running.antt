@@ -194,7 +194,7 @@ module _ {t : TextData} {v : ImageData} {f next : Machine} {q q' : FlatState} {o
 -- ---- the next step
 
 -- what may be left of an input
-rest_of : Option (List ℕ) → List ℕ
+abbrev rest_of : Option (List ℕ) → List ℕ
 rest_of None = []
 rest_of (Some l) = l
 
@@ -219,6 +219,14 @@ next_plain t v f (here.At k) (step.Store a) g text at is other = absurd (other a
 next_plain t v f (here.At k) step.Outside g text at is other = absurd is
 next_plain t v f (here.Behind k) s g text at is other = absurd is
 next_plain t v f here.Outside s g text at is other = ap (λ (o : Option ℕ). word_store f.machine o) (text f.machine.pc ∙ at)
+
+pub store_at : (t : TextData) (f : FlatData) (h : Here) (a : ℕ) → StepIs t f h (step.Store a) → (j : ℕ) × (h ≡ here.At j) × (instruction_store f.machine (instr_at t j) ≡ Some a)
+store_at t f (here.At j) a is = (j, refl, is)
+store_at t f (here.Behind j) a is = absurd is
+store_at t f here.Outside a is = absurd (other is)
+  where
+    other : step.Store a ≡ step.Outside → ⊥
+    other same = cc
 
 pub leaves : (t : TextData) (f : FlatData) (h : Here) (s : Step) → StandsAt t f.machine.pc h → StepIs t f h s → ((a : ℕ) → s ≡ step.Store a → ⊥) → Leaves t h s
 leaves t f (here.At k) (step.From j l) at is other = (is.0, at.0, subst (λ (m : Leaving). m.words ≤ 3) (sym is.1) (words_few f.machine (instr_at t k)))

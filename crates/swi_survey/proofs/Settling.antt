@@ -33,7 +33,7 @@ pub settled_same : (t : TextData) (v : ImageData) (f : Machine) (pc : ℕ) (k : 
 settled_same t v f pc k g at small same =
     let here_is : place_at t v k.here ≡ place_of v f.pc = place_here t v pc k.here g at small ∙ ap (place_of v) (sym same) in
     let off : at_fall v f (place_at t v k.here) ≡ false = ap (at_fall v f) here_is ∙ place_not_fall v f in
-    let none : (if at_fall v f (place_at t v k.here) then 1 else 0) ≡ 0 = ap (λ (b : Bool). if b then 1 else 0) off in
+    let none : ◌≡◌ {A = ℕ} (if at_fall v f (place_at t v k.here) then 1 else 0) 0 = ap (λ (b : Bool). if b then 1 else 0) off in
     record {
       moves = record {
         rows = as_list v [] (fall_transfers v f (place_at t v k.here)) k.caches k.caches (sym (fall_none v f (place_at t v k.here) off)) (all_none v k.caches);
@@ -78,7 +78,7 @@ module _ (t : TextData) (v : ImageData) (f : Machine) (pc k : ℕ) (old new : Tr
       StandsAt t pc new.here → Settles t v f old new
   settled_behind served serving exits same_ways fetches outside stands =
       let on : at_fall v f (place_at t v old.here) ≡ true = ap (at_fall v f) here_is ∙ falls_here in
-      let one : (if at_fall v f (place_at t v old.here) then 1 else 0) ≡ 1 = ap (λ (b : Bool). if b then 1 else 0) on in
+      let one : ◌≡◌ {A = ℕ} (if at_fall v f (place_at t v old.here) then 1 else 0) 1 = ap (λ (b : Bool). if b then 1 else 0) on in
       record {
         moves = record {
           rows = as_list v _ (fall_transfers v f (place_at t v old.here)) old.caches new.caches
