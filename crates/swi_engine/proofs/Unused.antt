@@ -5,7 +5,7 @@ use Rattle.std.proofs.lemmas.Nat.{row_fits}
 use Rattle.swi_image.specs.Format.{ImageData}
 use Rattle.swi_image.specs.Place.{length_at}
 use Rattle.swi_outside.specs.CacheRam.{RamState}
-use Rattle.swi_rom.specs.Record.{Record, Link, Has, Placed, Transfer, has_link}
+use Rattle.swi_rom.specs.Record.{Record, Link, Has, Placed, Placement, Transfer, has_link}
 use Rattle.swi_rom.specs.Served.{SameFrom, WordsMove}
 use Rattle.swi_rom.specs.Service.{Setting}
 use Rattle.swi_engine.specs.declared.joints.Joint.{Joint}
@@ -60,7 +60,7 @@ stood_within : (e : EngineData) (v : ImageData) (words : List ℕ) (l : Link) (f
     f + l.offset < extent_of (setting_of e) (kept_by e)
 stood_within e v words l f sound lt h =
     let w = map_has (λ (n : ℕ). spot e.size e.blocks n) e.queue (record { program = l.program; block = l.block; first = f }) h in
-    let first : w.0 * e.size ≡ f = ap (λ p. p.first) w.2 in
+    let first : w.0 * e.size ≡ f = ap (λ (p : Placement). p.first) w.2 in
     subst (λ (g : ℕ). g + l.offset < extent_of (setting_of e) (kept_by e)) first (taken_row e v words w.0 l.offset sound (sound.stands.low w.0 w.1) lt)
 
 same_from_link : (x y : Bool) → (x ≡ y → ⊥) → (x ≡ true) ⊎ (y ≡ true)

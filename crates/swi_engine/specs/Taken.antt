@@ -25,7 +25,10 @@ linked_more put r (direct b o t) p = linked_keeps put r b o p
 linked_more put r (indirect t) p = refl
 
 same_taken : (r s : Record) → s.counts.misses ≡ r.counts.misses → s.more ≡ r.more → taken s ≡ taken r
-same_taken r s misses more = rw (misses, more) refl
+same_taken r s misses more =
+    let copies = ap (λ (xs : List ℕ). slice_index xs 1) more in
+    let begun = ap (λ (xs : List ℕ). copies_begun (copy_in xs)) more in
+    omega (arith, misses, copies, begun)
 
 evicted_taken : (r : Record) (es : List Placement) → taken (evicted r es) ≡ taken r
 evicted_taken r es = same_taken r (evicted r es) (evicted_misses r es) (evicted_more r es)
