@@ -1,5 +1,5 @@
 -- No transfer and no event gives back a slot that was taken.
-use Rattle.std.proofs.Common.{◌≡◌, ◌≤◌, ℕ, ◌+◌, ◌-◌, ◌*◌, ◌/◌, ◌==◌, ◌&&◌, Bool, true, false, not, List, ◌∷◌, Option, Some, None, if◌then◌else◌, length, min, nat_lt, slice_index, arith, refl, sym, ap, subst}
+use Rattle.std.proofs.Common.{◌≡◌, ◌≤◌, ℕ, ◌+◌, ◌-◌, ◌*◌, ◌/◌, ◌==◌, ◌&&◌, Bool, true, false, not, List, [], ◌∷◌, Option, Some, None, if◌then◌else◌, length, min, nat_lt, slice_index, arith, refl, sym, ap, subst}
 use Rattle.std.proofs.lemmas.Nat.{mul-le}
 use Rattle.swi_image.specs.Format.{ImageData}
 use Rattle.swi_image.specs.Place.{length_at}
