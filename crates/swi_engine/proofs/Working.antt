@@ -279,8 +279,12 @@ undone_worked e f v h k i a b sound none known absent full at into f_is set =
           (omega (arith, at_is, joint_below e v a.words w.0 stands (stands.linked w.0 has))) (subst (λ (x : ℕ). OneSet x ebreak a b) (sym at_is) one);
       stays = λ f p. p;
       unused = one_unused w.0.at ebreak (extent_of (setting_of e) (kept_by (undone_data e i))) a b
-          (let s = stands.linked w.0 has in omega (arith, s.index, taken_row e v a.words s.home w.0.offset sound (stands.low s.home s.home_queued) (joint_inside e v a.words w.0 stands s),
-          subst (λ (r : Record). extent_of (setting_of e) (kept_by e) ≤ extent_of (setting_of e) r) (sym kept) (event_extent (setting_of e) (kept_by e) v h (record { next = undone (kept_by e) (link_of w.0); at = first_of (kept_by e) w.0.block + w.0.offset; word = ebreak }) made))) one;
+          (let s = stands.linked w.0 has in omega (
+            arith,
+            s.index,
+            taken_row e v a.words s.home w.0.offset sound (stands.low s.home s.home_queued) (joint_inside e v a.words w.0 stands s),
+            subst (λ (r : Record). extent_of (setting_of e) (kept_by e) ≤ extent_of (setting_of e) r) (sym kept) (event_extent (setting_of e) (kept_by e) v h (record { next = undone (kept_by e) (link_of w.0); at = first_of (kept_by e) w.0.block + w.0.offset; word = ebreak }) made),
+          )) one;
       sound = record { stands = subst (λ (ws : List ℕ). Standing (undone_data e i) v ws) (sym words) (undone_stands e v a.words i w.0 stands get); few = few_undone e i sound.few below };
       setting_stays = refl;
       words_few = same_words e i;
