@@ -11,7 +11,7 @@ use Rattle.swi_calls.specs.declared.machine.Machine.{Machine}
 use Rattle.swi_calls.specs.State.{FlatState}
 use Rattle.swi_calls.specs.Flat.{started}
 use Rattle.swi_calls.specs.Held.{held_run}
-use Rattle.swi_flat.specs.FlatData.{FlatData}
+use Rattle.swi_flat.specs.FlatData.{FlatData, unfailed}
 use Rattle.swi_image.specs.Format.{ImageData}
 use Rattle.swi_image.specs.Place.{place_of}
 use Rattle.swi_image.specs.Sound.{IsImage}
@@ -182,3 +182,18 @@ module _ (t : TextData) (v : ImageData) (frames : List Frame) (limit : ℕ) (f n
 
       as_stop : {x : CallFault} → IsErrOf {T = Option ℕ} (Err fault) x → IsErrOf {T = Surveyed} (Err (stop.Fault fault)) (stop.Fault x)
       as_stop named = cc
+
+-- ---- the answers, as the code gives them
+
+module _ (t : TextData) (v : ImageData) (frames : List Frame) (limit : ℕ) (f new : FlatData) (k l : Track) (d e : Devices) (first : Machine) (is : f ≡ unfailed first) (g : Ground t v) (small : f.machine.pc < 2 ^ 32) (s : Starts t v frames f.machine.pc k) (q : Result (Option ℕ) CallFault)
+    (ran : StepsRan t v limit f new k l d e q) where
+  pub told_call : (r : Surveyed) (stored : Option ℕ) → r ≡ told_of new l stored → q ≡ Ok stored → SurveyRan (record { image = v; frames = frames; first = first; limit = limit }) d e (Ok r)
+  told_call r stored told_is ok =
+      subst (λ (m : Machine). SurveyRan (record { image = v; frames = frames; first = m; limit = limit }) d e (Ok r)) (ap (λ (x : FlatData). x.machine) is)
+      (subst (λ (x : Surveyed). SurveyRan (record { image = v; frames = frames; first = f.machine; limit = limit }) d e (Ok x)) (sym told_is)
+      (ran_told t v frames limit f new k l d e g small s stored (subst (λ (y : Result (Option ℕ) CallFault). StepsRan t v limit f new k l d e y) ok ran)))
+
+  pub fault_call : (fault : CallFault) → q ≡ Err fault → SurveyRan (record { image = v; frames = frames; first = first; limit = limit }) d e (Err (stop.Fault fault))
+  fault_call fault err =
+      subst (λ (m : Machine). SurveyRan (record { image = v; frames = frames; first = m; limit = limit }) d e (Err (stop.Fault fault))) (ap (λ (x : FlatData). x.machine) is)
+      (ran_fault t v frames limit f new k l d e g small s fault (subst (λ (y : Result (Option ℕ) CallFault). StepsRan t v limit f new k l d e y) err ran))

@@ -68,9 +68,9 @@ loop-flat-preserved g c =
     let on : c.loop-flat.flat.machine.ending ≡ None = search rules in
     let ground_is = ground t v c.requires.sized c.requires.image c.requires.own in
     let step = is_step c.loop-flat.invariant c.step.new.self c.settle.new.self c.follow.new.self c.next_step-step.result _ ground_is fewer on settled
-        c.next_step-step.ensures c.in_default.not-Store c.in_ok-step.ensures.machine c.in_ok-step.ensures.counted c.in_ok-step.ensures.failed c.in_ok-step.ensures.devices in
+    c.next_step-step.ensures c.in_default.not-Store c.in_ok-step.ensures.machine c.in_ok-step.ensures.counted c.in_ok-step.ensures.failed c.in_ok-step.ensures.devices in
     let follows = c.follow.ensures c.loop-flat.flat.machine c.step.new.self.machine c.loop-flat.flat.failed step (sym c.pc-in-loop-flat.ensures)
-        (ap (λ o. is_some o) (sym c.ending-in-loop-flat.ensures) ∙ sym c.is_some.ensures) in
+    (ap (λ o. is_some o) (sym c.ending-in-loop-flat.ensures) ∙ sym c.is_some.ensures) in
     running_on c.loop-flat.invariant c.step.new.self c.settle.new.self c.follow.new.self c.next_step-step.result _ ground_is fewer on settled
     c.next_step-step.ensures c.in_default.not-Store c.in_ok-step.ensures.machine c.in_ok-step.ensures.counted c.in_ok-step.ensures.failed c.in_ok-step.ensures.devices follows
 
