@@ -23,8 +23,7 @@ use swi_elf_read::{Elf, image_bytes, read_elf};
 use swi_hart::BoardFault;
 use swi_image::{Image, ImageView, read_image};
 use swi_make::next_number;
-use swi_micro::MicroRam;
-use swi_outside::{Failed, Shelf, Sink};
+use swi_outside::{CacheRam, Failed, Shelf, Sink};
 use swi_report::{SharedWork, shared_text};
 use swi_share::{Guest, Share, most_words};
 use swi_task::{
@@ -188,7 +187,7 @@ fn have_ended(share: &Share<'_>, programs: u32) -> bool
 }
 
 /// The events of a schedule in their order, until all are made or all programs have ended.
-fn run_schedule<O: Sink, E: Sink, R: MicroRam>(
+fn run_schedule<O: Sink, E: Sink, R: CacheRam>(
     share: &mut Share<'_>,
     programs: u32,
     schedule: Schedule,
@@ -283,7 +282,7 @@ fn refusal_by(fault: BoardFault) -> Refusal
 }
 
 /// Runs programs over one cache of so many bytes, and writes what is told of them.
-fn run_guests<O: Sink, E: Sink, R: MicroRam>(
+fn run_guests<O: Sink, E: Sink, R: CacheRam>(
     alloc: Global,
     guests: Vec<Guest<'_>>,
     cache_bytes: u32,
@@ -325,7 +324,7 @@ fn run_guests<O: Sink, E: Sink, R: MicroRam>(
 /// A fault of the shelf, a sink or the ram comes only where its count rose, and each that rose is answered. After RamFault
 /// and SinkFault each sink holds what the events made have written, and a front of what comes next. The files stay, and so do
 /// the words of the ram behind the cache. The one ending is Done; the line of a refusal is the caller's to write.
-pub fn share<F: Shelf, O: Sink, E: Sink, R: MicroRam>(
+pub fn share<F: Shelf, O: Sink, E: Sink, R: CacheRam>(
     alloc: Global,
     names: &[String],
     cache: &CacheOptions,
