@@ -2,6 +2,7 @@
 use Rattle.std.proofs.Common.{◌≡◌, ℕ, suc, zero, ◌+◌, ◌-◌, ◌*◌, ◌<◌, ◌≤◌, ◌==◌, ◌^◌, List, [], ◌∷◌, map, remove, filter, Bool, false, not, length, slice_index, Some, None, Option, arith, refl, sym, ◌∙◌, ap, subst, inl, inr}
 use Rattle.std.specs.List.{position_from}
 use Rattle.std.proofs.lemmas.Bool.{eq-eqb, eqb-true, ne_eqb, cases_Bool}
+use Rattle.std.proofs.lemmas.List.Edits.{length-remove}
 use Rattle.swi_image.specs.Format.{ImageData}
 use Rattle.swi_image.specs.Place.{length_at}
 use Rattle.swi_outside.specs.CacheRam.{RamState}
@@ -40,6 +41,7 @@ still_ready v b n d e a stands brings = record {
   evicts_one = omega arith;
   links_few = omega arith;
   fewer = λ m h. h;
+  queue_few = omega arith;
   joints_left = λ j h. h;
   later = omega arith;
   words = λ i. inl refl;
@@ -132,6 +134,7 @@ left_ready v b e g a d stands none full some known absent c all =
       evicts_one = omega arith;
       links_few = omega (arith, c.fewer, length_filter (λ (j : Joint). not (j.block == slice_index e.blocks (slice_index e.queue 0))) g.joints);
       fewer = λ n h. remove_has e.queue 0 n h;
+      queue_few = omega (arith, length-remove e.queue 0 some);
       joints_left = λ j h. c.from j (filter_has (λ (j : Joint). not (j.block == slice_index e.blocks (slice_index e.queue 0))) g.joints j h).0;
       later = c.later;
       words = λ i. elim (c.words i) [

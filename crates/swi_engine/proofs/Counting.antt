@@ -39,6 +39,7 @@ counted_sound e v words sound lt = record {
     links_few = omega (arith, sound.few.links_few);
     unlinks_few = sound.few.unlinks_few;
     copies_few = sound.few.copies_few;
+    queue_few = sound.few.queue_few;
     words_few = sound.few.words_few;
     services_few = omega (arith, lt, most e.queue);
   };

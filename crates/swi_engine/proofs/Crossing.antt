@@ -8,7 +8,7 @@ use Rattle.swi_outside.specs.CacheRam.{RamState}
 use Rattle.swi_rom.specs.Record.{Record, Link, Transfer, direct, indirect, target_of, Has, Placed, has_link, same_link, is_linked, writes, reaches, IsJump}
 use Rattle.swi_rom.specs.Coherent.{TargetAt, ExitAt, IsExit}
 use Rattle.swi_rom.specs.Policy.{served_by, went, linked, is_over_link, counted, is_placed, first_of}
-use Rattle.swi_rom.specs.Served.{Served, WordsMove, SameFrom}
+use Rattle.swi_rom.specs.Served.{Served, WordsMove}
 use Rattle.swi_rom.specs.Writing.{Wrote, FailedBelow}
 use Rattle.swi_rom.specs.declared.rom.RomStop.TheVariants.{Outside, RamFault}
 use Rattle.swi_rom.specs.Rams.{wrote_one, wrote_more, failed_more}
@@ -252,6 +252,7 @@ few_linked t j goal few lt = record {
   links_few = omega (arith, lt);
   unlinks_few = omega (arith, few.unlinks_few);
   copies_few = few.copies_few;
+  queue_few = few.queue_few;
   words_few = few.words_few;
   services_few = few.services_few;
 }
@@ -400,10 +401,6 @@ pub crossed_fault : (v : ImageData) (e t u : EngineData) (c q n target b o : ℕ
 crossed_fault v e t u c q n target b o x y z is arr failed =
     fault_served v (e.slots * e.size) target (c, q) (kept_by e) _ (kept_by u) x z is
     (failed_more (e.slots * e.size) (e.slots * e.size) _ x y z arr.wrote (subst (λ (m : ℕ). FailedBelow m y z) (spans v c n e t x y arr) failed) (omega arith))
-
--- the words beyond the slots stay
-pub unused_stays : (v : ImageData) (span target : ℕ) (old next new : Record) (a d : RamState) (i : ℕ) → Served v span target old next new a d (Ok i) → SameFrom span a.words d.words
-unused_stays v span target old next new a d i s = s.spared.beyond
 
 -- a link is made, or not
 pub linked_yes : (e f : EngineData) (j : Joint) (to goal : ℕ) (a b : RamState) (t : Bool) → t ≡ true → f ≡ linked_data e j goal → (w : ℕ) × IsJump j.at to w × OneSet j.at w a b → MaybeLinked e f t j to goal a b

@@ -11,8 +11,8 @@ use Rattle.swi_rom.specs.Policy.{is_undone, is_kept, evicted, first_of}
 use Rattle.swi_rom.specs.Found.{first_in_has}
 use Rattle.swi_engine.specs.declared.joints.Joint.{Joint}
 use Rattle.swi_engine.specs.declared.copying.Copying.{Copying}
-use Rattle.swi_engine.specs.Engine.{copy_of, copy_in, numbers, engine_words, engine_copies, is_taken, lowest, free_slot, wrote_next, with_block, oldest_but, others, newest_into, undone}
-use Rattle.swi_engine.specs.State.{EngineData, kept_by, setting_of, spot, link_of, used, copies_begun}
+use Rattle.swi_engine.specs.Engine.{copies_begun, copy_of, copy_in, numbers, engine_words, engine_copies, is_taken, lowest, free_slot, wrote_next, with_block, oldest_but, others, newest_into, undone}
+use Rattle.swi_engine.specs.State.{EngineData, kept_by, setting_of, spot, link_of, used}
 use Rattle.swi_engine.specs.Sound.{Standing, HasCopy, CopyIs, CopyStands}
 use Rattle.swi_engine.specs.Moves.{leads_in, is_block_in, undone_data, left_data, placed_data, wrote_data}
 use Rattle.swi_rom.specs.Links.{same_same, same_is}

@@ -1,7 +1,7 @@
 -- A block that stood nowhere has been copied.
 use Rattle.std.proofs.Common.{◌≡◌, ◌⊎◌, ℕ, ◌+◌, ◌-◌, ◌*◌, ◌<◌, ◌≤◌, ◌^◌, List, [], ◌∷◌, ◌++◌, true, false, Result, Ok, Err, IfOk, length, slice_index, slice_set, Some, None, Option, arith, refl, sym, ◌∙◌, ap, subst, inl, inr}
 use Rattle.std.proofs.lemmas.Bool.{cases_lt, both_ways, false_from_ne_true}
-use Rattle.std.proofs.lemmas.List.{get_or-set_other, get_or-set_same}
+use Rattle.std.proofs.lemmas.List.{get_or-set_other, get_or-set_same, length_push}
 use Rattle.std.proofs.lemmas.Nat.{same_from_place, row_fits}
 use Rattle.swi_image.specs.Format.{ImageData}
 use Rattle.swi_image.specs.Place.{length_at}
@@ -132,6 +132,7 @@ filled_few v c e f a m r few misses =
       links_few = omega (arith, links, services, few.links_few);
       unlinks_few = omega (arith, links, few.unlinks_few, r.links_few);
       copies_few = omega (arith, few.copies_few, r.words_stay, r.copies_stay);
+      queue_few = omega (arith, missed', few.queue_few, r.queue_few, r.copies_stay, length_push f.queue c.slot);
       words_few = omega (arith, few.words_few, r.words_stay);
       services_few = omega (arith, services, few.services_few);
     }

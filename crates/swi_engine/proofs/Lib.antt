@@ -3,6 +3,7 @@ pub mod Joining
 pub mod Views
 pub mod Standing
 pub mod Eventing
+pub mod Unused
 pub mod Working
 pub mod Reading
 pub mod Counting

@@ -109,6 +109,7 @@ new_sound slots size blocks v words some least most few image all holds fits = r
     links_few = omega arith;
     unlinks_few = omega arith;
     copies_few = omega arith;
+    queue_few = omega arith;
     words_few = omega arith;
     services_few = omega arith;
   };

@@ -13,7 +13,8 @@ use Rattle.swi_rom.specs.declared.rom.Counts.{Counts}
 use Rattle.swi_rom.specs.Blocks.{block_short}
 use Rattle.swi_engine.specs.declared.joints.Joint.{Joint}
 use Rattle.swi_engine.specs.declared.copying.Copying.{Copying}
-use Rattle.swi_engine.specs.State.{EngineData, used, copies_begun}
+use Rattle.swi_engine.specs.Engine.{copies_begun}
+use Rattle.swi_engine.specs.State.{EngineData, used}
 use Rattle.swi_engine.specs.Sound.{Standing, JointStands, CopyStands, CopyIs, HasCopy, NoJoint}
 use Rattle.swi_engine.specs.Seats.{length_most, slot_within, joint_inside, joint_below}
 use Rattle.swi_engine.specs.Moves.{leads_in, undone_data, left_data, placed_data, linked_data, IsAbsent}

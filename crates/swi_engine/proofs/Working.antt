@@ -1,7 +1,7 @@
 -- An event of the engine, case by case.
 use Rattle.std.proofs.Common.{◌≡◌, ℕ, ◌+◌, ◌-◌, ◌*◌, ◌/◌, ◌<◌, ◌≤◌, ◌==◌, ◌&&◌, ◌^◌, List, [], ◌∷◌, ◌++◌, remove, Bool, true, false, not, if◌then◌else◌, length, slice_index, slice_index_or, slice_get, slice_set, nat_lt, Some, None, Option, arith, refl, sym, ◌∙◌, ap, subst, inl, inr}
 use Rattle.std.specs.List.{list_any, position_from}
-use Rattle.std.proofs.lemmas.List.{length-set, get_or-set_other, get_or-set_same, get_or_read}
+use Rattle.std.proofs.lemmas.List.{length-set, length_push, get_or-set_other, get_or-set_same, get_or_read}
 use Rattle.std.proofs.lemmas.List.Edits.{length-remove}
 use Rattle.std.proofs.lemmas.Bool.{cases_eq, eq-eqb, eqb-true, ne_eqb, both_ways, lt-ltb, le-ltb}
 use Rattle.std.proofs.lemmas.Nat.{same_from_place, div-mul-add}
@@ -10,16 +10,19 @@ use Rattle.swi_image.specs.Place.{word_at, length_at}
 use Rattle.swi_outside.specs.CacheRam.{RamState}
 use Rattle.swi_rom.specs.Record.{Record, Placement, Has, Placed, ebreak}
 use Rattle.swi_rom.specs.Policy.{is_placed, evicted, first_of}
+use Rattle.swi_rom.specs.Served.{SameFrom}
 use Rattle.swi_engine.specs.declared.joints.Joint.{Joint}
 use Rattle.swi_engine.specs.declared.copying.Copying.{Copying}
-use Rattle.swi_engine.specs.Engine.{Event, numbers, engine_words, engine_copies, event, event_by, wrote_next, with_block, goes_on, begins, into_free, into_oldest, made_way, free_slot, oldest_but, others, undone, newest_into}
-use Rattle.swi_engine.specs.State.{EngineData, kept_by, setting_of, spot, link_of}
+use Rattle.swi_engine.specs.Engine.{Event, extent_of, numbers, engine_words, engine_copies, event, event_by, wrote_next, with_block, goes_on, begins, into_free, into_oldest, made_way, free_slot, oldest_but, others, undone, newest_into}
+use Rattle.swi_engine.specs.State.{EngineData, kept_by, setting_of, spot, link_of, used}
 use Rattle.swi_engine.specs.Sound.{Standing, EngineSound, Few, CopyStands, CopyIs, InShape}
-use Rattle.swi_engine.specs.Seats.{slot_within, placed_slot, joint_below}
+use Rattle.swi_engine.specs.Seats.{slot_within, placed_slot, joint_below, joint_inside}
 use Rattle.swi_engine.specs.Moves.{leads_in, is_block_in, OneSet, undone_data, left_data, placed_data, wrote_data, IsAbsent}
 use Rattle.swi_engine.specs.Joints.{NewestInto}
 use Rattle.swi_engine.specs.Worked.{Worked, GoesTo}
+use Rattle.swi_engine.specs.Taken.{event_extent}
 use Rattle.swi_engine.proofs.Joining.{set_now}
+use Rattle.swi_engine.proofs.Unused.{new_row, one_unused, taken_row}
 use Rattle.swi_engine.proofs.Shapes.{has_left, has_index, has_get, has_filter, has_remove, remove_has, removed_distinct, get_index, length_filter}
 use Rattle.swi_engine.proofs.Standing.{copy_short, undone_stands, begun_stands, left_stands, wrote_stands, placed_stands, recounted}
 use Rattle.swi_engine.proofs.Eventing.{copy_kept, words_kept, joint_first, wrote_kept, placed_is, found, missing, any_true, any_false, free_is, free_none, oldest_is, oldest_none, newest_is, newest_none, undone_kept, left_kept}
@@ -74,6 +77,7 @@ few_wrote e c n few lt = by_test (c.done + 1 == n)
       links_few = few.links_few;
       unlinks_few = few.unlinks_few;
       copies_few = omega (arith, few.copies_few);
+      queue_few = omega (arith, few.queue_few, length_push e.queue c.slot);
       words_few = omega (arith, lt);
       services_few = few.services_few;
     }
@@ -85,6 +89,7 @@ few_wrote e c n few lt = by_test (c.done + 1 == n)
       links_few = few.links_few;
       unlinks_few = few.unlinks_few;
       copies_few = omega (arith, few.copies_few);
+      queue_few = few.queue_few;
       words_few = omega (arith, lt);
       services_few = few.services_few;
     }
@@ -123,6 +128,14 @@ goes_nowhere (Some x) span old a is = absurd cc
 more_words : (e f : EngineData) → f.words ≡ e.words + 1 → engine_words (kept_by f) ≤ engine_words (kept_by e) + 1
 more_words e f is = omega (arith, is, words_kept e, words_kept f)
 
+-- a word of a slot that was taken before the event is set
+unused_by : (e f : EngineData) (v : ImageData) (h n o : ℕ) (x : Event) (a b : RamState) → EngineSound e v a.words → event (setting_of e) (kept_by e) v h ≡ Some x → kept_by f ≡ x.next → n < used e → o < e.size → n * e.size + o ≡ x.at →
+    OneSet x.at x.word a b → SameFrom (extent_of (setting_of e) (kept_by f)) a.words b.words
+unused_by e f v h n o x a b sound is kept lt inside at set =
+    let before = taken_row e v a.words n o sound lt inside in
+    let further = subst (λ (r : Record). extent_of (setting_of e) (kept_by e) ≤ extent_of (setting_of e) r) (sym kept) (event_extent (setting_of e) (kept_by e) v h x is) in
+    one_unused x.at x.word (extent_of (setting_of e) (kept_by f)) a b (omega (arith, before, further, at)) set
+
 -- the copy that has begun goes on
 pub copy_worked : (e f : EngineData) (v : ImageData) (h : ℕ) (c : Copying) (a b : RamState) → EngineSound e v a.words → e.copy ≡ Some c → e.words < 2 ^ 60 → f ≡ wrote_data e c (length_at v c.block) → OneSet (c.slot * e.size + c.done) (word_at v c.block c.done) a b → Worked v h e f true a b
 copy_worked e f v h c a b sound is lt f_is set =
@@ -132,10 +145,13 @@ copy_worked e f v h c a b sound is lt f_is set =
     let kept = wrote_kept e v c was.slot_free (omega (arith, slot, stands.shape.blocks_long)) in
     let words : b.words ≡ slice_set a.words (c.slot * e.size + c.done) (word_at v c.block c.done) = ap (λ (r : RamState). r.words) set in
     let sizes = wrote_slots e c (length_at v c.block) in
+    let made : event (setting_of e) (kept_by e) v h ≡ Some (goes_on e.size v (kept_by e) c) = event_is e v h ∙ ap (λ (o : Option Copying). event_by (setting_of e) v (kept_by e) h o) is in
+    let inside : c.done < e.size = omega (arith, was.more, copy_short e v a.words c stands was) in
     rw f_is (record {
-      moves = goes_to _ (goes_on e.size v (kept_by e) c) _ _ _ a b (event_is e v h ∙ ap (λ (o : Option Copying). event_by (setting_of e) v (kept_by e) h o) is) kept
+      moves = goes_to _ (goes_on e.size v (kept_by e) c) _ _ _ a b made kept
           (omega (arith, slot_within e c.slot stands.shape slot, was.more, copy_short e v a.words c stands was)) set;
       stays = λ f p. subst (λ (r : Record). Placed r h f) (sym kept) (wrote_keeps e.size v (kept_by e) c h f p);
+      unused = unused_by e (wrote_data e c (length_at v c.block)) v h c.slot c.done (goes_on e.size v (kept_by e) c) a b sound made kept was.slot_used inside refl set;
       sound = record { stands = subst (λ (ws : List ℕ). Standing (wrote_data e c (length_at v c.block)) v ws) (sym words) (wrote_any e v a.words c stands is); few = few_wrote e c (length_at v c.block) sound.few lt };
       setting_stays = sizes.0;
       words_few = more_words e (wrote_data e c (length_at v c.block)) sizes.1;
@@ -143,7 +159,7 @@ copy_worked e f v h c a b sound is lt f_is set =
 
 -- there is nothing to do
 pub idle_worked : (e : EngineData) (v : ImageData) (h : ℕ) (a : RamState) → EngineSound e v a.words → event (setting_of e) (kept_by e) v h ≡ None → Worked v h e e false a a
-idle_worked e v h a sound none = record { moves = goes_nowhere _ _ _ a none; stays = λ f p. p; sound = sound; setting_stays = refl; words_few = omega arith }
+idle_worked e v h a sound none = record { moves = goes_nowhere _ _ _ a none; stays = λ f p. p; unused = λ i le. refl; sound = sound; setting_stays = refl; words_few = omega arith }
 
 abbrev pub next_block : EngineData → ImageData → ℕ → Option Event
 next_block e v h = into_free e.size v (kept_by e) h (h + 1) (free_slot (setting_of e) (kept_by e))
@@ -190,6 +206,8 @@ free_worked e f v h a b sound none lt known absent room f_is set =
           (can_begin e v h none known absent ∙ ap (λ (o : Option ℕ). into_free e.size v (kept_by e) h (h + 1) o) (free_is e v a.words stands none room)) kept
           (omega (arith, slot_within e (length e.queue) stands.shape room, stands.shape.size_least)) set;
       stays = λ f p. subst (λ (r : Record). Placed r h f) (sym kept) (wrote_keeps e.size v (kept_by e) (record { block = h + 1; slot = length e.queue; done = 0 }) h f p);
+      unused = subst (λ (r : Record). SameFrom (extent_of (setting_of e) r) a.words b.words) (sym kept)
+          (one_unused (length e.queue * e.size + 0) (word_at v (h + 1) 0) _ a b (new_row e v a.words (record { block = h + 1; slot = length e.queue; done = 0 }) (length e.queue) 0 sound room (omega arith) (omega (arith, stands.shape.size_least))) set);
       sound = record {
         stands = subst (λ (ws : List ℕ). Standing (wrote_data e (record { block = h + 1; slot = length e.queue; done = 0 }) (length_at v (h + 1))) v ws) (sym words)
             (wrote_any (record e { copy = Some (record { block = h + 1; slot = length e.queue; done = 0 }) }) v a.words (record { block = h + 1; slot = length e.queue; done = 0 }) begun refl);
@@ -232,6 +250,7 @@ few_undone e k few lt = record {
   links_few = few.links_few;
   unlinks_few = omega (arith, few.unlinks_few, length-remove e.joints k lt);
   copies_few = few.copies_few;
+  queue_few = few.queue_few;
   words_few = few.words_few;
   services_few = few.services_few;
 }
@@ -252,18 +271,27 @@ undone_worked e f v h k i a b sound none known absent full at into f_is set =
     let has = has_get e.joints i w.0 get in
     let at_is = joint_first e v a.words w.0 stands has in
     let words : b.words ≡ slice_set a.words w.0.at ebreak = ap (λ (r : RamState). r.words) one in
+    let made : event (setting_of e) (kept_by e) v h ≡ Some (record { next = undone (kept_by e) (link_of w.0); at = first_of (kept_by e) w.0.block + w.0.offset; word = ebreak }) =
+    oldest_event e v a.words h k stands none known absent full at ∙ ap (λ o. Some (made_way e.size v (kept_by e) (h + 1) (spot e.size e.blocks (slice_index e.queue k)) o)) w.2 in
     rw f_is (record {
       moves = goes_to _ (record { next = undone (kept_by e) (link_of w.0); at = first_of (kept_by e) w.0.block + w.0.offset; word = ebreak }) _ _ _ a b
-          (oldest_event e v a.words h k stands none known absent full at ∙ ap (λ o. Some (made_way e.size v (kept_by e) (h + 1) (spot e.size e.blocks (slice_index e.queue k)) o)) w.2) kept
+          made kept
           (omega (arith, at_is, joint_below e v a.words w.0 stands (stands.linked w.0 has))) (subst (λ (x : ℕ). OneSet x ebreak a b) (sym at_is) one);
       stays = λ f p. p;
+      unused = one_unused w.0.at ebreak (extent_of (setting_of e) (kept_by (undone_data e i))) a b
+          (let s = stands.linked w.0 has in omega (
+            arith,
+            s.index,
+            taken_row e v a.words s.home w.0.offset sound (stands.low s.home s.home_queued) (joint_inside e v a.words w.0 stands s),
+            subst (λ (r : Record). extent_of (setting_of e) (kept_by e) ≤ extent_of (setting_of e) r) (sym kept) (event_extent (setting_of e) (kept_by e) v h (record { next = undone (kept_by e) (link_of w.0); at = first_of (kept_by e) w.0.block + w.0.offset; word = ebreak }) made),
+          )) one;
       sound = record { stands = subst (λ (ws : List ℕ). Standing (undone_data e i) v ws) (sym words) (undone_stands e v a.words i w.0 stands get); few = few_undone e i sound.few below };
       setting_stays = refl;
       words_few = same_words e i;
     })
 
-few_left : (e : EngineData) (k n : ℕ) (c : Copying) (m : ℕ) → Few e → e.words < 2 ^ 60 → Has (remove e.queue k) m → Few (wrote_data (left_data e k) c n)
-few_left e k n c m few lt has = by_test (c.done + 1 == n)
+few_left : (e : EngineData) (k n : ℕ) (c : Copying) (m : ℕ) → Few e → e.words < 2 ^ 60 → k < length e.queue → Has (remove e.queue k) m → Few (wrote_data (left_data e k) c n)
+few_left e k n c m few lt below has = by_test (c.done + 1 == n)
   where
     no_end : {X : Type 0} (xs : List X) (x : X) → xs ++ x ∷ [] ≡ [] → ⊥
     no_end [] x s = cc
@@ -282,6 +310,7 @@ few_left e k n c m few lt has = by_test (c.done + 1 == n)
       links_few = few.links_few;
       unlinks_few = omega (arith, few.unlinks_few, length_filter (λ (j : Joint). not (j.block == slice_index e.blocks (slice_index e.queue k))) e.joints);
       copies_few = omega (arith, few.copies_few);
+      queue_few = omega (arith, few.queue_few, length_push (remove e.queue k) c.slot, length-remove e.queue k below);
       words_few = omega (arith, lt);
       services_few = few.services_few;
     }
@@ -293,6 +322,7 @@ few_left e k n c m few lt has = by_test (c.done + 1 == n)
       links_few = few.links_few;
       unlinks_few = omega (arith, few.unlinks_few, length_filter (λ (j : Joint). not (j.block == slice_index e.blocks (slice_index e.queue k))) e.joints);
       copies_few = omega (arith, few.copies_few);
+      queue_few = omega (arith, few.queue_few, length-remove e.queue k below);
       words_few = omega (arith, lt);
       services_few = few.services_few;
     }
@@ -326,19 +356,24 @@ left_worked e f v h first k a b sound none lt here known absent full at into f_i
     let sizes = wrote_slots (left_data e k) (record { block = h + 1; slot = slice_index e.queue k; done = 0 }) (length_at v (h + 1)) in
     let row : slice_index e.queue k * e.size / e.size ≡ slice_index e.queue k = ap (λ (x : ℕ). x / e.size) (omega arith) ∙ div-mul-add (slice_index e.queue k) e.size 0 (omega (arith, stands.shape.size_least)) in
     let home = placed_slot e h first here in
+    let made : event (setting_of e) (kept_by e) v h ≡ Some (begins e.size v (evicted (kept_by e) (spot e.size e.blocks (slice_index e.queue k) ∷ others (spot e.size e.blocks (slice_index e.queue k)) (kept_by e).placed)) (h + 1) (slice_index e.queue k)) =
+    oldest_event e v a.words h k stands none known absent full at
+    ∙ ap (λ o. Some (made_way e.size v (kept_by e) (h + 1) (spot e.size e.blocks (slice_index e.queue k)) o)) (newest_none (slice_index e.blocks (slice_index e.queue k)) (slice_index e.queue k * e.size) 0 e.joints into)
+    ∙ ap (λ (n : ℕ). Some (begins e.size v (evicted (kept_by e) (spot e.size e.blocks (slice_index e.queue k) ∷ others (spot e.size e.blocks (slice_index e.queue k)) (kept_by e).placed)) (h + 1) n)) row in
     let stay : Has (remove e.queue k) home.0 = elim (has_remove e.queue k home.0 (slice_index e.queue k) (get_index e.queue k below) home.1) [ inl r ↦ r | inr s ↦ absurd (other (sym home.2 ∙ ap (λ (n : ℕ). slice_index e.blocks n) (sym s))) ] in
     rw f_is (record {
       moves = goes_to _ (begins e.size v (evicted (kept_by e) (spot e.size e.blocks (slice_index e.queue k) ∷ others (spot e.size e.blocks (slice_index e.queue k)) (kept_by e).placed)) (h + 1) (slice_index e.queue k)) _ _ _ a b
-          (oldest_event e v a.words h k stands none known absent full at
-          ∙ ap (λ o. Some (made_way e.size v (kept_by e) (h + 1) (spot e.size e.blocks (slice_index e.queue k)) o)) (newest_none (slice_index e.blocks (slice_index e.queue k)) (slice_index e.queue k * e.size) 0 e.joints into)
-          ∙ ap (λ (n : ℕ). Some (begins e.size v (evicted (kept_by e) (spot e.size e.blocks (slice_index e.queue k) ∷ others (spot e.size e.blocks (slice_index e.queue k)) (kept_by e).placed)) (h + 1) n)) row) kept
+          made kept
           (omega (arith, slot_within e (slice_index e.queue k) stands.shape slot, stands.shape.size_least)) set;
       stays = λ f p. subst (λ (r : Record). Placed r h f) (sym kept)
           (wrote_keeps e.size v _ (record { block = h + 1; slot = slice_index e.queue k; done = 0 }) h f (evicted_keeps (kept_by e) h f (spot e.size e.blocks (slice_index e.queue k)) refl other p));
+      unused = unused_by e (wrote_data (left_data e k) (record { block = h + 1; slot = slice_index e.queue k; done = 0 }) (length_at v (h + 1))) v h (slice_index e.queue k) 0
+          (begins e.size v (evicted (kept_by e) (spot e.size e.blocks (slice_index e.queue k) ∷ others (spot e.size e.blocks (slice_index e.queue k)) (kept_by e).placed)) (h + 1) (slice_index e.queue k)) a b
+          sound made kept (stands.low (slice_index e.queue k) (has_index e.queue k below)) (omega (arith, stands.shape.size_least)) refl set;
       sound = record {
         stands = subst (λ (ws : List ℕ). Standing (wrote_data (left_data e k) (record { block = h + 1; slot = slice_index e.queue k; done = 0 }) (length_at v (h + 1))) v ws) (sym words)
             (wrote_any (record (left_data e k) { copy = Some (record { block = h + 1; slot = slice_index e.queue k; done = 0 }) }) v a.words (record { block = h + 1; slot = slice_index e.queue k; done = 0 }) begun refl);
-        few = few_left e k (length_at v (h + 1)) (record { block = h + 1; slot = slice_index e.queue k; done = 0 }) home.0 sound.few lt stay;
+        few = few_left e k (length_at v (h + 1)) (record { block = h + 1; slot = slice_index e.queue k; done = 0 }) home.0 sound.few lt below stay;
       };
       setting_stays = sizes.0;
       words_few = more_words e (wrote_data (left_data e k) (record { block = h + 1; slot = slice_index e.queue k; done = 0 }) (length_at v (h + 1))) sizes.1;

@@ -28,6 +28,7 @@ pub record Ready (v : ImageData) (b : ℕ) (c : Copying) (e f : EngineData) (bef
   pub evicts_one : f.counts.evictions ≤ e.counts.evictions + 1
   pub links_few : f.counts.unlinks + length f.joints ≤ e.counts.unlinks + length e.joints
   pub fewer : (n : ℕ) → Has f.queue n → Has e.queue n
+  pub queue_few : length f.queue ≤ length e.queue
   pub joints_left : (j : Joint) → Has f.joints j → Has e.joints j
   pub later : e.counts.unlinks ≤ f.counts.unlinks
   pub words : (i : ℕ) → Undone e f before after i

@@ -1,5 +1,5 @@
 -- A service beside which an engine copies blocks ahead: what a transfer and what an event of the engine do to the record.
-use Rattle.std.specs.Prelude.{◌≡◌, ◌≤◌, ℕ, zero, suc, ◌+◌, ◌-◌, ◌*◌, ◌/◌, ◌==◌, ◌&&◌, Bool, not, List, [], ◌∷◌, ◌++◌, length, filter, Option, Some, None, if◌then◌else◌, slice_index, nat_lt}
+use Rattle.std.specs.Prelude.{◌≡◌, ◌≤◌, ℕ, zero, suc, ◌+◌, ◌-◌, ◌*◌, ◌/◌, ◌==◌, ◌&&◌, min, Bool, not, List, [], ◌∷◌, ◌++◌, length, filter, Option, Some, None, if◌then◌else◌, slice_index, nat_lt}
 use Rattle.std.specs.List.{list_any}
 use Rattle.swi_image.specs.Format.{ImageData}
 use Rattle.swi_image.specs.Place.{word_at, length_at}
@@ -39,9 +39,18 @@ dropped r = record r { more = numbers (engine_words r) (engine_copies r) None }
 abbrev pub span_of : Setting → ℕ
 span_of by = by.slots * by.slot_words
 
--- no call tells more of the words that were used
+-- how many copies are in work: one, or none
+abbrev pub copies_begun : Option Copying → ℕ
+copies_begun None = 0
+copies_begun (Some c) = 1
+
+-- how often a slot was taken: by each block that a service or the engine has copied, and by the copy in work
+abbrev pub taken : Record → ℕ
+taken r = r.counts.misses + engine_copies r + copies_begun (copy_of r)
+
+-- the words of the slots that were ever taken, the lowest first
 abbrev pub extent_of : Setting → Record → ℕ
-extent_of by r = span_of by
+extent_of by r = min (taken r) by.slots * by.slot_words
 
 -- whether a placed block stands in a slot
 abbrev pub is_taken : ℕ → List Placement → ℕ → Bool

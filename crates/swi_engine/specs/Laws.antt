@@ -15,6 +15,7 @@ use Rattle.swi_engine.specs.Engine.{arrived, newest_first, span_of, beside_arriv
 use Rattle.swi_engine.specs.State.{EngineData, kept_by, setting_of, shown_by, goals_by, spot, used, is_copied_to}
 use Rattle.swi_engine.specs.Sound.{EngineSound, Standing, InShape, JointStands, NoJoint, Distinct, HasCopy, CopyIs}
 use Rattle.swi_engine.specs.Service.{engine_service}
+use Rattle.swi_engine.specs.Taken.{beside_extent, extent_within}
 use Rattle.swi_engine.specs.Seats.{map_has, placed_slot, slot_placed, linked_joint, joint_linked, length_most, slot_within, joint_inside, joint_at}
 
 slices_below : {X : Type 0} (xs : List X) (j : ℕ) (x : X) → slice_get xs j ≡ Some x → Has xs x
@@ -195,6 +196,6 @@ engine_laws = record {
   one_service = λ by. served_one arrived newest_first by beside_arrival;
   boot_uncounted = λ by. served_boot arrived newest_first by beside_arrival;
   writes_rise = λ by. served_writes arrived newest_first by beside_arrival;
-  within = λ by r. omega arith;
-  extent_rises = λ by r v t. omega arith;
+  within = extent_within;
+  extent_rises = beside_extent;
 }

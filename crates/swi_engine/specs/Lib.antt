@@ -8,5 +8,6 @@ pub mod Worked
 pub mod Seats
 pub mod Laws
 pub mod Events
+pub mod Taken
 pub mod Cleared
 pub mod Arrived

@@ -105,6 +105,7 @@ pub record Few (e : EngineData) : Type 0 where
   pub links_few : e.counts.links ≤ e.counts.services
   pub unlinks_few : e.counts.unlinks + length e.joints ≤ e.counts.links
   pub copies_few : e.copies ≤ e.words
+  pub queue_few : length e.queue ≤ e.counts.misses + e.copies
   pub words_few : e.words ≤ 2 ^ 60
   pub services_few : e.counts.services ≤ 2 ^ 50
 

@@ -5,7 +5,7 @@ use Rattle.swi_rom.specs.declared.rom.Counts.{Counts}
 use Rattle.swi_engine.specs.declared.copying.Copying.{Copying}
 use Rattle.swi_engine.specs.declared.joints.Joint.{Joint}
 use Rattle.swi_rom.specs.Service.{Setting}
-use Rattle.swi_engine.specs.Engine.{numbers}
+use Rattle.swi_engine.specs.Engine.{copies_begun, numbers}
 
 pub record EngineData : Type 0 where
   -- how many slots, and the words of each
@@ -67,10 +67,6 @@ abbrev pub goals_by : EngineData → ℕ → ℕ
 goals_by e i = slice_index e.goals i
 
 -- how many slots have a block or a copy, and whether a slot has the copy
-abbrev pub copies_begun : Option Copying → ℕ
-copies_begun None = 0
-copies_begun (Some c) = 1
-
 abbrev pub used : EngineData → ℕ
 used e = length e.queue + copies_begun e.copy
 

@@ -4,7 +4,8 @@
 ghost use Rattle.std.specs.Prelude.{◌≡◌, ◌+◌, ◌^◌, ◌<◌, ◌≤◌, length, OnOk, OnErr};
 ghost use Rattle.swi_image.specs.Place.{length_at};
 ghost use Rattle.swi_rom.specs.Writing.{FailedBelow};
-ghost use Rattle.swi_engine.specs.State.{copies_begun, is_copied_to};
+ghost use Rattle.swi_engine.specs.Engine.{copies_begun};
+ghost use Rattle.swi_engine.specs.State.{is_copied_to};
 ghost use Rattle.swi_engine.specs.Moves.{CopiedOn};
 
 use std::collections::VecDeque;

@@ -30,8 +30,9 @@ use Rattle.swi_run_laws.specs.Broken.{Broke, InOrder}
 use Rattle.swi_run_laws.proofs.Between.{most_any}
 use Rattle.swi_run_laws.proofs.Broken.{broke_off, off_in_order, off_unasked}
 use Rattle.swi_rom.specs.Rams.{wrote_one}
+use Rattle.swi_rom.specs.Served.{SameFrom}
 use Rattle.swi_rom.specs.Service.{Setting}
-use Rattle.swi_engine.specs.Engine.{Event, beside, engine_words, event, span_of}
+use Rattle.swi_engine.specs.Engine.{Event, beside, engine_words, event, extent_of, span_of}
 use Rattle.swi_engine.specs.Laws.{engine_laws as service_laws}
 use Rattle.swi_engine.specs.Service.{engine_service}
 use Rattle.swi_engine.specs.State.{EngineData, kept_by, setting_of}
@@ -67,7 +68,7 @@ turned_more by v (t ∷ ts) us s = turned_more by v ts us (turned by v t s)
 
 led_none : (v : ImageData) (w : BoardWithDevices EngineData) → Led v [] w w
 unfolding turned_all
-led_none v w = record { setting = refl; tracks = λ s from at. at; fetched = λ s from at. refl }
+led_none v w = record { setting = refl; tracks = λ s from at. at; unused = λ i le. refl; grows = omega arith; fetched = λ s from at. refl }
 
 led_more : (v : ImageData) (ts us : List Turn) (old mid new : BoardWithDevices EngineData) → Led v ts old mid → Led v us mid new → Led v (ts ++ us) old new
 led_more v ts us old mid new one two = record {
@@ -75,6 +76,10 @@ led_more v ts us old mid new one two = record {
   tracks = λ s from at.
       subst (λ (k : Moment). BoardTracks v k from new) (sym (turned_more (setting_of old.rom) v ts us s))
       (subst (λ (by : Setting). BoardTracks v (turned_all by v us (turned_all (setting_of old.rom) v ts s)) from new) one.setting (two.tracks (turned_all (setting_of old.rom) v ts s) from (one.tracks s from at)));
+  unused = λ i le.
+      let further = subst (λ (by : Setting). extent_of by (kept_by mid.rom) ≤ extent_of by (kept_by new.rom)) one.setting two.grows in
+      subst (λ (by : Setting). SameFrom (extent_of by (kept_by new.rom)) mid.ram.words new.ram.words) one.setting two.unused i le ∙ one.unused i (omega (arith, further, le));
+  grows = let first = one.grows in let last = subst (λ (by : Setting). extent_of by (kept_by mid.rom) ≤ extent_of by (kept_by new.rom)) one.setting two.grows in omega (arith, first, last);
   fetched = λ s from at.
       let first = one.fetched s from at in
       let last = subst (λ (by : Setting). length (turned_all by v us (turned_all (setting_of old.rom) v ts s)).words + unfetched new.hart + (turned_all (setting_of old.rom) v ts s).count

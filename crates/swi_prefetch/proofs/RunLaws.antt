@@ -12,6 +12,8 @@ use Rattle.swi_calls.specs.Laws.{held_run_none, held_run_more, held_run_over}
 use Rattle.swi_calls.specs.State.{FlatState}
 use Rattle.swi_image.specs.Format.{ImageData}
 use Rattle.swi_rom.specs.Coherent.{Coherent}
+use Rattle.swi_rom.specs.Record.{Record}
+use Rattle.swi_rom.specs.Served.{SameFrom}
 use Rattle.swi_rom.specs.Service.{Setting}
 use Rattle.swi_hart.specs.declared.fault.BoardFault.{BoardFault}
 use Rattle.swi_hart.specs.Hart.{original, slots, unbooted}
@@ -24,7 +26,7 @@ use Rattle.swi_board.proofs.Along.{same_between}
 use Rattle.swi_board.proofs.Held.{run_snoc, same_steps}
 use Rattle.swi_run_laws.proofs.Between.{between_at, settled_most}
 use Rattle.swi_run_laws.proofs.RunLaws.{steps_are}
-use Rattle.swi_engine.specs.Engine.{Event, beside, event, span_of}
+use Rattle.swi_engine.specs.Engine.{Event, beside, event, extent_of, span_of}
 use Rattle.swi_engine.specs.Laws.{engine_coherent}
 use Rattle.swi_engine.specs.State.{EngineData, kept_by, setting_of}
 use Rattle.swi_prefetch.specs.Events.{Turn, of_engine, booted, engine_event, round, rounds, turned_all, worked}
@@ -198,6 +200,7 @@ module _ (v : ImageData) (bytes : ℕ) (m : Machine) (left : List ℕ) (limit ra
   -- it has come to where its events lead, whatever board the point before it has
   abbrev StandsAt : List Turn → Around → BoardOf EngineData → Type 0
   StandsAt ts mid b = (setting_of b.rom ≡ setting_for c) × ((any : BoardOf EngineData) → BoardTracks v (moment_of c ts) (point_around any was) (board_around b mid))
+      × SameFrom (extent_of (setting_for c) (kept_by b.rom)) before.words mid.ram.words
 
   comes_at : (ts : List Turn) (mid : Whole) → CameOn v ts (whole first begun) mid → OfBoard mid.board (λ b. StandsAt ts mid.around b)
   comes_at ts mid came = by first mid.board boots begins came.led
@@ -210,6 +213,9 @@ module _ (v : ImageData) (bytes : ℕ) (m : Machine) (left : List ℕ) (limit ra
         led.setting ∙ boots.entered.setting,
         λ any. subst (λ (s : Setting). BoardTracks v (turned_all s v ts (booted (setting_for c) v m left)) (point_around any was) (board_around b mid.around)) boots.entered.setting
             (led.tracks (booted (setting_for c) v m left) (point_around any was) (begins d any left input)),
+        λ i le.
+            let further = subst (λ (s : Setting). extent_of s (kept_by a.rom) ≤ extent_of s (kept_by b.rom)) boots.entered.setting led.grows in
+            subst (λ (s : Setting). SameFrom (extent_of s (kept_by b.rom)) middle.words mid.around.ram.words) boots.entered.setting led.unused i le ∙ boots.entered.unused i (omega (arith, further, le)),
       )
 
   -- a round that began while the run went on
@@ -245,6 +251,7 @@ module _ (v : ImageData) (bytes : ℕ) (m : Machine) (left : List ℕ) (limit ra
               tracks = tracks;
               setting = at.0;
               coherent = subst (λ (q : Setting). Coherent v (kept_by b.rom) (span_of q) last.around.ram.words) at.0 (engine_coherent b.rom v last.around.ram.words turns.sound);
+              unused = subst (λ (r : Record). SameFrom (extent_of (setting_for c) r) before.words last.around.ram.words) tracks.kept at.2;
               flat = flat;
               machine = same_between v (kept_by b.rom) (moment_after c ran.made).flat.machine b.hart.machine b.hart.control between tracks.matches ∙ ap (λ (q : FlatState). q.machine) flat;
               most = bounds.0;

@@ -1,9 +1,11 @@
 -- A turn of the engine leaves the hart where it stands.
-use Rattle.std.proofs.Common.{◌≡◌, ℕ, Bool, Option, Some, None, Result, Ok, Err, IfOk, arith, refl, sym, ◌∙◌, ap, subst}
+use Rattle.std.proofs.Common.{◌≡◌, ℕ, ◌^◌, ◌<◌, ◌≤◌, Bool, List, Option, Some, None, Result, Ok, Err, IfOk, arith, refl, sym, ◌∙◌, ap, subst, inl, inr}
 use Rattle.swi_calls.specs.declared.end.End.{End}
 use Rattle.swi_image.specs.Format.{ImageData}
 use Rattle.swi_rom.specs.Record.{Record, Placed}
-use Rattle.swi_rom.specs.Service.{ServiceOf}
+use Rattle.swi_rom.specs.Service.{ServiceOf, Setting}
+use Rattle.swi_rom.specs.Coherent.{Coherent, StandsAt}
+use Rattle.swi_hart.specs.declared.hart.Stage.{Stage}
 use Rattle.swi_hart.specs.declared.hart.Control.{Control}
 use Rattle.swi_hart.specs.declared.hart.Control.TheVariants.{At, Outside}
 use Rattle.swi_hart.specs.Hart.{HartData, place_under}
@@ -39,6 +41,12 @@ pub stays_under : {S : Type 0} (k : ServiceOf S) (e : EngineOf) (v : ImageData) 
     StaysUnder (k.kept a.rom) (k.kept b.rom) h.machine h.control
 stays_under k e v h p a b wrote under made = subst (λ (o : Option (ℕ × ℕ)). StaysAt (k.kept a.rom) (k.kept b.rom) o) (sym under) made.stays
 
+-- no part of the extent is given back
+pub same_extent : {S : Type 0} (k : ServiceOf S) (by : Setting) (o : Option Event) (wrote : Bool) (span : ℕ) (r r' : Record) (a b : RamState) → ((n : Event) → o ≡ Some n → k.extent by r ≤ k.extent by n.next) →
+    GoesTo o wrote span r r' a b → k.extent by r ≤ k.extent by r'
+same_extent k by None wrote span r r' a b rises goes = let same = ap (λ (x : Record). k.extent by x) goes.1 in omega (arith, same)
+same_extent k by (Some n) wrote span r r' a b rises goes = let same = ap (λ (x : Record). k.extent by x) goes.1 in omega (arith, same, rises n refl)
+
 abbrev pub board_with : {S : Type 0} → HartData → ServiceWithRam S → BoardWithRam S
 board_with h s = record { hart = h; rom = s.rom; ram = s.ram }
 
@@ -53,6 +61,8 @@ turned_on k e v h p a b (Ok wrote) laws under made beside =
       hart = refl;
       moves = subst (λ (o : Option (ℕ × ℕ)). GoesTo (event_at (e.event (k.setting a.rom)) (k.kept a.rom) v o) wrote (k.span (k.setting a.rom)) (k.kept a.rom) (k.kept b.rom) a.ram b.ram) (sym under) made.moves;
       stays = stays;
+      unused = made.unused;
+      grows = same_extent k (k.setting a.rom) _ wrote _ (k.kept a.rom) (k.kept b.rom) a.ram b.ram (λ x is. laws.extent_rises _ _ v p.0 x is) made.moves;
       matches = λ f was. matches_on v (k.kept a.rom) (k.kept b.rom) f h.machine h.control stays was;
       beside = record {
         fits = fits_on v (k.kept a.rom) (k.kept b.rom) h stays beside.fits;

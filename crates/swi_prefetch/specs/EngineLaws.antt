@@ -1,25 +1,21 @@
 -- The engine of the service with slots, and its laws.
-use Rattle.std.proofs.Common.{◌≡◌, ℕ, ◌-◌, ◌*◌, ◌==◌, Bool, true, false, List, [], ◌∷◌, Option, Some, None, if◌then◌else◌, slice_index, refl, ◌∙◌, ap, arith}
+use Rattle.std.proofs.Common.{◌≡◌, ℕ, ◌-◌, ◌*◌, ◌==◌, Bool, true, false, List, Option, Some, None, if◌then◌else◌, slice_index, refl, ◌∙◌, ap}
 use Rattle.swi_image.specs.Format.{ImageData}
 use Rattle.swi_image.specs.Place.{length_at, place_of}
-use Rattle.swi_rom.specs.Record.{Record, Placement, Transfer, direct, indirect, target_of}
+use Rattle.swi_rom.specs.Record.{Record, Transfer, target_of}
 use Rattle.swi_rom.specs.Service.{Setting}
-use Rattle.swi_rom.specs.Policy.{Putting, counted, evicted, is_over_link, is_placed, linked, linked_over, served_by, went}
+use Rattle.swi_rom.specs.Policy.{counted, is_over_link, is_placed, served_by, went}
 use Rattle.swi_engine.specs.declared.copying.Copying.{Copying}
 use Rattle.swi_engine.specs.Engine.{event, engine_words, copy_of, free_slot, into, brought, dropped, missed, arrived, newest_first, beside}
 use Rattle.swi_engine.specs.Events.{event_uncounted}
 use Rattle.swi_engine.specs.Service.{engine_service}
+use Rattle.swi_engine.specs.Taken.{event_extent, evicted_more, linked_more}
 use Rattle.swi_prefetch.specs.Engines.{EngineOf, IsEngine}
 
 abbrev pub engine_of : EngineOf
 engine_of = record { event = event; written = engine_words }
 
 -- ---- no transfer counts a word of the engine
-
-evicted_more : (r : Record) (es : List Placement) → (evicted r es).more ≡ r.more
-unfolding evicted
-evicted_more r [] = refl
-evicted_more r (e ∷ es) = refl
 
 into_words : (size : ℕ) (v : ImageData) (r : Record) (c : ℕ) (o : Option ℕ) → engine_words (into size v r c o) ≡ engine_words r
 into_words size v r c None = ap (λ (xs : List ℕ). slice_index xs 0) (evicted_more r r.placed)
@@ -41,11 +37,6 @@ arrived_words by v r c = at (is_placed r c)
     at true = refl
     at false = missed_words by v r c (copy_of r)
 
-linked_more : (put : Putting) (r : Record) (t : Transfer) (p : ℕ × ℕ) → (linked_over put r t p).more ≡ r.more
-unfolding linked
-linked_more put r (direct b o t) p = grind arith
-linked_more put r (indirect t) p = refl
-
 went_words : (by : Setting) (v : ImageData) (r : Record) (t : Transfer) (p : Option (ℕ × ℕ)) → engine_words (went arrived newest_first by v r t p) ≡ engine_words r
 unfolding went counted
 went_words by v r t None = refl
@@ -61,4 +52,4 @@ beside_words by r v t = at (is_over_link r t)
     at false = went_words by v r t (place_of v (target_of t))
 
 pub engine_laws : IsEngine engine_service engine_of
-engine_laws = record { uncounted = event_uncounted; unwritten = beside_words }
+engine_laws = record { uncounted = event_uncounted; unwritten = beside_words; extent_rises = event_extent }

@@ -6,12 +6,13 @@ use Rattle.swi_calls.specs.Held.{held_run}
 use Rattle.swi_calls.specs.State.{FlatState}
 use Rattle.swi_image.specs.Format.{ImageData}
 use Rattle.swi_rom.specs.Coherent.{Coherent}
+use Rattle.swi_rom.specs.Served.{SameFrom}
 use Rattle.swi_rom.specs.Service.{Setting}
 use Rattle.swi_hart.specs.declared.fault.BoardFault.{BoardFault}
 use Rattle.swi_board.specs.Board.{BoardOf}
 use Rattle.swi_board.specs.Moments.{GoesOn, Moment}
 use Rattle.swi_board.specs.Tracking.{Point}
-use Rattle.swi_engine.specs.Engine.{span_of}
+use Rattle.swi_engine.specs.Engine.{extent_of, span_of}
 use Rattle.swi_engine.specs.State.{EngineData, kept_by, setting_of}
 use Rattle.swi_prefetch.specs.Events.{Turn, of_hart, of_engine, booted, rounds, turned_all}
 use Rattle.swi_prefetch.specs.Prefetching.{empty_for}
@@ -61,6 +62,8 @@ pub record AheadEnded (c : AheadRun) (made : ℕ) (b : BoardOf EngineData) (befo
   pub setting : setting_of b.rom ≡ setting_for c
   -- the ram holds what is placed
   pub coherent : Coherent c.image (kept_by b.rom) (span_of (setting_for c)) after.ram.words
+  -- and each word of a slot that was never taken is as it was
+  pub unused : SameFrom (extent_of (setting_for c) (moment_after c made).kept) before.ram.words after.ram.words
   pub flat : (moment_after c made).flat ≡ end_of c
   pub machine : b.hart.machine ≡ (end_of c).machine
   -- at most three machine instructions for each original step, and one for the boot; one more where it stopped before a store into the text

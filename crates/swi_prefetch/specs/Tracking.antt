@@ -1,17 +1,18 @@
 -- A board that stands where events of the hart and of the engine have led.
-use Rattle.std.specs.Prelude.{◌≡◌, ◌+◌, ℕ, length, List, Option}
+use Rattle.std.specs.Prelude.{◌≡◌, ◌+◌, ◌≤◌, ℕ, length, List, Option}
 use Rattle.std.specs.Option.{ForSome}
 use Rattle.swi_outside.specs.CacheRam.{RamState}
 use Rattle.swi_outside.specs.Devices.{Devices}
 use Rattle.swi_calls.specs.declared.machine.Machine.{Machine}
 use Rattle.swi_image.specs.Format.{ImageData}
+use Rattle.swi_rom.specs.Served.{SameFrom}
 use Rattle.swi_board.specs.Board.{BoardOf, BoardWithDevices}
 use Rattle.swi_board.specs.Moments.{Moment}
 use Rattle.swi_board.specs.Runs.{unfetched}
 use Rattle.swi_board.specs.Tracking.{Point, Tracks, point_of}
-use Rattle.swi_engine.specs.Engine.{span_of}
+use Rattle.swi_engine.specs.Engine.{extent_of, span_of}
 use Rattle.swi_engine.specs.Service.{engine_service}
-use Rattle.swi_engine.specs.State.{EngineData, setting_of}
+use Rattle.swi_engine.specs.State.{EngineData, kept_by, setting_of}
 use Rattle.swi_prefetch.specs.Events.{Turn, booted, turned_all}
 use Rattle.swi_prefetch.specs.Prefetching.{OfBoards, empty_for}
 
@@ -34,6 +35,9 @@ BoardTracks v s from now = Tracks (span_of (setting_of now.rom)) v s from (point
 pub record Led (v : ImageData) (ts : List Turn) (old new : BoardWithDevices EngineData) : Type 0 where
   pub setting : setting_of new.rom ≡ setting_of old.rom
   pub tracks : (s : Moment) (from : Point) → BoardTracks v s from old → BoardTracks v (turned_all (setting_of old.rom) v ts s) from new
+  -- the words of slots that were never taken stay
+  pub unused : SameFrom (extent_of (setting_of old.rom) (kept_by new.rom)) old.ram.words new.ram.words
+  pub grows : extent_of (setting_of old.rom) (kept_by old.rom) ≤ extent_of (setting_of old.rom) (kept_by new.rom)
   -- each machine instruction has fetched a word, but for one that ended the run outside the text
   pub fetched : (s : Moment) (from : Point) → BoardTracks v s from old →
       length (turned_all (setting_of old.rom) v ts s).words + unfetched new.hart + s.count

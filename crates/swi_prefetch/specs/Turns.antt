@@ -8,6 +8,7 @@ use Rattle.swi_calls.specs.declared.machine.Machine.{Machine}
 use Rattle.swi_image.specs.Format.{ImageData}
 use Rattle.swi_render.specs.Carried.{Carries}
 use Rattle.swi_rom.specs.Record.{Record}
+use Rattle.swi_rom.specs.Served.{SameFrom}
 use Rattle.swi_rom.specs.Service.{ServiceOf}
 use Rattle.swi_hart.specs.declared.fault.BoardFault.{BoardFault}
 use Rattle.swi_hart.specs.Bounds.{most, most_calls}
@@ -44,6 +45,9 @@ pub record EngineTurned {S : Type 0} (k : ServiceOf S) (e : EngineOf) (v : Image
       (k.span (k.setting old.rom)) (k.kept old.rom) (k.kept new.rom) old.ram new.ram
   -- control's block stays where it stands
   pub stays : StaysUnder (k.kept old.rom) (k.kept new.rom) old.hart.machine old.hart.control
+  -- the words from the extent on are as before, of which none is given back
+  pub unused : SameFrom (k.extent (k.setting old.rom) (k.kept new.rom)) old.ram.words new.ram.words
+  pub grows : k.extent (k.setting old.rom) (k.kept old.rom) ≤ k.extent (k.setting old.rom) (k.kept new.rom)
   pub matches : (f : Machine) → Matches v (k.kept old.rom) f old.hart.machine old.hart.control → Matches v (k.kept new.rom) f new.hart.machine new.hart.control
   pub beside : Beside k v new
   pub setting : k.setting new.rom ≡ k.setting old.rom

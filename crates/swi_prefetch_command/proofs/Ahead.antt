@@ -378,6 +378,7 @@ module _ (o : RunOptions) (c : AheadRun) (made : ℕ) (b : BoardOf EngineData) (
         stops = stops_from c.start;
         ends = e.flat;
         coherent = subst (λ (r : Record). Coherent c.image r (span_of (setting_for c)) m.ram.words) e.tracks.kept e.coherent;
+        unused = e.unused;
         counted = record {
           fetches = e.tracks.ram.fetches;
           sets = e.tracks.ram.sets ∙ ap (λ (n : ℕ). risen d.ram.sets n) (written (setting_for c) c.image (rounds c.rate made) (booted (setting_for c) c.image c.start.machine c.start.input) (booted_written (setting_for c) c.image c.start.machine c.start.input))

@@ -19,13 +19,14 @@ use Rattle.swi_calls.specs.State.{FlatState}
 use Rattle.swi_calls.specs.StoresText.{next_store}
 use Rattle.swi_rom.specs.Coherent.{Coherent}
 use Rattle.swi_rom.specs.Record.{Record, writes}
+use Rattle.swi_rom.specs.Served.{SameFrom}
 use Rattle.swi_hart.specs.declared.fault.BoardFault.{BoardFault}
 use Rattle.swi_hart.specs.declared.fault.BoardFault.TheVariants as fault
 use Rattle.swi_hart.specs.Hart.{HartData}
 use Rattle.swi_board.specs.Board.{BoardOf}
 use Rattle.swi_board.specs.Fetching.{HasFetched}
 use Rattle.swi_board.specs.Moments.{Moment}
-use Rattle.swi_engine.specs.Engine.{engine_copies, engine_words, span_of}
+use Rattle.swi_engine.specs.Engine.{engine_copies, engine_words, extent_of, span_of}
 use Rattle.swi_engine.specs.State.{EngineData, kept_by, setting_of}
 use Rattle.swi_prefetch.specs.Events.{Turn, of_hart, rounds}
 use Rattle.swi_prefetch.specs.Prefetching.{PrefetchData, empty_for}
@@ -108,6 +109,8 @@ pub record IsAheadRun (c : AheadRun) (made : ℕ) (before after : RamState) : Ty
   pub ends : (moment_after c made).flat ≡ end_of c
   -- each placed block stands in its slot word for word, but that at each link there is a jump to its target's place
   pub coherent : Coherent c.image (moment_after c made).kept (span_of (setting_for c)) after.words
+  -- and each word of a slot that was never taken is as it was
+  pub unused : SameFrom (extent_of (setting_for c) (moment_after c made).kept) before.words after.words
   -- the run's counts are those that the ram has counted
   pub counted : RamCounted (ahead_work (moment_after c made)) before after
   -- and the words that were fetched are those of its rounds, one round after the other

@@ -1,6 +1,6 @@
 use Rattle.std.proofs.Common.{◌+◌, ◌/◌, ◌<◌, length, arith, sym, ◌∙◌}
 use Rattle.std.proofs.lemmas.List.{get_or_read}
-use Rattle.swi_engine.specs.State.{copies_begun}
+use Rattle.swi_engine.specs.Engine.{copies_begun}
 use Rattle.swi_engine.proofs.Reading.{at_beyond, at_copy, at_behind, at_word, used_slots}
 use Rattle.swi_engine.proofs.engine.EngineRomCacheRom.at.Goals as goal
 

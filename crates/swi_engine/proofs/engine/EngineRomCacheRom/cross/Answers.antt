@@ -3,6 +3,7 @@ use Rattle.swi_rom.specs.Record.{direct}
 use Rattle.swi_engine.specs.State.{EngineData}
 use Rattle.swi_engine.proofs.Counting.{row_within}
 use Rattle.swi_engine.proofs.Crossing.{outside_served, exit_not_linked, exit_below, crossed_call, crossed_fault, link_needs}
+use Rattle.swi_engine.proofs.Unused.{unused_stays}
 use Rattle.swi_engine.proofs.engine.EngineRomCacheRom.cross.Goals as goal
 
 pub returns-in_default-clause-served : goal.returns-in_default-clause-served
@@ -59,7 +60,8 @@ pub returns-clause-unused : goal.returns-clause-unused
 returns-clause-unused g c =
     let x = c.requires.exit in
     let call = crossed_call _ _ _ _ _ _ _ _ _ _ _ _ _ _ _ _ c.self.view_is c.requires.sound c.requires.exit (sym c.in-Some.ensures.place) c.in-Ok.ensures.arrived c.index.ensures (ap (λ (e : EngineData). e.size) c.self-2.view_is) refl c.in-Ok-link_exit.ensures.linked in
-    (call.0 x.block x.offset x.first x.is_placed (omega (arith, x.is_exit.inside)) x.index).spared.beyond
+    let one = call.0 x.block x.offset x.first x.is_placed (omega (arith, x.is_exit.inside)) x.index in
+    unused_stays _ _ _ _ _ _ c.requires.sound call.1 (c.in-Ok-link_exit.ensures.setting ∙ c.in-Ok.ensures.setting) one.moves one.words
 
 pub returns-clause-stays : goal.returns-clause-stays
 returns-clause-stays g c = (crossed_call _ _ _ _ _ _ _ _ _ _ _ _ _ _ _ _ c.self.view_is c.requires.sound c.requires.exit (sym c.in-Some.ensures.place) c.in-Ok.ensures.arrived c.index.ensures (ap (λ (e : EngineData). e.size) c.self-2.view_is) refl c.in-Ok-link_exit.ensures.linked).1

@@ -3,6 +3,7 @@ use Rattle.swi_rom.specs.Record.{indirect}
 use Rattle.swi_engine.specs.State.{EngineData}
 use Rattle.swi_engine.proofs.Counting.{row_within}
 use Rattle.swi_engine.proofs.Crossing.{entered_call, outside_served}
+use Rattle.swi_engine.proofs.Unused.{unused_stays}
 use Rattle.swi_engine.proofs.engine.EngineRomCacheRom.enter.Goals as goal
 
 pub returns-in_default-clause-served : goal.returns-in_default-clause-served
@@ -23,3 +24,9 @@ overflow_add-result g c =
 
 pub returns-clause-served : goal.returns-clause-served
 returns-clause-served g c = entered_call _ _ _ _ _ _ _ _ _ _ c.in-Ok.ensures.arrived c.in-Some.ensures.place (ap (λ (e : EngineData). e.size) c.self-2.view_is)
+
+pub returns-clause-unused : goal.returns-clause-unused
+returns-clause-unused g c =
+    let arr = c.in-Ok.ensures.arrived in
+    let one = entered_call _ _ _ _ _ _ _ _ _ _ arr c.in-Some.ensures.place (ap (λ (e : EngineData). e.size) c.self-2.view_is) in
+    unused_stays _ _ _ _ _ _ c.requires.sound arr.sound arr.setting_stays one.moves one.words
