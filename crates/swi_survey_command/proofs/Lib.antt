@@ -1,4 +1,4 @@
 pub mod Counting
-pub mod Rows
+pub mod Lines
 pub mod Sizes
 pub mod Surveying

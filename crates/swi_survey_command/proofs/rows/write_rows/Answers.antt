@@ -7,7 +7,7 @@ use Rattle.swi_outside.proofs.SinkLemmas.{written_part}
 use Rattle.swi_report.specs.declared.stats.Work.{Work}
 use Rattle.swi_report.proofs.Pieces.{each_broken, each_more}
 use Rattle.swi_survey_command.specs.Rows.{size_line}
-use Rattle.swi_survey_command.proofs.Rows.{all_written, work_told}
+use Rattle.swi_survey_command.proofs.Lines.{all_written, work_told}
 use Rattle.swi_survey_command.proofs.rows.write_rows.Goals as goal
 
 pub returns-in_err-write_row : goal.returns-in_err-write_row
