@@ -1,5 +1,5 @@
 -- Caches in which nothing stands serve an image.
-use Rattle.std.proofs.Common.{◌≡◌, ℕ, zero, suc, ◌+◌, ◌*◌, ◌^◌, ◌<◌, ◌≤◌, ◌==◌, Bool, true, false, List, [], length, replicate, slice_get, slice_index, All, Option, Some, None, IfSome, option_map, ◌/◌, ◌%◌, arith, refl, sym, ◌∙◌, ap, subst, inl, inr}
+use Rattle.std.proofs.Common.{◌≡◌, ℕ, zero, suc, ◌*◌, ◌^◌, ◌<◌, ◌≤◌, ◌==◌, Bool, false, List, [], length, replicate, slice_get, slice_index, All, Option, Some, None, IfSome, option_map, ◌/◌, ◌%◌, arith, refl, sym, ◌∙◌, ap, subst, inl, inr}
 use Rattle.std.proofs.lemmas.Bool.{cases_lt}
 use Rattle.std.proofs.lemmas.List.{length-replicate, get_or-replicate, get_or_past}
 use Rattle.std.proofs.lemmas.Option.{get_or_from_slice_get, slice_get-map, slice_get_within}
@@ -12,9 +12,9 @@ use Rattle.swi_tally.specs.declared.tally.Placing.{Placing}
 use Rattle.swi_tally.specs.declared.tally.Placing.TheVariants.{Slots, Ring}
 use Rattle.swi_tally.specs.declared.tallies.Frame.{Frame}
 use Rattle.swi_tally.specs.Masks.{has, has_at}
-use Rattle.swi_tally.specs.Exits.{ExitsData, AreExits, link_at, link_if, links_of}
-use Rattle.swi_tally.specs.Tally.{TallyData, Bounded, InShape, Serves, empty_tally, kept_by, more_of, queue_of}
-use Rattle.swi_tally.specs.Tallies.{TalliesData, Row, AreServing, IsFrame, empty_of, empty_tallies, first_row, row_at, row_if, row_of}
+use Rattle.swi_tally.specs.Exits.{ExitsData, AreExits, link_at, links_of}
+use Rattle.swi_tally.specs.Tally.{TallyData, InShape, Serves, kept_by, more_of, queue_of}
+use Rattle.swi_tally.specs.Tallies.{Row, AreServing, IsFrame, empty_of, empty_tallies, first_row, row_at, row_if}
 
 -- no exit is a link
 none_has : (n d x : ℕ) → has_at (replicate n 0) d x ≡ false
@@ -24,7 +24,7 @@ none_has n d x = ap (λ (m : ℕ). m / 2 ^ d % 2 == 1) (zero_at n x) ∙ ap (λ 
     zero_at : (n x : ℕ) → slice_index (replicate n 0) x ≡ 0
     zero_at n x = elim (cases_lt x n) [
       | inl below ↦ get_or-replicate n x 0 0 below
-      | inr past ↦ get_or_past (replicate n 0) x 0 (omega (arith, past, length-replicate n 0))
+      | inr past ↦ get_or_past (replicate n 0) x 0 (omega (arith, past, length-replicate {A = ℕ} n 0))
     ]
 
 none_collected : (e : ExitsData) (linked : ℕ → Bool) (n : ℕ) → ((x : ℕ) → linked x ≡ false) → collected (link_at e linked) n ≡ []
@@ -61,7 +61,7 @@ module _ (v : ImageData) (e : ExitsData) (f : Frame) (image : IsImage v) (are : 
       are = are;
       blocks = blocks;
       homes = sym (length-replicate e.blocks (f.slots * f.slot_words));
-      masks_long = length-replicate (length e.from) 0;
+      masks_long = length-replicate {A = ℕ} (length e.from) 0;
       cache_below = lt;
       words = frame.holds;
       shape = empty_shape;
@@ -102,7 +102,7 @@ none_kept e f n d =
     ap (λ (ls : List Link). let r : Record = record (kept_by e (has_at (replicate n 0) d) (empty_of e.blocks f)) { links = ls } in r) (none_linked e n d)
     ∙ ap (λ (l : List ℕ). let r : Record = record empty_record { more = l } in r) (more_none f.placing)
 
-pub first_if : Option Frame → Option Row
+abbrev pub first_if : Option Frame → Option Row
 first_if None = None
 first_if (Some f) = Some (first_row f)
 

@@ -1,42 +1,41 @@
 -- Caches follow a step that was made.
-use Rattle.std.proofs.Common.{◌≡◌, ℕ, suc, ◌+◌, ◌^◌, ◌<◌, Bool, true, false, not, ◌&&◌, List, [], ◌∷◌, length, slice_index, Option, Some, None, is_some, if◌then◌else◌, arith, refl, sym, ◌∙◌, ap, subst}
+use Rattle.std.proofs.Common.{◌≡◌, ℕ, suc, ◌+◌, ◌^◌, ◌<◌, Bool, true, false, not, ◌&&◌, List, [], length, slice_index, slice_index_or, Option, Some, None, is_some, if◌then◌else◌, arith, refl, sym, ◌∙◌, ap, subst}
+use Rattle.std.proofs.lemmas.Option.{slice_get_read}
 use Rattle.swi_isa.specs.declared.instr.Instr.{Instr}
-use Rattle.swi_isa.specs.Decode.{decoded}
 use Rattle.swi_exec.specs.Arithmetic.{sum_of}
 use Rattle.swi_memory.specs.Bus.{fetched}
 use Rattle.swi_calls.specs.declared.end.End.{End}
 use Rattle.swi_calls.specs.declared.machine.Machine.{Machine}
-use Rattle.swi_calls.specs.StoresText.{instruction_store, next_store, word_store}
-use Rattle.swi_calls.specs.Flat.{Made, with_instruction, with_word as with_fetched}
+use Rattle.swi_calls.specs.StoresText.{instruction_store}
+use Rattle.swi_calls.specs.Flat.{Made, with_instruction}
 use Rattle.swi_calls.specs.Held.{held, held_made}
 use Rattle.swi_image.specs.Format.{ImageData}
 use Rattle.swi_image.specs.Place.{place_of, place_of_word}
-use Rattle.swi_program.specs.Text.{TextData, word_of}
+use Rattle.swi_program.specs.Text.{TextData}
 use Rattle.swi_render.specs.Rendering.{Slot, falls_of, rendering_of, sum}
-use Rattle.swi_render.specs.ImageOf.{address_of, rendering_at}
-use Rattle.swi_rom.specs.Record.{Transfer, direct, indirect}
-use Rattle.swi_hart.specs.Hart.{original, slots, whole_made}
+use Rattle.swi_render.specs.ImageOf.{address_of}
+use Rattle.swi_rom.specs.Record.{direct, indirect}
+use Rattle.swi_hart.specs.Hart.{slots, whole_made}
 use Rattle.swi_hart.proofs.Own.{held_as, held_none, is_own, own_made, whole_pc}
 use Rattle.swi_board.specs.Transfers.{Here as Place, before_last, here_after, jumps_as, leaves_by, step_cost, step_size, step_transfers}
 use Rattle.swi_tally.specs.declared.exits.Exit.{Exit}
-use Rattle.swi_tally.specs.Tallies.{TalliesData, AllServed, AreServing}
+use Rattle.swi_tally.specs.Tallies.{TalliesData, AreServing}
 use Rattle.swi_tally.proofs.Siding.{all_serving}
 use Rattle.swi_survey.specs.declared.leaving.Leaving.{Leaving}
 use Rattle.swi_survey.specs.declared.leaving.Way.{Way}
 use Rattle.swi_survey.specs.declared.leaving.Way.TheVariants as way
 use Rattle.swi_survey.specs.declared.track.Here.{Here}
 use Rattle.swi_survey.specs.declared.track.Here.TheVariants as here
-use Rattle.swi_survey.specs.declared.track.Step.{Step}
 use Rattle.swi_survey.specs.declared.track.Step.TheVariants as step
 use Rattle.swi_survey.specs.declared.track.Track.{Track}
 use Rattle.swi_survey.specs.declared.ways.Ways.{Ways}
 use Rattle.swi_survey.specs.Leaving.{leaving_by}
 use Rattle.swi_survey.specs.Ways.{AreWays, HasNumber, exit_to, instr_at, is_last, jump_of, own_exit, own_if, place_behind}
-use Rattle.swi_survey.specs.Track.{AllAfter, Follows, IsBehind, IsStep, ServedOn, Stands, StandsAt, behind_if, place_at, unfetched_at}
+use Rattle.swi_survey.specs.Track.{AllAfter, Follows, IsBehind, IsReady, IsStep, Leaves, ServedOn, Stands, StandsAt, behind_if, place_at, unfetched_at}
 use Rattle.swi_survey.proofs.Mapping.{same_some}
 use Rattle.swi_survey.proofs.Places.{AtWord, Ground, at_word, next_stands, place_here, some_place}
 use Rattle.swi_survey.proofs.Rows.{all_none, all_one, as_list}
-use Rattle.swi_survey.proofs.Stepping.{Goes, GoesAway, GoesNext, GoesOver, goes, words_are, words_few}
+use Rattle.swi_survey.proofs.Stepping.{Goes, goes, words_are, words_few}
 
 -- a step at an address where no text word stands fetches nothing, and makes no transfer
 pub followed_outside : (t : TextData) (v : ImageData) (f next : Machine) (input : List ℕ) (old new : Track) → old.here ≡ here.Outside → fetched f.bus f.pc ≡ None → next ≡ (held_made f input).machine →
@@ -248,3 +247,51 @@ from_word t v f next failed here.Outside k l g lt s = absurd (other s.step_is)
   where
     other : step.From k l ≡ step.Outside → ⊥
     other is = cc
+
+-- ---- the calls, as their code meets them
+
+pub outside_here : (t : TextData) (h : Here) → Leaves t h step.Outside → h ≡ here.Outside
+outside_here t (here.At k) at = absurd at
+outside_here t (here.Behind k) at = absurd at
+outside_here t here.Outside at = refl
+
+pub never_stores : (t : TextData) (h : Here) (a : ℕ) → Leaves t h (step.Store a) → ⊥
+never_stores t (here.At k) a at = at
+never_stores t (here.Behind k) a at = at
+never_stores t here.Outside a at = at
+
+pub word_left : (t : TextData) (h : Here) (k : ℕ) (l : Leaving) → Leaves t h (step.From k l) → k < length t.words
+word_left t (here.At j) k l at = omega (arith, at.0, at.1)
+word_left t (here.Behind j) k l at = absurd at
+word_left t here.Outside k l at = absurd at
+
+pub ways_at : (t : TextData) (v : ImageData) (k : Track) (j : ℕ) (w : Ways) → IsReady t v k → j < length t.words → w ≡ slice_index_or k.ways.items j w → AreWays t v k.caches.exits j w
+ways_at t v k j w ready lt read = ready.ways_are.each j w (slice_get_read k.ways.items (length k.ways.items) j w refl (omega (arith, lt, ready.long)) read)
+
+module _ (t : TextData) (v : ImageData) (f next : Machine) (failed : Bool) (old new : Track) (k : ℕ) (l : Leaving) (ways : Ways) (pc : ℕ) (g : Ground t v) (lt : k < length t.words) (s : IsStep t f failed old.here (step.From k l) next)
+    (are : AreWays t v old.caches.exits k ways) (same : new.ways.items ≡ old.ways.items) (fetches : new.fetches ≡ old.fetches + l.words) (outside : new.outside ≡ old.outside)
+    (behind : IsBehind t k ways.last l.way pc new.here) (at : next.pc ≡ pc) (small : pc < 2 ^ 32) where
+  from : FromWord t v f next k
+  from = (from_word t v f next failed old.here k l g lt s).2
+
+  left_is : l ≡ left from
+  left_is = (from_word t v f next failed old.here k l g lt s).1
+
+  counts : Counts from old new ways
+  counts = record {
+    here_was = (from_word t v f next failed old.here k l g lt s).0;
+    ways_are = are;
+    same_ways = same;
+    fetches = fetches ∙ ap (λ (m : Leaving). old.fetches + m.words) left_is;
+    outside = outside;
+    behind = subst (λ (n : ℕ). IsBehind t k ways.last (left from).way n new.here) (sym at) (subst (λ (m : Leaving). IsBehind t k ways.last m.way pc new.here) left_is behind);
+    small = omega (arith, at, small);
+  }
+
+  pub call_end : is_some next.ending ≡ true → new.caches ≡ old.caches → Follows t v f next old new
+  call_end over caches = followed_end from old new ways counts over caches
+
+  pub call_on : is_some next.ending ≡ false → ServedOn v l.way ways.own pc old.caches new.caches → ((n : ℕ) → AreServing v n old.caches → AreServing v (suc n) new.caches) → new.caches.exits ≡ old.caches.exits → Follows t v f next old new
+  call_on on served serving exits =
+      followed_on from old new ways counts on
+      (subst (λ (n : ℕ). ServedOn v (left from).way ways.own n old.caches new.caches) (sym at) (subst (λ (m : Leaving). ServedOn v m.way ways.own pc old.caches new.caches) left_is served)) serving exits

@@ -1,5 +1,5 @@
 -- Caches that have served transfers, one behind the other, and transfers of which nothing is kept.
-use Rattle.std.proofs.Common.{◌≡◌, ℕ, suc, ◌≤◌, List, [], ◌∷◌, ◌++◌, slice_get, slice_index, Option, Some, None, IfSome, arith, refl, sym, ◌∙◌, ap, subst}
+use Rattle.std.proofs.Common.{◌≡◌, ℕ, ◌<◌, ◌≤◌, List, [], ◌∷◌, ◌++◌, length, slice_get, slice_index, Option, Some, None, IfSome, arith, refl, sym, ◌∙◌, ap, subst}
 use Rattle.swi_image.specs.Format.{ImageData}
 use Rattle.swi_image.specs.Place.{place_of}
 use Rattle.swi_rom.specs.Record.{Record, Transfer, direct, target_of}
@@ -7,6 +7,7 @@ use Rattle.swi_rom.specs.Service.{Setting}
 use Rattle.swi_rom.specs.Policy.{served_outside, with_link}
 use Rattle.swi_board.proofs.Counting.{after_append}
 use Rattle.swi_tally.specs.declared.tally.Placing.{Placing}
+use Rattle.swi_tally.specs.declared.exits.Exit.{Exit}
 use Rattle.swi_tally.specs.Exits.{ExitsData}
 use Rattle.swi_tally.specs.Tally.{TallyData, Serves, arrival_of, policy_of}
 use Rattle.swi_tally.specs.Tallies.{TalliesData, Row, AllServed, AreServing, row_at, served_if}
@@ -69,6 +70,12 @@ cross_one v old new x p a served has = by (place_of v a) refl has
         let there : place_of v a ≡ Some (slice_index old.exits.into x, slice_index old.exits.ats x) =
         at ∙ sym (ap (λ (m : ℕ). Some (m, slice_index old.exits.ats x)) h.3 ∙ ap (λ (m : ℕ). Some (q.0, m)) h.4) in
         subst (λ (m : ℕ). AllServed v (direct m p.1 a) old new) h.1 (subst (λ (m : ℕ). AllServed v (direct (slice_index old.exits.from x) m a) old new) h.2 (served a there)))
+
+-- a number is that of an exit
+pub number_known : (e : ExitsData) (x : Option Exit) (n : Option ℕ) → HasNumber e x n → IfSome n (λ m. m < length e.from)
+number_known e None n has = subst (λ (o : Option ℕ). IfSome o (λ m. m < length e.from)) (sym has) tt
+number_known e (Some x) None has = tt
+number_known e (Some x) (Some n) has = has.0
 
 pub cross_none : (v : ImageData) (c : TalliesData) (p : ℕ × ℕ) (a : ℕ) → HasNumber c.exits (exit_to v p a) None → AllServed v (direct p.0 p.1 a) c c
 cross_none v c p a has = by (place_of v a) refl has

@@ -1,14 +1,14 @@
 -- The exit behind a block's last text word is made, or the run stands at none.
-use Rattle.std.proofs.Common.{◌≡◌, ℕ, suc, ◌+◌, ◌^◌, ◌<◌, Bool, true, false, not, List, [], ◌∷◌, length, Option, Some, None, if◌then◌else◌, arith, refl, sym, ◌∙◌, ap, subst}
+use Rattle.std.proofs.Common.{◌≡◌, ℕ, suc, ◌+◌, ◌^◌, ◌<◌, Bool, true, false, not, [], ◌∷◌, length, Option, Some, None, if◌then◌else◌, arith, refl, sym, ◌∙◌, ap, subst}
 use Rattle.swi_calls.specs.declared.machine.Machine.{Machine}
 use Rattle.swi_image.specs.Format.{ImageData}
 use Rattle.swi_image.specs.Place.{place_of, place_of_word}
 use Rattle.swi_program.specs.Text.{TextData}
 use Rattle.swi_render.specs.Rendering.{falls_of, sum}
 use Rattle.swi_render.specs.ImageOf.{address_of, rendering_at}
-use Rattle.swi_rom.specs.Record.{Transfer, direct}
+use Rattle.swi_rom.specs.Record.{direct}
 use Rattle.swi_hart.specs.Hart.{is_place}
-use Rattle.swi_board.specs.Transfers.{Here as Place, at_fall, fall_transfers, settled}
+use Rattle.swi_board.specs.Transfers.{Here as Place, at_fall, fall_transfers}
 use Rattle.swi_board.proofs.Counting.{place_not_fall}
 use Rattle.swi_tally.specs.declared.exits.Exit.{Exit}
 use Rattle.swi_tally.specs.Tallies.{AllServed, AreServing}
@@ -17,8 +17,8 @@ use Rattle.swi_survey.specs.declared.track.Here.{Here}
 use Rattle.swi_survey.specs.declared.track.Here.TheVariants as here
 use Rattle.swi_survey.specs.declared.track.Track.{Track}
 use Rattle.swi_survey.specs.declared.ways.Ways.{Ways}
-use Rattle.swi_survey.specs.Ways.{AreWays, HasNumber, exit_behind, exit_to, instr_at, is_last, place_behind}
-use Rattle.swi_survey.specs.Track.{AllAfter, Settles, Stands, StandsAt, StandsBehind, behind_if, place_at}
+use Rattle.swi_survey.specs.Ways.{AreWays, HasNumber, exit_behind, exit_to, instr_at, place_behind}
+use Rattle.swi_survey.specs.Track.{Settles, Stands, StandsAt, StandsBehind, behind_if, place_at}
 use Rattle.swi_survey.proofs.Places.{Ground, place_here, some_place}
 use Rattle.swi_survey.proofs.Rows.{all_none, all_one, as_list}
 
@@ -33,7 +33,7 @@ pub settled_same : (t : TextData) (v : ImageData) (f : Machine) (pc : ℕ) (k : 
 settled_same t v f pc k g at small same =
     let here_is : place_at t v k.here ≡ place_of v f.pc = place_here t v pc k.here g at small ∙ ap (place_of v) (sym same) in
     let off : at_fall v f (place_at t v k.here) ≡ false = ap (at_fall v f) here_is ∙ place_not_fall v f in
-    let none : (if at_fall v f (place_at t v k.here) then 1 else 0) ≡ 0 = ap (λ (b : Bool). if b then 1 else 0) off in
+    let none : ◌≡◌ {A = ℕ} (if at_fall v f (place_at t v k.here) then 1 else 0) 0 = ap (λ (b : Bool). if b then 1 else 0) off in
     record {
       moves = record {
         rows = as_list v [] (fall_transfers v f (place_at t v k.here)) k.caches k.caches (sym (fall_none v f (place_at t v k.here) off)) (all_none v k.caches);
@@ -78,7 +78,7 @@ module _ (t : TextData) (v : ImageData) (f : Machine) (pc k : ℕ) (old new : Tr
       StandsAt t pc new.here → Settles t v f old new
   settled_behind served serving exits same_ways fetches outside stands =
       let on : at_fall v f (place_at t v old.here) ≡ true = ap (at_fall v f) here_is ∙ falls_here in
-      let one : (if at_fall v f (place_at t v old.here) then 1 else 0) ≡ 1 = ap (λ (b : Bool). if b then 1 else 0) on in
+      let one : ◌≡◌ {A = ℕ} (if at_fall v f (place_at t v old.here) then 1 else 0) 1 = ap (λ (b : Bool). if b then 1 else 0) on in
       record {
         moves = record {
           rows = as_list v _ (fall_transfers v f (place_at t v old.here)) old.caches new.caches

@@ -1,7 +1,7 @@
 //! One run of the flat machine, and all caches beside it.
 #![tactic(auto)]
 
-ghost use Rattle.std.specs.Prelude.{◌≡◌, ◌<◌, ◌≤◌, ◌^◌, All, None, false, length};
+ghost use Rattle.std.specs.Prelude.{◌≡◌, ◌+◌, ◌≤◌, ◌^◌, All, false, length};
 ghost use Rattle.swi_calls.specs.Flat.{machine_of};
 ghost use Rattle.swi_image.specs.Sound.{IsImage};
 ghost use Rattle.swi_program.specs.Layout.{IsLayoutOf};
@@ -9,7 +9,7 @@ ghost use Rattle.swi_program.specs.Text.{IsSized, text_of};
 ghost use Rattle.swi_render.specs.ImageOf.{IsImageOf};
 ghost use Rattle.swi_tally.specs.Tallies.{IsFrame};
 ghost use Rattle.swi_survey.specs.Survey.{SurveyRan};
-ghost use Rattle.swi_survey.specs.Track.{Begun, StandsAt, StepIs, StepsRan, Tracks};
+ghost use Rattle.swi_survey.specs.Track.{Begun, StandsAt, StepIs, StepsRan, told_of};
 
 use crate::leaving::{ILLEGAL, leaving_of};
 use crate::track::{Here, Step, Track};
@@ -52,7 +52,7 @@ pub enum SurveyStop {
 /// How the next step leaves the place where the run stands.
 fn next_step(flat: &Flat, here: Here, text: &TextView<'_>) -> Step
     requires { StandsAt text.now flat.now.machine.pc here }
-    ensures { StepIs text.now flat.now.machine here result }
+    ensures { StepIs text.now flat.now here result }
 {
     let Here::At(k) = here else {
         return Step::Outside;
@@ -147,6 +147,7 @@ pub fn run_survey<I: Source, O: Sink, E: Sink>(
         (record { input = I.state input.new; output = O.state out.new; error = E.state err.new }) result }
 {
     let text = program.text();
+    let _blocks = image.blocks();
     let Ok(mut flat) = Flat::start(alloc, program, layout, false) else {
         return Err(SurveyStop::Memory);
     };

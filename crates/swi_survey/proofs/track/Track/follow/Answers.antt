@@ -1,0 +1,49 @@
+use Rattle.std.proofs.Common.{arith, refl, ◌∙◌, subst}
+use Rattle.swi_image.specs.Place.{place_of_word}
+use Rattle.swi_survey.specs.declared.track.Here.{Here}
+use Rattle.swi_survey.specs.declared.track.Step.{Step}
+use Rattle.swi_survey.specs.Track.{IsStep, Leaves, StandsAt}
+use Rattle.swi_survey.proofs.Following.{call_end, call_on, followed_outside, never_stores, outside_here, ways_at, word_left}
+use Rattle.swi_survey.proofs.Places.{ground, some_place}
+use Rattle.swi_survey.proofs.Rows.{number_known}
+use Rattle.swi_survey.proofs.track.Track.follow.Goals as goal
+
+pub serve-requires-clause-exit : goal.serve-requires-clause-exit
+serve-requires-clause-exit c =
+    let t = c.args.text.now in
+    let v = c.args.image.now in
+    let lt = word_left t c.args.self.now.here c.in-From.k c.in-From.left (subst (λ (q : Step). Leaves t c.args.self.now.here q) c.in-From.is c.requires.leaves) in
+    let ways = ways_at t v c.args.self.now c.in-From.k c.index-ways.result.now c.requires.ready lt c.index-ways.ensures in
+    let g = ground t v c.requires.sized c.requires.image c.requires.own in
+    number_known c.args.self.now.caches.exits _ c.index-ways.result.now.own (ways.own (place_of_word v c.in-From.k) (some_place t v c.in-From.k g lt))
+
+pub returns-in-Outside : goal.returns-in-Outside
+returns-in-Outside c f next failed s at ended =
+    let t = c.args.text.now in
+    let here_is = outside_here t c.args.self.now.here (subst (λ (q : Step). Leaves t c.args.self.now.here q) c.in-Outside.is c.requires.leaves) in
+    let nowhere = subst (λ (h : Here). StandsAt t f.pc h) here_is s.stands in
+    followed_outside t c.args.image.now f next s.input c.args.self.now _ here_is (s.text f.pc ∙ nowhere) s.next_is refl refl refl refl refl
+
+pub returns-in-Store : goal.returns-in-Store
+returns-in-Store c f next failed s at ended =
+    absurd (never_stores c.args.text.now c.args.self.now.here c.in-Store.field-0 (subst (λ (q : Step). Leaves c.args.text.now c.args.self.now.here q) c.in-Store.is c.requires.leaves))
+
+pub returns-then-not-ended : goal.returns-then-not-ended
+returns-then-not-ended c f next failed s at ended =
+    let t = c.args.text.now in
+    let v = c.args.image.now in
+    let lt = word_left t c.args.self.now.here c.in-From.k c.in-From.left (subst (λ (q : Step). Leaves t c.args.self.now.here q) c.in-From.is c.requires.leaves) in
+    let ways = ways_at t v c.args.self.now c.in-From.k c.index-ways.result.now c.requires.ready lt c.index-ways.ensures in
+    call_on t v f next failed c.args.self.now _ c.in-From.k c.in-From.left c.index-ways.result.now c.args.pc (ground t v c.requires.sized c.requires.image c.requires.own) lt
+    (subst (λ (q : Step). IsStep t f failed c.args.self.now.here q next) c.in-From.is s) ways refl refl refl c.here_behind-self.ensures at (omega (arith, c.ranges.pc.fits))
+    (ended ∙ c.if-not-ended.true) c.serve.ensures.served c.serve.ensures.serving c.serve.ensures.exits
+
+pub returns-else-not-ended : goal.returns-else-not-ended
+returns-else-not-ended c f next failed s at ended =
+    let t = c.args.text.now in
+    let v = c.args.image.now in
+    let lt = word_left t c.args.self.now.here c.in-From.k c.in-From.left (subst (λ (q : Step). Leaves t c.args.self.now.here q) c.in-From.is c.requires.leaves) in
+    let ways = ways_at t v c.args.self.now c.in-From.k c.index-ways.result.now c.requires.ready lt c.index-ways.ensures in
+    call_end t v f next failed c.args.self.now _ c.in-From.k c.in-From.left c.index-ways.result.now c.args.pc (ground t v c.requires.sized c.requires.image c.requires.own) lt
+    (subst (λ (q : Step). IsStep t f failed c.args.self.now.here q next) c.in-From.is s) ways refl refl refl c.here_behind-self.ensures at (omega (arith, c.ranges.pc.fits))
+    (ended ∙ c.if-not-ended.false) refl
