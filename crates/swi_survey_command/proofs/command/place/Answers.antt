@@ -17,4 +17,4 @@ returns-in_err-check_blocks-clause-refused c =
     let words : c.block_words.result ≡ block_words (image_in file) c.args.block_words =
     c.block_words.ensures.value ∙ sym (size_is file c.args.block_words (image_in file) (view_of c.in_ok-subject.subject.image) is.image) in
     let small = subst (λ (n : ℕ). IsRefusedBy (hold_block c.args.sizes.now (4 * n)) c.in_err-check_blocks.field-0.0) words c.in_err-check_blocks.ensures.refused in
-    rw (p.1, p.2) (inr (inr (c.requires.within, inr (c.in_ok-elf.ensures.passes, inr ((c.in_ok-program.layout, ready.layout), inr (others.0, inr (others.1, inr (others.2.0, small))))))))
+    rw (p.1, p.2) (inr (inr (c.requires.within, inr (c.in_ok-elf.ensures.passes, inr ((_, ready.layout), inr (others.0, inr (others.1.0, inr (others.1.1.0, small))))))))
