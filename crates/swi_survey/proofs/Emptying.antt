@@ -1,5 +1,5 @@
 -- Caches in which nothing stands serve an image.
-use Rattle.std.proofs.Common.{◌≡◌, ℕ, zero, suc, ◌+◌, ◌*◌, ◌^◌, ◌<◌, ◌≤◌, ◌==◌, Bool, true, false, List, [], length, replicate, slice_get, slice_index, All, Option, Some, None, IfSome, option_map, ◌/◌, ◌%◌, arith, refl, sym, ◌∙◌, ap, subst, inl, inr}
+use Rattle.std.proofs.Common.{◌≡◌, ℕ, zero, suc, ◌*◌, ◌^◌, ◌<◌, ◌≤◌, ◌==◌, Bool, false, List, [], length, replicate, slice_get, slice_index, All, Option, Some, None, IfSome, option_map, ◌/◌, ◌%◌, arith, refl, sym, ◌∙◌, ap, subst, inl, inr}
 use Rattle.std.proofs.lemmas.Bool.{cases_lt}
 use Rattle.std.proofs.lemmas.List.{length-replicate, get_or-replicate, get_or_past}
 use Rattle.std.proofs.lemmas.Option.{get_or_from_slice_get, slice_get-map, slice_get_within}
@@ -12,9 +12,9 @@ use Rattle.swi_tally.specs.declared.tally.Placing.{Placing}
 use Rattle.swi_tally.specs.declared.tally.Placing.TheVariants.{Slots, Ring}
 use Rattle.swi_tally.specs.declared.tallies.Frame.{Frame}
 use Rattle.swi_tally.specs.Masks.{has, has_at}
-use Rattle.swi_tally.specs.Exits.{ExitsData, AreExits, link_at, link_if, links_of}
-use Rattle.swi_tally.specs.Tally.{TallyData, Bounded, InShape, Serves, empty_tally, kept_by, more_of, queue_of}
-use Rattle.swi_tally.specs.Tallies.{TalliesData, Row, AreServing, IsFrame, empty_of, empty_tallies, first_row, row_at, row_if, row_of}
+use Rattle.swi_tally.specs.Exits.{ExitsData, AreExits, link_at, links_of}
+use Rattle.swi_tally.specs.Tally.{TallyData, InShape, Serves, kept_by, more_of, queue_of}
+use Rattle.swi_tally.specs.Tallies.{Row, AreServing, IsFrame, empty_of, empty_tallies, first_row, row_at, row_if}
 
 -- no exit is a link
 none_has : (n d x : ℕ) → has_at (replicate n 0) d x ≡ false

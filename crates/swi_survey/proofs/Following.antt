@@ -1,33 +1,31 @@
 -- Caches follow a step that was made.
-use Rattle.std.proofs.Common.{◌≡◌, ℕ, suc, ◌+◌, ◌^◌, ◌<◌, Bool, true, false, not, ◌&&◌, List, [], ◌∷◌, length, slice_index, slice_index_or, Option, Some, None, is_some, if◌then◌else◌, arith, refl, sym, ◌∙◌, ap, subst}
+use Rattle.std.proofs.Common.{◌≡◌, ℕ, suc, ◌+◌, ◌^◌, ◌<◌, Bool, true, false, not, ◌&&◌, List, [], length, slice_index, slice_index_or, Option, Some, None, is_some, if◌then◌else◌, arith, refl, sym, ◌∙◌, ap, subst}
 use Rattle.std.proofs.lemmas.Option.{slice_get_read}
 use Rattle.swi_isa.specs.declared.instr.Instr.{Instr}
-use Rattle.swi_isa.specs.Decode.{decoded}
 use Rattle.swi_exec.specs.Arithmetic.{sum_of}
 use Rattle.swi_memory.specs.Bus.{fetched}
 use Rattle.swi_calls.specs.declared.end.End.{End}
 use Rattle.swi_calls.specs.declared.machine.Machine.{Machine}
-use Rattle.swi_calls.specs.StoresText.{instruction_store, next_store, word_store}
-use Rattle.swi_calls.specs.Flat.{Made, with_instruction, with_word as with_fetched}
+use Rattle.swi_calls.specs.StoresText.{instruction_store}
+use Rattle.swi_calls.specs.Flat.{Made, with_instruction}
 use Rattle.swi_calls.specs.Held.{held, held_made}
 use Rattle.swi_image.specs.Format.{ImageData}
 use Rattle.swi_image.specs.Place.{place_of, place_of_word}
-use Rattle.swi_program.specs.Text.{TextData, word_of}
+use Rattle.swi_program.specs.Text.{TextData}
 use Rattle.swi_render.specs.Rendering.{Slot, falls_of, rendering_of, sum}
-use Rattle.swi_render.specs.ImageOf.{address_of, rendering_at}
-use Rattle.swi_rom.specs.Record.{Transfer, direct, indirect}
-use Rattle.swi_hart.specs.Hart.{original, slots, whole_made}
+use Rattle.swi_render.specs.ImageOf.{address_of}
+use Rattle.swi_rom.specs.Record.{direct, indirect}
+use Rattle.swi_hart.specs.Hart.{slots, whole_made}
 use Rattle.swi_hart.proofs.Own.{held_as, held_none, is_own, own_made, whole_pc}
 use Rattle.swi_board.specs.Transfers.{Here as Place, before_last, here_after, jumps_as, leaves_by, step_cost, step_size, step_transfers}
 use Rattle.swi_tally.specs.declared.exits.Exit.{Exit}
-use Rattle.swi_tally.specs.Tallies.{TalliesData, AllServed, AreServing}
+use Rattle.swi_tally.specs.Tallies.{TalliesData, AreServing}
 use Rattle.swi_tally.proofs.Siding.{all_serving}
 use Rattle.swi_survey.specs.declared.leaving.Leaving.{Leaving}
 use Rattle.swi_survey.specs.declared.leaving.Way.{Way}
 use Rattle.swi_survey.specs.declared.leaving.Way.TheVariants as way
 use Rattle.swi_survey.specs.declared.track.Here.{Here}
 use Rattle.swi_survey.specs.declared.track.Here.TheVariants as here
-use Rattle.swi_survey.specs.declared.track.Step.{Step}
 use Rattle.swi_survey.specs.declared.track.Step.TheVariants as step
 use Rattle.swi_survey.specs.declared.track.Track.{Track}
 use Rattle.swi_survey.specs.declared.ways.Ways.{Ways}
@@ -37,7 +35,7 @@ use Rattle.swi_survey.specs.Track.{AllAfter, Follows, IsBehind, IsReady, IsStep,
 use Rattle.swi_survey.proofs.Mapping.{same_some}
 use Rattle.swi_survey.proofs.Places.{AtWord, Ground, at_word, next_stands, place_here, some_place}
 use Rattle.swi_survey.proofs.Rows.{all_none, all_one, as_list}
-use Rattle.swi_survey.proofs.Stepping.{Goes, GoesAway, GoesNext, GoesOver, goes, words_are, words_few}
+use Rattle.swi_survey.proofs.Stepping.{Goes, goes, words_are, words_few}
 
 -- a step at an address where no text word stands fetches nothing, and makes no transfer
 pub followed_outside : (t : TextData) (v : ImageData) (f next : Machine) (input : List ℕ) (old new : Track) → old.here ≡ here.Outside → fetched f.bus f.pc ≡ None → next ≡ (held_made f input).machine →

@@ -1,5 +1,5 @@
 -- The exits of an image, text word by text word.
-use Rattle.std.proofs.Common.{◌≡◌, ◌⊎◌, ℕ, zero, suc, ◌+◌, ◌-◌, ◌*◌, ◌/◌, ◌%◌, ◌^◌, ◌<◌, ◌≤◌, ◌==◌, ◌&&◌, Bool, true, false, not, List, [], ◌∷◌, ◌++◌, length, slice_get, slice_index, nat_lt, nat_le, Option, Some, None, if◌then◌else◌, arith, refl, sym, ◌∙◌, ap, subst, inl, inr}
+use Rattle.std.proofs.Common.{◌≡◌, ◌⊎◌, ℕ, zero, suc, ◌+◌, ◌-◌, ◌*◌, ◌/◌, ◌%◌, ◌^◌, ◌<◌, ◌≤◌, ◌==◌, ◌&&◌, Bool, true, false, not, List, [], ◌∷◌, ◌++◌, length, slice_get, slice_index, nat_le, Option, Some, None, if◌then◌else◌, arith, refl, sym, ◌∙◌, ap, subst, inl, inr}
 use Rattle.std.proofs.lemmas.Bool.{cases_Bool, cases_eq, cases_lt, and_parts, eq-eqb, eqb-true, le-leb, lt-ltb, both_ways}
 use Rattle.std.proofs.lemmas.List.{length_push, get_or_append_left, get_or_push}
 use Rattle.swi_isa.specs.Decode.{decoded}
@@ -7,20 +7,19 @@ use Rattle.swi_isa.specs.declared.instr.Instr.{Instr}
 use Rattle.swi_isa.specs.declared.instr.Instr.TheVariants as instr
 use Rattle.swi_image.specs.Format.{ImageData}
 use Rattle.swi_image.specs.Place.{distance, length_at, next_start, place_of, place_of_word, IsWordOf}
-use Rattle.swi_image.specs.Checks.{block_of}
 use Rattle.swi_image.specs.Sound.{IsImage}
-use Rattle.swi_image.specs.Laws.{Ascends, ascends, place_found, place_inside, place_lands, place_is}
+use Rattle.swi_image.specs.Laws.{ascends, place_found, place_inside, place_lands}
 use Rattle.swi_program.specs.Text.{TextData, IsSized, word_of}
 use Rattle.swi_render.specs.Rendering.{Slot, rendering, rendering_of, falls, falls_of, jump, sum}
-use Rattle.swi_render.specs.ImageOf.{IsImageOf, IsBlockOf, address_of, offset_in, rendering_at, start_of}
-use Rattle.swi_render.specs.Carried.{Carries, GoesOn, StandAt, StandsFor}
+use Rattle.swi_render.specs.ImageOf.{IsImageOf, address_of, offset_in, rendering_at, start_of}
+use Rattle.swi_render.specs.Carried.{GoesOn, StandAt, StandsFor}
 use Rattle.swi_render.proofs.Carrying.{image_carries}
 use Rattle.swi_render.proofs.Runs.{offset_next}
 use Rattle.swi_hart.specs.Hart.{is_place}
 use Rattle.swi_tally.specs.Exits.{AreExits, ExitsData, IsFree, with_exit}
 use Rattle.swi_tally.specs.declared.exits.Exit.{Exit}
 use Rattle.swi_survey.specs.declared.ways.Ways.{Ways}
-use Rattle.swi_survey.specs.Ways.{AllBefore, AreAllWays, AreWays, Fits, FitsIf, HasNumber, Joins, exit_behind, exit_if, exit_to, instr_at, is_last, jump_of, number_if, own_exit, own_if, place_behind, with_if}
+use Rattle.swi_survey.specs.Ways.{AllBefore, AreAllWays, AreWays, FitsIf, HasNumber, Joins, exit_behind, exit_if, exit_to, instr_at, is_last, jump_of, number_if, own_exit, own_if, place_behind, with_if}
 
 pub same_some : {A : Type 0} (x y : A) → ◌≡◌ {A = Option A} (Some x) (Some y) → x ≡ y
 same_some x y e = cc

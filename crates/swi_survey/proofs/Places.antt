@@ -1,18 +1,17 @@
 -- Where text words stand in memory and in the image.
-use Rattle.std.proofs.Common.{◌≡◌, ℕ, suc, ◌+◌, ◌-◌, ◌*◌, ◌/◌, ◌%◌, ◌^◌, ◌<◌, ◌≤◌, ◌==◌, ◌&&◌, Bool, true, false, nat_le, List, length, slice_index, Option, Some, None, if◌then◌else◌, arith, refl, sym, ◌∙◌, ap, subst, inl, inr}
+use Rattle.std.proofs.Common.{◌≡◌, ℕ, suc, ◌+◌, ◌-◌, ◌*◌, ◌/◌, ◌%◌, ◌^◌, ◌<◌, ◌≤◌, ◌==◌, ◌&&◌, Bool, false, nat_le, length, slice_index, Option, Some, None, if◌then◌else◌, arith, refl, sym, ◌∙◌, ap, inl, inr}
 use Rattle.std.proofs.lemmas.Bool.{cases_Bool, and_parts, eqb-true, leb-true}
-use Rattle.swi_isa.specs.Decode.{decoded}
 use Rattle.swi_memory.specs.Bus.{fetched}
 use Rattle.swi_image.specs.Format.{ImageData}
 use Rattle.swi_image.specs.Place.{place_of, place_of_word}
 use Rattle.swi_image.specs.Sound.{IsImage}
 use Rattle.swi_program.specs.Text.{TextData, IsSized, word_of}
-use Rattle.swi_render.specs.Rendering.{Slot, rendering, rendering_of, sum}
+use Rattle.swi_render.specs.Rendering.{rendering, rendering_of, sum}
 use Rattle.swi_render.specs.ImageOf.{IsImageOf, address_of, rendering_at}
 use Rattle.swi_render.specs.Carried.{Carries}
 use Rattle.swi_render.proofs.Carrying.{image_carries}
 use Rattle.swi_calls.specs.declared.machine.Machine.{Machine}
-use Rattle.swi_hart.specs.Hart.{instruction, is_place, original, slots, slots_at}
+use Rattle.swi_hart.specs.Hart.{instruction, original, slots, slots_at}
 use Rattle.swi_hart.proofs.Standing.{slots_are}
 use Rattle.swi_survey.specs.declared.track.Here.{Here}
 use Rattle.swi_survey.specs.declared.track.Here.TheVariants as here

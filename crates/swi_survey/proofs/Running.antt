@@ -1,19 +1,18 @@
 -- A run of the flat machine with caches beside it, step by step.
-use Rattle.std.proofs.Common.{◌≡◌, ◌⊎◌, ℕ, suc, ◌+◌, ◌-◌, ◌*◌, ◌^◌, ◌<◌, ◌≤◌, Bool, true, false, not, ◌&&◌, List, [], ◌∷◌, ◌++◌, length, slice_index, Option, Some, None, is_some, Result, Ok, Err, IsErrOf, if◌then◌else◌, arith, refl, sym, ◌∙◌, ap, subst, inl, inr}
+use Rattle.std.proofs.Common.{◌≡◌, ◌⊎◌, ℕ, suc, ◌+◌, ◌-◌, ◌*◌, ◌^◌, ◌<◌, ◌≤◌, Bool, true, false, not, ◌&&◌, List, [], ◌++◌, length, slice_index, Option, Some, None, is_some, Ok, Err, IsErrOf, if◌then◌else◌, arith, refl, sym, ◌∙◌, ap, subst, inl, inr}
 use Rattle.std.proofs.lemmas.Bool.{cases_eq}
 use Rattle.std.proofs.lemmas.List.{append-nil}
 use Rattle.std.specs.Io.KnownBytes.{Appends}
 use Rattle.swi_outside.specs.Source.{SourceState, ForInput, HasGiven, MayBeLeft, ReadFrom}
-use Rattle.swi_outside.specs.Devices.{Devices, faults_of}
+use Rattle.swi_outside.specs.Devices.{Devices}
 use Rattle.swi_outside.specs.Laws.{named_as, ok_causes}
-use Rattle.swi_outside.proofs.SourceLemmas.{read_first, read_last}
+use Rattle.swi_outside.proofs.SourceLemmas.{read_first}
 use Rattle.swi_memory.specs.Bus.{fetched}
 use Rattle.swi_isa.specs.declared.instr.Instr.{Instr}
 use Rattle.swi_calls.specs.Call.{room_of_call, second_argument}
 use Rattle.swi_calls.specs.declared.end.End.{End}
 use Rattle.swi_calls.specs.declared.end.End.TheVariants.{StoreText}
 use Rattle.swi_calls.specs.declared.end.CallFault.{CallFault}
-use Rattle.swi_calls.specs.declared.end.CallFault.TheVariants.{SourceFault, SinkFault}
 use Rattle.swi_calls.specs.declared.machine.Machine.{Machine}
 use Rattle.swi_calls.specs.State.{FlatState}
 use Rattle.swi_calls.specs.StoresText.{instruction_store, next_store, word_store}
@@ -25,11 +24,10 @@ use Rattle.swi_calls.specs.Laws.{flat_run_more, flat_run_none, held_run_more, he
 use Rattle.swi_calls.specs.Held.{held, held_made, held_run, held_step, stopped_at}
 use Rattle.swi_flat.specs.FlatData.{FlatData, state_at, stopped, unfailed}
 use Rattle.swi_flat.specs.Laws.{flat_run_sum}
-use Rattle.swi_flat.proofs.Runs.{Going, SoFar, going_first, going_on, ran_broken}
+use Rattle.swi_flat.proofs.Runs.{Going, going_first, going_on, ran_broken}
 use Rattle.swi_image.specs.Format.{ImageData}
-use Rattle.swi_program.specs.Text.{TextData, word_of}
+use Rattle.swi_program.specs.Text.{TextData}
 use Rattle.swi_render.specs.Rendering.{Slot}
-use Rattle.swi_render.specs.ImageOf.{address_of}
 use Rattle.swi_rom.specs.Record.{Transfer}
 use Rattle.swi_hart.specs.declared.hart.Control.TheVariants.{Outside}
 use Rattle.swi_hart.specs.Hart.{original, slots}
@@ -37,7 +35,7 @@ use Rattle.swi_hart.proofs.Kept.{next_text}
 use Rattle.swi_board.specs.Transfers.{Here as Place, at_fall, fall_transfers, here_after, jumps_as, leaves_by, settled, size, step_cost, step_size, step_transfers, transfers}
 use Rattle.swi_board.proofs.Counting.{cost_more, cost_none, over_cost, over_transfers, transfers_more, transfers_none}
 use Rattle.swi_tally.specs.Exits.{ExitsData}
-use Rattle.swi_tally.specs.Tallies.{Row, TalliesData, AreServing, row_at}
+use Rattle.swi_tally.specs.Tallies.{Row, TalliesData, row_at}
 use Rattle.swi_survey.specs.declared.leaving.Leaving.{Leaving}
 use Rattle.swi_survey.specs.declared.track.Here.{Here}
 use Rattle.swi_survey.specs.declared.track.Here.TheVariants as here
@@ -46,7 +44,7 @@ use Rattle.swi_survey.specs.declared.track.Step.TheVariants as step
 use Rattle.swi_survey.specs.declared.track.Track.{Track}
 use Rattle.swi_survey.specs.declared.ways.Ways.{Ways}
 use Rattle.swi_survey.specs.Ways.{AreAllWays, instr_at}
-use Rattle.swi_survey.specs.Track.{AllAfter, Begun, BrokeOff, CameTo, Follows, HasText, IsReady, IsStep, Leaves, Moves, Settles, Stands, StandsAt, StepIs, StepsRan, Tracks, after_row, place_at, unfetched_at}
+use Rattle.swi_survey.specs.Track.{Begun, BrokeOff, CameTo, Follows, HasText, IsReady, IsStep, Leaves, Moves, Settles, Stands, StandsAt, StepIs, StepsRan, Tracks, after_row, place_at, unfetched_at}
 use Rattle.swi_survey.proofs.Places.{Ground, at_word, some_place}
 use Rattle.swi_survey.proofs.Rows.{after_more, after_none, serving_more}
 use Rattle.swi_survey.proofs.Stepping.{stores_alone, words_are, words_few}

@@ -1,14 +1,14 @@
 -- The exit behind a block's last text word is made, or the run stands at none.
-use Rattle.std.proofs.Common.{◌≡◌, ℕ, suc, ◌+◌, ◌^◌, ◌<◌, Bool, true, false, not, List, [], ◌∷◌, length, Option, Some, None, if◌then◌else◌, arith, refl, sym, ◌∙◌, ap, subst}
+use Rattle.std.proofs.Common.{◌≡◌, ℕ, suc, ◌+◌, ◌^◌, ◌<◌, Bool, true, false, not, [], ◌∷◌, length, Option, Some, None, if◌then◌else◌, arith, refl, sym, ◌∙◌, ap, subst}
 use Rattle.swi_calls.specs.declared.machine.Machine.{Machine}
 use Rattle.swi_image.specs.Format.{ImageData}
 use Rattle.swi_image.specs.Place.{place_of, place_of_word}
 use Rattle.swi_program.specs.Text.{TextData}
 use Rattle.swi_render.specs.Rendering.{falls_of, sum}
 use Rattle.swi_render.specs.ImageOf.{address_of, rendering_at}
-use Rattle.swi_rom.specs.Record.{Transfer, direct}
+use Rattle.swi_rom.specs.Record.{direct}
 use Rattle.swi_hart.specs.Hart.{is_place}
-use Rattle.swi_board.specs.Transfers.{Here as Place, at_fall, fall_transfers, settled}
+use Rattle.swi_board.specs.Transfers.{Here as Place, at_fall, fall_transfers}
 use Rattle.swi_board.proofs.Counting.{place_not_fall}
 use Rattle.swi_tally.specs.declared.exits.Exit.{Exit}
 use Rattle.swi_tally.specs.Tallies.{AllServed, AreServing}
@@ -17,8 +17,8 @@ use Rattle.swi_survey.specs.declared.track.Here.{Here}
 use Rattle.swi_survey.specs.declared.track.Here.TheVariants as here
 use Rattle.swi_survey.specs.declared.track.Track.{Track}
 use Rattle.swi_survey.specs.declared.ways.Ways.{Ways}
-use Rattle.swi_survey.specs.Ways.{AreWays, HasNumber, exit_behind, exit_to, instr_at, is_last, place_behind}
-use Rattle.swi_survey.specs.Track.{AllAfter, Settles, Stands, StandsAt, StandsBehind, behind_if, place_at}
+use Rattle.swi_survey.specs.Ways.{AreWays, HasNumber, exit_behind, exit_to, instr_at, place_behind}
+use Rattle.swi_survey.specs.Track.{Settles, Stands, StandsAt, StandsBehind, behind_if, place_at}
 use Rattle.swi_survey.proofs.Places.{Ground, place_here, some_place}
 use Rattle.swi_survey.proofs.Rows.{all_none, all_one, as_list}
 

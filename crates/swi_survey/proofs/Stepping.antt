@@ -1,5 +1,5 @@
 -- How a step of the flat machine leaves its text word.
-use Rattle.std.proofs.Common.{◌≡◌, ℕ, ◌+◌, ◌%◌, ◌==◌, ◌||◌, ◌≤◌, Bool, true, false, not, List, [], ◌∷◌, length, Option, Some, None, if◌then◌else◌, arith, refl, sym, ◌∙◌, ap, subst}
+use Rattle.std.proofs.Common.{◌≡◌, ℕ, ◌+◌, ◌%◌, ◌==◌, ◌||◌, ◌≤◌, Bool, true, false, not, List, [], ◌∷◌, Option, Some, None, if◌then◌else◌, arith, refl, sym, ◌∙◌, ap}
 use Rattle.swi_isa.specs.declared.instr.Instr.{Instr}
 use Rattle.swi_isa.specs.declared.instr.Instr.TheVariants as instr
 use Rattle.swi_exec.specs.Registers.{reg, with_reg}
@@ -13,14 +13,13 @@ use Rattle.swi_calls.specs.StoresText.{instruction_store}
 use Rattle.swi_calls.specs.Flat.{with_effect, with_instruction}
 use Rattle.swi_image.specs.Format.{ImageData}
 use Rattle.swi_render.specs.Rendering.{Slot, falls_of, jump, rendering_of, sum}
-use Rattle.swi_rom.specs.Record.{Transfer, direct, indirect}
+use Rattle.swi_rom.specs.Record.{direct, indirect}
 use Rattle.swi_hart.specs.Hart.{leads}
 use Rattle.swi_hart.proofs.Own.{is_own}
 use Rattle.swi_board.specs.Transfers.{before_last, branch_words, jumps_as, leaves_by, step_cost}
-use Rattle.swi_survey.specs.declared.leaving.Leaving.{Leaving}
 use Rattle.swi_survey.specs.declared.leaving.Way.{Way}
 use Rattle.swi_survey.specs.declared.leaving.Way.TheVariants as way
-use Rattle.swi_survey.specs.Leaving.{branch_by, jal_words, leaving_by}
+use Rattle.swi_survey.specs.Leaving.{branch_by, leaving_by}
 use Rattle.swi_survey.specs.Ways.{exit_to, jump_of, own_if}
 
 -- to the next text word

@@ -1,16 +1,11 @@
 -- A whole survey: what is kept before the first step, and what is told behind the last.
-use Rattle.std.proofs.Common.{◌≡◌, ℕ, zero, suc, ◌+◌, ◌*◌, ◌^◌, ◌<◌, ◌≤◌, Bool, true, false, List, [], ◌∷◌, All, length, slice_get, Option, Some, None, is_some, Result, Ok, Err, IsErrOf, arith, refl, sym, ◌∙◌, ap, subst}
-use Rattle.std.specs.Io.KnownBytes.{Appends}
-use Rattle.swi_outside.specs.Devices.{Devices, faults_of}
+use Rattle.std.proofs.Common.{◌≡◌, ℕ, suc, ◌+◌, ◌^◌, ◌<◌, ◌≤◌, true, false, List, [], ◌∷◌, All, length, slice_get, Option, Some, None, is_some, Result, Ok, Err, IsErrOf, arith, refl, sym, ◌∙◌, ap, subst}
+use Rattle.swi_outside.specs.Devices.{Devices}
 use Rattle.swi_outside.specs.Laws.{named_as, none_named}
 use Rattle.swi_outside.proofs.SourceLemmas.{given_still}
 use Rattle.swi_calls.specs.declared.end.CallFault.{CallFault}
-use Rattle.swi_calls.specs.declared.end.CallFault.TheVariants.{SourceFault, SinkFault}
-use Rattle.swi_calls.specs.declared.end.End.{End}
 use Rattle.swi_calls.specs.declared.machine.Machine.{Machine}
-use Rattle.swi_calls.specs.State.{FlatState}
 use Rattle.swi_calls.specs.Flat.{started}
-use Rattle.swi_calls.specs.Held.{held_run}
 use Rattle.swi_flat.specs.FlatData.{FlatData, unfailed}
 use Rattle.swi_image.specs.Format.{ImageData}
 use Rattle.swi_image.specs.Place.{place_of}
@@ -21,20 +16,18 @@ use Rattle.swi_board.specs.Transfers.{Here as Place, size, transfers}
 use Rattle.swi_tally.specs.declared.tallies.Frame.{Frame}
 use Rattle.swi_tally.specs.Exits.{ExitsData, AreExits}
 use Rattle.swi_tally.specs.Tally.{TallyData}
-use Rattle.swi_tally.specs.Tallies.{Row, TalliesData, AllServed, AreServing, IsFrame, empty_tallies, first_row, row_at, row_if, served_if}
+use Rattle.swi_tally.specs.Tallies.{Row, TalliesData, AllServed, AreServing, IsFrame, empty_tallies, row_at, row_if, served_if}
 use Rattle.swi_survey.specs.declared.survey.Surveyed.{Surveyed}
 use Rattle.swi_survey.specs.declared.survey.SurveyStop.{SurveyStop}
 use Rattle.swi_survey.specs.declared.survey.SurveyStop.TheVariants as stop
 use Rattle.swi_survey.specs.declared.track.Here.{Here}
 use Rattle.swi_survey.specs.declared.track.Here.TheVariants as here
 use Rattle.swi_survey.specs.declared.track.Track.{Track}
-use Rattle.swi_survey.specs.declared.ways.Ways.{Ways}
-use Rattle.swi_survey.specs.Survey.{Survey, FailsAsFlat, SurveyRan, Tells, row_of}
+use Rattle.swi_survey.specs.Survey.{Survey, SurveyRan, Tells}
 use Rattle.swi_survey.specs.Ways.{AreAllWays}
-use Rattle.swi_survey.specs.Track.{Begun, BrokeOff, CameTo, HasText, Stands, StandsAt, Starts, StepsRan, after_row, booted, place_at, told_of}
+use Rattle.swi_survey.specs.Track.{Begun, CameTo, HasText, Stands, StandsAt, Starts, StepsRan, after_row, booted, place_at, told_of}
 use Rattle.swi_survey.proofs.Emptying.{empty_rows, empty_serving, first_if}
 use Rattle.swi_survey.proofs.Places.{Ground, place_here}
-use Rattle.swi_survey.proofs.Rows.{serving_more}
 use Rattle.swi_survey.proofs.Running.{some_read}
 
 -- ---- before the first step

@@ -1,5 +1,5 @@
 -- How a step leaves its text word: how many words of its rendering it executes, and where it goes.
-use Rattle.std.specs.Prelude.{ℕ, ◌==◌, ◌&&◌, ◌%◌, Bool, not, ◌||◌, Option, Some, None, if◌then◌else◌}
+use Rattle.std.specs.Prelude.{ℕ, ◌==◌, ◌%◌, Bool, not, ◌||◌, Option, Some, None, if◌then◌else◌}
 use Rattle.swi_isa.specs.declared.instr.Instr.{Instr}
 use Rattle.swi_isa.specs.declared.instr.Instr.TheVariants as instr
 use Rattle.swi_exec.specs.Registers.{Registers, reg}

@@ -1,5 +1,5 @@
 -- One run of a program, and what many caches count in it.
-use Rattle.std.specs.Prelude.{◌≡◌, ℕ, ◌+◌, ◌-◌, ◌<◌, ◌≤◌, List, length, slice_get, Some, Result, Err, IfOk, OnOk, IsErrOf}
+use Rattle.std.specs.Prelude.{◌≡◌, ℕ, ◌+◌, ◌-◌, ◌≤◌, List, length, slice_get, Some, Result, Err, IfOk, OnOk, IsErrOf}
 use Rattle.std.specs.Io.KnownBytes.{Appends}
 use Rattle.swi_outside.specs.Source.{ForInput, HasGiven}
 use Rattle.swi_outside.specs.Devices.{Devices, HasCauses, faults_of}

@@ -1,3 +1,4 @@
 pub mod Counting
+pub mod Lines
 pub mod Sizes
 pub mod Surveying

@@ -50,15 +50,15 @@ use Rattle.swi_file_commands.specs.RunPlain.{read_room_of}
 use Rattle.swi_file_commands.proofs.Running.{from_none, refusal_of as flat_refusal, run_causes, run_to, step_failed, streams_of}
 use Rattle.swi_cached_command.specs.RunCached.{IsRunErr}
 use Rattle.swi_cached_command.proofs.Caching.{run_err_asked, run_err_checked, run_err_given, run_err_not, run_err_short, run_err_size}
-use Rattle.swi_survey_command.specs.RunSurvey.{SurveyBroke, SurveyFailed, SurveyRun, Surveys, SurveysOver, counting, limit_of, refusal_of, survey_checks, survey_from, survey_lines, survey_of, survey_task, surveyed}
+use Rattle.swi_survey_command.specs.RunSurvey.{SurveyBroke, SurveyFailed, SurveyRun, Surveys, SurveysOver, counting, limit_of, refusal_of, run_through, survey_checks, survey_from, survey_lines, survey_of, survey_task, surveyed}
 use Rattle.swi_survey_command.proofs.Counting.{run_as}
 
 -- the program's run is the flat machine's, whatever cache is counted for
 surveys_so : (r : SurveyRun) (d m : Devices) (e : Ending) (last : List ℕ) → Ran (surveyed r (limit_of r)) (survey_lines r) d m e last → Surveys r d m e last
-surveys_so r d m e last ran = record { ran = ran; flat = λ bytes. is_flat_run _; stops = λ bytes. stops_before_store _ }
+surveys_so r d m e last ran = record { ran = ran; flat = λ bytes. is_flat_run (run_through r bytes); stops = λ bytes. stops_before_store (run_through r bytes) }
 
 failed_so : (r : SurveyRun) (d m : Devices) (f : Refusal) (last : List ℕ) → SurveyBroke r d m f last → SurveyFailed r d m f last
-failed_so r d m f last broke = record { broke = broke; flat = λ bytes. is_flat_run _; stops = λ bytes. stops_before_store _ }
+failed_so r d m f last broke = record { broke = broke; flat = λ bytes. is_flat_run (run_through r bytes); stops = λ bytes. stops_before_store (run_through r bytes) }
 
 -- ---- there was no memory
 

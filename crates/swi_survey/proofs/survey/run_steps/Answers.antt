@@ -1,8 +1,6 @@
-use Rattle.std.proofs.Common.{◌≡◌, ℕ, ◌<◌, ◌≤◌, ◌^◌, is_some, true, None, arith, refl, sym, ◌∙◌, ap, subst, inl, inr, rules}
+use Rattle.std.proofs.Common.{◌≡◌, ◌<◌, ◌^◌, is_some, true, None, arith, refl, sym, ◌∙◌, ap, subst, inl, inr, rules}
 use Rattle.std.proofs.lemmas.Result.{err_from_is_err_and}
-use Rattle.swi_calls.specs.declared.end.End.{End}
 use Rattle.swi_survey.specs.declared.track.Here.{Here}
-use Rattle.swi_survey.specs.declared.track.Here.TheVariants as here
 use Rattle.swi_survey.specs.declared.track.Step.{Step}
 use Rattle.swi_survey.specs.Track.{StandsAt, StepIs}
 use Rattle.swi_survey.proofs.Places.{ground}

@@ -3,7 +3,7 @@ use Rattle.swi_flat.specs.FlatData.{FlatData}
 use Rattle.swi_program.specs.Text.{TextData, IsSized, word_of}
 use Rattle.swi_render.specs.ImageOf.{IsImageOf}
 use Rattle.swi_survey.specs.Track.{Starts}
-use Rattle.swi_survey.proofs.Places.{Ground, ground}
+use Rattle.swi_survey.proofs.Places.{ground}
 use Rattle.swi_survey.proofs.Surveying.{begun, fault_call, told_call}
 use Rattle.swi_survey.proofs.survey.run_survey.Goals as goal
 

@@ -1,7 +1,5 @@
-use Rattle.std.proofs.Common.{◌≡◌, ◌∙◌, length, arith, ap, subst, sym}
+use Rattle.std.proofs.Common.{◌∙◌, length, arith, ap}
 use Rattle.swi_tally.specs.Exits.{ExitsData}
-use Rattle.swi_tally.specs.declared.exits.Exit.{Exit}
-use Rattle.swi_survey.specs.Ways.{AllBefore, FitsIf, place_behind}
 use Rattle.swi_survey.proofs.Mapping.{behind_fits, few_more, joins, own_before, own_fits, placed, same_blocks, word_small}
 use Rattle.swi_survey.proofs.ways.with_word.Goals as goal
 

@@ -1,6 +1,5 @@
-use Rattle.std.proofs.Common.{ℕ, ◌^◌, ◌<◌, length, arith, refl, sym, ◌∙◌, ap, subst}
+use Rattle.std.proofs.Common.{arith, refl, ◌∙◌, subst}
 use Rattle.swi_image.specs.Place.{place_of_word}
-use Rattle.swi_program.specs.Text.{word_of}
 use Rattle.swi_survey.specs.declared.track.Here.{Here}
 use Rattle.swi_survey.specs.declared.track.Step.{Step}
 use Rattle.swi_survey.specs.Track.{IsStep, Leaves, StandsAt}

@@ -1,7 +1,6 @@
-use Rattle.std.proofs.Common.{ℕ, length, slice_index_or, arith, refl, subst, sym}
+use Rattle.std.proofs.Common.{arith, refl, subst}
 use Rattle.swi_survey.specs.declared.track.Here.{Here}
 use Rattle.swi_survey.specs.Track.{Stands, StandsBehind}
-use Rattle.swi_survey.specs.Ways.{exit_behind}
 use Rattle.swi_image.specs.Place.{place_of_word}
 use Rattle.swi_survey.proofs.Following.{ways_at}
 use Rattle.swi_survey.proofs.Places.{ground, some_place}
