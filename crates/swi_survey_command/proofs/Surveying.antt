@@ -187,7 +187,7 @@ broke_at r first left d m f input start whole none told ran unstored =
       fewer = ran.uncounted;
       failed = subst (λ (x : FlatState). StepFailed x x.error (next_made x) (read_room_of x) d m (refusal_of (stop.Fault f)) []) so
           (subst (λ (x : Refusal). StepFailed state state.error (next_made state) (read_room_of state) d m x []) (same_refusal f)
-          (step_failed {T = Unit {0}} f state left.machine.bus d m going (ran.output_part input told) (ran.error_part input told) (λ x. ran.failed_input x input told) (ran.front input told)
+          (step_failed {T = Unit {0}} f state left.machine.bus d m going (ran.output_part input told) (ran.error_part input told) (λ x. ran.failed_input x input told) (λ rose. ran.failed_output rose input told) (λ rose. ran.failed_error rose input told) (ran.front input told)
           (record { output = ran.unasked_output input told; error = ran.unasked_error input told })));
     })
 
@@ -237,6 +237,8 @@ failed_again r d m s f h = failed_so r d m f [] (elim h.broke [
       error_front = b.error_front;
       error = b.error;
       source = b.source;
+      output_failed = b.output_failed;
+      error_failed = b.error_failed;
       unasked = b.unasked;
       taken = b.taken;
       no_more = b.no_more;

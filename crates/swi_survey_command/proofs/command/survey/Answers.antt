@@ -19,7 +19,7 @@ run_placed-requires g c =
       ranges = c.requires.ranges;
       sizes = c.requires.sizes;
       held = are_held c.args.limits.now c.args.sizes.now c.args.block_words (length (g.R.CacheRam.state c.args.ram.now).words) c.in_ok-file.file.items (view_of c.in_ok-placed.placed.subject.image) c.in_ok-check_sizes.ensures.ok
-          (subst (λ (f : List ℕ). IsAccepted (survey_checks c.args.limits.now c.args.sizes.now c.args.block_words f)) c.deref.ensures.value c.in_ok-placed.ensures.accepted) is.subject.image;
+          (subst (λ (file : List ℕ). IsAccepted (survey_checks c.args.limits.now c.args.sizes.now c.args.block_words file)) c.deref.ensures.value c.in_ok-placed.ensures.accepted) is.subject.image;
       laid_out = is.laid_out;
       own = is.subject.own;
     }
@@ -56,8 +56,7 @@ returns-in_err-placed-clause-answers g c = λ input rest was.
     rw (p.1, p.2, rest_is was)
     (check_refused t before (g.F.Shelf.state c.read_file.new.shelf) c.args.name.now c.in_ok-file.file.items c.in_ok-file.file.items c.in_err-placed.field-0.0 c.in_ok-check_sizes.ensures.ok refl read
     (are_short c.args.limits.now c.args.sizes.now c.args.block_words c.in_ok-file.file.items read.within)
-    (λ file are. read_is read are refl)
-    (subst (λ (f : List ℕ). IsRefusedOr (survey_checks c.args.limits.now c.args.sizes.now c.args.block_words f) c.in_err-placed.field-0.0) c.deref.ensures.value c.in_err-placed.ensures.refused))
+    (λ file are. read_is read are refl) (subst (λ (file : List ℕ). IsRefusedOr (survey_checks c.args.limits.now c.args.sizes.now c.args.block_words file) c.in_err-placed.field-0.0) c.deref.ensures.value c.in_err-placed.ensures.refused))
 
 pub returns-clause-gave : goal.returns-clause-gave
 returns-clause-gave g c = c.run_placed.ensures.gave
@@ -72,6 +71,6 @@ returns-clause-answers g c = λ input rest was.
     let after : Devices = surveyed_to before (g.F.Shelf.state c.read_file.new.shelf) (told_as (g.I.Source.state c.run_placed.new.input) rest) (g.O.Sink.state c.run_placed.new.out) (g.E.Sink.state c.run_placed.new.err) in
     survey_answers c.args.name.now c.args.sizes.now c.args.block_words c.args.kind c.args.limits.now before (g.F.Shelf.state c.read_file.new.shelf) (told_as (g.I.Source.state c.run_placed.new.input) rest)
     (g.O.Sink.state c.run_placed.new.out) (g.E.Sink.state c.run_placed.new.err) c.in_ok-file.file.items v c.in_ok-placed.placed.layout c.run_placed.result c.in_ok-check_sizes.ensures.ok read
-    (subst (λ (f : List ℕ). IsAccepted (survey_checks c.args.limits.now c.args.sizes.now c.args.block_words f)) c.deref.ensures.value c.in_ok-placed.ensures.accepted) is.subject.image is.layout
+    (subst (λ (file : List ℕ). IsAccepted (survey_checks c.args.limits.now c.args.sizes.now c.args.block_words file)) c.deref.ensures.value c.in_ok-placed.ensures.accepted) is.subject.image is.layout
     (subst (λ (p : ProgramData). SurveysOver (survey_from c.args.kind c.args.sizes.now c.args.limits.now v p c.in_ok-placed.placed.layout) now after c.run_placed.result) is.subject.program
     (c.run_placed.ensures.ran now input rest was))
