@@ -113,16 +113,16 @@ impl Words for Two {
     }
 }
 
-/// Puts 5 and 6 from index 1 on into a ram of four words, which is to answer so and then to hold these.
+/// Puts 5 and 6 from index 1 on into a ram of four words, which is to answer so, and then to the fetch of each word.
 fn assert_two<R: CacheRam>(
     rt: &impl Abort,
     ram: &mut R,
     answer: Result<(), Failed>,
-    held: &[u32; 4],
+    held: &[Result<u32, Failed>; 4],
 ) {
     assert!(rt; ram.words() == 4, "other words");
     assert_eq!(rt; ram.set_all(1, &Two(5, 6)), answer);
-    let now = [ram.word(0), ram.word(1), ram.word(2), ram.word(3)];
+    let now = [ram.fetch(0), ram.fetch(1), ram.fetch(2), ram.fetch(3)];
     assert_eq!(rt; now, *held);
 }
 
@@ -223,10 +223,10 @@ fn ram_with_faults_fails_where_listed(rt: HostRuntime) -> Result<(), Fail> {
 fn rams_put_words_one_behind_the_other(rt: HostRuntime) -> Result<(), Fail> {
     let alloc = rt.alloc();
     let mut ram = VecRam::new(alloc, 4)?;
-    assert_two(&rt, &mut ram, Ok(()), &[0, 5, 6, 0]);
+    assert_two(&rt, &mut ram, Ok(()), &[Ok(0), Ok(5), Ok(6), Ok(0)]);
     let mut faulty = FaultRam::new(alloc, 4, [2].to_vec(alloc)?)?;
-    assert_two(&rt, &mut faulty, Err(Failed), &[0, 5, 0, 0]);
-    assert_two(&rt, &mut faulty, Ok(()), &[0, 5, 6, 0]);
+    assert_two(&rt, &mut faulty, Err(Failed), &[Ok(0), Ok(5), Ok(0), Ok(0)]);
+    assert_two(&rt, &mut faulty, Ok(()), &[Ok(0), Ok(5), Ok(6), Ok(0)]);
     assert_eq!(rt; faulty.sets(), 3);
     Ok(())
 }
