@@ -73,6 +73,25 @@ fn share_text(alloc: Global, options: ShareOptions) -> Result<String, Fail> {
     Ok(format!(in alloc; "{events} {seed} {heap} {stack}{stats}")?)
 }
 
+/// Caches as their sizes, the words of a block, and their kind where they are rings.
+fn sizes_text(
+    alloc: Global,
+    sizes: &Vec<u32>,
+    block_words: u32,
+    kind: CacheKind,
+) -> Result<String, Fail> {
+    let mut text = String::new(alloc);
+    for bytes in sizes {
+        text.push_str(format!(in alloc; " {bytes}")?.as_str())?;
+    }
+    let kind = match kind {
+        CacheKind::Slots => "",
+        CacheKind::Ring => " ring",
+    };
+    text.push_str(format!(in alloc; " {block_words}{kind}")?.as_str())?;
+    Ok(text)
+}
+
 /// A command as its name, its files in brackets and its options.
 fn command_text(alloc: Global, command: &Command) -> Result<String, Fail> {
     match command {
@@ -132,6 +151,17 @@ fn command_text(alloc: Global, command: &Command) -> Result<String, Fail> {
             let cache = cache_text(alloc, *cache)?;
             let run = run_text(alloc, *options)?;
             Ok(format!(in alloc; "prefetch [{file}] {cache} {rate} {run}")?)
+        }
+        Command::Survey {
+            file,
+            sizes,
+            block_words,
+            kind,
+            limits,
+        } => {
+            let caches = sizes_text(alloc, sizes, *block_words, *kind)?;
+            let RunLimits { steps, heap, stack } = *limits;
+            Ok(format!(in alloc; "survey [{file}]{caches} {steps} {heap} {stack}")?)
         }
     }
 }
@@ -369,8 +399,18 @@ static LINES: [(&str, &str); 143] = [
     ("plain --state", USAGE),
 ];
 
-/// As `LINES`, of the commands with a schedule.
-static SCHEDULES: [(&str, &str); 34] = [
+/// As `LINES`, of the commands with a schedule or with many caches.
+static SCHEDULES: [(&str, &str); 40] = [
+    // One to 64 sizes, as `--cache` takes them.
+    ("survey A 256", "survey [A] 256 64 1000000000 1048576 65536"),
+    (
+        "survey A 0256 8 --ring --block 2 4294967295",
+        "survey [A] 256 8 4294967295 2 ring 1000000000 1048576 65536",
+    ),
+    ("survey A", USAGE),
+    ("survey A 7", USAGE),
+    ("survey A 256 4294967296", USAGE),
+    ("survey A 256 --stats", USAGE),
     // Two to eight files, and options anywhere.
     ("share A B", "share [A] [B] 4096 64 1000000 0 1048576 65536"),
     (
