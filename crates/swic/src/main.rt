@@ -2,13 +2,15 @@
 //! is the exit status.
 #![tactic(auto)]
 
-ghost use Rattle.std.specs.Prelude.{◌≡◌, ◌≢◌};
+ghost use Rattle.std.specs.Prelude.{◌≡◌, ◌≢◌, ◌^◌, ◌≤◌, IfOk, length};
 ghost use Rattle.std.specs.IoError.{error_kind};
 
+use std::alloc::Global;
 use std::io::ErrorKind;
 use std::process::ExitCode;
 use std::{env, io};
 use swi_devices::{FolderShelf, RealSink, RealSource, SystemFolder, VecRam};
+use swi_outside::Memory;
 use swi_top::{Refusal, status_of, top};
 
 /// The words of cache RAM: those of the largest cache, of 2^23 bytes.
@@ -32,9 +34,17 @@ fn refusal_of(error: &io::Error) -> Refusal
     }
 }
 
+/// A cache RAM of so many words, which holds the largest cache.
+fn cache_ram(alloc: Global, words: u32) -> Result<VecRam, Memory>
+    requires { 2 ^ 21 ≤ words }
+    ensures { IfOk result (λ ram. words ≤ length ram.words) }
+{
+    VecRam::new(alloc, words)
+}
+
 /// The status of the command that the words mean.
 fn run(rt: &HostRuntime, words: &[String]) -> u8 {
-    let Ok(mut ram) = VecRam::new(rt.alloc(), RAM_WORDS) else {
+    let Ok(mut ram) = cache_ram(rt.alloc(), RAM_WORDS) else {
         return status_of(&Err(Refusal::Memory));
     };
     let mut shelf = FolderShelf::new(SystemFolder::new(rt));
