@@ -37,7 +37,7 @@ returns-in-Ok-write_rows-clause-ran g c = λ d input rest read.
     let middle = g.O.Sink.state c.run_survey-ran.new.out in
     let out = g.O.Sink.state c.write_rows.new.out in
     let ends = came c.args.kind c.args.sizes.now c.args.limits.now c.args.image.now c.args.program.now c.args.layout.now d (g.I.Source.state c.args.input.now) (g.I.Source.state c.run_survey-ran.new.input)
-        (g.O.Sink.state c.args.out.now) middle (g.E.Sink.state c.args.err.now) (g.E.Sink.state c.run_survey-ran.new.err) s input rest read h in
+    (g.O.Sink.state c.args.out.now) middle (g.E.Sink.state c.args.err.now) (g.E.Sink.state c.run_survey-ran.new.err) s input rest read h in
     let counts = counts_as c.args.kind c.args.sizes.now c.args.limits.now c.args.image.now c.args.program.now c.args.layout.now input s (h.told input rest read) in
     let wrote = c.in-Ok-write_rows.ensures (λ bytes. work_of (run_through (all input) bytes)) counts in
     let written = subst (λ (l : List ℕ). Appends middle.held out.held l) (lines_are (all input) s.steps ends.steps) wrote.bytes in
@@ -52,7 +52,7 @@ returns-clause-ran g c = λ d input rest read.
     let middle = g.O.Sink.state c.run_survey-ran.new.out in
     let out = g.O.Sink.state c.write_rows.new.out in
     let ends = came c.args.kind c.args.sizes.now c.args.limits.now c.args.image.now c.args.program.now c.args.layout.now d (g.I.Source.state c.args.input.now) (g.I.Source.state c.run_survey-ran.new.input)
-        (g.O.Sink.state c.args.out.now) middle (g.E.Sink.state c.args.err.now) (g.E.Sink.state c.run_survey-ran.new.err) s input rest read h in
+    (g.O.Sink.state c.args.out.now) middle (g.E.Sink.state c.args.err.now) (g.E.Sink.state c.run_survey-ran.new.err) s input rest read h in
     let counts = counts_as c.args.kind c.args.sizes.now c.args.limits.now c.args.image.now c.args.program.now c.args.layout.now input s (h.told input rest read) in
     let wrote = c.in-Err-write_rows.ensures (λ bytes. work_of (run_through (all input) bytes)) counts in
     let part = subst (λ (l : List ℕ). AppendsPrefix middle.held out.held l) (lines_are (all input) s.steps ends.steps) wrote.bytes in
