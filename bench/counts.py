@@ -1,8 +1,9 @@
 """Instructions of the computer that built programs take, counted by valgrind: counts.py PROGRAM..
 
-A step: between the 10^6th and the 3 * 10^6th of each guest; where blocks are copied all the time, between the 10^5th and the 10^6th. A miss,
-with all that follows it: the second 10^6 steps of guests/mix.elf through a small cache, less what they take through one in which each block
-stays, by the misses among them. The output: a row a machine, a column a guest, in the order of GUESTS and THRASHING."""
+A step: between the 10^6th and the 3 * 10^6th of each guest; where blocks are copied all the time, between the 10^5th and the 10^6th. A step of
+`prefetch` and an event of `share`: between the 10^5th and the 3 * 10^5th. A miss, with all that follows it: the second 10^6 steps of
+guests/mix.elf through a small cache, less what they take through one in which each block stays, by the misses among them. The output: a row a
+machine, a column a guest, in the order of GUESTS and THRASHING."""
 import re
 import subprocess
 import sys
@@ -14,6 +15,13 @@ MACHINES = {
     "cached 4096": ["cached", "--cache", "4096", "--block", "64"],
     "cached 1024": ["cached", "--cache", "1024", "--block", "32"],
 }
+SCHEDULES = [
+    ["prefetch", "bench/loop.elf", "--rate", "1"],
+    ["prefetch", "bench/calls.elf", "--rate", "1"],
+    ["prefetch", "bench/loop.elf", "--rate", "4"],
+    ["share", "bench/loop.elf", "bench/calls.elf"],
+    ["share", "bench/calls.elf", "bench/memory.elf", "--cache", "256", "--block", "16"],
+]
 SMALL = [(128, 32), (256, 32), (256, 64)]
 COUNTING = ["valgrind", "--tool=cachegrind", "--cache-sim=no", "--cachegrind-out-file=/dev/null"]
 MILLION = 1_000_000
@@ -21,7 +29,8 @@ START = 100_000
 
 
 def run(words, steps, before=()):
-    return subprocess.run([*before, *words, "--steps", str(steps)], stdin=subprocess.DEVNULL, capture_output=True, text=True, errors="replace")
+    limit = "--events" if words[1] == "share" else "--steps"
+    return subprocess.run([*before, *words, limit, str(steps)], stdin=subprocess.DEVNULL, capture_output=True, text=True, errors="replace")
 
 
 def instructions(words, steps):
@@ -49,6 +58,12 @@ def print_thrashing(program):
         print(f"{machine:12}", *(f"{count:6.1f}" for count in each), "  where it thrashes", flush=True)
 
 
+def print_schedules(program):
+    for words in SCHEDULES:
+        each = between(instructions, [program, *words], START, 3 * START) / (2 * START)
+        print(f"{each:6.1f}  {' '.join(words)}", flush=True)
+
+
 def print_misses(program):
     for cache, block in SMALL:
         words = [program, "cached", "guests/mix.elf", "--block", str(block), "--cache"]
@@ -60,4 +75,5 @@ def print_misses(program):
 for program in sys.argv[1:]:
     print_steps(program)
     print_thrashing(program)
+    print_schedules(program)
     print_misses(program)
