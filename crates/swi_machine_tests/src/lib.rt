@@ -20,3 +20,5 @@ mod line;
 mod memory;
 #[cfg(test)]
 mod micro;
+#[cfg(test)]
+mod named;
