@@ -1,7 +1,7 @@
 //! Small programs on the flat machine.
 #![tactic(auto)]
 
-ghost use Rattle.std.specs.Prelude.{◌≡◌, ◌*◌, ◌<◌, ◌≤◌, false, length, IfOk};
+ghost use Rattle.std.specs.Prelude.{◌≡◌, ◌*◌, ◌^◌, ◌<◌, ◌≤◌, false, length, IfOk};
 
 use std::alloc::Global;
 use std::test::Fail;
@@ -37,6 +37,81 @@ fn started(alloc: Global, words: &[u32], log: bool) -> Result<Flat, Fail>
         return Err(Fail::from("no room"));
     };
     Ok(Flat::start(alloc, &program, &layout, log)?)
+}
+
+/// The devices of a run: an input, and sinks of 1000 bytes for the output and the errors.
+#[derive(Drop)]
+struct Devices {
+    input: MemSource,
+    out: MemSink,
+    err: MemSink,
+}
+
+/// Devices with this input, and with the calls that fail of the input and of the output, 0 for none.
+fn devices_of(alloc: Global, input: &[u8], fails: (u32, u32)) -> Result<Devices, Fail> {
+    Ok(Devices {
+        input: MemSource::new(input.to_vec(alloc)?, [fails.0].to_vec(alloc)?),
+        out: MemSink::new(alloc, 1000, [fails.1].to_vec(alloc)?)?,
+        err: MemSink::new(alloc, 1000, Vec::new(alloc))?,
+    })
+}
+
+/// A run that was made: its answer, what the machine is then, and its devices.
+#[derive(Drop)]
+struct Run {
+    answer: Result<(), CallFault>,
+    flat: Flat,
+    devices: Devices,
+}
+
+/// Runs these words, for so many steps at most.
+fn ran(
+    alloc: Global,
+    words: &[u32],
+    limit: u64,
+    mut devices: Devices,
+    log: bool,
+) -> Result<Run, Fail> {
+    if words.is_empty() || words.len() > 64 || limit > 1_000_000_000 {
+        return Err(Fail::from("no row"));
+    }
+    let mut flat = started(alloc, words, log)?;
+    let answer = flat.run(
+        limit,
+        &mut devices.input,
+        &mut devices.out,
+        &mut devices.err,
+    );
+    Ok(Run {
+        answer,
+        flat,
+        devices,
+    })
+}
+
+/// What a run leaves: its answer, how it has ended, pc, how many steps were made, whether it failed, and what went to the
+/// output and to the errors.
+#[derive(Clone, Copy, PartialEq, Debug)]
+struct Left<'a> {
+    answer: Result<(), CallFault>,
+    ending: Option<End>,
+    pc: u32,
+    steps: u64,
+    failed: bool,
+    out: &'a [u8],
+    err: &'a [u8],
+}
+
+fn left_by(run: &Run) -> Left<'_> {
+    Left {
+        answer: run.answer,
+        ending: run.flat.ending(),
+        pc: run.flat.pc(),
+        steps: run.flat.steps(),
+        failed: run.flat.failed(),
+        out: run.devices.out.held(),
+        err: run.devices.err.held(),
+    }
 }
 
 /// Exits with 7.
@@ -138,20 +213,16 @@ static RUNS: [(&[u32], u64, Option<End>, u32, u64); 17] = [
 
 #[test]
 fn programs_end_where_their_words_say(rt: HostRuntime) -> Result<(), Fail> {
-    let alloc = rt.alloc();
-    for (k, (words, limit, ending, pc, steps)) in RUNS.into_iter().enumerate() {
-        assert!(rt; !words.is_empty() && words.len() <= 64 && limit <= 1_000_000_000);
-        let mut flat = started(alloc, words, false)?;
-        let mut input = MemSource::new(Vec::new(alloc), Vec::new(alloc));
-        let mut out = MemSink::new(alloc, 0, Vec::new(alloc))?;
-        let mut err = MemSink::new(alloc, 0, Vec::new(alloc))?;
-        assert_eq!(rt;
-            flat.run(limit, &mut input, &mut out, &mut err),
-            Ok(()),
-            "row {k}"
-        );
-        assert_eq!(rt; flat.ending(), ending, "row {k}");
-        assert_eq!(rt; (flat.pc(), flat.steps()), (pc, steps), "row {k}");
+    for (k, &(words, limit, ending, pc, steps)) in RUNS.iter().enumerate() {
+        let devices = devices_of(rt.alloc(), b"", (0, 0))?;
+        let run = ran(rt.alloc(), words, limit, devices, false)?;
+        let left = Left {
+            ending,
+            pc,
+            steps,
+            ..ECHOED
+        };
+        assert_eq!(rt; left_by(&run), left, "row {k}");
     }
     Ok(())
 }
@@ -162,35 +233,68 @@ static ECHO: [u32; 12] = [
     0x00000073, 0x00000513, 0x05D00893, 0x00000073,
 ];
 
-/// The input, the calls that fail of the input and of the output, 0 for none, and then the answer, the output, and
-/// how many steps were made.
-static ECHOES: [(&str, u32, u32, Result<(), CallFault>, &str, u64); 5] = [
-    ("abc", 0, 0, Ok(()), "abc", 12),
-    ("abcdefghijklmnopqrst", 0, 0, Ok(()), "abcdefghijklmnop", 12),
-    ("", 0, 0, Ok(()), "", 12),
-    ("abc", 1, 0, Err(CallFault::SourceFault), "", 4),
-    ("abc", 0, 1, Err(CallFault::SinkFault), "", 8),
+/// What a run of it leaves whose input is empty.
+const ECHOED: Left<'static> = Left {
+    answer: Ok(()),
+    ending: Some(Exited(0)),
+    pc: 0x1002C,
+    steps: 12,
+    failed: false,
+    out: b"",
+    err: b"",
+};
+
+/// The input, the calls that fail of the input and of the output, 0 for none, and what is left.
+static ECHOES: [(&[u8], (u32, u32), Left<'static>); 5] = [
+    (
+        b"abc",
+        (0, 0),
+        Left {
+            out: b"abc",
+            ..ECHOED
+        },
+    ),
+    (
+        b"abcdefghijklmnopqrst",
+        (0, 0),
+        Left {
+            out: b"abcdefghijklmnop",
+            ..ECHOED
+        },
+    ),
+    (b"", (0, 0), ECHOED),
+    (
+        b"abc",
+        (1, 0),
+        Left {
+            answer: Err(CallFault::SourceFault),
+            ending: None,
+            pc: 0x10010,
+            steps: 4,
+            failed: true,
+            ..ECHOED
+        },
+    ),
+    (
+        b"abc",
+        (0, 1),
+        Left {
+            answer: Err(CallFault::SinkFault),
+            ending: None,
+            pc: 0x10020,
+            steps: 8,
+            failed: true,
+            ..ECHOED
+        },
+    ),
 ];
 
 #[test]
 fn echo_writes_its_input_or_fails_with_its_devices(rt: HostRuntime) -> Result<(), Fail> {
-    let alloc = rt.alloc();
-    for (k, (text, reads, writes, answer, output, steps)) in ECHOES.into_iter().enumerate() {
-        let mut flat = started(alloc, &ECHO, false)?;
-        let mut input = MemSource::new(text.as_bytes().to_vec(alloc)?, [reads].to_vec(alloc)?);
-        let mut out = MemSink::new(alloc, 16, [writes].to_vec(alloc)?)?;
-        let mut err = MemSink::new(alloc, 0, Vec::new(alloc))?;
-        assert_eq!(rt;
-            flat.run(100, &mut input, &mut out, &mut err),
-            answer,
-            "row {k}"
-        );
-        assert_eq!(rt;
-            (flat.failed(), flat.steps()),
-            (answer.is_err(), steps),
-            "row {k}"
-        );
-        assert_eq!(rt; out.held(), output.as_bytes(), "row {k}");
+    for (k, &(input, fails, left)) in ECHOES.iter().enumerate() {
+        let devices = devices_of(rt.alloc(), input, fails)?;
+        let run = ran(rt.alloc(), &ECHO, 100, devices, false)?;
+        assert_eq!(rt; left_by(&run), left, "row {k}");
     }
     Ok(())
 }
@@ -201,38 +305,41 @@ static LARGE_ECHO: [u32; 12] = [
     0x00000073, 0x00000513, 0x05D00893, 0x00000073,
 ];
 
+/// Bytes of which no 251 that follow one another are the same.
+fn counted_bytes(alloc: Global, length: u32) -> Result<Vec<u8>, Fail> {
+    let mut bytes = Vec::new(alloc);
+    for j in 0..length {
+        bytes.push((j % 251) as u8)?;
+    }
+    Ok(bytes)
+}
+
 #[test]
 fn a_large_echo_takes_its_count_or_what_there_is(rt: HostRuntime) -> Result<(), Fail> {
-    let alloc = rt.alloc();
-    for (length, count) in [(1500u32, 1000), (300, 300)] {
-        let mut bytes = Vec::new(alloc);
-        for j in 0..length {
-            bytes.push((j % 251) as u8)?;
-        }
-        let mut flat = started(alloc, &LARGE_ECHO, false)?;
-        let mut input = MemSource::new(bytes.clone()?, Vec::new(alloc));
-        let mut out = MemSink::new(alloc, 1000, Vec::new(alloc))?;
-        let mut err = MemSink::new(alloc, 0, Vec::new(alloc))?;
-        assert_eq!(rt; flat.run(100, &mut input, &mut out, &mut err), Ok(()));
-        assert_eq!(rt; (flat.ending(), flat.steps()), (Some(Exited(0)), 12));
-        assert_eq!(rt; Some(out.held()), bytes.get(..count));
+    for (length, count) in [(1500, 1000), (300, 300)] {
+        let bytes = counted_bytes(rt.alloc(), length)?;
+        let devices = devices_of(rt.alloc(), &bytes, (0, 0))?;
+        let run = ran(rt.alloc(), &LARGE_ECHO, 100, devices, false)?;
+        let left = (run.answer, run.flat.ending(), run.flat.steps());
+        assert_eq!(rt; left, (Ok(()), Some(Exited(0)), 12));
+        assert_eq!(rt; Some(run.devices.out.held()), bytes.get(..count));
     }
     Ok(())
 }
 
 #[test]
 fn calls_are_told_where_the_run_asks_for_it(rt: HostRuntime) -> Result<(), Fail> {
-    let alloc = rt.alloc();
-    let mut flat = started(alloc, &ECHO, true)?;
-    let mut input = MemSource::new(b"abc".to_vec(alloc)?, Vec::new(alloc));
-    let mut out = MemSink::new(alloc, 16, Vec::new(alloc))?;
-    let mut err = MemSink::new(alloc, 200, Vec::new(alloc))?;
-    assert_eq!(rt; flat.run(100, &mut input, &mut out, &mut err), Ok(()));
-    let told = "call 63 00000000 00121fc0 00000010 = 00000003\n\
-                call 64 00000001 00121fc0 00000003 = 00000003\n\
-                call 93 00000000 00121fc0 00000003\n";
-    assert_eq!(rt; err.held(), told.as_bytes());
-    assert_eq!(rt; flat.regs().get(Reg::of(2)), 0x121FC0);
+    let devices = devices_of(rt.alloc(), b"abc", (0, 0))?;
+    let run = ran(rt.alloc(), &ECHO, 100, devices, true)?;
+    let left = Left {
+        out: b"abc",
+        err: b"call 63 00000000 00121fc0 00000010 = 00000003\n\
+            call 64 00000001 00121fc0 00000003 = 00000003\n\
+            call 93 00000000 00121fc0 00000003\n",
+        ..ECHOED
+    };
+    assert_eq!(rt; left_by(&run), left);
+    assert_eq!(rt; run.flat.regs().get(Reg::of(2)), 0x121FC0);
     Ok(())
 }
 
@@ -250,35 +357,58 @@ const CHANGING: [u32; 13] = [
     0x01D30333, 0xFE9FF06F, 0x05D00893, 0x00000073, 0x01050513,
 ];
 
+/// The machine of a file of these words, with no heap and a stack of 4096 bytes.
+fn filed(alloc: Global, words: &[u32]) -> Result<Flat, Fail>
+    requires few { length words.now ≤ 64 }
+    ensures { IfOk result (λ f. (f.machine.steps ≡ 0) × (f.failed ≡ false)) }
+{
+    let file = bytes_of(alloc, words)?;
+    let Ok(elf) = read_elf(&file) else {
+        return Err(Fail::from("no program"));
+    };
+    let program = program_of(alloc, &elf)?;
+    let Ok(layout) = lay_out(&program, 0, 4096) else {
+        return Err(Fail::from("no room"));
+    };
+    Ok(Flat::start(alloc, &program, &layout, false)?)
+}
+
+/// Runs the loop with this store up to its call of exit, and then to its end: pc, the steps made and a0 before the call, and
+/// what is left.
+fn changed(alloc: Global, store: u32) -> Result<((u32, u64, u32), Run), Fail> {
+    let mut text = CHANGING;
+    text[7] = store;
+    let mut flat = filed(alloc, &[&FRONT[..], &text].concat(alloc)?)?;
+    let mut devices = devices_of(alloc, b"", (0, 0))?;
+    let Ok(()) = flat.run(22, &mut devices.input, &mut devices.out, &mut devices.err) else {
+        return Err(Fail::from("a device failed"));
+    };
+    let before = (flat.pc(), flat.steps(), flat.regs().get(Reg::of(10)));
+    let answer = flat.run(100, &mut devices.input, &mut devices.out, &mut devices.err);
+    Ok((
+        before,
+        Run {
+            answer,
+            flat,
+            devices,
+        },
+    ))
+}
+
+/// SW, then SB and SH, which store only bytes that are the same in all three words, and a0.
+static CHANGES: [(u32, u32); 3] = [(0x0062A623, 34), (0x00628623, 3), (0x00629623, 3)];
+
 #[test]
 fn a_word_that_was_stored_is_executed_as_it_stands(rt: HostRuntime) -> Result<(), Fail> {
-    let alloc = rt.alloc();
-    // SW, then SB and SH, which store only bytes that are the same in all three words
-    for (store, a0) in [(0x0062A623, 34), (0x00628623, 3), (0x00629623, 3)] {
-        let mut text = CHANGING;
-        text[7] = store;
-        let file = bytes_of(alloc, &[&FRONT[..], &text].concat(alloc)?)?;
-        assert!(rt; file.len() < 1024);
-        let Ok(elf) = read_elf(&file) else {
-            return Err(Fail::from("no program"));
+    for &(store, a0) in CHANGES.iter() {
+        let (before, run) = changed(rt.alloc(), store)?;
+        assert_eq!(rt; before, (0x1002C, 22, a0), "{store:08X}");
+        let left = Left {
+            ending: Some(Exited(a0)),
+            steps: 23,
+            ..ECHOED
         };
-        let program = program_of(alloc, &elf)?;
-        let Ok(layout) = lay_out(&program, 0, 4096) else {
-            return Err(Fail::from("no room"));
-        };
-        let mut flat = Flat::start(alloc, &program, &layout, false)?;
-        let mut input = MemSource::new(Vec::new(alloc), Vec::new(alloc));
-        let mut out = MemSink::new(alloc, 0, Vec::new(alloc))?;
-        let mut err = MemSink::new(alloc, 0, Vec::new(alloc))?;
-        assert_eq!(rt; flat.run(22, &mut input, &mut out, &mut err), Ok(()));
-        assert_eq!(rt; (flat.pc(), flat.steps()), (0x1002C, 22), "{store:08X}");
-        assert_eq!(rt; flat.regs().get(Reg::of(10)), a0, "{store:08X}");
-        assert_eq!(rt; flat.run(100, &mut input, &mut out, &mut err), Ok(()));
-        assert_eq!(rt;
-            (flat.ending(), flat.steps()),
-            (Some(Exited(a0)), 23),
-            "{store:08X}"
-        );
+        assert_eq!(rt; left_by(&run), left, "{store:08X}");
     }
     Ok(())
 }
