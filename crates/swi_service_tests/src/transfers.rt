@@ -177,6 +177,22 @@ pub fn counts_of<R: CacheRom>(rom: &R) -> [u64; 6] {
     ]
 }
 
+/// The first index at which a ram holds another word than these, and what it holds, or none.
+pub fn first_other(ram: &VecRam, words: &[u32]) -> Option<(u32, Option<u32>)> {
+    let mut at = 0;
+    for word in words {
+        if at >= ram.words() {
+            return Some((at, None));
+        }
+        let held = ram.word(at);
+        if held != *word {
+            return Some((at, Some(held)));
+        }
+        at += 1;
+    }
+    None
+}
+
 /// Makes a transfer, which the index answers that stands with it.
 pub fn make<R: CacheRom>(
     rt: &impl Abort,
