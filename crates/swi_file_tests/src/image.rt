@@ -237,6 +237,7 @@ fn both_versions_say_their_blocks(rt: HostRuntime) -> Result<(), Fail> {
         let view = view_of(&bytes).expect(&rt, "accepted");
         assert_eq!(rt; numbers(&view), said);
         assert_eq!(rt; words_said(rt.alloc(), &view)?.as_slice(), blocks);
+        assert!(rt; view.blocks() > 0);
         assert_eq!(rt; Some(&view.block(0).word(0)), blocks.get(1));
     }
     Ok(())
