@@ -1,4 +1,4 @@
-use crate::bytes::bytes_of;
+use crate::bytes::{bytes_of, changed};
 use std::alloc::Global;
 use std::test::Fail;
 use swi_elf_read::{
@@ -48,14 +48,11 @@ fn refusal_of(bytes: &[u8], size: usize) -> Option<ElfRefusal> {
 /// The refusal of a file of these words where one of them is another.
 fn refusal_with(
     alloc: Global,
-    words: &mut [u32],
+    words: &[u32],
     at: usize,
     word: u32,
 ) -> Result<Option<ElfRefusal>, Fail> {
-    if let Some(place) = words.get_mut(at) {
-        *place = word;
-    }
-    let bytes = bytes_of(alloc, words)?;
+    let bytes = bytes_of(alloc, &changed(alloc, words, &[(at, word)])?)?;
     Ok(refusal_of(&bytes, bytes.len()))
 }
 
@@ -95,7 +92,7 @@ static CHANGES: [(usize, u32, Option<ElfRefusal>); 29] = [
 #[test]
 fn one_changed_word_gives_its_refusal(rt: HostRuntime) -> Result<(), Fail> {
     for &(at, word, want) in CHANGES.iter() {
-        let refusal = refusal_with(rt.alloc(), &mut PLAIN, at, word)?;
+        let refusal = refusal_with(rt.alloc(), &PLAIN, at, word)?;
         assert_eq!(rt; refusal, want, "{word} at {at}");
     }
     Ok(())
@@ -118,7 +115,7 @@ static SECOND_CHANGES: [(usize, u32, Option<ElfRefusal>); 9] = [
 #[test]
 fn second_segment_overlaps_or_is_a_second_text(rt: HostRuntime) -> Result<(), Fail> {
     for &(at, word, want) in SECOND_CHANGES.iter() {
-        let refusal = refusal_with(rt.alloc(), &mut DOUBLE, at, word)?;
+        let refusal = refusal_with(rt.alloc(), &DOUBLE, at, word)?;
         assert_eq!(rt; refusal, want, "{word} at {at}");
     }
     Ok(())
@@ -136,7 +133,7 @@ fn refusal_of_second(
     words[23] = 0x00020000;
     words[25] = filesz;
     words[27] = 6;
-    refusal_with(alloc, &mut words, 26, memsz)
+    refusal_with(alloc, &words, 26, memsz)
 }
 
 /// Bytes in the file, bytes in memory, and the refusal.
