@@ -1,5 +1,6 @@
 //! The texts of hand-made machines, on sinks of which each call fails in turn.
 
+use self::Counted::*;
 use std::alloc::Global;
 use std::process::Abort;
 use std::test::Fail;
@@ -133,6 +134,7 @@ fn each_line_of_the_state_is_one_write_and_none_follows_a_failed_one(
     Ok(())
 }
 
+/// A loop of three rounds through two slots, which nine steps leave.
 const WORK: Work = Work {
     machine: 16,
     fetches: 15,
@@ -146,43 +148,6 @@ const WORK: Work = Work {
         copied: 15,
     },
 };
-
-const STATS: &str =
-    "steps 9\ninstructions 16\nservices 3\nmisses 3\nevictions 1\nlinks 3\nunlinks 1\nfetches 15\nwrites 19\n";
-
-/// Whether there is a cache, the call that fails, 0 for none, and then whether all was written, and what was.
-static STATS_ROWS: [(bool, u32, bool, &str); 8] = [
-    (true, 0, true, STATS),
-    (false, 0, true, "steps 9\n"),
-    (true, 1, false, ""),
-    (true, 2, false, "steps 9\n"),
-    (
-        true,
-        9,
-        false,
-        "steps 9\ninstructions 16\nservices 3\nmisses 3\nevictions 1\nlinks 3\nunlinks 1\nfetches 15\n",
-    ),
-    (true, 10, true, STATS),
-    (false, 1, false, ""),
-    (false, 2, true, "steps 9\n"),
-];
-
-/// A loop of three rounds through two slots, which nine steps leave.
-#[test]
-fn the_counts_are_nine_lines_of_which_the_flat_machine_has_the_first(
-    rt: HostRuntime,
-) -> Result<(), Fail> {
-    for &(is_cached, failing, is_ok, held) in STATS_ROWS.iter() {
-        let mut out = sink(rt.alloc(), failing)?;
-        let result = stats_text(9, is_cached.then_some(&WORK), &mut out);
-        assert_eq!(rt;
-            (result.is_ok(), out.held()),
-            (is_ok, held.as_bytes()),
-            "{failing}"
-        );
-    }
-    Ok(())
-}
 
 /// One function of four additions, which eight rounds call out of a cache of one block.
 const MEASURED: Measured = Measured {
@@ -206,64 +171,10 @@ const MEASURED_WORK: Work = Work {
     },
 };
 
-const SUMMARY: &str =
-    "functions 1\ntext 16\nblocks 1\nexit 32\nsteps 106\ninstructions 124\nservices 11\nmisses 1\nevictions 0\nlinks 3\nunlinks 0\nfetches 123\nwrites 27\n";
-
-/// The call that fails, 0 for none, and then whether all was written, and what was.
-static SUMMARY_ROWS: [(u32, bool, &str); 6] = [
-    (0, true, SUMMARY),
-    (1, false, ""),
-    (2, false, "functions 1\n"),
-    (5, false, "functions 1\ntext 16\nblocks 1\nexit 32\n"),
-    (
-        13,
-        false,
-        "functions 1\ntext 16\nblocks 1\nexit 32\nsteps 106\ninstructions 124\nservices 11\nmisses 1\nevictions 0\nlinks 3\nunlinks 0\nfetches 123\n",
-    ),
-    (14, true, SUMMARY),
-];
-
-#[test]
-fn the_summary_is_four_lines_of_the_program_and_the_nine_counts(
-    rt: HostRuntime,
-) -> Result<(), Fail> {
-    for &(failing, is_ok, held) in SUMMARY_ROWS.iter() {
-        let mut out = sink(rt.alloc(), failing)?;
-        let result = summary_text(&MEASURED, 106, &MEASURED_WORK, &mut out);
-        assert_eq!(rt;
-            (result.is_ok(), out.held()),
-            (is_ok, held.as_bytes()),
-            "{failing}"
-        );
-    }
-    Ok(())
-}
-
 const ENGINE: EngineWork = EngineWork {
     words: 9,
     copies: 2,
 };
-
-static ENGINE_ROWS: [(u32, bool, &str); 4] = [
-    (0, true, "engine 9\nprefetched 2\n"),
-    (1, false, ""),
-    (2, false, "engine 9\n"),
-    (3, true, "engine 9\nprefetched 2\n"),
-];
-
-#[test]
-fn the_counts_of_an_engine_are_two_lines(rt: HostRuntime) -> Result<(), Fail> {
-    for &(failing, is_ok, held) in ENGINE_ROWS.iter() {
-        let mut out = sink(rt.alloc(), failing)?;
-        let result = engine_text(&ENGINE, &mut out);
-        assert_eq!(rt;
-            (result.is_ok(), out.held()),
-            (is_ok, held.as_bytes()),
-            "{failing}"
-        );
-    }
-    Ok(())
-}
 
 /// Two programs that evict each other once.
 const SHARED: SharedWork = SharedWork {
@@ -275,29 +186,93 @@ const SHARED: SharedWork = SharedWork {
     writes: 21,
 };
 
+const STATS: &str =
+    "steps 9\ninstructions 16\nservices 3\nmisses 3\nevictions 1\nlinks 3\nunlinks 1\nfetches 15\nwrites 19\n";
+
+const SUMMARY: &str =
+    "functions 1\ntext 16\nblocks 1\nexit 32\nsteps 106\ninstructions 124\nservices 11\nmisses 1\nevictions 0\nlinks 3\nunlinks 0\nfetches 123\nwrites 27\n";
+
 const SHARED_TEXT: &str = "instructions 16\nmisses 5\nevictions 3\nlinks 4\nunlinks 2\nwrites 21\n";
 
-static SHARED_ROWS: [(u32, bool, &str); 5] = [
-    (0, true, SHARED_TEXT),
-    (1, false, ""),
-    (2, false, "instructions 16\n"),
+/// The texts of counts.
+#[derive(Clone, Copy, Debug)]
+enum Counted {
+    /// A run of the flat machine, which has steps alone.
+    Flat,
+    Cached,
+    Summary,
+    Engine,
+    Shared,
+}
+
+/// A text, the call of its sink that fails, 0 for none, and then whether all was written, and what was.
+static COUNTED: [(Counted, u32, bool, &str); 23] = [
+    (Cached, 0, true, STATS),
+    (Flat, 0, true, "steps 9\n"),
+    (Cached, 1, false, ""),
+    (Cached, 2, false, "steps 9\n"),
     (
+        Cached,
+        9,
+        false,
+        "steps 9\ninstructions 16\nservices 3\nmisses 3\nevictions 1\nlinks 3\nunlinks 1\nfetches 15\n",
+    ),
+    (Cached, 10, true, STATS),
+    (Flat, 1, false, ""),
+    (Flat, 2, true, "steps 9\n"),
+    (Summary, 0, true, SUMMARY),
+    (Summary, 1, false, ""),
+    (Summary, 2, false, "functions 1\n"),
+    (
+        Summary,
+        5,
+        false,
+        "functions 1\ntext 16\nblocks 1\nexit 32\n",
+    ),
+    (
+        Summary,
+        13,
+        false,
+        "functions 1\ntext 16\nblocks 1\nexit 32\nsteps 106\ninstructions 124\nservices 11\nmisses 1\nevictions 0\nlinks 3\nunlinks 0\nfetches 123\n",
+    ),
+    (Summary, 14, true, SUMMARY),
+    (Engine, 0, true, "engine 9\nprefetched 2\n"),
+    (Engine, 1, false, ""),
+    (Engine, 2, false, "engine 9\n"),
+    (Engine, 3, true, "engine 9\nprefetched 2\n"),
+    (Shared, 0, true, SHARED_TEXT),
+    (Shared, 1, false, ""),
+    (Shared, 2, false, "instructions 16\n"),
+    (
+        Shared,
         6,
         false,
         "instructions 16\nmisses 5\nevictions 3\nlinks 4\nunlinks 2\n",
     ),
-    (7, true, SHARED_TEXT),
+    (Shared, 7, true, SHARED_TEXT),
 ];
 
+/// A text on a sink of which one call fails: whether it was written, and the sink.
+fn written(alloc: Global, text: Counted, failing: u32) -> Result<(bool, MemSink), Fail> {
+    let mut out = sink(alloc, failing)?;
+    let result = match text {
+        Flat => stats_text(9, None, &mut out),
+        Cached => stats_text(9, Some(&WORK), &mut out),
+        Summary => summary_text(&MEASURED, 106, &MEASURED_WORK, &mut out),
+        Engine => engine_text(&ENGINE, &mut out),
+        Shared => shared_text(&SHARED, &mut out),
+    };
+    Ok((result.is_ok(), out))
+}
+
 #[test]
-fn the_counts_of_programs_that_share_a_cache_are_six_lines(rt: HostRuntime) -> Result<(), Fail> {
-    for &(failing, is_ok, held) in SHARED_ROWS.iter() {
-        let mut out = sink(rt.alloc(), failing)?;
-        let result = shared_text(&SHARED, &mut out);
+fn each_count_has_its_line_and_none_follows_a_failed_write(rt: HostRuntime) -> Result<(), Fail> {
+    for &(text, failing, is_ok, held) in COUNTED.iter() {
+        let (wrote, out) = written(rt.alloc(), text, failing)?;
         assert_eq!(rt;
-            (result.is_ok(), out.held()),
+            (wrote, out.held()),
             (is_ok, held.as_bytes()),
-            "{failing}"
+            "{text:?}, {failing}"
         );
     }
     Ok(())
