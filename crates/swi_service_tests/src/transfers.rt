@@ -11,6 +11,7 @@ use std::test::Fail;
 use swi_devices::VecRam;
 use swi_image::{ImageView, read_image};
 use swi_outside::CacheRam;
+use swi_program::append_words;
 use swi_rom::CacheRom;
 
 pub const E: u32 = 0x0010_0073;
@@ -147,9 +148,7 @@ pub const INTO_A_BLOCK: [u32; 32] = [
 /// The bytes of an image.
 pub fn bytes_of(alloc: Global, words: &[u32]) -> Result<Vec<u8>, Fail> {
     let mut bytes = Vec::new(alloc);
-    for word in words {
-        bytes.extend_from_slice(&word.to_le_bytes())?;
-    }
+    append_words(&mut bytes, words)?;
     Ok(bytes)
 }
 
