@@ -269,11 +269,8 @@ fn written(alloc: Global, text: Counted, failing: u32) -> Result<(bool, MemSink)
 fn each_count_has_its_line_and_none_follows_a_failed_write(rt: HostRuntime) -> Result<(), Fail> {
     for &(text, failing, is_ok, held) in COUNTED.iter() {
         let (wrote, out) = written(rt.alloc(), text, failing)?;
-        assert_eq!(rt;
-            (wrote, out.held()),
-            (is_ok, held.as_bytes()),
-            "{text:?}, {failing}"
-        );
+        assert_eq!(rt; wrote, is_ok, "{text:?}, {failing}");
+        assert_eq!(rt; out.held(), held.as_bytes(), "{text:?}, {failing}");
     }
     Ok(())
 }
