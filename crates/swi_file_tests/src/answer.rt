@@ -150,20 +150,23 @@ static ENDINGS: [(Ending, &str, u8); 5] = [
 
 #[test]
 fn refusals_have_their_lines_and_statuses(rt: HostRuntime) -> Result<(), Fail> {
-    for (refusal, line, status) in REFUSALS.into_iter() {
-        assert!(rt; line_of_refusal(&refusal).as_bytes() == line.as_bytes());
-        assert!(rt; status_of(&Err(refusal)) == status);
+    for (refusal, line, status) in REFUSALS.iter() {
+        assert_eq!(rt; line_of_refusal(refusal).as_bytes(), line.as_bytes());
+        assert_eq!(rt; status_of(&Err(*refusal)), *status);
     }
     Ok(())
 }
 
 #[test]
 fn endings_have_their_lines_and_statuses(rt: HostRuntime) -> Result<(), Fail> {
-    for (ending, line, status) in ENDINGS.into_iter() {
-        assert!(rt; line_of_ending(&ending).as_bytes() == line.as_bytes());
-        assert!(rt; status_of(&Ok(ending)) == status);
+    for (ending, line, status) in ENDINGS.iter() {
+        assert_eq!(rt; line_of_ending(ending).as_bytes(), line.as_bytes());
+        assert_eq!(rt; status_of(&Ok(*ending)), *status);
     }
-    assert!(rt; image_line(1, 8).as_bytes() == "ok: 1 blocks of 8 words\n".as_bytes());
+    assert_eq!(rt;
+        image_line(1, 8).as_bytes(),
+        b"ok: 1 blocks of 8 words\n".as_slice()
+    );
     Ok(())
 }
 
@@ -186,8 +189,8 @@ static GUESTS: [(u32, Ending, &str); 5] = [
 
 #[test]
 fn endings_of_guests_have_their_lines(rt: HostRuntime) -> Result<(), Fail> {
-    for (guest, ending, line) in GUESTS.into_iter() {
-        assert!(rt; line_of_guest(guest, &ending).as_bytes() == line.as_bytes());
+    for (guest, ending, line) in GUESTS.iter() {
+        assert_eq!(rt; line_of_guest(*guest, ending).as_bytes(), line.as_bytes());
     }
     Ok(())
 }
@@ -250,9 +253,9 @@ static TEXTS: [(Refusal, &str); 16] = [
 
 #[test]
 fn refusals_have_their_texts(rt: HostRuntime) -> Result<(), Fail> {
-    for (refusal, text) in TEXTS.into_iter() {
+    for (refusal, text) in TEXTS.iter() {
         let said = format!(in rt.alloc(); "{refusal}")?;
-        assert_eq!(rt; said.as_str(), text);
+        assert_eq!(rt; said.as_str(), *text);
     }
     Ok(())
 }

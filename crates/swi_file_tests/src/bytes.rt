@@ -15,3 +15,14 @@ pub fn bytes_of(alloc: Global, words: &[u32]) -> Result<Vec<u8>, Fail>
     append_words(&mut bytes, words)?;
     Ok(bytes)
 }
+
+/// The words with some of them replaced: each by its index.
+pub fn changed(alloc: Global, words: &[u32], changes: &[(usize, u32)]) -> Result<Vec<u32>, Fail> {
+    let mut new = Vec::from_slice(alloc, words)?;
+    for (at, word) in changes {
+        if let Some(place) = new.get_mut(*at) {
+            *place = *word;
+        }
+    }
+    Ok(new)
+}

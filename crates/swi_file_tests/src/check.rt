@@ -1,7 +1,7 @@
 //! Rows of images, and what is wrong with them.
-ghost use Rattle.std.specs.Prelude.{◌<◌, ◌≤◌, length};
 
-use crate::bytes::bytes_of;
+use self::Answer::*;
+use crate::bytes::{bytes_of, changed};
 use std::alloc::Global;
 use std::test::Fail;
 use swi_check::{Mismatch, check};
@@ -21,6 +21,16 @@ const FIRST: [u32; 18] = [
 const SECOND: [u32; 16] = [
     0x31434953, 2, 8, 1, 3, 0x10000, 0, 5, 0, 1, 2, 0x05D00893, 0x00700513, 0x00000073, 0x00100073,
     0x0001000C,
+];
+
+/// Images that are cut off.
+const FIRST_CUT: [u32; 17] = [
+    0x31434953, 1, 8, 1, 3, 0x10000, 0, 0, 1, 2, 0x05D00893, 0x00700513, 0x00000073, 0x00100073,
+    0x0001000C, 0, 0,
+];
+
+const SECOND_CUT: [u32; 15] = [
+    0x31434953, 2, 8, 1, 3, 0x10000, 0, 5, 0, 1, 2, 0x05D00893, 0x00700513, 0x00000073, 0x00100073,
 ];
 
 /// An image of the first two words.
@@ -71,60 +81,105 @@ fn checked(
     text: &[u32],
     image: &[u32],
     changes: &[(usize, u32)],
-) -> Result<Answer, Fail>
-    requires some { 0 < length text.now }
-    requires few { length text.now ≤ 8 }
-    requires short { length image.now ≤ 32 }
-{
+) -> Result<Answer, Fail> {
+    let image = changed(alloc, image, changes)?;
+    if text.is_empty() || text.len() > 8 || image.len() > 32 {
+        return Err(Fail::from("no row"));
+    }
     let text = bytes_of(alloc, text)?;
     let program = one_text(alloc, 0x10000, &text)?;
-    let mut bytes = Vec::new(alloc);
-    for (i, word) in image.iter().enumerate() {
-        let mut word = *word;
-        for (at, changed) in changes {
-            if *at == i {
-                word = *changed;
-            }
-        }
-        bytes.extend_from_slice(&word.to_le_bytes())?;
-    }
-    if bytes.len() > 128 {
-        return Err(Fail::from("too long"));
-    }
-    match read_image(&bytes) {
+    let image = bytes_of(alloc, &image)?;
+    match read_image(&image) {
         Ok(view) => match check(&program, &view) {
-            Ok(()) => Ok(Answer::Fits),
-            Err(mismatch) => Ok(Answer::Differs(mismatch)),
+            Ok(()) => Ok(Fits),
+            Err(mismatch) => Ok(Differs(mismatch)),
         },
-        Err(refusal) => Ok(Answer::Refused(refusal)),
+        Err(refusal) => Ok(Refused(refusal)),
     }
 }
 
-fn wrong_word(block: u32, offset: u32, held: u32, required: u32) -> Answer {
-    Answer::Differs(Mismatch::Word {
-        block,
-        offset,
-        held,
-        required,
-    })
-}
-
-fn wrong_place(address: u32, held: u32, required: u32) -> Answer {
-    Answer::Differs(Mismatch::Place {
-        address,
-        held,
-        required,
-    })
-}
+/// A text, an image of it, the words of it that are others, and what the checks say.
+static ROWS: [(&[u32], &[u32], &[(usize, u32)], Answer); 13] = [
+    (&SEVEN, &FIRST, &[], Fits),
+    (&SEVEN, &SECOND, &[], Fits),
+    (&CALLS, &THREE, &[], Fits),
+    (&ATOMIC, &GREEDY, &[], Fits),
+    (&ATOMIC, &WHOLE, &[], Fits),
+    (
+        &SEVEN,
+        &FIRST,
+        &[(11, 0x00800513)],
+        Differs(Mismatch::Word {
+            block: 0,
+            offset: 1,
+            held: 0x00800513,
+            required: 0x00700513,
+        }),
+    ),
+    (
+        &CALLS,
+        &THREE,
+        &[(23, 0), (31, 0)],
+        Differs(Mismatch::Word {
+            block: 1,
+            offset: 0,
+            held: 0,
+            required: 0x00100073,
+        }),
+    ),
+    // the first difference is told
+    (
+        &SEVEN,
+        &FIRST,
+        &[(5, 0xFFFFFFFF), (10, 0)],
+        Differs(Mismatch::Cover { address: 0x10000 }),
+    ),
+    (
+        &SEVEN,
+        &SHORTER,
+        &[],
+        Differs(Mismatch::Cover { address: 0x10008 }),
+    ),
+    (
+        &SEVEN,
+        &FIRST,
+        &[(9, 3), (10, 0)],
+        Differs(Mismatch::Place {
+            address: 0x10008,
+            held: 3,
+            required: 2,
+        }),
+    ),
+    (
+        &SEVEN,
+        &NARROW,
+        &[(10, 0)],
+        Differs(Mismatch::Long { block: 0, needs: 5 }),
+    ),
+    (
+        &SEVEN,
+        &SECOND_CUT,
+        &[(7, 4), (11, 0)],
+        Differs(Mismatch::Length {
+            block: 0,
+            held: 4,
+            required: 5,
+        }),
+    ),
+    (
+        &SEVEN,
+        &FIRST_CUT,
+        &[(10, 0)],
+        Refused(ImageRefusal::Length(17)),
+    ),
+];
 
 #[test]
-fn images_of_the_program_fit(rt: HostRuntime) -> Result<(), Fail> {
-    let fits = Answer::Fits;
-    assert_eq!(rt; checked(rt.alloc(), &SEVEN, &FIRST, &[])?, fits);
-    assert_eq!(rt; checked(rt.alloc(), &SEVEN, &SECOND, &[])?, fits);
-    assert_eq!(rt; checked(rt.alloc(), &CALLS, &THREE, &[])?, fits);
-    assert_eq!(rt; checked(rt.alloc(), &ATOMIC, &GREEDY, &[])?, fits);
-    assert_eq!(rt; checked(rt.alloc(), &ATOMIC, &WHOLE, &[])?, fits);
+fn images_fit_or_their_first_difference_is_told(rt: HostRuntime) -> Result<(), Fail> {
+    for (k, &(text, image, changes, answer)) in ROWS.iter().enumerate() {
+        let given = checked(rt.alloc(), text, image, changes)?;
+        assert_eq!(rt; given, answer, "row {k}");
+    }
     Ok(())
 }
 
@@ -132,47 +187,14 @@ fn images_of_the_program_fit(rt: HostRuntime) -> Result<(), Fail> {
 fn each_word_of_a_block_is_looked_at(rt: HostRuntime) -> Result<(), Fail> {
     for offset in 0..8 {
         let at = 10 + offset;
-        let got = checked(rt.alloc(), &SEVEN, &FIRST, &[(at, 0xFFFFFFFF)])?;
-        assert_eq!(rt; got, wrong_word(0, offset as u32, 0xFFFFFFFF, FIRST[at]));
-    }
-    assert_eq!(rt;
-        checked(rt.alloc(), &SEVEN, &FIRST, &[(11, 0x00800513)])?,
-        wrong_word(0, 1, 0x00800513, 0x00700513)
-    );
-    assert_eq!(rt;
-        checked(rt.alloc(), &CALLS, &THREE, &[(23, 0), (31, 0)])?,
-        wrong_word(1, 0, 0, 0x00100073)
-    );
-    Ok(())
-}
-
-#[test]
-fn first_difference_is_told(rt: HostRuntime) -> Result<(), Fail> {
-    let cover = |address| Answer::Differs(Mismatch::Cover { address });
-    assert_eq!(rt;
-        checked(rt.alloc(), &SEVEN, &FIRST, &[(5, 0xFFFFFFFF), (10, 0)])?,
-        cover(0x10000)
-    );
-    assert_eq!(rt; checked(rt.alloc(), &SEVEN, &SHORTER, &[])?, cover(0x10008));
-    assert_eq!(rt;
-        checked(rt.alloc(), &SEVEN, &FIRST, &[(9, 3), (10, 0)])?,
-        wrong_place(0x10008, 3, 2)
-    );
-    assert_eq!(rt;
-        checked(rt.alloc(), &SEVEN, &NARROW, &[(10, 0)])?,
-        Answer::Differs(Mismatch::Long { block: 0, needs: 5 })
-    );
-    assert_eq!(rt;
-        checked(rt.alloc(), &SEVEN, &SECOND[..15], &[(7, 4), (11, 0)])?,
-        Answer::Differs(Mismatch::Length {
+        let given = checked(rt.alloc(), &SEVEN, &FIRST, &[(at, 0xFFFFFFFF)])?;
+        let wrong = Mismatch::Word {
             block: 0,
-            held: 4,
-            required: 5
-        })
-    );
-    assert_eq!(rt;
-        checked(rt.alloc(), &SEVEN, &FIRST[..17], &[(10, 0)])?,
-        Answer::Refused(ImageRefusal::Length(17))
-    );
+            offset: offset as u32,
+            held: 0xFFFFFFFF,
+            required: FIRST[at],
+        };
+        assert_eq!(rt; given, Differs(wrong));
+    }
     Ok(())
 }

@@ -1,11 +1,80 @@
+use self::Said::*;
 use std::alloc::Global;
 use std::test::Fail;
-use swi_command::{
-    CacheKind, CacheOptions, Command, Reports, RunLimits, RunOptions, ShareOptions, parse_command,
-};
+use swi_command::CacheKind::{self, Ring, Slots};
+use swi_command::{CacheOptions, Command, CommandError, Reports, RunOptions, parse_command};
 use swi_trace::Trace;
 
-const USAGE: &str = "Usage";
+/// A cache's bytes, the most words of its blocks, and its kind.
+type Cache = (u32, u32, CacheKind);
+
+/// The most steps of a run, and the bytes of its heap and of its stack.
+type Limits = (u64, u32, u32);
+
+/// What a line is read as: a command with its files and numbers, or a refusal. The names of shared files stand in brackets.
+#[derive(Clone, Copy, PartialEq, Debug)]
+enum Said<'a> {
+    Refused(CommandError),
+    /// The input, the output, the most words of a block, and whether loops stay whole.
+    Rewrite(&'a str, &'a str, u32, bool),
+    Cached(&'a str, Cache, Limits, Reports),
+    Plain(&'a str, Limits, Reports),
+    Listing(&'a str, u32),
+    Check(&'a str),
+    Upgrade(&'a str, &'a str),
+    /// The seed, and how many functions.
+    Measure(u32, u32, Cache),
+    /// The events and the seed, the bytes of each heap and stack, and whether counts are written.
+    Share(&'a str, Cache, (u32, u32), (u32, u32), bool),
+    /// The rate of the engine behind the cache.
+    Prefetch(&'a str, Cache, u32, Limits, Reports),
+    /// The caches' bytes, the most words of their blocks, and their kind.
+    Survey(&'a str, &'a [u32], u32, CacheKind, Limits),
+}
+
+const USAGE: Said<'static> = Refused(CommandError::Usage);
+
+const QUIET: Reports = Reports {
+    state: false,
+    calls: false,
+    stats: false,
+    trace: Trace::Off,
+};
+
+const STATE: Reports = Reports {
+    state: true,
+    ..QUIET
+};
+
+const CALLS: Reports = Reports {
+    calls: true,
+    ..QUIET
+};
+
+const STATS: Reports = Reports {
+    stats: true,
+    ..QUIET
+};
+
+const STATE_CALLS: Reports = Reports {
+    state: true,
+    ..CALLS
+};
+
+const STATE_STATS: Reports = Reports {
+    state: true,
+    ..STATS
+};
+
+const EACH: Reports = Reports {
+    trace: Trace::Each,
+    ..QUIET
+};
+
+const LAST: Reports = Reports {
+    trace: Trace::Last,
+    ..QUIET
+};
 
 /// The words of a line, where EMPTY stands for the empty word. A line without words has none.
 fn words_of(alloc: Global, line: &str) -> Result<Vec<String>, Fail> {
@@ -17,183 +86,137 @@ fn words_of(alloc: Global, line: &str) -> Result<Vec<String>, Fail> {
     Ok(words)
 }
 
-/// The options of a run as its limits and its flags.
-fn run_text(alloc: Global, options: RunOptions) -> Result<String, Fail> {
-    let RunLimits { steps, heap, stack } = options.limits;
-    let Reports {
-        state,
-        calls,
-        stats,
-        trace,
-    } = options.reports;
-    let state = if state { " state" } else { "" };
-    let calls = if calls { " calls" } else { "" };
-    let stats = if stats { " stats" } else { "" };
-    let trace = match trace {
-        Trace::Off => "",
-        Trace::Each => " each step",
-        Trace::Last => " last steps",
-    };
-    Ok(format!(in alloc; "{steps} {heap} {stack}{state}{calls}{stats}{trace}")?)
-}
-
-/// A cache as its sizes, and its kind where it is a ring.
-fn cache_text(alloc: Global, cache: CacheOptions) -> Result<String, Fail> {
-    let CacheOptions {
-        cache_bytes,
-        block_words,
-        kind,
-    } = cache;
-    let kind = match kind {
-        CacheKind::Slots => "",
-        CacheKind::Ring => " ring",
-    };
-    Ok(format!(in alloc; "{cache_bytes} {block_words}{kind}")?)
-}
-
-/// Files in brackets.
-fn names_text(alloc: Global, files: &Vec<String>) -> Result<String, Fail> {
+/// The names of shared files in brackets, and of other commands none.
+fn names_of(alloc: Global, read: &Result<Command, CommandError>) -> Result<String, Fail> {
     let mut names = String::new(alloc);
-    for file in files {
-        names.push_str(format!(in alloc; " [{file}]")?.as_str())?;
+    if let Ok(Command::Share { files, .. }) = read {
+        for file in files {
+            names.push_str("[")?;
+            names.push_str(file.as_str())?;
+            names.push_str("]")?;
+        }
     }
     Ok(names)
 }
 
-/// The options of programs that share a cache.
-fn share_text(alloc: Global, options: ShareOptions) -> Result<String, Fail> {
-    let ShareOptions {
-        schedule,
-        heap,
-        stack,
-        stats,
-    } = options;
-    let (events, seed) = (schedule.events, schedule.seed);
-    let stats = if stats { " stats" } else { "" };
-    Ok(format!(in alloc; "{events} {seed} {heap} {stack}{stats}")?)
+fn cache_of(cache: &CacheOptions) -> Cache {
+    (cache.cache_bytes, cache.block_words, cache.kind)
 }
 
-/// Caches as their sizes, the words of a block, and their kind where they are rings.
-fn sizes_text(
-    alloc: Global,
-    sizes: &Vec<u32>,
-    block_words: u32,
-    kind: CacheKind,
-) -> Result<String, Fail> {
-    let mut text = String::new(alloc);
-    for bytes in sizes {
-        text.push_str(format!(in alloc; " {bytes}")?.as_str())?;
-    }
-    let kind = match kind {
-        CacheKind::Slots => "",
-        CacheKind::Ring => " ring",
-    };
-    text.push_str(format!(in alloc; " {block_words}{kind}")?.as_str())?;
-    Ok(text)
+fn limits_of(options: &RunOptions) -> Limits {
+    (
+        options.limits.steps,
+        options.limits.heap,
+        options.limits.stack,
+    )
 }
 
-/// A command as its name, its files in brackets and its options.
-fn command_text(alloc: Global, command: &Command) -> Result<String, Fail> {
+fn said_by<'a>(command: &'a Command, names: &'a str) -> Said<'a> {
     match command {
         Command::Rewrite {
             input,
             output,
             block_words,
             whole_loops,
-        } => {
-            let cut = if *whole_loops { " whole loops" } else { "" };
-            Ok(format!(in alloc; "rewrite [{input}] [{output}] {block_words}{cut}")?)
-        }
+        } => Rewrite(input.as_str(), output.as_str(), *block_words, *whole_loops),
         Command::Cached {
             file,
             cache,
             options,
-        } => {
-            let cache = cache_text(alloc, *cache)?;
-            let run = run_text(alloc, *options)?;
-            Ok(format!(in alloc; "cached [{file}] {cache} {run}")?)
-        }
+        } => Cached(
+            file.as_str(),
+            cache_of(cache),
+            limits_of(options),
+            options.reports,
+        ),
         Command::Plain { file, options } => {
-            let run = run_text(alloc, *options)?;
-            Ok(format!(in alloc; "plain [{file}] {run}")?)
+            Plain(file.as_str(), limits_of(options), options.reports)
         }
-        Command::Listing { file, block_words } => {
-            Ok(format!(in alloc; "list [{file}] {block_words}")?)
-        }
-        Command::Check { file } => Ok(format!(in alloc; "check [{file}]")?),
-        Command::Upgrade { input, output } => {
-            Ok(format!(in alloc; "upgrade [{input}] [{output}]")?)
-        }
+        Command::Listing { file, block_words } => Listing(file.as_str(), *block_words),
+        Command::Check { file } => Check(file.as_str()),
+        Command::Upgrade { input, output } => Upgrade(input.as_str(), output.as_str()),
         Command::Measure {
             seed,
             functions,
             cache,
-        } => {
-            let cache = cache_text(alloc, *cache)?;
-            Ok(format!(in alloc; "measure {seed} {functions} {cache}")?)
-        }
-        Command::Share {
-            files,
-            cache,
-            options,
-        } => {
-            let names = names_text(alloc, files)?;
-            let cache = cache_text(alloc, *cache)?;
-            let share = share_text(alloc, *options)?;
-            Ok(format!(in alloc; "share{names} {cache} {share}")?)
-        }
+        } => Measure(*seed, *functions, cache_of(cache)),
+        Command::Share { cache, options, .. } => Share(
+            names,
+            cache_of(cache),
+            (options.schedule.events, options.schedule.seed),
+            (options.heap, options.stack),
+            options.stats,
+        ),
         Command::Prefetch {
             file,
             cache,
             options,
             rate,
-        } => {
-            let cache = cache_text(alloc, *cache)?;
-            let run = run_text(alloc, *options)?;
-            Ok(format!(in alloc; "prefetch [{file}] {cache} {rate} {run}")?)
-        }
+        } => Prefetch(
+            file.as_str(),
+            cache_of(cache),
+            *rate,
+            limits_of(options),
+            options.reports,
+        ),
         Command::Survey {
             file,
             sizes,
             block_words,
             kind,
             limits,
-        } => {
-            let caches = sizes_text(alloc, sizes, *block_words, *kind)?;
-            let RunLimits { steps, heap, stack } = *limits;
-            Ok(format!(in alloc; "survey [{file}]{caches} {steps} {heap} {stack}")?)
-        }
-    }
-}
-
-fn answer_to(alloc: Global, line: &str) -> Result<String, Fail> {
-    let words = words_of(alloc, line)?;
-    match parse_command(alloc, words.as_slice()) {
-        Ok(command) => command_text(alloc, &command),
-        Err(error) => Ok(format!(in alloc; "{error:?}")?),
+        } => Survey(
+            file.as_str(),
+            sizes.as_slice(),
+            *block_words,
+            *kind,
+            (limits.steps, limits.heap, limits.stack),
+        ),
     }
 }
 
 /// Lines of words, and how each is read.
-static LINES: [(&str, &str); 143] = [
+static LINES: [(&str, Said<'static>); 183] = [
+    // One to 64 sizes, as `--cache` takes them.
+    (
+        "survey A 256",
+        Survey("A", &[256], 64, Slots, (1000000000, 1048576, 65536)),
+    ),
+    (
+        "survey A 0256 8 --ring --block 2 4294967295",
+        Survey(
+            "A",
+            &[256, 8, 4294967295],
+            2,
+            Ring,
+            (1000000000, 1048576, 65536),
+        ),
+    ),
+    ("survey A", USAGE),
+    ("survey A 7", USAGE),
+    ("survey A 256 4294967296", USAGE),
+    ("survey A 256 --stats", USAGE),
     // Options stand before and after the file, in both forms.
     (
         "cached --steps 4 A --state",
-        "cached [A] 4096 64 4 1048576 65536 state",
+        Cached("A", (4096, 64, Slots), (4, 1048576, 65536), STATE),
     ),
     (
         "cached A --state --steps=4",
-        "cached [A] 4096 64 4 1048576 65536 state",
+        Cached("A", (4096, 64, Slots), (4, 1048576, 65536), STATE),
     ),
     (
         "plain --heap 0 A --calls --stack=4096",
-        "plain [A] 1000000000 0 4096 calls",
+        Plain("A", (1000000000, 0, 4096), CALLS),
     ),
-    ("cached A", "cached [A] 4096 64 1000000000 1048576 65536"),
-    ("plain A", "plain [A] 1000000000 1048576 65536"),
+    (
+        "cached A",
+        Cached("A", (4096, 64, Slots), (1000000000, 1048576, 65536), QUIET),
+    ),
+    ("plain A", Plain("A", (1000000000, 1048576, 65536), QUIET)),
     (
         "plain A --stack 4112 --calls --state",
-        "plain [A] 1000000000 1048576 4112 state calls",
+        Plain("A", (1000000000, 1048576, 4112), STATE_CALLS),
     ),
     // Nothing may be given twice.
     ("cached A --steps 4 --steps 5", USAGE),
@@ -208,35 +231,50 @@ static LINES: [(&str, &str); 143] = [
     ("cached A --steps=", USAGE),
     (
         "cached A --steps 0000000000000000004",
-        "cached [A] 4096 64 4 1048576 65536",
+        Cached("A", (4096, 64, Slots), (4, 1048576, 65536), QUIET),
     ),
     ("cached A --steps 00000000000000000004", USAGE),
     ("cached A --steps 9999999999999999999", USAGE),
     (
         "cached A --steps 281474976710656",
-        "cached [A] 4096 64 281474976710656 1048576 65536",
+        Cached(
+            "A",
+            (4096, 64, Slots),
+            (281474976710656, 1048576, 65536),
+            QUIET,
+        ),
     ),
     ("cached A --steps 281474976710657", USAGE),
     (
         "cached A --heap 67108864",
-        "cached [A] 4096 64 1000000000 67108864 65536",
+        Cached("A", (4096, 64, Slots), (1000000000, 67108864, 65536), QUIET),
     ),
     ("cached A --heap 67108865", USAGE),
     ("cached A --stack 4104", USAGE),
     ("cached A --stack 4080", USAGE),
     (
         "cached A --stack 16777216",
-        "cached [A] 4096 64 1000000000 1048576 16777216",
+        Cached(
+            "A",
+            (4096, 64, Slots),
+            (1000000000, 1048576, 16777216),
+            QUIET,
+        ),
     ),
     ("cached A --stack 16777232", USAGE),
     // The cache and its blocks.
     (
         "cached A --cache 8 --block=2 --stats",
-        "cached [A] 8 2 1000000000 1048576 65536 stats",
+        Cached("A", (8, 2, Slots), (1000000000, 1048576, 65536), STATS),
     ),
     (
         "cached --cache=4294967295 A --block 1024",
-        "cached [A] 4294967295 1024 1000000000 1048576 65536",
+        Cached(
+            "A",
+            (4294967295, 1024, Slots),
+            (1000000000, 1048576, 65536),
+            QUIET,
+        ),
     ),
     ("cached A --cache 7", USAGE),
     ("cached A --cache 4294967296", USAGE),
@@ -247,31 +285,37 @@ static LINES: [(&str, &str); 143] = [
     ("cached A --stats=1", USAGE),
     (
         "plain --stats A --state",
-        "plain [A] 1000000000 1048576 65536 state stats",
+        Plain("A", (1000000000, 1048576, 65536), STATE_STATS),
     ),
     ("plain A --cache 4096", USAGE),
     ("plain A --block 64", USAGE),
     // Two files stand in their order.
-    ("rewrite A B", "rewrite [A] [B] 64"),
-    ("rewrite --block 8 A B", "rewrite [A] [B] 8"),
-    ("rewrite B --block=1024 A", "rewrite [B] [A] 1024"),
-    ("rewrite A -- --block", "rewrite [A] [--block] 64"),
+    ("rewrite A B", Rewrite("A", "B", 64, false)),
+    ("rewrite --block 8 A B", Rewrite("A", "B", 8, false)),
+    ("rewrite B --block=1024 A", Rewrite("B", "A", 1024, false)),
+    ("rewrite A -- --block", Rewrite("A", "--block", 64, false)),
     ("rewrite A", USAGE),
     ("rewrite A B C", USAGE),
     ("rewrite A B --block 8 --block 8", USAGE),
     ("rewrite A B --block=1", USAGE),
     ("rewrite A B --cache 4096", USAGE),
     ("rewrite A B --state", USAGE),
-    ("upgrade A B", "upgrade [A] [B]"),
-    ("upgrade -- -A EMPTY", "upgrade [-A] []"),
+    ("upgrade A B", Upgrade("A", "B")),
+    ("upgrade -- -A EMPTY", Upgrade("-A", "")),
     ("upgrade A", USAGE),
     ("upgrade A B --block 64", USAGE),
     // Two numbers stand in their order, each in its range.
-    ("measure 1 2", "measure 1 2 4096 64"),
-    ("measure 7 2048 --cache 2048", "measure 7 2048 2048 64"),
-    ("measure --block=5 0 0001", "measure 0 1 4096 5"),
-    ("measure 4294967295 4096", "measure 4294967295 4096 4096 64"),
-    ("measure -- 1 2", "measure 1 2 4096 64"),
+    ("measure 1 2", Measure(1, 2, (4096, 64, Slots))),
+    (
+        "measure 7 2048 --cache 2048",
+        Measure(7, 2048, (2048, 64, Slots)),
+    ),
+    ("measure --block=5 0 0001", Measure(0, 1, (4096, 5, Slots))),
+    (
+        "measure 4294967295 4096",
+        Measure(4294967295, 4096, (4096, 64, Slots)),
+    ),
+    ("measure -- 1 2", Measure(1, 2, (4096, 64, Slots))),
     ("measure 4294967296 1", USAGE),
     ("measure 1 0", USAGE),
     ("measure 1 4097", USAGE),
@@ -289,29 +333,29 @@ static LINES: [(&str, &str); 143] = [
     ("measure 1 2 --steps 4", USAGE),
     ("measure 1 2 --stats", USAGE),
     // A command may take no option.
-    ("check A", "check [A]"),
-    ("check -- -A", "check [-A]"),
+    ("check A", Check("A")),
+    ("check -- -A", Check("-A")),
     ("check A B", USAGE),
     ("check", USAGE),
     ("check A --steps 4", USAGE),
     ("check A --stats", USAGE),
-    ("list A", "list [A] 64"),
-    ("list --block 8 A", "list [A] 8"),
+    ("list A", Listing("A", 64)),
+    ("list --block 8 A", Listing("A", 8)),
     ("list A --block 1025", USAGE),
     ("list A --cache 64", USAGE),
     ("list", USAGE),
     // A trace takes the limits and its flag.
     (
         "trace A",
-        "cached [A] 4096 64 1000000000 1048576 65536 each step",
+        Cached("A", (4096, 64, Slots), (1000000000, 1048576, 65536), EACH),
     ),
     (
         "trace --last A --steps 2 --block=16",
-        "cached [A] 4096 16 2 1048576 65536 last steps",
+        Cached("A", (4096, 16, Slots), (2, 1048576, 65536), LAST),
     ),
     (
         "trace A --cache 8 --heap 0 --stack 4096",
-        "cached [A] 8 64 1000000000 0 4096 each step",
+        Cached("A", (8, 64, Slots), (1000000000, 0, 4096), EACH),
     ),
     ("trace", USAGE),
     ("trace A B", USAGE),
@@ -326,23 +370,20 @@ static LINES: [(&str, &str); 143] = [
     // A ring and whole loops are flags.
     (
         "cached A --ring",
-        "cached [A] 4096 64 ring 1000000000 1048576 65536",
+        Cached("A", (4096, 64, Ring), (1000000000, 1048576, 65536), QUIET),
     ),
     (
         "trace --ring A --last",
-        "cached [A] 4096 64 ring 1000000000 1048576 65536 last steps",
+        Cached("A", (4096, 64, Ring), (1000000000, 1048576, 65536), LAST),
     ),
     (
         "measure 1 2 --ring --cache 64 --block 8",
-        "measure 1 2 64 8 ring",
+        Measure(1, 2, (64, 8, Ring)),
     ),
-    (
-        "rewrite A B --whole-loops",
-        "rewrite [A] [B] 64 whole loops",
-    ),
+    ("rewrite A B --whole-loops", Rewrite("A", "B", 64, true)),
     (
         "rewrite --whole-loops --block 8 A B",
-        "rewrite [A] [B] 8 whole loops",
+        Rewrite("A", "B", 8, true),
     ),
     ("cached A --ring --ring", USAGE),
     ("cached A --ring=1", USAGE),
@@ -360,17 +401,29 @@ static LINES: [(&str, &str); 143] = [
     ("cached A --state=true", USAGE),
     ("cached A --state true", USAGE),
     // `--` ends the options.
-    ("plain -- A", "plain [A] 1000000000 1048576 65536"),
+    (
+        "plain -- A",
+        Plain("A", (1000000000, 1048576, 65536), QUIET),
+    ),
     (
         "plain --state -- --calls",
-        "plain [--calls] 1000000000 1048576 65536 state",
+        Plain("--calls", (1000000000, 1048576, 65536), STATE),
     ),
-    ("plain -- -- ", "plain [--] 1000000000 1048576 65536"),
+    (
+        "plain -- -- ",
+        Plain("--", (1000000000, 1048576, 65536), QUIET),
+    ),
     ("plain -- A --state", USAGE),
     ("plain --", USAGE),
     // `-` and the empty word are names of files; other words with a dash are options.
-    ("cached -", "cached [-] 4096 64 1000000000 1048576 65536"),
-    ("cached EMPTY", "cached [] 4096 64 1000000000 1048576 65536"),
+    (
+        "cached -",
+        Cached("-", (4096, 64, Slots), (1000000000, 1048576, 65536), QUIET),
+    ),
+    (
+        "cached EMPTY",
+        Cached("", (4096, 64, Slots), (1000000000, 1048576, 65536), QUIET),
+    ),
     ("cached -A", USAGE),
     ("cached A -1", USAGE),
     // An option's name is written whole.
@@ -385,7 +438,12 @@ static LINES: [(&str, &str); 143] = [
     ("cached A --version", USAGE),
     (
         "cached help",
-        "cached [help] 4096 64 1000000000 1048576 65536",
+        Cached(
+            "help",
+            (4096, 64, Slots),
+            (1000000000, 1048576, 65536),
+            QUIET,
+        ),
     ),
     ("--help", USAGE),
     ("help", USAGE),
@@ -397,41 +455,60 @@ static LINES: [(&str, &str); 143] = [
     ("--state cached A", USAGE),
     ("cached", USAGE),
     ("plain --state", USAGE),
-];
-
-/// As `LINES`, of the commands with a schedule or with many caches.
-static SCHEDULES: [(&str, &str); 40] = [
-    // One to 64 sizes, as `--cache` takes them.
-    ("survey A 256", "survey [A] 256 64 1000000000 1048576 65536"),
-    (
-        "survey A 0256 8 --ring --block 2 4294967295",
-        "survey [A] 256 8 4294967295 2 ring 1000000000 1048576 65536",
-    ),
-    ("survey A", USAGE),
-    ("survey A 7", USAGE),
-    ("survey A 256 4294967296", USAGE),
-    ("survey A 256 --stats", USAGE),
     // Two to eight files, and options anywhere.
-    ("share A B", "share [A] [B] 4096 64 1000000 0 1048576 65536"),
+    (
+        "share A B",
+        Share(
+            "[A][B]",
+            (4096, 64, Slots),
+            (1000000, 0),
+            (1048576, 65536),
+            false,
+        ),
+    ),
     (
         "share A B C D E F G H --stats",
-        "share [A] [B] [C] [D] [E] [F] [G] [H] 4096 64 1000000 0 1048576 65536 stats",
+        Share(
+            "[A][B][C][D][E][F][G][H]",
+            (4096, 64, Slots),
+            (1000000, 0),
+            (1048576, 65536),
+            true,
+        ),
     ),
     (
         "share --events 0 A --seed=7 B --heap 0 --stack 4096 C",
-        "share [A] [B] [C] 4096 64 0 7 0 4096",
+        Share("[A][B][C]", (4096, 64, Slots), (0, 7), (0, 4096), false),
     ),
     (
         "share A A --block 8 --cache 32",
-        "share [A] [A] 32 8 1000000 0 1048576 65536",
+        Share(
+            "[A][A]",
+            (32, 8, Slots),
+            (1000000, 0),
+            (1048576, 65536),
+            false,
+        ),
     ),
     (
         "share A -- --seed",
-        "share [A] [--seed] 4096 64 1000000 0 1048576 65536",
+        Share(
+            "[A][--seed]",
+            (4096, 64, Slots),
+            (1000000, 0),
+            (1048576, 65536),
+            false,
+        ),
     ),
     (
         "share A B --events 4294967295 --seed 4294967295",
-        "share [A] [B] 4096 64 4294967295 4294967295 1048576 65536",
+        Share(
+            "[A][B]",
+            (4096, 64, Slots),
+            (4294967295, 4294967295),
+            (1048576, 65536),
+            false,
+        ),
     ),
     ("share A B --events 4294967296", USAGE),
     ("share A B --seed 4294967296", USAGE),
@@ -450,19 +527,31 @@ static SCHEDULES: [(&str, &str); 40] = [
     // An engine has a rate.
     (
         "prefetch A",
-        "prefetch [A] 4096 64 1 1000000000 1048576 65536",
+        Prefetch(
+            "A",
+            (4096, 64, Slots),
+            1,
+            (1000000000, 1048576, 65536),
+            QUIET,
+        ),
     ),
     (
         "prefetch --rate 5 A --block 5 --cache=60 --stats",
-        "prefetch [A] 60 5 5 1000000000 1048576 65536 stats",
+        Prefetch("A", (60, 5, Slots), 5, (1000000000, 1048576, 65536), STATS),
     ),
     (
         "prefetch A --rate=0 --state --calls",
-        "prefetch [A] 4096 64 0 1000000000 1048576 65536 state calls",
+        Prefetch(
+            "A",
+            (4096, 64, Slots),
+            0,
+            (1000000000, 1048576, 65536),
+            STATE_CALLS,
+        ),
     ),
     (
         "prefetch A --rate 1024 --steps 4",
-        "prefetch [A] 4096 64 1024 4 1048576 65536",
+        Prefetch("A", (4096, 64, Slots), 1024, (4, 1048576, 65536), QUIET),
     ),
     ("prefetch A --rate 1025", USAGE),
     ("prefetch A --rate", USAGE),
@@ -478,18 +567,15 @@ static SCHEDULES: [(&str, &str); 40] = [
 
 #[test]
 fn lines_are_read_or_refused(rt: HostRuntime) -> Result<(), Fail> {
-    for (line, wanted) in LINES.iter() {
-        let answer = answer_to(rt.alloc(), line)?;
-        assert_eq!(rt; answer.as_str(), *wanted, "{line}");
-    }
-    Ok(())
-}
-
-#[test]
-fn schedules_are_read_or_refused(rt: HostRuntime) -> Result<(), Fail> {
-    for (line, wanted) in SCHEDULES.iter() {
-        let answer = answer_to(rt.alloc(), line)?;
-        assert_eq!(rt; answer.as_str(), *wanted, "{line}");
+    for &(line, wanted) in LINES.iter() {
+        let words = words_of(rt.alloc(), line)?;
+        let read = parse_command(rt.alloc(), words.as_slice());
+        let names = names_of(rt.alloc(), &read)?;
+        let said = match &read {
+            Ok(command) => said_by(command, names.as_str()),
+            Err(error) => Refused(*error),
+        };
+        assert_eq!(rt; said, wanted, "{line}");
     }
     Ok(())
 }

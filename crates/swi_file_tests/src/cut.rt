@@ -1,5 +1,4 @@
 //! Rows of texts and their images.
-ghost use Rattle.std.specs.Prelude.{◌<◌, ◌≤◌, length};
 
 use crate::bytes::bytes_of;
 use std::alloc::Global;
@@ -29,12 +28,10 @@ fn words_of(alloc: Global, image: &Image) -> Result<Vec<u32>, Fail> {
 }
 
 /// What the program of these words is cut into.
-fn cut_words(alloc: Global, text: &[u32], most: u32) -> Result<Result<Vec<u32>, CutRefusal>, Fail>
-    requires some { 0 < length text.now }
-    requires few { length text.now ≤ 8 }
-    requires least { 2 ≤ most }
-    requires most { most ≤ 1024 }
-{
+fn cut_words(alloc: Global, text: &[u32], most: u32) -> Result<Result<Vec<u32>, CutRefusal>, Fail> {
+    if text.is_empty() || text.len() > 8 || most < 2 || most > 1024 {
+        return Err(Fail::from("no row"));
+    }
     let text = bytes_of(alloc, text)?;
     let program = one_text(alloc, 0x10000, &text)?;
     match cut(alloc, &program, most) {
@@ -43,42 +40,51 @@ fn cut_words(alloc: Global, text: &[u32], most: u32) -> Result<Result<Vec<u32>, 
     }
 }
 
+const ONE_BLOCK: [u32; 16] = [
+    0x31434953, 2, 8, 1, 3, 0x00010000, 0, 5, 0, 1, 2, 0x05D00893, 0x00700513, 0x00000073,
+    0x00100073, 0x0001000C,
+];
+
+const EXACTLY_FULL: [u32; 16] = [
+    0x31434953, 2, 5, 1, 3, 0x00010000, 0, 5, 0, 1, 2, 0x05D00893, 0x00700513, 0x00000073,
+    0x00100073, 0x0001000C,
+];
+
+const THREE_BLOCKS: [u32; 32] = [
+    0x31434953, 2, 5, 3, 6, 0x00010000, 0, 2, 4, 5, 10, 14, 0, 2, 0, 2, 0, 1, 0x000100B7,
+    0x00008093, 0x00100073, 0x00C080E7, 0x00010008, 0x00100073, 0x00010009, 0x05D00893, 0x00100073,
+    0x00010010, 0x00008513, 0x00000073, 0x00100073, 0x00010018,
+];
+
+/// A text, the most words of a block, and the image.
+static IMAGES: [(&[u32], u32, &[u32]); 3] = [
+    (&SEVEN, 8, &ONE_BLOCK),
+    (&SEVEN, 5, &EXACTLY_FULL),
+    (&CALLS, 5, &THREE_BLOCKS),
+];
+
 #[test]
 fn texts_are_cut_into_full_blocks(rt: HostRuntime) -> Result<(), Fail> {
-    let one_block = [
-        0x31434953, 2, 8, 1, 3, 0x00010000, 0, 5, 0, 1, 2, 0x05D00893, 0x00700513, 0x00000073,
-        0x00100073, 0x0001000C,
-    ];
-    let exactly_full = [
-        0x31434953, 2, 5, 1, 3, 0x00010000, 0, 5, 0, 1, 2, 0x05D00893, 0x00700513, 0x00000073,
-        0x00100073, 0x0001000C,
-    ];
-    let three_blocks = [
-        0x31434953, 2, 5, 3, 6, 0x00010000, 0, 2, 4, 5, 10, 14, 0, 2, 0, 2, 0, 1, 0x000100B7,
-        0x00008093, 0x00100073, 0x00C080E7, 0x00010008, 0x00100073, 0x00010009, 0x05D00893,
-        0x00100073, 0x00010010, 0x00008513, 0x00000073, 0x00100073, 0x00010018,
-    ];
-    let table: [(&[u32], u32, &[u32]); 3] = [
-        (&SEVEN, 8, &one_block),
-        (&SEVEN, 5, &exactly_full),
-        (&CALLS, 5, &three_blocks),
-    ];
-    for (text, most, want) in table {
-        if text.is_empty() || text.len() > 8 || most < 2 || most > 1024 {
-            return Err(Fail::from("no row"));
-        }
+    for &(text, most, want) in IMAGES.iter() {
         let want = Vec::from_slice(rt.alloc(), want)?;
         assert_eq!(rt; cut_words(rt.alloc(), text, most)?, Ok(want));
     }
     Ok(())
 }
 
+/// A text, the most words of a block, and the address of the word that doesn't fit and how many it needs.
+static LONG: [(&[u32], u32, u32, u32); 3] = [
+    (&COUNTS, 4, 0x10008, 5),
+    (&COUNTS, 2, 0x10000, 3),
+    (&CALLS, 2, 0x10000, 4),
+];
+
 #[test]
 fn word_that_does_not_fit_is_refused(rt: HostRuntime) -> Result<(), Fail> {
-    let long = |address, needs| Err(CutRefusal::Long { address, needs });
-    assert_eq!(rt; cut_words(rt.alloc(), &COUNTS, 4)?, long(0x10008, 5));
-    assert_eq!(rt; cut_words(rt.alloc(), &COUNTS, 2)?, long(0x10000, 3));
-    assert_eq!(rt; cut_words(rt.alloc(), &CALLS, 2)?, long(0x10000, 4));
+    for &(text, most, address, needs) in LONG.iter() {
+        let refusal = CutRefusal::Long { address, needs };
+        assert_eq!(rt; cut_words(rt.alloc(), text, most)?, Err(refusal));
+    }
     Ok(())
 }
 
@@ -94,8 +100,8 @@ fn version_2_is_upgraded_to_itself(rt: HostRuntime) -> Result<(), Fail> {
     Ok(())
 }
 
-/// ADDI x5, x5, 1; LR.W x5, (x11); SC.W x6, x5, (x11); BNE x5, x7, 16.
-const ADDI: u32 = 0x00128293;
+/// A: ADDI x5, x5, 1; LR.W x5, (x11); SC.W x6, x5, (x11); BNE x5, x7, 16.
+const A: u32 = 0x00128293;
 
 const LR: u32 = 0x1005A2AF;
 
@@ -104,12 +110,10 @@ const SC: u32 = 0x1855A32F;
 const BNE: u32 = 0x00729863;
 
 /// With which text words the blocks begin.
-fn starts_of(alloc: Global, text: &[u32], most: u32, cutting: Cutting) -> Result<Vec<u32>, Fail>
-    requires some { 0 < length text.now }
-    requires few { length text.now ≤ 32 }
-    requires least { 2 ≤ most }
-    requires most { most ≤ 1024 }
-{
+fn starts_of(alloc: Global, text: &[u32], most: u32, cutting: Cutting) -> Result<Vec<u32>, Fail> {
+    if text.is_empty() || text.len() > 32 || most < 2 || most > 1024 {
+        return Err(Fail::from("no row"));
+    }
     let text = bytes_of(alloc, text)?;
     let program = one_text(alloc, 0x10000, &text)?;
     let mut starts = Vec::new(alloc);
@@ -123,53 +127,51 @@ fn starts_of(alloc: Global, text: &[u32], most: u32, cutting: Cutting) -> Result
     Ok(starts)
 }
 
+/// A text, the most words of a block, and with which text words the blocks begin, greedily and with whole loops.
+static STARTS: [(&[u32], u32, &[u32], &[u32]); 14] = [
+    // An LR.W three words before the cut.
+    (&[A, A, A, LR, A, A, A, SC, A], 8, &[0, 6], &[0, 3]),
+    // Longer than a block; exactly a block.
+    (&[A, LR, A, A, A, A, A, SC, A], 8, &[0, 6], &[0, 6]),
+    (&[A, LR, A, A, A, A, SC, A], 8, &[0, 6], &[0, 1, 7]),
+    (&[LR, A, A, A, A, A, SC, A], 8, &[0, 6], &[0, 6]),
+    // Two sequences.
+    (&[A, LR, SC, LR, SC, A, A, A], 8, &[0, 6], &[0, 6]),
+    (&[A, A, LR, SC, A, LR, SC, A], 8, &[0, 6], &[0, 5]),
+    (&[A, LR, A, A, A, LR, SC, LR, SC], 7, &[0, 5], &[0, 5]),
+    // No SC.W within 16 words, or one in the last of them.
+    (&[A, A, A, LR, A, A, A, A, A], 8, &[0, 6], &[0, 6]),
+    (
+        &[
+            A, A, A, A, A, A, A, A, LR, A, A, A, A, A, A, A, A, A, A, A, A, A, A, A, SC,
+        ],
+        24,
+        &[0, 22],
+        &[0, 22],
+    ),
+    (
+        &[
+            A, A, A, A, A, A, A, A, LR, A, A, A, A, A, A, A, A, A, A, A, A, A, A, SC,
+        ],
+        24,
+        &[0, 22],
+        &[0, 8],
+    ),
+    // A branch out of the loop.
+    (&[A, A, A, LR, BNE, SC, A], 8, &[0, 4], &[0, 3]),
+    // An SC.W before an LR.W; an LR.W behind an LR.W.
+    (&[A, A, A, A, SC, LR, A, A], 8, &[0, 6], &[0, 6]),
+    (&[A, A, A, A, A, LR, LR, SC], 8, &[0, 6], &[0, 6]),
+    (&[A, A, A, LR, LR, A, SC, A], 8, &[0, 6], &[0, 4]),
+];
+
 #[test]
 fn sequences_stay_in_one_block(rt: HostRuntime) -> Result<(), Fail> {
-    const A: u32 = ADDI;
-    let table: [(&[u32], u32, &[u32], &[u32]); 14] = [
-        // An LR.W three words before the cut.
-        (&[A, A, A, LR, A, A, A, SC, A], 8, &[0, 6], &[0, 3]),
-        // Longer than a block; exactly a block.
-        (&[A, LR, A, A, A, A, A, SC, A], 8, &[0, 6], &[0, 6]),
-        (&[A, LR, A, A, A, A, SC, A], 8, &[0, 6], &[0, 1, 7]),
-        (&[LR, A, A, A, A, A, SC, A], 8, &[0, 6], &[0, 6]),
-        // Two sequences.
-        (&[A, LR, SC, LR, SC, A, A, A], 8, &[0, 6], &[0, 6]),
-        (&[A, A, LR, SC, A, LR, SC, A], 8, &[0, 6], &[0, 5]),
-        (&[A, LR, A, A, A, LR, SC, LR, SC], 7, &[0, 5], &[0, 5]),
-        // No SC.W within 16 words, or one in the last of them.
-        (&[A, A, A, LR, A, A, A, A, A], 8, &[0, 6], &[0, 6]),
-        (
-            &[
-                A, A, A, A, A, A, A, A, LR, A, A, A, A, A, A, A, A, A, A, A, A, A, A, A, SC,
-            ],
-            24,
-            &[0, 22],
-            &[0, 22],
-        ),
-        (
-            &[
-                A, A, A, A, A, A, A, A, LR, A, A, A, A, A, A, A, A, A, A, A, A, A, A, SC,
-            ],
-            24,
-            &[0, 22],
-            &[0, 8],
-        ),
-        // A branch out of the loop.
-        (&[A, A, A, LR, BNE, SC, A], 8, &[0, 4], &[0, 3]),
-        // An SC.W before an LR.W; an LR.W behind an LR.W.
-        (&[A, A, A, A, SC, LR, A, A], 8, &[0, 6], &[0, 6]),
-        (&[A, A, A, A, A, LR, LR, SC], 8, &[0, 6], &[0, 6]),
-        (&[A, A, A, LR, LR, A, SC, A], 8, &[0, 6], &[0, 4]),
-    ];
-    for (text, most, greedy, whole) in table {
-        if text.is_empty() || text.len() > 32 || most < 2 || most > 1024 {
-            return Err(Fail::from("no row"));
-        }
-        let got = starts_of(rt.alloc(), text, most, Cutting::Greedy)?;
-        assert_eq!(rt; got.as_slice(), greedy);
-        let got = starts_of(rt.alloc(), text, most, Cutting::WholeLoops)?;
-        assert_eq!(rt; got.as_slice(), whole);
+    for &(text, most, greedy, whole) in STARTS.iter() {
+        let starts = starts_of(rt.alloc(), text, most, Cutting::Greedy)?;
+        assert_eq!(rt; starts.as_slice(), greedy);
+        let starts = starts_of(rt.alloc(), text, most, Cutting::WholeLoops)?;
+        assert_eq!(rt; starts.as_slice(), whole);
     }
     Ok(())
 }

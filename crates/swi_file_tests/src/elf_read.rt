@@ -1,4 +1,4 @@
-use crate::bytes::bytes_of;
+use crate::bytes::{bytes_of, changed};
 use std::alloc::Global;
 use std::test::Fail;
 use swi_elf_read::{
@@ -48,105 +48,108 @@ fn refusal_of(bytes: &[u8], size: usize) -> Option<ElfRefusal> {
 /// The refusal of a file of these words where one of them is another.
 fn refusal_with(
     alloc: Global,
-    words: &mut [u32],
+    words: &[u32],
     at: usize,
     word: u32,
 ) -> Result<Option<ElfRefusal>, Fail> {
-    if let Some(place) = words.get_mut(at) {
-        *place = word;
-    }
-    let bytes = bytes_of(alloc, words)?;
+    let bytes = bytes_of(alloc, &changed(alloc, words, &[(at, word)])?)?;
     Ok(refusal_of(&bytes, bytes.len()))
 }
 
+/// A word's index, another word in its place, and the refusal.
+static CHANGES: [(usize, u32, Option<ElfRefusal>); 29] = [
+    (0, 0x464C4580, Some(ElfRefusal::Magic(0))),
+    (1, 0x00010102, Some(ElfRefusal::Class(4))),
+    (1, 0x00010201, Some(ElfRefusal::Order(5))),
+    (1, 0x00020101, Some(ElfRefusal::Version(6))),
+    (5, 2, Some(ElfRefusal::Version(20))),
+    (4, 0x00F30003, Some(ElfRefusal::FileType(16))),
+    (4, 0x003E0002, Some(ElfRefusal::Machine(18))),
+    (9, 1, Some(ElfRefusal::Flags(36))),
+    (9, 8, Some(ElfRefusal::Flags(36))),
+    (9, 0x10, None),
+    (10, 0x00200040, Some(ElfRefusal::HeaderSize(40))),
+    (10, 0x00380034, Some(ElfRefusal::HeaderSize(42))),
+    (11, 65, Some(ElfRefusal::Many(44))),
+    (11, 0, Some(ElfRefusal::NoText(0))),
+    (7, 0xFFFFFFFF, Some(ElfRefusal::Table(28))),
+    (13, 2, Some(ElfRefusal::Dynamic(0))),
+    (13, 3, Some(ElfRefusal::Dynamic(0))),
+    (14, 0xFFFFFFFF, Some(ElfRefusal::Extent(0))),
+    (17, 3, Some(ElfRefusal::NoText(0))),
+    (18, 11, Some(ElfRefusal::Extent(0))),
+    (18, 0xFFFFFFFF, Some(ElfRefusal::Extent(0))),
+    (18, 33_554_433, Some(ElfRefusal::Large(0))),
+    (18, 33_554_432, None),
+    (19, 4, Some(ElfRefusal::NoText(0))),
+    (6, 0x00010002, Some(ElfRefusal::Entry(24))),
+    (6, 0x0001000C, Some(ElfRefusal::Entry(24))),
+    (6, 0x00010008, None),
+    (15, 0xFFFFFFF5, Some(ElfRefusal::Extent(0))),
+    (15, 0xFFFFFFF4, Some(ElfRefusal::Entry(24))),
+];
+
 #[test]
 fn one_changed_word_gives_its_refusal(rt: HostRuntime) -> Result<(), Fail> {
-    let table = [
-        (0, 0x464C4580, Some(ElfRefusal::Magic(0))),
-        (1, 0x00010102, Some(ElfRefusal::Class(4))),
-        (1, 0x00010201, Some(ElfRefusal::Order(5))),
-        (1, 0x00020101, Some(ElfRefusal::Version(6))),
-        (5, 2, Some(ElfRefusal::Version(20))),
-        (4, 0x00F30003, Some(ElfRefusal::FileType(16))),
-        (4, 0x003E0002, Some(ElfRefusal::Machine(18))),
-        (9, 1, Some(ElfRefusal::Flags(36))),
-        (9, 8, Some(ElfRefusal::Flags(36))),
-        (9, 0x10, None),
-        (10, 0x00200040, Some(ElfRefusal::HeaderSize(40))),
-        (10, 0x00380034, Some(ElfRefusal::HeaderSize(42))),
-        (11, 65, Some(ElfRefusal::Many(44))),
-        (11, 0, Some(ElfRefusal::NoText(0))),
-        (7, 0xFFFFFFFF, Some(ElfRefusal::Table(28))),
-        (13, 2, Some(ElfRefusal::Dynamic(0))),
-        (13, 3, Some(ElfRefusal::Dynamic(0))),
-        (14, 0xFFFFFFFF, Some(ElfRefusal::Extent(0))),
-        (17, 3, Some(ElfRefusal::NoText(0))),
-        (18, 11, Some(ElfRefusal::Extent(0))),
-        (18, 0xFFFFFFFF, Some(ElfRefusal::Extent(0))),
-        (18, 33_554_433, Some(ElfRefusal::Large(0))),
-        (18, 33_554_432, None),
-        (19, 4, Some(ElfRefusal::NoText(0))),
-        (6, 0x00010002, Some(ElfRefusal::Entry(24))),
-        (6, 0x0001000C, Some(ElfRefusal::Entry(24))),
-        (6, 0x00010008, None),
-        (15, 0xFFFFFFF5, Some(ElfRefusal::Extent(0))),
-        (15, 0xFFFFFFF4, Some(ElfRefusal::Entry(24))),
-    ];
-    for (at, word, want) in table {
-        assert_eq!(rt;
-            refusal_with(rt.alloc(), &mut PLAIN, at, word)?,
-            want,
-            "{word} at {at}"
-        );
+    for &(at, word, want) in CHANGES.iter() {
+        let refusal = refusal_with(rt.alloc(), &PLAIN, at, word)?;
+        assert_eq!(rt; refusal, want, "{word} at {at}");
     }
     Ok(())
 }
+
+/// The same of a file of two segments.
+static SECOND_CHANGES: [(usize, u32, Option<ElfRefusal>); 9] = [
+    (23, 0x00010000, Some(ElfRefusal::Overlap(1))),
+    (23, 0x00020000, Some(ElfRefusal::TwoTexts(1))),
+    (23, 0x0001000B, Some(ElfRefusal::Overlap(1))),
+    (23, 0x0000FFF5, Some(ElfRefusal::Overlap(1))),
+    (23, 0x0001000C, Some(ElfRefusal::TwoTexts(1))),
+    (23, 0x0000FFF4, Some(ElfRefusal::TwoTexts(1))),
+    (21, 4, None),
+    (26, 0, Some(ElfRefusal::Extent(1))),
+    // a wrong extent comes before an overlap
+    (25, 13, Some(ElfRefusal::Extent(1))),
+];
 
 #[test]
 fn second_segment_overlaps_or_is_a_second_text(rt: HostRuntime) -> Result<(), Fail> {
-    let table = [
-        (23, 0x00010000, Some(ElfRefusal::Overlap(1))),
-        (23, 0x00020000, Some(ElfRefusal::TwoTexts(1))),
-        (23, 0x0001000B, Some(ElfRefusal::Overlap(1))),
-        (23, 0x0000FFF5, Some(ElfRefusal::Overlap(1))),
-        (23, 0x0001000C, Some(ElfRefusal::TwoTexts(1))),
-        (23, 0x0000FFF4, Some(ElfRefusal::TwoTexts(1))),
-        (21, 4, None),
-        (26, 0, Some(ElfRefusal::Extent(1))),
-        // a wrong extent comes before an overlap
-        (25, 13, Some(ElfRefusal::Extent(1))),
-    ];
-    for (at, word, want) in table {
-        assert_eq!(rt;
-            refusal_with(rt.alloc(), &mut DOUBLE, at, word)?,
-            want,
-            "{word} at {at}"
-        );
+    for &(at, word, want) in SECOND_CHANGES.iter() {
+        let refusal = refusal_with(rt.alloc(), &DOUBLE, at, word)?;
+        assert_eq!(rt; refusal, want, "{word} at {at}");
     }
     Ok(())
 }
 
+/// The refusal of the file of two segments whose second has so many bytes in the file, from an offset on, and in memory.
+fn refusal_of_second(
+    alloc: Global,
+    offset: u32,
+    filesz: u32,
+    memsz: u32,
+) -> Result<Option<ElfRefusal>, Fail> {
+    let mut words = DOUBLE;
+    words[22] = offset;
+    words[23] = 0x00020000;
+    words[25] = filesz;
+    words[27] = 6;
+    refusal_with(alloc, &words, 26, memsz)
+}
+
+/// Bytes in the file, bytes in memory, and the refusal.
+static BEHIND_THE_END: [(u32, u32, Option<ElfRefusal>); 4] = [
+    (0, 64, None),
+    (0, 0, None),
+    (1, 64, Some(ElfRefusal::Extent(1))),
+    (1, 0, Some(ElfRefusal::Extent(1))),
+];
+
 #[test]
 fn segment_without_bytes_in_the_file_may_begin_behind_its_end(rt: HostRuntime) -> Result<(), Fail> {
-    // bytes in the file, bytes in memory
-    let table = [
-        (0, 64, None),
-        (0, 0, None),
-        (1, 64, Some(ElfRefusal::Extent(1))),
-        (1, 0, Some(ElfRefusal::Extent(1))),
-    ];
     for offset in [0x81, 0x7FFFFFFF, u32::MAX] {
-        for (filesz, memsz, want) in table {
-            let mut words = DOUBLE;
-            words[22] = offset;
-            words[23] = 0x00020000;
-            words[25] = filesz;
-            words[27] = 6;
-            assert_eq!(rt;
-                refusal_with(rt.alloc(), &mut words, 26, memsz)?,
-                want,
-                "{filesz} and {memsz} bytes at {offset}"
-            );
+        for &(filesz, memsz, want) in BEHIND_THE_END.iter() {
+            let refusal = refusal_of_second(rt.alloc(), offset, filesz, memsz)?;
+            assert_eq!(rt; refusal, want, "{filesz} and {memsz} bytes at {offset}");
         }
     }
     Ok(())
@@ -163,40 +166,57 @@ fn refusal_of_text(alloc: Global, size: u32) -> Result<Option<ElfRefusal>, Fail>
     Ok(refusal_of(&bytes, bytes.len()))
 }
 
+/// Bytes of a text, and the refusal.
+static TEXT_SIZES: [(u32, Option<ElfRefusal>); 4] = [
+    ((1 << 20) + 4, None),
+    (1 << 21, None),
+    ((1 << 21) + 1, Some(ElfRefusal::Large(0))),
+    ((1 << 21) + 4, Some(ElfRefusal::Large(0))),
+];
+
 #[test]
 fn text_has_at_most_two_mebibytes(rt: HostRuntime) -> Result<(), Fail> {
-    let table = [
-        ((1 << 20) + 4, None),
-        (1 << 21, None),
-        ((1 << 21) + 1, Some(ElfRefusal::Large(0))),
-        ((1 << 21) + 4, Some(ElfRefusal::Large(0))),
-    ];
-    for (size, want) in table {
+    for &(size, want) in TEXT_SIZES.iter() {
         assert_eq!(rt; refusal_of_text(rt.alloc(), size)?, want, "{size} bytes");
     }
     Ok(())
+}
+
+/// The refusal of the plain file's first bytes.
+fn plain_front(size: u32) -> Option<ElfRefusal> {
+    match size {
+        0..52 => Some(ElfRefusal::Short(size)),
+        52..84 => Some(ElfRefusal::Table(28)),
+        84..96 => Some(ElfRefusal::Extent(0)),
+        _ => None,
+    }
+}
+
+/// The same of the file with an image.
+fn rewritten_front(size: u32) -> Option<ElfRefusal> {
+    match size {
+        0..52 => Some(ElfRefusal::Short(size)),
+        52..116 => Some(ElfRefusal::Table(28)),
+        116..128 => Some(ElfRefusal::Extent(0)),
+        128..200 => Some(ElfRefusal::Extent(1)),
+        _ => None,
+    }
 }
 
 #[test]
 fn front_of_a_file_is_refused(rt: HostRuntime) -> Result<(), Fail> {
     let plain = bytes_of(rt.alloc(), &PLAIN)?;
     let rewritten = bytes_of(rt.alloc(), &REWRITTEN)?;
-    for size in 0..201 {
-        let want = match size {
-            0..52 => Some(ElfRefusal::Short(size as u32)),
-            52..84 => Some(ElfRefusal::Table(28)),
-            84..96 => Some(ElfRefusal::Extent(0)),
-            _ => None,
-        };
-        assert_eq!(rt; refusal_of(&plain, size), want, "plain, {size}");
-        let want = match size {
-            0..52 => Some(ElfRefusal::Short(size as u32)),
-            52..116 => Some(ElfRefusal::Table(28)),
-            116..128 => Some(ElfRefusal::Extent(0)),
-            128..200 => Some(ElfRefusal::Extent(1)),
-            _ => None,
-        };
-        assert_eq!(rt; refusal_of(&rewritten, size), want, "rewritten, {size}");
+    for size in 0..201u32 {
+        let refusals = (
+            refusal_of(&plain, size as usize),
+            refusal_of(&rewritten, size as usize),
+        );
+        assert_eq!(rt;
+            refusals,
+            (plain_front(size), rewritten_front(size)),
+            "{size} bytes"
+        );
     }
     Ok(())
 }

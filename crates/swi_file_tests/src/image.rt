@@ -1,3 +1,4 @@
+use crate::bytes::changed;
 use std::alloc::Global;
 use std::test::Fail;
 use swi_image::{Image, ImageRefusal, ImageView, read_image};
@@ -40,17 +41,6 @@ fn behind_one(alloc: Global, words: &[u32]) -> Result<Vec<u8>, Fail> {
     Ok(bytes)
 }
 
-/// The words with some of them replaced.
-fn changed(alloc: Global, words: &[u32], changes: &[(usize, u32)]) -> Result<Vec<u32>, Fail> {
-    let mut new = Vec::from_slice(alloc, words)?;
-    for (at, word) in changes {
-        if let Some(place) = new.get_mut(*at) {
-            *place = *word;
-        }
-    }
-    Ok(new)
-}
-
 /// The first check that the bytes fail.
 fn refusal_of(bytes: &[u8]) -> Option<ImageRefusal> {
     read_image(&bytes[..bytes.len().min(1 << 23)]).err()
@@ -62,58 +52,71 @@ fn refusal_of_words(alloc: Global, words: &[u32]) -> Result<Option<ImageRefusal>
     Ok(bytes.get(1..).and_then(refusal_of))
 }
 
+/// The refusal for each word of `WHOLE` that is ones. Those behind them are text words.
+static WORDS_OF_ONES: [Option<ImageRefusal>; 18] = [
+    Some(ImageRefusal::Magic(0)),
+    Some(ImageRefusal::Version(1)),
+    Some(ImageRefusal::BlockSize(2)),
+    Some(ImageRefusal::Length(18)),
+    Some(ImageRefusal::Length(18)),
+    None,
+    Some(ImageRefusal::Table(6)),
+    Some(ImageRefusal::Offsets(7)),
+    Some(ImageRefusal::Offsets(8)),
+    Some(ImageRefusal::Offsets(9)),
+    None,
+    None,
+    None,
+    None,
+    None,
+    None,
+    None,
+    None,
+];
+
 #[test]
 fn each_word_of_ones_gives_its_refusal(rt: HostRuntime) -> Result<(), Fail> {
-    let whole = [
-        Some(ImageRefusal::Magic(0)),
-        Some(ImageRefusal::Version(1)),
-        Some(ImageRefusal::BlockSize(2)),
-        Some(ImageRefusal::Length(18)),
-        Some(ImageRefusal::Length(18)),
-        None,
-        Some(ImageRefusal::Table(6)),
-        Some(ImageRefusal::Offsets(7)),
-        Some(ImageRefusal::Offsets(8)),
-        Some(ImageRefusal::Offsets(9)),
-    ];
-    for (at, _) in WHOLE.iter().enumerate() {
+    for (at, want) in WORDS_OF_ONES.iter().enumerate() {
         let words = changed(rt.alloc(), &WHOLE, &[(at, ONES)])?;
-        let want = whole.get(at).copied().unwrap_or(None);
-        assert_eq!(rt; refusal_of_words(rt.alloc(), &words)?, want, "{at}");
+        assert_eq!(rt; refusal_of_words(rt.alloc(), &words)?, *want, "{at}");
     }
     Ok(())
 }
 
+/// `EXACT` with four words more, which its block has.
+const FOUR_MORE: [u32; 20] = [
+    0x31434953, 2, 8, 1, 3, 0x00010000, 0, 9, 0, 1, 2, 0x05D00893, 0x00700513, 0x00000073,
+    0x00100073, 0x0001000C, 0, 0, 0, 0,
+];
+
+/// Words, those of them that are others, and the first check that fails.
+static CHANGES: [(&[u32], &[(usize, u32)], Option<ImageRefusal>); 21] = [
+    (&EXACT, &[], None),
+    (&EXACT, &[(1, 3)], Some(ImageRefusal::Version(1))),
+    (&EXACT, &[(1, 0)], Some(ImageRefusal::Version(1))),
+    (&EXACT, &[(2, 1)], Some(ImageRefusal::BlockSize(2))),
+    (&EXACT, &[(2, 1025)], Some(ImageRefusal::BlockSize(2))),
+    (&EXACT, &[(2, 1024)], None),
+    (&EXACT, &[(2, 4)], Some(ImageRefusal::Lengths(7))),
+    (&EXACT, &[(3, 0)], Some(ImageRefusal::Length(16))),
+    (&EXACT, &[(4, 0)], Some(ImageRefusal::Length(16))),
+    (&EXACT, &[(7, 9)], Some(ImageRefusal::Length(16))),
+    (&EXACT, &[(7, 4)], Some(ImageRefusal::Length(16))),
+    (&FOUR_MORE, &[], Some(ImageRefusal::Lengths(7))),
+    (&EXACT, &[(1, 3), (2, 0)], Some(ImageRefusal::Version(1))),
+    (&EXACT, &[(6, 1), (8, 1)], Some(ImageRefusal::Table(6))),
+    (&THREE, &[(7, 0)], Some(ImageRefusal::Table(7))),
+    (&THREE, &[(8, 6)], Some(ImageRefusal::Table(8))),
+    (&THREE, &[(10, 5)], Some(ImageRefusal::Lengths(10))),
+    (&THREE, &[(9, 0), (12, 1)], Some(ImageRefusal::Lengths(9))),
+    (&THREE, &[(14, 1)], Some(ImageRefusal::Offsets(14))),
+    (&THREE, &[(15, 5)], Some(ImageRefusal::Offsets(15))),
+    (&THREE_WHOLE, &[(12, 4)], None),
+];
+
 #[test]
 fn changed_words_give_the_first_check_that_fails(rt: HostRuntime) -> Result<(), Fail> {
-    let four_more = [
-        0x31434953, 2, 8, 1, 3, 0x00010000, 0, 9, 0, 1, 2, 0x05D00893, 0x00700513, 0x00000073,
-        0x00100073, 0x0001000C, 0, 0, 0, 0,
-    ];
-    let table: [(&[u32], &[(usize, u32)], Option<ImageRefusal>); 21] = [
-        (&EXACT, &[], None),
-        (&EXACT, &[(1, 3)], Some(ImageRefusal::Version(1))),
-        (&EXACT, &[(1, 0)], Some(ImageRefusal::Version(1))),
-        (&EXACT, &[(2, 1)], Some(ImageRefusal::BlockSize(2))),
-        (&EXACT, &[(2, 1025)], Some(ImageRefusal::BlockSize(2))),
-        (&EXACT, &[(2, 1024)], None),
-        (&EXACT, &[(2, 4)], Some(ImageRefusal::Lengths(7))),
-        (&EXACT, &[(3, 0)], Some(ImageRefusal::Length(16))),
-        (&EXACT, &[(4, 0)], Some(ImageRefusal::Length(16))),
-        (&EXACT, &[(7, 9)], Some(ImageRefusal::Length(16))),
-        (&EXACT, &[(7, 4)], Some(ImageRefusal::Length(16))),
-        (&four_more, &[], Some(ImageRefusal::Lengths(7))),
-        (&EXACT, &[(1, 3), (2, 0)], Some(ImageRefusal::Version(1))),
-        (&EXACT, &[(6, 1), (8, 1)], Some(ImageRefusal::Table(6))),
-        (&THREE, &[(7, 0)], Some(ImageRefusal::Table(7))),
-        (&THREE, &[(8, 6)], Some(ImageRefusal::Table(8))),
-        (&THREE, &[(10, 5)], Some(ImageRefusal::Lengths(10))),
-        (&THREE, &[(9, 0), (12, 1)], Some(ImageRefusal::Lengths(9))),
-        (&THREE, &[(14, 1)], Some(ImageRefusal::Offsets(14))),
-        (&THREE, &[(15, 5)], Some(ImageRefusal::Offsets(15))),
-        (&THREE_WHOLE, &[(12, 4)], None),
-    ];
-    for (words, changes, want) in table {
+    for &(words, changes, want) in CHANGES.iter() {
         let words = changed(rt.alloc(), words, changes)?;
         assert_eq!(rt; refusal_of_words(rt.alloc(), &words)?, want, "{changes:?}");
     }
@@ -184,85 +187,117 @@ fn words_said(alloc: Global, view: &ImageView) -> Result<Vec<u32>, Fail> {
     Ok(said)
 }
 
+/// The view of an image that begins behind one byte.
+fn view_of(bytes: &[u8]) -> Option<ImageView<'_>> {
+    let image = bytes.get(1..)?;
+    if image.len() > 1000 {
+        return None;
+    }
+    read_image(image).ok()
+}
+
+/// An image's words, its numbers, and the words of its blocks, each block behind its length.
+static SAID: [(&[u32], (u32, u32, u32, u32, u32), &[u32]); 4] = [
+    (
+        &WHOLE,
+        (1, 8, 1, 0x10000, 3),
+        &[
+            8, 0x05D00893, 0x00700513, 0x73, 0x00100073, 0x0001000C, 0, 0, 0,
+        ],
+    ),
+    (
+        &EXACT,
+        (2, 8, 1, 0x10000, 3),
+        &[5, 0x05D00893, 0x00700513, 0x73, 0x00100073, 0x0001000C],
+    ),
+    (
+        &THREE,
+        (2, 5, 3, 0x10000, 6),
+        &[
+            5, 0x000100B7, 0x00008093, 0x00100073, 0x00C080E7, 0x00010008, 5, 0x00100073,
+            0x00010009, 0x05D00893, 0x00100073, 0x00010010, 4, 0x00008513, 0x00000073, 0x00100073,
+            0x00010018,
+        ],
+    ),
+    (
+        &THREE_WHOLE,
+        (1, 5, 3, 0x10000, 6),
+        &[
+            5, 0x000100B7, 0x00008093, 0x00100073, 0x00C080E7, 0x00010008, 5, 0x00100073,
+            0x00010009, 0x05D00893, 0x00100073, 0x00010010, 5, 0x00008513, 0x00000073, 0x00100073,
+            0x00010018, 0,
+        ],
+    ),
+];
+
 #[test]
 fn both_versions_say_their_blocks(rt: HostRuntime) -> Result<(), Fail> {
-    let table: [(&[u32], (u32, u32, u32, u32, u32), &[u32]); 4] = [
-        (
-            &WHOLE,
-            (1, 8, 1, 0x10000, 3),
-            &[
-                8, 0x05D00893, 0x00700513, 0x73, 0x00100073, 0x0001000C, 0, 0, 0,
-            ],
-        ),
-        (
-            &EXACT,
-            (2, 8, 1, 0x10000, 3),
-            &[5, 0x05D00893, 0x00700513, 0x73, 0x00100073, 0x0001000C],
-        ),
-        (
-            &THREE,
-            (2, 5, 3, 0x10000, 6),
-            &[
-                5, 0x000100B7, 0x00008093, 0x00100073, 0x00C080E7, 0x00010008, 5, 0x00100073,
-                0x00010009, 0x05D00893, 0x00100073, 0x00010010, 4, 0x00008513, 0x00000073,
-                0x00100073, 0x00010018,
-            ],
-        ),
-        (
-            &THREE_WHOLE,
-            (1, 5, 3, 0x10000, 6),
-            &[
-                5, 0x000100B7, 0x00008093, 0x00100073, 0x00C080E7, 0x00010008, 5, 0x00100073,
-                0x00010009, 0x05D00893, 0x00100073, 0x00010010, 5, 0x00008513, 0x00000073,
-                0x00100073, 0x00010018, 0,
-            ],
-        ),
-    ];
-    for (words, said, blocks) in table {
+    for &(words, said, blocks) in SAID.iter() {
         let bytes = behind_one(rt.alloc(), words)?;
-        assert!(rt; bytes.len() > 1 && bytes.len() < 1000);
-        let view = read_image(&bytes[1..]).ok().expect(&rt, "accepted");
+        let view = view_of(&bytes).expect(&rt, "accepted");
         assert_eq!(rt; numbers(&view), said);
         assert_eq!(rt; words_said(rt.alloc(), &view)?.as_slice(), blocks);
-        assert_eq!(rt; view.block(0).word(0), blocks[1]);
+        assert!(rt; view.blocks() > 0);
+        assert_eq!(rt; Some(&view.block(0).word(0)), blocks.get(1));
     }
     Ok(())
 }
 
+/// Addresses, and the block and offset of the words there.
+static PLACES: [(u32, Option<(u32, u32)>); 10] = [
+    (0xFFFC, None),
+    (0x10000, Some((0, 0))),
+    (0x10002, None),
+    (0x10004, Some((0, 2))),
+    (0x10008, Some((1, 0))),
+    (0x1000C, Some((1, 2))),
+    (0x10010, Some((2, 0))),
+    (0x10014, Some((2, 1))),
+    (0x10018, None),
+    (0x8001_0000, None),
+];
+
+/// Blocks and offsets, the address of the instruction there, and how far behind its first word they are.
+static ORIGINS: [(u32, u32, (u32, u32)); 7] = [
+    (0, 1, (0x10000, 1)),
+    (0, 2, (0x10004, 0)),
+    (0, 4, (0x10004, 2)),
+    (1, 1, (0x10008, 1)),
+    (1, 3, (0x1000C, 1)),
+    (2, 0, (0x10010, 0)),
+    (2, 2, (0x10014, 1)),
+];
+
+/// The first address whose place is another.
+fn first_other_place(view: &ImageView<'_>) -> Option<u32> {
+    for &(address, want) in PLACES.iter() {
+        if view.place(address) != want {
+            return Some(address);
+        }
+    }
+    None
+}
+
+/// The first block and offset whose origin is another, or which aren't there.
+fn first_other_origin(view: &ImageView<'_>) -> Option<(u32, u32)> {
+    for &(block, offset, want) in ORIGINS.iter() {
+        if block >= view.blocks()
+            || offset >= view.length(block)
+            || view.origin(block, offset) != want
+        {
+            return Some((block, offset));
+        }
+    }
+    None
+}
+
 #[test]
 fn text_words_have_their_places_and_origins(rt: HostRuntime) -> Result<(), Fail> {
-    let places = [
-        (0xFFFC, None),
-        (0x10000, Some((0, 0))),
-        (0x10002, None),
-        (0x10004, Some((0, 2))),
-        (0x10008, Some((1, 0))),
-        (0x1000C, Some((1, 2))),
-        (0x10010, Some((2, 0))),
-        (0x10014, Some((2, 1))),
-        (0x10018, None),
-        (0x8001_0000, None),
-    ];
-    let origins = [
-        ((0, 1), (0x10000, 1)),
-        ((0, 2), (0x10004, 0)),
-        ((0, 4), (0x10004, 2)),
-        ((1, 1), (0x10008, 1)),
-        ((1, 3), (0x1000C, 1)),
-        ((2, 0), (0x10010, 0)),
-        ((2, 2), (0x10014, 1)),
-    ];
     for words in [THREE.as_slice(), THREE_WHOLE.as_slice()] {
         let bytes = behind_one(rt.alloc(), words)?;
-        assert!(rt; bytes.len() > 1 && bytes.len() < 1000);
-        let view = read_image(&bytes[1..]).ok().expect(&rt, "accepted");
-        for (address, want) in places {
-            assert_eq!(rt; view.place(address), want, "{address}");
-        }
-        for ((block, offset), want) in origins {
-            assert!(rt; block < view.blocks() && offset < view.length(block));
-            assert_eq!(rt; view.origin(block, offset), want, "{block} {offset}");
-        }
+        let view = view_of(&bytes).expect(&rt, "accepted");
+        assert_eq!(rt; first_other_place(&view), None);
+        assert_eq!(rt; first_other_origin(&view), None);
     }
     Ok(())
 }

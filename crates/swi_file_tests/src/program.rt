@@ -93,17 +93,37 @@ fn long_text_said(alloc: Global, size: u32) -> Result<Option<(u32, u32)>, Fail> 
     Ok(Some((count, text.word(count - 1))))
 }
 
+/// Bytes of a text, and how many words are read and the last.
+static LONG_TEXTS: [(u32, Option<(u32, u32)>); 3] = [
+    ((1 << 20) + 4, Some(((1 << 18) + 1, 0x80000000))),
+    (1 << 21, Some((1 << 19, 0x80000000))),
+    ((1 << 21) + 4, None),
+];
+
 #[test]
 fn longest_text_is_read_to_its_last_word(rt: HostRuntime) -> Result<(), Fail> {
-    let table = [
-        ((1 << 20) + 4, Some(((1 << 18) + 1, 0x80000000))),
-        (1 << 21, Some((1 << 19, 0x80000000))),
-        ((1 << 21) + 4, None),
-    ];
-    for (size, want) in table {
+    for &(size, want) in LONG_TEXTS.iter() {
         assert_eq!(rt; long_text_said(rt.alloc(), size)?, want, "{size} bytes");
     }
     Ok(())
+}
+
+/// What a program says: its entry and flags, its segments, and its text.
+#[derive(Drop, PartialEq, Debug)]
+struct Said {
+    entry: u32,
+    flags: u32,
+    segments: Vec<(u32, u32, u32, usize)>,
+    text: (u32, Vec<u32>),
+}
+
+fn said_by(alloc: Global, p: &Program<'_>) -> Result<Said, Fail> {
+    Ok(Said {
+        entry: p.entry(),
+        flags: p.flags(),
+        segments: segments_said(alloc, p)?,
+        text: text_said(alloc, p)?,
+    })
 }
 
 #[test]
@@ -111,88 +131,76 @@ fn text_gives_the_program_of_its_file(rt: HostRuntime) -> Result<(), Fail> {
     let alloc = rt.alloc();
     let file = bytes_of(alloc, &PLAIN)?;
     let filed = program(alloc, &file).expect(&rt, "accepted");
-    let text = bytes_of(alloc, &[0x05D00893, 0x00700513, 0x00000073])?;
+    let text = bytes_of(alloc, &PLAIN[21..])?;
     let made = one_text(alloc, 0x00010000, &text).expect(&rt, "memory");
-    assert_eq!(rt;
-        (made.entry(), made.flags()),
-        (filed.entry(), filed.flags())
-    );
-    assert_eq!(rt;
-        segments_said(alloc, &made)?.as_slice(),
-        segments_said(alloc, &filed)?.as_slice()
-    );
-    assert_eq!(rt;
-        text_said(alloc, &made)?.1.as_slice(),
-        [0x05D00893, 0x00700513, 0x00000073].as_slice()
-    );
-    assert_eq!(rt;
-        text_said(alloc, &made)?.1.as_slice(),
-        text_said(alloc, &filed)?.1.as_slice()
-    );
+    assert_eq!(rt; said_by(alloc, &made)?, said_by(alloc, &filed)?);
+    assert_eq!(rt; text_said(alloc, &made)?.1.as_slice(), &PLAIN[21..]);
     Ok(())
 }
 
+/// Where the segment begins, the bytes of the heap and of the stack, and the layout.
+static LAYOUTS: [(u32, u32, u32, Result<Layout, Room>); 7] = [
+    (
+        0x00010000,
+        1_048_576,
+        65_536,
+        Ok(Layout {
+            heap: 0x0001000C,
+            heap_len: 1_048_576,
+            stack: 0x00112000,
+            stack_len: 65_536,
+            sp: 0x00121FC0,
+        }),
+    ),
+    (
+        0xFFFF0000,
+        1_048_576,
+        65_536,
+        Err(Room { end: 4_296_024_064 }),
+    ),
+    (
+        0xFFFF0000,
+        0,
+        4096,
+        Ok(Layout {
+            heap: 0xFFFF000C,
+            heap_len: 0,
+            stack: 0xFFFF2000,
+            stack_len: 4096,
+            sp: 0xFFFF2FC0,
+        }),
+    ),
+    (
+        0xFFFF0000,
+        0,
+        57_344,
+        Ok(Layout {
+            heap: 0xFFFF000C,
+            heap_len: 0,
+            stack: 0xFFFF2000,
+            stack_len: 57_344,
+            sp: 0xFFFFFFC0,
+        }),
+    ),
+    (0xFFFF0000, 0, 57_360, Err(Room { end: 0x100000010 })),
+    (0xFFFFFFF4, 0, 4096, Err(Room { end: 0x100002000 })),
+    (
+        0x00000000,
+        67_108_864,
+        16_777_216,
+        Ok(Layout {
+            heap: 12,
+            heap_len: 67_108_864,
+            stack: 0x04002000,
+            stack_len: 16_777_216,
+            sp: 0x05001FC0,
+        }),
+    ),
+];
+
 #[test]
 fn layout_leaves_room_or_says_where_it_ends(rt: HostRuntime) -> Result<(), Fail> {
-    let table = [
-        (
-            0x00010000,
-            1_048_576,
-            65_536,
-            Ok(Layout {
-                heap: 0x0001000C,
-                heap_len: 1_048_576,
-                stack: 0x00112000,
-                stack_len: 65_536,
-                sp: 0x00121FC0,
-            }),
-        ),
-        (
-            0xFFFF0000,
-            1_048_576,
-            65_536,
-            Err(Room { end: 4_296_024_064 }),
-        ),
-        (
-            0xFFFF0000,
-            0,
-            4096,
-            Ok(Layout {
-                heap: 0xFFFF000C,
-                heap_len: 0,
-                stack: 0xFFFF2000,
-                stack_len: 4096,
-                sp: 0xFFFF2FC0,
-            }),
-        ),
-        (
-            0xFFFF0000,
-            0,
-            57_344,
-            Ok(Layout {
-                heap: 0xFFFF000C,
-                heap_len: 0,
-                stack: 0xFFFF2000,
-                stack_len: 57_344,
-                sp: 0xFFFFFFC0,
-            }),
-        ),
-        (0xFFFF0000, 0, 57_360, Err(Room { end: 0x100000010 })),
-        (0xFFFFFFF4, 0, 4096, Err(Room { end: 0x100002000 })),
-        (
-            0x00000000,
-            67_108_864,
-            16_777_216,
-            Ok(Layout {
-                heap: 12,
-                heap_len: 67_108_864,
-                stack: 0x04002000,
-                stack_len: 16_777_216,
-                sp: 0x05001FC0,
-            }),
-        ),
-    ];
-    for (base, heap, stack, want) in table {
+    for &(base, heap, stack, want) in LAYOUTS.iter() {
         let file = moved(rt.alloc(), base)?;
         let p = program(rt.alloc(), &file).expect(&rt, "accepted");
         assert!(rt; heap <= 67_108_864 && stack >= 4096 && stack <= 16_777_216 && stack % 16 == 0);

@@ -17,32 +17,34 @@ const EBREAK: u32 = 0x0010_0073;
 /// FENCE, as the assembler writes it.
 const FENCE: u32 = 0x0FF0_000F;
 
+/// A word, its address, and the words of its rendering.
+static RENDERED: [(u32, u32, &[u32]); 16] = [
+    (0x05D00893, 0x10000, &[0x05D00893]),
+    (ECALL, 0x10008, &[ECALL]),
+    (FENCE, 0x10008, &[FENCE]),
+    // the last value that is not rounded up, as `li a0, 0x107ff`, and the first that is
+    (0x00000517, 0x107FF, &[0x00010537, 0x7FF50513]),
+    (0x00000517, 0x10800, &[0x00011537, 0x80050513]),
+    (0x00000517, 0x7FFFF800, &[0x80000537, 0x80050513]),
+    (0x00000517, 0xFFFFF800, &[0x00000537, 0x80050513]),
+    (0xFF9FF06F, 0x10008, &[EBREAK, 0x00010000]),
+    (
+        0x008000EF,
+        0x10000,
+        &[0x000100B7, 0x00408093, EBREAK, 0x00010008],
+    ),
+    (0x006000EF, 0x10000, &[EBREAK, 0x00010006]),
+    (0x0060006F, 0x10000, &[EBREAK, 0x00010006]),
+    (0xFE029EE3, 0x10008, &[0x00028663, EBREAK, 0x00010004]),
+    (0x00001363, 0x10000, &[0x00000663, EBREAK, 0x00010006]),
+    (0x00C080E7, 0x10004, &[EBREAK, 0x00C080E7, 0x00010008]),
+    (EBREAK, 0x10004, &[EBREAK, 0x00010005]),
+    (ILLEGAL, 0x10000, &[EBREAK, 0x00010001]),
+];
+
 #[test]
 fn each_case_has_its_words(rt: HostRuntime) -> Result<(), Fail> {
-    let table: [(u32, u32, &[u32]); 16] = [
-        (0x05D00893, 0x10000, &[0x05D00893]),
-        (ECALL, 0x10008, &[ECALL]),
-        (FENCE, 0x10008, &[FENCE]),
-        // the last value that is not rounded up, as `li a0, 0x107ff`, and the first that is
-        (0x00000517, 0x107FF, &[0x00010537, 0x7FF50513]),
-        (0x00000517, 0x10800, &[0x00011537, 0x80050513]),
-        (0x00000517, 0x7FFFF800, &[0x80000537, 0x80050513]),
-        (0x00000517, 0xFFFFF800, &[0x00000537, 0x80050513]),
-        (0xFF9FF06F, 0x10008, &[EBREAK, 0x00010000]),
-        (
-            0x008000EF,
-            0x10000,
-            &[0x000100B7, 0x00408093, EBREAK, 0x00010008],
-        ),
-        (0x006000EF, 0x10000, &[EBREAK, 0x00010006]),
-        (0x0060006F, 0x10000, &[EBREAK, 0x00010006]),
-        (0xFE029EE3, 0x10008, &[0x00028663, EBREAK, 0x00010004]),
-        (0x00001363, 0x10000, &[0x00000663, EBREAK, 0x00010006]),
-        (0x00C080E7, 0x10004, &[EBREAK, 0x00C080E7, 0x00010008]),
-        (EBREAK, 0x10004, &[EBREAK, 0x00010005]),
-        (ILLEGAL, 0x10000, &[EBREAK, 0x00010001]),
-    ];
-    for (w, a, want) in table {
+    for &(w, a, want) in RENDERED.iter() {
         let got = render(w, a);
         assert_eq!(rt; got.as_slice(), want, "{w:08x} at {a:08x}");
     }
@@ -60,23 +62,25 @@ fn each_branch_is_skipped_by_its_opposite(rt: HostRuntime) -> Result<(), Fail> {
     Ok(())
 }
 
+/// A word, whether it falls through, and the parts of its rendering.
+static PARTS: [(u32, bool, &[Part]); 11] = [
+    (0x05D00893, true, &[Step, Fall, Inert]),
+    (ECALL, true, &[Step, Fall, Inert]),
+    (FENCE, true, &[Step, Fall, Inert]),
+    (0x00000517, true, &[Lead, Step, Fall, Inert]),
+    (0x0000006F, false, &[Leave, Inert]),
+    (0x008000EF, false, &[Lead, Lead, Leave, Inert]),
+    (0x006000EF, false, &[Misaligned, Inert]),
+    (0xFE029EE3, true, &[Skip, Leave, Inert, Fall, Inert]),
+    (0x00C080E7, false, &[Indirect, Inert, Inert]),
+    (EBREAK, false, &[Trap, Inert]),
+    (ILLEGAL, false, &[Trap, Inert]),
+];
+
 #[test]
 fn each_case_has_its_parts(rt: HostRuntime) -> Result<(), Fail> {
-    let table: [(u32, bool, &[Part]); 11] = [
-        (0x05D00893, true, &[Step, Fall, Inert]),
-        (ECALL, true, &[Step, Fall, Inert]),
-        (FENCE, true, &[Step, Fall, Inert]),
-        (0x00000517, true, &[Lead, Step, Fall, Inert]),
-        (0x0000006F, false, &[Leave, Inert]),
-        (0x008000EF, false, &[Lead, Lead, Leave, Inert]),
-        (0x006000EF, false, &[Misaligned, Inert]),
-        (0xFE029EE3, true, &[Skip, Leave, Inert, Fall, Inert]),
-        (0x00C080E7, false, &[Indirect, Inert, Inert]),
-        (EBREAK, false, &[Trap, Inert]),
-        (ILLEGAL, false, &[Trap, Inert]),
-    ];
     let a = 0x10000;
-    for (w, goes_on, want) in table {
+    for &(w, goes_on, want) in PARTS.iter() {
         assert_eq!(rt; falls(w, a), goes_on, "{w:08x}");
         assert_eq!(rt; needs(w, a) as usize, want.len(), "{w:08x}");
         for (at, does) in want.iter().enumerate() {

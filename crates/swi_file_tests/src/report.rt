@@ -1,6 +1,8 @@
 //! The texts of hand-made machines, on sinks of which each call fails in turn.
 
+use self::Counted::*;
 use std::alloc::Global;
+use std::process::Abort;
 use std::test::Fail;
 use swi_calls::Heap;
 use swi_devices::MemSink;
@@ -85,46 +87,54 @@ fn sink(alloc: Global, failing: u32) -> Result<MemSink, Fail> {
     Ok(MemSink::new(alloc, 2000, [failing].to_vec(alloc)?)?)
 }
 
+/// The state's text over this memory, on a sink of which one call fails: whether it was written, and the sink.
+fn state(alloc: Global, bus: &Bus, failing: u32) -> Result<(bool, MemSink), Fail> {
+    let mut out = sink(alloc, failing)?;
+    let is_ok = state_text(0x10008, &regs(), bus, &HEAP, &mut out).is_ok();
+    Ok((is_ok, out))
+}
+
 #[test]
 fn the_state_has_a_line_for_each_register_and_each_row_that_is_not_all_zero(
     rt: HostRuntime,
 ) -> Result<(), Fail> {
-    let alloc = rt.alloc();
-    let mut out = sink(alloc, 0)?;
-    assert!(rt; state_text(0x10008, &regs(), &zeros(alloc)?, &HEAP, &mut out).is_ok());
-    assert_eq!(rt; out.held(), HEAD.as_bytes());
-    let mut out = sink(alloc, 0)?;
-    assert!(rt; state_text(0x10008, &regs(), &data(alloc)?, &HEAP, &mut out).is_ok());
-    let whole = format!(in alloc; "{HEAD}{MEMORY}")?;
-    assert_eq!(rt; out.held(), whole.as_bytes());
+    let (is_ok, out) = state(rt.alloc(), &zeros(rt.alloc())?, 0)?;
+    assert_eq!(rt; (is_ok, out.held()), (true, HEAD.as_bytes()));
+    let (is_ok, out) = state(rt.alloc(), &data(rt.alloc())?, 0)?;
+    let memory = out.held().strip_prefix(HEAD.as_bytes());
+    assert_eq!(rt; (is_ok, memory), (true, Some(MEMORY.as_bytes())));
     Ok(())
+}
+
+/// Checks that the call of each line's number, when it fails, leaves the lines before it, and answers how many lines there are.
+fn assert_fronts(rt: &impl Abort, alloc: Global, bus: &Bus, whole: &str) -> Result<u32, Fail> {
+    let mut front = 0;
+    let mut call = 0u32;
+    for line in whole.lines() {
+        call = call.saturating_add(1);
+        let (is_ok, out) = state(alloc, bus, call)?;
+        assert_eq!(rt;
+            (is_ok, Some(out.held())),
+            (false, whole.as_bytes().get(..front)),
+            "{call}"
+        );
+        front = front.saturating_add(line.len() + 1);
+    }
+    Ok(call)
 }
 
 #[test]
 fn each_line_of_the_state_is_one_write_and_none_follows_a_failed_one(
     rt: HostRuntime,
 ) -> Result<(), Fail> {
-    let alloc = rt.alloc();
-    let bus = data(alloc)?;
-    let whole = format!(in alloc; "{HEAD}{MEMORY}")?;
-    let mut bytes = 0u64;
-    let mut call = 1u32;
-    for line in whole.lines() {
-        let mut out = sink(alloc, call)?;
-        assert!(rt;
-            state_text(0x10008, &regs(), &bus, &HEAP, &mut out).is_err(),
-            "{call}"
-        );
-        assert_eq!(rt; out.held().len() as u64, bytes, "{call}");
-        assert!(rt; whole.as_bytes().starts_with(out.held()), "{call}");
-        bytes = bytes.saturating_add(line.len() as u64 + 1);
-        call = call.saturating_add(1);
-    }
-    let mut out = sink(alloc, call)?;
-    assert!(rt; state_text(0x10008, &regs(), &bus, &HEAP, &mut out).is_ok());
+    let bus = data(rt.alloc())?;
+    let whole = format!(in rt.alloc(); "{HEAD}{MEMORY}")?;
+    let lines = assert_fronts(&rt, rt.alloc(), &bus, whole.as_str())?;
+    assert!(rt; state(rt.alloc(), &bus, lines.saturating_add(1))?.0);
     Ok(())
 }
 
+/// A loop of three rounds through two slots, which nine steps leave.
 const WORK: Work = Work {
     machine: 16,
     fetches: 15,
@@ -138,37 +148,6 @@ const WORK: Work = Work {
         copied: 15,
     },
 };
-
-/// A loop of three rounds through two slots, which nine steps leave.
-#[test]
-fn the_counts_are_nine_lines_of_which_the_flat_machine_has_the_first(
-    rt: HostRuntime,
-) -> Result<(), Fail> {
-    let alloc = rt.alloc();
-    let all =
-        "steps 9\ninstructions 16\nservices 3\nmisses 3\nevictions 1\nlinks 3\nunlinks 1\nfetches 15\nwrites 19\n";
-    let cases = [
-        (Some(&WORK), 0, true, all),
-        (None, 0, true, "steps 9\n"),
-        (Some(&WORK), 1, false, ""),
-        (Some(&WORK), 2, false, "steps 9\n"),
-        (
-            Some(&WORK),
-            9,
-            false,
-            "steps 9\ninstructions 16\nservices 3\nmisses 3\nevictions 1\nlinks 3\nunlinks 1\nfetches 15\n",
-        ),
-        (Some(&WORK), 10, true, all),
-        (None, 1, false, ""),
-        (None, 2, true, "steps 9\n"),
-    ];
-    for (work, failing, is_ok, held) in cases {
-        let mut out = sink(alloc, failing)?;
-        assert_eq!(rt; stats_text(9, work, &mut out).is_ok(), is_ok, "{failing}");
-        assert_eq!(rt; out.held(), held.as_bytes(), "{failing}");
-    }
-    Ok(())
-}
 
 /// One function of four additions, which eight rounds call out of a cache of one block.
 const MEASURED: Measured = Measured {
@@ -192,53 +171,10 @@ const MEASURED_WORK: Work = Work {
     },
 };
 
-#[test]
-fn the_summary_is_four_lines_of_the_program_and_the_nine_counts(
-    rt: HostRuntime,
-) -> Result<(), Fail> {
-    let alloc = rt.alloc();
-    let program = "functions 1\ntext 16\nblocks 1\nexit 32\n";
-    let counts =
-        "steps 106\ninstructions 124\nservices 11\nmisses 1\nevictions 0\nlinks 3\nunlinks 0\nfetches 123\n";
-    let front = format!(in alloc; "{program}{counts}")?;
-    let all = format!(in alloc; "{program}{counts}writes 27\n")?;
-    let cases = [
-        (0, true, all.as_str()),
-        (1, false, ""),
-        (2, false, "functions 1\n"),
-        (5, false, program),
-        (13, false, front.as_str()),
-        (14, true, all.as_str()),
-    ];
-    for (failing, is_ok, held) in cases {
-        let mut out = sink(alloc, failing)?;
-        let result = summary_text(&MEASURED, 106, &MEASURED_WORK, &mut out);
-        assert_eq!(rt; result.is_ok(), is_ok, "{failing}");
-        assert_eq!(rt; out.held(), held.as_bytes(), "{failing}");
-    }
-    Ok(())
-}
-
-#[test]
-fn the_counts_of_an_engine_are_two_lines(rt: HostRuntime) -> Result<(), Fail> {
-    let alloc = rt.alloc();
-    let work = EngineWork {
-        words: 9,
-        copies: 2,
-    };
-    let cases = [
-        (0, true, "engine 9\nprefetched 2\n"),
-        (1, false, ""),
-        (2, false, "engine 9\n"),
-        (3, true, "engine 9\nprefetched 2\n"),
-    ];
-    for (failing, is_ok, held) in cases {
-        let mut out = sink(alloc, failing)?;
-        assert_eq!(rt; engine_text(&work, &mut out).is_ok(), is_ok, "{failing}");
-        assert_eq!(rt; out.held(), held.as_bytes(), "{failing}");
-    }
-    Ok(())
-}
+const ENGINE: EngineWork = EngineWork {
+    words: 9,
+    copies: 2,
+};
 
 /// Two programs that evict each other once.
 const SHARED: SharedWork = SharedWork {
@@ -250,22 +186,91 @@ const SHARED: SharedWork = SharedWork {
     writes: 21,
 };
 
+const STATS: &str =
+    "steps 9\ninstructions 16\nservices 3\nmisses 3\nevictions 1\nlinks 3\nunlinks 1\nfetches 15\nwrites 19\n";
+
+const SUMMARY: &str =
+    "functions 1\ntext 16\nblocks 1\nexit 32\nsteps 106\ninstructions 124\nservices 11\nmisses 1\nevictions 0\nlinks 3\nunlinks 0\nfetches 123\nwrites 27\n";
+
+const SHARED_TEXT: &str = "instructions 16\nmisses 5\nevictions 3\nlinks 4\nunlinks 2\nwrites 21\n";
+
+/// The texts of counts.
+#[derive(Clone, Copy, Debug)]
+enum Counted {
+    /// A run of the flat machine, which has steps alone.
+    Flat,
+    Cached,
+    Summary,
+    Engine,
+    Shared,
+}
+
+/// A text, the call of its sink that fails, 0 for none, and then whether all was written, and what was.
+static COUNTED: [(Counted, u32, bool, &str); 23] = [
+    (Cached, 0, true, STATS),
+    (Flat, 0, true, "steps 9\n"),
+    (Cached, 1, false, ""),
+    (Cached, 2, false, "steps 9\n"),
+    (
+        Cached,
+        9,
+        false,
+        "steps 9\ninstructions 16\nservices 3\nmisses 3\nevictions 1\nlinks 3\nunlinks 1\nfetches 15\n",
+    ),
+    (Cached, 10, true, STATS),
+    (Flat, 1, false, ""),
+    (Flat, 2, true, "steps 9\n"),
+    (Summary, 0, true, SUMMARY),
+    (Summary, 1, false, ""),
+    (Summary, 2, false, "functions 1\n"),
+    (
+        Summary,
+        5,
+        false,
+        "functions 1\ntext 16\nblocks 1\nexit 32\n",
+    ),
+    (
+        Summary,
+        13,
+        false,
+        "functions 1\ntext 16\nblocks 1\nexit 32\nsteps 106\ninstructions 124\nservices 11\nmisses 1\nevictions 0\nlinks 3\nunlinks 0\nfetches 123\n",
+    ),
+    (Summary, 14, true, SUMMARY),
+    (Engine, 0, true, "engine 9\nprefetched 2\n"),
+    (Engine, 1, false, ""),
+    (Engine, 2, false, "engine 9\n"),
+    (Engine, 3, true, "engine 9\nprefetched 2\n"),
+    (Shared, 0, true, SHARED_TEXT),
+    (Shared, 1, false, ""),
+    (Shared, 2, false, "instructions 16\n"),
+    (
+        Shared,
+        6,
+        false,
+        "instructions 16\nmisses 5\nevictions 3\nlinks 4\nunlinks 2\n",
+    ),
+    (Shared, 7, true, SHARED_TEXT),
+];
+
+/// A text on a sink of which one call fails: whether it was written, and the sink.
+fn written(alloc: Global, text: Counted, failing: u32) -> Result<(bool, MemSink), Fail> {
+    let mut out = sink(alloc, failing)?;
+    let result = match text {
+        Flat => stats_text(9, None, &mut out),
+        Cached => stats_text(9, Some(&WORK), &mut out),
+        Summary => summary_text(&MEASURED, 106, &MEASURED_WORK, &mut out),
+        Engine => engine_text(&ENGINE, &mut out),
+        Shared => shared_text(&SHARED, &mut out),
+    };
+    Ok((result.is_ok(), out))
+}
+
 #[test]
-fn the_counts_of_programs_that_share_a_cache_are_six_lines(rt: HostRuntime) -> Result<(), Fail> {
-    let alloc = rt.alloc();
-    let front = "instructions 16\nmisses 5\nevictions 3\nlinks 4\nunlinks 2\n";
-    let all = format!(in alloc; "{front}writes 21\n")?;
-    let cases = [
-        (0, true, all.as_str()),
-        (1, false, ""),
-        (2, false, "instructions 16\n"),
-        (6, false, front),
-        (7, true, all.as_str()),
-    ];
-    for (failing, is_ok, held) in cases {
-        let mut out = sink(alloc, failing)?;
-        assert_eq!(rt; shared_text(&SHARED, &mut out).is_ok(), is_ok, "{failing}");
-        assert_eq!(rt; out.held(), held.as_bytes(), "{failing}");
+fn each_count_has_its_line_and_none_follows_a_failed_write(rt: HostRuntime) -> Result<(), Fail> {
+    for &(text, failing, is_ok, held) in COUNTED.iter() {
+        let (wrote, out) = written(rt.alloc(), text, failing)?;
+        assert_eq!(rt; wrote, is_ok, "{text:?}, {failing}");
+        assert_eq!(rt; out.held(), held.as_bytes(), "{text:?}, {failing}");
     }
     Ok(())
 }

@@ -1,9 +1,8 @@
-ghost use Rattle.std.specs.Prelude.{◌<◌, ◌^◌, IfSome};
-ghost use Rattle.swi_rom.specs.Coherent.{ExitAt};
-ghost use Rattle.swi_engine.specs.State.{kept_by};
 ghost use Rattle.swi_engine.specs.Sound.{EngineSound};
 
-use crate::transfers::{E, LOOP_IN_THREE, bytes_of, counts_of, view_of};
+use self::Step::*;
+use crate::transfers::Transfer::{self, *};
+use crate::transfers::{E, LOOP_IN_THREE, bytes_of, counts_of, first_other, make, view_of};
 use std::alloc::Global;
 use std::process::Abort;
 use std::test::Fail;
@@ -13,14 +12,10 @@ use swi_image::ImageView;
 use swi_outside::CacheRam;
 use swi_rom::CacheRom;
 
-/// A transfer with the index that answers it, or an event of the engine with its answer.
+/// A transfer, or an event of the engine, with control at an index, and its answer.
 #[derive(Clone, Copy)]
 enum Step {
-    /// A jump to an address.
-    Enter(u32, u32),
-    /// The exit at an index, which isn't linked.
-    Cross(u32, u32),
-    /// An event, with control at an index.
+    Serve(Transfer),
     Work(u32, bool),
 }
 
@@ -95,23 +90,23 @@ static ROWS: [Row; 8] = [
         cache_bytes: 60,
         image: &LOOP_IN_THREE,
         steps: &[
-            Step::Enter(0x10000, 0),
-            Step::Work(0, true),
-            Step::Work(0, true),
-            Step::Work(0, true),
-            Step::Work(0, true),
-            Step::Work(0, true),
-            Step::Work(0, false),
-            Step::Cross(2, 5),
-            Step::Work(5, true),
-            Step::Work(5, true),
-            Step::Work(5, true),
-            Step::Work(5, true),
-            Step::Work(5, false),
-            Step::Cross(6, 1),
-            Step::Work(1, false),
-            Step::Cross(8, 10),
-            Step::Work(10, false),
+            Serve(Enter(0x10000, 0)),
+            Work(0, true),
+            Work(0, true),
+            Work(0, true),
+            Work(0, true),
+            Work(0, true),
+            Work(0, false),
+            Serve(Cross(2, 5)),
+            Work(5, true),
+            Work(5, true),
+            Work(5, true),
+            Work(5, true),
+            Work(5, false),
+            Serve(Cross(6, 1)),
+            Work(1, false),
+            Serve(Cross(8, 10)),
+            Work(10, false),
         ],
         words: &[
             0x0030_0293,
@@ -139,17 +134,17 @@ static ROWS: [Row; 8] = [
         cache_bytes: 60,
         image: &LOOP_IN_THREE,
         steps: &[
-            Step::Enter(0x10000, 0),
-            Step::Work(0, true),
-            Step::Work(0, true),
-            Step::Cross(2, 5),
-            Step::Work(5, true),
-            Step::Work(5, true),
-            Step::Cross(6, 1),
-            Step::Work(1, true),
-            Step::Work(1, true),
-            Step::Work(1, false),
-            Step::Cross(8, 10),
+            Serve(Enter(0x10000, 0)),
+            Work(0, true),
+            Work(0, true),
+            Serve(Cross(2, 5)),
+            Work(5, true),
+            Work(5, true),
+            Serve(Cross(6, 1)),
+            Work(1, true),
+            Work(1, true),
+            Work(1, false),
+            Serve(Cross(8, 10)),
         ],
         words: &[
             0x0030_0293,
@@ -177,10 +172,10 @@ static ROWS: [Row; 8] = [
         cache_bytes: 60,
         image: &LOOP_IN_THREE,
         steps: &[
-            Step::Enter(0x10000, 0),
-            Step::Cross(2, 5),
-            Step::Cross(6, 1),
-            Step::Cross(8, 10),
+            Serve(Enter(0x10000, 0)),
+            Serve(Cross(2, 5)),
+            Serve(Cross(6, 1)),
+            Serve(Cross(8, 10)),
         ],
         words: &[
             0x0030_0293,
@@ -208,17 +203,17 @@ static ROWS: [Row; 8] = [
         cache_bytes: 40,
         image: &LOOP_IN_THREE,
         steps: &[
-            Step::Enter(0x10000, 0),
-            Step::Cross(2, 5),
-            Step::Cross(6, 1),
-            Step::Work(1, false),
-            Step::Work(5, true),
-            Step::Work(5, true),
-            Step::Work(5, true),
-            Step::Work(5, true),
-            Step::Work(5, true),
-            Step::Work(5, false),
-            Step::Cross(8, 0),
+            Serve(Enter(0x10000, 0)),
+            Serve(Cross(2, 5)),
+            Serve(Cross(6, 1)),
+            Work(1, false),
+            Work(5, true),
+            Work(5, true),
+            Work(5, true),
+            Work(5, true),
+            Work(5, true),
+            Work(5, false),
+            Serve(Cross(8, 0)),
         ],
         words: &[
             0x05D0_0893,
@@ -241,10 +236,10 @@ static ROWS: [Row; 8] = [
         cache_bytes: 40,
         image: &LOOP_IN_THREE,
         steps: &[
-            Step::Enter(0x10000, 0),
-            Step::Cross(2, 5),
-            Step::Work(5, true),
-            Step::Cross(6, 1),
+            Serve(Enter(0x10000, 0)),
+            Serve(Cross(2, 5)),
+            Work(5, true),
+            Serve(Cross(6, 1)),
         ],
         words: &[
             0x0030_0293,
@@ -267,66 +262,66 @@ static ROWS: [Row; 8] = [
         cache_bytes: 32,
         image: &SEVEN,
         steps: &[
-            Step::Enter(0x10000, 0),
-            Step::Work(0, true),
-            Step::Work(0, true),
-            Step::Enter(0x1000C, 4),
-            Step::Work(4, true),
-            Step::Work(4, true),
-            Step::Work(4, true),
-            Step::Work(4, true),
-            Step::Cross(5, 0),
-            Step::Work(0, true),
-            Step::Work(0, true),
-            Step::Cross(2, 0),
-            Step::Cross(0, 0),
-            Step::Cross(2, 4),
-            Step::Cross(4, 0),
-            Step::Work(0, true),
-            Step::Work(0, true),
-            Step::Work(0, false),
-            Step::Enter(0x1000C, 0),
-            Step::Work(0, true),
-            Step::Work(0, true),
-            Step::Work(0, true),
-            Step::Work(0, true),
-            Step::Cross(1, 4),
-            Step::Cross(6, 0),
-            Step::Work(0, true),
-            Step::Work(0, false),
-            Step::Cross(0, 0),
-            Step::Cross(2, 0),
-            Step::Work(0, true),
-            Step::Work(0, true),
-            Step::Cross(2, 4),
-            Step::Work(4, true),
-            Step::Work(4, true),
-            Step::Enter(0x1000C, 0),
-            Step::Work(0, true),
-            Step::Work(0, true),
-            Step::Work(0, true),
-            Step::Cross(1, 4),
-            Step::Work(4, true),
-            Step::Work(4, true),
-            Step::Work(4, false),
-            Step::Work(4, false),
-            Step::Work(4, false),
-            Step::Cross(6, 4),
-            Step::Work(4, true),
-            Step::Work(4, false),
-            Step::Work(4, false),
-            Step::Enter(0x10010, 4),
-            Step::Cross(4, 4),
-            Step::Work(4, true),
-            Step::Enter(0x10014, 0),
-            Step::Work(0, true),
-            Step::Work(0, true),
-            Step::Work(0, true),
-            Step::Work(0, true),
-            Step::Enter(0x10018, 4),
-            Step::Work(4, false),
-            Step::Work(4, false),
-            Step::Cross(4, 0),
+            Serve(Enter(0x10000, 0)),
+            Work(0, true),
+            Work(0, true),
+            Serve(Enter(0x1000C, 4)),
+            Work(4, true),
+            Work(4, true),
+            Work(4, true),
+            Work(4, true),
+            Serve(Cross(5, 0)),
+            Work(0, true),
+            Work(0, true),
+            Serve(Cross(2, 0)),
+            Serve(Cross(0, 0)),
+            Serve(Cross(2, 4)),
+            Serve(Cross(4, 0)),
+            Work(0, true),
+            Work(0, true),
+            Work(0, false),
+            Serve(Enter(0x1000C, 0)),
+            Work(0, true),
+            Work(0, true),
+            Work(0, true),
+            Work(0, true),
+            Serve(Cross(1, 4)),
+            Serve(Cross(6, 0)),
+            Work(0, true),
+            Work(0, false),
+            Serve(Cross(0, 0)),
+            Serve(Cross(2, 0)),
+            Work(0, true),
+            Work(0, true),
+            Serve(Cross(2, 4)),
+            Work(4, true),
+            Work(4, true),
+            Serve(Enter(0x1000C, 0)),
+            Work(0, true),
+            Work(0, true),
+            Work(0, true),
+            Serve(Cross(1, 4)),
+            Work(4, true),
+            Work(4, true),
+            Work(4, false),
+            Work(4, false),
+            Work(4, false),
+            Serve(Cross(6, 4)),
+            Work(4, true),
+            Work(4, false),
+            Work(4, false),
+            Serve(Enter(0x10010, 4)),
+            Serve(Cross(4, 4)),
+            Work(4, true),
+            Serve(Enter(0x10014, 0)),
+            Work(0, true),
+            Work(0, true),
+            Work(0, true),
+            Work(0, true),
+            Serve(Enter(0x10018, 4)),
+            Work(4, false),
+            Work(4, false),
+            Serve(Cross(4, 0)),
         ],
         words: &[
             E,
@@ -347,66 +342,66 @@ static ROWS: [Row; 8] = [
         cache_bytes: 48,
         image: &SEVEN,
         steps: &[
-            Step::Enter(0x10000, 0),
-            Step::Work(0, true),
-            Step::Work(0, true),
-            Step::Enter(0x1000C, 4),
-            Step::Work(4, true),
-            Step::Work(4, true),
-            Step::Work(4, true),
-            Step::Work(4, true),
-            Step::Cross(5, 8),
-            Step::Work(8, true),
-            Step::Work(8, true),
-            Step::Cross(10, 4),
-            Step::Cross(4, 4),
-            Step::Cross(6, 8),
-            Step::Cross(8, 4),
-            Step::Work(4, true),
-            Step::Work(4, false),
-            Step::Work(4, false),
-            Step::Enter(0x1000C, 4),
-            Step::Work(4, true),
-            Step::Work(4, true),
-            Step::Work(4, true),
-            Step::Work(4, true),
-            Step::Cross(5, 8),
-            Step::Cross(10, 0),
-            Step::Work(0, true),
-            Step::Work(0, false),
-            Step::Cross(0, 0),
-            Step::Cross(2, 8),
-            Step::Work(8, false),
-            Step::Work(8, false),
-            Step::Cross(10, 4),
-            Step::Work(4, true),
-            Step::Work(4, true),
-            Step::Enter(0x1000C, 0),
-            Step::Work(0, true),
-            Step::Work(0, true),
-            Step::Work(0, true),
-            Step::Cross(1, 4),
-            Step::Work(4, true),
-            Step::Work(4, true),
-            Step::Work(4, false),
-            Step::Work(4, false),
-            Step::Work(4, false),
-            Step::Cross(6, 0),
-            Step::Work(0, true),
-            Step::Work(0, false),
-            Step::Work(0, false),
-            Step::Enter(0x10010, 8),
-            Step::Cross(8, 8),
-            Step::Work(8, true),
-            Step::Enter(0x10014, 0),
-            Step::Work(0, true),
-            Step::Work(0, true),
-            Step::Work(0, true),
-            Step::Work(0, true),
-            Step::Enter(0x10018, 4),
-            Step::Work(4, false),
-            Step::Work(4, false),
-            Step::Cross(4, 8),
+            Serve(Enter(0x10000, 0)),
+            Work(0, true),
+            Work(0, true),
+            Serve(Enter(0x1000C, 4)),
+            Work(4, true),
+            Work(4, true),
+            Work(4, true),
+            Work(4, true),
+            Serve(Cross(5, 8)),
+            Work(8, true),
+            Work(8, true),
+            Serve(Cross(10, 4)),
+            Serve(Cross(4, 4)),
+            Serve(Cross(6, 8)),
+            Serve(Cross(8, 4)),
+            Work(4, true),
+            Work(4, false),
+            Work(4, false),
+            Serve(Enter(0x1000C, 4)),
+            Work(4, true),
+            Work(4, true),
+            Work(4, true),
+            Work(4, true),
+            Serve(Cross(5, 8)),
+            Serve(Cross(10, 0)),
+            Work(0, true),
+            Work(0, false),
+            Serve(Cross(0, 0)),
+            Serve(Cross(2, 8)),
+            Work(8, false),
+            Work(8, false),
+            Serve(Cross(10, 4)),
+            Work(4, true),
+            Work(4, true),
+            Serve(Enter(0x1000C, 0)),
+            Work(0, true),
+            Work(0, true),
+            Work(0, true),
+            Serve(Cross(1, 4)),
+            Work(4, true),
+            Work(4, true),
+            Work(4, false),
+            Work(4, false),
+            Work(4, false),
+            Serve(Cross(6, 0)),
+            Work(0, true),
+            Work(0, false),
+            Work(0, false),
+            Serve(Enter(0x10010, 8)),
+            Serve(Cross(8, 8)),
+            Work(8, true),
+            Serve(Enter(0x10014, 0)),
+            Work(0, true),
+            Work(0, true),
+            Work(0, true),
+            Work(0, true),
+            Serve(Enter(0x10018, 4)),
+            Work(4, false),
+            Work(4, false),
+            Serve(Cross(4, 8)),
         ],
         words: &[
             0x0000_0013,
@@ -431,66 +426,66 @@ static ROWS: [Row; 8] = [
         cache_bytes: 64,
         image: &SEVEN,
         steps: &[
-            Step::Enter(0x10000, 0),
-            Step::Cross(0, 4),
-            Step::Work(4, true),
-            Step::Cross(6, 0),
-            Step::Cross(2, 8),
-            Step::Work(8, true),
-            Step::Work(8, true),
-            Step::Work(8, true),
-            Step::Enter(0x10008, 8),
-            Step::Enter(0x10010, 0),
-            Step::Work(0, true),
-            Step::Cross(0, 0),
-            Step::Enter(0x10010, 0),
-            Step::Work(0, true),
-            Step::Cross(2, 8),
-            Step::Work(8, true),
-            Step::Cross(8, 8),
-            Step::Cross(10, 0),
-            Step::Cross(2, 12),
-            Step::Work(12, true),
-            Step::Work(12, true),
-            Step::Work(12, true),
-            Step::Enter(0x10014, 8),
-            Step::Work(8, true),
-            Step::Enter(0x10000, 0),
-            Step::Work(0, true),
-            Step::Work(0, true),
-            Step::Work(0, true),
-            Step::Work(0, true),
-            Step::Work(0, false),
-            Step::Cross(0, 12),
-            Step::Work(12, true),
-            Step::Cross(14, 4),
-            Step::Work(4, false),
-            Step::Enter(0x10008, 0),
-            Step::Work(0, true),
-            Step::Enter(0x10018, 8),
-            Step::Work(8, false),
-            Step::Cross(8, 4),
-            Step::Cross(4, 12),
-            Step::Work(4, false),
-            Step::Cross(6, 0),
-            Step::Work(0, true),
-            Step::Enter(0x1000C, 12),
-            Step::Cross(13, 0),
-            Step::Cross(0, 0),
-            Step::Work(0, true),
-            Step::Work(0, true),
-            Step::Work(0, true),
-            Step::Work(0, false),
-            Step::Work(0, false),
-            Step::Work(0, false),
-            Step::Work(0, false),
-            Step::Work(0, false),
-            Step::Work(0, false),
-            Step::Cross(2, 8),
-            Step::Work(8, true),
-            Step::Work(8, false),
-            Step::Work(8, false),
-            Step::Cross(10, 0),
+            Serve(Enter(0x10000, 0)),
+            Serve(Cross(0, 4)),
+            Work(4, true),
+            Serve(Cross(6, 0)),
+            Serve(Cross(2, 8)),
+            Work(8, true),
+            Work(8, true),
+            Work(8, true),
+            Serve(Enter(0x10008, 8)),
+            Serve(Enter(0x10010, 0)),
+            Work(0, true),
+            Serve(Cross(0, 0)),
+            Serve(Enter(0x10010, 0)),
+            Work(0, true),
+            Serve(Cross(2, 8)),
+            Work(8, true),
+            Serve(Cross(8, 8)),
+            Serve(Cross(10, 0)),
+            Serve(Cross(2, 12)),
+            Work(12, true),
+            Work(12, true),
+            Work(12, true),
+            Serve(Enter(0x10014, 8)),
+            Work(8, true),
+            Serve(Enter(0x10000, 0)),
+            Work(0, true),
+            Work(0, true),
+            Work(0, true),
+            Work(0, true),
+            Work(0, false),
+            Serve(Cross(0, 12)),
+            Work(12, true),
+            Serve(Cross(14, 4)),
+            Work(4, false),
+            Serve(Enter(0x10008, 0)),
+            Work(0, true),
+            Serve(Enter(0x10018, 8)),
+            Work(8, false),
+            Serve(Cross(8, 4)),
+            Serve(Cross(4, 12)),
+            Work(4, false),
+            Serve(Cross(6, 0)),
+            Work(0, true),
+            Serve(Enter(0x1000C, 12)),
+            Serve(Cross(13, 0)),
+            Serve(Cross(0, 0)),
+            Work(0, true),
+            Work(0, true),
+            Work(0, true),
+            Work(0, false),
+            Work(0, false),
+            Work(0, false),
+            Work(0, false),
+            Work(0, false),
+            Work(0, false),
+            Serve(Cross(2, 8)),
+            Work(8, true),
+            Work(8, false),
+            Work(8, false),
+            Serve(Cross(10, 0)),
         ],
         words: &[
             E,
@@ -516,6 +511,17 @@ static ROWS: [Row; 8] = [
     },
 ];
 
+/// The placed blocks with their first words, the oldest first.
+fn placed_by(alloc: Global, rom: &EngineRom) -> Result<Vec<(u32, u32)>, Fail> {
+    let mut placed = Vec::new(alloc);
+    for k in 0..64 {
+        if let Some(place) = rom.resident(k) {
+            placed.push(place)?;
+        }
+    }
+    Ok(placed)
+}
+
 /// Makes a row's steps, each with its answer, and looks at what stands then.
 fn assert_stands(rt: &impl Abort, alloc: Global, row: &Row) -> Result<(), Fail> {
     let bytes = bytes_of(alloc, row.image)?;
@@ -523,25 +529,14 @@ fn assert_stands(rt: &impl Abort, alloc: Global, row: &Row) -> Result<(), Fail> 
     let block_words = image.block_words();
     let blocks = image.blocks();
     let cache_bytes = row.cache_bytes;
-    assert!(rt; 1 <= blocks);
-    assert!(rt; blocks <= 1 << 19);
-    assert!(rt; 4 * block_words <= cache_bytes);
-    assert!(rt; cache_bytes <= 256);
+    assert!(rt; 1 <= blocks && blocks <= 1 << 19);
+    assert!(rt; 4 * block_words <= cache_bytes && cache_bytes <= 256);
     let mut ram = VecRam::new(alloc, 64)?;
     let rom = EngineRom::new(alloc, cache_bytes, blocks, block_words)?;
     let rom = after_all(rt, rom, &image, &mut ram, row.steps);
-    for (i, word) in row.words.iter().enumerate() {
-        assert!(rt; i < 64 && (i as u32) < ram.words());
-        assert_eq!(rt; ram.word(i as u32), *word, "word {i}");
-    }
-    for (k, place) in row.placed.iter().enumerate() {
-        assert!(rt; k < 64);
-        assert_eq!(rt; rom.resident(k as u32), Some(*place));
-    }
-    assert!(rt; row.placed.len() < 64);
-    assert_eq!(rt; rom.resident(row.placed.len() as u32), None);
-    assert_eq!(rt; counts_of(&rom), row.counts);
-    assert_eq!(rt; rom.copied(), row.copied);
+    let came = (first_other(&ram, row.words), counts_of(&rom), rom.copied());
+    assert_eq!(rt; came, (None, row.counts, row.copied));
+    assert_eq!(rt; placed_by(alloc, &rom)?.as_slice(), row.placed);
     Ok(())
 }
 
@@ -555,78 +550,12 @@ fn after_all(
     requires { EngineSound rom image.now ram.old.words }
 {
     for step in steps {
-        make(rt, &mut rom, image, ram, *step);
+        match *step {
+            Serve(transfer) => make(rt, &mut rom, image, ram, transfer),
+            Work(at, answer) => turn(rt, &mut rom, image, ram, at, answer),
+        }
     }
     rom
-}
-
-fn make(rt: &impl Abort, rom: &mut EngineRom, image: &ImageView<'_>, ram: &mut VecRam, step: Step)
-    requires { EngineSound rom.old image.now ram.old.words }
-    ensures { EngineSound rom.new image.now ram.new.words }
-{
-    assert!(rt; rom.counts().services < 1 << 50);
-    match step {
-        Step::Enter(target, answer) => match rom.enter(image, ram, target) {
-            Ok(index) => assert_eq!(rt; index, answer),
-            Err(_) => panic!(rt; "not entered"),
-        },
-        Step::Cross(at, answer) => follow(rt, rom, image, ram, at, answer),
-        Step::Work(at, answer) => turn(rt, rom, image, ram, at, answer),
-    }
-}
-
-/// The address to which the exit at an index leads; None where no exit stands there that isn't linked.
-fn exit_at(rom: &EngineRom, image: &ImageView<'_>, ram: &VecRam, at: u32) -> Option<u32>
-    requires { EngineSound rom.now image.now ram.now.words }
-    ensures { IfSome result (λ t. ExitAt image.now (kept_by rom.now) at t) }
-{
-    let (block, offset) = match rom.at(at) {
-        Some(place) => place,
-        None => return None,
-    };
-    let length = image.length(block);
-    if offset + 1 >= length {
-        return None;
-    }
-    let word = image.word(block, offset);
-    if word != E {
-        return None;
-    }
-    let target = image.word(block, offset + 1);
-    if target % 4 != 0 {
-        return None;
-    }
-    let words = ram.words();
-    if at >= words {
-        return None;
-    }
-    let held = ram.word(at);
-    if held != E {
-        return None;
-    }
-    Some(target)
-}
-
-fn follow(
-    rt: &impl Abort,
-    rom: &mut EngineRom,
-    image: &ImageView<'_>,
-    ram: &mut VecRam,
-    at: u32,
-    answer: u32,
-)
-    requires sound { EngineSound rom.old image.now ram.old.words }
-    requires services { (kept_by rom.old).counts.services < 2 ^ 50 }
-    ensures { EngineSound rom.new image.now ram.new.words }
-{
-    let target = match exit_at(rom, image, ram, at) {
-        Some(target) => target,
-        None => panic!(rt; "no exit"),
-    };
-    match rom.cross(image, ram, at, target) {
-        Ok(index) => assert_eq!(rt; index, answer),
-        Err(_) => panic!(rt; "not crossed"),
-    }
 }
 
 fn turn(

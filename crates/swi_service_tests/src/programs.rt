@@ -10,7 +10,7 @@ use std::alloc::Global;
 use std::test::Fail;
 use swi_elf_read::read_elf;
 use swi_image::ImageView;
-use swi_program::{Program, program_of};
+use swi_program::{Program, append_words, program_of};
 
 /// The words of an ELF file in front of its one segment's text, by hand from the ELF document.
 const FRONT: [u32; 15] = [
@@ -27,10 +27,9 @@ pub fn file_with(alloc: Global, text: &[u32], rights: u32) -> Result<Vec<u8>, Fa
     }
     let size = 4 * text.len() as u32;
     let mut bytes = Vec::new(alloc);
-    let segment = [0x10000, 0x10000, size, size, rights, 4];
-    for word in [&FRONT[..], &segment, text].concat(alloc)? {
-        bytes.extend_from_slice(word.to_le_bytes().as_slice())?;
-    }
+    append_words(&mut bytes, &FRONT)?;
+    append_words(&mut bytes, &[0x10000, 0x10000, size, size, rights, 4])?;
+    append_words(&mut bytes, text)?;
     Ok(bytes)
 }
 

@@ -3,8 +3,8 @@ ghost use Rattle.swi_image.specs.Format.{ImageData};
 ghost use Rattle.swi_image.specs.Sound.{IsImage};
 
 use crate::transfers::{
-    CIRCLE, E, INTO_A_BLOCK, LOOP_IN_ONE, LOOP_IN_THREE, Transfer, bytes_of, counts_of, make,
-    view_of,
+    CIRCLE, E, INTO_A_BLOCK, LOOP_IN_ONE, LOOP_IN_THREE, Transfer, bytes_of, counts_of,
+    first_other, make, view_of,
 };
 use std::alloc::Global;
 use std::process::Abort;
@@ -208,12 +208,12 @@ fn assert_stands<R: CacheRom>(rt: &impl Abort, alloc: Global, rom: R, row: &Row)
     assert_eq!(rt; image.blocks(), row.blocks);
     let mut ram = VecRam::new(alloc, 64)?;
     let rom = after_all(rt, rom, &image, &mut ram, row.transfers);
-    for (i, word) in row.words.iter().enumerate() {
-        assert!(rt; i < 64);
-        assert_eq!(rt; ram.word(i as u32), *word);
-    }
-    assert_eq!(rt; rom.resident(0), Some(row.oldest));
-    assert_eq!(rt; counts_of(&rom), row.counts);
+    let came = (
+        first_other(&ram, row.words),
+        rom.resident(0),
+        counts_of(&rom),
+    );
+    assert_eq!(rt; came, (None, Some(row.oldest), row.counts));
     Ok(rom)
 }
 

@@ -11,6 +11,7 @@ use std::test::Fail;
 use swi_devices::VecRam;
 use swi_image::{ImageView, read_image};
 use swi_outside::CacheRam;
+use swi_program::append_words;
 use swi_rom::CacheRom;
 
 pub const E: u32 = 0x0010_0073;
@@ -147,9 +148,7 @@ pub const INTO_A_BLOCK: [u32; 32] = [
 /// The bytes of an image.
 pub fn bytes_of(alloc: Global, words: &[u32]) -> Result<Vec<u8>, Fail> {
     let mut bytes = Vec::new(alloc);
-    for word in words {
-        bytes.extend_from_slice(&word.to_le_bytes())?;
-    }
+    append_words(&mut bytes, words)?;
     Ok(bytes)
 }
 
@@ -175,6 +174,22 @@ pub fn counts_of<R: CacheRom>(rom: &R) -> [u64; 6] {
         counts.unlinks,
         counts.copied,
     ]
+}
+
+/// The first index at which a ram holds another word than these, and what it holds, or none.
+pub fn first_other(ram: &VecRam, words: &[u32]) -> Option<(u32, Option<u32>)> {
+    let mut at = 0;
+    for word in words {
+        if at >= ram.words() {
+            return Some((at, None));
+        }
+        let held = ram.word(at);
+        if held != *word {
+            return Some((at, Some(held)));
+        }
+        at += 1;
+    }
+    None
 }
 
 /// Makes a transfer, which the index answers that stands with it.
