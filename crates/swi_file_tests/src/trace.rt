@@ -3,6 +3,8 @@
 //! rows made by hand behind them. Listings of hand-made images.
 #![tactic(auto)]
 
+ghost use Rattle.std.specs.Prelude.{◌<◌, ◌≤◌, length};
+
 use crate::bytes::bytes_of;
 use std::alloc::Global;
 use std::test::Fail;
@@ -179,20 +181,6 @@ const REGISTERS: [(u32, u32, &str); 32] = [
     (0x01FF8F93, 0x0001007C, "addi t6, t6, 31"),
 ];
 
-/// FENCE has its name alone, whatever its fields; aq and rl are not told; FENCE.I, CSRRW and zeros are no
-/// instructions of RV32IMA.
-const SINGLE: [(u32, u32, &str); 9] = [
-    (0x0FF0000F, 0, "fence"),
-    (0x8330000F, 0, "fence"),
-    (0x00000073, 0, "ecall"),
-    (0x00100073, 0, "ebreak"),
-    (0x06C5A52F, 0, "amoadd.w a0, a2, (a1)"),
-    (0x00000000, 0, ".word"),
-    (0xFFFFFFFF, 0, ".word"),
-    (0x0000100F, 0, ".word"),
-    (0x30529073, 0, ".word"),
-];
-
 /// The first text that its word does not have at its address.
 fn first_other(rows: &[(u32, u32, &'static str)]) -> Option<&'static str> {
     for (w, a, text) in rows {
@@ -212,29 +200,44 @@ fn each_instruction_has_its_name_and_its_operands(rt: HostRuntime) {
     assert_eq!(rt; first_other(&OPERATIONS), None);
     assert_eq!(rt; first_other(&ATOMIC), None);
     assert_eq!(rt; first_other(&REGISTERS), None);
-    assert_eq!(rt; first_other(&SINGLE), None);
 }
 
-/// An address, its word, where it is one of the text, and the line.
-static STEPS: [(u32, Option<u32>, &str); 5] = [
-    (
-        0x10000,
-        Some(0x05D00893),
-        "00010000 05d00893 addi a7, zero, 93\n",
-    ),
-    (
-        0x10004,
-        Some(0x00700513),
-        "00010004 00700513 addi a0, zero, 7\n",
-    ),
-    (0x10008, Some(0x00000073), "00010008 00000073 ecall\n"),
-    (0xFFFFFFFC, Some(0xFFFFFFFF), "fffffffc ffffffff .word\n"),
-    (0x20000, None, "00020000 -------- outside\n"),
-];
+/// FENCE has its name alone, whatever its fields; aq and rl are not told; FENCE.I, CSRRW and zeros are no
+/// instructions of RV32IMA.
+#[test]
+fn single_words_have_a_name_alone(rt: HostRuntime) {
+    let rows = [
+        (0x0FF0000F, 0, "fence"),
+        (0x8330000F, 0, "fence"),
+        (0x00000073, 0, "ecall"),
+        (0x00100073, 0, "ebreak"),
+        (0x06C5A52F, 0, "amoadd.w a0, a2, (a1)"),
+        (0x00000000, 0, ".word"),
+        (0xFFFFFFFF, 0, ".word"),
+        (0x0000100F, 0, ".word"),
+        (0x30529073, 0, ".word"),
+    ];
+    assert_eq!(rt; first_other(&rows), None);
+}
 
 #[test]
 fn a_step_has_its_address_its_word_and_its_text(rt: HostRuntime) {
-    for &(a, w, line) in STEPS.iter() {
+    let rows = [
+        (
+            0x10000,
+            Some(0x05D00893),
+            "00010000 05d00893 addi a7, zero, 93\n",
+        ),
+        (
+            0x10004,
+            Some(0x00700513),
+            "00010004 00700513 addi a0, zero, 7\n",
+        ),
+        (0x10008, Some(0x00000073), "00010008 00000073 ecall\n"),
+        (0xFFFFFFFC, Some(0xFFFFFFFF), "fffffffc ffffffff .word\n"),
+        (0x20000, None, "00020000 -------- outside\n"),
+    ];
+    for (a, w, line) in rows {
         assert_eq!(rt; trace_line(a, w).as_bytes(), line.as_bytes(), "{a}");
     }
 }
@@ -268,6 +271,23 @@ const THREE: [u32; 32] = [
     0x00008513, 0x00000073, 0x00100073, 0x00010018,
 ];
 
+const THREE_LINES: [&str; 3] = [
+    "0 0 000100b7 00010000 auipc ra, 0x0\n\
+    0 1 00008093 00010000 .\n\
+    0 2 00100073 00010004 jalr ra, 12(ra)\n\
+    0 3 00c080e7 00010004 .\n\
+    0 4 00010008 00010004 .\n",
+    "1 0 00100073 00010008 .word\n\
+    1 1 00010009 00010008 .\n\
+    1 2 05d00893 0001000c addi a7, zero, 93\n\
+    1 3 00100073 0001000c fall\n\
+    1 4 00010010 0001000c .\n",
+    "2 0 00008513 00010010 addi a0, ra, 0\n\
+    2 1 00000073 00010014 ecall\n\
+    2 2 00100073 00010014 fall\n\
+    2 3 00010018 00010014 .\n",
+];
+
 /// The listing of a block of this image of the program, on a sink of which one call fails.
 fn listed_on(
     alloc: Global,
@@ -291,56 +311,33 @@ fn listed(
     image: &[u32],
     block: u32,
     failing: u32,
-) -> Result<(bool, MemSink), Fail> {
-    if text.is_empty() || text.len() > 8 || image.len() > 32 {
-        return Err(Fail::from("no row"));
-    }
+) -> Result<(bool, MemSink), Fail>
+    requires some { 0 < length text.now }
+    requires few { length text.now ≤ 8 }
+    requires short { length image.now ≤ 32 }
+{
     let text = bytes_of(alloc, text)?;
     let program = one_text(alloc, 0x10000, &text)?;
-    let image = bytes_of(alloc, image)?;
-    let view = read_image(&image).ok().ok_or("no image")?;
+    let bytes = bytes_of(alloc, image)?;
+    if bytes.len() > 128 {
+        return Err(Fail::from("too long"));
+    }
+    let view = read_image(&bytes).ok().ok_or("no image")?;
     listed_on(alloc, &program, &view, block, failing)
 }
 
-/// A text, its image, a block, and its lines.
-static LISTINGS: [(&[u32], &[u32], u32, &str); 4] = [
-    (&SEVEN, &FIRST, 0, FIRST_LINES),
-    (
-        &CALLS,
-        &THREE,
-        0,
-        "0 0 000100b7 00010000 auipc ra, 0x0\n\
-        0 1 00008093 00010000 .\n\
-        0 2 00100073 00010004 jalr ra, 12(ra)\n\
-        0 3 00c080e7 00010004 .\n\
-        0 4 00010008 00010004 .\n",
-    ),
-    (
-        &CALLS,
-        &THREE,
-        1,
-        "1 0 00100073 00010008 .word\n\
-        1 1 00010009 00010008 .\n\
-        1 2 05d00893 0001000c addi a7, zero, 93\n\
-        1 3 00100073 0001000c fall\n\
-        1 4 00010010 0001000c .\n",
-    ),
-    (
-        &CALLS,
-        &THREE,
-        2,
-        "2 0 00008513 00010010 addi a0, ra, 0\n\
-        2 1 00000073 00010014 ecall\n\
-        2 2 00100073 00010014 fall\n\
-        2 3 00010018 00010014 .\n",
-    ),
-];
-
 #[test]
 fn a_listing_has_a_line_for_each_word_of_the_block(rt: HostRuntime) -> Result<(), Fail> {
-    for (k, &(text, image, block, lines)) in LISTINGS.iter().enumerate() {
-        let (is_ok, sink) = listed(rt.alloc(), text, image, block, 0)?;
-        assert_eq!(rt; (is_ok, sink.held()), (true, lines.as_bytes()), "row {k}");
+    let alloc = rt.alloc();
+    let (is_ok, sink) = listed(alloc, &SEVEN, &FIRST, 0, 0)?;
+    assert!(rt; is_ok);
+    assert_eq!(rt; sink.held(), FIRST_LINES.as_bytes());
+    let mut block = 0;
+    for lines in THREE_LINES {
+        let (is_ok, sink) = listed(alloc, &CALLS, &THREE, block, 0)?;
+        assert!(rt; is_ok);
+        assert_eq!(rt; sink.held(), lines.as_bytes(), "{block}");
+        block = block.saturating_add(1);
     }
     Ok(())
 }
@@ -349,20 +346,18 @@ fn a_listing_has_a_line_for_each_word_of_the_block(rt: HostRuntime) -> Result<()
 fn each_line_of_a_listing_is_one_write_and_none_follows_a_failed_one(
     rt: HostRuntime,
 ) -> Result<(), Fail> {
-    let mut front = 0;
+    let alloc = rt.alloc();
+    let mut bytes = 0u64;
     let mut call = 1u32;
     for line in FIRST_LINES.lines() {
-        let (is_ok, sink) = listed(rt.alloc(), &SEVEN, &FIRST, 0, call)?;
-        let held = (is_ok, Some(sink.held()));
-        assert_eq!(rt;
-            held,
-            (false, FIRST_LINES.as_bytes().get(..front)),
-            "{call}"
-        );
-        front = front.saturating_add(line.len() + 1);
+        let (is_ok, sink) = listed(alloc, &SEVEN, &FIRST, 0, call)?;
+        assert!(rt; !is_ok, "{call}");
+        assert_eq!(rt; sink.held().len() as u64, bytes, "{call}");
+        assert!(rt; FIRST_LINES.as_bytes().starts_with(sink.held()), "{call}");
+        bytes = bytes.saturating_add(line.len() as u64 + 1);
         call = call.saturating_add(1);
     }
-    let (is_ok, _) = listed(rt.alloc(), &SEVEN, &FIRST, 0, call)?;
+    let (is_ok, _) = listed(alloc, &SEVEN, &FIRST, 0, call)?;
     assert!(rt; is_ok);
     Ok(())
 }
@@ -375,17 +370,10 @@ fn a_history_keeps_the_last_32_addresses_the_oldest_first(rt: HostRuntime) -> Re
     for k in 0..100u32 {
         history.push(4 * k);
         let len = (k + 1).min(32);
-        let held = (
-            history.len(),
-            history.get(0),
-            history.get(len - 1),
-            history.get(len),
-        );
-        assert_eq!(rt;
-            held,
-            (len, Some(4 * (k + 1 - len)), Some(4 * k), None),
-            "{k}"
-        );
+        assert_eq!(rt; history.len(), len, "{k}");
+        assert_eq!(rt; history.get(0), Some(4 * (k + 1 - len)), "{k}");
+        assert_eq!(rt; history.get(len - 1), Some(4 * k), "{k}");
+        assert_eq!(rt; history.get(len), None, "{k}");
     }
     Ok(())
 }
