@@ -1,5 +1,6 @@
 -- The cached machine as plain data, one machine instruction after the other, over the flat machine's steps.
 use Rattle.std.specs.Prelude.{◌≡◌, ℕ, zero, suc, ◌+◌, ◌-◌, ◌<◌, List, [], ◌∷◌, ◌++◌, Some, None, is_some, nat_lt, if◌then◌else◌}
+use Rattle.swi_outside.specs.CacheRam.{Fetch, fetch}
 use Rattle.swi_calls.specs.declared.machine.Machine.{Machine}
 use Rattle.swi_calls.specs.Flat.{started}
 use Rattle.swi_calls.specs.Held.{held_step}
@@ -8,7 +9,7 @@ use Rattle.swi_image.specs.Format.{ImageData}
 use Rattle.swi_image.specs.Place.{place_of}
 use Rattle.swi_rom.specs.Record.{Record, Transfer, direct, indirect, writes}
 use Rattle.swi_hart.specs.Hart.{original, slots}
-use Rattle.swi_board.specs.Fetching.{index_in}
+use Rattle.swi_board.specs.Fetching.{Written, index_in}
 use Rattle.swi_board.specs.Transfers.{Here, at_fall, step_transfers, here_after, before_last, after_all}
 
 -- what a service makes of its record at a transfer
@@ -28,11 +29,15 @@ pub record Moment : Type 0 where
   -- the machine instructions, and the words that were set
   pub count : ℕ
   pub sets : ℕ
-  -- the indexes of the words that were fetched, the last one first
-  pub words : List ℕ
+  -- the words that were fetched, the last one first
+  pub words : List Fetch
+
+-- what the service has written by then
+abbrev pub written_in : Moment → Written
+written_in s = record { kept = s.kept; sets = s.sets }
 
 -- a machine instruction that fetched these words
-abbrev pub counted : List ℕ → Moment → Moment
+abbrev pub counted : List Fetch → Moment → Moment
 counted ws s = record s { count = s.count + 1; words = ws ++ s.words }
 
 -- the service has served these transfers
@@ -71,7 +76,7 @@ executed by v p s =
 
 abbrev pub stepped_at : Policy → ImageData → Here → Moment → Moment
 stepped_at by v None s = counted [] (completed by v None s)
-stepped_at by v (Some p) s = counted ((index_in s.kept p + s.spent) ∷ []) (if at_fall v s.flat.machine (Some p) then fell by v p s else executed by v p s)
+stepped_at by v (Some p) s = counted (fetch (index_in s.kept p + s.spent) s.sets ∷ []) (if at_fall v s.flat.machine (Some p) then fell by v p s else executed by v p s)
 
 -- one machine instruction; where the run has ended, nothing
 abbrev pub event : Policy → ImageData → Moment → Moment

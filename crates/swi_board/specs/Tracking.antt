@@ -1,7 +1,7 @@
 -- A board that stands where the definition's machine instructions have led.
 use Rattle.std.specs.Prelude.{◌≡◌, ℕ, ◌+◌, ◌-◌, ◌<◌, ◌≤◌, List, ◌++◌, length, Option, Some, None}
 use Rattle.std.specs.Io.KnownBytes.{Appends}
-use Rattle.swi_outside.specs.CacheRam.{RamState}
+use Rattle.swi_outside.specs.CacheRam.{RamState, since}
 use Rattle.swi_memory.specs.Bus.{fetched}
 use Rattle.swi_image.specs.Format.{ImageData}
 use Rattle.swi_render.specs.Carried.{Carries}
@@ -41,7 +41,7 @@ pub record Tracks (span : ℕ) (v : ImageData) (s : Moment) (from now : Point) :
   pub output : Appends from.out now.out s.flat.output
   pub error : Appends from.err now.err s.flat.error
   -- these words were fetched, so many set, and none behind the service's has changed
-  pub words : now.ram.fetched_at ≡ s.words ++ from.ram.fetched_at
+  pub words : now.ram.fetched_at ≡ since from.ram.sets s.words ++ from.ram.fetched_at
   pub ram : RamRan span (length s.words) s.sets from.ram now.ram
 
 -- so many machine instructions were made, from wherever the first point stands, and before each of them the run went on

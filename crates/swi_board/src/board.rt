@@ -2,6 +2,7 @@
 #![tactic(auto)]
 
 ghost use Rattle.std.specs.Prelude.{◌≡◌, ◌⊎◌, ◌+◌, ◌^◌, ◌<◌, ◌≤◌, ℕ, IfOk, OnOk, OnErr, IsErrOf, Some, None, true, false};
+ghost use Rattle.swi_outside.specs.Devices.{streams};
 ghost use Rattle.swi_outside.specs.Source.{ForInput, HasGiven};
 ghost use Rattle.swi_outside.specs.Told.{AsTold};
 ghost use Rattle.swi_memory.specs.Bus.{fetched};
@@ -93,13 +94,13 @@ fn run_by_words<R: CacheRom, M: SteadyRam, I: Source, O: Sink, E: Sink>(
           hart = hart.old;
           rom = rom.old;
           ram = M.state ram.old;
-          devices = record { input = old; output = O.state out.old; error = E.state err.old };
+          devices = streams old (O.state out.old) (E.state err.old);
         })
         (record {
           hart = hart.new;
           rom = rom.new;
           ram = M.state ram.new;
-          devices = record { input = new; output = O.state out.new; error = E.state err.new };
+          devices = streams new (O.state out.new) (E.state err.new);
         }) result) }
 {
     learnt.forget();
@@ -278,8 +279,8 @@ impl<R: CacheRom> Board<R> {
         ensures stepped { AsTold (I.state input.old) (I.state input.new) (λ old new. BoardStepped R.service image.now
             (record { hart = self.old.hart; rom = self.old.rom; ram = M.state ram.old })
             (record { hart = self.new.hart; rom = self.new.rom; ram = M.state ram.new })
-            (record { input = old; output = O.state out.old; error = E.state err.old })
-            (record { input = new; output = O.state out.new; error = E.state err.new }) result) }
+            (streams old (O.state out.old) (E.state err.old))
+            (streams new (O.state out.new) (E.state err.new)) result) }
     {
         let Board { hart, rom, .. } = self;
         if let Some((at, own)) = plain_place(hart, image) {
@@ -324,13 +325,13 @@ impl<R: CacheRom> Board<R> {
               hart = self.old.hart;
               rom = self.old.rom;
               ram = M.state ram.old;
-              devices = record { input = old; output = O.state out.old; error = E.state err.old };
+              devices = streams old (O.state out.old) (E.state err.old);
             })
             (record {
               hart = self.new.hart;
               rom = self.new.rom;
               ram = M.state ram.new;
-              devices = record { input = new; output = O.state out.new; error = E.state err.new };
+              devices = streams new (O.state out.new) (E.state err.new);
             }) result) }
     {
         let Board { hart, rom, learnt } = self;

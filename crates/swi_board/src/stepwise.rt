@@ -2,6 +2,7 @@
 #![tactic(auto)]
 
 ghost use Rattle.std.specs.Prelude.{◌≡◌, ◌+◌, ◌^◌, ◌<◌, ◌≤◌, OnOk, OnErr, None, true, false};
+ghost use Rattle.swi_outside.specs.Devices.{streams};
 ghost use Rattle.swi_outside.specs.Source.{HasGiven};
 ghost use Rattle.swi_outside.specs.Told.{AsTold};
 ghost use Rattle.swi_memory.specs.Bus.{fetched};
@@ -103,13 +104,13 @@ pub fn run_stepwise<R: CacheRom, M: CacheRam, I: Source, O: Sink, E: Sink>(
           hart = hart.old;
           rom = rom.old;
           ram = M.state ram.old;
-          devices = record { input = old; output = O.state out.old; error = E.state err.old };
+          devices = streams old (O.state out.old) (E.state err.old);
         })
         (record {
           hart = hart.new;
           rom = rom.new;
           ram = M.state ram.new;
-          devices = record { input = new; output = O.state out.new; error = E.state err.new };
+          devices = streams new (O.state out.new) (E.state err.new);
         }) result) }
 {
     while hart.machine.steps < n && hart.machine.ending.is_none() {

@@ -51,7 +51,7 @@ pub record RamAfter (c : CachedRun) (before after : RamState) : Type 0 where
   pub coherent : Coherent c.image (record_after c c.limit) (span_of c) after.words
   -- so many words were fetched, and so many written: the copied blocks, the links, and the links undone
   pub fetches : after.fetches ≡ risen before.fetches (fetches_after c c.limit)
-  -- these words, in this order
+  -- these words, in this order, each behind so many sets
   pub fetched_at : HasFetched (words_after c c.limit) before after
   pub sets : after.sets ≡ risen before.sets (writes (record_after c c.limit))
   -- the words of slots that no block ever used, and those behind the slots, are as before

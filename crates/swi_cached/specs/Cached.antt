@@ -1,5 +1,6 @@
 -- A run on the cached machine, as data: what it does besides what its program does.
-use Rattle.std.specs.Prelude.{◌≡◌, ℕ, ◌+◌, ◌<◌, Bool, List, [], length, Option, Some}
+use Rattle.std.specs.Prelude.{◌≡◌, ℕ, ◌+◌, ◌<◌, Bool, List, [], ◌∷◌, length, Option, Some}
+use Rattle.swi_outside.specs.CacheRam.{Fetch}
 use Rattle.swi_exec.specs.declared.done.FaultKind.TheVariants.{FetchAccess}
 use Rattle.swi_calls.specs.declared.end.End.{End}
 use Rattle.swi_calls.specs.declared.end.End.TheVariants.{Faulted}
@@ -16,7 +17,7 @@ use Rattle.swi_rom.specs.Record.{Record, Transfer, indirect, writes}
 use Rattle.swi_rom.specs.Service.{Cache}
 use Rattle.swi_board.specs.Transfers.{Here, transfers, cost, fetches, here_run, after_all}
 use Rattle.swi_cached.specs.declared.run.AskedRun.{AskedRun}
-use Rattle.swi_board.specs.Fetching.{words_run}
+use Rattle.swi_board.specs.Fetching.{Written, words_run, written_by}
 use Rattle.swi_cached.specs.Told.{error_by, is_each}
 
 -- a run: its image, its cache, the program before its first step, the most steps, and whether the errors have a line of each
@@ -101,9 +102,14 @@ abbrev pub record_after : CachedRun → ℕ → Record
 record_after c n = after_all (policy_of c) c.image (record_at_boot c)
     (transfers c.image n c.start (place_of c.image c.start.machine.pc))
 
--- the indexes of the words of the ram that those fetch, in order: each where its block stands by then
-abbrev pub words_after : CachedRun → ℕ → List ℕ
-words_after c n = words_run (policy_of c) c.image n c.start (place_of c.image c.start.machine.pc) (record_at_boot c)
+-- what the boot has written
+abbrev pub written_at_boot : CachedRun → Written
+written_at_boot c = written_by (policy_of c) c.image (record { kept = c.cache.empty; sets = 0 }) (indirect c.start.machine.pc ∷ [])
+
+-- The words of the ram that those fetch, in order: each where its block stands by then, and behind the sets of the boot and of all
+-- transfers before it.
+abbrev pub words_after : CachedRun → ℕ → List Fetch
+words_after c n = words_run (policy_of c) c.image n c.start (place_of c.image c.start.machine.pc) (written_at_boot c)
 
 -- where the run stands by then: at the block and offset of a text word's first word, or of an exit behind a block, or outside
 abbrev pub place_after : CachedRun → ℕ → Here

@@ -2,6 +2,7 @@
 #![tactic(auto)]
 
 ghost use Rattle.std.specs.Prelude.{◌≡◌, ◌^◌, ◌<◌, ◌≤◌, IsErrOf, true, is_some};
+ghost use Rattle.swi_outside.specs.Devices.{streams};
 ghost use Rattle.swi_outside.specs.Source.{HasGiven};
 ghost use Rattle.swi_outside.specs.Told.{AsTold};
 ghost use Rattle.swi_image.specs.Place.{place_of};
@@ -78,8 +79,8 @@ fn boot_and_run<I: Source, O: Sink, E: Sink, R: SteadyRam, S: CacheRom>(
     ensures unasked { IsErrOf result CachedStop.Memory → I.state input.new ≡ I.state input.old }
     ensures ran { AsTold (I.state input.old) (I.state input.new) (λ old new. CachedRan S.service
         (given_of image.now (cache_of S.service rom) program.now layout.now asked) rom
-        (record { ram = R.state ram.old; devices = record { input = old; output = O.state out.old; error = E.state err.old } })
-        (record { ram = R.state ram.new; devices = record { input = new; output = O.state out.new; error = E.state err.new } })
+        (record { ram = R.state ram.old; devices = streams old (O.state out.old) (E.state err.old) })
+        (record { ram = R.state ram.new; devices = streams new (O.state out.new) (E.state err.new) })
         result) }
 {
     carry(image, program);
@@ -149,14 +150,14 @@ pub fn run_cached<I: Source, O: Sink, E: Sink, R: SteadyRam, S: CacheRom>(
     ensures unasked { IsErrOf result CachedStop.Memory → I.state input.new ≡ I.state input.old }
     ensures ran { AsTold (I.state input.old) (I.state input.new) (λ old new. CachedRan S.service
         (given_of image.now (cache_of S.service rom) program.now layout.now asked) rom
-        (record { ram = R.state ram.old; devices = record { input = old; output = O.state out.old; error = E.state err.old } })
-        (record { ram = R.state ram.new; devices = record { input = new; output = O.state out.new; error = E.state err.new } })
+        (record { ram = R.state ram.old; devices = streams old (O.state out.old) (E.state err.old) })
+        (record { ram = R.state ram.new; devices = streams new (O.state out.new) (E.state err.new) })
         result) }
     // A law of that, in the words of the original steps.
     ensures in_steps { AsTold (I.state input.old) (I.state input.new) (λ old new. InSteps S.service
         (given_of image.now (cache_of S.service rom) program.now layout.now asked) rom
-        (record { ram = R.state ram.old; devices = record { input = old; output = O.state out.old; error = E.state err.old } })
-        (record { ram = R.state ram.new; devices = record { input = new; output = O.state out.new; error = E.state err.new } })
+        (record { ram = R.state ram.old; devices = streams old (O.state out.old) (E.state err.old) })
+        (record { ram = R.state ram.new; devices = streams new (O.state out.new) (E.state err.new) })
         result) }
 {
     carry(image, program);

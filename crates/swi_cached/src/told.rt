@@ -4,6 +4,7 @@
 ghost use Rattle.std.specs.Prelude.{◌≡◌, ◌⊎◌, ◌+◌, ◌^◌, ◌<◌, ◌≤◌, ◌++◌, ◌∷◌, [], List, ℕ, IfOk, OnOk, OnErr, None, true, false};
 ghost use Rattle.std.specs.Io.KnownBytes.{Appends};
 ghost use Rattle.swi_outside.specs.Causes.{HasCause};
+ghost use Rattle.swi_outside.specs.Devices.{streams};
 ghost use Rattle.swi_outside.specs.Sink.{AppendsPrefix};
 ghost use Rattle.swi_outside.specs.Source.{HasGiven};
 ghost use Rattle.swi_outside.specs.Told.{AsTold};
@@ -94,13 +95,13 @@ pub(crate) fn run_steps<I: Source, O: Sink, E: Sink, R: SteadyRam, S: CacheRom>(
           hart = board.old.hart;
           rom = board.old.rom;
           ram = R.state ram.old;
-          devices = record { input = old; output = O.state out.old; error = E.state err.old };
+          devices = streams old (O.state out.old) (E.state err.old);
         })
         (record {
           hart = board.new.hart;
           rom = board.new.rom;
           ram = R.state ram.new;
-          devices = record { input = new; output = O.state out.new; error = E.state err.new };
+          devices = streams new (O.state out.new) (E.state err.new);
         }) result) }
 {
     let Some(mut last) = history else {

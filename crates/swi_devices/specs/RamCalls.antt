@@ -1,5 +1,6 @@
 -- What the calls to a ram that never fails come to.
 use Rattle.std.specs.Prelude.{ℕ, ◌+◌, max, List, [], ◌∷◌}
+use Rattle.swi_outside.specs.CacheRam.{Fetch, fetch}
 use Rattle.swi_outside.specs.Causes.{counted}
 use Rattle.swi_devices.specs.declared.ram_calls.RamCalls.{RamCalls}
 use Rattle.swi_devices.specs.declared.ram_calls.RamCalls.TheVariants.{None, Fetched', Set'}
@@ -20,8 +21,8 @@ reach_of None = 0
 reach_of (Fetched' _ _ before i) = max (reach_of before) (i + 1)
 reach_of (Set' _ _ before i) = max (reach_of before) (i + 1)
 
--- the indexes that were fetched, the newest first
-abbrev pub indexes_in : RamCalls → List ℕ
-indexes_in None = []
-indexes_in (Fetched' _ _ before i) = i ∷ indexes_in before
-indexes_in (Set' _ _ before i) = indexes_in before
+-- the fetches, the newest first
+abbrev pub fetched_in : RamCalls → List Fetch
+fetched_in None = []
+fetched_in (Fetched' _ _ before i) = fetch i (sets_in before) ∷ fetched_in before
+fetched_in (Set' _ _ before i) = fetched_in before

@@ -17,15 +17,15 @@ pub struct FaultRam {
     fetches: u64,
     sets: u64,
     reach: u32,
-    fetched: Snapshot<RamCalls>,
+    made: Snapshot<RamCalls>,
     last_failed: bool,
     plan: FaultPlan,
 }
 
 impl Model for FaultRam {
-    ghost use Rattle.std.specs.Prelude.{◌^◌, ◌<◌, length};
+    ghost use Rattle.std.specs.Prelude.{◌≡◌, ◌^◌, ◌<◌, length};
     ghost use Rattle.swi_devices.specs.Stored.{FaultyRam};
-    ghost use Rattle.swi_devices.specs.RamCalls.{indexes_in};
+    ghost use Rattle.swi_devices.specs.RamCalls.{fetched_in, sets_in};
 
     ghost Value = { FaultyRam };
 
@@ -36,14 +36,14 @@ impl Model for FaultRam {
         sets = r.sets;
         faults = r.plan.faults;
         reach = r.reach;
-        fetched_at = indexes_in r.fetched.value;
+        fetched_at = fetched_in r.made.value;
         last_failed = r.last_failed;
       };
       failing = r.plan.failing.items;
       calls = r.plan.calls;
     } };
 
-    ghost invariant = { λ r. length r.words.items < 2 ^ 32 };
+    ghost invariant = { λ r. (length r.words.items < 2 ^ 32) × (sets_in r.made.value ≡ r.sets) };
 }
 
 impl FaultRam {
@@ -59,7 +59,7 @@ impl FaultRam {
             fetches: 0,
             sets: 0,
             reach: 0,
-            fetched: Snapshot::of(&RamCalls::None),
+            made: Snapshot::of(&RamCalls::None),
             last_failed: false,
             plan: FaultPlan::new(failing),
         })
@@ -108,7 +108,7 @@ impl CacheRam for FaultRam {
         self.plan.try_call()?;
         self.last_failed = false;
         self.fetches = self.fetches.saturating_add(1);
-        self.fetched = Snapshot::of(&RamCalls::Fetched(Snapshot::of(&self.fetched), i));
+        self.made = Snapshot::of(&RamCalls::Fetched(Snapshot::of(&self.made), i));
         Ok(self.words[i as usize])
     }
 
@@ -126,6 +126,7 @@ impl CacheRam for FaultRam {
         self.plan.try_call()?;
         self.last_failed = false;
         self.words[i as usize] = w;
+        self.made = Snapshot::of(&RamCalls::Set(Snapshot::of(&self.made), i));
         self.sets = self.sets.saturating_add(1);
         Ok(())
     }

@@ -2,7 +2,7 @@ ghost use Rattle.std.specs.Prelude.{◌≡◌, ◌+◌, ◌<◌, ◌≤◌, ◌^
 ghost use Rattle.swi_outside.specs.CacheRam.{Fetched, WordSet, WordsBroke, WordsSet};
 ghost use Rattle.swi_devices.specs.Stored.{new_ram};
 ghost use Rattle.swi_outside.specs.Causes.{risen};
-ghost use Rattle.swi_devices.specs.RamCalls.{fetches_in, indexes_in, reach_of, sets_in};
+ghost use Rattle.swi_devices.specs.RamCalls.{fetches_in, fetched_in, reach_of, sets_in};
 
 use crate::ram_calls::RamCalls;
 use std::alloc::Global;
@@ -20,7 +20,7 @@ pub struct VecRam {
 impl Model for VecRam {
     ghost use Rattle.std.specs.Prelude.{◌^◌, ◌<◌, length, false};
     ghost use Rattle.swi_outside.specs.CacheRam.{RamState};
-    ghost use Rattle.swi_devices.specs.RamCalls.{fetches_in, sets_in, reach_of, indexes_in};
+    ghost use Rattle.swi_devices.specs.RamCalls.{fetches_in, sets_in, reach_of, fetched_in};
 
     ghost Value = { RamState };
 
@@ -30,7 +30,7 @@ impl Model for VecRam {
       sets = sets_in r.calls.value;
       faults = 0;
       reach = reach_of r.calls.value;
-      fetched_at = indexes_in r.calls.value;
+      fetched_at = fetched_in r.calls.value;
       last_failed = false;
     } };
 
@@ -55,7 +55,7 @@ fn note_sets(calls: &mut Snapshot<RamCalls>, first: u32, count: u32)
     requires { first + count < 2 ^ 32 }
     ensures sets { sets_in calls.new.value ≡ risen (sets_in calls.old.value) count }
     ensures fetches { fetches_in calls.new.value ≡ fetches_in calls.old.value }
-    ensures indexes { indexes_in calls.new.value ≡ indexes_in calls.old.value }
+    ensures fetched { fetched_in calls.new.value ≡ fetched_in calls.old.value }
     ensures reach { reach_of calls.new.value ≤ max (reach_of calls.old.value) (first + count) }
 {
     for k in 0..count {

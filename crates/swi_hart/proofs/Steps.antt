@@ -1,5 +1,5 @@
 -- Steps at exits and at other words, for the hart.
-use Rattle.std.proofs.Common.{if◌then◌else◌, ◌≡◌, ◌⊎◌, ◌==◌, ℕ, ◌+◌, ◌-◌, ◌^◌, ◌<◌, ◌≤◌, max, Bool, true, Option, Some, None, List, [], length, slice_index, refl, sym, ap, subst, ◌∙◌, inl, inr, arith}
+use Rattle.std.proofs.Common.{if◌then◌else◌, ◌≡◌, ◌⊎◌, ◌==◌, ℕ, ◌+◌, ◌-◌, ◌^◌, ◌<◌, ◌≤◌, max, Bool, true, Option, Some, None, List, [], ◌++◌, length, slice_index, refl, sym, ap, subst, ◌∙◌, inl, inr, arith}
 use Rattle.swi_isa.specs.declared.instr.Instr.{Instr}
 use Rattle.swi_isa.specs.declared.instr.Instr.TheVariants as instr
 use Rattle.swi_outside.specs.CacheRam.{RamState, with_fetch, KeepsBeyond}
@@ -25,7 +25,7 @@ use Rattle.swi_memory.specs.Bus.{AreaData}
 use Rattle.swi_outside.specs.Sink.{AppendsPrefix}
 use Rattle.swi_hart.specs.Calling.{Did, Made, WordWent, Called, Moved, BrokenStep}
 use Rattle.swi_hart.proofs.Taking.{taken_few}
-use Rattle.swi_hart.specs.Leaving.{ExitHome, WordHome, Counted, quick_role, step_to, exit_transfer, transfer_at, indexes_after, HasPlace, RamServed, RamFailed, RamStepped, RamBroken}
+use Rattle.swi_hart.specs.Leaving.{ExitHome, WordHome, Counted, quick_role, step_to, exit_transfer, transfer_at, fetch_under, HasPlace, RamServed, RamFailed, RamStepped, RamBroken}
 use Rattle.swi_hart.proofs.Fetching.{at_exit_step, at_word_step, exit_test, counted_hart, did_quiet}
 use Rattle.swi_hart.proofs.Kept.{kept_fits, exit_keeps, fits_between, fits_low, fits_return, fits_call}
 
@@ -147,8 +147,8 @@ ram_unserved v m c span i b o stage first before after control below fetched fai
   kept = kept_after span i first before after below fetched failed.kept;
 }
   where
-    fetched_at : before.fetched_at ≡ indexes_after c first.fetched_at
-    fetched_at = ap (λ (k : RamState). k.fetched_at) fetched ∙ sym (ap (λ (k : Control). indexes_after k first.fetched_at) control)
+    fetched_at : before.fetched_at ≡ fetch_under c first.sets ++ first.fetched_at
+    fetched_at = ap (λ (k : RamState). k.fetched_at) fetched ∙ sym (ap (λ (k : Control). fetch_under k first.sets ++ first.fetched_at) control)
 
 -- how many words such a ram has fetched
 pub ram_fetches : {v : ImageData} {m : Machine} {c : Control} {span : ℕ} {before after : RamState} → RamBroken v m c span before after →

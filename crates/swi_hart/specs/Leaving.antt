@@ -1,5 +1,5 @@
 -- Exits and transfers of a board.
-use Rattle.std.specs.Prelude.{◌≡◌, ◌⊎◌, ◌==◌, ℕ, ◌+◌, ◌*◌, ◌/◌, ◌%◌, ◌<◌, ◌≤◌, Bool, true, false, not, ◌&&◌, List, ◌∷◌, Option, Some, None, length, slice_index, if◌then◌else◌}
+use Rattle.std.specs.Prelude.{◌≡◌, ◌⊎◌, ◌==◌, ℕ, ◌+◌, ◌*◌, ◌/◌, ◌%◌, ◌<◌, ◌≤◌, Bool, true, false, not, ◌&&◌, List, [], ◌∷◌, ◌++◌, Option, Some, None, length, slice_index, if◌then◌else◌}
 use Rattle.swi_isa.specs.declared.instr.ImmOp.{ImmOp}
 use Rattle.swi_isa.specs.declared.instr.ImmOp.TheVariants.{Addi}
 use Rattle.swi_isa.specs.declared.instr.Instr.{Instr}
@@ -9,7 +9,7 @@ use Rattle.swi_exec.specs.Arithmetic.{sum_of}
 use Rattle.swi_exec.specs.Execute.{address_of}
 use Rattle.swi_calls.specs.declared.machine.Machine.{Machine}
 use Rattle.swi_outside.specs.Causes.{Rose, risen, counted}
-use Rattle.swi_outside.specs.CacheRam.{RamState, KeepsBeyond}
+use Rattle.swi_outside.specs.CacheRam.{Fetch, RamState, KeepsBeyond, fetch}
 use Rattle.swi_image.specs.Format.{ImageData}
 use Rattle.swi_image.specs.Place.{place_of, word_at, length_at}
 use Rattle.swi_render.specs.Rendering.{ebreak}
@@ -176,20 +176,20 @@ pub record PlacedAt (r : Record) (i b o : ℕ) : Type 0 where
 abbrev pub broken : HartData → HartData
 broken h = record h { failed = true }
 
--- the ram after a step: one fetch of the word under control, and so many sets
+-- the ram after a step: one fetch of the word under control, and behind it so many sets
 abbrev pub fetches_after : Control → ℕ → ℕ
 fetches_after (At i b o stage) n = counted n
 fetches_after Outside n = n
 
--- the indexes that were fetched, the newest first
-abbrev pub indexes_after : Control → List ℕ → List ℕ
-indexes_after (At i b o stage) l = i ∷ l
-indexes_after Outside l = l
+-- the fetch of the word under control, behind so many sets
+abbrev pub fetch_under : Control → ℕ → List Fetch
+fetch_under (At i b o stage) sets = fetch i sets ∷ []
+fetch_under Outside sets = []
 
 pub record RamStepped (span more : ℕ) (c : Control) (before after : RamState) : Type 0 where
   pub quiet : after.faults ≡ before.faults
   pub fetches : after.fetches ≡ fetches_after c before.fetches
-  pub fetched_at : after.fetched_at ≡ indexes_after c before.fetched_at
+  pub fetched_at : after.fetched_at ≡ fetch_under c before.sets ++ before.fetched_at
   pub sets : after.sets ≡ risen before.sets more
   pub kept : KeepsBeyond span before after
 
@@ -207,5 +207,5 @@ pub record RamBroken (v : ImageData) (m : Machine) (c : Control) (span : ℕ) (b
   -- no call of it comes behind the one that failed
   pub last_failed : after.last_failed ≡ true
   pub asked : (after ≡ record before { faults = after.faults; reach = after.reach; last_failed = true })
-      ⊎ (((after.fetches ≡ counted before.fetches) × (after.fetched_at ≡ indexes_after c before.fetched_at)) × HasPlace v (transfer_at v m c))
+      ⊎ (((after.fetches ≡ counted before.fetches) × (after.fetched_at ≡ fetch_under c before.sets ++ before.fetched_at)) × HasPlace v (transfer_at v m c))
   pub kept : KeepsBeyond span before after

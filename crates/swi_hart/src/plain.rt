@@ -6,6 +6,7 @@ ghost use Rattle.swi_isa.specs.Decode.{decoded};
 ghost use Rattle.swi_memory.specs.Bus.{fetched};
 ghost use Rattle.swi_image.specs.Place.{word_at};
 ghost use Rattle.swi_rom.specs.Record.{Record};
+ghost use Rattle.swi_outside.specs.Devices.{streams};
 ghost use Rattle.swi_outside.specs.Told.{AsTold};
 ghost use Rattle.swi_outside.specs.Source.{HasGiven};
 ghost use Rattle.swi_hart.specs.Matching.{Fits};
@@ -85,8 +86,8 @@ pub fn plain_step<R: CacheRom, M: CacheRam, I: Source, O: Sink, E: Sink>(
     ensures stepped { AsTold (I.state input.old) (I.state input.new) (λ old new. BoardStepped R.service image.now
         (record { hart = hart.old; rom = rom.old; ram = M.state ram.old })
         (record { hart = hart.new; rom = rom.new; ram = M.state ram.new })
-        (record { input = old; output = O.state out.old; error = E.state err.old })
-        (record { input = new; output = O.state out.new; error = E.state err.new }) result) }
+        (streams old (O.state out.old) (E.state err.old))
+        (streams new (O.state out.new) (E.state err.new)) result) }
     ensures executes { OnOk result ((i b o : ℕ) (stage : Stage) →
         PlainAt image.now (M.state ram.old).words hart.old.control i b o stage →
         ExecutesHeld hart.old hart.new rom.old rom.new i b o stage (M.state ram.old).words (M.state ram.new).words

@@ -3,6 +3,7 @@
 
 ghost use Rattle.std.specs.Prelude.{◌≡◌, ◌^◌, ◌<◌, slice_index, IsErrOf, Some, true};
 ghost use Rattle.swi_outside.specs.CacheRam.{RamState};
+ghost use Rattle.swi_outside.specs.Devices.{streams};
 ghost use Rattle.swi_outside.specs.Told.{AsTold};
 ghost use Rattle.swi_outside.specs.Source.{HasGiven};
 ghost use Rattle.swi_hart.specs.MachineStep.{BoardStepped, ReadyToStep, Answered};
@@ -67,8 +68,8 @@ pub fn at_word<R: CacheRom, M: CacheRam, I: Source, O: Sink, E: Sink>(
         BoardStepped R.service image.now
         (record { hart = hart.old; rom = rom.old; ram = before })
         (record { hart = hart.new; rom = rom.new; ram = M.state ram.new })
-        (record { input = old; output = O.state out.old; error = E.state err.old })
-        (record { input = new; output = O.state out.new; error = E.state err.new }) result) }
+        (streams old (O.state out.old) (E.state err.old))
+        (streams new (O.state out.new) (E.state err.new)) result) }
 {
     let Some(x) = decode(got) else { unreachable!() };
     if leaves(&x) {
@@ -115,8 +116,8 @@ fn at_step<R: CacheRom, M: CacheRam, I: Source, O: Sink, E: Sink>(
     ensures stepped { AsTold (I.state input.old) (I.state input.new) (λ old new. BoardStepped R.service image.now
         (record { hart = hart.old; rom = rom.old; ram = M.state ram.old })
         (record { hart = hart.new; rom = rom.new; ram = M.state ram.new })
-        (record { input = old; output = O.state out.old; error = E.state err.old })
-        (record { input = new; output = O.state out.new; error = E.state err.new }) result) }
+        (streams old (O.state out.old) (E.state err.old))
+        (streams new (O.state out.new) (E.state err.new)) result) }
 {
     let got = match ram.fetch(at.0) {
         Ok(got) => got,
@@ -149,8 +150,8 @@ pub fn quick_step<R: CacheRom, M: CacheRam, I: Source, O: Sink, E: Sink>(
     ensures stepped { AsTold (I.state input.old) (I.state input.new) (λ old new. BoardStepped R.service image.now
         (record { hart = hart.old; rom = rom.old; ram = M.state ram.old })
         (record { hart = hart.new; rom = rom.new; ram = M.state ram.new })
-        (record { input = old; output = O.state out.old; error = E.state err.old })
-        (record { input = new; output = O.state out.new; error = E.state err.new }) result) }
+        (streams old (O.state out.old) (E.state err.old))
+        (streams new (O.state out.new) (E.state err.new)) result) }
 {
     let pc = hart.origin_pc();
     match hart.control.control() {

@@ -5,6 +5,7 @@ ghost use Rattle.std.specs.Prelude.{◌≡◌, ◌+◌, ◌^◌, ◌<◌, ℕ, L
 ghost use Rattle.swi_calls.specs.StoresText.{text_store_of};
 ghost use Rattle.swi_calls.specs.Flat.{ended};
 ghost use Rattle.swi_hart.specs.Hart.{word_stepped, call_stepped};
+ghost use Rattle.swi_outside.specs.Devices.{streams};
 ghost use Rattle.swi_outside.specs.Told.{AsTold};
 ghost use Rattle.swi_outside.specs.Source.{HasGiven};
 ghost use Rattle.swi_hart.specs.Calling.{Called as CalledAt, Moved, QuietWord, ReadyAt, WordExecuted, WordStepped};
@@ -131,8 +132,8 @@ pub(crate) fn call_word<I: Source, O: Sink, E: Sink>(
     ensures gave { HasGiven (I.state input.old) (I.state input.new) }
     ensures word { AsTold (I.state input.old) (I.state input.new) (λ old new.
         WordExecuted (λ left. call_stepped at.0 at.1 at.2 at.3 hart.old.machine left) hart.old hart.new
-        (record { input = old; output = O.state out.old; error = E.state err.old })
-        (record { input = new; output = O.state out.new; error = E.state err.new }) result) }
+        (streams old (O.state out.old) (E.state err.old))
+        (streams new (O.state out.new) (E.state err.new)) result) }
     ensures goes { OnOk result (CalledAt at.0 at.1 at.2 at.3 hart.old hart.new) }
     ensures moved { AsTold (I.state input.old) (I.state input.new) (λ old new. Moved hart.old.machine hart.new.machine.bus old.left new.left) }
 {
@@ -159,8 +160,8 @@ pub(crate) fn word_step<I: Source, O: Sink, E: Sink>(
     ensures gave { HasGiven (I.state input.old) (I.state input.new) }
     ensures word { AsTold (I.state input.old) (I.state input.new) (λ old new. WordStepped x.now at.0 at.1 at.2 at.3
         (λ left. word_stepped role at.0 at.1 at.2 at.3 hart.old.machine x.now left) hart.old hart.new
-        (record { input = old; output = O.state out.old; error = E.state err.old })
-        (record { input = new; output = O.state out.new; error = E.state err.new }) result) }
+        (streams old (O.state out.old) (E.state err.old))
+        (streams new (O.state out.new) (E.state err.new)) result) }
 {
     if run_word(hart, at, x, role) {
         call_word(hart, (at.0, at.1, at.2, at.3), input, out, err)

@@ -1,6 +1,14 @@
 -- A cache ram: its words, and what was done to it.
-use Rattle.std.specs.Prelude.{◌≡◌, ◌⊎◌, ℕ, ◌+◌, ◌<◌, ◌≤◌, max, Bool, true, false, List, ◌∷◌, length, slice_index, slice_set, Result, Ok, Err}
+use Rattle.std.specs.Prelude.{◌≡◌, ◌⊎◌, ℕ, ◌+◌, ◌<◌, ◌≤◌, max, Bool, true, false, List, [], ◌∷◌, length, slice_index, slice_set, Result, Ok, Err}
 use Rattle.swi_outside.specs.Causes.{Rose, counted, risen}
+
+-- a fetch that answered `Ok`: of which word, and how many sets had answered `Ok` before it
+pub record Fetch : Type 0 where
+  pub index : ℕ
+  pub sets_before : ℕ
+
+abbrev pub fetch : ℕ → ℕ → Fetch
+fetch i sets = record { index = i; sets_before = sets }
 
 pub record RamState : Type 0 where
   -- the words, from index 0
@@ -12,14 +20,14 @@ pub record RamState : Type 0 where
   pub faults : ℕ
   -- the least number above every index that was given to a fetch or a set
   pub reach : ℕ
-  -- the indexes of the fetches that answered `Ok`, the newest first
-  pub fetched_at : List ℕ
+  -- the fetches that answered `Ok`, the newest first
+  pub fetched_at : List Fetch
   -- whether the last call answered `Failed`
   pub last_failed : Bool
 
 -- after a fetch of word i, and a set of it to w, that answered `Ok`
 abbrev pub with_fetch : RamState → ℕ → RamState
-with_fetch s i = record s { fetches = counted s.fetches; reach = max s.reach (i + 1); fetched_at = i ∷ s.fetched_at; last_failed = false }
+with_fetch s i = record s { fetches = counted s.fetches; reach = max s.reach (i + 1); fetched_at = fetch i s.sets ∷ s.fetched_at; last_failed = false }
 
 abbrev pub with_set : RamState → ℕ → ℕ → RamState
 with_set s i w = record s { words = slice_set s.words i w; sets = counted s.sets; reach = max s.reach (i + 1); last_failed = false }
@@ -36,6 +44,16 @@ WordSet old i w (Ok u) new = new ≡ with_set old i w
 WordSet old i w (Err e) new = Rose old.faults new.faults × (old.faults ≤ new.faults)
     × ((new.words ≡ old.words) ⊎ (new.words ≡ slice_set old.words i w))
     × (new ≡ record old { words = new.words; faults = new.faults; reach = max old.reach (i + 1); last_failed = true })
+
+-- fetches of a run in the count of a ram that had made so many sets before it
+abbrev pub since : ℕ → List Fetch → List Fetch
+since n [] = []
+since n (f ∷ fs) = fetch f.index (risen n f.sets_before) ∷ since n fs
+
+-- and in that of a run that had
+abbrev pub later : ℕ → List Fetch → List Fetch
+later n [] = []
+later n (f ∷ fs) = fetch f.index (n + f.sets_before) ∷ later n fs
 
 -- n sets from an index on leave every other word, what was fetched, and the number of words
 pub record LeavesBeside (first n : ℕ) (before after : RamState) : Type 0 where

@@ -1,6 +1,7 @@
 pub mod CacheRam
 pub mod Causes
 pub mod Devices
+pub mod Fetches
 pub mod Laws
 pub mod Shelf
 pub mod Sink

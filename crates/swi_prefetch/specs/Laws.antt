@@ -1,6 +1,7 @@
 -- Laws of schedules, whatever the events are and in whatever order.
 use Rattle.std.specs.Prelude.{◌≡◌, ℕ, zero, suc, ◌+◌, ◌*◌, ◌≤◌, true, List, ◌++◌, Option, Some, None}
 use Rattle.std.specs.Bool.{⊤}
+use Rattle.swi_outside.specs.CacheRam.{Fetch}
 use Rattle.swi_calls.specs.declared.end.End.{End}
 use Rattle.swi_calls.specs.declared.end.End.TheVariants.{StoreText}
 use Rattle.swi_calls.specs.declared.machine.Machine.{Machine}
@@ -59,7 +60,7 @@ StaysWritten = (by : Setting) (v : ImageData) (ts : List Turn) (s : Moment) → 
 
 -- no word fetched is taken back
 abbrev pub KeepsFetched : Type 0
-KeepsFetched = (by : Setting) (v : ImageData) (ts : List Turn) (s : Moment) → (more : List ℕ) × ((turned_all by v ts s).words ≡ more ++ s.words)
+KeepsFetched = (by : Setting) (v : ImageData) (ts : List Turn) (s : Moment) → (more : List Fetch) × ((turned_all by v ts s).words ≡ more ++ s.words)
 
 -- ---- the copy
 

@@ -1,7 +1,7 @@
 -- A run: rounds of one event of the hart and so many of the engine, up to a limit of original steps.
 use Rattle.std.specs.Prelude.{◌≡◌, ◌⊎◌, ℕ, ◌+◌, ◌<◌, ◌≤◌, not, ◌&&◌, nat_lt, Bool, true, false, List, ◌∷◌, ◌++◌, length, replicate, reverse, Option, Some, None, is_some, Result, IfErr, IsErrOf}
 use Rattle.std.specs.Io.KnownBytes.{Appends}
-use Rattle.swi_outside.specs.CacheRam.{KeepsBeyond, RamState}
+use Rattle.swi_outside.specs.CacheRam.{Fetch, KeepsBeyond, RamState, since}
 use Rattle.swi_outside.specs.Causes.{risen}
 use Rattle.swi_outside.specs.Devices.{Faults, faults_of}
 use Rattle.swi_image.specs.Format.{ImageData}
@@ -11,7 +11,7 @@ use Rattle.swi_hart.specs.Hart.{HartData}
 use Rattle.swi_hart.specs.declared.fault.BoardFault.{BoardFault}
 use Rattle.swi_hart.specs.declared.fault.BoardFault.TheVariants.{RamFault}
 use Rattle.swi_board.specs.Board.{BoardOf}
-use Rattle.swi_board.specs.Fetching.{FetchedFront}
+use Rattle.swi_board.specs.Fetching.{FrontSince}
 use Rattle.swi_board.specs.Moments.{GoesOn, Moment}
 use Rattle.swi_board.specs.Ran.{Unasked, next_of}
 use Rattle.swi_board.specs.Tracking.{Point}
@@ -120,7 +120,7 @@ pub record EngineStopped (by : Setting) (v : ImageData) (rate : ℕ) (fault : Bo
   pub input : new.left ≡ Some (turned_all by v (round made) s).flat.input
   pub output : Appends from.out new.out (turned_all by v (round made) s).flat.output
   pub error : Appends from.err new.err (turned_all by v (round made) s).flat.error
-  pub words : new.ram.fetched_at ≡ (turned_all by v (round made) s).words ++ from.ram.fetched_at
+  pub words : new.ram.fetched_at ≡ since from.ram.sets (turned_all by v (round made) s).words ++ from.ram.fetched_at
   pub fetches : new.ram.fetches ≡ risen from.ram.fetches (length (turned_all by v (round made) s).words)
   pub last_failed : new.ram.last_failed ≡ true
 
@@ -148,4 +148,4 @@ pub record RunBroke (v : ImageData) (limit rate : ℕ) (old new : Whole) (result
       (faults_of old.around.devices) (faults_of new.around.devices)))
   -- the words that were fetched are a front of those of these rounds
   pub words : FromHere v old.board old.around (λ b s from.
-      (more : List ℕ) × ((turned_all (setting_of b.rom) v (rounds rate (made + 1)) s).words ≡ more ++ s.words) × FetchedFront (reverse more) old.around.ram new.around.ram)
+      (more : List Fetch) × ((turned_all (setting_of b.rom) v (rounds rate (made + 1)) s).words ≡ more ++ s.words) × FrontSince from.ram.sets (reverse more) old.around.ram new.around.ram)

@@ -1,5 +1,6 @@
 -- A whole run beside whose hart an engine copies ahead, from its boot, as data: by its schedule.
 use Rattle.std.specs.Prelude.{◌≡◌, ◌⊎◌, ℕ, ◌+◌, ◌*◌, ◌<◌, ◌≤◌, List, ◌∷◌, ◌++◌, replicate, reverse, Some}
+use Rattle.swi_outside.specs.CacheRam.{Fetch}
 use Rattle.swi_outside.specs.Devices.{Faults}
 use Rattle.swi_calls.specs.declared.end.End.TheVariants.{StoreText}
 use Rattle.swi_calls.specs.Held.{held_run}
@@ -42,8 +43,8 @@ moment_of c ts = turned_all (setting_for c) c.image ts (booted (setting_for c) c
 abbrev pub moment_after : AheadRun → ℕ → Moment
 moment_after c k = moment_of c (rounds c.rate k)
 
--- the indexes of the words that they fetch, in order
-abbrev pub words_of : AheadRun → List Turn → List ℕ
+-- the words that they fetch, in order
+abbrev pub words_of : AheadRun → List Turn → List Fetch
 words_of c ts = reverse (moment_of c ts).words
 
 -- The program at its end. It is the flat machine, but that it ends before a step that would store into the text.

@@ -2,6 +2,7 @@
 #![tactic(auto)]
 
 ghost use Rattle.std.specs.Prelude.{◌^◌, ◌<◌, IfOk, OnErr};
+ghost use Rattle.swi_outside.specs.Devices.{streams};
 ghost use Rattle.swi_outside.specs.Source.{HasGiven};
 ghost use Rattle.swi_outside.specs.Told.{AsTold};
 ghost use Rattle.swi_rom.specs.Writing.{FailedBelow};
@@ -59,8 +60,8 @@ pub fn step<R: CopyEngine, M: CacheRam, I: Source, O: Sink, E: Sink>(
     ensures turned { AsTold (I.state input.old) (I.state input.new) (λ old new. HartTurned R.service image.now
         (record { hart = board.old.hart; rom = board.old.rom; ram = M.state ram.old })
         (record { hart = board.new.hart; rom = board.new.rom; ram = M.state ram.new })
-        (record { input = old; output = O.state out.old; error = E.state err.old })
-        (record { input = new; output = O.state out.new; error = E.state err.new }) result) }
+        (streams old (O.state out.old) (E.state err.old))
+        (streams new (O.state out.new) (E.state err.new)) result) }
 {
     if board.ending().is_some() {
         return Ok(());

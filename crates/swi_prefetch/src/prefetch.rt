@@ -12,7 +12,7 @@ ghost use Rattle.swi_engine.specs.Engine.{span_of};
 ghost use Rattle.swi_engine.specs.State.{setting_of};
 ghost use Rattle.swi_engine.specs.Sound.{EngineSound};
 ghost use Rattle.swi_outside.specs.Causes.{DeviceCause};
-ghost use Rattle.swi_outside.specs.Devices.{Devices, HasCauses};
+ghost use Rattle.swi_outside.specs.Devices.{Devices, HasCauses, streams};
 ghost use Rattle.swi_outside.specs.Source.{HasGiven};
 ghost use Rattle.swi_outside.specs.Told.{AsTold};
 ghost use Rattle.swi_prefetch.specs.Events.{of_hart, of_engine, round};
@@ -115,18 +115,18 @@ impl Prefetch {
         ensures turned { AsTold (I.state input.old) (I.state input.new) (λ old new. HartEvent image.now
             (record { board = self.old.board; ram = M.state ram.old })
             (record { board = self.new.board; ram = M.state ram.new })
-            (record { input = old; output = O.state out.old; error = E.state err.old })
-            (record { input = new; output = O.state out.new; error = E.state err.new }) result) }
+            (streams old (O.state out.old) (E.state err.old))
+            (streams new (O.state out.new) (E.state err.new)) result) }
         ensures short { PcShort self.old.board }
         ensures leads { AsTold (I.state input.old) (I.state input.new) (λ old new. OnOk result (Leads image.now
             (of_hart ∷ []) self.old.board self.new.board
             (record {
               ram = M.state ram.old;
-              devices = record { input = old; output = O.state out.old; error = E.state err.old };
+              devices = streams old (O.state out.old) (E.state err.old);
             })
             (record {
               ram = M.state ram.new;
-              devices = record { input = new; output = O.state out.new; error = E.state err.new };
+              devices = streams new (O.state out.new) (E.state err.new);
             }))) }
     {
         let Some(board) = &mut self.board else {
@@ -208,21 +208,21 @@ impl Prefetch {
         ensures came { AsTold (I.state input.old) (I.state input.new) (λ old new. OnOk result (CameOn image.now (round rate)
             (whole self.old.board (record {
               ram = M.state ram.old;
-              devices = record { input = old; output = O.state out.old; error = E.state err.old };
+              devices = streams old (O.state out.old) (E.state err.old);
             }))
             (whole self.new.board (record {
               ram = M.state ram.new;
-              devices = record { input = new; output = O.state out.new; error = E.state err.new };
+              devices = streams new (O.state out.new) (E.state err.new);
             })))) }
         ensures rises { OnOk result (RoundRises image.now self.old.board self.new.board) }
         ensures broke { AsTold (I.state input.old) (I.state input.new) (λ old new. OnErr result (BrokeIn image.now [] rate
             (whole self.old.board (record {
               ram = M.state ram.old;
-              devices = record { input = old; output = O.state out.old; error = E.state err.old };
+              devices = streams old (O.state out.old) (E.state err.old);
             }))
             (whole self.new.board (record {
               ram = M.state ram.new;
-              devices = record { input = new; output = O.state out.new; error = E.state err.new };
+              devices = streams new (O.state out.new) (E.state err.new);
             })) result)) }
     {
         self.hart(image, ram, input, out, err)?;
@@ -267,20 +267,20 @@ impl Prefetch {
         ensures ran { AsTold (I.state input.old) (I.state input.new) (λ old new. OnOk result (RanTo image.now limit rate
             (whole self.old.board (record {
               ram = M.state ram.old;
-              devices = record { input = old; output = O.state out.old; error = E.state err.old };
+              devices = streams old (O.state out.old) (E.state err.old);
             }))
             (whole self.new.board (record {
               ram = M.state ram.new;
-              devices = record { input = new; output = O.state out.new; error = E.state err.new };
+              devices = streams new (O.state out.new) (E.state err.new);
             })))) }
         ensures broke { AsTold (I.state input.old) (I.state input.new) (λ old new. OnErr result (RunBroke image.now limit rate
             (whole self.old.board (record {
               ram = M.state ram.old;
-              devices = record { input = old; output = O.state out.old; error = E.state err.old };
+              devices = streams old (O.state out.old) (E.state err.old);
             }))
             (whole self.new.board (record {
               ram = M.state ram.new;
-              devices = record { input = new; output = O.state out.new; error = E.state err.new };
+              devices = streams new (O.state out.new) (E.state err.new);
             })) result)) }
         ensures kept { KeepsBehind self.old.board (M.state ram.old) (M.state ram.new) }
         ensures causes { HasCauses

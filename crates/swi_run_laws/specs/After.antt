@@ -1,10 +1,11 @@
 -- What machine instructions come to behind so many original steps: read off the flat steps, the image and the service's policy alone.
 use Rattle.std.specs.Prelude.{◌≡◌, ℕ, ◌+◌, ◌<◌, ◌≤◌, List, ◌++◌, length, reverse, Some, None}
+use Rattle.swi_outside.specs.CacheRam.{Fetch}
 use Rattle.swi_calls.specs.Held.{held_run}
 use Rattle.swi_image.specs.Format.{ImageData}
-use Rattle.swi_board.specs.Fetching.{index_in, indexes_from, words_run}
+use Rattle.swi_board.specs.Fetching.{fetches_from, index_in, words_run}
 use Rattle.swi_board.specs.Transfers.{Here, after_all, cost, fetches, here_run, transfers}
-use Rattle.swi_board.specs.Moments.{Moment, Policy}
+use Rattle.swi_board.specs.Moments.{Moment, Policy, written_in}
 
 -- between two instructions, behind so many steps of the flat machine from the one moment, whose next instruction stands here
 pub record IsAfter (by : Policy) (v : ImageData) (k : ℕ) (here_first : Here) (s t : Moment) : Type 0 where
@@ -14,7 +15,7 @@ pub record IsAfter (by : Policy) (v : ImageData) (k : ℕ) (here_first : Here) (
   -- they cost so many machine instructions
   pub count : t.count ≡ s.count + cost v k s.flat here_first
   -- which fetched these words
-  pub words : t.words ≡ reverse (words_run by v k s.flat here_first s.kept) ++ s.words
+  pub words : t.words ≡ reverse (words_run by v k s.flat here_first (written_in s)) ++ s.words
   pub here : t.flat.machine.ending ≡ None → t.here ≡ here_run v k s.flat here_first
   pub spent : t.spent ≡ 0
 
@@ -32,8 +33,8 @@ pub record IsAfterMidway (by : Policy) (v : ImageData) (k : ℕ) (p : ℕ × ℕ
   pub kept : t.kept ≡ after_all by v s.kept (transfers v k s.flat (Some p))
   pub count : t.count + s.spent ≡ s.count + cost v k s.flat (Some p)
   -- the words of the run, but those executed before
-  pub more : List ℕ
+  pub more : List Fetch
   pub words : t.words ≡ more ++ s.words
-  pub more_is : more ++ reverse (indexes_from (index_in s.kept p) s.spent) ≡ reverse (words_run by v k s.flat (Some p) s.kept)
+  pub more_is : more ++ reverse (fetches_from (index_in s.kept p) s.spent s.sets) ≡ reverse (words_run by v k s.flat (Some p) (written_in s))
   pub here : t.flat.machine.ending ≡ None → t.here ≡ here_run v k s.flat (Some p)
   pub spent : t.spent ≡ 0

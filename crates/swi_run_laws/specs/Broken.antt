@@ -1,6 +1,7 @@
 -- What stands where a device broke a machine instruction off, by the moment before it.
 use Rattle.std.specs.Prelude.{◌≡◌, ◌⊎◌, ℕ, ◌+◌, ◌≤◌, List, ◌++◌, length, take, None, Some, true}
 use Rattle.std.specs.Io.KnownBytes.{Appends, Consumes}
+use Rattle.swi_outside.specs.CacheRam.{since}
 use Rattle.swi_outside.specs.Causes.{risen}
 use Rattle.swi_outside.specs.Devices.{Faults}
 use Rattle.swi_calls.specs.State.{FlatState}
@@ -28,7 +29,7 @@ pub record RamBroke (by : Policy) (v : ImageData) (s : Moment) (from new : Point
   pub input : new.left ≡ Some reached.flat.input
   pub output : Appends from.out new.out reached.flat.output
   pub error : Appends from.err new.err reached.flat.error
-  pub words : new.ram.fetched_at ≡ reached.words ++ from.ram.fetched_at
+  pub words : new.ram.fetched_at ≡ since from.ram.sets reached.words ++ from.ram.fetched_at
   pub fetches : new.ram.fetches ≡ risen from.ram.fetches (length reached.words)
   pub last_failed : new.ram.last_failed ≡ true
 
@@ -43,7 +44,7 @@ pub record DeviceBroke (by : Policy) (v : ImageData) (fault : BoardFault) (s : M
   pub taken : List ℕ
   pub input : Consumes (Some s.flat.input) new.left taken
   pub few : length taken + length (next_of s.flat).input ≤ length s.flat.input
-  pub words : new.ram.fetched_at ≡ (event by v s).words ++ from.ram.fetched_at
+  pub words : new.ram.fetched_at ≡ since from.ram.sets (event by v s).words ++ from.ram.fetched_at
 
 -- Which sink failed. What the next step writes to the output comes before what it writes to the errors, as the line of a call comes behind
 -- the call's output: where the output failed the errors hold nothing of that step, and where they failed the output has all of it.

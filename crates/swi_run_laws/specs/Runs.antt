@@ -15,7 +15,7 @@ use Rattle.swi_hart.specs.Hart.{is_between, original, slots}
 use Rattle.swi_hart.specs.Matching.{Matches}
 use Rattle.swi_board.specs.Board.{BoardWithDevices}
 use Rattle.swi_board.specs.BoardRan.{BoardRan, BrokeOff}
-use Rattle.swi_board.specs.Fetching.{words_run}
+use Rattle.swi_board.specs.Fetching.{HasFetched, words_run}
 use Rattle.swi_board.specs.Moments.{Moment, Policy, events}
 use Rattle.swi_board.specs.Tracking.{Point, Tracks, point_of}
 use Rattle.swi_board.specs.Transfers.{Here, after_all, at_fall, before_last, cost, fetches, here_of, here_run, spent_run, transfers}
@@ -35,7 +35,7 @@ pub record RanSteps (by : Policy) (v : ImageData) (k : ℕ) (s : FlatState) (old
   pub here_is : new.hart.machine.ending ≡ None → here_of v (held_run k s).machine new.hart.control ≡ here_run v k s (here_of v s.machine old.hart.control)
   -- they cost so many machine instructions, which fetched these words
   pub cost_is : new.hart.count ≡ old.hart.count + cost v k s (here_of v s.machine old.hart.control)
-  pub words : new.ram.fetched_at ≡ reverse (words_run by v k s (here_of v s.machine old.hart.control) old.kept) ++ old.ram.fetched_at
+  pub words : HasFetched (words_run by v k s (here_of v s.machine old.hart.control) (record { kept = old.kept; sets = 0 })) old.ram new.ram
   pub fetches_are : new.ram.fetches ≡ risen old.ram.fetches (fetches v k s (here_of v s.machine old.hart.control))
 
 -- a run of the board that came to its end, from between two instructions of a flat machine that it matches

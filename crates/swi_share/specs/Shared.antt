@@ -1,5 +1,6 @@
 -- Several programs that share one cache, by their events: an event of a program makes one original instruction of it.
-use Rattle.std.specs.Prelude.{ℕ, ◌+◌, ◌||◌, Bool, true, false, not, List, [], ◌∷◌, ◌++◌, slice_set, slice_index_or, Option, Some, None}
+use Rattle.std.specs.Prelude.{ℕ, ◌+◌, ◌-◌, ◌||◌, Bool, true, false, not, List, [], ◌∷◌, ◌++◌, slice_set, slice_index_or, Option, Some, None}
+use Rattle.swi_outside.specs.CacheRam.{Fetch, later}
 use Rattle.swi_calls.specs.declared.end.End.{End}
 use Rattle.swi_calls.specs.declared.machine.Machine.{Machine}
 use Rattle.swi_calls.specs.Flat.{started}
@@ -7,7 +8,7 @@ use Rattle.swi_calls.specs.Held.{held_run}
 use Rattle.swi_calls.specs.State.{FlatState}
 use Rattle.swi_image.specs.Format.{ImageData}
 use Rattle.swi_image.specs.Place.{place_of}
-use Rattle.swi_rom.specs.Record.{Record}
+use Rattle.swi_rom.specs.Record.{Record, writes}
 use Rattle.swi_rom.specs.Service.{Setting}
 use Rattle.swi_rom.specs.Policy.{is_placed}
 use Rattle.swi_slots.specs.Fifo.{fifo}
@@ -27,14 +28,14 @@ pub record Context : Type 0 where
   pub count : ℕ
 
 -- what an event leaves: queue, links and counts, the program, the bytes that it writes, how many words of the ram it fetches, and which, in
--- order
+-- order, each behind so many sets of the event
 pub record Event : Type 0 where
   pub kept : Record
   pub context : Context
   pub output : List ℕ
   pub error : List ℕ
   pub fetches : ℕ
-  pub words : List ℕ
+  pub words : List Fetch
 
 -- whether control's block has left the queue
 abbrev pub has_left : Record → Here → Bool
@@ -64,9 +65,9 @@ abbrev pub place_by : Option End → Here → Here
 place_by None here = here
 place_by (Some e) here = None
 
--- the original instruction, with its transfers of control in order
-abbrev pub step_event : Setting → Record → Context → Event
-step_event by r c = record {
+-- the original instruction, with its transfers of control in order, behind so many sets of the entry
+abbrev pub step_event : Setting → ℕ → Record → Context → Event
+step_event by sets r c = record {
   kept = after_all (fifo by) c.image r (transfers c.image 1 (flat_of c) c.place);
   context = record c {
     machine = (held_run 1 (flat_of c)).machine;
@@ -77,22 +78,24 @@ step_event by r c = record {
   output = (held_run 1 (flat_of c)).output;
   error = (held_run 1 (flat_of c)).error;
   fetches = fetches c.image 1 (flat_of c) c.place;
-  words = words_run (fifo by) c.image 1 (flat_of c) c.place r;
+  words = words_run (fifo by) c.image 1 (flat_of c) c.place (record { kept = r; sets = sets });
 }
 
 -- an event of the program in turn, which has not ended
 abbrev pub event_of : Setting → Record → Context → Event
-event_of by r c = step_event by (entered_if (enters r c) by r c) (begun_if (enters r c) c)
+event_of by r c = step_event by (writes (entered_if (enters r c) by r c) - writes r) (entered_if (enters r c) by r c) (begun_if (enters r c) c)
 
--- All programs with the one cache: its setting, its queue with links and counts, the contexts; and the bytes that the events have written, in their order, how many words they have fetched, and which.
+-- All programs with the one cache: its setting, its queue with links and counts, the contexts; and the bytes that the events have written, in their order, how many words they
+-- have set and fetched, and which they have fetched, each behind so many sets.
 pub record Shared : Type 0 where
   pub setting : Setting
   pub kept : Record
   pub contexts : List (Option Context)
   pub output : List ℕ
   pub error : List ℕ
+  pub sets : ℕ
   pub fetches : ℕ
-  pub words : List ℕ
+  pub words : List Fetch
 
 abbrev pub with_event : ℕ → Shared → Event → Shared
 with_event g s e = record s {
@@ -100,8 +103,9 @@ with_event g s e = record s {
   contexts = slice_set s.contexts g (Some e.context);
   output = s.output ++ e.output;
   error = s.error ++ e.error;
+  sets = s.sets + (writes e.kept - writes s.kept);
   fetches = s.fetches + e.fetches;
-  words = s.words ++ e.words;
+  words = s.words ++ later s.sets e.words;
 }
 
 -- an event of a program that has ended does nothing

@@ -45,6 +45,7 @@ seen s = record {
   contexts = map context_of s.processes;
   output = [];
   error = [];
+  sets = 0;
   fetches = 0;
   words = [];
 }
@@ -58,7 +59,7 @@ pub record ShareWith : Type 0 where
 
 -- Events have led to a state: the share is seen so, the sinks have gained its bytes, and the ram its fetches and what was written.
 pub record Came (next : Shared) (before after : ShareWith) : Type 0 where
-  pub share : seen after.share ≡ record next { output = []; error = []; fetches = 0; words = [] }
+  pub share : seen after.share ≡ record next { output = []; error = []; sets = 0; fetches = 0; words = [] }
   pub output : Appends before.out.held after.out.held next.output
   pub error : Appends before.err.held after.err.held next.error
   pub ram : RamRan (span_of next.setting) next.fetches (writes next.kept - writes (seen before.share).kept) before.ram after.ram

@@ -45,6 +45,7 @@ shared_start bytes guests = record {
   contexts = map first_context guests;
   output = [];
   error = [];
+  sets = 0;
   fetches = 0;
   words = [];
 }
