@@ -28,7 +28,7 @@ use Rattle.swi_run_laws.specs.Broken.{Broke, DeviceBroke, RamBroke}
 use Rattle.swi_run_laws.proofs.After.{is_after}
 use Rattle.swi_run_laws.proofs.Broken.{broke_off, off_in_order, off_unasked}
 use Rattle.swi_run_laws.proofs.RunLaws.{flat_at, goes_short, most_fetched, steps_are, words_front}
-use Rattle.swi_trace.specs.declared.trace.Trace.{Trace}
+use Rattle.swi_line.specs.declared.trace.Trace.{Trace}
 use Rattle.swi_cached.specs.Answers.{Failed, RamFailed, StepFailed}
 use Rattle.swi_cached.specs.Cached.{CachedRun, fetches_after, program_after, words_after}
 use Rattle.swi_cached.specs.CachedRan.{Around, Booted, with_input}

@@ -24,7 +24,7 @@ use Rattle.swi_board.proofs.Held.{same_steps}
 use Rattle.swi_run_laws.specs.After.{IsAfter}
 use Rattle.swi_run_laws.proofs.Between.{between_at, most_any, settled_most}
 use Rattle.swi_run_laws.proofs.RunLaws.{events_written, run_after}
-use Rattle.swi_trace.specs.declared.trace.Trace.{Trace}
+use Rattle.swi_line.specs.declared.trace.Trace.{Trace}
 use Rattle.swi_cached.specs.Answers.{BoardEnded, EndedSo, Ended, RamAfter}
 use Rattle.swi_cached.specs.Cached.{CachedRun, IsFresh, end_of, record_after, words_after}
 use Rattle.swi_cached.specs.CachedRan.{Around, Booted, with_input}

@@ -19,7 +19,7 @@ use Rattle.swi_board.specs.Moments.{Moment, booted}
 use Rattle.swi_board.specs.Tracking.{Point, Tracks, point_of}
 use Rattle.swi_board.proofs.Running.{kept_both}
 use Rattle.swi_run_laws.proofs.Between.{depth_booted}
-use Rattle.swi_trace.specs.declared.trace.Trace.{Trace}
+use Rattle.swi_line.specs.declared.trace.Trace.{Trace}
 use Rattle.swi_cached.specs.CachedRan.{Around, Booted, Given}
 use Rattle.swi_cached.specs.Told.{is_each}
 use Rattle.swi_cached.specs.Traced.{ToldAlong, ToldTo}

@@ -29,8 +29,8 @@ use Rattle.swi_board.proofs.Held.{run_snoc, same_steps}
 use Rattle.swi_board.proofs.Tracks.{step_tracks}
 use Rattle.swi_run_laws.proofs.RunLaws.{event_flat, flat_at}
 use Rattle.swi_run_laws.proofs.Schedules.{told_tracks}
-use Rattle.swi_trace.specs.declared.trace.Trace.{Trace}
-use Rattle.swi_trace.specs.declared.trace.Trace.TheVariants as trace
+use Rattle.swi_line.specs.declared.trace.Trace.{Trace}
+use Rattle.swi_line.specs.declared.trace.Trace.TheVariants as trace
 use Rattle.swi_cached.specs.Told.{addresses, error_by, history_of, is_each, of_steps, told_line}
 use Rattle.swi_cached.specs.Traced.{Before, Begun, BegunTo, Noted, Tells, ToldAlong, ToldRan, ToldTo, keeps_history, with_errors, with_sink}
 use Rattle.swi_cached.proofs.Tells.{event_told, line_is, noted_as, run_over, same_at, step_tells, tells_as}

@@ -9,7 +9,7 @@ use Rattle.swi_rom.specs.Service.{ServiceOf}
 use Rattle.swi_hart.specs.Matching.{Fits}
 use Rattle.swi_board.specs.Board.{BoardWithDevices}
 use Rattle.swi_board.proofs.Along.{with_source}
-use Rattle.swi_trace.specs.declared.trace.Trace.{Trace}
+use Rattle.swi_line.specs.declared.trace.Trace.{Trace}
 use Rattle.swi_cached.specs.Traced.{ToldAlong, keeps_history}
 use Rattle.swi_cached.proofs.Telling.{told_start}
 

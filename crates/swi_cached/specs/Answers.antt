@@ -18,7 +18,7 @@ use Rattle.swi_board.specs.Board.{BoardOf}
 use Rattle.swi_board.specs.Fetching.{FetchedFront, HasFetched}
 use Rattle.swi_board.specs.Ran.{Unasked}
 use Rattle.swi_board.specs.Transfers.{here_of}
-use Rattle.swi_trace.specs.declared.trace.Trace.{Trace}
+use Rattle.swi_line.specs.declared.trace.Trace.{Trace}
 use Rattle.swi_cached.specs.declared.run.CachedStop.{CachedStop}
 use Rattle.swi_cached.specs.declared.run.CachedStop.TheVariants as stop
 use Rattle.swi_cached.specs.Cached.{CachedRun, IsCounted, span_of, program_after, told_after, end_of, instructions_after, fetches_after, words_after, place_after, record_after, used_after}

@@ -16,7 +16,7 @@ use Rattle.swi_hart.specs.declared.fault.BoardFault.TheVariants.{RamFault}
 use Rattle.swi_board.specs.Board.{BoardOf, BoardWithDevices}
 use Rattle.swi_board.specs.BoardRan.{with_ram}
 use Rattle.swi_board.specs.Entered.{Entered}
-use Rattle.swi_trace.specs.declared.trace.Trace.{Trace}
+use Rattle.swi_line.specs.declared.trace.Trace.{Trace}
 use Rattle.swi_cached.specs.declared.run.AskedRun.{AskedRun}
 use Rattle.swi_cached.specs.declared.run.CachedStop.{CachedStop}
 use Rattle.swi_cached.specs.declared.run.CachedStop.TheVariants as stop

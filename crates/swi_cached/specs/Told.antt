@@ -7,8 +7,8 @@ use Rattle.swi_calls.specs.Flat.{Made}
 use Rattle.swi_calls.specs.Held.{held_made, held_run}
 use Rattle.swi_trace.specs.History.{last_of}
 use Rattle.swi_trace.specs.Text.{trace_line_of}
-use Rattle.swi_trace.specs.declared.trace.Trace.{Trace}
-use Rattle.swi_trace.specs.declared.trace.Trace.TheVariants as trace
+use Rattle.swi_line.specs.declared.trace.Trace.{Trace}
+use Rattle.swi_line.specs.declared.trace.Trace.TheVariants as trace
 
 -- whether each step has its line
 abbrev pub is_each : Trace → Bool

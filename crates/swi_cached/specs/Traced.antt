@@ -15,8 +15,8 @@ use Rattle.swi_board.specs.BoardRan.{BoardStays, BrokeOff}
 use Rattle.swi_board.specs.Moments.{GoesOn, Moment, Policy, events}
 use Rattle.swi_board.specs.Tracking.{Point, Tracks, point_of}
 use Rattle.swi_trace.specs.History.{IsLastOf}
-use Rattle.swi_trace.specs.declared.trace.Trace.{Trace}
-use Rattle.swi_trace.specs.declared.trace.Trace.TheVariants as trace
+use Rattle.swi_line.specs.declared.trace.Trace.{Trace}
+use Rattle.swi_line.specs.declared.trace.Trace.TheVariants as trace
 use Rattle.swi_cached.specs.Told.{addresses, error_by, is_each, told_line}
 
 -- the same moment with these errors

@@ -19,11 +19,12 @@ use crate::told::{first_history, run_steps};
 use std::alloc::Global;
 use swi_board::{Board, BoardFault, BootStop};
 use swi_image::ImageView;
+use swi_line::Trace;
 use swi_memory::Layout;
 use swi_outside::{Sink, Source, SteadyRam};
 use swi_program::Program;
 use swi_rom::CacheRom;
-use swi_trace::{History, Trace};
+use swi_trace::History;
 
 /// A run that is asked for.
 #[derive(Clone, Copy, Debug, PartialEq, Eq)]

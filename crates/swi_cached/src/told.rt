@@ -16,9 +16,10 @@ ghost use Rattle.swi_cached.specs.Traced.{ToldRan};
 use std::alloc::Global;
 use swi_board::{Board, BoardFault};
 use swi_image::ImageView;
+use swi_line::Trace;
 use swi_outside::{Failed, Memory, Sink, Source, SteadyRam};
 use swi_rom::CacheRom;
-use swi_trace::{History, Trace, trace_line};
+use swi_trace::{History, trace_line};
 
 /// A history of no steps, where any are told.
 pub(crate) fn first_history(alloc: Global, telling: Trace) -> Result<Option<History>, Memory>

@@ -10,8 +10,8 @@ use Rattle.swi_trace.specs.Text.{trace_line_of}
 use Rattle.swi_cached.specs.Told.{addresses, history_of, lines_at}
 use Rattle.swi_cached.specs.Cached.{CachedRun, end_of, told_after}
 use Rattle.swi_calls.specs.declared.machine.Machine.{Machine}
-use Rattle.swi_trace.specs.declared.trace.Trace.{Trace}
-use Rattle.swi_trace.specs.declared.trace.Trace.TheVariants as trace
+use Rattle.swi_line.specs.declared.trace.Trace.{Trace}
+use Rattle.swi_line.specs.declared.trace.Trace.TheVariants as trace
 use Rattle.swi_cached_command.specs.RunCached.{addresses_in, last_lines, last_told, one_of, shown_error}
 use Rattle.swi_task.proofs.Due.{left_empty, right_empty, some_bytes}
 

@@ -12,8 +12,8 @@ use Rattle.swi_image.specs.Format.{ImageData}
 use Rattle.swi_command.specs.declared.command.CacheOptions.{CacheOptions}
 use Rattle.swi_command.specs.declared.command.RunLimits.{RunLimits}
 use Rattle.swi_command.specs.declared.command.RunOptions.{RunOptions}
-use Rattle.swi_trace.specs.declared.trace.Trace.{Trace}
-use Rattle.swi_trace.specs.declared.trace.Trace.TheVariants as trace
+use Rattle.swi_line.specs.declared.trace.Trace.{Trace}
+use Rattle.swi_line.specs.declared.trace.Trace.TheVariants as trace
 use Rattle.swi_calls.specs.State.{FlatState}
 use Rattle.swi_calls.specs.Flat.{Made, flat_start}
 use Rattle.swi_calls.specs.Held.{held_made}

@@ -7,9 +7,10 @@ ghost use Rattle.swi_outside.specs.Sink.{WritesPiece};
 ghost use Rattle.swi_cached.specs.Told.{lines_at};
 ghost use Rattle.swi_cached_command.specs.RunCached.{addresses_in, last_told, one_of};
 
+use swi_line::Trace;
 use swi_memory::Bus;
 use swi_outside::{Failed, Sink};
-use swi_trace::{History, Trace, trace_line};
+use swi_trace::{History, trace_line};
 
 /// Writes the line of the step at one of a history's addresses.
 fn write_step<E: Sink>(history: &History, k: u32, bus: &Bus, err: &mut E) -> Result<(), Failed>

@@ -19,8 +19,8 @@ use Rattle.swi_command.specs.declared.command.RunLimits.{RunLimits}
 use Rattle.swi_command.specs.declared.command.RunOptions.{RunOptions}
 use Rattle.swi_command.specs.declared.command.Schedule.{Schedule}
 use Rattle.swi_command.specs.declared.command.ShareOptions.{ShareOptions}
-use Rattle.swi_trace.specs.declared.trace.Trace.{Trace}
-use Rattle.swi_trace.specs.declared.trace.Trace.TheVariants.{Off, Each, Last}
+use Rattle.swi_line.specs.declared.trace.Trace.{Trace}
+use Rattle.swi_line.specs.declared.trace.Trace.TheVariants.{Off, Each, Last}
 
 -- ---- numbers
 

@@ -14,7 +14,7 @@ use crate::{
 };
 use clap::ArgMatches;
 use std::alloc::Global;
-use swi_trace::Trace;
+use swi_line::Trace;
 
 /// The first value that the words give the argument.
 fn value_of<'a>(matches: &ArgMatches<'a>, name: &str) -> Option<&'a str>

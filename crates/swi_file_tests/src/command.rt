@@ -3,7 +3,7 @@ use std::alloc::Global;
 use std::test::Fail;
 use swi_command::CacheKind::{self, Ring, Slots};
 use swi_command::{CacheOptions, Command, CommandError, Reports, RunOptions, parse_command};
-use swi_trace::Trace;
+use swi_line::Trace;
 
 /// A cache's bytes, the most words of its blocks, and its kind.
 type Cache = (u32, u32, CacheKind);

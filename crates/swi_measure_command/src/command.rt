@@ -29,13 +29,14 @@ use swi_cached_command::board_work;
 use swi_calls::End;
 use swi_command::{CacheKind, CacheOptions};
 use swi_image::ImageView;
+use swi_line::Trace;
 use swi_make::{BASE, make};
 use swi_outside::{Sink, SteadyRam};
 use swi_program::{Program, lay_out, one_text};
 use swi_report::{Measured, summary_text};
 use swi_rom::CacheRom;
 use swi_task::{Prepared, check_block, check_size, cut_image, ending_by};
-use swi_trace::{History, Trace};
+use swi_trace::History;
 
 /// The bytes of the heap and of the stack.
 const HEAP: u32 = 1 << 20;

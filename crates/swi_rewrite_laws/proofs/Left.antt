@@ -13,8 +13,8 @@ use Rattle.swi_command.specs.declared.command.RunOptions.{RunOptions}
 use Rattle.swi_command.specs.CommandLine.{Request, RewriteFile, RunAhead, RunShared, RunCached, RunPlain, ListFile, CheckFile, UpgradeFile, MeasureMade, RunSurvey}
 use Rattle.swi_report.specs.Stats.{work_text}
 use Rattle.swi_trace.specs.History.{last_of}
-use Rattle.swi_trace.specs.declared.trace.Trace.{Trace}
-use Rattle.swi_trace.specs.declared.trace.Trace.TheVariants as trace
+use Rattle.swi_line.specs.declared.trace.Trace.{Trace}
+use Rattle.swi_line.specs.declared.trace.Trace.TheVariants as trace
 use Rattle.swi_cached.specs.Cached.{CachedRun}
 use Rattle.swi_cached.specs.Told.{addresses, error_by, is_each, lines_at}
 use Rattle.swi_answer.specs.declared.answer.Ending.{Ending}

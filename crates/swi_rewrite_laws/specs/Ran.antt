@@ -5,8 +5,8 @@ use Rattle.swi_outside.specs.Causes.{Rose}
 use Rattle.swi_calls.specs.FirstStore.{StoresAt}
 use Rattle.swi_command.specs.declared.command.RunOptions.{RunOptions}
 use Rattle.swi_command.specs.CommandLine.{Request, RunAhead, RunCached, RunPlain}
-use Rattle.swi_trace.specs.declared.trace.Trace.{Trace}
-use Rattle.swi_trace.specs.declared.trace.Trace.TheVariants.{Off}
+use Rattle.swi_line.specs.declared.trace.Trace.{Trace}
+use Rattle.swi_line.specs.declared.trace.Trace.TheVariants.{Off}
 use Rattle.swi_answer.specs.declared.answer.Ending.{Ending}
 use Rattle.swi_task.specs.Answers.{AnswersWithLine}
 use Rattle.swi_task.specs.Devices.{Devices}

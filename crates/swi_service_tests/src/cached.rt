@@ -15,12 +15,13 @@ use swi_cut::cut;
 use swi_devices::{FaultRam, MemSink, MemSource};
 use swi_exec::FaultKind::*;
 use swi_image::ImageView;
+use swi_line::Trace;
 use swi_memory::Layout;
 use swi_outside::CacheRam;
 use swi_program::{Program, lay_out};
 use swi_rom::CacheRom;
 use swi_slots::FifoRom;
-use swi_trace::{History, Trace};
+use swi_trace::History;
 
 mod board;
 mod foreign;

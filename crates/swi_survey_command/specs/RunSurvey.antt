@@ -9,7 +9,7 @@ use Rattle.swi_image.specs.Format.{ImageData}
 use Rattle.swi_command.specs.declared.command.CacheKind.{CacheKind}
 use Rattle.swi_command.specs.declared.command.RunLimits.{RunLimits}
 use Rattle.swi_command.specs.declared.command.RunOptions.{RunOptions}
-use Rattle.swi_trace.specs.declared.trace.Trace.TheVariants as trace
+use Rattle.swi_line.specs.declared.trace.Trace.TheVariants as trace
 use Rattle.swi_calls.specs.State.{FlatState}
 use Rattle.swi_calls.specs.Flat.{flat_start}
 use Rattle.swi_calls.specs.Held.{held_run}

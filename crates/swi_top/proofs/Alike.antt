@@ -19,8 +19,8 @@ use Rattle.swi_report.specs.State.{state_text_of}
 use Rattle.swi_report.specs.Stats.{stats_text_of, work_text}
 use Rattle.swi_cached.specs.Cached.{CachedRun, end_of, program_after}
 use Rattle.swi_cached.specs.Told.{is_each}
-use Rattle.swi_trace.specs.declared.trace.Trace.{Trace}
-use Rattle.swi_trace.specs.declared.trace.Trace.TheVariants as trace
+use Rattle.swi_line.specs.declared.trace.Trace.{Trace}
+use Rattle.swi_line.specs.declared.trace.Trace.TheVariants as trace
 use Rattle.swi_answer.specs.declared.answer.Ending.{Ending}
 use Rattle.swi_answer.specs.declared.answer.Refusal.{Refusal}
 use Rattle.swi_answer.specs.declared.answer.Refusal.TheVariants as refusal

@@ -5,7 +5,7 @@ use Rattle.swi_outside.specs.Causes.{Rose}
 use Rattle.swi_calls.specs.FirstStore.{StoresAt}
 use Rattle.swi_command.specs.declared.command.CacheOptions.{CacheOptions}
 use Rattle.swi_command.specs.declared.command.RunOptions.{RunOptions}
-use Rattle.swi_trace.specs.declared.trace.Trace.TheVariants.{Off}
+use Rattle.swi_line.specs.declared.trace.Trace.TheVariants.{Off}
 use Rattle.swi_command.specs.CommandLine.{Request}
 use Rattle.swi_answer.specs.declared.answer.Ending.{Ending}
 use Rattle.swi_answer.specs.declared.answer.Refusal.{Refusal}

@@ -6,9 +6,7 @@ mod block;
 mod history;
 mod mnemonics;
 mod text;
-mod trace;
 
 pub use block::list_block;
 pub use history::History;
 pub use text::{text_of, trace_line};
-pub use trace::Trace;
