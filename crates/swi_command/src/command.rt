@@ -1,6 +1,6 @@
-use swi_line::Trace;
 //! What words can ask for.
 
+use swi_line::Trace;
 
 /// The most that a run takes.
 #[derive(Clone, Copy, Debug, PartialEq, Eq)]
