@@ -1,7 +1,6 @@
 -- The machine instructions of so many original steps, told forwards, come to what transfers, cost and words of these steps say.
-use Rattle.std.proofs.Common.{◌≡◌, if◌then◌else◌, ℕ, zero, suc, ◌+◌, ◌-◌, ◌<◌, ◌≤◌, nat_lt, Bool, true, false, List, [], ◌∷◌, ◌++◌, length, reverse, Option, Some, None, is_some, refl, sym, ap, subst, ◌∙◌, inl, inr, arith}
+use Rattle.std.proofs.Common.{◌≡◌, if◌then◌else◌, ℕ, zero, suc, ◌+◌, ◌-◌, ◌<◌, ◌≤◌, Bool, true, false, List, [], ◌∷◌, ◌++◌, length, reverse, Option, Some, None, is_some, refl, sym, ap, subst, ◌∙◌, inl, inr, arith}
 use Rattle.std.proofs.lemmas.Bool.{cases_Bool, cases_lt, false≢true}
-use Rattle.std.proofs.lemmas.Bool.Decides.{nat_tests}
 use Rattle.std.proofs.lemmas.List.{append_assoc, reverse-append}
 use Rattle.swi_outside.specs.CacheRam.{Fetch, fetch}
 use Rattle.swi_calls.specs.declared.end.End.{End}
@@ -12,14 +11,13 @@ use Rattle.swi_calls.specs.State.{FlatState}
 use Rattle.swi_image.specs.Format.{ImageData}
 use Rattle.swi_image.specs.Place.{place_of}
 use Rattle.swi_rom.specs.Record.{Record, Transfer, direct, writes}
-use Rattle.swi_hart.specs.Hart.{original, slots}
 use Rattle.swi_board.specs.Fetching.{Written, fall_words, index_in, step_words, words_run, written_by}
-use Rattle.swi_board.specs.Transfers.{Here, after_all, at_fall, before_last, cost, fall_transfers, fetches, here_after, here_run, settled, step_size, step_transfers, transfers}
+use Rattle.swi_board.specs.Transfers.{Here, after_all, at_fall, cost, fall_transfers, fetches, here_after, here_run, settled, step_size, step_transfers, transfers}
 use Rattle.swi_board.proofs.Counting.{after_append, transfers_more, cost_more, cost_none, here_more, here_none, over_cost, over_transfers, place_not_fall, transfers_none}
 use Rattle.swi_board.proofs.Fetching.{words_more, words_none, words_over}
 use Rattle.swi_board.proofs.Held.{held_steps}
-use Rattle.swi_board.specs.Moments.{GoesOn, Moment, Policy, completed, counted, event, events, executed, fell, here_behind, led, stepped_at, written_in}
-use Rattle.swi_board.proofs.Events.{StepMade, event_at, event_rises, events_more, events_next, events_none, events_one, fall_event, plain_made, words_rise}
+use Rattle.swi_board.specs.Moments.{GoesOn, Moment, Policy, counted, event, events, fell, here_behind, written_in}
+use Rattle.swi_board.proofs.Events.{events_more, events_none, events_one, fall_event, plain_made, words_rise}
 pub use Rattle.swi_board.proofs.Events.{Leads, events_more, leads}
 use Rattle.swi_run_laws.specs.After.{IsAfter, IsWithin}
 
