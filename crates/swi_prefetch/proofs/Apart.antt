@@ -5,6 +5,7 @@ use Rattle.std.proofs.lemmas.Bool.{cases_lt, eq-eqb, false≢true}
 use Rattle.std.proofs.lemmas.List.{map-append}
 use Rattle.std.proofs.lemmas.Nat.{same_from_place}
 use Rattle.std.proofs.Math.Nat.{mul-div_cancel}
+use Rattle.swi_outside.specs.CacheRam.{Fetch, fetch}
 use Rattle.swi_calls.specs.declared.end.End.{End}
 use Rattle.swi_calls.specs.declared.machine.Machine.{Machine}
 use Rattle.swi_calls.specs.Held.{held_step}
@@ -258,10 +259,10 @@ engine_seated by v s is = by_ending s.flat.machine.ending
 hart_seated : (by : Setting) (v : ImageData) (s : Moment) → Seated by.slot_words s.kept → Seated by.slot_words (instruction (beside by) v s).kept
 hart_seated by v s is = by_ending s.flat.machine.ending
   where
-    word : ℕ × ℕ → List ℕ
-    word p = (index_in s.kept p + s.spent) ∷ []
+    word : ℕ × ℕ → List Fetch
+    word p = fetch (index_in s.kept p + s.spent) s.sets ∷ []
 
-    whole : (h : Here) (ws : List ℕ) → Seated by.slot_words (counted ws (completed (beside by) v h s)).kept
+    whole : (h : Here) (ws : List Fetch) → Seated by.slot_words (counted ws (completed (beside by) v h s)).kept
     whole h ws = all_seated by v (step_transfers s.flat.machine h (held_step s.flat).machine) s.kept is
 
     by_words : (p : ℕ × ℕ) (t : Bool) → Seated by.slot_words (counted (word p) (if t then led s else completed (beside by) v (Some p) s)).kept

@@ -5,7 +5,8 @@ use Rattle.std.specs.Io.KnownBytes.{Appends}
 use Rattle.std.proofs.lemmas.Bool.{ltb-true, false≢true}
 use Rattle.swi_outside.specs.Devices.{Devices, Faults, HasCauses, faults_of}
 use Rattle.swi_outside.specs.Causes.{DeviceCause}
-use Rattle.swi_outside.specs.CacheRam.{KeepsBeyond, RamState}
+use Rattle.swi_outside.specs.CacheRam.{Fetch, KeepsBeyond, RamState, since}
+use Rattle.swi_outside.specs.Fetches.{since_append}
 use Rattle.swi_outside.specs.Laws.{cause_from, causes_from, no_cause, none_named, ok_causes, ok_unmoved}
 use Rattle.swi_calls.specs.declared.end.End.{End}
 use Rattle.swi_calls.specs.State.{FlatState}
@@ -19,7 +20,7 @@ use Rattle.swi_hart.specs.declared.fault.BoardFault.{BoardFault}
 use Rattle.swi_hart.specs.declared.fault.BoardFault.TheVariants.{RamFault, SinkFault, SourceFault}
 use Rattle.swi_board.specs.Board.{BoardOf, BoardWithDevices}
 use Rattle.swi_board.specs.BoardRan.{BrokeOff}
-use Rattle.swi_board.specs.Fetching.{FetchedFront}
+use Rattle.swi_board.specs.Fetching.{FrontSince}
 use Rattle.swi_board.specs.Moments.{GoesOn, Moment, event as instruction}
 use Rattle.swi_board.specs.Ran.{Unasked, next_of}
 use Rattle.swi_board.specs.Runs.{unfetched}
@@ -506,24 +507,28 @@ round_stopped v rate made w0 w2 fault (inr engine) = by w0.board (engine_stopped
 
 -- ---- the words of such a round
 
--- what a schedule has gained over a moment, as far as it was fetched
-abbrev GainsFront : List ℕ → List ℕ → RamState → RamState → Type 0
-GainsFront first all before after = (more : List ℕ) × (all ≡ more ++ first) × FetchedFront (reverse more) before after
+-- what a schedule has gained over a moment, as far as it was fetched, of a run that began where the ram had made so many sets
+abbrev GainsFront : ℕ → List Fetch → List Fetch → RamState → RamState → Type 0
+GainsFront sets first all before after = (more : List Fetch) × (all ≡ more ++ first) × FrontSince sets (reverse more) before after
 
 -- the words fetched are those of a first part of a schedule
-part_fetched : (by : Setting) (v : ImageData) (us rest ts : List Turn) (s : Moment) (from : Point) (before after : RamState) → ts ≡ us ++ rest → before.fetched_at ≡ s.words ++ from.ram.fetched_at →
-    after.fetched_at ≡ (turned_all by v us s).words ++ from.ram.fetched_at → GainsFront s.words (turned_all by v ts s).words before after
+part_fetched : (by : Setting) (v : ImageData) (us rest ts : List Turn) (s : Moment) (from : Point) (before after : RamState) → ts ≡ us ++ rest →
+    before.fetched_at ≡ since from.ram.sets s.words ++ from.ram.fetched_at → after.fetched_at ≡ since from.ram.sets (turned_all by v us s).words ++ from.ram.fetched_at →
+    GainsFront from.ram.sets s.words (turned_all by v ts s).words before after
 part_fetched by v us rest ts s from before after split was now =
     let made = keeps_fetched by v us s in
     let ahead = keeps_fetched by v rest (turned_all by v us s) in (
       ahead.0 ++ made.0,
-      ap (λ (l : List Turn). (turned_all by v l s).words) split ∙ ap (λ (k : Moment). k.words) (turned_more by v us rest s) ∙ ahead.1 ∙ ap (λ (l : List ℕ). ahead.0 ++ l) made.1 ∙ sym (append_assoc ahead.0 made.0 s.words),
+      ap (λ (l : List Turn). (turned_all by v l s).words) split ∙ ap (λ (k : Moment). k.words) (turned_more by v us rest s) ∙ ahead.1 ∙ ap (λ (l : List Fetch). ahead.0 ++ l) made.1 ∙ sym (append_assoc ahead.0 made.0 s.words),
       (
         reverse ahead.0,
         record {
           fetched = reverse made.0;
-          are = now ∙ ap (λ (l : List ℕ). l ++ from.ram.fetched_at) made.1 ∙ append_assoc made.0 s.words from.ram.fetched_at ∙ ap (λ (l : List ℕ). made.0 ++ l) (sym was)
-              ∙ ap (λ (l : List ℕ). l ++ before.fetched_at) (sym (reverse-reverse made.0));
+          are = now ∙ ap (λ (l : List Fetch). since from.ram.sets l ++ from.ram.fetched_at) made.1
+              ∙ ap (λ (l : List Fetch). l ++ from.ram.fetched_at) (since_append from.ram.sets made.0 s.words)
+              ∙ append_assoc (since from.ram.sets made.0) (since from.ram.sets s.words) from.ram.fetched_at
+              ∙ ap (λ (l : List Fetch). since from.ram.sets made.0 ++ l) (sym was)
+              ∙ ap (λ (l : List Fetch). since from.ram.sets l ++ before.fetched_at) (sym (reverse-reverse made.0));
           front = sym (reverse-append ahead.0 made.0);
         },
       ),
@@ -547,31 +552,31 @@ engine_split rate made k lt =
     ∙ ap (λ (l : List Turn). rounds rate made ++ of_hart ∷ l) (ap (λ (n : ℕ). replicate n of_engine) sum ∙ replicate_both k (rate - k))
     ∙ sym (append_assoc (rounds rate made) (round k) (replicate (rate - k) of_engine))
 
-module _ (by : Setting) (v : ImageData) (rate made : ℕ) (s : Moment) (from : Point) (before after : RamState) (was : before.fetched_at ≡ s.words ++ from.ram.fetched_at) where
+module _ (by : Setting) (v : ImageData) (rate made : ℕ) (s : Moment) (from : Point) (before after : RamState) (was : before.fetched_at ≡ since from.ram.sets s.words ++ from.ram.fetched_at) where
   abbrev mid : Moment
   mid = turned_all by v (rounds rate made) s
 
   abbrev Gains : Type 0
-  Gains = GainsFront s.words (turned_all by v (rounds rate (made + 1)) s).words before after
+  Gains = GainsFront from.ram.sets s.words (turned_all by v (rounds rate (made + 1)) s).words before after
 
-  none_gains : after.fetched_at ≡ mid.words ++ from.ram.fetched_at → Gains
+  none_gains : after.fetched_at ≡ since from.ram.sets mid.words ++ from.ram.fetched_at → Gains
   none_gains now = part_fetched by v (rounds rate made) (round rate) (rounds rate (made + 1)) s from before after (none_split rate made) was now
 
-  hart_gains : after.fetched_at ≡ (instruction (beside by) v mid).words ++ from.ram.fetched_at → Gains
+  hart_gains : after.fetched_at ≡ since from.ram.sets (instruction (beside by) v mid).words ++ from.ram.fetched_at → Gains
   unfolding turned_all
   hart_gains now =
       part_fetched by v (rounds rate made ++ of_hart ∷ []) (replicate rate of_engine) (rounds rate (made + 1)) s from before after (hart_split rate made) was
-      (now ∙ ap (λ (k : Moment). k.words ++ from.ram.fetched_at) (sym (turned_more by v (rounds rate made) (of_hart ∷ []) s)))
+      (now ∙ ap (λ (k : Moment). since from.ram.sets k.words ++ from.ram.fetched_at) (sym (turned_more by v (rounds rate made) (of_hart ∷ []) s)))
 
-  engine_gains : (k : ℕ) → k < rate → after.fetched_at ≡ (turned_all by v (round k) mid).words ++ from.ram.fetched_at → Gains
+  engine_gains : (k : ℕ) → k < rate → after.fetched_at ≡ since from.ram.sets (turned_all by v (round k) mid).words ++ from.ram.fetched_at → Gains
   engine_gains k lt now =
       part_fetched by v (rounds rate made ++ round k) (replicate (rate - k) of_engine) (rounds rate (made + 1)) s from before after (engine_split rate made k lt) was
-      (now ∙ ap (λ (q : Moment). q.words ++ from.ram.fetched_at) (sym (turned_more by v (rounds rate made) (round k) s)))
+      (now ∙ ap (λ (q : Moment). since from.ram.sets q.words ++ from.ram.fetched_at) (sym (turned_more by v (rounds rate made) (round k) s)))
 
   broke_gains : (fault : BoardFault) (new : Point) → new.ram ≡ after → Broke (beside by) v fault mid from new → Gains
   broke_gains RamFault new same h = elim h.is [
-    | inl is ↦ none_gains (ap (λ (r : RamState). r.fetched_at) (sym same) ∙ h.words ∙ ap (λ (k : Moment). k.words ++ from.ram.fetched_at) is)
-    | inr is ↦ hart_gains (ap (λ (r : RamState). r.fetched_at) (sym same) ∙ h.words ∙ ap (λ (k : Moment). k.words ++ from.ram.fetched_at) is)
+    | inl is ↦ none_gains (ap (λ (r : RamState). r.fetched_at) (sym same) ∙ h.words ∙ ap (λ (k : Moment). since from.ram.sets k.words ++ from.ram.fetched_at) is)
+    | inr is ↦ hart_gains (ap (λ (r : RamState). r.fetched_at) (sym same) ∙ h.words ∙ ap (λ (k : Moment). since from.ram.sets k.words ++ from.ram.fetched_at) is)
   ]
   broke_gains SourceFault new same h = hart_gains (ap (λ (r : RamState). r.fetched_at) (sym same) ∙ h.words)
   broke_gains SinkFault new same h = hart_gains (ap (λ (r : RamState). r.fetched_at) (sym same) ∙ h.words)
@@ -580,7 +585,7 @@ round_gains : (v : ImageData) (rate made : ℕ) (w0 w2 : Whole) (fault : BoardFa
     FromHere v o w0.around (λ b s from.
     RoundStopped (setting_of b.rom) v rate fault (turned_all (setting_of b.rom) v (rounds rate made) s) from (point_around b w2.around) (faults_of w0.around.devices) (faults_of w2.around.devices)) →
     FromHere v o w0.around (λ b s from.
-    GainsFront s.words (turned_all (setting_of b.rom) v (rounds rate (made + 1)) s).words w0.around.ram w2.around.ram)
+    GainsFront from.ram.sets s.words (turned_all (setting_of b.rom) v (rounds rate (made + 1)) s).words w0.around.ram w2.around.ram)
 round_gains v rate made w0 w2 fault None stopped = absurd stopped
 round_gains v rate made w0 w2 fault (Some b) stopped = λ s from at. elim (stopped s from at) [
   | inl hart ↦ broke_gains (setting_of b.rom) v rate made s from w0.around.ram w2.around.ram at.words fault (point_around b w2.around) refl hart.broke

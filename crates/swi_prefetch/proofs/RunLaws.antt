@@ -2,7 +2,7 @@
 use Rattle.std.proofs.Common.{◌≡◌, ℕ, zero, suc, ◌+◌, ◌-◌, ◌<◌, ◌≤◌, not, ◌&&◌, nat_lt, if◌then◌else◌, Bool, true, false, List, [], ◌∷◌, replicate, Option, Some, None, is_some, Err, refl, sym, ap, subst, ◌∙◌, inl, inr, arith}
 use Rattle.std.proofs.lemmas.Bool.{cases_Bool, false≢true, ltb-true}
 use Rattle.std.proofs.lemmas.Bool.Decides.{nat_tests}
-use Rattle.swi_outside.specs.CacheRam.{RamState}
+use Rattle.swi_outside.specs.CacheRam.{Fetch, RamState, fetch}
 use Rattle.swi_outside.specs.Devices.{Devices, faults_of}
 use Rattle.swi_calls.specs.declared.end.End.{End}
 use Rattle.swi_calls.specs.declared.machine.Machine.{Machine}
@@ -79,10 +79,10 @@ module _ (by : Policy) (v : ImageData) (limit : ℕ) (start : FlatState) (none :
       omega (arith, made, same, none, below)
 
   -- the word under control
-  abbrev word : ℕ × ℕ → List ℕ
-  word p = (index_in s.kept p + s.spent) ∷ []
+  abbrev word : ℕ × ℕ → List Fetch
+  word p = fetch (index_in s.kept p + s.spent) s.sets ∷ []
 
-  whole_made : (h : Option (ℕ × ℕ)) (ws : List ℕ) → Comes limit start (counted ws (completed by v h s))
+  whole_made : (h : Option (ℕ × ℕ)) (ws : List Fetch) → Comes limit start (counted ws (completed by v h s))
   whole_made h ws = let few = fewer in record {
     steps = suc at.steps;
     few = omega (arith, few);

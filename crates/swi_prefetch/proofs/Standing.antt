@@ -2,6 +2,7 @@
 use Rattle.std.proofs.Common.{◌≡◌, if◌then◌else◌, ℕ, zero, suc, ◌+◌, ◌≤◌, nat_lt, Bool, true, false, List, [], ◌∷◌, Option, Some, None, is_some, refl, sym, ap, subst, ◌∙◌, inl, inr, zero-add, arith}
 use Rattle.std.proofs.lemmas.Bool.{cases_Bool, false≢true}
 use Rattle.std.proofs.lemmas.Bool.Decides.{nat_tests}
+use Rattle.swi_outside.specs.CacheRam.{Fetch, fetch}
 use Rattle.swi_calls.specs.declared.end.End.{End}
 use Rattle.swi_calls.specs.Held.{held_run, held_step}
 use Rattle.swi_calls.specs.Laws.{held_run_none, held_run_more, held_run_over}
@@ -68,8 +69,8 @@ one_size n v s there is plain going =
 
 module _ (by : Policy) (v : ImageData) (s0 s : Moment) (at : Stood v s0 s) (on : s.flat.machine.ending ≡ None) where
   -- the word under control
-  abbrev word : ℕ × ℕ → List ℕ
-  word p = (index_in s.kept p + s.spent) ∷ []
+  abbrev word : ℕ × ℕ → List Fetch
+  word p = fetch (index_in s.kept p + s.spent) s.sets ∷ []
 
   going : is_some s.flat.machine.ending ≡ false
   going = ap (λ (e : Option End). is_some e) on
@@ -78,7 +79,7 @@ module _ (by : Policy) (v : ImageData) (s0 s : Moment) (at : Stood v s0 s) (on :
   run_on = ap (λ (q : FlatState). is_some q.machine.ending) (sym at.flat) ∙ going
 
   -- the instruction is complete, of which all words but the last one were executed
-  whole : (h : Here) → s.here ≡ h → at_fall v s.flat.machine h ≡ false → (ws : List ℕ) → step_size 1 s.flat.machine h ≡ s.spent + 1 → Stood v s0 (counted ws (completed by v h s))
+  whole : (h : Here) → s.here ≡ h → at_fall v s.flat.machine h ≡ false → (ws : List Fetch) → step_size 1 s.flat.machine h ≡ s.spent + 1 → Stood v s0 (counted ws (completed by v h s))
   whole h is plain ws cost_is =
       let plain_here = ap (λ (x : Here). at_fall v s.flat.machine x) is ∙ plain in
       let there = here_run v at.steps s0.flat s0.here in

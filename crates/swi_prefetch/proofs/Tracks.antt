@@ -1,8 +1,9 @@
 -- Each event leads the board to where the definition's does.
-use Rattle.std.proofs.Common.{◌≡◌, ◌&&◌, if◌then◌else◌, ℕ, ◌+◌, ◌^◌, ◌<◌, Bool, List, length, Option, Some, None, is_some, Ok, refl, sym, ap, subst, ◌∙◌, inl, inr, arith}
+use Rattle.std.proofs.Common.{◌≡◌, ◌&&◌, if◌then◌else◌, ℕ, ◌+◌, ◌^◌, ◌<◌, Bool, List, ◌++◌, length, Option, Some, None, is_some, Ok, refl, sym, ap, subst, ◌∙◌, inl, inr, arith}
 use Rattle.std.proofs.lemmas.List.{length-append}
-use Rattle.swi_outside.specs.CacheRam.{RamState}
+use Rattle.swi_outside.specs.CacheRam.{Fetch, RamState, since}
 use Rattle.swi_outside.specs.Devices.{Devices}
+use Rattle.swi_outside.specs.Fetches.{since_length}
 use Rattle.swi_calls.specs.declared.end.End.{End}
 use Rattle.swi_calls.specs.declared.machine.Machine.{Machine}
 use Rattle.swi_image.specs.Format.{ImageData}
@@ -14,7 +15,7 @@ use Rattle.swi_hart.specs.declared.hart.Control.{Control}
 use Rattle.swi_hart.specs.declared.hart.Control.TheVariants.{At, Outside}
 use Rattle.swi_hart.specs.Bounds.{is_outside}
 use Rattle.swi_hart.specs.Hart.{HartData, place_under}
-use Rattle.swi_hart.specs.Leaving.{RamServed, indexes_after}
+use Rattle.swi_hart.specs.Leaving.{RamServed, fetch_under}
 use Rattle.swi_hart.specs.MachineStep.{BoardWithRam}
 use Rattle.swi_hart.specs.Matching.{Agrees, Stands}
 use Rattle.swi_board.specs.Board.{BoardWithDevices}
@@ -46,9 +47,9 @@ point b d = point_of engine_service (with_devices b d)
 -- ---- the hart
 
 -- a machine instruction fetches a word, but for one outside the text
-weighs : (c : Control) (l : List ℕ) → length (indexes_after c l) + (if is_outside c then 1 else 0) ≡ length l + 1
-weighs (At i b o stage) l = omega arith
-weighs Outside l = omega arith
+weighs : (c : Control) (n : ℕ) (l : List Fetch) → length (fetch_under c n ++ l) + (if is_outside c then 1 else 0) ≡ length l + 1
+weighs (At i b o stage) n l = omega arith
+weighs Outside n l = omega arith
 
 module _ (v : ImageData) (a b : BoardWithRam EngineData) (d d' : Devices) (was : Beside engine_service v a) (word : a.hart.machine.pc < 2 ^ 32) (turn : HartTurned engine_service v a b d d' (Ok tt))
     (s : Moment) (from : Point) (at : BoardTracks v s from (with_devices a d)) where
@@ -76,20 +77,26 @@ module _ (v : ImageData) (a b : BoardWithRam EngineData) (d d' : Devices) (was :
   pub hart_fetched : length (instruction (beside (setting_of a.rom)) v s).words + unfetched b.hart + s.count ≡ length s.words + unfetched a.hart + (instruction (beside (setting_of a.rom)) v s).count
   hart_fetched = by a.hart.machine.ending refl
     where
+      held : (words all : List Fetch) → all ≡ since from.ram.sets words ++ from.ram.fetched_at → length all ≡ length words + length from.ram.fetched_at
+      held words all are =
+          ap (λ (l : List Fetch). length l) are
+          ∙ length-append (since from.ram.sets words) from.ram.fetched_at
+          ∙ ap (λ (n : ℕ). n + length from.ram.fetched_at) (since_length from.ram.sets words)
+
       by : (e : Option End) → a.hart.machine.ending ≡ e → length (instruction (beside (setting_of a.rom)) v s).words + unfetched b.hart + s.count ≡ length s.words + unfetched a.hart + (instruction (beside (setting_of a.rom)) v s).count
       by None running =
           let step = turn.stepped running in
           let grown = step.grown was.sound in
           let there = hart_tracks in
-          let first = ap (λ (l : List ℕ). length l) at.words ∙ length-append s.words from.ram.fetched_at in
-          let last = ap (λ (l : List ℕ). length l) there.words ∙ length-append (instruction (beside (setting_of a.rom)) v s).words from.ram.fetched_at in
-          let more = ap (λ (l : List ℕ). length l) step.ram.fetched_at in
+          let first = held s.words a.ram.fetched_at at.words in
+          let last = held (instruction (beside (setting_of a.rom)) v s).words b.ram.fetched_at there.words in
+          let more = ap (λ (l : List Fetch). length l) step.ram.fetched_at in
           let counts = there.count in
           let count = at.count in
           let up = grown.count in
           let none : unfetched a.hart ≡ 0 = ap {B = ℕ} (λ (e : Option End). if is_some e && is_outside a.hart.control then 1 else 0) running in
           let out : (if is_outside a.hart.control then 1 else 0) ≡ unfetched b.hart = ap {B = ℕ} (λ (t : Bool). if t then 1 else 0) (sym grown.outside) in
-          let weight = weighs a.hart.control a.ram.fetched_at in
+          let weight = weighs a.hart.control a.ram.sets a.ram.fetched_at in
           omega (arith, first, last, more, counts, count, up, none, out, weight)
       by (Some x) ended =
           let same = turn.ended x ended in
@@ -169,7 +176,7 @@ module _ (v : ImageData) (a b : BoardWithRam EngineData) (d : Devices) (wrote : 
   engine_fetched =
       let same = by_end s.flat.machine.ending in
       let hart = ap (λ (h : HartData). unfetched h) turn.hart in
-      let words = ap (λ (l : List ℕ). length l) same.0 in
+      let words = ap (λ (l : List Fetch). length l) same.0 in
       let count = same.1 in
       omega (arith, hart, words, count)
     where

@@ -1,6 +1,7 @@
 -- Whatever the events are, each word that was set is told by the counts of the service or by the engine's, and no word fetched is taken back.
 use Rattle.std.proofs.Common.{◌≡◌, ◌==◌, ◌&&◌, not, if◌then◌else◌, ℕ, ◌+◌, ◌*◌, ◌/◌, ◌≤◌, nat_lt, Bool, true, false, List, [], ◌∷◌, ◌++◌, length, filter, Option, Some, None, is_some, refl, sym, ap, ◌∙◌, arith}
 use Rattle.std.proofs.lemmas.List.{append_assoc}
+use Rattle.swi_outside.specs.CacheRam.{Fetch, fetch}
 use Rattle.swi_calls.specs.declared.end.End.{End}
 use Rattle.swi_calls.specs.declared.machine.Machine.{Machine}
 use Rattle.swi_calls.specs.Flat.{started}
@@ -37,10 +38,10 @@ served_written by v ts s is = let k = served_kept by v ts s.kept in omega (arith
 hart_written : (by : Setting) (v : ImageData) (s : Moment) → Written s → Written (instruction (beside by) v s)
 hart_written by v s is = by_ending s.flat.machine.ending
   where
-    word : ℕ × ℕ → List ℕ
-    word p = (index_in s.kept p + s.spent) ∷ []
+    word : ℕ × ℕ → List Fetch
+    word p = fetch (index_in s.kept p + s.spent) s.sets ∷ []
 
-    whole : (h : Here) (ws : List ℕ) → Written (counted ws (completed (beside by) v h s))
+    whole : (h : Here) (ws : List Fetch) → Written (counted ws (completed (beside by) v h s))
     whole h ws = served_written by v (step_transfers s.flat.machine h (held_step s.flat).machine) s is
 
     by_words : (p : ℕ × ℕ) (t : Bool) → Written (counted (word p) (if t then led s else completed (beside by) v (Some p) s))
@@ -154,7 +155,7 @@ booted_written by v m left = served_written by v (indirect m.pc ∷ []) (record 
 
 -- ---- the words that are fetched
 
-hart_fetches : (by : Setting) (v : ImageData) (s : Moment) → (xs : List ℕ) × ((instruction (beside by) v s).words ≡ xs ++ s.words)
+hart_fetches : (by : Setting) (v : ImageData) (s : Moment) → (xs : List Fetch) × ((instruction (beside by) v s).words ≡ xs ++ s.words)
 unfolding events
 hart_fetches by v s = words_front (beside by) v 0 1 s (omega arith)
 
@@ -169,15 +170,15 @@ engine_fetches by v s = by_ending s.flat.machine.ending
     by_ending None = worked_fetches s (event_at (event by) s.kept v s.here)
     by_ending (Some x) = refl
 
-turned_fetches : (by : Setting) (v : ImageData) (t : Turn) (s : Moment) → (xs : List ℕ) × ((turned by v t s).words ≡ xs ++ s.words)
+turned_fetches : (by : Setting) (v : ImageData) (t : Turn) (s : Moment) → (xs : List Fetch) × ((turned by v t s).words ≡ xs ++ s.words)
 turned_fetches by v of_hart s = hart_fetches by v s
 turned_fetches by v of_engine s = ([], engine_fetches by v s)
 
 -- Whatever the schedule is, no word is taken back.
-pub keeps_fetched : (by : Setting) (v : ImageData) (ts : List Turn) (s : Moment) → (more : List ℕ) × ((turned_all by v ts s).words ≡ more ++ s.words)
+pub keeps_fetched : (by : Setting) (v : ImageData) (ts : List Turn) (s : Moment) → (more : List Fetch) × ((turned_all by v ts s).words ≡ more ++ s.words)
 unfolding turned_all
 keeps_fetched by v [] s = ([], refl)
 keeps_fetched by v (t ∷ ts) s =
     let one = turned_fetches by v t s in
     let rest = keeps_fetched by v ts (turned by v t s) in
-    (rest.0 ++ one.0, rest.1 ∙ ap (λ (l : List ℕ). rest.0 ++ l) one.1 ∙ sym (append_assoc rest.0 one.0 s.words))
+    (rest.0 ++ one.0, rest.1 ∙ ap (λ (l : List Fetch). rest.0 ++ l) one.1 ∙ sym (append_assoc rest.0 one.0 s.words))

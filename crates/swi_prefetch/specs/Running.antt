@@ -146,6 +146,6 @@ pub record RunBroke (v : ImageData) (limit rate : ℕ) (old new : Whole) (result
   pub stopped : IfErr result (λ fault. FromHere v old.board old.around (λ b s from.
       RoundStopped (setting_of b.rom) v rate fault (turned_all (setting_of b.rom) v (rounds rate made) s) from (point_around b new.around)
       (faults_of old.around.devices) (faults_of new.around.devices)))
-  -- the words that were fetched are a front of those of these rounds
+  -- the words that were fetched, each behind so many sets, are a front of those of these rounds
   pub words : FromHere v old.board old.around (λ b s from.
       (more : List Fetch) × ((turned_all (setting_of b.rom) v (rounds rate (made + 1)) s).words ≡ more ++ s.words) × FrontSince from.ram.sets (reverse more) old.around.ram new.around.ram)

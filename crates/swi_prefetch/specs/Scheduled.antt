@@ -43,7 +43,7 @@ moment_of c ts = turned_all (setting_for c) c.image ts (booted (setting_for c) c
 abbrev pub moment_after : AheadRun → ℕ → Moment
 moment_after c k = moment_of c (rounds c.rate k)
 
--- the words that they fetch, in order
+-- the words that they fetch, in order, each behind the sets of the boot and of all events before it
 abbrev pub words_of : AheadRun → List Turn → List Fetch
 words_of c ts = reverse (moment_of c ts).words
 

@@ -3,7 +3,7 @@ use Rattle.std.proofs.Common.{◌≡◌, ◌⊎◌, inl, inr, ℕ, suc, ◌+◌,
 use Rattle.std.proofs.Math.Nat.{div-mul-le_self}
 use Rattle.std.proofs.lemmas.List.{append-nil, reverse-reverse}
 use Rattle.std.specs.Io.KnownBytes.{Appends}
-use Rattle.swi_outside.specs.CacheRam.{KeepsBeyond, RamState}
+use Rattle.swi_outside.specs.CacheRam.{Fetch, KeepsBeyond, RamState, since}
 use Rattle.swi_outside.specs.Causes.{DeviceCause, Rose, risen}
 use Rattle.swi_outside.specs.Devices as outside
 use Rattle.swi_outside.specs.Laws.{Appends-append, Appends-none, cause_as, cause_from, named_as, no_cause, none_named, ok_unmoved}
@@ -161,12 +161,13 @@ fault_causes {T} {U} fault.SinkFault before after shelf ram streams =
     (named_as streams (λ x. let never : ⊥ = cc in absurd never) (λ x. let never : ⊥ = cc in absurd never) (λ _. refl) (λ _. refl))
 
 -- the words that these events fetch
-words_so : (c : AheadRun) (ts : List Turn) (s : Moment) (before after : RamState) → moment_of c ts ≡ s → after.fetched_at ≡ s.words ++ before.fetched_at → HasFetched (words_of c ts) before after
+words_so : (c : AheadRun) (ts : List Turn) (s : Moment) (before after : RamState) → moment_of c ts ≡ s → after.fetched_at ≡ since before.sets s.words ++ before.fetched_at → HasFetched (words_of c ts) before after
 words_so c ts s before after is words =
-    words ∙ ap (λ (k : Moment). k.words ++ before.fetched_at) (sym is) ∙ ap (λ (l : List ℕ). l ++ before.fetched_at) (sym (reverse-reverse (moment_of c ts).words))
+    words ∙ ap (λ (k : Moment). since before.sets k.words ++ before.fetched_at) (sym is)
+    ∙ ap (λ (l : List Fetch). since before.sets l ++ before.fetched_at) (sym (reverse-reverse (moment_of c ts).words))
 
 ram_at : (c : AheadRun) (d m : Devices) (s : Moment) (ts : List Turn) → AreBegun c ts → moment_of c ts ≡ s → m.input.left ≡ Some s.flat.input → Appends d.output.held m.output.held s.flat.output → Appends d.error.held m.error.held s.flat.error →
-    m.ram.fetched_at ≡ s.words ++ d.ram.fetched_at → m.ram.fetches ≡ risen d.ram.fetches (length s.words) → m.ram.last_failed ≡ true → RamBrokeAhead c d m refusal.RamFault []
+    m.ram.fetched_at ≡ since d.ram.sets s.words ++ d.ram.fetched_at → m.ram.fetches ≡ risen d.ram.fetches (length s.words) → m.ram.last_failed ≡ true → RamBrokeAhead c d m refusal.RamFault []
 ram_at c d m s ts are is input output error words fetches failed = record {
   fault = refl;
   events = ts;

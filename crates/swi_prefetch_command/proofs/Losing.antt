@@ -1,6 +1,7 @@
 -- Whatever the events are, each machine step but the boot has fetched a word, but for one at an address without a text word.
 use Rattle.std.proofs.Common.{◌≡◌, not, nat_lt, if◌then◌else◌, ℕ, suc, ◌+◌, ◌^◌, ◌<◌, Bool, true, false, List, [], ◌∷◌, length, Option, Some, None, is_some, refl, sym, ap, subst, ◌∙◌, arith}
 use Rattle.std.proofs.lemmas.Bool.{false≢true}
+use Rattle.swi_outside.specs.CacheRam.{Fetch, fetch}
 use Rattle.swi_memory.specs.Bus.{fetched}
 use Rattle.swi_calls.specs.declared.end.End.{End}
 use Rattle.swi_calls.specs.declared.machine.Machine.{Machine}
@@ -36,8 +37,8 @@ module _ (by : Policy) (v : ImageData) (s : Moment) (on : s.flat.machine.ending 
   found = (at.word on, ap (λ (e : Option End). unfetched e) on)
 
   -- the word under control
-  abbrev under : ℕ × ℕ → List ℕ
-  under p = (index_in s.kept p + s.spent) ∷ []
+  abbrev under : ℕ × ℕ → List Fetch
+  under p = fetch (index_in s.kept p + s.spent) s.sets ∷ []
 
   abbrev next : Machine
   next = (held_step s.flat).machine

@@ -113,7 +113,7 @@ pub record IsAheadRun (c : AheadRun) (made : ℕ) (before after : RamState) : Ty
   pub unused : SameFrom (extent_of (setting_for c) (moment_after c made).kept) before.words after.words
   -- the run's counts are those that the ram has counted
   pub counted : RamCounted (ahead_work (moment_after c made)) before after
-  -- and the words that were fetched are those of its rounds, one round after the other
+  -- and the words that were fetched are those of its rounds, in order, each behind as many sets, of service and engine, as in these
   pub words : HasFetched (words_of c (rounds c.rate made)) before after
   -- at most three machine instructions for each step, and one for the boot; one more where the run stopped before a store into the text
   pub most : (moment_after c made).count ≤ 3 * (end_of c).machine.steps + 2
@@ -132,7 +132,7 @@ pub record RunsAhead (o : RunOptions) (c : AheadRun) (before after : Devices) (e
 abbrev pub around : Devices → Around
 around d = record { ram = d.ram; devices = record { input = d.input; output = d.output; error = d.error } }
 
--- The ram failed with the words of these events fetched, and no others: the sinks hold just what the steps wrote whose words they are, and
+-- The ram failed with the words of these events fetched, each behind their sets, and no others: the sinks hold just what the steps wrote whose words they are, and
 -- of the input is gone just what those took. No call of the ram comes behind the one that failed.
 pub record RamBrokeAhead (c : AheadRun) (before after : Devices) (r : Refusal) (last : List ℕ) : Type 0 where
   pub fault : r ≡ refusal.RamFault

@@ -1,3 +1,4 @@
+use Rattle.swi_outside.specs.Devices.{streams}
 use Rattle.swi_prefetch.proofs.Inputs.{RunsOnInput}
 use Rattle.swi_prefetch.proofs.Rounds.{left_of}
 use Rattle.swi_prefetch.proofs.prefetch.Prefetch.run.Given as goal
@@ -8,14 +9,14 @@ invariant-loop-self g l = RunsOnInput l.image l.limit l.rate
       board = l.initial.self.board;
       around = record {
         ram = g.M.CacheRam.state l.initial.ram;
-        devices = record { input = g.I.Source.state l.initial.input; output = g.O.Sink.state l.initial.out; error = g.E.Sink.state l.initial.err };
+        devices = streams (g.I.Source.state l.initial.input) (g.O.Sink.state l.initial.out) (g.E.Sink.state l.initial.err);
       };
     })
     (record {
       board = l.self.board;
       around = record {
         ram = g.M.CacheRam.state l.ram;
-        devices = record { input = g.I.Source.state l.input; output = g.O.Sink.state l.out; error = g.E.Sink.state l.err };
+        devices = streams (g.I.Source.state l.input) (g.O.Sink.state l.out) (g.E.Sink.state l.err);
       };
     })
 
