@@ -2,26 +2,28 @@
 use Rattle.std.proofs.Common.{◌≡◌, if◌then◌else◌, ℕ, zero, suc, ◌+◌, ◌-◌, ◌<◌, ◌≤◌, nat_lt, Bool, true, false, List, [], ◌∷◌, ◌++◌, length, reverse, Option, Some, None, is_some, refl, sym, ap, ◌∙◌, arith}
 use Rattle.std.proofs.lemmas.Bool.Decides.{nat_tests}
 use Rattle.std.proofs.lemmas.List.{reverse-append}
+use Rattle.swi_outside.specs.CacheRam.{Fetch, fetch}
 use Rattle.swi_calls.specs.declared.end.End.{End}
 use Rattle.swi_calls.specs.Held.{held_step}
 use Rattle.swi_calls.specs.State.{FlatState}
 use Rattle.swi_image.specs.Format.{ImageData}
 use Rattle.swi_rom.specs.Record.{Record, writes}
 use Rattle.swi_hart.specs.Hart.{original, slots}
-use Rattle.swi_board.specs.Fetching.{index_in, indexes_from, step_words}
+use Rattle.swi_board.specs.Fetching.{fetches_from, index_in, step_words}
 use Rattle.swi_board.specs.Transfers.{Here, after_all, at_fall, before_last, step_size, step_transfers}
-use Rattle.swi_board.specs.Moments.{Moment, Policy, completed, counted, event, events, executed, fell, here_behind, led, stepped_at}
+use Rattle.swi_board.specs.Moments.{Moment, Policy, completed, counted, event, events, executed, fell, here_behind, led, stepped_at, written_in}
 
 -- ---- what stands for a run of one step more
 
-indexes_snoc : (i m : ℕ) → indexes_from i (suc m) ≡ indexes_from i m ++ (i + m) ∷ []
-indexes_snoc i zero = let same : i ≡ i + 0 = omega arith in ap (λ (n : ℕ). n ∷ []) same
-indexes_snoc i (suc m) =
+fetches_snoc : (i m sets : ℕ) → fetches_from i (suc m) sets ≡ fetches_from i m sets ++ fetch (i + m) sets ∷ []
+fetches_snoc i zero sets = let same : i ≡ i + 0 = omega arith in ap (λ (n : ℕ). fetch n sets ∷ []) same
+fetches_snoc i (suc m) sets =
     let same : i + 1 + m ≡ i + suc m = omega arith in
-    ap (λ (l : List ℕ). i ∷ l) (indexes_snoc (i + 1) m ∙ ap (λ (n : ℕ). indexes_from (i + 1) m ++ n ∷ []) same)
+    ap (λ (l : List Fetch). fetch i sets ∷ l) (fetches_snoc (i + 1) m sets ∙ ap (λ (n : ℕ). fetches_from (i + 1) m sets ++ fetch n sets ∷ []) same)
 
-reverse_snoc : (i m : ℕ) (l : List ℕ) → (i + m) ∷ reverse (indexes_from i m) ++ l ≡ reverse (indexes_from i (suc m)) ++ l
-reverse_snoc i m l = ap (λ (x : List ℕ). x ++ l) (sym (reverse-append (indexes_from i m) ((i + m) ∷ [])) ∙ ap (λ (x : List ℕ). reverse x) (sym (indexes_snoc i m)))
+reverse_snoc : (i m sets : ℕ) (l : List Fetch) → fetch (i + m) sets ∷ reverse (fetches_from i m sets) ++ l ≡ reverse (fetches_from i (suc m) sets) ++ l
+reverse_snoc i m sets l =
+    ap (λ (x : List Fetch). x ++ l) (sym (reverse-append (fetches_from i m sets) (fetch (i + m) sets ∷ [])) ∙ ap (λ (x : List Fetch). reverse x) (sym (fetches_snoc i m sets)))
 
 -- ---- so many events, and one
 
@@ -48,30 +50,30 @@ module _ (by : Policy) (v : ImageData) (t : Moment) (going : is_some t.flat.mach
   pub event_at : (h : Here) → t.here ≡ h → event by v t ≡ stepped_at by v h t
   event_at h is = ap (λ (q : Bool). if q then t else stepped_at by v t.here t) going ∙ ap (λ (x : Here). stepped_at by v x t) is
 
-  pub fall_event : (p : ℕ × ℕ) → t.here ≡ Some p → at_fall v t.flat.machine (Some p) ≡ true → event by v t ≡ counted ((index_in t.kept p + t.spent) ∷ []) (fell by v p t)
-  fall_event p is falls = event_at (Some p) is ∙ ap (λ (q : Bool). counted ((index_in t.kept p + t.spent) ∷ []) (if q then fell by v p t else executed by v p t)) falls
+  pub fall_event : (p : ℕ × ℕ) → t.here ≡ Some p → at_fall v t.flat.machine (Some p) ≡ true → event by v t ≡ counted (fetch (index_in t.kept p + t.spent) t.sets ∷ []) (fell by v p t)
+  fall_event p is falls = event_at (Some p) is ∙ ap (λ (q : Bool). counted (fetch (index_in t.kept p + t.spent) t.sets ∷ []) (if q then fell by v p t else executed by v p t)) falls
 
   pub lead_event : (p : ℕ × ℕ) → t.here ≡ Some p → at_fall v t.flat.machine (Some p) ≡ false → nat_lt t.spent (before_last t.flat.machine (original t.flat.machine) (slots t.flat.machine)) ≡ true →
-      event by v t ≡ counted ((index_in t.kept p + t.spent) ∷ []) (led t)
+      event by v t ≡ counted (fetch (index_in t.kept p + t.spent) t.sets ∷ []) (led t)
   lead_event p is plain less =
-      event_at (Some p) is ∙ ap (λ (q : Bool). counted ((index_in t.kept p + t.spent) ∷ []) (if q then fell by v p t else executed by v p t)) plain
-      ∙ ap (λ (q : Bool). counted ((index_in t.kept p + t.spent) ∷ []) (if q then led t else completed by v (Some p) t)) less
+      event_at (Some p) is ∙ ap (λ (q : Bool). counted (fetch (index_in t.kept p + t.spent) t.sets ∷ []) (if q then fell by v p t else executed by v p t)) plain
+      ∙ ap (λ (q : Bool). counted (fetch (index_in t.kept p + t.spent) t.sets ∷ []) (if q then led t else completed by v (Some p) t)) less
 
   pub last_event : (p : ℕ × ℕ) → t.here ≡ Some p → at_fall v t.flat.machine (Some p) ≡ false → nat_lt t.spent (before_last t.flat.machine (original t.flat.machine) (slots t.flat.machine)) ≡ false →
-      event by v t ≡ counted ((index_in t.kept p + t.spent) ∷ []) (completed by v (Some p) t)
+      event by v t ≡ counted (fetch (index_in t.kept p + t.spent) t.sets ∷ []) (completed by v (Some p) t)
   last_event p is plain last =
-      event_at (Some p) is ∙ ap (λ (q : Bool). counted ((index_in t.kept p + t.spent) ∷ []) (if q then fell by v p t else executed by v p t)) plain
-      ∙ ap (λ (q : Bool). counted ((index_in t.kept p + t.spent) ∷ []) (if q then led t else completed by v (Some p) t)) last
+      event_at (Some p) is ∙ ap (λ (q : Bool). counted (fetch (index_in t.kept p + t.spent) t.sets ∷ []) (if q then fell by v p t else executed by v p t)) plain
+      ∙ ap (λ (q : Bool). counted (fetch (index_in t.kept p + t.spent) t.sets ∷ []) (if q then led t else completed by v (Some p) t)) last
 
 -- no word is taken back
 pub event_rises : (by : Policy) (v : ImageData) (s : Moment) → length s.words ≤ length (event by v s).words
 event_rises by v s = by_ending s.flat.machine.ending
   where
-    by_words : (p : ℕ × ℕ) (t : Bool) → length s.words ≤ length (counted ((index_in s.kept p + s.spent) ∷ []) (if t then led s else completed by v (Some p) s)).words
+    by_words : (p : ℕ × ℕ) (t : Bool) → length s.words ≤ length (counted (fetch (index_in s.kept p + s.spent) s.sets ∷ []) (if t then led s else completed by v (Some p) s)).words
     by_words p true = omega arith
     by_words p false = omega arith
 
-    by_fall : (p : ℕ × ℕ) (t : Bool) → length s.words ≤ length (counted ((index_in s.kept p + s.spent) ∷ []) (if t then fell by v p s else executed by v p s)).words
+    by_fall : (p : ℕ × ℕ) (t : Bool) → length s.words ≤ length (counted (fetch (index_in s.kept p + s.spent) s.sets ∷ []) (if t then fell by v p s else executed by v p s)).words
     by_fall p true = omega arith
     by_fall p false = by_words p (nat_lt s.spent (before_last s.flat.machine (original s.flat.machine) (slots s.flat.machine)))
 
@@ -97,7 +99,7 @@ pub record Leads (p : ℕ × ℕ) (m : ℕ) (s t : Moment) : Type 0 where
   pub spent : t.spent ≡ m
   pub kept : t.kept ≡ s.kept
   pub count : t.count ≡ s.count + m
-  pub words : t.words ≡ reverse (indexes_from (index_in s.kept p) m) ++ s.words
+  pub words : t.words ≡ reverse (fetches_from (index_in s.kept p) m s.sets) ++ s.words
   pub many : length t.words ≡ length s.words + m
   pub sets : t.sets ≡ s.sets
 
@@ -109,7 +111,7 @@ pub record StepMade (by : Policy) (v : ImageData) (h : Here) (n : ℕ) (s t : Mo
   pub here : t.here ≡ here_behind v s.flat.machine h (held_step s.flat).machine
   pub spent : t.spent ≡ 0
   pub count : t.count ≡ s.count + n
-  pub words : t.words ≡ reverse (step_words s.flat.machine h s.kept) ++ s.words
+  pub words : t.words ≡ reverse (step_words s.flat.machine h (written_in s)) ++ s.words
   pub before : (j : ℕ) → j < n → (events by v j s).flat ≡ s.flat
   pub many : length t.words ≡ length s.words + step_size 0 s.flat.machine h
   -- before a word of it fewer were fetched
@@ -136,10 +138,11 @@ module _ (by : Policy) (v : ImageData) (s : Moment) (p : ℕ × ℕ) (here : s.h
         kept = ap (λ (q : Moment). q.kept) is ∙ was.kept;
         count = ap (λ (q : Moment). q.count) is ∙ omega (arith, c);
         words = ap (λ (q : Moment). q.words) is
-            ∙ ap (λ (r : Record). (index_in r p + (events by v m s).spent) ∷ (events by v m s).words) was.kept
-            ∙ ap (λ (n : ℕ). (index_in s.kept p + n) ∷ (events by v m s).words) was.spent
-            ∙ ap (λ (l : List ℕ). (index_in s.kept p + m) ∷ l) was.words
-            ∙ reverse_snoc (index_in s.kept p) m s.words;
+            ∙ ap (λ (r : Record). fetch (index_in r p + (events by v m s).spent) (events by v m s).sets ∷ (events by v m s).words) was.kept
+            ∙ ap (λ (n : ℕ). fetch (index_in s.kept p + n) (events by v m s).sets ∷ (events by v m s).words) was.spent
+            ∙ ap (λ (n : ℕ). fetch (index_in s.kept p + m) n ∷ (events by v m s).words) was.sets
+            ∙ ap (λ (l : List Fetch). fetch (index_in s.kept p + m) s.sets ∷ l) was.words
+            ∙ reverse_snoc (index_in s.kept p) m s.sets s.words;
         many = (let so_far = was.many in let more = ap (λ (q : Moment). length q.words) is in omega (arith, so_far, more));
         sets = ap (λ (q : Moment). q.sets) is ∙ was.sets;
       }
@@ -170,11 +173,12 @@ module _ (by : Policy) (v : ImageData) (s : Moment) (p : ℕ × ℕ) (here : s.h
         spent = ap (λ (q : Moment). q.spent) is;
         count = omega (arith, c, total);
         words = ap (λ (q : Moment). q.words) is
-            ∙ ap (λ (r : Record). (index_in r p + (events by v (last s.flat) s).spent) ∷ (events by v (last s.flat) s).words) was.kept
-            ∙ ap (λ (n : ℕ). (index_in s.kept p + n) ∷ (events by v (last s.flat) s).words) was.spent
-            ∙ ap (λ (l : List ℕ). (index_in s.kept p + last s.flat) ∷ l) was.words
-            ∙ reverse_snoc (index_in s.kept p) (last s.flat) s.words
-            ∙ ap (λ (n : ℕ). reverse (indexes_from (index_in s.kept p) n) ++ s.words) (sym one);
+            ∙ ap (λ (r : Record). fetch (index_in r p + (events by v (last s.flat) s).spent) (events by v (last s.flat) s).sets ∷ (events by v (last s.flat) s).words) was.kept
+            ∙ ap (λ (n : ℕ). fetch (index_in s.kept p + n) (events by v (last s.flat) s).sets ∷ (events by v (last s.flat) s).words) was.spent
+            ∙ ap (λ (n : ℕ). fetch (index_in s.kept p + last s.flat) n ∷ (events by v (last s.flat) s).words) was.sets
+            ∙ ap (λ (l : List Fetch). fetch (index_in s.kept p + last s.flat) s.sets ∷ l) was.words
+            ∙ reverse_snoc (index_in s.kept p) (last s.flat) s.sets s.words
+            ∙ ap (λ (n : ℕ). reverse (fetches_from (index_in s.kept p) n s.sets) ++ s.words) (sym one);
         before = λ j lt. (leads j (omega (arith, lt))).flat;
         many = (let so_far = was.many in let more = ap (λ (q : Moment). length q.words) is in omega (arith, so_far, more));
         ahead = λ j lt inside. (let so_far = (leads j (omega (arith, lt))).many in omega (arith, so_far, lt));

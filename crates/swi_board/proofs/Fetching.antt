@@ -4,6 +4,7 @@ use Rattle.std.proofs.lemmas.List.{length-append}
 use Rattle.swi_isa.specs.declared.instr.Instr.{Instr}
 use Rattle.swi_isa.specs.declared.instr.Instr.TheVariants as instr
 use Rattle.swi_exec.specs.Arithmetic.{sum_of}
+use Rattle.swi_outside.specs.CacheRam.{Fetch, fetch}
 use Rattle.swi_calls.specs.declared.end.End.{End}
 use Rattle.swi_calls.specs.declared.machine.Machine.{Machine}
 use Rattle.swi_calls.specs.State.{FlatState}
@@ -18,112 +19,112 @@ use Rattle.swi_hart.specs.declared.hart.Control.{Control}
 use Rattle.swi_hart.specs.declared.hart.Control.TheVariants.{At, Outside}
 use Rattle.swi_hart.specs.Hart.{instruction, original, slots}
 use Rattle.swi_hart.specs.Matching.{IsIn, Stands, Agrees, Matches}
-use Rattle.swi_hart.specs.Leaving.{indexes_after}
-use Rattle.swi_board.specs.Transfers.{Here, at_fall, settled, step_cost, before_last, step_transfers, fall_transfers, here_after, here_of, spent, step_size, fetches, after_all}
-use Rattle.swi_board.specs.Fetching.{indexes_from, index_in, fall_words, step_words, words_run}
+use Rattle.swi_hart.specs.Leaving.{fetch_under}
+use Rattle.swi_board.specs.Transfers.{Here, at_fall, settled, step_cost, before_last, step_transfers, fall_transfers, here_after, here_of, spent, step_size, fetches}
+use Rattle.swi_board.specs.Fetching.{Written, fetches_from, index_in, fall_words, step_words, words_run, written_by}
 use Rattle.swi_hart.proofs.Standing.{slots_are, linked_leads}
 use Rattle.swi_board.proofs.Counting.{cost_none, cost_more, over_cost}
 
 -- ---- the word under control
 
--- the index at which the run stands, so many words into an instruction
-abbrev pub word_at_place : Here → Record → ℕ → List ℕ
-word_at_place None r n = []
-word_at_place (Some p) r n = (index_in r p + n) ∷ []
+-- the word where the run stands, so many words into an instruction and behind so many sets
+abbrev pub word_at_place : Here → Record → ℕ → ℕ → List Fetch
+word_at_place None r n sets = []
+word_at_place (Some p) r n sets = fetch (index_in r p + n) sets ∷ []
 
-abbrev pub word_under : ImageData → Record → Machine → Control → List ℕ
-word_under v r f c = word_at_place (here_of v f c) r (spent f c)
+abbrev pub word_under : ImageData → Record → Machine → Control → ℕ → List Fetch
+word_under v r f c sets = word_at_place (here_of v f c) r (spent f c) sets
 
 pub first_is : (r : Record) (b f : ℕ) → ((b f g : ℕ) → Placed r b f → Placed r b g → f ≡ g) → Placed r b f → first_of r b ≡ f
 unfolding Placed first_of
 first_is r b f once at = first_in_has r.placed r.turn b f at (λ g other. once b g f other at)
 
-under_at : (v : ImageData) (r : Record) (f : Machine) (c : Control) (p : ℕ × ℕ) (i b o n : ℕ) → ((b f g : ℕ) → Placed r b f → Placed r b g → f ≡ g) → IsIn r i b o →
-    here_of v f c ≡ Some p → p.0 ≡ b → o ≡ p.1 + n → spent f c ≡ n → word_under v r f c ≡ i ∷ []
-under_at v r f c p i b o n once is_in here block offset gone =
+under_at : (v : ImageData) (r : Record) (f : Machine) (c : Control) (sets : ℕ) (p : ℕ × ℕ) (i b o n : ℕ) → ((b f g : ℕ) → Placed r b f → Placed r b g → f ≡ g) → IsIn r i b o →
+    here_of v f c ≡ Some p → p.0 ≡ b → o ≡ p.1 + n → spent f c ≡ n → word_under v r f c sets ≡ fetch i sets ∷ []
+under_at v r f c sets p i b o n once is_in here block offset gone =
     let first : first_of r p.0 ≡ is_in.0 = ap (λ (k : ℕ). first_of r k) block ∙ first_is r b is_in.0 once is_in.1 in
     let index : index_in r p + n ≡ i = (let at = is_in.2 in omega (arith, first, offset, at)) in
-    ap (λ (h : Here). word_at_place h r (spent f c)) here ∙ ap (λ (k : ℕ). (index_in r p + k) ∷ []) gone ∙ ap (λ (k : ℕ). k ∷ []) index
+    ap (λ (h : Here). word_at_place h r (spent f c) sets) here ∙ ap (λ (k : ℕ). fetch (index_in r p + k) sets ∷ []) gone ∙ ap (λ (k : ℕ). fetch k sets ∷ []) index
 
-module _ (v : ImageData) (r : Record) (f m : Machine) (once : (b f g : ℕ) → Placed r b f → Placed r b g → f ≡ g) where
-  stands_under : (c : Control) → Stands v r f m c → word_under v r f c ≡ indexes_after c []
+module _ (v : ImageData) (r : Record) (f m : Machine) (sets : ℕ) (once : (b f g : ℕ) → Placed r b f → Placed r b g → f ≡ g) where
+  stands_under : (c : Control) → Stands v r f m c → word_under v r f c sets ≡ fetch_under c sets
   stands_under Outside at = refl
-  stands_under (At i' b' o' Start) at = under_at v r f (At i' b' o' Start) (b', o') i' b' o' 0 once at.0 refl refl (omega arith) refl
-  stands_under (At i' b' o' Low) at = under_at v r f (At i' b' o' Low) (b', at.1.at) i' b' o' 1 once at.0 at.1.start refl at.1.offset refl
-  stands_under (At i' b' o' Return) at = under_at v r f (At i' b' o' Return) (b', at.1.at) i' b' o' 1 once at.0 at.1.start refl at.1.offset refl
+  stands_under (At i' b' o' Start) at = under_at v r f (At i' b' o' Start) sets (b', o') i' b' o' 0 once at.0 refl refl (omega arith) refl
+  stands_under (At i' b' o' Low) at = under_at v r f (At i' b' o' Low) sets (b', at.1.at) i' b' o' 1 once at.0 at.1.start refl at.1.offset refl
+  stands_under (At i' b' o' Return) at = under_at v r f (At i' b' o' Return) sets (b', at.1.at) i' b' o' 1 once at.0 at.1.start refl at.1.offset refl
   stands_under (At i' b' o' Leave) (at, inl a) =
-      under_at v r f (At i' b' o' Leave) (b', a.at) i' b' o' 2 once at a.start refl a.offset
+      under_at v r f (At i' b' o' Leave) sets (b', a.at) i' b' o' 2 once at a.start refl a.offset
       (ap (λ (l : List Slot). before_last f (original f) l) (slots_are f a.w (Some (instr.Jal a.rd a.off)) a.fetch a.is)
       ∙ ap (λ (k : Option Instr). before_last f k (rendering_of (Some (instr.Jal a.rd a.off)) a.w f.pc)) (ap instruction a.fetch ∙ a.is)
       ∙ ap (λ n. n + 0) (linked_leads (sum_of f.pc a.off % 4 == 0) (a.rd == 0) a.rd (sum_of f.pc a.off) f.pc a.linking))
   stands_under (At i' b' o' Leave) (at, inr a) =
-      under_at v r f (At i' b' o' Leave) (b', a.at) i' b' o' 1 once at a.start refl a.offset
+      under_at v r f (At i' b' o' Leave) sets (b', a.at) i' b' o' 1 once at a.start refl a.offset
       (ap (λ (l : List Slot). before_last f (original f) l) (slots_are f a.w (Some (instr.Branch a.op a.rs1 a.rs2 a.off)) a.fetch a.is)
       ∙ ap (λ (k : Option Instr). before_last f k (rendering_of (Some (instr.Branch a.op a.rs1 a.rs2 a.off)) a.w f.pc)) (ap instruction a.fetch ∙ a.is)
       ∙ ap (λ (q : Bool). 0 + (if q then 1 else 0)) a.taken)
 
 -- is what a step fetches
-pub under_is : (v : ImageData) (r : Record) (f m : Machine) (c : Control) → ((b f g : ℕ) → Placed r b f → Placed r b g → f ≡ g) → m.ending ≡ None → Matches v r f m c →
-    word_under v r f c ≡ indexes_after c []
-under_is v r f m c once running same = stands_under v r f m once c (subst (λ (e : Option End). Agrees e v r f m c) running same)
+pub under_is : (v : ImageData) (r : Record) (f m : Machine) (c : Control) (sets : ℕ) → ((b f g : ℕ) → Placed r b f → Placed r b g → f ≡ g) → m.ending ≡ None → Matches v r f m c →
+    word_under v r f c sets ≡ fetch_under c sets
+under_is v r f m c sets once running same = stands_under v r f m sets once c (subst (λ (e : Option End). Agrees e v r f m c) running same)
 
 -- ---- what is to come
 
-pub words_over : (policy : Record → ImageData → Transfer → Record) (v : ImageData) (k : ℕ) (s : FlatState) (here : Here) (r : Record) → is_some s.machine.ending ≡ true → words_run policy v k s here r ≡ []
+pub words_over : (policy : Record → ImageData → Transfer → Record) (v : ImageData) (k : ℕ) (s : FlatState) (here : Here) (w : Written) → is_some s.machine.ending ≡ true → words_run policy v k s here w ≡ []
 unfolding words_run
-words_over policy v zero s here r over = refl
-words_over policy v (suc k) s here r over = rw over refl
+words_over policy v zero s here w over = refl
+words_over policy v (suc k) s here w over = rw over refl
 
-pub words_none : (policy : Record → ImageData → Transfer → Record) (v : ImageData) (s : FlatState) (here : Here) (r : Record) → words_run policy v 0 s here r ≡ []
+pub words_none : (policy : Record → ImageData → Transfer → Record) (v : ImageData) (s : FlatState) (here : Here) (w : Written) → words_run policy v 0 s here w ≡ []
 unfolding words_run
-words_none policy v s here r = refl
+words_none policy v s here w = refl
 
-pub words_more : (policy : Record → ImageData → Transfer → Record) (v : ImageData) (k : ℕ) (s : FlatState) (here : Here) (r : Record) → is_some s.machine.ending ≡ false →
-    words_run policy v (suc k) s here r ≡ fall_words v s.machine here r ++ (step_words s.machine (settled v s.machine here) (after_all policy v r (fall_transfers v s.machine here))
+pub words_more : (policy : Record → ImageData → Transfer → Record) (v : ImageData) (k : ℕ) (s : FlatState) (here : Here) (w : Written) → is_some s.machine.ending ≡ false →
+    words_run policy v (suc k) s here w ≡ fall_words v s.machine here w ++ (step_words s.machine (settled v s.machine here) (written_by policy v w (fall_transfers v s.machine here))
     ++ words_run policy v k (held_step s) (here_after v s.machine (settled v s.machine here) (held_step s).machine)
-    (after_all policy v (after_all policy v r (fall_transfers v s.machine here)) (step_transfers s.machine (settled v s.machine here) (held_step s).machine)))
+    (written_by policy v (written_by policy v w (fall_transfers v s.machine here)) (step_transfers s.machine (settled v s.machine here) (held_step s).machine)))
 unfolding words_run
-words_more policy v k s here r going = rw going refl
+words_more policy v k s here w going = rw going refl
 
 -- ---- so many words as are counted
 
-indexes_many : (i n : ℕ) → length (indexes_from i n) ≡ n
-indexes_many i zero = refl
-indexes_many i (suc n) = ap suc (indexes_many (i + 1) n)
+fetches_many : (i n sets : ℕ) → length (fetches_from i n sets) ≡ n
+fetches_many i zero sets = refl
+fetches_many i (suc n) sets = ap suc (fetches_many (i + 1) n sets)
 
-fall_many : (v : ImageData) (f : Machine) (here : Here) (r : Record) → length (fall_words v f here r) ≡ (if at_fall v f here then 1 else 0)
-fall_many v f None r = refl
-fall_many v f (Some p) r = by (at_fall v f (Some p))
+fall_many : (v : ImageData) (f : Machine) (here : Here) (w : Written) → length (fall_words v f here w) ≡ (if at_fall v f here then 1 else 0)
+fall_many v f None w = refl
+fall_many v f (Some p) w = by (at_fall v f (Some p))
   where
-    by : (t : Bool) → length (if t then index_in r p ∷ [] else []) ≡ (if t then 1 else 0)
+    by : (t : Bool) → length (if t then fetch (index_in w.kept p) w.sets ∷ [] else []) ≡ (if t then 1 else 0)
     by true = refl
     by false = refl
 
-step_many : (f : Machine) (here : Here) (r : Record) → length (step_words f here r) ≡ step_size 0 f here
-step_many f None r = refl
-step_many f (Some p) r = indexes_many (index_in r p) (step_cost f (original f) (slots f))
+step_many : (f : Machine) (here : Here) (w : Written) → length (step_words f here w) ≡ step_size 0 f here
+step_many f None w = refl
+step_many f (Some p) w = fetches_many (index_in w.kept p) (step_cost f (original f) (slots f)) w.sets
 
-sum_of_lengths : (xs ys zs : List ℕ) {a b c : ℕ} → length xs ≡ a → length ys ≡ b → length zs ≡ c → length (xs ++ (ys ++ zs)) ≡ a + b + c
+sum_of_lengths : (xs ys zs : List Fetch) {a b c : ℕ} → length xs ≡ a → length ys ≡ b → length zs ≡ c → length (xs ++ (ys ++ zs)) ≡ a + b + c
 sum_of_lengths xs ys zs {a} {b} {c} p q t =
     let outer = length-append xs (ys ++ zs) in
     let inner = length-append ys zs in
     omega (arith, outer, inner, p, q, t)
 
-pub words_many : (policy : Record → ImageData → Transfer → Record) (v : ImageData) (k : ℕ) (s : FlatState) (here : Here) (r : Record) → length (words_run policy v k s here r) ≡ fetches v k s here
-words_many policy v zero s here r = ap (λ (l : List ℕ). length l) (words_none policy v s here r) ∙ sym (cost_none 0 v s here)
-words_many policy v (suc k) s here r = by (words_many policy v k (held_step s)) (is_some s.machine.ending) refl
+pub words_many : (policy : Record → ImageData → Transfer → Record) (v : ImageData) (k : ℕ) (s : FlatState) (here : Here) (w : Written) → length (words_run policy v k s here w) ≡ fetches v k s here
+words_many policy v zero s here w = ap (λ (l : List Fetch). length l) (words_none policy v s here w) ∙ sym (cost_none 0 v s here)
+words_many policy v (suc k) s here w = by (words_many policy v k (held_step s)) (is_some s.machine.ending) refl
   where
-    by : ((next : Here) (behind : Record) → length (words_run policy v k (held_step s) next behind) ≡ fetches v k (held_step s) next) →
-        (t : Bool) → is_some s.machine.ending ≡ t → length (words_run policy v (suc k) s here r) ≡ fetches v (suc k) s here
-    by up true over = ap (λ (l : List ℕ). length l) (words_over policy v (suc k) s here r over) ∙ sym (over_cost 0 v (suc k) s here over)
+    by : ((next : Here) (behind : Written) → length (words_run policy v k (held_step s) next behind) ≡ fetches v k (held_step s) next) →
+        (t : Bool) → is_some s.machine.ending ≡ t → length (words_run policy v (suc k) s here w) ≡ fetches v (suc k) s here
+    by up true over = ap (λ (l : List Fetch). length l) (words_over policy v (suc k) s here w over) ∙ sym (over_cost 0 v (suc k) s here over)
     by up false going =
         let at = settled v s.machine here in
-        let falls = fall_words v s.machine here r in
-        let own = step_words s.machine (settled v s.machine here) (after_all policy v r (fall_transfers v s.machine here)) in
+        let falls = fall_words v s.machine here w in
+        let own = step_words s.machine (settled v s.machine here) (written_by policy v w (fall_transfers v s.machine here)) in
         let next = here_after v s.machine (settled v s.machine here) (held_step s).machine in
-        let behind = after_all policy v (after_all policy v r (fall_transfers v s.machine here)) (step_transfers s.machine (settled v s.machine here) (held_step s).machine) in
+        let behind = written_by policy v (written_by policy v w (fall_transfers v s.machine here)) (step_transfers s.machine (settled v s.machine here) (held_step s).machine) in
         let rest = words_run policy v k (held_step s) next behind in
-        ap (λ (l : List ℕ). length l) (words_more policy v k s here r going)
-        ∙ sum_of_lengths falls own rest (fall_many v s.machine here r) (step_many s.machine at (after_all policy v r (fall_transfers v s.machine here)))
+        ap (λ (l : List Fetch). length l) (words_more policy v k s here w going)
+        ∙ sum_of_lengths falls own rest (fall_many v s.machine here w) (step_many s.machine at (written_by policy v w (fall_transfers v s.machine here)))
         (up next behind)
         ∙ sym (cost_more 0 v k s here going)

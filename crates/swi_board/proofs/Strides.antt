@@ -6,7 +6,8 @@ use Rattle.std.proofs.lemmas.List.{append_assoc, append-nil}
 use Rattle.std.specs.Io.KnownBytes.{Appends}
 use Rattle.swi_memory.specs.Bus.{fetched}
 use Rattle.swi_outside.specs.Causes.{risen}
-use Rattle.swi_outside.specs.CacheRam.{RamState, KeepsBeyond}
+use Rattle.swi_outside.specs.CacheRam.{Fetch, RamState, KeepsBeyond, fetch, since}
+use Rattle.swi_outside.specs.Fetches.{since_append, since_reverse}
 use Rattle.swi_calls.specs.declared.end.End.{End}
 use Rattle.swi_calls.specs.declared.machine.Machine.{Machine}
 use Rattle.swi_calls.specs.Flat.{Made, joined, quiet}
@@ -25,7 +26,7 @@ use Rattle.swi_hart.specs.Hart.{HartData, original, slots}
 use Rattle.swi_hart.specs.Matching.{Agrees, IsIn, Stands, StandsBy}
 use Rattle.swi_hart.proofs.Kept.{image_same, next_text}
 use Rattle.swi_hart.proofs.Stepping.{no_fall, two_places}
-use Rattle.swi_board.specs.Fetching.{index_in, indexes_from}
+use Rattle.swi_board.specs.Fetching.{fetches_from, index_in}
 use Rattle.swi_board.specs.Moments.{Moment, Policy, counted, events, fell, here_behind}
 use Rattle.swi_board.specs.Ran.{RamRan}
 use Rattle.swi_board.specs.Runs.{fetched_by, unfetched}
@@ -48,7 +49,7 @@ arrived index n m r q s = record {
   kept = r;
   count = s.count + n;
   sets = s.sets + (writes r - writes s.kept);
-  words = reverse (indexes_from index n) ++ s.words;
+  words = reverse (fetches_from index n s.sets) ++ s.words;
 }
 
 -- so many machine instructions lead from the one moment to the other
@@ -82,7 +83,7 @@ module _ (by : Policy) (v : ImageData) (s : Moment) (p q : ℕ × ℕ) (m : Mach
       let state = state_is s.flat m (step s.flat.input) in
       let next : (held_step s.flat).machine ≡ m = ap (λ (k : FlatState). k.machine) state in
       let kept = made.kept ∙ ap (λ (k : Machine). after_all by v s.kept (step_transfers s.flat.machine (Some p) k)) next in
-      let words = made.words ∙ ap (λ (i : ℕ). reverse (indexes_from i (step_cost s.flat.machine (original s.flat.machine) (slots s.flat.machine))) ++ s.words) at in
+      let words = made.words ∙ ap (λ (i : ℕ). reverse (fetches_from i (step_cost s.flat.machine (original s.flat.machine) (slots s.flat.machine)) s.sets) ++ s.words) at in
       let is = moment_is _ (arrived index n m (after_all by v s.kept (step_transfers f (Some p) m)) q s)
       (made.flat ∙ state)
       (made.here ∙ ap (λ (k : Machine). here_behind v s.flat.machine (Some p) k) next
@@ -103,11 +104,11 @@ pub fall_leads : (by : Policy) (v : ImageData) (s : Moment) (p q : ℕ × ℕ) (
 fall_leads by v s p q index here going falls none at there =
     let first : index_in s.kept p + s.spent ≡ index = omega (arith, none, at) in
     let is = events_one by v s ∙ fall_event by v s (none_some s.flat.machine.ending going) p here falls
-    ∙ moment_is (counted ((index_in s.kept p + s.spent) ∷ []) (fell by v p s)) (arrived index 1 s.flat.machine (by s.kept v (direct p.0 p.1 s.flat.machine.pc)) q s)
-    refl there refl refl refl refl (ap (λ (i : ℕ). i ∷ s.words) first) in
+    ∙ moment_is (counted (fetch (index_in s.kept p + s.spent) s.sets ∷ []) (fell by v p s)) (arrived index 1 s.flat.machine (by s.kept v (direct p.0 p.1 s.flat.machine.pc)) q s)
+    refl there refl refl refl refl (ap (λ (i : ℕ). fetch i s.sets ∷ s.words) first) in
     record {
       is = is;
-      many = (let long : length (reverse (indexes_from index 1) ++ s.words) ≡ suc (length s.words) = refl in omega (arith, long));
+      many = (let long : length (reverse (fetches_from index 1 s.sets) ++ s.words) ≡ suc (length s.words) = refl in omega (arith, long));
       before = λ j lt. (let zero_is : j ≡ 0 = omega (arith, lt) in ap (λ (k : ℕ). (events by v k s).flat) zero_is ∙ ap (λ (t : Moment). t.flat) (events_none by v s));
     }
 
@@ -117,9 +118,24 @@ fall_leads by v s p q index here going falls none at there =
 pub record RamStrode (span n more index : ℕ) (before after : RamState) : Type 0 where
   pub quiet : after.faults ≡ before.faults
   pub fetches : after.fetches ≡ risen before.fetches n
-  pub fetched_at : after.fetched_at ≡ reverse (indexes_from index n) ++ before.fetched_at
+  pub fetched_at : after.fetched_at ≡ reverse (fetches_from index n before.sets) ++ before.fetched_at
   pub sets : after.sets ≡ risen before.sets more
   pub kept : KeepsBeyond span before after
+
+-- In a run from `first` sets on so many words were fetched behind m of them, and in the ram behind k.
+since_from : (first i n m : ℕ) → since first (fetches_from i n m) ≡ fetches_from i n (risen first m)
+since_from first i zero m = refl
+since_from first i (suc n) m = ap (λ (l : List Fetch). fetch i (risen first m) ∷ l) (since_from first (i + 1) n m)
+
+words_on : (i n first m k : ℕ) (words earlier before : List Fetch) → k ≡ risen first m → before ≡ since first words ++ earlier →
+    reverse (fetches_from i n k) ++ before ≡ since first (reverse (fetches_from i n m) ++ words) ++ earlier
+words_on i n first m k words earlier before sets was =
+    ap (λ (x : ℕ). reverse (fetches_from i n x) ++ before) sets
+    ∙ ap (λ (l : List Fetch). reverse l ++ before) (sym (since_from first i n m))
+    ∙ ap (λ (l : List Fetch). l ++ before) (sym (since_reverse first (fetches_from i n m)))
+    ∙ ap (λ (l : List Fetch). since first (reverse (fetches_from i n m)) ++ l) was
+    ∙ sym (append_assoc (since first (reverse (fetches_from i n m))) (since first words) earlier)
+    ∙ ap (λ (l : List Fetch). l ++ earlier) (sym (since_append first (reverse (fetches_from i n m)) words))
 
 -- From where a hart stands between two instructions to where it stands next.
 pub record Stride (by : Policy) (span : ℕ) (v : ImageData) (old new : Point) : Type 0 where
@@ -200,8 +216,7 @@ module _ {by : Policy} {span : ℕ} {v : ImageData} {old new : Point} (w : Strid
       input = w.left ∙ at.input;
       output = subst (λ (o : Option (List ℕ)). Appends from.out o s.flat.output) (sym w.out) at.output;
       error = subst (λ (o : Option (List ℕ)). Appends from.err o s.flat.error) (sym w.err) at.error;
-      words = w.ram.fetched_at ∙ ap (λ (l : List ℕ). reverse (indexes_from w.index w.words) ++ l) at.words
-          ∙ sym (append_assoc (reverse (indexes_from w.index w.words)) s.words from.ram.fetched_at);
+      words = w.ram.fetched_at ∙ words_on w.index w.words from.ram.sets s.sets old.ram.sets s.words from.ram.fetched_at old.ram.fetched_at at.ram.sets at.words;
       ram = subst (λ (n : ℕ). RamRan span n (s.sets + (writes new.kept - writes s.kept)) from.ram new.ram) (sym leads_on.many)
           (subst (λ (r : Record). RamRan span (length s.words + w.words) (s.sets + (writes new.kept - writes r)) from.ram new.ram) at.kept
           (ram_strode span (length s.words) s.sets w.words (writes new.kept - writes old.kept) w.index from.ram old.ram new.ram at.ram w.ram));

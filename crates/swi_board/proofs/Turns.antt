@@ -1,7 +1,7 @@
 -- The loop of steps out of a steady ram: what each of its arms leaves.
 use Rattle.std.proofs.Common.{◌≡◌, ℕ, ◌+◌, ◌-◌, ◌^◌, ◌<◌, ◌≤◌, max, List, ◌∷◌, ◌++◌, length, reverse, slice_index, Option, None, refl, sym, ap, subst, ◌∙◌, arith}
 use Rattle.swi_outside.specs.Causes.{risen}
-use Rattle.swi_outside.specs.CacheRam.{RamState, with_fetch}
+use Rattle.swi_outside.specs.CacheRam.{RamState, fetch, with_fetch}
 use Rattle.swi_exec.specs.Arithmetic.{sum_of}
 use Rattle.swi_calls.specs.declared.end.End.{End}
 use Rattle.swi_image.specs.Format.{ImageData}
@@ -13,7 +13,7 @@ use Rattle.swi_hart.specs.Hart.{HartData}
 use Rattle.swi_hart.specs.Leaving.{RamServed}
 use Rattle.swi_hart.specs.Service.{ServiceWithRam}
 use Rattle.swi_board.specs.Advancing.{ServiceStays, StandsInRow, Underway, course_from, with_board}
-use Rattle.swi_board.specs.Fetching.{indexes_from}
+use Rattle.swi_board.specs.Fetching.{fetches_from}
 use Rattle.swi_board.specs.Reached.{Reached}
 use Rattle.swi_board.specs.Tracking.{Point, Running}
 use Rattle.swi_board.specs.Turning.{Stood, StoodAt, Turn, Turned, Within, board_at, service_at}
@@ -70,7 +70,7 @@ pub record FetchedRow (n index : ℕ) (before after : RamState) : Type 0 where
   pub words : after.words ≡ before.words
   pub quiet : after.faults ≡ before.faults
   pub fetches : after.fetches ≡ risen before.fetches n
-  pub fetched_at : after.fetched_at ≡ reverse (indexes_from index n) ++ before.fetched_at
+  pub fetched_at : after.fetched_at ≡ reverse (fetches_from index n before.sets) ++ before.fetched_at
   pub sets : after.sets ≡ before.sets
   pub reach : after.reach ≤ max before.reach (index + n)
 
@@ -99,7 +99,7 @@ fetched_three i j m a is two =
       words = refl;
       quiet = refl;
       fetches = ap (λ (n : ℕ). risen n 1) (risen_more a.fetches 1 1) ∙ risen_more a.fetches 2 1;
-      fetched_at = ap (λ (n : ℕ). n ∷ (i + 1) ∷ i ∷ a.fetched_at) (sym third);
+      fetched_at = ap (λ (n : ℕ). fetch n a.sets ∷ fetch (i + 1) a.sets ∷ fetch i a.sets ∷ a.fetched_at) (sym third);
       sets = refl;
       reach = three_reach a.reach i;
     }))

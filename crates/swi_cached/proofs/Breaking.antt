@@ -3,7 +3,7 @@ use Rattle.std.proofs.Common.{◌≡◌, ℕ, suc, ◌+◌, ◌-◌, ◌<◌, �
 use Rattle.std.proofs.lemmas.List.{reverse-append, reverse-reverse, take-append-drop}
 use Rattle.std.proofs.Math.Seq.{take-append_seam, take-append-add}
 use Rattle.std.specs.Io.KnownBytes.{Appends, Consumes}
-use Rattle.swi_outside.specs.CacheRam.{RamState}
+use Rattle.swi_outside.specs.CacheRam.{Fetch, RamState, since}
 use Rattle.swi_outside.specs.Causes.{risen}
 use Rattle.swi_outside.specs.Devices.{Faults, faults_of}
 use Rattle.swi_outside.specs.Laws.{Appends-append}
@@ -44,15 +44,15 @@ seam j xs ys =
     ∙ ap (λ (l : List ℕ). take (length (take j xs)) l) (append_assoc (take j xs) (drop j xs) ys) ∙ take-append_seam (take j xs) (drop j xs ++ ys)
 
 -- the words of so many machine instructions are a front of the run's
-front_of : (by : Policy) (v : ImageData) (k : ℕ) (s : Moment) → s.spent ≡ 0 → s.words ≡ [] → (words : List ℕ) → (events by v (cost v k s.flat s.here) s).words ≡ reverse words → (j : ℕ) → j ≤ cost v k s.flat s.here → (before after : RamState) →
-    after.fetched_at ≡ (events by v j s).words ++ before.fetched_at → FetchedFront words before after
+front_of : (by : Policy) (v : ImageData) (k : ℕ) (s : Moment) → s.spent ≡ 0 → s.words ≡ [] → (words : List Fetch) → (events by v (cost v k s.flat s.here) s).words ≡ reverse words → (j : ℕ) → j ≤ cost v k s.flat s.here → (before after : RamState) →
+    after.fetched_at ≡ since before.sets (events by v j s).words ++ before.fetched_at → FetchedFront words before after
 front_of by v k s none empty words whole j le before after fetched =
     let more = words_front by v j (cost v k s.flat s.here) s le in (
       reverse more.0,
       record {
         fetched = reverse (events by v j s).words;
-        are = fetched ∙ ap (λ (l : List ℕ). l ++ before.fetched_at) (sym (reverse-reverse (events by v j s).words));
-        front = sym (reverse-append more.0 (events by v j s).words) ∙ ap (λ (l : List ℕ). reverse l) (sym more.1 ∙ whole) ∙ reverse-reverse words;
+        are = fetched ∙ ap (λ (l : List Fetch). since before.sets l ++ before.fetched_at) (sym (reverse-reverse (events by v j s).words));
+        front = sym (reverse-append more.0 (events by v j s).words) ∙ ap (λ (l : List Fetch). reverse l) (sym more.1 ∙ whole) ∙ reverse-reverse words;
       },
     )
 
@@ -101,7 +101,7 @@ module _ {S : Type 0} {k : ServiceOf S} (laws : IsService k) {v : ImageData} {ro
   whole : (events by v (cost v n start.flat start.here) start).words ≡ reverse (words_after c n)
   whole = (is_after by v n start start.here (λ on. refl) refl).words ∙ append-nil (reverse (words_after c n))
 
-  fetched_front : (j : ℕ) → j ≤ suc along.made → (after : RamState) → after.fetched_at ≡ (events by v j start).words ++ before.ram.fetched_at → FetchedFront (words_after c n) before.ram after
+  fetched_front : (j : ℕ) → j ≤ suc along.made → (after : RamState) → after.fetched_at ≡ since before.ram.sets (events by v j start).words ++ before.ram.fetched_at → FetchedFront (words_after c n) before.ram after
   fetched_front j le after fetched = (let less = short in front_of by v n start refl refl (words_after c n) whole j (omega (arith, le, less)) before.ram after fetched)
 
   same_line : told_line (is_each telling) mid.hart.machine ≡ told_line (is_each telling) (program_after c steps).machine
@@ -243,7 +243,7 @@ module _ {S : Type 0} {k : ServiceOf S} (laws : IsService k) {v : ImageData} {ro
         let made = steps_are at start.flat (ap (λ (q : FlatState). is_some q.machine.ending) (sym flat) ∙ ap (λ (e : Option End). is_some e) on) in
         let mosts = most.steps_are in
         let same_at : most.steps ≡ at = omega (arith, count, made, mosts) in
-        let words : new.ram.fetched_at ≡ (events by v j start).words ++ before.ram.fetched_at = r.words ∙ ap (λ (q : Moment). q.words ++ before.ram.fetched_at) is in (
+        let words : new.ram.fetched_at ≡ since before.ram.sets (events by v j start).words ++ before.ram.fetched_at = r.words ∙ ap (λ (q : Moment). since before.ram.sets q.words ++ before.ram.fetched_at) is in (
           record {
             fetched = length (events by v j start).words;
             fetches = r.fetches ∙ ap (λ (q : Moment). risen before.ram.fetches (length q.words)) is;
@@ -285,5 +285,5 @@ module _ {S : Type 0} {k : ServiceOf S} (laws : IsService k) {v : ImageData} {ro
         by_fault : (f : BoardFault) → fault ≡ f → Broke by v f (with_errors begun.error last) (from_point boot) (point_of k new) →
             Failed c f before (record { ram = new.ram; devices = new.devices }) × FetchedFront (words_after c n) before.ram new.ram
         by_fault RamFault is r = ram_failed r
-        by_fault SourceFault is d = (device_failed SourceFault is (λ e. let bad : ⊥ = cc in bad) d, fetched_front (suc along.made) (omega arith) new.ram (d.words ∙ ap (λ (l : List ℕ). l ++ before.ram.fetched_at) next_words))
-        by_fault SinkFault is d = (device_failed SinkFault is (λ e. let bad : ⊥ = cc in bad) d, fetched_front (suc along.made) (omega arith) new.ram (d.words ∙ ap (λ (l : List ℕ). l ++ before.ram.fetched_at) next_words))
+        by_fault SourceFault is d = (device_failed SourceFault is (λ e. let bad : ⊥ = cc in bad) d, fetched_front (suc along.made) (omega arith) new.ram (d.words ∙ ap (λ (l : List Fetch). since before.ram.sets l ++ before.ram.fetched_at) next_words))
+        by_fault SinkFault is d = (device_failed SinkFault is (λ e. let bad : ⊥ = cc in bad) d, fetched_front (suc along.made) (omega arith) new.ram (d.words ∙ ap (λ (l : List Fetch). since before.ram.sets l ++ before.ram.fetched_at) next_words))

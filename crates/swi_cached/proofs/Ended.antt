@@ -3,6 +3,7 @@ use Rattle.std.proofs.Common.{◌≡◌, ◌⊎◌, ℕ, ◌+◌, ◌-◌, ◌*�
 use Rattle.std.proofs.lemmas.Bool.{false≢true}
 use Rattle.std.proofs.lemmas.List.{length-reverse}
 use Rattle.std.specs.Io.KnownBytes.{Appends}
+use Rattle.swi_outside.specs.CacheRam.{Fetch, since}
 use Rattle.swi_outside.specs.Causes.{risen}
 use Rattle.swi_calls.specs.declared.end.End.{End}
 use Rattle.swi_calls.specs.declared.machine.Machine.{Machine}
@@ -15,7 +16,7 @@ use Rattle.swi_rom.specs.Served.{SameFrom}
 use Rattle.swi_hart.specs.Hart.{HartData, is_between}
 use Rattle.swi_hart.specs.Matching.{Matches}
 use Rattle.swi_board.specs.Board.{BoardWithDevices}
-use Rattle.swi_board.specs.Moments.{IsRun, Moment, Policy, events}
+use Rattle.swi_board.specs.Moments.{IsRun, Moment, Policy, events, written_in}
 use Rattle.swi_board.specs.Tracking.{point_of}
 use Rattle.swi_board.specs.Transfers.{here_of}
 use Rattle.swi_board.proofs.Along.{same_between}
@@ -128,9 +129,9 @@ module _ {S : Type 0} {k : ServiceOf S} (laws : IsService k) {v : ImageData} {ro
         record {
           coherent = subst (λ (r : Record). Coherent v r (k.span (k.setting rom)) mid.ram.words) record_is
               (subst (λ (s : Setting). Coherent v (k.kept mid.rom) (k.span s) mid.ram.words) (along.stays.setting ∙ setting_is boot) (laws.coherent mid.rom v mid.ram.words along.stays.sound));
-          fetches = to.tracks.ram.fetches ∙ ap (λ (l : List ℕ). risen before.ram.fetches (length l)) words_are
-              ∙ ap (λ (x : ℕ). risen before.ram.fetches x) (length-reverse (words_after c n) ∙ words_many by v n start.flat start.here start.kept);
-          fetched_at = to.tracks.words ∙ ap (λ (l : List ℕ). l ++ before.ram.fetched_at) words_are;
+          fetches = to.tracks.ram.fetches ∙ ap (λ (l : List Fetch). risen before.ram.fetches (length l)) words_are
+              ∙ ap (λ (x : ℕ). risen before.ram.fetches x) (length-reverse (words_after c n) ∙ words_many by v n start.flat start.here (written_in start));
+          fetched_at = to.tracks.words ∙ ap (λ (l : List Fetch). since before.ram.sets l ++ before.ram.fetched_at) words_are;
           sets = to.tracks.ram.sets ∙ ap (λ (x : ℕ). risen before.ram.sets x) (written ∙ ap (λ (r : Record). writes r) record_is);
           unused = subst (λ (r : Record). SameFrom (k.extent (k.setting rom) r) before.ram.words mid.ram.words) record_is whole;
         }

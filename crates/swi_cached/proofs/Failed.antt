@@ -13,7 +13,7 @@ use Rattle.swi_image.specs.Place.{place_of}
 use Rattle.swi_board.specs.Transfers.{size, at_fall, settled, step_size, here_after}
 use Rattle.swi_board.specs.Fetching.{FetchedFront}
 use Rattle.swi_board.proofs.Fetching.{words_many}
-use Rattle.swi_cached.specs.Cached.{CachedRun, AreCounted, words_after, policy_of, record_at_boot, IsFlatRun, StopsBeforeStore}
+use Rattle.swi_cached.specs.Cached.{CachedRun, AreCounted, words_after, written_at_boot, policy_of, IsFlatRun, StopsBeforeStore}
 use Rattle.swi_cached.specs.Told.{error_by, of_steps}
 use Rattle.swi_cached.specs.Answers.{RamFailed}
 
@@ -27,7 +27,7 @@ stops_before_store c = λ n k less never at.
     (stop.0, stop.1, ap (λ n. held_run n c.start) (sym all) ∙ stop.2)
 
 pub are_counted : (c : CachedRun) → AreCounted c
-are_counted c n = words_many (policy_of c) c.image n c.start (place_of c.image c.start.machine.pc) (record_at_boot c)
+are_counted c n = words_many (policy_of c) c.image n c.start (place_of c.image c.start.machine.pc) (written_at_boot c)
 
 -- ---- a boot that the ram broke off
 

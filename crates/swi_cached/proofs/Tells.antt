@@ -1,6 +1,7 @@
 -- What is told of a run, step by step.
 use Rattle.std.proofs.Common.{◌≡◌, ◌⊎◌, nat_lt, if◌then◌else◌, ℕ, zero, suc, ◌+◌, ◌-◌, ◌<◌, ◌≤◌, Bool, true, false, List, [], ◌∷◌, ◌++◌, Option, Some, None, is_some, refl, sym, ap, subst, ◌∙◌, inl, inr, arith, append-nil, append_assoc}
 use Rattle.std.proofs.lemmas.Bool.{false≢true, cases_Bool}
+use Rattle.swi_outside.specs.CacheRam.{Fetch, fetch}
 use Rattle.swi_memory.specs.Bus.{AreaData, fetched}
 use Rattle.swi_calls.specs.declared.end.End.{End}
 use Rattle.swi_calls.specs.declared.machine.Machine.{Machine}
@@ -116,7 +117,7 @@ pub event_told : (by : Policy) (v : ImageData) (e : List ℕ) (s : Moment) →
     ⊎ ((event by v (with_errors e s) ≡ with_errors (e ++ (held_made s.flat.machine s.flat.input).error) (event by v s)) × ((event by v s).flat ≡ held_step s.flat))
 event_told by v e s = by_ending s.flat.machine.ending
   where
-    by_words : (p : ℕ × ℕ) (ws : List ℕ) (t : Bool) →
+    by_words : (p : ℕ × ℕ) (ws : List Fetch) (t : Bool) →
         ((counted ws (if t then led (with_errors e s) else completed by v (Some p) (with_errors e s)) ≡ with_errors e (counted ws (if t then led s else completed by v (Some p) s)))
         × ((counted ws (if t then led s else completed by v (Some p) s)).flat ≡ s.flat))
         ⊎ ((counted ws (if t then led (with_errors e s) else completed by v (Some p) (with_errors e s)) ≡ with_errors (e ++ (held_made s.flat.machine s.flat.input).error) (counted ws (if t then led s else completed by v (Some p) s)))
@@ -124,7 +125,7 @@ event_told by v e s = by_ending s.flat.machine.ending
     by_words p ws true = inl (refl, refl)
     by_words p ws false = inr (refl, refl)
 
-    by_fall : (p : ℕ × ℕ) (ws : List ℕ) (t : Bool) →
+    by_fall : (p : ℕ × ℕ) (ws : List Fetch) (t : Bool) →
         ((counted ws (if t then fell by v p (with_errors e s) else executed by v p (with_errors e s)) ≡ with_errors e (counted ws (if t then fell by v p s else executed by v p s)))
         × ((counted ws (if t then fell by v p s else executed by v p s)).flat ≡ s.flat))
         ⊎ ((counted ws (if t then fell by v p (with_errors e s) else executed by v p (with_errors e s)) ≡ with_errors (e ++ (held_made s.flat.machine s.flat.input).error) (counted ws (if t then fell by v p s else executed by v p s)))
@@ -136,7 +137,7 @@ event_told by v e s = by_ending s.flat.machine.ending
         ((stepped_at by v h (with_errors e s) ≡ with_errors e (stepped_at by v h s)) × ((stepped_at by v h s).flat ≡ s.flat))
         ⊎ ((stepped_at by v h (with_errors e s) ≡ with_errors (e ++ (held_made s.flat.machine s.flat.input).error) (stepped_at by v h s)) × ((stepped_at by v h s).flat ≡ held_step s.flat))
     by_here None = inr (refl, refl)
-    by_here (Some p) = by_fall p ((index_in s.kept p + s.spent) ∷ []) (at_fall v s.flat.machine (Some p))
+    by_here (Some p) = by_fall p (fetch (index_in s.kept p + s.spent) s.sets ∷ []) (at_fall v s.flat.machine (Some p))
 
     by_ending : (x : Option End) →
         (((if is_some x then with_errors e s else stepped_at by v s.here (with_errors e s)) ≡ with_errors e (if is_some x then s else stepped_at by v s.here s)) × ((if is_some x then s else stepped_at by v s.here s).flat ≡ s.flat))

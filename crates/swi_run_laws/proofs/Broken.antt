@@ -3,8 +3,9 @@ use Rattle.std.proofs.Common.{◌≡◌, if◌then◌else◌, nat_lt, ℕ, zero,
 use Rattle.std.proofs.lemmas.List.{append_assoc}
 use Rattle.std.specs.Io.KnownBytes.{Appends, Consumes}
 use Rattle.swi_outside.specs.Causes.{counted as with_one, risen}
-use Rattle.swi_outside.specs.CacheRam.{RamState}
+use Rattle.swi_outside.specs.CacheRam.{Fetch, RamState, fetch, since}
 use Rattle.swi_outside.specs.Devices.{Devices, faults_of}
+use Rattle.swi_outside.specs.Fetches.{since_append}
 use Rattle.swi_outside.specs.Laws.{Appends-append, Appends-none}
 use Rattle.swi_outside.specs.Sink.{AppendsPrefix, SinkState}
 use Rattle.swi_calls.specs.declared.end.End.{End}
@@ -20,7 +21,7 @@ use Rattle.swi_hart.specs.declared.hart.Control.{Control}
 use Rattle.swi_hart.specs.declared.hart.Control.TheVariants.{At, Outside}
 use Rattle.swi_hart.specs.Calling.{BrokenCall, BrokenStep}
 use Rattle.swi_hart.specs.Hart.{HartData, completes, original, slots}
-use Rattle.swi_hart.specs.Leaving.{RamBroken, indexes_after}
+use Rattle.swi_hart.specs.Leaving.{RamBroken, fetch_under}
 use Rattle.swi_exec.specs.declared.done.Done.TheVariants as done
 use Rattle.swi_hart.proofs.Growing.{after_one}
 use Rattle.swi_hart.proofs.Midway.{step_follows}
@@ -38,24 +39,25 @@ use Rattle.swi_board.specs.Tracking.{Point, Tracks, point_of}
 use Rattle.swi_run_laws.proofs.Inside.{exit_serves}
 
 -- the words of a moment's event are those under control
-event_words : (by : Policy) (v : ImageData) (s : Moment) → s.flat.machine.ending ≡ None → (event by v s).words ≡ word_at_place s.here s.kept s.spent ++ s.words
+event_words : (by : Policy) (v : ImageData) (s : Moment) → s.flat.machine.ending ≡ None → (event by v s).words ≡ word_at_place s.here s.kept s.spent s.sets ++ s.words
 event_words by v s on = ap (λ (e : Option End). (if is_some e then s else stepped_at by v s.here s).words) on ∙ by_here s.here
   where
-    by_words : (p : ℕ × ℕ) (t : Bool) → (counted ((index_in s.kept p + s.spent) ∷ []) (if t then led s else completed by v (Some p) s)).words ≡ (index_in s.kept p + s.spent) ∷ s.words
+    by_words : (p : ℕ × ℕ) (t : Bool) → (counted (fetch (index_in s.kept p + s.spent) s.sets ∷ []) (if t then led s else completed by v (Some p) s)).words ≡ fetch (index_in s.kept p + s.spent) s.sets ∷ s.words
     by_words p true = refl
     by_words p false = refl
 
-    by_fall : (p : ℕ × ℕ) (t : Bool) → (counted ((index_in s.kept p + s.spent) ∷ []) (if t then fell by v p s else executed by v p s)).words ≡ (index_in s.kept p + s.spent) ∷ s.words
+    by_fall : (p : ℕ × ℕ) (t : Bool) → (counted (fetch (index_in s.kept p + s.spent) s.sets ∷ []) (if t then fell by v p s else executed by v p s)).words ≡ fetch (index_in s.kept p + s.spent) s.sets ∷ s.words
     by_fall p true = refl
     by_fall p false = by_words p (nat_lt s.spent (before_last s.flat.machine (original s.flat.machine) (slots s.flat.machine)))
 
-    by_here : (h : Here) → (stepped_at by v h s).words ≡ word_at_place h s.kept s.spent ++ s.words
+    by_here : (h : Here) → (stepped_at by v h s).words ≡ word_at_place h s.kept s.spent s.sets ++ s.words
     by_here None = refl
     by_here (Some p) = by_fall p (at_fall v s.flat.machine (Some p))
 
-fetched_front : (c : Control) (ws l : List ℕ) → indexes_after c [] ≡ ws → indexes_after c l ≡ ws ++ l
-fetched_front (At i b o stage) ws l is = ap (λ (x : List ℕ). x ++ l) is
-fetched_front Outside ws l is = ap (λ (x : List ℕ). x ++ l) is
+-- in the count of the ram
+fetch_since : (c : Control) (n sets : ℕ) → fetch_under c (risen n sets) ≡ since n (fetch_under c sets)
+fetch_since (At i b o stage) n sets = refl
+fetch_since Outside n sets = refl
 
 take_nil : (n : ℕ) → ◌≡◌ {A = List ℕ} (take n []) []
 take_nil zero = refl
@@ -82,33 +84,36 @@ module _ (by : Policy) (span : ℕ) (v : ImageData) (s : Moment) (from a b : Poi
   spends : spent s.flat.machine a.hart.control ≡ s.spent
   spends = sym (ap (λ (e : Option End). spent_by e s.flat.machine a.hart.control) flat_on) ∙ at.spent
 
-  under : indexes_after a.hart.control [] ≡ word_at_place s.here s.kept s.spent
+  under : fetch_under a.hart.control s.sets ≡ word_at_place s.here s.kept s.spent s.sets
   under =
-      sym (under_is v a.kept s.flat.machine a.hart.machine a.hart.control once running at.matches)
-      ∙ ap (λ (h : Here). word_at_place h a.kept (spent s.flat.machine a.hart.control)) (at.here running)
-      ∙ ap (λ (n : ℕ). word_at_place s.here a.kept n) spends
-      ∙ ap (λ (r : Record). word_at_place s.here r s.spent) at.kept
+      sym (under_is v a.kept s.flat.machine a.hart.machine a.hart.control s.sets once running at.matches)
+      ∙ ap (λ (h : Here). word_at_place h a.kept (spent s.flat.machine a.hart.control) s.sets) (at.here running)
+      ∙ ap (λ (n : ℕ). word_at_place s.here a.kept n s.sets) spends
+      ∙ ap (λ (r : Record). word_at_place s.here r s.spent s.sets) at.kept
 
   -- some word is under control, unless it is outside
   inside_now : (a.hart.control ≡ Outside → ⊥) → s.here ≡ None → ⊥
   inside_now inside none = by_control a.hart.control inside under
     where
-      by_control : (c : Control) → (c ≡ Outside → ⊥) → indexes_after c [] ≡ word_at_place s.here s.kept s.spent → ⊥
-      by_control (At i b o stage) inside is = let clash : ◌≡◌ {A = List ℕ} (i ∷ []) [] = is ∙ ap (λ (h : Here). word_at_place h s.kept s.spent) none in let bad : ⊥ = cc in bad
+      by_control : (c : Control) → (c ≡ Outside → ⊥) → fetch_under c s.sets ≡ word_at_place s.here s.kept s.spent s.sets → ⊥
+      by_control (At i b o stage) inside is = let clash : ◌≡◌ {A = List Fetch} (fetch i s.sets ∷ []) [] = is ∙ ap (λ (h : Here). word_at_place h s.kept s.spent s.sets) none in let bad : ⊥ = cc in bad
       by_control Outside inside is = inside refl
 
   -- where the word under control was fetched
-  words_next : b.ram.fetched_at ≡ indexes_after a.hart.control a.ram.fetched_at → b.ram.fetched_at ≡ (event by v s).words ++ from.ram.fetched_at
+  words_next : b.ram.fetched_at ≡ fetch_under a.hart.control a.ram.sets ++ a.ram.fetched_at → b.ram.fetched_at ≡ since from.ram.sets (event by v s).words ++ from.ram.fetched_at
   words_next more =
-      more ∙ fetched_front a.hart.control (word_at_place s.here s.kept s.spent) a.ram.fetched_at under
-      ∙ ap (λ (l : List ℕ). word_at_place s.here s.kept s.spent ++ l) at.words
-      ∙ sym (append_assoc (word_at_place s.here s.kept s.spent) s.words from.ram.fetched_at)
-      ∙ ap (λ (l : List ℕ). l ++ from.ram.fetched_at) (sym (event_words by v s flat_on))
+      more ∙ ap (λ (n : ℕ). fetch_under a.hart.control n ++ a.ram.fetched_at) at.ram.sets
+      ∙ ap (λ (l : List Fetch). l ++ a.ram.fetched_at) (fetch_since a.hart.control from.ram.sets s.sets)
+      ∙ ap (λ (l : List Fetch). since from.ram.sets l ++ a.ram.fetched_at) under
+      ∙ ap (λ (l : List Fetch). since from.ram.sets (word_at_place s.here s.kept s.spent s.sets) ++ l) at.words
+      ∙ sym (append_assoc (since from.ram.sets (word_at_place s.here s.kept s.spent s.sets)) (since from.ram.sets s.words) from.ram.fetched_at)
+      ∙ ap (λ (l : List Fetch). l ++ from.ram.fetched_at) (sym (since_append from.ram.sets (word_at_place s.here s.kept s.spent s.sets) s.words))
+      ∙ ap (λ (l : List Fetch). since from.ram.sets l ++ from.ram.fetched_at) (sym (event_words by v s flat_on))
 
   one_longer : (a.hart.control ≡ Outside → ⊥) → length (event by v s).words ≡ length s.words + 1
-  one_longer inside = ap (λ (l : List ℕ). length l) (event_words by v s flat_on) ∙ ap (λ (l : List ℕ). length (l ++ s.words)) (sym under) ∙ by_control a.hart.control inside
+  one_longer inside = ap (λ (l : List Fetch). length l) (event_words by v s flat_on) ∙ ap (λ (l : List Fetch). length (l ++ s.words)) (sym under) ∙ by_control a.hart.control inside
     where
-      by_control : (c : Control) → (c ≡ Outside → ⊥) → length (indexes_after c [] ++ s.words) ≡ length s.words + 1
+      by_control : (c : Control) → (c ≡ Outside → ⊥) → length (fetch_under c s.sets ++ s.words) ≡ length s.words + 1
       by_control (At i b o stage) inside = omega arith
       by_control Outside inside = absurd (inside refl)
 
@@ -147,7 +152,7 @@ module _ (by : Policy) (span : ℕ) (v : ImageData) (s : Moment) (from a b : Poi
       one_risen a f = grind arith
 
   device_broke : (fault : BoardFault) → BrokenStep v a.kept a.hart s.flat.input b.left a.out b.out a.err b.err → (fault ≡ SourceFault → (b.out ≡ a.out) × (b.err ≡ a.err)) → (fault ≡ RamFault → ⊥) →
-      b.ram.fetched_at ≡ indexes_after a.hart.control a.ram.fetched_at → DeviceBroke by v fault s from b
+      b.ram.fetched_at ≡ fetch_under a.hart.control a.ram.sets ++ a.ram.fetched_at → DeviceBroke by v fault s from b
   device_broke fault step unwritten other more =
       let follows = step_follows v a.kept a.kept s.flat.machine a.hart.machine a.hart.control step.stepped s.flat.input at.image at.matches running word (λ e. refl) step.step in
       let t = completes v a.hart.machine a.hart.control in

@@ -4,6 +4,7 @@ use Rattle.std.proofs.lemmas.Bool.Decides.{nat_tests}
 use Rattle.swi_isa.specs.declared.instr.Instr.{Instr}
 use Rattle.swi_isa.specs.declared.instr.Instr.TheVariants as instr
 use Rattle.swi_isa.specs.Decode.{decoded}
+use Rattle.swi_outside.specs.CacheRam.{fetch}
 use Rattle.swi_memory.specs.Bus.{fetched}
 use Rattle.swi_exec.specs.Registers.{with_reg}
 use Rattle.swi_exec.specs.Execute.{address_of}
@@ -174,8 +175,8 @@ module _ (by : Policy) (v : ImageData) (s : Moment) (r : Record) (m : Machine) (
   completes p is at plain done =
       subst (λ (t : Moment). Serves t)
       (sym (event_at p at
-      ∙ ap (λ (q : Bool). counted ((index_in s.kept p + s.spent) ∷ []) (if q then fell by v p s else executed by v p s)) plain
-      ∙ ap (λ (q : Bool). counted ((index_in s.kept p + s.spent) ∷ []) (if q then led s else completed by v (Some p) s)) (last s.spent (before_last s.flat.machine (original s.flat.machine) (slots s.flat.machine)) (omega (arith, done.cost, spends))))) (
+      ∙ ap (λ (q : Bool). counted (fetch (index_in s.kept p + s.spent) s.sets ∷ []) (if q then fell by v p s else executed by v p s)) plain
+      ∙ ap (λ (q : Bool). counted (fetch (index_in s.kept p + s.spent) s.sets ∷ []) (if q then led s else completed by v (Some p) s)) (last s.spent (before_last s.flat.machine (original s.flat.machine) (slots s.flat.machine)) (omega (arith, done.cost, spends))))) (
         bytes,
         goes_on,
         λ none. arrives (held_step s.flat).machine (here_after v s.flat.machine (Some p) (held_step s.flat).machine) (done.here goes_on)
@@ -209,6 +210,6 @@ module _ (by : Policy) (v : ImageData) (s : Moment) (r : Record) (m : Machine) (
       by_case (lead p part at plain same there deeper) = absurd (not_alone r w.block same)
       by_case (fall p part at falls none moves there none') =
           subst (λ (t : Moment). Serves t)
-          (sym (event_at p at ∙ ap (λ (q : Bool). counted ((index_in s.kept p + s.spent) ∷ []) (if q then fell by v p s else executed by v p s)) falls))
+          (sym (event_at p at ∙ ap (λ (q : Bool). counted (fetch (index_in s.kept p + s.spent) s.sets ∷ []) (if q then fell by v p s else executed by v p s)) falls))
           (none_gone s.flat, sym (same_steps v r s.flat.machine m c matches).1 ∙ running, arrives s.flat.machine (place_of v s.flat.machine.pc) there)
       by_case (beside t is same over) = absurd (not_alone r w.block same)

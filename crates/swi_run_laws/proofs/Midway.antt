@@ -1,44 +1,45 @@
 -- A run from midway in an instruction.
 use Rattle.std.proofs.Common.{◌≡◌, if◌then◌else◌, ℕ, zero, suc, ◌+◌, ◌-◌, ◌≤◌, nat_lt, Bool, true, false, List, [], ◌∷◌, ◌++◌, reverse, Option, Some, None, is_some, refl, sym, ap, ◌∙◌, zero-add, arith, append-nil}
 use Rattle.std.proofs.lemmas.List.{append_assoc}
+use Rattle.swi_outside.specs.CacheRam.{Fetch, fetch}
 use Rattle.swi_calls.specs.declared.end.End.{End}
 use Rattle.swi_image.specs.Format.{ImageData}
 use Rattle.swi_hart.specs.Hart.{original, slots}
-use Rattle.swi_board.specs.Fetching.{index_in, indexes_from, words_run}
+use Rattle.swi_board.specs.Fetching.{fetches_from, index_in, words_run}
 use Rattle.swi_board.specs.Transfers.{Here, at_fall, before_last, cost}
 use Rattle.swi_run_laws.specs.After.{IsAfter, IsAfterMidway}
-use Rattle.swi_board.specs.Moments.{Moment, Policy, completed, counted, event, events, executed, fell, led, stepped_at}
+use Rattle.swi_board.specs.Moments.{Moment, Policy, completed, counted, event, events, executed, fell, led, stepped_at, written_in}
 use Rattle.swi_run_laws.proofs.After.{Leads, events_more, is_after, leads}
 
 -- the same moment with this count and these words
-abbrev pub with_count : ℕ → List ℕ → Moment → Moment
+abbrev pub with_count : ℕ → List Fetch → Moment → Moment
 with_count a w s = record s { count = a; words = w }
 
 -- what machine instructions add, whatever was counted before
-record Adds (s t : Moment) (to : ℕ → List ℕ → Moment) : Type 0 where
+record Adds (s t : Moment) (to : ℕ → List Fetch → Moment) : Type 0 where
   many : ℕ
-  more : List ℕ
+  more : List Fetch
   count : t.count ≡ s.count + many
   words : t.words ≡ more ++ s.words
-  others : (a : ℕ) (w : List ℕ) → to a w ≡ with_count (a + many) (more ++ w) t
+  others : (a : ℕ) (w : List Fetch) → to a w ≡ with_count (a + many) (more ++ w) t
 
 one_adds : (by : Policy) (v : ImageData) (s : Moment) → Adds s (event by v s) (λ a w. event by v (with_count a w s))
 one_adds by v s = by_ending s.flat.machine.ending
   where
-    whole : (h : Here) (ws : List ℕ) → Adds s (counted ws (completed by v h s)) (λ a w. counted ws (completed by v h (with_count a w s)))
+    whole : (h : Here) (ws : List Fetch) → Adds s (counted ws (completed by v h s)) (λ a w. counted ws (completed by v h (with_count a w s)))
     whole h ws = record { many = 1; more = ws; count = refl; words = refl; others = λ a w. refl }
 
-    by_words : (p : ℕ × ℕ) (ws : List ℕ) (t : Bool) → Adds s (counted ws (if t then led s else completed by v (Some p) s)) (λ a w. counted ws (if t then led (with_count a w s) else completed by v (Some p) (with_count a w s)))
+    by_words : (p : ℕ × ℕ) (ws : List Fetch) (t : Bool) → Adds s (counted ws (if t then led s else completed by v (Some p) s)) (λ a w. counted ws (if t then led (with_count a w s) else completed by v (Some p) (with_count a w s)))
     by_words p ws true = record { many = 1; more = ws; count = refl; words = refl; others = λ a w. refl }
     by_words p ws false = whole (Some p) ws
 
-    by_fall : (p : ℕ × ℕ) (ws : List ℕ) (t : Bool) → Adds s (counted ws (if t then fell by v p s else executed by v p s)) (λ a w. counted ws (if t then fell by v p (with_count a w s) else executed by v p (with_count a w s)))
+    by_fall : (p : ℕ × ℕ) (ws : List Fetch) (t : Bool) → Adds s (counted ws (if t then fell by v p s else executed by v p s)) (λ a w. counted ws (if t then fell by v p (with_count a w s) else executed by v p (with_count a w s)))
     by_fall p ws true = record { many = 1; more = ws; count = refl; words = refl; others = λ a w. refl }
     by_fall p ws false = by_words p ws (nat_lt s.spent (before_last s.flat.machine (original s.flat.machine) (slots s.flat.machine)))
 
     by_here : (h : Here) → Adds s (stepped_at by v h s) (λ a w. stepped_at by v h (with_count a w s))
     by_here None = whole None []
-    by_here (Some p) = by_fall p ((index_in s.kept p + s.spent) ∷ []) (at_fall v s.flat.machine (Some p))
+    by_here (Some p) = by_fall p (fetch (index_in s.kept p + s.spent) s.sets ∷ []) (at_fall v s.flat.machine (Some p))
 
     none_more : (n : ℕ) → n ≡ n + 0
     none_more n = omega arith
@@ -62,11 +63,11 @@ all_add by v (suc j) s =
       many = was.many + one.many;
       more = one.more ++ was.more;
       count = omega (arith, c, d);
-      words = one.words ∙ ap (λ (l : List ℕ). one.more ++ l) was.words ∙ sym (append_assoc one.more was.more s.words);
+      words = one.words ∙ ap (λ (l : List Fetch). one.more ++ l) was.words ∙ sym (append_assoc one.more was.more s.words);
       others = λ a w.
           ap (λ (q : Moment). event by v q) (was.others a w) ∙ one.others (a + was.many) (was.more ++ w)
           ∙ ap (λ (n : ℕ). with_count n (one.more ++ (was.more ++ w)) (event by v (events by v j s))) (sum a was.many one.many)
-          ∙ ap (λ (l : List ℕ). with_count (a + (was.many + one.many)) l (event by v (events by v j s))) (sym (append_assoc one.more was.more w));
+          ∙ ap (λ (l : List Fetch). with_count (a + (was.many + one.many)) l (event by v (events by v j s))) (sym (append_assoc one.more was.more w));
     }
   where
     sum : (a b c : ℕ) → a + b + c ≡ a + (b + c)
@@ -88,8 +89,8 @@ module _ (by : Policy) (v : ImageData) (k : ℕ) (s : Moment) (p : ℕ × ℕ) (
   same : (a b : Moment) → a.flat ≡ b.flat → a.here ≡ b.here → a.spent ≡ b.spent → a.kept ≡ b.kept → a.count ≡ b.count → a.sets ≡ b.sets → a.words ≡ b.words → a ≡ b
   same a b e f g h i j l = λ x. record { flat = e x; here = f x; spent = g x; kept = h x; count = i x; sets = j x; words = l x }
 
-  abbrev before : List ℕ
-  before = reverse (indexes_from (index_in s.kept p) s.spent)
+  abbrev before : List Fetch
+  before = reverse (fetches_from (index_in s.kept p) s.spent s.sets)
 
   there : events by v s.spent first ≡ with_count s.spent before s
   there = same (events by v s.spent first) (with_count s.spent before s) led_to.flat (led_to.here ∙ sym here) led_to.spent led_to.kept (led_to.count ∙ zero-add s.spent) led_to.sets (led_to.words ∙ append-nil before)
@@ -116,7 +117,7 @@ module _ (by : Policy) (v : ImageData) (k : ℕ) (s : Moment) (p : ℕ × ℕ) (
         count = omega (arith, counts, c, d);
         more = adds.more;
         words = adds.words;
-        more_is = sym (ap (λ (q : Moment). q.words) joins) ∙ whole.words ∙ append-nil (reverse (words_run by v k s.flat (Some p) s.kept));
+        more_is = sym (ap (λ (q : Moment). q.words) joins) ∙ whole.words ∙ append-nil (reverse (words_run by v k s.flat (Some p) (written_in s)));
         here = λ on. sym (ap (λ (q : Moment). q.here) joins) ∙ whole.here (ap (λ (q : Moment). q.flat.machine.ending) joins ∙ on);
         spent = sym (ap (λ (q : Moment). q.spent) joins) ∙ whole.spent;
       }

@@ -2,6 +2,7 @@
 use Rattle.std.proofs.Common.{◌≡◌, ◌⊎◌, if◌then◌else◌, ℕ, zero, suc, ◌+◌, ◌-◌, ◌<◌, ◌≤◌, nat_lt, Bool, true, false, List, [], ◌∷◌, ◌++◌, length, reverse, Option, Some, None, is_some, refl, sym, ap, subst, ◌∙◌, inl, inr, arith}
 use Rattle.std.proofs.lemmas.Bool.{cases_Bool, cases_lt, cases_order, false≢true}
 use Rattle.std.proofs.lemmas.List.{append_assoc, length-append, length-reverse}
+use Rattle.swi_outside.specs.CacheRam.{Fetch, fetch}
 use Rattle.swi_calls.specs.declared.end.End.{End}
 use Rattle.swi_calls.specs.Held.{held_run, held_step}
 use Rattle.swi_calls.specs.Laws.{held_run_more, held_run_none, held_run_over}
@@ -14,7 +15,7 @@ use Rattle.swi_board.proofs.Fetching.{words_many}
 use Rattle.swi_board.specs.Transfers.{Here, after_all, at_fall, before_last, cost, fetches, step_transfers}
 use Rattle.swi_board.proofs.Held.{held_steps, run_snoc}
 use Rattle.swi_run_laws.specs.After.{IsAfter}
-use Rattle.swi_board.specs.Moments.{GoesOn, IsRun, Moment, Policy, completed, counted, event, events, executed, fell, led, served, stepped_at}
+use Rattle.swi_board.specs.Moments.{GoesOn, IsRun, Moment, Policy, completed, counted, event, events, executed, fell, led, served, stepped_at, written_in}
 use Rattle.swi_run_laws.proofs.After.{events_more, goes_before, is_after, is_within}
 
 -- ---- where the flat machine stands
@@ -39,13 +40,13 @@ steps_are (suc k) s on = elim (cases_Bool (is_some s.machine.ending)) [
 pub event_flat : (by : Policy) (v : ImageData) (s : Moment) → ((event by v s).flat ≡ s.flat) ⊎ ((event by v s).flat ≡ held_step s.flat) × (is_some s.flat.machine.ending ≡ false)
 event_flat by v s = by_ending s.flat.machine.ending refl
   where
-    by_words : (p : ℕ × ℕ) (t : Bool) (on : is_some s.flat.machine.ending ≡ false) → ((counted ((index_in s.kept p + s.spent) ∷ []) (if t then led s else completed by v (Some p) s)).flat ≡ s.flat)
-        ⊎ ((counted ((index_in s.kept p + s.spent) ∷ []) (if t then led s else completed by v (Some p) s)).flat ≡ held_step s.flat) × (is_some s.flat.machine.ending ≡ false)
+    by_words : (p : ℕ × ℕ) (t : Bool) (on : is_some s.flat.machine.ending ≡ false) → ((counted (fetch (index_in s.kept p + s.spent) s.sets ∷ []) (if t then led s else completed by v (Some p) s)).flat ≡ s.flat)
+        ⊎ ((counted (fetch (index_in s.kept p + s.spent) s.sets ∷ []) (if t then led s else completed by v (Some p) s)).flat ≡ held_step s.flat) × (is_some s.flat.machine.ending ≡ false)
     by_words p true on = inl refl
     by_words p false on = inr (refl, on)
 
-    by_fall : (p : ℕ × ℕ) (t : Bool) (on : is_some s.flat.machine.ending ≡ false) → ((counted ((index_in s.kept p + s.spent) ∷ []) (if t then fell by v p s else executed by v p s)).flat ≡ s.flat)
-        ⊎ ((counted ((index_in s.kept p + s.spent) ∷ []) (if t then fell by v p s else executed by v p s)).flat ≡ held_step s.flat) × (is_some s.flat.machine.ending ≡ false)
+    by_fall : (p : ℕ × ℕ) (t : Bool) (on : is_some s.flat.machine.ending ≡ false) → ((counted (fetch (index_in s.kept p + s.spent) s.sets ∷ []) (if t then fell by v p s else executed by v p s)).flat ≡ s.flat)
+        ⊎ ((counted (fetch (index_in s.kept p + s.spent) s.sets ∷ []) (if t then fell by v p s else executed by v p s)).flat ≡ held_step s.flat) × (is_some s.flat.machine.ending ≡ false)
     by_fall p true on = inl refl
     by_fall p false on = by_words p (nat_lt s.spent (before_last s.flat.machine (original s.flat.machine) (slots s.flat.machine))) on
 
@@ -165,10 +166,10 @@ module _ (by : Policy) (v : ImageData) (k : ℕ) (s : Moment) (none : s.spent �
   at_end : j ≡ cost v k s.flat s.here → MostFetched v k s.here s behind_j
   at_end same =
       let after = subst (λ (i : ℕ). IsAfter by v k s.here s (events by v i s)) (sym same) (is_after by v k s s.here (λ on. refl) none) in
-      let words = ap (λ (l : List ℕ). length l) after.words in
-      let sum = length-append (reverse (words_run by v k s.flat s.here s.kept)) s.words in
-      let many = length-reverse (words_run by v k s.flat s.here s.kept) in
-      let fetched = words_many by v k s.flat s.here s.kept in
+      let words = ap (λ (l : List Fetch). length l) after.words in
+      let sum = length-append (reverse (words_run by v k s.flat s.here (written_in s))) s.words in
+      let many = length-reverse (words_run by v k s.flat s.here (written_in s)) in
+      let fetched = words_many by v k s.flat s.here (written_in s) in
       record { steps = k; steps_are = still k after.flat; within = omega arith; flat = after.flat; enough = omega (arith, words, sum, many, fetched); longest = λ more. absurd (omega (arith, more)) }
 
   pub most_fetched : MostFetched v k s.here s (events by v j s)
@@ -191,14 +192,14 @@ module _ (by : Policy) (v : ImageData) (first : ℕ) (rises : (r : Record) (v : 
   event_written : (s : Moment) → Written first s → Written first (event by v s)
   event_written s is = by_ending s.flat.machine.ending
     where
-      whole : (h : Here) (ws : List ℕ) → Written first (counted ws (completed by v h s))
+      whole : (h : Here) (ws : List Fetch) → Written first (counted ws (completed by v h s))
       whole h ws = served_written (step_transfers s.flat.machine h (held_step s.flat).machine) s is
 
-      by_words : (p : ℕ × ℕ) (t : Bool) → Written first (counted ((index_in s.kept p + s.spent) ∷ []) (if t then led s else completed by v (Some p) s))
+      by_words : (p : ℕ × ℕ) (t : Bool) → Written first (counted (fetch (index_in s.kept p + s.spent) s.sets ∷ []) (if t then led s else completed by v (Some p) s))
       by_words p true = is
-      by_words p false = whole (Some p) ((index_in s.kept p + s.spent) ∷ [])
+      by_words p false = whole (Some p) (fetch (index_in s.kept p + s.spent) s.sets ∷ [])
 
-      by_fall : (p : ℕ × ℕ) (t : Bool) → Written first (counted ((index_in s.kept p + s.spent) ∷ []) (if t then fell by v p s else executed by v p s))
+      by_fall : (p : ℕ × ℕ) (t : Bool) → Written first (counted (fetch (index_in s.kept p + s.spent) s.sets ∷ []) (if t then fell by v p s else executed by v p s))
       by_fall p true = served_written (direct p.0 p.1 s.flat.machine.pc ∷ []) s is
       by_fall p false = by_words p (nat_lt s.spent (before_last s.flat.machine (original s.flat.machine) (slots s.flat.machine)))
 
@@ -218,35 +219,35 @@ module _ (by : Policy) (v : ImageData) (first : ℕ) (rises : (r : Record) (v : 
 
 -- ---- the words that are fetched
 
-event_grows : (by : Policy) (v : ImageData) (s : Moment) → (xs : List ℕ) × ((event by v s).words ≡ xs ++ s.words)
+event_grows : (by : Policy) (v : ImageData) (s : Moment) → (xs : List Fetch) × ((event by v s).words ≡ xs ++ s.words)
 event_grows by v s = by_ending s.flat.machine.ending
   where
-    by_words : (p : ℕ × ℕ) (t : Bool) → (xs : List ℕ) × ((counted ((index_in s.kept p + s.spent) ∷ []) (if t then led s else completed by v (Some p) s)).words ≡ xs ++ s.words)
-    by_words p true = ((index_in s.kept p + s.spent) ∷ [], refl)
-    by_words p false = ((index_in s.kept p + s.spent) ∷ [], refl)
+    by_words : (p : ℕ × ℕ) (t : Bool) → (xs : List Fetch) × ((counted (fetch (index_in s.kept p + s.spent) s.sets ∷ []) (if t then led s else completed by v (Some p) s)).words ≡ xs ++ s.words)
+    by_words p true = (fetch (index_in s.kept p + s.spent) s.sets ∷ [], refl)
+    by_words p false = (fetch (index_in s.kept p + s.spent) s.sets ∷ [], refl)
 
-    by_fall : (p : ℕ × ℕ) (t : Bool) → (xs : List ℕ) × ((counted ((index_in s.kept p + s.spent) ∷ []) (if t then fell by v p s else executed by v p s)).words ≡ xs ++ s.words)
-    by_fall p true = ((index_in s.kept p + s.spent) ∷ [], refl)
+    by_fall : (p : ℕ × ℕ) (t : Bool) → (xs : List Fetch) × ((counted (fetch (index_in s.kept p + s.spent) s.sets ∷ []) (if t then fell by v p s else executed by v p s)).words ≡ xs ++ s.words)
+    by_fall p true = (fetch (index_in s.kept p + s.spent) s.sets ∷ [], refl)
     by_fall p false = by_words p (nat_lt s.spent (before_last s.flat.machine (original s.flat.machine) (slots s.flat.machine)))
 
-    by_here : (h : Here) → (xs : List ℕ) × ((stepped_at by v h s).words ≡ xs ++ s.words)
+    by_here : (h : Here) → (xs : List Fetch) × ((stepped_at by v h s).words ≡ xs ++ s.words)
     by_here None = ([], refl)
     by_here (Some p) = by_fall p (at_fall v s.flat.machine (Some p))
 
-    by_ending : (e : Option End) → (xs : List ℕ) × ((if is_some e then s else stepped_at by v s.here s).words ≡ xs ++ s.words)
+    by_ending : (e : Option End) → (xs : List Fetch) × ((if is_some e then s else stepped_at by v s.here s).words ≡ xs ++ s.words)
     by_ending None = by_here s.here
     by_ending (Some x) = ([], refl)
 
-words_grow : (by : Policy) (v : ImageData) (i : ℕ) (s : Moment) → (xs : List ℕ) × ((events by v i s).words ≡ xs ++ s.words)
+words_grow : (by : Policy) (v : ImageData) (i : ℕ) (s : Moment) → (xs : List Fetch) × ((events by v i s).words ≡ xs ++ s.words)
 unfolding events
 words_grow by v zero s = ([], refl)
 words_grow by v (suc i) s =
     let so_far = words_grow by v i s in
     let one = event_grows by v (events by v i s) in
-    (one.0 ++ so_far.0, one.1 ∙ ap (λ (l : List ℕ). one.0 ++ l) so_far.1 ∙ sym (append_assoc one.0 so_far.0 s.words))
+    (one.0 ++ so_far.0, one.1 ∙ ap (λ (l : List Fetch). one.0 ++ l) so_far.1 ∙ sym (append_assoc one.0 so_far.0 s.words))
 
 -- What fewer machine instructions have fetched is a front of what more fetch.
-pub words_front : (by : Policy) (v : ImageData) (j n : ℕ) (s : Moment) → j ≤ n → (xs : List ℕ) × ((events by v n s).words ≡ xs ++ (events by v j s).words)
+pub words_front : (by : Policy) (v : ImageData) (j n : ℕ) (s : Moment) → j ≤ n → (xs : List Fetch) × ((events by v n s).words ≡ xs ++ (events by v j s).words)
 words_front by v j n s le =
     let sum : n ≡ j + (n - j) = omega (arith, le) in
     let more = words_grow by v (n - j) (events by v j s) in

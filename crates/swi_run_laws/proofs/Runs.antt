@@ -4,6 +4,7 @@ use Rattle.std.proofs.lemmas.Bool.{false≢true}
 use Rattle.std.proofs.lemmas.List.{length-reverse}
 use Rattle.std.specs.Io.KnownBytes.{Appends}
 use Rattle.swi_memory.specs.Bus.{fetched}
+use Rattle.swi_outside.specs.CacheRam.{Fetch, since}
 use Rattle.swi_outside.specs.Causes.{risen}
 use Rattle.swi_outside.specs.Laws.{Appends-none}
 use Rattle.swi_calls.specs.declared.end.End.{End}
@@ -17,7 +18,7 @@ use Rattle.swi_hart.specs.Matching.{Matches}
 use Rattle.swi_board.specs.Board.{BoardWithDevices}
 use Rattle.swi_board.specs.BoardRan.{BoardRan}
 use Rattle.swi_board.specs.Fetching.{words_run}
-use Rattle.swi_board.specs.Moments.{IsRun, Moment, Policy, events}
+use Rattle.swi_board.specs.Moments.{IsRun, Moment, Policy, events, written_in}
 use Rattle.swi_board.specs.Tracking.{Tracks, point_of}
 use Rattle.swi_board.specs.Transfers.{here_of, spent_run}
 use Rattle.swi_board.proofs.Fetching.{words_many}
@@ -93,8 +94,8 @@ module _ {S : Type 0} (k : ServiceOf S) (v : ImageData) (old : BoardWithDevices 
     after : IsAfter by v many start.here start last
     after = subst (λ (x : ℕ). IsAfter by v (n - x) start.here start last) first (run_after by v n ran.along.made start run none (let steps = first in omega (arith, le, steps)))
 
-    words_are : last.words ≡ reverse (words_run by v many start.flat start.here start.kept)
-    words_are = after.words ∙ append-nil (reverse (words_run by v many start.flat start.here start.kept))
+    words_are : last.words ≡ reverse (words_run by v many start.flat start.here (written_in start))
+    words_are = after.words ∙ append-nil (reverse (words_run by v many start.flat start.here (written_in start)))
 
     pub ran_steps : RanSteps by v many (started f left) (point_of k old) (point_of k new)
     ran_steps = subst (λ (w : BoardWithDevices S). RanSteps by v many (started f left) (point_of k old) (point_of k w)) (sym ran.ends.0) (record {
@@ -108,7 +109,7 @@ module _ {S : Type 0} (k : ServiceOf S) (v : ImageData) (old : BoardWithDevices 
           let now = same_steps v (k.kept ran.mid.rom) last.flat.machine ran.mid.hart.machine ran.mid.hart.control there.matches in
           ap (λ (q : FlatState). here_of v q.machine ran.mid.hart.control) (sym after.flat) ∙ there.here on ∙ after.here (sym now.1 ∙ on);
       cost_is = there.count ∙ after.count;
-      words = there.words ∙ ap (λ (l : List ℕ). l ++ old.ram.fetched_at) words_are;
-      fetches_are = there.ram.fetches ∙ ap (λ (l : List ℕ). risen old.ram.fetches (length l)) words_are
-          ∙ ap (λ (x : ℕ). risen old.ram.fetches x) (length-reverse (words_run by v many start.flat start.here start.kept) ∙ words_many by v many start.flat start.here start.kept);
+      words = there.words ∙ ap (λ (l : List Fetch). since old.ram.sets l ++ old.ram.fetched_at) words_are;
+      fetches_are = there.ram.fetches ∙ ap (λ (l : List Fetch). risen old.ram.fetches (length l)) words_are
+          ∙ ap (λ (x : ℕ). risen old.ram.fetches x) (length-reverse (words_run by v many start.flat start.here (written_in start)) ∙ words_many by v many start.flat start.here (written_in start));
     })

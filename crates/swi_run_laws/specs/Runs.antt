@@ -1,5 +1,5 @@
 -- What a run of a board says in the words of its original steps: their transfers, their cost and the words that they fetch.
-use Rattle.std.specs.Prelude.{◌≡◌, ℕ, ◌+◌, ◌-◌, ◌<◌, ◌≤◌, List, ◌++◌, reverse, Some, None, Ok, is_some, true, false}
+use Rattle.std.specs.Prelude.{◌≡◌, ℕ, ◌+◌, ◌-◌, ◌<◌, ◌≤◌, List, Some, None, Ok, is_some, true, false}
 use Rattle.std.specs.Io.KnownBytes.{Appends}
 use Rattle.swi_outside.specs.Causes.{risen}
 use Rattle.swi_memory.specs.Bus.{fetched}
