@@ -3,7 +3,7 @@ use Rattle.std.proofs.Common.{◌≡◌, ℕ, suc, ◌+◌, ◌-◌, ◌<◌, �
 use Rattle.std.proofs.lemmas.Bool.{cases_lt, le-leb, lt-leb}
 use Rattle.std.proofs.lemmas.List.{length-append, length-reverse, reverse-append, reverse-reverse}
 use Rattle.std.specs.Io.KnownBytes.{Appends}
-use Rattle.swi_outside.specs.CacheRam.{RamState}
+use Rattle.swi_outside.specs.CacheRam.{Fetch, RamState, since}
 use Rattle.swi_outside.specs.Causes.{risen}
 use Rattle.swi_outside.specs.Devices.{Devices}
 use Rattle.swi_outside.specs.Laws.{Appends-none}
@@ -14,13 +14,13 @@ use Rattle.swi_calls.specs.Held.{held_run, held_step}
 use Rattle.swi_calls.specs.State.{FlatState}
 use Rattle.swi_image.specs.Format.{ImageData}
 use Rattle.swi_image.specs.Place.{place_of}
-use Rattle.swi_rom.specs.Record.{Record}
+use Rattle.swi_rom.specs.Record.{Record, writes}
 use Rattle.swi_rom.specs.Service.{Setting}
 use Rattle.swi_slots.specs.Fifo.{fifo}
 use Rattle.swi_hart.specs.declared.fault.BoardFault.{BoardFault}
 use Rattle.swi_hart.specs.declared.fault.BoardFault.TheVariants.{RamFault, SinkFault}
 use Rattle.swi_board.specs.Fetching.{FetchedFront, words_run}
-use Rattle.swi_board.specs.Moments.{Moment, Policy, events}
+use Rattle.swi_board.specs.Moments.{Moment, Policy, events, written_in}
 use Rattle.swi_board.specs.Ran.{next_of}
 use Rattle.swi_board.specs.Transfers.{Here, at_fall, fetches, here_after, size, step_size}
 use Rattle.swi_board.proofs.Fetching.{words_many}
@@ -52,24 +52,24 @@ module _ (by : Policy) (v : ImageData) (s : Moment) (going : s.flat.machine.endi
       flat_at by v j s on.0 ∙ run_zero ((events by v j s).flat.machine.steps - s.flat.machine.steps) s.flat first
 
   -- what they fetch is a front of the step's words
-  pub front_at : (j : ℕ) → j ≤ instructions_from v s → (before after : RamState) → s.words ≡ [] → after.fetched_at ≡ (events by v j s).words ++ before.fetched_at →
-      FetchedFront (words_run by v 1 s.flat s.here s.kept) before after × (length (events by v j s).words ≤ fetches v 1 s.flat s.here)
+  pub front_at : (j : ℕ) → j ≤ instructions_from v s → (before after : RamState) → s.words ≡ [] → after.fetched_at ≡ since before.sets (events by v j s).words ++ before.fetched_at →
+      FetchedFront (words_run by v 1 s.flat s.here (written_in s)) before after × (length (events by v j s).words ≤ fetches v 1 s.flat s.here)
   front_at j le before after fresh are =
       let more = words_front by v j (instructions_from v s) s le in
       let whole = is_after by v 1 s s.here (λ on. refl) none in
-      let all : (events by v (instructions_from v s) s).words ≡ reverse (words_run by v 1 s.flat s.here s.kept) =
-      whole.words ∙ ap (λ (l : List ℕ). reverse (words_run by v 1 s.flat s.here s.kept) ++ l) fresh ∙ append-nil (reverse (words_run by v 1 s.flat s.here s.kept)) in
-      let mine : more.0 ++ (events by v j s).words ≡ reverse (words_run by v 1 s.flat s.here s.kept) = sym more.1 ∙ all in
-      let long = ap (λ (l : List ℕ). length l) mine in
+      let all : (events by v (instructions_from v s) s).words ≡ reverse (words_run by v 1 s.flat s.here (written_in s)) =
+      whole.words ∙ ap (λ (l : List Fetch). reverse (words_run by v 1 s.flat s.here (written_in s)) ++ l) fresh ∙ append-nil (reverse (words_run by v 1 s.flat s.here (written_in s))) in
+      let mine : more.0 ++ (events by v j s).words ≡ reverse (words_run by v 1 s.flat s.here (written_in s)) = sym more.1 ∙ all in
+      let long = ap (λ (l : List Fetch). length l) mine in
       let parts = length-append more.0 (events by v j s).words in
-      let many = length-reverse (words_run by v 1 s.flat s.here s.kept) in
-      let number = words_many by v 1 s.flat s.here s.kept in (
+      let many = length-reverse (words_run by v 1 s.flat s.here (written_in s)) in
+      let number = words_many by v 1 s.flat s.here (written_in s) in (
         (
           reverse more.0,
           record {
             fetched = reverse (events by v j s).words;
-            are = are ∙ ap (λ (l : List ℕ). l ++ before.fetched_at) (sym (reverse-reverse (events by v j s).words));
-            front = sym (reverse-append more.0 (events by v j s).words) ∙ ap (λ (l : List ℕ). reverse l) mine ∙ reverse-reverse (words_run by v 1 s.flat s.here s.kept);
+            are = are ∙ ap (λ (l : List Fetch). since before.sets l ++ before.fetched_at) (sym (reverse-reverse (events by v j s).words));
+            front = sym (reverse-append more.0 (events by v j s).words) ∙ ap (λ (l : List Fetch). reverse l) mine ∙ reverse-reverse (words_run by v 1 s.flat s.here (written_in s));
           },
         ),
         omega (arith, long, parts, many, number),
@@ -117,22 +117,22 @@ module _ (by : Setting) (r : Record) (c : Context) (going : c.machine.ending ≡
   fetches_are : e.fetches ≡ fetches c.image 1 start.flat start.here
   fetches_are = over (enters r c)
     where
-      over : (t : Bool) → (step_event by (entered_if t by r c) (begun_if t c)).fetches ≡ fetches c.image 1 (flat_of (begun_if t c)) (begun_if t c).place
+      over : (t : Bool) → (step_event by (writes (entered_if t by r c) - writes r) (entered_if t by r c) (begun_if t c)).fetches ≡ fetches c.image 1 (flat_of (begun_if t c)) (begun_if t c).place
       over true = refl
       over false = refl
 
-  words_are : words_run (fifo by) c.image 1 start.flat start.here start.kept ≡ e.words
+  words_are : words_run (fifo by) c.image 1 start.flat start.here (written_in start) ≡ e.words
   words_are = over (enters r c)
     where
-      over : (t : Bool) → words_run (fifo by) c.image 1 (flat_of (begun_if t c)) (begun_if t c).place (entered_if t by r c) ≡ (step_event by (entered_if t by r c) (begun_if t c)).words
+      over : (t : Bool) → words_run (fifo by) c.image 1 (flat_of (begun_if t c)) (begun_if t c).place (record { kept = entered_if t by r c; sets = writes (entered_if t by r c) - writes r }) ≡ (step_event by (writes (entered_if t by r c) - writes r) (entered_if t by r c) (begun_if t c)).words
       over true = refl
       over false = refl
 
-  front_of : (j : ℕ) → j ≤ instructions_from c.image start → after.ram.fetched_at ≡ (events (fifo by) c.image j start).words ++ before.ram.fetched_at →
+  front_of : (j : ℕ) → j ≤ instructions_from c.image start → after.ram.fetched_at ≡ since before.ram.sets (events (fifo by) c.image j start).words ++ before.ram.fetched_at →
       FetchedFront e.words before.ram after.ram × (length (events (fifo by) c.image j start).words ≤ e.fetches)
   front_of j le are =
       let f = front_at (fifo by) c.image start on refl j le before.ram after.ram refl are in
-      (subst (λ (l : List ℕ). FetchedFront l before.ram after.ram) words_are f.0, subst (λ (n : ℕ). length (events (fifo by) c.image j start).words ≤ n) (sym fetches_are) f.1)
+      (subst (λ (l : List Fetch). FetchedFront l before.ram after.ram) words_are f.0, subst (λ (n : ℕ). length (events (fifo by) c.image j start).words ≤ n) (sym fetches_are) f.1)
 
   -- ---- a sink
 
@@ -159,7 +159,7 @@ module _ (by : Setting) (r : Record) (c : Context) (going : c.machine.ending ≡
 
   -- behind so many machine instructions
   cut_at : (j : ℕ) → j ≤ instructions_from c.image start → ((events (fifo by) c.image j start).here ≡ None → ⊥) →
-      after.ram.fetched_at ≡ (events (fifo by) c.image j start).words ++ before.ram.fetched_at → after.ram.fetches ≡ risen before.ram.fetches (length (events (fifo by) c.image j start).words) → after.ram.last_failed ≡ true →
+      after.ram.fetched_at ≡ since before.ram.sets (events (fifo by) c.image j start).words ++ before.ram.fetched_at → after.ram.fetches ≡ risen before.ram.fetches (length (events (fifo by) c.image j start).words) → after.ram.last_failed ≡ true →
       Appends before.out.held after.out.held (events (fifo by) c.image j start).flat.output → Appends before.err.held after.err.held (events (fifo by) c.image j start).flat.error → RamCut e before after
   cut_at j le inside are number last out err =
       let front = front_of j le are in
@@ -198,9 +198,9 @@ module _ (by : Setting) (r : Record) (c : Context) (going : c.machine.ending ≡
       late : j ≡ instructions_from c.image start → (t.flat.output ≡ (if all then e.output else [])) × (t.flat.error ≡ (if all then e.error else []))
       late same =
           let whole : IsAfter (fifo by) c.image 1 start.here start t = subst (λ (k : ℕ). IsAfter (fifo by) c.image 1 start.here start (events (fifo by) c.image k start)) (sym same) (is_after (fifo by) c.image 1 start start.here (λ still. refl) refl) in
-          let words = ap (λ (l : List ℕ). length l) (whole.words ∙ append-nil (reverse (words_run (fifo by) c.image 1 start.flat start.here start.kept))) in
-          let long = length-reverse (words_run (fifo by) c.image 1 start.flat start.here start.kept) in
-          let many = words_many (fifo by) c.image 1 start.flat start.here start.kept in
+          let words = ap (λ (l : List Fetch). length l) (whole.words ∙ append-nil (reverse (words_run (fifo by) c.image 1 start.flat start.here (written_in start)))) in
+          let long = length-reverse (words_run (fifo by) c.image 1 start.flat start.here (written_in start)) in
+          let many = words_many (fifo by) c.image 1 start.flat start.here (written_in start) in
           let number = fetches_are in
           let test : all ≡ true = le-leb e.fetches (length t.words) (omega (arith, words, long, many, number)) in (
             ap (λ (q : FlatState). q.output) whole.flat ∙ sym (ap (λ (x : Bool). if x then e.output else []) test),
@@ -219,10 +219,10 @@ module _ (by : Setting) (r : Record) (c : Context) (going : c.machine.ending ≡
       let less = b.few in
       let q = b.broke in
       elim q.is [
-        | inl same ↦ cut_at b.made (omega (arith, less)) (subst (λ (m : Moment). m.here ≡ None → ⊥) same q.inside) (q.words ∙ ap (λ (m : Moment). m.words ++ before.ram.fetched_at) same)
+        | inl same ↦ cut_at b.made (omega (arith, less)) (subst (λ (m : Moment). m.here ≡ None → ⊥) same q.inside) (q.words ∙ ap (λ (m : Moment). since before.ram.sets m.words ++ before.ram.fetched_at) same)
             (q.fetches ∙ ap (λ (m : Moment). risen before.ram.fetches (length m.words)) same) q.last_failed
             (subst (λ (m : Moment). Appends before.out.held after.out.held m.flat.output) same q.output) (subst (λ (m : Moment). Appends before.err.held after.err.held m.flat.error) same q.error)
-        | inr same ↦ cut_at (suc b.made) (omega (arith, less)) (subst (λ (m : Moment). m.here ≡ None → ⊥) same q.inside) (q.words ∙ ap (λ (m : Moment). m.words ++ before.ram.fetched_at) same)
+        | inr same ↦ cut_at (suc b.made) (omega (arith, less)) (subst (λ (m : Moment). m.here ≡ None → ⊥) same q.inside) (q.words ∙ ap (λ (m : Moment). since before.ram.sets m.words ++ before.ram.fetched_at) same)
             (q.fetches ∙ ap (λ (m : Moment). risen before.ram.fetches (length m.words)) same) q.last_failed
             (subst (λ (m : Moment). Appends before.out.held after.out.held m.flat.output) same q.output) (subst (λ (m : Moment). Appends before.err.held after.err.held m.flat.error) same q.error)
       ]

@@ -1,6 +1,7 @@
 pub mod Boarding
 pub mod Making
 pub mod Few
+pub mod Later
 pub mod Others
 pub mod Breaking
 pub mod Turning

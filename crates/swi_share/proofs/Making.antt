@@ -1,5 +1,5 @@
 -- A run of one step makes an event.
-use Rattle.std.proofs.Common.{◌≡◌, ℕ, ◌+◌, ◌-◌, ◌*◌, ◌<◌, ◌≤◌, ◌^◌, Bool, true, false, not, List, [], ◌++◌, reverse, Option, Some, None, is_some, if◌then◌else◌, Result, Ok, Err, IsErrOf, arith, refl, sym, ◌∙◌, ap, subst, inl, inr}
+use Rattle.std.proofs.Common.{◌≡◌, ℕ, ◌+◌, ◌-◌, ◌*◌, ◌<◌, ◌≤◌, ◌^◌, Bool, true, false, not, List, [], Option, Some, None, is_some, if◌then◌else◌, Result, Ok, Err, IsErrOf, arith, refl, sym, ◌∙◌, ap, subst, inl, inr}
 use Rattle.std.proofs.lemmas.Bool.{false≢true, and_from, eq-eqb}
 use Rattle.std.proofs.lemmas.Option.{same_Some}
 use Rattle.swi_calls.specs.declared.end.End.{End}
@@ -30,7 +30,7 @@ use Rattle.swi_hart.specs.declared.fault.BoardFault.{BoardFault}
 use Rattle.swi_hart.specs.declared.fault.BoardFault.TheVariants.{RamFault, SourceFault, SinkFault}
 use Rattle.swi_board.specs.Board.{BoardOf, BoardWithDevices, entries}
 use Rattle.swi_board.specs.BoardRan.{Along, BoardRan, BoardStays, BrokeOff}
-use Rattle.swi_board.specs.Fetching.{words_run}
+use Rattle.swi_board.specs.Fetching.{HasFetched, words_run}
 use Rattle.swi_board.specs.Moments.{GoesOn, Moment, events}
 use Rattle.swi_board.specs.Ran.{RamRan, Unasked, next_of}
 use Rattle.swi_board.specs.Tracking.{Came, Tracks, point_of}
@@ -43,7 +43,7 @@ use Rattle.swi_run_laws.specs.Runs.{RanSteps}
 use Rattle.swi_run_laws.proofs.Broken.{broke_off, off_unasked}
 use Rattle.swi_run_laws.proofs.RunLaws.{goes_short}
 use Rattle.swi_run_laws.proofs.Runs.{ran_steps}
-use Rattle.swi_outside.specs.CacheRam.{KeepsBeyond, RamState}
+use Rattle.swi_outside.specs.CacheRam.{Fetch, KeepsBeyond, RamState}
 use Rattle.swi_outside.specs.Causes.{Rose, risen}
 use Rattle.swi_outside.specs.Devices.{Faults, HasCauses, faults_of}
 use Rattle.swi_outside.specs.Laws.{Appends-none, cause_as, cause_from, causes_from, named_as}
@@ -54,6 +54,7 @@ use Rattle.swi_share.specs.Waiting.{WaitsAt, Holds, Waits, most_steps}
 use Rattle.swi_share.specs.Shared.{Context, Event, place_by, enters, begun_if, step_event}
 use Rattle.swi_share.specs.Event.{Boarded, EventDevices, EventMade, HartEvent, StepBroke, board_with, context, devices_of, event_at, instructions_from, moment_by, moment_of, point_with}
 use Rattle.swi_share.proofs.Few.{Counted, run_counted, bounded_after, entered_services, entered_writes, all_writes, all_extent}
+use Rattle.swi_share.proofs.Later.{fetched_both, words_later}
 
 place_told : (e : Option End) (v : ImageData) (m : Machine) (c : Control) (here : Here) → (e ≡ None → is_between c ≡ true) → (e ≡ None → here_of v m c ≡ here) → place_under e c ≡ place_by e here
 place_told (Some e) v m c here between is = refl
@@ -159,11 +160,11 @@ bounded v left old b h waits going is machine between le =
 
 -- the event, from where the hart makes its step
 pub event_is : (v : ImageData) (left : List ℕ) (old b : BoardOf Slots) → Boarded v old b →
-    event_at old v left ≡ step_event (setting_of old.rom) (kept_by b.rom) (record (context old.hart v left) { booted = true; place = here_of v old.hart.machine b.hart.control; count = b.hart.count })
+    event_at old v left ≡ step_event (setting_of old.rom) (writes (kept_by b.rom) - writes (kept_by old.rom)) (kept_by b.rom) (record (context old.hart v left) { booted = true; place = here_of v old.hart.machine b.hart.control; count = b.hart.count })
 event_is v left old b is =
     let c = context old.hart v left in
-    ap (λ (r : Record). step_event (setting_of old.rom) r (begun_if (enters (kept_by old.rom) c) c)) (sym (is.kept left))
-    ∙ ap (λ (x : Context). step_event (setting_of old.rom) (kept_by b.rom) x) (is.begun left)
+    ap (λ (r : Record). step_event (setting_of old.rom) (writes r - writes (kept_by old.rom)) r (begun_if (enters (kept_by old.rom) c) c)) (sym (is.kept left))
+    ∙ ap (λ (x : Context). step_event (setting_of old.rom) (writes (kept_by b.rom) - writes (kept_by old.rom)) (kept_by b.rom) x) (is.begun left)
 
 -- and where its machine instructions begin
 abbrev pub begun_moment : ImageData → List ℕ → BoardOf Slots → BoardOf Slots → Moment
@@ -276,7 +277,15 @@ module _ (v : ImageData) (old b : BoardOf Slots) (before : EventDevices) (given 
         ∙ ap (λ (t : Bool). let x : Context = record { image = v; machine = m; input = input; booted = t; place = place; count = h.count } in x) booted
         ∙ ap (λ (n : ℕ). let x : Context = record { image = v; machine = m; input = input; booted = true; place = place; count = n } in x) counted
 
-    made_as : EventMade v (step_event by (kept_by b.rom) (record (context old.hart v before.left) { booted = true; place = here; count = b.hart.count })) old new before after
+    -- the words of the event, which begins with the sets of the entry
+    words : HasFetched (words_run (fifo by) v 1 flat here (record { kept = kept_by b.rom; sets = writes (kept_by b.rom) - writes (kept_by old.rom) })) before.ram after.ram
+    words =
+        let entered = writes (kept_by b.rom) - writes (kept_by old.rom) in
+        let own = words_run (fifo by) v 1 flat here (record { kept = kept_by b.rom; sets = 0 }) in
+        subst (λ (l : List Fetch). HasFetched l before.ram after.ram) (sym (words_later (fifo by) v 1 flat here (kept_by b.rom) entered))
+        (fetched_both entered [] own before.ram mid after.ram entry.ram.sets_rise entry.ram.fetched_at_stays made.words)
+
+    made_as : EventMade v (step_event by (writes (kept_by b.rom) - writes (kept_by old.rom)) (kept_by b.rom) (record (context old.hart v before.left) { booted = true; place = here; count = b.hart.count })) old new before after
     made_as =
         let unused = subst (λ (k : Setting). SameFrom (extent_of k (kept_by new.rom)) mid.words after.ram.words) entry.setting stays.unused in
         let extents = further in
@@ -287,7 +296,7 @@ module _ (v : ImageData) (old b : BoardOf Slots) (before : EventDevices) (given 
           output = made.output;
           error = made.error;
           ram = subst (λ (r : Record). RamRan (span_of by) (fetches v 1 flat here) (writes r - writes (kept_by old.rom)) before.ram after.ram) made.record_is ram;
-          words = made.words ∙ ap (λ (l : List ℕ). reverse (words_run (fifo by) v 1 flat here (kept_by b.rom)) ++ l) entry.ram.fetched_at_stays;
+          words = words;
           unused = subst (λ (r : Record). SameFrom (extent_of by r) before.ram.words after.ram.words) made.record_is (λ i le. unused i le ∙ entry.unused i (omega (arith, extents, le)));
           waits = subst (λ (r : Record). Waits v r new.hart) made.record_is rests;
           setting = stays.setting ∙ entry.setting;

@@ -1,9 +1,9 @@
 -- Events in order.
-use Rattle.std.proofs.Common.{◌≡◌, ℕ, zero, suc, ◌+◌, ◌-◌, ◌<◌, ◌≤◌, List, [], ◌∷◌, ◌++◌, length, reverse, slice_index, slice_index_or, take, Option, Some, None, Ok, Err, arith, refl, sym, ◌∙◌, ap, subst, append_assoc, append-nil}
+use Rattle.std.proofs.Common.{◌≡◌, ℕ, zero, suc, ◌+◌, ◌-◌, ◌<◌, ◌≤◌, List, [], ◌∷◌, ◌++◌, length, slice_index, slice_index_or, take, Option, Some, None, Ok, Err, arith, refl, sym, ◌∙◌, ap, subst, append-nil}
 use Rattle.std.specs.Io.KnownBytes.{Appends}
 use Rattle.swi_outside.specs.Causes.{risen}
 use Rattle.swi_outside.specs.Laws.{Appends-append, Appends-none}
-use Rattle.swi_outside.specs.CacheRam.{RamState, KeepsBeyond}
+use Rattle.swi_outside.specs.CacheRam.{Fetch, RamState, KeepsBeyond, later}
 use Rattle.swi_calls.specs.declared.end.End.{End}
 use Rattle.swi_rom.specs.Record.{Record, writes}
 use Rattle.swi_rom.specs.Rams.{risen_more}
@@ -15,24 +15,26 @@ use Rattle.swi_board.specs.Ran.{RamRan}
 use Rattle.swi_board.specs.Fetching.{HasFetched}
 use Rattle.swi_board.proofs.Tracks.{kept_both}
 use Rattle.swi_share.specs.Event.{Quiet}
-use Rattle.swi_share.specs.Shared.{Context, Shared, event_by, event_in, shared_event, shared_run}
+use Rattle.swi_share.specs.Shared.{Context, Shared, event_by, event_in, event_of, shared_event, shared_run}
 use Rattle.swi_share.specs.Sharing.{ShareData, ShareWith, Came, EventRan, HasRoom, IsSharing, Stopped, context_of, seen}
 use Rattle.swi_share.specs.Run.{CanRun, RunDone, ScheduleRan}
 use Rattle.swi_hart.specs.declared.fault.BoardFault.{BoardFault}
-use Rattle.std.proofs.lemmas.List.{length-map, reverse-append}
+use Rattle.std.proofs.lemmas.List.{length-map}
 use Rattle.swi_share.proofs.Few.{event_writes, event_extent}
+use Rattle.swi_share.proofs.Later.{fetched_both, later_none}
 
 -- a state whose events have written and fetched nothing yet
 abbrev pub anew : Shared → Shared
-anew s = record s { output = []; error = []; fetches = 0; words = [] }
+anew s = record s { output = []; error = []; sets = 0; fetches = 0; words = [] }
 
 -- an event leaves the same over what was written and fetched before it
 pub record Framed (s next own : Shared) : Type 0 where
   pub rest : anew next ≡ anew own
   pub output : next.output ≡ s.output ++ own.output
   pub error : next.error ≡ s.error ++ own.error
+  pub sets : next.sets ≡ s.sets + own.sets
   pub fetches : next.fetches ≡ s.fetches + own.fetches
-  pub words : next.words ≡ s.words ++ own.words
+  pub words : next.words ≡ s.words ++ later s.sets own.words
   pub setting : next.setting ≡ s.setting
   pub writes_rise : writes s.kept ≤ writes next.kept
   pub extent_rises : extent_of s.setting s.kept ≤ extent_of s.setting next.kept
@@ -42,6 +44,7 @@ framed_none s = record {
   rest = refl;
   output = sym (append-nil s.output);
   error = sym (append-nil s.error);
+  sets = omega arith;
   fetches = omega arith;
   words = sym (append-nil s.words);
   setting = refl;
@@ -55,8 +58,9 @@ framed_by g s c None = record {
   rest = refl;
   output = refl;
   error = refl;
+  sets = omega arith;
   fetches = omega arith;
-  words = refl;
+  words = ap (λ (l : List Fetch). s.words ++ later s.sets l) (sym (later_none (event_of s.setting (record s.kept { turn = g }) c).words));
   setting = refl;
   writes_rise = event_writes s.setting (record s.kept { turn = g }) c;
   extent_rises = event_extent s.setting (record s.kept { turn = g }) c;
@@ -116,6 +120,7 @@ came_none w = record {
       sets = none_risen w.ram.sets (writes (seen w.share).kept);
       kept = record { same_length = refl; beyond = λ i le. refl; reached = grind arith };
     };
+    sets = none_left (writes (seen w.share).kept);
     words = refl;
     unused = λ i le. refl;
   };
@@ -129,6 +134,9 @@ came_none w = record {
     none_risen : (n w : ℕ) → n ≡ risen n (w - w)
     none_risen n w = grind arith
 
+    none_left : (w : ℕ) → 0 ≡ w - w
+    none_left w = omega arith
+
 ran_both : (span m n k w0 w1 w2 : ℕ) (a b d : RamState) → m + n ≡ k → w0 ≤ w1 → w1 ≤ w2 → RamRan span m (w1 - w0) a b → RamRan span n (w2 - w1) b d → RamRan span k (w2 - w0) a d
 ran_both span m n k w0 w1 w2 a b d sum one_up two_up one two = record {
   quiet = two.quiet ∙ one.quiet;
@@ -137,10 +145,13 @@ ran_both span m n k w0 w1 w2 a b d sum one_up two_up one two = record {
   kept = kept_both span a b d one.kept two.kept;
 }
 
-pub fetched_both : (xs ys : List ℕ) (a b d : RamState) → HasFetched xs a b → HasFetched ys b d → HasFetched (xs ++ ys) a d
-fetched_both xs ys a b d one two =
-    two ∙ ap (λ (l : List ℕ). reverse ys ++ l) one ∙ sym (append_assoc (reverse ys) (reverse xs) a.fetched_at)
-    ∙ ap (λ (l : List ℕ). l ++ a.fetched_at) (sym (reverse-append xs ys))
+-- the sets of both
+sets_both : (w0 w1 w2 m n k : ℕ) → k ≡ m + n → w0 ≤ w1 → w1 ≤ w2 → m ≡ w1 - w0 → n ≡ w2 - w1 → k ≡ w2 - w0
+sets_both w0 w1 w2 m n k sum one_up two_up one two = omega (arith, sum, one_up, two_up, one, two)
+
+-- the sets of the ram behind events
+pub sets_are : (done : Shared) (before mid : ShareWith) → Came done before mid → mid.ram.sets ≡ risen before.ram.sets done.sets
+sets_are done before mid came = came.ram.sets ∙ ap (λ (n : ℕ). risen before.ram.sets n) (sym came.sets)
 
 pub came_then : (done : Shared) (g : ℕ) (before mid after : ShareWith) → CameOn done before mid → Came (shared_event g (seen mid.share)) mid after → CameOn (shared_event g done) before after
 came_then done g before mid after one two' =
@@ -164,7 +175,10 @@ came_then done g before mid after one two' =
         error = subst (λ (l : List ℕ). Appends before.err.held after.err.held l) (sym f.error) (Appends-append before.err.held mid.err.held after.err.held done.error own.error one.came.error two.error);
         ram = subst (λ (b : Setting). RamRan (span_of b) next.fetches (writes next.kept - writes (seen before.share).kept) before.ram after.ram) (sym f.setting)
             (ran_both (span_of done.setting) done.fetches own.fetches next.fetches (writes (seen before.share).kept) (writes done.kept) (writes next.kept) before.ram mid.ram after.ram (sym f.fetches) one.rises f.writes_rise one.came.ram ram);
-        words = subst (λ (l : List ℕ). HasFetched l before.ram after.ram) (sym f.words) (fetched_both done.words own.words before.ram mid.ram after.ram one.came.words two.words);
+        sets = sets_both (writes (seen before.share).kept) (writes done.kept) (writes next.kept) done.sets own.sets next.sets f.sets one.rises f.writes_rise one.came.sets
+            (two.sets ∙ ap (λ (r : Record). writes r - writes (seen mid.share).kept) kept ∙ ap (λ (r : Record). writes next.kept - writes r) first);
+        words = subst (λ (l : List Fetch). HasFetched l before.ram after.ram) (sym f.words)
+            (fetched_both done.sets done.words own.words before.ram mid.ram after.ram (sets_are done before mid one.came) one.came.words two.words);
         unused = subst (λ (b : Setting). SameFrom (extent_of b next.kept) before.ram.words after.ram.words) (sym f.setting)
             (λ i le. unused i le ∙ one.came.unused i (omega (arith, f.extent_rises, le)));
       };

@@ -133,10 +133,10 @@ sharing_first (x ∷ xs) (p ∷ ps) rom bytes n words some all most is serves fi
 pub seen_first : (xs : List Guest) (ps : List Process) (rom : Slots) (bytes n : ℕ) → AllStarted xs ps → n ≡ most_words xs → rom ≡ empty_slots (bytes / 4 / n) n (length xs) → kept_by rom ≡ empty_record →
     seen (share_of ps rom) ≡ shared_start bytes xs
 seen_first xs ps rom bytes n all most is kept =
-    ap (λ (s : Setting). let y : Shared = record { setting = s; kept = kept_by rom; contexts = map context_of ps; output = []; error = []; fetches = 0; words = [] } in y)
+    ap (λ (s : Setting). let y : Shared = record { setting = s; kept = kept_by rom; contexts = map context_of ps; output = []; error = []; sets = 0; fetches = 0; words = [] } in y)
     (ap (λ (s : Slots). setting_of s) is ∙ ap (λ (k : ℕ). let y : Setting = record { slots = bytes / 4 / k; slot_words = k; programs = length xs } in y) most)
-    ∙ ap (λ (r : Record). let y : Shared = record { setting = record { slots = bytes / 4 / most_words xs; slot_words = most_words xs; programs = length xs }; kept = r; contexts = map context_of ps; output = []; error = []; fetches = 0; words = [] } in y) kept
-    ∙ ap (λ (cs : List (Option Context)). let y : Shared = record { setting = record { slots = bytes / 4 / most_words xs; slot_words = most_words xs; programs = length xs }; kept = empty_record; contexts = cs; output = []; error = []; fetches = 0; words = [] } in y)
+    ∙ ap (λ (r : Record). let y : Shared = record { setting = record { slots = bytes / 4 / most_words xs; slot_words = most_words xs; programs = length xs }; kept = r; contexts = map context_of ps; output = []; error = []; sets = 0; fetches = 0; words = [] } in y) kept
+    ∙ ap (λ (cs : List (Option Context)). let y : Shared = record { setting = record { slots = bytes / 4 / most_words xs; slot_words = most_words xs; programs = length xs }; kept = empty_record; contexts = cs; output = []; error = []; sets = 0; fetches = 0; words = [] } in y)
     (contexts_first xs ps all)
 
 -- ---- the most words of a block

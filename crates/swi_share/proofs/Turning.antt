@@ -5,7 +5,7 @@ use Rattle.std.proofs.lemmas.List.{length-set, map-set}
 use Rattle.std.proofs.lemmas.Option.{same_Some}
 use Rattle.swi_outside.specs.Causes.{risen}
 use Rattle.swi_outside.specs.Laws.{Appends-none}
-use Rattle.swi_outside.specs.CacheRam.{RamState}
+use Rattle.swi_outside.specs.CacheRam.{Fetch, RamState}
 use Rattle.swi_calls.specs.Flat.{started}
 use Rattle.swi_calls.specs.Held.{held_run}
 use Rattle.swi_calls.specs.State.{FlatState}
@@ -20,6 +20,7 @@ use Rattle.swi_slots.specs.Sound.{SlotsServe}
 use Rattle.swi_outside.specs.Sink.{SinkState}
 use Rattle.swi_hart.specs.Hart.{HartData}
 use Rattle.swi_board.specs.Board.{BoardOf}
+use Rattle.swi_board.specs.Fetching.{HasFetched}
 use Rattle.swi_board.specs.Ran.{RamRan}
 use Rattle.swi_share.specs.declared.process.Process.{Process}
 use Rattle.swi_share.specs.Shared.{Context, Event, Shared, enters, entered_if, begun_if, flat_of, step_event, with_event, event_by, event_in, shared_event, event_of}
@@ -28,6 +29,7 @@ use Rattle.swi_share.specs.Event.{EventDevices, EventMade, context, event_at}
 use Rattle.swi_share.specs.Sharing.{ShareData, IsSharing, Seated, Came, seen, turned, context_of, services_by, services_most, HasEnded}
 use Rattle.swi_share.proofs.Few.{Counted, run_counted, services_after, event_services}
 use Rattle.swi_share.proofs.Breaking.{flat_same}
+use Rattle.swi_share.proofs.Later.{later_none}
 use Rattle.swi_share.proofs.Others.{Passes, event_passes, waits_on}
 
 -- ---- lists
@@ -137,11 +139,11 @@ context_left p' v c image input is =
     ∙ ap (λ (x : Context). Some x) is
 
 shared_as : (ps : List Process) (rom rom' : Slots) (g : ℕ) (p' : Process) (e : Event) → setting_of rom' ≡ setting_of rom → kept_by rom' ≡ e.kept → context_of p' ≡ Some e.context →
-    seen (share_of (slice_set ps g p') rom') ≡ record (with_event g (seen (share_of ps rom)) e) { output = []; error = []; fetches = 0; words = [] }
+    seen (share_of (slice_set ps g p') rom') ≡ record (with_event g (seen (share_of ps rom)) e) { output = []; error = []; sets = 0; fetches = 0; words = [] }
 shared_as ps rom rom' g p' e setting kept left =
-    ap (λ (s : Setting). let x : Shared = record { setting = s; kept = kept_by rom'; contexts = map context_of (slice_set ps g p'); output = []; error = []; fetches = 0; words = [] } in x) setting
-    ∙ ap (λ (r : Record). let x : Shared = record { setting = setting_of rom; kept = r; contexts = map context_of (slice_set ps g p'); output = []; error = []; fetches = 0; words = [] } in x) kept
-    ∙ ap (λ (cs : List (Option Context)). let x : Shared = record { setting = setting_of rom; kept = e.kept; contexts = cs; output = []; error = []; fetches = 0; words = [] } in x)
+    ap (λ (s : Setting). let x : Shared = record { setting = s; kept = kept_by rom'; contexts = map context_of (slice_set ps g p'); output = []; error = []; sets = 0; fetches = 0; words = [] } in x) setting
+    ∙ ap (λ (r : Record). let x : Shared = record { setting = setting_of rom; kept = r; contexts = map context_of (slice_set ps g p'); output = []; error = []; sets = 0; fetches = 0; words = [] } in x) kept
+    ∙ ap (λ (cs : List (Option Context)). let x : Shared = record { setting = setting_of rom; kept = e.kept; contexts = cs; output = []; error = []; sets = 0; fetches = 0; words = [] } in x)
     (map-set context_of ps g p' ∙ ap (λ (c : Option Context). slice_set (map context_of ps) g c) left)
 
 pub came_of : (g : ℕ) (ps : List Process) (rom rom' : Slots) (p p' : Process) (before after : EventDevices) → Turned g ps rom rom' p p' before after →
@@ -158,7 +160,8 @@ came_of g ps rom rom' p p' before after t =
       output = t.made.output;
       error = t.made.error;
       ram = subst (λ (n : ℕ). RamRan (span_of (setting_of rom)) n (writes e.kept - writes (kept_by rom)) before.ram after.ram) (none_more e.fetches) t.made.ram;
-      words = t.made.words;
+      sets = sym (none_more (writes e.kept - writes (kept_by rom)));
+      words = subst (λ (l : List Fetch). HasFetched l before.ram after.ram) (sym (later_none e.words)) t.made.words;
       unused = t.made.unused;
     })
   where
@@ -171,7 +174,7 @@ kept_turn r g is = ap (λ (n : ℕ). let x : Record = record r { turn = n } in x
 event_machine : (h : HartData) (v : ImageData) (left : List ℕ) (by : Setting) (r : Record) → (event_of by r (context h v left)).context.machine ≡ (held_run 1 (started h.machine left)).machine
 event_machine h v left by r = begun_machine (enters r (context h v left)) (context h v left) ∙ ap (λ (x : FlatState). (held_run 1 x).machine) (flat_same (enters r (context h v left)) (context h v left))
   where
-    begun_machine : (t : Bool) (c : Context) → (step_event by (entered_if t by r c) (begun_if t c)).context.machine ≡ (held_run 1 (flat_of (begun_if t c))).machine
+    begun_machine : (t : Bool) (c : Context) → (step_event by (writes (entered_if t by r c) - writes r) (entered_if t by r c) (begun_if t c)).context.machine ≡ (held_run 1 (flat_of (begun_if t c))).machine
     begun_machine t c = refl
 
 counted_in : (h h' : HartData) (v : ImageData) (left : List ℕ) (by : Setting) (r : Record) → h.machine.ending ≡ None → h'.machine ≡ (event_of by r (context h v left)).context.machine → Counted h.machine.steps h'.machine
@@ -236,6 +239,7 @@ came_idle s s' words g ram out err q w same =
       output = Appends-none out.held;
       error = Appends-none err.held;
       ram = record { quiet = refl; fetches = risen_none ram.fetches; sets = none_risen ram.sets (writes (seen s).kept); kept = record { same_length = refl; beyond = λ i le. refl; reached = reach_most ram.reach (span_of (seen s).setting) } };
+      sets = none_left (writes (seen s).kept);
       words = refl;
       unused = λ i le. refl;
     })
@@ -256,6 +260,9 @@ came_idle s s' words g ram out err q w same =
 
     none_risen : (n w : ℕ) → n ≡ risen n (w - w)
     none_risen n w = grind arith
+
+    none_left : (w : ℕ) → 0 ≡ w - w
+    none_left w = omega arith
 
     reach_most : (n m : ℕ) → n ≤ max n m
     reach_most n m = grind arith

@@ -1,5 +1,5 @@
 -- Laws of a schedule: each program makes a step at each of its events, and how many words all of them fetch.
-use Rattle.std.proofs.Common.{◌≡◌, ℕ, zero, suc, ◌+◌, ◌==◌, Bool, true, false, if◌then◌else◌, List, [], ◌∷◌, ◌++◌, slice_set, slice_index_or, Option, Some, None, is_some, arith, refl, sym, ◌∙◌, ap, subst, inl, inr}
+use Rattle.std.proofs.Common.{◌≡◌, ℕ, zero, suc, ◌+◌, ◌-◌, ◌==◌, Bool, true, false, if◌then◌else◌, List, [], ◌∷◌, ◌++◌, slice_set, slice_index_or, Option, Some, None, is_some, arith, refl, sym, ◌∙◌, ap, subst, inl, inr}
 use Rattle.std.proofs.lemmas.Bool.{cases_Bool, false≢true, eq-eqb, eqb-true}
 use Rattle.swi_calls.specs.declared.end.End.{End}
 use Rattle.swi_calls.specs.declared.machine.Machine.{Machine}
@@ -8,7 +8,7 @@ use Rattle.swi_calls.specs.Held.{held_made, held_step, held_run}
 use Rattle.swi_calls.specs.Laws.{held_run_none, held_run_over, held_run_more}
 use Rattle.swi_calls.specs.State.{FlatState}
 use Rattle.swi_image.specs.Format.{ImageData}
-use Rattle.swi_rom.specs.Record.{Record}
+use Rattle.swi_rom.specs.Record.{Record, writes}
 use Rattle.swi_rom.specs.Service.{Setting}
 use Rattle.swi_board.specs.Board.{entries}
 use Rattle.swi_board.specs.Transfers.{Here, at_fall, settled, step_size, size, cost, fetches}
@@ -113,12 +113,12 @@ index_set_other (x ∷ xs) zero (suc j) y ne = refl
 index_set_other (x ∷ xs) (suc i) zero y ne = refl
 index_set_other (x ∷ xs) (suc i) (suc j) y ne = index_set_other xs i j y (λ e. ne (ap suc e))
 
-step_follows : (t : Bool) (by : Setting) (r : Record) (c : Context) → Follows 1 c (step_event by r (begun_if t c)).context
-step_follows true by r c = record { image = refl; machine = refl; input = refl }
-step_follows false by r c = record { image = refl; machine = refl; input = refl }
+step_follows : (t : Bool) (by : Setting) (sets : ℕ) (r : Record) (c : Context) → Follows 1 c (step_event by sets r (begun_if t c)).context
+step_follows true by sets r c = record { image = refl; machine = refl; input = refl }
+step_follows false by sets r c = record { image = refl; machine = refl; input = refl }
 
 event_follows : (by : Setting) (r : Record) (c : Context) → Follows 1 c (event_of by r c).context
-event_follows by r c = step_follows (enters r c) by (entered_if (enters r c) by r c) c
+event_follows by r c = step_follows (enters r c) by (writes (entered_if (enters r c) by r c) - writes r) (entered_if (enters r c) by r c) c
 
 -- where a program of a state stands afterwards
 abbrev pub StandsAfter : ℕ → Context → ℕ → Shared → Type 0
@@ -209,11 +209,11 @@ sizes : (v : ImageData) (s : FlatState) (here : Here) → is_some s.machine.endi
 unfolding size
 sizes v s here going = rw going (one_size (if at_fall v s.machine here then 1 else 0) s.machine (settled v s.machine here))
 
-event_sizes : (t : Bool) (by : Setting) (r : Record) (c : Context) → is_some c.machine.ending ≡ false →
-    let e : Event = step_event by r (begun_if t c) in
+event_sizes : (t : Bool) (by : Setting) (sets : ℕ) (r : Record) (c : Context) → is_some c.machine.ending ≡ false →
+    let e : Event = step_event by sets r (begun_if t c) in
     e.context.count ≡ c.count + (entered_by t c + outside_by (settled c.image c.machine (begun_if t c).place)) + e.fetches
-event_sizes true by r c going = let b = begun_if true c in let is = sizes b.image (flat_of b) b.place going in omega (arith, is)
-event_sizes false by r c going = let is = sizes c.image (flat_of c) c.place going in omega (arith, is)
+event_sizes true by sets r c going = let b = begun_if true c in let is = sizes b.image (flat_of b) b.place going in omega (arith, is)
+event_sizes false by sets r c going = let is = sizes c.image (flat_of c) c.place going in omega (arith, is)
 
 counts_set : (cs : List (Option Context)) (g : ℕ) (c d : Context) → slice_index_or cs g None ≡ Some c → counts_of (slice_set cs g (Some d)) + c.count ≡ counts_of cs + d.count
 unfolding counts_of
@@ -228,7 +228,7 @@ sum_by g s c (Some e) ended is = omega arith
 sum_by g s c None going is =
     let r = record s.kept { turn = g } in
     let e = event_of s.setting r c in
-    let one = event_sizes (enters r c) s.setting (entered_if (enters r c) s.setting r c) c (ap (λ (x : Option End). is_some x) going) in
+    let one = event_sizes (enters r c) s.setting (writes (entered_if (enters r c) s.setting r c) - writes r) (entered_if (enters r c) s.setting r c) c (ap (λ (x : Option End). is_some x) going) in
     let all = counts_set s.contexts g c e.context is in
     omega (arith, one, all)
 

@@ -85,8 +85,8 @@ step_event by sets r c = record {
 abbrev pub event_of : Setting → Record → Context → Event
 event_of by r c = step_event by (writes (entered_if (enters r c) by r c) - writes r) (entered_if (enters r c) by r c) (begun_if (enters r c) c)
 
--- All programs with the one cache: its setting, its queue with links and counts, the contexts; and the bytes that the events have written, in their order, how many words they
--- have set and fetched, and which they have fetched, each behind so many sets.
+-- All programs with the one cache: its setting, its queue with links and counts, the contexts; and the bytes that the events have written,
+-- in their order, how many words they have set and fetched, and which they have fetched, each behind so many sets.
 pub record Shared : Type 0 where
   pub setting : Setting
   pub kept : Record

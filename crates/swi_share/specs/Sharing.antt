@@ -63,6 +63,8 @@ pub record Came (next : Shared) (before after : ShareWith) : Type 0 where
   pub output : Appends before.out.held after.out.held next.output
   pub error : Appends before.err.held after.err.held next.error
   pub ram : RamRan (span_of next.setting) next.fetches (writes next.kept - writes (seen before.share).kept) before.ram after.ram
+  -- which are the sets of the events
+  pub sets : next.sets ≡ writes next.kept - writes (seen before.share).kept
   pub words : HasFetched next.words before.ram after.ram
   pub unused : SameFrom (extent_of next.setting next.kept) before.ram.words after.ram.words
 

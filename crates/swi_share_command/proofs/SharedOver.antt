@@ -6,7 +6,7 @@ use Rattle.std.proofs.lemmas.Option.{same_Some}
 use Rattle.std.proofs.Math.Nat.{div-mul-le_self}
 use Rattle.std.proofs.Math.Seq.{take-append-add}
 use Rattle.std.specs.Io.KnownBytes.{Appends}
-use Rattle.swi_outside.specs.CacheRam.{KeepsBeyond, RamState}
+use Rattle.swi_outside.specs.CacheRam.{KeepsBeyond, RamState, later}
 use Rattle.swi_outside.specs.Causes.{PairCause, Rose, risen}
 use Rattle.swi_outside.specs.Devices.{Faults}
 use Rattle.swi_outside.specs.Laws.{Appends-append, cause_from, no_cause}
@@ -25,7 +25,6 @@ use Rattle.swi_slots.specs.Coheres.{coheres}
 use Rattle.swi_slots.specs.Slots.{Slots, kept_by, setting_of, span_of}
 use Rattle.swi_slots.proofs.Turned.{turned_kept, turned_serves}
 use Rattle.swi_image.specs.Format.{ImageData}
-use Rattle.swi_board.specs.Fetching.{FetchedFront, HasFetched}
 use Rattle.swi_board.specs.Ran.{RamRan}
 use Rattle.swi_hart.specs.declared.fault.BoardFault.{BoardFault}
 use Rattle.swi_hart.specs.declared.fault.BoardFault.TheVariants.{RamFault, SinkFault, SourceFault}
@@ -39,7 +38,8 @@ use Rattle.swi_share.specs.Shared.{Context, Event, Shared, event_by, event_in, e
 use Rattle.swi_share.specs.Sharing.{Came, IsSharing, ShareData, ShareWith, devices_with, kept_in, seen, setting_in}
 use Rattle.swi_share.specs.Starting.{first_context, most_words, shared_start}
 use Rattle.swi_share.proofs.Bounds.{can_start, counted, process_at}
-use Rattle.swi_share.proofs.Scheduling.{anew, fetched_both, run_next}
+use Rattle.swi_share.proofs.Later.{front_then}
+use Rattle.swi_share.proofs.Scheduling.{anew, run_next, sets_are}
 use Rattle.swi_share.proofs.Stopped.{ram_stopped, sink_stopped}
 use Rattle.swi_answer.specs.declared.answer.Ending.TheVariants as ending
 use Rattle.swi_answer.specs.declared.answer.Refusal.TheVariants as refusal
@@ -178,7 +178,7 @@ pub record Adds (was next : Shared) (e : Event) : Type 0 where
   pub output : next.output ≡ was.output ++ e.output
   pub error : next.error ≡ was.error ++ e.error
   pub fetches : next.fetches ≡ was.fetches + e.fetches
-  pub words : next.words ≡ was.words ++ e.words
+  pub words : next.words ≡ was.words ++ later was.sets e.words
 
 adds : (g : ℕ) (was : Shared) (c : Context) → slice_index_or was.contexts g None ≡ Some c → c.machine.ending ≡ None →
     Adds was (shared_event g was) (event_of was.setting (record was.kept { turn = g }) c)
@@ -199,17 +199,6 @@ next_adds order made start mid c lt at is going =
     (subst (λ (x : Event). Adds was (shared_event g was) x) (sym e) (adds g was c here going))
 
 -- ---- and one that a device broke off
-
--- the words of the events before, and a front of those of the next one
-front_then : (first mid after : RamState) (xs ys whole : List ℕ) → whole ≡ xs ++ ys → HasFetched xs first mid → FetchedFront ys mid after → FetchedFront whole first after
-front_then first mid after xs ys whole is one two = (
-  two.0,
-  record {
-    fetched = xs ++ two.1.fetched;
-    are = fetched_both xs two.1.fetched first mid after one two.1.are;
-    front = append_assoc xs two.1.fetched two.0 ∙ ap (λ (l : List ℕ). xs ++ l) two.1.front ∙ sym is;
-  },
-)
 
 -- what adds nothing is nothing
 none_added : (xs ys whole : List ℕ) → whole ≡ xs ++ ys → whole ≡ xs → ys ≡ []
@@ -232,7 +221,7 @@ cut_off was next e d first mid after left left' adds came quiet cut = record {
       (appends_to first.err.held mid.err.held after.err.held was.error e.error next.error cut.error_front adds.error came.error cut.error);
   output_unasked = λ same. cut.output_unasked (none_added was.output e.output next.output adds.output same) ∙ quiet.output;
   error_unasked = λ same. cut.error_unasked (none_added was.error e.error next.error adds.error same) ∙ quiet.error;
-  words = front_then first.ram mid.ram after.ram was.words e.words next.words adds.words came.words cut.words;
+  words = front_then was.sets first.ram mid.ram after.ram was.words e.words next.words (sets_are was first mid came) adds.words came.words cut.words;
 }
 
 pub unfetched_off : (was next : Shared) (e : Event) (d : Devices) (first mid after : ShareWith) (left left' : List ℕ) → Adds was next e → Came was first mid →
@@ -250,7 +239,7 @@ unfetched_off was next e d first mid after left left' adds came cut =
       fetches = cut.fetches ∙ ap (λ (n : ℕ). risen n k) came.ram.fetches ∙ risen_more first.ram.fetches was.fetches k;
       least = omega arith;
       most = omega (arith, sum, few);
-      words = front_then first.ram mid.ram after.ram was.words e.words next.words adds.words came.words cut.words;
+      words = front_then was.sets first.ram mid.ram after.ram was.words e.words next.words (sets_are was first mid came) adds.words came.words cut.words;
       output = subst (λ (l : List ℕ). Appends first.out.held after.out.held l) outs (Appends-append first.out.held mid.out.held after.out.held was.output _ came.output cut.output);
       error = subst (λ (l : List ℕ). Appends first.err.held after.err.held l) (sym (append-nil (if nat_le next.fetches (was.fetches + k) then next.error else was.error)))
           (subst (λ (l : List ℕ). Appends first.err.held after.err.held l) errors (Appends-append first.err.held mid.err.held after.err.held was.error _ came.error cut.error));

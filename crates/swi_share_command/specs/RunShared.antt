@@ -153,8 +153,8 @@ share_report o s = guest_lines s.contexts ++ (if o.stats then shared_text_of (sh
 abbrev pub IsPlaced : Shared → ℕ → Context → List ℕ → Type 0
 IsPlaced s g c words = Coherent c.image (record s.kept { turn = g }) (span_of s.setting) words
 
--- The ram has fetched and written what the events have, just these words in their order, and each word that can't have been written is as
--- it was. The words that were fetched are the machine instructions of all programs, but for those that fetch none.
+-- The ram has fetched and written what the events have, just these words in their order, each behind as many sets, and each word that can't
+-- have been written is as it was. The words that were fetched are the machine instructions of all programs, but for those that fetch none.
 pub record RamShared (order : List ℕ) (first s : Shared) (before after : RamState) : Type 0 where
   pub ran : RamRan (span_of s.setting) s.fetches (writes s.kept) before after
   pub words : HasFetched s.words before after

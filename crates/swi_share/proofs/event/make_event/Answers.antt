@@ -1,4 +1,4 @@
-use Rattle.std.proofs.Common.{ℕ, ◌+◌, arith, ap, rules}
+use Rattle.std.proofs.Common.{ℕ, ◌+◌, arith, ap}
 use Rattle.swi_slots.specs.Slots.{Slots, kept_by}
 use Rattle.swi_board.specs.Board.{BoardOf}
 use Rattle.swi_share.specs.Event.{EventDevices}

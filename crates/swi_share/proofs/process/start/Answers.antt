@@ -1,4 +1,4 @@
-use Rattle.std.proofs.Common.{ℕ, false, Some, refl, ap, sym, ◌∙◌}
+use Rattle.std.proofs.Common.{ℕ, false, refl, ap, sym, ◌∙◌}
 use Rattle.swi_memory.specs.Bus.{fetched}
 use Rattle.swi_calls.specs.Flat.{machine_of}
 use Rattle.swi_program.specs.Text.{text_of, word_of}

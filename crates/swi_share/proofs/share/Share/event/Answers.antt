@@ -1,4 +1,4 @@
-use Rattle.std.proofs.Common.{◌≡◌, ◌<◌, length, None, Some, Ok, Err, true, false, is_some, List, slice_get, slice_set, rules, refl, ap}
+use Rattle.std.proofs.Common.{◌≡◌, Some, true, false, is_some, List, slice_set, rules, refl, ap}
 use Rattle.swi_share.specs.declared.process.Process.{Process}
 use Rattle.swi_share.specs.Event.{EventDevices}
 use Rattle.swi_share.specs.Sharing.{ShareData}
