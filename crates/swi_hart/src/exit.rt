@@ -53,7 +53,7 @@ pub(crate) fn is_back(control: Control, b: u32, o: u32) -> bool
 /// Whether an exit that was left for the target is one behind a block's last text word, which is no original step: by the
 /// stage, the original address `pc` before, and whether control went back to the exit itself.
 #[inline(always)]
-pub fn fell(stage: Stage, pc: u32, target: u32, back: bool) -> bool
+pub(crate) fn fell(stage: Stage, pc: u32, target: u32, back: bool) -> bool
     ensures { result ≡ fell stage pc target back }
 {
     match stage {

@@ -14,7 +14,7 @@ ghost use Rattle.swi_hart.specs.Leaving.{Home};
 ghost use Rattle.swi_hart.specs.MachineStep.{BoardStepped, ReadyToStep};
 
 use crate::fault::BoardFault;
-use crate::hart::{Control, Hart, Role, Stage};
+use crate::hart::{Control, Hart, Stage};
 use crate::step::role;
 use crate::word::run_word;
 use swi_image::ImageView;

@@ -39,7 +39,7 @@ fn original(bus: &Bus, pc: u32) -> Option<Instr>
 /// are made of that instruction's word.
 #[inline(always)]
 #[tactic(auto, using(crate::proofs::Roles::by_kind))]
-pub fn upper_role(bus: &Bus, pc: u32, stage: Stage) -> Role
+fn upper_role(bus: &Bus, pc: u32, stage: Stage) -> Role
     ensures { result ≡ upper_quick stage (instruction (fetched bus.now pc)) }
 {
     if stage != Stage::Start {
