@@ -12,7 +12,7 @@ mod word;
 
 pub use exit::{EBREAK, exit_kind, jump, jump_index};
 pub use fault::BoardFault;
-pub use hart::{Control, ExitKind, Hart, Role, Stage};
+pub use hart::{CodePlace, Control, ExitKind, Hart, Role, Stage};
 pub use plain::{plain_place, plain_step};
 pub use position::Position;
 pub use quick::{at_word, quick_step};
