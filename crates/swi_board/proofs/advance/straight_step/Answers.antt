@@ -31,6 +31,3 @@ returns-clause-turns g c _ limit first b i =
     straight_made g.met.R.CacheRom.laws b i c.requires.going.some c.args.m.now c.requires.op c.args.class (sym c.requires.class) c.requires.straight c.requires.other
     (record { from = 0; words = 0 }) c.in-Some.next (sym c.step_as.ensures.next ∙ c.in-Some.is) c.step_as.new.regs c.step_as.new.bus c.step_as.ensures.regs c.step_as.ensures.bus
     c.index.result (g.M.CacheRam.state c.fetch.new.ram) c.index.ensures c.fetch.ensures.ram
-
-pub returns-step_as-clause-stays : goal.returns-step_as-clause-stays
-returns-step_as-clause-stays g c _ = search

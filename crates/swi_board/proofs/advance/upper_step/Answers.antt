@@ -3,7 +3,6 @@ use Rattle.swi_outside.specs.CacheRam.{RamState}
 use Rattle.swi_exec.specs.Registers.{with_reg}
 use Rattle.swi_board.proofs.Going.{at_inside, pair_inside, pair_made, row_in, total_short, upper_made}
 use Rattle.swi_board.proofs.advance.upper_step.Goals as goal
-use Rattle.swi_board.proofs.advance.upper_step.Goals.{then-is_marked, else-is_marked}
 
 pub index-requires : goal.index-requires
 index-requires g c =
@@ -54,16 +53,15 @@ overflow_add-at-then-is_marked-2 g c =
     let short = total_short g.met.R.CacheRom.laws go.begins go.turned go.some in
     omega (arith, short)
 
-pub returns-clause-turns : goal.returns-clause-turns
-returns-clause-turns g c limit first b i =
-    let m = c.args.m.now in
-    let put = c.put.ensures ∙ ap (λ (n : ℕ). with_reg c.args.machine.now.regs n c.target.result) c.rd.ensures ∙ ap (λ (n : ℕ). with_reg c.args.machine.now.regs m.rd n) c.target.ensures in
-    elim c.if-is_marked.branch [
-      | then-is_marked w ↦
-          rw (w.at-is, w.ram-is) (pair_made g.met.R.CacheRom.laws b i c.requires.going.some m c.requires.op c.requires.class (sym c.is_marked.ensures ∙ w.if-is_marked.true) c.put.new.self put
-          c.index.result w.index.result (g.M.CacheRam.state c.fetch.new.ram) (g.M.CacheRam.state w.fetch.new.ram)
-          c.index.ensures c.fetch.ensures.ram w.index.ensures w.fetch.ensures.ram)
-      | else-is_marked w ↦
-          rw (w.at-is, w.ram-is) (upper_made g.met.R.CacheRom.laws b i c.requires.going.some m c.requires.op c.requires.class (sym c.is_marked.ensures ∙ w.if-is_marked.false) c.put.new.self put
-          c.index.result (g.M.CacheRam.state c.fetch.new.ram) c.index.ensures c.fetch.ensures.ram)
-    ]
+pub returns-then-is_marked-clause-turns : goal.returns-then-is_marked-clause-turns
+returns-then-is_marked-clause-turns g c limit first b i =
+    pair_made g.met.R.CacheRom.laws b i c.requires.going.some c.args.m.now c.requires.op c.requires.class (sym c.is_marked.ensures ∙ c.if-is_marked.true) c.put.new.self
+    (c.put.ensures ∙ ap (λ (n : ℕ). with_reg c.args.machine.now.regs n c.target.result) c.rd.ensures ∙ ap (λ (n : ℕ). with_reg c.args.machine.now.regs c.args.m.now.rd n) c.target.ensures)
+    c.index.result c.index-then-is_marked.result (g.M.CacheRam.state c.fetch.new.ram) (g.M.CacheRam.state c.fetch-then-is_marked.new.ram)
+    c.index.ensures c.fetch.ensures.ram c.index-then-is_marked.ensures c.fetch-then-is_marked.ensures.ram
+
+pub returns-else-is_marked-clause-turns : goal.returns-else-is_marked-clause-turns
+returns-else-is_marked-clause-turns g c limit first b i =
+    upper_made g.met.R.CacheRom.laws b i c.requires.going.some c.args.m.now c.requires.op c.requires.class (sym c.is_marked.ensures ∙ c.if-is_marked.false) c.put.new.self
+    (c.put.ensures ∙ ap (λ (n : ℕ). with_reg c.args.machine.now.regs n c.target.result) c.rd.ensures ∙ ap (λ (n : ℕ). with_reg c.args.machine.now.regs c.args.m.now.rd n) c.target.ensures)
+    c.index.result (g.M.CacheRam.state c.fetch.new.ram) c.index.ensures c.fetch.ensures.ram
