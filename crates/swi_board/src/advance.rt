@@ -7,8 +7,8 @@ ghost use Rattle.swi_image.specs.Place.{length_at};
 ghost use Rattle.swi_image.specs.Row.{row_length};
 ghost use Rattle.swi_image_ops.specs.ImageOp.{AreImageOps, row_of};
 ghost use Rattle.swi_memory.specs.Bus.{fetched};
-ghost use Rattle.swi_micro.specs.declared.class.Class.TheVariants.{Below, Equal, Jal, Jalr, Less};
-ghost use Rattle.swi_micro.specs.Classes.{class_of, code_of};
+ghost use Rattle.swi_micro.specs.declared.class.Class.TheVariants.{Below, Equal, Jal, Jalr, Less, Lui};
+ghost use Rattle.swi_micro.specs.Classes.{class_of, code_of, is_straight};
 ghost use Rattle.swi_micro.specs.Ran.{is_gone};
 ghost use Rattle.swi_rom.specs.Record.{Record};
 ghost use Rattle.swi_hart.specs.Matching.{Fits};
@@ -246,6 +246,82 @@ fn jalr_step<R: CacheRom, M: SteadyRam>(
     true
 }
 
+/// A step at a LUI, and at the ADDI behind it where both stand for one instruction. The service and the image are read for
+/// the contract alone.
+#[inline(always)]
+fn upper_step<R: CacheRom, M: SteadyRam>(
+    m: &MicroOp,
+    machine: &mut Machine,
+    rom: &R,
+    image: &ImageView<'_>,
+    ram: &mut M,
+    at: &mut Cursor,
+)
+    requires steady { M.steady ≡ true }
+    requires small { row_length image.now < 2 ^ 30 }
+    requires going { Going R.service image.now
+        (turn machine.old rom.now (M.state ram.old) at.old) }
+    requires op { IsOpInRow (fetched machine.old.bus) image.now at.old.row m.now }
+    requires class { class_of m.now.code ≡ Lui }
+    ensures turns { TurnsTo R.service image.now
+        (turn machine.old rom.now (M.state ram.old) at.old)
+        (turn machine.new rom.now (M.state ram.new) (fewer at.new)) }
+    ensures bus { machine.new.bus ≡ machine.old.bus }
+    ensures left { at.new.left ≡ at.old.left }
+{
+    machine.regs.put(m.rd(), m.target());
+    fetch(ram, index(at.row, at.delta));
+    at.row += 1;
+    if is_marked(m) {
+        fetch(ram, index(at.row, at.delta));
+        at.row += 1;
+        at.total += 1;
+    }
+}
+
+/// A step at a word that goes on at the next, as its micro-op does. False, and nothing has changed, where it is left to the
+/// machine step. The service and the image are read for the contract alone.
+#[inline(always)]
+fn straight_step<R: CacheRom, M: SteadyRam>(
+    m: &MicroOp,
+    class: Class,
+    machine: &mut Machine,
+    rom: &R,
+    image: &ImageView<'_>,
+    ram: &mut M,
+    at: &mut Cursor,
+) -> bool
+    requires steady { M.steady ≡ true }
+    requires small { row_length image.now < 2 ^ 30 }
+    requires going { Going R.service image.now
+        (turn machine.old rom.now (M.state ram.old) at.old) }
+    requires op { IsOpInRow (fetched machine.old.bus) image.now at.old.row m.now }
+    requires class { class ≡ class_of m.now.code }
+    requires straight { is_straight class ≡ true }
+    requires other { class ≡ Lui → ⊥ }
+    ensures turns { result ≡ true → TurnsTo R.service image.now
+        (turn machine.old rom.now (M.state ram.old) at.old)
+        (turn machine.new rom.now (M.state ram.new) (fewer at.new)) }
+    ensures stays { result ≡ false → turn machine.new rom.now (M.state ram.new) at.new ≡ turn machine.old rom.now (M.state ram.old) at.old }
+    ensures text { (a : ℕ) → fetched machine.new.bus a ≡ fetched machine.old.bus a }
+    ensures left { at.new.left ≡ at.old.left }
+{
+    let range = WordRange { from: 0, words: 0 };
+    let Some(next) = step_as(
+        class,
+        m,
+        &range,
+        at.row,
+        &mut machine.regs,
+        &mut machine.bus,
+    ) else {
+        return false;
+    };
+    fetch(ram, index(at.row, at.delta));
+    at.row = next;
+    true
+}
+
 /// Steps up to the last that is left, or to the first that is left to the machine step.
 #[inline(never)]
 fn step_through<R: CacheRom, M: SteadyRam>(
@@ -273,7 +349,6 @@ fn step_through<R: CacheRom, M: SteadyRam>(
 {
     // Read for the proof alone: that an index in the row has 32 bits.
     let _words = image.words();
-    let range = WordRange { from: 0, words: 0 };
     let mut at = *cursor;
     while at.left > 0 {
         let m = &ops[at.row as usize];
@@ -282,16 +357,7 @@ fn step_through<R: CacheRom, M: SteadyRam>(
             Class::Equal | Class::Less | Class::Below => {
                 branch_step(m, class, machine, rom, image, ram, ways, &mut at);
             }
-            Class::Lui => {
-                machine.regs.put(m.rd(), m.target());
-                fetch(ram, index(at.row, at.delta));
-                at.row += 1;
-                if is_marked(m) {
-                    fetch(ram, index(at.row, at.delta));
-                    at.row += 1;
-                    at.total += 1;
-                }
-            }
+            Class::Lui => upper_step(m, machine, rom, image, ram, &mut at),
             Class::Jal => {
                 if m.writes_x0() {
                     exit_step(m, machine, rom, image, ram, ways, &mut at);
@@ -310,18 +376,9 @@ fn step_through<R: CacheRom, M: SteadyRam>(
             }
             Class::Stop => break,
             _ => {
-                let Some(next) = step_as(
-                    class,
-                    m,
-                    &range,
-                    at.row,
-                    &mut machine.regs,
-                    &mut machine.bus,
-                ) else {
+                if !straight_step(m, class, machine, rom, image, ram, &mut at) {
                     break;
-                };
-                fetch(ram, index(at.row, at.delta));
-                at.row = next;
+                }
             }
         }
         at.left -= 1;

@@ -12,7 +12,7 @@ ghost use Rattle.swi_isa.specs.Decode.{decoded};
 ghost use Rattle.swi_hart.specs.Hart.{exit_kind};
 ghost use Rattle.swi_hart.specs.Service.{TransferServed};
 
-use crate::hart::{Control, ExitKind, Stage};
+use crate::hart::{CodePlace, Control, ExitKind, Stage};
 use swi_image::ImageView;
 use swi_outside::{CacheRam, Failed};
 use swi_rom::{CacheRom, RomStop};
@@ -53,7 +53,7 @@ pub(crate) fn is_back(control: Control, b: u32, o: u32) -> bool
 /// Whether an exit that was left for the target is one behind a block's last text word, which is no original step: by the
 /// stage, the original address `pc` before, and whether control went back to the exit itself.
 #[inline(always)]
-pub fn fell(stage: Stage, pc: u32, target: u32, back: bool) -> bool
+pub(crate) fn fell(stage: Stage, pc: u32, target: u32, back: bool) -> bool
     ensures { result ≡ fell stage pc target back }
 {
     match stage {
@@ -90,24 +90,23 @@ pub(crate) fn leave<R: CacheRom, M: CacheRam>(
     ram: &mut M,
     got: u32,
     off: u32,
-    at: (u32, u32, u32),
+    at: CodePlace,
     target: u32,
 ) -> Result<Control, Failed>
     requires sound { R.service.sound rom.old image.now (M.state ram.old).words }
     requires services { (R.service.kept rom.old).counts.services < 2 ^ 50 }
     requires offset { off ≡ offset_of (decoded got) }
-    requires exit { LeaveAt image.now (R.service.kept rom.old) (M.state ram.old).words got at.0 at.1 at.2 }
-    requires target { target ≡ word_at image.now at.1 (at.2 + 1) }
+    requires exit { LeaveAt image.now (R.service.kept rom.old) (M.state ram.old).words got at.index at.block at.offset }
+    requires target { target ≡ word_at image.now at.block (at.offset + 1) }
     ensures control { IfOk result (λ c. Arrives image.now (R.service.kept rom.new) target c) }
-    ensures served { TransferServed R.service image.now (Some (direct at.1 at.2 target))
+    ensures served { TransferServed R.service image.now (Some (direct at.block at.offset target))
         (record { rom = rom.old; ram = M.state ram.old })
         (record { rom = rom.new; ram = M.state ram.new }) result }
 {
-    let (i, _, _) = at;
     if got != EBREAK {
-        return Ok(control_at(rom, jump_index(off, i)));
+        return Ok(control_at(rom, jump_index(off, at.index)));
     }
-    match rom.cross(image, ram, i, target) {
+    match rom.cross(image, ram, at.index, target) {
         Ok(index) => Ok(control_at(rom, index)),
         Err(RomStop::Outside) => Ok(Control::Outside),
         Err(RomStop::RamFault) => Err(Failed),

@@ -40,6 +40,17 @@ pub enum Control {
     Outside,
 }
 
+/// A word under control, as `Control::At` tells it.
+#[derive(Clone, Copy)]
+pub struct CodePlace {
+    /// In the ram.
+    pub index: u32,
+    pub block: u32,
+    /// In the block.
+    pub offset: u32,
+    pub stage: Stage,
+}
+
 /// What an executed word is of its instruction.
 #[derive(Clone, Copy, Debug, PartialEq, Eq)]
 pub enum Role {

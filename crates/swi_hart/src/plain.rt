@@ -15,7 +15,7 @@ ghost use Rattle.swi_hart.specs.Leaving.{Home};
 ghost use Rattle.swi_hart.specs.MachineStep.{BoardStepped, ReadyToStep};
 
 use crate::fault::BoardFault;
-use crate::hart::{Control, Hart, Role, Stage};
+use crate::hart::{CodePlace, Control, Hart, Stage};
 use crate::step::role;
 use crate::word::run_word;
 use swi_image::ImageView;
@@ -33,23 +33,29 @@ fn is_plain(word: u32) -> bool
     )
 }
 
-/// The place under control, as index, block, offset and stage, and the image's word there; None where that is not plain,
-/// or where no text word is under control.
-pub fn plain_place(hart: &Hart, image: &ImageView<'_>) -> Option<((u32, u32, u32, Stage), u32)>
+/// The place under control, and the image's word there; None where that is not plain, or where no text word is under
+/// control.
+pub fn plain_place(hart: &Hart, image: &ImageView<'_>) -> Option<(CodePlace, u32)>
     requires running { hart.now.machine.ending ≡ None }
     requires fits { (r : Record) × Fits image.now r hart.now }
     ensures word { hart.now.machine.pc < 2 ^ 32 }
     ensures place { MatchOption result ((i b o : ℕ) (stage : Stage) → hart.now.control ≡ Control.At i b o stage →
         is_plain (decoded (word_at image.now b o)) ≡ false)
-        (λ p. (hart.now.control ≡ Control.At p.0.0 p.0.1 p.0.2 p.0.3) × (p.1 ≡ word_at image.now p.0.1 p.0.2)
+        (λ p. (hart.now.control ≡ Control.At p.0.index p.0.block p.0.offset p.0.stage) × (p.1 ≡ word_at image.now p.0.block p.0.offset)
         × (is_plain (decoded p.1) ≡ true)) }
 {
     let _pc = hart.origin_pc();
     match hart.control.control() {
-        Control::At(i, b, o, stage) => {
-            let own = image.word(b, o);
+        Control::At(index, block, offset, stage) => {
+            let own = image.word(block, offset);
             if is_plain(own) {
-                Some(((i, b, o, stage), own))
+                let at = CodePlace {
+                    index,
+                    block,
+                    offset,
+                    stage,
+                };
+                Some((at, own))
             } else {
                 None
             }
@@ -58,8 +64,8 @@ pub fn plain_place(hart: &Hart, image: &ImageView<'_>) -> Option<((u32, u32, u32
     }
 }
 
-/// A step at a word of the ram where the image has the plain word `own`: the word that is fetched is executed, by the role
-/// of the image's. `at` is the place under control, as index, block, offset and stage. Faults are as for `at_word`.
+/// A step at the place `at` under control, where the image has the plain word `own`: the word that is fetched is executed,
+/// by the role of the image's. Faults are as for `at_word`.
 #[inline(never)]
 pub fn plain_step<R: CacheRom, M: CacheRam, I: Source, O: Sink, E: Sink>(
     hart: &mut Hart,
@@ -69,15 +75,15 @@ pub fn plain_step<R: CacheRom, M: CacheRam, I: Source, O: Sink, E: Sink>(
     input: &mut I,
     out: &mut O,
     err: &mut E,
-    at: (u32, u32, u32, Stage),
+    at: CodePlace,
     own: u32,
 ) -> Result<(), BoardFault>
     requires ready { ReadyToStep image.now (R.service.kept rom.old) hart.old }
     requires unfailed { hart.old.failed ≡ false }
     requires word { hart.old.machine.pc < 2 ^ 32 }
-    requires control { hart.old.control ≡ Control.At at.0 at.1 at.2 at.3 }
-    requires home { Home image.now (R.service.kept rom.old) hart.old.machine at.0 at.1 at.2 at.3 }
-    requires own { own ≡ word_at image.now at.1 at.2 }
+    requires control { hart.old.control ≡ Control.At at.index at.block at.offset at.stage }
+    requires home { Home image.now (R.service.kept rom.old) hart.old.machine at.index at.block at.offset at.stage }
+    requires own { own ≡ word_at image.now at.block at.offset }
     requires plain { is_plain (decoded own) ≡ true }
     requires sound { R.service.sound rom.old image.now (M.state ram.old).words
         ⊎ Exchanged (λ words. R.service.sound rom.old image.now words) image.now (M.state ram.old).words hart.old.control }
@@ -93,8 +99,7 @@ pub fn plain_step<R: CacheRom, M: CacheRam, I: Source, O: Sink, E: Sink>(
         ExecutesHeld hart.old hart.new rom.old rom.new i b o stage (M.state ram.old).words (M.state ram.new).words
         (I.state input.old).left (I.state input.new).left (O.state out.old).held (O.state out.new).held (E.state err.old).held (E.state err.new).held) }
 {
-    let (i, _, _, stage) = at;
-    let got = match ram.fetch(i) {
+    let got = match ram.fetch(at.index) {
         Ok(got) => got,
         Err(_) => {
             hart.failed = true;
@@ -104,7 +109,7 @@ pub fn plain_step<R: CacheRom, M: CacheRam, I: Source, O: Sink, E: Sink>(
     let (Some(image_word), Some(x)) = (decode(own), decode(got)) else {
         unreachable!()
     };
-    let role = role(hart, stage, &image_word);
+    let role = role(hart, at.stage, &image_word);
     run_word(hart, at, &x, role);
     Ok(())
 }

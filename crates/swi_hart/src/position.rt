@@ -3,7 +3,7 @@
 
 ghost use Rattle.std.specs.Prelude.{◌≡◌, ◌+◌, ◌^◌, ◌<◌, ◌≤◌, None};
 
-use crate::hart::{Control, Stage};
+use crate::hart::{CodePlace, Control, Stage};
 use std::marker::Model;
 
 /// Where control is, as `Control` tells it. Of the block under control the first word's index is kept, and not the offset, so that a step
@@ -71,16 +71,16 @@ impl Position {
 
     /// Control goes so many words on in its block.
     #[inline(always)]
-    pub fn advance(&mut self, at: (u32, u32, u32, Stage), words: u32, stage: Stage)
-        requires control { self.old ≡ Control.At at.0 at.1 at.2 at.3 }
-        requires small { at.0 < 2 ^ 22 }
-        requires inside { at.2 < 2 ^ 22 }
+    pub fn advance(&mut self, at: CodePlace, words: u32, stage: Stage)
+        requires control { self.old ≡ Control.At at.index at.block at.offset at.stage }
+        requires small { at.index < 2 ^ 22 }
+        requires inside { at.offset < 2 ^ 22 }
         requires few { words < 2 ^ 23 }
-        ensures { self.new ≡ Control.At (at.0 + words) at.1 (at.2 + words) stage }
+        ensures { self.new ≡ Control.At (at.index + words) at.block (at.offset + words) stage }
     {
         // Read for the proof alone: that it has 32 bits.
         let _first = self.first;
-        self.index = at.0 + words;
+        self.index = at.index + words;
         self.stage = Some(stage);
     }
 }

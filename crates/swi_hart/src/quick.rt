@@ -10,7 +10,7 @@ ghost use Rattle.swi_hart.specs.MachineStep.{BoardStepped, ReadyToStep, Answered
 ghost use Rattle.swi_hart.specs.Leaving.{Home, leaves, offset_of};
 
 use crate::fault::{BoardFault, fault_of};
-use crate::hart::{Control, Hart, Stage};
+use crate::hart::{CodePlace, Control, Hart};
 use crate::step::{exit_step, role};
 use crate::word::{end, word_step};
 use swi_calls::End;
@@ -39,8 +39,8 @@ fn offset_of(x: &Instr) -> u32
     }
 }
 
-/// A step at a word of the ram that was fetched: `got`, from the place `at` under control, as index, block, offset and
-/// stage. The service is sound, and so the word is the image's, or a link.
+/// A step at a word of the ram that was fetched: `got`, from the place `at` under control. The service is sound, and so
+/// the word is the image's, or a link.
 ///
 /// Each fault comes only where its device's count rose; of the hart only `failed` and the memory can then have changed.
 #[inline(always)]
@@ -54,17 +54,17 @@ pub fn at_word<R: CacheRom, M: CacheRam, I: Source, O: Sink, E: Sink>(
     out: &mut O,
     err: &mut E,
     got: u32,
-    at: (u32, u32, u32, Stage),
+    at: CodePlace,
 ) -> Result<(), BoardFault>
     requires ready { ReadyToStep image.now (R.service.kept rom.old) hart.old }
     requires word { hart.old.machine.pc < 2 ^ 32 }
-    requires control { hart.old.control ≡ Control.At at.0 at.1 at.2 at.3 }
-    requires home { Home image.now (R.service.kept rom.old) hart.old.machine at.0 at.1 at.2 at.3 }
+    requires control { hart.old.control ≡ Control.At at.index at.block at.offset at.stage }
+    requires home { Home image.now (R.service.kept rom.old) hart.old.machine at.index at.block at.offset at.stage }
     requires sound { R.service.sound rom.old image.now (M.state ram.old).words }
-    requires got { got ≡ slice_index (M.state ram.old).words at.0 }
+    requires got { got ≡ slice_index (M.state ram.old).words at.index }
     ensures gave { HasGiven (I.state input.old) (I.state input.new) }
     ensures unasked { IsErrOf result BoardFault.RamFault → I.state input.new ≡ I.state input.old }
-    ensures stepped { AsTold (I.state input.old) (I.state input.new) (λ old new. (before : RamState) → Answered (Some got) before at.0 (M.state ram.old) →
+    ensures stepped { AsTold (I.state input.old) (I.state input.new) (λ old new. (before : RamState) → Answered (Some got) before at.index (M.state ram.old) →
         BoardStepped R.service image.now
         (record { hart = hart.old; rom = rom.old; ram = before })
         (record { hart = hart.new; rom = rom.new; ram = M.state ram.new })
@@ -73,8 +73,8 @@ pub fn at_word<R: CacheRom, M: CacheRam, I: Source, O: Sink, E: Sink>(
 {
     let Some(x) = decode(got) else { unreachable!() };
     if leaves(&x) {
-        // A tuple of its own: `at` is then passed to nothing that isn't inlined, and stays in registers.
-        let place = (at.0, at.1, at.2, at.3);
+        // A copy of its own: `at` is then passed to nothing that isn't inlined, and stays in registers.
+        let place = CodePlace { ..at };
         return match exit_step(hart, rom, image, ram, got, offset_of(&x), place) {
             Ok(_) => Ok(()),
             Err(_) => {
@@ -83,7 +83,7 @@ pub fn at_word<R: CacheRom, M: CacheRam, I: Source, O: Sink, E: Sink>(
             }
         };
     }
-    let role = role(hart, at.3, &x);
+    let role = role(hart, at.stage, &x);
     match word_step(hart, at, &x, role, input, out, err) {
         Ok(_) => Ok(()),
         Err(fault) => {
@@ -104,12 +104,12 @@ fn at_step<R: CacheRom, M: CacheRam, I: Source, O: Sink, E: Sink>(
     input: &mut I,
     out: &mut O,
     err: &mut E,
-    at: (u32, u32, u32, Stage),
+    at: CodePlace,
 ) -> Result<(), BoardFault>
     requires ready { ReadyToStep image.now (R.service.kept rom.old) hart.old }
     requires word { hart.old.machine.pc < 2 ^ 32 }
-    requires control { hart.old.control ≡ Control.At at.0 at.1 at.2 at.3 }
-    requires home { Home image.now (R.service.kept rom.old) hart.old.machine at.0 at.1 at.2 at.3 }
+    requires control { hart.old.control ≡ Control.At at.index at.block at.offset at.stage }
+    requires home { Home image.now (R.service.kept rom.old) hart.old.machine at.index at.block at.offset at.stage }
     requires sound { R.service.sound rom.old image.now (M.state ram.old).words }
     ensures gave { HasGiven (I.state input.old) (I.state input.new) }
     ensures unasked { IsErrOf result BoardFault.RamFault → I.state input.new ≡ I.state input.old }
@@ -119,7 +119,7 @@ fn at_step<R: CacheRom, M: CacheRam, I: Source, O: Sink, E: Sink>(
         (streams old (O.state out.old) (E.state err.old))
         (streams new (O.state out.new) (E.state err.new)) result) }
 {
-    let got = match ram.fetch(at.0) {
+    let got = match ram.fetch(at.index) {
         Ok(got) => got,
         Err(_) => {
             hart.failed = true;
@@ -155,8 +155,14 @@ pub fn quick_step<R: CacheRom, M: CacheRam, I: Source, O: Sink, E: Sink>(
 {
     let pc = hart.origin_pc();
     match hart.control.control() {
-        Control::At(i, b, o, stage) => {
-            at_step(hart, rom, image, ram, input, out, err, (i, b, o, stage))
+        Control::At(index, block, offset, stage) => {
+            let at = CodePlace {
+                index,
+                block,
+                offset,
+                stage,
+            };
+            at_step(hart, rom, image, ram, input, out, err, at)
         }
         Control::Outside => {
             end(hart, End::Faulted(FaultKind::FetchAccess, pc));

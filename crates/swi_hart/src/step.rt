@@ -14,7 +14,7 @@ ghost use Rattle.swi_hart.specs.Service.{TransferServed};
 ghost use Rattle.swi_hart.specs.Hart.{exit_kind, instruction, original, trap_kind};
 
 use crate::exit::{exit_kind, fell, is_back, jump, leave};
-use crate::hart::{Control, ExitKind, Hart, Role, Stage};
+use crate::hart::{CodePlace, Control, ExitKind, Hart, Role, Stage};
 use crate::word::end;
 use swi_calls::End;
 use swi_exec::FaultKind;
@@ -39,7 +39,7 @@ fn original(bus: &Bus, pc: u32) -> Option<Instr>
 /// are made of that instruction's word.
 #[inline(always)]
 #[tactic(auto, using(crate::proofs::Roles::by_kind))]
-pub fn upper_role(bus: &Bus, pc: u32, stage: Stage) -> Role
+fn upper_role(bus: &Bus, pc: u32, stage: Stage) -> Role
     ensures { result ≡ upper_quick stage (instruction (fetched bus.now pc)) }
 {
     if stage != Stage::Start {
@@ -97,32 +97,32 @@ fn direct_step<R: CacheRom, M: CacheRam>(
     ram: &mut M,
     got: u32,
     off: u32,
-    at: (u32, u32, u32, Stage),
+    at: CodePlace,
     target: u32,
 ) -> Result<(), Failed>
     requires few { hart.old.machine.steps < 2 ^ 48 }
     requires count { hart.old.count < 2 ^ 56 }
     requires sound { R.service.sound rom.old image.now (M.state ram.old).words }
     requires services { (R.service.kept rom.old).counts.services < 2 ^ 50 }
-    requires home { ExitHome image.now hart.old.machine at.1 at.2 at.3 }
-    requires placed { PlacedAt (R.service.kept rom.old) at.0 at.1 at.2 }
-    requires block { at.1 < length image.now.starts }
-    requires fetched { got ≡ slice_index (M.state ram.old).words at.0 }
+    requires home { ExitHome image.now hart.old.machine at.block at.offset at.stage }
+    requires placed { PlacedAt (R.service.kept rom.old) at.index at.block at.offset }
+    requires block { at.block < length image.now.starts }
+    requires fetched { got ≡ slice_index (M.state ram.old).words at.index }
     requires offset { off ≡ offset_of (decoded got) }
-    requires target { target ≡ word_at image.now at.1 (at.2 + 1) }
+    requires target { target ≡ word_at image.now at.block (at.offset + 1) }
     requires direct { target % 4 ≡ 0 }
     ensures step { OnOk result ((input : List ℕ) →
         ExitStep ExitKind.Direct image.now (R.service.kept rom.new) hart.old.machine
-        (step_to hart.new input) input at.0 at.1 at.2 at.3) }
+        (step_to hart.new input) input at.index at.block at.offset at.stage) }
     ensures counted { OnOk result (Counted hart.old hart.new) }
-    ensures served { TransferServed R.service image.now (Some (direct at.1 at.2 target))
+    ensures served { TransferServed R.service image.now (Some (direct at.block at.offset target))
         (record { rom = rom.old; ram = M.state ram.old })
         (record { rom = rom.new; ram = M.state ram.new }) result }
     ensures stays { OnErr result (hart.new ≡ hart.old) }
 {
-    let (i, b, o, stage) = at;
-    let control = leave(rom, image, ram, got, off, (i, b, o), target)?;
-    if !fell(stage, hart.machine.pc, target, is_back(control, b, o)) {
+    let control = leave(rom, image, ram, got, off, at, target)?;
+    let back = is_back(control, at.block, at.offset);
+    if !fell(at.stage, hart.machine.pc, target, back) {
         hart.machine.pc = target;
         hart.machine.steps += 1;
     }
@@ -137,19 +137,19 @@ fn jump_step<R: CacheRom, M: CacheRam>(
     rom: &mut R,
     image: &ImageView<'_>,
     ram: &mut M,
-    at: (u32, u32, u32, Stage),
+    at: CodePlace,
     rd: Reg,
     target: u32,
     link: u32,
 ) -> Result<(), Failed>
     requires few { hart.old.machine.steps < 2 ^ 48 }
     requires count { hart.old.count < 2 ^ 56 }
-    requires control { hart.old.control ≡ Control.At at.0 at.1 at.2 at.3 }
+    requires control { hart.old.control ≡ Control.At at.index at.block at.offset at.stage }
     requires sound { R.service.sound rom.old image.now (M.state ram.old).words }
     requires services { (R.service.kept rom.old).counts.services < 2 ^ 50 }
     ensures step { OnOk result ((input : List ℕ) → Jumps (target % 4 == 0) image.now (R.service.kept rom.new)
         (step_to hart.new input) input
-        (Control.At at.0 at.1 at.2 at.3) hart.old.machine rd link target) }
+        (Control.At at.index at.block at.offset at.stage) hart.old.machine rd link target) }
     ensures counted { OnOk result (Counted hart.old hart.new) }
     ensures served { TransferServed R.service image.now (if target % 4 == 0 then Some (indirect target) else None)
         (record { rom = rom.old; ram = M.state ram.old })
@@ -182,18 +182,18 @@ fn jalr_step<R: CacheRom, M: CacheRam>(
     rom: &mut R,
     image: &ImageView<'_>,
     ram: &mut M,
-    at: (u32, u32, u32, Stage),
+    at: CodePlace,
     x: JalrFields,
     link: u32,
 ) -> Result<(), Failed>
     requires few { hart.old.machine.steps < 2 ^ 48 }
     requires count { hart.old.count < 2 ^ 56 }
-    requires control { hart.old.control ≡ Control.At at.0 at.1 at.2 at.3 }
+    requires control { hart.old.control ≡ Control.At at.index at.block at.offset at.stage }
     requires sound { R.service.sound rom.old image.now (M.state ram.old).words }
     requires services { (R.service.kept rom.old).counts.services < 2 ^ 50 }
     ensures step { OnOk result ((input : List ℕ) → JumpsBy (Some (Jalr x.rd x.rs1 x.imm)) image.now (R.service.kept rom.new)
         (step_to hart.new input) input
-        (Control.At at.0 at.1 at.2 at.3) hart.old.machine link) }
+        (Control.At at.index at.block at.offset at.stage) hart.old.machine link) }
     ensures counted { OnOk result (Counted hart.old hart.new) }
     ensures served { TransferServed R.service image.now (jump_transfer (Some (Jalr x.rd x.rs1 x.imm)) hart.old.machine)
         (record { rom = rom.old; ram = M.state ram.old })
@@ -213,30 +213,29 @@ pub(crate) fn exit_step<R: CacheRom, M: CacheRam>(
     ram: &mut M,
     got: u32,
     off: u32,
-    at: (u32, u32, u32, Stage),
+    at: CodePlace,
 ) -> Result<(), Failed>
     requires few { hart.old.machine.steps < 2 ^ 48 }
     requires count { hart.old.count < 2 ^ 56 }
-    requires control { hart.old.control ≡ Control.At at.0 at.1 at.2 at.3 }
+    requires control { hart.old.control ≡ Control.At at.index at.block at.offset at.stage }
     requires sound { R.service.sound rom.old image.now (M.state ram.old).words }
     requires services { (R.service.kept rom.old).counts.services < 2 ^ 50 }
-    requires home { ExitHome image.now hart.old.machine at.1 at.2 at.3 }
-    requires placed { PlacedAt (R.service.kept rom.old) at.0 at.1 at.2 }
-    requires block { at.1 < length image.now.starts }
-    requires small { at.2 < 2 ^ 22 }
-    requires fetched { got ≡ slice_index (M.state ram.old).words at.0 }
+    requires home { ExitHome image.now hart.old.machine at.block at.offset at.stage }
+    requires placed { PlacedAt (R.service.kept rom.old) at.index at.block at.offset }
+    requires block { at.block < length image.now.starts }
+    requires small { at.offset < 2 ^ 22 }
+    requires fetched { got ≡ slice_index (M.state ram.old).words at.index }
     requires offset { off ≡ offset_of (decoded got) }
     ensures step { OnOk result ((input : List ℕ) →
-        ExitStep (exit_kind (word_at image.now at.1 (at.2 + 1))) image.now (R.service.kept rom.new) hart.old.machine
-        (step_to hart.new input) input at.0 at.1 at.2 at.3) }
+        ExitStep (exit_kind (word_at image.now at.block (at.offset + 1))) image.now (R.service.kept rom.new) hart.old.machine
+        (step_to hart.new input) input at.index at.block at.offset at.stage) }
     ensures counted { OnOk result (Counted hart.old hart.new) }
-    ensures served { TransferServed R.service image.now (exit_transfer (exit_kind (word_at image.now at.1 (at.2 + 1))) image.now hart.old.machine at.1 at.2)
+    ensures served { TransferServed R.service image.now (exit_transfer (exit_kind (word_at image.now at.block (at.offset + 1))) image.now hart.old.machine at.block at.offset)
         (record { rom = rom.old; ram = M.state ram.old })
         (record { rom = rom.new; ram = M.state ram.new }) result }
     ensures stays { OnErr result (hart.new ≡ hart.old) }
 {
-    let (_, b, o, _) = at;
-    let d = image.word(b, o + 1);
+    let d = image.word(at.block, at.offset + 1);
     match exit_kind(d) {
         ExitKind::Direct => direct_step(hart, rom, image, ram, got, off, at, d),
         ExitKind::Misaligned => {
@@ -253,7 +252,8 @@ pub(crate) fn exit_step<R: CacheRom, M: CacheRam>(
             let Some(x) = jalr_fields(d) else {
                 unreachable!()
             };
-            jalr_step(hart, rom, image, ram, at, x, image.word(b, o + 2))
+            let link = image.word(at.block, at.offset + 2);
+            jalr_step(hart, rom, image, ram, at, x, link)
         }
     }
 }

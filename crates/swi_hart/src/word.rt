@@ -10,7 +10,7 @@ ghost use Rattle.swi_outside.specs.Told.{AsTold};
 ghost use Rattle.swi_outside.specs.Source.{HasGiven};
 ghost use Rattle.swi_hart.specs.Calling.{Called as CalledAt, Moved, QuietWord, ReadyAt, WordExecuted, WordStepped};
 
-use crate::hart::{Hart, Role, Stage};
+use crate::hart::{CodePlace, Hart, Role, Stage};
 use swi_calls::{CallFault, End, text_store};
 use swi_exec::{Done, FaultKind, exec};
 use swi_isa::Instr;
@@ -49,18 +49,18 @@ fn stop(hart: &mut Hart, address: u32)
 /// changed.
 #[inline(always)]
 #[tactic(auto, using(crate::proofs::Calls::call_is))]
-pub(crate) fn run_word(hart: &mut Hart, at: (u32, u32, u32, Stage), x: &Instr, role: Role) -> bool
-    requires { ReadyAt hart.old at.0 at.1 at.2 at.3 }
+pub(crate) fn run_word(hart: &mut Hart, at: CodePlace, x: &Instr, role: Role) -> bool
+    requires { ReadyAt hart.old at.index at.block at.offset at.stage }
     ensures asks { result ≡ true → (x.now ≡ Instr.Ecall)
         × (text_store_of x.now hart.old.machine.regs hart.old.machine.bus ≡ None) }
     ensures called { result ≡ true → (hart.new ≡ hart.old) × ((input : List ℕ) →
-        word_stepped role at.0 at.1 at.2 at.3 hart.old.machine x.now input
-        ≡ call_stepped at.0 at.1 at.2 at.3 hart.old.machine input) }
+        word_stepped role at.index at.block at.offset at.stage hart.old.machine x.now input
+        ≡ call_stepped at.index at.block at.offset at.stage hart.old.machine input) }
     ensures ran { result ≡ false → QuietWord
-        (λ input. word_stepped role at.0 at.1 at.2 at.3 hart.old.machine x.now input)
+        (λ input. word_stepped role at.index at.block at.offset at.stage hart.old.machine x.now input)
         hart.old hart.new }
 {
-    let i = at.0;
+    let i = at.index;
     match role {
         Role::Lead(next) => {
             exec(x, 4 * i, &mut hart.machine.regs, &mut hart.machine.bus);
@@ -102,12 +102,12 @@ pub(crate) fn run_word(hart: &mut Hart, at: (u32, u32, u32, Stage), x: &Instr, r
 
 /// Executes a branch, which stands over an exit.
 #[inline(always)]
-fn over_word(hart: &mut Hart, at: (u32, u32, u32, Stage), x: &Instr)
-    requires { ReadyAt hart.old at.0 at.1 at.2 at.3 }
-    ensures { QuietWord (λ input. word_stepped Role.Over at.0 at.1 at.2 at.3 hart.old.machine x.now input)
+fn over_word(hart: &mut Hart, at: CodePlace, x: &Instr)
+    requires { ReadyAt hart.old at.index at.block at.offset at.stage }
+    ensures { QuietWord (λ input. word_stepped Role.Over at.index at.block at.offset at.stage hart.old.machine x.now input)
         hart.old hart.new }
 {
-    let i = at.0;
+    let i = at.index;
     let done = exec(x, 4 * i, &mut hart.machine.regs, &mut hart.machine.bus);
     if done == Done::Next(4 * i + 12) {
         hart.control.advance(at, 3, Stage::Start);
@@ -123,18 +123,18 @@ fn over_word(hart: &mut Hart, at: (u32, u32, u32, Stage), x: &Instr)
 #[inline(never)]
 pub(crate) fn call_word<I: Source, O: Sink, E: Sink>(
     hart: &mut Hart,
-    at: (u32, u32, u32, Stage),
+    at: CodePlace,
     input: &mut I,
     out: &mut O,
     err: &mut E,
 ) -> Result<(), CallFault>
-    requires { ReadyAt hart.old at.0 at.1 at.2 at.3 }
+    requires { ReadyAt hart.old at.index at.block at.offset at.stage }
     ensures gave { HasGiven (I.state input.old) (I.state input.new) }
     ensures word { AsTold (I.state input.old) (I.state input.new) (λ old new.
-        WordExecuted (λ left. call_stepped at.0 at.1 at.2 at.3 hart.old.machine left) hart.old hart.new
+        WordExecuted (λ left. call_stepped at.index at.block at.offset at.stage hart.old.machine left) hart.old hart.new
         (streams old (O.state out.old) (E.state err.old))
         (streams new (O.state out.new) (E.state err.new)) result) }
-    ensures goes { OnOk result (CalledAt at.0 at.1 at.2 at.3 hart.old hart.new) }
+    ensures goes { OnOk result (CalledAt at.index at.block at.offset at.stage hart.old hart.new) }
     ensures moved { AsTold (I.state input.old) (I.state input.new) (λ old new. Moved hart.old.machine hart.new.machine.bus old.left new.left) }
 {
     hart.machine.call_step(input, out, err)?;
@@ -149,22 +149,22 @@ pub(crate) fn call_word<I: Source, O: Sink, E: Sink>(
 #[inline(always)]
 pub(crate) fn word_step<I: Source, O: Sink, E: Sink>(
     hart: &mut Hart,
-    at: (u32, u32, u32, Stage),
+    at: CodePlace,
     x: &Instr,
     role: Role,
     input: &mut I,
     out: &mut O,
     err: &mut E,
 ) -> Result<(), CallFault>
-    requires { ReadyAt hart.old at.0 at.1 at.2 at.3 }
+    requires { ReadyAt hart.old at.index at.block at.offset at.stage }
     ensures gave { HasGiven (I.state input.old) (I.state input.new) }
-    ensures word { AsTold (I.state input.old) (I.state input.new) (λ old new. WordStepped x.now at.0 at.1 at.2 at.3
-        (λ left. word_stepped role at.0 at.1 at.2 at.3 hart.old.machine x.now left) hart.old hart.new
+    ensures word { AsTold (I.state input.old) (I.state input.new) (λ old new. WordStepped x.now at.index at.block at.offset at.stage
+        (λ left. word_stepped role at.index at.block at.offset at.stage hart.old.machine x.now left) hart.old hart.new
         (streams old (O.state out.old) (E.state err.old))
         (streams new (O.state out.new) (E.state err.new)) result) }
 {
     if run_word(hart, at, x, role) {
-        call_word(hart, (at.0, at.1, at.2, at.3), input, out, err)
+        call_word(hart, CodePlace { ..at }, input, out, err)
     } else {
         Ok(())
     }

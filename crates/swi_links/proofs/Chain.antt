@@ -1,12 +1,11 @@
 -- Chains through the arrays, when a word joins or leaves.
 use Rattle.std.proofs.Common.{◌≡◌, ◌⊎◌, ℕ, suc, zero, ◌<◌, ◌≤◌, ◌==◌, Bool, true, false, not, cond, List, [], ◌∷◌, length, slice_index, slice_set, arith, refl, sym, ◌∙◌, ap, subst, inl, inr}
-use Rattle.std.specs.List.{IsDistinct, AllByRecursion, list_any}
 use Rattle.std.proofs.lemmas.Bool.{lt-ltb, le-ltb, eqb-true, ne_eqb, eq-eqb, or_cases, both_ways}
 use Rattle.std.proofs.lemmas.List.{length-set, get_or-set_same, get_or-set_other}
-use Rattle.std.proofs.lemmas.Map.Steps.{length-le_from_distinct_below}
 use Rattle.swi_links.specs.Laws.{has_without}
 use Rattle.swi_links.specs.Chains.{Has, without, Distinct}
 use Rattle.swi_links.specs.Tied.{walk, Chain}
+use Rattle.swi_links.proofs.Numbers.{distinct_few}
 
 pub walk_chain : (N P : List ℕ) (none q h fuel : ℕ) (L : List ℕ) → Chain N P none q h L → length N ≡ none → length L ≤ fuel → walk N fuel h ≡ L
 unfolding walk
@@ -21,23 +20,9 @@ chain_below N P none q h x [] c has = absurd has
 chain_below N P none q h x (y ∷ ys) c (inl e) = subst (λ (z : ℕ). z < none) e c.1
 chain_below N P none q h x (y ∷ ys) c (inr has) = chain_below N P none y (slice_index N y) x ys c.3 has
 
-any_has : (xs : List ℕ) (q : ℕ) → list_any (λ (y : ℕ). q == y) xs ≡ true → Has xs q
-any_has [] q h = absurd (both_ways false refl h)
-any_has (x ∷ xs) q h = elim (or_cases (q == x) (list_any (λ (y : ℕ). q == y) xs) h) [ inl e ↦ inl (sym (eqb-true q x e)) | inr r ↦ inr (any_has xs q r) ]
-
-differ : (x : ℕ) (xs : List ℕ) → (Has xs x → ⊥) → AllByRecursion (λ (y : ℕ). (x == y) ≡ false) xs
-differ x [] f = tt
-differ x (y ∷ ys) f = (ne_eqb x y (λ (e : x ≡ y). f (inl (sym e))), differ x ys (λ (h : Has ys x). f (inr h)))
-
-distinct_is : (xs : List ℕ) → Distinct xs → IsDistinct (λ (a b : ℕ). a == b) xs
-unfolding IsDistinct
-distinct_is [] d = tt
-distinct_is (x ∷ xs) d = (differ x xs d.0, distinct_is xs d.1)
-
 -- a chain is no longer than there are words
 pub chain_short : (N P : List ℕ) (none q h : ℕ) (L : List ℕ) → Chain N P none q h L → Distinct L → length L ≤ none
-chain_short N P none q h L c d =
-    length-le_from_distinct_below L none (distinct_is L d) (λ x any. chain_below N P none q h x L c (any_has L x any))
+chain_short N P none q h L c d = distinct_few L none d (λ x has. chain_below N P none q h x L c has)
 
 -- a chain keeps its words where the arrays keep theirs
 pub frame : (N P N' P' : List ℕ) (none q h : ℕ) (L : List ℕ) → Chain N P none q h L → ((x : ℕ) → Has L x → slice_index N' x ≡ slice_index N x) → ((x : ℕ) → Has L x → slice_index P' x ≡ slice_index P x) →

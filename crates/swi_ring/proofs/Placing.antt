@@ -22,7 +22,8 @@ use Rattle.swi_ring.specs.Ring.{Ring, first_at, target_at, spot, queue_of, exit_
 use Rattle.swi_ring.specs.Sound.{RingSound, LinkStands}
 use Rattle.swi_ring.specs.Steps.{marked, Receded, MadeRoom, settled, first_in, Filled, counted_ring, Arrived}
 use Rattle.swi_ring.specs.Coheres.{spots_have, have_spots, found_at}
-use Rattle.swi_ring.proofs.Shapes.{has_append, append_has, append_here, append_long, marked_in, marked_other, settled_shape, first_least, first_fits, behind_some}
+use Rattle.swi_links.proofs.Numbers.{append_has, append_here, has_append}
+use Rattle.swi_ring.proofs.Shapes.{append_long, marked_in, marked_other, settled_shape, first_least, first_fits, behind_some}
 use Rattle.swi_ring.proofs.Receding.{queue_alike}
 use Rattle.swi_ring.proofs.Gathered.{collected_alike}
 

@@ -3,8 +3,6 @@ use Rattle.std.proofs.Common.{◌≡◌, ◌⊎◌, ℕ, suc, zero, ◌+◌, ◌
 use Rattle.std.proofs.lemmas.Bool.{cases_eq, cases_lt, lt-ltb, le-ltb, both_ways, or_cases, eqb-true, ne_eqb}
 use Rattle.std.proofs.lemmas.Bool.Decides.{nat_tests}
 use Rattle.std.proofs.lemmas.List.{length-set, get_or_read, get_or-set_same, get_or-set_other}
-use Rattle.std.proofs.lemmas.Map.Steps.{length-le_from_distinct_below}
-use Rattle.std.specs.List.{AllByRecursion, IsDistinct, list_any}
 use Rattle.swi_links.specs.Chains.{ChainsData, Has, Distinct, IsFree}
 use Rattle.swi_rom.specs.Coherent.{resident_of}
 use Rattle.swi_rom.specs.declared.rom.Counts.{Counts}
@@ -13,6 +11,7 @@ use Rattle.swi_ring.specs.Ring.{Ring, InShape, first_at, target_at, stands_at, s
 use Rattle.swi_ring.specs.Steps.{marked, first_in}
 use Rattle.swi_ring.specs.Coheres.{has_or, resident_is, resident_none}
 use Rattle.swi_links.specs.Lists.{linked_lists, unheld_free}
+use Rattle.swi_links.proofs.Numbers.{append_distinct, append_has, append_here, distinct_fewer, has_append}
 
 -- lists of blocks
 pub index_has : (xs : List ℕ) (k : ℕ) → k < length xs → Has xs (slice_index xs k)
@@ -20,56 +19,13 @@ index_has [] k lt = absurd (omega arith)
 index_has (x ∷ xs) zero lt = inl refl
 index_has (x ∷ xs) (suc k) lt = inr (index_has xs k (omega arith))
 
-pub has_append : (xs : List ℕ) (b x : ℕ) → Has (xs ++ b ∷ []) x → Has xs x ⊎ (b ≡ x)
-has_append [] b x (inl e) = inr e
-has_append [] b x (inr h) = absurd h
-has_append (y ∷ ys) b x (inl e) = inl (inl e)
-has_append (y ∷ ys) b x (inr h) = elim (has_append ys b x h) [ inl i ↦ inl (inr i) | inr e ↦ inr e ]
-
-pub append_has : (xs : List ℕ) (b x : ℕ) → Has xs x → Has (xs ++ b ∷ []) x
-append_has [] b x h = absurd h
-append_has (y ∷ ys) b x (inl e) = inl e
-append_has (y ∷ ys) b x (inr h) = inr (append_has ys b x h)
-
-pub append_here : (xs : List ℕ) (b : ℕ) → Has (xs ++ b ∷ []) b
-append_here [] b = inl refl
-append_here (y ∷ ys) b = inr (append_here ys b)
-
-pub append_distinct : (xs : List ℕ) (b : ℕ) → Distinct xs → (Has xs b → ⊥) → Distinct (xs ++ b ∷ [])
-append_distinct [] b d lacks = (λ h. h, tt)
-append_distinct (y ∷ ys) b d lacks =
-    (λ h. elim (has_append ys b y h) [ inl i ↦ d.0 i | inr e ↦ lacks (inl (sym e)) ], append_distinct ys b d.1 (λ h. lacks (inr h)))
-
 pub append_long : (xs : List ℕ) (b : ℕ) → length (xs ++ b ∷ []) ≡ length xs + 1
 append_long [] b = refl
 append_long (y ∷ ys) b = omega (arith, append_long ys b)
 
--- numbers below n that are all different, and one more, are more than they
-lacking : (x : ℕ) (xs : List ℕ) → (Has xs x → ⊥) → AllByRecursion (λ (y : ℕ). (x == y) ≡ false) xs
-lacking x [] lacks = tt
-lacking x (y ∷ ys) lacks = (ne_eqb x y (λ (e : x ≡ y). lacks (inl (sym e))), lacking x ys (λ h. lacks (inr h)))
-
-distinct_is : (xs : List ℕ) → Distinct xs → IsDistinct (λ (x y : ℕ). x == y) xs
-unfolding IsDistinct
-distinct_is [] d = tt
-distinct_is (x ∷ xs) d = (lacking x xs d.0, distinct_is xs d.1)
-
-any_has : (xs : List ℕ) (q : ℕ) → list_any (λ (y : ℕ). q == y) xs ≡ true → Has xs q
-any_has [] q h = absurd (both_ways false refl h)
-any_has (y ∷ ys) q h = elim (or_cases (q == y) (list_any (λ (z : ℕ). q == z) ys) h) [
-  | inl e ↦ inl (sym (eqb-true q y e))
-  | inr i ↦ inr (any_has ys q i)
-]
-
+-- there is room for one more
 pub queue_short : (s : Ring) (b : ℕ) → InShape s → b < length s.firsts → (Has s.queue b → ⊥) → length s.queue < length s.firsts
-queue_short s b shape lt lacks =
-    let all : length (b ∷ s.queue) ≤ length s.firsts =
-    length-le_from_distinct_below (b ∷ s.queue) (length s.firsts) (distinct_is (b ∷ s.queue) (lacks, shape.distinct)) (λ q h. below q (any_has (b ∷ s.queue) q h)) in
-    omega (arith, all)
-  where
-    below : (q : ℕ) → Has (b ∷ s.queue) q → q < length s.firsts
-    below q (inl e) = omega (arith, e, lt)
-    below q (inr h) = shape.known q h
+queue_short s b shape lt lacks = distinct_fewer s.queue (length s.firsts) b shape.distinct shape.known lt lacks
 
 -- the words of a block
 pub marked_long : (owners : List ℕ) (first n b : ℕ) → length (marked owners first n b) ≡ length owners

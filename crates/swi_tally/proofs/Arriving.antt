@@ -14,8 +14,10 @@ use Rattle.swi_tally.specs.declared.tally.Placing.{Placing}
 use Rattle.swi_tally.specs.declared.tally.Placing.TheVariants.{Slots, Ring}
 use Rattle.swi_tally.specs.Masks.{has_at}
 use Rattle.swi_tally.specs.Exits.{ExitsData}
-use Rattle.swi_tally.specs.Tally.{TallyData, InShape, Has, Moved, Stands, Receded, Arrives, arrival_of, behind, freed, kept_by, queue_of, setting_of, settled, span, spot}
-use Rattle.swi_tally.proofs.Queueing.{queue_long, queue_next, settled_shape, settled_queue, more_here}
+use Rattle.swi_links.specs.Chains.{Has}
+use Rattle.swi_links.proofs.Numbers.{append_here}
+use Rattle.swi_tally.specs.Tally.{TallyData, InShape, Moved, Stands, Receded, Arrives, arrival_of, behind, freed, kept_by, queue_of, setting_of, settled, span, spot}
+use Rattle.swi_tally.proofs.Queueing.{queue_long, queue_next, settled_shape, settled_queue}
 
 -- where all slots are taken, and where one is free
 pub freed_full : (e : ExitsData) (linked : ℕ → Bool) (s : TallyData) → s.slots ≤ length s.queue → freed (setting_of s) (kept_by e linked s) ≡ evicted (kept_by e linked s) (queue_of s.homes s.queue)
@@ -276,7 +278,7 @@ slot_arrives v e cache b first n s t u old new stands moved receded freed_is is 
           ∙ ap (λ (p : Placing). arrival_of p (setting_of s) v (kept_by e (has_at old cache) s) b) (sym is);
       moved = moved_both e cache s t (settled t b first n) old new new moved last;
       stands = stands_on v e cache t (settled t b first n) new new stands last;
-      here = more_here t.queue b;
+      here = append_here t.queue b;
       services = receded.services;
       links = receded.links;
     })
@@ -314,7 +316,7 @@ ring_arrives v e cache b first n s t u old new stands moved receded cleared_is i
           ∙ ap (λ (p : Placing). arrival_of p (setting_of s) v (kept_by e (has_at old cache) s) b) (sym is);
       moved = moved_both e cache s t (settled t b first n) old new new moved last;
       stands = stands_on v e cache t (settled t b first n) new new stands last;
-      here = more_here t.queue b;
+      here = append_here t.queue b;
       services = receded.services;
       links = receded.links;
     })

@@ -2,10 +2,10 @@
 use Rattle.std.proofs.Common.{◌≡◌, ◌⊎◌, ℕ, ◌+◌, ◌<◌, ◌≤◌, ◌++◌, ◌==◌, true, false, List, [], ◌∷◌, length, slice_index, slice_set, slice_index_or, nat_lt, IsTrue, arith, refl, sym, ◌∙◌, ap, subst, inl, inr, ◌↔◌}
 use Rattle.std.proofs.lemmas.Bool.{cases_eq, or_cases, eqb-true, ne_eqb, both_ways, ltb-true, lt-ltb}
 use Rattle.std.proofs.lemmas.List.{length-set, length-map, get_or-set_same, get_or-set_other, get_or_read}
-use Rattle.std.proofs.lemmas.Map.Steps.{length-le_from_distinct_below}
-use Rattle.std.specs.List.{AllByRecursion, IsDistinct, list_any}
 use Rattle.swi_rom.specs.Record.{Placement}
-use Rattle.swi_tally.specs.Tally.{TallyData, InShape, Has, Distinct, span, spot, queue_of, without_oldest, settled}
+use Rattle.swi_links.specs.Chains.{Has, Distinct}
+use Rattle.swi_links.proofs.Numbers.{append_distinct, append_has, append_here, distinct_fewer, has_append}
+use Rattle.swi_tally.specs.Tally.{TallyData, InShape, span, spot, queue_of, without_oldest, settled}
 
 pub oldest_has : (s : TallyData) (b : ℕ) (rest : List ℕ) → s.queue ≡ b ∷ rest → Has s.queue b
 oldest_has s b rest is = subst (λ (xs : List ℕ). Has xs b) (sym is) (inl refl)
@@ -75,26 +75,6 @@ without_queue s b rest shape is =
     queue_same s.homes (slice_set s.homes b (span s)) rest (λ x h. get_or-set_other s.homes b x (span s) 0 (rest_other s b rest shape is x h))
 
 -- a block behind all others
-has_more : (xs : List ℕ) (b x : ℕ) → Has (xs ++ b ∷ []) x → Has xs x ⊎ (b ≡ x)
-has_more [] b x (inl same) = inr same
-has_more [] b x (inr h) = absurd h
-has_more (y ∷ ys) b x (inl same) = inl (inl same)
-has_more (y ∷ ys) b x (inr h) = elim (has_more ys b x h) [ inl i ↦ inl (inr i) | inr same ↦ inr same ]
-
-more_has : (xs : List ℕ) (b x : ℕ) → Has xs x → Has (xs ++ b ∷ []) x
-more_has [] b x h = absurd h
-more_has (y ∷ ys) b x (inl same) = inl same
-more_has (y ∷ ys) b x (inr h) = inr (more_has ys b x h)
-
-pub more_here : (xs : List ℕ) (b : ℕ) → Has (xs ++ b ∷ []) b
-more_here [] b = inl refl
-more_here (y ∷ ys) b = inr (more_here ys b)
-
-distinct_more : (xs : List ℕ) (b : ℕ) → Distinct xs → (Has xs b → ⊥) → Distinct (xs ++ b ∷ [])
-distinct_more [] b d none = (λ h. h, tt)
-distinct_more (x ∷ xs) b d none =
-    (λ h. elim (has_more xs b x h) [ inl i ↦ d.0 i | inr same ↦ none (inl (sym same)) ], distinct_more xs b d.1 (λ h. none (inr h)))
-
 pub settled_shape : (s : TallyData) (b first n : ℕ) → InShape s → b < length s.homes → (Has s.queue b → ⊥) → 1 ≤ n → first + n ≤ span s → InShape (settled s b first n)
 settled_shape s b first n shape within none some fits = record {
   some_slot = shape.some_slot;
@@ -103,12 +83,12 @@ settled_shape s b first n shape within none some fits = record {
   next_most = fits;
   few = omega (arith, shape.few, length-set s.homes b first);
   room_is = shape.room_is ∙ sym (length-set s.homes b first);
-  distinct = distinct_more s.queue b shape.distinct none;
-  known = λ x h. omega (arith, length-set s.homes b first, known x (has_more s.queue b x h));
-  placed = λ x h. placed x (has_more s.queue b x h);
+  distinct = append_distinct s.queue b shape.distinct none;
+  known = λ x h. omega (arith, length-set s.homes b first, known x (has_append s.queue b x h));
+  placed = λ x h. placed x (has_append s.queue b x h);
   absent = λ x lt away.
-      get_or-set_other s.homes b x first 0 (λ (same : x ≡ b). away (subst (λ (y : ℕ). Has (s.queue ++ b ∷ []) y) (sym same) (more_here s.queue b)))
-      ∙ shape.absent x (omega (arith, lt, length-set s.homes b first)) (λ h. away (more_has s.queue b x h));
+      get_or-set_other s.homes b x first 0 (λ (same : x ≡ b). away (subst (λ (y : ℕ). Has (s.queue ++ b ∷ []) y) (sym same) (append_here s.queue b)))
+      ∙ shape.absent x (omega (arith, lt, length-set s.homes b first)) (λ h. away (append_has s.queue b x h));
 }
   where
     known : (x : ℕ) → Has s.queue x ⊎ (b ≡ x) → x < length s.homes
@@ -127,33 +107,9 @@ settled_queue s b first within none =
     (queue_same s.homes (slice_set s.homes b first) s.queue (λ x h. get_or-set_other s.homes b x first 0 (λ (same : x ≡ b). none (subst (λ (y : ℕ). Has s.queue y) same h))))
     ∙ ap (λ (f : ℕ). queue_of s.homes s.queue ++ record { program = 0; block = b; first = f } ∷ []) (get_or-set_same s.homes b first 0 within)
 
--- numbers that are all different
-lacking : (x : ℕ) (xs : List ℕ) → (Has xs x → ⊥) → AllByRecursion (λ (y : ℕ). (x == y) ≡ false) xs
-lacking x [] lacks = tt
-lacking x (y ∷ ys) lacks = (ne_eqb x y (λ (e : x ≡ y). lacks (inl (sym e))), lacking x ys (λ h. lacks (inr h)))
-
-distinct_is : (xs : List ℕ) → Distinct xs → IsDistinct (λ (x y : ℕ). x == y) xs
-unfolding IsDistinct
-distinct_is [] d = tt
-distinct_is (x ∷ xs) d = (lacking x xs d.0, distinct_is xs d.1)
-
-any_has : (xs : List ℕ) (q : ℕ) → list_any (λ (y : ℕ). q == y) xs ≡ true → Has xs q
-any_has [] q h = absurd (both_ways false refl h)
-any_has (y ∷ ys) q h = elim (or_cases (q == y) (list_any (λ (z : ℕ). q == z) ys) h) [
-  | inl e ↦ inl (sym (eqb-true q y e))
-  | inr i ↦ inr (any_has ys q i)
-]
-
 -- there is room for a block that doesn't stand
 pub absent_short : (s : TallyData) (b : ℕ) → InShape s → b < length s.homes → (Has s.queue b → ⊥) → length s.queue < length s.homes
-absent_short s b shape lt none =
-    let all : length (b ∷ s.queue) ≤ length s.homes =
-    length-le_from_distinct_below (b ∷ s.queue) (length s.homes) (distinct_is (b ∷ s.queue) (none, shape.distinct)) (λ q h. below q (any_has (b ∷ s.queue) q h)) in
-    omega (arith, all)
-  where
-    below : (q : ℕ) → Has (b ∷ s.queue) q → q < length s.homes
-    below q (inl e) = omega (arith, e, lt)
-    below q (inr h) = shape.known q h
+absent_short s b shape lt none = distinct_fewer s.queue (length s.homes) b shape.distinct shape.known lt none
 
 -- whether a block stands, by the number that is kept of it, and by the record
 in_queue : (xs : List ℕ) (b : ℕ) → Has xs b ⊎ (Has xs b → ⊥)

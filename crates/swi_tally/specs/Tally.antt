@@ -6,6 +6,7 @@ use Rattle.swi_rom.specs.Service.{Setting}
 use Rattle.swi_image.specs.Sound.{IsImage}
 use Rattle.swi_rom.specs.Policy.{Arrival, evicted, linked, more_service, with_link}
 use Rattle.swi_rom.specs.declared.rom.Counts.{Counts}
+use Rattle.swi_links.specs.Chains.{Has, Distinct}
 use Rattle.swi_slots.specs.Fifo as slots
 use Rattle.swi_ring.specs.Fifo as ring
 use Rattle.swi_tally.specs.declared.tally.Placing.{Placing}
@@ -62,15 +63,6 @@ policy_of Ring = ring.ring
 abbrev pub arrival_of : Placing → Arrival
 arrival_of Slots = slots.arrived
 arrival_of Ring = ring.arrived
-
--- the list has the block
-abbrev pub Has : List ℕ → ℕ → Type 0
-Has [] b = ⊥
-Has (x ∷ xs) b = (x ≡ b) ⊎ Has xs b
-
-abbrev pub Distinct : List ℕ → Type 0
-Distinct [] = Unit {0}
-Distinct (x ∷ xs) = (Has xs x → ⊥) × Distinct xs
 
 -- the numbers keep their shape
 pub record InShape (s : TallyData) : Type 0 where

@@ -3,9 +3,10 @@
 
 ghost use Rattle.std.specs.Prelude.{◌≡◌, ◌+◌, ◌*◌, ◌%◌, ◌^◌, ◌<◌, ◌≤◌, ◌↔◌, ◌++◌, [], ◌∷◌, ℕ, Bool, false, Some, IfOk, IsTrue, length, slice_index};
 ghost use Rattle.std.specs.List.{list_any};
+ghost use Rattle.swi_links.specs.Chains.{Has};
 ghost use Rattle.swi_tally.specs.Exits.{ExitsData};
 ghost use Rattle.swi_tally.specs.Masks.{has_at};
-ghost use Rattle.swi_tally.specs.Tally.{Arrives, Bounded, Has, InShape, Links, Moved, Receded, Serves, Stands, counted_tally, empty_tally, freed, kept_by, policy_of, queue_of, setting_of, settled, span, spot, without_oldest};
+ghost use Rattle.swi_tally.specs.Tally.{Arrives, Bounded, InShape, Links, Moved, Receded, Serves, Stands, counted_tally, empty_tally, freed, kept_by, policy_of, queue_of, setting_of, settled, span, spot, without_oldest};
 ghost use Rattle.swi_ring.specs.Fifo.{cleared, first_for, meets};
 ghost use Rattle.swi_image.specs.Place.{place_of};
 ghost use Rattle.swi_rom.specs.Policy.{evicted};

@@ -1,13 +1,11 @@
 use Rattle.std.proofs.Common.{◌≡◌, ◌==◌, ℕ, ◌+◌, Bool, true, false, List, length, refl, sym, ap, subst, ◌∙◌, arith, rules}
 use Rattle.swi_memory.specs.Bus.{AreaData, fetched}
-use Rattle.swi_outside.specs.CacheRam.{RamState}
-use Rattle.swi_exec.specs.Registers.{Registers, with_reg}
 use Rattle.swi_board.specs.Turning.{Turn, Turned, turn}
-use Rattle.swi_board.proofs.Going.{at_inside, call_inside, exit_fewer, op_in_row, pair_inside, pair_made, row_in, stays_fewer, straight_class, straight_made, total_short, upper_made}
+use Rattle.swi_board.proofs.Going.{call_inside, exit_fewer, op_in_row, row_in, stays_fewer, straight_class}
 use Rattle.swi_board.proofs.Knowing.{ops_same}
 use Rattle.swi_board.proofs.Turns.{turned_none}
 use Rattle.swi_board.proofs.advance.step_through.Goals as goal
-use Rattle.swi_board.proofs.advance.step_through.Goals.{in-Equal, in-Lui+then-is_marked, in-Lui+else-is_marked, in-Jal+then-writes_x0, in-Jal+else-writes_x0+else-not-is_exit, in-Jalr+else-not-jalr_step, in_default+in-Some}
+use Rattle.swi_board.proofs.advance.step_through.Goals.{in-Equal, in-Lui, in-Jal+then-writes_x0, in-Jal+else-writes_x0+else-not-is_exit, in-Jalr+else-not-jalr_step, in_default+else-not-straight_step}
 
 -- rd isn't x0
 some_rd : (r : ℕ) (b : Bool) → b ≡ (r == 0) → b ≡ false → r ≡ 0 → ⊥
@@ -49,60 +47,6 @@ branch_step-requires-clause-going g c =
 
 pub branch_step-requires-clause-op : goal.branch_step-requires-clause-op
 branch_step-requires-clause-op g c = op_in_row (ops_same (fetched c.args.machine.now.bus) (fetched c.loop-at.machine.bus) c.loop-at.invariant.text c.args.image.now c.args.ops.now c.requires.ops) c.loop-at.at.row c.index-ops-at.result c.index-ops-at.result c.index-ops-at.is
-
-pub index-requires : goal.index-requires
-index-requires g c =
-    let b = c.requires.begins in
-    let within = row_in g.met.R.CacheRom.laws b.1 (c.loop-at.invariant.turned b.0 b.1) c.loop-at-test.true in
-    let small = c.words-words.ensures.small in
-    let value = c.words-words.ensures.value in
-    omega (arith, within, small, value)
-
-pub fetch-requires-clause-inside : goal.fetch-requires-clause-inside
-fetch-requires-clause-inside g c =
-    let b = c.requires.begins in
-    let inside = at_inside g.met.R.CacheRom.laws b.1 (c.loop-at.invariant.turned b.0 b.1) c.loop-at-test.true in
-    let is = c.index.ensures in
-    omega (arith, inside, is)
-
-pub overflow_add-at : goal.overflow_add-at
-overflow_add-at g c =
-    let b = c.requires.begins in
-    let within = row_in g.met.R.CacheRom.laws b.1 (c.loop-at.invariant.turned b.0 b.1) c.loop-at-test.true in
-    let small = c.words-words.ensures.small in
-    let value = c.words-words.ensures.value in
-    omega (arith, within, small, value)
-
-pub index-requires-then-is_marked : goal.index-requires-then-is_marked
-index-requires-then-is_marked g c =
-    let b = c.requires.begins in
-    let within = row_in g.met.R.CacheRom.laws b.1 (c.loop-at.invariant.turned b.0 b.1) c.loop-at-test.true in
-    let small = c.words-words.ensures.small in
-    let value = c.words-words.ensures.value in
-    omega (arith, within, small, value)
-
-pub fetch-requires-then-is_marked-clause-inside : goal.fetch-requires-then-is_marked-clause-inside
-fetch-requires-then-is_marked-clause-inside g c =
-    let b = c.requires.begins in
-    let inside = pair_inside g.met.R.CacheRom.laws b.1 (c.loop-at.invariant.turned b.0 b.1) c.loop-at-test.true c.index-ops-at.result (op_in_row (ops_same (fetched c.args.machine.now.bus) (fetched c.loop-at.machine.bus) c.loop-at.invariant.text c.args.image.now c.args.ops.now c.requires.ops) c.loop-at.at.row c.index-ops-at.result c.index-ops-at.result c.index-ops-at.is)
-    (sym c.class-class.ensures ∙ c.in-Lui.is) (sym c.is_marked.ensures ∙ c.if-is_marked.true) in
-    let is = c.index-then-is_marked.ensures in
-    let same = ap (λ (r : RamState). length r.words) c.fetch.ensures.ram in
-    omega (arith, inside, is, same)
-
-pub overflow_add-at-then-is_marked : goal.overflow_add-at-then-is_marked
-overflow_add-at-then-is_marked g c =
-    let b = c.requires.begins in
-    let within = row_in g.met.R.CacheRom.laws b.1 (c.loop-at.invariant.turned b.0 b.1) c.loop-at-test.true in
-    let small = c.words-words.ensures.small in
-    let value = c.words-words.ensures.value in
-    omega (arith, within, small, value)
-
-pub overflow_add-at-then-is_marked-2 : goal.overflow_add-at-then-is_marked-2
-overflow_add-at-then-is_marked-2 g c =
-    let b = c.requires.begins in
-    let short = total_short g.met.R.CacheRom.laws b.1 (c.loop-at.invariant.turned b.0 b.1) c.loop-at-test.true in
-    omega (arith, short)
 
 pub exit_step-requires-clause-going : goal.exit_step-requires-clause-going
 exit_step-requires-clause-going g c =
@@ -175,28 +119,37 @@ jalr_step-requires-clause-going g c =
 pub jalr_step-requires-clause-op : goal.jalr_step-requires-clause-op
 jalr_step-requires-clause-op g c = op_in_row (ops_same (fetched c.args.machine.now.bus) (fetched c.loop-at.machine.bus) c.loop-at.invariant.text c.args.image.now c.args.ops.now c.requires.ops) c.loop-at.at.row c.index-ops-at.result c.index-ops-at.result c.index-ops-at.is
 
-pub step_as-requires : goal.step_as-requires
-step_as-requires g c =
+pub upper_step-requires-clause-going : goal.upper_step-requires-clause-going
+upper_step-requires-clause-going g c =
     let b = c.requires.begins in
-    let within = row_in g.met.R.CacheRom.laws b.1 (c.loop-at.invariant.turned b.0 b.1) c.loop-at-test.true in
-    let small = c.words-words.ensures.small in
-    let value = c.words-words.ensures.value in
-    omega (arith, within, small, value)
+    record {
+      limit = b.0;
+      first = turn c.args.machine.now c.args.rom.now (g.M.CacheRam.state c.args.ram.now) c.args.cursor.now;
+      begins = b.1;
+      turned = c.loop-at.invariant.turned b.0 b.1;
+      some = c.loop-at-test.true;
+    }
 
-pub index-requires-in_default : goal.index-requires-in_default
-index-requires-in_default g c =
-    let b = c.requires.begins in
-    let within = row_in g.met.R.CacheRom.laws b.1 (c.loop-at.invariant.turned b.0 b.1) c.loop-at-test.true in
-    let small = c.words-words.ensures.small in
-    let value = c.words-words.ensures.value in
-    omega (arith, within, small, value)
+pub upper_step-requires-clause-op : goal.upper_step-requires-clause-op
+upper_step-requires-clause-op g c = op_in_row (ops_same (fetched c.args.machine.now.bus) (fetched c.loop-at.machine.bus) c.loop-at.invariant.text c.args.image.now c.args.ops.now c.requires.ops) c.loop-at.at.row c.index-ops-at.result c.index-ops-at.result c.index-ops-at.is
 
-pub fetch-requires-in_default : goal.fetch-requires-in_default
-fetch-requires-in_default g c =
+pub straight_step-requires-clause-going : goal.straight_step-requires-clause-going
+straight_step-requires-clause-going g c =
     let b = c.requires.begins in
-    let inside = at_inside g.met.R.CacheRom.laws b.1 (c.loop-at.invariant.turned b.0 b.1) c.loop-at-test.true in
-    let is = c.index-in_default.ensures in
-    record { steady = c.requires.steady; inside = omega (arith, inside, is) }
+    record {
+      limit = b.0;
+      first = turn c.args.machine.now c.args.rom.now (g.M.CacheRam.state c.args.ram.now) c.args.cursor.now;
+      begins = b.1;
+      turned = c.loop-at.invariant.turned b.0 b.1;
+      some = c.loop-at-test.true;
+    }
+
+pub straight_step-requires-clause-op : goal.straight_step-requires-clause-op
+straight_step-requires-clause-op g c = op_in_row (ops_same (fetched c.args.machine.now.bus) (fetched c.loop-at.machine.bus) c.loop-at.invariant.text c.args.image.now c.args.ops.now c.requires.ops) c.loop-at.at.row c.index-ops-at.result c.index-ops-at.result c.index-ops-at.is
+
+pub straight_step-requires-clause-straight : goal.straight_step-requires-clause-straight
+straight_step-requires-clause-straight g c =
+    straight_class c.class-class.result c.in_default.not-Equal c.in_default.not-Less c.in_default.not-Below c.in_default.not-Jal c.in_default.not-Jalr c.in_default.not-Stop
 
 pub loop-at-smaller : goal.loop-at-smaller
 loop-at-smaller g c =
@@ -205,15 +158,14 @@ loop-at-smaller g c =
     let some = c.loop-at-test.true in
     elim c.match-class.branch [
       | in-Equal w ↦ rw w.at-is (stays_fewer left _ _ _ some w.branch_step.ensures.left)
-      | in-Lui+then-is_marked w ↦ rw w.at-is (stays_fewer left _ _ _ some refl)
-      | in-Lui+else-is_marked w ↦ rw w.at-is (stays_fewer left _ _ _ some refl)
+      | in-Lui w ↦ rw w.at-is (stays_fewer left _ _ _ some w.upper_step.ensures.left)
       | in-Jal+then-writes_x0 w ↦
           rw w.at-is (exit_fewer g.met.R.CacheRom.laws b.1 (c.loop-at.invariant.turned b.0 b.1) some
           (ops_same (fetched c.args.machine.now.bus) (fetched c.loop-at.machine.bus) c.loop-at.invariant.text c.args.image.now c.args.ops.now c.requires.ops)
           c.index-ops-at.result c.index-ops-at.is (sym c.class-class.ensures ∙ w.in-Jal.is) _ _ w.exit_step.ensures.left w.exit_step.ensures.lands)
       | in-Jal+else-writes_x0+else-not-is_exit w ↦ rw w.at-is (stays_fewer left _ _ _ some w.call_step.ensures.left)
       | in-Jalr+else-not-jalr_step w ↦ rw w.at-is (stays_fewer left _ _ _ some w.jalr_step.ensures.left)
-      | in_default+in-Some w ↦ rw w.at-is (stays_fewer left _ _ _ some refl)
+      | in_default+else-not-straight_step w ↦ rw w.at-is (stays_fewer left _ _ _ some w.straight_step.ensures.left)
     ]
 
 pub loop-at-preserved : goal.loop-at-preserved
@@ -229,20 +181,9 @@ loop-at-preserved g c =
         links = w.branch_step.ensures.links ∙ i.links;
         found = w.branch_step.ensures.found;
       })
-      | in-Lui+then-is_marked w ↦ rw (w.machine-is, w.rom-is, w.ram-is, w.ways-is, w.at-is) (record {
-        turned = λ limit b. pair_made g.met.R.CacheRom.laws b (i.turned limit b) some m op (sym c.class-class.ensures ∙ w.in-Lui.is) (sym w.is_marked.ensures ∙ w.if-is_marked.true) w.put.new.self
-            (w.put.ensures ∙ ap (λ (n : ℕ). with_reg c.loop-at.machine.regs n w.target.result) w.rd.ensures ∙ ap (λ (n : ℕ). with_reg c.loop-at.machine.regs m.rd n) w.target.ensures)
-            w.index.result w.index-then-is_marked.result (g.M.CacheRam.state w.fetch.new.ram) (g.M.CacheRam.state w.fetch-then-is_marked.new.ram)
-            w.index.ensures w.fetch.ensures.ram w.index-then-is_marked.ensures w.fetch-then-is_marked.ensures.ram;
-        text = i.text;
-        links = i.links;
-        found = i.found;
-      })
-      | in-Lui+else-is_marked w ↦ rw (w.machine-is, w.rom-is, w.ram-is, w.ways-is, w.at-is) (record {
-        turned = λ limit b. upper_made g.met.R.CacheRom.laws b (i.turned limit b) some m op (sym c.class-class.ensures ∙ w.in-Lui.is) (sym w.is_marked.ensures ∙ w.if-is_marked.false) w.put.new.self
-            (w.put.ensures ∙ ap (λ (n : ℕ). with_reg c.loop-at.machine.regs n w.target.result) w.rd.ensures ∙ ap (λ (n : ℕ). with_reg c.loop-at.machine.regs m.rd n) w.target.ensures)
-            w.index.result (g.M.CacheRam.state w.fetch.new.ram) w.index.ensures w.fetch.ensures.ram;
-        text = i.text;
+      | in-Lui w ↦ rw (w.machine-is, w.rom-is, w.ram-is, w.ways-is, w.at-is) (record {
+        turned = λ limit b. w.upper_step.ensures.turns limit _ b (i.turned limit b);
+        text = λ a. ap (λ (l : List AreaData). fetched l a) w.upper_step.ensures.bus ∙ i.text a;
         links = i.links;
         found = i.found;
       })
@@ -264,12 +205,9 @@ loop-at-preserved g c =
         links = i.links;
         found = w.jalr_step.ensures.found;
       })
-      | in_default+in-Some w ↦ rw (w.machine-is, w.rom-is, w.ram-is, w.ways-is, w.at-is) (record {
-        turned = λ limit b. straight_made g.met.R.CacheRom.laws b (i.turned limit b) some m op c.class-class.result (sym c.class-class.ensures)
-            (straight_class c.class-class.result w.in_default.not-Equal w.in_default.not-Less w.in_default.not-Below w.in_default.not-Jal w.in_default.not-Jalr w.in_default.not-Stop)
-            w.in_default.not-Lui (record { from = 0; words = 0 }) w.in-Some.next (sym w.step_as.ensures.next ∙ w.in-Some.is) w.step_as.new.regs w.step_as.new.bus w.step_as.ensures.regs w.step_as.ensures.bus
-            w.index-in_default.result (g.M.CacheRam.state w.fetch-in_default.new.ram) w.index-in_default.ensures w.fetch-in_default.ensures.ram;
-        text = λ a. w.step_as.ensures.text a ∙ i.text a;
+      | in_default+else-not-straight_step w ↦ rw (w.machine-is, w.rom-is, w.ram-is, w.ways-is, w.at-is) (record {
+        turned = λ limit b. w.straight_step.ensures.turns w.if-not-straight_step.false limit _ b (i.turned limit b);
+        text = λ a. w.straight_step.ensures.text a ∙ i.text a;
         links = i.links;
         found = i.found;
       })
@@ -283,15 +221,10 @@ returns-then-not-jalr_step-clause-turned g c limit b =
 pub returns-then-not-jalr_step-clause-text : goal.returns-then-not-jalr_step-clause-text
 returns-then-not-jalr_step-clause-text g c a = ap (λ (l : List AreaData). fetched l a) c.jalr_step.ensures.bus ∙ c.loop-at.invariant.text a
 
-pub returns-in_default-step_as : goal.returns-in_default-step_as
-returns-in_default-step_as g c =
-    let i = c.loop-at.invariant in
-    let stays = c.in_default-step_as.ensures.unchanged in
-    record {
-      turned = λ limit b. subst (λ (l : List AreaData). Turned g.R.CacheRom.service c.args.image.now limit (turn c.args.machine.now c.args.rom.now (g.M.CacheRam.state c.args.ram.now) c.args.cursor.now) b.at
-          (turn (record c.loop-at.machine { regs = c.step_as.new.regs; bus = l }) c.loop-at.rom (g.M.CacheRam.state c.loop-at.ram) c.loop-at.at)) (sym stays.1)
-          (subst (λ (r : Registers). Turned g.R.CacheRom.service c.args.image.now limit (turn c.args.machine.now c.args.rom.now (g.M.CacheRam.state c.args.ram.now) c.args.cursor.now) b.at
-          (turn (record c.loop-at.machine { regs = r }) c.loop-at.rom (g.M.CacheRam.state c.loop-at.ram) c.loop-at.at)) (sym stays.0) (i.turned limit b));
-      text = λ a. c.step_as.ensures.text a ∙ i.text a;
-      links = i.links;
-    }
+pub returns-then-not-straight_step-clause-turned : goal.returns-then-not-straight_step-clause-turned
+returns-then-not-straight_step-clause-turned g c limit b =
+    subst (λ (t : Turn g.row.R.Denot). Turned g.R.CacheRom.service c.args.image.now limit (turn c.args.machine.now c.args.rom.now (g.M.CacheRam.state c.args.ram.now) c.args.cursor.now) b.at t)
+    (sym (c.straight_step.ensures.stays (search rules))) (c.loop-at.invariant.turned limit b)
+
+pub returns-then-not-straight_step-clause-text : goal.returns-then-not-straight_step-clause-text
+returns-then-not-straight_step-clause-text g c a = c.straight_step.ensures.text a ∙ c.loop-at.invariant.text a

@@ -23,8 +23,8 @@ returns-in-Err g c =
     let sound = λ (ws : List ℕ). g.R.CacheRom.service.sound c.args.rom.now v ws in
     let coherent = λ (ws : List ℕ) (s : g.R.CacheRom.service.sound c.args.rom.now v ws). g.met.R.CacheRom.laws.coherent c.args.rom.now v ws s in
     let plain = ap (λ (w : ℕ). is_plain (decoded w)) (sym c.requires.own) ∙ c.requires.plain in
-    let below = plain_below v r h.machine span ram.words c.args.at.0 c.args.at.1 c.args.at.2 c.args.at.3 sound coherent c.requires.home h.control c.requires.control plain c.requires.sound in
-    let failed = ram_unfetched v h.machine h.control _ c.args.at.0 c.args.at.1 c.args.at.2 c.args.at.3 _ _ c.requires.control below c.in-Err.ensures.fetched in
+    let below = plain_below v r h.machine span ram.words c.args.at.index c.args.at.block c.args.at.offset c.args.at.stage sound coherent c.requires.home h.control c.requires.control plain c.requires.sound in
+    let failed = ram_unfetched v h.machine h.control _ c.args.at.index c.args.at.block c.args.at.offset c.args.at.stage _ _ c.requires.control below c.in-Err.ensures.fetched in
     record { gave = given_still _; unasked = λ e. refl; stepped = λ i rest read. rw (rest_is read) (ram_stopped _ _ _ _ _ (ap broken c.hart.view_is) refl failed); executes = tt }
 
 pub run_word-requires : goal.run_word-requires
@@ -37,8 +37,8 @@ run_word-requires g c =
     let sound = λ (ws : List ℕ). g.R.CacheRom.service.sound c.args.rom.now v ws in
     let coherent = λ (ws : List ℕ) (s : g.R.CacheRom.service.sound c.args.rom.now v ws). g.met.R.CacheRom.laws.coherent c.args.rom.now v ws s in
     let plain = ap (λ (w : ℕ). is_plain (decoded w)) (sym c.requires.own) ∙ c.requires.plain in
-    let below = plain_below v r h.machine span ram.words c.args.at.0 c.args.at.1 c.args.at.2 c.args.at.3 sound coherent c.requires.home h.control c.requires.control plain c.requires.sound in
-    let put = put_back v r h.machine span ram.words c.args.at.0 c.args.at.1 c.args.at.2 c.args.at.3 sound coherent c.requires.home h.control c.requires.control plain c.requires.sound in
+    let below = plain_below v r h.machine span ram.words c.args.at.index c.args.at.block c.args.at.offset c.args.at.stage sound coherent c.requires.home h.control c.requires.control plain c.requires.sound in
+    let put = put_back v r h.machine span ram.words c.args.at.index c.args.at.block c.args.at.offset c.args.at.stage sound coherent c.requires.home h.control c.requires.control plain c.requires.sound in
     let small = g.met.R.CacheRom.laws.small _ _ _ put in
     record {
       running = c.requires.ready.running;
@@ -46,7 +46,7 @@ run_word-requires g c =
       count = c.requires.ready.count;
       control = c.requires.control;
       small = omega (arith, below, small);
-      inside = offset_small v r h.machine _ _ c.args.at.0 c.args.at.1 c.args.at.2 c.args.at.3 (coherent _ put) c.requires.home (g.met.R.CacheRom.laws.image _ _ _ put);
+      inside = offset_small v r h.machine _ _ c.args.at.index c.args.at.block c.args.at.offset c.args.at.stage (coherent _ put) c.requires.home (g.met.R.CacheRom.laws.image _ _ _ put);
     }
 
 pub returns : goal.returns
@@ -60,12 +60,12 @@ returns g c =
     let coherent = λ (ws : List ℕ) (s : g.R.CacheRom.service.sound c.args.rom.now v ws). g.met.R.CacheRom.laws.coherent c.args.rom.now v ws s in
     let policy = g.R.CacheRom.service.policy (g.R.CacheRom.service.setting c.args.rom.now) in
     let plain = ap (λ (w : ℕ). is_plain (decoded w)) (sym c.requires.own) ∙ c.requires.plain in
-    let held = plain_held v r h.machine span ram.words c.args.at.0 c.args.at.1 c.args.at.2 c.args.at.3 sound coherent c.requires.home h.control c.requires.control plain c.requires.sound in
+    let held = plain_held v r h.machine span ram.words c.args.at.index c.args.at.block c.args.at.offset c.args.at.stage sound coherent c.requires.home h.control c.requires.control plain c.requires.sound in
     let held_is = sym c.in-Some-Some.is-1 ∙ c.decode-2.ensures ∙ ap decoded c.in-Ok.ensures.fetched.0 in
     let own_is = sym c.in-Some-Some.is-0 ∙ c.decode.ensures ∙ ap decoded c.requires.own in
     let runs = no_call c.in-Some-Some.x c.run_word.result (ap is_plain held_is ∙ held) c.run_word.ensures.asks in
-    let below = plain_below v r h.machine span ram.words c.args.at.0 c.args.at.1 c.args.at.2 c.args.at.3 sound coherent c.requires.home h.control c.requires.control plain c.requires.sound in
-    let w = plain_home v r h.machine c.args.at.0 c.args.at.1 c.args.at.2 c.args.at.3 c.requires.home plain in
+    let below = plain_below v r h.machine span ram.words c.args.at.index c.args.at.block c.args.at.offset c.args.at.stage sound coherent c.requires.home h.control c.requires.control plain c.requires.sound in
+    let w = plain_home v r h.machine c.args.at.index c.args.at.block c.args.at.offset c.args.at.stage c.requires.home plain in
     let same = ram_same span r (g.M.CacheRam.state c.fetch.new.self) in
     let fetched = c.in-Ok.ensures.fetched.1 in
     let ran = (c.run_word.ensures.ran runs).ran [] in
@@ -73,16 +73,16 @@ returns g c =
       gave = given_still _;
       unasked = λ e. refl;
       stepped = λ i rest read. rw (rest_is read) (record {
-        made = λ s left told. made_plain v r h c.run_word.new.hart ram.words c.args.at.0 c.args.at.1 c.args.at.2 c.args.at.3 c.requires.home c.requires.control plain c.in-Some-Some.image_word c.in-Some-Some.x c.role-role.result own_is held_is c.role-role.ensures ((c.run_word.ensures.ran runs).ran) (own_word v r h.machine span ram.words c.args.at.0 c.args.at.1 c.args.at.2 c.args.at.3 sound coherent c.requires.home h.control c.requires.control plain s) (c.run_word.ensures.ran runs).took (c.run_word.ensures.ran runs).output (c.run_word.ensures.ran runs).error left _ _ _ told;
-        fits = fits_plain v r h c.run_word.new.hart ram.words c.args.at.0 c.args.at.1 c.args.at.2 c.args.at.3 c.requires.home c.requires.control plain c.in-Some-Some.image_word c.in-Some-Some.x c.role-role.result own_is held_is c.role-role.ensures ((c.run_word.ensures.ran runs).ran) (ap is_plain held_is ∙ held) c.requires.ready.fits c.requires.ready.running c.requires.word;
+        made = λ s left told. made_plain v r h c.run_word.new.hart ram.words c.args.at.index c.args.at.block c.args.at.offset c.args.at.stage c.requires.home c.requires.control plain c.in-Some-Some.image_word c.in-Some-Some.x c.role-role.result own_is held_is c.role-role.ensures ((c.run_word.ensures.ran runs).ran) (own_word v r h.machine span ram.words c.args.at.index c.args.at.block c.args.at.offset c.args.at.stage sound coherent c.requires.home h.control c.requires.control plain s) (c.run_word.ensures.ran runs).took (c.run_word.ensures.ran runs).output (c.run_word.ensures.ran runs).error left _ _ _ told;
+        fits = fits_plain v r h c.run_word.new.hart ram.words c.args.at.index c.args.at.block c.args.at.offset c.args.at.stage c.requires.home c.requires.control plain c.in-Some-Some.image_word c.in-Some-Some.x c.role-role.result own_is held_is c.role-role.ensures ((c.run_word.ensures.ran runs).ran) (ap is_plain held_is ∙ held) c.requires.ready.fits c.requires.ready.running c.requires.word;
         counted = record { count = ap (λ (k : HartData). k.count) ran; failed = ap (λ (k : HartData). k.failed) ran; booted = ap (λ (k : HartData). k.booted) ran };
-        policy = rw c.requires.control (word_moves v r h.machine c.args.at.0 c.args.at.1 c.args.at.2 c.args.at.3 policy r w);
+        policy = rw c.requires.control (word_moves v r h.machine c.args.at.index c.args.at.block c.args.at.offset c.args.at.stage policy r w);
         setting = refl;
         sound = λ s. (rw fetched s, λ images serves. rw fetched serves);
         unused = λ i le. ap (λ (k : RamState). slice_index k.words i) fetched;
         words = words_same v r ram _ (ap (λ (k : RamState). k.words) fetched);
-        ram = ram_exit _ _ c.args.at.0 c.args.at.1 c.args.at.2 c.args.at.3 h.control _ _ _ c.requires.control below fetched same;
-        grown = λ s. grown_plain v r h c.run_word.new.hart ram.words c.args.at.0 c.args.at.1 c.args.at.2 c.args.at.3 c.requires.home c.requires.control plain c.in-Some-Some.image_word c.in-Some-Some.x c.role-role.result own_is held_is c.role-role.ensures ((c.run_word.ensures.ran runs).ran) (own_word v r h.machine span ram.words c.args.at.0 c.args.at.1 c.args.at.2 c.args.at.3 sound coherent c.requires.home h.control c.requires.control plain s) (sym c.requires.ready.running);
+        ram = ram_exit _ _ c.args.at.index c.args.at.block c.args.at.offset c.args.at.stage h.control _ _ _ c.requires.control below fetched same;
+        grown = λ s. grown_plain v r h c.run_word.new.hart ram.words c.args.at.index c.args.at.block c.args.at.offset c.args.at.stage c.requires.home c.requires.control plain c.in-Some-Some.image_word c.in-Some-Some.x c.role-role.result own_is held_is c.role-role.ensures ((c.run_word.ensures.ran runs).ran) (own_word v r h.machine span ram.words c.args.at.index c.args.at.block c.args.at.offset c.args.at.stage sound coherent c.requires.home h.control c.requires.control plain s) (sym c.requires.ready.running);
         stopped = tt;
         broke = λ s. tt;
         call = tt;
@@ -91,10 +91,10 @@ returns g c =
         unwritten = λ e. absurd (cc);
         others_stay = λ e. absurd (cc);
         ram_failed = λ e. absurd (cc);
-        kept = (ram_exit _ _ c.args.at.0 c.args.at.1 c.args.at.2 c.args.at.3 h.control _ _ _ c.requires.control below fetched same).kept;
+        kept = (ram_exit _ _ c.args.at.index c.args.at.block c.args.at.offset c.args.at.stage h.control _ _ _ c.requires.control below fetched same).kept;
         causes = none_named refl (λ e. cc) (λ e. cc);
         ram_cause = no_cause (ap (λ (k : RamState). k.faults) fetched) (λ e. cc);
       });
-      executes = λ i b o stage p. same_at h c.run_word.new.hart c.args.rom.now ram.words (g.M.CacheRam.state c.fetch.new.self).words c.args.at.0 c.args.at.1 c.args.at.2 c.args.at.3 i b o stage _ _ _ (sym c.requires.control ∙ p.control) (ap (λ (k : RamState). k.words) fetched)
-          (λ y is. executes_plain v r h c.run_word.new.hart ram.words c.args.at.0 c.args.at.1 c.args.at.2 c.args.at.3 c.requires.home c.requires.control plain c.in-Some-Some.image_word c.in-Some-Some.x c.role-role.result own_is held_is c.role-role.ensures (c.run_word.ensures.ran runs).ran y is);
+      executes = λ i b o stage p. same_at h c.run_word.new.hart c.args.rom.now ram.words (g.M.CacheRam.state c.fetch.new.self).words c.args.at.index c.args.at.block c.args.at.offset c.args.at.stage i b o stage _ _ _ (sym c.requires.control ∙ p.control) (ap (λ (k : RamState). k.words) fetched)
+          (λ y is. executes_plain v r h c.run_word.new.hart ram.words c.args.at.index c.args.at.block c.args.at.offset c.args.at.stage c.requires.home c.requires.control plain c.in-Some-Some.image_word c.in-Some-Some.x c.role-role.result own_is held_is c.role-role.ensures (c.run_word.ensures.ran runs).ran y is);
     }

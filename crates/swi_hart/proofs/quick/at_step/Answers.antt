@@ -12,7 +12,7 @@ returns-clause-stepped g c i rest read = c.at_word.ensures.stepped i rest read (
 pub returns-in-Err-clause-stepped : goal.returns-in-Err-clause-stepped
 returns-in-Err-clause-stepped g c i rest read =
     rw (rest_is read) (
-    let below = index_below c.args.image.now (g.R.CacheRom.service.kept c.args.rom.now) c.args.hart.now.machine _ _ c.args.at.0 c.args.at.1 c.args.at.2 c.args.at.3
+    let below = index_below c.args.image.now (g.R.CacheRom.service.kept c.args.rom.now) c.args.hart.now.machine _ _ c.args.at.index c.args.at.block c.args.at.offset c.args.at.stage
     (g.met.R.CacheRom.laws.coherent _ _ _ c.requires.sound) c.requires.home in
     ram_stopped _ _ _ _ _ (ap broken c.hart.view_is) refl
-    (ram_unfetched c.args.image.now c.args.hart.now.machine c.args.hart.now.control _ c.args.at.0 c.args.at.1 c.args.at.2 c.args.at.3 _ _ c.requires.control below c.in-Err.ensures.fetched))
+    (ram_unfetched c.args.image.now c.args.hart.now.machine c.args.hart.now.control _ c.args.at.index c.args.at.block c.args.at.offset c.args.at.stage _ _ c.requires.control below c.in-Err.ensures.fetched))

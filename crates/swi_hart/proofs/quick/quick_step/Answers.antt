@@ -16,7 +16,7 @@ use Rattle.swi_hart.proofs.quick.quick_step.Goals as goal
 
 pub at_step-requires-clause-home : goal.at_step-requires-clause-home
 at_step-requires-clause-home g c =
-    home c.args.image.now (g.R.CacheRom.service.kept c.args.rom.now) c.args.hart.now c.in-At.i c.in-At.b c.in-At.o c.in-At.stage c.requires.ready.fits
+    home c.args.image.now (g.R.CacheRom.service.kept c.args.rom.now) c.args.hart.now c.in-At.index c.in-At.block c.in-At.offset c.in-At.stage c.requires.ready.fits
     (sym (ap (λ (h : HartData). h.control) c.hart.view_is) ∙ sym c.control.ensures ∙ c.in-At.is) c.requires.ready.running c.origin_pc-pc.ensures.word
 
 pub returns-in-Outside-clause-stepped : goal.returns-in-Outside-clause-stepped

@@ -10,5 +10,5 @@ returns-clause-step g c =
     let x = c.args.x in
     ok_map c.jump_step.result
     (λ step. λ input. jumps_by c.args.image.now (g.R.CacheRom.service.kept c.jump_step.new.rom) (step_to c.jump_step.new.hart input) input
-    (At c.args.at.0 c.args.at.1 c.args.at.2 c.args.at.3) c.args.hart.now.machine x.rd x.rs1 x.imm _ c.args.link (search rules) (step input))
+    (At c.args.at.index c.args.at.block c.args.at.offset c.args.at.stage) c.args.hart.now.machine x.rd x.rs1 x.imm _ c.args.link (search rules) (step input))
     c.jump_step.ensures.step

@@ -12,7 +12,7 @@ pub plain_step-requires-clause-home : goal.plain_step-requires-clause-home
 plain_step-requires-clause-home g c =
     let f = subst (λ (b : BoardOf g.row.R.Denot). Fits c.args.image.now (g.R.CacheRom.service.kept b.rom) b.hart) (sym c.self.view_is) c.requires.ready.fits in
     let running : c.self.inside.hart.machine.ending ≡ None = ap (λ (b : BoardOf g.row.R.Denot). b.hart.machine.ending) c.self.view_is ∙ c.requires.ready.running in
-    home c.args.image.now (g.R.CacheRom.service.kept c.self.inside.rom) c.self.inside.hart c.in-Some.at.0 c.in-Some.at.1 c.in-Some.at.2 c.in-Some.at.3 f
+    home c.args.image.now (g.R.CacheRom.service.kept c.self.inside.rom) c.self.inside.hart c.in-Some.at.index c.in-Some.at.block c.in-Some.at.offset c.in-Some.at.stage f
     c.in-Some.ensures.place.0 running c.plain_place.ensures.word
 
 pub returns-clause-follows : goal.returns-clause-follows
