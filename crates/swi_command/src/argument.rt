@@ -63,6 +63,19 @@ pub enum Argument {
     Flag(Flag),
 }
 
+/// The rule of all numbers from `least` to `most`.
+fn between(least: u64, most: u64) -> NumberRule
+    ensures least { result.least ≡ least }
+    ensures most { result.most ≡ most }
+    ensures unit { result.unit ≡ 1 }
+{
+    NumberRule {
+        least,
+        most,
+        unit: 1,
+    }
+}
+
 impl Positional {
     pub fn name(self) -> &'static str
         ensures { result.now ≡ positional_name self }
@@ -110,46 +123,18 @@ impl NumberOption {
         ensures unit { result.unit ≡ (form_of_number self).unit }
     {
         match self {
-            NumberOption::Steps => NumberRule {
-                least: 0,
-                most: 1 << 48,
-                unit: 1,
-            },
-            NumberOption::Cache => NumberRule {
-                least: 8,
-                most: (1 << 32) - 1,
-                unit: 1,
-            },
-            NumberOption::Block => NumberRule {
-                least: 2,
-                most: 1024,
-                unit: 1,
-            },
-            NumberOption::Heap => NumberRule {
-                least: 0,
-                most: 67_108_864,
-                unit: 1,
-            },
+            NumberOption::Steps => between(0, 1 << 48),
+            NumberOption::Cache => between(8, (1 << 32) - 1),
+            NumberOption::Block => between(2, 1024),
+            NumberOption::Heap => between(0, 67_108_864),
             NumberOption::Stack => NumberRule {
                 least: 4096,
                 most: 16_777_216,
                 unit: 16,
             },
-            NumberOption::Events => NumberRule {
-                least: 0,
-                most: 4_294_967_295,
-                unit: 1,
-            },
-            NumberOption::Seed => NumberRule {
-                least: 0,
-                most: 4_294_967_295,
-                unit: 1,
-            },
-            NumberOption::Rate => NumberRule {
-                least: 0,
-                most: 1024,
-                unit: 1,
-            },
+            NumberOption::Events => between(0, 4_294_967_295),
+            NumberOption::Seed => between(0, 4_294_967_295),
+            NumberOption::Rate => between(0, 1024),
         }
     }
 

@@ -187,10 +187,10 @@ not_there v e t words at target l stands x left block offset = false_from_ne_tru
     both_ways _ x.free (subst (λ (o : ℕ). is_linked (kept_by e) x.block o ≡ true) (ap (λ (k : Link). k.offset) w.2 ∙ offset) (subst (λ (b : ℕ). is_linked (kept_by e) b w.0.offset ≡ true) (ap (λ (k : Link). k.block) w.2 ∙ block) linked')))
 
 -- which words have changed
-linked_words : (v : ImageData) (e t : EngineData) (c n at target goal w : ℕ) (j : Joint) (x y z : RamState) → EngineSound e v x.words → Arrived v c n e t x y → (i : ExitIn v e at target) → j.block ≡ i.block → j.offset ≡ i.offset → j.at ≡ at → OneSet j.at w y z →
-    WordsMove v (kept_by e) (kept_by (linked_data t j goal)) x z
+linked_words : (v : ImageData) (e t : EngineData) (c n at target w : ℕ) (j : Joint) (x y z : RamState) → EngineSound e v x.words → Arrived v c n e t x y → (i : ExitIn v e at target) → j.block ≡ i.block → j.offset ≡ i.offset → j.at ≡ at → OneSet j.at w y z →
+    WordsMove v (kept_by e) (kept_by (linked_data t j)) x z
 unfolding Placed
-linked_words v e t c n at target goal w j x y z sound arr i block offset here set = record {
+linked_words v e t c n at target w j x y z sound arr i block offset here set = record {
   changes = λ k. elim (cases_eq k at) [
     | inl s ↦ inr (inr (record {
       link = link_of j;
@@ -235,16 +235,16 @@ linked_words v e t c n at target goal w j x y z sound arr i block offset here se
     after : has_link (kept_by t).links (link_of j) ≡ false
     after = not_there v e t x.words at target (link_of j) sound.stands i arr.joints_left block offset
 
-new_target : (v : ImageData) (t : EngineData) (j : Joint) (goal target i : ℕ) → TargetAt v (kept_by t) target i → TargetAt v (kept_by (linked_data t j goal)) target i
+new_target : (v : ImageData) (t : EngineData) (j : Joint) (target i : ℕ) → TargetAt v (kept_by t) target i → TargetAt v (kept_by (linked_data t j)) target i
 unfolding Placed
-new_target v t j goal target i at = record { block = at.block; offset = at.offset; first = at.first; place_is = at.place_is; is_placed = at.is_placed; index = at.index }
+new_target v t j target i at = record { block = at.block; offset = at.offset; first = at.first; place_is = at.place_is; is_placed = at.is_placed; index = at.index }
 
 abbrev pub Crossed : ImageData → EngineData → ℕ → ℕ → ℕ → EngineData → RamState → RamState → ℕ → Type 0
 Crossed v e b o target u x z index =
     Served v (span_of (setting_of e)) target (kept_by e) (beside (setting_of e) (kept_by e) v (direct b o target)) (kept_by u) x z (Ok index)
 
-few_linked : (t : EngineData) (j : Joint) (goal : ℕ) → Few t → t.counts.links < t.counts.services → Few (linked_data t j goal)
-few_linked t j goal few lt = record {
+few_linked : (t : EngineData) (j : Joint) → Few t → t.counts.links < t.counts.services → Few (linked_data t j)
+few_linked t j few lt = record {
   misses_few = few.misses_few;
   unbooted = few.unbooted;
   copied_few = few.copied_few;
@@ -265,7 +265,7 @@ pub record IsJoint (v : ImageData) (e : EngineData) (at target c : ℕ) (x : Exi
   pub into : j.into ≡ c
 
 crossed_link : (v : ImageData) (e t u : EngineData) (c q n at target : ℕ) (j : Joint) (x y z : RamState) → EngineSound e v x.words → (i : ExitIn v e at target) → IsJoint v e at target c i j → place_of v target ≡ Some (c, q) → Arrived v c n e t x y →
-    Linked t u j (n * e.size + q) target y z → nat_lt (slice_index t.homes i.block) t.slots ≡ true →
+    Linked t u j (n * e.size + q) y z → nat_lt (slice_index t.homes i.block) t.slots ≡ true →
     (record (kept_by t) { links = link_of j ∷ (kept_by t).links; counts = record t.counts { links = t.counts.links + 1 } } ≡ beside (setting_of e) (kept_by e) v (direct i.block i.offset target)) →
     Crossed v e i.block i.offset target u x z (n * e.size + q) × EngineSound u v z.words
 crossed_link v e t u c q n at target j x y z sound i own is arr link stands moves =
@@ -284,21 +284,21 @@ crossed_link v e t u c q n at target j x y z sound i own is arr link stands move
     own.here ∙ i.index ∙ ap (λ (o : ℕ). i.slot * e.size + o) (sym own.offset) ∙ ap (λ (s : ℕ). i.slot * s + j.offset) (sym size) ∙ ap (λ (m : ℕ). m * t.size + j.offset) (sym slot) in
     let jumps : IsJump j.at (n * t.size + q) link.word = subst (λ (s : ℕ). IsJump j.at (n * s + q) link.word) (sym size) link.jumps in
     let none : NoJoint t j.at = subst (λ (k : ℕ). NoJoint t k) (sym own.here) (none_after v e t c n at target x y sound arr i) in
-    let next : Standing (linked_data t j target) v (slice_set y.words j.at link.word) =
-    linked_stands t v y.words j link.word target (slice_index t.homes i.block) n q arr.sound.stands none home.0 (home.1 ∙ sym own.block) at_is exit arr.stands (arr.block_is ∙ sym own.into) place goes jumps in
+    let next : Standing (linked_data t j) v (slice_set y.words j.at link.word) =
+    linked_stands t v y.words j link.word (slice_index t.homes i.block) n q arr.sound.stands none home.0 (home.1 ∙ sym own.block) at_is exit arr.stands (arr.block_is ∙ sym own.into) place jumps in
     let one : Wrote (e.slots * e.size) 1 y z = wrote_one (e.slots * e.size) j.at link.word y z below link.set in
-    let words = linked_words v e t c n at target target link.word j x y z sound arr i own.block own.offset own.here link.set in (
+    let words = linked_words v e t c n at target link.word j x y z sound arr i own.block own.offset own.here link.set in (
       subst (λ (f : EngineData). Served v (span_of (setting_of e)) target (kept_by e) (beside (setting_of e) (kept_by e) v (direct i.block i.offset target)) (kept_by f) x z (Ok (n * e.size + q))) (sym link.data_is)
-          (served v (e.slots * e.size) target (n * e.size + q) (writes (kept_by t) - writes (kept_by e) + 1) (c, q) (kept_by e) _ (kept_by (linked_data t j target)) x z is moves
-          (new_target v t j target target (n * e.size + q) (arrived_target v e t c q n target x y arr is))
+          (served v (e.slots * e.size) target (n * e.size + q) (writes (kept_by t) - writes (kept_by e) + 1) (c, q) (kept_by e) _ (kept_by (linked_data t j)) x z is moves
+          (new_target v t j target (n * e.size + q) (arrived_target v e t c q n target x y arr is))
           (wrote_more (e.slots * e.size) (e.slots * e.size) _ 1 x y z arr.wrote one (omega arith)) (omega (arith, arr.written)) words),
       subst (λ (f : EngineData). EngineSound f v z.words) (sym link.data_is)
-          (record { stands = subst (λ (ws : List ℕ). Standing (linked_data t j target) v ws) (sym (ap (λ (r : RamState). r.words) link.set)) next; few = few_linked t j target arr.sound.few few }),
+          (record { stands = subst (λ (ws : List ℕ). Standing (linked_data t j) v ws) (sym (ap (λ (r : RamState). r.words) link.set)) next; few = few_linked t j arr.sound.few few }),
     )
 
 -- the exit has been linked, or it can't be
 crossed_at : (v : ImageData) (e t u : EngineData) (c q n at target : ℕ) (j : Joint) (x y z : RamState) → EngineSound e v x.words → (i : ExitIn v e at target) → IsJoint v e at target c i j → place_of v target ≡ Some (c, q) → Arrived v c n e t x y →
-    MaybeLinked t u (can_link t j (n * e.size + q)) j (n * e.size + q) target y z → Crossed v e i.block i.offset target u x z (n * e.size + q) × EngineSound u v z.words
+    MaybeLinked t u (can_link t j (n * e.size + q)) j (n * e.size + q) y z → Crossed v e i.block i.offset target u x z (n * e.size + q) × EngineSound u v z.words
 crossed_at v e t u c q n at target j x y z sound i own is arr maybe =
     let moves : linked newest_first (kept_by t) i.block i.offset (c, q) ≡ beside (setting_of e) (kept_by e) v (direct i.block i.offset target) =
     ap (λ (r : Record). linked newest_first r i.block i.offset (c, q)) arr.moves ∙ direct_moves v e i.block i.offset target c q i.free is in
@@ -336,15 +336,15 @@ joint_is v e r words at target c block same stands i read =
 
 pub crossed_call : (v : ImageData) (e r t u : EngineData) (c q n at target block index size : ℕ) (x y z : RamState) → r ≡ e → EngineSound e v x.words → ExitAt v (kept_by e) at target → place_of v target ≡ Some (c, q) → Arrived v c n e t x y →
     block ≡ slice_index_or r.blocks (at / r.size) block → size ≡ t.size → index ≡ n * size + q →
-    MaybeLinked t u (can_link t (record { block = block; offset = at % r.size; at = at; into = c }) index) (record { block = block; offset = at % r.size; at = at; into = c }) index target y z →
+    MaybeLinked t u (can_link t (record { block = block; offset = at % r.size; at = at; into = c }) index) (record { block = block; offset = at % r.size; at = at; into = c }) index y z →
     ((b o f : ℕ) → Placed (kept_by e) b f → o < length_at v b → at ≡ f + o → Crossed v e b o target u x z index) × EngineSound u v z.words
 crossed_call v e r t u c q n at target block index size x y z same sound ex is arr read size_is index_is maybe =
     let i = exit_in v e at target ex in
     let j : Joint = record { block = block; offset = at % r.size; at = at; into = c } in
     let own = joint_is v e r x.words at target c block same sound.stands i read in
     let to : index ≡ n * e.size + q = index_is ∙ ap (λ (s : ℕ). n * s + q) (size_is ∙ sizes v c n e t x y arr) in
-    let maybe' : MaybeLinked t u (can_link t (record { block = block; offset = at % r.size; at = at; into = c }) (n * e.size + q)) (record { block = block; offset = at % r.size; at = at; into = c }) (n * e.size + q) target y z =
-    subst (λ (k : ℕ). MaybeLinked t u (can_link t (record { block = block; offset = at % r.size; at = at; into = c }) k) (record { block = block; offset = at % r.size; at = at; into = c }) k target y z) to maybe in
+    let maybe' : MaybeLinked t u (can_link t (record { block = block; offset = at % r.size; at = at; into = c }) (n * e.size + q)) (record { block = block; offset = at % r.size; at = at; into = c }) (n * e.size + q) y z =
+    subst (λ (k : ℕ). MaybeLinked t u (can_link t (record { block = block; offset = at % r.size; at = at; into = c }) k) (record { block = block; offset = at % r.size; at = at; into = c }) k y z) to maybe in
     let both = crossed_at v e t u c q n at target (record { block = block; offset = at % r.size; at = at; into = c }) x y z sound i own is arr maybe' in (
       λ b o f h lt at_is. (let alike = exit_same v e x.words at target b o f sound.stands i h lt at_is in
           subst (λ (k : ℕ). Crossed v e b o target u x z k) (sym to)
@@ -403,11 +403,11 @@ crossed_fault v e t u c q n target b o x y z is arr failed =
     (failed_more (e.slots * e.size) (e.slots * e.size) _ x y z arr.wrote (subst (λ (m : ℕ). FailedBelow m y z) (spans v c n e t x y arr) failed) (omega arith))
 
 -- a link is made, or not
-pub linked_yes : (e f : EngineData) (j : Joint) (to goal : ℕ) (a b : RamState) (t : Bool) → t ≡ true → f ≡ linked_data e j goal → (w : ℕ) × IsJump j.at to w × OneSet j.at w a b → MaybeLinked e f t j to goal a b
-linked_yes e f j to goal a b t is data_is made = record {
+pub linked_yes : (e f : EngineData) (j : Joint) (to : ℕ) (a b : RamState) (t : Bool) → t ≡ true → f ≡ linked_data e j → (w : ℕ) × IsJump j.at to w × OneSet j.at w a b → MaybeLinked e f t j to a b
+linked_yes e f j to a b t is data_is made = record {
   linked = λ s. record { data_is = data_is; word = made.0; jumps = made.1; set = made.2 };
   stays = λ s. absurd (both_ways _ s is);
 }
 
-pub linked_no : (e : EngineData) (j : Joint) (to goal : ℕ) (a : RamState) (t : Bool) → t ≡ false → MaybeLinked e e t j to goal a a
-linked_no e j to goal a t is = record { linked = λ s. absurd (both_ways _ is s); stays = λ s. (refl, refl) }
+pub linked_no : (e : EngineData) (j : Joint) (to : ℕ) (a : RamState) (t : Bool) → t ≡ false → MaybeLinked e e t j to a a
+linked_no e j to a t is = record { linked = λ s. absurd (both_ways _ is s); stays = λ s. (refl, refl) }

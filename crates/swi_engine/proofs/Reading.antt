@@ -72,7 +72,6 @@ new_shape slots size blocks some least most few = record {
   used_most = omega arith;
   blocks_long = length-replicate slots 0;
   lengths_long = length-replicate slots 0;
-  goals_long = length-replicate (slots * size) 0;
   below = λ n h. absurd h;
   homed = record {
     known = λ n h. absurd h;
@@ -140,7 +139,7 @@ at_word e now i b same lt free lt' is = shown_some e now i b same (rw (lt-ltb (i
 pub used_slots : (e : EngineData) (n : ℕ) → InShape e → n < used e → (n < length e.lengths) × (n < length e.blocks)
 used_slots e n shape lt = (omega (arith, lt, shape.used_most, shape.lengths_long), omega (arith, lt, shape.used_most, shape.blocks_long))
 
-pub new_is : (slots size blocks : ℕ) (q bs ls hs gs : List ℕ) (js : List Joint) → q ≡ [] → bs ≡ replicate slots 0 → ls ≡ replicate slots 0 → hs ≡ replicate blocks slots → js ≡ [] → gs ≡ replicate (slots * size) 0 →
+pub new_is : (slots size blocks : ℕ) (q bs ls hs : List ℕ) (js : List Joint) → q ≡ [] → bs ≡ replicate slots 0 → ls ≡ replicate slots 0 → hs ≡ replicate blocks slots → js ≡ [] →
     let e : EngineData = record {
       slots = slots;
       size = size;
@@ -149,10 +148,9 @@ pub new_is : (slots size blocks : ℕ) (q bs ls hs gs : List ℕ) (js : List Joi
       lengths = ls;
       homes = hs;
       joints = js;
-      goals = gs;
       copy = None;
       counts = record { services = 0; misses = 0; evictions = 0; links = 0; unlinks = 0; copied = 0 };
       words = 0;
       copies = 0;
     } in e ≡ empty_data slots size blocks
-new_is slots size blocks q bs ls hs gs js qs bss lss hss jss gss = rw (qs, bss, lss, hss, jss, gss) refl
+new_is slots size blocks q bs ls hs js qs bss lss hss jss = rw (qs, bss, lss, hss, jss) refl

@@ -21,10 +21,10 @@ use Rattle.swi_engine.specs.Moves.{leads_in, undone_data, left_data, placed_data
 use Rattle.swi_engine.proofs.Shapes.{has_index, has_get, has_last, has_left, has_here, remove_has, has_remove, filter_has, has_filter, removed_apart, apart_remove, apart_filter, distinct_remove, removed_distinct, get_index, distinct_append, left_homed, placed_homed}
 
 -- a link stands also where only its own parts are looked at
-joint_moves : (e f : EngineData) (v : ImageData) (words next : List ℕ) (j : Joint) → f.size ≡ e.size → f.goals ≡ e.goals → (s : JointStands e v words j) →
+joint_moves : (e f : EngineData) (v : ImageData) (words next : List ℕ) (j : Joint) → f.size ≡ e.size → (s : JointStands e v words j) →
     Has f.queue s.home → Has f.queue s.target → slice_index f.blocks s.home ≡ slice_index e.blocks s.home → slice_index f.blocks s.target ≡ slice_index e.blocks s.target →
     slice_index next j.at ≡ slice_index words j.at → JointStands f v next j
-joint_moves e f v words next j size goals s h t hb tb same = record {
+joint_moves e f v words next j size s h t hb tb same = record {
   home = s.home;
   home_queued = h;
   home_is = hb ∙ s.home_is;
@@ -36,7 +36,6 @@ joint_moves e f v words next j size goals s h t hb tb same = record {
   target_is = tb ∙ s.target_is;
   place_is = s.place_is;
   jumps = subst (λ (w : ℕ). IsJump j.at (s.target * f.size + s.offset) w) (sym same) (subst (λ (x : ℕ). IsJump j.at (s.target * x + s.offset) (slice_index words j.at)) (sym size) s.jumps);
-  goal_is = ap (λ (g : List ℕ). slice_index g j.at) goals ∙ s.goal_is;
 }
 
 -- the words of the copy are no link's
@@ -68,7 +67,7 @@ pub undone_stands : (e : EngineData) (v : ImageData) (words : List ℕ) (k : ℕ
 undone_stands e v words k j stands get =
     let has = has_get e.joints k j get in
     let s = stands.linked j has in record {
-      shape = record { slots_some = stands.shape.slots_some; size_least = stands.shape.size_least; size_most = stands.shape.size_most; words_few = stands.shape.words_few; used_most = stands.shape.used_most; blocks_long = stands.shape.blocks_long; lengths_long = stands.shape.lengths_long; goals_long = stands.shape.goals_long; below = stands.shape.below; homed = stands.shape.homed };
+      shape = record { slots_some = stands.shape.slots_some; size_least = stands.shape.size_least; size_most = stands.shape.size_most; words_few = stands.shape.words_few; used_most = stands.shape.used_most; blocks_long = stands.shape.blocks_long; lengths_long = stands.shape.lengths_long; below = stands.shape.below; homed = stands.shape.homed };
       image = stands.image;
       holds_block = stands.holds_block;
       blocks_most = stands.blocks_most;
@@ -82,7 +81,7 @@ undone_stands e v words k j stands get =
       copy_is = undone_copy e.copy e v words k j stands has stands.copy_is;
       linked = λ i h.
           let t = stands.linked i (remove_has e.joints k i h) in
-          joint_moves e (undone_data e k) v words (slice_set words j.at ebreak) i refl refl t t.home_queued t.target_queued refl refl
+          joint_moves e (undone_data e k) v words (slice_set words j.at ebreak) i refl t t.home_queued t.target_queued refl refl
           (get_or-set_other words j.at i.at ebreak 0 (λ (at : i.at ≡ j.at). removed_apart e.joints k j i stands.apart get h at));
       apart = apart_remove e.joints k stands.apart;
       plain = λ n o h lt none. elim (cases_eq (n * e.size + o) j.at) [
@@ -101,7 +100,7 @@ pub begun_stands : (e : EngineData) (v : ImageData) (words : List ℕ) (c : ℕ)
     Standing (record e { copy = Some (record { block = c; slot = length e.queue; done = 0 }) }) v words
 begun_stands e v words c stands none room known some absent =
     let few : used e ≡ length e.queue + 0 = ap (λ (k : Option Copying). length e.queue + copies_begun k) none in record {
-      shape = record { slots_some = stands.shape.slots_some; size_least = stands.shape.size_least; size_most = stands.shape.size_most; words_few = stands.shape.words_few; used_most = omega (arith, room); blocks_long = stands.shape.blocks_long; lengths_long = stands.shape.lengths_long; goals_long = stands.shape.goals_long; below = stands.shape.below; homed = stands.shape.homed };
+      shape = record { slots_some = stands.shape.slots_some; size_least = stands.shape.size_least; size_most = stands.shape.size_most; words_few = stands.shape.words_few; used_most = omega (arith, room); blocks_long = stands.shape.blocks_long; lengths_long = stands.shape.lengths_long; below = stands.shape.below; homed = stands.shape.homed };
       image = stands.image;
       holds_block = stands.holds_block;
       blocks_most = stands.blocks_most;
@@ -123,7 +122,7 @@ begun_stands e v words c stands none room known some absent =
         more = some;
         stands = λ k lt. absurd (omega (arith, lt));
       };
-      linked = λ j h. let s = stands.linked j h in joint_moves e _ v words words j refl refl s s.home_queued s.target_queued refl refl refl;
+      linked = λ j h. let s = stands.linked j h in joint_moves e _ v words words j refl s s.home_queued s.target_queued refl refl refl;
       apart = stands.apart;
       plain = stands.plain;
     }
@@ -138,7 +137,7 @@ pub rebegun_stands : (e : EngineData) (v : ImageData) (words : List ℕ) (c : �
 rebegun_stands e v words c k stands is known some absent =
     let few : used e ≡ length e.queue + 1 = ap (λ (k : Option Copying). length e.queue + copies_begun k) is in
     let was : CopyStands e v words k = subst (λ (o : Option Copying). CopyIs o e v words) is stands.copy_is in record {
-      shape = record { slots_some = stands.shape.slots_some; size_least = stands.shape.size_least; size_most = stands.shape.size_most; words_few = stands.shape.words_few; used_most = omega (arith, stands.shape.used_most, few); blocks_long = stands.shape.blocks_long; lengths_long = stands.shape.lengths_long; goals_long = stands.shape.goals_long; below = stands.shape.below; homed = stands.shape.homed };
+      shape = record { slots_some = stands.shape.slots_some; size_least = stands.shape.size_least; size_most = stands.shape.size_most; words_few = stands.shape.words_few; used_most = omega (arith, stands.shape.used_most, few); blocks_long = stands.shape.blocks_long; lengths_long = stands.shape.lengths_long; below = stands.shape.below; homed = stands.shape.homed };
       image = stands.image;
       holds_block = stands.holds_block;
       blocks_most = stands.blocks_most;
@@ -157,7 +156,7 @@ rebegun_stands e v words c k stands is known some absent =
         more = some;
         stands = λ i lt. absurd (omega (arith, lt));
       };
-      linked = λ j h. let s = stands.linked j h in joint_moves e _ v words words j refl refl s s.home_queued s.target_queued refl refl refl;
+      linked = λ j h. let s = stands.linked j h in joint_moves e _ v words words j refl s s.home_queued s.target_queued refl refl refl;
       apart = stands.apart;
       plain = stands.plain;
     }
@@ -172,7 +171,7 @@ left_stands e v words k c stands none lt known some absent unlinked =
     let here : Has e.queue (slice_index e.queue k) = has_index e.queue k lt in
     let other : (n : ℕ) → Has (remove e.queue k) n → n ≡ slice_index e.queue k → ⊥ = λ n h is. removed_distinct e.queue k stands.once lt (subst (λ (m : ℕ). Has (remove e.queue k) m) is h) in
     let stays : (n : ℕ) → Has e.queue n → (n ≡ slice_index e.queue k → ⊥) → Has (remove e.queue k) n = λ n h ne. elim (has_remove e.queue k n (slice_index e.queue k) (get_index e.queue k lt) h) [ inl r ↦ r | inr is ↦ absurd (ne (sym is)) ] in record {
-      shape = record { slots_some = stands.shape.slots_some; size_least = stands.shape.size_least; size_most = stands.shape.size_most; words_few = stands.shape.words_few; used_most = omega (arith, short, few, stands.shape.used_most); blocks_long = stands.shape.blocks_long; lengths_long = stands.shape.lengths_long; goals_long = stands.shape.goals_long; below = λ n h. stands.shape.below n (remove_has e.queue k n h); homed = left_homed e.slots e.queue e.blocks e.homes k stands.shape.homed stands.once lt };
+      shape = record { slots_some = stands.shape.slots_some; size_least = stands.shape.size_least; size_most = stands.shape.size_most; words_few = stands.shape.words_few; used_most = omega (arith, short, few, stands.shape.used_most); blocks_long = stands.shape.blocks_long; lengths_long = stands.shape.lengths_long; below = λ n h. stands.shape.below n (remove_has e.queue k n h); homed = left_homed e.slots e.queue e.blocks e.homes k stands.shape.homed stands.once lt };
       image = stands.image;
       holds_block = stands.holds_block;
       blocks_most = omega (arith, stands.blocks_most, length-set e.homes (slice_index e.blocks (slice_index e.queue k)) e.slots);
@@ -197,7 +196,7 @@ left_stands e v words k c stands none lt known some absent unlinked =
       linked = λ j h.
           let w = filter_has (λ (i : Joint). not (i.block == slice_index e.blocks (slice_index e.queue k))) e.joints j h in
           let s = stands.linked j w.0 in
-          joint_moves e _ v words words j refl refl s
+          joint_moves e _ v words words j refl s
           (stays s.home s.home_queued (λ is. not_from j (slice_index e.blocks (slice_index e.queue k)) w.1 (sym s.home_is ∙ ap (λ (m : ℕ). slice_index e.blocks m) is)))
           (stays s.target s.target_queued (λ is. not_into j (slice_index e.blocks (slice_index e.queue k)) w.1 (unlinked j w.0) (sym s.target_is ∙ ap (λ (m : ℕ). slice_index e.blocks m) is))) refl refl refl;
       apart = apart_filter (λ (i : Joint). not (i.block == slice_index e.blocks (slice_index e.queue k))) e.joints stands.apart;
@@ -236,7 +235,7 @@ wrote_stands e v words c stands is more =
     let within : c.slot * e.size + e.size ≤ e.slots * e.size = slot_within e c.slot stands.shape (omega (arith, was.slot_used, stands.shape.used_most)) in
     let other : (n o : ℕ) → Has e.queue n → o < e.size → slice_index (slice_set words (c.slot * e.size + c.done) (word_at v c.block c.done)) (n * e.size + o) ≡ slice_index words (n * e.size + o) =
     λ n o h lt. get_or-set_other words (c.slot * e.size + c.done) (n * e.size + o) (word_at v c.block c.done) 0 (λ (s : n * e.size + o ≡ c.slot * e.size + c.done). copy_apart e v words c n o c.done stands was h lt (omega (arith, more, short)) (sym s)) in record {
-      shape = record { slots_some = stands.shape.slots_some; size_least = stands.shape.size_least; size_most = stands.shape.size_most; words_few = stands.shape.words_few; used_most = omega (arith, stands.shape.used_most, few); blocks_long = stands.shape.blocks_long; lengths_long = stands.shape.lengths_long; goals_long = stands.shape.goals_long; below = stands.shape.below; homed = stands.shape.homed };
+      shape = record { slots_some = stands.shape.slots_some; size_least = stands.shape.size_least; size_most = stands.shape.size_most; words_few = stands.shape.words_few; used_most = omega (arith, stands.shape.used_most, few); blocks_long = stands.shape.blocks_long; lengths_long = stands.shape.lengths_long; below = stands.shape.below; homed = stands.shape.homed };
       image = stands.image;
       holds_block = stands.holds_block;
       blocks_most = stands.blocks_most;
@@ -262,7 +261,7 @@ wrote_stands e v words c stands is more =
       };
       linked = λ j h.
           let s = stands.linked j h in
-          joint_moves e _ v words _ j refl refl s s.home_queued s.target_queued refl refl
+          joint_moves e _ v words _ j refl s s.home_queued s.target_queued refl refl
           (ap (λ (i : ℕ). slice_index (slice_set words (c.slot * e.size + c.done) (word_at v c.block c.done)) i) s.index ∙ other s.home j.offset s.home_queued (joint_inside e v words j stands s) ∙ ap (λ (i : ℕ). slice_index words i) (sym s.index));
       apart = stands.apart;
       plain = λ n o h inside free. other n o h (omega (arith, inside, length_most e v words n stands h)) ∙ stands.plain n o h inside free;
@@ -294,7 +293,7 @@ placed_stands e v words next c stands is long copied other =
         used_most = omega (arith, stands.shape.used_most, few, more);
         blocks_long = length-set e.blocks c.slot c.block ∙ stands.shape.blocks_long;
         lengths_long = length-set e.lengths c.slot (length_at v c.block) ∙ stands.shape.lengths_long;
-        goals_long = stands.shape.goals_long;
+       
         below = λ n h. elim (has_last e.queue c.slot n h) [ inl a ↦ stands.shape.below n a | inr s ↦ omega (arith, s, slot) ];
         homed = placed_homed e.slots e.queue e.blocks e.homes c.slot c.block stands.shape.homed was.slot_free (omega (arith, slot, stands.shape.blocks_long)) (omega (arith, was.known, stands.blocks_most)) was.absent;
       };
@@ -329,7 +328,7 @@ placed_stands e v words next c stands is long copied other =
       copy_is = tt;
       linked = λ j h.
           let s = stands.linked j h in
-          joint_moves e _ v words next j refl refl s (has_left e.queue (c.slot ∷ []) s.home s.home_queued) (has_left e.queue (c.slot ∷ []) s.target s.target_queued) (old_block s.home s.home_queued) (old_block s.target s.target_queued)
+          joint_moves e _ v words next j refl s (has_left e.queue (c.slot ∷ []) s.home s.home_queued) (has_left e.queue (c.slot ∷ []) s.target s.target_queued) (old_block s.home s.home_queued) (old_block s.target s.target_queued)
           (ap (λ (i : ℕ). slice_index next i) s.index ∙ other s.home j.offset (apart s.home s.home_queued) (joint_inside e v words j stands s) ∙ ap (λ (i : ℕ). slice_index words i) (sym s.index));
       apart = stands.apart;
       plain = λ n o h inside free. elim (has_last e.queue c.slot n h) [
@@ -343,14 +342,14 @@ placed_stands e v words next c stands is long copied other =
     }
 
 -- an exit that isn't linked becomes a link
-pub linked_stands : (e : EngineData) (v : ImageData) (words : List ℕ) (j : Joint) (w goal home target offset : ℕ) → Standing e v words → NoJoint e j.at →
+pub linked_stands : (e : EngineData) (v : ImageData) (words : List ℕ) (j : Joint) (w home target offset : ℕ) → Standing e v words → NoJoint e j.at →
     Has e.queue home → slice_index e.blocks home ≡ j.block → j.at ≡ home * e.size + j.offset → IsExit v j.block j.offset →
-    Has e.queue target → slice_index e.blocks target ≡ j.into → place_of v (word_at v j.block (j.offset + 1)) ≡ Some (j.into, offset) → goal ≡ word_at v j.block (j.offset + 1) →
-    IsJump j.at (target * e.size + offset) w → Standing (linked_data e j goal) v (slice_set words j.at w)
-linked_stands e v words j w goal home target offset stands free h h_is at exit t t_is place goal_is jumps =
+    Has e.queue target → slice_index e.blocks target ≡ j.into → place_of v (word_at v j.block (j.offset + 1)) ≡ Some (j.into, offset) →
+    IsJump j.at (target * e.size + offset) w → Standing (linked_data e j) v (slice_set words j.at w)
+linked_stands e v words j w home target offset stands free h h_is at exit t t_is place jumps =
     let inside : j.offset < e.size = omega (arith, exit.inside, subst (λ (b : ℕ). length_at v b ≤ e.size) h_is (length_most e v words home stands h)) in
     let below : j.at < e.slots * e.size = omega (arith, at, slot_within e home stands.shape (stands.shape.below home h), inside) in record {
-      shape = record { slots_some = stands.shape.slots_some; size_least = stands.shape.size_least; size_most = stands.shape.size_most; words_few = stands.shape.words_few; used_most = stands.shape.used_most; blocks_long = stands.shape.blocks_long; lengths_long = stands.shape.lengths_long; goals_long = length-set e.goals j.at goal ∙ stands.shape.goals_long; below = stands.shape.below; homed = stands.shape.homed };
+      shape = record { slots_some = stands.shape.slots_some; size_least = stands.shape.size_least; size_most = stands.shape.size_most; words_few = stands.shape.words_few; used_most = stands.shape.used_most; blocks_long = stands.shape.blocks_long; lengths_long = stands.shape.lengths_long; below = stands.shape.below; homed = stands.shape.homed };
       image = stands.image;
       holds_block = stands.holds_block;
       blocks_most = stands.blocks_most;
@@ -361,9 +360,9 @@ linked_stands e v words j w goal home target offset stands free h h_is at exit t
       lengths_are = stands.lengths_are;
       low = stands.low;
       filled = stands.filled;
-      copy_is = linked_copy e.copy e v words j w goal home stands h at inside stands.copy_is;
+      copy_is = linked_copy e.copy e v words j w home stands h at inside stands.copy_is;
       linked = λ i hi. elim hi [
-        | inl s ↦ subst (λ (x : Joint). JointStands (linked_data e j goal) v (slice_set words j.at w) x) s (record {
+        | inl s ↦ subst (λ (x : Joint). JointStands (linked_data e j) v (slice_set words j.at w) x) s (record {
           home = home;
           home_queued = h;
           home_is = h_is;
@@ -375,7 +374,6 @@ linked_stands e v words j w goal home target offset stands free h h_is at exit t
           target_is = t_is;
           place_is = place;
           jumps = subst (λ (x : ℕ). IsJump j.at (target * e.size + offset) x) (sym (get_or-set_same words j.at w 0 (omega (arith, below, stands.fits)))) jumps;
-          goal_is = get_or-set_same e.goals j.at goal 0 (omega (arith, below, stands.shape.goals_long)) ∙ goal_is;
         })
         | inr old ↦ (
             let s = stands.linked i old in
@@ -391,7 +389,6 @@ linked_stands e v words j w goal home target offset stands free h h_is at exit t
               target_is = s.target_is;
               place_is = s.place_is;
               jumps = subst (λ (x : ℕ). IsJump i.at (s.target * e.size + s.offset) x) (sym (get_or-set_other words j.at i.at w 0 ne)) s.jumps;
-              goal_is = get_or-set_other e.goals j.at i.at goal 0 ne ∙ s.goal_is;
             })
       ];
       apart = (λ i hi s. free i hi s, stands.apart);
@@ -399,9 +396,9 @@ linked_stands e v words j w goal home target offset stands free h h_is at exit t
           get_or-set_other words j.at (n * e.size + o) w 0 (λ (x : n * e.size + o ≡ j.at). none j (inl refl) (sym x)) ∙ stands.plain n o hn lt (λ i hi x. none i (inr hi) x);
     }
   where
-    linked_copy : (c : Option Copying) (e : EngineData) (v : ImageData) (words : List ℕ) (j : Joint) (w goal home : ℕ) → Standing e v words → Has e.queue home → j.at ≡ home * e.size + j.offset → j.offset < e.size → CopyIs c e v words → CopyIs c (linked_data e j goal) v (slice_set words j.at w)
-    linked_copy None e v words j w goal home stands h at inside is = tt
-    linked_copy (Some c) e v words j w goal home stands h at inside is = record {
+    linked_copy : (c : Option Copying) (e : EngineData) (v : ImageData) (words : List ℕ) (j : Joint) (w home : ℕ) → Standing e v words → Has e.queue home → j.at ≡ home * e.size + j.offset → j.offset < e.size → CopyIs c e v words → CopyIs c (linked_data e j) v (slice_set words j.at w)
+    linked_copy None e v words j w home stands h at inside is = tt
+    linked_copy (Some c) e v words j w home stands h at inside is = record {
       slot_used = is.slot_used;
       slot_free = is.slot_free;
       known = is.known;
@@ -416,7 +413,7 @@ linked_stands e v words j w goal home target offset stands free h h_is at exit t
 -- the counts say nothing of where blocks and links stand
 pub recounted : (e : EngineData) (v : ImageData) (words : List ℕ) (cs : Counts) (w n : ℕ) → Standing e v words → Standing (record e { counts = cs; words = w; copies = n }) v words
 recounted e v words cs w n stands = record {
-  shape = record { slots_some = stands.shape.slots_some; size_least = stands.shape.size_least; size_most = stands.shape.size_most; words_few = stands.shape.words_few; used_most = stands.shape.used_most; blocks_long = stands.shape.blocks_long; lengths_long = stands.shape.lengths_long; goals_long = stands.shape.goals_long; below = stands.shape.below; homed = stands.shape.homed };
+  shape = record { slots_some = stands.shape.slots_some; size_least = stands.shape.size_least; size_most = stands.shape.size_most; words_few = stands.shape.words_few; used_most = stands.shape.used_most; blocks_long = stands.shape.blocks_long; lengths_long = stands.shape.lengths_long; below = stands.shape.below; homed = stands.shape.homed };
   image = stands.image;
   holds_block = stands.holds_block;
   blocks_most = stands.blocks_most;
@@ -428,7 +425,7 @@ recounted e v words cs w n stands = record {
   low = stands.low;
   filled = stands.filled;
   copy_is = same_copy e.copy e v words cs w n stands.copy_is;
-  linked = λ j h. let s = stands.linked j h in joint_moves e _ v words words j refl refl s s.home_queued s.target_queued refl refl refl;
+  linked = λ j h. let s = stands.linked j h in joint_moves e _ v words words j refl s s.home_queued s.target_queued refl refl refl;
   apart = stands.apart;
   plain = stands.plain;
 }

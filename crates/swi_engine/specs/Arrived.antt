@@ -62,14 +62,14 @@ pub record Arrived (v : ImageData) (b n : ℕ) (e t : EngineData) (before after 
   pub services_are : t.counts.services ≡ e.counts.services + more_service e.queue
   pub words : WordsMove v (kept_by e) (kept_by t) before after
 
--- an exit has been made a link to a word, with a goal
-pub record Linked (e f : EngineData) (j : Joint) (to goal : ℕ) (before after : RamState) : Type 0 where
-  pub data_is : f ≡ linked_data e j goal
+-- an exit has been made a link to a word
+pub record Linked (e f : EngineData) (j : Joint) (to : ℕ) (before after : RamState) : Type 0 where
+  pub data_is : f ≡ linked_data e j
   pub word : ℕ
   pub jumps : IsJump j.at to word
   pub set : OneSet j.at word before after
 
 -- or it hasn't, and nothing has changed
-pub record MaybeLinked (e f : EngineData) (links : Bool) (j : Joint) (to goal : ℕ) (before after : RamState) : Type 0 where
-  pub linked : links ≡ true → Linked e f j to goal before after
+pub record MaybeLinked (e f : EngineData) (links : Bool) (j : Joint) (to : ℕ) (before after : RamState) : Type 0 where
+  pub linked : links ≡ true → Linked e f j to before after
   pub stays : links ≡ false → (f ≡ e) × (after ≡ before)

@@ -12,7 +12,7 @@ use Rattle.swi_rom.specs.Policy.{served_over_link, served_outside, served_one, s
 use Rattle.swi_engine.specs.declared.joints.Joint.{Joint}
 use Rattle.swi_engine.specs.declared.copying.Copying.{Copying}
 use Rattle.swi_engine.specs.Engine.{arrived, newest_first, span_of, beside_arrival}
-use Rattle.swi_engine.specs.State.{EngineData, kept_by, setting_of, shown_by, goals_by, spot, used, is_copied_to}
+use Rattle.swi_engine.specs.State.{EngineData, kept_by, setting_of, shown_by, spot, used, is_copied_to}
 use Rattle.swi_engine.specs.Sound.{EngineSound, Standing, InShape, JointStands, NoJoint, Distinct, HasCopy, CopyIs}
 use Rattle.swi_engine.specs.Service.{engine_service}
 use Rattle.swi_engine.specs.Taken.{beside_extent, extent_within}
@@ -162,12 +162,6 @@ unfolding shown_by
 stands_shown e v words sound i =
     shown_in e v words i (nat_lt (i / e.size) (used e) && (not (is_copied_to e.copy (i / e.size)) && nat_lt (i % e.size) (slice_index e.lengths (i / e.size)))) sound refl
 
-stands_goal : (e : EngineData) (v : ImageData) (words : List ℕ) → Standing e v words → (b f o : ℕ) → Placed (kept_by e) b f → is_linked (kept_by e) b o ≡ true →
-    goals_by e (f + o) ≡ word_at v b (o + 1)
-stands_goal e v words sound b f o h l =
-    let w = placed_link e v words b o f sound h l in
-    ap (λ (i : ℕ). goals_by e i) (sym w.4) ∙ w.5.goal_is ∙ ap (λ (c : ℕ). word_at v c (w.0.offset + 1)) w.2 ∙ ap (λ (c : ℕ). word_at v b (c + 1)) w.3
-
 pub engine_coherent : (e : EngineData) (v : ImageData) (words : List ℕ) → EngineSound e v words → Coherent v (kept_by e) (span_of (setting_of e)) words
 engine_coherent e v words sound = stands_coherent e v words sound.stands
 
@@ -180,17 +174,12 @@ engine_image e v words sound = sound.stands.image
 pub engine_shown : (e : EngineData) (v : ImageData) (words : List ℕ) → EngineSound e v words → (i : ℕ) → StandsAt v (kept_by e) i (shown_by e i)
 engine_shown e v words sound = stands_shown e v words sound.stands
 
-pub engine_goal : (e : EngineData) (v : ImageData) (words : List ℕ) → EngineSound e v words → (b f o : ℕ) → Placed (kept_by e) b f → is_linked (kept_by e) b o ≡ true →
-    goals_by e (f + o) ≡ word_at v b (o + 1)
-engine_goal e v words sound = stands_goal e v words sound.stands
-
 pub engine_laws : IsService engine_service
 engine_laws = record {
   coherent = engine_coherent;
   small = engine_small;
   image = engine_image;
   shown_is = engine_shown;
-  goal_is = engine_goal;
   link_stays = served_over_link arrived newest_first;
   outside_stays = served_outside arrived newest_first;
   one_service = λ by. served_one arrived newest_first by beside_arrival;

@@ -71,10 +71,9 @@ wrote_data e c long =
     else record e { copy = Some (record c { done = c.done + 1 }); words = e.words + 1 }
 
 -- an exit has become a link
-abbrev pub linked_data : EngineData → Joint → ℕ → EngineData
-linked_data e j goal = record e {
+abbrev pub linked_data : EngineData → Joint → EngineData
+linked_data e j = record e {
   joints = j ∷ e.joints;
-  goals = slice_set e.goals j.at goal;
   counts = record e.counts { links = e.counts.links + 1 };
 }
 

@@ -1,7 +1,7 @@
 -- What the service is.
 use Rattle.swi_rom.specs.Service.{ServiceOf}
 use Rattle.swi_engine.specs.Engine.{beside, extent_of, span_of}
-use Rattle.swi_engine.specs.State.{EngineData, kept_by, setting_of, shown_by, goals_by}
+use Rattle.swi_engine.specs.State.{EngineData, kept_by, setting_of, shown_by}
 use Rattle.swi_engine.specs.Sound.{EngineSound, Serves}
 
 abbrev pub engine_service : ServiceOf EngineData
@@ -14,5 +14,4 @@ engine_service = record {
   sound = EngineSound;
   serves = Serves;
   shown = shown_by;
-  goals = goals_by;
 }

@@ -29,7 +29,6 @@ pub record InShape (e : EngineData) : Type 0 where
   pub used_most : used e ≤ e.slots
   pub blocks_long : length e.blocks ≡ e.slots
   pub lengths_long : length e.lengths ≡ e.slots
-  pub goals_long : length e.goals ≡ e.slots * e.size
   pub below : (n : ℕ) → Has e.queue n → n < e.slots
   pub homed : Homed e.slots e.queue e.blocks e.homes
 
@@ -46,7 +45,6 @@ pub record JointStands (e : EngineData) (v : ImageData) (words : List ℕ) (j : 
   pub target_is : slice_index e.blocks target ≡ j.into
   pub place_is : place_of v (word_at v j.block (j.offset + 1)) ≡ Some (j.into, offset)
   pub jumps : IsJump j.at (target * e.size + offset) (slice_index words j.at)
-  pub goal_is : slice_index e.goals j.at ≡ word_at v j.block (j.offset + 1)
 
 -- no link stands at a word
 abbrev pub NoJoint : EngineData → ℕ → Type 0

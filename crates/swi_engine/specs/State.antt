@@ -18,9 +18,8 @@ pub record EngineData : Type 0 where
   pub lengths : List ℕ
   -- for each block its slot; of a block that isn't placed the number of slots
   pub homes : List ℕ
-  -- the links, the newest first, and for each word the address to which it leads, if it is one
+  -- the links, the newest first
   pub joints : List Joint
-  pub goals : List ℕ
   pub copy : Option Copying
   pub counts : Counts
   -- the words that the engine wrote to copy, and the copies that it completed
@@ -41,7 +40,6 @@ empty_data slots size blocks = record {
   lengths = replicate slots 0;
   homes = replicate blocks slots;
   joints = [];
-  goals = replicate (slots * size) 0;
   copy = None;
   counts = record { services = 0; misses = 0; evictions = 0; links = 0; unlinks = 0; copied = 0 };
   words = 0;
@@ -62,9 +60,6 @@ kept_by e = record {
   counts = e.counts;
   more = numbers e.words e.copies e.copy;
 }
-
-abbrev pub goals_by : EngineData → ℕ → ℕ
-goals_by e i = slice_index e.goals i
 
 -- how many slots have a block or a copy, and whether a slot has the copy
 abbrev pub used : EngineData → ℕ

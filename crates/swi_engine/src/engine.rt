@@ -30,7 +30,7 @@ use swi_rom::{CacheRom, Counts, EBREAK, RomStop, jump, reach};
 
 /// A cache of slots of one size, each of which holds a block. While a slot is free the lowest is filled, and then
 /// the oldest block makes room. An engine copies the block behind control's beside it, word by word. After `new` no
-/// call takes memory. `revisit`, `at` and `goal` take constant time but for the search of the place. `enter`, `cross`
+/// call takes memory. `revisit` and `at` take constant time but for the search of the place. `enter`, `cross`
 /// and `work` take time linear in the words that they write and in those of a block that leaves.
 #[derive(Drop)]
 pub struct EngineRom {
@@ -46,7 +46,6 @@ pub struct EngineRom {
     homes: Vec<u32>,
     // The links, and of each word the address to which it leads, if it is one.
     joints: Joints,
-    goals: Vec<u32>,
     copy: Option<Copying>,
     counts: Counts,
     // The words that the engine wrote to copy, and the copies that it completed.
@@ -72,7 +71,6 @@ impl Model for EngineRom {
       lengths = s.lengths.items;
       homes = s.homes.items;
       joints = s.joints.joints;
-      goals = s.goals.items;
       copy = s.copy;
       counts = s.counts;
       words = s.words;
@@ -87,7 +85,6 @@ impl Model for EngineRom {
       lengths = s.lengths.items;
       homes = s.homes.items;
       joints = s.joints.joints;
-      goals = s.goals.items;
       copy = s.copy;
       counts = s.counts;
       words = s.words;
@@ -153,7 +150,6 @@ impl EngineRom {
         let lengths = all_of(alloc, 0, slots)?;
         let homes = all_of(alloc, slots, blocks)?;
         let joints = Joints::new(alloc, words, blocks)?;
-        let goals = all_of(alloc, 0, words)?;
         let hints = Hints::new(alloc)?;
         Ok(EngineRom {
             slots,
@@ -163,7 +159,6 @@ impl EngineRom {
             lengths,
             homes,
             joints,
-            goals,
             copy: None,
             counts: Counts::NONE,
             words: 0,
@@ -394,13 +389,12 @@ impl EngineRom {
         }
     }
 
-    // Makes an exit a link to a word, with its goal.
+    // Makes an exit a link to a word.
     fn link<M: CacheRam>(
         &mut self,
         ram: &mut M,
         joint: Joint,
         to: u32,
-        goal: u32,
     ) -> Result<(), Failed>
         requires at { joint.at < self.old.slots * self.old.size }
         requires to { to < self.old.slots * self.old.size }
@@ -410,7 +404,7 @@ impl EngineRom {
         requires links { self.old.counts.links < 2 ^ 60 }
         requires into { joint.into < length self.old.homes }
         requires free { NoJoint self.old joint.at }
-        ensures linked { OnOk result (self.new ≡ linked_data self.old joint goal) }
+        ensures linked { OnOk result (self.new ≡ linked_data self.old joint) }
         ensures set { OnOk result ((w : ℕ) × IsJump joint.at to w
             × OneSet joint.at w (M.state ram.old) (M.state ram.new)) }
         ensures failed { OnErr result (FailedBelow (self.old.slots * self.old.size)
@@ -419,7 +413,6 @@ impl EngineRom {
     {
         ram.set(joint.at, jump(joint.at, to))?;
         self.joints.link(joint);
-        self.goals[joint.at as usize] = goal;
         self.counts.links += 1;
         Ok(())
     }
@@ -430,7 +423,6 @@ impl EngineRom {
         ram: &mut M,
         joint: Joint,
         to: u32,
-        goal: u32,
     ) -> Result<(), Failed>
         requires block { joint.block < length self.old.homes }
         requires at { joint.at < self.old.slots * self.old.size }
@@ -440,7 +432,7 @@ impl EngineRom {
         requires links { self.old.counts.links < 2 ^ 60 }
         requires into { joint.into < length self.old.homes }
         requires free { NoJoint self.old joint.at }
-        ensures linked { OnOk result (MaybeLinked self.old self.new (can_link self.old joint to) joint to goal
+        ensures linked { OnOk result (MaybeLinked self.old self.new (can_link self.old joint to) joint to
             (M.state ram.old) (M.state ram.new)) }
         ensures failed { OnErr result (FailedBelow (self.old.slots * self.old.size)
             (M.state ram.old) (M.state ram.new)) }
@@ -452,7 +444,7 @@ impl EngineRom {
         if !reach(joint.at, to) {
             return Ok(());
         }
-        self.link(ram, joint, to, goal)
+        self.link(ram, joint, to)
     }
 
     // The copy's next word is written; behind the last one the block is placed.
@@ -613,7 +605,7 @@ impl CacheRom for EngineRom {
             return Err(RomStop::RamFault);
         };
         let index = slot * self.size + offset;
-        let Ok(()) = self.link_exit(ram, joint, index, target) else {
+        let Ok(()) = self.link_exit(ram, joint, index) else {
             return Err(RomStop::RamFault);
         };
         Ok(index)
@@ -636,10 +628,6 @@ impl CacheRom for EngineRom {
             return None;
         }
         Some((self.blocks[slot as usize], offset))
-    }
-
-    fn goal(&self, i: u32) -> u32 {
-        self.goals[i as usize]
     }
 
     fn resident(&self, k: u32) -> Option<(u32, u32)> {

@@ -156,23 +156,19 @@ impl Flat {
             (streams (I.state input.new) (O.state out.new) (E.state err.new)) result }
     {
         let machine = &mut self.machine;
-        let Some(word) = machine.bus.fetch(machine.pc) else {
-            machine.fault(FaultKind::FetchAccess, machine.pc);
+        let pc = machine.pc;
+        let Some(word) = machine.bus.fetch(pc) else {
+            machine.fault(FaultKind::FetchAccess, pc);
             return Ok(());
         };
         let Some(instruction) = decode(word) else {
-            machine.fault(FaultKind::Illegal, machine.pc);
+            machine.fault(FaultKind::Illegal, pc);
             return Ok(());
         };
         let stored = text_store(&instruction, &machine.regs, &machine.bus);
-        match exec(
-            &instruction,
-            machine.pc,
-            &mut machine.regs,
-            &mut machine.bus,
-        ) {
-            Done::Next(pc) => {
-                machine.pc = pc;
+        match exec(&instruction, pc, &mut machine.regs, &mut machine.bus) {
+            Done::Next(next) => {
+                machine.pc = next;
                 machine.steps += 1;
                 if let Some(a) = stored {
                     forget(self.decoded.ops.as_mut_slice(), &self.decoded.range, a);
@@ -189,7 +185,7 @@ impl Flat {
                 result
             }
             Done::Break => {
-                machine.fault(FaultKind::Break, machine.pc);
+                machine.fault(FaultKind::Break, pc);
                 Ok(())
             }
             Done::Fault(kind, address) => {

@@ -151,8 +151,8 @@ with_new t b o c = record (kept_by t) { links = with_link (exit_link b o c) (lin
 same_kept : (u : Ring) (ls : List Link) → links_of u ≡ ls → let r : Record = record { turn = 0; placed = queue_of u.firsts u.queue; links = ls; counts = u.counts; more = behind u.next } in kept_by u ≡ r
 same_kept u ls e = rw e refl
 
-linked_kept : (t : Ring) (v : ImageData) (words : List ℕ) (b o c q g : ℕ) → RingSound t v words → CanLink t v b o c q → kept_by (linked_ring t (first_at t b + o) c g) ≡ with_new t b o c
-linked_kept t v words b o c q g sound can = same_kept (linked_ring t (first_at t b + o) c g) _ (linked_links t v words b o c q g sound can)
+linked_kept : (t : Ring) (v : ImageData) (words : List ℕ) (b o c q : ℕ) → RingSound t v words → CanLink t v b o c q → kept_by (linked_ring t (first_at t b + o) c) ≡ with_new t b o c
+linked_kept t v words b o c q sound can = same_kept (linked_ring t (first_at t b + o) c) _ (linked_links t v words b o c q sound can)
 
 new_in : (t : Ring) (b o c : ℕ) → has_link (with_link (exit_link b o c) (links_of t)) (exit_link b o c) ≡ true
 new_in t b o c = has_with (exit_link b o c) (links_of t) (exit_link b o c) ∙ or_left _ _ (same_same (exit_link b o c))
@@ -169,10 +169,10 @@ other_link v s words b o f k sound h lt free was p e =
     let low : target_at s (first_at s b + o) < length s.firsts = subst (λ (j : ℕ). target_at s j < length s.firsts) (ap (λ (x : ℕ). x + k.offset) (sym first) ∙ e) w.target in
     omega (arith, high, low)
 
-linked_words : (v : ImageData) (s t u : Ring) (b o c q to g : ℕ) (x y z : RamState) → RingSound s v x.words → Has s.queue b → o < length_at v b → first_at t b ≡ first_at s b → CanLink t v b o c q →
-    is_linked (kept_by s) b o ≡ false → is_linked (kept_by t) b o ≡ false → Linked t u (first_at t b + o) c to g y z → WordsMove v (kept_by s) (kept_by t) x y → WordsMove v (kept_by s) (with_new t b o c) x z
+linked_words : (v : ImageData) (s t u : Ring) (b o c q to : ℕ) (x y z : RamState) → RingSound s v x.words → Has s.queue b → o < length_at v b → first_at t b ≡ first_at s b → CanLink t v b o c q →
+    is_linked (kept_by s) b o ≡ false → is_linked (kept_by t) b o ≡ false → Linked t u (first_at t b + o) c to y z → WordsMove v (kept_by s) (kept_by t) x y → WordsMove v (kept_by s) (with_new t b o c) x z
 unfolding Placed
-linked_words v s t u b o c q to g x y z sound h lt first can free gone link w = record {
+linked_words v s t u b o c q to x y z sound h lt first can free gone link w = record {
   changes = λ i. elim (cases_eq i (first_at t b + o)) [
     | inl e ↦ inr (inr (record {
       link = exit_link b o c;
@@ -213,7 +213,7 @@ Crossed v s b o at target u x z index =
     Served v (span_of (setting_of s)) target (kept_by s) (ring (setting_of s) (kept_by s) v (direct b o target)) (kept_by u) x z (Ok index)
 
 crossed_link : (v : ImageData) (s t u : Ring) (c q first at target : ℕ) (x y z : RamState) → RingSound s v x.words → (e : ExitIn v s at target) → place_of v target ≡ Some (c, q) → Arrived v s c first t x y →
-    Linked t u at c (first + q) target y z → Has t.queue e.block → (with_new t e.block e.offset c ≡ ring (setting_of s) (kept_by s) v (direct e.block e.offset target)) →
+    Linked t u at c (first + q) y z → Has t.queue e.block → (with_new t e.block e.offset c ≡ ring (setting_of s) (kept_by s) v (direct e.block e.offset target)) →
     Crossed v s e.block e.offset at target u x z (first + q) × RingSound u v z.words
 crossed_link v s t u c q first at target x y z sound e is arr link stands moves =
     let b : ℕ = e.block in
@@ -223,19 +223,19 @@ crossed_link v s t u c q first at target x y z sound e is arr link stands moves 
     let at_is : at ≡ first_at t e.block + e.offset = e.index ∙ ap (λ (f : ℕ). f + e.offset) (sym same) in
     let gone = still_free v s t c first e.block e.offset x y arr e.free in
     let few : t.counts.links < t.counts.services = omega (arith, arr.links_stay, arr.services_are, more_one s.queue e.block e.placed, sound.links_few) in
-    let link' : Linked t u (first_at t e.block + e.offset) c (first + q) target y z = subst (λ (i : ℕ). Linked t u i c (first + q) target y z) at_is link in
-    let u_is : u ≡ linked_ring t (first_at t e.block + e.offset) c target = link'.ring_is in
-    let kept_u : kept_by u ≡ with_new t e.block e.offset c = ap (λ (r : Ring). kept_by r) u_is ∙ linked_kept t v y.words e.block e.offset c q target arr.sound can in
-    let whole : Linked t (linked_ring t (first_at t e.block + e.offset) c target) (first_at t e.block + e.offset) c (first_at t c + q) target y z =
-    subst (λ (r : Ring). Linked t r (first_at t e.block + e.offset) c (first_at t c + q) target y z) u_is
-    (subst (λ (f : ℕ). Linked t u (first_at t e.block + e.offset) c (f + q) target y z) (sym arr.first_is) link') in
+    let link' : Linked t u (first_at t e.block + e.offset) c (first + q) y z = subst (λ (i : ℕ). Linked t u i c (first + q) y z) at_is link in
+    let u_is : u ≡ linked_ring t (first_at t e.block + e.offset) c = link'.ring_is in
+    let kept_u : kept_by u ≡ with_new t e.block e.offset c = ap (λ (r : Ring). kept_by r) u_is ∙ linked_kept t v y.words e.block e.offset c q arr.sound can in
+    let whole : Linked t (linked_ring t (first_at t e.block + e.offset) c) (first_at t e.block + e.offset) c (first_at t c + q) y z =
+    subst (λ (r : Ring). Linked t r (first_at t e.block + e.offset) c (first_at t c + q) y z) u_is
+    (subst (λ (f : ℕ). Linked t u (first_at t e.block + e.offset) c (f + q) y z) (sym arr.first_is) link') in
     let wrote : Wrote s.words 1 y z = subst (λ (n : ℕ). Wrote n 1 y z) arr.words_stay link'.wrote in
-    let words = linked_words v s t u e.block e.offset c q (first + q) target x y z sound e.placed e.inside same can e.free gone link' arr.words in (
+    let words = linked_words v s t u e.block e.offset c q (first + q) x y z sound e.placed e.inside same can e.free gone link' arr.words in (
       subst (λ (r : Record). Served v (span_of (setting_of s)) target (kept_by s) (ring (setting_of s) (kept_by s) v (direct e.block e.offset target)) r x z (Ok (first + q))) (sym kept_u)
           (served v s.words target (first + q) (writes (kept_by t) - writes (kept_by s) + 1) (c, q) (kept_by s) _ (with_new t e.block e.offset c) x z is moves
           (new_target v t e.block e.offset c target (first + q) (arrived_target v s t c q first target x y arr is))
           (wrote_more s.words s.words _ 1 x y z arr.wrote wrote (omega arith)) (omega (arith, arr.written)) words),
-      subst (λ (r : Ring). RingSound r v z.words) (sym u_is) (linked_sound t v e.block e.offset c q target y z arr.sound can few e.descriptor whole),
+      subst (λ (r : Ring). RingSound r v z.words) (sym u_is) (linked_sound t v e.block e.offset c q y z arr.sound can few whole),
     )
 
 -- a block whose first word is one of the ring's is placed
@@ -247,7 +247,7 @@ stood v s t c first b x y sound arr h lt = elim (has_or t.queue b) [
 
 -- the exit has been linked, or it can't be
 crossed_at : (v : ImageData) (s t u : Ring) (c q first at target : ℕ) (x y z : RamState) → RingSound s v x.words → (e : ExitIn v s at target) → place_of v target ≡ Some (c, q) → Arrived v s c first t x y →
-    MaybeLinked t u (can_link t at e.block (first + q)) at c (first + q) target y z → Crossed v s e.block e.offset at target u x z (first + q) × RingSound u v z.words
+    MaybeLinked t u (can_link t at e.block (first + q)) at c (first + q) y z → Crossed v s e.block e.offset at target u x z (first + q) × RingSound u v z.words
 crossed_at v s t u c q first at target x y z sound e is arr maybe =
     let moves : linked with_link (kept_by t) e.block e.offset (c, q) ≡ ring (setting_of s) (kept_by s) v (direct e.block e.offset target) =
     ap (λ (r : Record). linked with_link r e.block e.offset (c, q)) arr.moves ∙ direct_moves v s e.block e.offset target c q e.free is in
@@ -265,13 +265,13 @@ crossed_at v s t u c q first at target x y z sound e is arr maybe =
     ]
 
 pub crossed_call : (v : ImageData) (s t u : Ring) (c q first at target home index : ℕ) (x y z : RamState) → RingSound s v x.words → ExitAt v (kept_by s) at target → place_of v target ≡ Some (c, q) → Arrived v s c first t x y →
-    home ≡ slice_index s.owners at → index ≡ first + q → MaybeLinked t u (can_link t at home index) at c index target y z →
+    home ≡ slice_index s.owners at → index ≡ first + q → MaybeLinked t u (can_link t at home index) at c index y z →
     ((b o f : ℕ) → Placed (kept_by s) b f → o < length_at v b → at ≡ f + o → Crossed v s b o at target u x z index) × RingSound u v z.words
 crossed_call v s t u c q first at target home index x y z sound ex is arr home_is index_is maybe =
     let e = exit_in v s at target ex in
     let own : home ≡ e.block = home_is ∙ ap (λ (i : ℕ). slice_index s.owners i) e.index ∙ sound.owned e.block e.offset e.placed e.inside in
-    let maybe' : MaybeLinked t u (can_link t at e.block (first + q)) at c (first + q) target y z =
-    subst (λ (i : ℕ). MaybeLinked t u (can_link t at e.block i) at c i target y z) index_is (subst (λ (k : ℕ). MaybeLinked t u (can_link t at k index) at c index target y z) own maybe) in
+    let maybe' : MaybeLinked t u (can_link t at e.block (first + q)) at c (first + q) y z =
+    subst (λ (i : ℕ). MaybeLinked t u (can_link t at e.block i) at c i y z) index_is (subst (λ (k : ℕ). MaybeLinked t u (can_link t at k index) at c index y z) own maybe) in
     let both = crossed_at v s t u c q first at target x y z sound e is arr maybe' in (
       λ b o f h lt at_is. (let same = exit_same v s x.words at target b o f sound e h lt at_is in
           subst (λ (i : ℕ). Crossed v s b o at target u x z i) (sym index_is)

@@ -35,7 +35,6 @@ empty_shape words blocks some few small = record {
   next_most = omega arith;
   lengths_long = length-replicate {A = ℕ} blocks 0 ∙ sym (blocks_long words blocks);
   owners_long = length-replicate {A = ℕ} words 0;
-  goals_long = length-replicate {A = ℕ} words 0;
   chain_words = refl;
   chain_lists = length-replicate {A = List ℕ} blocks [] ∙ sym (blocks_long words blocks);
   owners_known = λ i lt. omega (arith, get_or-replicate {A = ℕ} words i 0 0 lt, blocks_long words blocks, some);
@@ -69,8 +68,8 @@ empty_sound words blocks v ws some few small image all holds fits = record {
 }
 
 -- as the code meets it
-made_is : (words blocks : ℕ) (queue firsts lengths owners goals : List ℕ) (chains : ChainsData) → queue ≡ [] → firsts ≡ replicate blocks words → lengths ≡ replicate blocks 0 → owners ≡ replicate words 0 →
-    (let c : ChainsData = record { words = words; lists = replicate blocks [] } in chains ≡ c) → goals ≡ replicate words 0 → let s : Ring = record {
+made_is : (words blocks : ℕ) (queue firsts lengths owners : List ℕ) (chains : ChainsData) → queue ≡ [] → firsts ≡ replicate blocks words → lengths ≡ replicate blocks 0 → owners ≡ replicate words 0 →
+    (let c : ChainsData = record { words = words; lists = replicate blocks [] } in chains ≡ c) → let s : Ring = record {
       words = words;
       next = 0;
       queue = queue;
@@ -78,17 +77,16 @@ made_is : (words blocks : ℕ) (queue firsts lengths owners goals : List ℕ) (c
       lengths = lengths;
       owners = owners;
       chains = chains;
-      goals = goals;
       counts = record { services = 0; misses = 0; evictions = 0; links = 0; unlinks = 0; copied = 0 };
     } in s ≡ empty_ring words blocks
-made_is words blocks queue firsts lengths owners goals chains q f l o c g = rw (q, f, l, o, c, g) refl
+made_is words blocks queue firsts lengths owners chains q f l o c = rw (q, f, l, o, c) refl
 
 kept_empty : (words blocks : ℕ) → kept_by (empty_ring words blocks) ≡ empty_record
 unfolding queue_of
 kept_empty words blocks = rw (no_links words blocks) refl
 
-pub new_kept : (words blocks : ℕ) (queue : QueueData) (firsts lengths owners goals : List ℕ) (chains : ChainsData) → (let e : QueueData = record { blocks = []; room = blocks } in queue ≡ e) → firsts ≡ replicate blocks words → lengths ≡ replicate blocks 0 → owners ≡ replicate words 0 →
-    (let c : ChainsData = record { words = words; lists = replicate blocks [] } in chains ≡ c) → goals ≡ replicate words 0 → kept_by (record {
+pub new_kept : (words blocks : ℕ) (queue : QueueData) (firsts lengths owners : List ℕ) (chains : ChainsData) → (let e : QueueData = record { blocks = []; room = blocks } in queue ≡ e) → firsts ≡ replicate blocks words → lengths ≡ replicate blocks 0 → owners ≡ replicate words 0 →
+    (let c : ChainsData = record { words = words; lists = replicate blocks [] } in chains ≡ c) → kept_by (record {
       words = words;
       next = 0;
       queue = queue.blocks;
@@ -96,14 +94,13 @@ pub new_kept : (words blocks : ℕ) (queue : QueueData) (firsts lengths owners g
       lengths = lengths;
       owners = owners;
       chains = chains;
-      goals = goals;
       counts = record { services = 0; misses = 0; evictions = 0; links = 0; unlinks = 0; copied = 0 };
     }) ≡ empty_record
-new_kept words blocks queue firsts lengths owners goals chains q f l o c g =
-    ap (λ (s : Ring). kept_by s) (made_is words blocks queue.blocks firsts lengths owners goals chains (ap (λ (x : QueueData). x.blocks) q) f l o c g) ∙ kept_empty words blocks
+new_kept words blocks queue firsts lengths owners chains q f l o c =
+    ap (λ (s : Ring). kept_by s) (made_is words blocks queue.blocks firsts lengths owners chains (ap (λ (x : QueueData). x.blocks) q) f l o c) ∙ kept_empty words blocks
 
-pub new_sound : (words blocks block_words : ℕ) (queue : QueueData) (firsts lengths owners goals : List ℕ) (chains : ChainsData) (v : ImageData) (ws : List ℕ) → (let e : QueueData = record { blocks = []; room = blocks } in queue ≡ e) → firsts ≡ replicate blocks words → lengths ≡ replicate blocks 0 → owners ≡ replicate words 0 →
-    (let c : ChainsData = record { words = words; lists = replicate blocks [] } in chains ≡ c) → goals ≡ replicate words 0 → 1 ≤ blocks → blocks ≤ 2 ^ 19 → words ≤ 2 ^ 21 → block_words ≤ words → IsImage v → length v.blocks ≤ blocks → v.block_words ≤ block_words → words ≤ length ws →
+pub new_sound : (words blocks block_words : ℕ) (queue : QueueData) (firsts lengths owners : List ℕ) (chains : ChainsData) (v : ImageData) (ws : List ℕ) → (let e : QueueData = record { blocks = []; room = blocks } in queue ≡ e) → firsts ≡ replicate blocks words → lengths ≡ replicate blocks 0 → owners ≡ replicate words 0 →
+    (let c : ChainsData = record { words = words; lists = replicate blocks [] } in chains ≡ c) → 1 ≤ blocks → blocks ≤ 2 ^ 19 → words ≤ 2 ^ 21 → block_words ≤ words → IsImage v → length v.blocks ≤ blocks → v.block_words ≤ block_words → words ≤ length ws →
     RingSound (record {
       words = words;
       next = 0;
@@ -112,9 +109,8 @@ pub new_sound : (words blocks block_words : ℕ) (queue : QueueData) (firsts len
       lengths = lengths;
       owners = owners;
       chains = chains;
-      goals = goals;
       counts = record { services = 0; misses = 0; evictions = 0; links = 0; unlinks = 0; copied = 0 };
     }) v ws
-new_sound words blocks block_words queue firsts lengths owners goals chains v ws q f l o c g some few small holds image all size fits =
-    subst (λ (x : Ring). RingSound x v ws) (sym (made_is words blocks queue.blocks firsts lengths owners goals chains (ap (λ (x : QueueData). x.blocks) q) f l o c g))
+new_sound words blocks block_words queue firsts lengths owners chains v ws q f l o c some few small holds image all size fits =
+    subst (λ (x : Ring). RingSound x v ws) (sym (made_is words blocks queue.blocks firsts lengths owners chains (ap (λ (x : QueueData). x.blocks) q) f l o c))
     (empty_sound words blocks v ws some few small image all (omega (arith, holds, size)) fits)

@@ -25,8 +25,8 @@ pub first_of_is : (s : Ring) (b : ℕ) → Has s.queue b → first_of (kept_by s
 unfolding first_of Placed
 first_of_is s b h = first_in_has (queue_of s.firsts s.queue) 0 b (first_at s b) (has_placed s b h) (λ g i. sym (placed_has s b g i).1)
 
-abbrev pub linked_ring : Ring → ℕ → ℕ → ℕ → Ring
-linked_ring t at c goal = record t { chains = record t.chains { lists = linked_lists t.chains.lists at c }; goals = slice_set t.goals at goal; counts = record t.counts { links = t.counts.links + 1 } }
+abbrev pub linked_ring : Ring → ℕ → ℕ → Ring
+linked_ring t at c = record t { chains = record t.chains { lists = linked_lists t.chains.lists at c }; counts = record t.counts { links = t.counts.links + 1 } }
 
 -- word o of a placed block is no link yet, and its exit leads to a placed block
 pub record CanLink (t : Ring) (v : ImageData) (b o c q : ℕ) : Type 0 where
@@ -55,8 +55,8 @@ leading t v words b o c q sound can =
       others = λ i ne. linked_other t.chains.lists (first_at t b + o) c i small ne;
     }
 
-linked_tidy : (t : Ring) (v : ImageData) (words : List ℕ) (b o c q g : ℕ) → RingSound t v words → CanLink t v b o c q → Tidy (linked_ring t (first_at t b + o) c g)
-linked_tidy t v words b o c q g sound can = λ i lt h.
+linked_tidy : (t : Ring) (v : ImageData) (words : List ℕ) (b o c q : ℕ) → RingSound t v words → CanLink t v b o c q → Tidy (linked_ring t (first_at t b + o) c)
+linked_tidy t v words b o c q sound can = λ i lt h.
     let w = leading t v words b o c q sound can in
     elim (cases_eq i (first_at t b + o)) [
       | inl e ↦ (
@@ -70,13 +70,13 @@ linked_tidy t v words b o c q g sound can = λ i lt h.
     ]
 
 -- the links are those before and the new one
-pub linked_links : (t : Ring) (v : ImageData) (words : List ℕ) (b o c q g : ℕ) → RingSound t v words → CanLink t v b o c q →
-    links_of (linked_ring t (first_at t b + o) c g) ≡ with_link (record { program = 0; block = b; offset = o; into = c }) (links_of t)
+pub linked_links : (t : Ring) (v : ImageData) (words : List ℕ) (b o c q : ℕ) → RingSound t v words → CanLink t v b o c q →
+    links_of (linked_ring t (first_at t b + o) c) ≡ with_link (record { program = 0; block = b; offset = o; into = c }) (links_of t)
 unfolding links_of link_at
-linked_links t v words b o c q g sound can =
-    let u : Ring = linked_ring t (first_at t b + o) c g in
+linked_links t v words b o c q sound can =
+    let u : Ring = linked_ring t (first_at t b + o) c in
     let w = leading t v words b o c q sound can in
-    collected_more (link_at t) (link_at u) t.words (first_at t b + o) (record { program = 0; block = b; offset = o; into = c }) (differ_at u (linked_tidy t v words b o c q g sound can)) w.below
+    collected_more (link_at t) (link_at u) t.words (first_at t b + o) (record { program = 0; block = b; offset = o; into = c }) (differ_at u (linked_tidy t v words b o c q sound can)) w.below
     (none_link_at t (first_at t b + o) can.free)
     (some_link_at u (first_at t b + o) (omega (arith, w.here, w.known)) ∙ ap (λ (k : Link). Some k) (ap (λ (m : ℕ). exit_to (first_at t b + o) m) w.here ∙ ap (λ (k : Link). record k { into = c }) (exit_is t v words b o sound can.placed can.inside)))
     (λ i ne. ap (λ (m : ℕ). if nat_lt m (length t.firsts) then Some (exit_to i m) else None) (w.others i ne))
@@ -84,15 +84,14 @@ linked_links t v words b o c q g sound can =
     exit_to : ℕ → ℕ → Link
     exit_to i m = record { program = 0; block = slice_index t.owners i; offset = i - first_at t (slice_index t.owners i); into = m }
 
-pub linked_sound : (t : Ring) (v : ImageData) (b o c q g : ℕ) (before after : RamState) → RingSound t v before.words → CanLink t v b o c q → t.counts.links < t.counts.services → g ≡ word_at v b (o + 1) →
-    Linked t (linked_ring t (first_at t b + o) c g) (first_at t b + o) c (first_at t c + q) g before after → RingSound (linked_ring t (first_at t b + o) c g) v after.words
-linked_sound t v b o c q g before after sound can few goal linked =
+pub linked_sound : (t : Ring) (v : ImageData) (b o c q : ℕ) (before after : RamState) → RingSound t v before.words → CanLink t v b o c q → t.counts.links < t.counts.services →
+    Linked t (linked_ring t (first_at t b + o) c) (first_at t b + o) c (first_at t c + q) before after → RingSound (linked_ring t (first_at t b + o) c) v after.words
+linked_sound t v b o c q before after sound can few linked =
     let at : ℕ = first_at t b + o in
     let w = leading t v before.words b o c q sound can in
-    let links = linked_links t v before.words b o c q g sound can in
-    let goal_here : slice_index (slice_set t.goals (first_at t b + o) g) (first_at t b + o) ≡ g = get_or-set_same t.goals (first_at t b + o) g 0 (omega (arith, w.below, sound.shape.goals_long)) in
+    let links = linked_links t v before.words b o c q sound can in
     record {
-      shape = linked_shape t (first_at t b + o) c g _ _ sound.shape refl;
+      shape = linked_shape t (first_at t b + o) c _ _ sound.shape refl;
       image = sound.image;
       blocks_most = sound.blocks_most;
       known = sound.known;
@@ -100,7 +99,7 @@ linked_sound t v b o c q g before after sound can few goal linked =
       fits = omega (arith, sound.fits, linked.wrote.spared.length_stays);
       lengths_are = sound.lengths_are;
       owned = sound.owned;
-      stands = linked_tidy t v before.words b o c q g sound can;
+      stands = linked_tidy t v before.words b o c q sound can;
       linked = λ x p h lt small. elim (cases_eq (first_at t x + p) (first_at t b + o)) [
         | inl e ↦ (
             let same = same_word t v before.words x p b o sound h can.placed lt can.inside e in
@@ -113,7 +112,6 @@ linked_sound t v b o c q g before after sound can few goal linked =
               place_is = ap (λ (y : ℕ). place_of v y) goes ∙ can.place_is ∙ ap (λ (y : ℕ). Some (y, q)) (sym to);
               jumps = subst (λ (i : ℕ). IsJump i (first_at t (holder_of (linked_lists t.chains.lists (first_at t b + o) c) i) + q) (slice_index after.words i)) (sym e)
                   (subst (λ (y : ℕ). IsJump (first_at t b + o) (first_at t y + q) (slice_index after.words (first_at t b + o))) (sym w.here) linked.jumps);
-              goal_is = ap (λ (i : ℕ). slice_index (slice_set t.goals (first_at t b + o) g) i) e ∙ goal_here ∙ goal ∙ sym goes;
             })
         | inr ne ↦ (
             let to = w.others (first_at t x + p) ne in
@@ -125,7 +123,6 @@ linked_sound t v b o c q g before after sound can few goal linked =
               place_is = k.place_is ∙ ap (λ (y : ℕ). Some (y, k.offset)) (sym to);
               jumps = subst (λ (y : ℕ). IsJump (first_at t x + p) (first_at t y + k.offset) (slice_index after.words (first_at t x + p))) (sym to)
                   (subst (λ (z : ℕ). IsJump (first_at t x + p) (first_at t (target_at t (first_at t x + p)) + k.offset) z) (sym (linked.others (first_at t x + p) ne)) k.jumps);
-              goal_is = get_or-set_other t.goals (first_at t b + o) (first_at t x + p) g 0 ne ∙ k.goal_is;
             })
       ];
       plain = λ x p h lt large. elim (cases_eq (first_at t x + p) (first_at t b + o)) [

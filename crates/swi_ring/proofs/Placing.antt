@@ -114,7 +114,6 @@ settled_linked v u c p n x o b d t h lt small here =
       jumps = subst (λ (g : ℕ). IsJump (g + o) (slice_index (slice_set u.firsts c p) (target_at u (g + o)) + link.offset) (slice_index d.words (g + o))) (sym here)
           (subst (λ (g : ℕ). IsJump (first_at u x + o) (g + link.offset) (slice_index d.words (first_at u x + o))) (sym far)
           (subst (λ (w : ℕ). IsJump (first_at u x + o) (first_at u (target_at u (first_at u x + o)) + link.offset) w) (sym word) link.jumps));
-      goal_is = ap (λ (g : ℕ). slice_index u.goals (g + o)) here ∙ link.goal_is;
     }
 
 pub settled_sound : (v : ImageData) (u : Ring) (c p n : ℕ) (b d : RamState) → Taken v u c p n b d → RingSound (settled u c p n) v d.words
@@ -270,7 +269,6 @@ counted_sound s v words sound = record {
     next_most = sound.shape.next_most;
     lengths_long = sound.shape.lengths_long;
     owners_long = sound.shape.owners_long;
-    goals_long = sound.shape.goals_long;
     chain_words = sound.shape.chain_words;
     chain_lists = sound.shape.chain_lists;
     owners_known = sound.shape.owners_known;
@@ -288,7 +286,7 @@ counted_sound s v words sound = record {
   lengths_are = sound.lengths_are;
   owned = sound.owned;
   stands = λ i lt t. (let k = sound.stands i lt t in record { placed = k.placed; from = k.from; to = k.to });
-  linked = λ b o h lt t. (let k = sound.linked b o h lt t in record { is_exit = k.is_exit; target = k.target; offset = k.offset; place_is = k.place_is; jumps = k.jumps; goal_is = k.goal_is });
+  linked = λ b o h lt t. (let k = sound.linked b o h lt t in record { is_exit = k.is_exit; target = k.target; offset = k.offset; place_is = k.place_is; jumps = k.jumps; });
   plain = sound.plain;
   next_copied = sound.next_copied;
   ends = sound.ends;

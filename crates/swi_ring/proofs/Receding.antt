@@ -75,7 +75,6 @@ left_shape s e queue chains counts shape oldest words lists =
       next_most = shape.next_most;
       lengths_long = shape.lengths_long ∙ sym long;
       owners_long = shape.owners_long;
-      goals_long = shape.goals_long;
       chain_words = words ∙ shape.chain_words;
       chain_lists = lists ∙ shape.chain_lists ∙ sym long;
       owners_known = λ i lt. omega (arith, long, shape.owners_known i lt);
@@ -293,7 +292,6 @@ left_linked s v e k c o queue chains a b sound l h lt t =
           (subst (λ (x : ℕ). IsJump (first_at s c + o) (slice_index (slice_set s.firsts e s.words) x + link.offset) (slice_index b.words (first_at s c + o))) (sym target)
           (subst (λ (g : ℕ). IsJump (first_at s c + o) (g + link.offset) (slice_index b.words (first_at s c + o))) (sym far)
           (subst (λ (w : ℕ). IsJump (first_at s c + o) (first_at s (target_at s (first_at s c + o)) + link.offset) w) (sym u.word_stays) link.jumps)));
-      goal_is = ap (λ (g : ℕ). slice_index s.goals (g + o)) here ∙ link.goal_is;
     }
 
 left_plain : (s : Ring) (v : ImageData) (e k c o : ℕ) (queue : List ℕ) (chains : ChainsData) (a b : RamState) → RingSound s v a.words → Leaves s e queue chains k a b → Has queue c → o < length_at v c →

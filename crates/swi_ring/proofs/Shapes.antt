@@ -83,7 +83,6 @@ settled_shape s b first n counts shape lt lacks some fits =
       next_most = fits;
       lengths_long = long' ∙ shape.lengths_long ∙ sym long;
       owners_long = marked_long s.owners first n b ∙ shape.owners_long;
-      goals_long = shape.goals_long;
       chain_words = shape.chain_words;
       chain_lists = shape.chain_lists ∙ sym long;
       owners_known = λ i small. marked_small s.owners first n b (length (slice_set s.firsts b first)) (omega (arith, fits, shape.owners_long)) (omega (arith, lt, long))
@@ -121,14 +120,13 @@ pub settled_as : (s : Ring) (b first n : ℕ) (queue owners : List ℕ) (counts 
 settled_as s b first n queue owners counts shape lt lacks some fits e f = rw (e, f) (settled_shape s b first n counts shape lt lacks some fits)
 
 -- a word has become a link
-pub linked_shape : (s : Ring) (at b goal : ℕ) (chains : ChainsData) (counts : Counts) → InShape s → chains ≡ record s.chains { lists = linked_lists s.chains.lists at b } → InShape (record s { chains = chains; goals = slice_set s.goals at goal; counts = counts })
-linked_shape s at b goal chains counts shape e = record {
+pub linked_shape : (s : Ring) (at b : ℕ) (chains : ChainsData) (counts : Counts) → InShape s → chains ≡ record s.chains { lists = linked_lists s.chains.lists at b } → InShape (record s { chains = chains; counts = counts })
+linked_shape s at b chains counts shape e = record {
   words_few = shape.words_few;
   blocks_few = shape.blocks_few;
   next_most = shape.next_most;
   lengths_long = shape.lengths_long;
   owners_long = shape.owners_long;
-  goals_long = length-set s.goals at goal ∙ shape.goals_long;
   chain_words = ap (λ (c : ChainsData). c.words) e ∙ shape.chain_words;
   chain_lists = ap (λ (c : ChainsData). length c.lists) e ∙ length-set s.chains.lists b _ ∙ shape.chain_lists;
   owners_known = shape.owners_known;

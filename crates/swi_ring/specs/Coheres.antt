@@ -11,7 +11,7 @@ use Rattle.swi_rom.specs.Record.{Has as HasPlacement}
 use Rattle.swi_rom.specs.Coherent.{Coherent, TargetAt, StandsAt, resident_of, pair_of}
 use Rattle.swi_rom.specs.Collected.{Differ, collected_has, has_collected, collected_ascending}
 use Rattle.swi_rom.specs.Links.{Ascending, among_has, has_among}
-use Rattle.swi_ring.specs.Ring.{Ring, InShape, first_at, target_at, spot, queue_of, exit_of, link_at, links_of, kept_by, setting_of, goals_by, stands_at, shown_by}
+use Rattle.swi_ring.specs.Ring.{Ring, InShape, first_at, target_at, spot, queue_of, exit_of, link_at, links_of, kept_by, setting_of, stands_at, shown_by}
 use Rattle.swi_ring.specs.Fifo.{span_of}
 use Rattle.swi_ring.specs.Sound.{RingSound, LinkStands, IsOwned}
 
@@ -231,11 +231,6 @@ ring_small s v words sound = sound.shape.words_few
 
 pub ring_image : (s : Ring) (v : ImageData) (words : List ℕ) → RingSound s v words → IsImage v
 ring_image s v words sound = sound.image
-
-pub ring_goal : (s : Ring) (v : ImageData) (words : List ℕ) → RingSound s v words → (b f o : ℕ) → Placed (kept_by s) b f → is_linked (kept_by s) b o ≡ true → goals_by s (f + o) ≡ word_at v b (o + 1)
-ring_goal s v words sound b f o h l =
-    let p = placed_has s b f h in
-    ap (λ (g : ℕ). goals_by s (g + o)) (sym p.1) ∙ (link_found s v words b o sound l).2.goal_is
 
 -- a block is placed, or it isn't
 pub has_or : (xs : List ℕ) (x : ℕ) → Has xs x ⊎ (Has xs x → ⊥)

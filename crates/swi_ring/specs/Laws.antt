@@ -4,7 +4,7 @@ use Rattle.swi_rom.specs.Record.{Record}
 use Rattle.swi_rom.specs.Service.{Setting, IsService}
 use Rattle.swi_rom.specs.Policy.{with_link, served_over_link, served_outside, served_one, served_boot, served_writes}
 use Rattle.swi_ring.specs.Fifo.{arrived, span_of, extent_of, ring_arrival, ring_extent}
-use Rattle.swi_ring.specs.Coheres.{ring_coherent, ring_small, ring_image, ring_shown, ring_goal}
+use Rattle.swi_ring.specs.Coheres.{ring_coherent, ring_small, ring_image, ring_shown}
 use Rattle.swi_ring.specs.Service.{ring_service}
 
 extent_within : (by : Setting) (r : Record) → extent_of by r ≤ span_of by
@@ -19,7 +19,6 @@ ring_laws = record {
   small = ring_small;
   image = ring_image;
   shown_is = ring_shown;
-  goal_is = ring_goal;
   link_stays = served_over_link arrived with_link;
   outside_stays = served_outside arrived with_link;
   one_service = λ by. served_one arrived with_link by ring_arrival;

@@ -21,8 +21,6 @@ pub record Ring : Type 0 where
   pub owners : List ℕ
   -- for each block the words that are linked to it
   pub chains : ChainsData
-  -- for each word the address to which it leads, if it is a link
-  pub goals : List ℕ
   pub counts : Counts
 
 abbrev pub first_at : Ring → ℕ → ℕ
@@ -39,7 +37,6 @@ pub record InShape (s : Ring) : Type 0 where
   pub next_most : s.next ≤ s.words
   pub lengths_long : length s.lengths ≡ length s.firsts
   pub owners_long : length s.owners ≡ s.words
-  pub goals_long : length s.goals ≡ s.words
   pub chain_words : s.chains.words ≡ s.words
   pub chain_lists : length s.chains.lists ≡ length s.firsts
   pub owners_known : (i : ℕ) → i < s.words → slice_index s.owners i < length s.firsts
@@ -78,10 +75,6 @@ behind (suc n) = suc n ∷ []
 
 abbrev pub kept_by : Ring → Record
 kept_by s = record { turn = 0; placed = queue_of s.firsts s.queue; links = links_of s; counts = s.counts; more = behind s.next }
-
--- the address kept of a word, if it is a link
-abbrev pub goals_by : Ring → ℕ → ℕ
-goals_by s i = slice_index s.goals i
 
 -- the block that was copied to a word last still has it
 abbrev pub stands_at : Ring → ℕ → ℕ → Bool

@@ -1,7 +1,7 @@
 -- What a ring is as a service.
 use Rattle.swi_rom.specs.Service.{ServiceOf}
 use Rattle.swi_ring.specs.Fifo.{ring, extent_of, span_of}
-use Rattle.swi_ring.specs.Ring.{Ring, kept_by, setting_of, shown_by, goals_by}
+use Rattle.swi_ring.specs.Ring.{Ring, kept_by, setting_of, shown_by}
 use Rattle.swi_ring.specs.Sound.{RingSound, Serves}
 
 abbrev pub ring_service : ServiceOf Ring
@@ -14,5 +14,4 @@ ring_service = record {
   sound = RingSound;
   serves = Serves;
   shown = shown_by;
-  goals = goals_by;
 }

@@ -7,16 +7,15 @@ use Rattle.swi_rom.specs.Record.{IsJump}
 use Rattle.swi_rom.specs.Coherent.{IsExit}
 use Rattle.swi_rom.specs.Policy.{more_service}
 use Rattle.swi_links.specs.Chains.{Has}
-use Rattle.swi_ring.specs.Ring.{Ring, InShape, first_at, target_at, links_of, goals_by}
+use Rattle.swi_ring.specs.Ring.{Ring, InShape, first_at, target_at, links_of}
 
--- word o of a placed block is a link, the jump that stands there leads to its target's place, and its goal is kept
+-- word o of a placed block is a link, and the jump that stands there leads to its target's place
 pub record LinkStands (s : Ring) (v : ImageData) (words : List ℕ) (b o : ℕ) : Type 0 where
   pub is_exit : IsExit v b o
   pub target : Has s.queue (target_at s (first_at s b + o))
   pub offset : ℕ
   pub place_is : place_of v (word_at v b (o + 1)) ≡ Some (target_at s (first_at s b + o), offset)
   pub jumps : IsJump (first_at s b + o) (first_at s (target_at s (first_at s b + o)) + offset) (slice_index words (first_at s b + o))
-  pub goal_is : goals_by s (first_at s b + o) ≡ word_at v b (o + 1)
 
 -- the word is one of a placed block
 pub record IsOwned (s : Ring) (i : ℕ) : Type 0 where

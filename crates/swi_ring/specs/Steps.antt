@@ -25,7 +25,6 @@ empty_ring words blocks = record {
   lengths = replicate blocks 0;
   owners = replicate words 0;
   chains = record { words = words; lists = replicate blocks [] };
-  goals = replicate words 0;
   counts = record { services = 0; misses = 0; evictions = 0; links = 0; unlinks = 0; copied = 0 };
 }
 
@@ -132,11 +131,10 @@ pub record Arrived (v : ImageData) (s : Ring) (b first : ℕ) (t : Ring) (before
   pub services_are : t.counts.services ≡ s.counts.services + more_service (length s.queue)
   pub words : WordsMove v (kept_by s) (kept_by t) before after
 
--- the word at an index has been made a link to an index in a block, with a goal
-pub record Linked (s t : Ring) (at b to goal : ℕ) (before after : RamState) : Type 0 where
+-- the word at an index has been made a link to an index in a block
+pub record Linked (s t : Ring) (at b to : ℕ) (before after : RamState) : Type 0 where
   pub ring_is : t ≡ record s {
     chains = record s.chains { lists = slice_set s.chains.lists b (at ∷ list_of s.chains b) };
-    goals = slice_set s.goals at goal;
     counts = record s.counts { links = s.counts.links + 1 };
   }
   pub jumps : IsJump at to (slice_index after.words at)
@@ -144,8 +142,8 @@ pub record Linked (s t : Ring) (at b to goal : ℕ) (before after : RamState) : 
   pub wrote : Wrote s.words 1 before after
 
 -- the word at an index has been made a link, or it hasn't and nothing has changed
-pub record MaybeLinked (s t : Ring) (links : Bool) (at b to goal : ℕ) (before after : RamState) : Type 0 where
-  pub yes : links ≡ true → Linked s t at b to goal before after
+pub record MaybeLinked (s t : Ring) (links : Bool) (at b to : ℕ) (before after : RamState) : Type 0 where
+  pub yes : links ≡ true → Linked s t at b to before after
   pub no : links ≡ false → (t ≡ s) × (after ≡ before)
 
 -- the exit's block still stands, and a JAL reaches

@@ -23,7 +23,7 @@ use swi_rom::{CacheRom, Counts, RomStop, copy, jump, reach};
 
 /// A cache in which each block takes as many words as it has: it stands behind the block that was placed last, or from
 /// the first word on where it doesn't fit there. While the words where it is to stand are not free, the oldest block
-/// leaves. After `new` no call takes memory. `visit`, `at` and `goal` take constant time, and `revisit` but for the search
+/// leaves. After `new` no call takes memory. `visit` and `at` take constant time, and `revisit` but for the search
 /// of the place; `enter` and `cross` take time linear in the words that they write and in those of the blocks that leave.
 #[derive(Drop)]
 pub struct RingRom {
@@ -37,7 +37,6 @@ pub struct RingRom {
     owners: Vec<u32>,
     // For each block the links to it.
     chains: Chains,
-    goals: Vec<u32>,
     counts: Counts,
     // Where targets were found.
     hints: Hints,
@@ -57,7 +56,6 @@ impl Model for RingRom {
       lengths = s.lengths.items;
       owners = s.owners.items;
       chains = s.chains;
-      goals = s.goals.items;
       counts = s.counts;
     } };
 
@@ -69,7 +67,6 @@ impl Model for RingRom {
       lengths = s.lengths.items;
       owners = s.owners.items;
       chains = s.chains;
-      goals = s.goals.items;
       counts = s.counts;
     }) × (s.queue.room ≡ length s.firsts.items) };
 }
@@ -120,7 +117,6 @@ impl RingRom {
         let lengths = all_of(alloc, 0, blocks)?;
         let owners = all_of(alloc, 0, words)?;
         let chains = Chains::new(alloc, blocks, words)?;
-        let goals = all_of(alloc, 0, words)?;
         let hints = Hints::new(alloc)?;
         Ok(RingRom {
             words,
@@ -130,7 +126,6 @@ impl RingRom {
             lengths,
             owners,
             chains,
-            goals,
             counts: Counts::NONE,
             hints,
         })
@@ -308,14 +303,13 @@ impl RingRom {
         }
     }
 
-    // Makes the exit at an index a jump to an index in a block, and keeps its goal.
+    // Makes the exit at an index a jump to an index in a block.
     fn link<M: CacheRam>(
         &mut self,
         ram: &mut M,
         at: u32,
         block: u32,
         to: u32,
-        goal: u32,
     ) -> Result<(), Failed>
         requires at { at < self.old.words }
         requires to { to < self.old.words }
@@ -325,14 +319,13 @@ impl RingRom {
         requires links { self.old.counts.links < 2 ^ 60 }
         requires block { block < length self.old.firsts }
         requires free { length self.old.firsts ≤ target_at self.old at }
-        ensures linked { OnOk result (Linked self.old self.new at block to goal
+        ensures linked { OnOk result (Linked self.old self.new at block to
             (M.state ram.old) (M.state ram.new)) }
         ensures failed { OnErr result (FailedBelow self.old.words (M.state ram.old) (M.state ram.new)) }
         ensures words { self.new.words ≡ self.old.words }
     {
         ram.set(at, jump(at, to))?;
         self.chains.link(at, block);
-        self.goals[at as usize] = goal;
         self.counts.links += 1;
         Ok(())
     }
@@ -345,7 +338,6 @@ impl RingRom {
         home: u32,
         block: u32,
         to: u32,
-        goal: u32,
     ) -> Result<(), Failed>
         requires at { at < self.old.words }
         requires to { to < self.old.words }
@@ -355,7 +347,7 @@ impl RingRom {
         requires home { home < length self.old.firsts }
         requires block { block < length self.old.firsts }
         requires free { slice_index self.old.firsts home < self.old.words → length self.old.firsts ≤ target_at self.old at }
-        ensures linked { OnOk result (MaybeLinked self.old self.new (can_link self.old at home to) at block to goal
+        ensures linked { OnOk result (MaybeLinked self.old self.new (can_link self.old at home to) at block to
             (M.state ram.old) (M.state ram.new)) }
         ensures failed { OnErr result (FailedBelow self.old.words (M.state ram.old) (M.state ram.new)) }
         ensures words { self.new.words ≡ self.old.words }
@@ -366,7 +358,7 @@ impl RingRom {
         if !reach(at, to) {
             return Ok(());
         }
-        self.link(ram, at, block, to, goal)
+        self.link(ram, at, block, to)
     }
 }
 
@@ -433,7 +425,7 @@ impl CacheRom for RingRom {
             return Err(RomStop::RamFault);
         };
         let index = first + offset;
-        let Ok(()) = self.link_exit(ram, at, home, block, index, target) else {
+        let Ok(()) = self.link_exit(ram, at, home, block, index) else {
             return Err(RomStop::RamFault);
         };
         Ok(index)
@@ -452,10 +444,6 @@ impl CacheRom for RingRom {
         }
         let block = self.owners[i as usize];
         Some((block, i - self.firsts[block as usize]))
-    }
-
-    fn goal(&self, i: u32) -> u32 {
-        self.goals[i as usize]
     }
 
     fn resident(&self, k: u32) -> Option<(u32, u32)> {

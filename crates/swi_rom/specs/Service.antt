@@ -30,8 +30,6 @@ pub record ServiceOf (S : Type 0) : Type 1 where
   pub serves : S → ImageData → (ℕ → ImageData) → List ℕ → Type 0
   -- what stands at an index: block and offset
   pub shown : S → ℕ → Option (ℕ × ℕ)
-  -- the address kept of the word at an index, if it is a link
-  pub goals : S → ℕ → ℕ
 
 pub record IsService {S : Type 0} (k : ServiceOf S) : Type 0 where
   -- it keeps the words coherent
@@ -40,9 +38,6 @@ pub record IsService {S : Type 0} (k : ServiceOf S) : Type 0 where
   pub small : (s : S) (v : ImageData) (words : List ℕ) → k.sound s v words → k.span (k.setting s) ≤ 2 ^ 21
   pub image : (s : S) (v : ImageData) (words : List ℕ) → k.sound s v words → IsImage v
   pub shown_is : (s : S) (v : ImageData) (words : List ℕ) → k.sound s v words → (i : ℕ) → StandsAt v (k.kept s) i (k.shown s i)
-  -- of each link the goal is its target
-  pub goal_is : (s : S) (v : ImageData) (words : List ℕ) → k.sound s v words → (b f o : ℕ) → Placed (k.kept s) b f →
-      is_linked (k.kept s) b o ≡ true → k.goals s (f + o) ≡ word_at v b (o + 1)
   -- over a link nothing changes
   pub link_stays : (by : Setting) (r : Record) (v : ImageData) (b o t : ℕ) → is_linked r b o ≡ true → k.policy by r v (direct b o t) ≡ r
   -- a transfer to an address where no text word stands changes nothing

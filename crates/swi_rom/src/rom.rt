@@ -141,12 +141,6 @@ pub trait CacheRom: Drop {
     fn at(&self, i: u32) -> Option<(u32, u32)>
         ensures { result ≡ service.shown self.now i };
 
-    /// The original address to which the link at an index leads, which is below the span. Of a word that is no link the
-    /// answer says nothing.
-    fn goal(&self, i: u32) -> u32
-        requires { i < service.span (service.setting self.now) }
-        ensures { result ≡ service.goals self.now i };
-
     /// The k-th oldest block and its first word; None exactly from the number of placed blocks on.
     fn resident(&self, k: u32) -> Option<(u32, u32)>
         ensures { result ≡ resident_of (service.kept self.now) k };

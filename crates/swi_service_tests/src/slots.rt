@@ -298,17 +298,3 @@ fn both_services_link_and_evict_alike(rt: HostRuntime) -> Result<(), Fail> {
     }
     Ok(())
 }
-
-#[test]
-fn link_has_its_goal_beside(rt: HostRuntime) -> Result<(), Fail> {
-    let bytes = bytes_of(rt.alloc(), &INTO_A_BLOCK)?;
-    let image = view_of(&rt, &bytes);
-    assert_eq!(rt; image.block_words(), 5);
-    let mut ram = VecRam::new(rt.alloc(), 64)?;
-    let mut rom = FifoRom::new(rt.alloc(), 60, 5)?;
-    make(&rt, &mut rom, &image, &mut ram, Transfer::Enter(0x10000, 0));
-    make(&rt, &mut rom, &image, &mut ram, Transfer::Enter(0x1000C, 7));
-    make(&rt, &mut rom, &image, &mut ram, Transfer::Cross(8, 10));
-    assert_eq!(rt; rom.goal(8), 0x10010);
-    Ok(())
-}

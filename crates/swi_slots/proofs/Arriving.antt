@@ -59,9 +59,9 @@ absent_not_placed s b shape absent =
     false_from_ne_true (is_placed (kept_by s) b) (λ (h : is_placed (kept_by s) b ≡ true). let w = is_placed_slot s b shape h in absent w.0 w.1 w.2)
 
 -- the counts alone change neither queue nor links
-pub same_queue : (s : Slots) (targets goals : List ℕ) (counts : Counts) → queue_of (record s { targets = targets; goals = goals; counts = counts }) ≡ queue_of s
+pub same_queue : (s : Slots) (targets : List ℕ) (counts : Counts) → queue_of (record s { targets = targets; counts = counts }) ≡ queue_of s
 unfolding queue_of
-same_queue s targets goals counts = refl
+same_queue s targets counts = refl
 
 pub same_links : (s : Slots) (counts : Counts) → links_of (record s { counts = counts }) ≡ links_of s
 unfolding links_of link_at
@@ -95,7 +95,6 @@ counted_sound s vs words sound = record {
     blocks_long = sound.shape.blocks_long;
     lengths_long = sound.shape.lengths_long;
     targets_long = sound.shape.targets_long;
-    goals_long = sound.shape.goals_long;
     next_is = sound.shape.next_is;
     filled_is = sound.shape.filled_is;
   };
@@ -106,7 +105,7 @@ counted_sound s vs words sound = record {
   known = sound.known;
   lengths_are = sound.lengths_are;
   stands = sound.stands;
-  linked = λ n o lt lt' t. (let k = sound.linked n o lt lt' t in record { is_exit = k.is_exit; target = k.target; offset = k.offset; place_is = k.place_is; jumps = k.jumps; goal_is = k.goal_is });
+  linked = λ n o lt lt' t. (let k = sound.linked n o lt lt' t in record { is_exit = k.is_exit; target = k.target; offset = k.offset; place_is = k.place_is; jumps = k.jumps; });
   plain = sound.plain;
   misses_few = omega (arith, sound.misses_few);
   evictions_few = sound.evictions_few;

@@ -134,13 +134,13 @@ home_is : (vs : Images) (s : Slots) (at target home : ℕ) → (e : ExitIn vs s 
 home_is vs s at target home e is = is ∙ ap (λ (x : ℕ). slice_index s.blocks x) (exit_row vs s at target e)
 
 maybe_at : (vs : Images) (s t u : Slots) (q slot at target home index : ℕ) (b d : RamState) → (e : ExitIn vs s at target) → home ≡ slice_index s.blocks (at / s.size) → index ≡ slot * s.size + q →
-    MaybeLinked t u (can_link t at home index) at slot index target b d → MaybeLinked t u (can_link t at (slice_index s.blocks e.slot) (slot * s.size + q)) at slot (slot * s.size + q) target b d
+    MaybeLinked t u (can_link t at home index) at slot index b d → MaybeLinked t u (can_link t at (slice_index s.blocks e.slot) (slot * s.size + q)) at slot (slot * s.size + q) target b d
 maybe_at vs s t u q slot at target home index b d e home_at index_is maybe =
-    subst (λ (i : ℕ). MaybeLinked t u (can_link t at (slice_index s.blocks e.slot) i) at slot i target b d) index_is
-    (subst (λ (k : ℕ). MaybeLinked t u (can_link t at k index) at slot index target b d) (home_is vs s at target home e home_at) maybe)
+    subst (λ (i : ℕ). MaybeLinked t u (can_link t at (slice_index s.blocks e.slot) i) at slot i b d) index_is
+    (subst (λ (k : ℕ). MaybeLinked t u (can_link t at k index) at slot index b d) (home_is vs s at target home e home_at) maybe)
 
 pub crossed_call : (v : ImageData) (s t u : Slots) (c q slot at target home index : ℕ) (a b d : RamState) → SlotsSound s v a.words → ExitAt v (kept_by s) at target → place_of v target ≡ Some (c, q) → Arrives v s c slot t a b →
-    home ≡ slice_index s.blocks (at / s.size) → index ≡ slot * s.size + q → MaybeLinked t u (can_link t at home index) at slot index target b d →
+    home ≡ slice_index s.blocks (at / s.size) → index ≡ slot * s.size + q → MaybeLinked t u (can_link t at home index) at slot index b d →
     (bl o f : ℕ) → Placed (kept_by s) bl f → o < length_at v bl → at ≡ f + o →
     Served v (span_of (setting_of s)) target (kept_by s) (fifo (setting_of s) (kept_by s) v (direct bl o target)) (kept_by u) a d (Ok index)
 crossed_call v s t u c q slot at target home index a b d sound x is all home_at index_is maybe bl o f h lt at_is =
@@ -152,7 +152,7 @@ crossed_call v s t u c q slot at target home index a b d sound x is all home_at 
     (crossed sound.0 s t u c q slot at target a b d sound.1.1 e is' arr (maybe_at sound.0 s t u q slot at target home index b d e home_at index_is maybe) bl o f h (subst (λ (w : ImageData). o < length_at w bl) (sym sound.1.0) lt) at_is))
 
 pub crossed_serves : (v : ImageData) (s t u : Slots) (c q slot at target home index : ℕ) (a b d : RamState) → ExitAt v (kept_by s) at target → place_of v target ≡ Some (c, q) → Arrives v s c slot t a b →
-    home ≡ slice_index s.blocks (at / s.size) → index ≡ slot * s.size + q → MaybeLinked t u (can_link t at home index) at slot index target b d →
+    home ≡ slice_index s.blocks (at / s.size) → index ≡ slot * s.size + q → MaybeLinked t u (can_link t at home index) at slot index b d →
     (vs : Images) → Serves s v vs a.words → Serves u v vs d.words
 crossed_serves v s t u c q slot at target home index a b d x is all home_at index_is maybe vs serves =
     let known : SlotsSound s v a.words = (vs, serves) in

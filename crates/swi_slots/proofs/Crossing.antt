@@ -189,10 +189,10 @@ can_be vs s t c q slot at target a b sound arr is e stays =
           ∙ ap (λ (p : ℕ). key_place p (place_of (vs p) target)) owner ∙ ap (λ (x : Option (ℕ × ℕ)). key_place s.turn x) is ∙ ap (λ (x : ℕ). Some (x, q)) (sym arr.stands);
     }
 
-linked_kept : (t : Slots) (vs : Images) (n o slot q g : ℕ) → Tidy t → CanLink t vs n o slot q →
-    kept_by (linked_slots t (n * t.size + o) slot g) ≡ record (kept_by t) { links = with_link (made_link t n o slot) (links_of t); counts = record t.counts { links = t.counts.links + 1 } }
-linked_kept t vs n o slot q g tidy can =
-    rw (same_queue t (slice_set t.targets (n * t.size + o) slot) (slice_set t.goals (n * t.size + o) g) (record t.counts { links = t.counts.links + 1 }), linked_links t vs n o slot q g tidy can) refl
+linked_kept : (t : Slots) (vs : Images) (n o slot q : ℕ) → Tidy t → CanLink t vs n o slot q →
+    kept_by (linked_slots t (n * t.size + o) slot) ≡ record (kept_by t) { links = with_link (made_link t n o slot) (links_of t); counts = record t.counts { links = t.counts.links + 1 } }
+linked_kept t vs n o slot q tidy can =
+    rw (same_queue t (slice_set t.targets (n * t.size + o) slot) (record t.counts { links = t.counts.links + 1 }), linked_links t vs n o slot q tidy can) refl
 
 abbrev pub with_new : Slots → ℕ → ℕ → ℕ → Record
 with_new t n o slot = record (kept_by t) { links = with_link (made_link t n o slot) (links_of t); counts = record t.counts { links = t.counts.links + 1 } }
@@ -211,11 +211,11 @@ other_link vs s words n o f k sound lt lt' high was h e =
     let low : slice_index s.targets (n * s.size + o) < s.slots = subst (λ (j : ℕ). slice_index s.targets j < s.slots) at w.5 in
     omega (arith, high, low)
 
-linked_words : (vs : Images) (s t u : Slots) (n o slot q to g : ℕ) (a b d : RamState) → SlotsServe s vs a.words → Tidy t → n < s.filled → o < s.size → t.size ≡ s.size → CanLink t vs n o slot q →
+linked_words : (vs : Images) (s t u : Slots) (n o slot q to : ℕ) (a b d : RamState) → SlotsServe s vs a.words → Tidy t → n < s.filled → o < s.size → t.size ≡ s.size → CanLink t vs n o slot q →
     s.slots ≤ slice_index s.targets (n * s.size + o) → slice_index t.blocks n ≡ slice_index s.blocks n → t.turn ≡ s.turn →
-    Linked t u (n * t.size + o) slot to g b d → WordsMove (vs s.turn) (kept_by s) (kept_by t) a b → WordsMove (vs s.turn) (kept_by s) (with_new t n o slot) a d
+    Linked t u (n * t.size + o) slot to b d → WordsMove (vs s.turn) (kept_by s) (kept_by t) a b → WordsMove (vs s.turn) (kept_by s) (with_new t n o slot) a d
 unfolding Placed
-linked_words vs s t u n o slot q to g a b d sound tidy lt lt' size can free stays turn linked w =
+linked_words vs s t u n o slot q to a b d sound tidy lt lt' size can free stays turn linked w =
     let k0 : Link = made_link t n o slot in
     let was : has_link (links_of s) (made_link t n o slot) ≡ false = never_link s n o (made_link t n o slot) (tidy_of s vs a.words sound) lt (sym stays ∙ sym (key_parts (slice_index t.blocks n))) refl free in
     let gone : has_link (links_of t) (made_link t n o slot) ≡ false = not_yet t vs n o slot q tidy can in
@@ -263,7 +263,7 @@ made_parts t n o slot h c p turn small small' key key' =
 
 crossed_link : (vs : Images) (s t u : Slots) (c q slot at target : ℕ) (a b d : RamState) → SlotsServe s vs a.words → (e : ExitIn vs s at target) → place_of (vs s.turn) target ≡ Some (c, q) → Arrived vs s c slot t a b → 0 < s.filled →
     t.counts.links < t.counts.services → writes (kept_by s) ≤ writes (kept_by t) →
-    Linked t u at slot (slot * s.size + q) target b d → slice_index t.blocks e.slot ≡ slice_index s.blocks e.slot →
+    Linked t u at slot (slot * s.size + q) b d → slice_index t.blocks e.slot ≡ slice_index s.blocks e.slot →
     let next : Record = record (kept_by t) { links = with_link (record { program = t.turn; block = e.block; offset = e.offset; into = c }) (links_of t); counts = record t.counts { links = t.counts.links + 1 } } in
     next ≡ fifo (setting_of s) (kept_by s) (vs s.turn) (direct e.block e.offset target) →
     Served (vs s.turn) (span_of (setting_of s)) target (kept_by s) (fifo (setting_of s) (kept_by s) (vs s.turn) (direct e.block e.offset target)) (kept_by u) a d (Ok (slot * s.size + q)) × SlotsServe u vs d.words × (u.turn ≡ s.turn)
@@ -273,28 +273,27 @@ crossed_link vs s t u c q slot at target a b d sound e is arr some few more link
     let tidy : Tidy t = tidy_of t vs b.words arr.sound in
     let can : CanLink t vs n o slot q = can_be vs s t c q slot at target a b sound arr is e stays in
     let at_is : at ≡ n * t.size + o = e.index ∙ ap (λ (x : ℕ). n * x + o) (sym arr.size_stays) in
-    let goal : target ≡ word_in vs (slice_index t.blocks n) (o + 1) = e.descriptor ∙ ap (λ (x : ℕ). word_in vs x (o + 1)) (sym stays) in
-    let linked' : Linked t u (n * t.size + o) slot (slot * s.size + q) target b d = subst (λ (x : ℕ). Linked t u x slot (slot * s.size + q) target b d) at_is linked in
-    let u_is : u ≡ linked_slots t (n * t.size + o) slot target = linked'.slots_are in
-    let kept_u : kept_by u ≡ with_new t n o slot = ap (λ (x : Slots). kept_by x) u_is ∙ linked_kept t vs n o slot q target tidy can in
-    let whole : Linked t (linked_slots t (n * t.size + o) slot target) (n * t.size + o) slot (slot * t.size + q) target b d =
-    subst (λ (x : Slots). Linked t x (n * t.size + o) slot (slot * t.size + q) target b d) u_is
-    (subst (λ (x : ℕ). Linked t u (n * t.size + o) slot (slot * x + q) target b d) (sym arr.size_stays) linked') in
+    let linked' : Linked t u (n * t.size + o) slot (slot * s.size + q) b d = subst (λ (x : ℕ). Linked t u x slot (slot * s.size + q) b d) at_is linked in
+    let u_is : u ≡ linked_slots t (n * t.size + o) slot = linked'.slots_are in
+    let kept_u : kept_by u ≡ with_new t n o slot = ap (λ (x : Slots). kept_by x) u_is ∙ linked_kept t vs n o slot q tidy can in
+    let whole : Linked t (linked_slots t (n * t.size + o) slot) (n * t.size + o) slot (slot * t.size + q) b d =
+    subst (λ (x : Slots). Linked t x (n * t.size + o) slot (slot * t.size + q) b d) u_is
+    (subst (λ (x : ℕ). Linked t u (n * t.size + o) slot (slot * x + q) b d) (sym arr.size_stays) linked') in
     let wrote : Wrote (s.slots * s.size) 1 b d = subst (λ (x : ℕ). Wrote (x * s.size) 1 b d) arr.slots_stay (subst (λ (x : ℕ). Wrote (t.slots * x) 1 b d) arr.size_stays linked'.wrote) in
-    let words : WordsMove (vs s.turn) (kept_by s) (with_new t n o slot) a d = linked_words vs s t u n o slot q (slot * s.size + q) target a b d sound tidy e.filled e.inside arr.size_stays can e.free stays arr.turn_stays linked' arr.words in
+    let words : WordsMove (vs s.turn) (kept_by s) (with_new t n o slot) a d = linked_words vs s t u n o slot q (slot * s.size + q) a b d sound tidy e.filled e.inside arr.size_stays can e.free stays arr.turn_stays linked' arr.words in
     let made : let k : Link = record { program = t.turn; block = e.block; offset = o; into = c } in made_link t n o slot ≡ k = made_parts t n o slot e.block c s.turn arr.turn_stays e.small arr.small (stays ∙ e.key) arr.stands in (
       subst (λ (x : Record). Served (vs s.turn) (span_of (setting_of s)) target (kept_by s) (fifo (setting_of s) (kept_by s) (vs s.turn) (direct e.block o target)) x a d (Ok (slot * s.size + q))) (sym kept_u)
           (served (vs s.turn) (s.slots * s.size) target (slot * s.size + q) (writes (kept_by t) - writes (kept_by s) + 1) (c, q) (kept_by s) _ (with_new t n o slot) a d is
           (ap (λ (x : Link). record (kept_by t) { links = with_link x (links_of t); counts = record t.counts { links = t.counts.links + 1 } }) made ∙ moves)
           (new_target (vs s.turn) t n o slot target (slot * s.size + q) (arrived_target vs s t c q slot target a b arr is))
           (wrote_more (s.slots * s.size) (s.slots * s.size) _ 1 a b d arr.wrote wrote (omega arith)) (omega arith) words),
-      subst (λ (x : Slots). SlotsServe x vs d.words) (sym u_is) (linked_sound t vs n o slot q target b d arr.sound can few goal whole),
+      subst (λ (x : Slots). SlotsServe x vs d.words) (sym u_is) (linked_sound t vs n o slot q b d arr.sound can few whole),
       ap (λ (x : Slots). x.turn) u_is ∙ arr.turn_stays,
     )
 
 -- the exit has been linked, or it can't be
 crossed_at : (vs : Images) (s t u : Slots) (c q slot at target : ℕ) (a b d : RamState) → SlotsServe s vs a.words → (e : ExitIn vs s at target) → place_of (vs s.turn) target ≡ Some (c, q) → Arrived vs s c slot t a b →
-    MaybeLinked t u (can_link t at (slice_index s.blocks e.slot) (slot * s.size + q)) at slot (slot * s.size + q) target b d →
+    MaybeLinked t u (can_link t at (slice_index s.blocks e.slot) (slot * s.size + q)) at slot (slot * s.size + q) b d →
     Served (vs s.turn) (span_of (setting_of s)) target (kept_by s) (fifo (setting_of s) (kept_by s) (vs s.turn) (direct e.block e.offset target)) (kept_by u) a d (Ok (slot * s.size + q)) × SlotsServe u vs d.words × (u.turn ≡ s.turn)
 crossed_at vs s t u c q slot at target a b d sound e is arr maybe =
     let n : ℕ = e.slot in
@@ -323,7 +322,7 @@ crossed_at vs s t u c q slot at target a b d sound e is arr maybe =
         ap (λ (x : ℕ). slice_index t.blocks x) (sym (ap (λ (x : ℕ). x / t.size) e ∙ (word_slot t n o lt).0)) ∙ eqb-true _ _ (and_parts (slice_index t.blocks (at / t.size) == home) (reaches at to) can).0
 
 pub crossed : (vs : Images) (s t u : Slots) (c q slot at target : ℕ) (a b d : RamState) → SlotsServe s vs a.words → (e : ExitIn vs s at target) → place_of (vs s.turn) target ≡ Some (c, q) → Arrived vs s c slot t a b →
-    MaybeLinked t u (can_link t at (slice_index s.blocks e.slot) (slot * s.size + q)) at slot (slot * s.size + q) target b d → (bl o f : ℕ) → Placed (kept_by s) bl f → o < length_at (vs s.turn) bl → at ≡ f + o →
+    MaybeLinked t u (can_link t at (slice_index s.blocks e.slot) (slot * s.size + q)) at slot (slot * s.size + q) b d → (bl o f : ℕ) → Placed (kept_by s) bl f → o < length_at (vs s.turn) bl → at ≡ f + o →
     Served (vs s.turn) (span_of (setting_of s)) target (kept_by s) (fifo (setting_of s) (kept_by s) (vs s.turn) (direct bl o target)) (kept_by u) a d (Ok (slot * s.size + q))
 crossed vs s t u c q slot at target a b d sound e is arr maybe bl o f h lt at_is =
     let same = exit_same vs s a.words at target bl o f sound e h lt at_is in
@@ -332,5 +331,5 @@ crossed vs s t u c q slot at target a b d sound e is arr maybe bl o f h lt at_is
     (crossed_at vs s t u c q slot at target a b d sound e is arr maybe).0)
 
 pub crossed_sound : (vs : Images) (s t u : Slots) (c q slot at target : ℕ) (a b d : RamState) → SlotsServe s vs a.words → (e : ExitIn vs s at target) → place_of (vs s.turn) target ≡ Some (c, q) → Arrived vs s c slot t a b →
-    MaybeLinked t u (can_link t at (slice_index s.blocks e.slot) (slot * s.size + q)) at slot (slot * s.size + q) target b d → SlotsServe u vs d.words × (u.turn ≡ s.turn)
+    MaybeLinked t u (can_link t at (slice_index s.blocks e.slot) (slot * s.size + q)) at slot (slot * s.size + q) b d → SlotsServe u vs d.words × (u.turn ≡ s.turn)
 crossed_sound vs s t u c q slot at target a b d sound e is arr maybe = let x = crossed_at vs s t u c q slot at target a b d sound e is arr maybe in (x.1, x.2)

@@ -25,8 +25,8 @@ first_of_slot s n b tidy lt small e =
     first_in_has (queue_of s) s.turn b (n * s.size) (slot_placed s n b tidy.shape lt small e)
     (λ g h. let p = placed_slot s b g tidy.shape h in sym p.3 ∙ ap (λ (m : ℕ). m * s.size) (tidy.distinct p.0 n p.1 lt (p.2 ∙ sym e)))
 
-abbrev pub linked_slots : Slots → ℕ → ℕ → ℕ → Slots
-linked_slots s at slot goal = record s { targets = slice_set s.targets at slot; goals = slice_set s.goals at goal; counts = record s.counts { links = s.counts.links + 1 } }
+abbrev pub linked_slots : Slots → ℕ → ℕ → Slots
+linked_slots s at slot = record s { targets = slice_set s.targets at slot; counts = record s.counts { links = s.counts.links + 1 } }
 
 -- word o of a filled slot is no link yet, and its exit leads to a filled slot
 pub record CanLink (s : Slots) (vs : Images) (n o slot q : ℕ) : Type 0 where
@@ -49,12 +49,8 @@ target_here s vs n o slot q shape can = get_or-set_same s.targets (n * s.size + 
 target_other : (s : Slots) (at slot i : ℕ) → (i ≡ at → ⊥) → slice_index (slice_set s.targets at slot) i ≡ slice_index s.targets i
 target_other s at slot i ne = get_or-set_other s.targets at i slot 0 ne
 
-goal_here : (s : Slots) (vs : Images) (n o slot q g : ℕ) → InShape s → CanLink s vs n o slot q → slice_index (slice_set s.goals (n * s.size + o) g) (n * s.size + o) ≡ g
-goal_here s vs n o slot q g shape can =
-    get_or-set_same s.goals (n * s.size + o) g 0 (omega (arith, within s vs n o slot q shape can, shape.targets_long, shape.goals_long))
-
-pub linked_tidy : (s : Slots) (vs : Images) (n o slot q g : ℕ) → Tidy s → CanLink s vs n o slot q → Tidy (linked_slots s (n * s.size + o) slot g)
-linked_tidy s vs n o slot q g tidy can = record {
+pub linked_tidy : (s : Slots) (vs : Images) (n o slot q : ℕ) → Tidy s → CanLink s vs n o slot q → Tidy (linked_slots s (n * s.size + o) slot)
+linked_tidy s vs n o slot q tidy can = record {
   shape = record {
     some_slot = tidy.shape.some_slot;
     size_least = tidy.shape.size_least;
@@ -67,7 +63,6 @@ linked_tidy s vs n o slot q g tidy can = record {
     blocks_long = tidy.shape.blocks_long;
     lengths_long = tidy.shape.lengths_long;
     targets_long = length-set s.targets (n * s.size + o) slot ∙ tidy.shape.targets_long;
-    goals_long = length-set s.goals (n * s.size + o) g ∙ tidy.shape.goals_long;
     next_is = tidy.shape.next_is;
     filled_is = tidy.shape.filled_is;
   };
@@ -90,43 +85,43 @@ made_link s n o slot = record {
 pub not_yet : (s : Slots) (vs : Images) (n o slot q : ℕ) → Tidy s → CanLink s vs n o slot q → has_link (links_of s) (made_link s n o slot) ≡ false
 not_yet s vs n o slot q tidy can = never_link s n o (made_link s n o slot) tidy can.filled (sym (key_parts (slice_index s.blocks n))) refl can.free
 
-made_is : (s : Slots) (vs : Images) (n o slot q g : ℕ) → InShape s → CanLink s vs n o slot q → link_of (linked_slots s (n * s.size + o) slot g) n o ≡ made_link s n o slot
-made_is s vs n o slot q g shape can = rw (target_here s vs n o slot q shape can) refl
+made_is : (s : Slots) (vs : Images) (n o slot q : ℕ) → InShape s → CanLink s vs n o slot q → link_of (linked_slots s (n * s.size + o) slot) n o ≡ made_link s n o slot
+made_is s vs n o slot q shape can = rw (target_here s vs n o slot q shape can) refl
 
-other_is : (s : Slots) (at slot g m p : ℕ) → (m * s.size + p ≡ at → ⊥) → link_of (linked_slots s at slot g) m p ≡ link_of s m p
-other_is s at slot g m p ne = rw (target_other s at slot (m * s.size + p) ne) refl
+other_is : (s : Slots) (at slot m p : ℕ) → (m * s.size + p ≡ at → ⊥) → link_of (linked_slots s at slot) m p ≡ link_of s m p
+other_is s at slot m p ne = rw (target_other s at slot (m * s.size + p) ne) refl
 
 -- the links are those before and the new one
-pub linked_links : (s : Slots) (vs : Images) (n o slot q g : ℕ) → Tidy s → CanLink s vs n o slot q →
-    links_of (linked_slots s (n * s.size + o) slot g) ≡ with_link (made_link s n o slot) (links_of s)
-linked_links s vs n o slot q g tidy can =
-    let t : Slots = linked_slots s (n * s.size + o) slot g in
+pub linked_links : (s : Slots) (vs : Images) (n o slot q : ℕ) → Tidy s → CanLink s vs n o slot q →
+    links_of (linked_slots s (n * s.size + o) slot) ≡ with_link (made_link s n o slot) (links_of s)
+linked_links s vs n o slot q tidy can =
+    let t : Slots = linked_slots s (n * s.size + o) slot in
     let k0 : Link = made_link s n o slot in
-    let tidy' : Tidy t = linked_tidy s vs n o slot q g tidy can in
+    let tidy' : Tidy t = linked_tidy s vs n o slot q tidy can in
     let most : s.filled ≤ s.slots = tidy.shape.filled_most in
     same_ascending _ _ (links_ascending t tidy') (with_ascending (made_link s n o slot) (links_of s) (links_ascending s tidy) (not_yet s vs n o slot q tidy can))
     (λ k. same_tests (has_link (links_of t) k) (has_link (with_link (made_link s n o slot) (links_of s)) k)
     (λ h. (let w = linked_word t k tidy' h in
     has_with (made_link s n o slot) (links_of s) k ∙ elim (cases_eq (w.0 * s.size + w.1) (n * s.size + o)) [
       | inl e ↦ (let same = at_word s w.0 w.1 n o w.3 can.inside e in
-          or_left _ _ (subst (λ (l : Link). same_link k l ≡ true) (sym w.4 ∙ ap (λ (m : ℕ). link_of t m w.1) same.0 ∙ ap (λ (m : ℕ). link_of t n m) same.1 ∙ made_is s vs n o slot q g tidy.shape can) (same_same k)))
-      | inr ne ↦ or_right _ _ (subst (λ (l : Link). has_link (links_of s) l ≡ true) (sym (other_is s (n * s.size + o) slot g w.0 w.1 ne) ∙ w.4)
+          or_left _ _ (subst (λ (l : Link). same_link k l ≡ true) (sym w.4 ∙ ap (λ (m : ℕ). link_of t m w.1) same.0 ∙ ap (λ (m : ℕ). link_of t n m) same.1 ∙ made_is s vs n o slot q tidy.shape can) (same_same k)))
+      | inr ne ↦ or_right _ _ (subst (λ (l : Link). has_link (links_of s) l ≡ true) (sym (other_is s (n * s.size + o) slot w.0 w.1 ne) ∙ w.4)
           (word_linked s w.0 w.1 tidy.shape (omega (arith, w.2)) w.3 (subst (λ (x : ℕ). x < s.slots) (target_other s (n * s.size + o) slot (w.0 * s.size + w.1) ne) w.5)))
     ]))
     (λ h. elim (or_cases (same_link k (made_link s n o slot)) (has_link (links_of s) k) (sym (has_with (made_link s n o slot) (links_of s) k) ∙ h)) [
-      | inl e ↦ subst (λ (l : Link). has_link (links_of t) l ≡ true) (made_is s vs n o slot q g tidy.shape can ∙ sym (same_is k (made_link s n o slot) e))
+      | inl e ↦ subst (λ (l : Link). has_link (links_of t) l ≡ true) (made_is s vs n o slot q tidy.shape can ∙ sym (same_is k (made_link s n o slot) e))
           (word_linked t n o tidy'.shape (omega (arith, can.filled)) can.inside (subst (λ (x : ℕ). x < s.slots) (sym (target_here s vs n o slot q tidy.shape can)) (omega (arith, can.target))))
       | inr i ↦ (let w = linked_word s k tidy i in
           let ne : w.0 * s.size + w.1 ≡ n * s.size + o → ⊥ = λ (e : w.0 * s.size + w.1 ≡ n * s.size + o). (let f = can.free in let x : slice_index s.targets (n * s.size + o) < s.slots = subst (λ (j : ℕ). slice_index s.targets j < s.slots) e w.5 in omega arith) in
-          subst (λ (l : Link). has_link (links_of t) l ≡ true) (other_is s (n * s.size + o) slot g w.0 w.1 ne ∙ w.4)
+          subst (λ (l : Link). has_link (links_of t) l ≡ true) (other_is s (n * s.size + o) slot w.0 w.1 ne ∙ w.4)
           (word_linked t w.0 w.1 tidy'.shape (omega (arith, w.2)) w.3 (subst (λ (x : ℕ). x < s.slots) (sym (target_other s (n * s.size + o) slot (w.0 * s.size + w.1) ne)) w.5)))
     ]))
 
-pub linked_sound : (s : Slots) (vs : Images) (n o slot q g : ℕ) (before after : RamState) → SlotsServe s vs before.words → CanLink s vs n o slot q → s.counts.links < s.counts.services → g ≡ word_in vs (slice_index s.blocks n) (o + 1) →
-    Linked s (linked_slots s (n * s.size + o) slot g) (n * s.size + o) slot (slot * s.size + q) g before after → SlotsServe (linked_slots s (n * s.size + o) slot g) vs after.words
-linked_sound s vs n o slot q g before after sound can few goal linked =
-    let tidy = linked_tidy s vs n o slot q g (tidy_of s vs before.words sound) can in
-    let links = linked_links s vs n o slot q g (tidy_of s vs before.words sound) can in
+pub linked_sound : (s : Slots) (vs : Images) (n o slot q : ℕ) (before after : RamState) → SlotsServe s vs before.words → CanLink s vs n o slot q → s.counts.links < s.counts.services →
+    Linked s (linked_slots s (n * s.size + o) slot) (n * s.size + o) slot (slot * s.size + q) before after → SlotsServe (linked_slots s (n * s.size + o) slot) vs after.words
+linked_sound s vs n o slot q before after sound can few linked =
+    let tidy = linked_tidy s vs n o slot q (tidy_of s vs before.words sound) can in
+    let links = linked_links s vs n o slot q (tidy_of s vs before.words sound) can in
     record {
       shape = tidy.shape;
       images = sound.images;
@@ -138,9 +133,9 @@ linked_sound s vs n o slot q g before after sound can few goal linked =
       stands = tidy.stands;
       linked = λ m p lt lt' t. elim (cases_eq (m * s.size + p) (n * s.size + o)) [
         | inl e ↦ (let same = at_word s m p n o lt' can.inside e in
-            subst (λ (x : ℕ). LinkStands (linked_slots s (n * s.size + o) slot g) vs after.words x p) (sym same.0) (subst (λ (x : ℕ). LinkStands (linked_slots s (n * s.size + o) slot g) vs after.words n x) (sym same.1)
-            (new_link s vs n o slot q g before after sound.shape can goal linked)))
-        | inr ne ↦ old_link s vs n o slot q m p g before after linked ne
+            subst (λ (x : ℕ). LinkStands (linked_slots s (n * s.size + o) slot) vs after.words x p) (sym same.0) (subst (λ (x : ℕ). LinkStands (linked_slots s (n * s.size + o) slot) vs after.words n x) (sym same.1)
+            (new_link s vs n o slot q before after sound.shape can linked)))
+        | inr ne ↦ old_link s vs n o slot q m p before after linked ne
             (sound.linked m p lt lt' (subst (λ (x : ℕ). x < s.slots) (target_other s (n * s.size + o) slot (m * s.size + p) ne) t))
       ];
       plain = λ m p lt lt' t. elim (cases_eq (m * s.size + p) (n * s.size + o)) [
@@ -156,10 +151,9 @@ linked_sound s vs n o slot q g before after sound can few goal linked =
       unlinks_few = omega (arith, ap length links, length_with_all (made_link s n o slot) (links_of s), sound.unlinks_few);
     }
   where
-    new_link : (s : Slots) (vs : Images) (n o slot q g : ℕ) (before after : RamState) → InShape s → CanLink s vs n o slot q →
-        g ≡ word_in vs (slice_index s.blocks n) (o + 1) →
-        Linked s (linked_slots s (n * s.size + o) slot g) (n * s.size + o) slot (slot * s.size + q) g before after → LinkStands (linked_slots s (n * s.size + o) slot g) vs after.words n o
-    new_link s vs n o slot q g before after shape can goal linked =
+    new_link : (s : Slots) (vs : Images) (n o slot q : ℕ) (before after : RamState) → InShape s → CanLink s vs n o slot q →
+        Linked s (linked_slots s (n * s.size + o) slot) (n * s.size + o) slot (slot * s.size + q) before after → LinkStands (linked_slots s (n * s.size + o) slot) vs after.words n o
+    new_link s vs n o slot q before after shape can linked =
         let here = target_here s vs n o slot q shape can in
         record {
           is_exit = can.is_exit;
@@ -167,13 +161,12 @@ linked_sound s vs n o slot q g before after sound can few goal linked =
           offset = q;
           place_is = can.place_is ∙ ap (λ (x : ℕ). Some (slice_index s.blocks x, q)) (sym here);
           jumps = subst (λ (x : ℕ). IsJump (n * s.size + o) (x * s.size + q) (slice_index after.words (n * s.size + o))) (sym here) linked.jumps;
-          goal_is = goal_here s vs n o slot q g shape can ∙ goal;
         }
 
-    old_link : (s : Slots) (vs : Images) (n o slot q m p g : ℕ) (before after : RamState) →
-        Linked s (linked_slots s (n * s.size + o) slot g) (n * s.size + o) slot (slot * s.size + q) g before after → (m * s.size + p ≡ n * s.size + o → ⊥) → LinkStands s vs before.words m p →
-        LinkStands (linked_slots s (n * s.size + o) slot g) vs after.words m p
-    old_link s vs n o slot q m p g before after linked ne k =
+    old_link : (s : Slots) (vs : Images) (n o slot q m p : ℕ) (before after : RamState) →
+        Linked s (linked_slots s (n * s.size + o) slot) (n * s.size + o) slot (slot * s.size + q) before after → (m * s.size + p ≡ n * s.size + o → ⊥) → LinkStands s vs before.words m p →
+        LinkStands (linked_slots s (n * s.size + o) slot) vs after.words m p
+    old_link s vs n o slot q m p before after linked ne k =
         let same = target_other s (n * s.size + o) slot (m * s.size + p) ne in
         record {
           is_exit = k.is_exit;
@@ -182,5 +175,4 @@ linked_sound s vs n o slot q g before after sound can few goal linked =
           place_is = k.place_is ∙ ap (λ (x : ℕ). Some (slice_index s.blocks x, k.offset)) (sym same);
           jumps = subst (λ (x : ℕ). IsJump (m * s.size + p) (x * s.size + k.offset) (slice_index after.words (m * s.size + p))) (sym same)
               (subst (λ (w : ℕ). IsJump (m * s.size + p) (slice_index s.targets (m * s.size + p) * s.size + k.offset) w) (sym (linked.others (m * s.size + p) ne)) k.jumps);
-          goal_is = get_or-set_other s.goals (n * s.size + o) (m * s.size + p) g 0 ne ∙ k.goal_is;
         }

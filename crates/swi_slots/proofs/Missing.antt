@@ -150,7 +150,6 @@ moved_link s targets counts vs b m o n k before between after sound roomy copied
           ∙ ap (λ (c : ℕ). Some (c, link.offset)) (sym target ∙ ap (λ (x : ℕ). slice_index (slice_set s.blocks s.next b) x) (sym left.same));
       jumps = subst (λ (x : ℕ). IsJump (m * s.size + o) (x * s.size + link.offset) (slice_index after.words (m * s.size + o))) (sym left.same)
           (subst (λ (w : ℕ). IsJump (m * s.size + o) (slice_index s.targets (m * s.size + o) * s.size + link.offset) w) (sym words) link.jumps);
-      goal_is = link.goal_is ∙ ap (λ (c : ℕ). word_in vs c (o + 1)) (sym block);
     }
 
 moved_plain : (s : Slots) (targets : List ℕ) (vs : Images) (b m o n k : ℕ) (before between after : RamState) → SlotsServe s vs before.words → Roomy s targets k before between →
@@ -192,7 +191,6 @@ moved_shape s targets counts b n k shape long move =
       blocks_long = shape.blocks_long;
       lengths_long = shape.lengths_long;
       targets_long = long ∙ shape.targets_long;
-      goals_long = shape.goals_long;
       next_is = shape.next_is ∙ ap (λ (m : ℕ). m % s.slots) (sym move.misses);
       filled_is = shape.filled_is ∙ ap (λ (m : ℕ). min m s.slots) (sym move.misses);
     })

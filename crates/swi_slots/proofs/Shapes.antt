@@ -40,7 +40,6 @@ settled_shape s b n shape = record {
   blocks_long = length-set s.blocks s.next b ∙ shape.blocks_long;
   lengths_long = length-set s.lengths s.next n ∙ shape.lengths_long;
   targets_long = shape.targets_long;
-  goals_long = shape.goals_long;
   next_is = ap (λ (k : ℕ). wrapped (k + 1) s.slots) shape.next_is ∙ sym (mod_next s.counts.misses s.slots shape.some_slot);
   filled_is = omega (arith, shape.filled_is, shape.some_slot);
 }
@@ -57,7 +56,6 @@ pub settled_as : (s : Slots) (targets : List ℕ) (b n next filled : ℕ) → In
       blocks = slice_set s.blocks s.next b;
       lengths = slice_set s.lengths s.next n;
       targets = targets;
-      goals = s.goals;
       counts = record s.counts { misses = s.counts.misses + 1; copied = s.counts.copied + n };
     })
 settled_as s targets b n next filled shape targets_are next_is filled_is = rw (targets_are, next_is, filled_is) (settled_shape s b n shape)

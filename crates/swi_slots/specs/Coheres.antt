@@ -9,7 +9,7 @@ use Rattle.swi_image.specs.Laws.{place_inside}
 use Rattle.swi_rom.specs.Record.{is_linked, Placed, IsJump}
 use Rattle.swi_rom.specs.Coherent.{Coherent, IsExit, TargetAt}
 use Rattle.swi_slots.specs.Keys.{Images, key_of, owner_of, number_of, key_owner, key_number, word_in, words_in, ExitOf, IsKnown, key_place, goes}
-use Rattle.swi_slots.specs.Slots.{Slots, InShape, kept_by, span_of, setting_of, goals_by}
+use Rattle.swi_slots.specs.Slots.{Slots, InShape, kept_by, span_of, setting_of}
 use Rattle.swi_slots.specs.Sound.{SlotsServe, SlotsSound, LinkStands}
 use Rattle.swi_slots.specs.SlotLinks.{Tidy, among_word, among_is}
 use Rattle.swi_slots.specs.Order.{queue_distinct}
@@ -110,12 +110,6 @@ linked_target s vs words b o f sound h l =
       subst (λ (g : ℕ). IsJump (g + o) (t * s.size + k.offset) (slice_index words (g + o))) w.3 k.jumps,
     )
 
-serve_goal : (s : Slots) (vs : Images) (words : List ℕ) (b f o : ℕ) → SlotsServe s vs words → Placed (kept_by s) b f → is_linked (kept_by s) b o ≡ true →
-    goals_by s (f + o) ≡ word_at (vs s.turn) b (o + 1)
-serve_goal s vs words b f o sound h l =
-    let w = placed_link s vs words b o f sound h l in
-    ap (λ (n : ℕ). goals_by s (n + o)) (sym w.3) ∙ w.5.goal_is ∙ ap (λ (c : ℕ). word_in vs c (o + 1)) w.2 ∙ key_word vs s.turn b (o + 1) w.4
-
 -- the words of a placed block are at most those of a slot
 pub placed_most : (s : Slots) (vs : Images) (words : List ℕ) (n b : ℕ) → SlotsServe s vs words → n < s.filled → slice_index s.blocks n ≡ key_of s.turn b → b < 2 ^ 19 → length_at (vs s.turn) b ≤ s.size
 placed_most s vs words n b sound lt e small =
@@ -161,10 +155,6 @@ serve_coheres s vs words sound = record {
 
 pub coheres : (s : Slots) (v : ImageData) (words : List ℕ) → SlotsSound s v words → Coherent v (kept_by s) (span_of (setting_of s)) words
 coheres s v words sound = subst (λ (w : ImageData). Coherent w (kept_by s) (span_of (setting_of s)) words) sound.1.0 (serve_coheres s sound.0 words sound.1.1)
-
-pub linked_goal : (s : Slots) (v : ImageData) (words : List ℕ) → SlotsSound s v words → (b f o : ℕ) → Placed (kept_by s) b f → is_linked (kept_by s) b o ≡ true →
-    goals_by s (f + o) ≡ word_at v b (o + 1)
-linked_goal s v words sound b f o h l = subst (λ (w : ImageData). goals_by s (f + o) ≡ word_at w b (o + 1)) sound.1.0 (serve_goal s sound.0 words b f o sound.1.1 h l)
 
 pub small_span : (s : Slots) (v : ImageData) (words : List ℕ) → SlotsSound s v words → span_of (setting_of s) ≤ 2 ^ 21
 small_span s v words sound = omega (arith, sound.1.1.shape.words_few)

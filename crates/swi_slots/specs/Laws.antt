@@ -6,7 +6,7 @@ use Rattle.swi_rom.specs.Service.{Setting, IsService}
 use Rattle.swi_rom.specs.Policy.{with_link, served_over_link, served_outside, served_one, served_boot, served_writes}
 use Rattle.swi_slots.specs.Fifo.{arrived, extent_of, fifo_arrival, fifo_extent}
 use Rattle.swi_slots.specs.Slots.{span_of}
-use Rattle.swi_slots.specs.Coheres.{coheres, linked_goal, small_span, image_is}
+use Rattle.swi_slots.specs.Coheres.{coheres, small_span, image_is}
 use Rattle.swi_slots.specs.Readers.{shown_stands}
 use Rattle.swi_slots.specs.Service.{slots_service}
 
@@ -22,7 +22,6 @@ slots_laws = record {
   small = small_span;
   image = image_is;
   shown_is = shown_stands;
-  goal_is = linked_goal;
   link_stays = served_over_link arrived with_link;
   outside_stays = served_outside arrived with_link;
   one_service = λ by. served_one arrived with_link by fifo_arrival;

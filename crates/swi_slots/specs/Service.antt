@@ -1,7 +1,7 @@
 -- What a service with slots is.
 use Rattle.swi_rom.specs.Service.{ServiceOf}
 use Rattle.swi_slots.specs.Fifo.{fifo, extent_of}
-use Rattle.swi_slots.specs.Slots.{Slots, kept_by, setting_of, span_of, shown_by, goals_by}
+use Rattle.swi_slots.specs.Slots.{Slots, kept_by, setting_of, span_of, shown_by}
 use Rattle.swi_slots.specs.Sound.{SlotsSound, Serves}
 
 abbrev pub slots_service : ServiceOf Slots
@@ -14,5 +14,4 @@ slots_service = record {
   sound = SlotsSound;
   serves = Serves;
   shown = shown_by;
-  goals = goals_by;
 }

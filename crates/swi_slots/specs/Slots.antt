@@ -21,8 +21,6 @@ pub record Slots : Type 0 where
   pub lengths : List ℕ
   -- for each word the slot to which it is linked; where it isn't, the number of slots
   pub targets : List ℕ
-  -- for each word the address to which it leads, if it is a link
-  pub goals : List ℕ
   pub counts : Counts
 
 -- the numbers keep their shape, whatever stands in the slots
@@ -38,7 +36,6 @@ pub record InShape (s : Slots) : Type 0 where
   pub blocks_long : length s.blocks ≡ s.slots
   pub lengths_long : length s.lengths ≡ s.slots
   pub targets_long : length s.targets ≡ s.slots * s.size
-  pub goals_long : length s.goals ≡ s.slots * s.size
   -- the slots are filled one after the other, and then again from the first on
   pub next_is : s.next ≡ s.counts.misses % s.slots
   pub filled_is : s.filled ≡ min s.counts.misses s.slots
@@ -79,10 +76,6 @@ links_of s = collected (link_at s) (s.slots * s.size)
 abbrev pub kept_by : Slots → Record
 kept_by s = record { turn = s.turn; placed = queue_of s; links = links_of s; counts = s.counts; more = [] }
 
--- the address kept of a word, if it is a link
-abbrev pub goals_by : Slots → ℕ → ℕ
-goals_by s i = slice_index s.goals i
-
 -- what stands at a word, of the program in turn
 unfoldable pub shown_by : Slots → ℕ → Option (ℕ × ℕ)
 shown_by s i =
@@ -102,6 +95,5 @@ empty_slots slots size programs = record {
   blocks = replicate slots 0;
   lengths = replicate slots 0;
   targets = replicate (slots * size) slots;
-  goals = replicate (slots * size) 0;
   counts = record { services = 0; misses = 0; evictions = 0; links = 0; unlinks = 0; copied = 0 };
 }

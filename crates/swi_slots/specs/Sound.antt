@@ -3,17 +3,16 @@ use Rattle.std.specs.Prelude.{◌≡◌, ℕ, ◌+◌, ◌*◌, ◌/◌, ◌<◌
 use Rattle.swi_image.specs.Format.{ImageData}
 use Rattle.swi_image.specs.Sound.{IsImage}
 use Rattle.swi_rom.specs.Record.{IsJump}
-use Rattle.swi_slots.specs.Slots.{Slots, InShape, links_of, goals_by}
+use Rattle.swi_slots.specs.Slots.{Slots, InShape, links_of}
 use Rattle.swi_slots.specs.Keys.{Images, word_in, words_in, ExitOf, IsKnown, goes}
 
--- word o of slot n is a link, the jump that stands there leads to its target's place, and its goal is kept
+-- word o of slot n is a link, and the jump that stands there leads to its target's place
 pub record LinkStands (s : Slots) (vs : Images) (words : List ℕ) (n o : ℕ) : Type 0 where
   pub is_exit : ExitOf vs (slice_index s.blocks n) o
   pub target : slice_index s.targets (n * s.size + o) < s.filled
   pub offset : ℕ
   pub place_is : goes vs (slice_index s.blocks n) (word_in vs (slice_index s.blocks n) (o + 1)) ≡ Some (slice_index s.blocks (slice_index s.targets (n * s.size + o)), offset)
   pub jumps : IsJump (n * s.size + o) (slice_index s.targets (n * s.size + o) * s.size + offset) (slice_index words (n * s.size + o))
-  pub goal_is : goals_by s (n * s.size + o) ≡ word_in vs (slice_index s.blocks n) (o + 1)
 
 -- for each program its image
 pub record SlotsServe (s : Slots) (vs : Images) (words : List ℕ) : Type 0 where

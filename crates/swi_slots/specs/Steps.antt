@@ -57,9 +57,9 @@ settled s b n = record s {
   counts = record s.counts { misses = s.counts.misses + 1; copied = s.counts.copied + n };
 }
 
--- the word at an index has been made a link to an index in a slot, with a goal
-pub record Linked (s t : Slots) (at slot to goal : ℕ) (before after : RamState) : Type 0 where
-  pub slots_are : t ≡ record s { targets = slice_set s.targets at slot; goals = slice_set s.goals at goal; counts = record s.counts { links = s.counts.links + 1 } }
+-- the word at an index has been made a link to an index in a slot
+pub record Linked (s t : Slots) (at slot to : ℕ) (before after : RamState) : Type 0 where
+  pub slots_are : t ≡ record s { targets = slice_set s.targets at slot; counts = record s.counts { links = s.counts.links + 1 } }
   pub jumps : IsJump at to (slice_index after.words at)
   pub others : (i : ℕ) → (i ≡ at → ⊥) → slice_index after.words i ≡ slice_index before.words i
   pub wrote : Wrote (s.slots * s.size) 1 before after
@@ -84,8 +84,8 @@ abbrev pub LinksInside : Slots → ℕ → Type 0
 LinksInside s n = (o : ℕ) → slice_index s.lengths n ≤ o → o < s.size → s.slots ≤ slice_index s.targets (n * s.size + o)
 
 -- the word at an index has been made a link, or it hasn't and nothing has changed
-pub record MaybeLinked (s t : Slots) (links : Bool) (at slot to goal : ℕ) (before after : RamState) : Type 0 where
-  pub yes : links ≡ true → Linked s t at slot to goal before after
+pub record MaybeLinked (s t : Slots) (links : Bool) (at slot to : ℕ) (before after : RamState) : Type 0 where
+  pub yes : links ≡ true → Linked s t at slot to before after
   pub no : links ≡ false → (t ≡ s) × (after ≡ before)
 
 -- the exit's block still stands in its slot, and a JAL reaches

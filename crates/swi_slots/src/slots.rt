@@ -22,7 +22,7 @@ use swi_outside::{CacheRam, Failed, Memory};
 use swi_rom::{CacheRom, Counts, RomStop, copy, jump, reach};
 
 /// A cache of slots of one size, each of which holds a block of one of its programs. While a slot is free the lowest is
-/// filled, and then the oldest block makes room. The table finds blocks and links, and each link has its goal beside.
+/// filled, and then the oldest block makes room. The table finds blocks and links.
 #[derive(Drop)]
 pub struct SlotRom<T: LinkTable> {
     slots: u32,
@@ -37,7 +37,6 @@ pub struct SlotRom<T: LinkTable> {
     blocks: Vec<u32>,
     lengths: Vec<u32>,
     table: T,
-    goals: Vec<u32>,
     counts: Counts,
     // Where targets were found.
     hints: Hints,
@@ -59,7 +58,6 @@ impl<T: LinkTable> Model for SlotRom<T> {
       blocks = s.blocks.items;
       lengths = s.lengths.items;
       targets = T.targets s.table;
-      goals = s.goals.items;
       counts = s.counts;
     } };
 
@@ -73,17 +71,9 @@ impl<T: LinkTable> Model for SlotRom<T> {
       blocks = s.blocks.items;
       lengths = s.lengths.items;
       targets = T.targets s.table;
-      goals = s.goals.items;
       counts = s.counts;
     }) × (T.slot_count s.table ≡ s.slots) × (T.slot_size s.table ≡ s.size)
         × (T.block_count s.table ≡ s.programs * 2 ^ 19) × T.knows s.table s.filled s.blocks.items × (s.divisor ≡ s.size) };
-}
-
-// An address for each word, none of which is a link.
-fn no_goals(alloc: Global, words: u32) -> Result<Vec<u32>, Memory>
-    ensures { IfOk result (λ g. g.items ≡ replicate words 0) }
-{
-    vec![in alloc; 0u32; words as usize].map_err(|_| Memory)
 }
 
 // The slot after a slot: after the last one comes the first.
@@ -168,7 +158,6 @@ impl<T: LinkTable> SlotRom<T> {
         let blocks = vec![in alloc; 0u32; slots as usize].map_err(|_| Memory)?;
         let lengths = vec![in alloc; 0u32; slots as usize].map_err(|_| Memory)?;
         let table = T::new(alloc, slots, block_words, programs * BLOCKS)?;
-        let goals = no_goals(alloc, slots * block_words)?;
         let hints = Hints::new(alloc)?;
         Ok(SlotRom {
             slots,
@@ -181,7 +170,6 @@ impl<T: LinkTable> SlotRom<T> {
             blocks,
             lengths,
             table,
-            goals,
             counts: Counts::NONE,
             hints,
         })
@@ -344,14 +332,13 @@ impl<T: LinkTable> SlotRom<T> {
         }
     }
 
-    // Makes the exit at an index a jump to an index in a slot, and keeps its goal.
+    // Makes the exit at an index a jump to an index in a slot.
     fn link<M: CacheRam>(
         &mut self,
         ram: &mut M,
         at: u32,
         slot: u32,
         to: u32,
-        goal: u32,
     ) -> Result<(), Failed>
         requires at { at < self.old.slots * self.old.size }
         requires to { to < self.old.slots * self.old.size }
@@ -361,7 +348,7 @@ impl<T: LinkTable> SlotRom<T> {
         requires links { self.old.counts.links < 2 ^ 60 }
         requires slot { slot < self.old.slots }
         requires free { self.old.slots ≤ slice_index self.old.targets at }
-        ensures linked { OnOk result (Linked self.old self.new at slot to goal
+        ensures linked { OnOk result (Linked self.old self.new at slot to
             (M.state ram.old) (M.state ram.new)) }
         ensures failed { OnErr result (FailedBelow (self.old.slots * self.old.size)
             (M.state ram.old) (M.state ram.new)) }
@@ -371,7 +358,6 @@ impl<T: LinkTable> SlotRom<T> {
     {
         ram.set(at, jump(at, to))?;
         self.table.link(at, slot);
-        self.goals[at as usize] = goal;
         self.counts.links += 1;
         Ok(())
     }
@@ -384,7 +370,6 @@ impl<T: LinkTable> SlotRom<T> {
         home: u32,
         slot: u32,
         to: u32,
-        goal: u32,
     ) -> Result<(), Failed>
         requires at { at < self.old.slots * self.old.size }
         requires to { to < self.old.slots * self.old.size }
@@ -394,7 +379,7 @@ impl<T: LinkTable> SlotRom<T> {
         requires slot { slot < self.old.slots }
         requires free { (slice_index self.old.blocks (at / self.old.size) ≡ home) →
             self.old.slots ≤ slice_index self.old.targets at }
-        ensures linked { OnOk result (MaybeLinked self.old self.new (can_link self.old at home to) at slot to goal
+        ensures linked { OnOk result (MaybeLinked self.old self.new (can_link self.old at home to) at slot to
             (M.state ram.old) (M.state ram.new)) }
         ensures failed { OnErr result (FailedBelow (self.old.slots * self.old.size)
             (M.state ram.old) (M.state ram.new)) }
@@ -408,7 +393,7 @@ impl<T: LinkTable> SlotRom<T> {
         if !reach(at, to) {
             return Ok(());
         }
-        self.link(ram, at, slot, to, goal)
+        self.link(ram, at, slot, to)
     }
 }
 
@@ -464,7 +449,7 @@ impl<T: LinkTable> CacheRom for SlotRom<T> {
             return Err(RomStop::RamFault);
         };
         let index = slot * self.size + offset;
-        let Ok(()) = self.link_exit(ram, at, home, slot, index, target) else {
+        let Ok(()) = self.link_exit(ram, at, home, slot, index) else {
             return Err(RomStop::RamFault);
         };
         Ok(index)
@@ -487,10 +472,6 @@ impl<T: LinkTable> CacheRom for SlotRom<T> {
             return None;
         }
         Some((number(block), offset))
-    }
-
-    fn goal(&self, i: u32) -> u32 {
-        self.goals[i as usize]
     }
 
     fn resident(&self, k: u32) -> Option<(u32, u32)> {

@@ -1,4 +1,4 @@
-use Rattle.std.proofs.Common.{◌≡◌, ◌==◌, ℕ, ◌+◌, Bool, true, false, List, length, refl, sym, ap, subst, ◌∙◌, arith, rules}
+use Rattle.std.proofs.Common.{◌≡◌, ◌==◌, ℕ, ◌+◌, Bool, true, false, List, refl, sym, ap, subst, ◌∙◌, arith, rules}
 use Rattle.swi_memory.specs.Bus.{AreaData, fetched}
 use Rattle.swi_board.specs.Turning.{Turn, Turned, turn}
 use Rattle.swi_board.proofs.Going.{call_inside, exit_fewer, op_in_row, row_in, stays_fewer, straight_class}

@@ -1,7 +1,4 @@
-use Rattle.std.proofs.Common.{◌≡◌, List, sym, ap, subst, ◌∙◌, arith}
-use Rattle.swi_memory.specs.Bus.{AreaData}
-use Rattle.swi_exec.specs.Registers.{Registers}
-use Rattle.swi_board.specs.Turning.{Turn, turn}
+use Rattle.std.proofs.Common.{sym, ◌∙◌, arith}
 use Rattle.swi_board.proofs.Going.{at_inside, row_in, straight_made}
 use Rattle.swi_board.proofs.advance.straight_step.Goals as goal
 

@@ -1,4 +1,4 @@
-use Rattle.std.proofs.Common.{◌≡◌, ◌+◌, ℕ, length, sym, ap, ◌∙◌, arith}
+use Rattle.std.proofs.Common.{ℕ, length, sym, ap, ◌∙◌, arith}
 use Rattle.swi_outside.specs.CacheRam.{RamState}
 use Rattle.swi_exec.specs.Registers.{with_reg}
 use Rattle.swi_board.proofs.Going.{at_inside, pair_inside, pair_made, row_in, total_short, upper_made}

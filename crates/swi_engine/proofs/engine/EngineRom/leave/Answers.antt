@@ -35,7 +35,6 @@ invariant_of-self c =
         used_most = omega (arith, s.used_most, ap (λ (xs : List ℕ). length xs) c.in-Some.ensures.items, length-remove c.self.inside.queue.items c.args.k below);
         blocks_long = s.blocks_long;
         lengths_long = s.lengths_long;
-        goals_long = s.goals_long;
         below = λ n h. s.below n (remove_has _ c.args.k n (subst (λ (xs : List ℕ). Has xs n) c.in-Some.ensures.items h));
         homed = subst (λ (q : List ℕ). Homed c.self.inside.slots q c.self.inside.blocks.items (slice_set c.self.inside.homes.items c.index-block.result.now c.self.inside.slots)) (sym c.in-Some.ensures.items)
             (subst (λ (b : ℕ). Homed c.self.inside.slots (remove c.self.inside.queue.items c.args.k) c.self.inside.blocks.items (slice_set c.self.inside.homes.items b c.self.inside.slots)) (sym block)

@@ -8,20 +8,20 @@ use Rattle.swi_engine.proofs.Reading.{new_shape, new_sound, new_is, some_slots}
 use Rattle.swi_engine.proofs.engine.EngineRom.new.Goals as goal
 
 pub returns-clause-empty : goal.returns-clause-empty
-returns-clause-empty c = new_is _ _ c.args.blocks _ _ _ _ _ _ c.in_ok-queue.ensures.empty c.in_ok-of_slots.ensures c.in_ok-lengths.ensures c.in_ok-homes.ensures (ap (λ (d : JointsData). d.joints) c.in_ok-joints.ensures) c.in_ok-goals.ensures
+returns-clause-empty c = new_is _ _ c.args.blocks _ _ _ _ _ c.in_ok-queue.ensures.empty c.in_ok-of_slots.ensures c.in_ok-lengths.ensures c.in_ok-homes.ensures (ap (λ (d : JointsData). d.joints) c.in_ok-joints.ensures)
 
 pub returns-clause-kept : goal.returns-clause-kept
-returns-clause-kept c = ap (λ (e : EngineData). kept_by e) (new_is _ _ c.args.blocks _ _ _ _ _ _ c.in_ok-queue.ensures.empty c.in_ok-of_slots.ensures c.in_ok-lengths.ensures c.in_ok-homes.ensures (ap (λ (d : JointsData). d.joints) c.in_ok-joints.ensures) c.in_ok-goals.ensures)
+returns-clause-kept c = ap (λ (e : EngineData). kept_by e) (new_is _ _ c.args.blocks _ _ _ _ _ c.in_ok-queue.ensures.empty c.in_ok-of_slots.ensures c.in_ok-lengths.ensures c.in_ok-homes.ensures (ap (λ (d : JointsData). d.joints) c.in_ok-joints.ensures))
 
 pub returns-clause-sound : goal.returns-clause-sound
 returns-clause-sound c = λ v words image all holds fits.
-    subst (λ (e : EngineData). EngineSound e v words) (sym (new_is _ _ c.args.blocks _ _ _ _ _ _ c.in_ok-queue.ensures.empty c.in_ok-of_slots.ensures c.in_ok-lengths.ensures c.in_ok-homes.ensures (ap (λ (d : JointsData). d.joints) c.in_ok-joints.ensures) c.in_ok-goals.ensures))
+    subst (λ (e : EngineData). EngineSound e v words) (sym (new_is _ _ c.args.blocks _ _ _ _ _ c.in_ok-queue.ensures.empty c.in_ok-of_slots.ensures c.in_ok-lengths.ensures c.in_ok-homes.ensures (ap (λ (d : JointsData). d.joints) c.in_ok-joints.ensures)))
     (new_sound (c.args.cache_bytes / 4 / c.args.block_words) c.args.block_words c.args.blocks v words (some_slots c.args.cache_bytes c.args.block_words c.requires.least c.requires.bytes) c.requires.least c.requires.most (omega (arith, div-add-mod' (c.args.cache_bytes / 4) c.args.block_words, c.requires.limit)) image all holds fits)
 
 pub invariant_of-result : goal.invariant_of-result
 invariant_of-result c =
-    let is = new_is (c.args.cache_bytes / 4 / c.args.block_words) c.args.block_words c.args.blocks c.in_ok-queue.queue.items c.in_ok-of_slots.of_slots.items c.in_ok-lengths.lengths.items c.in_ok-homes.homes.items c.in_ok-goals.goals.items c.in_ok-joints.joints.joints
-    c.in_ok-queue.ensures.empty c.in_ok-of_slots.ensures c.in_ok-lengths.ensures c.in_ok-homes.ensures (ap (λ (d : JointsData). d.joints) c.in_ok-joints.ensures) c.in_ok-goals.ensures in (
+    let is = new_is (c.args.cache_bytes / 4 / c.args.block_words) c.args.block_words c.args.blocks c.in_ok-queue.queue.items c.in_ok-of_slots.of_slots.items c.in_ok-lengths.lengths.items c.in_ok-homes.homes.items c.in_ok-joints.joints.joints
+    c.in_ok-queue.ensures.empty c.in_ok-of_slots.ensures c.in_ok-lengths.ensures c.in_ok-homes.ensures (ap (λ (d : JointsData). d.joints) c.in_ok-joints.ensures) in (
       subst (λ (e : EngineData). InShape e) (sym is)
           (new_shape (c.args.cache_bytes / 4 / c.args.block_words) c.args.block_words c.args.blocks (some_slots c.args.cache_bytes c.args.block_words c.requires.least c.requires.bytes) c.requires.least c.requires.most (omega (arith, div-add-mod' (c.args.cache_bytes / 4) c.args.block_words, c.requires.limit))),
       c.in_ok-queue.ensures.room,

@@ -21,7 +21,6 @@ invariant_of-self c =
         used_most = omega (arith, c.requires.room, long, slots, ap (λ (xs : List ℕ). length xs) items, length-append c.self.inside.queue.items (c.args.slot ∷ []));
         blocks_long = length-set _ _ _ ∙ s.blocks_long;
         lengths_long = length-set _ _ _ ∙ s.lengths_long;
-        goals_long = s.goals_long;
         below = λ n h. elim (has_last c.self.inside.queue.items c.args.slot n (subst (λ (xs : List ℕ). Has xs n) items h)) [ inl old ↦ s.below n old | inr e ↦ omega (arith, e, slots, c.requires.slot) ];
         homed = subst (λ (q : List ℕ). Homed c.self.inside.slots q (slice_set c.self.inside.blocks.items c.args.slot c.args.block) (slice_set c.self.inside.homes.items c.args.block c.args.slot)) (sym items)
             (placed_homed c.self.inside.slots c.self.inside.queue.items c.self.inside.blocks.items c.self.inside.homes.items c.args.slot c.args.block s.homed

@@ -81,13 +81,13 @@ pub returns-in-Some-stored-clause-devices : goal.returns-in-Some-stored-clause-d
 returns-in-Some-stored-clause-devices g c =
     rw (← c.self.view_is) (quiet_step c.self.inside.machine _ _ _
     (no_call c.self.inside.machine c.in-Some.word c.in-Some-decode.instruction c.fetch.result c.decode.result c.exec.result c.fetch.ensures.value c.in-Some.is c.decode.ensures c.in-Some-decode.is
-    c.exec.ensures.done (not_next c.exec.result c.in-Next.pc c.in-Next.is)))
+    c.exec.ensures.done (not_next c.exec.result c.in-Next.next c.in-Next.is)))
 
 pub returns-in_default-stored-clause-devices : goal.returns-in_default-stored-clause-devices
 returns-in_default-stored-clause-devices g c =
     rw (← c.self.view_is) (quiet_step c.self.inside.machine _ _ _
     (no_call c.self.inside.machine c.in-Some.word c.in-Some-decode.instruction c.fetch.result c.decode.result c.exec.result c.fetch.ensures.value c.in-Some.is c.decode.ensures c.in-Some-decode.is
-    c.exec.ensures.done (not_next c.exec.result c.in-Next.pc c.in-Next.is)))
+    c.exec.ensures.done (not_next c.exec.result c.in-Next.next c.in-Next.is)))
 
 pub returns-in-Break-clause-devices : goal.returns-in-Break-clause-devices
 returns-in-Break-clause-devices g c =

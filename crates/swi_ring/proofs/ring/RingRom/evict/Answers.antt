@@ -16,7 +16,7 @@ undo-requires-clause-within g c = omega (arith, oldest_within _ _ _ _ _ c.self.v
 pub invariant_of-self-2 : goal.invariant_of-self-2
 invariant_of-self-2 g c =
     let s = c.self.inside in
-    let old : Ring = record { words = s.words; next = s.next; queue = s.queue.blocks; firsts = s.firsts.items; lengths = s.lengths.items; owners = s.owners.items; chains = s.chains; goals = s.goals.items; counts = s.counts } in (
+    let old : Ring = record { words = s.words; next = s.next; queue = s.queue.blocks; firsts = s.firsts.items; lengths = s.lengths.items; owners = s.owners.items; chains = s.chains; counts = s.counts } in (
       evicted_shape old _ _ _ _ _ c.self.invariant.0 c.pop.ensures.blocks c.get-block.ensures c.in_ok-undone.ensures.words c.in_ok-undone.ensures.lists,
       c.pop.ensures.room ∙ c.self.invariant.1 ∙ sym (length-set s.firsts.items c.get-block.result s.words),
     )
@@ -24,6 +24,6 @@ invariant_of-self-2 g c =
 pub returns-clause-left : goal.returns-clause-left
 returns-clause-left g c =
     let s = c.self.inside in
-    let old : Ring = record { words = s.words; next = s.next; queue = s.queue.blocks; firsts = s.firsts.items; lengths = s.lengths.items; owners = s.owners.items; chains = s.chains; goals = s.goals.items; counts = s.counts } in
+    let old : Ring = record { words = s.words; next = s.next; queue = s.queue.blocks; firsts = s.firsts.items; lengths = s.lengths.items; owners = s.owners.items; chains = s.chains; counts = s.counts } in
     evict_call old _ _ _ _ _ _ _ _ _ _ c.self.view_is c.self.invariant.0 c.requires.some c.pop.ensures.blocks c.get-block.ensures c.index-first.ensures c.index-size.ensures
     c.in_ok-undone.ensures.gone c.in_ok-undone.ensures.number c.in_ok-undone.ensures.words c.in_ok-undone.ensures.lists

@@ -6,7 +6,7 @@ use Rattle.swi_slots.proofs.slots.SlotRom.settle.Goals as goal
 pub invariant_of-self : goal.invariant_of-self
 invariant_of-self g c =
     let s = c.self.inside in
-    let old : Slots = record { slots = s.slots; size = s.size; next = s.next; filled = s.filled; programs = s.programs; turn = s.turn; blocks = s.blocks.items; lengths = s.lengths.items; targets = g.T.LinkTable.targets s.table; goals = s.goals.items; counts = s.counts } in (
+    let old : Slots = record { slots = s.slots; size = s.size; next = s.next; filled = s.filled; programs = s.programs; turn = s.turn; blocks = s.blocks.items; lengths = s.lengths.items; targets = g.T.LinkTable.targets s.table; counts = s.counts } in (
       settled_as old _ c.key-key.result c.args.length _ _ c.self.invariant.0 c.settle.ensures.targets c.following-self-inside.ensures c.min-self-inside.ensures,
       c.settle.ensures.slots ∙ c.self.invariant.1,
       c.settle.ensures.size ∙ c.self.invariant.2,
@@ -19,5 +19,5 @@ invariant_of-self g c =
 pub settle-requires-clause-few : goal.settle-requires-clause-few
 settle-requires-clause-few g c =
     let s = c.self.inside in
-    let old : Slots = record { slots = s.slots; size = s.size; next = s.next; filled = s.filled; programs = s.programs; turn = s.turn; blocks = s.blocks.items; lengths = s.lengths.items; targets = g.T.LinkTable.targets s.table; goals = s.goals.items; counts = s.counts } in
+    let old : Slots = record { slots = s.slots; size = s.size; next = s.next; filled = s.filled; programs = s.programs; turn = s.turn; blocks = s.blocks.items; lengths = s.lengths.items; targets = g.T.LinkTable.targets s.table; counts = s.counts } in
     next_few old c.self.invariant.0

@@ -25,7 +25,6 @@ invariant_of-result g c = (
     blocks_long = grind (arith, common_steps);
     lengths_long = grind (arith, common_steps);
     targets_long = grind (arith, common_steps);
-    goals_long = grind (arith, common_steps);
     next_is = omega arith;
     filled_is = omega arith;
   },
@@ -53,7 +52,6 @@ returns-clause-serves g c = λ vs words images sizes fits.
           blocks_long = grind (arith, common_steps);
           lengths_long = grind (arith, common_steps);
           targets_long = grind (arith, common_steps);
-          goals_long = grind (arith, common_steps);
           next_is = omega arith;
           filled_is = omega arith;
         };
