@@ -1,5 +1,5 @@
 -- A run on the cached machine, from what its parts say.
-use Rattle.std.proofs.Common.{◌≡◌, ◌⊎◌, inl, inr, ℕ, ◌+◌, ◌-◌, ◌*◌, ◌/◌, ◌^◌, ◌≤◌, min, List, [], ◌∷◌, ◌++◌, length, take, drop, append_assoc, if◌then◌else◌, Option, None, Some, Result, Ok, Err, IsErrOf, MatchResult, refl, sym, ◌∙◌, subst, ap, arith}
+use Rattle.std.proofs.Common.{◌≡◌, ◌⊎◌, inl, inr, ℕ, ◌+◌, ◌-◌, ◌*◌, ◌/◌, ◌^◌, ◌≤◌, min, List, [], ◌++◌, length, take, drop, append_assoc, if◌then◌else◌, Option, None, Some, Result, Ok, Err, IsErrOf, MatchResult, refl, sym, ◌∙◌, subst, ap, arith}
 use Rattle.std.proofs.Math.Nat.{div-mul-le_self}
 use Rattle.std.proofs.lemmas.List.{append-nil}
 use Rattle.std.specs.Io.KnownBytes.{Appends}
@@ -10,7 +10,6 @@ use Rattle.swi_outside.specs.Laws.{Appends-append, Appends-none, cause_as, named
 use Rattle.swi_outside.specs.Shelf.{Asked, ShelfState}
 use Rattle.swi_outside.specs.Sink.{AppendsPrefix, SinkState}
 use Rattle.swi_outside.specs.Source.{SourceState}
-use Rattle.swi_elf_read.specs.Elf as elf
 use Rattle.swi_elf_read.specs.Loaded.{image_of as image_in}
 use Rattle.swi_memory.specs.declared.layout.Layout.{Layout}
 use Rattle.swi_program.specs.Program.{ProgramData}
@@ -50,7 +49,7 @@ use Rattle.swi_answer.specs.Lines.{ending_line}
 use Rattle.swi_task.specs.Answers.{Answers, AreGiven, IsAskedFor, IsChecked, IsSizeRefusal}
 use Rattle.swi_cached_command.specs.Caching.{IsCachedRun, RamCounted, board_work, cache_by, cache_for, work_of}
 use Rattle.swi_task.specs.Causes.{HasCauses}
-use Rattle.swi_task.specs.Checks.{Check, IsAccepted, block_words, room_in, size_refusal}
+use Rattle.swi_task.specs.Checks.{Check, IsAccepted, room_in, size_refusal}
 use Rattle.swi_task.specs.Devices.{Devices, stream_faults}
 use Rattle.swi_cached_command.specs.RunCached.{BrokeIn, CachedFailed, IsRunErr, RamBroke, RunsCached, RunsOver, addresses_in, cached_checks, cached_report, cached_run, held_next, last_lines, last_told, refusal_of, cached_task, shown_error}
 use Rattle.swi_task.specs.Runs.{FailedAfterRun, FailedAtLine, ending_by, report, start_of}
