@@ -1,9 +1,9 @@
 -- What a cache service is: what it keeps, the policy by which that goes on, and the laws that every service keeps.
 use Rattle.std.specs.Prelude.{◌≡◌, ℕ, ◌+◌, ◌≤◌, ◌^◌, List, [], Option, None, true}
 use Rattle.swi_image.specs.Format.{ImageData}
-use Rattle.swi_image.specs.Place.{word_at, place_of}
+use Rattle.swi_image.specs.Place.{place_of}
 use Rattle.swi_image.specs.Sound.{IsImage}
-use Rattle.swi_rom.specs.Record.{Record, Transfer, direct, target_of, is_linked, writes, Placed}
+use Rattle.swi_rom.specs.Record.{Record, Transfer, direct, target_of, is_linked, writes}
 use Rattle.swi_rom.specs.Coherent.{Coherent, StandsAt}
 
 -- What a service is made for, which no call changes: how many slots of how many words each, and how many programs. A ring
