@@ -1,5 +1,5 @@
 -- The events of a schedule, in the order that the numbers of its seed give.
-use Rattle.std.proofs.Common.{map, slice_get, ◌*◌, ◌≡◌, ℕ, zero, suc, ◌+◌, ◌/◌, ◌%◌, ◌^◌, ◌<◌, List, [], ◌∷◌, drop, length, slice_index, slice_index_or, take, Option, Some, None, Ok, arith, refl, sym, ◌∙◌, ap, subst}
+use Rattle.std.proofs.Common.{slice_get, ◌*◌, ◌≡◌, ℕ, zero, suc, ◌+◌, ◌/◌, ◌%◌, ◌^◌, ◌<◌, List, [], ◌∷◌, drop, length, slice_index, slice_index_or, take, Option, Some, None, Ok, arith, refl, sym, ◌∙◌, ap, subst}
 use Rattle.std.proofs.lemmas.List.FromFn.{get_or-map-range_with_len, length-map-range_with_len}
 use Rattle.std.proofs.lemmas.Nat.{mod_below}
 use Rattle.swi_make.specs.Numbers.{number}

@@ -1,5 +1,5 @@
 -- The command `share`: the programs of several files over one cache, an original instruction of one of them at a time.
-use Rattle.std.specs.Prelude.{◌≡◌, ◌⊎◌, ℕ, ◌+◌, ◌-◌, ◌*◌, ◌/◌, ◌%◌, ◌^◌, ◌<◌, ◌≤◌, max, min, nat_le, true, false, List, [], ◌∷◌, ◌++◌, length, map, take, ⊤, slice_get, slice_index_or, Option, Some, None, Result, Ok, IfOk, IfErr, IsErrOf, Contains, All, if◌then◌else◌}
+use Rattle.std.specs.Prelude.{◌≡◌, ◌⊎◌, ℕ, ◌+◌, ◌-◌, ◌*◌, ◌/◌, ◌%◌, ◌^◌, ◌<◌, ◌≤◌, max, min, nat_le, true, false, List, [], ◌∷◌, ◌++◌, length, map, take, ⊤, slice_get, slice_index_or, Option, Some, None, Result, Ok, IfOk, IfErr, IsErrOf, All, if◌then◌else◌}
 use Rattle.std.specs.List.{AllZip, flat_map, range_with_len}
 use Rattle.std.specs.Io.KnownBytes.{Appends}
 use Rattle.swi_outside.specs.CacheRam.{KeepsBeyond, RamState}

@@ -1,4 +1,4 @@
-use Rattle.std.proofs.Common.{◌≡◌, ℕ, Err, Ok, length, rules, sym, subst}
+use Rattle.std.proofs.Common.{◌≡◌, ℕ, Err, length, rules, sym, subst}
 use Rattle.swi_share.specs.Run.{CanRun, ScheduleRan}
 use Rattle.swi_share.specs.Sharing.{ShareWith, seen}
 use Rattle.swi_answer.specs.declared.answer.Refusal.{Refusal}
