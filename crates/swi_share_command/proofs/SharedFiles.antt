@@ -3,8 +3,8 @@ use Rattle.std.proofs.Common.{◌≡◌, ◌⊎◌, inl, inr, ℕ, ◌+◌, ◌�
 use Rattle.std.specs.Prelude.{All, Vec, option_map, slice_get, take, zip, ◌-◌}
 use Rattle.std.specs.declared.alloc.Global.{Global}
 use Rattle.std.specs.List.{AllZip}
-use Rattle.std.proofs.lemmas.List.{append-nil, length-append, length_push, map-append, take-append-le}
-use Rattle.std.proofs.lemmas.List.Elements.{All-head, All-map, All-nil, All-push, All-same, All-tail, All-take}
+use Rattle.std.proofs.lemmas.List.{append-nil, length-append, length_push, take-append-le}
+use Rattle.std.proofs.lemmas.List.Elements.{All-head, All-nil, All-push, All-same, All-tail, All-take}
 use Rattle.swi_outside.specs.Causes.{Rose, counted, risen}
 use Rattle.swi_outside.specs.Shelf.{Contents, IsLonger, Passed, Same, SameAt, ShelfState, Stands, WasGot}
 use Rattle.swi_outside.specs.declared.shelf.ShelfError.{ShelfError}

@@ -23,8 +23,8 @@ use swi_outside::{CacheRam, Failed, Shelf, Sink};
 use swi_report::{SharedWork, shared_text};
 use swi_share::{Guest, Share, most_words};
 use swi_task::{
-    Prepared, Subject, SubjectImage, accept, check_block, check_size, ending_by, prepare, read_file,
-    subject_of,
+    Prepared, Subject, SubjectImage, accept, check_block, check_size, ending_by, prepare,
+    read_file, subject_of,
 };
 
 /// What the program of a file borrows: the file's bytes, and the greedy cut of its text where the file has no image.
@@ -283,14 +283,7 @@ pub fn share<F: Shelf, O: Sink, E: Sink, R: CacheRam>(
         bytes: Vec::new(alloc),
         cut: None,
     });
-    let guests = read_guests(
-        alloc,
-        shelf,
-        names,
-        &mut files,
-        &limits,
-        cache.block_words,
-    )?;
+    let guests = read_guests(alloc, shelf, names, &mut files, &limits, cache.block_words)?;
     check_block(cache.cache_bytes, most_words(&guests))?;
     run_guests(alloc, guests, cache.cache_bytes, options, out, err, ram)
 }
