@@ -1,12 +1,11 @@
 -- The programs of files, made one behind the other as the files are read.
-use Rattle.std.proofs.Common.{◌≡◌, ◌⊎◌, inl, inr, ℕ, suc, ◌+◌, ◌≤◌, List, [], ◌∷◌, ◌++◌, String, Global, length, map, string_bytes, refl, sym, ◌∙◌, ap, subst, append_assoc, append-nil, arith}
+use Rattle.std.proofs.Common.{◌≡◌, ℕ, suc, ◌≤◌, List, [], ◌∷◌, ◌++◌, String, Global, length, map, string_bytes, refl, sym, ◌∙◌, ap, subst, append_assoc, arith}
 use Rattle.std.specs.Prelude.{Err}
-use Rattle.std.specs.List.{AllZip}
 use Rattle.std.proofs.lemmas.List.{map-append}
 use Rattle.swi_outside.specs.Shelf.{ShelfState}
 use Rattle.swi_command.specs.declared.command.RunLimits.{RunLimits}
 use Rattle.swi_share.specs.declared.process.Guest.{Guest}
-use Rattle.swi_share.specs.Starting.{AreGuests, IsGuest}
+use Rattle.swi_share.specs.Starting.{IsGuest}
 use Rattle.swi_answer.specs.declared.answer.Refusal.{Refusal}
 use Rattle.swi_answer.specs.declared.answer.Refusal.TheVariants as refusal
 use Rattle.swi_task.specs.Checks.{IsRefusedOr}
@@ -74,10 +73,3 @@ module _ (limits : RunLimits) (most : ℕ) (names : List (String Global)) (x : S
           own = own_more guests guest was.read.own own;
         });
       }
-
-pub read_all : (limits : RunLimits) (most : ℕ) (names rest : List (String Global)) (places : ℕ) (old now : ShelfState) (guests : List Guest) → ReadSoFar limits most names rest places old now guests →
-    (length rest ≡ 0) ⊎ (places ≡ 0) → GuestsRead limits most (names_of names) old now guests
-read_all limits most names [] places old now guests was over =
-    subst (λ (ns : List (List ℕ)). GuestsRead limits most ns old now guests) (ap names_of (sym (was.names_are ∙ append-nil was.front))) was.read
-read_all limits most names (x ∷ rest) places old now guests was (inl none) = absurd (omega (arith, none))
-read_all limits most names (x ∷ rest) places old now guests was (inr none) = let room = was.room in absurd (omega (arith, room, none))

@@ -1,13 +1,10 @@
 -- The programs of files that share a cache, and what is told of them.
-use Rattle.std.proofs.Common.{◌≡◌, inl, inr, ℕ, suc, ◌+◌, ◌<◌, ◌≤◌, ◌-◌, ◌^◌, min, Bool, true, if◌then◌else◌, List, [], ◌∷◌, ◌++◌, length, drop, get_or, slice_index_or, take, Option, Some, None, refl, sym, ◌∙◌, ap, subst, arith}
+use Rattle.std.proofs.Common.{◌≡◌, inl, inr, ℕ, suc, ◌+◌, ◌<◌, ◌≤◌, ◌-◌, ◌^◌, min, Bool, true, if◌then◌else◌, List, [], ◌∷◌, ◌++◌, length, drop, slice_index_or, Option, Some, None, refl, sym, ◌∙◌, ap, subst, arith}
 use Rattle.std.specs.List.{AllZip}
 use Rattle.std.proofs.lemmas.Bool.{cases_eq}
-use Rattle.std.proofs.lemmas.List.{drop_all, drop_more, length-map, map-append, take_more}
+use Rattle.std.proofs.lemmas.List.{drop_all, drop_more}
 use Rattle.std.proofs.lemmas.Option.{same_Some}
 use Rattle.swi_outside.specs.Shelf.{ShelfState, Stands}
-use Rattle.swi_image.specs.Format.{image_of}
-use Rattle.swi_render.specs.Cut.{IsCut}
-use Rattle.swi_render.specs.ImageOf.{IsImageOf}
 use Rattle.swi_command.specs.declared.command.RunLimits.{RunLimits}
 use Rattle.swi_calls.specs.declared.machine.Machine.{Machine}
 use Rattle.swi_hart.specs.Hart.{HartData}
@@ -20,13 +17,10 @@ use Rattle.swi_rom.specs.Record.{writes}
 use Rattle.swi_report.specs.declared.shared.SharedWork.{SharedWork}
 use Rattle.swi_share.specs.Starting.{AreGuests, IsGuest}
 use Rattle.swi_answer.specs.Lines.{guest_line}
-use Rattle.swi_task.specs.Checks.{OfImage, text_in}
 use Rattle.swi_task.specs.Runs.{ending_by}
 use Rattle.swi_share_command.specs.RunShared.{GuestsRead, HaveEnded, IsGuestOf, context_line, shared_work}
-use Rattle.swi_task.specs.Subject.{IsImageFor}
 use Rattle.swi_share.proofs.Bounds.{process_at}
 use Rattle.swi_share_command.proofs.Sharing.{process_below}
-use Rattle.swi_share_command.proofs.SharedFiles.{zip_push}
 
 -- ---- the programs of the files
 

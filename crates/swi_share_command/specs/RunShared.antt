@@ -8,8 +8,6 @@ use Rattle.swi_outside.specs.Shelf.{Contents, Same, ShelfState, Stands, get_of}
 use Rattle.swi_elf_read.specs.Loaded.{image_of as image_in}
 use Rattle.swi_program.specs.ProgramOf.{program_of_file}
 use Rattle.swi_make.specs.Numbers.{number}
-use Rattle.swi_image.specs.Format.{image_of}
-use Rattle.swi_render.specs.Cut.{IsCut}
 use Rattle.swi_command.specs.declared.command.CacheOptions.{CacheOptions}
 use Rattle.swi_command.specs.declared.command.RunLimits.{RunLimits}
 use Rattle.swi_command.specs.declared.command.Schedule.{Schedule}
@@ -44,7 +42,7 @@ use Rattle.swi_answer.specs.declared.answer.Refusal.TheVariants as refusal
 use Rattle.swi_answer.specs.Lines.{guest_line}
 use Rattle.swi_task.specs.Answers.{IsLast, IsLastLonger, IsRunFault, StandFirst}
 use Rattle.swi_task.specs.Causes.{HasCauses}
-use Rattle.swi_task.specs.Checks.{InRam, Check, IsShort, IsAcceptedElf, HasRoom, IsAcceptedImage, IsOwnImage, FitsUnlessImage, HoldsBlock, IsAccepted, IsRefusedBy, block_words, file_limit, room_in, text_in}
+use Rattle.swi_task.specs.Checks.{InRam, Check, IsShort, IsAcceptedElf, HasRoom, IsAcceptedImage, IsOwnImage, FitsUnlessImage, HoldsBlock, IsAccepted, IsRefusedBy, block_words, room_in}
 use Rattle.swi_task.specs.Devices.{Devices}
 use Rattle.swi_task.specs.Runs.{ending_by}
 use Rattle.swi_task.specs.Subject.{IsImageFor}

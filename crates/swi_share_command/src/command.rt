@@ -279,6 +279,7 @@ pub fn share<F: Shelf, O: Sink, E: Sink, R: CacheRam>(
 {
     check_size(cache.cache_bytes, ram)?;
     let limits = limits_by(options);
+    // There are eight names at most.
     let mut files: [GuestFile; 8] = array::from_fn(|_| GuestFile {
         bytes: Vec::new(alloc),
         cut: None,
