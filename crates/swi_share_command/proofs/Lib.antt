@@ -3,3 +3,4 @@ pub mod SharedFiles
 pub mod SharedGuests
 pub mod SharedRuns
 pub mod SharedOver
+pub mod Reading

@@ -3,8 +3,8 @@ use Rattle.std.proofs.Common.{◌≡◌, ◌⊎◌, inl, inr, ℕ, ◌+◌, ◌�
 use Rattle.std.specs.Prelude.{All, Vec, option_map, slice_get, take, zip, ◌-◌}
 use Rattle.std.specs.declared.alloc.Global.{Global}
 use Rattle.std.specs.List.{AllZip}
-use Rattle.std.proofs.lemmas.List.{append-nil, length-append, length_push, map-append, take-append-le}
-use Rattle.std.proofs.lemmas.List.Elements.{All-head, All-map, All-nil, All-push, All-same, All-tail, All-take}
+use Rattle.std.proofs.lemmas.List.{append-nil, length-append, length_push, take-append-le}
+use Rattle.std.proofs.lemmas.List.Elements.{All-head, All-nil, All-push, All-same, All-tail, All-take}
 use Rattle.swi_outside.specs.Causes.{Rose, counted, risen}
 use Rattle.swi_outside.specs.Shelf.{Contents, IsLonger, Passed, Same, SameAt, ShelfState, Stands, WasGot}
 use Rattle.swi_outside.specs.declared.shelf.ShelfError.{ShelfError}
@@ -16,11 +16,10 @@ use Rattle.swi_image.specs.Checks as image
 use Rattle.swi_command.specs.declared.command.RunLimits.{RunLimits}
 use Rattle.swi_answer.specs.declared.answer.Refusal.{Refusal}
 use Rattle.swi_answer.specs.declared.answer.Refusal.TheVariants as refusal
-use Rattle.swi_share_command.specs.declared.command.GuestFile.{GuestFile}
 use Rattle.swi_task.specs.Checks.{Check, IsAccepted, IsRefusedBy, IsRefusedOr, file_limit}
 use Rattle.swi_task.specs.Answers.{IsLast, StandFirst}
 use Rattle.swi_task.specs.Files.{FileRead, answer_by}
-use Rattle.swi_share_command.specs.RunShared.{FilesRead, FilesRefused, FilesUnread, FirstRead, GotSome, IsFileRefusal, IsGuestFile, IsRefusedSo, ShelfBroke, bytes_of, files_checks, guest_checks}
+use Rattle.swi_share_command.specs.RunShared.{FilesRead, FilesRefused, FilesUnread, FirstRead, GotSome, IsFileRefusal, IsGuestFile, IsRefusedSo, ShelfBroke, files_checks, guest_checks}
 use Rattle.swi_task.specs.Task.{GaveFirst, Tells, TellsAll}
 use Rattle.swi_task.proofs.Images.{front_fails}
 use Rattle.swi_task.proofs.Refusals.{IsRead, IsTooLong, asked_none, gave_none, gave_same, short_refused, told_is, too_long, zip_none}
@@ -53,8 +52,8 @@ fails_in (c ∷ cs) b r h = elim h [
 -- ---- what was given is what the shelf tells
 
 -- a file is refused behind others that pass
-pub refused_at : (limits : RunLimits) (most : ℕ) (contents : Option Contents) (r : Refusal) (front : List (List ℕ)) (read : List GuestFile) (name : List ℕ) (rest files : List (List ℕ)) →
-    AllZip (λ n f. Stands contents n f.bytes.items) front read → All (IsGuestFile limits most) read → TellsAll contents (front ++ name ∷ rest) files →
+pub refused_at : (limits : RunLimits) (most : ℕ) (contents : Option Contents) (r : Refusal) (front : List (List ℕ)) (read : List (List ℕ)) (name : List ℕ) (rest files : List (List ℕ)) →
+    AllZip (Stands contents) front read → All (IsGuestFile limits most) read → TellsAll contents (front ++ name ∷ rest) files →
     ((file : List ℕ) → Tells contents name file → IsRefusedBy (guest_checks limits most file) r) → IsRefusedBy (files_checks limits most files) r
 refused_at limits most contents r [] [] name rest [] stand ok told fails = absurd told
 refused_at limits most contents r [] [] name rest (file ∷ files) stand ok told fails =
@@ -63,9 +62,9 @@ refused_at limits most contents r [] (f ∷ fs) name rest files stand ok told fa
 refused_at limits most contents r (n ∷ ns) [] name rest files stand ok told fails = absurd stand
 refused_at limits most contents r (n ∷ ns) (f ∷ fs) name rest [] stand ok told fails = absurd told
 refused_at limits most contents r (n ∷ ns) (f ∷ fs) name rest (file ∷ files) stand ok told fails =
-    let same : f.bytes.items ≡ file = told_is contents n file f.bytes.items told.0 stand.0 in
+    let same : f ≡ file = told_is contents n file f told.0 stand.0 in
     refused_behind (guest_checks limits most file) (files_checks limits most files) r
-    (subst (λ (x : List ℕ). IsAccepted (guest_checks limits most x)) same (All-head (IsGuestFile limits most) f fs ok).accepted)
+    (subst (λ (x : List ℕ). IsAccepted (guest_checks limits most x)) same (All-head (IsGuestFile limits most) f fs ok))
     (refused_at limits most contents r ns fs name rest files stand.1 (All-tail (IsGuestFile limits most) f fs ok) told.1 fails)
 
 -- what refuses the files that were given refuses all
@@ -83,65 +82,65 @@ given_refused limits most contents r (n ∷ ns) (g ∷ gs) (file ∷ files) stan
     ])
 
 -- all that were read pass
-pub accepted_all : (limits : RunLimits) (most : ℕ) (read : List GuestFile) → All (IsGuestFile limits most) read → IsAccepted (files_checks limits most (bytes_of read))
+pub accepted_all : (limits : RunLimits) (most : ℕ) (read : List (List ℕ)) → All (IsGuestFile limits most) read → IsAccepted (files_checks limits most read)
 accepted_all limits most [] ok = tt
 accepted_all limits most (f ∷ fs) ok =
-    accepted_both (guest_checks limits most f.bytes.items) (files_checks limits most (bytes_of fs)) (All-head (IsGuestFile limits most) f fs ok).accepted
+    accepted_both (guest_checks limits most f) (files_checks limits most fs) (All-head (IsGuestFile limits most) f fs ok)
     (accepted_all limits most fs (All-tail (IsGuestFile limits most) f fs ok))
 
-tells_same : (contents : Option Contents) (names : List (List ℕ)) (read : List GuestFile) (files : List (List ℕ)) →
-    AllZip (λ n f. Stands contents n f.bytes.items) names read → TellsAll contents names files → bytes_of read ≡ files
+tells_same : (contents : Option Contents) (names : List (List ℕ)) (read : List (List ℕ)) (files : List (List ℕ)) →
+    AllZip (Stands contents) names read → TellsAll contents names files → read ≡ files
 tells_same contents [] [] [] stand tells = refl
 tells_same contents [] [] (file ∷ files) stand tells = absurd tells
 tells_same contents [] (f ∷ fs) files stand tells = absurd stand
 tells_same contents (n ∷ ns) [] files stand tells = absurd stand
 tells_same contents (n ∷ ns) (f ∷ fs) [] stand tells = absurd tells
 tells_same contents (n ∷ ns) (f ∷ fs) (file ∷ files) stand tells =
-    let same : f.bytes.items ≡ file = told_is contents n file f.bytes.items tells.0 stand.0 in
+    let same : f ≡ file = told_is contents n file f tells.0 stand.0 in
     let rest = tells_same contents ns fs files stand.1 tells.1 in
-    subst (λ (x : List ℕ). x ∷ bytes_of fs ≡ file ∷ files) (sym same) (ap (λ (xs : List (List ℕ)). file ∷ xs) rest)
+    subst (λ (x : List ℕ). x ∷ fs ≡ file ∷ files) (sym same) (ap (λ (xs : List (List ℕ)). file ∷ xs) rest)
 
 -- the files of the command are those that were read
-pub files_same : (limits : RunLimits) (most : ℕ) (names : List (List ℕ)) (old new : ShelfState) (read : List GuestFile) (files : List (List ℕ)) → FilesRead limits most names old new read →
-    GaveFirst names files old new ⊎ TellsAll old.contents names files → bytes_of read ≡ files
-files_same limits most names old new read files was (inl gave) = gave_same names (bytes_of read) files old new was.gave gave
+pub files_same : (limits : RunLimits) (most : ℕ) (names : List (List ℕ)) (old new : ShelfState) (read : List (List ℕ)) (files : List (List ℕ)) → FilesRead limits most names old new read →
+    GaveFirst names files old new ⊎ TellsAll old.contents names files → read ≡ files
+files_same limits most names old new read files was (inl gave) = gave_same names read files old new was.gave gave
 files_same limits most names old new read files was (inr tells) = tells_same old.contents names read files was.stand tells
 
 -- ---- the names and the contents that were given, side by side
 
-pub as_many : (contents : Option Contents) (names : List (List ℕ)) (read : List GuestFile) → AllZip (λ n f. Stands contents n f.bytes.items) names read →
-    length (bytes_of read) ≡ length names
+pub as_many : (contents : Option Contents) (names : List (List ℕ)) (read : List (List ℕ)) → AllZip (Stands contents) names read →
+    length read ≡ length names
 as_many contents [] [] all = refl
 as_many contents [] (f ∷ fs) all = absurd all
 as_many contents (n ∷ ns) [] all = absurd all
 as_many contents (n ∷ ns) (f ∷ fs) all = ap (λ (k : ℕ). suc k) (as_many contents ns fs all.1)
 
-zip_more : (contents : Option Contents) (names : List (List ℕ)) (read : List GuestFile) (more behind : List (List ℕ)) → AllZip (λ n f. Stands contents n f.bytes.items) names read →
-    zip (names ++ more) (bytes_of read ++ behind) ≡ zip names (bytes_of read) ++ zip more behind
+zip_more : (contents : Option Contents) (names : List (List ℕ)) (read : List (List ℕ)) (more behind : List (List ℕ)) → AllZip (Stands contents) names read →
+    zip (names ++ more) (read ++ behind) ≡ zip names read ++ zip more behind
 zip_more contents [] [] more behind all = refl
 zip_more contents [] (f ∷ fs) more behind all = absurd all
 zip_more contents (n ∷ ns) [] more behind all = absurd all
-zip_more contents (n ∷ ns) (f ∷ fs) more behind all = ap (λ (l : Passed). (n, f.bytes.items) ∷ l) (zip_more contents ns fs more behind all.1)
+zip_more contents (n ∷ ns) (f ∷ fs) more behind all = ap (λ (l : Passed). (n, f) ∷ l) (zip_more contents ns fs more behind all.1)
 
-stand_more : (contents : Option Contents) (names : List (List ℕ)) (read : List GuestFile) (more behind : List (List ℕ)) → AllZip (λ n f. Stands contents n f.bytes.items) names read →
-    StandFirst contents more behind → StandFirst contents (names ++ more) (bytes_of read ++ behind)
+stand_more : (contents : Option Contents) (names : List (List ℕ)) (read : List (List ℕ)) (more behind : List (List ℕ)) → AllZip (Stands contents) names read →
+    StandFirst contents more behind → StandFirst contents (names ++ more) (read ++ behind)
 stand_more contents [] [] more behind all h = h
 stand_more contents [] (f ∷ fs) more behind all h = absurd all
 stand_more contents (n ∷ ns) [] more behind all h = absurd all
 stand_more contents (n ∷ ns) (f ∷ fs) more behind all h = (all.0, stand_more contents ns fs more behind all.1 h)
 
-pub stand_all : (contents : Option Contents) (names : List (List ℕ)) (read : List GuestFile) → AllZip (λ n f. Stands contents n f.bytes.items) names read → StandFirst contents names (bytes_of read)
+pub stand_all : (contents : Option Contents) (names : List (List ℕ)) (read : List (List ℕ)) → AllZip (Stands contents) names read → StandFirst contents names read
 stand_all contents [] [] all = tt
 stand_all contents [] (f ∷ fs) all = absurd all
 stand_all contents (n ∷ ns) [] all = absurd all
 stand_all contents (n ∷ ns) (f ∷ fs) all = (all.0, stand_all contents ns fs all.1)
 
 -- what was given behind the files that were read, of the names behind theirs
-gave_behind : (limits : RunLimits) (most : ℕ) (front more behind : List (List ℕ)) (old mid new : ShelfState) (read : List GuestFile) → FilesRead limits most front old mid read →
-    length behind ≤ length more → new.got ≡ mid.got ++ zip more behind → GaveFirst (front ++ more) (bytes_of read ++ behind) old new
+gave_behind : (limits : RunLimits) (most : ℕ) (front more behind : List (List ℕ)) (old mid new : ShelfState) (read : List (List ℕ)) → FilesRead limits most front old mid read →
+    length behind ≤ length more → new.got ≡ mid.got ++ zip more behind → GaveFirst (front ++ more) (read ++ behind) old new
 gave_behind limits most front more behind old mid new read was few got = record {
-  few = let same = as_many old.contents front read was.stand in let one = length-append (bytes_of read) behind in let other = length-append front more in omega (arith, same, one, other, few);
-  got = got ∙ ap (λ (l : Passed). l ++ zip more behind) was.gave.got ∙ append_assoc old.got (zip front (bytes_of read)) (zip more behind)
+  few = let same = as_many old.contents front read was.stand in let one = length-append read behind in let other = length-append front more in omega (arith, same, one, other, few);
+  got = got ∙ ap (λ (l : Passed). l ++ zip more behind) was.gave.got ∙ append_assoc old.got (zip front read) (zip more behind)
       ∙ ap (λ (l : Passed). old.got ++ l) (sym (zip_more old.contents front read more behind was.stand));
 }
 
@@ -187,13 +186,12 @@ got_more n old mid new name bytes was read = record {
   last_failed = read.last_failed ∙ was.last_failed;
 }
 
-pub files_more : (limits : RunLimits) (most : ℕ) (names : List (List ℕ)) (old mid new : ShelfState) (files : List GuestFile) (name : List ℕ) (f : GuestFile) →
-    FilesRead limits most names old mid files → IsRead mid new name f.bytes.items → IsGuestFile limits most f → FilesRead limits most (names ++ name ∷ []) old new (files ++ f ∷ [])
+pub files_more : (limits : RunLimits) (most : ℕ) (names : List (List ℕ)) (old mid new : ShelfState) (files : List (List ℕ)) (name : List ℕ) (f : List ℕ) →
+    FilesRead limits most names old mid files → IsRead mid new name f → IsGuestFile limits most f → FilesRead limits most (names ++ name ∷ []) old new (files ++ f ∷ [])
 files_more limits most names old mid new files name f was read is = record {
-  got = subst (λ (n : ℕ). GotSome n old new) (sym (length_push names name)) (got_more (length names) old mid new name f.bytes.items was.got read);
-  gave = subst (λ (l : List (List ℕ)). GaveFirst (names ++ name ∷ []) l old new) (sym (map-append (λ x. x.bytes.items) files (f ∷ [])))
-      (gave_behind limits most names (name ∷ []) (f.bytes.items ∷ []) old mid new files was (omega arith) read.got);
-  stand = zip_push (λ n x. Stands old.contents n x.bytes.items) names files name f was.stand (stands_before old.contents mid.contents name f.bytes.items (was.got.same name) read.stands);
+  got = subst (λ (n : ℕ). GotSome n old new) (sym (length_push names name)) (got_more (length names) old mid new name f was.got read);
+  gave = gave_behind limits most names (name ∷ []) (f ∷ []) old mid new files was (omega arith) read.got;
+  stand = zip_push (Stands old.contents) names files name f was.stand (stands_before old.contents mid.contents name f (was.got.same name) read.stands);
   accepted = All-push (IsGuestFile limits most) files f was.accepted is;
 }
 
@@ -246,35 +244,29 @@ rose_from : (a b c : ℕ) → b ≡ a → Rose b c → Rose a c
 rose_from a b c is rose = subst (λ (n : ℕ). Rose n c) is rose
 
 -- each of the files before it passes its checks
-pub each_accepted : (limits : RunLimits) (most : ℕ) (read : List GuestFile) → All (IsGuestFile limits most) read → All (λ file. IsAccepted (guest_checks limits most file)) (bytes_of read)
-each_accepted limits most read ok =
-    let Passes : List ℕ → Type 0 = λ file. IsAccepted (guest_checks limits most file) in
-    All-map Passes (λ (f : GuestFile). f.bytes.items) read (λ k d lt. (ok k d lt).accepted)
-
-front_accepted : (limits : RunLimits) (most : ℕ) (front behind : List (List ℕ)) (old mid : ShelfState) (read : List GuestFile) → FilesRead limits most front old mid read →
-    All (λ file. IsAccepted (guest_checks limits most file)) (take (length front + 1 - 1) (bytes_of read ++ behind))
+front_accepted : (limits : RunLimits) (most : ℕ) (front behind : List (List ℕ)) (old mid : ShelfState) (read : List (List ℕ)) → FilesRead limits most front old mid read →
+    All (IsGuestFile limits most) (take (length front + 1 - 1) (read ++ behind))
 front_accepted limits most front behind old mid read was =
-    let Passes : List ℕ → Type 0 = λ file. IsAccepted (guest_checks limits most file) in
     let same = as_many old.contents front read was.stand in
-    All-same Passes (take (length front + 1 - 1) (bytes_of read ++ behind)) (take (length front + 1 - 1) (bytes_of read))
-    (take-append-le (length front + 1 - 1) (bytes_of read) behind (omega (arith, same)))
-    (All-take Passes (length front + 1 - 1) (bytes_of read) (each_accepted limits most read was.accepted))
+    All-same (IsGuestFile limits most) (take (length front + 1 - 1) (read ++ behind)) (take (length front + 1 - 1) read)
+    (take-append-le (length front + 1 - 1) read behind (omega (arith, same)))
+    (All-take (IsGuestFile limits most) (length front + 1 - 1) read was.accepted)
 
 -- what was read before it
-first_read : (limits : RunLimits) (most : ℕ) (front more : List (List ℕ)) (old mid new : ShelfState) (read : List GuestFile) → FilesRead limits most front old mid read →
-    new.got ≡ mid.got → new.stored ≡ mid.stored → FirstRead limits most (front ++ more) (length front + 1) (bytes_of read) old new
+first_read : (limits : RunLimits) (most : ℕ) (front more : List (List ℕ)) (old mid new : ShelfState) (read : List (List ℕ)) → FilesRead limits most front old mid read →
+    new.got ≡ mid.got → new.stored ≡ mid.stored → FirstRead limits most (front ++ more) (length front + 1) read old new
 first_read limits most front more old mid new read was got stored = record {
-  gave = subst (λ (l : List (List ℕ)). GaveFirst (front ++ more) l old new) (append-nil (bytes_of read))
+  gave = subst (λ (l : List (List ℕ)). GaveFirst (front ++ more) l old new) (append-nil read)
       (gave_behind limits most front more [] old mid new read was (omega arith) (got ∙ sym (append-nil mid.got) ∙ ap (λ (l : Passed). mid.got ++ l) (sym (zip_none more))));
-  stood = subst (λ (l : List (List ℕ)). StandFirst old.contents (front ++ more) l) (append-nil (bytes_of read)) (stand_more old.contents front read more [] was.stand tt);
-  accepted = subst (λ (l : List (List ℕ)). All (λ (file : List ℕ). IsAccepted (guest_checks limits most file)) (take (length front + 1 - 1) l)) (append-nil (bytes_of read))
+  stood = subst (λ (l : List (List ℕ)). StandFirst old.contents (front ++ more) l) (append-nil read) (stand_more old.contents front read more [] was.stand tt);
+  accepted = subst (λ (l : List (List ℕ)). All (IsGuestFile limits most) (take (length front + 1 - 1) l)) (append-nil read)
       (front_accepted limits most front [] old mid read was);
   stored = stored ∙ was.got.stored;
 }
 
 -- and with it
-last_read : (limits : RunLimits) (most : ℕ) (front rest : List (List ℕ)) (name : List ℕ) (old mid new : ShelfState) (read : List GuestFile) (bytes : List ℕ) → FilesRead limits most front old mid read →
-    IsRead mid new name bytes → FirstRead limits most (front ++ name ∷ rest) (length front + 1) (bytes_of read ++ bytes ∷ []) old new
+last_read : (limits : RunLimits) (most : ℕ) (front rest : List (List ℕ)) (name : List ℕ) (old mid new : ShelfState) (read : List (List ℕ)) (bytes : List ℕ) → FilesRead limits most front old mid read →
+    IsRead mid new name bytes → FirstRead limits most (front ++ name ∷ rest) (length front + 1) (read ++ bytes ∷ []) old new
 last_read limits most front rest name old mid new read bytes was h = record {
   gave = gave_behind limits most front (name ∷ rest) (bytes ∷ []) old mid new read was (omega arith)
       (h.got ∙ ap (λ (l : Passed). mid.got ++ (name, bytes) ∷ l) (sym (zip_none rest)));
@@ -291,15 +283,15 @@ last_is front rest name = let back : length front + 1 - 1 ≡ length front = ome
     get_behind [] = refl
     get_behind (n ∷ ns) = get_behind ns
 
-but_one : (limits : RunLimits) (most : ℕ) (front : List (List ℕ)) (old mid : ShelfState) (read : List GuestFile) → FilesRead limits most front old mid read → length front + 1 ≡ length (bytes_of read) + 1
+but_one : (limits : RunLimits) (most : ℕ) (front : List (List ℕ)) (old mid : ShelfState) (read : List (List ℕ)) → FilesRead limits most front old mid read → length front + 1 ≡ length read + 1
 but_one limits most front old mid read was = ap (λ (k : ℕ). k + 1) (sym (as_many old.contents front read was.stand))
 
-with_one : (limits : RunLimits) (most : ℕ) (front : List (List ℕ)) (old mid : ShelfState) (read : List GuestFile) (bytes : List ℕ) → FilesRead limits most front old mid read →
-    length front + 1 ≡ length (bytes_of read ++ bytes ∷ [])
-with_one limits most front old mid read bytes was = but_one limits most front old mid read was ∙ sym (length_push (bytes_of read) bytes)
+with_one : (limits : RunLimits) (most : ℕ) (front : List (List ℕ)) (old mid : ShelfState) (read : List (List ℕ)) (bytes : List ℕ) → FilesRead limits most front old mid read →
+    length front + 1 ≡ length (read ++ bytes ∷ [])
+with_one limits most front old mid read bytes was = but_one limits most front old mid read was ∙ sym (length_push read bytes)
 
 -- by the shelf
-pub shelf_failed : (limits : RunLimits) (most : ℕ) (front rest : List (List ℕ)) (name : List ℕ) (old mid new : ShelfState) (read : List GuestFile) →
+pub shelf_failed : (limits : RunLimits) (most : ℕ) (front rest : List (List ℕ)) (name : List ℕ) (old mid new : ShelfState) (read : List (List ℕ)) →
     FilesRead limits most front old mid read → WasGot mid new name file_limit (Err error.Failed) → ShelfBroke limits most (front ++ name ∷ rest) old new
 shelf_failed limits most front rest name old mid new read was got =
     let failed = got.cause.failed refl in record {
@@ -308,7 +300,7 @@ shelf_failed limits most front rest name old mid new read was got =
       asked = last_is front rest name;
       last_failed = failed.1;
       same = same_again old.contents mid.contents new.contents was.got.same got.same;
-      given = bytes_of read;
+      given = read;
       read = first_read limits most front (name ∷ rest) old mid new read was got.gave got.none_stored;
       but_one = but_one limits most front old mid read was;
       some = omega arith;
@@ -319,7 +311,7 @@ shelf_failed limits most front rest name old mid new read was got =
     }
 
 -- for want of memory, or by a check
-pub file_refused : (limits : RunLimits) (most : ℕ) (front rest : List (List ℕ)) (name : List ℕ) (old mid new : ShelfState) (read : List GuestFile) (given : List (List ℕ)) (r : Refusal) →
+pub file_refused : (limits : RunLimits) (most : ℕ) (front rest : List (List ℕ)) (name : List ℕ) (old mid new : ShelfState) (read : List (List ℕ)) (given : List (List ℕ)) (r : Refusal) →
     FilesRead limits most front old mid read → Same mid.contents new.contents → new.calls ≡ counted mid.calls → new.faults ≡ mid.faults → new.last_failed ≡ mid.last_failed → IsFileRefusal r →
     FirstRead limits most (front ++ name ∷ rest) (length front + 1) given old new → IsRefusedSo limits most (front ++ name ∷ rest) old.contents (length front + 1) given r → FilesRefused limits most (front ++ name ∷ rest) old new r
 file_refused limits most front rest name old mid new read given r was same calls faults last by first why = record {
@@ -340,7 +332,7 @@ file_refused limits most front rest name old mid new read given r was same calls
 }
 
 -- the shelf's answer was handed on
-pub file_unread : (limits : RunLimits) (most : ℕ) (front rest : List (List ℕ)) (name : List ℕ) (old mid new : ShelfState) (read : List GuestFile) (r : Refusal) → FilesRead limits most front old mid read →
+pub file_unread : (limits : RunLimits) (most : ℕ) (front rest : List (List ℕ)) (name : List ℕ) (old mid new : ShelfState) (read : List (List ℕ)) (r : Refusal) → FilesRead limits most front old mid read →
     FileRead mid new name (Err r) → FilesUnread limits most (front ++ name ∷ rest) old new r
 file_unread limits most front rest name old mid new read r was h = by h.answer h.got h.handed_on
   where
@@ -352,7 +344,7 @@ file_unread limits most front rest name old mid new read r was h = by h.answer h
         let e : r ≡ refusal.FileLong file_limit = cc in
         let quiet = got.cause.quiet (λ x. let never : ⊥ = cc in never) in
         inr (subst (λ (x : Refusal). FilesRefused limits most (front ++ name ∷ rest) old new x) (sym e)
-        (file_refused limits most front rest name old mid new read (bytes_of read) (refusal.FileLong file_limit) was got.same got.asked quiet.0 quiet.1 tt
+        (file_refused limits most front rest name old mid new read read (refusal.FileLong file_limit) was got.same got.asked quiet.0 quiet.1 tt
         (first_read limits most front (name ∷ rest) old mid new read was got.gave got.none_stored) (
           but_one limits most front old mid read was,
           (name, last_is front rest name, longer_before old.contents mid.contents name (was.got.same name) (got.long refl)),
@@ -363,7 +355,7 @@ file_unread limits most front rest name old mid new read r was h = by h.answer h
         let e : r ≡ refusal.Memory = cc in
         let quiet = got.cause.quiet (λ x. let never : ⊥ = cc in never) in
         inr (subst (λ (x : Refusal). FilesRefused limits most (front ++ name ∷ rest) old new x) (sym e)
-        (file_refused limits most front rest name old mid new read (bytes_of read) refusal.Memory was got.same got.asked quiet.0 quiet.1 tt
+        (file_refused limits most front rest name old mid new read read refusal.Memory was got.same got.asked quiet.0 quiet.1 tt
         (first_read limits most front (name ∷ rest) old mid new read was got.gave got.none_stored)
         (let same = but_one limits most front old mid read was in (omega (arith, same), omega (arith, same)))))
 
@@ -386,20 +378,20 @@ no_memory limits most bytes r within (inl e) long = subst IsTooLong e long
 no_memory limits most bytes r within (inr by) long = short_refused (guest_checks limits most bytes) r (within, tt) by long
 
 -- the file was read, and then refused
-pub file_bad : (limits : RunLimits) (most : ℕ) (front rest : List (List ℕ)) (name : List ℕ) (old mid new : ShelfState) (read : List GuestFile) (bytes : List ℕ) (r : Refusal) → FilesRead limits most front old mid read →
+pub file_bad : (limits : RunLimits) (most : ℕ) (front rest : List (List ℕ)) (name : List ℕ) (old mid new : ShelfState) (read : List (List ℕ)) (bytes : List ℕ) (r : Refusal) → FilesRead limits most front old mid read →
     IsRead mid new name bytes → IsRefusedOr (guest_checks limits most bytes) r → FilesUnread limits most (front ++ name ∷ rest) old new r
 file_bad limits most front rest name old mid new read bytes r was h why =
-    inr (file_refused limits most front rest name old mid new read (bytes_of read ++ bytes ∷ []) r was h.same h.asked h.faults h.last_failed
+    inr (file_refused limits most front rest name old mid new read (read ++ bytes ∷ []) r was h.same h.asked h.faults h.last_failed
     (elim why [ inl e ↦ subst IsFileRefusal (sym e) tt | inr by ↦ by_file limits most bytes r by ])
     (last_read limits most front rest name old mid new read bytes was h)
-    (refused_so limits most (front ++ name ∷ rest) old.contents (length front + 1) (bytes_of read ++ bytes ∷ []) r (with_one limits most front old mid read bytes was)
+    (refused_so limits most (front ++ name ∷ rest) old.contents (length front + 1) (read ++ bytes ∷ []) r (with_one limits most front old mid read bytes was)
     (no_memory limits most bytes r h.within why)
-    (elim why [ inl e ↦ inl e | inr by ↦ inr (checks_push limits most (bytes_of read) bytes r (accepted_all limits most read was.accepted) by) ])))
+    (elim why [ inl e ↦ inl e | inr by ↦ inr (checks_push limits most read bytes r (accepted_all limits most read was.accepted) by) ])))
 
 -- or there was no memory to keep it
-pub file_unkept : (limits : RunLimits) (most : ℕ) (front rest : List (List ℕ)) (name : List ℕ) (old mid new : ShelfState) (read : List GuestFile) (bytes : List ℕ) → FilesRead limits most front old mid read →
+pub file_unkept : (limits : RunLimits) (most : ℕ) (front rest : List (List ℕ)) (name : List ℕ) (old mid new : ShelfState) (read : List (List ℕ)) (bytes : List ℕ) → FilesRead limits most front old mid read →
     IsRead mid new name bytes → FilesUnread limits most (front ++ name ∷ rest) old new refusal.Memory
 file_unkept limits most front rest name old mid new read bytes was h =
-    inr (file_refused limits most front rest name old mid new read (bytes_of read ++ bytes ∷ []) refusal.Memory was h.same h.asked h.faults h.last_failed tt
+    inr (file_refused limits most front rest name old mid new read (read ++ bytes ∷ []) refusal.Memory was h.same h.asked h.faults h.last_failed tt
     (last_read limits most front rest name old mid new read bytes was h)
     (let same = with_one limits most front old mid read bytes was in (omega (arith, same), omega (arith, same))))

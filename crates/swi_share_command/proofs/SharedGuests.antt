@@ -1,13 +1,10 @@
 -- The programs of files that share a cache, and what is told of them.
-use Rattle.std.proofs.Common.{◌≡◌, inl, inr, ℕ, suc, ◌+◌, ◌<◌, ◌≤◌, ◌-◌, ◌^◌, min, Bool, true, if◌then◌else◌, List, [], ◌∷◌, ◌++◌, length, drop, get_or, slice_index_or, take, Option, Some, None, refl, sym, ◌∙◌, ap, subst, arith}
+use Rattle.std.proofs.Common.{◌≡◌, inl, inr, ℕ, suc, ◌+◌, ◌<◌, ◌≤◌, ◌-◌, ◌^◌, min, Bool, true, if◌then◌else◌, List, [], ◌∷◌, ◌++◌, length, drop, slice_index_or, Option, Some, None, refl, sym, ◌∙◌, ap, subst, arith}
 use Rattle.std.specs.List.{AllZip}
 use Rattle.std.proofs.lemmas.Bool.{cases_eq}
-use Rattle.std.proofs.lemmas.List.{drop_all, drop_more, length-map, map-append, take_more}
+use Rattle.std.proofs.lemmas.List.{drop_all, drop_more}
 use Rattle.std.proofs.lemmas.Option.{same_Some}
-use Rattle.swi_outside.specs.Shelf.{ShelfState}
-use Rattle.swi_image.specs.Format.{image_of}
-use Rattle.swi_render.specs.Cut.{IsCut}
-use Rattle.swi_render.specs.ImageOf.{IsImageOf}
+use Rattle.swi_outside.specs.Shelf.{ShelfState, Stands}
 use Rattle.swi_command.specs.declared.command.RunLimits.{RunLimits}
 use Rattle.swi_calls.specs.declared.machine.Machine.{Machine}
 use Rattle.swi_hart.specs.Hart.{HartData}
@@ -20,45 +17,16 @@ use Rattle.swi_rom.specs.Record.{writes}
 use Rattle.swi_report.specs.declared.shared.SharedWork.{SharedWork}
 use Rattle.swi_share.specs.Starting.{AreGuests, IsGuest}
 use Rattle.swi_answer.specs.Lines.{guest_line}
-use Rattle.swi_share_command.specs.declared.command.GuestFile.{GuestFile}
-use Rattle.swi_task.specs.Checks.{OfImage, text_in}
 use Rattle.swi_task.specs.Runs.{ending_by}
-use Rattle.swi_share_command.specs.RunShared.{FilesRead, HaveEnded, IsCutFor, IsGuestOf, bytes_of, context_line, shared_work}
-use Rattle.swi_task.specs.Subject.{IsImageFor}
+use Rattle.swi_share_command.specs.RunShared.{GuestsRead, HaveEnded, IsGuestOf, context_line, shared_work}
 use Rattle.swi_share.proofs.Bounds.{process_at}
 use Rattle.swi_share_command.proofs.Sharing.{process_below}
-use Rattle.swi_share_command.proofs.SharedFiles.{zip_push}
-
--- ---- the image of a file
-
-pub cut_none : (file : List ℕ) (most : ℕ) (own : Option (List ℕ)) (bytes : List ℕ) → own ≡ Some bytes → IsCutFor file most own None
-cut_none file most own bytes is = subst (λ (o : Option (List ℕ)). IsCutFor file most o None) (sym is) tt
-
-pub cut_some : (file : List ℕ) (most : ℕ) (own : Option (List ℕ)) (cut : List ℕ) → own ≡ None → IsCut (text_in file) most (image_of cut) → IsCutFor file most own (Some cut)
-cut_some file most own cut is h = subst (λ (o : Option (List ℕ)). IsCutFor file most o (Some cut)) (sym is) h
-
-pub own_is : (file : List ℕ) (most : ℕ) (own : Option (List ℕ)) (bytes : List ℕ) → own ≡ Some bytes → OfImage own (λ b. IsImageOf (text_in file) (image_of b)) →
-    IsImageFor file most own (image_of bytes) × IsImageOf (text_in file) (image_of bytes)
-own_is file most None bytes is h = absurd (let bad : ⊥ = cc in bad)
-own_is file most (Some held) bytes is h =
-    let same : held ≡ bytes = same_Some held bytes is in
-    (ap image_of (sym same), subst (λ (b : List ℕ). IsImageOf (text_in file) (image_of b)) same h)
 
 -- ---- the programs of the files
 
 pub own_more : (xs : List Guest) (x : Guest) → AreGuests xs → IsGuest x → AreGuests (xs ++ x ∷ [])
 own_more [] x h one = (one, tt)
 own_more (y ∷ ys) x h one = (h.0, own_more ys x h.1 one)
-
--- one program more
-pub guest_more : (limits : RunLimits) (most : ℕ) (files : List GuestFile) (i : ℕ) (f : GuestFile) (guests : List Guest) (x : Guest) → i < length files → f ≡ get_or files i f →
-    AllZip (IsGuestOf limits most) (bytes_of (take i files)) guests → IsGuestOf limits most f.bytes.items x → AllZip (IsGuestOf limits most) (bytes_of (take (i + 1) files)) (guests ++ x ∷ [])
-guest_more limits most files i f guests x lt is was one =
-    let next : bytes_of (take (i + 1) files) ≡ bytes_of (take i files) ++ f.bytes.items ∷ [] =
-    ap bytes_of (take_more files i f lt) ∙ map-append (λ y. y.bytes.items) (take i files) (get_or files i f ∷ [])
-    ∙ ap (λ (y : GuestFile). bytes_of (take i files) ++ y.bytes.items ∷ []) (sym is) in
-    subst (λ (fs : List (List ℕ)). AllZip (IsGuestOf limits most) fs (guests ++ x ∷ [])) (sym next)
-    (zip_push (IsGuestOf limits most) (bytes_of (take i files)) guests f.bytes.items x was one)
 
 zip_length : {A B : Type 0} (R : A → B → Type 0) (xs : List A) (ys : List B) → AllZip R xs ys → length xs ≡ length ys
 zip_length R [] [] h = refl
@@ -67,10 +35,8 @@ zip_length R (x ∷ xs) [] h = absurd h
 zip_length R (x ∷ xs) (y ∷ ys) h = ap suc (zip_length R xs ys h.1)
 
 -- there are as many as names
-pub guests_count : (limits : RunLimits) (most : ℕ) (names : List (List ℕ)) (old new : ShelfState) (files : List GuestFile) (guests : List Guest) →
-    FilesRead limits most names old new files → AllZip (IsGuestOf limits most) (bytes_of files) guests → length guests ≡ length names
-guests_count limits most names old new files guests read made =
-    sym (zip_length (IsGuestOf limits most) (bytes_of files) guests made) ∙ length-map files (λ f. f.bytes.items) ∙ sym (zip_length _ names files read.stand)
+pub guests_count : (limits : RunLimits) (most : ℕ) (names : List (List ℕ)) (old new : ShelfState) (guests : List Guest) → GuestsRead limits most names old new guests → length guests ≡ length names
+guests_count limits most names old new guests h = sym (zip_length (IsGuestOf limits most) h.files guests h.made) ∙ sym (zip_length (Stands old.contents) names h.files h.read.stand)
 
 -- ---- programs that have ended
 

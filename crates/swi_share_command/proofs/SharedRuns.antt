@@ -18,16 +18,15 @@ use Rattle.swi_share.specs.Starting.{most_words}
 use Rattle.swi_answer.specs.declared.answer.Ending.{Ending}
 use Rattle.swi_answer.specs.declared.answer.Refusal.{Refusal}
 use Rattle.swi_answer.specs.declared.answer.Refusal.TheVariants as refusal
-use Rattle.swi_share_command.specs.declared.command.GuestFile.{GuestFile}
 use Rattle.swi_task.specs.Answers.{Answers, AreGiven, HasPassed, HasStored, IsAskedFor, IsChecked, IsLastLonger, IsRunFault, IsSizeRefusal, KeepsShelf, writes_in}
 use Rattle.swi_task.specs.Checks.{Check, HoldsBlock, Fails, IsAccepted, IsRefusedBy, size_refusal}
 use Rattle.swi_task.specs.Devices.{Devices}
-use Rattle.swi_share_command.specs.RunShared.{AreGuestsOf, FilesRead, FilesRefused, FilesUnread, FirstRead, GotSome, IsFileRefusal, IsGuestOf, IsRefusedSo, IsShareErr, ShareFailed, Shares, SharesOver, ShelfBroke, bytes_of, files_checks, guest_checks, limits_by, most_block, share_checks, share_task}
+use Rattle.swi_share_command.specs.RunShared.{AreGuestsOf, FilesRead, FilesRefused, FilesUnread, FirstRead, GotSome, IsFileRefusal, IsGuestFile, IsGuestOf, IsRefusedSo, IsShareErr, ShareFailed, Shares, SharesOver, ShelfBroke, files_checks, limits_by, most_block, share_checks, share_task}
 use Rattle.swi_task.specs.Task.{GaveFirst, Task, TellsAll}
 use Rattle.swi_task.proofs.Images.{front_fails, size_is}
 use Rattle.swi_task.proofs.Lines.{IsLined, appends_last, done_lined, holds_then}
 use Rattle.swi_task.proofs.Refusals.{IsLate, IsLongLast, IsTooLong, causes_behind, checked_by, gave_same, given_short, keeps_ram, late, none_long, none_longer, shelf_causes, sized_along, sized_err, sized_ok, stores_none, untouched}
-use Rattle.swi_share_command.proofs.SharedFiles.{accepted_all, accepted_both, as_many, each_accepted, files_same, given_refused, refused_behind, stand_all}
+use Rattle.swi_share_command.proofs.SharedFiles.{accepted_all, accepted_both, as_many, files_same, given_refused, refused_behind, stand_all}
 
 -- ---- the last line behind it
 
@@ -102,15 +101,14 @@ keeps_files t before after n r got asked passed never = record {
 }
 
 -- what passed: all files, or the first of them
-passed_all : (names : List (List ℕ)) (cache : CacheOptions) (o : ShareOptions) (before after : ShelfState) (read : List GuestFile) (r : Result Ending Refusal) →
-    FilesRead (limits_by o) cache.block_words names before after read → AreGiven after.last_failed r (length names) (length (bytes_of read)) → HasPassed (share_task names cache o) before after r (length names)
+passed_all : (names : List (List ℕ)) (cache : CacheOptions) (o : ShareOptions) (before after : ShelfState) (read : List (List ℕ)) (r : Result Ending Refusal) →
+    FilesRead (limits_by o) cache.block_words names before after read → AreGiven after.last_failed r (length names) (length read) → HasPassed (share_task names cache o) before after r (length names)
 passed_all names cache o before after read r h all = record {
-  given = bytes_of read;
+  given = read;
   gave = h.gave;
   all = all;
   stood = stand_all before.contents names read h.stand;
-  accepted = All-take (λ (file : List ℕ). IsAccepted (guest_checks (limits_by o) cache.block_words file)) (length names - 1) (bytes_of read)
-      (each_accepted (limits_by o) cache.block_words read h.accepted);
+  accepted = All-take (IsGuestFile (limits_by o) cache.block_words) (length names - 1) read h.accepted;
   long = λ limit is. absurd (given_short after.last_failed r (length names) (subst (λ (n : ℕ). AreGiven after.last_failed r (length names) n) (as_many before.contents names read h.stand) all) limit is);
   stored = subst (λ (s : Passed). HasStored r None before.stored s) (sym h.got.stored) (stores_none r before.stored);
 }
@@ -250,16 +248,6 @@ files_unread names cache o d s r size why = elim why [
 
 -- ---- behind the files
 
--- want of memory
-pub guests_unmade : (names : List (List ℕ)) (cache : CacheOptions) (o : ShareOptions) (d : Devices) (s : ShelfState) (read : List GuestFile) (r : Refusal) → size_refusal cache.cache_bytes (length d.ram.words) ≡ None →
-    FilesRead (limits_by o) cache.block_words names d.shelf s read → r ≡ refusal.Memory → Answers (share_task names cache o) d (record d { shelf = s }) (Err r) []
-guests_unmade names cache o d s read r size h e = subst (λ (x : Refusal). Answers (share_task names cache o) d (record d { shelf = s }) (Err x) []) (sym e) (
-    late (share_task names cache o) d s refusal.Memory (length names) 0 tt size h.got.same h.got.faults h.got.last_failed (λ _ _. tt)
-    (none_long (share_task names cache o) d.shelf.contents refusal.Memory (λ x. x))
-    (let none : length names ≡ length names + 0 = omega arith in subst (λ (k : ℕ). s.calls ≡ risen d.shelf.calls k) none h.got.calls)
-    (omega arith, omega arith, λ _. refl)
-    (passed_all names cache o d.shelf s read (Err refusal.Memory) h (let same = as_many d.shelf.contents names read h.stand in (omega (arith, same), omega (arith, same)))))
-
 -- the most words of a block, as the programs have them
 pub most_is : (limits : RunLimits) (most : ℕ) (files : List (List ℕ)) (guests : List Guest) → AllZip (IsGuestOf limits most) files guests → most_words guests ≡ most_block most files
 unfolding most_words most_block
@@ -272,19 +260,19 @@ most_is limits most (file ∷ files) (x ∷ xs) h =
     rw (one, rest) refl
 
 -- the cache holds no block of some program
-pub cache_small : (names : List (List ℕ)) (cache : CacheOptions) (o : ShareOptions) (d : Devices) (s : ShelfState) (read : List GuestFile) (guests : List Guest) (r : Refusal) → size_refusal cache.cache_bytes (length d.ram.words) ≡ None →
-    FilesRead (limits_by o) cache.block_words names d.shelf s read → AreGuestsOf cache o (bytes_of read) guests → Fails (HoldsBlock cache.cache_bytes (4 * most_words guests)) r →
+pub cache_small : (names : List (List ℕ)) (cache : CacheOptions) (o : ShareOptions) (d : Devices) (s : ShelfState) (read : List (List ℕ)) (guests : List Guest) (r : Refusal) → size_refusal cache.cache_bytes (length d.ram.words) ≡ None →
+    FilesRead (limits_by o) cache.block_words names d.shelf s read → AreGuestsOf cache o read guests → Fails (HoldsBlock cache.cache_bytes (4 * most_words guests)) r →
     Answers (share_task names cache o) d (record d { shelf = s }) (Err r) []
 cache_small names cache o d s read guests r size h made fails =
     late (share_task names cache o) d s r (length names) 0 (subst IsLate (sym fails.1) tt) size h.got.same h.got.faults h.got.last_failed
     (λ files are. checked_by (share_checks cache o files) s.last_failed r
     (subst (λ (fs : List (List ℕ)). IsRefusedBy (share_checks cache o fs) r) (files_same (limits_by o) cache.block_words names d.shelf s read files h are)
-    (refused_behind (files_checks (limits_by o) cache.block_words (bytes_of read)) _ r (accepted_all (limits_by o) cache.block_words read h.accepted)
-    (inl (subst (λ (n : ℕ). Fails (HoldsBlock cache.cache_bytes (4 * n)) r) (most_is (limits_by o) cache.block_words (bytes_of read) guests made) fails)))))
+    (refused_behind (files_checks (limits_by o) cache.block_words read) _ r (accepted_all (limits_by o) cache.block_words read h.accepted)
+    (inl (subst (λ (n : ℕ). Fails (HoldsBlock cache.cache_bytes (4 * n)) r) (most_is (limits_by o) cache.block_words read guests made) fails)))))
     (none_long (share_task names cache o) d.shelf.contents r (λ long. subst IsTooLong fails.1 long))
     (let none : length names ≡ length names + 0 = omega arith in subst (λ (k : ℕ). s.calls ≡ risen d.shelf.calls k) none h.got.calls)
     (subst (λ (x : Refusal). IsAskedFor (length names) 0 s.last_failed (Err x) (length names) 0) (sym fails.1) (refl, refl))
-    (passed_all names cache o d.shelf s read (Err r) h (subst (λ (x : Refusal). AreGiven s.last_failed (Err x) (length names) (length (bytes_of read))) (sym fails.1) (sym (as_many d.shelf.contents names read h.stand))))
+    (passed_all names cache o d.shelf s read (Err r) h (subst (λ (x : Refusal). AreGiven s.last_failed (Err x) (length names) (length read)) (sym fails.1) (sym (as_many d.shelf.contents names read h.stand))))
 
 -- ---- the run
 
@@ -338,13 +326,13 @@ err_memory refusal.Memory h never = refl
 err_memory _ h never = absurd h
 
 -- all checks pass
-passes_all : (names : List (List ℕ)) (cache : CacheOptions) (o : ShareOptions) (before after : ShelfState) (read : List GuestFile) (guests : List Guest) (files : List (List ℕ)) →
+passes_all : (names : List (List ℕ)) (cache : CacheOptions) (o : ShareOptions) (before after : ShelfState) (read : List (List ℕ)) (guests : List Guest) (files : List (List ℕ)) →
     FilesRead (limits_by o) cache.block_words names before after read → GaveFirst names files before after ⊎ TellsAll before.contents names files →
-    AreGuestsOf cache o (bytes_of read) guests → 4 * most_words guests ≤ cache.cache_bytes → IsAccepted (share_checks cache o files) × AreGuestsOf cache o files guests
+    AreGuestsOf cache o read guests → 4 * most_words guests ≤ cache.cache_bytes → IsAccepted (share_checks cache o files) × AreGuestsOf cache o files guests
 passes_all names cache o before after read guests files h are made holds =
     subst (λ (fs : List (List ℕ)). IsAccepted (share_checks cache o fs) × AreGuestsOf cache o fs guests) (files_same (limits_by o) cache.block_words names before after read files h are) (
-      accepted_both (files_checks (limits_by o) cache.block_words (bytes_of read)) _ (accepted_all (limits_by o) cache.block_words read h.accepted)
-          (subst (λ (n : ℕ). 4 * n ≤ cache.cache_bytes) (most_is (limits_by o) cache.block_words (bytes_of read) guests made) holds, tt),
+      accepted_both (files_checks (limits_by o) cache.block_words read) _ (accepted_all (limits_by o) cache.block_words read h.accepted)
+          (subst (λ (n : ℕ). 4 * n ≤ cache.cache_bytes) (most_is (limits_by o) cache.block_words read guests made) holds, tt),
       made,
     )
 
@@ -358,8 +346,8 @@ err_short : (r : Refusal) → IsShareErr r → IsTooLong r → ⊥
 err_short (refusal.FileLong limit) h long = h
 err_short _ h long = long
 
-pub shared_answers : (names : List (List ℕ)) (cache : CacheOptions) (o : ShareOptions) (d : Devices) (s : ShelfState) (out e : SinkState) (ram : RamState) (read : List GuestFile) (guests : List Guest) (r : Result Ending Refusal) →
-    size_refusal cache.cache_bytes (length d.ram.words) ≡ None → FilesRead (limits_by o) cache.block_words names d.shelf s read → AreGuestsOf cache o (bytes_of read) guests → 4 * most_words guests ≤ cache.cache_bytes →
+pub shared_answers : (names : List (List ℕ)) (cache : CacheOptions) (o : ShareOptions) (d : Devices) (s : ShelfState) (out e : SinkState) (ram : RamState) (read : List (List ℕ)) (guests : List Guest) (r : Result Ending Refusal) →
+    size_refusal cache.cache_bytes (length d.ram.words) ≡ None → FilesRead (limits_by o) cache.block_words names d.shelf s read → AreGuestsOf cache o read guests → 4 * most_words guests ≤ cache.cache_bytes →
     SharesOver o cache.cache_bytes guests (record d { shelf = s }) (shared_to d s out e ram) r → Answers (share_task names cache o) d (shared_to d s out e ram) r []
 shared_answers names cache o d s out e ram read guests (Ok x) size h made holds run =
     let m : Devices = shared_to d s out e ram in record {
@@ -390,7 +378,7 @@ shared_answers names cache o d s out e ram read guests (Err r) size h made holds
         subst (λ (y : SinkState). Appends d.error.held y.held []) (sym (ap (λ (y : Devices). y.error) same_all)) (Appends-none d.error.held),
       );
       shelf = keeps_files (share_task names cache o) d.shelf s (length names) (Err r) h.got (err_asked (length names) s.last_failed r run.refused)
-          (passed_all names cache o d.shelf s read (Err r) h (err_given s.last_failed (length names) (length (bytes_of read)) r run.refused (sym (as_many d.shelf.contents names read h.stand)))) (err_not r refusal.ShelfFault run.refused (λ x. x));
+          (passed_all names cache o d.shelf s read (Err r) h (err_given s.last_failed (length names) (length read) r run.refused (sym (as_many d.shelf.contents names read h.stand)))) (err_not r refusal.ShelfFault run.refused (λ x. x));
       input = refl;
       ram = run.beyond;
       causes = causes_behind d s m (Err r) h.got.faults run.causes;

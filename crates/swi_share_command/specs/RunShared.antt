@@ -8,8 +8,6 @@ use Rattle.swi_outside.specs.Shelf.{Contents, Same, ShelfState, Stands, get_of}
 use Rattle.swi_elf_read.specs.Loaded.{image_of as image_in}
 use Rattle.swi_program.specs.ProgramOf.{program_of_file}
 use Rattle.swi_make.specs.Numbers.{number}
-use Rattle.swi_image.specs.Format.{image_of}
-use Rattle.swi_render.specs.Cut.{IsCut}
 use Rattle.swi_command.specs.declared.command.CacheOptions.{CacheOptions}
 use Rattle.swi_command.specs.declared.command.RunLimits.{RunLimits}
 use Rattle.swi_command.specs.declared.command.Schedule.{Schedule}
@@ -32,7 +30,7 @@ use Rattle.swi_share.specs.Laws.{counts_of, events_of, unfetched}
 use Rattle.swi_hart.specs.declared.fault.BoardFault.{BoardFault}
 use Rattle.swi_hart.specs.declared.fault.BoardFault.TheVariants as board_fault
 use Rattle.swi_share.specs.Shared.{Context, Shared, shared_run}
-use Rattle.swi_share.specs.Starting.{shared_start}
+use Rattle.swi_share.specs.Starting.{AreGuests, shared_start}
 use Rattle.swi_share.specs.Waiting.{most_steps}
 use Rattle.swi_report.specs.declared.shared.SharedWork.{SharedWork}
 use Rattle.swi_report.specs.Shared.{shared_text_of}
@@ -42,10 +40,9 @@ use Rattle.swi_answer.specs.declared.answer.Ending.TheVariants as ending
 use Rattle.swi_answer.specs.declared.answer.Refusal.{Refusal}
 use Rattle.swi_answer.specs.declared.answer.Refusal.TheVariants as refusal
 use Rattle.swi_answer.specs.Lines.{guest_line}
-use Rattle.swi_share_command.specs.declared.command.GuestFile.{GuestFile}
 use Rattle.swi_task.specs.Answers.{IsLast, IsLastLonger, IsRunFault, StandFirst}
 use Rattle.swi_task.specs.Causes.{HasCauses}
-use Rattle.swi_task.specs.Checks.{InRam, Check, IsShort, IsAcceptedElf, HasRoom, IsAcceptedImage, IsOwnImage, FitsUnlessImage, HoldsBlock, IsAccepted, IsRefusedBy, block_words, file_limit, room_in, text_in}
+use Rattle.swi_task.specs.Checks.{InRam, Check, IsShort, IsAcceptedElf, HasRoom, IsAcceptedImage, IsOwnImage, FitsUnlessImage, HoldsBlock, IsAccepted, IsRefusedBy, block_words, room_in}
 use Rattle.swi_task.specs.Devices.{Devices}
 use Rattle.swi_task.specs.Runs.{ending_by}
 use Rattle.swi_task.specs.Subject.{IsImageFor}
@@ -245,22 +242,9 @@ share_task names cache o = record {
 
 -- ---- as its functions say it
 
--- the cut of a file's text, where the file has no image
-abbrev pub IsCutFor : List ℕ → ℕ → Option (List ℕ) → Option (List ℕ) → Type 0
-IsCutFor file most None None = ⊥
-IsCutFor file most None (Some cut) = IsCut (text_in file) most (image_of cut)
-IsCutFor file most (Some bytes) None = ⊤
-IsCutFor file most (Some bytes) (Some cut) = ⊥
-
--- a file that passes the checks of a program that is to run, with that cut
-pub record IsGuestFile (limits : RunLimits) (most : ℕ) (f : GuestFile) : Type 0 where
-  pub within : length f.bytes.items ≤ file_limit
-  pub accepted : IsAccepted (guest_checks limits most f.bytes.items)
-  pub cut : IsCutFor f.bytes.items most (image_in f.bytes.items) f.cut
-
--- the bytes of the files
-abbrev pub bytes_of : List GuestFile → List (List ℕ)
-bytes_of files = map (λ f. f.bytes.items) files
+-- a file that passes the checks of a program that is to run
+abbrev pub IsGuestFile : RunLimits → ℕ → List ℕ → Type 0
+IsGuestFile limits most file = IsAccepted (guest_checks limits most file)
 
 -- so many files were got from the shelf, and it has not failed
 pub record GotSome (n : ℕ) (old new : ShelfState) : Type 0 where
@@ -271,17 +255,24 @@ pub record GotSome (n : ℕ) (old new : ShelfState) : Type 0 where
   pub last_failed : new.last_failed ≡ old.last_failed
 
 -- the contents of these names were read, and each passes its checks
-pub record FilesRead (limits : RunLimits) (most : ℕ) (names : List (List ℕ)) (old new : ShelfState) (files : List GuestFile) : Type 0 where
+pub record FilesRead (limits : RunLimits) (most : ℕ) (names : List (List ℕ)) (old new : ShelfState) (files : List (List ℕ)) : Type 0 where
   pub got : GotSome (length names) old new
-  pub gave : GaveFirst names (bytes_of files) old new
-  pub stand : AllZip (λ name f. Stands old.contents name f.bytes.items) names files
+  pub gave : GaveFirst names files old new
+  pub stand : AllZip (Stands old.contents) names files
   pub accepted : All (IsGuestFile limits most) files
+
+-- and their programs made
+pub record GuestsRead (limits : RunLimits) (most : ℕ) (names : List (List ℕ)) (old new : ShelfState) (guests : List Guest) : Type 0 where
+  pub files : List (List ℕ)
+  pub read : FilesRead limits most names old new files
+  pub made : AllZip (IsGuestOf limits most) files guests
+  pub own : AreGuests guests
 
 -- so many of these names were got, and the first of them read; each but the one that was got last passes its checks
 pub record FirstRead (limits : RunLimits) (most : ℕ) (names : List (List ℕ)) (gets : ℕ) (given : List (List ℕ)) (old new : ShelfState) : Type 0 where
   pub gave : GaveFirst names given old new
   pub stood : StandFirst old.contents names given
-  pub accepted : All (λ file. IsAccepted (guest_checks limits most file)) (take (gets - 1) given)
+  pub accepted : All (IsGuestFile limits most) (take (gets - 1) given)
   pub stored : new.stored ≡ old.stored
 
 -- the shelf failed at one of them

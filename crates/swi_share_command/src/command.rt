@@ -1,36 +1,33 @@
 //! The command `share`: the programs of several files over one cache.
 #![tactic(auto)]
 
-ghost use Rattle.std.specs.Prelude.{◌≡◌, ◌*◌, ◌^◌, ◌<◌, ◌≤◌, All, Some, None, true, IfOk, IfErr, OnOk, OnErr, Err, [], length, map, string_bytes};
-ghost use Rattle.std.specs.List.{AllZip};
+ghost use Rattle.std.specs.Prelude.{◌≡◌, ◌*◌, ◌^◌, ◌<◌, ◌≤◌, None, true, IfOk, IfErr, OnOk, [], length, map, string_bytes};
 ghost use Rattle.swi_command.specs.CommandLine.{IsBlockSize, IsCacheInRange, IsInRange, IsShareCount, IsShareInRange};
-ghost use Rattle.swi_elf_read.specs.Loaded.{image_of as image_in};
 ghost use Rattle.swi_outside.specs.Sink.{WasWritten};
-ghost use Rattle.swi_render.specs.ImageOf.{IsImageOf};
 ghost use Rattle.swi_share.specs.Run.{CanRun, ScheduleRan};
 ghost use Rattle.swi_share.specs.Sharing.{IsSharing, seen as seen_of};
 ghost use Rattle.swi_share.specs.Starting.{AreGuests, IsGuest, most_words};
 ghost use Rattle.swi_task.specs.Answers.{Answers};
-ghost use Rattle.swi_task.specs.Checks.{IsAccepted, IsAcceptedImage, IsOwnImage, IsRefusedOr, Passes, file_limit, text_in};
+ghost use Rattle.swi_task.specs.Checks.{IsAccepted, IsRefusedOr, file_limit};
 ghost use Rattle.swi_task.specs.Devices.{Devices};
-ghost use Rattle.swi_share_command.specs.RunShared.{FilesRead, FilesUnread, HaveEnded, IsCutFor, IsGuestFile, IsGuestOf, SharesOver, bytes_of, guest_checks, guest_lines, limits_by, order_of, refusal_by, share_report, share_task, shared_work};
-ghost use Rattle.swi_task.specs.Subject.{IsImageFor};
+ghost use Rattle.swi_share_command.specs.RunShared.{FilesUnread, GuestsRead, HaveEnded, IsGuestOf, SharesOver, guest_checks, guest_lines, limits_by, order_of, refusal_by, share_report, share_task, shared_work};
 
 use std::alloc::Global;
+use std::array;
 use swi_answer::{Ending, Refusal, line_of_guest};
 use swi_command::{CacheOptions, RunLimits, Schedule, ShareOptions};
-use swi_elf_read::{Elf, image_bytes, read_elf};
 use swi_hart::BoardFault;
-use swi_image::{Image, ImageView, read_image};
+use swi_image::Image;
 use swi_make::next_number;
 use swi_outside::{CacheRam, Failed, Shelf, Sink};
 use swi_report::{SharedWork, shared_text};
 use swi_share::{Guest, Share, most_words};
 use swi_task::{
-    Prepared, accept, check_block, check_size, cut_image, ending_by, own_image, prepare, read_file,
+    Prepared, Subject, SubjectImage, accept, check_block, check_size, ending_by, prepare,
+    read_file, subject_of,
 };
 
-/// A file that passes the checks of a program that is to run, with the greedy cut of its text where it has no image.
+/// What the program of a file borrows: the file's bytes, and the greedy cut of its text where the file has no image.
 #[derive(Drop)]
 struct GuestFile {
     bytes: Vec<u8>,
@@ -50,120 +47,59 @@ fn limits_by(options: &ShareOptions) -> RunLimits
     }
 }
 
-/// The greedy cut of a file's text into blocks of at most so many words, where the file has no image. The file passes the
+/// The program of a file, with the file's image or else the greedy cut of its text, and an empty input. The file passes the
 /// checks of a program that is to run.
-fn cut_of(
-    alloc: Global,
-    file: &[u8],
-    limits: &RunLimits,
-    block_words: u32,
-) -> Result<Option<Image>, Refusal>
-    requires within { length file.now ≤ file_limit }
-    requires ranges { IsInRange limits.now }
-    requires size { IsBlockSize block_words }
-    ensures cut { IfOk result (λ cut. IsCutFor file.now block_words (image_in file.now) cut) }
-    ensures accepted { OnOk result (IsAccepted (guest_checks limits.now block_words file.now)) }
-    ensures refused { IfErr result (IsRefusedOr (guest_checks limits.now block_words file.now)) }
-{
-    let elf = accept(file)?;
-    let prepared = prepare(alloc, &elf, limits)?;
-    let Some(bytes) = image_bytes(&elf) else {
-        let cut = cut_image(alloc, &prepared.program, block_words)?;
-        return Ok(Some(cut));
-    };
-    own_image(&prepared.program, bytes)?;
-    Ok(None)
-}
-
-/// Reads the files in their order, each with its checks before the next one is read.
-fn read_guests<F: Shelf>(
-    alloc: Global,
-    shelf: &mut F,
-    names: &[String],
-    limits: &RunLimits,
-    block_words: u32,
-) -> Result<Vec<GuestFile>, Refusal>
-    requires ranges { IsInRange limits.now }
-    requires size { IsBlockSize block_words }
-    ensures read { IfOk result (λ files. FilesRead limits.now block_words (map (λ n. string_bytes n) names.now)
-        (F.state shelf.old) (F.state shelf.new) files.items) }
-    ensures unread { IfErr result (FilesUnread limits.now block_words (map (λ n. string_bytes n) names.now)
-        (F.state shelf.old) (F.state shelf.new)) }
-{
-    let mut files = Vec::new(alloc);
-    for name in names {
-        let bytes = read_file(alloc, shelf, name.as_str())?;
-        let cut = cut_of(alloc, &bytes, limits, block_words)?;
-        if files.push(GuestFile { bytes, cut }).is_err() {
-            return Err(Refusal::Memory);
-        }
-    }
-    Ok(files)
-}
-
-/// The image of a file that passes its checks, or else the cut of its text.
-fn image_for<'a>(elf: &Elf<'a>, cut: &'a Option<Image>, block_words: u32) -> ImageView<'a>
-    requires within { length elf.now ≤ file_limit }
-    requires cut { IsCutFor elf.now block_words (image_in elf.now) cut.now }
-    requires accepted { Passes (IsAcceptedImage elf.now) }
-    requires own { Passes (IsOwnImage elf.now) }
-    ensures image { IsImageFor elf.now block_words (image_in elf.now) result }
-    ensures own { IsImageOf (text_in elf.now) result }
-{
-    if let Some(image) = cut {
-        return image.view();
-    }
-    let Some(bytes) = image_bytes(elf) else {
-        unreachable!()
-    };
-    match read_image(bytes) {
-        Ok(view) => view,
-        Err(_) => unreachable!(),
-    }
-}
-
-/// The program of a file, with an empty input.
 fn guest_of<'a>(
     alloc: Global,
-    file: &'a GuestFile,
+    file: &'a mut GuestFile,
     limits: &RunLimits,
     block_words: u32,
 ) -> Result<Guest<'a>, Refusal>
+    requires within { length file.old.bytes.items ≤ file_limit }
     requires ranges { IsInRange limits.now }
-    requires file { IsGuestFile limits.now block_words file.now }
-    ensures guest { IfOk result (IsGuestOf limits.now block_words file.now.bytes.items) }
+    requires size { IsBlockSize block_words }
+    ensures guest { IfOk result (IsGuestOf limits.now block_words file.old.bytes.items) }
     ensures own { IfOk result IsGuest }
-    ensures memory { OnErr result (result ≡ Err Refusal.Memory) }
+    ensures accepted { OnOk result (IsAccepted (guest_checks limits.now block_words file.old.bytes.items)) }
+    ensures refused { IfErr result (IsRefusedOr (guest_checks limits.now block_words file.old.bytes.items)) }
 {
-    let Ok(elf) = read_elf(&file.bytes) else {
-        unreachable!()
-    };
-    let Ok(Prepared { program, layout }) = prepare(alloc, &elf, limits) else {
-        return Err(Refusal::Memory);
+    let GuestFile { bytes, cut } = file;
+    let elf = accept(bytes)?;
+    let Prepared { program, layout } = prepare(alloc, &elf, limits)?;
+    let Subject { program, image } = subject_of(alloc, &elf, program, block_words)?;
+    let image = match image {
+        SubjectImage::Own(view) => view,
+        SubjectImage::Cut(image) => cut.insert(image).view(),
     };
     Ok(Guest {
         program,
-        image: image_for(&elf, &file.cut, block_words),
+        image,
         layout,
         input: Vec::new(alloc),
     })
 }
 
-/// The programs of the files, in their order.
-fn guests_of<'a>(
+/// The programs of the files, in their order: each file is read, and its program made, before the next one is read.
+fn read_guests<'a, F: Shelf>(
     alloc: Global,
-    files: &'a [GuestFile],
+    shelf: &mut F,
+    names: &[String],
+    files: &'a mut [GuestFile],
     limits: &RunLimits,
     block_words: u32,
 ) -> Result<Vec<Guest<'a>>, Refusal>
+    requires places { length names.now ≤ length files.old }
     requires ranges { IsInRange limits.now }
-    requires files { All (IsGuestFile limits.now block_words) files.now }
-    ensures guests { IfOk result (λ guests. AllZip (IsGuestOf limits.now block_words) (bytes_of files.now) guests.items) }
-    ensures own { IfOk result (λ guests. AreGuests guests.items) }
-    ensures memory { OnErr result (result ≡ Err Refusal.Memory) }
+    requires size { IsBlockSize block_words }
+    ensures read { IfOk result (λ guests. GuestsRead limits.now block_words (map (λ n. string_bytes n) names.now)
+        (F.state shelf.old) (F.state shelf.new) guests.items) }
+    ensures unread { IfErr result (FilesUnread limits.now block_words (map (λ n. string_bytes n) names.now)
+        (F.state shelf.old) (F.state shelf.new)) }
 {
     let mut guests = Vec::new(alloc);
-    for file in files {
+    let places = names.iter().zip(files);
+    for (name, file) in places {
+        file.bytes = read_file(alloc, shelf, name.as_str())?;
         let guest = guest_of(alloc, file, limits, block_words)?;
         if guests.push(guest).is_err() {
             return Err(Refusal::Memory);
@@ -343,8 +279,12 @@ pub fn share<F: Shelf, O: Sink, E: Sink, R: CacheRam>(
 {
     check_size(cache.cache_bytes, ram)?;
     let limits = limits_by(options);
-    let files = read_guests(alloc, shelf, names, &limits, cache.block_words)?;
-    let guests = guests_of(alloc, &files, &limits, cache.block_words)?;
+    // There are eight names at most.
+    let mut files: [GuestFile; 8] = array::from_fn(|_| GuestFile {
+        bytes: Vec::new(alloc),
+        cut: None,
+    });
+    let guests = read_guests(alloc, shelf, names, &mut files, &limits, cache.block_words)?;
     check_block(cache.cache_bytes, most_words(&guests))?;
     run_guests(alloc, guests, cache.cache_bytes, options, out, err, ram)
 }

@@ -1,8 +1,10 @@
-use Rattle.std.proofs.Common.{map, take, string_bytes}
-use Rattle.swi_share_command.specs.RunShared.{FilesRead}
+use Rattle.std.proofs.Common.{length}
+use Rattle.std.specs.Iterator.Adapters.{zip_first, zip_second}
+use Rattle.std.specs.Slice.Iter.{iter_rest, iter_mut_rest}
+use Rattle.swi_share_command.proofs.Reading.{ReadSoFar}
 use Rattle.swi_share_command.proofs.command.read_guests.Given as goal
 
 abbrev pub invariant-loop-name : goal.invariant-loop-name
 invariant-loop-name g l =
-    FilesRead l.limits l.block_words (map (λ n. string_bytes n) (take l.name-index l.names))
-    (g.F.Shelf.state l.initial.shelf) (g.F.Shelf.state l.shelf) l.files.items
+    ReadSoFar l.limits l.block_words l.names (iter_rest (zip_first l.name-iterator)) (length (iter_mut_rest (zip_second l.name-iterator)))
+    (g.F.Shelf.state l.initial.shelf) (g.F.Shelf.state l.shelf) l.guests.items
