@@ -134,7 +134,7 @@ home_is : (vs : Images) (s : Slots) (at target home : ℕ) → (e : ExitIn vs s 
 home_is vs s at target home e is = is ∙ ap (λ (x : ℕ). slice_index s.blocks x) (exit_row vs s at target e)
 
 maybe_at : (vs : Images) (s t u : Slots) (q slot at target home index : ℕ) (b d : RamState) → (e : ExitIn vs s at target) → home ≡ slice_index s.blocks (at / s.size) → index ≡ slot * s.size + q →
-    MaybeLinked t u (can_link t at home index) at slot index b d → MaybeLinked t u (can_link t at (slice_index s.blocks e.slot) (slot * s.size + q)) at slot (slot * s.size + q) target b d
+    MaybeLinked t u (can_link t at home index) at slot index b d → MaybeLinked t u (can_link t at (slice_index s.blocks e.slot) (slot * s.size + q)) at slot (slot * s.size + q) b d
 maybe_at vs s t u q slot at target home index b d e home_at index_is maybe =
     subst (λ (i : ℕ). MaybeLinked t u (can_link t at (slice_index s.blocks e.slot) i) at slot i b d) index_is
     (subst (λ (k : ℕ). MaybeLinked t u (can_link t at k index) at slot index b d) (home_is vs s at target home e home_at) maybe)
