@@ -293,7 +293,6 @@ placed_stands e v words next c stands is long copied other =
         used_most = omega (arith, stands.shape.used_most, few, more);
         blocks_long = length-set e.blocks c.slot c.block ∙ stands.shape.blocks_long;
         lengths_long = length-set e.lengths c.slot (length_at v c.block) ∙ stands.shape.lengths_long;
-       
         below = λ n h. elim (has_last e.queue c.slot n h) [ inl a ↦ stands.shape.below n a | inr s ↦ omega (arith, s, slot) ];
         homed = placed_homed e.slots e.queue e.blocks e.homes c.slot c.block stands.shape.homed was.slot_free (omega (arith, slot, stands.shape.blocks_long)) (omega (arith, was.known, stands.blocks_most)) was.absent;
       };

@@ -1,5 +1,5 @@
 -- The words of slots that were never taken stay.
-use Rattle.std.proofs.Common.{◌≡◌, ◌⊎◌, ℕ, ◌+◌, ◌*◌, ◌<◌, ◌≤◌, min, true, false, Bool, List, length, map, slice_index, slice_set, Option, arith, refl, sym, ◌∙◌, ap, subst, inl, inr}
+use Rattle.std.proofs.Common.{◌≡◌, ◌⊎◌, ℕ, ◌+◌, ◌*◌, ◌<◌, ◌≤◌, min, true, false, Bool, List, length, slice_index, arith, refl, sym, ◌∙◌, ap, subst, inl, inr}
 use Rattle.std.proofs.lemmas.List.{get_or-set_other}
 use Rattle.std.proofs.lemmas.Nat.{row_fits}
 use Rattle.swi_image.specs.Format.{ImageData}
@@ -8,10 +8,9 @@ use Rattle.swi_outside.specs.CacheRam.{RamState}
 use Rattle.swi_rom.specs.Record.{Record, Link, Has, Placed, Placement, Transfer, has_link}
 use Rattle.swi_rom.specs.Served.{SameFrom, WordsMove}
 use Rattle.swi_rom.specs.Service.{Setting}
-use Rattle.swi_engine.specs.declared.joints.Joint.{Joint}
 use Rattle.swi_engine.specs.declared.copying.Copying.{Copying}
-use Rattle.swi_engine.specs.Engine.{beside, copies_begun, engine_copies, extent_of, taken, wrote_next}
-use Rattle.swi_engine.specs.State.{EngineData, kept_by, link_of, setting_of, spot, used}
+use Rattle.swi_engine.specs.Engine.{beside, copies_begun, extent_of, taken, wrote_next}
+use Rattle.swi_engine.specs.State.{EngineData, kept_by, setting_of, spot, used}
 use Rattle.swi_engine.specs.Sound.{EngineSound}
 use Rattle.swi_engine.specs.Seats.{in_joints, joint_inside, length_most, map_has, placed_slot}
 use Rattle.swi_engine.specs.Moves.{OneSet}

@@ -1,5 +1,5 @@
 -- No transfer and no event gives back a slot that was taken.
-use Rattle.std.proofs.Common.{◌≡◌, ◌≤◌, ℕ, ◌+◌, ◌-◌, ◌*◌, ◌/◌, ◌==◌, ◌&&◌, Bool, true, false, not, List, [], ◌∷◌, Option, Some, None, if◌then◌else◌, length, min, nat_lt, slice_index, arith, refl, sym, ap, subst}
+use Rattle.std.proofs.Common.{◌≡◌, ◌≤◌, ℕ, ◌+◌, ◌-◌, ◌*◌, ◌/◌, ◌==◌, ◌&&◌, Bool, true, false, not, List, [], ◌∷◌, Option, Some, None, if◌then◌else◌, length, min, nat_lt, slice_index, arith, refl, ap, subst}
 use Rattle.std.proofs.lemmas.Nat.{mul-le}
 use Rattle.swi_image.specs.Format.{ImageData}
 use Rattle.swi_image.specs.Place.{length_at}
@@ -7,7 +7,7 @@ use Rattle.swi_rom.specs.Record.{Record, Placement, Link, Transfer, direct, indi
 use Rattle.swi_rom.specs.Service.{Setting}
 use Rattle.swi_rom.specs.Policy.{Putting, Rises, counted, evicted, evicted_misses, is_placed, linked, linked_misses, linked_over, served_rises}
 use Rattle.swi_engine.specs.declared.copying.Copying.{Copying}
-use Rattle.swi_engine.specs.Engine.{Event, ahead, arrived, beside, brought, copies_begun, copy_in, copy_of, dropped, engine_copies, engine_words, event, event_by, extent_of, free_slot, into, into_free, into_oldest, made_way, missed, newest_first, newest_into, numbers, oldest_but, others, span_of, taken, undone, with_block, wrote_next}
+use Rattle.swi_engine.specs.Engine.{Event, ahead, arrived, beside, brought, copies_begun, copy_in, copy_of, dropped, engine_copies, engine_words, event, event_by, extent_of, free_slot, into, into_free, into_oldest, made_way, missed, newest_first, newest_into, numbers, oldest_but, others, span_of, taken, with_block, wrote_next}
 
 -- ---- what keeps the further numbers
 

@@ -390,12 +390,7 @@ impl EngineRom {
     }
 
     // Makes an exit a link to a word.
-    fn link<M: CacheRam>(
-        &mut self,
-        ram: &mut M,
-        joint: Joint,
-        to: u32,
-    ) -> Result<(), Failed>
+    fn link<M: CacheRam>(&mut self, ram: &mut M, joint: Joint, to: u32) -> Result<(), Failed>
         requires at { joint.at < self.old.slots * self.old.size }
         requires to { to < self.old.slots * self.old.size }
         requires small { self.old.slots * self.old.size ≤ 2 ^ 21 }
@@ -418,12 +413,7 @@ impl EngineRom {
     }
 
     // Makes an exit a link, where its block still stands and a JAL reaches.
-    fn link_exit<M: CacheRam>(
-        &mut self,
-        ram: &mut M,
-        joint: Joint,
-        to: u32,
-    ) -> Result<(), Failed>
+    fn link_exit<M: CacheRam>(&mut self, ram: &mut M, joint: Joint, to: u32) -> Result<(), Failed>
         requires block { joint.block < length self.old.homes }
         requires at { joint.at < self.old.slots * self.old.size }
         requires to { to < self.old.slots * self.old.size }

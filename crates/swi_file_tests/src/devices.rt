@@ -9,7 +9,7 @@ use swi_devices::{
     FaultRam, Folder, FolderShelf, MemShelf, MemSink, MemSource, RealSink, RealSource,
     SystemFolder, VecRam,
 };
-use swi_outside::{CacheRam, Failed, Memory, Shelf, ShelfError, Sink, Source, Words};
+use swi_outside::{CacheRam, Failed, Shelf, ShelfError, Sink, Source, Words};
 
 /// Reads into a buffer, once for each row: the answer, and what the buffer then holds.
 fn assert_reads<S: Source>(

@@ -1,5 +1,4 @@
 use crate::bytes::bytes_of;
-use std::alloc::Global;
 use std::test::Fail;
 use swi_program::one_text;
 use swi_render::Part::{self, *};

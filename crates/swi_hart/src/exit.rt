@@ -23,7 +23,7 @@ pub const EBREAK: u32 = 0x0010_0073;
 /// What an exit is for, by the word `d` behind it. Two tests of a bit each: of four cases of one number the compiler makes
 /// a jump through a table.
 #[inline(always)]
-pub fn exit_kind(d: u32) -> ExitKind
+pub(crate) fn exit_kind(d: u32) -> ExitKind
     ensures { result ≡ exit_kind d }
 {
     if d % 2 == 0 {
@@ -64,7 +64,7 @@ pub(crate) fn fell(stage: Stage, pc: u32, target: u32, back: bool) -> bool
 
 /// The index of the word to which the JAL at word `i` of the ram goes, by its offset in bytes.
 #[inline(always)]
-pub fn jump_index(off: u32, i: u32) -> u32
+fn jump_index(off: u32, i: u32) -> u32
     ensures { (j w : ℕ) → IsJump i j w → off ≡ offset_of (decoded w) → j < 2 ^ 30 → i < 2 ^ 30 → result ≡ j }
 {
     i.wrapping_mul(4).wrapping_add(off) / 4

@@ -10,10 +10,10 @@ mod quick;
 mod step;
 mod word;
 
-pub use exit::{EBREAK, exit_kind, jump, jump_index};
+pub use exit::{EBREAK, jump};
 pub use fault::BoardFault;
 pub use hart::{CodePlace, Control, ExitKind, Hart, Role, Stage};
 pub use plain::{plain_place, plain_step};
 pub use position::Position;
-pub use quick::{at_word, quick_step};
+pub use quick::quick_step;
 pub use step::register_target;

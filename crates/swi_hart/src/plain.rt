@@ -3,7 +3,6 @@
 
 ghost use Rattle.std.specs.Prelude.{◌≡◌, ◌⊎◌, ◌^◌, ◌<◌, ℕ, IsErrOf, OnOk, MatchOption, Some, None, true, false};
 ghost use Rattle.swi_isa.specs.Decode.{decoded};
-ghost use Rattle.swi_memory.specs.Bus.{fetched};
 ghost use Rattle.swi_image.specs.Place.{word_at};
 ghost use Rattle.swi_rom.specs.Record.{Record};
 ghost use Rattle.swi_outside.specs.Devices.{streams};
@@ -65,7 +64,7 @@ pub fn plain_place(hart: &Hart, image: &ImageView<'_>) -> Option<(CodePlace, u32
 }
 
 /// A step at the place `at` under control, where the image has the plain word `own`: the word that is fetched is executed,
-/// by the role of the image's. Faults are as for `at_word`.
+/// by the role of the image's. Faults are as for `quick_step`.
 #[inline(never)]
 pub fn plain_step<R: CacheRom, M: CacheRam, I: Source, O: Sink, E: Sink>(
     hart: &mut Hart,

@@ -40,12 +40,10 @@ fn offset_of(x: &Instr) -> u32
 }
 
 /// A step at a word of the ram that was fetched: `got`, from the place `at` under control. The service is sound, and so
-/// the word is the image's, or a link.
-///
-/// Each fault comes only where its device's count rose; of the hart only `failed` and the memory can then have changed.
+/// the word is the image's, or a link. Faults are as for `quick_step`.
 #[inline(always)]
 #[tactic(auto, using(swi_outside::proofs::SourceLemmas::given_still))]
-pub fn at_word<R: CacheRom, M: CacheRam, I: Source, O: Sink, E: Sink>(
+fn at_word<R: CacheRom, M: CacheRam, I: Source, O: Sink, E: Sink>(
     hart: &mut Hart,
     rom: &mut R,
     image: &ImageView<'_>,
@@ -129,8 +127,10 @@ fn at_step<R: CacheRom, M: CacheRam, I: Source, O: Sink, E: Sink>(
     at_word(hart, rom, image, ram, input, out, err, got, at)
 }
 
-/// One machine step: the word under control is fetched, and then as for `at_word`. Where no text word is under control
-/// the run ends. Faults are as for `at_word`.
+/// One machine step: the word under control is fetched and executed, or the exit at which it stands is left. Where no
+/// text word is under control the run ends.
+///
+/// Each fault comes only where its device's count rose; of the hart only `failed` and the memory can then have changed.
 #[inline(never)]
 #[tactic(auto, using(swi_outside::proofs::SourceLemmas::given_still))]
 pub fn quick_step<R: CacheRom, M: CacheRam, I: Source, O: Sink, E: Sink>(

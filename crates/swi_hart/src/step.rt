@@ -1,7 +1,7 @@
 //! One step of a hart out of the ram.
 #![tactic(auto)]
 
-ghost use Rattle.std.specs.Prelude.{◌≡◌, ◌+◌, ◌*◌, ◌/◌, ◌^◌, ◌%◌, ◌<◌, ℕ, List, length, slice_index, ◌==◌, if◌then◌else◌, OnOk, OnErr, Some, None, true};
+ghost use Rattle.std.specs.Prelude.{◌≡◌, ◌+◌, ◌*◌, ◌/◌, ◌^◌, ◌%◌, ◌<◌, ℕ, List, length, slice_index, ◌==◌, if◌then◌else◌, OnOk, OnErr, Some, None};
 ghost use Rattle.swi_isa.specs.declared.instr.Instr.TheVariants.{Jalr};
 ghost use Rattle.swi_isa.specs.Decode.{decoded};
 ghost use Rattle.swi_exec.specs.Arithmetic.{sum_of};

@@ -1,7 +1,7 @@
 //! Lists of linked words, kept as chains through arrays of indices, so that each call takes constant time.
 #![tactic(auto)]
 
-ghost use Rattle.std.specs.Prelude.{true, ◌+◌, ◌≡◌, ◌<◌, ◌≤◌, ◌^◌, ℕ, List, [], ◌∷◌, length, replicate, map, slice_set, slice_index, slice_get, IfOk, IfSome, MatchOption, nat_lt, if◌then◌else◌};
+ghost use Rattle.std.specs.Prelude.{true, ◌+◌, ◌≡◌, ◌<◌, ◌≤◌, ◌^◌, ℕ, [], ◌∷◌, length, replicate, map, slice_set, slice_index, slice_get, IfOk, IfSome, MatchOption, nat_lt, if◌then◌else◌};
 ghost use Rattle.swi_links.specs.Chains.{list_of, Has, IsApart, IsFree, AreFree, without};
 
 use std::alloc::Global;

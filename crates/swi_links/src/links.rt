@@ -1,7 +1,7 @@
 //! How links leave their lists.
 #![tactic(auto)]
 
-ghost use Rattle.std.specs.Prelude.{◌≡◌, ◌+◌, ◌<◌, ◌≤◌, ◌^◌, ℕ, true, false, length, IfOk, OnOk, OnErr};
+ghost use Rattle.std.specs.Prelude.{◌≡◌, ◌+◌, ◌<◌, ◌≤◌, ◌^◌, true, false, length, IfOk, OnOk, OnErr};
 ghost use Rattle.swi_outside.specs.CacheRam.{with_set};
 ghost use Rattle.swi_rom.specs.Record.{ebreak};
 ghost use Rattle.swi_rom.specs.Writing.{FailedBelow};

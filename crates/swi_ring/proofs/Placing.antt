@@ -286,7 +286,7 @@ counted_sound s v words sound = record {
   lengths_are = sound.lengths_are;
   owned = sound.owned;
   stands = λ i lt t. (let k = sound.stands i lt t in record { placed = k.placed; from = k.from; to = k.to });
-  linked = λ b o h lt t. (let k = sound.linked b o h lt t in record { is_exit = k.is_exit; target = k.target; offset = k.offset; place_is = k.place_is; jumps = k.jumps; });
+  linked = λ b o h lt t. (let k = sound.linked b o h lt t in record { is_exit = k.is_exit; target = k.target; offset = k.offset; place_is = k.place_is; jumps = k.jumps });
   plain = sound.plain;
   next_copied = sound.next_copied;
   ends = sound.ends;

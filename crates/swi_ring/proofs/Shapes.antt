@@ -1,9 +1,9 @@
 -- The numbers of a ring keep their shape, and what they say of its code.
-use Rattle.std.proofs.Common.{◌≡◌, ◌⊎◌, ℕ, suc, zero, ◌+◌, ◌-◌, ◌<◌, ◌≤◌, ◌==◌, ◌&&◌, Bool, true, false, List, [], ◌∷◌, ◌++◌, length, Some, None, slice_index, slice_index_or, slice_set, nat_le, nat_lt, if◌then◌else◌, arith, refl, sym, ◌∙◌, ap, subst, inl, inr}
-use Rattle.std.proofs.lemmas.Bool.{cases_eq, cases_lt, lt-ltb, le-ltb, both_ways, or_cases, eqb-true, ne_eqb}
+use Rattle.std.proofs.Common.{◌≡◌, ◌⊎◌, ℕ, suc, zero, ◌+◌, ◌-◌, ◌<◌, ◌≤◌, ◌&&◌, Bool, true, false, List, [], ◌∷◌, ◌++◌, length, Some, None, slice_index, slice_index_or, slice_set, nat_le, nat_lt, if◌then◌else◌, arith, refl, sym, ◌∙◌, ap, subst, inl, inr}
+use Rattle.std.proofs.lemmas.Bool.{cases_eq, cases_lt, lt-ltb, le-ltb}
 use Rattle.std.proofs.lemmas.Bool.Decides.{nat_tests}
 use Rattle.std.proofs.lemmas.List.{length-set, get_or_read, get_or-set_same, get_or-set_other}
-use Rattle.swi_links.specs.Chains.{ChainsData, Has, Distinct, IsFree}
+use Rattle.swi_links.specs.Chains.{ChainsData, Has, IsFree}
 use Rattle.swi_rom.specs.Coherent.{resident_of}
 use Rattle.swi_rom.specs.declared.rom.Counts.{Counts}
 use Rattle.swi_ring.specs.Fifo.{first_for}

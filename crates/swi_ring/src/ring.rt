@@ -1,7 +1,7 @@
 //! A service whose blocks stand one after the other.
 #![tactic(auto)]
 
-ghost use Rattle.std.specs.Prelude.{◌≡◌, ◌⊎◌, ◌+◌, ◌-◌, ◌*◌, ◌/◌, ◌^◌, ◌<◌, ◌≤◌, ◌↔◌, ℕ, List, true, false, length, replicate, slice_index, slice_set, Option, IfOk, OnOk, OnErr, MatchOption, IsTrue, nat_lt};
+ghost use Rattle.std.specs.Prelude.{◌≡◌, ◌⊎◌, ◌+◌, ◌-◌, ◌*◌, ◌/◌, ◌^◌, ◌<◌, ◌≤◌, ◌↔◌, ℕ, List, length, replicate, slice_index, Option, IfOk, OnOk, OnErr, MatchOption, IsTrue};
 ghost use Rattle.swi_image.specs.Format.{ImageData};
 ghost use Rattle.swi_image.specs.Place.{length_at};
 ghost use Rattle.swi_image.specs.Sound.{IsImage};
@@ -9,7 +9,7 @@ ghost use Rattle.swi_rom.specs.Record.{empty_record, reaches};
 ghost use Rattle.swi_rom.specs.Writing.{FailedBelow};
 ghost use Rattle.swi_links.specs.Chains.{Has, list_of};
 ghost use Rattle.swi_ring.specs.Chained.{LinkTo};
-ghost use Rattle.swi_ring.specs.Ring.{Ring, InShape, shown_by, kept_by, stands_at, target_at};
+ghost use Rattle.swi_ring.specs.Ring.{Ring, InShape, kept_by, stands_at, target_at};
 ghost use Rattle.swi_ring.specs.Sound.{RingSound};
 ghost use Rattle.swi_ring.specs.Steps.{empty_ring, marked, Left, MadeRoom, Filled, settled, counted_ring, first_in, Arrived, Linked, MaybeLinked, can_link};
 
@@ -304,13 +304,7 @@ impl RingRom {
     }
 
     // Makes the exit at an index a jump to an index in a block.
-    fn link<M: CacheRam>(
-        &mut self,
-        ram: &mut M,
-        at: u32,
-        block: u32,
-        to: u32,
-    ) -> Result<(), Failed>
+    fn link<M: CacheRam>(&mut self, ram: &mut M, at: u32, block: u32, to: u32) -> Result<(), Failed>
         requires at { at < self.old.words }
         requires to { to < self.old.words }
         requires fits { self.old.words ≤ length (M.state ram.old).words }

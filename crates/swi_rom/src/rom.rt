@@ -1,9 +1,7 @@
-ghost use Rattle.std.specs.Prelude.{◌≡◌, ◌+◌, ◌^◌, ◌<◌, ◌≤◌, List, ℕ, Option, IfSome, None, Ok, length, true};
-ghost use Rattle.swi_image.specs.Format.{ImageData};
-ghost use Rattle.swi_image.specs.Place.{word_at, length_at, place_of};
-ghost use Rattle.swi_image.specs.Sound.{IsImage};
-ghost use Rattle.swi_rom.specs.Record.{Record, Transfer, direct, indirect, target_of, is_linked, writes, Placed};
-ghost use Rattle.swi_rom.specs.Coherent.{Coherent, StandsAt, ExitAt, TargetAt, resident_of};
+ghost use Rattle.std.specs.Prelude.{◌≡◌, ◌+◌, ◌^◌, ◌<◌, ◌≤◌, ℕ, Option, IfSome, None, Ok};
+ghost use Rattle.swi_image.specs.Place.{length_at};
+ghost use Rattle.swi_rom.specs.Record.{direct, indirect, Placed};
+ghost use Rattle.swi_rom.specs.Coherent.{ExitAt, TargetAt, resident_of};
 ghost use Rattle.swi_rom.specs.Service.{ServiceOf, IsService};
 ghost use Rattle.swi_rom.specs.Served.{Served, OnServed, SameFrom, Keeps};
 

@@ -105,7 +105,7 @@ counted_sound s vs words sound = record {
   known = sound.known;
   lengths_are = sound.lengths_are;
   stands = sound.stands;
-  linked = λ n o lt lt' t. (let k = sound.linked n o lt lt' t in record { is_exit = k.is_exit; target = k.target; offset = k.offset; place_is = k.place_is; jumps = k.jumps; });
+  linked = λ n o lt lt' t. (let k = sound.linked n o lt lt' t in record { is_exit = k.is_exit; target = k.target; offset = k.offset; place_is = k.place_is; jumps = k.jumps });
   plain = sound.plain;
   misses_few = omega (arith, sound.misses_few);
   evictions_few = sound.evictions_few;

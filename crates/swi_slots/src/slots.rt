@@ -333,13 +333,7 @@ impl<T: LinkTable> SlotRom<T> {
     }
 
     // Makes the exit at an index a jump to an index in a slot.
-    fn link<M: CacheRam>(
-        &mut self,
-        ram: &mut M,
-        at: u32,
-        slot: u32,
-        to: u32,
-    ) -> Result<(), Failed>
+    fn link<M: CacheRam>(&mut self, ram: &mut M, at: u32, slot: u32, to: u32) -> Result<(), Failed>
         requires at { at < self.old.slots * self.old.size }
         requires to { to < self.old.slots * self.old.size }
         requires fits { self.old.slots * self.old.size ≤ length (M.state ram.old).words }

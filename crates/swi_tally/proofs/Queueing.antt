@@ -1,6 +1,6 @@
 -- The queue of a cache: which blocks it has, and where they stand.
-use Rattle.std.proofs.Common.{◌≡◌, ◌⊎◌, ℕ, ◌+◌, ◌<◌, ◌≤◌, ◌++◌, ◌==◌, true, false, List, [], ◌∷◌, length, slice_index, slice_set, slice_index_or, nat_lt, IsTrue, arith, refl, sym, ◌∙◌, ap, subst, inl, inr, ◌↔◌}
-use Rattle.std.proofs.lemmas.Bool.{cases_eq, or_cases, eqb-true, ne_eqb, both_ways, ltb-true, lt-ltb}
+use Rattle.std.proofs.Common.{◌≡◌, ◌⊎◌, ℕ, ◌+◌, ◌<◌, ◌≤◌, ◌++◌, List, [], ◌∷◌, length, slice_index, slice_set, slice_index_or, nat_lt, IsTrue, arith, refl, sym, ◌∙◌, ap, subst, inl, inr, ◌↔◌}
+use Rattle.std.proofs.lemmas.Bool.{cases_eq, ltb-true, lt-ltb}
 use Rattle.std.proofs.lemmas.List.{length-set, length-map, get_or-set_same, get_or-set_other, get_or_read}
 use Rattle.swi_rom.specs.Record.{Placement}
 use Rattle.swi_links.specs.Chains.{Has, Distinct}

@@ -1,14 +1,14 @@
 //! Many caches of one image, side by side.
 #![tactic(auto)]
 
-ghost use Rattle.std.specs.Prelude.{◌≡◌, ◌+◌, ◌-◌, ◌*◌, ◌<◌, ◌≤◌, ◌^◌, ◌++◌, [], ◌∷◌, ℕ, suc, true, All, Some, IfOk, length, map, slice_index};
+ghost use Rattle.std.specs.Prelude.{◌≡◌, ◌+◌, ◌-◌, ◌*◌, ◌<◌, ◌≤◌, ◌^◌, ◌++◌, ◌∷◌, ℕ, suc, true, All, Some, IfOk, length, map, slice_index};
 ghost use Rattle.swi_image.specs.Place.{place_of};
 ghost use Rattle.swi_rom.specs.Record.{direct, indirect};
-ghost use Rattle.swi_tally.specs.Masks.{has, has_at};
+ghost use Rattle.swi_tally.specs.Masks.{has};
 ghost use Rattle.swi_tally.specs.Tallies.{AllServed, AreServing, OneMoved, OneServed, Row, ServesAt, empty_of, empty_tallies, row_at};
 
 use crate::exits::Exits;
-use crate::masks::{CACHES, has, with};
+use crate::masks::{has, with};
 use crate::tally::{Placing, Tally};
 use std::alloc::Global;
 use std::marker::Model;
