@@ -3,7 +3,6 @@
 
 ghost use Rattle.std.specs.Prelude.{◌≡◌, ◌^◌, ◌<◌, ◌≤◌, ℕ, IsTrue, None, Option, true};
 ghost use Rattle.swi_image.specs.Format.{ImageData};
-ghost use Rattle.swi_image.specs.Row.{row_length};
 ghost use Rattle.swi_memory.specs.Bus.{fetched};
 ghost use Rattle.swi_board.specs.Advancing.{Onward, ServiceStays, Underway};
 ghost use Rattle.swi_board.specs.Learnt.{HasRoom, Knows};

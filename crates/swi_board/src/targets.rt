@@ -1,7 +1,7 @@
 //! Where the targets of jumps over registers stood.
 #![tactic(auto)]
 
-ghost use Rattle.std.specs.Prelude.{◌≡◌, ◌<◌, ◌%◌, ℕ, IfSome, Some};
+ghost use Rattle.std.specs.Prelude.{◌≡◌, ◌<◌, ◌%◌, IfSome, Some};
 ghost use Rattle.swi_image.specs.Format.{ImageData};
 ghost use Rattle.swi_rom.specs.Record.{Record};
 ghost use Rattle.swi_board.specs.Targets.{AreFound, FoundAt};

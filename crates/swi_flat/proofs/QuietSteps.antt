@@ -16,7 +16,7 @@ use Rattle.swi_calls.specs.declared.end.CallFault.{CallFault}
 use Rattle.swi_calls.specs.declared.machine.Machine.{Machine}
 use Rattle.swi_calls.specs.Exchange.{Exchanged}
 use Rattle.swi_calls.specs.Flat.{Made, after, call_made, exchange_of, made}
-use Rattle.swi_flat.specs.FlatData.{FlatData, unfailed}
+use Rattle.swi_flat.specs.FlatData.{unfailed}
 
 -- it takes no input and writes nothing
 pub record TakesNone (m : Made) (left : List ℕ) : Type 0 where

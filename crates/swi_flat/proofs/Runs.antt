@@ -1,5 +1,5 @@
 -- Runs of the flat machine, step by step.
-use Rattle.std.proofs.Common.{◌≡◌, ℕ, ◌+◌, ◌-◌, ◌<◌, ◌≤◌, true, false, refl, sym, ap, subst, ◌∙◌, is_some, Some, None, List, [], ◌++◌, take, Ok, Err, IsErrOf, arith, rules}
+use Rattle.std.proofs.Common.{◌≡◌, ℕ, ◌+◌, ◌-◌, ◌<◌, ◌≤◌, true, false, refl, sym, ap, subst, ◌∙◌, is_some, None, List, [], ◌++◌, take, Ok, Err, IsErrOf, arith, rules}
 use Rattle.std.specs.Io.KnownBytes.{Appends}
 use Rattle.swi_outside.specs.Sink.{SinkState, AppendsThenPrefix}
 use Rattle.swi_outside.specs.Source.{ForInput, HasGiven, ReadFrom}

@@ -4,10 +4,10 @@ use Rattle.std.proofs.Common.{◌≡◌, ◌<◌, ◌≤◌, ◌++◌, ℕ, List
 use Rattle.std.specs.Option.{ForSome}
 use Rattle.std.specs.Io.KnownBytes.{Appends, Consumes}
 use Rattle.swi_outside.specs.Sink.{AppendsThenPrefix}
-use Rattle.swi_outside.specs.Source.{SourceState, HasGiven, ReadFrom}
+use Rattle.swi_outside.specs.Source.{ReadFrom}
 use Rattle.swi_outside.specs.Devices.{Devices, HasCauses, faults_of}
 use Rattle.swi_outside.proofs.SourceLemmas.{read_told}
-use Rattle.swi_memory.specs.Bus.{AreaData, with_bytes}
+use Rattle.swi_memory.specs.Bus.{AreaData}
 use Rattle.swi_calls.specs.Call.{room_of_call, second_argument}
 use Rattle.swi_calls.specs.State.{FlatState}
 use Rattle.swi_calls.specs.declared.end.CallFault.{CallFault}

@@ -8,7 +8,7 @@ ghost use Rattle.swi_image.specs.Format.{image_of, pieces};
 ghost use Rattle.swi_image.specs.Checks.{first_refusal, begin_of, length_of};
 ghost use Rattle.swi_image.specs.Sound.{IsImage, AreTables, image_of_tables, image_words};
 
-use crate::checks::{MAGIC, header_of};
+use crate::checks::MAGIC;
 use crate::image::ImageView;
 use std::alloc::Global;
 use std::marker::Model;

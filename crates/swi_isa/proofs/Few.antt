@@ -2,23 +2,21 @@
 use Rattle.std.proofs.Common.{◌≡◌, ◌≢◌, ℕ, bit_and, refl, ap, subst, ◌∙◌, Bool, true, false, cond, List, [], ◌∷◌, inl, inr, Option, Some, None}
 use Rattle.std.proofs.lemmas.Bool.{eq-eqb, ne_eqb, cases_Bool, cases_eq, true≢false, cond-true, cond-false}
 use Rattle.swi_isa.specs.declared.instr.Instr.{Instr}
-use Rattle.swi_isa.specs.declared.instr.Instr.TheVariants as instr
-use Rattle.swi_isa.specs.declared.instr.JalrFields.{JalrFields}
 use Rattle.swi_isa.specs.Decode.{decoded_by, decoded}
 use Rattle.swi_isa.specs.Kind.{jalr_fields, pc_relative}
 use Rattle.swi_isa.specs.Table.{Form, Jalr, Auipc, Jal, Branch, Row, rows, made}
 use Rattle.swi_isa.proofs.Apart.{Each, Misses, Tells, by_bit, in_part, told}
 
 -- the rows of the forms that a test picks
-abbrev pub of_forms : (Form → Bool) → List Row → List Row
+abbrev of_forms : (Form → Bool) → List Row → List Row
 of_forms picks [] = []
 of_forms picks (r ∷ rs) = cond (picks r.form) (r ∷ of_forms picks rs) (of_forms picks rs)
 
-abbrev pub is_jalr : Form → Bool
+abbrev is_jalr : Form → Bool
 is_jalr Jalr = true
 is_jalr _ = false
 
-abbrev pub is_relative : Form → Bool
+abbrev is_relative : Form → Bool
 is_relative Auipc = true
 is_relative Jal = true
 is_relative (Branch op) = true
@@ -61,14 +59,8 @@ by_jalr w = (
   λ hit. ap jalr_fields ((told rows w refl).1.1.1.0 hit),
 )
 
--- the fields are those of the instruction
-pub jalr_is : (o : Option Instr) (f : JalrFields) → jalr_fields o ≡ Some f → o ≡ Some (instr.Jalr f.rd f.rs1 f.imm)
-jalr_is None f is = cc
-jalr_is (Some (instr.Jalr rd rs1 imm)) f is = cc
-jalr_is (Some _) f is = cc
-
 -- the rows of AUIPC, JAL and the branches
-abbrev pub relatives : List Row
+abbrev relatives : List Row
 relatives = of_forms is_relative rows
 
 pub by_relative : (w : ℕ) → (pc_relative (decoded w) ≡ pc_relative (decoded_by rows w))

@@ -2,4 +2,4 @@
 pub mod Sums
 pub mod Masks
 pub mod Apart
-pub mod Few
+mod Few
