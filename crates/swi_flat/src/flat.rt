@@ -1,11 +1,12 @@
 //! One step, and many.
 #![tactic(auto)]
 
-ghost use Rattle.std.specs.Prelude.{◌≡◌, ◌<◌, ◌≤◌, ◌+◌, ◌^◌, ℕ, None, false, is_err, IfOk, OnOk, OnErr};
+ghost use Rattle.std.specs.Prelude.{◌≡◌, ◌<◌, ◌≤◌, ◌+◌, ◌-◌, ◌^◌, ℕ, None, false, is_err, IfOk, OnOk, OnErr};
 ghost use Rattle.swi_calls.specs.Call.{room_of_call, second_argument};
 ghost use Rattle.swi_calls.specs.Exchange.{Exchanged};
 ghost use Rattle.swi_calls.specs.Flat.{made, exchange_of, machine_of};
 ghost use Rattle.swi_calls.specs.Moves.{ReadsInto};
+ghost use Rattle.swi_flat.specs.Coasted.{Coasted};
 ghost use Rattle.swi_flat.specs.FlatData.{unfailed, stopped};
 ghost use Rattle.swi_flat.specs.Ran.{Ran};
 ghost use Rattle.swi_memory.specs.Bus.{fetched};
@@ -15,6 +16,7 @@ ghost use Rattle.swi_program.specs.Layout.{IsLayoutOf};
 ghost use Rattle.swi_program.specs.Text.{text_of, word_of};
 
 use crate::advance::advance;
+use crate::coast::coast;
 use std::alloc::Global;
 use std::marker::Model;
 use swi_calls::{CallFault, End, Heap, Machine};
@@ -228,5 +230,20 @@ impl Flat {
             }
         }
         Ok(())
+    }
+    /// Steps until `limit` steps are made since the start, or up to the first that jumps, which is made too: whether the
+    /// last is a branch that is taken. A step is not made that asks for a device, ends the run or stores into
+    /// the text, and one that leads out of it, or stands where no step has been made, may be left too. `limit` is from
+    /// `steps()` to 2^48.
+    #[inline(always)]
+    pub fn coast(&mut self, limit: u64) -> bool
+        requires within { self.old.machine.steps ≤ limit }
+        requires few { limit ≤ 2 ^ 48 }
+        ensures coasted { Coasted (self.new.machine.steps - self.old.machine.steps) result self.old.machine self.new.machine }
+        ensures within { self.new.machine.steps ≤ limit }
+        ensures no_fewer { self.old.machine.steps ≤ self.new.machine.steps }
+        ensures failed { self.new.failed ≡ self.old.failed }
+    {
+        coast(&mut self.machine, &mut self.decoded, limit)
     }
 }

@@ -2,6 +2,7 @@
 #![tactic(auto)]
 
 mod advance;
+mod coast;
 mod flat;
 
 pub use flat::Flat;

@@ -13,13 +13,15 @@ use Rattle.swi_calls.specs.StoresText.{instruction_store}
 use Rattle.swi_calls.specs.Flat.{started}
 use Rattle.swi_calls.specs.FirstStore.{StoresAt}
 use Rattle.swi_calls.specs.Held.{held_made, held_run}
+use Rattle.swi_flat.specs.Coasted.{Coasted}
 use Rattle.swi_flat.specs.FlatData.{FlatData}
 use Rattle.swi_flat.specs.Ran.{Ran}
 use Rattle.swi_image.specs.Format.{ImageData}
 use Rattle.swi_image.specs.Place.{place_of}
-use Rattle.swi_program.specs.Text.{TextData, word_of}
+use Rattle.swi_image.specs.Sound.{IsImage}
+use Rattle.swi_program.specs.Text.{TextData, IsSized, word_of}
 use Rattle.swi_render.specs.Rendering.{falls_of, sum}
-use Rattle.swi_render.specs.ImageOf.{address_of}
+use Rattle.swi_render.specs.ImageOf.{IsImageOf, address_of}
 use Rattle.swi_rom.specs.Record.{Transfer, direct, indirect}
 use Rattle.swi_board.specs.Transfers.{Here as Place, after_all, at_fall, fall_transfers, here_after, settled, size, step_size, step_transfers, transfers}
 use Rattle.swi_tally.specs.Tally.{policy_of}
@@ -33,7 +35,8 @@ use Rattle.swi_survey.specs.declared.track.Step.{Step}
 use Rattle.swi_survey.specs.declared.track.Step.TheVariants as step
 use Rattle.swi_survey.specs.declared.track.Track.{Track}
 use Rattle.swi_survey.specs.declared.survey.Surveyed.{Surveyed}
-use Rattle.swi_survey.specs.Leaving.{leaving_by}
+use Rattle.swi_survey.specs.declared.ways.Ways.{Ways}
+use Rattle.swi_survey.specs.Leaving.{branch_by, leaving_by}
 use Rattle.swi_survey.specs.Ways.{AreAllWays, HasNumber, exit_to, instr_at, is_last, place_behind}
 
 -- ---- where a run stands
@@ -144,8 +147,6 @@ pub record IsStep (t : TextData) (f : Machine) (failed : Bool) (here : Here) (s 
   pub input : List ℕ
   pub next_is : next ≡ (held_made f input).machine
 
--- ---- a run
-
 -- what a step asks for
 pub record IsReady (t : TextData) (v : ImageData) (k : Track) : Type 0 where
   pub ways_are : AreAllWays t v k.caches.exits k.ways.items
@@ -153,6 +154,35 @@ pub record IsReady (t : TextData) (v : ImageData) (k : Track) : Type 0 where
   pub serving : AreServing v (2 ^ 50 - 1) k.caches
   pub fetches_few : k.fetches < 2 ^ 60
   pub outside_few : k.outside < 2 ^ 60
+
+-- ---- steps within a block
+
+-- what is asked of a run that makes them, at a text word of an image
+pub record MayGlide (t : TextData) (v : ImageData) (pc : ℕ) (k : Track) : Type 0 where
+  pub sized : IsSized t
+  pub image : IsImage v
+  pub own : IsImageOf t v
+  pub ready : IsReady t v k
+  pub stands : StandsAt t pc k.here
+
+-- n steps were made that each led to the next text word, and one more, which caches have not followed yet
+pub record Glides (limit : ℕ) (f g : FlatData) (old new : Track) (s : Step) : Type 0 where
+  pub k : ℕ
+  pub n : ℕ
+  pub first : Ways
+  pub last : Ways
+  pub taken : Bool
+  pub here_is : old.here ≡ here.At k
+  pub first_is : slice_get old.ways.items k ≡ Some first
+  pub last_is : slice_get old.ways.items (k + n) ≡ Some last
+  pub room : n < first.room
+  pub coasted : Coasted (suc n) taken f.machine g.machine
+  pub failed : g.failed ≡ f.failed
+  pub within : g.machine.steps ≤ limit
+  pub new_is : new ≡ record old { here = here.At (k + n); fetches = old.fetches + (last.offset - first.offset) }
+  pub step_is : s ≡ step.From (k + n) (if taken then branch_by true else last.left)
+
+-- ---- a run
 
 -- the caches' exits are those of the text words' ways, and the counts leave room for the steps that are still to come
 pub record Tracks (t : TextData) (v : ImageData) (steps : ℕ) (k : Track) : Type 0 where

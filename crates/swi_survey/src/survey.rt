@@ -11,7 +11,7 @@ ghost use Rattle.swi_tally.specs.Tallies.{IsFrame};
 ghost use Rattle.swi_survey.specs.Survey.{SurveyRan};
 ghost use Rattle.swi_survey.specs.Track.{Begun, StandsAt, StepIs, StepsRan, told_of};
 
-use crate::leaving::{ILLEGAL, leaving_of};
+use crate::leaving::{ILLEGAL, TAKEN, leaving_of};
 use crate::track::{Here, Step, Track};
 use std::alloc::Global;
 use swi_calls::{CallFault, End, text_store};
@@ -66,6 +66,33 @@ fn next_step(flat: &Flat, here: Here, text: &TextView<'_>) -> Step
     }
 }
 
+/// Steps up to `limit` within the block, which go by micro-ops: the last one, which is made and is not followed yet. None,
+/// and nothing has changed, where the next step does not.
+fn coast(flat: &mut Flat, track: &mut Track, limit: u64) -> Option<Step>
+    requires within { flat.old.machine.steps ≤ limit }
+    requires few { limit ≤ 2 ^ 48 }
+    requires may { (t : TextData) × (v : ImageData) × MayGlide t v flat.old.machine.pc track.old }
+    ensures none { result ≡ None → (flat.new ≡ flat.old) × (track.new ≡ track.old) }
+    ensures glides { IfSome result (λ s. Glides limit flat.old flat.new track.old track.new s) }
+{
+    let Here::At(k) = track.here else {
+        return None;
+    };
+    let first = track.ways[k as usize];
+    let before = flat.steps();
+    let most = before + first.room as u64;
+    let taken = flat.coast(if most < limit { most } else { limit });
+    let made = (flat.steps() - before) as u32;
+    if made == 0 {
+        return None;
+    }
+    let k = k + made - 1;
+    let last = track.ways[k as usize];
+    track.fetches += (last.offset - first.offset) as u64;
+    track.here = Here::At(k);
+    Some(Step::From(k, if taken { TAKEN } else { last.left }))
+}
+
 /// Steps up to `limit`, and all caches follow. It gives the address at which the next step would store into the text, before
 /// which the run ends.
 fn run_steps<I: Source, O: Sink, E: Sink>(
@@ -89,6 +116,10 @@ fn run_steps<I: Source, O: Sink, E: Sink>(
 {
     while flat.steps() < limit && flat.ending().is_none() {
         track.settle(image, text, flat.pc());
+        if let Some(step) = coast(flat, track, limit) {
+            track.follow(image, text, step, flat.pc(), false);
+            continue;
+        }
         let step = next_step(flat, track.here, text);
         if let Step::Store(a) = step {
             track.fetches += 1;

@@ -81,6 +81,7 @@ fn here_behind(text: &TextView<'_>, k: u32, last: bool, way: Way, a: u32) -> Her
 }
 
 /// All caches serve the exit with a number, if there is one.
+#[inline(always)]
 fn cross_if(caches: &mut Tallies, image: &ImageView<'_>, exit: Option<u32>)
     requires serving { AreServing image.now (2 ^ 50 - 1) caches.old }
     requires exit { IfSome exit (λ x. x < length caches.old.exits.from) }
@@ -169,6 +170,7 @@ impl Track {
     }
 
     /// A step that was made is followed, which led to `pc`, or ended the run there.
+    #[inline(always)]
     pub(crate) fn follow(
         &mut self,
         image: &ImageView<'_>,

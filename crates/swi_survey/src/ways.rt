@@ -9,6 +9,7 @@ ghost use Rattle.swi_render.specs.ImageOf.{IsImageOf, address_of};
 ghost use Rattle.swi_tally.specs.Exits.{AreExits};
 ghost use Rattle.swi_survey.specs.Ways.{AllBefore, AreAllWays, AreWays, FitsIf, Joins, exit_behind, exit_to, is_last, jump_of, number_if, own_exit, with_if};
 
+use crate::leaving::{Leaving, untaken_at};
 use std::alloc::Global;
 use swi_image::ImageView;
 use swi_isa::{Instr, decode};
@@ -27,6 +28,12 @@ pub struct Ways {
     pub behind: Option<u32>,
     /// Whether the next text word does not stand behind it.
     pub last: bool,
+    /// How it is left otherwise than by a branch that is taken.
+    pub left: Leaving,
+    /// The offset of the first word that stands for it in its block.
+    pub offset: u32,
+    /// How many text words its block has from it on.
+    pub room: u32,
 }
 
 /// The exits of an image, and of each text word its ways.
@@ -151,7 +158,15 @@ fn with_word(
     let last = is_last(image, text, k, place);
     let (exits, own) = with_some(exits, own)?;
     let (exits, behind) = with_some(exits, behind)?;
-    Ok((exits, Ways { own, behind, last }))
+    let ways = Ways {
+        own,
+        behind,
+        last,
+        left: untaken_at(text.word(k), address_of(text, k)),
+        offset: place.1,
+        room: image.next(place.0) - k,
+    };
+    Ok((exits, ways))
 }
 
 /// The map of an image of the text. Memory is the only error.
