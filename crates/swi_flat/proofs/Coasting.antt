@@ -1,5 +1,5 @@
--- Steps by micro-ops, by what their instructions are.
-use Rattle.std.proofs.Common.{◌≡◌, ◌&&◌, ℕ, zero, suc, ◌+◌, ◌-◌, ◌<◌, ◌≤◌, Bool, true, false, not, List, get_or, Option, Some, None, arith, if◌then◌else◌, refl, sym, ap, subst, ◌∙◌, inl, inr}
+-- Steps by micro-ops, by what their instructions are, as far as gates let them go on.
+use Rattle.std.proofs.Common.{◌≡◌, ◌==◌, ◌&&◌, ℕ, suc, ◌+◌, ◌-◌, ◌*◌, ◌/◌, ◌^◌, ◌<◌, ◌≤◌, Bool, true, false, not, List, length, get_or, slice_get, Option, Some, None, arith, if◌then◌else◌, refl, sym, ap, subst, ◌∙◌, inl, inr}
 use Rattle.std.proofs.lemmas.Bool.{cases_lt}
 use Rattle.swi_isa.specs.Decode.{decoded}
 use Rattle.swi_isa.specs.declared.instr.BranchOp.{BranchOp}
@@ -26,84 +26,98 @@ use Rattle.swi_calls.specs.declared.machine.Machine.{Machine}
 use Rattle.swi_micro.specs.declared.class.Class.{Class}
 use Rattle.swi_micro.specs.declared.class.Class.TheVariants as class
 use Rattle.swi_micro.specs.declared.translator.MicroOp.{MicroOp}
-use Rattle.swi_micro.specs.Classes.{class_of, code_of}
+use Rattle.swi_micro.specs.Classes.{class_of, code_of, is_straight}
 use Rattle.swi_micro.specs.Decoded.{AreDecoded, IsOpOf}
 use Rattle.swi_micro.specs.MicroOp.{address_at, branch_op, branch_or_stop, class_of_imm, class_of_load, class_of_op, class_of_store, index_at, jump_or_stop, made_op, micro_op_of, stop_op}
 use Rattle.swi_micro.specs.Ran.{Ran, goes_to, leaves, ran, ran_as}
+use Rattle.swi_micro.specs.Ran.{jumps as jumps_to}
 use Rattle.swi_micro.proofs.Agreeing.{Agrees, agrees}
+use Rattle.swi_micro.proofs.Sums.{Target, target}
 use Rattle.swi_flat.specs.Advanced.{GoesOnAt}
-use Rattle.swi_flat.specs.Coasted.{Coasts, Coasted, StepsAt, StepsOn, is_taken_branch, is_taken_by, passes, passes_by}
+use Rattle.swi_flat.specs.Coasted.{At, Coasts, Gates, GoesOn, StepsAt, StepsOn, is_open, is_taken_branch, is_taken_by, jumps, onward, over, toll, toll_by}
+use Rattle.swi_flat.specs.declared.coast.Gate.{Gate}
 use Rattle.swi_flat.proofs.Stepping.{executes}
 
-both : (b : Bool) → b ≡ true → b ≡ false → ⊥
-both b on off = let never : true ≡ false = sym on ∙ off in cc
+-- ---- a micro-op that goes to the next word, if it goes on
 
--- ---- a micro-op that passes is of an instruction that does
+straight_toll : (c : Class) (stops free : Bool) (m : MicroOp) (regs : Registers) → is_straight c ≡ true → toll_by c stops free m regs ≡ Some 0
+straight_toll class.Equal stops free m regs e = absurd (let never : false ≡ true = e in cc)
+straight_toll class.Less stops free m regs e = absurd (let never : false ≡ true = e in cc)
+straight_toll class.Below stops free m regs e = absurd (let never : false ≡ true = e in cc)
+straight_toll class.Jal stops free m regs e = absurd (let never : false ≡ true = e in cc)
+straight_toll class.Jalr stops free m regs e = absurd (let never : false ≡ true = e in cc)
+straight_toll class.Stop stops free m regs e = absurd (let never : false ≡ true = e in cc)
+straight_toll _ stops free m regs e = refl
 
-abbrev passes_so : MicroOp → Registers → Bool
-passes_so m regs = passes_by (class_of m.code) m regs
+straight_untaken : (c : Class) (m : MicroOp) (regs : Registers) → is_straight c ≡ true → is_taken_by c m regs ≡ false
+straight_untaken class.Equal m regs e = absurd (let never : false ≡ true = e in cc)
+straight_untaken class.Less m regs e = absurd (let never : false ≡ true = e in cc)
+straight_untaken class.Below m regs e = absurd (let never : false ≡ true = e in cc)
+straight_untaken _ m regs e = refl
 
-jump_turns : (rd : ℕ) (o : Option ℕ) (regs : Registers) → passes_so (jump_or_stop rd o) regs ≡ false
-jump_turns rd None regs = refl
-jump_turns rd (Some k) regs = refl
-
-branch_passes : (op : BranchOp) (rs1 rs2 k : ℕ) (regs : Registers) → passes_so (branch_op op rs1 rs2 k) regs ≡ not (is_taken op (reg regs rs1) (reg regs rs2))
-branch_passes Beq rs1 rs2 k regs = refl
-branch_passes Bne rs1 rs2 k regs = refl
-branch_passes Blt rs1 rs2 k regs = refl
-branch_passes Bge rs1 rs2 k regs = refl
-branch_passes Bltu rs1 rs2 k regs = refl
-branch_passes Bgeu rs1 rs2 k regs = refl
-
-branches_pass : (op : BranchOp) (rs1 rs2 : ℕ) (o : Option ℕ) (regs : Registers) → passes_so (branch_or_stop op rs1 rs2 o) regs ≡ true → not (is_taken op (reg regs rs1) (reg regs rs2)) ≡ true
-branches_pass op rs1 rs2 None regs s = absurd (let never : false ≡ true = s in cc)
-branches_pass op rs1 rs2 (Some k) regs s = sym (branch_passes op rs1 rs2 k regs) ∙ s
-
-op_passes : (range : WordRange) (k : ℕ) (regs : Registers) (i : Instr) → passes_so (micro_op_of range k i) regs ≡ true → passes i regs ≡ true
-op_passes range k regs (instr.Jal rd off) s = absurd (both _ s (jump_turns rd (index_at range (sum_of (address_at range k) off)) regs))
-op_passes range k regs (instr.Jalr rd rs1 imm) s = absurd (let never : false ≡ true = s in cc)
-op_passes range k regs (instr.Branch op rs1 rs2 off) s = branches_pass op rs1 rs2 (index_at range (sum_of (address_at range k) off)) regs s
-op_passes range k regs instr.Ecall s = absurd (let never : false ≡ true = s in cc)
-op_passes range k regs instr.Ebreak s = absurd (let never : false ≡ true = s in cc)
-op_passes range k regs _ s = refl
-
--- ---- a branch's micro-op compares, and no other does
-
-abbrev taken_of : MicroOp → Registers → Bool
-taken_of m regs = is_taken_by (class_of m.code) m regs
-
-abbrev compares : Class → Bool
-compares class.Equal = true
-compares class.Less = true
-compares class.Below = true
-compares _ = false
-
-untaken : (c : Class) (m : MicroOp) (regs : Registers) → compares c ≡ false → is_taken_by c m regs ≡ false
-untaken class.Equal m regs e = absurd (let never : true ≡ false = e in cc)
-untaken class.Less m regs e = absurd (let never : true ≡ false = e in cc)
-untaken class.Below m regs e = absurd (let never : true ≡ false = e in cc)
-untaken _ m regs e = refl
-
-by_imm : (o : ImmOp) → compares (class_of (code_of (class_of_imm o))) ≡ false
+by_imm : (o : ImmOp) → is_straight (class_of (code_of (class_of_imm o))) ≡ true
 by_imm Addi = refl
 by_imm _ = refl
 
-by_op : (o : RegOp) → compares (class_of (code_of (class_of_op o))) ≡ false
+by_op : (o : RegOp) → is_straight (class_of (code_of (class_of_op o))) ≡ true
 by_op Add = refl
 by_op _ = refl
 
-by_load : (o : LoadOp) → compares (class_of (code_of (class_of_load o))) ≡ false
+by_load : (o : LoadOp) → is_straight (class_of (code_of (class_of_load o))) ≡ true
 by_load Lb = refl
 by_load _ = refl
 
-by_store : (o : StoreOp) → compares (class_of (code_of (class_of_store o))) ≡ false
+by_store : (o : StoreOp) → is_straight (class_of (code_of (class_of_store o))) ≡ true
 by_store Sb = refl
 by_store Sh = refl
 by_store Sw = refl
 
-by_jump : (rd : ℕ) (o : Option ℕ) → compares (class_of (jump_or_stop rd o).code) ≡ false
-by_jump rd None = refl
-by_jump rd (Some k) = refl
+-- ---- what a micro-op pays, and whether it is a branch that is taken
+
+abbrev tolled : MicroOp → Bool → Bool → Registers → Option ℕ
+tolled m stops free regs = toll_by (class_of m.code) stops free m regs
+
+abbrev taken_of : MicroOp → Registers → Bool
+taken_of m regs = is_taken_by (class_of m.code) m regs
+
+never_some : {A : Type 0} (n : ℕ) → None ≡ Some n → A
+never_some n e = absurd cc
+
+jump_toll : (rd : ℕ) (o : Option ℕ) (stops free : Bool) (regs : Registers) (n : ℕ) → tolled (jump_or_stop rd o) stops free regs ≡ Some n → over free (if rd == 0 then 0 else 2) ≡ Some n
+jump_toll rd None stops free regs n e = never_some n e
+jump_toll rd (Some k) stops free regs n e = e
+
+branch_toll : (op : BranchOp) (rs1 rs2 k : ℕ) (stops free : Bool) (regs : Registers) → tolled (branch_op op rs1 rs2 k) stops free regs ≡ (if is_taken op (reg regs rs1) (reg regs rs2) then over free 1 else onward stops)
+branch_toll Beq rs1 rs2 k stops free regs = refl
+branch_toll Bne rs1 rs2 k stops free regs = refl
+branch_toll Blt rs1 rs2 k stops free regs = refl
+branch_toll Bge rs1 rs2 k stops free regs = refl
+branch_toll Bltu rs1 rs2 k stops free regs = refl
+branch_toll Bgeu rs1 rs2 k stops free regs = refl
+
+branches_toll : (op : BranchOp) (rs1 rs2 : ℕ) (o : Option ℕ) (stops free : Bool) (regs : Registers) (n : ℕ) → tolled (branch_or_stop op rs1 rs2 o) stops free regs ≡ Some n →
+    (if is_taken op (reg regs rs1) (reg regs rs2) then over free 1 else onward stops) ≡ Some n
+branches_toll op rs1 rs2 None stops free regs n e = never_some n e
+branches_toll op rs1 rs2 (Some k) stops free regs n e = sym (branch_toll op rs1 rs2 k stops free regs) ∙ e
+
+op_toll : (range : WordRange) (k : ℕ) (i : Instr) (stops free : Bool) (regs : Registers) (n : ℕ) → tolled (micro_op_of range k i) stops free regs ≡ Some n → toll i stops free regs ≡ Some n
+op_toll range k (instr.Lui rd imm) stops free regs n e = e
+op_toll range k (instr.Auipc rd imm) stops free regs n e = e
+op_toll range k (instr.Jal rd off) stops free regs n e = jump_toll rd (index_at range (sum_of (address_at range k) off)) stops free regs n e
+op_toll range k (instr.Jalr rd rs1 imm) stops free regs n e = never_some n e
+op_toll range k (instr.Branch op rs1 rs2 off) stops free regs n e = branches_toll op rs1 rs2 (index_at range (sum_of (address_at range k) off)) stops free regs n e
+op_toll range k (instr.Load op rd rs1 imm) stops free regs n e = sym (straight_toll (class_of (code_of (class_of_load op))) stops free (micro_op_of range k (instr.Load op rd rs1 imm)) regs (by_load op)) ∙ e
+op_toll range k (instr.Store op rs1 rs2 imm) stops free regs n e = sym (straight_toll (class_of (code_of (class_of_store op))) stops free (micro_op_of range k (instr.Store op rs1 rs2 imm)) regs (by_store op)) ∙ e
+op_toll range k (instr.Alu op rd rs1 imm) stops free regs n e = sym (straight_toll (class_of (code_of (class_of_imm op))) stops free (micro_op_of range k (instr.Alu op rd rs1 imm)) regs (by_imm op)) ∙ e
+op_toll range k (instr.Op op rd rs1 rs2) stops free regs n e = sym (straight_toll (class_of (code_of (class_of_op op))) stops free (micro_op_of range k (instr.Op op rd rs1 rs2)) regs (by_op op)) ∙ e
+op_toll range k (instr.Atomic op rd rs1 rs2) stops free regs n e = never_some n e
+op_toll range k instr.Fence stops free regs n e = e
+op_toll range k instr.Ecall stops free regs n e = never_some n e
+op_toll range k instr.Ebreak stops free regs n e = never_some n e
+
+by_jump : (rd : ℕ) (o : Option ℕ) (regs : Registers) → taken_of (jump_or_stop rd o) regs ≡ false
+by_jump rd None regs = refl
+by_jump rd (Some k) regs = refl
 
 branch_taken : (o : BranchOp) (rs1 rs2 k : ℕ) (regs : Registers) → taken_of (branch_op o rs1 rs2 k) regs ≡ is_taken o (reg regs rs1) (reg regs rs2)
 branch_taken Beq rs1 rs2 k regs = refl
@@ -117,46 +131,76 @@ branch_taken Bgeu rs1 rs2 k regs = refl
 abbrev Goes : WordRange → ℕ → MicroOp → Registers → List AreaData → ℕ → Type 0
 Goes range k m regs bus next = (ran range m k regs bus).next ≡ Some next
 
-never_goes : {A : Type 0} (next : ℕ) → None ≡ Some next → A
-never_goes next goes = absurd cc
-
 branches_taken : (range : WordRange) (k : ℕ) (op : BranchOp) (rs1 rs2 : ℕ) (o : Option ℕ) (regs : Registers) (bus : List AreaData) (next : ℕ) → Goes range k (branch_or_stop op rs1 rs2 o) regs bus next →
     taken_of (branch_or_stop op rs1 rs2 o) regs ≡ is_taken op (reg regs rs1) (reg regs rs2)
-branches_taken range k op rs1 rs2 None regs bus next goes = never_goes next goes
+branches_taken range k op rs1 rs2 None regs bus next goes = never_some next goes
 branches_taken range k op rs1 rs2 (Some j) regs bus next goes = branch_taken op rs1 rs2 j regs
 
 taken_is : (range : WordRange) (k : ℕ) (regs : Registers) (bus : List AreaData) (next : ℕ) (i : Instr) → Goes range k (micro_op_of range k i) regs bus next → taken_of (micro_op_of range k i) regs ≡ is_taken_branch i regs
 taken_is range k regs bus next (instr.Lui rd imm) goes = refl
 taken_is range k regs bus next (instr.Auipc rd imm) goes = refl
-taken_is range k regs bus next (instr.Jal rd off) goes =
-    untaken (class_of (micro_op_of range k (instr.Jal rd off)).code) (micro_op_of range k (instr.Jal rd off)) regs (by_jump rd (index_at range (sum_of (address_at range k) off)))
+taken_is range k regs bus next (instr.Jal rd off) goes = by_jump rd (index_at range (sum_of (address_at range k) off)) regs
 taken_is range k regs bus next (instr.Jalr rd rs1 imm) goes = refl
 taken_is range k regs bus next (instr.Branch op rs1 rs2 off) goes = branches_taken range k op rs1 rs2 (index_at range (sum_of (address_at range k) off)) regs bus next goes
-taken_is range k regs bus next (instr.Load op rd rs1 imm) goes = untaken (class_of (code_of (class_of_load op))) (micro_op_of range k (instr.Load op rd rs1 imm)) regs (by_load op)
-taken_is range k regs bus next (instr.Store op rs1 rs2 imm) goes = untaken (class_of (code_of (class_of_store op))) (micro_op_of range k (instr.Store op rs1 rs2 imm)) regs (by_store op)
-taken_is range k regs bus next (instr.Alu op rd rs1 imm) goes = untaken (class_of (code_of (class_of_imm op))) (micro_op_of range k (instr.Alu op rd rs1 imm)) regs (by_imm op)
-taken_is range k regs bus next (instr.Op op rd rs1 rs2) goes = untaken (class_of (code_of (class_of_op op))) (micro_op_of range k (instr.Op op rd rs1 rs2)) regs (by_op op)
+taken_is range k regs bus next (instr.Load op rd rs1 imm) goes = straight_untaken (class_of (code_of (class_of_load op))) (micro_op_of range k (instr.Load op rd rs1 imm)) regs (by_load op)
+taken_is range k regs bus next (instr.Store op rs1 rs2 imm) goes = straight_untaken (class_of (code_of (class_of_store op))) (micro_op_of range k (instr.Store op rs1 rs2 imm)) regs (by_store op)
+taken_is range k regs bus next (instr.Alu op rd rs1 imm) goes = straight_untaken (class_of (code_of (class_of_imm op))) (micro_op_of range k (instr.Alu op rd rs1 imm)) regs (by_imm op)
+taken_is range k regs bus next (instr.Op op rd rs1 rs2) goes = straight_untaken (class_of (code_of (class_of_op op))) (micro_op_of range k (instr.Op op rd rs1 rs2)) regs (by_op op)
 taken_is range k regs bus next (instr.Atomic op rd rs1 rs2) goes = refl
 taken_is range k regs bus next instr.Fence goes = refl
 taken_is range k regs bus next instr.Ecall goes = refl
 taken_is range k regs bus next instr.Ebreak goes = refl
 
-not_true : (b : Bool) → not b ≡ true → b ≡ false
-not_true true e = absurd (let never : false ≡ true = e in cc)
-not_true false e = refl
+-- ---- a jump lands at a word of the range
 
-pub passes_untaken : (i : Instr) (regs : Registers) → passes i regs ≡ true → is_taken_branch i regs ≡ false
-passes_untaken (instr.Branch op rs1 rs2 off) regs e = not_true (is_taken op (reg regs rs1) (reg regs rs2)) e
-passes_untaken _ regs e = refl
+some_same : (m n : ℕ) → ◌≡◌ {A = Option ℕ} (Some m) (Some n) → m ≡ n
+some_same m n e = cc
+
+lands_at : (range : WordRange) (a j next : ℕ) → IsWordRange range → a < 2 ^ 32 → index_at range a ≡ Some j → j ≡ next → next < range.words
+lands_at range a j next whole small at same = let t : Target range a j = target range a j whole small at in omega (arith, t.within, same)
+
+jal_lands : (range : WordRange) (k rd a : ℕ) (regs : Registers) (bus : List AreaData) (next : ℕ) (o : Option ℕ) → IsWordRange range → a < 2 ^ 32 → index_at range a ≡ o → Goes range k (jump_or_stop rd o) regs bus next → next < range.words
+jal_lands range k rd a regs bus next None whole small at goes = never_some next goes
+jal_lands range k rd a regs bus next (Some j) whole small at goes = lands_at range a j next whole small at (some_same j next goes)
+
+jalr_lands : (range : WordRange) (k : ℕ) (m : MicroOp) (a : ℕ) (regs : Registers) (bus : List AreaData) (next : ℕ) (o : Option ℕ) → IsWordRange range → a < 2 ^ 32 → index_at range a ≡ o → (jumps_to range m k regs bus o).next ≡ Some next → next < range.words
+jalr_lands range k m a regs bus next None whole small at goes = never_some next goes
+jalr_lands range k m a regs bus next (Some j) whole small at goes = lands_at range a j next whole small at (some_same j next goes)
+
+branch_goes : (range : WordRange) (k : ℕ) (op : BranchOp) (rs1 rs2 j : ℕ) (regs : Registers) (bus : List AreaData) → (ran range (branch_op op rs1 rs2 j) k regs bus).next ≡ Some (if is_taken op (reg regs rs1) (reg regs rs2) then j else k + 1)
+branch_goes range k Beq rs1 rs2 j regs bus = refl
+branch_goes range k Bne rs1 rs2 j regs bus = refl
+branch_goes range k Blt rs1 rs2 j regs bus = refl
+branch_goes range k Bge rs1 rs2 j regs bus = refl
+branch_goes range k Bltu rs1 rs2 j regs bus = refl
+branch_goes range k Bgeu rs1 rs2 j regs bus = refl
+
+branch_lands : (range : WordRange) (k : ℕ) (op : BranchOp) (rs1 rs2 a : ℕ) (regs : Registers) (bus : List AreaData) (next : ℕ) (o : Option ℕ) → IsWordRange range → a < 2 ^ 32 → index_at range a ≡ o →
+    Goes range k (branch_or_stop op rs1 rs2 o) regs bus next → is_taken op (reg regs rs1) (reg regs rs2) ≡ true → next < range.words
+branch_lands range k op rs1 rs2 a regs bus next None whole small at goes taken = never_some next goes
+branch_lands range k op rs1 rs2 a regs bus next (Some j) whole small at goes taken =
+    lands_at range a j next whole small at
+    (some_same j next (sym (ap (λ (b : Bool). Some (if b then j else k + 1)) taken) ∙ sym (branch_goes range k op rs1 rs2 j regs bus) ∙ goes))
+
+off_true : {A : Type 0} → false ≡ true → A
+off_true e = absurd cc
+
+jump_lands : (range : WordRange) (k : ℕ) (regs : Registers) (bus : List AreaData) (next : ℕ) (i : Instr) → IsWordRange range → Goes range k (micro_op_of range k i) regs bus next → jumps i regs ≡ true → next < range.words
+jump_lands range k regs bus next (instr.Jal rd off) whole goes j = jal_lands range k rd (sum_of (address_at range k) off) regs bus next (index_at range (sum_of (address_at range k) off)) whole (omega arith) refl goes
+jump_lands range k regs bus next (instr.Jalr rd rs1 imm) whole goes j =
+    jalr_lands range k (micro_op_of range k (instr.Jalr rd rs1 imm)) (address_of regs rs1 imm / 2 * 2) regs bus next (index_at range (address_of regs rs1 imm / 2 * 2)) whole (omega arith) refl goes
+jump_lands range k regs bus next (instr.Branch op rs1 rs2 off) whole goes j =
+    branch_lands range k op rs1 rs2 (sum_of (address_at range k) off) regs bus next (index_at range (sum_of (address_at range k) off)) whole (omega arith) refl goes j
+jump_lands range k regs bus next _ whole goes j = off_true j
 
 -- ---- a step by a micro-op stores beside the text
 
 made_true : (t : Bool) (k next : ℕ) (regs regs' : Registers) (bus bus' : List AreaData) → (if t then goes_to k regs bus else leaves regs' bus').next ≡ Some next → t ≡ true
 made_true true k next regs regs' bus bus' goes = refl
-made_true false k next regs regs' bus bus' goes = never_goes next goes
+made_true false k next regs regs' bus bus' goes = never_some next goes
 
 not_into : (may touches : Bool) (a : ℕ) → (may && not touches) ≡ true → (if may && touches then Some a else None) ≡ None
-not_into true true a e = absurd (let never : false ≡ true = e in cc)
+not_into true true a e = off_true e
 not_into true false a e = refl
 not_into false touches a e = refl
 
@@ -170,8 +214,8 @@ module _ (range : WordRange) (k next : ℕ) (regs : Registers) (bus : List AreaD
   unstored (instr.Store op rs1 rs2 imm) goes =
       let a : ℕ = address_of regs rs1 imm in
       not_into (holds bus Write a (store_size op)) (touches_text bus a (store_size op)) a (store_may op rs1 rs2 imm goes)
-  unstored (instr.Atomic op rd rs1 rs2) goes = never_goes next goes
-  unstored instr.Ecall goes = never_goes next goes
+  unstored (instr.Atomic op rd rs1 rs2) goes = never_some next goes
+  unstored instr.Ecall goes = never_some next goes
   unstored _ goes = refl
 
 -- ---- the step
@@ -180,9 +224,8 @@ module _ (range : WordRange) (k next : ℕ) (regs : Registers) (bus : List AreaD
 pub record StepsBy (range : WordRange) (k : ℕ) (m : MicroOp) (regs : Registers) (bus : List AreaData) (next : ℕ) (regs' : Registers) (bus' : List AreaData) : Type 0 where
   pub instruction : Instr
   pub step : StepsAt range k instruction regs bus next regs' bus'
-  pub passes_if : passes_by (class_of m.code) m regs ≡ true → passes instruction regs ≡ true
+  pub pays : (stops free : Bool) (n : ℕ) → toll_by (class_of m.code) stops free m regs ≡ Some n → toll instruction stops free regs ≡ Some n
   pub taken : is_taken_by (class_of m.code) m regs ≡ is_taken_branch instruction regs
-  pub within : next ≤ range.words
 
 module _ (range : WordRange) (k : ℕ) (m : MicroOp) (regs regs' : Registers) (bus bus' : List AreaData) (next : ℕ) where
   by_op_of : IsWordRange range → k < range.words → IsOpOf (fetched bus) range k m → Goes range k m regs bus next → regs' ≡ (ran range m k regs bus).regs → bus' ≡ (ran range m k regs bus).bus →
@@ -199,14 +242,15 @@ module _ (range : WordRange) (k : ℕ) (m : MicroOp) (regs regs' : Registers) (b
           decodes = h.decodes;
           unstored = unstored range k next regs bus i made_goes;
           goes = executes (address_at range k) regs regs' bus bus' h.word (address_at range next) i h.stands h.decodes (rw (same_regs, same_bus) same.effect);
+          within = same.within;
+          lands = λ j. jump_lands range k regs bus next i whole made_goes j;
         };
-        passes_if = λ s. op_passes range k regs i (subst (λ (q : MicroOp). passes_so q regs ≡ true) h.is s);
+        pays = λ stops free n e. op_toll range k i stops free regs n (subst (λ (q : MicroOp). tolled q stops free regs ≡ Some n) h.is e);
         taken = ap (λ (q : MicroOp). taken_of q regs) h.is ∙ taken_is range k regs bus next i made_goes;
-        within = same.within;
       }
 
   stopped_goes : {A : Type 0} → m ≡ stop_op → Goes range k m regs bus next → A
-  stopped_goes is goes = never_goes next (subst (λ q. Goes range k q regs bus next) is goes)
+  stopped_goes is goes = never_some next (subst (λ q. Goes range k q regs bus next) is goes)
 
   -- at any index, the one behind the last word's included
   pub steps_on : (ops : List MicroOp) (c : Class) (r : Option ℕ) → AreDecoded (fetched bus) range ops → k ≤ range.words → m ≡ get_or ops k m → c ≡ class_of m.code → r ≡ (ran_as c range m k regs bus).next → r ≡ Some next →
@@ -231,7 +275,7 @@ module _ (range : WordRange) (k : ℕ) (m : MicroOp) (regs regs' : Registers) (b
 abbrev pub at_word : WordRange → Machine → ℕ → ℕ → Machine
 at_word range m k steps = record m { pc = address_at range k; steps = steps }
 
-machine_steps : (range : WordRange) (m : Machine) (k next steps : ℕ) (i : Instr) (regs : Registers) (bus : List AreaData) → StepsAt range k i m.regs m.bus next regs bus →
+pub machine_steps : (range : WordRange) (m : Machine) (k next steps : ℕ) (i : Instr) (regs : Registers) (bus : List AreaData) → StepsAt range k i m.regs m.bus next regs bus →
     StepsOn i (at_word range m k steps) (at_word range (record m { regs = regs; bus = bus }) next (steps + 1))
 machine_steps range m k next steps i regs bus s = record {
   word = s.word;
@@ -240,34 +284,41 @@ machine_steps range m k next steps i regs bus s = record {
   unstored = s.unstored;
   goes = s.goes (record m { steps = steps });
   counted = refl;
-  small = omega arith;
   ending = refl;
 }
+
+-- the machine's own step, with one fewer that is left
+pub one_fewer : (range : WordRange) (m : Machine) (limit left k next : ℕ) (i : Instr) (regs : Registers) (bus : List AreaData) → 0 < left → left ≤ limit → StepsAt range k i m.regs m.bus next regs bus →
+    StepsOn i (at_word range m k (limit - left)) (at_word range (record m { regs = regs; bus = bus }) next (limit - (left - 1)))
+one_fewer range m limit left k next i regs bus some within s =
+    let counted : limit - left + 1 ≡ limit - (left - 1) = omega (arith, some, within) in
+    subst (λ n. StepsOn i (at_word range m k (limit - left)) (at_word range (record m { regs = regs; bus = bus }) next n)) counted (machine_steps range m k next (limit - left) i regs bus s)
+
+at_index : (g : Gates) (range : WordRange) (k : ℕ) (m : Machine) (steps : ℕ) → range.from ≡ g.base → length g.words ≡ range.words + 1 → k ≤ range.words → At g k (at_word range m k steps)
+at_index g range k m steps same long within = record { within = omega (arith, long, within); pc = ap (λ (a : ℕ). sum_of a (4 * k)) same }
 
 count_on : (limit left first : ℕ) → 0 < left → left ≤ limit → first ≤ limit - left → limit - (left - 1) - first ≡ suc (limit - left - first)
 count_on limit left first some within no_fewer = omega arith
 
--- one step more
-module _ (range : WordRange) (first m : Machine) (limit left k next : ℕ) (i : Instr) (regs : Registers) (bus : List AreaData) (some : 0 < left) (within : left ≤ limit) (no_fewer : first.steps ≤ limit - left)
-    (s : StepsAt range k i m.regs m.bus next regs bus) (h : Coasts (limit - left - first.steps) first (at_word range m k (limit - left))) where
-  abbrev after : Machine
-  after = at_word range (record m { regs = regs; bus = bus }) next (limit - (left - 1))
+-- one more that was let go on
+pub coasts_on : (g : Gates) (range : WordRange) (begun m : Machine) (limit left first k next paid more : ℕ) (i : Instr) (gate : Gate) (regs : Registers) (bus : List AreaData) → range.from ≡ g.base → length g.words ≡ range.words + 1 →
+    0 < left → left ≤ limit → begun.steps ≤ limit - left → slice_get g.words k ≡ Some gate → gate.stops ≡ false → toll i gate.ends (is_open g.masks g.pass gate.exit) m.regs ≡ Some more → StepsAt range k i m.regs m.bus next regs bus →
+    Coasts g first begun (limit - left - begun.steps) k (at_word range m k (limit - left)) paid →
+    Coasts g first begun (limit - (left - 1) - begun.steps) next (at_word range (record m { regs = regs; bus = bus }) next (limit - (left - 1))) (paid + more)
+coasts_on g range begun m limit left first k next paid more i gate regs bus same long some within no_fewer gate_is on pays s run =
+    let after : Machine = at_word range (record m { regs = regs; bus = bus }) next (limit - (left - 1)) in
+    let step_is : GoesOn g k (at_word range m k (limit - left)) next after more = record {
+      instruction = i;
+      gate = gate;
+      gate_is = gate_is;
+      step = one_fewer range m limit left k next i regs bus some within s;
+      on = on;
+      toll_is = pays;
+      at = at_index g range next (record m { regs = regs; bus = bus }) (limit - (left - 1)) same long s.within;
+      lands = λ j. omega (arith, s.lands j, long);
+    } in
+    subst (λ n. Coasts g first begun n next after (paid + more)) (sym (count_on limit left begun.steps some within no_fewer))
+    (k, at_word range m k (limit - left), paid, more, run, step_is, refl)
 
-  then_on : StepsOn i (at_word range m k (limit - left)) after
-  then_on =
-      let counted : limit - left + 1 ≡ limit - (left - 1) = omega (arith, some, within) in
-      subst (λ n. StepsOn i (at_word range m k (limit - left)) (at_word range (record m { regs = regs; bus = bus }) next n)) counted (machine_steps range m k next (limit - left) i regs bus s)
-
-  pub coasts_on : passes i m.regs ≡ true → Coasts (limit - (left - 1) - first.steps) first after
-  coasts_on on = subst (λ n. Coasts n first after) (sym (count_on limit left first.steps some within no_fewer)) (at_word range m k (limit - left), i, h, on, then_on)
-
-  pub coasted_on : (taken : Bool) → taken ≡ is_taken_branch i m.regs → Coasted (limit - (left - 1) - first.steps) taken first after
-  coasted_on taken is = subst (λ n. Coasted n taken first after) (sym (count_on limit left first.steps some within no_fewer)) (at_word range m k (limit - left), i, h, then_on, is)
-
--- each led on
-pub all_coasted : (n : ℕ) (first last : Machine) → Coasts n first last → Coasted n false first last
-all_coasted zero first last h = h
-all_coasted (suc n) first last h = (h.0, h.1, h.2, h.4, sym (passes_untaken h.1 h.0.regs h.3))
-
-pub coasted_none : (m : Machine) → Coasted (m.steps - m.steps) false m m
-coasted_none m = let none : m.steps - m.steps ≡ 0 = omega arith in subst (λ n. Coasted n false m m) (sym none) refl
+pub coasts_none : (g : Gates) (k n : ℕ) (m : Machine) → n ≡ 0 → Coasts g k m n k m 0
+coasts_none g k n m none = subst (λ i. Coasts g k m i k m 0) (sym none) (refl, refl, refl)

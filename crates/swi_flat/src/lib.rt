@@ -5,4 +5,5 @@ mod advance;
 mod coast;
 mod flat;
 
+pub use coast::{Coasted, Gate};
 pub use flat::Flat;

@@ -1,5 +1,5 @@
 -- Where a run stands in an image beside the flat machine, and what its steps do to caches and counts.
-use Rattle.std.specs.Prelude.{◌≡◌, ℕ, suc, ◌+◌, ◌-◌, ◌*◌, ◌^◌, ◌<◌, ◌≤◌, Bool, true, false, List, length, slice_get, Option, Some, None, Result, Err, IfOk, OnOk, IsErrOf, ⊤, if◌then◌else◌}
+use Rattle.std.specs.Prelude.{◌≡◌, ℕ, suc, ◌+◌, ◌-◌, ◌*◌, ◌^◌, ◌<◌, ◌≤◌, Bool, true, false, List, [], ◌∷◌, ◌++◌, length, map, slice_get, Option, Some, None, Result, Err, IfOk, OnOk, IsErrOf, ⊤, if◌then◌else◌}
 use Rattle.std.specs.Io.KnownBytes.{Appends}
 use Rattle.swi_outside.specs.Source.{ForInput, HasGiven}
 use Rattle.swi_outside.specs.Devices.{Devices, HasCauses, faults_of}
@@ -13,19 +13,20 @@ use Rattle.swi_calls.specs.StoresText.{instruction_store}
 use Rattle.swi_calls.specs.Flat.{started}
 use Rattle.swi_calls.specs.FirstStore.{StoresAt}
 use Rattle.swi_calls.specs.Held.{held_made, held_run}
-use Rattle.swi_flat.specs.Coasted.{Coasted}
+use Rattle.swi_flat.specs.declared.coast.Coasted.{Coasted}
+use Rattle.swi_flat.specs.Coasted.{Gates, HasCoasted}
 use Rattle.swi_flat.specs.FlatData.{FlatData}
 use Rattle.swi_flat.specs.Ran.{Ran}
 use Rattle.swi_image.specs.Format.{ImageData}
 use Rattle.swi_image.specs.Place.{place_of}
-use Rattle.swi_image.specs.Sound.{IsImage}
-use Rattle.swi_program.specs.Text.{TextData, IsSized, word_of}
+use Rattle.swi_program.specs.Text.{TextData, word_of}
 use Rattle.swi_render.specs.Rendering.{falls_of, sum}
-use Rattle.swi_render.specs.ImageOf.{IsImageOf, address_of}
+use Rattle.swi_render.specs.ImageOf.{address_of}
 use Rattle.swi_rom.specs.Record.{Transfer, direct, indirect}
 use Rattle.swi_board.specs.Transfers.{Here as Place, after_all, at_fall, fall_transfers, here_after, settled, size, step_size, step_transfers, transfers}
 use Rattle.swi_tally.specs.Tally.{policy_of}
 use Rattle.swi_tally.specs.declared.tallies.Frame.{Frame}
+use Rattle.swi_tally.specs.Masks.{has}
 use Rattle.swi_tally.specs.Tallies.{Row, TalliesData, AllServed, AreServing, first_row, row_at, served_if}
 use Rattle.swi_survey.specs.declared.leaving.Way.{Way}
 use Rattle.swi_survey.specs.declared.leaving.Way.TheVariants as way
@@ -37,7 +38,7 @@ use Rattle.swi_survey.specs.declared.track.Track.{Track}
 use Rattle.swi_survey.specs.declared.survey.Surveyed.{Surveyed}
 use Rattle.swi_survey.specs.declared.ways.Ways.{Ways}
 use Rattle.swi_survey.specs.Leaving.{branch_by, leaving_by}
-use Rattle.swi_survey.specs.Ways.{AreAllWays, HasNumber, exit_to, instr_at, is_last, place_behind}
+use Rattle.swi_survey.specs.Ways.{AreAllWays, HasNumber, exit_to, gate_of, instr_at, is_last, place_behind, shut}
 
 -- ---- where a run stands
 
@@ -119,6 +120,7 @@ pub record Moves (t : TextData) (v : ImageData) (list : List Transfer) (place : 
   pub serving : (n : ℕ) → AreServing v n old.caches → AreServing v (suc n) new.caches
   pub exits : new.caches.exits ≡ old.caches.exits
   pub ways : new.ways.items ≡ old.ways.items
+  pub gates : new.gates.items ≡ old.gates.items
   pub place_is : place_at t v new.here ≡ place
   pub fetches_are : new.fetches ≡ old.fetches + fetched
   pub outside_is : new.outside ≡ old.outside + outside
@@ -155,32 +157,25 @@ pub record IsReady (t : TextData) (v : ImageData) (k : Track) : Type 0 where
   pub fetches_few : k.fetches < 2 ^ 60
   pub outside_few : k.outside < 2 ^ 60
 
--- ---- steps within a block
+-- ---- steps at which no cache has anything to do
 
--- what is asked of a run that makes them, at a text word of an image
-pub record MayGlide (t : TextData) (v : ImageData) (pc : ℕ) (k : Track) : Type 0 where
-  pub sized : IsSized t
-  pub image : IsImage v
-  pub own : IsImageOf t v
-  pub ready : IsReady t v k
-  pub stands : StandsAt t pc k.here
+-- what lets them go on: the gates of the text words from an address on, by a set that has all caches
+abbrev pub gates_by : ℕ → Track → ℕ → Gates
+gates_by base k all = record { base = base; words = k.gates.items; masks = k.caches.masks; pass = all }
 
--- n steps were made that each led to the next text word, and one more, which caches have not followed yet
-pub record Glides (limit : ℕ) (f g : FlatData) (old new : Track) (s : Step) : Type 0 where
-  pub k : ℕ
-  pub n : ℕ
-  pub first : Ways
-  pub last : Ways
-  pub taken : Bool
-  pub here_is : old.here ≡ here.At k
-  pub first_is : slice_get old.ways.items k ≡ Some first
-  pub last_is : slice_get old.ways.items (k + n) ≡ Some last
-  pub room : n < first.room
-  pub coasted : Coasted (suc n) taken f.machine g.machine
-  pub failed : g.failed ≡ f.failed
-  pub within : g.machine.steps ≤ limit
-  pub new_is : new ≡ record old { here = here.At (k + n); fetches = old.fetches + (last.offset - first.offset) }
-  pub step_is : s ≡ step.From (k + n) (if taken then branch_by true else last.left)
+pub record Coasts (base : ℕ) (k : Track) (f g : Machine) (c : Coasted) : Type 0 where
+  pub all : ℕ
+  pub every : (j : ℕ) → j < length k.caches.caches → has all j ≡ true
+  pub masks : length k.caches.masks ≡ length k.caches.exits.from
+  pub coasted : HasCoasted (gates_by base k all) f g c
+
+-- the run behind those that were let go on
+abbrev pub passed : Track → Coasted → Track
+passed k c = record k { here = here.At c.at; fetches = k.fetches + (c.steps + c.paid) }
+
+-- one more, from a text word with these ways
+abbrev pub closing : ℕ → Ways → Bool → Step
+closing at w taken = step.From at (if taken then branch_by true else w.left)
 
 -- ---- a run
 
@@ -188,6 +183,7 @@ pub record Glides (limit : ℕ) (f g : FlatData) (old new : Track) (s : Step) : 
 pub record Tracks (t : TextData) (v : ImageData) (steps : ℕ) (k : Track) : Type 0 where
   pub ways_are : AreAllWays t v k.caches.exits k.ways.items
   pub long : length k.ways.items ≡ length t.words
+  pub gates_are : k.gates.items ≡ map (gate_of (length k.caches.exits.from)) k.ways.items ++ shut (length k.caches.exits.from) ∷ []
   pub serving : AreServing v (2 * steps + 1) k.caches
   pub fetches_few : k.fetches ≤ 4 * steps
   pub outside_few : k.outside ≤ steps

@@ -1,7 +1,7 @@
 //! One run of the flat machine, and all caches beside it.
 #![tactic(auto)]
 
-ghost use Rattle.std.specs.Prelude.{◌≡◌, ◌+◌, ◌≤◌, ◌^◌, All, false, length};
+ghost use Rattle.std.specs.Prelude.{◌≡◌, ◌+◌, ◌≤◌, ◌^◌, All, IfSome, None, false, length};
 ghost use Rattle.swi_calls.specs.Flat.{machine_of};
 ghost use Rattle.swi_image.specs.Sound.{IsImage};
 ghost use Rattle.swi_program.specs.Layout.{IsLayoutOf};
@@ -9,13 +9,13 @@ ghost use Rattle.swi_program.specs.Text.{IsSized, text_of};
 ghost use Rattle.swi_render.specs.ImageOf.{IsImageOf};
 ghost use Rattle.swi_tally.specs.Tallies.{IsFrame};
 ghost use Rattle.swi_survey.specs.Survey.{SurveyRan};
-ghost use Rattle.swi_survey.specs.Track.{Begun, StandsAt, StepIs, StepsRan, told_of};
+ghost use Rattle.swi_survey.specs.Track.{Begun, Coasts, StandsAt, StepIs, StepsRan, told_of};
 
-use crate::leaving::{ILLEGAL, TAKEN, leaving_of};
+use crate::leaving::{ILLEGAL, leaving_of};
 use crate::track::{Here, Step, Track};
 use std::alloc::Global;
 use swi_calls::{CallFault, End, text_store};
-use swi_flat::Flat;
+use swi_flat::{Coasted, Flat};
 use swi_image::ImageView;
 use swi_isa::decode;
 use swi_memory::Layout;
@@ -66,31 +66,21 @@ fn next_step(flat: &Flat, here: Here, text: &TextView<'_>) -> Step
     }
 }
 
-/// Steps up to `limit` within the block, which go by micro-ops: the last one, which is made and is not followed yet. None,
-/// and nothing has changed, where the next step does not.
-fn coast(flat: &mut Flat, track: &mut Track, limit: u64) -> Option<Step>
+/// Steps up to `limit` at which no cache has anything to do, and one more. None, and nothing has changed, where there is none.
+fn coast(flat: &mut Flat, track: &Track, base: u32, limit: u64) -> Option<Coasted>
     requires within { flat.old.machine.steps ≤ limit }
     requires few { limit ≤ 2 ^ 48 }
-    requires may { (t : TextData) × (v : ImageData) × MayGlide t v flat.old.machine.pc track.old }
-    ensures none { result ≡ None → (flat.new ≡ flat.old) × (track.new ≡ track.old) }
-    ensures glides { IfSome result (λ s. Glides limit flat.old flat.new track.old track.new s) }
+    ensures none { result ≡ None → flat.new ≡ flat.old }
+    ensures coasted { IfSome result (λ c. Coasts base track.now flat.old.machine flat.new.machine c) }
+    ensures within { flat.new.machine.steps ≤ limit }
+    ensures failed { flat.new.failed ≡ flat.old.failed }
 {
-    let Here::At(k) = track.here else {
-        return None;
-    };
-    let first = track.ways[k as usize];
-    let before = flat.steps();
-    let most = before + first.room as u64;
-    let taken = flat.coast(if most < limit { most } else { limit });
-    let made = (flat.steps() - before) as u32;
-    if made == 0 {
+    let caches = &track.caches;
+    let coasted = flat.coast(limit, base, &track.gates, caches.masks(), caches.all())?;
+    if coasted.steps == 0 && coasted.last.is_none() {
         return None;
     }
-    let k = k + made - 1;
-    let last = track.ways[k as usize];
-    track.fetches += (last.offset - first.offset) as u64;
-    track.here = Here::At(k);
-    Some(Step::From(k, if taken { TAKEN } else { last.left }))
+    Some(coasted)
 }
 
 /// Steps up to `limit`, and all caches follow. It gives the address at which the next step would store into the text, before
@@ -116,8 +106,8 @@ fn run_steps<I: Source, O: Sink, E: Sink>(
 {
     while flat.steps() < limit && flat.ending().is_none() {
         track.settle(image, text, flat.pc());
-        if let Some(step) = coast(flat, track, limit) {
-            track.follow(image, text, step, flat.pc(), false);
+        if let Some(coasted) = coast(flat, track, text.base(), limit) {
+            track.pass(image, text, coasted, flat.pc());
             continue;
         }
         let step = next_step(flat, track.here, text);

@@ -14,6 +14,3 @@ pub returns-in-Some-clause-step : goal.returns-in-Some-clause-step
 returns-in-Some-clause-step c =
     let s = steps c in
     (s.instruction, s.step, c.is_taken-taken.ensures ∙ ap (λ (q : Class). is_taken_by q (get_or c.args.ops.now c.args.k c.index-ops-k.result) c.args.regs.now) c.class-class.ensures ∙ s.taken)
-
-pub returns-in-Some-clause-within : goal.returns-in-Some-clause-within
-returns-in-Some-clause-within c = (steps c).within
