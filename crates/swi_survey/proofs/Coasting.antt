@@ -175,8 +175,11 @@ number_placed v e p a x has = by (place_of v a) refl has
 address_small : (base len k : ℕ) → base + 4 * len ≤ 2 ^ 32 → k < len → (base + 4 * k) % 2 ^ 32 ≡ base + 4 * k
 address_small base len k end lt = omega arith
 
-next_index : (base len k n : ℕ) → base + 4 * len ≤ 2 ^ 32 → k < len → n ≤ len → (base + 4 * n) % 2 ^ 32 ≡ base + 4 * k → n ≡ k
-next_index base len k n end lt le same = omega arith
+next_index : (base len k n : ℕ) → base + 4 * len ≤ 2 ^ 32 → 0 < k → k < len → n ≤ len → (base + 4 * n) % 2 ^ 32 ≡ base + 4 * k → n ≡ k
+next_index base len k n end some lt le same = omega arith
+
+same_index : (base j k : ℕ) → base + 4 * j ≡ base + 4 * k → j ≡ k
+same_index base j k same = omega arith
 
 -- ---- a run, and the exit behind a block made where it stands at one
 
@@ -184,6 +187,23 @@ pub record Standing (t : TextData) (v : ImageData) (limit : ℕ) (first : FlatDa
   pub before : Track
   pub running : Running t v limit first k f before d e
   pub settles : Settles t v f.machine before now
+
+-- the run at a text word, with so many words fetched, or so many more
+abbrev at_total : Track → ℕ → ℕ → Track
+at_total now j n = record now { here = here.At j; fetches = n }
+
+abbrev track_at : Track → ℕ → ℕ → Track
+track_at now j more = at_total now j (now.fetches + more)
+
+-- so many steps on
+pub record Glided (t : TextData) (v : ImageData) (limit : ℕ) (first : FlatData) (k : Track) (d e : Devices) (f : FlatData) (now : Track) (m j more : ℕ) (o : Machine) : Type 0 where
+  pub standing : Standing t v limit first k (unfailed o) (track_at now j more) d e
+  pub running : 0 < m → Running t v limit first k (unfailed o) (track_at now j more) d e
+  pub steps : o.steps ≡ f.machine.steps + m
+  pub going : o.ending ≡ None
+
+pub same_run : {t : TextData} {v : ImageData} {limit : ℕ} {first : FlatData} {k : Track} {now : Track} {d e : Devices} (f q : FlatData) → q ≡ f → Running t v limit first k f now d e → Running t v limit first k q now d e
+same_run {t = t} {v = v} {limit = limit} {first = first} {k = k} {now = now} {d = d} {e = e} f q same r = subst (λ (x : FlatData). Running t v limit first k x now d e) (sym same) r
 
 module _ {t : TextData} {v : ImageData} {limit : ℕ} {first : FlatData} {k : Track} {d e : Devices} (g : Ground t v) where
   pub ways_now : (f : FlatData) (now : Track) → Standing t v limit first k f now d e → (j : ℕ) (w : Ways) → slice_get now.ways.items j ≡ Some w → AreWays t v now.caches.exits j w
@@ -238,12 +258,6 @@ module _ {t : TextData} {v : ImageData} {limit : ℕ} {first : FlatData} {k : Tr
       running_so after follows = running_on s.running (unfailed n) now after own e g fewer on s.settles step_so other (λ left rest r. ap (λ (m : Made). unfailed m.machine) (sym (steps.goes left))) steps.counted refl quiet_so follows
 
   -- ---- one that a gate lets go on
-
-  abbrev at_total : Track → ℕ → ℕ → Track
-  at_total now j n = record now { here = here.At j; fetches = n }
-
-  abbrev track_at : Track → ℕ → ℕ → Track
-  track_at now j more = at_total now j (now.fetches + more)
 
   module _ (f : FlatData) (now : Track) (s : Standing t v limit first k f now d e) (j : ℕ) (at : now.here ≡ here.At j) (all : ℕ) (n : Machine) (next paid : ℕ)
       (every : (c : ℕ) → c < length now.caches.caches → has all c ≡ true) (masks : length now.caches.masks ≡ length now.caches.exits.from)
@@ -337,7 +351,7 @@ module _ {t : TextData} {v : ImageData} {limit : ℕ} {first : FlatData} {k : Tr
           let follows = onward_follows (onward_case i on.gate.ends (is_open now.caches.masks all on.gate.exit) f.machine.regs paid on.toll_is straight) in
           let there : StandsAt t n.pc (here.At (suc j)) = follows.stands (on.step.ending ∙ going) in
           let within : next ≤ length t.words = omega (arith, on.at.within, words_long) in
-          let same : suc j ≡ next = sym (next_index t.base (length t.words) (suc j) next base_end there.0 within (sym on.at.pc ∙ there.1)) in
+          let same : suc j ≡ next = sym (next_index t.base (length t.words) (suc j) next base_end (omega arith) there.0 within (sym on.at.pc ∙ there.1)) in
           subst (λ (m : ℕ). Running t v limit first k (unfailed n) (track_at now m (1 + paid)) d e) same (runs_at (suc j) (1 + paid) follows))
     ]
 
@@ -352,13 +366,6 @@ module _ {t : TextData} {v : ImageData} {limit : ℕ} {first : FlatData} {k : Tr
 
   -- ---- many of them
 
-  -- so many steps on
-  pub record Glided (f : FlatData) (now : Track) (m j more : ℕ) (o : Machine) : Type 0 where
-    pub standing : Standing t v limit first k (unfailed o) (track_at now j more) d e
-    pub running : 0 < m → Running t v limit first k (unfailed o) (track_at now j more) d e
-    pub steps : o.steps ≡ f.machine.steps + m
-    pub going : o.ending ≡ None
-
   module _ (f : FlatData) (now : Track) (s : Standing t v limit first k f now d e) (begin all : ℕ) (at : now.here ≡ here.At begin) (going : f.machine.ending ≡ None)
       (every : (c : ℕ) → c < length now.caches.caches → has all c ≡ true) (masks : length now.caches.masks ≡ length now.caches.exits.from) where
     flat_is : f ≡ unfailed f.machine
@@ -369,7 +376,7 @@ module _ {t : TextData} {v : ImageData} {limit : ℕ} {first : FlatData} {k : Tr
         let same : now.fetches ≡ now.fetches + more = omega (arith, none) in
         ap (λ (h : Here). let q : Track = record now { here = h } in q) (at ∙ ap here.At (sym here_is)) ∙ ap (λ (n : ℕ). at_total now j n) same
 
-    begin_glided : (j more : ℕ) (o : Machine) → j ≡ begin → o ≡ f.machine → more ≡ 0 → Glided f now 0 j more o
+    begin_glided : (j more : ℕ) (o : Machine) → j ≡ begin → o ≡ f.machine → more ≡ 0 → Glided t v limit first k d e f now 0 j more o
     begin_glided j more o here_is same none = record {
       standing = subst (λ (q : FlatData). Standing t v limit first k q (track_at now j more) d e) (flat_is ∙ ap (λ (m : Machine). unfailed m) (sym same))
           (subst (λ (q : Track). Standing t v limit first k f q d e) (first_is j more here_is none) s);
@@ -378,10 +385,10 @@ module _ {t : TextData} {v : ImageData} {limit : ℕ} {first : FlatData} {k : Tr
       going = ap (λ (m : Machine). m.ending) same ∙ going;
     }
 
-    pub glides : (m j paid : ℕ) (o : Machine) → flat.Coasts (gates_by t.base now all) begin f.machine m j o paid → f.machine.steps + m ≤ limit → Glided f now m j (m + paid) o
+    pub glides : (m j paid : ℕ) (o : Machine) → flat.Coasts (gates_by t.base now all) begin f.machine m j o paid → f.machine.steps + m ≤ limit → Glided t v limit first k d e f now m j (m + paid) o
     glides zero j paid o (here_is, same, none) within = begin_glided j (0 + paid) o here_is same (omega (arith, none))
     glides (suc m) j paid o (h, before, p, q, coasts, on, paid_is) within =
-        let so : Glided f now m h (m + p) before = glides m h p before coasts (omega (arith, within)) in
+        let so : Glided t v limit first k d e f now m h (m + p) before = glides m h p before coasts (omega (arith, within)) in
         let fewer : before.steps < limit = omega (arith, so.steps, within) in
         let run = runs_on (unfailed before) (track_at now h (m + p)) so.standing h refl all o j q every masks on fewer so.going in
         let total : now.fetches + (m + p) + (1 + q) ≡ now.fetches + (suc m + paid) = omega (arith, paid_is) in
@@ -398,7 +405,7 @@ module _ {t : TextData} {v : ImageData} {limit : ℕ} {first : FlatData} {k : Tr
 pub begins_here : (t : TextData) (pc begin : ℕ) (h : Here) → IsSized t → begin < length t.words → pc ≡ sum_of t.base (4 * begin) → StandsAt t pc h → h ≡ here.At begin
 begins_here t pc begin (here.At j) sized lt at stands =
     let end : t.base + 4 * length t.words ≤ 2 ^ 32 = sized.end in
-    ap here.At (next_index t.base (length t.words) begin j end lt (omega (arith, stands.0)) (address_small t.base (length t.words) j end stands.0 ∙ sym stands.1 ∙ at ∙ address_small t.base (length t.words) begin end lt))
+    ap here.At (same_index t.base j begin (sym stands.1 ∙ at ∙ address_small t.base (length t.words) begin end lt))
 begins_here t pc begin (here.Behind j) sized lt at stands = absurd stands
 begins_here t pc begin here.Outside sized lt at stands =
     let end : t.base + 4 * length t.words ≤ 2 ^ 32 = sized.end in
@@ -428,7 +435,7 @@ module _ {t : TextData} {v : ImageData} {limit : ℕ} {first : FlatData} {k : Tr
   coasts_steps zero j paid o (here_is, same, none) = ap (λ (q : Machine). q.steps) same ∙ omega arith
   coasts_steps (suc m) j paid o (i, before, p, q, coasts, on, paid_is) = omega (arith, on.step.counted, coasts_steps m i p before coasts)
 
-  pub so_far : Glided f now c.steps c.at (c.steps + c.paid) by.before
+  pub so_far : Glided t v limit first k d e f now c.steps c.at (c.steps + c.paid) by.before
   so_far = glides g f now s by.first h.all here_first going h.every h.masks c.steps c.at c.paid by.before by.coasts
       (omega (arith, steps_few c.last by.closes, within, coasts_steps c.steps c.at c.paid by.before by.coasts))
 
