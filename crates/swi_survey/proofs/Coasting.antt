@@ -202,6 +202,9 @@ pub record Glided (t : TextData) (v : ImageData) (limit : ℕ) (first : FlatData
   pub steps : o.steps ≡ f.machine.steps + m
   pub going : o.ending ≡ None
 
+pub standing_so : {t : TextData} {v : ImageData} {limit : ℕ} {first : FlatData} {k : Track} {before now : Track} {d e : Devices} (f : FlatData) → Running t v limit first k f before d e → Settles t v f.machine before now → Standing t v limit first k f now d e
+standing_so {before = before} f r s = record { before = before; running = r; settles = s }
+
 pub same_run : {t : TextData} {v : ImageData} {limit : ℕ} {first : FlatData} {k : Track} {now : Track} {d e : Devices} (f q : FlatData) → q ≡ f → Running t v limit first k f now d e → Running t v limit first k q now d e
 same_run {t = t} {v = v} {limit = limit} {first = first} {k = k} {now = now} {d = d} {e = e} f q same r = subst (λ (x : FlatData). Running t v limit first k x now d e) (sym same) r
 
@@ -338,7 +341,7 @@ module _ {t : TextData} {v : ImageData} {limit : ℕ} {first : FlatData} {k : Tr
         call_on t v f.machine n f.failed now (track_at now next (1 + paid)) j l w n.pc g here_is.0
         (stepped f now s j at i n on.step fewer going l (sym (o.left aligned))) are refl refl (omega arith) refl
         (lt, on.at.pc ∙ address_small t.base (length t.words) next base_end lt) refl pc_small on_next
-        (λ q a has. cross_one v now.caches now.caches out.0 q a (λ b there. all_linked v now.caches out.0 (suc (2 * f.machine.steps + 1)) (s.settles.moves.serving (2 * f.machine.steps + 1) s.running.tracks.serving) out.2 (λ c inside. ap (λ (m : ℕ). has m c) out.3 ∙ every c inside) b) (subst (λ (x : Option ℕ). HasNumber now.caches.exits (exit_to v q a) x) out.1 has))
+        (λ q numbered. cross_one v now.caches now.caches out.0 q n.pc (λ b there. all_linked v now.caches out.0 (suc (2 * f.machine.steps + 1)) (s.settles.moves.serving (2 * f.machine.steps + 1) s.running.tracks.serving) out.2 (λ c inside. ap (λ (m : ℕ). has m c) out.3 ∙ every c inside) b) (subst (λ (x : Option ℕ). HasNumber now.caches.exits (exit_to v q n.pc) x) out.1 numbered))
         (λ m h. all_serving v now.caches m h) refl
 
     runs_at : (m more : ℕ) → Follows t v f.machine n now (track_at now m more) → Running t v limit first k (unfailed n) (track_at now m more) d e
@@ -416,6 +419,11 @@ begins_here t pc begin here.Outside sized lt at stands =
 
 -- ---- the calls of the run, as their code meets them
 
+some_at : (ws : List Ways) (j : ℕ) → j < length ws → (w : Ways) × (slice_get ws j ≡ Some w)
+some_at [] j lt = absurd (omega (arith, lt))
+some_at (w ∷ ws) zero lt = (w, refl)
+some_at (w ∷ ws) (suc j) lt = some_at ws j (omega (arith, lt))
+
 module _ {t : TextData} {v : ImageData} {limit : ℕ} {first : FlatData} {k : Track} {d e : Devices} (g : Ground t v) (f new : FlatData) (now : Track) (c : Coasted) (s : Standing t v limit first k f now d e) (going : f.machine.ending ≡ None)
     (within : new.machine.steps ≤ limit) (failed : new.failed ≡ f.failed) (h : Coasts t.base now f.machine new.machine c) where
   abbrev by : HasCoasted (gates_by t.base now h.all) f.machine new.machine c
@@ -485,3 +493,23 @@ module _ {t : TextData} {v : ImageData} {limit : ℕ} {first : FlatData} {k : Tr
     passed_on after follows =
         subst (λ (q : FlatData). Running t v limit first k q after d e) (sym new_is)
         (running_so g (unfailed by.before) (passed now c) so_far.standing c.at refl closes.0 new.machine closes.1 more so_far.going (if taken then branch_by true else w.left) last_left after follows)
+
+  -- the run behind them
+  module _ (some : c.last ≡ None → 0 < c.steps) where
+    more_by : (o : Option Bool) → c.last ≡ o → Closes o by.before new.machine → f.machine.steps < new.machine.steps
+    more_by None is same = omega (arith, some is, so_far.steps, ap (λ (m : Machine). m.steps) same)
+    more_by (Some taken) is closes = omega (arith, closes.1.counted, so_far.steps)
+
+    pub passed_more : f.machine.steps < new.machine.steps
+    passed_more = more_by c.last refl by.closes
+
+    pub passed_run : (after : Track) → (c.last ≡ None → after ≡ passed now c) →
+        ((taken : Bool) (w : Ways) → c.last ≡ Some taken → slice_get now.ways.items c.at ≡ Some w → IsStep t by.before false (here.At c.at) (closing c.at w taken) new.machine → is_some new.machine.ending ≡ false →
+        Follows t v by.before new.machine (passed now c) after) → Running t v limit first k new after d e
+    passed_run after none_so follows = run_by c.last refl
+      where
+        run_by : (o : Option Bool) → c.last ≡ o → Running t v limit first k new after d e
+        run_by None is = subst (λ (q : Track). Running t v limit first k new q d e) (sym (none_so is)) (passed_all is (some is))
+        run_by (Some taken) is =
+            let r = some_at now.ways.items c.at (omega (arith, passed_word, ways_long g f now s)) in
+            passed_on taken is r.0 r.1 after (follows taken r.0 is r.1 (last_step taken is r.0 r.1) (last_on taken is r.0 r.1))

@@ -1,7 +1,7 @@
 //! One run of the flat machine, and all caches beside it.
 #![tactic(auto)]
 
-ghost use Rattle.std.specs.Prelude.{◌≡◌, ◌+◌, ◌≤◌, ◌^◌, All, IfSome, None, false, length};
+ghost use Rattle.std.specs.Prelude.{◌≡◌, ◌+◌, ◌<◌, ◌≤◌, ◌^◌, All, IfSome, None, false, length};
 ghost use Rattle.swi_calls.specs.Flat.{machine_of};
 ghost use Rattle.swi_image.specs.Sound.{IsImage};
 ghost use Rattle.swi_program.specs.Layout.{IsLayoutOf};
@@ -72,6 +72,7 @@ fn coast(flat: &mut Flat, track: &Track, base: u32, limit: u64) -> Option<Coaste
     requires few { limit ≤ 2 ^ 48 }
     ensures none { result ≡ None → flat.new ≡ flat.old }
     ensures coasted { IfSome result (λ c. Coasts base track.now flat.old.machine flat.new.machine c) }
+    ensures some { IfSome result (λ c. c.last ≡ None → 0 < c.steps) }
     ensures within { flat.new.machine.steps ≤ limit }
     ensures failed { flat.new.failed ≡ flat.old.failed }
 {

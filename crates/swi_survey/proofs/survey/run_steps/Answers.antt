@@ -1,11 +1,11 @@
-use Rattle.std.proofs.Common.{◌≡◌, ◌<◌, ◌≤◌, ◌^◌, is_some, true, None, arith, refl, sym, ◌∙◌, ap, subst, inl, inr, rules}
+use Rattle.std.proofs.Common.{◌≡◌, ◌<◌, ◌≤◌, ◌^◌, ℕ, is_some, false, true, None, arith, refl, sym, ◌∙◌, ap, subst, inl, inr, rules}
 use Rattle.std.proofs.lemmas.Result.{err_from_is_err_and}
 use Rattle.swi_flat.specs.FlatData.{FlatData}
 use Rattle.swi_survey.specs.declared.track.Here.{Here}
 use Rattle.swi_survey.specs.declared.track.Step.{Step}
-use Rattle.swi_survey.specs.Track.{StandsAt, StepIs}
+use Rattle.swi_survey.specs.Track.{Coasts, StandsAt, StepIs}
 use Rattle.swi_survey.proofs.Places.{ground}
-use Rattle.swi_survey.proofs.Coasting.{same_run}
+use Rattle.swi_survey.proofs.Coasting.{passed_more, passed_ready, passed_run, passed_word, same_run, standing_so}
 use Rattle.swi_survey.proofs.Running.{is_step, leaves, ran_end, ran_failed, ran_stored, running_first, running_on, settled_ready, store_at}
 use Rattle.swi_survey.proofs.survey.run_steps.Goals as goal
 
@@ -105,6 +105,58 @@ loop-flat-preserved g c =
     (ap (λ o. is_some o) (sym c.ending-in-loop-flat.ensures) ∙ sym c.is_some.ensures) in
     running_on inv c.step.new.self c.settle.new.self c.follow.new.self c.next_step-step.result _ ground_is fewer on settled
     c.next_step-step.ensures c.in_default-step.not-Store c.in_ok-step.ensures.machine c.in_ok-step.ensures.counted c.in_ok-step.ensures.failed c.in_ok-step.ensures.devices follows
+
+-- steps that no cache has to follow
+pub pass-requires-clause-ready : goal.pass-requires-clause-ready
+pass-requires-clause-ready g c =
+    let t = c.args.text.now in
+    let v = c.args.image.now in
+    let settled = c.settle.ensures c.loop-flat.flat.machine (sym c.pc.ensures) in
+    let on : c.loop-flat.flat.machine.ending ≡ None = search rules in
+    let ground_is = ground t v c.requires.sized c.requires.image c.requires.own in
+    let coasts : Coasts t.base c.settle.new.self c.loop-flat.flat.machine c.coast.new.flat.machine c.in-Some.coasted =
+    subst (λ (n : ℕ). Coasts n c.settle.new.self c.loop-flat.flat.machine c.coast.new.flat.machine c.in-Some.coasted) c.base.ensures.value c.in-Some.ensures.coasted in
+    let standing = standing_so c.loop-flat.flat c.loop-flat.invariant settled in
+    passed_ready ground_is c.loop-flat.flat c.coast.new.flat c.settle.new.self c.in-Some.coasted standing on c.in-Some.ensures.within c.in-Some.ensures.failed coasts c.requires.few
+
+pub pass-requires-clause-word : goal.pass-requires-clause-word
+pass-requires-clause-word g c =
+    let t = c.args.text.now in
+    let v = c.args.image.now in
+    let settled = c.settle.ensures c.loop-flat.flat.machine (sym c.pc.ensures) in
+    let on : c.loop-flat.flat.machine.ending ≡ None = search rules in
+    let ground_is = ground t v c.requires.sized c.requires.image c.requires.own in
+    let coasts : Coasts t.base c.settle.new.self c.loop-flat.flat.machine c.coast.new.flat.machine c.in-Some.coasted =
+    subst (λ (n : ℕ). Coasts n c.settle.new.self c.loop-flat.flat.machine c.coast.new.flat.machine c.in-Some.coasted) c.base.ensures.value c.in-Some.ensures.coasted in
+    let standing = standing_so c.loop-flat.flat c.loop-flat.invariant settled in
+    passed_word ground_is c.loop-flat.flat c.coast.new.flat c.settle.new.self c.in-Some.coasted standing on c.in-Some.ensures.within c.in-Some.ensures.failed coasts
+
+pub loop-flat-smaller-in-Some : goal.loop-flat-smaller-in-Some
+loop-flat-smaller-in-Some g c =
+    let t = c.args.text.now in
+    let v = c.args.image.now in
+    let settled = c.settle.ensures c.loop-flat.flat.machine (sym c.pc.ensures) in
+    let on : c.loop-flat.flat.machine.ending ≡ None = search rules in
+    let ground_is = ground t v c.requires.sized c.requires.image c.requires.own in
+    let coasts : Coasts t.base c.settle.new.self c.loop-flat.flat.machine c.coast.new.flat.machine c.in-Some.coasted =
+    subst (λ (n : ℕ). Coasts n c.settle.new.self c.loop-flat.flat.machine c.coast.new.flat.machine c.in-Some.coasted) c.base.ensures.value c.in-Some.ensures.coasted in
+    let standing = standing_so c.loop-flat.flat c.loop-flat.invariant settled in
+    let more = passed_more ground_is c.loop-flat.flat c.coast.new.flat c.settle.new.self c.in-Some.coasted standing on c.in-Some.ensures.within c.in-Some.ensures.failed coasts c.in-Some.ensures.some in
+    let within = c.in-Some.ensures.within in
+    omega (arith, more, within)
+
+pub loop-flat-preserved-in-Some : goal.loop-flat-preserved-in-Some
+loop-flat-preserved-in-Some g c =
+    let t = c.args.text.now in
+    let v = c.args.image.now in
+    let settled = c.settle.ensures c.loop-flat.flat.machine (sym c.pc.ensures) in
+    let on : c.loop-flat.flat.machine.ending ≡ None = search rules in
+    let ground_is = ground t v c.requires.sized c.requires.image c.requires.own in
+    let coasts : Coasts t.base c.settle.new.self c.loop-flat.flat.machine c.coast.new.flat.machine c.in-Some.coasted =
+    subst (λ (n : ℕ). Coasts n c.settle.new.self c.loop-flat.flat.machine c.coast.new.flat.machine c.in-Some.coasted) c.base.ensures.value c.in-Some.ensures.coasted in
+    let standing = standing_so c.loop-flat.flat c.loop-flat.invariant settled in
+    passed_run ground_is c.loop-flat.flat c.coast.new.flat c.settle.new.self c.in-Some.coasted standing on c.in-Some.ensures.within c.in-Some.ensures.failed coasts c.in-Some.ensures.some c.pass.new.self c.pass.ensures.passed
+    (λ taken w is read step going. c.pass.ensures.follows taken w _ c.coast.new.flat.machine false is read step (sym c.pc-in-Some.ensures) going)
 
 pub returns-else-is_none : goal.returns-else-is_none
 returns-else-is_none g c = let over : is_some c.loop-flat.flat.machine.ending ≡ true = search rules in ran_end c.loop-flat.invariant c.requires.few (inl over)
