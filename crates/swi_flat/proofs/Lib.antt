@@ -3,3 +3,4 @@ pub mod Quiet
 pub mod Stepping
 pub mod ToldRuns
 pub mod QuietSteps
+pub mod Coasting

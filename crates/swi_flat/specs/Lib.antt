@@ -1,4 +1,5 @@
 pub mod Advanced
+pub mod Coasted
 pub mod FlatData
 pub mod Laws
 pub mod Ran

@@ -1,11 +1,12 @@
 //! One step, and many.
 #![tactic(auto)]
 
-ghost use Rattle.std.specs.Prelude.{◌≡◌, ◌<◌, ◌≤◌, ◌+◌, ◌^◌, ℕ, None, false, is_err, IfOk, OnOk, OnErr};
+ghost use Rattle.std.specs.Prelude.{◌≡◌, ◌<◌, ◌≤◌, ◌+◌, ◌*◌, ◌^◌, ℕ, None, false, is_err, IfOk, IfSome, OnOk, OnErr};
 ghost use Rattle.swi_calls.specs.Call.{room_of_call, second_argument};
 ghost use Rattle.swi_calls.specs.Exchange.{Exchanged};
 ghost use Rattle.swi_calls.specs.Flat.{made, exchange_of, machine_of};
 ghost use Rattle.swi_calls.specs.Moves.{ReadsInto};
+ghost use Rattle.swi_flat.specs.Coasted.{HasCoasted};
 ghost use Rattle.swi_flat.specs.FlatData.{unfailed, stopped};
 ghost use Rattle.swi_flat.specs.Ran.{Ran};
 ghost use Rattle.swi_memory.specs.Bus.{fetched};
@@ -15,6 +16,7 @@ ghost use Rattle.swi_program.specs.Layout.{IsLayoutOf};
 ghost use Rattle.swi_program.specs.Text.{text_of, word_of};
 
 use crate::advance::advance;
+use crate::coast::{Coasted, Gate, coast};
 use std::alloc::Global;
 use std::marker::Model;
 use swi_calls::{CallFault, End, Heap, Machine};
@@ -224,5 +226,29 @@ impl Flat {
             }
         }
         Ok(())
+    }
+    /// Steps until `limit` steps are made since the start, as far as gates let them go on, and one more: the gates of the
+    /// text's words from `base` on, and one behind them. None, and nothing has changed, where they are not as many or
+    /// begin elsewhere, or no text word stands at the pc. A step is not made that asks for a device, ends the run or stores
+    /// into the text; one that leads out of it, or stands where no step has been made, may be left too. `limit` is from
+    /// `steps()` to 2^48.
+    #[inline(always)]
+    pub fn coast(
+        &mut self,
+        limit: u64,
+        base: u32,
+        gates: &Vec<Gate>,
+        masks: &[u64],
+        pass: u64,
+    ) -> Option<Coasted>
+        requires within { self.old.machine.steps ≤ limit }
+        requires few { limit ≤ 2 ^ 48 }
+        ensures none { result ≡ None → self.new ≡ self.old }
+        ensures coasted { IfSome result (λ c. HasCoasted (record { base = base; words = gates.now.items; masks = masks.now; pass = pass }) self.old.machine self.new.machine c) }
+        ensures few { IfSome result (λ c. c.paid ≤ 2 * c.steps) }
+        ensures within { self.new.machine.steps ≤ limit }
+        ensures failed { self.new.failed ≡ self.old.failed }
+    {
+        coast(&mut self.machine, &mut self.decoded, limit, base, gates, masks, pass)
     }
 }

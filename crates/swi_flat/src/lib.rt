@@ -2,6 +2,8 @@
 #![tactic(auto)]
 
 mod advance;
+mod coast;
 mod flat;
 
+pub use coast::{Coasted, Gate};
 pub use flat::Flat;

@@ -39,8 +39,8 @@ use Rattle.swi_survey.proofs.Stepping.{Goes, goes, words_are, words_few}
 
 -- a step at an address where no text word stands fetches nothing, and makes no transfer
 pub followed_outside : (t : TextData) (v : ImageData) (f next : Machine) (input : List ℕ) (old new : Track) → old.here ≡ here.Outside → fetched f.bus f.pc ≡ None → next ≡ (held_made f input).machine →
-    new.caches ≡ old.caches → new.ways.items ≡ old.ways.items → new.here ≡ old.here → new.fetches ≡ old.fetches → new.outside ≡ old.outside + 1 → Follows t v f next old new
-followed_outside t v f next input old new is none made caches ways same fetches outside =
+    new.caches ≡ old.caches → new.ways.items ≡ old.ways.items → new.gates.items ≡ old.gates.items → new.here ≡ old.here → new.fetches ≡ old.fetches → new.outside ≡ old.outside + 1 → Follows t v f next old new
+followed_outside t v f next input old new is none made caches ways gates same fetches outside =
     let here_is : place_at t v old.here ≡ None = ap (place_at t v) is in
     record {
       moves = record {
@@ -49,6 +49,7 @@ followed_outside t v f next input old new is none made caches ways same fetches 
         serving = λ n h. subst (λ (c : TalliesData). AreServing v (suc n) c) (sym caches) (all_serving v old.caches n h);
         exits = ap (λ (c : TalliesData). c.exits) caches;
         ways = ways;
+        gates = gates;
         place_is = ap (place_at t v) same ∙ here_is ∙ sym (ap (λ (h : Place). here_after v f h next) here_is);
         fetches_are = omega (arith, fetches, ap (λ (h : Place). step_size 0 f h) here_is);
         outside_is = omega (arith, outside, ap (λ (h : Place). unfetched_at h) here_is);
@@ -188,6 +189,7 @@ module _ {t : TextData} {v : ImageData} {f next : Machine} {k : ℕ} (s : FromWo
     pub here_was : old.here ≡ here.At k
     pub ways_are : AreWays t v old.caches.exits k ways
     pub same_ways : new.ways.items ≡ old.ways.items
+    pub same_gates : new.gates.items ≡ old.gates.items
     pub fetches : new.fetches ≡ old.fetches + left.words
     pub outside : new.outside ≡ old.outside
     pub behind : IsBehind t k ways.last left.way next.pc new.here
@@ -204,6 +206,7 @@ module _ {t : TextData} {v : ImageData} {f next : Machine} {k : ℕ} (s : FromWo
           serving = serving;
           exits = exits;
           ways = c.same_ways;
+          gates = c.same_gates;
           place_is = b.0 ∙ sym (ap (λ (h : Place). here_after v f h next) at);
           fetches_are = omega (arith, c.fetches, ap (λ (h : Place). step_size 0 f h) at, cost_is);
           outside_is = omega (arith, c.outside, ap (λ (h : Place). unfetched_at h) at, unfetched_is);
@@ -269,7 +272,7 @@ pub ways_at : (t : TextData) (v : ImageData) (k : Track) (j : ℕ) (w : Ways) �
 ways_at t v k j w ready lt read = ready.ways_are.each j w (slice_get_read k.ways.items (length k.ways.items) j w refl (omega (arith, lt, ready.long)) read)
 
 module _ (t : TextData) (v : ImageData) (f next : Machine) (failed : Bool) (old new : Track) (k : ℕ) (l : Leaving) (ways : Ways) (pc : ℕ) (g : Ground t v) (lt : k < length t.words) (s : IsStep t f failed old.here (step.From k l) next)
-    (are : AreWays t v old.caches.exits k ways) (same : new.ways.items ≡ old.ways.items) (fetches : new.fetches ≡ old.fetches + l.words) (outside : new.outside ≡ old.outside)
+    (are : AreWays t v old.caches.exits k ways) (same : new.ways.items ≡ old.ways.items) (gates : new.gates.items ≡ old.gates.items) (fetches : new.fetches ≡ old.fetches + l.words) (outside : new.outside ≡ old.outside)
     (behind : IsBehind t k ways.last l.way pc new.here) (at : next.pc ≡ pc) (small : pc < 2 ^ 32) where
   from : FromWord t v f next k
   from = (from_word t v f next failed old.here k l g lt s).2
@@ -282,6 +285,7 @@ module _ (t : TextData) (v : ImageData) (f next : Machine) (failed : Bool) (old 
     here_was = (from_word t v f next failed old.here k l g lt s).0;
     ways_are = are;
     same_ways = same;
+    same_gates = gates;
     fetches = fetches ∙ ap (λ (m : Leaving). old.fetches + m.words) left_is;
     outside = outside;
     behind = subst (λ (n : ℕ). IsBehind t k ways.last (left from).way n new.here) (sym at) (subst (λ (m : Leaving). IsBehind t k ways.last m.way pc new.here) left_is behind);

@@ -7,3 +7,4 @@ mod Stepping
 mod Following
 mod Running
 mod Surveying
+mod Coasting

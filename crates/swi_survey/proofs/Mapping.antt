@@ -19,6 +19,7 @@ use Rattle.swi_hart.specs.Hart.{is_place}
 use Rattle.swi_tally.specs.Exits.{AreExits, ExitsData, IsFree, with_exit}
 use Rattle.swi_tally.specs.declared.exits.Exit.{Exit}
 use Rattle.swi_survey.specs.declared.ways.Ways.{Ways}
+use Rattle.swi_survey.specs.Leaving.{untaken_by}
 use Rattle.swi_survey.specs.Ways.{AllBefore, AreAllWays, AreWays, FitsIf, HasNumber, Joins, exit_behind, exit_if, exit_to, instr_at, is_last, jump_of, number_if, own_exit, own_if, place_behind, with_if}
 
 pub same_some : {A : Type 0} (x y : A) → ◌≡◌ {A = Option A} (Some x) (Some y) → x ≡ y
@@ -342,8 +343,8 @@ same_blocks e None = refl
 same_blocks e (Some x) = refl
 
 pub joins : (t : TextData) (v : ImageData) (e f g : ExitsData) (k : ℕ) (p : ℕ × ℕ) (w : Ways) → Placed t v k p → AreExits e → AreExits f → AreExits g → AllBefore e p →
-    f ≡ with_if e (own_exit t v k p) → g ≡ with_if f (exit_behind t v k p) → w.own ≡ number_if e (own_exit t v k p) → w.behind ≡ number_if f (exit_behind t v k p) → w.last ≡ is_last t v k p → Joins t v k e g w
-joins t v e f g k p w h are are_f are_g before is is' own behind last = record {
+    f ≡ with_if e (own_exit t v k p) → g ≡ with_if f (exit_behind t v k p) → w.own ≡ number_if e (own_exit t v k p) → w.behind ≡ number_if f (exit_behind t v k p) → w.last ≡ is_last t v k p → w.left ≡ untaken_by (instr_at t k) (address_of t k) → Joins t v k e g w
+joins t v e f g k p w h are are_f are_g before is is' own behind last left = record {
   are = are_g;
   blocks = ap (λ (q : ExitsData). q.blocks) is' ∙ same_blocks f (exit_behind t v k p) ∙ ap (λ (q : ExitsData). q.blocks) is ∙ same_blocks e (own_exit t v k p);
   few = omega (arith, few_more f (exit_behind t v k p), few_more e (own_exit t v k p), ap (λ (q : ExitsData). length q.from) is, ap (λ (q : ExitsData). length q.from) is');
@@ -351,6 +352,7 @@ joins t v e f g k p w h are are_f are_g before is is' own behind last = record {
     own = λ q at. at_place q at (λ (r : ℕ × ℕ). HasNumber g (own_exit t v k r) w.own) own_number;
     behind = λ q at. at_place q at (λ (r : ℕ × ℕ). HasNumber g (exit_behind t v k r) w.behind) behind_number;
     last = λ q at. at_place q at (λ (r : ℕ × ℕ). w.last ≡ is_last t v k r) last;
+    left = left;
   };
   stays = λ x n has.
       subst (λ (q : ExitsData). HasNumber q x n) (sym is') (number_stays f (exit_behind t v k p) x n are_f (subst (λ (q : ExitsData). HasNumber q x n) (sym is) (number_stays e (own_exit t v k p) x n are has)));
@@ -441,6 +443,7 @@ ways_stay t v k j e f w z joined are = record {
   own = λ p at. joined.stays (own_exit t v j p) z.own (are.own p at);
   behind = λ p at. joined.stays (exit_behind t v j p) z.behind (are.behind p at);
   last = are.last;
+  left = are.left;
 }
 
 pub map_more : (t : TextData) (v : ImageData) (k : ℕ) (e f : ExitsData) (ways : List Ways) (w : Ways) → MapSoFar t v k e ways → Joins t v k e f w → MapSoFar t v (k + 1) f (ways ++ w ∷ [])

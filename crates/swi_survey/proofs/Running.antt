@@ -1,5 +1,5 @@
 -- A run of the flat machine with caches beside it, step by step.
-use Rattle.std.proofs.Common.{◌≡◌, ◌⊎◌, ℕ, suc, ◌+◌, ◌-◌, ◌*◌, ◌^◌, ◌<◌, ◌≤◌, Bool, true, false, not, ◌&&◌, List, [], ◌++◌, length, slice_index, Option, Some, None, is_some, Ok, Err, IsErrOf, if◌then◌else◌, arith, refl, sym, ◌∙◌, ap, subst, inl, inr}
+use Rattle.std.proofs.Common.{◌≡◌, ◌⊎◌, ℕ, suc, ◌+◌, ◌-◌, ◌*◌, ◌^◌, ◌<◌, ◌≤◌, Bool, true, false, not, ◌&&◌, List, [], ◌∷◌, ◌++◌, length, map, slice_index, Option, Some, None, is_some, Ok, Err, IsErrOf, if◌then◌else◌, arith, refl, sym, ◌∙◌, ap, subst, inl, inr}
 use Rattle.std.proofs.lemmas.Bool.{cases_eq}
 use Rattle.std.proofs.lemmas.List.{append-nil}
 use Rattle.std.specs.Io.KnownBytes.{Appends}
@@ -43,7 +43,7 @@ use Rattle.swi_survey.specs.declared.track.Step.{Step}
 use Rattle.swi_survey.specs.declared.track.Step.TheVariants as step
 use Rattle.swi_survey.specs.declared.track.Track.{Track}
 use Rattle.swi_survey.specs.declared.ways.Ways.{Ways}
-use Rattle.swi_survey.specs.Ways.{AreAllWays, instr_at}
+use Rattle.swi_survey.specs.Ways.{AreAllWays, gate_of, instr_at, shut}
 use Rattle.swi_survey.specs.Track.{Begun, BrokeOff, CameTo, Follows, HasText, IsReady, IsStep, Leaves, Moves, Settles, Stands, StandsAt, StepIs, StepsRan, Tracks, after_row, place_at, unfetched_at}
 use Rattle.swi_survey.proofs.Places.{Ground, at_word, some_place}
 use Rattle.swi_survey.proofs.Rows.{after_more, after_none, serving_more}
@@ -114,7 +114,14 @@ same_ways : {t : TextData} {v : ImageData} {list : List Transfer} {place : Place
 same_ways {t = t} {v = v} {old = old} {new = new} m are =
     subst (λ (e : ExitsData). AreAllWays t v e new.ways.items) (sym m.exits) (subst (λ (w : List Ways). AreAllWays t v old.caches.exits w) (sym m.ways) are)
 
-pub settled_ready : (t : TextData) (v : ImageData) (f : Machine) (steps : ℕ) (old new : Track) → Settles t v f old new → Tracks t v steps old → steps < 2 ^ 48 → IsReady t v new
+same_gates : {t : TextData} {v : ImageData} {list : List Transfer} {place : Place} {fetches outside : ℕ} {old new : Track} → Moves t v list place fetches outside old new →
+    old.gates.items ≡ map (gate_of (length old.caches.exits.from)) old.ways.items ++ shut (length old.caches.exits.from) ∷ [] →
+    new.gates.items ≡ map (gate_of (length new.caches.exits.from)) new.ways.items ++ shut (length new.caches.exits.from) ∷ []
+same_gates {old = old} {new = new} m are =
+    m.gates ∙ are ∙ ap (λ (l : List Ways). map (gate_of (length old.caches.exits.from)) l ++ shut (length old.caches.exits.from) ∷ []) (sym m.ways)
+    ∙ ap (λ (x : ExitsData). map (gate_of (length x.from)) new.ways.items ++ shut (length x.from) ∷ []) (sym m.exits)
+
+pub settled_ready : (t : TextData) (v : ImageData) (f : Machine) (steps : ℕ) (old new : Track) → Settles t v f old new → Tracks t v steps old → steps ≤ 2 ^ 48 → IsReady t v new
 settled_ready t v f steps old new s h few = record {
   ways_are = same_ways s.moves h.ways_are;
   long = ap (λ (w : List Ways). length w) s.moves.ways ∙ h.long;
@@ -127,6 +134,7 @@ tracks_on : (t : TextData) (v : ImageData) (f next : Machine) (steps : ℕ) (old
 tracks_on t v f next steps old mid new s g h = record {
   ways_are = same_ways g.moves (same_ways s.moves h.ways_are);
   long = ap (λ (w : List Ways). length w) g.moves.ways ∙ ap (λ (w : List Ways). length w) s.moves.ways ∙ h.long;
+  gates_are = same_gates g.moves (same_gates s.moves h.gates_are);
   serving = serving_more v (suc (suc (2 * steps + 1))) (2 * (steps + 1) + 1) new.caches (omega arith) (g.moves.serving (suc (2 * steps + 1)) (s.moves.serving (2 * steps + 1) h.serving));
   fetches_few = omega (arith, h.fetches_few, s.moves.fetches_are, one_at_most (at_fall v f (place_at t v old.here)), g.few);
   outside_few = omega (arith, h.outside_few, s.moves.outside_is, g.moves.outside_is, one_outside (place_at t v mid.here));

@@ -40,6 +40,7 @@ settled_same t v f pc k g at small same =
         serving = λ n h. all_serving v k.caches n h;
         exits = refl;
         ways = refl;
+        gates = refl;
         place_is = sym (ap (λ (b : Bool). if b then place_of v f.pc else place_at t v k.here) off);
         fetches_are = omega (arith, none);
         outside_is = omega arith;
@@ -74,9 +75,9 @@ module _ (t : TextData) (v : ImageData) (f : Machine) (pc k : ℕ) (old new : Tr
   numbered = subst (λ (x : Option Exit). HasNumber old.caches.exits x w.behind) exit_is (ways.behind p (some_place t v k g at.word))
 
   pub settled_behind : ((q : ℕ × ℕ) (a : ℕ) → HasNumber old.caches.exits (exit_to v q a) w.behind → AllServed v (direct q.0 q.1 a) old.caches new.caches) →
-      ((n : ℕ) → AreServing v n old.caches → AreServing v (suc n) new.caches) → new.caches.exits ≡ old.caches.exits → new.ways.items ≡ old.ways.items → new.fetches ≡ old.fetches + 1 → new.outside ≡ old.outside →
+      ((n : ℕ) → AreServing v n old.caches → AreServing v (suc n) new.caches) → new.caches.exits ≡ old.caches.exits → new.ways.items ≡ old.ways.items → new.gates.items ≡ old.gates.items → new.fetches ≡ old.fetches + 1 → new.outside ≡ old.outside →
       StandsAt t pc new.here → Settles t v f old new
-  settled_behind served serving exits same_ways fetches outside stands =
+  settled_behind served serving exits same_ways same_gates fetches outside stands =
       let on : at_fall v f (place_at t v old.here) ≡ true = ap (at_fall v f) here_is ∙ falls_here in
       let one : ◌≡◌ {A = ℕ} (if at_fall v f (place_at t v old.here) then 1 else 0) 1 = ap (λ (b : Bool). if b then 1 else 0) on in
       record {
@@ -87,6 +88,7 @@ module _ (t : TextData) (v : ImageData) (f : Machine) (pc k : ℕ) (old new : Tr
           serving = serving;
           exits = exits;
           ways = same_ways;
+          gates = same_gates;
           place_is = place_here t v pc new.here g stands small ∙ ap (place_of v) (sym same)
               ∙ sym (ap (λ (b : Bool). if b then place_of v f.pc else place_at t v old.here) on);
           fetches_are = omega (arith, fetches, one);

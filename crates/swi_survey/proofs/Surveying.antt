@@ -1,5 +1,5 @@
 -- A whole survey: what is kept before the first step, and what is told behind the last.
-use Rattle.std.proofs.Common.{◌≡◌, ℕ, suc, ◌+◌, ◌^◌, ◌<◌, ◌≤◌, true, false, List, [], ◌∷◌, All, length, slice_get, Option, Some, None, is_some, Result, Ok, Err, IsErrOf, arith, refl, sym, ◌∙◌, ap, subst}
+use Rattle.std.proofs.Common.{◌≡◌, ℕ, suc, ◌+◌, ◌^◌, ◌<◌, ◌≤◌, true, false, List, [], ◌∷◌, ◌++◌, All, length, map, slice_get, Option, Some, None, is_some, Result, Ok, Err, IsErrOf, arith, refl, sym, ◌∙◌, ap, subst}
 use Rattle.swi_outside.specs.Devices.{Devices}
 use Rattle.swi_outside.specs.Laws.{named_as, none_named}
 use Rattle.swi_outside.proofs.SourceLemmas.{given_still}
@@ -24,7 +24,7 @@ use Rattle.swi_survey.specs.declared.track.Here.{Here}
 use Rattle.swi_survey.specs.declared.track.Here.TheVariants as here
 use Rattle.swi_survey.specs.declared.track.Track.{Track}
 use Rattle.swi_survey.specs.Survey.{Survey, SurveyRan, Tells}
-use Rattle.swi_survey.specs.Ways.{AreAllWays}
+use Rattle.swi_survey.specs.Ways.{AreAllWays, gate_of, shut}
 use Rattle.swi_survey.specs.Track.{Begun, CameTo, HasText, Stands, StandsAt, Starts, StepsRan, after_row, booted, place_at, told_of}
 use Rattle.swi_survey.proofs.Emptying.{empty_rows, empty_serving, first_if}
 use Rattle.swi_survey.proofs.Places.{Ground, place_here}
@@ -39,12 +39,13 @@ booted_is v pc (Some f) = refl
 pub first_serving : (v : ImageData) (e : ExitsData) (frames : List Frame) (c : TalliesData) (n : ℕ) → IsImage v → AreExits e → length v.starts ≡ e.blocks → length frames ≤ 64 → All (IsFrame v.block_words) frames → c ≡ empty_tallies e frames → AreServing v n c
 first_serving v e frames c n image are blocks few all is = subst (λ (q : TalliesData). AreServing v n q) (sym is) (empty_serving v e frames n image are blocks few all)
 
-pub starts : (t : TextData) (v : ImageData) (frames : List Frame) (pc : ℕ) (e : ExitsData) (c : TalliesData) (k : Track) → AreAllWays t v e k.ways.items → length k.ways.items ≡ length t.words → c ≡ empty_tallies e frames →
+pub starts : (t : TextData) (v : ImageData) (frames : List Frame) (pc : ℕ) (e : ExitsData) (c : TalliesData) (k : Track) → AreAllWays t v e k.ways.items → length k.ways.items ≡ length t.words → k.gates.items ≡ map (gate_of (length e.from)) k.ways.items ++ shut (length e.from) ∷ [] → c ≡ empty_tallies e frames →
     AllServed v (indirect pc) c k.caches → AreServing v 0 c → ((n : ℕ) → AreServing v n c → AreServing v (suc n) k.caches) → k.caches.exits ≡ c.exits → StandsAt t pc k.here → k.fetches ≡ 0 → k.outside ≡ 0 → Starts t v frames pc k
-starts t v frames pc e c k ways long is served first serving exits stands fetches outside = record {
+starts t v frames pc e c k ways long gates is served first serving exits stands fetches outside = record {
   tracks = record {
     ways_are = subst (λ (q : ExitsData). AreAllWays t v q k.ways.items) (sym (exits ∙ ap (λ (q : TalliesData). q.exits) is)) ways;
     long = long;
+    gates_are = gates ∙ ap (λ (q : ExitsData). map (gate_of (length q.from)) k.ways.items ++ shut (length q.from) ∷ []) (sym (exits ∙ ap (λ (q : TalliesData). q.exits) is));
     serving = serving 0 first;
     fetches_few = omega (arith, fetches);
     outside_few = omega (arith, outside);

@@ -14,6 +14,15 @@ jal_words rd a off = if not (sum a off % 4 == 0) || rd == 0 then 1 else 3
 abbrev pub branch_by : Bool → Leaving
 branch_by taken = if taken then record { words = 2; way = way.Over } else record { words = 1; way = way.Next }
 
+-- where it is no branch that is taken
+abbrev pub untaken_by : Option Instr → ℕ → Leaving
+untaken_by None a = record { words = 1; way = way.Away }
+untaken_by (Some instr.Ebreak) a = record { words = 1; way = way.Away }
+untaken_by (Some (instr.Jalr rd rs1 imm)) a = record { words = 1; way = way.Away }
+untaken_by (Some (instr.Auipc rd imm)) a = record { words = 2; way = way.Next }
+untaken_by (Some (instr.Jal rd off)) a = record { words = jal_words rd a off; way = way.Over }
+untaken_by (Some i) a = record { words = 1; way = way.Next }
+
 abbrev pub leaving_by : Option Instr → Registers → ℕ → Leaving
 leaving_by None regs pc = record { words = 1; way = way.Away }
 leaving_by (Some instr.Ebreak) regs pc = record { words = 1; way = way.Away }

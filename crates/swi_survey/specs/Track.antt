@@ -1,5 +1,5 @@
 -- Where a run stands in an image beside the flat machine, and what its steps do to caches and counts.
-use Rattle.std.specs.Prelude.{◌≡◌, ℕ, suc, ◌+◌, ◌-◌, ◌*◌, ◌^◌, ◌<◌, ◌≤◌, Bool, true, false, List, length, slice_get, Option, Some, None, Result, Err, IfOk, OnOk, IsErrOf, ⊤, if◌then◌else◌}
+use Rattle.std.specs.Prelude.{◌≡◌, ℕ, suc, ◌+◌, ◌-◌, ◌*◌, ◌^◌, ◌<◌, ◌≤◌, Bool, true, false, List, [], ◌∷◌, ◌++◌, length, map, slice_get, Option, Some, None, Result, Err, IfOk, OnOk, IsErrOf, ⊤, if◌then◌else◌}
 use Rattle.std.specs.Io.KnownBytes.{Appends}
 use Rattle.swi_outside.specs.Source.{ForInput, HasGiven}
 use Rattle.swi_outside.specs.Devices.{Devices, HasCauses, faults_of}
@@ -13,6 +13,8 @@ use Rattle.swi_calls.specs.StoresText.{instruction_store}
 use Rattle.swi_calls.specs.Flat.{started}
 use Rattle.swi_calls.specs.FirstStore.{StoresAt}
 use Rattle.swi_calls.specs.Held.{held_made, held_run}
+use Rattle.swi_flat.specs.declared.coast.Coasted.{Coasted}
+use Rattle.swi_flat.specs.Coasted.{Gates, HasCoasted}
 use Rattle.swi_flat.specs.FlatData.{FlatData}
 use Rattle.swi_flat.specs.Ran.{Ran}
 use Rattle.swi_image.specs.Format.{ImageData}
@@ -24,6 +26,7 @@ use Rattle.swi_rom.specs.Record.{Transfer, direct, indirect}
 use Rattle.swi_board.specs.Transfers.{Here as Place, after_all, at_fall, fall_transfers, here_after, settled, size, step_size, step_transfers, transfers}
 use Rattle.swi_tally.specs.Tally.{policy_of}
 use Rattle.swi_tally.specs.declared.tallies.Frame.{Frame}
+use Rattle.swi_tally.specs.Masks.{has}
 use Rattle.swi_tally.specs.Tallies.{Row, TalliesData, AllServed, AreServing, first_row, row_at, served_if}
 use Rattle.swi_survey.specs.declared.leaving.Way.{Way}
 use Rattle.swi_survey.specs.declared.leaving.Way.TheVariants as way
@@ -33,8 +36,9 @@ use Rattle.swi_survey.specs.declared.track.Step.{Step}
 use Rattle.swi_survey.specs.declared.track.Step.TheVariants as step
 use Rattle.swi_survey.specs.declared.track.Track.{Track}
 use Rattle.swi_survey.specs.declared.survey.Surveyed.{Surveyed}
-use Rattle.swi_survey.specs.Leaving.{leaving_by}
-use Rattle.swi_survey.specs.Ways.{AreAllWays, HasNumber, exit_to, instr_at, is_last, place_behind}
+use Rattle.swi_survey.specs.declared.ways.Ways.{Ways}
+use Rattle.swi_survey.specs.Leaving.{branch_by, leaving_by}
+use Rattle.swi_survey.specs.Ways.{AreAllWays, HasNumber, exit_to, gate_of, instr_at, is_last, place_behind, shut}
 
 -- ---- where a run stands
 
@@ -116,6 +120,7 @@ pub record Moves (t : TextData) (v : ImageData) (list : List Transfer) (place : 
   pub serving : (n : ℕ) → AreServing v n old.caches → AreServing v (suc n) new.caches
   pub exits : new.caches.exits ≡ old.caches.exits
   pub ways : new.ways.items ≡ old.ways.items
+  pub gates : new.gates.items ≡ old.gates.items
   pub place_is : place_at t v new.here ≡ place
   pub fetches_are : new.fetches ≡ old.fetches + fetched
   pub outside_is : new.outside ≡ old.outside + outside
@@ -144,8 +149,6 @@ pub record IsStep (t : TextData) (f : Machine) (failed : Bool) (here : Here) (s 
   pub input : List ℕ
   pub next_is : next ≡ (held_made f input).machine
 
--- ---- a run
-
 -- what a step asks for
 pub record IsReady (t : TextData) (v : ImageData) (k : Track) : Type 0 where
   pub ways_are : AreAllWays t v k.caches.exits k.ways.items
@@ -154,10 +157,33 @@ pub record IsReady (t : TextData) (v : ImageData) (k : Track) : Type 0 where
   pub fetches_few : k.fetches < 2 ^ 60
   pub outside_few : k.outside < 2 ^ 60
 
+-- ---- steps at which no cache has anything to do
+
+-- what lets them go on: the gates of the text words from an address on, by a set that has all caches
+abbrev pub gates_by : ℕ → Track → ℕ → Gates
+gates_by base k all = record { base = base; words = k.gates.items; masks = k.caches.masks; pass = all }
+
+pub record Coasts (base : ℕ) (k : Track) (f g : Machine) (c : Coasted) : Type 0 where
+  pub all : ℕ
+  pub every : (j : ℕ) → j < length k.caches.caches → has all j ≡ true
+  pub masks : length k.caches.masks ≡ length k.caches.exits.from
+  pub coasted : HasCoasted (gates_by base k all) f g c
+
+-- the run behind those that were let go on
+abbrev pub passed : Track → Coasted → Track
+passed k c = record k { here = here.At c.at; fetches = k.fetches + (c.steps + c.paid) }
+
+-- one more, from a text word with these ways
+abbrev pub closing : ℕ → Ways → Bool → Step
+closing at w taken = step.From at (if taken then branch_by true else w.left)
+
+-- ---- a run
+
 -- the caches' exits are those of the text words' ways, and the counts leave room for the steps that are still to come
 pub record Tracks (t : TextData) (v : ImageData) (steps : ℕ) (k : Track) : Type 0 where
   pub ways_are : AreAllWays t v k.caches.exits k.ways.items
   pub long : length k.ways.items ≡ length t.words
+  pub gates_are : k.gates.items ≡ map (gate_of (length k.caches.exits.from)) k.ways.items ++ shut (length k.caches.exits.from) ∷ []
   pub serving : AreServing v (2 * steps + 1) k.caches
   pub fetches_few : k.fetches ≤ 4 * steps
   pub outside_few : k.outside ≤ steps

@@ -1,5 +1,5 @@
 -- The direct exits of an image, by the text words that a run leaves over them.
-use Rattle.std.specs.Prelude.{◌≡◌, ◌⊎◌, ℕ, ◌+◌, ◌<◌, ◌≤◌, ◌==◌, Bool, not, List, length, slice_index, slice_get, Option, Some, None, if◌then◌else◌}
+use Rattle.std.specs.Prelude.{◌≡◌, ◌⊎◌, ℕ, ◌+◌, ◌<◌, ◌≤◌, ◌==◌, ◌||◌, Bool, true, false, not, List, length, slice_index, slice_get, Option, Some, None, if◌then◌else◌}
 use Rattle.swi_isa.specs.Decode.{decoded}
 use Rattle.swi_isa.specs.declared.instr.Instr.{Instr}
 use Rattle.swi_isa.specs.declared.instr.Instr.TheVariants as instr
@@ -11,7 +11,9 @@ use Rattle.swi_render.specs.ImageOf.{address_of, rendering_at}
 use Rattle.swi_hart.specs.Hart.{is_place}
 use Rattle.swi_tally.specs.Exits.{AreExits, ExitsData, IsFree, with_exit}
 use Rattle.swi_tally.specs.declared.exits.Exit.{Exit}
+use Rattle.swi_flat.specs.declared.coast.Gate.{Gate}
 use Rattle.swi_survey.specs.declared.ways.Ways.{Ways}
+use Rattle.swi_survey.specs.Leaving.{untaken_by}
 
 -- how many words behind the first of its rendering the exit of a JAL or branch stands, and the address to which it leads
 abbrev pub jump_of : Option Instr → ℕ → Option (ℕ × ℕ)
@@ -59,6 +61,19 @@ pub record AreWays (t : TextData) (v : ImageData) (e : ExitsData) (k : ℕ) (w :
   pub own : (p : ℕ × ℕ) → place_of v (address_of t k) ≡ Some p → HasNumber e (own_exit t v k p) w.own
   pub behind : (p : ℕ × ℕ) → place_of v (address_of t k) ≡ Some p → HasNumber e (exit_behind t v k p) w.behind
   pub last : (p : ℕ × ℕ) → place_of v (address_of t k) ≡ Some p → w.last ≡ is_last t v k p
+  pub left : w.left ≡ untaken_by (instr_at t k) (address_of t k)
+
+-- the gate of a text word, of n exits: no step to the next word passes it at the end of a block, nor where more than one word is executed
+abbrev pub gate_by : ℕ → Bool → ℕ → Option ℕ → Gate
+gate_by n last words None = record { stops = last || not (words == 1); ends = last; exit = n }
+gate_by n last words (Some x) = record { stops = false; ends = last; exit = x }
+
+abbrev pub gate_of : ℕ → Ways → Gate
+gate_of n w = gate_by n w.last w.left.words w.own
+
+-- one that no step passes
+abbrev pub shut : ℕ → Gate
+shut n = record { stops = true; ends = true; exit = n }
 
 -- those of the first n text words
 pub record AreAllWays (t : TextData) (v : ImageData) (e : ExitsData) (ways : List Ways) : Type 0 where

@@ -2,10 +2,11 @@
 #![tactic(auto)]
 
 ghost use Rattle.std.specs.Prelude.{◌≡◌, Some};
-ghost use Rattle.swi_survey.specs.Leaving.{branch_by, jal_words, leaving_by};
+ghost use Rattle.swi_isa.specs.Decode.{decoded};
+ghost use Rattle.swi_survey.specs.Leaving.{branch_by, jal_words, leaving_by, untaken_by};
 
 use swi_exec::{Regs, takes};
-use swi_isa::Instr;
+use swi_isa::{Instr, decode};
 
 /// Where control goes behind an instruction that goes on.
 #[derive(Clone, Copy, Debug, PartialEq, Eq)]
@@ -43,15 +44,18 @@ fn jal_words(rd: u32, a: u32, off: u32) -> u32
     }
 }
 
+/// A branch that is taken goes over its exit.
+pub(crate) const TAKEN: Leaving = Leaving {
+    words: 2,
+    way: Way::Over,
+};
+
 /// How a branch leaves its text word: over its exit where it is taken.
 fn branch_leaving(taken: bool) -> Leaving
     ensures { result ≡ branch_by taken }
 {
     if taken {
-        Leaving {
-            words: 2,
-            way: Way::Over,
-        }
+        TAKEN
     } else {
         Leaving {
             words: 1,
@@ -60,9 +64,9 @@ fn branch_leaving(taken: bool) -> Leaving
     }
 }
 
-/// How the next step leaves the instruction at `pc`.
-pub(crate) fn leaving_of(instr: &Instr, regs: &Regs, pc: u32) -> Leaving
-    ensures { result ≡ leaving_by (Some instr.now) regs.now pc }
+/// How a step leaves the instruction at `a`, where that is no branch that is taken.
+fn untaken(instr: &Instr, a: u32) -> Leaving
+    ensures { result ≡ untaken_by (Some instr.now) a }
 {
     match *instr {
         Instr::Ebreak | Instr::Jalr { .. } => Leaving {
@@ -74,17 +78,33 @@ pub(crate) fn leaving_of(instr: &Instr, regs: &Regs, pc: u32) -> Leaving
             way: Way::Next,
         },
         Instr::Jal { rd, off } => Leaving {
-            words: jal_words(rd.num(), pc, off),
+            words: jal_words(rd.num(), a, off),
             way: Way::Over,
         },
+        _ => branch_leaving(false),
+    }
+}
+
+/// How a step leaves the word at `a`, where that is no branch that is taken.
+pub(crate) fn untaken_at(word: u32, a: u32) -> Leaving
+    ensures { result ≡ untaken_by (decoded word) a }
+{
+    match decode(word) {
+        Some(instr) => untaken(&instr, a),
+        None => ILLEGAL,
+    }
+}
+
+/// How the next step leaves the instruction at `pc`.
+pub(crate) fn leaving_of(instr: &Instr, regs: &Regs, pc: u32) -> Leaving
+    ensures { result ≡ leaving_by (Some instr.now) regs.now pc }
+{
+    match *instr {
         Instr::Branch { op, rs1, rs2, .. } => branch_leaving(takes(
             op,
             regs.get(rs1),
             regs.get(rs2),
         )),
-        _ => Leaving {
-            words: 1,
-            way: Way::Next,
-        },
+        _ => untaken(instr, pc),
     }
 }

@@ -1,7 +1,7 @@
 //! One run of the flat machine, and all caches beside it.
 #![tactic(auto)]
 
-ghost use Rattle.std.specs.Prelude.{◌≡◌, ◌+◌, ◌≤◌, ◌^◌, All, false, length};
+ghost use Rattle.std.specs.Prelude.{◌≡◌, ◌+◌, ◌<◌, ◌≤◌, ◌^◌, All, IfSome, None, false, length};
 ghost use Rattle.swi_calls.specs.Flat.{machine_of};
 ghost use Rattle.swi_image.specs.Sound.{IsImage};
 ghost use Rattle.swi_program.specs.Layout.{IsLayoutOf};
@@ -9,13 +9,13 @@ ghost use Rattle.swi_program.specs.Text.{IsSized, text_of};
 ghost use Rattle.swi_render.specs.ImageOf.{IsImageOf};
 ghost use Rattle.swi_tally.specs.Tallies.{IsFrame};
 ghost use Rattle.swi_survey.specs.Survey.{SurveyRan};
-ghost use Rattle.swi_survey.specs.Track.{Begun, StandsAt, StepIs, StepsRan, told_of};
+ghost use Rattle.swi_survey.specs.Track.{Begun, Coasts, StandsAt, StepIs, StepsRan, told_of};
 
 use crate::leaving::{ILLEGAL, leaving_of};
 use crate::track::{Here, Step, Track};
 use std::alloc::Global;
 use swi_calls::{CallFault, End, text_store};
-use swi_flat::Flat;
+use swi_flat::{Coasted, Flat};
 use swi_image::ImageView;
 use swi_isa::decode;
 use swi_memory::Layout;
@@ -66,6 +66,24 @@ fn next_step(flat: &Flat, here: Here, text: &TextView<'_>) -> Step
     }
 }
 
+/// Steps up to `limit` at which no cache has anything to do, and one more. None, and nothing has changed, where there is none.
+fn coast(flat: &mut Flat, track: &Track, base: u32, limit: u64) -> Option<Coasted>
+    requires within { flat.old.machine.steps ≤ limit }
+    requires few { limit ≤ 2 ^ 48 }
+    ensures none { result ≡ None → flat.new ≡ flat.old }
+    ensures coasted { IfSome result (λ c. Coasts base track.now flat.old.machine flat.new.machine c) }
+    ensures some { IfSome result (λ c. c.last ≡ None → 0 < c.steps) }
+    ensures within { flat.new.machine.steps ≤ limit }
+    ensures failed { flat.new.failed ≡ flat.old.failed }
+{
+    let caches = &track.caches;
+    let coasted = flat.coast(limit, base, &track.gates, caches.masks(), caches.all())?;
+    if coasted.steps == 0 && coasted.last.is_none() {
+        return None;
+    }
+    Some(coasted)
+}
+
 /// Steps up to `limit`, and all caches follow. It gives the address at which the next step would store into the text, before
 /// which the run ends.
 fn run_steps<I: Source, O: Sink, E: Sink>(
@@ -89,6 +107,10 @@ fn run_steps<I: Source, O: Sink, E: Sink>(
 {
     while flat.steps() < limit && flat.ending().is_none() {
         track.settle(image, text, flat.pc());
+        if let Some(coasted) = coast(flat, track, text.base(), limit) {
+            track.pass(image, text, coasted, flat.pc());
+            continue;
+        }
         let step = next_step(flat, track.here, text);
         if let Step::Store(a) = step {
             track.fetches += 1;

@@ -1,7 +1,7 @@
 //! What is kept beside a run of the flat machine: where it stands in the image, the caches, and what is counted.
 #![tactic(auto)]
 
-ghost use Rattle.std.specs.Prelude.{◌≡◌, ◌-◌, ◌<◌, ◌≤◌, ◌^◌, ℕ, suc, All, Bool, is_some, IfOk, IfSome, length};
+ghost use Rattle.std.specs.Prelude.{◌≡◌, ◌-◌, ◌<◌, ◌≤◌, ◌^◌, ℕ, suc, All, Bool, None, Some, false, is_some, IfOk, IfSome, length, slice_get};
 ghost use Rattle.swi_calls.specs.declared.machine.Machine.{Machine};
 ghost use Rattle.swi_image.specs.Sound.{IsImage};
 ghost use Rattle.swi_program.specs.Text.{IsSized};
@@ -9,11 +9,12 @@ ghost use Rattle.swi_render.specs.ImageOf.{IsImageOf};
 ghost use Rattle.swi_rom.specs.Record.{direct, indirect};
 ghost use Rattle.swi_tally.specs.Tallies.{AllServed, AreServing, IsFrame};
 ghost use Rattle.swi_survey.specs.Ways.{HasNumber, exit_to};
-ghost use Rattle.swi_survey.specs.Track.{Follows, IsBehind, IsReady, IsStep, Leaves, ServedOn, Settles, Stands, StandsAt, Starts};
+ghost use Rattle.swi_survey.specs.Track.{Follows, IsBehind, IsReady, IsStep, Leaves, ServedOn, Settles, Stands, StandsAt, Starts, closing, passed};
 
-use crate::leaving::{Leaving, Way};
+use crate::leaving::{Leaving, TAKEN, Way};
 use crate::ways::{Map, Ways, map_of};
 use std::alloc::Global;
+use swi_flat::{Coasted, Gate};
 use swi_image::ImageView;
 use swi_outside::Memory;
 use swi_program::TextView;
@@ -45,6 +46,7 @@ pub enum Step {
 #[derive(Drop)]
 pub struct Track {
     pub ways: Vec<Ways>,
+    pub gates: Vec<Gate>,
     pub caches: Tallies,
     pub here: Here,
     /// How many words were fetched.
@@ -81,6 +83,7 @@ fn here_behind(text: &TextView<'_>, k: u32, last: bool, way: Way, a: u32) -> Her
 }
 
 /// All caches serve the exit with a number, if there is one.
+#[inline(always)]
 fn cross_if(caches: &mut Tallies, image: &ImageView<'_>, exit: Option<u32>)
     requires serving { AreServing image.now (2 ^ 50 - 1) caches.old }
     requires exit { IfSome exit (λ x. x < length caches.old.exits.from) }
@@ -140,11 +143,12 @@ impl Track {
         requires frames { All (IsFrame image.now.block_words) frames.now }
         ensures { IfOk result (λ k. Starts text.now image.now frames.now pc k) }
     {
-        let Map { exits, ways } = map_of(alloc, image, text)?;
+        let Map { exits, ways, gates } = map_of(alloc, image, text)?;
         let mut caches = Tallies::new(alloc, image.blocks(), exits, frames)?;
         enter_at(&mut caches, image, pc);
         Ok(Track {
             ways,
+            gates,
             caches,
             here: here_at(text, pc),
             fetches: 0,
@@ -169,6 +173,7 @@ impl Track {
     }
 
     /// A step that was made is followed, which led to `pc`, or ended the run there.
+    #[inline(always)]
     pub(crate) fn follow(
         &mut self,
         image: &ImageView<'_>,
@@ -196,6 +201,29 @@ impl Track {
                     serve(&mut self.caches, image, left.way, ways.own, pc);
                 }
             }
+        }
+    }
+    /// Steps at which no cache had anything to do are passed, and the one that was made behind them, which led to `pc`, is
+    /// followed.
+    pub(crate) fn pass(&mut self, image: &ImageView<'_>, text: &TextView<'_>, by: Coasted, pc: u32)
+        requires sized { IsSized text.now }
+        requires image { IsImage image.now }
+        requires own { IsImageOf text.now image.now }
+        requires ready { IsReady text.now image.now (passed self.old by) }
+        requires word { by.at < length text.now.words }
+        ensures passed { by.last ≡ None → self.new ≡ passed self.old by }
+        ensures follows { (taken : Bool) (w : Ways) (f next : Machine) (failed : Bool) → by.last ≡ Some taken → slice_get self.old.ways.items by.at ≡ Some w →
+            IsStep text.now f failed (Here.At by.at) (closing by.at w taken) next → next.pc ≡ pc → is_some next.ending ≡ false → Follows text.now image.now f next (passed self.old by) self.new }
+    {
+        self.fetches += by.steps + by.paid;
+        self.here = Here::At(by.at);
+        if let Some(taken) = by.last {
+            let left = if taken {
+                TAKEN
+            } else {
+                self.ways[by.at as usize].left
+            };
+            self.follow(image, text, Step::From(by.at, left), pc, false);
         }
     }
 }

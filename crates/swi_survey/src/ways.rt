@@ -1,15 +1,17 @@
 //! The direct exits of an image, by the text words that a run leaves over them.
 #![tactic(auto)]
 
-ghost use Rattle.std.specs.Prelude.{◌≡◌, ◌+◌, ◌*◌, ◌<◌, ◌≤◌, ◌^◌, [], Some, IfOk, length, slice_index};
+ghost use Rattle.std.specs.Prelude.{◌≡◌, ◌+◌, ◌*◌, ◌<◌, ◌≤◌, ◌^◌, ◌++◌, [], ◌∷◌, Some, IfOk, length, map, slice_index};
 ghost use Rattle.swi_image.specs.Place.{place_of};
 ghost use Rattle.swi_image.specs.Sound.{IsImage};
 ghost use Rattle.swi_program.specs.Text.{IsSized};
 ghost use Rattle.swi_render.specs.ImageOf.{IsImageOf, address_of};
 ghost use Rattle.swi_tally.specs.Exits.{AreExits};
-ghost use Rattle.swi_survey.specs.Ways.{AllBefore, AreAllWays, AreWays, FitsIf, Joins, exit_behind, exit_to, is_last, jump_of, number_if, own_exit, with_if};
+ghost use Rattle.swi_survey.specs.Ways.{AllBefore, AreAllWays, AreWays, FitsIf, Joins, exit_behind, exit_to, gate_of, is_last, jump_of, number_if, own_exit, shut, with_if};
 
+use crate::leaving::{Leaving, untaken_at};
 use std::alloc::Global;
+use swi_flat::Gate;
 use swi_image::ImageView;
 use swi_isa::{Instr, decode};
 use swi_outside::Memory;
@@ -27,13 +29,36 @@ pub struct Ways {
     pub behind: Option<u32>,
     /// Whether the next text word does not stand behind it.
     pub last: bool,
+    /// How it is left otherwise than by a branch that is taken.
+    pub left: Leaving,
 }
 
-/// The exits of an image, and of each text word its ways.
+/// The exits of an image, and of each text word its ways and its gate; behind the last word's gate stands one that stops.
 #[derive(Drop)]
 pub struct Map {
     pub exits: Exits,
     pub ways: Vec<Ways>,
+    pub gates: Vec<Gate>,
+}
+
+/// The gate of a text word, of so many exits: it stops a step that leaves the block, or executes more than one word. That of a
+/// JAL or branch lets a jump go on where its exit is a link in all caches.
+fn gate_of(ways: &Ways, exits: u32) -> Gate
+    ensures { result ≡ gate_of exits ways.now }
+{
+    let last = ways.last;
+    match ways.own {
+        Some(exit) => Gate {
+            stops: false,
+            ends: last,
+            exit,
+        },
+        None => Gate {
+            stops: last || ways.left.words != 1,
+            ends: last,
+            exit: exits,
+        },
+    }
 }
 
 /// How many words behind the first one of its rendering the exit of a JAL or branch at `a` stands, and its target.
@@ -151,7 +176,37 @@ fn with_word(
     let last = is_last(image, text, k, place);
     let (exits, own) = with_some(exits, own)?;
     let (exits, behind) = with_some(exits, behind)?;
-    Ok((exits, Ways { own, behind, last }))
+    let left = untaken_at(text.word(k), address_of(text, k));
+    Ok((
+        exits,
+        Ways {
+            own,
+            behind,
+            last,
+            left,
+        },
+    ))
+}
+
+/// The gates of text words, of so many exits, and one behind them that no step passes. Memory is the only error.
+fn gates_of(alloc: Global, ways: &[Ways], exits: u32) -> Result<Vec<Gate>, Memory>
+    ensures { IfOk result (λ gs. gs.items ≡ map (gate_of exits) ways.now ++ shut exits ∷ []) }
+{
+    let mut gates = Vec::new(alloc);
+    for way in ways {
+        if gates.push(gate_of(way, exits)).is_err() {
+            return Err(Memory);
+        }
+    }
+    let shut = Gate {
+        stops: true,
+        ends: true,
+        exit: exits,
+    };
+    if gates.push(shut).is_err() {
+        return Err(Memory);
+    }
+    Ok(gates)
 }
 
 /// The map of an image of the text. Memory is the only error.
@@ -166,6 +221,7 @@ pub(crate) fn map_of(
     ensures ways { IfOk result (λ m. AreAllWays text.now image.now m.exits m.ways.items) }
     ensures long { IfOk result (λ m. length m.ways.items ≡ length text.now.words) }
     ensures exits { IfOk result (λ m. AreExits m.exits) }
+    ensures gates { IfOk result (λ m. m.gates.items ≡ map (gate_of (length m.exits.from)) m.ways.items ++ shut (length m.exits.from) ∷ []) }
 {
     let mut exits = Exits::new(alloc, image.blocks())?;
     let mut ways = Vec::new(alloc);
@@ -181,5 +237,6 @@ pub(crate) fn map_of(
             return Err(Memory);
         }
     }
-    Ok(Map { exits, ways })
+    let gates = gates_of(alloc, &ways, exits.len())?;
+    Ok(Map { exits, ways, gates })
 }

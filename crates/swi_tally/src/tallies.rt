@@ -117,6 +117,21 @@ impl Tallies {
         self.caches[k as usize].counts()
     }
 
+    /// Of each exit the set of the caches in which it is a link.
+    pub fn masks(&self) -> &[u64]
+        ensures value { result.now ≡ self.now.masks }
+        ensures long { length result.now ≡ length self.now.exits.from }
+    {
+        &self.masks
+    }
+
+    /// The set of all caches.
+    pub fn all(&self) -> u64
+        ensures { (k : ℕ) → k < length self.now.caches → has result k ≡ true }
+    {
+        self.all
+    }
+
     // The k-th cache serves a direct exit.
     fn cross_by(&mut self, image: &ImageView<'_>, k: u32, x: u32)
         requires cache { k < length self.old.caches }

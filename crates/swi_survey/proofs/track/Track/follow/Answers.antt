@@ -22,7 +22,7 @@ returns-in-Outside c f next failed s at ended =
     let t = c.args.text.now in
     let here_is = outside_here t c.args.self.now.here (subst (λ (q : Step). Leaves t c.args.self.now.here q) c.in-Outside.is c.requires.leaves) in
     let nowhere = subst (λ (h : Here). StandsAt t f.pc h) here_is s.stands in
-    followed_outside t c.args.image.now f next s.input c.args.self.now _ here_is (s.text f.pc ∙ nowhere) s.next_is refl refl refl refl refl
+    followed_outside t c.args.image.now f next s.input c.args.self.now _ here_is (s.text f.pc ∙ nowhere) s.next_is refl refl refl refl refl refl
 
 pub returns-in-Store : goal.returns-in-Store
 returns-in-Store c f next failed s at ended =
@@ -35,7 +35,7 @@ returns-then-not-ended c f next failed s at ended =
     let lt = word_left t c.args.self.now.here c.in-From.k c.in-From.left (subst (λ (q : Step). Leaves t c.args.self.now.here q) c.in-From.is c.requires.leaves) in
     let ways = ways_at t v c.args.self.now c.in-From.k c.index-ways.result.now c.requires.ready lt c.index-ways.ensures in
     call_on t v f next failed c.args.self.now _ c.in-From.k c.in-From.left c.index-ways.result.now c.args.pc (ground t v c.requires.sized c.requires.image c.requires.own) lt
-    (subst (λ (q : Step). IsStep t f failed c.args.self.now.here q next) c.in-From.is s) ways refl refl refl c.here_behind-self.ensures at (omega (arith, c.ranges.pc.fits))
+    (subst (λ (q : Step). IsStep t f failed c.args.self.now.here q next) c.in-From.is s) ways refl refl refl refl c.here_behind-self.ensures at (omega (arith, c.ranges.pc.fits))
     (ended ∙ c.if-not-ended.true) c.serve.ensures.served c.serve.ensures.serving c.serve.ensures.exits
 
 pub returns-else-not-ended : goal.returns-else-not-ended
@@ -45,5 +45,5 @@ returns-else-not-ended c f next failed s at ended =
     let lt = word_left t c.args.self.now.here c.in-From.k c.in-From.left (subst (λ (q : Step). Leaves t c.args.self.now.here q) c.in-From.is c.requires.leaves) in
     let ways = ways_at t v c.args.self.now c.in-From.k c.index-ways.result.now c.requires.ready lt c.index-ways.ensures in
     call_end t v f next failed c.args.self.now _ c.in-From.k c.in-From.left c.index-ways.result.now c.args.pc (ground t v c.requires.sized c.requires.image c.requires.own) lt
-    (subst (λ (q : Step). IsStep t f failed c.args.self.now.here q next) c.in-From.is s) ways refl refl refl c.here_behind-self.ensures at (omega (arith, c.ranges.pc.fits))
+    (subst (λ (q : Step). IsStep t f failed c.args.self.now.here q next) c.in-From.is s) ways refl refl refl refl c.here_behind-self.ensures at (omega (arith, c.ranges.pc.fits))
     (ended ∙ c.if-not-ended.false) refl

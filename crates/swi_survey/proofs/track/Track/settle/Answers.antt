@@ -24,4 +24,4 @@ returns c f same =
     let at : StandsBehind t v c.args.pc c.in-Behind.k = subst (λ (h : Here). Stands t v c.args.pc h) c.in-Behind.is c.requires.stands in
     let ways = ways_at t v c.args.self.now c.in-Behind.k c.index.result.now c.requires.ready at.word c.index.ensures in
     settled_behind t v f c.args.pc c.in-Behind.k c.args.self.now _ c.index.result.now (ground t v c.requires.sized c.requires.image c.requires.own) c.in-Behind.is at (omega (arith, c.ranges.pc.fits)) same ways
-    c.cross_if.ensures.served c.cross_if.ensures.serving c.cross_if.ensures.exits refl refl refl c.here_at-self.ensures
+    c.cross_if.ensures.served c.cross_if.ensures.serving c.cross_if.ensures.exits refl refl refl refl c.here_at-self.ensures
