@@ -46,7 +46,14 @@ fn is_open(exit: u32, masks: &[u64], pass: u64) -> bool
 
 /// What a step by a micro-op of a class pays, where its word's gate lets it go on.
 #[inline(always)]
-fn toll(class: Class, m: &MicroOp, regs: &Regs, gate: &Gate, masks: &[u64], pass: u64) -> Option<u64>
+fn toll(
+    class: Class,
+    m: &MicroOp,
+    regs: &Regs,
+    gate: &Gate,
+    masks: &[u64],
+    pass: u64,
+) -> Option<u64>
     ensures value { result ≡ toll_by class gate.now.ends (is_open masks.now pass gate.now.exit) m.now regs.now }
     ensures few { IfSome result (λ n. n ≤ 2) }
 {
@@ -56,13 +63,21 @@ fn toll(class: Class, m: &MicroOp, regs: &Regs, gate: &Gate, masks: &[u64], pass
         Class::Below => goes(BranchOp::Bltu, m, regs),
         Class::Jal => {
             let much = if m.writes_x0() { 0 } else { 2 };
-            return if is_open(gate.exit, masks, pass) { Some(much) } else { None };
+            return if is_open(gate.exit, masks, pass) {
+                Some(much)
+            } else {
+                None
+            };
         }
         Class::Jalr | Class::Stop => return None,
         _ => return Some(0),
     };
     if taken {
-        if is_open(gate.exit, masks, pass) { Some(1) } else { None }
+        if is_open(gate.exit, masks, pass) {
+            Some(1)
+        } else {
+            None
+        }
     } else if gate.ends {
         None
     } else {
@@ -193,5 +208,10 @@ pub fn coast(
     }
     machine.pc = address(&range, k as u32);
     machine.steps = limit - left;
-    Some(Coasted { at, steps, paid, last })
+    Some(Coasted {
+        at,
+        steps,
+        paid,
+        last,
+    })
 }

@@ -253,6 +253,14 @@ impl Flat {
         ensures within { self.new.machine.steps ≤ limit }
         ensures failed { self.new.failed ≡ self.old.failed }
     {
-        coast(&mut self.machine, &mut self.decoded, limit, base, gates, masks, pass)
+        coast(
+            &mut self.machine,
+            &mut self.decoded,
+            limit,
+            base,
+            gates,
+            masks,
+            pass,
+        )
     }
 }

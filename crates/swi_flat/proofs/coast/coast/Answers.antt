@@ -26,17 +26,19 @@ loop-left-init c =
     let at : Target range m.pc first = target range m.pc first c.requires.decoded.whole (omega arith) (sym c.index_of.ensures ∙ c.in_ok-k.was) in
     let here = at.within in
     let back : c.args.limit - (c.args.limit - m.steps) ≡ m.steps = omega (arith, within) in
-    let none : c.args.limit - (c.args.limit - m.steps) - m.steps ≡ 0 = omega (arith, within) in
-    (first, record {
-      begins = record { within = omega (arith, here, long); pc = sym at.address ∙ ap (λ (a : ℕ). sum_of a (4 * first)) c.if-range-base.false };
-      inside = omega (arith, here, long);
-      run = rw (back, at.address) (coasts_none g first (m.steps - m.steps) m (omega arith));
-      index = omega (arith, here);
-      decoded = rw c.as_mut_slice-ops.ensures.value c.requires.decoded;
-      within = omega arith;
-      no_fewer = omega (arith, within);
-      few = omega arith;
-    })
+    let none : c.args.limit - (c.args.limit - m.steps) - m.steps ≡ 0 = omega (arith, within) in (
+      first,
+      record {
+        begins = record { within = omega (arith, here, long); pc = sym at.address ∙ ap (λ (a : ℕ). sum_of a (4 * first)) c.if-range-base.false };
+        inside = omega (arith, here, long);
+        run = rw (back, at.address) (coasts_none g first (m.steps - m.steps) m (omega arith));
+        index = omega (arith, here);
+        decoded = rw c.as_mut_slice-ops.ensures.value c.requires.decoded;
+        within = omega arith;
+        no_fewer = omega (arith, within);
+        few = omega arith;
+      },
+    )
 
 pub loop-left-preserved : goal.loop-left-preserved
 loop-left-preserved c =
@@ -55,19 +57,21 @@ loop-left-preserved c =
     let gate = c.index-gate.result.now in
     let s : StepsBy range c.loop-left.k op m.regs m.bus c.in-Some-step_as.next c.step_as.new.regs c.step_as.new.bus =
     steps_on range c.loop-left.k op m.regs c.step_as.new.regs m.bus c.step_as.new.bus c.in-Some-step_as.next ops c.class-class.result c.step_as.result
-    i.decoded i.index (ap (get_or ops c.loop-left.k) c.index-ops-k.is) c.class-class.ensures c.step_as.ensures.next c.in-Some-step_as.is c.step_as.ensures.regs c.step_as.ensures.bus in
-    (c.loop-left.invariant.0, record {
-      begins = i.begins;
-      run = coasts_on g range c.args.machine.now m c.args.limit c.loop-left.left c.loop-left.invariant.0 c.loop-left.k c.in-Some-step_as.next c.loop-left.paid c.in-Some.more s.instruction gate c.step_as.new.regs c.step_as.new.bus
-          c.if-range-base.false long c.loop-left-test.true within no_fewer (slice_get_read c.args.gates.now.items (length c.args.gates.now.items) c.loop-left.k gate refl (omega (arith, index, long)) c.index-gate.ensures) c.if-gate.false
-          (s.pays gate.ends (is_open c.args.masks.now c.args.pass gate.exit) c.in-Some.more (sym (c.toll.ensures.value ∙ ap (λ (q : Class). toll_by q gate.ends (is_open c.args.masks.now c.args.pass gate.exit) op m.regs) c.class-class.ensures) ∙ c.in-Some.is)) s.step i.run;
-      inside = i.inside;
-      index = s.step.within;
-      decoded = same_words (fetched m.bus) (fetched c.step_as.new.bus) range ops c.step_as.ensures.text i.decoded;
-      within = omega (arith, within);
-      no_fewer = omega (arith, no_fewer);
-      few = omega (arith, few, more, within, no_fewer, c.loop-left-test.true);
-    })
+    i.decoded i.index (ap (get_or ops c.loop-left.k) c.index-ops-k.is) c.class-class.ensures c.step_as.ensures.next c.in-Some-step_as.is c.step_as.ensures.regs c.step_as.ensures.bus in (
+      c.loop-left.invariant.0,
+      record {
+        begins = i.begins;
+        run = coasts_on g range c.args.machine.now m c.args.limit c.loop-left.left c.loop-left.invariant.0 c.loop-left.k c.in-Some-step_as.next c.loop-left.paid c.in-Some.more s.instruction gate c.step_as.new.regs c.step_as.new.bus
+            c.if-range-base.false long c.loop-left-test.true within no_fewer (slice_get_read c.args.gates.now.items (length c.args.gates.now.items) c.loop-left.k gate refl (omega (arith, index, long)) c.index-gate.ensures) c.if-gate.false
+            (s.pays gate.ends (is_open c.args.masks.now c.args.pass gate.exit) c.in-Some.more (sym (c.toll.ensures.value ∙ ap (λ (q : Class). toll_by q gate.ends (is_open c.args.masks.now c.args.pass gate.exit) op m.regs) c.class-class.ensures) ∙ c.in-Some.is)) s.step i.run;
+        inside = i.inside;
+        index = s.step.within;
+        decoded = same_words (fetched m.bus) (fetched c.step_as.new.bus) range ops c.step_as.ensures.text i.decoded;
+        within = omega (arith, within);
+        no_fewer = omega (arith, no_fewer);
+        few = omega (arith, few, more, within, no_fewer, c.loop-left-test.true);
+      },
+    )
 
 -- a micro-op that left its word has not changed the machine
 left_so : (m n : Machine) (regs : Registers) (bus : List AreaData) → regs ≡ m.regs → bus ≡ m.bus → n ≡ record m { regs = regs; bus = bus } → n ≡ m
@@ -78,7 +82,7 @@ step_on-requires-clause-decoded c =
     subst (λ (q : Machine). AreDecoded (fetched q.bus) c.args.decoded.now.range c.as_mut_slice-ops.result.now) (sym (elim c.loop-left-test.branch [
       | else-loop-left-test w ↦ w.machine-is
       | then-loop-left-test+then-gate w ↦ w.machine-is
-  | then-loop-left-test+else-gate+in_default w ↦ w.machine-is
+      | then-loop-left-test+else-gate+in_default w ↦ w.machine-is
       | then-loop-left-test+else-gate+in-Some+in_default-step_as w ↦
           left_so c.loop-left.machine c.loop-left-test.machine w.step_as.new.regs w.step_as.new.bus w.in_default-step_as.ensures.unchanged.0 w.in_default-step_as.ensures.unchanged.1 w.machine-is
     ])) c.loop-left.invariant.1.decoded
