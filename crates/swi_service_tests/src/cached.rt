@@ -103,15 +103,28 @@ struct Devices {
     ram: FaultRam,
 }
 
+/// A sink of which one call fails.
+fn sink_of(alloc: Global, fails: u32) -> Result<MemSink, Fail> {
+    Ok(MemSink::new(alloc, 4096, [fails].to_vec(alloc)?)?)
+}
+
+/// A ram of so many words, of which one call fails.
+fn ram_of(alloc: Global, words: u32, fails: u32) -> Result<FaultRam, Fail>
+    ensures { IfOk result (λ r. length r.ram.words ≡ words) }
+{
+    Ok(FaultRam::new(alloc, words, [fails].to_vec(alloc)?)?)
+}
+
 /// The input `abc`, two sinks, and a ram of so many words, with a run's failing calls.
 fn devices_of(alloc: Global, run: &Run, words: u32) -> Result<Devices, Fail>
     ensures { IfOk result (λ d. length d.ram.ram.words ≡ words) }
 {
+    let input = MemSource::new(b"abc".to_vec(alloc)?, [run.input_fails].to_vec(alloc)?);
     Ok(Devices {
-        input: MemSource::new(b"abc".to_vec(alloc)?, [run.input_fails].to_vec(alloc)?),
-        out: MemSink::new(alloc, 4096, [run.out_fails].to_vec(alloc)?)?,
-        err: MemSink::new(alloc, 4096, Vec::new(alloc))?,
-        ram: FaultRam::new(alloc, words, [run.ram_fails].to_vec(alloc)?)?,
+        input,
+        out: sink_of(alloc, run.out_fails)?,
+        err: sink_of(alloc, 0)?,
+        ram: ram_of(alloc, words, run.ram_fails)?,
     })
 }
 
@@ -153,21 +166,48 @@ fn stands_after(alloc: Global, run: &Run, words: u32) -> Result<Stands, Fail> {
     let Ok(layout) = lay_out(&program, 1 << 20, 1 << 16) else {
         return Err(Fail::from("no room"));
     };
+    stands_of_program(alloc, run, words, &program, &layout)
+}
+
+/// The same of a program.
+fn stands_of_program(
+    alloc: Global,
+    run: &Run,
+    words: u32,
+    program: &Program<'_>,
+    layout: &Layout,
+) -> Result<Stands, Fail>
+    requires laid_out { IsLayoutOf program.now.segments layout.now }
+{
     if run.block_words < 2 || run.block_words > 1024 {
         return Err(Fail::from("no block"));
     }
-    let Ok(image) = cut(alloc, &program, run.block_words) else {
+    let Ok(image) = cut(alloc, program, run.block_words) else {
         return Err(Fail::from("no image"));
     };
-    let view = image.view();
-    if run.cache_bytes < 4 * view.block_words()
+    stands_over(alloc, run, words, &image.view(), program, layout)
+}
+
+/// The same over an image of it.
+fn stands_over(
+    alloc: Global,
+    run: &Run,
+    words: u32,
+    image: &ImageView<'_>,
+    program: &Program<'_>,
+    layout: &Layout,
+) -> Result<Stands, Fail>
+    requires laid_out { IsLayoutOf program.now.segments layout.now }
+    requires own { IsImageOf (text_of program.now.segments) image.now }
+{
+    if run.cache_bytes < 4 * image.block_words()
         || run.cache_bytes > 1 << 20
         || words < run.cache_bytes / 4 + 1
         || run.limit > 1000
     {
         return Err(Fail::from("no cache"));
     }
-    let rom = slots_for(alloc, &view, run.cache_bytes)?;
+    let rom = slots_for(alloc, image, run.cache_bytes)?;
     let asked = AskedRun {
         limit: run.limit,
         calls: false,
@@ -180,7 +220,7 @@ fn stands_after(alloc: Global, run: &Run, words: u32) -> Result<Stands, Fail> {
         mut ram,
     } = devices_of(alloc, run, words)?;
     let answer = run_cached(
-        alloc, &view, &program, &layout, rom, asked, &mut input, &mut out, &mut err, &mut ram,
+        alloc, image, program, layout, rom, asked, &mut input, &mut out, &mut err, &mut ram,
     );
     stands_of(alloc, &answer, &out, &err, &ram)
 }

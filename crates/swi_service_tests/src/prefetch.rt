@@ -1,15 +1,20 @@
 //! Runs with known answers.
 
 ghost use Rattle.std.specs.Prelude.{◌≤◌};
+ghost use Rattle.swi_program.specs.Layout.{IsLayoutOf};
+ghost use Rattle.swi_program.specs.Text.{text_of};
+ghost use Rattle.swi_render.specs.ImageOf.{IsImageOf};
 
 use crate::programs::{COUNT, carry, file_with, program_in};
 use std::alloc::Global;
 use std::test::Fail;
 use swi_cut::cut;
 use swi_devices::{FaultRam, MemSink, MemSource};
+use swi_image::ImageView;
+use swi_memory::Layout;
 use swi_outside::CacheRam;
 use swi_prefetch::Prefetch;
-use swi_program::lay_out;
+use swi_program::{Program, lay_out};
 use swi_rom::CacheRom;
 
 /// Steps, instructions, services, misses, evictions, links, unlinks, fetches, writes, and what the engine copied.
@@ -24,17 +29,31 @@ fn counts_after(alloc: Global, rate: u32) -> Result<[u64; 11], Fail>
     let Ok(image) = cut(alloc, &program, 5) else {
         return Err(Fail::from("no image"));
     };
-    let view = image.view();
-    carry(&view, &program);
+    counts_over(alloc, &image.view(), &program, &layout, rate)
+}
+
+/// The same over an image of a program.
+fn counts_over(
+    alloc: Global,
+    image: &ImageView<'_>,
+    program: &Program<'_>,
+    layout: &Layout,
+    rate: u32,
+) -> Result<[u64; 11], Fail>
+    requires laid_out { IsLayoutOf program.now.segments layout.now }
+    requires own { IsImageOf (text_of program.now.segments) image.now }
+    requires short { image.now.block_words ≤ 5 }
+    requires rate { rate ≤ 1024 }
+{
+    carry(image, program);
     let mut input = MemSource::new(Vec::new(alloc), Vec::new(alloc));
     let mut out = MemSink::new(alloc, 4096, Vec::new(alloc))?;
     let mut err = MemSink::new(alloc, 4096, Vec::new(alloc))?;
     let mut ram = FaultRam::new(alloc, 2048, Vec::new(alloc))?;
-    let mut prefetch = match Prefetch::boot(alloc, &view, &program, &layout, false, 60, &mut ram) {
-        Ok(prefetch) => prefetch,
-        Err(_) => return Err(Fail::from("no boot")),
+    let Ok(mut prefetch) = Prefetch::boot(alloc, image, program, layout, false, 60, &mut ram) else {
+        return Err(Fail::from("no boot"));
     };
-    let run = prefetch.run(&view, &mut ram, &mut input, &mut out, &mut err, 1000, rate);
+    let run = prefetch.run(image, &mut ram, &mut input, &mut out, &mut err, 1000, rate);
     if run.is_err() || prefetch.failed() {
         return Err(Fail::from("a device failed"));
     }

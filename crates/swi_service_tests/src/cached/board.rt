@@ -168,22 +168,47 @@ fn both(alloc: Global, run: &Run) -> Result<[Came; 2], Fail> {
     let Ok(layout) = lay_out(&program, 1 << 20, 1 << 16) else {
         return Err(Fail::from("no room"));
     };
+    both_of(alloc, run, &program, &layout)
+}
+
+/// The same of a program.
+fn both_of(
+    alloc: Global,
+    run: &Run,
+    program: &Program<'_>,
+    layout: &Layout,
+) -> Result<[Came; 2], Fail>
+    requires laid_out { IsLayoutOf program.now.segments layout.now }
+{
     if run.block_words < 2 || run.block_words > 1024 {
         return Err(Fail::from("no block"));
     }
-    let Ok(image) = cut(alloc, &program, run.block_words) else {
+    let Ok(image) = cut(alloc, program, run.block_words) else {
         return Err(Fail::from("no image"));
     };
-    let view = image.view();
-    let _blocks = view.blocks();
-    if run.cache_bytes < 4 * view.block_words() || run.cache_bytes > 4096 {
+    both_over(alloc, run, &image.view(), program, layout)
+}
+
+/// The same over an image of it.
+fn both_over(
+    alloc: Global,
+    run: &Run,
+    image: &ImageView<'_>,
+    program: &Program<'_>,
+    layout: &Layout,
+) -> Result<[Came; 2], Fail>
+    requires laid_out { IsLayoutOf program.now.segments layout.now }
+    requires own { IsImageOf (text_of program.now.segments) image.now }
+{
+    let _blocks = image.blocks();
+    if run.cache_bytes < 4 * image.block_words() || run.cache_bytes > 4096 {
         return Err(Fail::from("no cache"));
     }
-    let scan = ScanRom::new(alloc, run.cache_bytes, view.block_words())?;
-    let fifo = FifoRom::new(alloc, run.cache_bytes, view.block_words())?;
+    let scan = ScanRom::new(alloc, run.cache_bytes, image.block_words())?;
+    let fifo = FifoRom::new(alloc, run.cache_bytes, image.block_words())?;
     Ok([
-        run_on(alloc, scan, run, &view, &program, &layout)?,
-        run_on(alloc, fifo, run, &view, &program, &layout)?,
+        run_on(alloc, scan, run, image, program, layout)?,
+        run_on(alloc, fifo, run, image, program, layout)?,
     ])
 }
 

@@ -244,26 +244,47 @@ fn stepped_alone<R: CacheRom>(
     )
 }
 
+/// The same over the service that scans, and over that with chains.
+fn stepped_by_both(
+    alloc: Global,
+    image: &ImageView<'_>,
+    program: &Program<'_>,
+    layout: &Layout,
+) -> Result<[Steps; 2], Fail>
+    requires laid_out { IsLayoutOf program.now.segments layout.now }
+    requires own { IsImageOf (text_of program.now.segments) image.now }
+{
+    let _blocks = image.blocks();
+    if image.block_words() > 8 {
+        return Err(Fail::from("long blocks"));
+    }
+    let scan = ScanRom::new(alloc, 32, image.block_words())?;
+    let fifo = FifoRom::new(alloc, 32, image.block_words())?;
+    Ok([
+        stepped_alone(alloc, scan, image, program, layout)?,
+        stepped_alone(alloc, fifo, image, program, layout)?,
+    ])
+}
+
+/// The same over the image of a program in blocks of 8 words.
+fn stepped_over(alloc: Global, program: &Program<'_>, layout: &Layout) -> Result<[Steps; 2], Fail>
+    requires laid_out { IsLayoutOf program.now.segments layout.now }
+{
+    let Ok(image) = cut(alloc, program, 8) else {
+        return Err(Fail::from("no image"));
+    };
+    stepped_by_both(alloc, &image.view(), program, layout)
+}
+
 #[test]
 fn foreign_word_is_executed_by_both(rt: HostRuntime) -> Result<(), Fail> {
-    let alloc = rt.alloc();
-    let file = file_with(alloc, SEVEN, 5)?;
-    let program = program_in(alloc, &file)?;
+    let file = file_with(rt.alloc(), SEVEN, 5)?;
+    let program = program_in(rt.alloc(), &file)?;
     let Ok(layout) = lay_out(&program, 1 << 20, 1 << 16) else {
         return Err(Fail::from("no room"));
     };
-    let Ok(image) = cut(alloc, &program, 8) else {
-        return Err(Fail::from("no image"));
-    };
-    let view = image.view();
-    let _blocks = view.blocks();
-    if view.block_words() > 8 {
-        return Err(Fail::from("long blocks"));
-    }
     let want = ((2, 8), (Some(Exited(8)), 3, 4, 3));
-    let scan = ScanRom::new(alloc, 32, view.block_words())?;
-    assert_eq!(rt; stepped_alone(alloc, scan, &view, &program, &layout)?, want);
-    let fifo = FifoRom::new(alloc, 32, view.block_words())?;
-    assert_eq!(rt; stepped_alone(alloc, fifo, &view, &program, &layout)?, want);
+    let steps = stepped_over(rt.alloc(), &program, &layout)?;
+    assert_eq!(rt; steps, [want, want]);
     Ok(())
 }

@@ -1,6 +1,6 @@
 use Rattle.std.proofs.Common.{◌≤◌, ℕ, length, sym, subst}
 use Rattle.swi_slots.specs.Slots.{Slots, setting_of, span_of}
-use Rattle.swi_service_tests.proofs.cached.board.both.Goals as goal
+use Rattle.swi_service_tests.proofs.cached.board.both_over.Goals as goal
 
 pub run_on-requires-clause-new : goal.run_on-requires-clause-new
 run_on-requires-clause-new c = λ v words image same fits.
