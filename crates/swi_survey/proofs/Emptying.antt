@@ -1,5 +1,5 @@
 -- Caches in which nothing stands serve an image.
-use Rattle.std.proofs.Common.{◌≡◌, ℕ, zero, suc, ◌*◌, ◌^◌, ◌<◌, ◌≤◌, ◌==◌, Bool, false, List, [], length, replicate, slice_get, slice_index, All, Option, Some, None, IfSome, option_map, ◌/◌, ◌%◌, arith, refl, sym, ◌∙◌, ap, subst, inl, inr}
+use Rattle.std.proofs.Common.{◌≡◌, ℕ, zero, suc, ◌^◌, ◌<◌, ◌≤◌, ◌==◌, Bool, false, List, [], length, replicate, slice_get, slice_index, All, Option, Some, None, IfSome, option_map, ◌/◌, ◌%◌, arith, refl, sym, ◌∙◌, ap, subst, inl, inr}
 use Rattle.std.proofs.lemmas.Bool.{cases_lt}
 use Rattle.std.proofs.lemmas.List.{length-replicate, get_or-replicate, get_or_past}
 use Rattle.std.proofs.lemmas.Option.{get_or_from_slice_get, slice_get-map, slice_get_within}
@@ -13,7 +13,7 @@ use Rattle.swi_tally.specs.declared.tally.Placing.TheVariants.{Slots, Ring}
 use Rattle.swi_tally.specs.declared.tallies.Frame.{Frame}
 use Rattle.swi_tally.specs.Masks.{has, has_at}
 use Rattle.swi_tally.specs.Exits.{ExitsData, AreExits, link_at, links_of}
-use Rattle.swi_tally.specs.Tally.{TallyData, InShape, Serves, kept_by, more_of, queue_of}
+use Rattle.swi_tally.specs.Tally.{TallyData, InShape, Serves, kept_by, more_of, nowhere, queue_of}
 use Rattle.swi_tally.specs.Tallies.{Row, AreServing, IsFrame, empty_of, empty_tallies, first_row, row_at, row_if}
 
 -- no exit is a link
@@ -46,12 +46,12 @@ module _ (v : ImageData) (e : ExitsData) (f : Frame) (image : IsImage v) (are : 
     words_few = frame.words;
     words_most = frame.most;
     next_most = omega arith;
-    few = omega (arith, length-replicate e.blocks (f.slots * f.slot_words), blocks, image.fewer, image.few);
-    room_is = sym (length-replicate e.blocks (f.slots * f.slot_words));
+    few = omega (arith, length-replicate e.blocks nowhere, blocks, image.fewer, image.few);
+    room_is = sym (length-replicate e.blocks nowhere);
     distinct = tt;
     known = λ b h. absurd h;
     placed = λ b h. absurd h;
-    absent = λ b lt none. get_or-replicate e.blocks b (f.slots * f.slot_words) 0 (omega (arith, lt, length-replicate e.blocks (f.slots * f.slot_words)));
+    absent = λ b lt none. get_or-replicate e.blocks b nowhere 0 (omega (arith, lt, length-replicate e.blocks nowhere));
   }
 
   empty_serves : (d : ℕ) → d < 64 → Serves v e d (replicate (length e.from) 0) empty
@@ -60,7 +60,7 @@ module _ (v : ImageData) (e : ExitsData) (f : Frame) (image : IsImage v) (are : 
       image = image;
       are = are;
       blocks = blocks;
-      homes = sym (length-replicate e.blocks (f.slots * f.slot_words));
+      homes = sym (length-replicate e.blocks nowhere);
       masks_long = length-replicate {A = ℕ} (length e.from) 0;
       cache_below = lt;
       words = frame.holds;

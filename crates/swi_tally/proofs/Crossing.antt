@@ -21,7 +21,7 @@ use Rattle.swi_tally.specs.Tally.{TallyData, InShape, Moved, Stands, Serves, Lin
 use Rattle.swi_tally.proofs.Sets.{or_none}
 use Rattle.swi_tally.proofs.Linking.{links_with, linked_is}
 use Rattle.swi_tally.proofs.Queueing.{queue_long}
-use Rattle.swi_tally.proofs.Arriving.{is_absent, is_there, moved_none, moved_both, stands_on}
+use Rattle.swi_tally.proofs.Arriving.{arrives_there, is_absent, is_there, moved_none, moved_both, stands_on}
 
 -- a service is counted
 pub counted_kept : (e : ExitsData) (ls : ℕ → Bool) (s : TallyData) → kept_by e ls (counted_tally s) ≡ counted (kept_by e ls s)
@@ -84,6 +84,20 @@ counted_serves v e cache masks s serves = record {
   links = within_services s.queue s.counts.links s.counts.services serves.unlinked serves.stands.bounded.links;
   services = one_service s.queue s.counts.services;
 }
+
+-- where the block that comes to stand stands already, there is no more to do: that is no boot
+abbrev pub served_tally : TallyData → TallyData
+served_tally s = record s { counts = record s.counts { services = s.counts.services + 1 } }
+
+more_there : (xs : List ℕ) (b : ℕ) → Has xs b → more_service (length xs) ≡ 1
+more_there [] b h = absurd h
+more_there (x ∷ xs) b h = refl
+
+pub served_there : (v : ImageData) (e : ExitsData) (cache b : ℕ) (s : TallyData) (masks : List ℕ) → Serves v e cache masks s → Has s.queue b → Arrives v e cache b (counted_tally s) (served_tally s) masks masks
+served_there v e cache b s masks serves h =
+    subst (λ (u : TallyData). Arrives v e cache b (counted_tally s) u masks masks)
+    (ap (λ (n : ℕ). let u : TallyData = record s { counts = record s.counts { services = s.counts.services + n } } in u) (more_there s.queue b h))
+    (arrives_there v e cache b (counted_tally s) masks (counted_serves v e cache masks s serves).stands h)
 
 -- where a block stands
 first_here : (homes queue : List ℕ) (b : ℕ) → Has queue b → first_in (queue_of homes queue) 0 b ≡ slice_index homes b

@@ -7,7 +7,7 @@ use Rattle.swi_rom.specs.Collected.{undone_apart}
 use Rattle.swi_tally.specs.Masks.{has_at}
 use Rattle.swi_tally.specs.Groups.{Left, held_in, is_in}
 use Rattle.swi_tally.specs.Exits.{ExitsData, AreExits, links_of}
-use Rattle.swi_tally.specs.Tally.{TallyData, InShape, Bounded, Moved, kept_by, queue_of, span, spot, without_oldest}
+use Rattle.swi_tally.specs.Tally.{TallyData, InShape, Bounded, Moved, kept_by, nowhere, queue_of, spot, without_oldest}
 use Rattle.swi_tally.proofs.Sets.{and_all}
 use Rattle.swi_tally.proofs.Grouping.{held_none, held_more}
 use Rattle.swi_tally.proofs.Linking.{links_kept, stays_linked, undone_is}
@@ -58,7 +58,7 @@ pub evict_kept : (e : ExitsData) (s : TallyData) (b : ℕ) (rest : List ℕ) (c 
 unfolding evicted
 evict_kept e s b rest c old between new undone are shape is l =
     let p : Placement = spot s.homes b in
-    let placed : queue_of (slice_set s.homes b (span s)) rest ≡ queue_of s.homes rest = without_queue s b rest shape is in
+    let placed : queue_of (slice_set s.homes b nowhere) rest ≡ queue_of s.homes rest = without_queue s b rest shape is in
     let links = links_kept e p (has_at old c) (has_at new c) are refl (leaves_links e p c old between new undone l) in
     let count : length (filter (is_undone p) (links_of e (has_at old c))) ≡ undone = leaves_undone e p c old between new undone l refl in
     rw (is, queue_next s.homes b rest, placed, links, count) refl

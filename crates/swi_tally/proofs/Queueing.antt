@@ -1,11 +1,11 @@
 -- The queue of a cache: which blocks it has, and where they stand.
-use Rattle.std.proofs.Common.{◌≡◌, ◌⊎◌, ℕ, ◌+◌, ◌<◌, ◌≤◌, ◌++◌, List, [], ◌∷◌, length, slice_index, slice_set, slice_index_or, nat_lt, IsTrue, arith, refl, sym, ◌∙◌, ap, subst, inl, inr, ◌↔◌}
-use Rattle.std.proofs.lemmas.Bool.{cases_eq, ltb-true, lt-ltb}
+use Rattle.std.proofs.Common.{◌≡◌, ◌⊎◌, ℕ, ◌+◌, ◌<◌, ◌≤◌, ◌==◌, ◌++◌, not, List, [], ◌∷◌, length, slice_index, slice_set, slice_index_or, IsTrue, arith, refl, sym, ◌∙◌, ap, subst, inl, inr, ◌↔◌}
+use Rattle.std.proofs.lemmas.Bool.{cases_eq, eq-eqb, ne_eqb, both_ways}
 use Rattle.std.proofs.lemmas.List.{length-set, length-map, get_or-set_same, get_or-set_other, get_or_read}
 use Rattle.swi_rom.specs.Record.{Placement}
 use Rattle.swi_links.specs.Chains.{Has, Distinct}
 use Rattle.swi_links.proofs.Numbers.{append_distinct, append_has, append_here, distinct_fewer, has_append}
-use Rattle.swi_tally.specs.Tally.{TallyData, InShape, span, spot, queue_of, without_oldest, settled}
+use Rattle.swi_tally.specs.Tally.{TallyData, InShape, nowhere, span, spot, queue_of, without_oldest, settled}
 
 pub oldest_has : (s : TallyData) (b : ℕ) (rest : List ℕ) → s.queue ≡ b ∷ rest → Has s.queue b
 oldest_has s b rest is = subst (λ (xs : List ℕ). Has xs b) (sym is) (inl refl)
@@ -57,22 +57,22 @@ without_shape s b rest shape is =
       words_few = shape.words_few;
       words_most = shape.words_most;
       next_most = shape.next_most;
-      few = omega (arith, shape.few, length-set s.homes b (span s));
-      room_is = shape.room_is ∙ sym (length-set s.homes b (span s));
+      few = omega (arith, shape.few, length-set s.homes b nowhere);
+      room_is = shape.room_is ∙ sym (length-set s.homes b nowhere);
       distinct = (rest_distinct s b rest shape is).1;
-      known = λ x h. omega (arith, shape.known x (rest_has s b rest is x h), length-set s.homes b (span s));
-      placed = λ x h. omega (arith, get_or-set_other s.homes b x (span s) 0 (rest_other s b rest shape is x h), shape.placed x (rest_has s b rest is x h));
+      known = λ x h. omega (arith, shape.known x (rest_has s b rest is x h), length-set s.homes b nowhere);
+      placed = λ x h. omega (arith, get_or-set_other s.homes b x nowhere 0 (rest_other s b rest shape is x h), shape.placed x (rest_has s b rest is x h));
       absent = λ x lt none. elim (cases_eq x b) [
-        | inl same ↦ rw same (get_or-set_same s.homes b (span s) 0 within)
+        | inl same ↦ rw same (get_or-set_same s.homes b nowhere 0 within)
         | inr ne ↦
-            get_or-set_other s.homes b x (span s) 0 ne
-            ∙ shape.absent x (omega (arith, lt, length-set s.homes b (span s))) (λ h. none (other_rest s b rest is x h ne))
+            get_or-set_other s.homes b x nowhere 0 ne
+            ∙ shape.absent x (omega (arith, lt, length-set s.homes b nowhere)) (λ h. none (other_rest s b rest is x h ne))
       ];
     }
 
-pub without_queue : (s : TallyData) (b : ℕ) (rest : List ℕ) → InShape s → s.queue ≡ b ∷ rest → queue_of (slice_set s.homes b (span s)) rest ≡ queue_of s.homes rest
+pub without_queue : (s : TallyData) (b : ℕ) (rest : List ℕ) → InShape s → s.queue ≡ b ∷ rest → queue_of (slice_set s.homes b nowhere) rest ≡ queue_of s.homes rest
 without_queue s b rest shape is =
-    queue_same s.homes (slice_set s.homes b (span s)) rest (λ x h. get_or-set_other s.homes b x (span s) 0 (rest_other s b rest shape is x h))
+    queue_same s.homes (slice_set s.homes b nowhere) rest (λ x h. get_or-set_other s.homes b x nowhere 0 (rest_other s b rest shape is x h))
 
 -- a block behind all others
 pub settled_shape : (s : TallyData) (b first n : ℕ) → InShape s → b < length s.homes → (Has s.queue b → ⊥) → 1 ≤ n → first + n ≤ span s → InShape (settled s b first n)
@@ -126,20 +126,20 @@ in_queue (x ∷ xs) b = elim (cases_eq x b) [
     later x xs b (inl same) ne none = ne same
     later x xs b (inr h) ne none = none h
 
-pub home_tells : (s : TallyData) (b : ℕ) → InShape s → b < length s.homes → (slice_index s.homes b < span s) ↔ Has s.queue b
+pub home_tells : (s : TallyData) (b : ℕ) → InShape s → b < length s.homes → IsTrue (not (slice_index s.homes b == nowhere)) ↔ Has s.queue b
 home_tells s b shape lt = elim (in_queue s.queue b) [
-  | inl h ↦ ((λ below. h), (λ i. shape.placed b i))
-  | inr none ↦ ((λ below. absurd (omega (arith, shape.absent b lt none))), (λ i. absurd (none i)))
+  | inl h ↦ ((λ t. h), (λ i. ap not (ne_eqb (slice_index s.homes b) nowhere (below h))))
+  | inr none ↦ ((λ t. absurd (both_ways _ (ap not (eq-eqb (slice_index s.homes b) nowhere (shape.absent b lt none))) t)), (λ i. absurd (none i)))
 ]
+  where
+    below : Has s.queue b → slice_index s.homes b ≡ nowhere → ⊥
+    below h same = omega (arith, same, shape.placed b h, shape.words_few)
 
 -- the calls, as their code meets them
-pub placed_call : (s : TallyData) (homes : List ℕ) (b home n : ℕ) → InShape s → b < length s.homes → homes ≡ s.homes → home ≡ slice_index_or homes b home → n ≡ span s → IsTrue (nat_lt home n) ↔ Has s.queue b
-placed_call s homes b home n shape lt same read all =
+pub placed_call : (s : TallyData) (homes : List ℕ) (b home : ℕ) → InShape s → b < length s.homes → homes ≡ s.homes → home ≡ slice_index_or homes b home → IsTrue (not (home == nowhere)) ↔ Has s.queue b
+placed_call s homes b home shape lt same read =
     let here : home ≡ slice_index s.homes b = get_or_read homes b home (omega (arith, lt, ap (λ (xs : List ℕ). length xs) same)) read 0 ∙ ap (λ (xs : List ℕ). slice_index xs b) same in
-    let tells = home_tells s b shape lt in (
-      (λ t. tells.0 (omega (arith, ltb-true home n t, here, all))),
-      (λ h. lt-ltb home n (omega (arith, tells.1 h, here, all))),
-    )
+    subst (λ (n : ℕ). IsTrue (not (n == nowhere)) ↔ Has s.queue b) (sym here) (home_tells s b shape lt)
 
 pub oldest_known : (s : TallyData) (b : ℕ) (rest : List ℕ) → InShape s → s.queue ≡ b ∷ rest → b < length s.homes
 oldest_known s b rest shape is = shape.known b (oldest_has s b rest is)

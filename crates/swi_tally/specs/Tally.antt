@@ -1,5 +1,5 @@
 -- A cache without a ram as plain data, and what it keeps.
-use Rattle.std.specs.Prelude.{◌≡◌, ℕ, zero, suc, ◌+◌, ◌*◌, ◌^◌, ◌<◌, ◌≤◌, Bool, List, [], ◌∷◌, ◌++◌, map, length, replicate, slice_index, slice_set, nat_lt, if◌then◌else◌}
+use Rattle.std.specs.Prelude.{◌≡◌, ℕ, zero, suc, ◌+◌, ◌-◌, ◌*◌, ◌^◌, ◌<◌, ◌≤◌, Bool, List, [], ◌∷◌, ◌++◌, map, length, replicate, slice_index, slice_set, nat_lt, if◌then◌else◌}
 use Rattle.swi_image.specs.Format.{ImageData}
 use Rattle.swi_rom.specs.Record.{Record, Placement, Transfer}
 use Rattle.swi_rom.specs.Service.{Setting}
@@ -23,11 +23,15 @@ pub record TallyData : Type 0 where
   pub next : ℕ
   -- the placed blocks, the oldest first
   pub queue : List ℕ
-  -- of each block its first word; of one that isn't placed the number of all words
+  -- of each block its first word; of one that isn't placed nowhere
   pub homes : List ℕ
   -- how many blocks the queue has room for
   pub room : ℕ
   pub counts : Counts
+
+-- what is kept of a block that isn't placed
+abbrev pub nowhere : ℕ
+nowhere = 2 ^ 32 - 1
 
 abbrev pub span : TallyData → ℕ
 span s = s.slots * s.slot_words
@@ -76,7 +80,7 @@ pub record InShape (s : TallyData) : Type 0 where
   pub distinct : Distinct s.queue
   pub known : (b : ℕ) → Has s.queue b → b < length s.homes
   pub placed : (b : ℕ) → Has s.queue b → slice_index s.homes b < span s
-  pub absent : (b : ℕ) → b < length s.homes → (Has s.queue b → ⊥) → slice_index s.homes b ≡ span s
+  pub absent : (b : ℕ) → b < length s.homes → (Has s.queue b → ⊥) → slice_index s.homes b ≡ nowhere
 
 -- the counts are bounded by the services
 pub record Bounded (e : ExitsData) (linked : ℕ → Bool) (s : TallyData) : Type 0 where
@@ -90,7 +94,7 @@ pub record Bounded (e : ExitsData) (linked : ℕ → Bool) (s : TallyData) : Typ
 abbrev pub without_oldest : TallyData → ℕ → List ℕ → TallyData
 without_oldest s b rest = record s {
   queue = rest;
-  homes = slice_set s.homes b (span s);
+  homes = slice_set s.homes b nowhere;
   counts = record s.counts { evictions = s.counts.evictions + 1 };
 }
 
@@ -174,7 +178,7 @@ empty_tally placing slots slot_words blocks = record {
   slot_words = slot_words;
   next = 0;
   queue = [];
-  homes = replicate blocks (slots * slot_words);
+  homes = replicate blocks nowhere;
   room = blocks;
   counts = record { services = 0; misses = 0; evictions = 0; links = 0; unlinks = 0; copied = 0 };
 }

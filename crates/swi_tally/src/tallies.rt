@@ -148,6 +148,7 @@ impl Tallies {
     }
 
     // The k-th cache serves a jump to an address in a block.
+    #[inline(always)]
     fn enter_by(&mut self, image: &ImageView<'_>, k: u32, block: u32)
         requires cache { k < length self.old.caches }
         requires serves { ServesAt image.now (2 ^ 50 - 1) self.old k }

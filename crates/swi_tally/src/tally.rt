@@ -22,6 +22,9 @@ use swi_outside::Memory;
 use swi_ring::BlockQueue;
 use swi_rom::{Counts, reach};
 
+/// What is kept of a block that isn't placed.
+const NOWHERE: u32 = u32::MAX;
+
 /// How blocks are placed in a cache: each in a slot, or one behind the other.
 #[derive(Clone, Copy, Debug, PartialEq, Eq)]
 pub enum Placing {
@@ -39,7 +42,7 @@ pub struct Tally {
     // Of a ring the word behind the block that was placed last.
     next: u32,
     queue: BlockQueue,
-    // Of each block its first word; of one that isn't placed the number of all words.
+    // Of each block its first word; of one that isn't placed NOWHERE.
     homes: Vec<u32>,
     counts: Counts,
 }
@@ -77,7 +80,7 @@ impl Tally {
         ensures { IfOk result (λ s. s ≡ empty_tally placing slots slot_words blocks) }
     {
         let queue = BlockQueue::new(alloc, blocks)?;
-        let homes = vec![in alloc; slots * slot_words; blocks as usize].map_err(|_| Memory)?;
+        let homes = vec![in alloc; NOWHERE; blocks as usize].map_err(|_| Memory)?;
         Ok(Tally {
             placing,
             slots,
@@ -112,12 +115,13 @@ impl Tally {
     }
 
     // Whether a block stands.
+    #[inline(always)]
     fn is_placed(&self, block: u32) -> bool
         requires shape { InShape self.now }
         requires block { block < length self.now.homes }
         ensures { IsTrue result ↔ Has self.now.queue block }
     {
-        self.homes[block as usize] < self.span()
+        self.homes[block as usize] != NOWHERE
     }
 
     // The oldest block leaves, but for the links that it had.
@@ -128,9 +132,8 @@ impl Tally {
         ensures oldest { self.old.queue ≡ result ∷ self.new.queue }
         ensures left { self.new ≡ without_oldest self.old result self.new.queue }
     {
-        let span = self.span();
         let block = self.queue.pop();
-        self.homes[block as usize] = span;
+        self.homes[block as usize] = NOWHERE;
         self.counts.evictions += 1;
         block
     }
@@ -186,6 +189,7 @@ impl Tally {
     }
 
     // Counts a service, but for the boot.
+    #[inline(always)]
     fn count_service(&mut self)
         requires { self.old.counts.services < 2 ^ 50 }
         ensures { self.new ≡ counted_tally self.old }
@@ -337,8 +341,9 @@ impl Tally {
         self.settle(block, first, size);
     }
 
-    // A block comes to stand.
-    fn arrive(
+    // A block that doesn't stand comes to stand.
+    #[inline(never)]
+    fn fill(
         &mut self,
         image: &ImageView<'_>,
         exits: &Exits,
@@ -351,14 +356,35 @@ impl Tally {
         requires missed { self.old.counts.misses ≤ self.old.counts.services }
         requires one { self.old.placing ≡ Placing.Ring → self.old.slots ≡ 1 }
         requires block { block < exits.now.blocks }
+        requires absent { Has self.old.queue block → ⊥ }
         ensures arrives { Arrives image.now exits.now cache block self.old self.new masks.old masks.new }
     {
-        if self.is_placed(block) {
-            return;
-        }
         match self.placing {
             Placing::Slots => self.fill_slot(image, exits, masks, cache, block),
             Placing::Ring => self.fill_ring(image, exits, masks, cache, block),
+        }
+    }
+
+    // Counts a service, and a block comes to stand, which nearly always stands already.
+    #[inline(always)]
+    fn serve(
+        &mut self,
+        image: &ImageView<'_>,
+        exits: &Exits,
+        masks: &mut [u64],
+        cache: u32,
+        block: u32,
+    )
+        requires serves { Serves image.now exits.now cache masks.old self.old }
+        requires services { self.old.counts.services < 2 ^ 50 }
+        requires block { block < exits.now.blocks }
+        ensures arrives { Arrives image.now exits.now cache block (counted_tally self.old) self.new masks.old masks.new }
+    {
+        if self.is_placed(block) {
+            self.counts.services += 1;
+        } else {
+            self.count_service();
+            self.fill(image, exits, masks, cache, block);
         }
     }
 
@@ -406,12 +432,12 @@ impl Tally {
         ensures services { self.new.counts.services ≤ self.old.counts.services + 1 }
     {
         let into = exits.exit(x).into;
-        self.count_service();
-        self.arrive(image, exits, masks, cache, into);
+        self.serve(image, exits, masks, cache, into);
         self.link(image, exits, masks, cache, x);
     }
 
     /// Serves a jump to an address in a block, by the policy.
+    #[inline(always)]
     pub(crate) fn enter(
         &mut self,
         image: &ImageView<'_>,
@@ -430,7 +456,6 @@ impl Tally {
         ensures moved { Moved exits.now cache self.old self.new masks.old masks.new }
         ensures services { self.new.counts.services ≤ self.old.counts.services + 1 }
     {
-        self.count_service();
-        self.arrive(image, exits, masks, cache, block);
+        self.serve(image, exits, masks, cache, block);
     }
 }
