@@ -1,5 +1,5 @@
 -- Steps at which no cache has anything to do.
-use Rattle.std.proofs.Common.{◌≡◌, ◌⊎◌, ◌==◌, ◌||◌, ◌&&◌, ℕ, zero, suc, ◌+◌, ◌*◌, ◌%◌, ◌^◌, ◌<◌, ◌≤◌, Bool, true, false, not, List, [], ◌∷◌, ◌++◌, length, map, nat_lt, slice_get, slice_index, Option, Some, None, is_some, Ok, if◌then◌else◌, arith, refl, sym, ◌∙◌, ap, subst, inl, inr}
+use Rattle.std.proofs.Common.{◌≡◌, ◌⊎◌, ◌==◌, ◌||◌, ℕ, zero, suc, ◌+◌, ◌*◌, ◌%◌, ◌^◌, ◌<◌, ◌≤◌, Bool, true, false, not, List, [], ◌∷◌, ◌++◌, length, map, nat_lt, slice_get, slice_index, Option, Some, None, is_some, Ok, if◌then◌else◌, arith, refl, sym, ◌∙◌, ap, subst, inl, inr}
 use Rattle.std.proofs.lemmas.Bool.{cases_Bool, and_parts, eqb-true, eq-eqb, ltb-true}
 use Rattle.swi_isa.specs.Decode.{decoded}
 use Rattle.swi_isa.specs.declared.instr.Instr.{Instr}
@@ -24,11 +24,9 @@ use Rattle.swi_image.specs.Place.{place_of, place_of_word}
 use Rattle.swi_program.specs.Text.{TextData, IsSized, word_of}
 use Rattle.swi_render.specs.Rendering.{sum}
 use Rattle.swi_render.specs.ImageOf.{address_of}
-use Rattle.swi_rom.specs.Record.{direct}
 use Rattle.swi_tally.specs.Exits.{ExitsData}
 use Rattle.swi_tally.specs.declared.exits.Exit.{Exit}
-use Rattle.swi_tally.specs.Masks.{has, has_at}
-use Rattle.swi_tally.specs.Tallies.{AllServed, AreServing, TalliesData}
+use Rattle.swi_tally.specs.Masks.{has}
 use Rattle.swi_tally.proofs.Siding.{all_linked, all_serving}
 use Rattle.swi_survey.specs.declared.leaving.Leaving.{Leaving}
 use Rattle.swi_survey.specs.declared.leaving.Way.{Way}
@@ -39,7 +37,7 @@ use Rattle.swi_survey.specs.declared.track.Step.{Step}
 use Rattle.swi_survey.specs.declared.track.Step.TheVariants as step
 use Rattle.swi_survey.specs.declared.track.Track.{Track}
 use Rattle.swi_survey.specs.declared.ways.Ways.{Ways}
-use Rattle.swi_survey.specs.Leaving.{branch_by, jal_words, leaving_by, untaken_by}
+use Rattle.swi_survey.specs.Leaving.{branch_by, leaving_by, untaken_by}
 use Rattle.swi_survey.specs.Ways.{AreWays, HasNumber, exit_if, exit_to, gate_by, gate_of, instr_at, jump_of, own_exit, own_if, shut}
 use Rattle.swi_survey.specs.Track.{Coasts, Follows, IsReady, IsStep, Settles, Stands, StandsAt, StepIs, closing, gates_by, passed}
 use Rattle.swi_survey.proofs.Following.{call_on}

@@ -1,5 +1,5 @@
 -- Caches follow a step that was made.
-use Rattle.std.proofs.Common.{◌≡◌, ℕ, suc, ◌+◌, ◌^◌, ◌<◌, Bool, true, false, not, ◌&&◌, List, [], length, slice_index, slice_index_or, Option, Some, None, is_some, if◌then◌else◌, arith, refl, sym, ◌∙◌, ap, subst}
+use Rattle.std.proofs.Common.{◌≡◌, ◌⊎◌, ℕ, zero, suc, ◌+◌, ◌^◌, ◌<◌, Bool, true, false, not, ◌&&◌, List, [], ◌∷◌, length, slice_get, slice_index, slice_index_or, Option, Some, None, is_some, if◌then◌else◌, arith, refl, sym, ◌∙◌, ap, subst, inl, inr}
 use Rattle.std.proofs.lemmas.Option.{slice_get_read}
 use Rattle.swi_isa.specs.declared.instr.Instr.{Instr}
 use Rattle.swi_exec.specs.Arithmetic.{sum_of}
@@ -19,7 +19,8 @@ use Rattle.swi_hart.specs.Hart.{slots, whole_made}
 use Rattle.swi_hart.proofs.Own.{held_as, held_none, is_own, own_made, whole_pc}
 use Rattle.swi_board.specs.Transfers.{Here as Place, before_last, here_after, jumps_as, leaves_by, step_cost, step_size, step_transfers}
 use Rattle.swi_tally.specs.declared.exits.Exit.{Exit}
-use Rattle.swi_tally.specs.Tallies.{TalliesData, AreServing}
+use Rattle.swi_tally.specs.Exits.{ExitsData}
+use Rattle.swi_tally.specs.Tallies.{TalliesData, AllServed, AreServing}
 use Rattle.swi_tally.proofs.Siding.{all_serving}
 use Rattle.swi_survey.specs.declared.leaving.Leaving.{Leaving}
 use Rattle.swi_survey.specs.declared.leaving.Way.{Way}
@@ -30,9 +31,9 @@ use Rattle.swi_survey.specs.declared.track.Step.TheVariants as step
 use Rattle.swi_survey.specs.declared.track.Track.{Track}
 use Rattle.swi_survey.specs.declared.ways.Ways.{Ways}
 use Rattle.swi_survey.specs.Leaving.{leaving_by}
-use Rattle.swi_survey.specs.Ways.{AreWays, HasNumber, exit_to, instr_at, is_last, jump_of, own_exit, own_if, place_behind}
-use Rattle.swi_survey.specs.Track.{AllAfter, Follows, IsBehind, IsReady, IsStep, Leaves, ServedOn, Stands, StandsAt, behind_if, place_at, unfetched_at}
-use Rattle.swi_survey.proofs.Mapping.{same_some}
+use Rattle.swi_survey.specs.Ways.{AreAllWays, AreWays, HasNumber, exit_to, instr_at, is_last, jump_of, own_exit, own_if, place_behind}
+use Rattle.swi_survey.specs.Track.{AllAfter, Follows, IsBehind, IsReady, IsStep, Leaves, Stands, StandsAt, behind_if, place_at, unfetched_at}
+use Rattle.swi_survey.proofs.Mapping.{placed, same_some}
 use Rattle.swi_survey.proofs.Places.{AtWord, Ground, at_word, next_stands, place_here, some_place}
 use Rattle.swi_survey.proofs.Rows.{all_none, all_one, as_list}
 use Rattle.swi_survey.proofs.Stepping.{Goes, goes, words_are, words_few}
@@ -72,6 +73,12 @@ and_true false = refl
 none_of : {A : Type 0} (o : Option A) → is_some o ≡ false → o ≡ None
 none_of None e = refl
 none_of (Some y) e = absurd cc
+
+-- caches have served a step that left its text word so, over this exit or to this address
+abbrev pub ServedOn : ImageData → Way → Option ℕ → ℕ → TalliesData → TalliesData → Type 0
+ServedOn v way.Next x a old new = new ≡ old
+ServedOn v way.Over x a old new = (p : ℕ × ℕ) → HasNumber old.exits (exit_to v p a) x → AllServed v (direct p.0 p.1 a) old new
+ServedOn v way.Away x a old new = AllServed v (indirect a) old new
 
 -- ---- a step from a text word
 
@@ -270,6 +277,43 @@ word_left t here.Outside k l at = absurd at
 
 pub ways_at : (t : TextData) (v : ImageData) (k : Track) (j : ℕ) (w : Ways) → IsReady t v k → j < length t.words → w ≡ slice_index_or k.ways.items j w → AreWays t v k.caches.exits j w
 ways_at t v k j w ready lt read = ready.ways_are.each j w (slice_get_read k.ways.items (length k.ways.items) j w refl (omega (arith, lt, ready.long)) read)
+
+pub served_next : (v : ImageData) (by : Way) (x : Option ℕ) (a : ℕ) (c : TalliesData) → by ≡ way.Next → ServedOn v by x a c c
+served_next v by x a c is = subst (λ (w : Way). ServedOn v w x a c c) (sym is) refl
+
+pub served_over : (v : ImageData) (by : Way) (x : Option ℕ) (a : ℕ) (old new : TalliesData) → by ≡ way.Over → ((p : ℕ × ℕ) → HasNumber old.exits (exit_to v p a) x → AllServed v (direct p.0 p.1 a) old new) → ServedOn v by x a old new
+served_over v by x a old new is served = subst (λ (w : Way). ServedOn v w x a old new) (sym is) served
+
+pub served_away : (v : ImageData) (by : Way) (x : Option ℕ) (a : ℕ) (old new : TalliesData) → by ≡ way.Away → AllServed v (indirect a) old new → ServedOn v by x a old new
+served_away v by x a old new is served = subst (λ (w : Way). ServedOn v w x a old new) (sym is) served
+
+-- a run that stands at an address, and at no text word
+pub no_word : (t : TextData) (v : ImageData) (a : ℕ) (h : Here) → StandsAt t a h → ((k : ℕ) × (h ≡ here.Behind k)) ⊎ (h ≡ here.Outside) → place_at t v h ≡ None
+no_word t v a h stands (inl behind) = absurd (subst (λ (q : Here). StandsAt t a q) behind.1 stands)
+no_word t v a h stands (inr is) = ap (place_at t v) is
+
+-- the block of the text word at which a run stands
+pub record InBlock (v : ImageData) (e : ExitsData) (a block : ℕ) : Type 0 where
+  pub offset : ℕ
+  pub place : place_of v a ≡ Some (block, offset)
+  pub below : block < e.blocks
+
+read_there : (list : List Ways) (k : ℕ) (w : Ways) → k < length list → slice_get list k ≡ Some (slice_index_or list k w)
+read_there [] k w lt = absurd (omega (arith, lt))
+read_there (x ∷ list) zero w lt = refl
+read_there (x ∷ list) (suc k) w lt = read_there list k w (omega (arith, lt))
+
+pub in_block : (t : TextData) (v : ImageData) (e : ExitsData) (list : List Ways) (k a : ℕ) (w : Ways) → Ground t v → AreAllWays t v e list → length list ≡ length t.words → StandsAt t a (here.At k) →
+    InBlock v e a (slice_index_or list k w).block
+in_block t v e list k a w g are long stands =
+    let at : place_of v (address_of t k) ≡ Some (place_of_word v k) = some_place t v k g stands.0 in
+    let ways : AreWays t v e k (slice_index_or list k w) = are.each k (slice_index_or list k w) (read_there list k w (omega (arith, stands.0, long))) in
+    let same : (slice_index_or list k w).block ≡ (place_of_word v k).0 = ways.block (place_of_word v k) at in
+    record {
+      offset = (place_of_word v k).1;
+      place = ap (place_of v) stands.1 ∙ at ∙ ap (λ (n : ℕ). Some (n, (place_of_word v k).1)) (sym same);
+      below = omega (arith, same, are.blocks, (placed t v k (place_of_word v k) g.sized g.image g.of stands.0 at).block);
+    }
 
 module _ (t : TextData) (v : ImageData) (f next : Machine) (failed : Bool) (old new : Track) (k : ℕ) (l : Leaving) (ways : Ways) (pc : ℕ) (g : Ground t v) (lt : k < length t.words) (s : IsStep t f failed old.here (step.From k l) next)
     (are : AreWays t v old.caches.exits k ways) (same : new.ways.items ≡ old.ways.items) (gates : new.gates.items ≡ old.gates.items) (fetches : new.fetches ≡ old.fetches + l.words) (outside : new.outside ≡ old.outside)

@@ -343,12 +343,13 @@ same_blocks e None = refl
 same_blocks e (Some x) = refl
 
 pub joins : (t : TextData) (v : ImageData) (e f g : ExitsData) (k : ℕ) (p : ℕ × ℕ) (w : Ways) → Placed t v k p → AreExits e → AreExits f → AreExits g → AllBefore e p →
-    f ≡ with_if e (own_exit t v k p) → g ≡ with_if f (exit_behind t v k p) → w.own ≡ number_if e (own_exit t v k p) → w.behind ≡ number_if f (exit_behind t v k p) → w.last ≡ is_last t v k p → w.left ≡ untaken_by (instr_at t k) (address_of t k) → Joins t v k e g w
-joins t v e f g k p w h are are_f are_g before is is' own behind last left = record {
+    f ≡ with_if e (own_exit t v k p) → g ≡ with_if f (exit_behind t v k p) → w.block ≡ p.0 → w.own ≡ number_if e (own_exit t v k p) → w.behind ≡ number_if f (exit_behind t v k p) → w.last ≡ is_last t v k p → w.left ≡ untaken_by (instr_at t k) (address_of t k) → Joins t v k e g w
+joins t v e f g k p w h are are_f are_g before is is' block own behind last left = record {
   are = are_g;
   blocks = ap (λ (q : ExitsData). q.blocks) is' ∙ same_blocks f (exit_behind t v k p) ∙ ap (λ (q : ExitsData). q.blocks) is ∙ same_blocks e (own_exit t v k p);
   few = omega (arith, few_more f (exit_behind t v k p), few_more e (own_exit t v k p), ap (λ (q : ExitsData). length q.from) is, ap (λ (q : ExitsData). length q.from) is');
   ways = record {
+    block = λ q at. at_place q at (λ (r : ℕ × ℕ). w.block ≡ r.0) block;
     own = λ q at. at_place q at (λ (r : ℕ × ℕ). HasNumber g (own_exit t v k r) w.own) own_number;
     behind = λ q at. at_place q at (λ (r : ℕ × ℕ). HasNumber g (exit_behind t v k r) w.behind) behind_number;
     last = λ q at. at_place q at (λ (r : ℕ × ℕ). w.last ≡ is_last t v k r) last;
@@ -440,6 +441,7 @@ get_last (x ∷ xs) y z (suc j) at = elim (get_last xs y z j at) [
 
 ways_stay : (t : TextData) (v : ImageData) (k j : ℕ) (e f : ExitsData) (w z : Ways) → Joins t v k e f w → AreWays t v e j z → AreWays t v f j z
 ways_stay t v k j e f w z joined are = record {
+  block = are.block;
   own = λ p at. joined.stays (own_exit t v j p) z.own (are.own p at);
   behind = λ p at. joined.stays (exit_behind t v j p) z.behind (are.behind p at);
   last = are.last;

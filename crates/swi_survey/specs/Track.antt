@@ -22,12 +22,12 @@ use Rattle.swi_image.specs.Place.{place_of}
 use Rattle.swi_program.specs.Text.{TextData, word_of}
 use Rattle.swi_render.specs.Rendering.{falls_of, sum}
 use Rattle.swi_render.specs.ImageOf.{address_of}
-use Rattle.swi_rom.specs.Record.{Transfer, direct, indirect}
+use Rattle.swi_rom.specs.Record.{Transfer, indirect}
 use Rattle.swi_board.specs.Transfers.{Here as Place, after_all, at_fall, fall_transfers, here_after, settled, size, step_size, step_transfers, transfers}
 use Rattle.swi_tally.specs.Tally.{policy_of}
 use Rattle.swi_tally.specs.declared.tallies.Frame.{Frame}
 use Rattle.swi_tally.specs.Masks.{has}
-use Rattle.swi_tally.specs.Tallies.{Row, TalliesData, AllServed, AreServing, first_row, row_at, served_if}
+use Rattle.swi_tally.specs.Tallies.{Row, TalliesData, AreServing, first_row, row_at, served_if}
 use Rattle.swi_survey.specs.declared.leaving.Way.{Way}
 use Rattle.swi_survey.specs.declared.leaving.Way.TheVariants as way
 use Rattle.swi_survey.specs.declared.track.Here.{Here}
@@ -38,7 +38,7 @@ use Rattle.swi_survey.specs.declared.track.Track.{Track}
 use Rattle.swi_survey.specs.declared.survey.Surveyed.{Surveyed}
 use Rattle.swi_survey.specs.declared.ways.Ways.{Ways}
 use Rattle.swi_survey.specs.Leaving.{branch_by, leaving_by}
-use Rattle.swi_survey.specs.Ways.{AreAllWays, HasNumber, exit_to, gate_of, instr_at, is_last, place_behind, shut}
+use Rattle.swi_survey.specs.Ways.{AreAllWays, gate_of, instr_at, is_last, place_behind, shut}
 
 -- ---- where a run stands
 
@@ -93,12 +93,6 @@ IsBehind t k last way.Over a h = StandsAt t a h
 IsBehind t k last way.Away a h = StandsAt t a h
 
 -- ---- what is done beside it
-
--- caches have served a step that left its text word so, over this exit or to this address
-abbrev pub ServedOn : ImageData → Way → Option ℕ → ℕ → TalliesData → TalliesData → Type 0
-ServedOn v way.Next x a old new = new ≡ old
-ServedOn v way.Over x a old new = (p : ℕ × ℕ) → HasNumber old.exits (exit_to v p a) x → AllServed v (direct p.0 p.1 a) old new
-ServedOn v way.Away x a old new = AllServed v (indirect a) old new
 
 -- a row that has served transfers by its policy
 abbrev pub after_row : ImageData → List Transfer → Option Row → Option Row

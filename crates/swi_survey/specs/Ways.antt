@@ -58,6 +58,7 @@ HasNumber e (Some x) (Some n) = (n < length e.from) × (slice_index e.from n ≡
 
 -- the ways of text word k
 pub record AreWays (t : TextData) (v : ImageData) (e : ExitsData) (k : ℕ) (w : Ways) : Type 0 where
+  pub block : (p : ℕ × ℕ) → place_of v (address_of t k) ≡ Some p → w.block ≡ p.0
   pub own : (p : ℕ × ℕ) → place_of v (address_of t k) ≡ Some p → HasNumber e (own_exit t v k p) w.own
   pub behind : (p : ℕ × ℕ) → place_of v (address_of t k) ≡ Some p → HasNumber e (exit_behind t v k p) w.behind
   pub last : (p : ℕ × ℕ) → place_of v (address_of t k) ≡ Some p → w.last ≡ is_last t v k p

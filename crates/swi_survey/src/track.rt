@@ -8,8 +8,8 @@ ghost use Rattle.swi_program.specs.Text.{IsSized};
 ghost use Rattle.swi_render.specs.ImageOf.{IsImageOf};
 ghost use Rattle.swi_rom.specs.Record.{direct, indirect};
 ghost use Rattle.swi_tally.specs.Tallies.{AllServed, AreServing, IsFrame};
-ghost use Rattle.swi_survey.specs.Ways.{HasNumber, exit_to};
-ghost use Rattle.swi_survey.specs.Track.{Follows, IsBehind, IsReady, IsStep, Leaves, ServedOn, Settles, Stands, StandsAt, Starts, closing, passed};
+ghost use Rattle.swi_survey.specs.Ways.{AreAllWays, HasNumber, exit_to};
+ghost use Rattle.swi_survey.specs.Track.{Follows, IsBehind, IsReady, IsStep, Leaves, Settles, Stands, StandsAt, Starts, closing, passed};
 
 use crate::leaving::{Leaving, TAKEN, Way};
 use crate::ways::{Map, Ways, map_of};
@@ -97,7 +97,7 @@ fn cross_if(caches: &mut Tallies, image: &ImageView<'_>, exit: Option<u32>)
     }
 }
 
-/// All caches serve a jump to an address.
+/// All caches serve a jump to an address, wherever that is.
 fn enter_at(caches: &mut Tallies, image: &ImageView<'_>, a: u32)
     requires serving { AreServing image.now (2 ^ 50 - 1) caches.old }
     requires blocks { length image.now.starts ≡ caches.old.exits.blocks }
@@ -110,19 +110,30 @@ fn enter_at(caches: &mut Tallies, image: &ImageView<'_>, a: u32)
     }
 }
 
-/// All caches serve a step that leaves its text word so, over this exit or to this address.
-fn serve(caches: &mut Tallies, image: &ImageView<'_>, way: Way, exit: Option<u32>, a: u32)
+/// All caches serve a jump to an address at which a run stands, without a search for its block.
+#[inline(always)]
+fn enter_here(
+    caches: &mut Tallies,
+    image: &ImageView<'_>,
+    text: &TextView<'_>,
+    ways: &[Ways],
+    here: Here,
+    a: u32,
+)
+    requires sized { IsSized text.now }
+    requires image { IsImage image.now }
+    requires own { IsImageOf text.now image.now }
+    requires ways { AreAllWays text.now image.now caches.old.exits ways.now }
+    requires long { length ways.now ≡ length text.now.words }
     requires serving { AreServing image.now (2 ^ 50 - 1) caches.old }
-    requires blocks { length image.now.starts ≡ caches.old.exits.blocks }
-    requires exit { IfSome exit (λ x. x < length caches.old.exits.from) }
-    ensures served { ServedOn image.now way exit a caches.old caches.new }
+    requires stands { StandsAt text.now a here }
+    ensures served { AllServed image.now (indirect a) caches.old caches.new }
     ensures serving { (n : ℕ) → AreServing image.now n caches.old → AreServing image.now (suc n) caches.new }
     ensures exits { caches.new.exits ≡ caches.old.exits }
 {
-    match way {
-        Way::Next => {}
-        Way::Over => cross_if(caches, image, exit),
-        Way::Away => enter_at(caches, image, a),
+    match here {
+        Here::At(k) => caches.enter(image, ways[k as usize].block),
+        Here::Behind(_) | Here::Outside => {}
     }
 }
 
@@ -197,12 +208,20 @@ impl Track {
                 let ways = self.ways[k as usize];
                 self.fetches += left.words as u64;
                 self.here = here_behind(text, k, ways.last, left.way, pc);
-                if !ended {
-                    serve(&mut self.caches, image, left.way, ways.own, pc);
+                if ended {
+                    return;
+                }
+                match left.way {
+                    Way::Next => {}
+                    Way::Over => cross_if(&mut self.caches, image, ways.own),
+                    Way::Away => {
+                        enter_here(&mut self.caches, image, text, &self.ways, self.here, pc);
+                    }
                 }
             }
         }
     }
+
     /// Steps at which no cache had anything to do are passed, and the one that was made behind them, which led to `pc`, is
     /// followed.
     pub(crate) fn pass(&mut self, image: &ImageView<'_>, text: &TextView<'_>, by: Coasted, pc: u32)

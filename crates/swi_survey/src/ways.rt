@@ -19,10 +19,12 @@ use swi_program::TextView;
 use swi_render::{address_of, falls, sizes_of};
 use swi_tally::{Exit, Exits};
 
-/// How a run leaves a text word directly: over which exits, by their numbers. None where there is no exit, or no text word at
-/// its target.
+/// Where a text word stands, and how a run leaves it directly: over which exits, by their numbers. None where there is no exit,
+/// or no text word at its target.
 #[derive(Clone, Copy, Debug, PartialEq, Eq)]
 pub struct Ways {
+    /// The block in which the word stands.
+    pub block: u32,
     /// Over that of a JAL, or of a branch that is taken.
     pub own: Option<u32>,
     /// Over the one behind the word, the last of its block.
@@ -180,6 +182,7 @@ fn with_word(
     Ok((
         exits,
         Ways {
+            block: place.0,
             own,
             behind,
             last,

@@ -1,4 +1,4 @@
-use Rattle.std.proofs.Common.{ℕ, ◌∙◌, length, arith, ap}
+use Rattle.std.proofs.Common.{ℕ, ◌∙◌, length, arith, ap, refl}
 use Rattle.swi_isa.specs.Decode.{decoded}
 use Rattle.swi_tally.specs.Exits.{ExitsData}
 use Rattle.swi_survey.specs.Leaving.{untaken_by}
@@ -37,5 +37,5 @@ pub returns : goal.returns
 returns c =
     let h = placed c.args.text.now c.args.image.now c.args.k c.args.place c.requires.sized c.requires.image c.requires.own c.requires.word c.requires.here in
     joins c.args.text.now c.args.image.now c.args.exits c.in_ok-exits.exits c.in_ok-exits-2.exits c.args.k c.args.place _ h c.requires.are c.in_ok-exits.ensures.are c.in_ok-exits-2.ensures.are c.requires.before
-    (rw (← c.own_exit-own.ensures) c.in_ok-exits.ensures.exits) (rw (← c.exit_behind-behind.ensures) c.in_ok-exits-2.ensures.exits)
+    (rw (← c.own_exit-own.ensures) c.in_ok-exits.ensures.exits) (rw (← c.exit_behind-behind.ensures) c.in_ok-exits-2.ensures.exits) refl
     (rw (← c.own_exit-own.ensures) c.in_ok-exits.ensures.number) (rw (← c.exit_behind-behind.ensures) c.in_ok-exits-2.ensures.number) c.is_last-last.ensures (c.untaken_at-left.ensures ∙ ap (λ (w : ℕ). untaken_by (decoded w) c.address_of.result) c.word.ensures ∙ ap (untaken_by (instr_at c.args.text.now c.args.k)) c.address_of.ensures)

@@ -2,7 +2,6 @@ use Rattle.std.proofs.Common.{◌≡◌, Bool, true, length, if◌then◌else◌
 use Rattle.std.proofs.lemmas.Option.{slice_get_read}
 use Rattle.swi_survey.specs.declared.leaving.Leaving.{Leaving}
 use Rattle.swi_survey.specs.declared.track.Here.TheVariants as here
-use Rattle.swi_survey.specs.declared.track.Step.{Step}
 use Rattle.swi_survey.specs.declared.track.Step.TheVariants as step
 use Rattle.swi_survey.specs.declared.ways.Ways.{Ways}
 use Rattle.swi_survey.specs.Leaving.{branch_by}
