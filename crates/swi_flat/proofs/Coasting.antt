@@ -1,5 +1,5 @@
 -- Steps by micro-ops, by what their instructions are, as far as gates let them go on.
-use Rattle.std.proofs.Common.{◌≡◌, ◌==◌, ◌&&◌, ℕ, suc, ◌+◌, ◌-◌, ◌*◌, ◌/◌, ◌^◌, ◌<◌, ◌≤◌, Bool, true, false, not, List, length, get_or, slice_get, Option, Some, None, arith, if◌then◌else◌, refl, sym, ap, subst, ◌∙◌, inl, inr}
+use Rattle.std.proofs.Common.{◌≡◌, ◌==◌, ◌&&◌, ℕ, suc, ◌+◌, ◌-◌, ◌*◌, ◌/◌, ◌^◌, ◌<◌, ◌≤◌, Bool, true, false, not, List, length, get_or, slice_get, Option, Some, None, IfSome, arith, if◌then◌else◌, refl, sym, ap, subst, ◌∙◌, inl, inr}
 use Rattle.std.proofs.lemmas.Bool.{cases_lt}
 use Rattle.swi_isa.specs.Decode.{decoded}
 use Rattle.swi_isa.specs.declared.instr.BranchOp.{BranchOp}
@@ -29,18 +29,17 @@ use Rattle.swi_micro.specs.declared.translator.MicroOp.{MicroOp}
 use Rattle.swi_micro.specs.Classes.{class_of, code_of, is_straight}
 use Rattle.swi_micro.specs.Decoded.{AreDecoded, IsOpOf}
 use Rattle.swi_micro.specs.MicroOp.{address_at, branch_op, branch_or_stop, class_of_imm, class_of_load, class_of_op, class_of_store, index_at, jump_or_stop, made_op, micro_op_of, stop_op}
-use Rattle.swi_micro.specs.Ran.{Ran, goes_to, leaves, ran, ran_as}
+use Rattle.swi_micro.specs.Ran.{goes_to, leaves, ran, ran_as}
 use Rattle.swi_micro.specs.Ran.{jumps as jumps_to}
 use Rattle.swi_micro.proofs.Agreeing.{Agrees, agrees}
 use Rattle.swi_micro.proofs.Sums.{Target, target}
-use Rattle.swi_flat.specs.Advanced.{GoesOnAt}
 use Rattle.swi_flat.specs.Coasted.{At, Coasts, Gates, GoesOn, StepsAt, StepsOn, is_open, is_taken_branch, is_taken_by, jumps, onward, over, toll, toll_by}
 use Rattle.swi_flat.specs.declared.coast.Gate.{Gate}
 use Rattle.swi_flat.proofs.Stepping.{executes}
 
 -- ---- a micro-op that goes to the next word, if it goes on
 
-straight_toll : (c : Class) (stops free : Bool) (m : MicroOp) (regs : Registers) → is_straight c ≡ true → toll_by c stops free m regs ≡ Some 0
+pub straight_toll : (c : Class) (stops free : Bool) (m : MicroOp) (regs : Registers) → is_straight c ≡ true → toll_by c stops free m regs ≡ Some 0
 straight_toll class.Equal stops free m regs e = absurd (let never : false ≡ true = e in cc)
 straight_toll class.Less stops free m regs e = absurd (let never : false ≡ true = e in cc)
 straight_toll class.Below stops free m regs e = absurd (let never : false ≡ true = e in cc)
@@ -287,6 +286,12 @@ machine_steps range m k next steps i regs bus s = record {
   ending = refl;
 }
 
+-- a step more of a machine at a word
+pub one_more : (range : WordRange) (m : Machine) (k next : ℕ) (i : Instr) (regs : Registers) (bus : List AreaData) → m.pc ≡ address_at range k → StepsAt range k i m.regs m.bus next regs bus →
+    StepsOn i m (at_word range (record m { regs = regs; bus = bus }) next (m.steps + 1))
+one_more range m k next i regs bus at s =
+    subst (λ (a : ℕ). StepsOn i (record m { pc = a }) (at_word range (record m { regs = regs; bus = bus }) next (m.steps + 1))) (sym at) (machine_steps range m k next m.steps i regs bus s)
+
 -- the machine's own step, with one fewer that is left
 pub one_fewer : (range : WordRange) (m : Machine) (limit left k next : ℕ) (i : Instr) (regs : Registers) (bus : List AreaData) → 0 < left → left ≤ limit → StepsAt range k i m.regs m.bus next regs bus →
     StepsOn i (at_word range m k (limit - left)) (at_word range (record m { regs = regs; bus = bus }) next (limit - (left - 1)))
@@ -297,28 +302,87 @@ one_fewer range m limit left k next i regs bus some within s =
 at_index : (g : Gates) (range : WordRange) (k : ℕ) (m : Machine) (steps : ℕ) → range.from ≡ g.base → length g.words ≡ range.words + 1 → k ≤ range.words → At g k (at_word range m k steps)
 at_index g range k m steps same long within = record { within = omega (arith, long, within); pc = ap (λ (a : ℕ). sum_of a (4 * k)) same }
 
+-- a step at a word that its gate lets go on, by its micro-op: nothing else of the machine changes, and no text word
+pub record Gone (g : Gates) (range : WordRange) (k : ℕ) (m n : Machine) (next paid : ℕ) : Type 0 where
+  pub instruction : Instr
+  pub gate : Gate
+  pub gate_is : slice_get g.words k ≡ Some gate
+  pub on : gate.stops ≡ false
+  pub toll_is : toll instruction gate.ends (is_open g.masks g.pass gate.exit) m.regs ≡ Some paid
+  pub step : StepsAt range k instruction m.regs m.bus next n.regs n.bus
+  pub rest : n ≡ record m { regs = n.regs; bus = n.bus }
+  pub text : (a : ℕ) → fetched n.bus a ≡ fetched m.bus a
+  pub few : paid ≤ 2
+
 count_on : (limit left first : ℕ) → 0 < left → left ≤ limit → first ≤ limit - left → limit - (left - 1) - first ≡ suc (limit - left - first)
 count_on limit left first some within no_fewer = omega arith
 
 -- one more that was let go on
-pub coasts_on : (g : Gates) (range : WordRange) (begun m : Machine) (limit left first k next paid more : ℕ) (i : Instr) (gate : Gate) (regs : Registers) (bus : List AreaData) → range.from ≡ g.base → length g.words ≡ range.words + 1 →
-    0 < left → left ≤ limit → begun.steps ≤ limit - left → slice_get g.words k ≡ Some gate → gate.stops ≡ false → toll i gate.ends (is_open g.masks g.pass gate.exit) m.regs ≡ Some more → StepsAt range k i m.regs m.bus next regs bus →
-    Coasts g first begun (limit - left - begun.steps) k (at_word range m k (limit - left)) paid →
-    Coasts g first begun (limit - (left - 1) - begun.steps) next (at_word range (record m { regs = regs; bus = bus }) next (limit - (left - 1))) (paid + more)
-coasts_on g range begun m limit left first k next paid more i gate regs bus same long some within no_fewer gate_is on pays s run =
-    let after : Machine = at_word range (record m { regs = regs; bus = bus }) next (limit - (left - 1)) in
+pub coasts_on : (g : Gates) (range : WordRange) (begun m n : Machine) (limit left first k next paid more : ℕ) → range.from ≡ g.base → length g.words ≡ range.words + 1 → 0 < left → left ≤ limit → begun.steps ≤ limit - left → Gone g range k m n next more →
+    Coasts g first begun (limit - left - begun.steps) k (at_word range m k (limit - left)) paid → Coasts g first begun (limit - (left - 1) - begun.steps) next (at_word range n next (limit - (left - 1))) (paid + more)
+coasts_on g range begun m n limit left first k next paid more same long some within no_fewer o run =
+    let after : Machine = at_word range (record m { regs = n.regs; bus = n.bus }) next (limit - (left - 1)) in
     let step_is : GoesOn g k (at_word range m k (limit - left)) next after more = record {
-      instruction = i;
-      gate = gate;
-      gate_is = gate_is;
-      step = one_fewer range m limit left k next i regs bus some within s;
-      on = on;
-      toll_is = pays;
-      at = at_index g range next (record m { regs = regs; bus = bus }) (limit - (left - 1)) same long s.within;
-      lands = λ j. omega (arith, s.lands j, long);
+      instruction = o.instruction;
+      gate = o.gate;
+      gate_is = o.gate_is;
+      step = one_fewer range m limit left k next o.instruction n.regs n.bus some within o.step;
+      on = o.on;
+      toll_is = o.toll_is;
+      at = at_index g range next (record m { regs = n.regs; bus = n.bus }) (limit - (left - 1)) same long o.step.within;
+      lands = λ j. omega (arith, o.step.lands j, long);
     } in
-    subst (λ n. Coasts g first begun n next after (paid + more)) (sym (count_on limit left begun.steps some within no_fewer))
-    (k, at_word range m k (limit - left), paid, more, run, step_is, refl)
+    let gone : Coasts g first begun (limit - (left - 1) - begun.steps) next after (paid + more) =
+    subst (λ j. Coasts g first begun j next after (paid + more)) (sym (count_on limit left begun.steps some within no_fewer)) (k, at_word range m k (limit - left), paid, more, run, step_is, refl) in
+    subst (λ (q : Machine). Coasts g first begun (limit - (left - 1) - begun.steps) next (at_word range q next (limit - (left - 1))) (paid + more)) (sym o.rest) gone
 
 pub coasts_none : (g : Gates) (k n : ℕ) (m : Machine) → n ≡ 0 → Coasts g k m n k m 0
 coasts_none g k n m none = subst (λ i. Coasts g k m i k m 0) (sym none) (refl, refl, refl)
+
+-- ---- micro-ops that a gate lets go on
+
+-- a class of none that jumps, branches or stops
+pub else_straight : (q : Class) → (q ≡ class.Equal → ⊥) → (q ≡ class.Less → ⊥) → (q ≡ class.Below → ⊥) → (q ≡ class.Jal → ⊥) → (q ≡ class.Jalr → ⊥) → (q ≡ class.Stop → ⊥) → is_straight q ≡ true
+else_straight class.Equal a b c d e f = absurd (a refl)
+else_straight class.Less a b c d e f = absurd (b refl)
+else_straight class.Below a b c d e f = absurd (c refl)
+else_straight class.Jal a b c d e f = absurd (d refl)
+else_straight class.Jalr a b c d e f = absurd (e refl)
+else_straight class.Stop a b c d e f = absurd (f refl)
+else_straight _ a b c d e f = refl
+
+module _ (g : Gates) (range : WordRange) (k : ℕ) (m n : Machine) (op : MicroOp) (ops : List MicroOp) (gate : Gate) where
+  -- of the class, by its micro-op
+  pub gone_by : (q : Class) (next paid : ℕ) → AreDecoded (fetched m.bus) range ops → k ≤ range.words → op ≡ get_or ops k op → slice_get g.words k ≡ Some gate → gate.stops ≡ false → q ≡ class_of op.code →
+      toll_by q gate.ends (is_open g.masks g.pass gate.exit) op m.regs ≡ Some paid → (ran_as q range op k m.regs m.bus).next ≡ Some next → n.regs ≡ (ran_as q range op k m.regs m.bus).regs → n.bus ≡ (ran_as q range op k m.regs m.bus).bus →
+      n ≡ record m { regs = n.regs; bus = n.bus } → ((a : ℕ) → fetched n.bus a ≡ fetched m.bus a) → paid ≤ 2 → Gone g range k m n next paid
+  gone_by q next paid decoded within is gate_is on by pays goes same_regs same_bus rest text few =
+      let s : StepsBy range k op m.regs m.bus next n.regs n.bus =
+      steps_on range k op m.regs n.regs m.bus n.bus next ops q ((ran_as q range op k m.regs m.bus).next) decoded within is by refl goes same_regs same_bus in
+      record {
+        instruction = s.instruction;
+        gate = gate;
+        gate_is = gate_is;
+        on = on;
+        toll_is = s.pays gate.ends (is_open g.masks g.pass gate.exit) paid (ap (λ (c : Class). toll_by c gate.ends (is_open g.masks g.pass gate.exit) op m.regs) (sym by) ∙ pays);
+        step = s.step;
+        rest = rest;
+        text = text;
+        few = few;
+      }
+
+  -- a jump or a branch
+  pub jumped : (q : Class) (r : Option (ℕ × ℕ)) (next paid : ℕ) → AreDecoded (fetched m.bus) range ops → k ≤ range.words → op ≡ get_or ops k op → slice_get g.words k ≡ Some gate → gate.stops ≡ false → q ≡ class_of op.code → r ≡ Some (next, paid) →
+      IfSome r (λ p. toll_by q gate.ends (is_open g.masks g.pass gate.exit) op m.regs ≡ Some p.1) → IfSome r (λ p. (ran_as q range op k m.regs m.bus).next ≡ Some p.0) →
+      IfSome r (λ p. n.regs ≡ (ran_as q range op k m.regs m.bus).regs) → IfSome r (λ p. n.bus ≡ (ran_as q range op k m.regs m.bus).bus) → n ≡ record m { regs = n.regs; bus = n.bus } → ((a : ℕ) → fetched n.bus a ≡ fetched m.bus a) → IfSome r (λ p. p.1 ≤ 2) → Gone g range k m n next paid
+  jumped q r next paid decoded within is gate_is on by some pays goes same_regs same_bus rest text few =
+      gone_by q next paid decoded within is gate_is on by
+      (subst (λ o. IfSome o (λ p. toll_by q gate.ends (is_open g.masks g.pass gate.exit) op m.regs ≡ Some p.1)) some pays)
+      (subst (λ o. IfSome o (λ p. (ran_as q range op k m.regs m.bus).next ≡ Some p.0)) some goes)
+      (subst (λ o. IfSome o (λ p. n.regs ≡ (ran_as q range op k m.regs m.bus).regs)) some same_regs)
+      (subst (λ o. IfSome o (λ p. n.bus ≡ (ran_as q range op k m.regs m.bus).bus)) some same_bus)
+      rest text (subst (λ o. IfSome o (λ p. p.1 ≤ 2)) some few)
+
+-- a micro-op that left its word has not changed the machine
+pub left_so : (m n : Machine) (regs : Registers) (bus : List AreaData) → regs ≡ m.regs → bus ≡ m.bus → n ≡ record m { regs = regs; bus = bus } → n ≡ m
+left_so m n regs bus same_regs same_bus is = is ∙ ap (λ (r : Registers). let q : Machine = record m { regs = r; bus = bus } in q) same_regs ∙ ap (λ (b : List AreaData). let q : Machine = record m { bus = b } in q) same_bus

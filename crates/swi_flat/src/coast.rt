@@ -1,10 +1,12 @@
 //! Steps that ask for no device and leave the text as it is, as far as gates let them go.
 #![tactic(auto)]
 
-ghost use Rattle.std.specs.Prelude.{◌≡◌, ◌≤◌, ◌*◌, ◌%◌, ◌^◌, None, IfSome};
-ghost use Rattle.swi_flat.specs.Coasted.{HasCoasted, StepsAt, is_open, is_taken_branch, is_taken_by, toll_by};
+ghost use Rattle.std.specs.Prelude.{◌≡◌, ◌<◌, ◌≤◌, ◌+◌, ◌-◌, ◌*◌, ◌%◌, ◌^◌, ℕ, Some, None, IfSome, length};
+ghost use Rattle.swi_flat.specs.Coasted.{Closes, Coasts, HasCoasted, StepsAt, is_open, is_taken_branch, is_taken_by, toll_by};
 ghost use Rattle.swi_memory.specs.Bus.{fetched};
 ghost use Rattle.swi_micro.specs.Decoded.{AreDecoded};
+ghost use Rattle.swi_micro.specs.MicroOp.{address_at};
+ghost use Rattle.swi_micro.specs.Ran.{ran_as};
 
 use swi_calls::Machine;
 use swi_exec::Regs;
@@ -116,6 +118,102 @@ fn learn(ops: &mut [MicroOp], range: &WordRange, k: u32, bus: &Bus)
     }
 }
 
+/// A jump or a branch, by a micro-op of a class, where the gate of its word lets it go on: the index of the next word, and what
+/// it pays. None, and nothing changed, where it doesn't, or where the micro-op leaves its word.
+// For a class that is known where this is inlined: so the registers are compared once.
+#[inline(always)]
+fn jump(
+    class: Class,
+    m: &MicroOp,
+    gate: &Gate,
+    masks: &[u64],
+    pass: u64,
+    range: &WordRange,
+    k: u64,
+    regs: &mut Regs,
+    bus: &mut Bus,
+) -> Option<(u64, u64)>
+    requires { k < 2 ^ 31 }
+    ensures pays { IfSome result (λ r. toll_by class gate.now.ends (is_open masks.now pass gate.now.exit) m.now regs.old ≡ Some r.1) }
+    ensures few { IfSome result (λ r. r.1 ≤ 2) }
+    ensures next { IfSome result (λ r. (ran_as class range.now m.now k regs.old bus.old).next ≡ Some r.0) }
+    ensures regs { IfSome result (λ r. regs.new ≡ (ran_as class range.now m.now k regs.old bus.old).regs) }
+    ensures bus { IfSome result (λ r. bus.new ≡ (ran_as class range.now m.now k regs.old bus.old).bus) }
+    ensures same_regs { result ≡ None → regs.new ≡ regs.old }
+    ensures same_bus { result ≡ None → bus.new ≡ bus.old }
+    ensures text { (a : ℕ) → fetched bus.new a ≡ fetched bus.old a }
+{
+    let paid = toll(class, m, regs, gate, masks, pass)?;
+    let next = step_as(class, m, range, k, regs, bus)?;
+    Some((next, paid))
+}
+
+/// Steps up to `limit` from the word with index `first` on, as far as the gates let them go on: the index of the word behind
+/// them, and what they paid.
+#[inline(always)]
+fn glide(
+    machine: &mut Machine,
+    ops: &[MicroOp],
+    range: &WordRange,
+    first: u64,
+    limit: u64,
+    gates: &Vec<Gate>,
+    masks: &[u64],
+    pass: u64,
+) -> (u64, u64)
+    requires at { machine.old.pc ≡ address_at range.now first }
+    requires within { machine.old.steps ≤ limit }
+    requires few { limit ≤ 2 ^ 48 }
+    requires first { first ≤ range.now.words }
+    requires decoded { AreDecoded (fetched machine.old.bus) range.now ops.now }
+    requires long { length gates.now.items ≡ range.now.words + 1 }
+    ensures run { Coasts (record { base = range.now.from; words = gates.now.items; masks = masks.now; pass = pass }) first machine.old (machine.new.steps - machine.old.steps) result.0 machine.new result.1 }
+    ensures at { machine.new.pc ≡ address_at range.now result.0 }
+    ensures within { machine.new.steps ≤ limit }
+    ensures no_fewer { machine.old.steps ≤ machine.new.steps }
+    ensures index { result.0 ≤ range.now.words }
+    ensures few { result.1 ≤ 2 * (machine.new.steps - machine.old.steps) }
+    ensures decoded { AreDecoded (fetched machine.new.bus) range.now ops.now }
+{
+    let mut k = first;
+    let mut left = limit - machine.steps;
+    let mut paid = 0;
+    while left > 0 {
+        let gate = &gates[k as usize];
+        if gate.stops {
+            break;
+        }
+        let m = &ops[k as usize];
+        macro_rules! jump {
+            ($class:ident) => {{ jump(Class::$class, m, gate, masks, pass, range, k, &mut machine.regs, &mut machine.bus) }};
+        }
+        let gone = match m.class() {
+            Class::Equal => jump!(Equal),
+            Class::Less => jump!(Less),
+            Class::Below => jump!(Below),
+            Class::Jal => jump!(Jal),
+            Class::Jalr | Class::Stop => break,
+            // To the next word: nothing is paid, and no mask is asked.
+            straight => {
+                let Some(next) = step_as(straight, m, range, k, &mut machine.regs, &mut machine.bus)
+                else {
+                    break;
+                };
+                k = next;
+                left -= 1;
+                continue;
+            }
+        };
+        let Some((next, more)) = gone else { break };
+        paid += more;
+        k = next;
+        left -= 1;
+    }
+    machine.pc = address(range, k as u32);
+    machine.steps = limit - left;
+    (k, paid)
+}
+
 /// A step at the word with index `k` of the range, by its micro-op: the index of the next one, and whether it is a branch
 /// that is taken. None, and neither registers nor memory changed, where its micro-op leaves it, or there is none yet, which
 /// is made then.
@@ -144,6 +242,25 @@ fn step_on(
             None
         }
     }
+}
+
+/// One step more, whatever its gate says, at the word with index `k` of the range: whether it is a branch that is taken. None, and
+/// nothing has changed, where its micro-op leaves it, or there is none yet, which is made then.
+#[inline(always)]
+fn close(machine: &mut Machine, ops: &mut [MicroOp], range: &WordRange, k: u64) -> Option<bool>
+    requires at { machine.old.pc ≡ address_at range.now k }
+    requires within { k ≤ range.now.words }
+    requires few { machine.old.steps < 2 ^ 48 }
+    requires decoded { AreDecoded (fetched machine.old.bus) range.now ops.old }
+    ensures closes { Closes result machine.old machine.new }
+    ensures steps { machine.new.steps ≤ machine.old.steps + 1 }
+    ensures aligned { machine.old.pc % 4 ≡ 0 → machine.new.pc % 4 ≡ 0 }
+    ensures decoded { AreDecoded (fetched machine.new.bus) range.now ops.new }
+{
+    let (next, taken) = step_on(ops, range, k, &mut machine.regs, &mut machine.bus)?;
+    machine.pc = address(range, next as u32);
+    machine.steps += 1;
+    Some(taken)
 }
 
 /// Steps up to `limit`, as far as the gates let them go on, and one more. None, and nothing has changed, where the gates are
@@ -175,41 +292,17 @@ pub fn coast(
     if range.from != base || gates.len() != ops.len() {
         return None;
     }
-    let mut k = index_of(&range, machine.pc)? as u64;
+    let first = index_of(&range, machine.pc)? as u64;
     let begun = machine.steps;
-    let mut left = limit - begun;
-    let mut paid = 0;
-    while left > 0 {
-        let gate = &gates[k as usize];
-        if gate.stops {
-            break;
-        }
-        let m = &ops[k as usize];
-        let class = m.class();
-        let Some(more) = toll(class, m, &machine.regs, gate, masks, pass) else {
-            break;
-        };
-        let Some(next) = step_as(class, m, &range, k, &mut machine.regs, &mut machine.bus) else {
-            break;
-        };
-        paid += more;
-        k = next;
-        left -= 1;
-    }
-    let at = k as u32;
-    let steps = limit - left - begun;
-    let mut last = None;
-    if left > 0 {
-        if let Some((next, taken)) = step_on(ops, &range, k, &mut machine.regs, &mut machine.bus) {
-            k = next;
-            left -= 1;
-            last = Some(taken);
-        }
-    }
-    machine.pc = address(&range, k as u32);
-    machine.steps = limit - left;
+    let (k, paid) = glide(machine, ops, &range, first, limit, gates, masks, pass);
+    let steps = machine.steps - begun;
+    let last = if machine.steps < limit {
+        close(machine, ops, &range, k)
+    } else {
+        None
+    };
     Some(Coasted {
-        at,
+        at: k as u32,
         steps,
         paid,
         last,
