@@ -204,14 +204,14 @@ def run_of(answer, runner):
 
 
 def built_program():
-    """The program that is built; SWIC names another. It is never built here, since that takes half an hour that nobody sees."""
+    """The program that is built; SWIC names another. It is never built here, since that takes minutes that nobody sees."""
     if named := os.environ.get("SWIC"):
         found = shutil.which(named)
         if not found:
             raise Wrong(f"SWIC names no program: {named}")
         return pathlib.Path(found).absolute()
     if not BUILT.exists():
-        raise Wrong(f"swic isn't built yet: run {TOP / 'swic'} once, which proves and builds it in half an hour")
+        raise Wrong(f"swic isn't built yet: run {TOP / 'swic'} once, which proves and builds it in some 20 minutes")
     asked = subprocess.run([TOP / "swic", "--version"], stdin=subprocess.DEVNULL, capture_output=True, text=True)
     if ", before " in asked.stdout:
         raise Wrong(f"a source is newer than the program that is built: run {TOP / 'swic'} once, which proves and builds it anew")
