@@ -10,10 +10,14 @@ import sys
 
 GUESTS = ["bench/loop.elf", "guests/mix.elf", "bench/calls.elf", "bench/memory.elf"]
 THRASHING = ["guests/kinds/control.elf", "guests/kinds/sorting.elf"]
+ELEVEN = [512, 1024, 1536, 2048, 3072, 4096, 6144, 8192, 10240, 12288, 16384]
+SIXTY_FOUR = [256 * size for size in range(1, 65)]
 MACHINES = {
     "plain": ["plain"],
     "cached 4096": ["cached", "--cache", "4096", "--block", "64"],
     "cached 1024": ["cached", "--cache", "1024", "--block", "32"],
+    "survey 11": ["survey", *map(str, ELEVEN), "--block", "32"],
+    "survey 64": ["survey", *map(str, SIXTY_FOUR), "--block", "32"],
 }
 SCHEDULES = [
     ["prefetch", "bench/loop.elf", "--rate", "1"],
@@ -52,7 +56,7 @@ def print_steps(program):
 
 
 def print_thrashing(program):
-    for machine in ("plain", "cached 1024"):
+    for machine in ("plain", "cached 1024", "survey 11", "survey 64"):
         command, *options = MACHINES[machine]
         each = (between(instructions, [program, command, guest, *options], START, MILLION) / (MILLION - START) for guest in THRASHING)
         print(f"{machine:12}", *(f"{count:6.1f}" for count in each), "  where it thrashes", flush=True)
