@@ -22,7 +22,7 @@ use Rattle.swi_micro.specs.Ran.{is_gone, ran_as}
 use Rattle.swi_image_ops.specs.ImageOp.{AreImageOps, IsWordOp, row_at, row_of}
 use Rattle.swi_image_ops.proofs.Standing.{AtFall, AtText, IsKnown, fall_of_exit, in_row, known, on_inside, text_of_class, text_of_exit, text_of_return}
 use Rattle.swi_image_ops.proofs.Strides.{Branches, Calls, ExitTo, Exits, Pair, Returns, Straight, behind_pair, branches, call_room, calls, comparison_of, exits, pair, returns, straight, upper}
-use Rattle.swi_rom.specs.Record.{Record, indirect}
+use Rattle.swi_rom.specs.Record.{indirect}
 use Rattle.swi_rom.specs.Service.{IsService, ServiceOf}
 use Rattle.swi_board.specs.Reached.{ExitInRow, Passed, Reached}
 use Rattle.swi_board.specs.Turning.{Begins, IsComparison, IsOpInRow, Turn, Turned, machine_at}
@@ -30,14 +30,6 @@ use Rattle.swi_board.proofs.Arms.{carries, inside_ram, next_index}
 use Rattle.swi_board.proofs.Falling.{is_fall_op, place_unmarked, turn_falls}
 use Rattle.swi_board.proofs.OpSteps.{call_turn, exit_turn, fall_turn, pair_turn, passed_turn, return_turn, straight_turn, taken_turn}
 use Rattle.swi_board.proofs.Turns.{count_room, services_room}
-
--- a row's index of an exit
-pub exit_inside : {v : ImageData} {r : Record} {exit at : ℕ} → ExitInRow v r exit at → exit < row_length v
-exit_inside {v} e =
-    let own = e.is_exit.inside in
-    let within = row_inside v e.block e.offset e.known (omega (arith, own)) in
-    let is = e.row in
-    omega (arith, within, is)
 
 -- what has an index in the row has a place
 placed : (v : ImageData) (a row : ℕ) → row_of v a ≡ Some row → place_of v a ≡ None → ⊥
@@ -56,16 +48,6 @@ no_stop c d is other stops = other (sym is ∙ stops)
 -- x0 keeps what it has
 pub kept_zero : (regs : Registers) (r n : ℕ) → (r == 0) ≡ true → regs ≡ with_reg regs r n
 kept_zero regs r n is = ap (λ (b : Bool). record regs { words = if b then regs.words else slice_set regs.words r n }) (sym is)
-
--- a class that is none of the others is straight
-pub straight_class : (c : Class) → (c ≡ class.Equal → ⊥) → (c ≡ class.Less → ⊥) → (c ≡ class.Below → ⊥) → (c ≡ class.Jal → ⊥) → (c ≡ class.Jalr → ⊥) → (c ≡ class.Stop → ⊥) → is_straight c ≡ true
-straight_class class.Equal e l b j r s = absurd (e refl)
-straight_class class.Less e l b j r s = absurd (l refl)
-straight_class class.Below e l b j r s = absurd (b refl)
-straight_class class.Jal e l b j r s = absurd (j refl)
-straight_class class.Jalr e l b j r s = absurd (r refl)
-straight_class class.Stop e l b j r s = absurd (s refl)
-straight_class _ e l b j r s = refl
 
 -- the micro-ops of a row, one by one
 pub op_in_row : {text : ℕ → Option ℕ} {v : ImageData} {ops : List MicroOp} → AreImageOps text v ops → (row : ℕ) (d m : MicroOp) → m ≡ get_or ops row d → IsOpInRow text v row m

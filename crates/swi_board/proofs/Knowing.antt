@@ -3,8 +3,6 @@ use Rattle.std.proofs.Common.{◌≡◌, ℕ, List, Option, ◌∙◌, inl, inr}
 use Rattle.swi_image.specs.Format.{ImageData}
 use Rattle.swi_micro.specs.declared.translator.MicroOp.{MicroOp}
 use Rattle.swi_image_ops.specs.ImageOp.{AreImageOps, IsWordOp}
-use Rattle.swi_board.specs.declared.learnt.Learnt.{Learnt}
-use Rattle.swi_board.specs.Learnt.{Knows}
 
 module _ (g h : ℕ → Option ℕ) (same : (a : ℕ) → h a ≡ g a) (v : ImageData) where
   op_same : (b o : ℕ) (m : MicroOp) → IsWordOp g v b o m → IsWordOp h v b o m
@@ -23,6 +21,3 @@ module _ (g h : ℕ → Option ℕ) (same : (a : ℕ) → h a ≡ g a) (v : Imag
 
   pub ops_same : (ops : List MicroOp) → AreImageOps g v ops → AreImageOps h v ops
   ops_same ops are = record { count = are.count; each = λ b o known inside d. op_same b o _ (are.each b o known inside d) }
-
-  pub knows_same : (l : Learnt) → Knows g v l → Knows h v l
-  knows_same l knows = record { ops = ops_same l.ops knows.ops; links = knows.links }

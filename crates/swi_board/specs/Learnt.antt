@@ -6,11 +6,9 @@ use Rattle.swi_image_ops.specs.ImageOp.{AreImageOps}
 use Rattle.swi_board.specs.declared.learnt.Learnt.{Learnt}
 
 -- there is room for what is to be learnt of each word
-pub record HasRoom (v : ImageData) (l : Learnt) : Type 0 where
-  pub ops : row_length v ≤ length l.ops
-  pub links : row_length v ≤ length l.ways.links
+abbrev pub HasRoom : ImageData → Learnt → Type 0
+HasRoom v l = row_length v ≤ length l.ops
 
 -- and what is learnt is true of an image that carries a text
-pub record Knows (text : ℕ → Option ℕ) (v : ImageData) (l : Learnt) : Type 0 where
-  pub ops : AreImageOps text v l.ops
-  pub links : row_length v ≤ length l.ways.links
+abbrev pub Knows : (ℕ → Option ℕ) → ImageData → Learnt → Type 0
+Knows text v l = AreImageOps text v l.ops

@@ -106,13 +106,11 @@ fn branch_step<R: CacheRom, M: SteadyRam>(
     requires op { IsOpInRow (fetched machine.now.bus) image.now at.old.row m.now }
     requires class { class ≡ class_of m.now.code }
     requires compares { IsComparison class }
-    requires links { row_length image.now ≤ length ways.old.links }
     requires found { AreFound image.now (R.service.kept rom.old) ways.old.targets }
     ensures turns { TurnsTo R.service image.now
         (turn machine.now rom.old (M.state ram.old) at.old)
         (turn machine.now rom.new (M.state ram.new) (fewer at.new)) }
     ensures left { at.new.left ≡ at.old.left }
-    ensures links { length ways.new.links ≡ length ways.old.links }
     ensures found { AreFound image.now (R.service.kept rom.new) ways.new.targets }
 {
     fetch(ram, index(at.row, at.delta));
@@ -146,14 +144,12 @@ fn exit_step<R: CacheRom, M: SteadyRam>(
     requires op { IsOpInRow (fetched machine.now.bus) image.now at.old.row m.now }
     requires class { class_of m.now.code ≡ Jal }
     requires exit { m.now.rd ≡ 0 }
-    requires links { row_length image.now ≤ length ways.old.links }
     requires found { AreFound image.now (R.service.kept rom.old) ways.old.targets }
     ensures turns { TurnsTo R.service image.now
         (turn machine.now rom.old (M.state ram.old) at.old)
         (turn machine.now rom.new (M.state ram.new) (fewer at.new)) }
     ensures left { at.new.left ≡ (if m.now.rs1 == 1 then at.old.left + 1 else at.old.left) }
     ensures lands { (a : ℕ) × row_of image.now a ≡ Some at.new.row }
-    ensures links { length ways.new.links ≡ length ways.old.links }
     ensures found { AreFound image.now (R.service.kept rom.new) ways.new.targets }
 {
     let there = leave(rom, image, ram, ways, at.row, index(at.row, at.delta));
@@ -186,14 +182,12 @@ fn call_step<R: CacheRom, M: SteadyRam>(
     requires keeps { m.now.rd ≡ 0 → ⊥ }
     requires exit { IsOpInRow (fetched machine.old.bus) image.now (at.old.row + 2) exit.now }
     requires leaves { (exit.now.code ≡ code_of Jal) × (exit.now.rd ≡ 0) }
-    requires links { row_length image.now ≤ length ways.old.links }
     requires found { AreFound image.now (R.service.kept rom.old) ways.old.targets }
     ensures turns { TurnsTo R.service image.now
         (turn machine.old rom.old (M.state ram.old) at.old)
         (turn machine.new rom.new (M.state ram.new) (fewer at.new)) }
     ensures bus { machine.new.bus ≡ machine.old.bus }
     ensures left { at.new.left ≡ at.old.left }
-    ensures links { length ways.new.links ≡ length ways.old.links }
     ensures found { AreFound image.now (R.service.kept rom.new) ways.new.targets }
 {
     machine.regs.put(m.rd(), m.target());
@@ -337,7 +331,6 @@ fn step_through<R: CacheRom, M: SteadyRam>(
     requires begins { (limit : ℕ) × Begins R.service image.now limit
         (record { machine = machine.old; rom = rom.old; ram = M.state ram.old; cursor = cursor.old }) }
     requires ops { AreImageOps (fetched machine.old.bus) image.now ops.now }
-    requires links { row_length image.now ≤ length ways.old.links }
     requires found { AreFound image.now (R.service.kept rom.old) ways.old.targets }
     ensures turned { (limit : ℕ) (b : Begins R.service image.now limit
         (record { machine = machine.old; rom = rom.old; ram = M.state ram.old; cursor = cursor.old })) →
@@ -345,7 +338,6 @@ fn step_through<R: CacheRom, M: SteadyRam>(
         (record { machine = machine.old; rom = rom.old; ram = M.state ram.old; cursor = cursor.old }) b.at
         (record { machine = machine.new; rom = rom.new; ram = M.state ram.new; cursor = cursor.new }) }
     ensures text { (a : ℕ) → fetched machine.new.bus a ≡ fetched machine.old.bus a }
-    ensures links { length ways.new.links ≡ length ways.old.links }
 {
     // Read for the proof alone: that an index in the row has 32 bits.
     let _words = image.words();
@@ -423,7 +415,6 @@ pub(crate) fn advance<R: CacheRom, M: SteadyRam>(
     requires sound { R.service.sound rom.old image.now (M.state ram.old).words }
     requires stands { StandsInRow image.now hart.old at.0 at.1 }
     requires ops { AreImageOps (fetched hart.old.machine.bus) image.now ops.now }
-    requires links { row_length image.now ≤ length ways.old.links }
     requires found { AreFound image.now (R.service.kept rom.old) ways.old.targets }
     ensures onward { Onward R.service image.now limit (record { hart = hart.old; rom = rom.old; ram = M.state ram.old })
         (record { hart = hart.new; rom = rom.new; ram = M.state ram.new }) }
@@ -432,7 +423,6 @@ pub(crate) fn advance<R: CacheRom, M: SteadyRam>(
         (record { rom = rom.new; ram = M.state ram.new }) }
     ensures block { result < length image.now.starts }
     ensures text { (a : ℕ) → fetched hart.new.machine.bus a ≡ fetched hart.old.machine.bus a }
-    ensures links { length ways.new.links ≡ length ways.old.links }
 {
     let left = limit - hart.machine.steps;
     let mut cursor = Cursor {

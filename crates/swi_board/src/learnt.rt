@@ -24,10 +24,11 @@ pub struct Learnt {
 }
 
 impl Learnt {
-    /// Nothing is learnt of an image. Memory where there is not enough of it: it takes 16 bytes a word of the image.
+    /// Nothing is learnt of an image. Memory where there is not enough of it: it takes 8 bytes a word of the image, and 132 KiB
+    /// for the ways.
     pub fn new(alloc: Global, image: &ImageView<'_>) -> Result<Learnt, Memory> {
         let ops = ImageOps::new(alloc, image)?;
-        let ways = Ways::new(alloc, image.words())?;
+        let ways = Ways::new(alloc)?;
         Ok(Learnt { ops, ways })
     }
 
@@ -35,8 +36,7 @@ impl Learnt {
     pub fn has_room(&self, image: &ImageView<'_>) -> bool
         ensures { IsTrue result → HasRoom image.now self.now }
     {
-        let words = image.words() as usize;
-        words <= self.ops.ops().len() && words <= self.ways.links.count()
+        image.words() as usize <= self.ops.ops().len()
     }
 
     /// Nothing is learnt any more, whatever the text.

@@ -1,7 +1,7 @@
 //! How far the links of exits lead.
 #![tactic(auto)]
 
-ghost use Rattle.std.specs.Prelude.{◌≡◌, ◌<◌, ◌^◌, ℕ, IfOk, IfSome, length};
+ghost use Rattle.std.specs.Prelude.{◌≡◌, ◌<◌, ◌^◌, ℕ, IfSome};
 ghost use Rattle.swi_exec.specs.Arithmetic.{sum_of};
 ghost use Rattle.swi_hart.specs.Leaving.{offset_of};
 ghost use Rattle.swi_isa.specs.Decode.{decoded};
@@ -11,6 +11,9 @@ ghost use Rattle.swi_board.specs.Links.{IsLink};
 use std::alloc::Global;
 use std::marker::Model;
 use swi_outside::Memory;
+
+/// How many links are kept.
+const KEPT: usize = 1 << 14;
 
 /// A link that stood at an exit: its word, and how many words on that jumps, modulo 2^32.
 #[derive(Clone, Copy)]
@@ -36,15 +39,16 @@ pub(crate) fn distance(off: u32) -> u32
     }
 }
 
-/// For each word of an image the link that stood there last: so a link that stands there again isn't decoded again. In
-/// clauses it is the list of them.
+/// The links that stood at exits last, each kept by the lowest bits of its exit's index in the image's row: so a link that stands
+/// there again isn't decoded again. A link's word says how far it jumps, whichever exit it stands at. In clauses it is the list
+/// of them.
 #[derive(Drop)]
 pub struct Links {
     links: Vec<Link>,
 }
 
 impl Model for Links {
-    ghost use Rattle.std.specs.Prelude.{List};
+    ghost use Rattle.std.specs.Prelude.{◌≡◌, ◌^◌, List, length};
     ghost use Rattle.swi_board.specs.declared.links.Link.{Link};
     ghost use Rattle.swi_board.specs.Links.{AreLinks};
 
@@ -52,32 +56,32 @@ impl Model for Links {
 
     ghost view = { λ l. l.links.items };
 
-    ghost invariant = { λ l. AreLinks l.links.items };
+    ghost invariant = { λ l. (length l.links.items ≡ 2 ^ 14) × AreLinks l.links.items };
+}
+
+/// Where the link of an exit has its place.
+#[inline(always)]
+fn slot(exit: u64) -> usize
+    ensures { result < 2 ^ 14 }
+{
+    exit as usize % KEPT
 }
 
 impl Links {
-    /// No link is known, of an image of so many words. Memory where there is not enough of it: it takes eight bytes a word.
-    pub fn new(alloc: Global, words: u32) -> Result<Links, Memory>
-        ensures { IfOk result (λ l. length l ≡ words) }
-    {
-        let links = vec![in alloc; NONE; words as usize].map_err(|_| Memory)?;
+    /// No link is known. Memory where there is not enough of it: it takes 128 KiB.
+    pub fn new(alloc: Global) -> Result<Links, Memory> {
+        let Ok(links) = vec![in alloc; NONE; KEPT] else {
+            return Err(Memory);
+        };
         Ok(Links { links })
     }
 
-    /// For how many words there is room.
-    pub fn count(&self) -> usize
-        ensures { result ≡ length self.now }
-    {
-        self.links.len()
-    }
-
-    /// How many words on this word jumps, if it is the link that stood last at the exit.
+    /// How many words on this word jumps, if it is the link that was kept last where the exit has its place.
     #[inline(always)]
     pub fn find(&self, exit: u64, word: u32) -> Option<u32>
-        requires { exit < length self.now }
         ensures { IfSome result (λ distance. IsLink word distance) }
     {
-        let link = &self.links[exit as usize];
+        let link = &self.links[slot(exit)];
         if link.word != word {
             return None;
         }
@@ -86,10 +90,8 @@ impl Links {
 
     /// Keeps how many words on the link jumps that stands at the exit.
     pub fn keep(&mut self, exit: u64, word: u32, distance: u32)
-        requires exit { exit < length self.old }
-        requires link { IsLink word distance }
-        ensures { length self.new ≡ length self.old }
+        requires { IsLink word distance }
     {
-        self.links[exit as usize] = Link { word, distance };
+        self.links[slot(exit)] = Link { word, distance };
     }
 }

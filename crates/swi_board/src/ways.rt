@@ -26,11 +26,9 @@ pub struct Ways {
 }
 
 impl Ways {
-    /// None was gone, of an image of so many words.
-    pub fn new(alloc: Global, words: u32) -> Result<Ways, Memory>
-        ensures { IfOk result (λ w. length w.links ≡ words) }
-    {
-        let links = Links::new(alloc, words)?;
+    /// None was gone. Memory where there is not enough of it.
+    pub fn new(alloc: Global) -> Result<Ways, Memory> {
+        let links = Links::new(alloc)?;
         let targets = Targets::new(alloc)?;
         Ok(Ways { links, targets })
     }
@@ -72,11 +70,9 @@ fn pass<R: CacheRom, M: SteadyRam>(
     requires services { (R.service.kept rom.old).counts.services < 2 ^ 50 }
     requires exit { ExitInRow image.now (R.service.kept rom.old) exit at }
     requires word { word ≡ slice_index (M.state ram.old).words at }
-    requires known { exit < length ways.old.links }
     requires found { AreFound image.now (R.service.kept rom.old) ways.old.targets }
     ensures passed { Passed R.service image.now exit (record { rom = rom.old; ram = M.state ram.old })
         (record { rom = rom.new; ram = M.state ram.new }) result }
-    ensures known { length ways.new.links ≡ length ways.old.links }
     ensures found { AreFound image.now (R.service.kept rom.new) ways.new.targets }
 {
     if word != EBREAK {
@@ -114,11 +110,9 @@ pub(crate) fn leave<R: CacheRom, M: SteadyRam>(
     requires sound { R.service.sound rom.old image.now (M.state ram.old).words }
     requires services { (R.service.kept rom.old).counts.services < 2 ^ 50 }
     requires exit { ExitInRow image.now (R.service.kept rom.old) exit at }
-    requires known { exit < length ways.old.links }
     requires found { AreFound image.now (R.service.kept rom.old) ways.old.targets }
     ensures passed { Passed R.service image.now exit (record { rom = rom.old; ram = with_fetch (M.state ram.old) at })
         (record { rom = rom.new; ram = M.state ram.new }) result }
-    ensures known { length ways.new.links ≡ length ways.old.links }
     ensures found { AreFound image.now (R.service.kept rom.new) ways.new.targets }
 {
     let word = fetch(ram, at);

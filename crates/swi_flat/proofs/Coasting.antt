@@ -341,16 +341,6 @@ coasts_none g k n m none = subst (λ i. Coasts g k m i k m 0) (sym none) (refl, 
 
 -- ---- micro-ops that a gate lets go on
 
--- a class of none that jumps, branches or stops
-pub else_straight : (q : Class) → (q ≡ class.Equal → ⊥) → (q ≡ class.Less → ⊥) → (q ≡ class.Below → ⊥) → (q ≡ class.Jal → ⊥) → (q ≡ class.Jalr → ⊥) → (q ≡ class.Stop → ⊥) → is_straight q ≡ true
-else_straight class.Equal a b c d e f = absurd (a refl)
-else_straight class.Less a b c d e f = absurd (b refl)
-else_straight class.Below a b c d e f = absurd (c refl)
-else_straight class.Jal a b c d e f = absurd (d refl)
-else_straight class.Jalr a b c d e f = absurd (e refl)
-else_straight class.Stop a b c d e f = absurd (f refl)
-else_straight _ a b c d e f = refl
-
 module _ (g : Gates) (range : WordRange) (k : ℕ) (m n : Machine) (op : MicroOp) (ops : List MicroOp) (gate : Gate) where
   -- of the class, by its micro-op
   pub gone_by : (q : Class) (next paid : ℕ) → AreDecoded (fetched m.bus) range ops → k ≤ range.words → op ≡ get_or ops k op → slice_get g.words k ≡ Some gate → gate.stops ≡ false → q ≡ class_of op.code →

@@ -26,6 +26,16 @@ may : (t : Bool) (k k' next : ℕ) (regs regs' : Registers) (bus bus' : List Are
 may true k k' next regs regs' bus bus' goes = on k k' next regs' bus' goes
 may false k k' next regs regs' bus bus' goes = absurd (let never : None ≡ Some next = goes in cc)
 
+-- a class that neither jumps, branches nor stops
+pub else_straight : (c : Class) → (c ≡ class.Equal → ⊥) → (c ≡ class.Less → ⊥) → (c ≡ class.Below → ⊥) → (c ≡ class.Jal → ⊥) → (c ≡ class.Jalr → ⊥) → (c ≡ class.Stop → ⊥) → is_straight c ≡ true
+else_straight class.Equal a b c d e f = absurd (a refl)
+else_straight class.Less a b c d e f = absurd (b refl)
+else_straight class.Below a b c d e f = absurd (c refl)
+else_straight class.Jal a b c d e f = absurd (d refl)
+else_straight class.Jalr a b c d e f = absurd (e refl)
+else_straight class.Stop a b c d e f = absurd (f refl)
+else_straight _ a b c d e f = refl
+
 pub same_at : (c : Class) → is_straight c ≡ true → (range range' : WordRange) (m : MicroOp) (k k' next : ℕ) (regs : Registers) (bus : List AreaData) → (ran_as c range m k regs bus).next ≡ Some next →
     SameAt next k k' (ran_as c range m k regs bus) (ran_as c range' m k' regs bus)
 same_at class.Add s range range' m k k' next regs bus goes = on k k' next _ bus goes

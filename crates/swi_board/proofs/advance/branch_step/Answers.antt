@@ -3,7 +3,7 @@ use Rattle.swi_exec.specs.Arithmetic.{sum_of}
 use Rattle.swi_micro.specs.declared.class.Class.{Class}
 use Rattle.swi_image_ops.proofs.Strides.{comparison_of}
 use Rattle.swi_board.specs.Reached.{ExitInRow}
-use Rattle.swi_board.proofs.Going.{at_inside, branch_exit, branch_passed, branch_taken, compared, exit_inside, few_services, row_in, total_short}
+use Rattle.swi_board.proofs.Going.{at_inside, branch_exit, branch_passed, branch_taken, compared, few_services, row_in, total_short}
 use Rattle.swi_board.proofs.advance.branch_step.Goals as goal
 
 pub index-requires : goal.index-requires
@@ -59,15 +59,6 @@ leave-there-requires-clause-exit g c =
     let by = compared c.args.class c.goes_by.result c.args.m.now c.args.machine.now.regs c.requires.compares c.goes_by.ensures.equal c.goes_by.ensures.less c.goes_by.ensures.below in
     let exit = branch_exit g.met.R.CacheRom.laws go.begins go.turned go.some c.args.m.now by.0 c.requires.op (ap (λ (d : Class). comparison_of d) (sym c.requires.class) ∙ by.1) in
     subst (λ (n : ℕ). ExitInRow c.args.image.now (g.R.CacheRom.service.kept c.args.rom.now) (c.args.at.now.row + 1) n) (sym c.index-2.ensures) exit
-
-pub leave-there-requires-clause-known : goal.leave-there-requires-clause-known
-leave-there-requires-clause-known g c =
-    let go = c.requires.going in
-    let by = compared c.args.class c.goes_by.result c.args.m.now c.args.machine.now.regs c.requires.compares c.goes_by.ensures.equal c.goes_by.ensures.less c.goes_by.ensures.below in
-    let exit = branch_exit g.met.R.CacheRom.laws go.begins go.turned go.some c.args.m.now by.0 c.requires.op (ap (λ (d : Class). comparison_of d) (sym c.requires.class) ∙ by.1) in
-    let inside = exit_inside exit in
-    let links = c.requires.links in
-    omega (arith, inside, links)
 
 pub overflow_add-at-2 : goal.overflow_add-at-2
 overflow_add-at-2 g c =

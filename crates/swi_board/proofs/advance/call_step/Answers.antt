@@ -3,7 +3,7 @@ use Rattle.swi_exec.specs.Arithmetic.{sum_of}
 use Rattle.swi_exec.specs.Registers.{with_reg}
 use Rattle.swi_outside.specs.CacheRam.{RamState}
 use Rattle.swi_board.specs.Reached.{ExitInRow}
-use Rattle.swi_board.proofs.Going.{at_inside, call_exit, call_inside, call_made, few_services, middle_inside, row_in, total_short}
+use Rattle.swi_board.proofs.Going.{at_inside, call_exit, call_made, few_services, middle_inside, row_in, total_short}
 use Rattle.swi_board.proofs.advance.call_step.Goals as goal
 
 pub index-requires : goal.index-requires
@@ -66,13 +66,6 @@ leave-there-requires-clause-exit g c =
     let go = c.requires.going in
     let exit = call_exit g.met.R.CacheRom.laws go.begins go.turned go.some c.args.m.now c.requires.op c.requires.class c.requires.keeps c.args.exit.now c.requires.exit c.requires.leaves in
     subst (λ (n : ℕ). ExitInRow c.args.image.now (g.R.CacheRom.service.kept c.args.rom.now) (c.args.at.now.row + 2) n) (sym c.index-3.ensures) exit
-
-pub leave-there-requires-clause-known : goal.leave-there-requires-clause-known
-leave-there-requires-clause-known g c =
-    let go = c.requires.going in
-    let inside = call_inside g.met.R.CacheRom.laws go.begins go.turned go.some c.args.m.now c.requires.op c.requires.class c.requires.keeps in
-    let links = c.requires.links in
-    omega (arith, inside, links)
 
 pub overflow_add-at-2 : goal.overflow_add-at-2
 overflow_add-at-2 g c =

@@ -22,13 +22,6 @@ leave-there-requires-clause-exit g c =
     let exit = jal_exit g.met.R.CacheRom.laws go.begins go.turned go.some c.args.m.now c.requires.op c.requires.class c.requires.exit in
     subst (λ (n : ℕ). ExitInRow c.args.image.now (g.R.CacheRom.service.kept c.args.rom.now) c.args.at.now.row n) (sym c.index.ensures) exit
 
-pub leave-there-requires-clause-known : goal.leave-there-requires-clause-known
-leave-there-requires-clause-known g c =
-    let go = c.requires.going in
-    let within = row_in g.met.R.CacheRom.laws go.begins go.turned go.some in
-    let links = c.requires.links in
-    omega (arith, within, links)
-
 pub overflow_add-at : goal.overflow_add-at
 overflow_add-at g c =
     let go = c.requires.going in

@@ -1,7 +1,8 @@
 use Rattle.std.proofs.Common.{◌≡◌, ◌==◌, ℕ, ◌+◌, Bool, true, false, List, refl, sym, ap, subst, ◌∙◌, arith, rules}
 use Rattle.swi_memory.specs.Bus.{AreaData, fetched}
+use Rattle.swi_micro.proofs.Straight.{else_straight}
 use Rattle.swi_board.specs.Turning.{Turn, Turned, turn}
-use Rattle.swi_board.proofs.Going.{call_inside, exit_fewer, op_in_row, row_in, stays_fewer, straight_class}
+use Rattle.swi_board.proofs.Going.{call_inside, exit_fewer, op_in_row, row_in, stays_fewer}
 use Rattle.swi_board.proofs.Knowing.{ops_same}
 use Rattle.swi_board.proofs.Turns.{turned_none}
 use Rattle.swi_board.proofs.advance.step_through.Goals as goal
@@ -15,7 +16,6 @@ pub loop-at-init : goal.loop-at-init
 loop-at-init g c = record {
   turned = λ limit b. turned_none {from = b.at} g.met.R.CacheRom.laws b.sound b.going b.within;
   text = λ a. refl;
-  links = refl;
   found = c.requires.found;
 }
 
@@ -149,7 +149,7 @@ straight_step-requires-clause-op g c = op_in_row (ops_same (fetched c.args.machi
 
 pub straight_step-requires-clause-straight : goal.straight_step-requires-clause-straight
 straight_step-requires-clause-straight g c =
-    straight_class c.class-class.result c.in_default.not-Equal c.in_default.not-Less c.in_default.not-Below c.in_default.not-Jal c.in_default.not-Jalr c.in_default.not-Stop
+    else_straight c.class-class.result c.in_default.not-Equal c.in_default.not-Less c.in_default.not-Below c.in_default.not-Jal c.in_default.not-Jalr c.in_default.not-Stop
 
 pub loop-at-smaller : goal.loop-at-smaller
 loop-at-smaller g c =
@@ -178,37 +178,31 @@ loop-at-preserved g c =
       | in-Equal w ↦ rw (w.machine-is, w.rom-is, w.ram-is, w.ways-is, w.at-is) (record {
         turned = λ limit b. w.branch_step.ensures.turns limit _ b (i.turned limit b);
         text = i.text;
-        links = w.branch_step.ensures.links ∙ i.links;
         found = w.branch_step.ensures.found;
       })
       | in-Lui w ↦ rw (w.machine-is, w.rom-is, w.ram-is, w.ways-is, w.at-is) (record {
         turned = λ limit b. w.upper_step.ensures.turns limit _ b (i.turned limit b);
         text = λ a. ap (λ (l : List AreaData). fetched l a) w.upper_step.ensures.bus ∙ i.text a;
-        links = i.links;
         found = i.found;
       })
       | in-Jal+then-writes_x0 w ↦ rw (w.machine-is, w.rom-is, w.ram-is, w.ways-is, w.at-is) (record {
         turned = λ limit b. w.exit_step.ensures.turns limit _ b (i.turned limit b);
         text = i.text;
-        links = w.exit_step.ensures.links ∙ i.links;
         found = w.exit_step.ensures.found;
       })
       | in-Jal+else-writes_x0+else-not-is_exit w ↦ rw (w.machine-is, w.rom-is, w.ram-is, w.ways-is, w.at-is) (record {
         turned = λ limit b. w.call_step.ensures.turns limit _ b (i.turned limit b);
         text = λ a. ap (λ (l : List AreaData). fetched l a) w.call_step.ensures.bus ∙ i.text a;
-        links = w.call_step.ensures.links ∙ i.links;
         found = w.call_step.ensures.found;
       })
       | in-Jalr+else-not-jalr_step w ↦ rw (w.machine-is, w.rom-is, w.ram-is, w.ways-is, w.at-is) (record {
         turned = λ limit b. w.jalr_step.ensures.turns w.if-not-jalr_step.false limit _ b (i.turned limit b);
         text = λ a. ap (λ (l : List AreaData). fetched l a) w.jalr_step.ensures.bus ∙ i.text a;
-        links = i.links;
         found = w.jalr_step.ensures.found;
       })
       | in_default+else-not-straight_step w ↦ rw (w.machine-is, w.rom-is, w.ram-is, w.ways-is, w.at-is) (record {
         turned = λ limit b. w.straight_step.ensures.turns w.if-not-straight_step.false limit _ b (i.turned limit b);
         text = λ a. w.straight_step.ensures.text a ∙ i.text a;
-        links = i.links;
         found = i.found;
       })
     ]

@@ -1,4 +1,4 @@
-use Rattle.std.proofs.Common.{◌≡◌, ◌+◌, ◌*◌, ℕ, get_or, length, if◌then◌else◌}
+use Rattle.std.proofs.Common.{◌≡◌, ◌+◌, ◌*◌, ℕ, get_or, if◌then◌else◌}
 use Rattle.swi_memory.specs.Bus.{fetched}
 use Rattle.swi_micro.specs.MicroOp.{stop_op}
 use Rattle.swi_board.specs.Targets.{AreFound}
@@ -11,7 +11,6 @@ invariant-loop-at g l = record {
   turned : (limit : ℕ) (b : Begins g.R.CacheRom.service l.image limit (turn l.fn.machine l.fn.rom (g.M.CacheRam.state l.fn.ram) l.fn.cursor)) →
       Turned g.R.CacheRom.service l.image limit (turn l.fn.machine l.fn.rom (g.M.CacheRam.state l.fn.ram) l.fn.cursor) b.at (turn l.machine l.rom (g.M.CacheRam.state l.ram) l.at);
   text : (a : ℕ) → fetched l.machine.bus a ≡ fetched l.fn.machine.bus a;
-  links : length l.ways.links ≡ length l.fn.ways.links;
   found : AreFound l.image (g.R.CacheRom.service.kept l.rom) l.ways.targets;
 }
 

@@ -5,7 +5,7 @@ use Rattle.swi_hart.specs.Hart.{HartData}
 use Rattle.swi_outside.proofs.SourceLemmas.{read_first, read_last}
 use Rattle.swi_outside.proofs.ToldLemmas.{as_told_stands}
 use Rattle.swi_board.proofs.Along.{on_more, on_onward, on_some, on_start, on_underway, onward_most, run_broken, run_ended, steps_on, text_on}
-use Rattle.swi_board.proofs.Knowing.{knows_same}
+use Rattle.swi_board.proofs.Knowing.{ops_same}
 use Rattle.swi_board.proofs.Running.{calls_small, count_small, falls}
 use Rattle.swi_board.proofs.board.run_by_words.Goals as goal
 
@@ -39,8 +39,8 @@ advance-requires-clause-sound g c = (on_some c.loop-hart.invariant.along).2.stay
 
 pub advance-requires-clause-knows : goal.advance-requires-clause-knows
 advance-requires-clause-knows g c =
-    knows_same (λ a. fetched c.args.hart.now.machine.bus a) (λ a. fetched c.loop-hart.hart.machine.bus a) (text_on c.loop-hart.invariant.along c.requires.between c.requires.fits)
-    c.args.image.now c.loop-hart.learnt c.loop-hart.invariant.knows
+    ops_same (λ a. fetched c.args.hart.now.machine.bus a) (λ a. fetched c.loop-hart.hart.machine.bus a) (text_on c.loop-hart.invariant.along c.requires.between c.requires.fits)
+    c.args.image.now c.loop-hart.learnt.ops c.loop-hart.invariant.knows
 
 pub returns-then-hart-n-clause-ran : goal.returns-then-hart-n-clause-ran
 returns-then-hart-n-clause-ran g c i rest read =
@@ -72,8 +72,8 @@ loop-hart-preserved g c =
     let more = subst (λ (h : HartData). h.machine.steps < c.args.n) c.hart-in-loop-hart.view_is c.if-hart-n.false in
     record {
       along = on_more on c.in_ok-quick_step.ensures.gave (λ i mid rest was read. steps_on was g.met.R.CacheRom.laws more c.advance.ensures.going c.in_ok-quick_step.ensures.word (c.in_ok-quick_step.ensures.stepped mid rest read));
-      knows = knows_same (λ a. fetched c.advance.new.hart.machine.bus a) (λ a. fetched c.args.hart.now.machine.bus a) (λ a. sym (text_on on c.requires.between c.requires.fits a))
-          c.args.image.now c.advance.new.self c.advance.ensures.knows;
+      knows = ops_same (λ a. fetched c.advance.new.hart.machine.bus a) (λ a. fetched c.args.hart.now.machine.bus a) (λ a. sym (text_on on c.requires.between c.requires.fits a))
+          c.args.image.now c.advance.new.self.ops c.advance.ensures.knows;
     }
 
 pub loop-hart-smaller : goal.loop-hart-smaller

@@ -6,7 +6,8 @@ use Rattle.swi_micro.specs.declared.class.Class.TheVariants as class
 use Rattle.swi_micro.specs.Decoded.{AreDecoded}
 use Rattle.swi_micro.proofs.Forgetting.{same_words}
 use Rattle.swi_flat.specs.Coasted.{Coasts, Gates, is_open}
-use Rattle.swi_flat.proofs.Coasting.{Gone, at_word, coasts_on, else_straight, gone_by, jumped, left_so, straight_toll}
+use Rattle.swi_micro.proofs.Straight.{else_straight}
+use Rattle.swi_flat.proofs.Coasting.{Gone, at_word, coasts_on, gone_by, jumped, left_so, straight_toll}
 use Rattle.swi_flat.proofs.coast.glide.Goals as goal
 use Rattle.swi_flat.proofs.coast.glide.Goals.{in-Equal, in-Less, in-Below, in-Jal, else-loop-left-test, then-loop-left-test+then-gate, then-loop-left-test+else-gate+in-Jalr, then-loop-left-test+else-gate+in_default+in_default-step_as, then-loop-left-test+else-gate+in_default-gone}
 

@@ -14,4 +14,4 @@ advance-block-requires-clause-found g c = c.forget.ensures c.args.image.now (g.R
 pub learn-requires-clause-ops : goal.learn-requires-clause-ops
 learn-requires-clause-ops g c =
     subst (λ (h : HartData). AreImageOps (fetched h.machine.bus) c.args.image.now c.args.self.now.ops) (sym c.hart.view_is)
-    (ops_same (fetched c.args.hart.now.machine.bus) (fetched c.advance-block.new.hart.machine.bus) c.advance-block.ensures.text c.args.image.now _ c.requires.knows.ops)
+    (ops_same (fetched c.args.hart.now.machine.bus) (fetched c.advance-block.new.hart.machine.bus) c.advance-block.ensures.text c.args.image.now _ c.requires.knows)
