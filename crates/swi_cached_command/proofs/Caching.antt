@@ -1,13 +1,12 @@
 -- A run on the cached machine, from what its parts say.
-use Rattle.std.proofs.Common.{◌≡◌, ◌⊎◌, inl, inr, ℕ, ◌+◌, ◌-◌, ◌*◌, ◌/◌, ◌^◌, ◌≤◌, min, List, [], ◌++◌, length, take, drop, append_assoc, if◌then◌else◌, Option, None, Some, Result, Ok, Err, IsErrOf, MatchResult, refl, sym, ◌∙◌, subst, ap, arith}
-use Rattle.std.proofs.Math.Nat.{div-mul-le_self}
+use Rattle.std.proofs.Common.{◌≡◌, ◌⊎◌, inl, inr, ℕ, ◌+◌, ◌≤◌, List, [], ◌++◌, length, take, drop, append_assoc, if◌then◌else◌, Option, None, Some, Result, Ok, Err, IsErrOf, MatchResult, refl, sym, ◌∙◌, subst, ap, arith}
 use Rattle.std.proofs.lemmas.List.{append-nil}
 use Rattle.std.specs.Io.KnownBytes.{Appends}
-use Rattle.swi_outside.specs.Causes.{DeviceCause, Rose, risen}
+use Rattle.swi_outside.specs.Causes.{DeviceCause, Rose}
 use Rattle.swi_outside.specs.CacheRam.{KeepsBeyond, RamState}
 use Rattle.swi_outside.specs.Devices as outside
 use Rattle.swi_outside.specs.Laws.{Appends-append, Appends-none, cause_as, named_as, no_cause, ok_unmoved}
-use Rattle.swi_outside.specs.Shelf.{Asked, ShelfState}
+use Rattle.swi_outside.specs.Shelf.{ShelfState}
 use Rattle.swi_outside.specs.Sink.{AppendsPrefix, SinkState}
 use Rattle.swi_outside.specs.Source.{SourceState}
 use Rattle.swi_elf_read.specs.Loaded.{image_of as image_in}
@@ -15,15 +14,12 @@ use Rattle.swi_memory.specs.declared.layout.Layout.{Layout}
 use Rattle.swi_program.specs.Program.{ProgramData}
 use Rattle.swi_program.specs.ProgramOf.{program_of_file}
 use Rattle.swi_image.specs.Format.{ImageData}
-use Rattle.swi_command.specs.declared.command.CacheKind.{CacheKind}
-use Rattle.swi_command.specs.declared.command.CacheKind.TheVariants as kind
 use Rattle.swi_command.specs.declared.command.CacheOptions.{CacheOptions}
 use Rattle.swi_command.specs.declared.command.RunOptions.{RunOptions}
-use Rattle.swi_calls.specs.declared.end.End.{End}
 use Rattle.swi_calls.specs.declared.machine.Machine.{Machine}
 use Rattle.swi_calls.specs.Flat.{flat_start}
 use Rattle.swi_calls.specs.State.{FlatState}
-use Rattle.swi_rom.specs.Record.{Record, writes}
+use Rattle.swi_rom.specs.Record.{Record}
 use Rattle.swi_rom.specs.Service.{Cache}
 use Rattle.swi_report.specs.declared.stats.Work.{Work}
 use Rattle.swi_hart.specs.Hart.{HartData}
@@ -33,36 +29,32 @@ use Rattle.swi_cached.specs.Answers as run
 use Rattle.swi_cached.specs.CachedRan.{Around}
 use Rattle.swi_hart.specs.declared.fault.BoardFault.{BoardFault}
 use Rattle.swi_hart.specs.declared.fault.BoardFault.TheVariants as board
-use Rattle.swi_cached.specs.Ringed.{ringed}
-use Rattle.swi_cached.specs.Slotted.{slotted}
 use Rattle.swi_cached.specs.Told.{addresses, history_of, next_error, told_line}
 use Rattle.swi_memory.specs.Bus.{AreaData}
 use Rattle.std.proofs.Math.Seq.{take-append_seam, take-length}
 use Rattle.std.proofs.lemmas.List.{take-append-drop}
-use Rattle.swi_cached.specs.Cached.{CachedRun, IsCounted, end_of, program_after, told_after, instructions_after, fetches_after, words_after, record_after, unfetched}
-use Rattle.swi_cached.proofs.Failed.{are_counted, is_flat_run, stops_before_store}
+use Rattle.swi_cached.specs.Cached.{CachedRun, IsCounted, end_of, program_after, told_after, instructions_after, words_after, record_after}
+use Rattle.swi_cached.proofs.Failed.{is_flat_run, stops_before_store}
 use Rattle.swi_board.specs.Fetching.{FetchedFront}
 use Rattle.swi_answer.specs.declared.answer.Ending.{Ending}
 use Rattle.swi_answer.specs.declared.answer.Refusal.{Refusal}
 use Rattle.swi_answer.specs.declared.answer.Refusal.TheVariants as refusal
 use Rattle.swi_answer.specs.Lines.{ending_line}
-use Rattle.swi_task.specs.Answers.{Answers, AreGiven, IsAskedFor, IsChecked, IsSizeRefusal}
-use Rattle.swi_cached_command.specs.Caching.{IsCachedRun, RamCounted, board_work, cache_by, cache_for, work_of}
+use Rattle.swi_task.specs.Answers.{Answers, IsChecked}
+use Rattle.swi_cached_task.specs.Caching.{board_work, cache_for, cached_run, held_next}
+use Rattle.swi_cached_task.specs.Placing.{cached_checks}
+use Rattle.swi_cached_task.proofs.Caching.{cached_run_is, cached_to, front_none, keeps_all, keeps_run, ran_all, run_err_asked, run_err_checked, run_err_given, run_err_not, run_err_short, run_err_size, to_nil, work_is}
 use Rattle.swi_task.specs.Causes.{HasCauses}
-use Rattle.swi_task.specs.Checks.{Check, IsAccepted, room_in, size_refusal}
+use Rattle.swi_task.specs.Checks.{IsAccepted, room_in, size_refusal}
 use Rattle.swi_task.specs.Devices.{Devices, stream_faults}
-use Rattle.swi_cached_command.specs.RunCached.{BrokeIn, CachedFailed, IsRunErr, RamBroke, RunsCached, RunsOver, addresses_in, cached_checks, cached_report, cached_run, held_next, last_lines, last_told, refusal_of, cached_task, shown_error}
+use Rattle.swi_cached_command.specs.RunCached.{BrokeIn, CachedFailed, RamBroke, RunsCached, RunsOver, addresses_in, cached_report, last_lines, last_told, refusal_of, cached_task, shown_error}
 use Rattle.swi_task.specs.Runs.{FailedAfterRun, FailedAtLine, ending_by, report, start_of}
 use Rattle.swi_task.specs.Subject.{IsImageFor}
 use Rattle.swi_task.proofs.Due.{left_empty}
 use Rattle.swi_cached_command.proofs.Tracing.{all_shown, last_is, shown_split, some_shown}
-use Rattle.swi_task.proofs.Refusals.{IsRead, IsTooLong, calm_causes, causes_behind, causes_of, keeps_read, none_long, out_causes, read_is, same_count, sized_along, sized_err, sized_ok}
+use Rattle.swi_task.proofs.Refusals.{IsRead, calm_causes, causes_behind, causes_of, keeps_read, none_long, out_causes, read_is, same_count, sized_along, sized_err, sized_ok}
 use Rattle.swi_task.proofs.Starts.{start_is}
 use Rattle.swi_task.proofs.Lines.{IsLined, after_line, after_run_line, appends_last, at_step_line, holds_then, ran_line}
-
--- the devices after a run
-abbrev pub ran_all : Devices → SourceState → SinkState → SinkState → RamState → Devices
-ran_all d i o e ram = record d { input = i; output = o; error = e; ram = ram }
 
 -- what the run sees of them
 abbrev pub around_of : Devices → Around
@@ -71,9 +63,6 @@ around_of d = record { ram = d.ram; devices = record { input = d.input; output =
 -- the cached run of a program with this input
 abbrev pub run_with : RunOptions → Cache → ImageData → ProgramData → Layout → List ℕ → CachedRun
 run_with o cache v p l input = cached_run cache o v (flat_start p l o.reports.calls input)
-
-pub keeps_all : (n : ℕ) (r : RamState) → KeepsBeyond n r r
-keeps_all n r = record { same_length = refl; beyond = λ i h. refl; reached = omega arith }
 
 no_memory : (o : RunOptions) (cache : Cache) (v : ImageData) (p : ProgramData) (l : Layout) (d : Devices) →
     RunsOver o cache v p l d d (Err refusal.Memory)
@@ -141,9 +130,6 @@ failed_so o c d m r last broke words = record { broke = broke; fetched_at = word
 all_words : (c : CachedRun) (before after : RamState) → run.RamAfter c before after → FetchedFront (words_after c c.limit) before after
 all_words c before after h = ([], record { fetched = words_after c c.limit; are = h.fetched_at; front = append-nil (words_after c c.limit) })
 
-pub to_nil : (a b : Option (List ℕ)) (x : List ℕ) → Appends a b x → Appends a b (x ++ [])
-to_nil a b x h = subst (λ (y : List ℕ). Appends a b y) (sym (append-nil x)) h
-
 -- the error sink failed at the line of a step, or behind all of its output
 at_line : (c : CachedRun) (n : ℕ) (d m : Devices) →
     run.FailedAtLine c n d.output.held m.output.held d.error.held m.error.held ⊎ Appends d.output.held m.output.held ((program_after c n).output ++ (held_next (program_after c n)).output) →
@@ -180,11 +166,6 @@ ram_failed {T} o cache v p l d i out e ram kept words broke h = record {
   beyond = kept;
   causes = stop_causes {T = T} (stop.Fault board.RamFault) d (ran_all d i out e ram) refl h;
 }
-
-pub front_none : (a b : Option (List ℕ)) (x y : List ℕ) (n : ℕ) → n ≡ 0 → Appends a b (x ++ take n y) → Appends a b x
-front_none a b x y n zero h =
-    let all : Appends a b (x ++ []) = subst (λ (k : ℕ). Appends a b (x ++ take k y)) zero h in
-    subst (λ (z : List ℕ). Appends a b z) (append-nil x) all
 
 source_failed : {T : Type 0} (o : RunOptions) (cache : Cache) (v : ImageData) (p : ProgramData) (l : Layout) (d : Devices) (i : SourceState) (out e : SinkState) (ram : RamState) →
     KeepsBeyond cache.span d.ram ram →
@@ -295,15 +276,6 @@ handed_on (Err f) x h = (f, refl, h)
 abbrev pub board_report : RunOptions → HartData → Record → List ℕ
 board_report o h r = report o.reports h.machine (Some (board_work h.count h.machine.ending r))
 
-pub fetches_are : (instructions fetches none : ℕ) → instructions ≡ 1 + fetches + none → instructions - 1 - none ≡ fetches
-fetches_are instructions fetches none e = omega (arith, e)
-
--- at the end its counts are those of the run
-pub work_is : (c : CachedRun) → IsCounted c → board_work (instructions_after c c.limit) (end_of c).machine.ending (record_after c c.limit) ≡ work_of c
-work_is c counted =
-    ap (λ (n : ℕ). record (work_of c) { fetches = n })
-    (fetches_are (instructions_after c c.limit) (fetches_after c c.limit) (unfetched (end_of c).machine.ending) (counted c.limit))
-
 report_is : (o : RunOptions) (c : CachedRun) (h : HartData) (r : Record) → h.machine ≡ (end_of c).machine → h.count ≡ instructions_after c c.limit →
     r ≡ record_after c c.limit → IsCounted c → board_report o h r ≡ cached_report o c
 report_is o c h r machine count kept counted =
@@ -311,28 +283,6 @@ report_is o c h r machine count kept counted =
     ∙ ap (λ (n : ℕ). report o.reports (end_of c).machine (Some (board_work n (end_of c).machine.ending r))) count
     ∙ ap (λ (k : Record). report o.reports (end_of c).machine (Some (board_work (instructions_after c c.limit) (end_of c).machine.ending k))) kept
     ∙ ap (λ (w : Work). report o.reports (end_of c).machine (Some w)) (work_is c counted)
-
--- a count that rises by a number of 64 bits
-pub risen_min : (n more : ℕ) → risen n more ≡ risen n (min more (2 ^ 64 - 1))
-risen_min n more = grind arith
-
-ram_counted : (c : CachedRun) (before after : RamState) → run.RamAfter c before after → RamCounted (work_of c) before after
-ram_counted c before after h = record { fetches = h.fetches; sets = h.sets ∙ risen_min before.sets (writes (record_after c c.limit)) }
-
--- what a run is that came to its end
-pub cached_run_is : (c : CachedRun) (h : HartData) (r : Record) (i o p e f : Option (List ℕ)) (before after : RamState) → run.Ended c h r i o p e f → run.IsShort h →
-    run.RamAfter c before after → IsCounted c → IsCachedRun c before after
-cached_run_is c h r i o p e f before after b s ram counted = record {
-  flat = is_flat_run c;
-  stops = stops_before_store c;
-  ram = ram;
-  counted = ram_counted c before after ram;
-  most = subst (λ (n : ℕ). n ≤ 3 * (end_of c).machine.steps + 2) b.count (subst (λ (m : Machine). h.count ≤ 3 * m.steps + 2) b.machine s.most);
-  fewer = λ never. subst (λ (n : ℕ). n ≤ 3 * (end_of c).machine.steps + 1) b.count
-      (subst (λ (m : Machine). h.count ≤ 3 * m.steps + 1) b.machine (s.fewer (λ a is. never a (ap (λ (m : Machine). m.ending) (sym b.machine) ∙ is))));
-  each = counted;
-  words = are_counted c;
-}
 
 -- none of the board's devices failed in the run
 pub record IsQuiet (before after : Devices) : Type 0 where
@@ -343,11 +293,6 @@ pub quiet_run : {T : Type 0} {before after : Devices} (r : Result T CachedStop) 
     MatchResult r (λ x. ◌≡◌ {A = Result T Refusal} (Ok y) (Ok x)) (λ _. ⊥) → IsQuiet before after
 quiet_run (Ok x) y h is = record { streams = ok_unmoved h.streams; ram_same = same_count h.ram_cause (λ e. let bad : ⊥ = cc in bad) }
 quiet_run (Err f) y h is = absurd is
-
--- how it ended, as its board says it
-pub ending_is : {x : Ending} {e f : Option End} {a b n m : ℕ} → x ≡ ending_by e a n → e ≡ f → a ≡ b → n ≡ m → x ≡ ending_by f b m
-ending_is {x} {e} {f} {a} {b} {n} {m} is ends pc steps =
-    is ∙ ap (λ (k : Option End). ending_by k a n) ends ∙ ap (λ (k : ℕ). ending_by f k n) pc ∙ ap (λ (k : ℕ). ending_by f b k) steps
 
 -- a run that came to its end, on a board with this hart and this record of its service, and with this history
 pub record IsEnded (o : RunOptions) (cache : Cache) (v : ImageData) (p : ProgramData) (l : Layout) (d : Devices) (h : HartData) (r : Record) (i : SourceState) (mid em : SinkState) (ram : RamState) (history : Option (List ℕ)) : Type 0 where
@@ -477,46 +422,12 @@ module _ {o : RunOptions} {cache : Cache} {v : ImageData} {p : ProgramData} {l :
 
 -- ---- from the run of a file's program to the command's answer
 
-pub keeps_less : (a b : ℕ) (r s : RamState) → a ≤ b → KeepsBeyond a r s → KeepsBeyond b r s
-keeps_less a b r s h k = record {
-  same_length = k.same_length;
-  beyond = λ i from. k.beyond i (omega arith);
-  reached = omega (arith, k.reached);
-}
-
-span_within : (n b : ℕ) → n / (4 * b) * b ≤ n / 4
-span_within n b =
-    let whole : n / (4 * b) * (4 * b) ≤ n = div-mul-le_self n (4 * b) in
-    let apart : n / (4 * b) * (4 * b) ≡ 4 * (n / (4 * b) * b) = omega arith in
-    omega arith
-
--- the service that is made is that of the kind which the options name
-pub slots_chosen : (cache : CacheOptions) (v : ImageData) (k : Cache) → cache.kind ≡ kind.Slots → k ≡ slotted cache.cache_bytes v → k ≡ cache_for cache v
-slots_chosen cache v k is same = same ∙ sym (ap (λ (x : CacheKind). cache_by x cache.cache_bytes v) is)
-
-pub ring_chosen : (cache : CacheOptions) (v : ImageData) (k : Cache) → cache.kind ≡ kind.Ring → k ≡ ringed cache.cache_bytes → k ≡ cache_for cache v
-ring_chosen cache v k is same = same ∙ sym (ap (λ (x : CacheKind). cache_by x cache.cache_bytes v) is)
-
 -- the run over it is the run in the cache that the options name
 pub in_cache : (o : RunOptions) (cache : CacheOptions) (v : ImageData) (p : ProgramData) (l : Layout) (d m : Devices) (r : Result Ending Refusal) (k : Cache) → k ≡ cache_for cache v →
     RunsOver o k v p l d m r → RunsOver o (cache_for cache v) v p l d m r
 in_cache o cache v p l d m r k is run = subst (λ (x : Cache). RunsOver o x v p l d m r) is run
 
--- ---- a file whose program is placed passes every check
-
 -- ---- what the command answers
-
--- either cache lies in its bytes
-span_of_kind : (k : CacheKind) (bytes : ℕ) (v : ImageData) → (cache_by k bytes v).span ≤ bytes / 4
-span_of_kind kind.Slots bytes v = span_within bytes v.block_words
-span_of_kind kind.Ring bytes v = omega arith
-
-pub keeps_run : (cache : CacheOptions) (v : ImageData) (r s : RamState) → KeepsBeyond (cache_for cache v).span r s → KeepsBeyond (cache.cache_bytes / 4) r s
-keeps_run cache v r s k = keeps_less _ _ r s (span_of_kind cache.kind cache.cache_bytes v) k
-
--- the devices after the command
-abbrev pub cached_to : Devices → ShelfState → SourceState → SinkState → SinkState → RamState → Devices
-cached_to d s i out e ram = record d { shelf = s; input = i; output = out; error = e; ram = ram }
 
 done_again : (o : RunOptions) (r : CachedRun) (d m : Devices) (s : ShelfState) (e : Ending) → RunsCached o r (record d { shelf = s }) m e [] → RunsCached o r d m e []
 done_again o r d m s e h = record {
@@ -562,42 +473,6 @@ left_again o k d m s r h = failed_so o k d m r [] (elim h.broke [
     | inr p ↦ let a = p.0 in inr (record { output_front = a.output_front; output = a.output; error_front = a.error_front; error = a.error; behind = a.behind; input = a.input; fault = a.fault }, p.1)
   ])
 ]) h.fetched_at
-
-pub run_err_not : (r s : Refusal) → IsRunErr r → (IsRunErr s → ⊥) → IsErrOf {T = Ending} (Err r) s → ⊥
-run_err_not r s h never e = never (let p : r ≡ s = cc in subst IsRunErr p h)
-
-pub run_err_size : (r : Refusal) → IsRunErr r → IsSizeRefusal r → ⊥
-run_err_size (refusal.CacheLarge bytes) h f = h
-run_err_size (refusal.RamSmall bytes held) h f = h
-run_err_size _ h f = f
-
-pub run_err_asked : (failed : Option Asked) (r : Refusal) → IsRunErr r → IsAskedFor 1 0 failed (Err r) 1 0
-run_err_asked failed refusal.SourceFault h = (refl, refl)
-run_err_asked failed refusal.SinkFault h = (refl, refl)
-run_err_asked failed refusal.RamFault h = (refl, refl)
-run_err_asked failed refusal.Memory h = (omega arith, omega arith, λ _. refl)
-run_err_asked failed _ h = absurd h
-
-pub run_err_given : (failed : Option Asked) (r : Refusal) → IsRunErr r → AreGiven failed (Err r) 1 1
-run_err_given failed refusal.SourceFault h = refl
-run_err_given failed refusal.SinkFault h = refl
-run_err_given failed refusal.RamFault h = refl
-run_err_given failed refusal.Memory h = (omega arith, omega arith)
-run_err_given failed _ h = absurd h
-
-pub run_err_short : (r : Refusal) → IsRunErr r → IsTooLong r → ⊥
-run_err_short refusal.SourceFault h long = long
-run_err_short refusal.SinkFault h long = long
-run_err_short refusal.RamFault h long = long
-run_err_short refusal.Memory h long = long
-run_err_short _ h long = h
-
-pub run_err_checked : (checks : List Check) (last : Option Asked) (r : Refusal) → IsRunErr r → IsAccepted checks → IsChecked checks last (Err r)
-run_err_checked checks last refusal.SourceFault h passed = passed
-run_err_checked checks last refusal.SinkFault h passed = passed
-run_err_checked checks last refusal.RamFault h passed = passed
-run_err_checked checks last refusal.Memory h passed = tt
-run_err_checked checks last _ h passed = absurd h
 
 -- either way
 pub cached_answers : (name : List ℕ) (cache : CacheOptions) (o : RunOptions) (d : Devices) (s : ShelfState) (i : SourceState) (out e : SinkState) (ram : RamState) (bytes : List ℕ) (v : ImageData) (l : Layout) (r : Result Ending Refusal) →

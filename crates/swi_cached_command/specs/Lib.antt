@@ -1,2 +1,1 @@
-pub mod Caching
 pub mod RunCached

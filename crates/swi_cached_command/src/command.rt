@@ -1,7 +1,7 @@
 //! The commands `cached` and `trace`: a run on the cached machine.
 #![tactic(auto)]
 
-ghost use Rattle.std.specs.Prelude.{◌≡◌, ◌*◌, ◌^◌, ◌≤◌, IfOk, IfErr, OnOk, [], length};
+ghost use Rattle.std.specs.Prelude.{◌≡◌, ◌*◌, ◌^◌, ◌≤◌, [], length};
 ghost use Rattle.swi_outside.specs.Source.{HasGiven};
 ghost use Rattle.swi_outside.specs.Told.{AsTold};
 ghost use Rattle.swi_command.specs.CommandLine.{IsCacheInRange, IsInRange};
@@ -11,10 +11,9 @@ ghost use Rattle.swi_render.specs.ImageOf.{IsImageOf};
 ghost use Rattle.swi_rom.specs.Service.{cache_of};
 ghost use Rattle.swi_cached.specs.Cached.{IsFresh};
 ghost use Rattle.swi_task.specs.Answers.{Answers};
-ghost use Rattle.swi_cached_command.specs.Caching.{cache_for};
-ghost use Rattle.swi_task.specs.Checks.{IsAccepted, IsRefusedOr, file_limit};
+ghost use Rattle.swi_cached_task.specs.Caching.{cache_for};
 ghost use Rattle.swi_task.specs.Devices.{Devices, seen};
-ghost use Rattle.swi_cached_command.specs.RunCached.{IsPlaced, RunsOver, cached_checks, refusal_of, cached_task};
+ghost use Rattle.swi_cached_command.specs.RunCached.{RunsOver, refusal_of, cached_task};
 ghost use Rattle.swi_task.specs.Subject.{view_of};
 
 use crate::report::report_board;
@@ -23,16 +22,14 @@ use std::alloc::Global;
 use swi_answer::{Ending, Refusal};
 use swi_board::BoardFault;
 use swi_cached::{AskedRun, CachedStop, ring_for, run_cached, slots_for};
-use swi_command::{CacheKind, CacheOptions, RunLimits, RunOptions};
+use swi_cached_task::{Placed, place};
+use swi_command::{CacheKind, CacheOptions, RunOptions};
 use swi_image::ImageView;
 use swi_memory::Layout;
 use swi_outside::{Shelf, Sink, Source, SteadyRam};
 use swi_program::Program;
 use swi_rom::CacheRom;
-use swi_task::{
-    Prepared, Subject, SubjectImage, accept, check_block, check_size, ending_by, prepare,
-    read_file, subject_of,
-};
+use swi_task::{SubjectImage, check_size, ending_by, read_file};
 
 /// What a run is refused with that stopped so.
 fn refusal_of(stop: CachedStop) -> Refusal
@@ -132,35 +129,6 @@ fn run_program<I: Source, O: Sink, E: Sink, R: SteadyRam>(
             )
         }
     }
-}
-
-/// A subject with the layout of its program.
-#[derive(Drop)]
-pub struct Placed<'a> {
-    pub subject: Subject<'a>,
-    pub layout: Layout,
-}
-
-/// The program of a file with its layout, and with the image that the file has or else the greedy cut of its text: the
-/// file passes every check of a run in this cache.
-pub fn place<'a>(
-    alloc: Global,
-    file: &'a [u8],
-    cache: &CacheOptions,
-    limits: &RunLimits,
-) -> Result<Placed<'a>, Refusal>
-    requires within { length file.now ≤ file_limit }
-    requires ranges { IsInRange limits.now }
-    requires sizes { IsCacheInRange cache.now }
-    ensures placed { IfOk result (IsPlaced file.now limits.now cache.now) }
-    ensures accepted { OnOk result (IsAccepted (cached_checks limits.now cache.now file.now)) }
-    ensures refused { IfErr result (IsRefusedOr (cached_checks limits.now cache.now file.now)) }
-{
-    let elf = accept(file)?;
-    let Prepared { program, layout } = prepare(alloc, &elf, limits)?;
-    let subject = subject_of(alloc, &elf, program, cache.block_words)?;
-    check_block(cache.cache_bytes, subject.block_words())?;
-    Ok(Placed { subject, layout })
 }
 
 /// Runs a placed program on the cached machine, in the cache that the options name.

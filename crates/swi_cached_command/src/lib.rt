@@ -1,9 +1,8 @@
-//! The commands `cached` and `trace`, and what other commands over the cached machine share with them.
+//! The commands `cached` and `trace`.
 #![tactic(auto)]
 
 mod command;
 mod report;
 mod trace;
 
-pub use command::{Placed, cached, place};
-pub use report::board_work;
+pub use command::cached;

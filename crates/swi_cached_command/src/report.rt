@@ -5,39 +5,14 @@ ghost use Rattle.std.specs.Prelude.{◌≡◌, OnErr, Some, []};
 ghost use Rattle.swi_outside.specs.Causes.{HasCause};
 ghost use Rattle.swi_outside.specs.Sink.{WritesPiece};
 ghost use Rattle.swi_task.specs.Runs.{report};
-ghost use Rattle.swi_cached_command.specs.Caching.{board_work};
+ghost use Rattle.swi_cached_task.specs.Caching.{board_work};
 
 use swi_board::Board;
-use swi_calls::End;
+use swi_cached_task::board_work;
 use swi_command::Reports;
-use swi_exec::FaultKind;
 use swi_outside::{Failed, Sink};
-use swi_report::Work;
 use swi_rom::CacheRom;
 use swi_task::write_report;
-
-/// What a board has done besides the steps of its program.
-pub fn board_work<S: CacheRom>(board: &Board<S>) -> Work
-    ensures { result ≡ board_work board.now.hart.count board.now.hart.machine.ending (S.service.kept board.now.rom) }
-{
-    let counts = board.rom().counts();
-    let unfetched = match board.ending() {
-        Some(End::Faulted(FaultKind::FetchAccess, _)) => 1,
-        _ => 0,
-    };
-    Work {
-        machine: board.machine_steps(),
-        fetches: board
-            .machine_steps()
-            .saturating_sub(1)
-            .saturating_sub(unfetched),
-        writes: counts
-            .copied
-            .saturating_add(counts.links)
-            .saturating_add(counts.unlinks),
-        counts,
-    }
-}
 
 /// Writes what is asked for of a board's end.
 pub(crate) fn report_board<O: Sink, S: CacheRom>(

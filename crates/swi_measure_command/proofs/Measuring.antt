@@ -37,7 +37,7 @@ use Rattle.swi_answer.specs.declared.answer.Refusal.TheVariants as refusal
 use Rattle.swi_answer.specs.Lines.{ending_line}
 use Rattle.swi_task.specs.Answers.{Answers, AreGiven, HasPassed, HasStored, IsAskedFor, KeepsShelf, writes_in}
 use Rattle.swi_task.specs.Task.{Task}
-use Rattle.swi_cached_command.specs.Caching.{IsCachedRun, board_work, cache_for}
+use Rattle.swi_cached_task.specs.Caching.{IsCachedRun, board_work, cache_for}
 use Rattle.swi_task.specs.Causes.{HasCauses}
 use Rattle.swi_task.specs.Checks.{HoldsBlock, Fails, IsLong, IsRefusedBy, size_refusal}
 use Rattle.swi_task.specs.Devices.{Devices, stream_faults}
@@ -51,7 +51,7 @@ use Rattle.swi_cached.specs.Answers.{InSteps}
 use Rattle.swi_cached.specs.CachedRan.{Around, Given}
 use Rattle.swi_measure_command.specs.MeasureMade.{IsMadeRun, MadeRamFailed, MadeRan, MadeRunBroke, MeasuresOver, SummaryBroke, board_summary, made_ending, made_ending_by, made_run, made_summary, measure_checks, measure_task, nowhere, summary_by}
 use Rattle.swi_task.proofs.Refusals.{asked_none, calm_causes, causes_of, checked_by, contents_stay, gave_none, given_all, given_short, late, none_before, none_long, none_longer, out_causes, passed_none, refused_late, rose_cause, same_all, short_refused, sized_along, sized_err, sized_ok, stores_none}
-use Rattle.swi_cached_command.proofs.Caching.{cached_run_is, keeps_run, work_is}
+use Rattle.swi_cached_task.proofs.Caching.{cached_run_is, keeps_run, work_is}
 use Rattle.swi_task.proofs.Due.{some_bytes}
 use Rattle.swi_task.proofs.Lines.{IsLined, appends_as, appends_last, behind_ending, take_all}
 

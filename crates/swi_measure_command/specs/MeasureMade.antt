@@ -28,7 +28,7 @@ use Rattle.swi_answer.specs.declared.answer.Ending.TheVariants as ending
 use Rattle.swi_answer.specs.declared.answer.Refusal.{Refusal}
 use Rattle.swi_answer.specs.declared.answer.Refusal.TheVariants as refusal
 use Rattle.swi_answer.specs.Lines.{ending_line}
-use Rattle.swi_cached_command.specs.Caching.{IsCachedRun, board_work, cache_for, work_of}
+use Rattle.swi_cached_task.specs.Caching.{IsCachedRun, board_work, cache_for, work_of}
 use Rattle.swi_task.specs.Causes.{HasCauses}
 use Rattle.swi_task.specs.Checks.{InRam, Check, FitsMade, HoldsBlock}
 use Rattle.swi_task.specs.Devices.{Devices}

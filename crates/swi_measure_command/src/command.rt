@@ -25,7 +25,7 @@ use std::alloc::Global;
 use swi_answer::{Ending, Refusal};
 use swi_board::{Board, BoardFault};
 use swi_cached::{AskedRun, CachedStop, ring_for, run_cached, slots_for};
-use swi_cached_command::board_work;
+use swi_cached_task::board_work;
 use swi_calls::End;
 use swi_command::{CacheKind, CacheOptions};
 use swi_image::ImageView;

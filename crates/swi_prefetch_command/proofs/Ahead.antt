@@ -59,15 +59,15 @@ use Rattle.swi_answer.specs.declared.answer.Refusal.TheVariants as refusal
 use Rattle.swi_answer.specs.Lines.{ending_line}
 use Rattle.swi_prefetch_command.specs.declared.command.AheadAsked.{AheadAsked}
 use Rattle.swi_task.specs.Answers.{Answers, IsChecked, IsRunFault}
-use Rattle.swi_cached_command.specs.Caching.{board_work}
+use Rattle.swi_cached_task.specs.Caching.{IsRunErr, board_work, held_next}
 use Rattle.swi_task.specs.Causes.{HasCauses}
 use Rattle.swi_task.specs.Checks.{IsAccepted, room_in, size_refusal}
 use Rattle.swi_task.specs.Devices.{Devices, stream_faults}
 use Rattle.swi_prefetch_command.specs.RunAhead.{AheadFailed, HasFetchedEach, IsAheadRun, IsFlatFrom, RamBrokeAhead, RunsAhead, RunsToEnd, RunsWithReport, StepBrokeAhead, StopsFrom, ahead_asked, ahead_from, ahead_report, ahead_run, ahead_span, ahead_task, ahead_work, around, board_report, board_work_with, engine_lines, engine_work, fault_refusal, report_with}
-use Rattle.swi_cached_command.specs.RunCached.{IsRunErr, cached_checks, held_next}
+use Rattle.swi_cached_task.specs.Placing.{cached_checks}
 use Rattle.swi_task.specs.Runs.{ending_by, start_of}
 use Rattle.swi_task.specs.Subject.{IsImageFor}
-use Rattle.swi_cached_command.proofs.Caching.{cached_to, fetches_are, front_none, keeps_all, keeps_less, ran_all, risen_min, run_err_asked, run_err_given, run_err_short, run_err_checked, run_err_not, run_err_size, to_nil}
+use Rattle.swi_cached_task.proofs.Caching.{cached_to, fetches_are, front_none, keeps_all, keeps_less, ran_all, risen_min, run_err_asked, run_err_given, run_err_short, run_err_checked, run_err_not, run_err_size, to_nil}
 use Rattle.swi_task.proofs.Due.{left_empty, right_empty}
 use Rattle.swi_task.proofs.Starts.{start_is}
 use Rattle.swi_task.proofs.Lines.{IsLined, after_line, after_run_line, appends_last, holds_then, ran_line, step_line}

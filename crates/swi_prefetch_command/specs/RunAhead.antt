@@ -42,11 +42,11 @@ use Rattle.swi_answer.specs.declared.answer.Refusal.{Refusal}
 use Rattle.swi_answer.specs.declared.answer.Refusal.TheVariants as refusal
 use Rattle.swi_prefetch_command.specs.declared.command.AheadAsked.{AheadAsked}
 use Rattle.swi_task.specs.Answers.{IsRunFault}
-use Rattle.swi_cached_command.specs.Caching.{RamCounted, board_work}
+use Rattle.swi_cached_task.specs.Caching.{IsRunErr, RamCounted, board_work, held_next, held_taken}
 use Rattle.swi_task.specs.Causes.{HasCauses}
 use Rattle.swi_task.specs.Checks.{InRam}
 use Rattle.swi_task.specs.Devices.{Devices}
-use Rattle.swi_cached_command.specs.RunCached.{IsRunErr, cached_checks, held_next, held_taken}
+use Rattle.swi_cached_task.specs.Placing.{cached_checks}
 use Rattle.swi_task.specs.Runs.{FailedAfterRun, Ran, StepFailed, report, start_of}
 use Rattle.swi_task.specs.Subject.{IsImageFor}
 use Rattle.swi_task.specs.Task.{Task}

@@ -21,7 +21,7 @@ ghost use Rattle.swi_task.specs.Subject.{view_of};
 use std::alloc::Global;
 use swi_answer::{Ending, Refusal};
 use swi_board::{Board, BoardFault, BootStop};
-use swi_cached_command::{Placed, board_work, place};
+use swi_cached_task::{Placed, board_work, place};
 use swi_command::{CacheOptions, Reports, RunOptions};
 use swi_engine::EngineRom;
 use swi_image::ImageView;

@@ -25,8 +25,8 @@ use Rattle.swi_task.specs.Runs.{Ran, ending_of, report, start_of}
 use Rattle.swi_task.specs.Task.{AreFiles, Task}
 use Rattle.swi_task.proofs.Lines.{errors_later, rose_below}
 use Rattle.swi_file_commands.specs.RunPlain.{plain_report, plain_task}
-use Rattle.swi_cached_command.specs.Caching.{cache_for, work_of}
-use Rattle.swi_cached_command.specs.RunCached.{cached_run, cached_task, shown_error}
+use Rattle.swi_cached_task.specs.Caching.{cache_for, cached_run, work_of}
+use Rattle.swi_cached_command.specs.RunCached.{cached_task, shown_error}
 use Rattle.swi_prefetch_command.specs.RunAhead.{ahead_asked, ahead_report, ahead_run, ahead_task, ahead_work, engine_lines, engine_work}
 use Rattle.swi_prefetch.specs.Scheduled.{moment_after}
 use Rattle.swi_top.proofs.Alike.{no_counts, report_more, whole_line}

@@ -10,7 +10,7 @@ use Rattle.swi_task.specs.Checks.{FitsBlocks, HasRoom, IsAccepted, Passes, block
 use Rattle.swi_file_commands.specs.ListFile.{list_checks}
 use Rattle.swi_file_commands.specs.RewriteFile.{rewrite_checks}
 use Rattle.swi_file_commands.specs.RunPlain.{plain_checks}
-use Rattle.swi_cached_command.specs.RunCached.{cached_checks}
+use Rattle.swi_cached_task.specs.Placing.{cached_checks}
 use Rattle.swi_share_command.specs.RunShared.{guest_checks}
 use Rattle.swi_rewrite_laws.specs.Ran.{Outcome, IsOutcomeOf, RunAlike}
 

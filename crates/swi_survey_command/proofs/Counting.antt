@@ -13,7 +13,7 @@ use Rattle.swi_calls.specs.Flat.{machine_of}
 use Rattle.swi_rom.specs.Record.{Record, writes}
 use Rattle.swi_report.specs.declared.stats.Work.{Work}
 use Rattle.swi_cached.specs.Cached.{record_after}
-use Rattle.swi_cached_command.specs.Caching.{work_of}
+use Rattle.swi_cached_task.specs.Caching.{work_of}
 use Rattle.swi_tally.specs.Tallies.{Row, row_at}
 use Rattle.swi_survey.specs.declared.survey.Surveyed.{Surveyed}
 use Rattle.swi_survey.specs.Survey as survey

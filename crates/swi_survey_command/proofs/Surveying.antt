@@ -48,8 +48,8 @@ use Rattle.swi_task.proofs.Refusals.{IsRead, calm_causes, causes_behind, keeps_r
 use Rattle.swi_task.proofs.Starts.{start_is}
 use Rattle.swi_file_commands.specs.RunPlain.{read_room_of}
 use Rattle.swi_file_commands.proofs.Running.{from_none, refusal_of as flat_refusal, run_causes, run_to, step_failed, streams_of}
-use Rattle.swi_cached_command.specs.RunCached.{IsRunErr}
-use Rattle.swi_cached_command.proofs.Caching.{run_err_asked, run_err_checked, run_err_given, run_err_not, run_err_short, run_err_size}
+use Rattle.swi_cached_task.specs.Caching.{IsRunErr}
+use Rattle.swi_cached_task.proofs.Caching.{run_err_asked, run_err_checked, run_err_given, run_err_not, run_err_short, run_err_size}
 use Rattle.swi_survey_command.specs.RunSurvey.{SurveyBroke, SurveyFailed, SurveyRun, Surveys, SurveysOver, counting, limit_of, refusal_of, run_through, survey_checks, survey_from, survey_lines, survey_of, survey_task, surveyed}
 use Rattle.swi_survey_command.proofs.Counting.{run_as}
 

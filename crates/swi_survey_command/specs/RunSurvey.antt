@@ -29,10 +29,9 @@ use Rattle.swi_task.specs.Devices.{Devices}
 use Rattle.swi_task.specs.Runs.{Ran, FailedAtStep, FailedAfterRun, start_of}
 use Rattle.swi_task.specs.Subject.{IsImageFor, IsSubject}
 use Rattle.swi_task.specs.Task.{Task}
-use Rattle.swi_cached_command.specs.declared.command.Placed.{Placed}
-use Rattle.swi_cached_command.specs.Caching.{cache_by, work_of}
+use Rattle.swi_cached_task.specs.declared.placed.Placed.{Placed}
+use Rattle.swi_cached_task.specs.Caching.{IsRunErr, cache_by, cached_run, work_of}
 use Rattle.swi_survey_command.specs.Rows.{size_line}
-use Rattle.swi_cached_command.specs.RunCached.{IsRunErr, cached_run}
 
 -- what `cached --stats` is asked for, with these limits
 abbrev pub counting : RunLimits → RunOptions

@@ -18,7 +18,7 @@ ghost use Rattle.swi_survey_command.specs.RunSurvey.{IsPlacedFor, SurveysOver, h
 use crate::rows::write_rows;
 use std::alloc::Global;
 use swi_answer::{Ending, Refusal};
-use swi_cached_command::Placed;
+use swi_cached_task::Placed;
 use swi_calls::CallFault;
 use swi_command::{CacheKind, RunLimits};
 use swi_image::ImageView;

@@ -29,8 +29,8 @@ use Rattle.swi_task.specs.Devices.{Devices, with_error_faults}
 use Rattle.swi_task.specs.Checks.{Check, OfImage, IsShort, IsAcceptedElf, HasRoom, HasImage, IsAcceptedImage, IsOwnImage, FitsBlocks, FitsUnlessImage, FitsMade, HoldsBlock, Fails, Passes, IsAccepted, IsRefusedBy, cache_refusal, text_in}
 use Rattle.swi_task.specs.Runs.{Ran, report, start_of}
 use Rattle.swi_task.specs.Answers.{AnswersWithLine}
-use Rattle.swi_cached_command.specs.Caching.{cache_for, work_of}
-use Rattle.swi_cached_command.specs.RunCached.{cached_run, cached_task, shown_end, shown_error}
+use Rattle.swi_cached_task.specs.Caching.{cache_for, cached_run, work_of}
+use Rattle.swi_cached_command.specs.RunCached.{cached_task, shown_end, shown_error}
 use Rattle.swi_file_commands.specs.RunPlain.{plain_report, plain_run, plain_task}
 use Rattle.swi_task.specs.Task.{Task}
 use Rattle.swi_top.specs.Tasks.{task_of}

@@ -3,13 +3,14 @@ use Rattle.std.proofs.lemmas.Result.{err_from_is_err_and}
 use Rattle.swi_outside.proofs.SourceLemmas.{given_still, rest_is}
 use Rattle.swi_outside.specs.Told.{told_as}
 use Rattle.swi_program.specs.Program.{ProgramData}
-use Rattle.swi_cached_command.specs.Caching.{cache_for}
+use Rattle.swi_cached_task.specs.Caching.{cache_for}
 use Rattle.swi_task.specs.Devices.{Devices, seen}
 use Rattle.swi_cached_command.specs.RunCached.{RunsOver, cached_task}
 use Rattle.swi_task.specs.Subject.{view_of}
 use Rattle.swi_task.specs.Task.{Task}
 use Rattle.swi_task.proofs.Refusals.{check_refused, read_is, read_refused, size_refused, too_long, was_read}
-use Rattle.swi_cached_command.proofs.Caching.{cached_answers, cached_to}
+use Rattle.swi_cached_task.proofs.Caching.{cached_to}
+use Rattle.swi_cached_command.proofs.Caching.{cached_answers}
 use Rattle.swi_cached_command.proofs.command.cached.Goals as goal
 
 pub returns-in_err-check_size-clause-gave : goal.returns-in_err-check_size-clause-gave

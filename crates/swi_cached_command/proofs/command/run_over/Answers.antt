@@ -1,5 +1,6 @@
 use Rattle.std.proofs.lemmas.Result.{err_from_is_err_and}
-use Rattle.swi_cached_command.proofs.Caching.{ending_is, handed_on, lines_broke, quiet_run, report_broke, run_ended, run_stopped}
+use Rattle.swi_cached_task.proofs.Caching.{ending_is}
+use Rattle.swi_cached_command.proofs.Caching.{handed_on, lines_broke, quiet_run, report_broke, run_ended, run_stopped}
 use Rattle.swi_task.proofs.Images.{let_through}
 use Rattle.swi_cached_command.proofs.command.run_over.Goals as goal
 

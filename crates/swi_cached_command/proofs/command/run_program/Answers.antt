@@ -1,5 +1,6 @@
 use Rattle.swi_outside.proofs.SourceLemmas.{given_still, rest_is}
-use Rattle.swi_cached_command.proofs.Caching.{in_cache, none_run, ring_chosen, slots_chosen}
+use Rattle.swi_cached_task.proofs.Caching.{ring_chosen, slots_chosen}
+use Rattle.swi_cached_command.proofs.Caching.{in_cache, none_run}
 use Rattle.swi_cached_command.proofs.command.run_program.Goals as goal
 
 pub returns-in-Ok-clause-gave : goal.returns-in-Ok-clause-gave

@@ -3,7 +3,7 @@ use Rattle.std.proofs.lemmas.Result.{err_from_is_err_and}
 use Rattle.swi_make.specs.Made.{IsMade}
 use Rattle.swi_task.specs.Devices.{Devices}
 use Rattle.swi_measure_command.specs.MeasureMade.{IsMadeRun, measure_task}
-use Rattle.swi_cached_command.proofs.Caching.{ring_chosen, slots_chosen}
+use Rattle.swi_cached_task.proofs.Caching.{ring_chosen, slots_chosen}
 use Rattle.swi_measure_command.proofs.Measuring.{made_long, made_memory, made_of, measured_so, ram_holds, small_refused}
 use Rattle.swi_task.proofs.Refusals.{refusal_is, size_refused}
 use Rattle.swi_measure_command.proofs.command.measure.Goals as goal

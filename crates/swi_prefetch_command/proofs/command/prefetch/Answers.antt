@@ -9,7 +9,7 @@ use Rattle.swi_task.specs.Subject.{view_of}
 use Rattle.swi_task.specs.Task.{Task}
 use Rattle.swi_task.proofs.Refusals.{check_refused, read_is, read_refused, size_refused, too_long, was_read}
 use Rattle.swi_prefetch_command.proofs.Ahead.{ahead_answers}
-use Rattle.swi_cached_command.proofs.Caching.{cached_to}
+use Rattle.swi_cached_task.proofs.Caching.{cached_to}
 use Rattle.swi_prefetch_command.proofs.command.prefetch.Goals as goal
 
 pub returns-in_err-check_size-clause-gave : goal.returns-in_err-check_size-clause-gave

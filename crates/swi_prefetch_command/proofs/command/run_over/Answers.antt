@@ -1,6 +1,6 @@
 use Rattle.std.proofs.lemmas.Result.{err_from_is_err_and}
 use Rattle.swi_prefetch_command.proofs.Ahead.{report_broke, report_written, run_stopped}
-use Rattle.swi_cached_command.proofs.Caching.{ending_is}
+use Rattle.swi_cached_task.proofs.Caching.{ending_is}
 use Rattle.swi_prefetch_command.proofs.command.run_over.Goals as goal
 
 pub returns-in_err-prefetch-clause-gave : goal.returns-in_err-prefetch-clause-gave

@@ -4,7 +4,7 @@ use Rattle.std.specs.Prelude.{map}
 use Rattle.swi_outside.specs.Sink.{AppendsPrefix}
 use Rattle.swi_outside.specs.Told.{told_as}
 use Rattle.swi_outside.proofs.SourceLemmas.{rest_is}
-use Rattle.swi_cached_command.specs.Caching.{work_of}
+use Rattle.swi_cached_task.specs.Caching.{work_of}
 use Rattle.swi_file_commands.proofs.Running.{run_to}
 use Rattle.swi_survey.specs.Survey as survey
 use Rattle.swi_survey_command.specs.RunSurvey.{run_through, survey_from, survey_lines}

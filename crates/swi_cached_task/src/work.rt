@@ -1,0 +1,34 @@
+//! What a board has done whose run is over.
+#![tactic(auto)]
+
+ghost use Rattle.std.specs.Prelude.{◌≡◌};
+ghost use Rattle.swi_cached_task.specs.Caching.{board_work};
+
+use swi_board::Board;
+use swi_calls::End;
+use swi_exec::FaultKind;
+use swi_report::Work;
+use swi_rom::CacheRom;
+
+/// What a board has done besides the steps of its program.
+pub fn board_work<S: CacheRom>(board: &Board<S>) -> Work
+    ensures { result ≡ board_work board.now.hart.count board.now.hart.machine.ending (S.service.kept board.now.rom) }
+{
+    let counts = board.rom().counts();
+    let unfetched = match board.ending() {
+        Some(End::Faulted(FaultKind::FetchAccess, _)) => 1,
+        _ => 0,
+    };
+    Work {
+        machine: board.machine_steps(),
+        fetches: board
+            .machine_steps()
+            .saturating_sub(1)
+            .saturating_sub(unfetched),
+        writes: counts
+            .copied
+            .saturating_add(counts.links)
+            .saturating_add(counts.unlinks),
+        counts,
+    }
+}
