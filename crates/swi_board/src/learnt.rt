@@ -24,8 +24,8 @@ pub struct Learnt {
 }
 
 impl Learnt {
-    /// Nothing is learnt of an image. Memory where there is not enough of it: it takes 8 bytes a word of the image, and 132 KiB
-    /// for the ways.
+    /// Nothing is learnt of an image. Memory where there is not enough of it: it takes 8 bytes a word of the image, one a
+    /// block, and 131,840 for the ways.
     pub fn new(alloc: Global, image: &ImageView<'_>) -> Result<Learnt, Memory> {
         let ops = ImageOps::new(alloc, image)?;
         let ways = Ways::new(alloc)?;

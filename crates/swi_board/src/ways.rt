@@ -1,7 +1,7 @@
 //! Ways out of a block that a run has gone.
 #![tactic(auto)]
 
-ghost use Rattle.std.specs.Prelude.{◌≡◌, ◌%◌, ◌<◌, ◌^◌, IfOk, IfSome, None, Some, length, slice_index, true};
+ghost use Rattle.std.specs.Prelude.{◌≡◌, ◌%◌, ◌<◌, ◌^◌, IfSome, None, Some, length, slice_index, true};
 ghost use Rattle.swi_image_ops.specs.ImageOp.{row_of};
 ghost use Rattle.swi_outside.specs.CacheRam.{with_fetch};
 ghost use Rattle.swi_rom.specs.Record.{indirect};
