@@ -211,7 +211,7 @@ def built_program():
             raise Wrong(f"SWIC names no program: {named}")
         return pathlib.Path(found).absolute()
     if not BUILT.exists():
-        raise Wrong(f"swic isn't built yet: run {TOP / 'swic'} once, which proves and builds it in 20 to 30 minutes")
+        raise Wrong(f"swic isn't built yet: run {TOP / 'swic'} once, which proves and builds it in 20 to 25 minutes")
     asked = subprocess.run([TOP / "swic", "--version"], stdin=subprocess.DEVNULL, capture_output=True, text=True)
     if ", before " in asked.stdout:
         raise Wrong(f"a source is newer than the program that is built: run {TOP / 'swic'} once, which proves and builds it anew")
