@@ -113,8 +113,8 @@ fn boot_and_run<I: Source, O: Sink, E: Sink, R: SteadyRam, S: CacheRom>(
 /// policy; as many original steps are made as are asked for, or fewer where the program ends. The board that is answered
 /// has the service. It tells how the program ended, and what it cost; where it has not ended, `Board::run` runs it on.
 ///
-/// All memory is taken before the first call of a device: beside the program's and the service's, 16 bytes for each word
-/// of the image and one for each block, since each word is decoded once (`Board::boot`).
+/// All memory is taken before the first call of a device: beside the program's and the service's, 8 bytes for each word
+/// of the image, one for each block, and 131,840 for links and jumps, since each word is decoded once (`Board::boot`).
 ///
 /// The image is one of the program's text, and the layout is the program's. The service is sound for the image and the
 /// ram, and has done nothing yet. The history, where there is one, has the addresses of the last 32 steps, and with

@@ -1,23 +1,27 @@
 //! What a run's machine is, whatever fetches its words.
 #![tactic(auto)]
 
-ghost use Rattle.std.specs.Prelude.{◌≡◌, ◌<◌, ◌≤◌, ◌+◌, ◌^◌, ◌%◌, ℕ, None, OnOk, OnErr};
+ghost use Rattle.std.specs.Prelude.{◌≡◌, ◌<◌, ◌≤◌, ◌+◌, ◌^◌, ◌%◌, ℕ, None, IfOk, OnOk, OnErr};
 ghost use Rattle.swi_calls.specs.Call.{room_of_call, second_argument};
 ghost use Rattle.swi_calls.specs.Exchange.{Exchanged};
-ghost use Rattle.swi_calls.specs.Flat.{ended, call_made, exchange_of};
+ghost use Rattle.swi_calls.specs.Flat.{ended, call_made, exchange_of, machine_of};
 ghost use Rattle.swi_calls.specs.Moves.{ReadsInto};
 ghost use Rattle.swi_calls.specs.StoresText.{read_into_text};
 ghost use Rattle.swi_memory.specs.Bus.{fetched};
 ghost use Rattle.swi_outside.specs.Devices.{streams};
 ghost use Rattle.swi_outside.specs.Source.{ForInput};
+ghost use Rattle.swi_program.specs.Layout.{IsLayoutOf};
+ghost use Rattle.swi_program.specs.Text.{text_of, word_of, IsTextAddress};
 
 use crate::request::{Called, Request};
 use crate::system_call::{heap_after, serve, tell};
 use crate::{CallFault, End, Heap};
-use swi_exec::{A0, FaultKind, Regs};
+use std::alloc::Global;
+use swi_exec::{A0, FaultKind, Regs, SP};
 use swi_isa::Reg;
-use swi_memory::Bus;
-use swi_outside::{Sink, Source};
+use swi_memory::{Bus, Layout};
+use swi_outside::{Memory, Sink, Source};
+use swi_program::Program;
 
 /// A machine: all of a run but its input and what was written.
 #[derive(Drop)]
@@ -39,6 +43,34 @@ pub struct Machine {
 }
 
 impl Machine {
+    /// The machine that is about to run a program: at its entry, with the program's segments in memory, the stack pointer at
+    /// the stack's end and an empty heap. `l` is the layout that `lay_out` gives the program. The only error is want of
+    /// memory.
+    pub fn start(alloc: Global, p: &Program<'_>, l: &Layout, log: bool) -> Result<Machine, Memory>
+        requires laid_out { IsLayoutOf p.now.segments l.now }
+        ensures machine { IfOk result (λ m. m ≡ machine_of p.now l.now log) }
+        ensures text { IfOk result (λ m. (a : ℕ) → fetched m.bus a ≡ word_of (text_of p.now.segments) a) }
+        ensures entry { IsTextAddress (text_of p.now.segments) p.now.entry }
+    {
+        let pc = p.entry();
+        let bus = Bus::new(alloc, p.segments(), l)?;
+        let mut regs = Regs::new();
+        regs.set(Reg::of(SP), l.sp);
+        Ok(Machine {
+            pc,
+            regs,
+            bus,
+            heap: Heap {
+                base: l.heap,
+                limit: l.heap + l.heap_len,
+                now: l.heap,
+            },
+            log,
+            ending: None,
+            steps: 0,
+        })
+    }
+
     /// Ends the run, with this step, at the pc as it is.
     #[cold]
     #[inline(never)]

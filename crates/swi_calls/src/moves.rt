@@ -1,7 +1,7 @@
 //! Bytes between memory and the outside, in pieces, without memory of their own.
 #![tactic(auto)]
 
-ghost use Rattle.std.specs.Prelude.{◌≡◌, ◌≤◌, ◌<◌, ◌+◌, ℕ, true, Some, IfOk, OnOk, OnErr, length, []};
+ghost use Rattle.std.specs.Prelude.{◌≡◌, ◌≤◌, ◌<◌, ◌+◌, ℕ, true, Some, IfOk, OnErr, length, []};
 ghost use Rattle.swi_outside.specs.Causes.{HasCause};
 ghost use Rattle.swi_outside.specs.Sink.{WasWritten};
 ghost use Rattle.swi_memory.specs.declared.right.Right.TheVariants.{Read, Write};

@@ -1,12 +1,12 @@
 //! The checker.
 #![tactic(auto)]
 
-ghost use Rattle.std.specs.Prelude.{◌≡◌, ℕ, ◌+◌, ◌≤◌, ◌<◌, ◌^◌, List, length, get_or, IfOk, IfErr, OnOk, OnErr, IfSome, IfNone};
+ghost use Rattle.std.specs.Prelude.{◌≡◌, ◌+◌, ◌≤◌, ◌<◌, ◌^◌, List, length, IfOk, IfErr, OnOk, OnErr, IfSome, IfNone};
 ghost use Rattle.swi_image.specs.Sound.{IsImage};
 ghost use Rattle.swi_image.specs.Place.{block_at};
 ghost use Rattle.swi_program.specs.Text.{text_of};
 ghost use Rattle.swi_render.specs.Rendering.{Slot, AreThe};
-ghost use Rattle.swi_render.specs.ImageOf.{OffsetsRight, block_between, IsImageOf, IsBlockOf, pad};
+ghost use Rattle.swi_render.specs.ImageOf.{OffsetsRight, block_between, IsImageOf, IsBlockOf};
 ghost use Rattle.swi_render.specs.Among.{StandIn};
 ghost use Rattle.swi_check.specs.Parts.{IsMisplaced, IsDifference, IsPaddedFrom, IsRightBetween};
 ghost use Rattle.swi_check.specs.Mismatches.{Covers, IsUncovered, asked_between, WordsRight, IsWrongBetween, IsWrongIn, IsMismatch};

@@ -1,6 +1,6 @@
 //! The arguments of the commands: words by place, options with a number, and flags.
 
-ghost use Rattle.std.specs.Prelude.{◌≡◌, ◌<◌, ◌≤◌, ◌%◌};
+ghost use Rattle.std.specs.Prelude.{◌≡◌, ◌<◌};
 ghost use Rattle.swi_command.specs.Arguments.{positional_name, form_of_number, flag_name, argument_name};
 
 use crate::number::NumberRule;

@@ -3,7 +3,7 @@
 ghost use Rattle.std.specs.Prelude.{◌≡◌, ◌<◌, ◌≤◌, ◌^◌, ◌+◌, All, ◌++◌, ◌%◌, IfSome, IfOk, OnOk, OnErr, Err, Some, None, [], ◌∷◌, length, map, option_map, string_bytes};
 ghost use Rattle.clap.specs.Words.{rows_of, found_of, all_of, first_of};
 ghost use Rattle.swi_command.specs.Arguments.{positional_name, form_of_number, flag_name, form_of};
-ghost use Rattle.swi_command.specs.CommandLine.{number_of, number_at, seed_of, count_of, is_set, limits_of, reports_of, options_of, trace_options_of, kind_of, cache_of, cache_with, rate_form, more_places, given_at, shared_files, schedule_of, share_options_of, request_of, sizes_in, sizes_of, AreSizes, IsBlockSize, IsFunctionCount, IsShareCount, IsCacheInRange, IsInRange, IsShareInRange, HasLimitsInRange};
+ghost use Rattle.swi_command.specs.CommandLine.{number_of, number_at, seed_of, count_of, is_set, limits_of, options_of, trace_options_of, kind_of, cache_of, cache_with, rate_form, more_places, given_at, shared_files, schedule_of, share_options_of, request_of, sizes_in, sizes_of, AreSizes, IsBlockSize, IsFunctionCount, IsShareCount, IsCacheInRange, IsInRange, IsShareInRange, HasLimitsInRange};
 
 use crate::argument::{Flag, NumberOption, Positional};
 use crate::name::CommandName;

@@ -1,17 +1,20 @@
 -- A draft of the whole text is its image.
-use Rattle.std.proofs.Common.{◌≡◌, ◌≢◌, ℕ, ◌+◌, ◌-◌, ◌^◌, ◌<◌, ◌≤◌, List, [], length, get_or, drop, arith, refl, ap, ◌∙◌, sym, subst, get_or-take, get_or-drop}
+use Rattle.std.proofs.Common.{◌≡◌, ◌≢◌, ℕ, ◌+◌, ◌-◌, ◌^◌, ◌<◌, ◌≤◌, zero, suc, List, [], ◌∷◌, length, get_or, take, drop, arith, refl, ap, ◌∙◌, sym, subst, get_or-take, get_or-drop}
 use Rattle.swi_program.specs.Text.{TextData}
+use Rattle.swi_program.specs.ProgramOf.{bytes_of_words}
 use Rattle.swi_image.specs.Words.{part}
 use Rattle.swi_image.specs.Format.{ImageData, pieces}
 use Rattle.swi_image.specs.Checks.{begin_of, length_of}
-use Rattle.swi_image.specs.Place.{next_of, next_start, block_at}
-use Rattle.swi_image.specs.Sound.{AreTables, image_of_tables}
+use Rattle.swi_image.specs.Place.{next_of, next_start, block_at, word_at}
+use Rattle.swi_image.specs.Sound.{IsImage, AreTables, image_of_tables, image_words}
+use Rattle.swi_image.proofs.Views.{accepted_sound}
+use Rattle.swi_image.proofs.Writing.{AreSmall, tables_written}
 use Rattle.swi_render.specs.Rendering.{As}
 use Rattle.swi_render.specs.ImageOf.{block_between, pad, AreWordsOf}
 use Rattle.swi_render.proofs.Runs.{length_part, offset_first, offset_up, offset_below}
 use Rattle.swi_cut.specs.declared.cutting.Cutting.{Cutting}
 use Rattle.swi_cut.specs.declared.cutting.Cutting.TheVariants.{Greedy, WholeLoops}
-use Rattle.swi_cut.specs.Cuts.{IsCutBy}
+use Rattle.swi_cut.specs.Cuts.{IsCutBy, IsSound}
 use Rattle.swi_cut.specs.Upgrades.{IsMade}
 use Rattle.swi_cut.specs.Drafts.{IsDone, AreDrafted, IsBlockEnd, AreBlockEnds}
 use Rattle.swi_cut.proofs.Drafted.{test_lt, test_some}
@@ -102,6 +105,36 @@ pub made_tables : (t : TextData) (most base : ℕ) (starts starts_ ends ends_ of
 made_tables t most base starts starts_ ends ends_ offsets offsets_ words words_ v n a b c e d found is =
     let found_ = rw (a, b, e) at found in
     rw is (rw (n, a, b, c, e) (made_done t most starts ends offsets words d found_))
+
+-- tables of words make an image, in whose blocks are words
+
+small_take : (n : ℕ) (xs : List ℕ) → ((i : ℕ) → get_or xs i 0 < 2 ^ 32) → (o : ℕ) → get_or (take n xs) o 0 < 2 ^ 32
+small_take zero xs s o = omega arith
+small_take (suc n) [] s o = omega arith
+small_take (suc n) (x ∷ xs) s zero = s 0
+small_take (suc n) (x ∷ xs) s (suc o) = small_take n xs (λ i. s (suc i)) o
+
+small_part : (i n : ℕ) (ws : List ℕ) → ((i : ℕ) → get_or ws i 0 < 2 ^ 32) → (o : ℕ) → get_or (part i n ws) o 0 < 2 ^ 32
+small_part i n ws s o = small_take n (drop i ws) (λ k. rw (get_or-drop i ws k 0) (s (i + k))) o
+
+small_pieces : (from : ℕ) (ends ws : List ℕ) → ((i : ℕ) → get_or ws i 0 < 2 ^ 32) → (b o : ℕ) → get_or (get_or (pieces from ends ws) b []) o 0 < 2 ^ 32
+unfolding pieces
+small_pieces from [] ws s b o = omega arith
+small_pieces from (e ∷ ends) ws s zero o = small_part from (e - from) ws s o
+small_pieces from (e ∷ ends) ws s (suc b) o = small_pieces e ends ws s b o
+
+words_tables : (most base : ℕ) (starts ends offsets words : List ℕ) → ((i : ℕ) → get_or words i 0 < 2 ^ 32) → (b o : ℕ) → word_at (image_of_tables most base starts ends offsets words) b o < 2 ^ 32
+unfolding block_at
+words_tables most base starts ends offsets words s = λ b o. small_pieces 0 ends words s b o
+
+pub sound_made : (most base : ℕ) (starts ends offsets words : List ℕ) (v : ImageData) → v ≡ image_of_tables most base starts ends offsets words → AreTables most starts ends offsets words → AreSmall base starts ends offsets words → IsSound v
+sound_made most base starts ends offsets words v is t s =
+    let bytes : List ℕ = bytes_of_words (image_words most base starts ends offsets words) in
+    let written = tables_written bytes most base starts ends offsets words refl t s in
+    subst IsSound (sym is) (record {
+      valid = subst IsImage written.1 (accepted_sound bytes written.0);
+      words = words_tables most base starts ends offsets words s.words;
+    })
 
 next_made : (t : TextData) (most : ℕ) (starts : List ℕ) (v : ImageData) (b : ℕ) → IsMade t most starts v → next_start v b ≡ next_of starts (length t.words) b
 next_made t most starts v b m = ap (λ (l : List ℕ). next_of l (length v.offsets) b) m.same_starts ∙ ap (λ (n : ℕ). next_of starts n b) m.image.len

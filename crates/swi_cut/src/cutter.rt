@@ -8,7 +8,7 @@ ghost use Rattle.swi_render.specs.Cut.{IsCut, Fits, needs_of};
 ghost use Rattle.swi_render.specs.Loops.{HasNoLr};
 ghost use Rattle.swi_cut.specs.declared.refusal.CutRefusal.TheVariants.{Long};
 ghost use Rattle.swi_cut.specs.Causes.{IsCutCause};
-ghost use Rattle.swi_cut.specs.Cuts.{IsCutBy};
+ghost use Rattle.swi_cut.specs.Cuts.{IsCutBy, IsSound};
 ghost use Rattle.swi_cut.specs.Drafts.{IsRun, IsBlockEnd};
 
 use crate::cutting::Cutting;
@@ -48,6 +48,7 @@ fn cut_text(
     requires least { 2 ≤ most }
     requires highest { most ≤ 1024 }
     ensures cut { IfOk result (λ i. IsCutBy cutting text.now most (image_of i)) }
+    ensures sound { IfOk result (λ i. IsSound (image_of i)) }
     ensures fits { OnOk result (Fits text.now most) }
     ensures refused { IfErr result (IsCutCause text.now most) }
 {
@@ -80,6 +81,7 @@ pub fn cut(alloc: Global, p: &Program<'_>, block_words: u32) -> Result<Image, Cu
     requires least { 2 ≤ block_words }
     requires most { block_words ≤ 1024 }
     ensures cut { IfOk result (λ i. IsCut (text_of p.now.segments) block_words (image_of i)) }
+    ensures sound { IfOk result (λ i. IsSound (image_of i)) }
     ensures fits { OnOk result (Fits (text_of p.now.segments) block_words) }
     ensures refused { IfErr result (IsCutCause (text_of p.now.segments) block_words) }
     ensures unfit { (address needs : ℕ) → result ≡ Err (Long address needs) →
@@ -103,6 +105,7 @@ pub fn cut_by(
     ensures cut { IfOk result (λ i. IsCutBy cutting (text_of p.now.segments) block_words (image_of i)) }
     ensures plain { HasNoLr (text_of p.now.segments) →
         IfOk result (λ i. IsCut (text_of p.now.segments) block_words (image_of i)) }
+    ensures sound { IfOk result (λ i. IsSound (image_of i)) }
     ensures fits { OnOk result (Fits (text_of p.now.segments) block_words) }
     ensures refused { IfErr result (IsCutCause (text_of p.now.segments) block_words) }
     ensures unfit { (address needs : ℕ) → result ≡ Err (Long address needs) →

@@ -1,10 +1,12 @@
 //! The blocks of an image, written one after the other.
 #![tactic(auto)]
 
-ghost use Rattle.std.specs.Prelude.{[], ◌∷◌, ◌≡◌, ℕ, ◌+◌, ◌≤◌, ◌<◌, ◌^◌, ◌++◌, List, length, IfOk, OnOk};
+ghost use Rattle.std.specs.Prelude.{[], ◌∷◌, ◌≡◌, ℕ, ◌+◌, ◌≤◌, ◌<◌, ◌^◌, ◌++◌, length, IfOk, OnOk};
 ghost use Rattle.swi_image.specs.Format.{image_of};
+ghost use Rattle.swi_image.specs.Sound.{AreTables, image_of_tables};
 ghost use Rattle.swi_program.specs.Text.{TextData};
 ghost use Rattle.swi_render.specs.ImageOf.{rendering_at, renderings_between, block_between};
+ghost use Rattle.swi_cut.specs.Cuts.{IsSound};
 ghost use Rattle.swi_cut.specs.Upgrades.{IsMade};
 ghost use Rattle.swi_cut.specs.Drafts.{IsDraft, IsRun, IsWritten, IsAppended};
 
@@ -32,6 +34,25 @@ fn append(list: &mut Vec<u32>, numbers: &[u32]) -> Result<(), Memory>
         return Err(Memory);
     }
     Ok(())
+}
+
+/// The image of these tables.
+fn image_by(
+    alloc: Global,
+    most: u32,
+    base: u32,
+    starts: &[u32],
+    ends: &[u32],
+    offsets: &[u32],
+    words: &[u32],
+) -> Result<Image, Memory>
+    requires { AreTables most starts.now ends.now offsets.now words.now }
+    ensures image { let made = image_of_tables most base starts.now ends.now offsets.now words.now in
+        IfOk result (λ i. image_of i ≡ made) }
+    ensures sound { IfOk result (λ i. IsSound (image_of i)) }
+{
+    let image = Image::of_tables(alloc, most, base, starts, ends, offsets, words)?;
+    Ok(image)
 }
 
 /// Writes the rendering of text word `k`.
@@ -140,9 +161,10 @@ impl Draft {
         requires draft { IsDraft text.now most (length text.now.words) self.now }
         requires some { 0 < length text.now.words }
         requires few { length text.now.words ≤ 2 ^ 19 }
-        ensures { IfOk result (λ i. IsMade text.now most self.now.starts.items (image_of i)) }
+        ensures made { IfOk result (λ i. IsMade text.now most self.now.starts.items (image_of i)) }
+        ensures sound { IfOk result (λ i. IsSound (image_of i)) }
     {
-        Image::of_tables(
+        image_by(
             alloc,
             most,
             text.base(),

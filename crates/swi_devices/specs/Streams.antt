@@ -11,6 +11,7 @@ pub record ReaderSource : Type 0 where
   pub remaining : Option (List ℕ)
   pub ended : Bool
   pub asks : ℕ
+  pub failures : ℕ
   pub faults : ℕ
 
 -- what is left of it: nothing, once the end was reached, and else what its reader tells

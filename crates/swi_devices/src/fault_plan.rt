@@ -1,5 +1,5 @@
-ghost use Rattle.std.specs.Prelude.{◌≡◌, Contains, IsErr, IsTrue, [], ◌↔◌};
-ghost use Rattle.swi_outside.specs.Causes.{HasCause, Rose, counted};
+ghost use Rattle.std.specs.Prelude.{◌≡◌, Contains, IsErr, IsTrue, ◌↔◌};
+ghost use Rattle.swi_outside.specs.Causes.{HasCause, counted};
 
 use swi_outside::Failed;
 /// Which calls of a device in memory fail: those whose numbers, from 1, are listed.

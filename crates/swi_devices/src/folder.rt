@@ -1,4 +1,4 @@
-ghost use Rattle.std.specs.Prelude.{◌≡◌, Option, None, IfOk, OnOk};
+ghost use Rattle.std.specs.Prelude.{Option, None, IfOk, OnOk};
 ghost use Rattle.swi_outside.specs.Shelf.{Contents, Same, SameElsewhere};
 ghost use Rattle.swi_devices.specs.Folders.{Gives, IsNew, Keeps};
 

@@ -38,6 +38,7 @@ impl<R: Read> Model for RealSource<R> {
       remaining = R.remaining s.reader.device;
       ended = s.ended;
       asks = s.reader.asks;
+      failures = s.reader.failures;
       faults = s.faults;
     } };
 }
@@ -46,7 +47,7 @@ impl<R: Read> RealSource<R> {
     /// A source over a reader, as `rt.stdin()`, without a fault.
     pub fn new(reader: R) -> RealSource<R>
         ensures { result
-            ≡ record { given = []; remaining = R.remaining reader; ended = false; asks = 0; faults = 0 } }
+            ≡ record { given = []; remaining = R.remaining reader; ended = false; asks = 0; failures = 0; faults = 0 } }
     {
         RealSource {
             reader: Watched::new(reader),
@@ -68,6 +69,7 @@ impl<R: Read> Source for RealSource<R> {
         // The reader is asked once, and behind the end not at all.
         ensures asked { self.new.asks ≡ (if self.old.ended then self.old.asks else self.old.asks + 1) }
         ensures ended { self.new.ended ≡ ended_after self.old.ended result }
+        ensures failed { self.new.failures ≡ failures_after self.old.failures result }
     {
         if self.ended {
             return Ok(0);

@@ -1,4 +1,4 @@
-mod Codes
-mod Rows
+pub mod Codes
+pub mod Rows
 mod Forth
-mod Back
+pub mod Back

@@ -20,8 +20,8 @@ use crate::coast::{Coasted, Gate, coast};
 use std::alloc::Global;
 use std::marker::Model;
 use swi_calls::{CallFault, End, Heap, Machine};
-use swi_exec::{Done, FaultKind, Regs, SP, exec, text_store};
-use swi_isa::{Reg, decode};
+use swi_exec::{Done, FaultKind, Regs, exec, text_store};
+use swi_isa::decode;
 use swi_memory::{Bus, Layout};
 use swi_micro::{Decoded, forget, forget_all};
 use swi_outside::{Memory, Sink, Source};
@@ -58,24 +58,10 @@ impl Flat {
         ensures machine { IfOk result (λ f. f ≡ unfailed (machine_of p.now l.now log)) }
         ensures text { IfOk result (λ f. (a : ℕ) → fetched f.machine.bus a ≡ word_of (text_of p.now.segments) a) }
     {
-        let bus = Bus::new(alloc, p.segments(), l)?;
-        let decoded = Decoded::new(alloc, bus.text_range())?;
-        let mut regs = Regs::new();
-        regs.set(Reg::of(SP), l.sp);
+        let machine = Machine::start(alloc, p, l, log)?;
+        let decoded = Decoded::new(alloc, machine.bus.text_range())?;
         Ok(Flat {
-            machine: Machine {
-                pc: p.entry(),
-                regs,
-                bus,
-                heap: Heap {
-                    base: l.heap,
-                    limit: l.heap + l.heap_len,
-                    now: l.heap,
-                },
-                log,
-                ending: None,
-                steps: 0,
-            },
+            machine,
             failed: false,
             decoded,
         })

@@ -12,8 +12,7 @@ use crate::position::Position;
 use std::alloc::Global;
 use std::marker::Model;
 use swi_calls::{End, Heap, Machine};
-use swi_exec::{Regs, SP};
-use swi_isa::Reg;
+use swi_exec::Regs;
 use swi_memory::{Bus, Layout};
 use swi_outside::Memory;
 use swi_program::Program;
@@ -112,25 +111,10 @@ impl Hart {
         ensures text { IfOk result (λ h. (a : ℕ) → fetched h.machine.bus a ≡ word_of (text_of p.now.segments) a) }
         ensures entry { IsTextAddress (text_of p.now.segments) p.now.entry }
     {
-        let pc = p.entry();
-        let bus = Bus::new(alloc, p.segments(), l)?;
-        let mut regs = Regs::new();
-        regs.set(Reg::of(SP), l.sp);
+        let machine = Machine::start(alloc, p, l, log)?;
         Ok(Hart {
             control: Position::outside(),
-            machine: Machine {
-                pc,
-                regs,
-                bus,
-                heap: Heap {
-                    base: l.heap,
-                    limit: l.heap + l.heap_len,
-                    now: l.heap,
-                },
-                log,
-                ending: None,
-                steps: 0,
-            },
+            machine,
             count: 0,
             failed: false,
             booted: false,

@@ -1,7 +1,7 @@
 //! Where control is, as a step changes it.
 #![tactic(auto)]
 
-ghost use Rattle.std.specs.Prelude.{◌≡◌, ◌+◌, ◌^◌, ◌<◌, ◌≤◌, None};
+ghost use Rattle.std.specs.Prelude.{◌≡◌, ◌+◌, ◌^◌, ◌<◌, None};
 
 use crate::hart::{CodePlace, Control, Stage};
 use std::marker::Model;

@@ -77,6 +77,17 @@ impl<'a> ImageView<'a> {
         }
     }
 
+    /// The same view once more.
+    #[inline]
+    pub fn again(&self) -> ImageView<'_>
+        ensures { result ≡ self.now }
+    {
+        ImageView {
+            bytes: self.bytes,
+            header: self.header,
+        }
+    }
+
     /// The bytes of the image.
     pub fn bytes(&self) -> &[u8]
         ensures value { image_of result.now ≡ self.now }

@@ -1,8 +1,8 @@
 //! The instructions of the program.
 
-ghost use Rattle.std.specs.Prelude.{◌≡◌, ◌-◌, ◌^◌, ◌≤◌, ◌<◌, ◌++◌, All, length, IfOk, OnOk};
+ghost use Rattle.std.specs.Prelude.{◌≡◌, ◌-◌, ◌≤◌, ◌<◌, ◌++◌, All, length, IfOk, OnOk};
 ghost use Rattle.swi_isa.specs.declared.instr.Instr.TheVariants.{Jal};
-ghost use Rattle.swi_make.specs.Listing.{addi, calls_of, main_of, function_of, instructions_of, minus, x0, ra};
+ghost use Rattle.swi_make.specs.Listing.{addi, calls_of, main_of, function_of, instructions_of, minus};
 
 use std::alloc::{AllocError, Global};
 use swi_isa::{BranchOp, ImmOp, Instr, LoadOp, Reg, StoreOp};

@@ -7,6 +7,7 @@ use Rattle.swi_program.specs.Layout.{laid_out}
 use Rattle.swi_program.specs.Program.{ProgramData}
 use Rattle.swi_program.specs.Text.{text_of}
 use Rattle.swi_make.specs.Made.{IsMade}
+use Rattle.swi_cut.specs.Cuts.{IsSound}
 use Rattle.swi_render.specs.Cut.{IsCut}
 use Rattle.swi_image.specs.Format.{ImageData}
 use Rattle.swi_command.specs.declared.command.CacheOptions.{CacheOptions}
@@ -66,6 +67,7 @@ made_run k p l v = run_of v k p l (record { limit = 2 ^ 48; calls = false; trace
 pub record IsMadeRun (seed functions : ℕ) (cache : CacheOptions) (p : ProgramData) (l : Layout) (v : ImageData) : Type 0 where
   pub made : IsMade seed functions p
   pub layout : laid_out p.segments 1048576 65536 ≡ Ok l
+  pub sound : IsSound v
   pub cut : IsCut (text_of p.segments) cache.block_words v
 
 -- where it exited, the command is done, and writes the summary; else it ends as the run did, and writes nothing

@@ -1,7 +1,7 @@
 //! Programs, and what they are made of.
 #![tactic(auto)]
 
-ghost use Rattle.std.specs.Prelude.{◌≡◌, ℕ, ◌+◌, ◌*◌, ◌%◌, ◌^◌, ◌<◌, ◌≤◌, length, find, sum_by, map, IfOk, option_copied, option_map, slice_get, Some, [], ◌∷◌};
+ghost use Rattle.std.specs.Prelude.{◌≡◌, ℕ, ◌+◌, ◌%◌, ◌^◌, ◌<◌, ◌≤◌, length, find, sum_by, map, IfOk, option_copied, option_map, slice_get, Some};
 ghost use Rattle.swi_elf_read.specs.Loaded.{loaded_segments, AreLoadable};
 ghost use Rattle.swi_memory.specs.BusOf.{AreApart, range_of, texts, word_in};
 ghost use Rattle.swi_program.specs.Program.{can_execute, AreSegments};

@@ -1,7 +1,7 @@
 //! From a text word to its rendering.
 #![tactic(auto)]
 
-ghost use Rattle.std.specs.Prelude.{◌+◌, if◌then◌else◌, get_or, ◌==◌, ◌%◌, [], ◌∷◌, ◌≡◌, ◌≤◌, ◌^◌, ℕ, List, length, Some};
+ghost use Rattle.std.specs.Prelude.{◌+◌, if◌then◌else◌, ◌==◌, ◌%◌, ◌≡◌, ◌≤◌, ℕ, List, length, Some};
 ghost use Rattle.swi_isa.specs.declared.instr.Instr.TheVariants.{Branch};
 ghost use Rattle.swi_render.specs.Rendering.{falls_of, ending_of, len, rendering, rendering_of, ending, falls, needs, parts_of, part_at, Renders, AreWords, AreThe, IsThe, Decodes, jump, load_upper, add_lower, opposite};
 

@@ -1,7 +1,7 @@
 //! The text words of a program by their numbers.
 #![tactic(auto)]
 
-ghost use Rattle.std.specs.Prelude.{◌≡◌, ◌+◌, ◌*◌, ◌≤◌, ◌<◌, ◌^◌, length, slice_index, true, false, IfSome, IfNone};
+ghost use Rattle.std.specs.Prelude.{◌≡◌, ◌+◌, ◌*◌, ◌≤◌, ◌<◌, length, true, false, IfSome, IfNone};
 ghost use Rattle.swi_render.specs.Rendering.{AreThe, fall_exit};
 ghost use Rattle.swi_render.specs.ImageOf.{address_of, rendering_at, falls_at};
 ghost use Rattle.swi_render.specs.Cut.{needs_of};

@@ -1,6 +1,6 @@
-ghost use Rattle.std.specs.Prelude.{◌≡◌, ◌+◌, ◌^◌, ◌<◌, ◌≤◌, ℕ, Option, IfSome, None, Ok};
+ghost use Rattle.std.specs.Prelude.{◌≡◌, ◌+◌, ◌^◌, ◌<◌, ◌≤◌, ℕ, min, Option, IfSome, None, Ok};
 ghost use Rattle.swi_image.specs.Place.{length_at};
-ghost use Rattle.swi_rom.specs.Record.{direct, indirect, Placed};
+ghost use Rattle.swi_rom.specs.Record.{direct, indirect, Placed, written};
 ghost use Rattle.swi_rom.specs.Coherent.{ExitAt, TargetAt, resident_of};
 ghost use Rattle.swi_rom.specs.Service.{ServiceOf, IsService};
 ghost use Rattle.swi_rom.specs.Served.{Served, OnServed, SameFrom, Keeps};
@@ -35,6 +35,16 @@ impl Counts {
         unlinks: 0,
         copied: 0,
     };
+
+    /// How many words the service has written: those of the blocks that it copied, a link's jump, and the exit that takes a
+    /// link's place again. It stops at 2^64 - 1.
+    pub fn writes(&self) -> u64
+        ensures { result ≡ min (written self.now) (2 ^ 64 - 1) }
+    {
+        self.copied
+            .saturating_add(self.links)
+            .saturating_add(self.unlinks)
+    }
 }
 
 /// Why a service gives no index.

@@ -1,7 +1,7 @@
 //! What a service writes into the ram.
 #![tactic(auto)]
 
-ghost use Rattle.std.specs.Prelude.{◌≡◌, ◌+◌, ◌-◌, ◌*◌, ◌^◌, ◌<◌, ◌≤◌, length, OnOk, OnErr, IsTrue, ◌↔◌};
+ghost use Rattle.std.specs.Prelude.{◌≡◌, ◌+◌, ◌-◌, ◌*◌, ◌^◌, ◌<◌, ◌≤◌, length, OnOk, OnErr, IsTrue};
 ghost use Rattle.swi_image.specs.Place.{word_at, length_at};
 ghost use Rattle.swi_rom.specs.Record.{IsJump, reaches};
 ghost use Rattle.swi_rom.specs.Writing.{Copied, FailedBelow};

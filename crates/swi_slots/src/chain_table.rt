@@ -1,12 +1,10 @@
 //! A table of links over lists for each slot.
 #![tactic(auto)]
 
-ghost use Rattle.std.specs.Prelude.{◌≡◌, ◌+◌, ◌*◌, ◌^◌, ◌<◌, ◌≤◌, ◌↔◌, ℕ, List, length, replicate, max, nat_lt, slice_index, slice_set, IfOk, OnErr, MatchOption, if◌then◌else◌};
+ghost use Rattle.std.specs.Prelude.{◌≡◌, ◌*◌, ◌<◌, ◌↔◌, ℕ, List, length, replicate, nat_lt, slice_index, slice_set, IfOk, if◌then◌else◌};
 ghost use Rattle.swi_image.specs.Format.{ImageData};
 ghost use Rattle.swi_slots.specs.Slots.{kept_by};
 ghost use Rattle.swi_slots.specs.Sound.{SlotsSound};
-ghost use Rattle.swi_rom.specs.Writing.{FailedBelow};
-ghost use Rattle.swi_slots.specs.Steps.{Cleared, leading_in};
 ghost use Rattle.swi_links.specs.Chains.{list_of, Has};
 ghost use Rattle.swi_slots.specs.Chained.{LinkInto};
 ghost use Rattle.swi_slots.specs.Homes.{nowhere};

@@ -1,11 +1,10 @@
 //! A service with slots of one size.
 #![tactic(auto)]
 
-ghost use Rattle.std.specs.Prelude.{◌≡◌, ◌+◌, ◌-◌, ◌*◌, ◌/◌, ◌%◌, ◌^◌, ◌<◌, ◌≤◌, ◌==◌, ℕ, List, length, replicate, slice_index, slice_get, Option, IfOk, OnOk, OnErr, IfSome, MatchOption, IsTrue, min, nat_lt, if◌then◌else◌};
+ghost use Rattle.std.specs.Prelude.{◌≡◌, ◌+◌, ◌-◌, ◌*◌, ◌/◌, ◌%◌, ◌^◌, ◌<◌, ◌≤◌, ◌==◌, ℕ, List, length, slice_index, Option, IfOk, OnOk, OnErr, MatchOption, IsTrue, min, nat_lt, if◌then◌else◌};
 ghost use Rattle.swi_image.specs.Format.{ImageData};
 ghost use Rattle.swi_image.specs.Sound.{IsImage};
 ghost use Rattle.swi_rom.specs.Record.{empty_record, reaches};
-ghost use Rattle.swi_rom.specs.Coherent.{resident_of};
 ghost use Rattle.swi_slots.specs.Slots.{Slots, InShape, kept_by, setting_of, empty_slots};
 ghost use Rattle.swi_slots.specs.Sound.{SlotsSound, Serves};
 ghost use Rattle.swi_slots.specs.Keys.{key_of, owner_of, number_of};

@@ -1,13 +1,13 @@
 //! The direct exits of an image, by the text words that a run leaves over them.
 #![tactic(auto)]
 
-ghost use Rattle.std.specs.Prelude.{◌≡◌, ◌+◌, ◌*◌, ◌<◌, ◌≤◌, ◌^◌, ◌++◌, [], ◌∷◌, Some, IfOk, length, map, slice_index};
+ghost use Rattle.std.specs.Prelude.{◌≡◌, ◌+◌, ◌*◌, ◌<◌, ◌≤◌, ◌^◌, ◌++◌, [], ◌∷◌, Some, IfOk, length, map};
 ghost use Rattle.swi_image.specs.Place.{place_of};
 ghost use Rattle.swi_image.specs.Sound.{IsImage};
 ghost use Rattle.swi_program.specs.Text.{IsSized};
 ghost use Rattle.swi_render.specs.ImageOf.{IsImageOf, address_of};
 ghost use Rattle.swi_tally.specs.Exits.{AreExits};
-ghost use Rattle.swi_survey.specs.Ways.{AllBefore, AreAllWays, AreWays, FitsIf, Joins, exit_behind, exit_to, gate_of, is_last, jump_of, number_if, own_exit, shut, with_if};
+ghost use Rattle.swi_survey.specs.Ways.{AllBefore, AreAllWays, FitsIf, Joins, exit_behind, exit_to, gate_of, is_last, jump_of, number_if, own_exit, shut, with_if};
 
 use crate::leaving::{Leaving, untaken_at};
 use std::alloc::Global;

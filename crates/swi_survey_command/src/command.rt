@@ -1,7 +1,7 @@
 //! The command.
 #![tactic(auto)]
 
-ghost use Rattle.std.specs.Prelude.{◌≡◌, ◌≤◌, ◌*◌, ◌^◌, All, None, Some, [], IfOk, IfErr, OnOk, length, map};
+ghost use Rattle.std.specs.Prelude.{◌≡◌, ◌≤◌, ◌*◌, None, Some, [], IfOk, IfErr, OnOk, length, map};
 ghost use Rattle.swi_outside.specs.Source.{HasGiven};
 ghost use Rattle.swi_outside.specs.Told.{AsTold};
 ghost use Rattle.swi_command.specs.CommandLine.{AreSizes, IsBlockSize, IsInRange};

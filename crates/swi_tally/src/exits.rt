@@ -1,7 +1,7 @@
 //! The direct exits of an image.
 #![tactic(auto)]
 
-ghost use Rattle.std.specs.Prelude.{◌≡◌, ◌<◌, ◌^◌, ◌++◌, [], ◌∷◌, ℕ, IfOk, OnOk, OnErr, length, slice_index};
+ghost use Rattle.std.specs.Prelude.{◌≡◌, ◌<◌, ◌^◌, [], IfOk, length, slice_index};
 ghost use Rattle.swi_tally.specs.Exits.{AreExits, ExitsData, IsFree, with_exit};
 
 use crate::groups::{Groups, append};

@@ -1,7 +1,7 @@
 //! Numbers of 64 bits as sets of caches.
 #![tactic(auto)]
 
-ghost use Rattle.std.specs.Prelude.{◌≡◌, ◌<◌, ◌==◌, ◌&&◌, ◌||◌, ◌^◌, ℕ, not};
+ghost use Rattle.std.specs.Prelude.{◌≡◌, ◌<◌, ◌==◌, ◌&&◌, ◌||◌, ℕ, not};
 ghost use Rattle.swi_tally.specs.Masks.{has};
 
 /// The most caches of a set.

@@ -1,7 +1,7 @@
 //! Many caches of one image, side by side.
 #![tactic(auto)]
 
-ghost use Rattle.std.specs.Prelude.{◌≡◌, ◌+◌, ◌-◌, ◌*◌, ◌<◌, ◌≤◌, ◌^◌, ◌++◌, ◌∷◌, ℕ, suc, true, All, Some, IfOk, length, map, slice_index};
+ghost use Rattle.std.specs.Prelude.{◌≡◌, ◌-◌, ◌*◌, ◌<◌, ◌≤◌, ◌^◌, ℕ, suc, true, All, Some, IfOk, length, map, slice_index};
 ghost use Rattle.swi_image.specs.Place.{place_of};
 ghost use Rattle.swi_rom.specs.Record.{direct, indirect};
 ghost use Rattle.swi_tally.specs.Masks.{has};

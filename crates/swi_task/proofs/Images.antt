@@ -86,7 +86,7 @@ run_passes file limits l cs short elf room rest = (short, (elf, ((l, room), rest
 
 -- the words of a block are those of the image that is used
 pub size_is : (file : List ℕ) (most : ℕ) (own : Option (List ℕ)) (v : ImageData) → IsImageFor file most own v → block_words own most ≡ v.block_words
-size_is file most None v cut = sym cut.most_words
+size_is file most None v cut = sym cut.1.most_words
 size_is file most (Some bytes) v is = ap (λ (x : ImageData). x.block_words) (sym is)
 
 -- what is known of the value that `map_err(..)?` lets through

@@ -5,6 +5,7 @@ use Rattle.swi_image.specs.Format.{ImageData, image_of}
 use Rattle.swi_program.specs.Layout.{IsLayoutOf}
 use Rattle.swi_program.specs.ProgramOf.{program_of_file}
 use Rattle.swi_program.specs.Text.{text_of}
+use Rattle.swi_cut.specs.Cuts.{IsSound}
 use Rattle.swi_render.specs.Cut.{IsCut}
 use Rattle.swi_render.specs.ImageOf.{IsImageOf}
 use Rattle.swi_command.specs.declared.command.RunLimits.{RunLimits}
@@ -16,7 +17,7 @@ use Rattle.swi_task.specs.Checks.{room_in, text_in}
 
 -- the image that a command uses: that of the file, or, where it has none, the greedy cut of its text
 abbrev pub IsImageFor : List ℕ → ℕ → Option (List ℕ) → ImageData → Type 0
-IsImageFor file most None v = IsCut (text_in file) most v
+IsImageFor file most None v = IsSound v × IsCut (text_in file) most v
 IsImageFor file most (Some bytes) v = v ≡ image_of bytes
 
 -- the image of a subject, wherever it stands

@@ -3,7 +3,7 @@
 
 ghost use Rattle.std.specs.Prelude.{◌≡◌, ◌⊎◌, ◌≤◌, IfOk, IfErr, OnOk, OnErr, Err, length};
 ghost use Rattle.swi_command.specs.CommandLine.{IsBlockSize, IsInRange};
-ghost use Rattle.swi_cut.specs.Cuts.{IsCutBy};
+ghost use Rattle.swi_cut.specs.Cuts.{IsCutBy, IsSound};
 ghost use Rattle.swi_image.specs.Format.{image_of};
 ghost use Rattle.swi_program.specs.ProgramOf.{program_of_file};
 ghost use Rattle.swi_program.specs.Text.{text_of};
@@ -77,6 +77,7 @@ pub fn cut_image_by(
 ) -> Result<Image, Refusal>
     requires size { IsBlockSize block_words }
     ensures cut { IfOk result (λ i. IsCutBy cutting (text_of program.now.segments) block_words (image_of i)) }
+    ensures sound { IfOk result (λ i. IsSound (image_of i)) }
     ensures fits { OnOk result (Fits (text_of program.now.segments) block_words) }
     ensures refused { IfErr result (λ r. (r ≡ Refusal.Memory) ⊎ IsLong (text_of program.now.segments) block_words r) }
 {
@@ -92,6 +93,7 @@ pub fn cut_image_by(
 pub fn cut_image(alloc: Global, program: &Program<'_>, block_words: u32) -> Result<Image, Refusal>
     requires size { IsBlockSize block_words }
     ensures cut { IfOk result (λ i. IsCut (text_of program.now.segments) block_words (image_of i)) }
+    ensures sound { IfOk result (λ i. IsSound (image_of i)) }
     ensures fits { OnOk result (Fits (text_of program.now.segments) block_words) }
     ensures refused { IfErr result (λ r. (r ≡ Refusal.Memory) ⊎ IsLong (text_of program.now.segments) block_words r) }
 {

@@ -5,7 +5,7 @@ ghost use Rattle.std.specs.Prelude.{◌≡◌, ℕ, ◌+◌, ◌<◌, ◌≤◌,
 ghost use Rattle.std.specs.Fmt.{digit_glyph, digits};
 ghost use Rattle.swi_isa.specs.declared.instr.Instr.TheVariants.{Atomic};
 ghost use Rattle.swi_trace.specs.Mnemonics.{name, register_name};
-ghost use Rattle.swi_trace.specs.Text.{number, upper, target, held_in, operands, listed, text_of_decoded, text_of_word, trace_line_of};
+ghost use Rattle.swi_trace.specs.Text.{number, upper, target, held_in, operands, listed, text_of_word, trace_line_of};
 
 use crate::mnemonics::{name, register_name};
 use swi_isa::{AtomicOp, Instr, Reg, decode};

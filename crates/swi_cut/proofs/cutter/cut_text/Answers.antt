@@ -28,4 +28,7 @@ returns-clause-cut c =
     let all : c.loop-done.done ≡ length c.args.text.now.words = omega (arith, c.loop-done.invariant.1) in
     let made : IsDraft c.args.text.now c.args.most (length c.args.text.now.words) c.loop-done.draft = subst (λ (n : ℕ). IsDraft c.args.text.now c.args.most n c.loop-done.draft) all c.loop-done.invariant.0 in
     let ends : AreBlockEnds c.args.cutting c.args.text.now c.args.most c.loop-done.draft.starts.items (length c.args.text.now.words) = subst (λ (n : ℕ). AreBlockEnds c.args.cutting c.args.text.now c.args.most c.loop-done.draft.starts.items n) all c.loop-done.invariant.2 in
-    grind (arith, cut_of_made c.args.cutting c.args.text.now c.args.most c.loop-done.draft.starts.items c.loop-done.draft.ends.items c.loop-done.draft.offsets.items c.loop-done.draft.words.items, made, ends, c.image.ensures, c.map_err.ensures.cases)
+    grind (arith, cut_of_made c.args.cutting c.args.text.now c.args.most c.loop-done.draft.starts.items c.loop-done.draft.ends.items c.loop-done.draft.offsets.items c.loop-done.draft.words.items, made, ends, c.image.ensures.made, c.map_err.ensures.cases)
+
+pub returns-clause-sound : goal.returns-clause-sound
+returns-clause-sound c = grind (arith, c.image.ensures.sound, c.map_err.ensures.cases)

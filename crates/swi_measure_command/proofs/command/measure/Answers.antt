@@ -51,7 +51,7 @@ pub returns-in-Slots : goal.returns-in-Slots
 returns-in-Slots g c =
     let made : IsMade c.args.seed c.args.functions c.in_ok-prepared.prepared.program = made_of _ _ _ _ _ c.in_ok-prepared.ensures.program c.deref.ensures.value c.in_ok-text.ensures.made in
     let is : IsMadeRun c.args.seed c.args.functions c.args.cache.now c.in_ok-prepared.prepared.program c.in_ok-prepared.prepared.layout c.view-view.result =
-    record { made = made; layout = c.in_ok-prepared.ensures.layout; cut = rw c.view-view.ensures.value c.in_ok-image.ensures.cut } in
+    record { made = made; layout = c.in_ok-prepared.ensures.layout; sound = rw c.view-view.ensures.value c.in_ok-image.ensures.sound; cut = rw c.view-view.ensures.value c.in_ok-image.ensures.cut } in
     λ d.
     let before : Devices = record d { output = g.O.Sink.state c.args.out.now; ram = g.R.CacheRam.state c.args.ram.now } in
     measured_so c.args.seed c.args.functions c.args.cache.now c.in_ok-prepared.prepared.program c.in_ok-prepared.prepared.layout c.view-view.result before
@@ -63,7 +63,7 @@ pub returns : goal.returns
 returns g c =
     let made : IsMade c.args.seed c.args.functions c.in_ok-prepared.prepared.program = made_of _ _ _ _ _ c.in_ok-prepared.ensures.program c.deref.ensures.value c.in_ok-text.ensures.made in
     let is : IsMadeRun c.args.seed c.args.functions c.args.cache.now c.in_ok-prepared.prepared.program c.in_ok-prepared.prepared.layout c.view-view.result =
-    record { made = made; layout = c.in_ok-prepared.ensures.layout; cut = rw c.view-view.ensures.value c.in_ok-image.ensures.cut } in
+    record { made = made; layout = c.in_ok-prepared.ensures.layout; sound = rw c.view-view.ensures.value c.in_ok-image.ensures.sound; cut = rw c.view-view.ensures.value c.in_ok-image.ensures.cut } in
     λ d.
     let before : Devices = record d { output = g.O.Sink.state c.args.out.now; ram = g.R.CacheRam.state c.args.ram.now } in
     measured_so c.args.seed c.args.functions c.args.cache.now c.in_ok-prepared.prepared.program c.in_ok-prepared.prepared.layout c.view-view.result before

@@ -1,14 +1,6 @@
-use Rattle.std.proofs.Common.{List, arith, rules, ap, ◌∙◌}
+use Rattle.std.proofs.Common.{rules}
 use Rattle.swi_memory.specs.Bus.{fetched}
-use Rattle.swi_memory.specs.Segment.{SegmentData}
-use Rattle.swi_memory.specs.BusOf.{word_in}
 use Rattle.swi_flat.proofs.flat.Flat.start.Goals as goal
 
-pub overflow_add-result : goal.overflow_add-result
-overflow_add-result c = let room = c.segments.ensures.room c.args.l.now c.requires.laid_out in omega (arith, room.stack, room.end)
-
-pub returns-clause-text : goal.returns-clause-text
-returns-clause-text c a = c.in_ok-bus.ensures.text a ∙ ap (λ (segments : List SegmentData). word_in segments a) c.segments.ensures.value ∙ c.segments.ensures.held a
-
 pub invariant_of-result : goal.invariant_of-result
-invariant_of-result c = record { aligned = search rules; decoded = c.in_ok-decoded.ensures.decoded (fetched c.in_ok-bus.bus) }
+invariant_of-result c = record { aligned = search rules; decoded = c.in_ok-decoded.ensures.decoded (fetched c.in_ok-machine.machine.bus) }
