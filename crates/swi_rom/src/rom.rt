@@ -1,4 +1,4 @@
-ghost use Rattle.std.specs.Prelude.{◌≡◌, ◌+◌, ◌^◌, ◌<◌, ◌≤◌, ℕ, min, Option, IfSome, None, Ok};
+ghost use Rattle.std.specs.Prelude.{◌≡◌, ◌+◌, ◌-◌, ◌^◌, ◌<◌, ◌≤◌, ℕ, min, Option, IfSome, None, Ok};
 ghost use Rattle.swi_image.specs.Place.{length_at};
 ghost use Rattle.swi_rom.specs.Record.{direct, indirect, Placed, written};
 ghost use Rattle.swi_rom.specs.Coherent.{ExitAt, TargetAt, resident_of};
