@@ -1,3 +1,4 @@
 mod Entries
 mod Folders
 mod Logs
+mod ZeroFilled

@@ -1,5 +1,5 @@
 -- The devices in memory.
-use Rattle.std.specs.Prelude.{ℕ, List, [], ◌∷◌, Option, Some, None, if◌then◌else◌, false, String, string_bytes, Vec}
+use Rattle.std.specs.Prelude.{ℕ, ◌-◌, List, [], ◌∷◌, ◌++◌, length, replicate, Option, Some, None, if◌then◌else◌, false, String, string_bytes, Vec}
 use Rattle.std.specs.declared.alloc.Global.{Global}
 use Rattle.std.specs.Str.{bytes_eq}
 use Rattle.swi_outside.specs.CacheRam.{RamState}
@@ -56,6 +56,10 @@ entry_of e = (string_bytes e.0, e.1.items)
 -- a shelf in memory as a shelf
 abbrev pub told_of : StoredShelf → ShelfState
 told_of s = record { contents = Some (lookup s.entries); got = s.got; stored = s.stored; calls = s.calls; faults = s.faults; last_failed = s.last }
+
+-- so many words, the first of which are these, and all others 0
+abbrev pub zero_filled : ℕ → List ℕ → List ℕ
+zero_filled count front = front ++ replicate (count - length front) 0
 
 -- a ram that was just made
 abbrev pub new_ram : List ℕ → RamState

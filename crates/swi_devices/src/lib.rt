@@ -18,6 +18,7 @@ mod shelf_log;
 mod vec_ram;
 mod watched;
 mod watched_folder;
+mod zeroed_words;
 
 pub use fault_ram::FaultRam;
 pub use folder::{Folder, SystemFolder};

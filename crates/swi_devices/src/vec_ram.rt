@@ -1,19 +1,21 @@
-ghost use Rattle.std.specs.Prelude.{◌≡◌, ◌+◌, ◌<◌, ◌≤◌, ◌^◌, ℕ, true, max, length, slice_index, replicate, IfOk, IsOk, OnErr, OnOk};
+ghost use Rattle.std.specs.Prelude.{◌≡◌, ◌+◌, ◌<◌, ◌≤◌, ◌^◌, true, max, length, slice_index, replicate, IfOk, IsOk, OnErr, OnOk};
 ghost use Rattle.swi_outside.specs.CacheRam.{Fetched, WordSet, WordsBroke, WordsSet};
 ghost use Rattle.swi_devices.specs.Stored.{new_ram};
 ghost use Rattle.swi_outside.specs.Causes.{risen};
 ghost use Rattle.swi_devices.specs.RamCalls.{fetches_in, fetched_in, reach_of, sets_in};
 
 use crate::ram_calls::RamCalls;
+use crate::zeroed_words::ZeroedWords;
 use std::alloc::Global;
 use std::marker::Model;
 use std::snapshot::Snapshot;
 use swi_outside::{CacheRam, Failed, Memory, SteadyRam, Words};
 
-/// A ram that never fails. What contracts see of its calls takes no bytes and no time when it runs: it has no reader.
+/// A ram that never fails: its memory is taken at first, and touched up to the last word that was set. What contracts see of its
+/// calls takes no bytes and no time when it runs: it has no reader.
 #[derive(Drop)]
 pub struct VecRam {
-    words: Vec<u32>,
+    words: ZeroedWords,
     calls: Snapshot<RamCalls>,
 }
 
@@ -25,7 +27,7 @@ impl Model for VecRam {
     ghost Value = { RamState };
 
     ghost view = { λ r. record {
-      words = r.words.items;
+      words = r.words;
       fetches = fetches_in r.calls.value;
       sets = sets_in r.calls.value;
       faults = 0;
@@ -34,20 +36,7 @@ impl Model for VecRam {
       last_failed = false;
     } };
 
-    ghost invariant = { λ r. length r.words.items < 2 ^ 32 };
-}
-
-/// Puts words one behind the other from index `first` on.
-fn put_words<W: Words>(held: &mut [u32], first: u32, words: &W)
-    requires { first + length (W.items words.now) ≤ length held.old }
-    ensures count { length held.new ≡ length held.old }
-    ensures stand { (k : ℕ) → k < length (W.items words.now) → slice_index held.new (first + k) ≡ slice_index (W.items words.now) k }
-    ensures below { (i : ℕ) → i < first → slice_index held.new i ≡ slice_index held.old i }
-    ensures beyond { (i : ℕ) → first + length (W.items words.now) ≤ i → slice_index held.new i ≡ slice_index held.old i }
-{
-    for k in 0..words.count() {
-        held[first as usize + k as usize] = words.word(k);
-    }
+    ghost invariant = { λ r. length r.words < 2 ^ 32 };
 }
 
 /// Notes a set of each of so many words from index `first` on. It takes no time when it runs.
@@ -68,9 +57,8 @@ impl VecRam {
     pub fn new(alloc: Global, words: u32) -> Result<VecRam, Memory>
         ensures { IfOk result (λ r. r ≡ new_ram (replicate words 0)) }
     {
-        let words = vec![in alloc; 0u32; words as usize].map_err(|_| Memory)?;
         Ok(VecRam {
-            words,
+            words: ZeroedWords::new(alloc, words)?,
             calls: Snapshot::of(&RamCalls::None),
         })
     }
@@ -80,7 +68,7 @@ impl VecRam {
         requires { i < length self.now.words }
         ensures { result ≡ slice_index self.now.words i }
     {
-        self.words[i as usize]
+        self.words.word(i)
     }
 }
 
@@ -89,7 +77,7 @@ impl CacheRam for VecRam {
 
     #[inline(always)]
     fn words(&self) -> u32 {
-        self.words.len() as u32
+        self.words.count()
     }
 
     #[inline(always)]
@@ -99,7 +87,7 @@ impl CacheRam for VecRam {
         ensures never_fails { IsOk result }
     {
         self.calls = Snapshot::of(&RamCalls::Fetched(Snapshot::of(&self.calls), i));
-        Ok(self.words[i as usize])
+        Ok(self.words.word(i))
     }
 
     #[inline(always)]
@@ -109,7 +97,7 @@ impl CacheRam for VecRam {
         ensures never_fails { IsOk result }
     {
         self.calls = Snapshot::of(&RamCalls::Set(Snapshot::of(&self.calls), i));
-        self.words[i as usize] = w;
+        self.words.set(i, w);
         Ok(())
     }
 
@@ -122,7 +110,7 @@ impl CacheRam for VecRam {
         ensures never_fails { IsOk result }
     {
         note_sets(&mut self.calls, first, words.count());
-        put_words(&mut self.words, first, words);
+        self.words.set_all(first, words);
         Ok(())
     }
 }

@@ -1,5 +1,5 @@
 use Rattle.std.specs.Prelude.{◌≡◌, ◌+◌, ◌<◌, ◌≤◌, ℕ, length, slice_index}
-use Rattle.swi_devices.proofs.vec_ram.put_words.Given as goal
+use Rattle.swi_devices.proofs.zeroed_words.put_words.Given as goal
 
 -- the first words stand, and no other has changed
 abbrev pub invariant-loop-k : goal.invariant-loop-k
