@@ -1,0 +1,3 @@
+pub mod Holding
+pub mod Stepping
+pub mod Running
