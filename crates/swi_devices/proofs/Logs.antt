@@ -1,5 +1,5 @@
 -- What was noted of a piece that was handed on.
-use Rattle.std.proofs.Common.{◌≡◌, ℕ, List, [], ◌++◌, length, take, sym, ap, ◌∙◌, append-nil, Option, Some, Result, Ok, Err}
+use Rattle.std.proofs.Common.{◌≡◌, ℕ, List, [], ◌++◌, length, take, sym, ap, ◌∙◌, append-nil, Option, Some, Result, Ok, Err, is_err, false}
 use Rattle.std.proofs.Math.Seq.{take-append_seam}
 use Rattle.std.specs.Io.KnownBytes.{Appends}
 use Rattle.swi_outside.specs.Sink.{WritesPiece}
@@ -9,8 +9,10 @@ use Rattle.swi_devices.specs.Streams.{HandsOn}
 whole_is : (front rest piece : List ℕ) → piece ≡ front ++ rest → rest ≡ [] → front ≡ piece
 whole_is front rest piece is none = sym (is ∙ ap (λ l. front ++ l) none ∙ append-nil front)
 
-pub handed_whole : {E : Type 0} {contents contents' : Option (List ℕ)} {log log' piece : List ℕ} {u : Unit} → HandsOn {E = E} contents contents' log log' (Ok u) piece → Appends contents contents' piece
-handed_whole {E} {contents} {contents'} {log} {log'} {piece} {u} h = rw (whole_is h.front h.rest piece h.is h.whole) at h.handed
+pub handed_whole : {E : Type 0} {contents contents' : Option (List ℕ)} {log log' piece : List ℕ} (result : Result Unit E) → is_err result ≡ false →
+    HandsOn contents contents' log log' result piece → Appends contents contents' piece
+handed_whole (Ok u) fine h = rw (whole_is h.front h.rest _ h.is h.whole) at h.handed
+handed_whole (Err e) fine h = cc
 
 pub noted_piece : {E : Type 0} {contents contents' : Option (List ℕ)} {log log' piece : List ℕ} (result : Result Unit E) → HandsOn contents contents' log log' result piece →
     WritesPiece (Some log) (Some log') result piece

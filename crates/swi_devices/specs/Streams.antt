@@ -1,5 +1,5 @@
 -- Sources and sinks over readers and writers of std.
-use Rattle.std.specs.Prelude.{◌≡◌, ℕ, ◌==◌, Bool, true, false, List, [], ◌++◌, Option, Some, Result, Ok, Err, OnOk}
+use Rattle.std.specs.Prelude.{◌≡◌, ℕ, Bool, true, false, List, [], ◌++◌, Option, Some, Result, OnOk}
 use Rattle.std.specs.Io.KnownBytes.{Appends}
 use Rattle.swi_outside.specs.Sink.{SinkState}
 use Rattle.swi_outside.specs.Source.{SourceState}
@@ -22,11 +22,6 @@ left_by false remaining = remaining
 -- it as a source
 abbrev pub source_of : ReaderSource → SourceState
 source_of s = record { given = s.given; left = left_by s.ended s.remaining; faults = s.faults }
-
--- whether the end was reached, after a read that answered so: it is where no byte came
-abbrev pub ended_after : {E : Type 0} → Bool → Result ℕ E → Bool
-ended_after ended (Ok n) = n == 0
-ended_after ended (Err e) = ended
 
 -- a sink over a writer: the bytes that the writer holds, where it tells them, those that it took from the sink, how often it failed or took
 -- nothing, and the sink's faults

@@ -8,6 +8,7 @@ use std::snapshot::Snapshot;
 enum Tally {
     None,
     More(Snapshot<Snapshot<Tally>>),
+    Sum(Snapshot<Snapshot<Tally>>, Snapshot<Snapshot<Tally>>),
 }
 
 /// A number that contracts see alone. It takes no bytes and no time when it runs.
@@ -38,5 +39,14 @@ impl Count {
         ensures { self.new ≡ self.old + 1 }
     {
         self.tally = Snapshot::of(&Tally::More(Snapshot::of(&self.tally)));
+    }
+
+    pub fn add(&mut self, more: &Count)
+        ensures { self.new ≡ self.old + more.now }
+    {
+        self.tally = Snapshot::of(&Tally::Sum(
+            Snapshot::of(&self.tally),
+            Snapshot::of(&more.tally),
+        ));
     }
 }

@@ -1,4 +1,4 @@
-ghost use Rattle.std.specs.Prelude.{◌≡◌, ◌≤◌, [], None, IfOk, OnErr, OnOk, length};
+ghost use Rattle.std.specs.Prelude.{◌≡◌, ◌≤◌, [], None, false, IfOk, OnErr, OnOk, length};
 ghost use Rattle.swi_outside.specs.Shelf.{Same, SameElsewhere, Stands, IsLonger, WasGot, WasPut};
 ghost use Rattle.swi_devices.specs.ByteLog.{bytes_in};
 ghost use Rattle.swi_devices.specs.FolderCalls.{BreaksOff, GetAsks, PutAsks, asked_by, calls_of, closed, created, file_failures, shelf_of};
@@ -6,11 +6,9 @@ ghost use Rattle.swi_devices.specs.Folders.{TakesAll, TakesMore};
 
 use crate::Folder;
 use crate::byte_log::ByteLog;
-use crate::real::write_whole;
 use crate::shelf_call::{ShelfCall, key_of};
 use crate::shelf_log::{ShelfLog, note_got, note_taken};
-use crate::watched::Watched;
-use crate::watched_folder::WatchedFolder;
+use crate::watched_folder::{OpenFile, WatchedFolder};
 use std::alloc::Global;
 use std::io::Read;
 use std::snapshot::Snapshot;
@@ -101,20 +99,26 @@ fn read_file<D: Folder>(
     ensures long { result ≡ Err ShelfError.Long → IsLonger (D.contents folder.old.folder) name.now limit }
     ensures asks { GetAsks (calls_of folder.old) (calls_of folder.new) result }
 {
-    let mut file = Watched::new(folder.open(name).map_err(|_| ShelfError::Failed)?);
-    read_within(alloc, &mut file, limit)
+    let mut file = folder.open(name).map_err(|_| ShelfError::Failed)?;
+    let answer = read_within(alloc, &mut file, limit);
+    folder.release(file);
+    answer
 }
 
 // Reads until the end, or one byte past the limit, at least one byte a turn.
 fn read_within<F: Read>(
     alloc: Global,
-    file: &mut Watched<F>,
+    file: &mut OpenFile<F>,
     limit: u32,
 ) -> Result<Vec<u8>, ShelfError>
-    ensures whole { IfOk result (λ bytes. TakesAll (F.remaining file.old.device) (F.remaining file.new.device) bytes.items) }
+    requires unended { file.old.file.ended ≡ false }
+    ensures whole { IfOk result
+        (λ bytes. TakesAll (F.remaining file.old.file.device) (F.remaining file.new.file.device) bytes.items) }
     ensures within { IfOk result (λ bytes. length bytes.items ≤ limit) }
-    ensures long { result ≡ Err ShelfError.Long → TakesMore (F.remaining file.old.device) (F.remaining file.new.device) limit }
-    ensures failed { file.new.failures ≡ file_failures file.old.failures result }
+    ensures long { result ≡ Err ShelfError.Long →
+        TakesMore (F.remaining file.old.file.device) (F.remaining file.new.file.device) limit }
+    ensures late { file.new.file.late ≡ file.old.file.late }
+    ensures failed { file.new.file.failures ≡ file_failures file.old.file.failures result }
 {
     let limit = limit as usize;
     let mut bytes = Vec::new(alloc);
@@ -146,9 +150,12 @@ fn write_file<D: Folder>(
     ensures asks { OnOk result (calls_of folder.new ≡ closed (created (calls_of folder.old))) }
     ensures broke { OnErr result (BreaksOff (calls_of folder.old) (calls_of folder.new)) }
 {
-    let mut file = Watched::new(folder.create(name)?);
+    let mut file = folder.create(name)?;
     let mut took = Snapshot::of(&ByteLog::None);
-    write_whole(&mut file, bytes, &mut took)?;
-    folder.close(name, file.into_inner())?;
+    if file.write_whole(bytes, &mut took).is_err() {
+        folder.release(file);
+        return Err(Failed);
+    }
+    folder.close(name, file)?;
     Ok(took)
 }

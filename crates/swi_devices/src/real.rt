@@ -1,8 +1,7 @@
 ghost use Rattle.std.specs.Prelude.{◌≡◌, ◌+◌, ◌<◌, [], false, if◌then◌else◌, length};
 ghost use Rattle.std.specs.Io.{ReadsAtMost};
-ghost use Rattle.swi_devices.specs.ByteLog.{bytes_in};
-ghost use Rattle.swi_devices.specs.Counts.{failures_after};
-ghost use Rattle.swi_devices.specs.Streams.{HandsOn, ended_after, sink_of, source_of};
+ghost use Rattle.swi_devices.specs.Counts.{ended_after, failures_after};
+ghost use Rattle.swi_devices.specs.Streams.{HandsOn, sink_of, source_of};
 ghost use Rattle.swi_outside.specs.Causes.{HasCause};
 ghost use Rattle.swi_outside.specs.Sink.{WasWritten};
 ghost use Rattle.swi_outside.specs.Source.{WasRead};
@@ -22,7 +21,6 @@ use swi_outside::{Failed, Sink, Source};
 #[derive(Drop)]
 pub struct RealSource<R: Read> {
     reader: Watched<R>,
-    ended: bool,
     faults: u64,
     given: Snapshot<ByteLog>,
 }
@@ -36,7 +34,7 @@ impl<R: Read> Model for RealSource<R> {
     ghost view = { λ s. record {
       given = bytes_in s.given.value;
       remaining = R.remaining s.reader.device;
-      ended = s.ended;
+      ended = s.reader.ended;
       asks = s.reader.asks;
       failures = s.reader.failures;
       faults = s.faults;
@@ -51,7 +49,6 @@ impl<R: Read> RealSource<R> {
     {
         RealSource {
             reader: Watched::new(reader),
-            ended: false,
             faults: 0,
             given: Snapshot::of(&ByteLog::None),
         }
@@ -71,12 +68,11 @@ impl<R: Read> Source for RealSource<R> {
         ensures ended { self.new.ended ≡ ended_after self.old.ended result }
         ensures failed { self.new.failures ≡ failures_after self.old.failures result }
     {
-        if self.ended {
+        if self.reader.has_ended() {
             return Ok(0);
         }
         let count = count_failure(&mut self.faults, self.reader.read(buf))?;
         note_bytes(&mut self.given, &buf[..count]);
-        self.ended = count == 0;
         Ok(count)
     }
 }
@@ -134,7 +130,7 @@ impl<W: Write> Sink for RealSink<W> {
     {
         count_failure(
             &mut self.faults,
-            write_whole(&mut self.writer, piece, &mut self.took),
+            self.writer.write_whole(piece, &mut self.took),
         )
     }
 }
@@ -148,23 +144,4 @@ fn count_failure<T>(faults: &mut u64, answer: Result<T, Failed>) -> Result<T, Fa
         *faults = faults.saturating_add(1);
     }
     answer
-}
-
-/// Writes the whole piece, and gives up where the writer fails. What the writer took is noted.
-pub(crate) fn write_whole<W: Write>(
-    writer: &mut Watched<W>,
-    piece: &[u8],
-    took: &mut Snapshot<ByteLog>,
-) -> Result<(), Failed>
-    ensures handed { HandsOn (W.contents writer.old.device) (W.contents writer.new.device)
-        (bytes_in took.old.value) (bytes_in took.new.value) result piece.now }
-    ensures failed { writer.new.failures ≡ failures_after writer.old.failures result }
-{
-    let mut rest = piece;
-    while !rest.is_empty() {
-        let count = writer.write(rest)?;
-        note_bytes(took, &rest[..count]);
-        rest = &rest[count..];
-    }
-    Ok(())
 }

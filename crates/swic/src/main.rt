@@ -2,23 +2,39 @@
 //! is the exit status.
 #![tactic(auto)]
 
-ghost use Rattle.std.specs.Prelude.{◌≡◌, ◌≢◌, ◌^◌, ◌≤◌, IfOk, length};
+ghost use Rattle.std.specs.Prelude.{◌≡◌, ◌≢◌, ◌^◌, ◌≤◌, Some, IfOk, drop, length, map, string_bytes};
+ghost use Rattle.std.specs.Vec.Iter.{into_iter_items};
 ghost use Rattle.std.specs.IoError.{error_kind};
+ghost use Rattle.swi_command.specs.CommandLine.{Request, command_of};
+ghost use Rattle.swi_devices.specs.FolderCalls.{shelf_of};
+ghost use Rattle.swi_devices.specs.Streams.{sink_of, source_of};
+ghost use Rattle.swi_outside.specs.Told.{AsTold};
+ghost use Rattle.swi_task.specs.Answers.{AnswersWithLine};
+ghost use Rattle.swi_task.specs.Devices.{seen};
+ghost use Rattle.swi_top.specs.Tasks.{task_of};
 
 use std::alloc::Global;
-use std::io::ErrorKind;
+use std::env::{self, Args};
+use std::io::{self, ErrorKind};
 use std::process::ExitCode;
-use std::{env, io};
-use swi_devices::{FolderShelf, RealSink, RealSource, SystemFolder, VecRam};
+use std::rt::{Stderr, Stdin, Stdout};
+use swi_devices::{Folder, FolderShelf, RealSink, RealSource, SystemFolder, VecRam};
 use swi_outside::Memory;
-use swi_top::{Refusal, status_of, top};
+use swi_top::{Ending, Refusal, status_of, top};
 
 /// The words of cache RAM: those of the largest cache, of 2^23 bytes.
 const RAM_WORDS: u32 = 1 << 21;
 
 /// The words after the program's name.
 fn words_of(rt: &HostRuntime) -> io::Result<Vec<String>> {
-    let words = env::args(rt)?.skip(1).collect(rt.alloc())?;
+    behind_name(env::args(rt)?, rt.alloc())
+}
+
+/// All arguments but the first.
+fn behind_name(args: Args, alloc: Global) -> io::Result<Vec<String>>
+    ensures { IfOk result (λ words. words.items ≡ drop 1 (into_iter_items args)) }
+{
+    let words = args.skip(1).collect(alloc)?;
     Ok(words)
 }
 
@@ -42,6 +58,24 @@ fn cache_ram(alloc: Global, words: u32) -> Result<VecRam, Memory>
     VecRam::new(alloc, words)
 }
 
+/// Does what the words ask for, as `top` does: each stream, by its type, is what `top` takes it for.
+fn command<D: Folder>(
+    alloc: Global,
+    words: &[String],
+    shelf: &mut FolderShelf<D>,
+    input: &mut RealSource<Stdin>,
+    out: &mut RealSink<Stdout>,
+    err: &mut RealSink<Stderr>,
+    ram: &mut VecRam,
+) -> Result<Ending, Refusal>
+    ensures { (request : Request) → command_of (map (λ w. string_bytes w) words.now) ≡ Some request →
+        AsTold (source_of input.old) (source_of input.new) (λ before after. AnswersWithLine (task_of request)
+        (seen (shelf_of D.contents shelf.old) before (sink_of out.old) (sink_of err.old) ram.old)
+        (seen (shelf_of D.contents shelf.new) after (sink_of out.new) (sink_of err.new) ram.new) result) }
+{
+    top(alloc, words, shelf, input, out, err, ram)
+}
+
 /// The status of the command that the words mean.
 fn run(rt: &HostRuntime, words: &[String]) -> u8 {
     let Ok(mut ram) = cache_ram(rt.alloc(), RAM_WORDS) else {
@@ -51,7 +85,7 @@ fn run(rt: &HostRuntime, words: &[String]) -> u8 {
     let mut input = RealSource::new(rt.stdin());
     let mut out = RealSink::new(rt.stdout());
     let mut err = RealSink::new(rt.stderr());
-    let answer = top(
+    let answer = command(
         rt.alloc(),
         words,
         &mut shelf,

@@ -1,3 +1,4 @@
+use Rattle.std.proofs.Common.{◌≡◌, is_err, false}
 use Rattle.swi_devices.proofs.Folders.{elsewhere-trans, stands-kept}
 use Rattle.swi_devices.proofs.Logs.{handed_whole}
 use Rattle.swi_devices.proofs.folder_shelf.write_file.Goals as goal
@@ -10,5 +11,6 @@ returns-clause-others g c = elsewhere-trans _ _ _ _ c.create.ensures.others c.cl
 
 pub returns-clause-stands : goal.returns-clause-stands
 returns-clause-stands g c =
-    let handed = handed_whole c.in_ok-write_whole.ensures.handed in
-    stands-kept _ _ _ _ _ _ c.in_ok-create.ensures.empty (rw c.new-file.ensures at handed) (rw c.into_inner.ensures at c.in_ok-close.ensures.stands)
+    let fine : is_err c.write_whole.result ≡ false = cc in
+    let handed = handed_whole c.write_whole.result fine c.write_whole.ensures.handed in
+    stands-kept _ _ _ _ _ _ c.in_ok-file.ensures.empty handed c.in_ok-close.ensures.stands
