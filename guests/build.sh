@@ -2,6 +2,8 @@
 # build.sh: builds the example guests to NAME.elf beside their sources.
 # Needs Debian's gcc-riscv64-unknown-elf, binutils-riscv64-unknown-elf and picolibc-riscv64-unknown-elf.
 set -eu
+case ${1:-} in -h | --help) sed -n '2,/^set/s/^# //p' "$0"; exit ;; esac
+[ $# = 0 ] || { echo "${0##*/} takes no words: $*" >&2; exit 2; }
 cd "$(dirname "$0")"
 cc=${RISCV_CC:-riscv64-unknown-elf-gcc}
 warnings=(-Wall -Wextra -Werror)

@@ -3,6 +3,7 @@
 # 'COMMAND.. cached NAME.elf', on the input that expect/ has for it, and compares output, error output and
 # status. Its own status is 0 where all agree.
 set -u
+case ${1:-} in -h | --help) sed -n '2,/^set/s/^# //p' "$0"; exit ;; esac
 here=$(cd "$(dirname "$0")" && pwd)
 [ $# -gt 0 ] || { echo "usage: run.sh COMMAND.." >&2; exit 2; }
 work=$(mktemp -d)

@@ -127,5 +127,5 @@ def built_program():
     """The program swic that is built; SWIC names another."""
     path = pathlib.Path(os.environ.get("SWIC") or HERE.parent / "crates/swic/out/swic")
     if not os.access(path, os.X_OK):
-        raise Wrong(f"no program {path}: the first call of ./swic builds it", 254)
+        raise Wrong(f"no program {path}: ./swic --prove proves and builds it, in 20 to 25 minutes; SWIC names another", 254)
     return path

@@ -72,9 +72,13 @@ class Runs:
             return  # want of memory and the like can be another time's luck
         moved, cache = at
         counts = " ".join(map(str, dataclasses.astuple(run.counts))) if run.counts else ""
-        with open(self.held, "a") as out:
-            rate = "" if cache.rate is None else cache.rate
-            print(self.key, moved, cache.size, cache.block, int(cache.ring), rate, run.status, counts, f"{run.seconds:.3f}", run.line, sep="\t", file=out)
+        rate = "" if cache.rate is None else cache.rate
+        fields = [self.key, moved, cache.size, cache.block, int(cache.ring), rate, run.status, counts, f"{run.seconds:.3f}", run.line]
+        try:
+            with open(self.held, "a") as out:
+                print(*fields, sep="\t", file=out)
+        except OSError as error:
+            raise Wrong(f"{self.held} can't be written: {error.strerror}") from None
 
     def words(self, moved, cache):
         """The words of a run; paths are files."""

@@ -211,10 +211,10 @@ def built_program():
             raise Wrong(f"SWIC names no program: {named}")
         return pathlib.Path(found).absolute()
     if not BUILT.exists():
-        raise Wrong(f"swic isn't built yet: run {TOP / 'swic'} once, which proves and builds it in 20 to 25 minutes")
+        raise Wrong(f"swic isn't proved here yet: {TOP / 'swic'} --prove proves and builds it, in 20 to 25 minutes; SWIC names another program")
     asked = subprocess.run([TOP / "swic", "--version"], stdin=subprocess.DEVNULL, capture_output=True, text=True)
-    if ", before " in asked.stdout:
-        raise Wrong(f"a source is newer than the program that is built: run {TOP / 'swic'} once, which proves and builds it anew")
+    if ", proved" not in asked.stdout or ", before " in asked.stdout:
+        raise Wrong(f"a source is newer than the proved program: {TOP / 'swic'} --prove proves and builds it anew; SWIC names another program")
     return BUILT
 
 
@@ -355,12 +355,24 @@ def main(run):
             signal.signal(each, stop)
     try:
         with tempfile.TemporaryDirectory() as folder:
-            sys.exit(run(sys.argv[1:], folder))
+            status = run(sys.argv[1:], folder)
+        sys.stdout.flush()
+        sys.exit(status)
     except Wrong as wrong:
         say(wrong)
         sys.exit(1)
     except Stopped as stopped:
         sys.exit(stopped.status)
     except BrokenPipeError:
-        os.dup2(os.open(os.devnull, os.O_WRONLY), 1)
+        leave_output()
         sys.exit(141)
+    except OSError as error:
+        # A full disk, most of all.
+        say(f"{error.filename or 'what is written'}: {error.strerror or error}")
+        leave_output()
+        sys.exit(1)
+
+
+def leave_output():
+    """Has what was not written yet go nowhere, since its end failed."""
+    os.dup2(os.open(os.devnull, os.O_WRONLY), 1)
