@@ -1,6 +1,6 @@
 -- A told run that a device broke off, in the words of its original steps.
-use Rattle.std.proofs.Common.{◌≡◌, ℕ, suc, ◌+◌, ◌-◌, ◌<◌, ◌≤◌, Bool, true, false, List, [], ◌++◌, length, reverse, take, drop, if◌then◌else◌, Option, Some, None, is_some, refl, sym, ap, subst, ◌∙◌, inl, inr, arith, append-nil, append_assoc}
-use Rattle.std.proofs.lemmas.List.{reverse-append, reverse-reverse, take-append-drop}
+use Rattle.std.proofs.Common.{◌≡◌, ℕ, suc, ◌+◌, ◌-◌, ◌<◌, ◌≤◌, Bool, true, false, List, [], ◌++◌, length, reverse, take, drop, if◌then◌else◌, Option, Some, None, is_some, Err, slice_index, refl, sym, ap, subst, ◌∙◌, inl, inr, arith, append-nil, append_assoc}
+use Rattle.std.proofs.lemmas.List.{length-reverse, reverse-append, reverse-reverse, take-append-drop}
 use Rattle.std.proofs.Math.Seq.{take-append_seam, take-append-add}
 use Rattle.std.specs.Io.KnownBytes.{Appends, Consumes}
 use Rattle.swi_outside.specs.CacheRam.{Fetch, RamState, since}
@@ -12,10 +12,12 @@ use Rattle.swi_calls.specs.declared.end.End.{End}
 use Rattle.swi_calls.specs.Held.{held_made, held_run, held_step}
 use Rattle.swi_calls.specs.State.{FlatState}
 use Rattle.swi_image.specs.Format.{ImageData}
+use Rattle.swi_rom.specs.Coherent.{Coherent}
 use Rattle.swi_rom.specs.Service.{ServiceOf, IsService, Setting}
 use Rattle.swi_calls.specs.declared.machine.Machine.{Machine}
 use Rattle.swi_hart.specs.declared.fault.BoardFault.{BoardFault}
 use Rattle.swi_hart.specs.declared.fault.BoardFault.TheVariants.{RamFault, SourceFault, SinkFault}
+use Rattle.swi_hart.specs.Calling.{OnDevice}
 use Rattle.swi_hart.proofs.Taking.{input_shrinks}
 use Rattle.swi_board.specs.Board.{BoardWithDevices}
 use Rattle.swi_board.specs.Fetching.{FetchedFront}
@@ -29,14 +31,15 @@ use Rattle.swi_run_laws.proofs.After.{is_after}
 use Rattle.swi_run_laws.proofs.Broken.{broke_off, off_in_order, off_unasked}
 use Rattle.swi_run_laws.proofs.RunLaws.{flat_at, goes_short, most_fetched, steps_are, words_front}
 use Rattle.swi_line.specs.declared.trace.Trace.{Trace}
-use Rattle.swi_cached.specs.Answers.{Failed, RamFailed, StepFailed}
-use Rattle.swi_cached.specs.Cached.{CachedRun, fetches_after, program_after, words_after}
+use Rattle.swi_cached.specs.Answers.{Failed, RamFailed, RamWithin, StepFailed}
+use Rattle.swi_cached.specs.Cached.{CachedRun, IsFresh, fetches_after, program_after, words_after}
 use Rattle.swi_cached.specs.CachedRan.{Around, Booted, with_input}
 use Rattle.swi_cached.specs.Told.{error_by, is_each, told_line}
 use Rattle.swi_cached.specs.Traced.{BegunTo, LineBroke, StepBroke, Tells, ToldAlong, ToldTo, with_errors, with_sink}
-use Rattle.swi_cached.proofs.Starting.{begins, first_moment, from_point, given_for, led_to, quiet_run, setting_is}
+use Rattle.swi_cached.proofs.Starting.{begins, coherent_run, first_moment, from_point, given_for, led_to, quiet_run, setting_is, unused_run, written_run}
 use Rattle.swi_cached.proofs.Tells.{error_next, event_told, line_is, same_at, tells_as}
 use Rattle.swi_cached.proofs.Unasked.{line_unasked, told_some, told_unasked}
+use Rattle.swi_cached.proofs.Within.{Within, within, words_within}
 
 seam : (j : ℕ) (xs ys : List ℕ) → take (length (take j xs)) (xs ++ ys) ≡ take j xs
 seam j xs ys =
@@ -57,7 +60,7 @@ front_of by v k s none empty words whole j le before after fetched =
     )
 
 module _ {S : Type 0} {k : ServiceOf S} (laws : IsService k) {v : ImageData} {rom : S} {m : Machine} {n : ℕ} {telling : Trace} {before : Around} {b mid : BoardWithDevices S} {lines : ℕ} {history : Option (List ℕ)}
-    (boot : Booted k (given_for k v rom m n telling) rom before b) (none : m.steps ≡ 0) (along : ToldAlong k v telling n lines b mid history) (running : mid.hart.machine.ending ≡ None) (more : mid.hart.machine.steps < n)
+    (boot : Booted k (given_for k v rom m n telling) rom before b) (fresh : IsFresh (k.kept rom)) (none : m.steps ≡ 0) (along : ToldAlong k v telling n lines b mid history) (running : mid.hart.machine.ending ≡ None) (more : mid.hart.machine.steps < n)
     (left : List ℕ) (told : before.devices.input.left ≡ Some left) where
   abbrev by : Policy
   by = k.policy (k.setting rom)
@@ -98,11 +101,38 @@ module _ {S : Type 0} {k : ServiceOf S} (laws : IsService k) {v : ImageData} {ro
       let one = same.0 in
       subst (λ (x : ℕ). along.made < cost v x start.flat start.here) all (goes_short by v n along.made start refl (omega (arith, none)) to.going (on, omega (arith, one, more)))
 
-  whole : (events by v (cost v n start.flat start.here) start).words ≡ reverse (words_after c n)
-  whole = (is_after by v n start start.here (λ on. refl) refl).words ∙ append-nil (reverse (words_after c n))
+  words_of : (j : ℕ) → (events by v (cost v j start.flat start.here) start).words ≡ reverse (words_after c j)
+  words_of j = (is_after by v j start start.here (λ on. refl) refl).words ∙ append-nil (reverse (words_after c j))
 
   fetched_front : (j : ℕ) → j ≤ suc along.made → (after : RamState) → after.fetched_at ≡ since before.ram.sets (events by v j start).words ++ before.ram.fetched_at → FetchedFront (words_after c n) before.ram after
-  fetched_front j le after fetched = (let less = short in front_of by v n start refl refl (words_after c n) whole j (omega (arith, le, less)) before.ram after fetched)
+  fetched_front j le after fetched = (let less = short in front_of by v n start refl refl (words_after c n) (words_of n) j (omega (arith, le, less)) before.ram after fetched)
+
+  -- ---- what was asked of the ram
+
+  within_step : Within by v steps start along.made
+  within_step = within by v steps start refl along.made on (let one = same.0 in omega (arith, one, none))
+
+  -- where that of the last machine instruction, or of the one that was broken off, was the last call
+  ram_within : (j : ℕ) → along.made ≤ j → j ≤ suc along.made → (after : RamState) → after.fetched_at ≡ since before.ram.sets (events by v j start).words ++ before.ram.fetched_at →
+      after.fetches ≡ risen before.ram.fetches (length (events by v j start).words) → after.sets ≡ mid.ram.sets → after.words ≡ mid.ram.words → RamWithin c steps before.ram after
+  ram_within j least most after fetched_at fetches sets words =
+      let low = within_step.least in
+      let high = within_step.most in
+      let w = words_within by v start (cost v steps start.flat start.here) j (cost v (suc steps) start.flat start.here) (omega (arith, low, least)) (omega (arith, high, most))
+      (words_after c steps) (words_after c (suc steps)) (words_of steps) (words_of (suc steps)) in
+      let one : suc steps ≡ steps + 1 = omega arith in
+      record {
+        more = w.more;
+        ahead = w.ahead;
+        next = w.next_are ∙ ap (λ (i : ℕ). words_after c i) one;
+        fetched_at = fetched_at ∙ ap (λ (l : List Fetch). since before.ram.sets l ++ before.ram.fetched_at) w.are;
+        fetches = fetches ∙ ap (λ (l : List Fetch). risen before.ram.fetches (length l)) w.are ∙ ap (λ (i : ℕ). risen before.ram.fetches i) (length-reverse (words_after c steps ++ w.more));
+        kept = k.kept mid.rom;
+        kept_is = elim within_step.kept [ inl made ↦ inl (to.tracks.kept ∙ made) | inr fell ↦ inr (to.tracks.kept ∙ fell) ];
+        sets = sets ∙ to.tracks.ram.sets ∙ ap (λ (i : ℕ). risen before.ram.sets i) (written_run laws boot along fresh left told);
+        coherent = subst (λ (l : List ℕ). Coherent v (k.kept mid.rom) (k.span (k.setting rom)) l) (sym words) (coherent_run laws boot along);
+        unused = λ i least. ap (λ (l : List ℕ). slice_index l i) words ∙ unused_run laws boot along i least;
+      }
 
   same_line : told_line (is_each telling) mid.hart.machine ≡ told_line (is_each telling) (program_after c steps).machine
   same_line =
@@ -122,8 +152,7 @@ module _ {S : Type 0} {k : ServiceOf S} (laws : IsService k) {v : ImageData} {ro
     first_line (inl (is, told_all)) = told_all.0
     first_line (inr (is, begun)) = absurd (let one = broke.first in omega (arith, is, one))
 
-    line_failed : (sink : SinkState) → sink ≡ new.devices.error → StepFailed c SinkFault mid.devices.input.left before.devices.output.held mid.devices.output.held before.devices.error.held sink.held
-        (faults_of before.devices) (faults_of (with_sink mid sink).devices)
+    line_failed : (sink : SinkState) → sink ≡ new.devices.error → StepFailed c SinkFault before (record { ram = mid.ram; devices = (with_sink mid sink).devices })
     line_failed sink is =
         let p = broke.front in
         let told_so = first_line (tells_as mid.hart.machine.ending None (is_each telling) n start.flat steps lines to.error history running to.tells) in
@@ -157,12 +186,13 @@ module _ {S : Type 0} {k : ServiceOf S} (laws : IsService k) {v : ImageData} {ro
           few = let shrinks = input_shrinks (program_after c steps).machine (program_after c steps).input in omega (arith, shrinks);
           unasked = line_unasked (is_each telling) (program_after c steps) {first = faults_of before.devices} {after = faults_of (with_sink mid sink).devices} broke.is_each
               (ap (λ (f : Faults). f.output) (quiet_run boot along).0);
+          ram = ram_within along.made (omega arith) (omega arith) mid.ram to.tracks.words to.tracks.ram.fetches refl refl;
         }
 
     pub failed_at_line : Failed c fault before (record { ram = new.ram; devices = new.devices }) × FetchedFront (words_after c n) before.ram new.ram
     failed_at_line = (
       subst (λ (f : BoardFault). Failed c f before (record { ram = new.ram; devices = new.devices })) (sym broke.fault_is)
-          (subst (λ (w : BoardWithDevices S). StepFailed c SinkFault w.devices.input.left before.devices.output.held w.devices.output.held before.devices.error.held w.devices.error.held (faults_of before.devices) (faults_of w.devices)) (sym broke.rest)
+          (subst (λ (w : BoardWithDevices S). StepFailed c SinkFault before (record { ram = w.ram; devices = w.devices })) (sym broke.rest)
           (line_failed new.devices.error refl)),
       fetched_front along.made (omega arith) new.ram (ap (λ (w : BoardWithDevices S). w.ram.fetched_at) broke.rest ∙ to.tracks.words),
     )
@@ -201,7 +231,7 @@ module _ {S : Type 0} {k : ServiceOf S} (laws : IsService k) {v : ImageData} {ro
 
     -- the input or a sink
     device_failed : (f : BoardFault) → fault ≡ f → (f ≡ RamFault → ⊥) → DeviceBroke by v f (with_errors begun.error last) (from_point boot) (point_of k new) →
-        StepFailed c f new.devices.input.left before.devices.output.held new.devices.output.held before.devices.error.held new.devices.error.held (faults_of before.devices) (faults_of new.devices)
+        StepFailed c f before (record { ram = new.ram; devices = new.devices })
     device_failed f is other d =
         let asked = off_unasked k v n (with_sink mid broke.sink) new fault (λ e. other (sym is ∙ e)) along.stays.sound broke.broke (with_errors begun.error last) (from_point boot) tracks_mid in
         let order = off_in_order k v n (with_sink mid broke.sink) new fault (λ e. other (sym is ∙ e)) along.stays.sound broke.broke (with_errors begun.error last) (from_point boot) tracks_mid in
@@ -228,12 +258,21 @@ module _ {S : Type 0} {k : ServiceOf S} (laws : IsService k) {v : ImageData} {ro
           few = subst (λ (q : FlatState). length d.taken + length (next_of q).input ≤ length q.input) here d.few;
           unasked = told_unasked (is_each telling) {q = last.flat} {s = program_after c steps} {first = faults_of before.devices} {before = faults_of (with_sink mid broke.sink).devices} {after = faults_of new.devices} here asked
               (ap (λ (f : Faults). f.output) faults_so_far) (ap (λ (f : Faults). f.error) faults_so_far);
+          ram = ram_within (suc along.made) (omega arith) (omega arith) new.ram
+              (d.words ∙ ap (λ (l : List Fetch). since before.ram.sets l ++ before.ram.fetched_at) next_words)
+              (d.fetches ∙ ap (λ (l : List Fetch). risen before.ram.fetches (length l)) next_words)
+              (d.sets ∙ sym to.tracks.ram.sets) (unserved fault (λ e. other (sym is ∙ e)) broke.broke.broke.unserved).2;
         }
+      where
+        unserved : {P : Type 0} (g : BoardFault) → (g ≡ RamFault → ⊥) → OnDevice {T = Unit} (Err g) P → P
+        unserved {P} RamFault never p = absurd (never refl)
+        unserved {P} SourceFault never p = p
+        unserved {P} SinkFault never p = p
 
     -- the ram: where machine instructions have led whose words were fetched
     ram_failed_at : (r : RamBroke by v (with_errors begun.error last) (from_point boot) (point_of k new)) (j : ℕ) → j ≤ suc along.made → (error : List ℕ) → r.reached ≡ with_errors error (events by v j start) → (at : ℕ) → (events by v j start).flat ≡ held_run at start.flat →
         (lined : Bool) → error ≡ error_by (is_each telling) at start.flat ++ (if lined then told_line (is_each telling) (held_run at start.flat).machine else []) →
-        RamFailed c before.ram new.ram new.devices.input.left before.devices.output.held new.devices.output.held before.devices.error.held new.devices.error.held × FetchedFront (words_after c n) before.ram new.ram
+        RamFailed c before (record { ram = new.ram; devices = new.devices }) × FetchedFront (words_after c n) before.ram new.ram
     ram_failed_at r j le error is at flat lined error_is =
         let on : (events by v j start).flat.machine.ending ≡ None = ap (λ (q : Moment). q.flat.machine.ending) (sym is) ∙ r.running in
         let inside : (events by v j start).here ≡ None → ⊥ = λ empty. r.inside (ap (λ (q : Moment). q.here) is ∙ empty) in
@@ -263,7 +302,7 @@ module _ {S : Type 0} {k : ServiceOf S} (laws : IsService k) {v : ImageData} {ro
         )
 
     ram_failed : RamBroke by v (with_errors begun.error last) (from_point boot) (point_of k new) →
-        RamFailed c before.ram new.ram new.devices.input.left before.devices.output.held new.devices.output.held before.devices.error.held new.devices.error.held × FetchedFront (words_after c n) before.ram new.ram
+        RamFailed c before (record { ram = new.ram; devices = new.devices }) × FetchedFront (words_after c n) before.ram new.ram
     unfolding events
     ram_failed r = elim r.is [
       | inl is ↦ ram_failed_at r along.made (omega arith) begun.error is steps here true begun.begun.0

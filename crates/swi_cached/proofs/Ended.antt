@@ -1,5 +1,5 @@
 -- A run that came to its end, in the words of its original steps.
-use Rattle.std.proofs.Common.{◌≡◌, ◌⊎◌, ℕ, ◌+◌, ◌-◌, ◌*◌, ◌≤◌, true, List, ◌++◌, length, reverse, Option, Some, None, is_some, refl, sym, ap, subst, ◌∙◌, inl, inr, arith, append-nil}
+use Rattle.std.proofs.Common.{◌≡◌, ◌⊎◌, ℕ, ◌-◌, ◌*◌, ◌≤◌, true, List, ◌++◌, length, reverse, Option, Some, None, is_some, refl, sym, ap, subst, ◌∙◌, inl, inr, arith, append-nil}
 use Rattle.std.proofs.lemmas.Bool.{false≢true}
 use Rattle.std.proofs.lemmas.List.{length-reverse}
 use Rattle.std.specs.Io.KnownBytes.{Appends}
@@ -10,8 +10,8 @@ use Rattle.swi_calls.specs.declared.machine.Machine.{Machine}
 use Rattle.swi_calls.specs.State.{FlatState}
 use Rattle.swi_image.specs.Format.{ImageData}
 use Rattle.swi_rom.specs.Coherent.{Coherent}
-use Rattle.swi_rom.specs.Record.{Record, indirect, writes}
-use Rattle.swi_rom.specs.Service.{ServiceOf, IsService, Setting}
+use Rattle.swi_rom.specs.Record.{Record, writes}
+use Rattle.swi_rom.specs.Service.{ServiceOf, IsService}
 use Rattle.swi_rom.specs.Served.{SameFrom}
 use Rattle.swi_hart.specs.Hart.{HartData, is_between}
 use Rattle.swi_hart.specs.Matching.{Matches}
@@ -24,7 +24,7 @@ use Rattle.swi_board.proofs.Fetching.{words_many}
 use Rattle.swi_board.proofs.Held.{same_steps}
 use Rattle.swi_run_laws.specs.After.{IsAfter}
 use Rattle.swi_run_laws.proofs.Between.{between_at, most_any, settled_most}
-use Rattle.swi_run_laws.proofs.RunLaws.{events_written, run_after}
+use Rattle.swi_run_laws.proofs.RunLaws.{run_after}
 use Rattle.swi_line.specs.declared.trace.Trace.{Trace}
 use Rattle.swi_cached.specs.Answers.{BoardEnded, EndedSo, Ended, RamAfter}
 use Rattle.swi_cached.specs.Cached.{CachedRun, IsFresh, end_of, record_after, words_after}
@@ -33,7 +33,7 @@ use Rattle.swi_cached.specs.Told.{is_each}
 use Rattle.swi_cached.specs.Traced.{Before, ToldAlong, ToldTo}
 use Rattle.swi_cached.proofs.Boot.{lawful}
 use Rattle.swi_cached.proofs.Services.{services_few}
-use Rattle.swi_cached.proofs.Starting.{count_most, first_moment, from_point, given_for, led_to, setting_is}
+use Rattle.swi_cached.proofs.Starting.{coherent_run, count_most, first_moment, from_point, given_for, led_to, setting_is, unused_run, written_run}
 use Rattle.swi_cached.proofs.Telling.{history_is}
 use Rattle.swi_cached.proofs.Tells.{all_told}
 
@@ -113,28 +113,15 @@ module _ {S : Type 0} {k : ServiceOf S} (laws : IsService k) {v : ImageData} {ro
     words_are : last.words ≡ reverse (words_after c n)
     words_are = after.words ∙ append-nil (reverse (words_after c n))
 
-    written : last.sets ≡ writes (k.kept mid.rom)
-    written =
-        let boot_sets : 0 + start.sets ≡ writes start.kept = (let up = laws.writes_rise (k.setting rom) (k.kept rom) v (indirect m.pc) in let first = fresh.unwritten in omega (arith, up, first)) in
-        let all = events_written by v 0 (λ r v t. laws.writes_rise (k.setting rom) r v t) along.made start boot_sets in
-        let same = ap (λ (r : Record). writes r) to.tracks.kept in
-        omega (arith, all, same)
-
     ram : RamAfter c before.ram mid.ram
-    ram =
-        let grows = subst (λ (s : Setting). k.extent (k.setting rom) (k.kept b.rom) ≤ k.extent (k.setting rom) (k.kept mid.rom)) (setting_is boot)
-        (along.stays.point.rises (λ r. k.extent (k.setting rom) r) (λ r v t. subst (λ (s : Setting). k.extent (k.setting rom) r ≤ k.extent (k.setting rom) (k.policy s r v t)) (sym (setting_is boot)) (laws.extent_rises (k.setting rom) r v t))) in
-        let unused = subst (λ (s : Setting). SameFrom (k.extent s (k.kept mid.rom)) b.ram.words mid.ram.words) (setting_is boot) along.stays.unused in
-        let whole : SameFrom (k.extent (k.setting rom) (k.kept mid.rom)) before.ram.words mid.ram.words = λ i least. unused i least ∙ boot.entered.unused i (omega (arith, least, grows)) in
-        record {
-          coherent = subst (λ (r : Record). Coherent v r (k.span (k.setting rom)) mid.ram.words) record_is
-              (subst (λ (s : Setting). Coherent v (k.kept mid.rom) (k.span s) mid.ram.words) (along.stays.setting ∙ setting_is boot) (laws.coherent mid.rom v mid.ram.words along.stays.sound));
-          fetches = to.tracks.ram.fetches ∙ ap (λ (l : List Fetch). risen before.ram.fetches (length l)) words_are
-              ∙ ap (λ (x : ℕ). risen before.ram.fetches x) (length-reverse (words_after c n) ∙ words_many by v n start.flat start.here (written_in start));
-          fetched_at = to.tracks.words ∙ ap (λ (l : List Fetch). since before.ram.sets l ++ before.ram.fetched_at) words_are;
-          sets = to.tracks.ram.sets ∙ ap (λ (x : ℕ). risen before.ram.sets x) (written ∙ ap (λ (r : Record). writes r) record_is);
-          unused = subst (λ (r : Record). SameFrom (k.extent (k.setting rom) r) before.ram.words mid.ram.words) record_is whole;
-        }
+    ram = record {
+      coherent = subst (λ (r : Record). Coherent v r (k.span (k.setting rom)) mid.ram.words) record_is (coherent_run laws boot along);
+      fetches = to.tracks.ram.fetches ∙ ap (λ (l : List Fetch). risen before.ram.fetches (length l)) words_are
+          ∙ ap (λ (x : ℕ). risen before.ram.fetches x) (length-reverse (words_after c n) ∙ words_many by v n start.flat start.here (written_in start));
+      fetched_at = to.tracks.words ∙ ap (λ (l : List Fetch). since before.ram.sets l ++ before.ram.fetched_at) words_are;
+      sets = to.tracks.ram.sets ∙ ap (λ (x : ℕ). risen before.ram.sets x) (written_run laws boot along fresh left told ∙ ap (λ (r : Record). writes r) record_is);
+      unused = subst (λ (r : Record). SameFrom (k.extent (k.setting rom) r) before.ram.words mid.ram.words) record_is (unused_run laws boot along);
+    }
 
     pub ended_so : EndedSo k c (record { hart = mid.hart; rom = mid.rom }) telling history before (record { ram = mid.ram; devices = mid.devices })
     ended_so =

@@ -16,6 +16,7 @@ use Rattle.swi_board.proofs.Fetching.{words_many}
 use Rattle.swi_cached.specs.Cached.{CachedRun, AreCounted, words_after, written_at_boot, policy_of, IsFlatRun, StopsBeforeStore}
 use Rattle.swi_cached.specs.Told.{error_by, of_steps}
 use Rattle.swi_cached.specs.Answers.{RamFailed}
+use Rattle.swi_cached.specs.CachedRan.{Around}
 
 pub is_flat_run : (c : CachedRun) → IsFlatRun c
 is_flat_run c = λ n never. held_is_flat n c.start never
@@ -51,20 +52,21 @@ unfolding of_steps
 told_none false s none = ap (λ (q : FlatState). q.error) (held_run_none s) ∙ none
 told_none true s none = ap (λ (l : List ℕ). l ++ []) none
 
-pub boot_failed : (c : CachedRun) (before after : RamState) (left out err : Option (List ℕ)) → c.start.machine.ending ≡ None → c.start.output ≡ [] → c.start.error ≡ [] →
-    left ≡ Some c.start.input → is_some (place_of c.image c.start.machine.pc) ≡ true → after.fetches ≡ before.fetches → after.last_failed ≡ true → RamFailed c before after left out out err err
-boot_failed c before after left out err going no_output no_error told placed same last =
+pub boot_failed : (c : CachedRun) (before : Around) (ram : RamState) → c.start.machine.ending ≡ None → c.start.output ≡ [] → c.start.error ≡ [] →
+    before.devices.input.left ≡ Some c.start.input → is_some (place_of c.image c.start.machine.pc) ≡ true → ram.fetches ≡ before.ram.fetches → ram.last_failed ≡ true →
+    RamFailed c before (record { ram = ram; devices = before.devices })
+boot_failed c before ram going no_output no_error told placed same last =
     let first = held_run_none c.start in
     record {
       fetched = 0;
-      fetches = same ∙ risen_none before.fetches;
+      fetches = same ∙ risen_none before.ram.fetches;
       steps = 0;
       within = omega arith;
       enough = none_made c.image c.start (place_of c.image c.start.machine.pc);
       longest = λ more. first_fetch c.image c.start (place_of c.image c.start.machine.pc) going placed refl;
-      output = subst (λ (piece : List ℕ). Appends out out piece) (sym (ap (λ (s : FlatState). s.output) first ∙ no_output)) (Appends-none out);
+      output = subst (λ (piece : List ℕ). Appends before.devices.output.held before.devices.output.held piece) (sym (ap (λ (s : FlatState). s.output) first ∙ no_output)) (Appends-none before.devices.output.held);
       begun = false;
-      error = subst (λ (piece : List ℕ). Appends err err piece) (sym (ap (λ (l : List ℕ). l ++ []) (told_none c.trace c.start no_error))) (Appends-none err);
+      error = subst (λ (piece : List ℕ). Appends before.devices.error.held before.devices.error.held piece) (sym (ap (λ (l : List ℕ). l ++ []) (told_none c.trace c.start no_error))) (Appends-none before.devices.error.held);
       input = told ∙ ap (λ (s : FlatState). Some s.input) (sym first);
       last_failed = last;
     }

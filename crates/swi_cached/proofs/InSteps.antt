@@ -97,7 +97,7 @@ module _ {S : Type 0} {k : ServiceOf S} (laws : IsService k) {v : ImageData} {ro
     memory = λ e. let bad : ⊥ = cc in absurd bad;
     failed = λ f e left is. subst (λ (x : BoardFault). Failed (with_input (given_for k v rom m n telling) left) x before after) (fault_is {T = Answer S} RamFault f e)
         (subst (λ (d : Devices). Failed (with_input (given_for k v rom m n telling) left) RamFault before (record { ram = after.ram; devices = d })) (sym b.devices)
-        (boot_failed (with_input (given_for k v rom m n telling) left) before.ram after.ram before.devices.input.left before.devices.output.held before.devices.error.held going refl refl is placed b.ram.fetches_stay b.ram.last_failed));
+        (boot_failed (with_input (given_for k v rom m n telling) left) before after.ram going refl refl is placed b.ram.fetches_stay b.ram.last_failed));
     fetched_at = λ left is. words_unbooted (with_input (given_for k v rom m n telling) left) before.ram after.ram b.ram.fetched_at_stays;
     kept = b.ram.kept;
     causes = none_named (ap (λ (d : Devices). faults_of d) b.devices) (λ e. let bad : ⊥ = cc in bad) (λ e. let bad : ⊥ = cc in bad);
@@ -122,8 +122,8 @@ module _ {S : Type 0} {k : ServiceOf S} (laws : IsService k) {v : ImageData} {ro
           counted = tt;
           memory = λ e. let bad : ⊥ = cc in absurd bad;
           failed = λ f e left is. subst (λ (x : BoardFault). Failed (with_input (given_for k v rom m n telling) left) x before after) (fault_is {T = Answer S} fault f e)
-              (failed_at_line laws r.ran.booted none along broke.running broke.more left is broke).0;
-          fetched_at = λ left is. (failed_at_line laws r.ran.booted none along broke.running broke.more left is broke).1;
+              (failed_at_line laws r.ran.booted fresh none along broke.running broke.more left is broke).0;
+          fetched_at = λ left is. (failed_at_line laws r.ran.booted fresh none along broke.running broke.more left is broke).1;
           kept = subst (λ (w : BoardWithDevices S). KeepsBeyond (k.span (k.setting rom)) before.ram w.ram) (sym rest) (kept_run r.ran.booted along);
           causes = subst (λ (w : BoardWithDevices S). HasCauses (faults_of before.devices) (faults_of w.devices) (IsErrOf {T = Answer S} (Err (stop.Fault fault)) (stop.Fault SourceFault)) (IsErrOf {T = Answer S} (Err (stop.Fault fault)) (stop.Fault SinkFault))) (sym rest)
               (subst (λ (f : BoardFault). HasCauses (faults_of before.devices) (faults_of (with_sink r.ran.ran.mid new.devices.error).devices) (IsErrOf {T = Answer S} (Err (stop.Fault f)) (stop.Fault SourceFault)) (IsErrOf {T = Answer S} (Err (stop.Fault f)) (stop.Fault SinkFault))) (sym broke.fault_is)
@@ -146,8 +146,8 @@ module _ {S : Type 0} {k : ServiceOf S} (laws : IsService k) {v : ImageData} {ro
           counted = tt;
           memory = λ e. let bad : ⊥ = cc in absurd bad;
           failed = λ f e left is. subst (λ (x : BoardFault). Failed (with_input (given_for k v rom m n telling) left) x before after) (fault_is {T = Answer S} fault f e)
-              (failed_at_step laws r.ran.booted none along off.running off.more left is broke).0;
-          fetched_at = λ left is. (failed_at_step laws r.ran.booted none along off.running off.more left is broke).1;
+              (failed_at_step laws r.ran.booted fresh none along off.running off.more left is broke).0;
+          fetched_at = λ left is. (failed_at_step laws r.ran.booted fresh none along off.running off.more left is broke).1;
           kept = kept_both (k.span (k.setting rom)) before.ram r.ran.ran.mid.ram after.ram (kept_run r.ran.booted along)
               (subst (λ (s : Setting). KeepsBeyond (k.span s) r.ran.ran.mid.ram after.ram) (along.stays.setting ∙ setting_is r.ran.booted) off.broke.kept);
           causes = stop_causes {T = Answer S} fault sinks off.broke.causes;

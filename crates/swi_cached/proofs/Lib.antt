@@ -10,5 +10,6 @@ mod ToldOn
 mod Unasked
 pub mod Starting
 pub mod Ended
+mod Within
 pub mod Breaking
 pub mod InSteps

@@ -10,16 +10,20 @@ use Rattle.swi_calls.specs.declared.end.End.{End}
 use Rattle.swi_calls.specs.declared.machine.Machine.{Machine}
 use Rattle.swi_image.specs.Format.{ImageData}
 use Rattle.swi_render.specs.Carried.{Carries}
+use Rattle.swi_rom.specs.Coherent.{Coherent}
 use Rattle.swi_rom.specs.Record.{Record, indirect, writes}
-use Rattle.swi_rom.specs.Service.{ServiceOf, Setting, cache_of}
+use Rattle.swi_rom.specs.Service.{ServiceOf, IsService, Setting, cache_of}
+use Rattle.swi_rom.specs.Served.{SameFrom}
 use Rattle.swi_hart.specs.Bounds.{depth, most, most_by}
 use Rattle.swi_hart.specs.Hart.{HartData}
 use Rattle.swi_board.specs.Board.{BoardWithDevices}
-use Rattle.swi_board.specs.Moments.{Moment, booted}
+use Rattle.swi_board.specs.Moments.{Moment, booted, events}
 use Rattle.swi_board.specs.Tracking.{Point, Tracks, point_of}
 use Rattle.swi_board.proofs.Running.{kept_both}
 use Rattle.swi_run_laws.proofs.Between.{depth_booted}
+use Rattle.swi_run_laws.proofs.RunLaws.{events_written}
 use Rattle.swi_line.specs.declared.trace.Trace.{Trace}
+use Rattle.swi_cached.specs.Cached.{IsFresh}
 use Rattle.swi_cached.specs.CachedRan.{Around, Booted, Given}
 use Rattle.swi_cached.specs.Told.{is_each}
 use Rattle.swi_cached.specs.Traced.{ToldAlong, ToldTo}
@@ -95,3 +99,24 @@ module _ {S : Type 0} {k : ServiceOf S} {v : ImageData} {rom : S} {m : Machine} 
 
   pub quiet_run : {mid : BoardWithDevices S} {lines : ℕ} {history : Option (List ℕ)} → ToldAlong k v telling n lines b mid history → (faults_of mid.devices ≡ faults_of before.devices) × (mid.ram.faults ≡ before.ram.faults)
   quiet_run {mid} {lines} {history} along = (along.stays.quiet ∙ ap (λ (d : Devices). faults_of d) boot.devices, along.stays.point.ram.quiet ∙ boot.entered.ram.quiet)
+
+-- What the service has written by then, and what the ram holds.
+module _ {S : Type 0} {k : ServiceOf S} (laws : IsService k) {v : ImageData} {rom : S} {m : Machine} {n : ℕ} {telling : Trace} {before : Around} {b mid : BoardWithDevices S} {lines : ℕ} {history : Option (List ℕ)}
+    (boot : Booted k (given_for k v rom m n telling) rom before b) (along : ToldAlong k v telling n lines b mid history) where
+  pub coherent_run : Coherent v (k.kept mid.rom) (k.span (k.setting rom)) mid.ram.words
+  coherent_run = subst (λ (s : Setting). Coherent v (k.kept mid.rom) (k.span s) mid.ram.words) (along.stays.setting ∙ setting_is boot) (laws.coherent mid.rom v mid.ram.words along.stays.sound)
+
+  pub unused_run : SameFrom (k.extent (k.setting rom) (k.kept mid.rom)) before.ram.words mid.ram.words
+  unused_run =
+      let grows = subst (λ (s : Setting). k.extent (k.setting rom) (k.kept b.rom) ≤ k.extent (k.setting rom) (k.kept mid.rom)) (setting_is boot)
+      (along.stays.point.rises (λ r. k.extent (k.setting rom) r) (λ r v t. subst (λ (s : Setting). k.extent (k.setting rom) r ≤ k.extent (k.setting rom) (k.policy s r v t)) (sym (setting_is boot)) (laws.extent_rises (k.setting rom) r v t))) in
+      let unused = subst (λ (s : Setting). SameFrom (k.extent s (k.kept mid.rom)) b.ram.words mid.ram.words) (setting_is boot) along.stays.unused in
+      λ i least. unused i least ∙ boot.entered.unused i (omega (arith, least, grows))
+
+  pub written_run : IsFresh (k.kept rom) → (left : List ℕ) → before.devices.input.left ≡ Some left → (events (k.policy (k.setting rom)) v along.made (first_moment k v rom m left)).sets ≡ writes (k.kept mid.rom)
+  written_run fresh left told =
+      let start = first_moment k v rom m left in
+      let boot_sets : 0 + start.sets ≡ writes start.kept = (let up = laws.writes_rise (k.setting rom) (k.kept rom) v (indirect m.pc) in let first = fresh.unwritten in omega (arith, up, first)) in
+      let all = events_written (k.policy (k.setting rom)) v 0 (λ r v t. laws.writes_rise (k.setting rom) r v t) along.made start boot_sets in
+      let same = ap (λ (r : Record). writes r) (led_to boot along left told).tracks.kept in
+      omega (arith, all, same)

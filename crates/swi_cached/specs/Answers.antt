@@ -3,8 +3,8 @@ use Rattle.std.specs.Prelude.{◌≡◌, ◌⊎◌, ℕ, ◌+◌, ◌*◌, ◌<�
 use Rattle.std.specs.Option.{ForSome}
 use Rattle.std.specs.Io.KnownBytes.{Appends, Consumes}
 use Rattle.swi_outside.specs.Causes.{DeviceCause, risen}
-use Rattle.swi_outside.specs.CacheRam.{RamState, KeepsBeyond}
-use Rattle.swi_outside.specs.Devices.{Faults, HasCauses, faults_of}
+use Rattle.swi_outside.specs.CacheRam.{Fetch, RamState, KeepsBeyond}
+use Rattle.swi_outside.specs.Devices.{Devices, HasCauses, faults_of}
 use Rattle.swi_calls.specs.Flat.{Made}
 use Rattle.swi_calls.specs.declared.end.End.TheVariants.{StoreText}
 use Rattle.swi_rom.specs.Coherent.{Coherent}
@@ -21,7 +21,7 @@ use Rattle.swi_board.specs.Transfers.{here_of}
 use Rattle.swi_line.specs.declared.trace.Trace.{Trace}
 use Rattle.swi_cached.specs.declared.run.CachedStop.{CachedStop}
 use Rattle.swi_cached.specs.declared.run.CachedStop.TheVariants as stop
-use Rattle.swi_cached.specs.Cached.{CachedRun, IsCounted, span_of, program_after, told_after, end_of, instructions_after, fetches_after, words_after, place_after, record_after, used_after}
+use Rattle.swi_cached.specs.Cached.{CachedRun, IsCounted, span_of, program_after, told_after, end_of, instructions_after, fetches_after, words_after, place_after, record_after, record_behind_exit, used_after}
 use Rattle.swi_cached.specs.CachedRan.{Around, Given, with_input}
 use Rattle.swi_cached.specs.Told.{addresses, history_of, next_told, told_line}
 
@@ -57,60 +57,79 @@ pub record RamAfter (c : CachedRun) (before after : RamState) : Type 0 where
   -- the words of slots that no block ever used, and those behind the slots, are as before
   pub unused : (i : ℕ) → used_after c c.limit ≤ i → slice_index after.words i ≡ slice_index before.words i
 
+-- The ram where a source or a sink broke off the step behind so many: it was asked for what those steps ask, and for no more than the next
+-- one does.
+pub record RamWithin (c : CachedRun) (steps : ℕ) (before after : RamState) : Type 0 where
+  -- the words that were fetched are those of the steps made, and then a front of the next one's, in this order, each behind so many sets
+  pub more : List Fetch
+  pub ahead : List Fetch
+  pub next : words_after c steps ++ (more ++ ahead) ≡ words_after c (steps + 1)
+  pub fetched_at : HasFetched (words_after c steps ++ more) before after
+  pub fetches : after.fetches ≡ risen before.fetches (length (words_after c steps ++ more))
+  -- the service has served the transfers of the steps made, and may have served the exit that the next one makes first
+  pub kept : Record
+  pub kept_is : (kept ≡ record_after c steps) ⊎ (kept ≡ record_behind_exit c steps)
+  -- it has set as many words as that record counts; the ram holds what is placed by then, and the words that no block ever used are as before
+  pub sets : after.sets ≡ risen before.sets (writes kept)
+  pub coherent : Coherent c.image kept (span_of c) after.words
+  pub unused : (i : ℕ) → c.cache.extent kept ≤ i → slice_index after.words i ≡ slice_index before.words i
+
 -- The ram failed: both sinks hold just what the most steps wrote, and of the input is gone just what they took, whose
 -- fetches were made. Where steps are told, the line of the next one may stand behind it. No call of the ram comes behind the one that
 -- failed.
-pub record RamFailed (c : CachedRun) (before after : RamState)
-    (left' out out' err err' : Option (List ℕ)) : Type 0 where
+pub record RamFailed (c : CachedRun) (before after : Around) : Type 0 where
   pub fetched : ℕ
-  pub fetches : after.fetches ≡ risen before.fetches fetched
+  pub fetches : after.ram.fetches ≡ risen before.ram.fetches fetched
   pub steps : ℕ
   pub within : steps ≤ c.limit
   pub enough : fetches_after c steps ≤ fetched
   pub longest : steps < c.limit → fetched < fetches_after c (steps + 1)
-  pub output : Appends out out' (program_after c steps).output
+  pub output : Appends before.devices.output.held after.devices.output.held (program_after c steps).output
   pub begun : Bool
-  pub error : Appends err err' ((told_after c steps).error ++ (if begun then told_line c.trace (program_after c steps).machine else []))
-  pub input : left' ≡ Some (program_after c steps).input
-  pub last_failed : after.last_failed ≡ true
+  pub error : Appends before.devices.error.held after.devices.error.held
+      ((told_after c steps).error ++ (if begun then told_line c.trace (program_after c steps).machine else []))
+  pub input : after.devices.input.left ≡ Some (program_after c steps).input
+  pub last_failed : after.ram.last_failed ≡ true
 
 -- the step that comes after so many, which writes its line first where steps are told
 abbrev pub step_after : CachedRun → ℕ → Made
 step_after c n = next_told c.trace (program_after c n)
 
 -- The error sink failed at the line of the step that comes after so many, of which a front was written; the step was not begun.
-abbrev pub FailedAtLine : CachedRun → ℕ → (out out' err err' : Option (List ℕ)) → Type 0
-FailedAtLine c n out out' err err' = (told_line c.trace (program_after c n).machine ≡ [] → ⊥)
-    × Appends out out' (program_after c n).output
-    × ((front : ℕ) × Appends err err' ((told_after c n).error ++ take front (told_line c.trace (program_after c n).machine)))
+abbrev pub FailedAtLine : CachedRun → ℕ → Devices → Devices → Type 0
+FailedAtLine c n before after = (told_line c.trace (program_after c n).machine ≡ [] → ⊥)
+    × Appends before.output.held after.output.held (program_after c n).output
+    × ((front : ℕ) × Appends before.error.held after.error.held ((told_after c n).error ++ take front (told_line c.trace (program_after c n).machine)))
 
 -- The input or a sink failed at a step: so many were made before it; each sink gained what they wrote, and then a front
 -- of what the next one writes: where the input failed, nothing but its line. Of the input no more is gone than what they took, and a
 -- front of what the next one takes. A sink to which that step gives nothing was not asked by it.
-pub record StepFailed (c : CachedRun) (fault : BoardFault) (left' out out' err err' : Option (List ℕ)) (faults faults_after : Faults) : Type 0 where
+pub record StepFailed (c : CachedRun) (fault : BoardFault) (before after : Around) : Type 0 where
   pub steps : ℕ
   pub fewer : steps < c.limit
   pub going : (program_after c steps).machine.ending ≡ None
   pub output_front : ℕ
-  pub output : Appends out out' ((program_after c steps).output ++ take output_front (step_after c steps).output)
+  pub output : Appends before.devices.output.held after.devices.output.held ((program_after c steps).output ++ take output_front (step_after c steps).output)
   pub error_front : ℕ
-  pub error : Appends err err' ((told_after c steps).error ++ take error_front (step_after c steps).error)
+  pub error : Appends before.devices.error.held after.devices.error.held ((told_after c steps).error ++ take error_front (step_after c steps).error)
   pub unwritten : fault ≡ SourceFault → (output_front ≡ 0) × (error_front ≡ length (told_line c.trace (program_after c steps).machine))
   -- what that step writes to the output comes before what it writes to the errors, as the line of a call comes behind the call's output: where
   -- the output failed, the errors hold nothing of the step but its own line; where they failed behind that line, the output has all of it
-  pub output_failed : (faults_after.output ≡ faults.output → ⊥) → Appends err err' ((told_after c steps).error ++ told_line c.trace (program_after c steps).machine)
-  pub error_failed : (faults_after.error ≡ faults.error → ⊥) → FailedAtLine c steps out out' err err' ⊎ Appends out out' ((program_after c steps).output ++ (step_after c steps).output)
+  pub output_failed : (after.devices.output.faults ≡ before.devices.output.faults → ⊥) →
+      Appends before.devices.error.held after.devices.error.held ((told_after c steps).error ++ told_line c.trace (program_after c steps).machine)
+  pub error_failed : (after.devices.error.faults ≡ before.devices.error.faults → ⊥) → FailedAtLine c steps before.devices after.devices
+      ⊎ Appends before.devices.output.held after.devices.output.held ((program_after c steps).output ++ (step_after c steps).output)
   pub taken : List ℕ
-  pub input : Consumes (Some (program_after c steps).input) left' taken
+  pub input : Consumes (Some (program_after c steps).input) after.devices.input.left taken
   pub few : length taken + length (step_after c steps).input ≤ length (program_after c steps).input
-  pub unasked : Unasked (step_after c steps) faults faults_after
+  pub unasked : Unasked (step_after c steps) (faults_of before.devices) (faults_of after.devices)
+  -- the ram was asked no further
+  pub ram : RamWithin c steps before.ram after.ram
 
 abbrev pub Failed : CachedRun → BoardFault → Around → Around → Type 0
-Failed c RamFault before after = RamFailed c before.ram after.ram after.devices.input.left before.devices.output.held after.devices.output.held before.devices.error.held after.devices.error.held
-Failed c SourceFault before after = StepFailed c SourceFault after.devices.input.left before.devices.output.held after.devices.output.held before.devices.error.held after.devices.error.held
-    (faults_of before.devices) (faults_of after.devices)
-Failed c SinkFault before after = StepFailed c SinkFault after.devices.input.left before.devices.output.held after.devices.output.held before.devices.error.held after.devices.error.held
-    (faults_of before.devices) (faults_of after.devices)
+Failed c RamFault before after = RamFailed c before after
+Failed c SourceFault before after = StepFailed c SourceFault before after
+Failed c SinkFault before after = StepFailed c SinkFault before after
 
 -- ---- what a run says in the words of its original steps
 

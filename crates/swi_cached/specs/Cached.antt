@@ -15,7 +15,7 @@ use Rattle.swi_memory.specs.declared.layout.Layout.{Layout}
 use Rattle.swi_program.specs.Program.{ProgramData}
 use Rattle.swi_rom.specs.Record.{Record, Transfer, indirect, writes}
 use Rattle.swi_rom.specs.Service.{Cache}
-use Rattle.swi_board.specs.Transfers.{Here, transfers, cost, fetches, here_run, after_all}
+use Rattle.swi_board.specs.Transfers.{Here, transfers, cost, fall_transfers, fetches, here_run, after_all}
 use Rattle.swi_cached.specs.declared.run.AskedRun.{AskedRun}
 use Rattle.swi_board.specs.Fetching.{Written, words_run, written_by}
 use Rattle.swi_cached.specs.Told.{error_by, is_each}
@@ -114,6 +114,10 @@ words_after c n = words_run (policy_of c) c.image n c.start (place_of c.image c.
 -- where the run stands by then: at the block and offset of a text word's first word, or of an exit behind a block, or outside
 abbrev pub place_after : CachedRun → ℕ → Here
 place_after c n = here_run c.image n c.start (place_of c.image c.start.machine.pc)
+
+-- the record behind the exit that the next step makes first, where it makes one: that behind a block's last text word
+abbrev pub record_behind_exit : CachedRun → ℕ → Record
+record_behind_exit c n = after_all (policy_of c) c.image (record_after c n) (fall_transfers c.image (program_after c n).machine (place_after c n))
 
 -- however many steps are made: they are as many as are counted
 abbrev pub AreCounted : CachedRun → Type 0

@@ -41,20 +41,20 @@ use Rattle.swi_answer.specs.declared.answer.Refusal.{Refusal}
 use Rattle.swi_answer.specs.declared.answer.Refusal.TheVariants as refusal
 use Rattle.swi_answer.specs.Lines.{ending_line}
 use Rattle.swi_task.specs.Answers.{Answers, IsChecked}
-use Rattle.swi_cached_task.specs.Caching.{board_work, cache_for, cached_run, held_next}
+use Rattle.swi_cached_task.specs.Caching.{board_work, cache_for, cached_run, held_next, held_taken}
 use Rattle.swi_cached_task.specs.Placing.{cached_checks}
 use Rattle.swi_cached_task.proofs.Caching.{cached_run_is, cached_to, front_none, keeps_all, keeps_run, ran_all, run_err_asked, run_err_checked, run_err_given, run_err_not, run_err_short, run_err_size, to_nil, work_is}
 use Rattle.swi_task.specs.Causes.{HasCauses}
 use Rattle.swi_task.specs.Checks.{IsAccepted, room_in, size_refusal}
 use Rattle.swi_task.specs.Devices.{Devices, stream_faults}
-use Rattle.swi_cached_command.specs.RunCached.{BrokeIn, CachedFailed, RamBroke, RunsCached, RunsOver, addresses_in, cached_report, last_lines, last_told, refusal_of, cached_task, shown_error}
+use Rattle.swi_cached_command.specs.RunCached.{BrokeIn, CachedFailed, RamBroke, RunsCached, StepBroke, RunsOver, addresses_in, cached_report, last_lines, last_told, refusal_of, cached_task, shown_error, told_next}
 use Rattle.swi_task.specs.Runs.{FailedAfterRun, FailedAtLine, ending_by, report, start_of}
 use Rattle.swi_task.specs.Subject.{IsImageFor}
 use Rattle.swi_task.proofs.Due.{left_empty}
 use Rattle.swi_cached_command.proofs.Tracing.{all_shown, last_is, shown_split, some_shown}
 use Rattle.swi_task.proofs.Refusals.{IsRead, calm_causes, causes_behind, causes_of, keeps_read, none_long, out_causes, read_is, same_count, sized_along, sized_err, sized_ok}
 use Rattle.swi_task.proofs.Starts.{start_is}
-use Rattle.swi_task.proofs.Lines.{IsLined, after_line, after_run_line, appends_last, at_step_line, holds_then, ran_line}
+use Rattle.swi_task.proofs.Lines.{IsLined, after_line, after_run_line, appends_last, holds_then, ran_line, step_line}
 
 -- what the run sees of them
 abbrev pub around_of : Devices → Around
@@ -132,7 +132,7 @@ all_words c before after h = ([], record { fetched = words_after c c.limit; are 
 
 -- the error sink failed at the line of a step, or behind all of its output
 at_line : (c : CachedRun) (n : ℕ) (d m : Devices) →
-    run.FailedAtLine c n d.output.held m.output.held d.error.held m.error.held ⊎ Appends d.output.held m.output.held ((program_after c n).output ++ (held_next (program_after c n)).output) →
+    run.FailedAtLine c n (around_of d).devices (around_of m).devices ⊎ Appends d.output.held m.output.held ((program_after c n).output ++ (held_next (program_after c n)).output) →
     FailedAtLine (told_after c n) ((told_after c n).error ++ told_line c.trace (program_after c n).machine) [] d m ⊎ Appends d.output.held m.output.held ((program_after c n).output ++ (held_next (program_after c n)).output)
 at_line c n d m (inl h) = inl (told_line c.trace (program_after c n).machine, refl, h.0, h.1, (h.2.0, to_nil d.error.held m.error.held _ h.2.1))
 at_line c n d m (inr all) = inr all
@@ -140,7 +140,7 @@ at_line c n d m (inr all) = inr all
 ram_failed : {T : Type 0} (o : RunOptions) (cache : Cache) (v : ImageData) (p : ProgramData) (l : Layout) (d : Devices) (i : SourceState) (out e : SinkState) (ram : RamState) →
     KeepsBeyond cache.span d.ram ram →
     ((left : List ℕ) → d.input.left ≡ Some left → FetchedFront (words_after (run_with o cache v p l left) o.limits.steps) d.ram ram) →
-    ((left : List ℕ) → d.input.left ≡ Some left → run.RamFailed (run_with o cache v p l left) d.ram ram i.left d.output.held out.held d.error.held e.held) →
+    ((left : List ℕ) → d.input.left ≡ Some left → run.RamFailed (run_with o cache v p l left) (around_of d) (around_of (ran_all d i out e ram))) →
     BoardCauses {T = T} d (ran_all d i out e ram) (Err (stop.Fault board.RamFault)) → RunsOver o cache v p l d (ran_all d i out e ram) (Err refusal.RamFault)
 ram_failed {T} o cache v p l d i out e ram kept words broke h = record {
   done = tt;
@@ -170,7 +170,7 @@ ram_failed {T} o cache v p l d i out e ram kept words broke h = record {
 source_failed : {T : Type 0} (o : RunOptions) (cache : Cache) (v : ImageData) (p : ProgramData) (l : Layout) (d : Devices) (i : SourceState) (out e : SinkState) (ram : RamState) →
     KeepsBeyond cache.span d.ram ram →
     ((left : List ℕ) → d.input.left ≡ Some left → FetchedFront (words_after (run_with o cache v p l left) o.limits.steps) d.ram ram) →
-    ((left : List ℕ) → d.input.left ≡ Some left → run.StepFailed (run_with o cache v p l left) board.SourceFault i.left d.output.held out.held d.error.held e.held (stream_faults d) (stream_faults (ran_all d i out e ram))) →
+    ((left : List ℕ) → d.input.left ≡ Some left → run.StepFailed (run_with o cache v p l left) board.SourceFault (around_of d) (around_of (ran_all d i out e ram))) →
     BoardCauses {T = T} d (ran_all d i out e ram) (Err (stop.Fault board.SourceFault)) → RunsOver o cache v p l d (ran_all d i out e ram) (Err refusal.SourceFault)
 source_failed {T} o cache v p l d i out e ram kept words broke h = record {
   done = tt;
@@ -181,27 +181,30 @@ source_failed {T} o cache v p l d i out e ram kept words broke h = record {
       let c = run_with o cache v p l left in
       let none = b.unwritten refl in
       failed_so o c d (ran_all d i out e ram) refusal.SourceFault [] (inr (inl (record {
-        steps = b.steps;
-        fewer = b.fewer;
         failed = record {
-          fault = inl refl;
-          going = b.going;
-          output = (b.output_front, b.output);
-          error_front = b.error_front;
-          error = to_nil d.error.held e.held _ b.error;
-          source = λ _. (
-            front_none d.output.held out.held _ _ b.output_front none.0 b.output,
-            to_nil d.error.held e.held _ (subst (λ (x : List ℕ). Appends d.error.held e.held ((told_after c b.steps).error ++ x))
-                (ap (λ (k : ℕ). take k (next_error c.trace (program_after c b.steps))) none.1
-                ∙ take-append_seam (told_line c.trace (program_after c b.steps).machine) (held_next (program_after c b.steps)).error) b.error),
-          );
-          output_failed = λ rose. to_nil d.error.held e.held _ (b.output_failed rose);
-          error_failed = λ rose. at_line c b.steps d (ran_all d i out e ram) (b.error_failed rose);
-          unasked = b.unasked;
-          taken = b.taken;
-          no_more = let few : length b.taken + length (held_next (program_after c b.steps)).input ≤ length (program_after c b.steps).input = b.few in omega arith;
-          input = b.input;
+          steps = b.steps;
+          fewer = b.fewer;
+          failed = record {
+            fault = inl refl;
+            going = b.going;
+            output = (b.output_front, b.output);
+            error_front = b.error_front;
+            error = to_nil d.error.held e.held _ b.error;
+            source = λ _. (
+              front_none d.output.held out.held _ _ b.output_front none.0 b.output,
+              to_nil d.error.held e.held _ (subst (λ (x : List ℕ). Appends d.error.held e.held ((told_after c b.steps).error ++ x))
+                  (ap (λ (k : ℕ). take k (next_error c.trace (program_after c b.steps))) none.1
+                  ∙ take-append_seam (told_line c.trace (program_after c b.steps).machine) (held_next (program_after c b.steps)).error) b.error),
+            );
+            output_failed = λ rose. to_nil d.error.held e.held _ (b.output_failed rose);
+            error_failed = λ rose. at_line c b.steps d (ran_all d i out e ram) (b.error_failed rose);
+            unasked = b.unasked;
+            taken = b.taken;
+            no_more = let few : length b.taken + length (held_next (program_after c b.steps)).input ≤ length (program_after c b.steps).input = b.few in omega arith;
+            input = b.input;
+          };
         };
+        ram = b.ram;
       }))) (words left told);
   beyond = kept;
   causes = stop_causes {T = T} (stop.Fault board.SourceFault) d (ran_all d i out e ram) refl h;
@@ -210,7 +213,7 @@ source_failed {T} o cache v p l d i out e ram kept words broke h = record {
 sink_failed : {T : Type 0} (o : RunOptions) (cache : Cache) (v : ImageData) (p : ProgramData) (l : Layout) (d : Devices) (i : SourceState) (out e : SinkState) (ram : RamState) →
     KeepsBeyond cache.span d.ram ram →
     ((left : List ℕ) → d.input.left ≡ Some left → FetchedFront (words_after (run_with o cache v p l left) o.limits.steps) d.ram ram) →
-    ((left : List ℕ) → d.input.left ≡ Some left → run.StepFailed (run_with o cache v p l left) board.SinkFault i.left d.output.held out.held d.error.held e.held (stream_faults d) (stream_faults (ran_all d i out e ram))) →
+    ((left : List ℕ) → d.input.left ≡ Some left → run.StepFailed (run_with o cache v p l left) board.SinkFault (around_of d) (around_of (ran_all d i out e ram))) →
     BoardCauses {T = T} d (ran_all d i out e ram) (Err (stop.Fault board.SinkFault)) → RunsOver o cache v p l d (ran_all d i out e ram) (Err refusal.SinkFault)
 sink_failed {T} o cache v p l d i out e ram kept words broke h = record {
   done = tt;
@@ -220,22 +223,25 @@ sink_failed {T} o cache v p l d i out e ram kept words broke h = record {
       let b = broke left told in
       let c = run_with o cache v p l left in
       failed_so o c d (ran_all d i out e ram) refusal.SinkFault [] (inr (inl (record {
-        steps = b.steps;
-        fewer = b.fewer;
         failed = record {
-          fault = inr refl;
-          going = b.going;
-          output = (b.output_front, b.output);
-          error_front = b.error_front;
-          error = to_nil d.error.held e.held _ b.error;
-          source = λ x. absurd (let bad : ⊥ = cc in bad);
-          output_failed = λ rose. to_nil d.error.held e.held _ (b.output_failed rose);
-          error_failed = λ rose. at_line c b.steps d (ran_all d i out e ram) (b.error_failed rose);
-          unasked = b.unasked;
-          taken = b.taken;
-          no_more = let few : length b.taken + length (held_next (program_after c b.steps)).input ≤ length (program_after c b.steps).input = b.few in omega arith;
-          input = b.input;
+          steps = b.steps;
+          fewer = b.fewer;
+          failed = record {
+            fault = inr refl;
+            going = b.going;
+            output = (b.output_front, b.output);
+            error_front = b.error_front;
+            error = to_nil d.error.held e.held _ b.error;
+            source = λ x. absurd (let bad : ⊥ = cc in bad);
+            output_failed = λ rose. to_nil d.error.held e.held _ (b.output_failed rose);
+            error_failed = λ rose. at_line c b.steps d (ran_all d i out e ram) (b.error_failed rose);
+            unasked = b.unasked;
+            taken = b.taken;
+            no_more = let few : length b.taken + length (held_next (program_after c b.steps)).input ≤ length (program_after c b.steps).input = b.few in omega arith;
+            input = b.input;
+          };
         };
+        ram = b.ram;
       }))) (words left told);
   beyond = kept;
   causes = stop_causes {T = T} (stop.Fault board.SinkFault) d (ran_all d i out e ram) refl h;
@@ -453,22 +459,25 @@ left_again o k d m s r h = failed_so o k d m r [] (elim h.broke [
   })
   | inr b ↦ inr (elim b [
     | inl a ↦ inl (record {
-      steps = a.steps;
-      fewer = a.fewer;
-      failed = let f = a.failed in record {
-        fault = f.fault;
-        going = f.going;
-        output = f.output;
-        error_front = f.error_front;
-        error = f.error;
-        source = f.source;
-        output_failed = f.output_failed;
-        error_failed = f.error_failed;
-        unasked = f.unasked;
-        taken = f.taken;
-        no_more = f.no_more;
-        input = f.input;
+      failed = record {
+        steps = a.failed.steps;
+        fewer = a.failed.fewer;
+        failed = let f = a.failed.failed in record {
+          fault = f.fault;
+          going = f.going;
+          output = f.output;
+          error_front = f.error_front;
+          error = f.error;
+          source = f.source;
+          output_failed = f.output_failed;
+          error_failed = f.error_failed;
+          unasked = f.unasked;
+          taken = f.taken;
+          no_more = f.no_more;
+          input = f.input;
+        };
       };
+      ram = a.ram;
     })
     | inr p ↦ let a = p.0 in inr (record { output_front = a.output_front; output = a.output; error_front = a.error_front; error = a.error; behind = a.behind; input = a.input; fault = a.fault }, p.1)
   ])
@@ -546,6 +555,18 @@ ram_line c d m r held line h p = record {
   last_failed = h.last_failed;
 }
 
+step_lined : (c : CachedRun) (d m : Devices) (r : Refusal) (held : Option (List ℕ)) (line : List ℕ) →
+    StepBroke c d m r [] → Appends m.error.held held line → StepBroke c d (holds_then m held) r line
+step_lined c d m r held line h p = record {
+  failed = record {
+    steps = h.failed.steps;
+    fewer = h.failed.fewer;
+    failed = step_line (told_after c h.failed.steps) ((told_after c h.failed.steps).error ++ told_line c.trace (program_after c h.failed.steps).machine) (told_next c.trace (told_after c h.failed.steps))
+        (held_taken (told_after c h.failed.steps)) d m r held line h.failed.failed p;
+  };
+  ram = h.ram;
+}
+
 pub cached_lined : (name : List ℕ) (cache : CacheOptions) (o : RunOptions) → IsLined (cached_task name cache o)
 cached_lined name cache o = record {
   done = λ file d m e error is h p same. (
@@ -562,7 +583,7 @@ cached_lined name cache o = record {
       broke = elim f.broke [
         | inl a ↦ inl (ram_line (cached_run (cache_for cache h.0) o h.0 (start_of o file input)) d m r held line a p)
         | inr b ↦ inr (elim b [
-          | inl a ↦ inl (at_step_line (told_after (cached_run (cache_for cache h.0) o h.0 (start_of o file input))) _ _ _ o.limits.steps d m r held line a p)
+          | inl a ↦ inl (step_lined (cached_run (cache_for cache h.0) o h.0 (start_of o file input)) d m r held line a p)
           | inr a ↦ inr (after_run_line _ _ _ d m r held line a.0 p, a.1)
         ])
       ];

@@ -16,7 +16,7 @@ use Rattle.swi_calls.specs.State.{FlatState}
 use Rattle.swi_calls.specs.Flat.{Made, flat_start}
 use Rattle.swi_rom.specs.Service.{Cache}
 use Rattle.swi_trace.specs.History.{last_of}
-use Rattle.swi_cached.specs.Answers.{RamAfter}
+use Rattle.swi_cached.specs.Answers.{RamAfter, RamWithin}
 use Rattle.swi_cached.specs.Cached.{CachedRun, IsFlatRun, StopsBeforeStore, end_of, program_after, told_after, fetches_after, words_after}
 use Rattle.swi_hart.specs.declared.fault.BoardFault.TheVariants as board
 use Rattle.swi_board.specs.Fetching.{FetchedFront}
@@ -82,11 +82,16 @@ pub record RamBroke (c : CachedRun) (before after : Devices) (r : Refusal) (last
 abbrev pub told_next : Bool → FlatState → Made
 told_next each s = record (held_next s) { error = next_error each s }
 
+-- A source or a sink failed at a step: the ram was asked for what the steps made before it ask, and for no more than this one does.
+pub record StepBroke (c : CachedRun) (before after : Devices) (r : Refusal) (last : List ℕ) : Type 0 where
+  pub failed : FailedAtStep (told_after c) (λ s. s.error ++ told_line c.trace s.machine) (told_next c.trace) held_taken c.limit before after r last
+  pub ram : RamWithin c failed.steps before.ram after.ram
+
 -- a device failed in the run, or behind it
 abbrev pub BrokeIn : RunOptions → CachedRun → Devices → Devices → Refusal → List ℕ → Type 0
 BrokeIn o c before after r last =
     RamBroke c before after r last
-    ⊎ (FailedAtStep (told_after c) (λ s. s.error ++ told_line c.trace s.machine) (told_next c.trace) held_taken c.limit before after r last
+    ⊎ (StepBroke c before after r last
     ⊎ (FailedAfterRun (told_after c c.limit) (cached_report o c) (last_lines o.reports.trace c) before after r last × RamAfter c before.ram after.ram))
 
 pub record CachedFailed (o : RunOptions) (c : CachedRun) (before after : Devices) (r : Refusal) (last : List ℕ) : Type 0 where

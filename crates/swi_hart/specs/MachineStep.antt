@@ -53,8 +53,8 @@ pub record MachineStepped (rules : ServiceRules) (v : ImageData) (WasSound IsSou
   pub broke : WasSound → OnDevice result (ForSome old.devices.input.left (λ left.
       BrokenStep v old.kept old.hart left new.devices.input.left old.devices.output.held new.devices.output.held old.devices.error.held new.devices.error.held))
   pub call : OnDevice result (BrokenCall old.hart new.hart old.devices new.devices)
-  -- its word was fetched, and the service was not asked
-  pub unserved : OnDevice result ((new.kept ≡ old.kept) × RamStepped (rules.span old.setting) 0 old.hart.control old.ram new.ram)
+  -- its word was fetched, and the service was not asked: no word of the ram has changed
+  pub unserved : OnDevice result ((new.kept ≡ old.kept) × RamStepped (rules.span old.setting) 0 old.hart.control old.ram new.ram × (new.ram.words ≡ old.ram.words))
   pub unmoved : IsErrOf result RamFault → new.hart ≡ broken old.hart
   pub unwritten : IsErrOf result SourceFault → (new.devices.output ≡ old.devices.output) × (new.devices.error ≡ old.devices.error)
   pub others_stay : IsErrOf result RamFault → new.devices ≡ old.devices

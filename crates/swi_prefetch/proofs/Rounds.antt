@@ -408,9 +408,9 @@ runs_to v limit rate w0 w1 on over = record { made = on.made; came = on.came; go
 broke_around : (by : Setting) (v : ImageData) (fault : BoardFault) (s : Moment) (from : Point) (a c : BoardOf EngineData) (w : Around) → Broke (beside by) v fault s from (point_around c w) → Broke (beside by) v fault s from (point_around a w)
 broke_around by v RamFault s from a c w h = record { reached = h.reached; is = h.is; running = h.running; inside = h.inside; input = h.input; output = h.output; error = h.error; words = h.words; fetches = h.fetches; last_failed = h.last_failed }
 broke_around by v SourceFault s from a c w h =
-    record { output_front = h.output_front; output = h.output; error_front = h.error_front; error = h.error; unwritten = h.unwritten; taken = h.taken; input = h.input; few = h.few; words = h.words }
+    record { output_front = h.output_front; output = h.output; error_front = h.error_front; error = h.error; unwritten = h.unwritten; taken = h.taken; input = h.input; few = h.few; words = h.words; fetches = h.fetches; sets = h.sets }
 broke_around by v SinkFault s from a c w h =
-    record { output_front = h.output_front; output = h.output; error_front = h.error_front; error = h.error; unwritten = h.unwritten; taken = h.taken; input = h.input; few = h.few; words = h.words }
+    record { output_front = h.output_front; output = h.output; error_front = h.error_front; error = h.error; unwritten = h.unwritten; taken = h.taken; input = h.input; few = h.few; words = h.words; fetches = h.fetches; sets = h.sets }
 
 order_around : (s : FlatState) (from : Point) (a c : BoardOf EngineData) (w : Around) (before after : Faults) → InOrder s from (point_around c w) before after → InOrder s from (point_around a w) before after
 order_around s from a c w before after h = record { output_failed = h.output_failed; error_failed = h.error_failed }

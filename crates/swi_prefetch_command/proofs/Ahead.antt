@@ -208,6 +208,7 @@ step_at f c d m b other h broke unasked order =
       events = rounds c.rate h.made;
       are = record { made = h.made; going = h.going; events = inl refl };
       words = words_so c (rounds c.rate h.made ++ of_hart ∷ []) (instruction (beside (setting_for c)) c.image (moment_after c h.made)) d.ram m.ram (hart_next c (rounds c.rate h.made)) broke.words;
+      sets = broke.sets;
       failed = record {
         fault = kind f other;
         going = going.0;
@@ -537,6 +538,7 @@ left_again o c d m s r h = record {
         events = a.events;
         are = a.are;
         words = a.words;
+        sets = a.sets;
         failed = let f = a.failed in record {
           fault = f.fault;
           going = f.going;
@@ -647,7 +649,7 @@ ahead_lined name cache o rate = record {
       broke = elim f.broke [
         | inl a ↦ inl (ram_line c d m r held line a p)
         | inr b ↦ inr (elim b [
-          | inl a ↦ inl (record { events = a.events; are = a.are; words = a.words; failed = step_line _ _ _ _ d m r held line a.failed p })
+          | inl a ↦ inl (record { events = a.events; are = a.are; words = a.words; sets = a.sets; failed = step_line _ _ _ _ d m r held line a.failed p })
           | inr a ↦ inr (record { made = a.made; failed = after_run_line _ _ _ d m r held line a.failed p; ahead = a.ahead })
         ])
       ];

@@ -150,8 +150,9 @@ pub record RamBrokeAhead (c : AheadRun) (before after : Devices) (r : Refusal) (
 pub record StepBrokeAhead (c : AheadRun) (before after : Devices) (r : Refusal) (last : List ℕ) : Type 0 where
   pub events : List Turn
   pub are : AreBegun c events
-  -- the word of that step which was under control was fetched too
+  -- the word of that step which was under control was fetched too, and no word was set behind those of these events
   pub words : HasFetched (words_of c (events ++ of_hart ∷ [])) before.ram after.ram
+  pub sets : after.ram.sets ≡ risen before.ram.sets (moment_of c events).sets
   pub failed : StepFailed (moment_of c events).flat (moment_of c events).flat.error (held_next (moment_of c events).flat) (held_taken (moment_of c events).flat) before after r last
 
 -- or a sink failed behind the run

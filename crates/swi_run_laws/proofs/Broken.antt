@@ -21,7 +21,7 @@ use Rattle.swi_hart.specs.declared.hart.Control.{Control}
 use Rattle.swi_hart.specs.declared.hart.Control.TheVariants.{At, Outside}
 use Rattle.swi_hart.specs.Calling.{BrokenCall, BrokenStep}
 use Rattle.swi_hart.specs.Hart.{HartData, completes, original, slots}
-use Rattle.swi_hart.specs.Leaving.{RamBroken, fetch_under}
+use Rattle.swi_hart.specs.Leaving.{RamBroken, RamStepped, fetch_under, fetches_after}
 use Rattle.swi_exec.specs.declared.done.Done.TheVariants as done
 use Rattle.swi_hart.proofs.Growing.{after_one}
 use Rattle.swi_hart.proofs.Midway.{step_follows}
@@ -110,6 +110,18 @@ module _ (by : Policy) (span : ℕ) (v : ImageData) (s : Moment) (from a b : Poi
       ∙ ap (λ (l : List Fetch). l ++ from.ram.fetched_at) (sym (since_append from.ram.sets (word_at_place s.here s.kept s.spent s.sets) s.words))
       ∙ ap (λ (l : List Fetch). since from.ram.sets l ++ from.ram.fetched_at) (sym (event_words by v s flat_on))
 
+  fetches_next : b.ram.fetches ≡ fetches_after a.hart.control a.ram.fetches → b.ram.fetches ≡ risen from.ram.fetches (length (event by v s).words)
+  fetches_next more =
+      more ∙ ap (λ (n : ℕ). fetches_after a.hart.control n) at.ram.fetches ∙ by_control a.hart.control from.ram.fetches s.words
+      ∙ ap (λ (l : List Fetch). risen from.ram.fetches (length (l ++ s.words))) under ∙ ap (λ (l : List Fetch). risen from.ram.fetches (length l)) (sym (event_words by v s flat_on))
+    where
+      one_more : (n k : ℕ) → with_one (risen n k) ≡ risen n (suc k)
+      one_more n k = grind arith
+
+      by_control : (c : Control) (n : ℕ) (words : List Fetch) → fetches_after c (risen n (length words)) ≡ risen n (length (fetch_under c s.sets ++ words))
+      by_control (At i b o stage) n words = one_more n (length words)
+      by_control Outside n words = refl
+
   one_longer : (a.hart.control ≡ Outside → ⊥) → length (event by v s).words ≡ length s.words + 1
   one_longer inside = ap (λ (l : List Fetch). length l) (event_words by v s flat_on) ∙ ap (λ (l : List Fetch). length (l ++ s.words)) (sym under) ∙ by_control a.hart.control inside
     where
@@ -152,7 +164,7 @@ module _ (by : Policy) (span : ℕ) (v : ImageData) (s : Moment) (from a b : Poi
       one_risen a f = grind arith
 
   device_broke : (fault : BoardFault) → BrokenStep v a.kept a.hart s.flat.input b.left a.out b.out a.err b.err → (fault ≡ SourceFault → (b.out ≡ a.out) × (b.err ≡ a.err)) → (fault ≡ RamFault → ⊥) →
-      b.ram.fetched_at ≡ fetch_under a.hart.control a.ram.sets ++ a.ram.fetched_at → DeviceBroke by v fault s from b
+      RamStepped span 0 a.hart.control a.ram b.ram → DeviceBroke by v fault s from b
   device_broke fault step unwritten other more =
       let follows = step_follows v a.kept a.kept s.flat.machine a.hart.machine a.hart.control step.stepped s.flat.input at.image at.matches running word (λ e. refl) step.step in
       let t = completes v a.hart.machine a.hart.control in
@@ -161,6 +173,9 @@ module _ (by : Policy) (span : ℕ) (v : ImageData) (s : Moment) (from a b : Poi
       let few = input_next (completes v a.hart.machine a.hart.control) s.flat.machine s.flat.input (length step.taken) (subst (λ (l : List ℕ). length step.taken + length l ≤ length s.flat.input) follows.input step.few) in
       by_fault fault refl unwritten out err step.taken step.input few
     where
+      none_set : (n first k : ℕ) → n ≡ risen first k → risen n 0 ≡ risen first k
+      none_set n first k is = grind arith
+
       whole : (kf ke : ℕ) → Appends a.out b.out (take kf (next_of s.flat).output) → Appends a.err b.err (take ke (next_of s.flat).error) → (fault ≡ SourceFault → (kf ≡ 0) × (ke ≡ 0)) →
           (taken : List ℕ) → Consumes (Some s.flat.input) b.left taken → length taken + length (next_of s.flat).input ≤ length s.flat.input → DeviceBroke by v fault s from b
       whole kf ke out err none taken input few = record {
@@ -172,7 +187,9 @@ module _ (by : Policy) (span : ℕ) (v : ImageData) (s : Moment) (from a b : Poi
         taken = taken;
         input = input;
         few = few;
-        words = words_next more;
+        words = words_next more.fetched_at;
+        fetches = fetches_next more.fetches;
+        sets = more.sets ∙ none_set a.ram.sets from.ram.sets s.sets at.ram.sets;
       }
 
       by_fault : (f : BoardFault) → fault ≡ f → (fault ≡ SourceFault → (b.out ≡ a.out) × (b.err ≡ a.err)) → AppendsPrefix a.out b.out (next_of s.flat).output → AppendsPrefix a.err b.err (next_of s.flat).error →
@@ -192,10 +209,10 @@ broke_off {S} k laws v n mid new RamFault sound off s from at =
     (ap (λ (d : Devices). d.input.left) same) (ap (λ (d : Devices). d.output.held) same) (ap (λ (d : Devices). d.error.held) same) (off.broke.ram_failed refl)
 broke_off {S} k laws v n mid new SourceFault sound off s from at =
     device_broke (k.policy (k.setting mid.rom)) (k.span (k.setting mid.rom)) v s from (point_of k mid) (point_of k new) at off.running off.short (laws.coherent mid.rom v mid.ram.words sound).once
-    SourceFault (off.broke.broke sound s.flat.input at.input) (λ e. (let u = off.broke.unwritten refl in (ap (λ (d : SinkState). d.held) u.0, ap (λ (d : SinkState). d.held) u.1))) (λ e. cc) off.broke.unserved.1.fetched_at
+    SourceFault (off.broke.broke sound s.flat.input at.input) (λ e. (let u = off.broke.unwritten refl in (ap (λ (d : SinkState). d.held) u.0, ap (λ (d : SinkState). d.held) u.1))) (λ e. cc) off.broke.unserved.1
 broke_off {S} k laws v n mid new SinkFault sound off s from at =
     device_broke (k.policy (k.setting mid.rom)) (k.span (k.setting mid.rom)) v s from (point_of k mid) (point_of k new) at off.running off.short (laws.coherent mid.rom v mid.ram.words sound).once
-    SinkFault (off.broke.broke sound s.flat.input at.input) (λ e. cc) (λ e. cc) off.broke.unserved.1.fetched_at
+    SinkFault (off.broke.broke sound s.flat.input at.input) (λ e. cc) (λ e. cc) off.broke.unserved.1
 
 nothing_written : (t : Bool) (f : Machine) (input : List ℕ) → (held_made f input).output ≡ [] → (if t then held_made f input else quiet f input).output ≡ []
 nothing_written true f input none = none

@@ -34,7 +34,7 @@ pub record RamBroke (by : Policy) (v : ImageData) (s : Moment) (from new : Point
   pub last_failed : new.ram.last_failed ≡ true
 
 -- The input or a sink failed: a front of what the next step writes is written, nothing where it was the input, and of the input no more is
--- gone than what it takes. Its word was fetched.
+-- gone than what it takes. Its word was fetched, and nothing was set behind that.
 pub record DeviceBroke (by : Policy) (v : ImageData) (fault : BoardFault) (s : Moment) (from new : Point) : Type 0 where
   pub output_front : ℕ
   pub output : Appends from.out new.out (s.flat.output ++ take output_front (next_of s.flat).output)
@@ -45,6 +45,8 @@ pub record DeviceBroke (by : Policy) (v : ImageData) (fault : BoardFault) (s : M
   pub input : Consumes (Some s.flat.input) new.left taken
   pub few : length taken + length (next_of s.flat).input ≤ length s.flat.input
   pub words : new.ram.fetched_at ≡ since from.ram.sets (event by v s).words ++ from.ram.fetched_at
+  pub fetches : new.ram.fetches ≡ risen from.ram.fetches (length (event by v s).words)
+  pub sets : new.ram.sets ≡ risen from.ram.sets s.sets
 
 -- Which sink failed. What the next step writes to the output comes before what it writes to the errors, as the line of a call comes behind
 -- the call's output: where the output failed the errors hold nothing of that step, and where they failed the output has all of it.

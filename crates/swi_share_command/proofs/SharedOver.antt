@@ -6,7 +6,8 @@ use Rattle.std.proofs.lemmas.Option.{same_Some}
 use Rattle.std.proofs.Math.Nat.{div-mul-le_self}
 use Rattle.std.proofs.Math.Seq.{take-append-add}
 use Rattle.std.specs.Io.KnownBytes.{Appends}
-use Rattle.swi_outside.specs.CacheRam.{KeepsBeyond, RamState, later}
+use Rattle.swi_outside.specs.CacheRam.{Fetch, KeepsBeyond, RamState, later}
+use Rattle.swi_outside.specs.Fetches.{later_append}
 use Rattle.swi_outside.specs.Causes.{PairCause, Rose, risen}
 use Rattle.swi_outside.specs.Devices.{Faults}
 use Rattle.swi_outside.specs.Laws.{Appends-append, cause_from, no_cause}
@@ -38,7 +39,7 @@ use Rattle.swi_share.specs.Shared.{Context, Event, Shared, event_by, event_in, e
 use Rattle.swi_share.specs.Sharing.{Came, IsSharing, ShareData, ShareWith, devices_with, kept_in, seen, setting_in}
 use Rattle.swi_share.specs.Starting.{first_context, most_words, shared_start}
 use Rattle.swi_share.proofs.Bounds.{can_start, counted, process_at}
-use Rattle.swi_share.proofs.Later.{front_then}
+use Rattle.swi_share.proofs.Later.{fetched_both, front_then}
 use Rattle.swi_share.proofs.Scheduling.{anew, run_next, sets_are}
 use Rattle.swi_share.proofs.Stopped.{ram_stopped, sink_stopped}
 use Rattle.swi_answer.specs.declared.answer.Ending.TheVariants as ending
@@ -221,7 +222,10 @@ cut_off was next e d first mid after left left' adds came quiet cut = record {
       (appends_to first.err.held mid.err.held after.err.held was.error e.error next.error cut.error_front adds.error came.error cut.error);
   output_unasked = λ same. cut.output_unasked (none_added was.output e.output next.output adds.output same) ∙ quiet.output;
   error_unasked = λ same. cut.error_unasked (none_added was.error e.error next.error adds.error same) ∙ quiet.error;
-  words = front_then was.sets first.ram mid.ram after.ram was.words e.words next.words (sets_are was first mid came) adds.words came.words cut.words;
+  more = later was.sets cut.words.1.fetched;
+  ahead = later was.sets cut.words.0;
+  next_words = ap (λ (l : List Fetch). was.words ++ l) (sym (later_append was.sets cut.words.1.fetched cut.words.0) ∙ ap (λ (l : List Fetch). later was.sets l) cut.words.1.front) ∙ sym adds.words;
+  words = fetched_both was.sets was.words cut.words.1.fetched first.ram mid.ram after.ram (sets_are was first mid came) came.words cut.words.1.are;
 }
 
 pub unfetched_off : (was next : Shared) (e : Event) (d : Devices) (first mid after : ShareWith) (left left' : List ℕ) → Adds was next e → Came was first mid →

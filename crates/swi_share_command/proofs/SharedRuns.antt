@@ -48,6 +48,9 @@ cut_line o bytes guests d m r held line h p = record {
           error = appends_last d.error.held m.error.held held _ line a.error p;
           output_unasked = a.output_unasked;
           error_unasked = a.error_unasked;
+          more = a.more;
+          ahead = a.ahead;
+          next_words = a.next_words;
           words = a.words;
         })
         | inr a ↦ inr (record {
@@ -289,7 +292,7 @@ failed_again o bytes guests d m s r h = record {
       made = b.made;
       fewer = b.fewer;
       broke = elim b.broke [
-        | inl a ↦ inl (record { fault = a.fault; output_front = a.output_front; output_least = a.output_least; output = a.output; error_front = a.error_front; error_least = a.error_least; error = a.error; output_unasked = a.output_unasked; error_unasked = a.error_unasked; words = a.words })
+        | inl a ↦ inl (record { fault = a.fault; output_front = a.output_front; output_least = a.output_least; output = a.output; error_front = a.error_front; error_least = a.error_least; error = a.error; output_unasked = a.output_unasked; error_unasked = a.error_unasked; more = a.more; ahead = a.ahead; next_words = a.next_words; words = a.words })
         | inr a ↦ inr (record { fault = a.fault; fetched = a.fetched; fetches = a.fetches; least = a.least; most = a.most; words = a.words; output = a.output; error = a.error; last_failed = a.last_failed })
       ];
     })

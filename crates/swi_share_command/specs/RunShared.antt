@@ -2,7 +2,7 @@
 use Rattle.std.specs.Prelude.{◌≡◌, ◌⊎◌, ℕ, ◌+◌, ◌-◌, ◌*◌, ◌/◌, ◌%◌, ◌^◌, ◌<◌, ◌≤◌, max, min, nat_le, true, false, List, [], ◌∷◌, ◌++◌, length, map, take, ⊤, slice_get, slice_index_or, Option, Some, None, Result, Ok, IfOk, IfErr, IsErrOf, All, if◌then◌else◌}
 use Rattle.std.specs.List.{AllZip, flat_map, range_with_len}
 use Rattle.std.specs.Io.KnownBytes.{Appends}
-use Rattle.swi_outside.specs.CacheRam.{KeepsBeyond, RamState}
+use Rattle.swi_outside.specs.CacheRam.{Fetch, KeepsBeyond, RamState}
 use Rattle.swi_outside.specs.Causes.{Rose, risen}
 use Rattle.swi_outside.specs.Shelf.{Contents, Same, ShelfState, Stands, get_of}
 use Rattle.swi_elf_read.specs.Loaded.{image_of as image_in}
@@ -171,7 +171,7 @@ pub record Shares (o : ShareOptions) (bytes : ℕ) (guests : List Guest) (before
 -- ---- where a device fails
 
 -- A sink broke off an event: each sink holds a front of what the events up to this one write, and no less than those before it wrote; one
--- to which it gives nothing was not asked. The words fetched are a front of those of the events up to this one.
+-- to which it gives nothing was not asked. The words fetched are those of the events before it, and a front of its own.
 pub record EventCutOff (was next : Shared) (before after : Devices) (r : Refusal) (last : List ℕ) : Type 0 where
   pub fault : r ≡ refusal.SinkFault
   pub output_front : ℕ
@@ -182,7 +182,10 @@ pub record EventCutOff (was next : Shared) (before after : Devices) (r : Refusal
   pub error : Appends before.error.held after.error.held (take error_front next.error ++ last)
   pub output_unasked : next.output ≡ was.output → after.output.faults ≡ before.output.faults
   pub error_unasked : next.error ≡ was.error → after.error.faults ≡ before.error.faults
-  pub words : FetchedFront next.words before.ram after.ram
+  pub more : List Fetch
+  pub ahead : List Fetch
+  pub next_words : was.words ++ (more ++ ahead) ≡ next.words
+  pub words : HasFetched (was.words ++ more) before.ram after.ram
 
 -- The ram did: the sinks hold what the events write whose fetches were all made, which are no more than those of this one and the ones
 -- before it. No call of the ram comes behind the one that failed.

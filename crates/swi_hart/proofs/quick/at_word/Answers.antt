@@ -155,7 +155,7 @@ returns-in-Err-word_step-clause-stepped g c i rest read before fetched =
         failed_output = s.executed.devices.failed_output;
         failed_error = λ rose left told. subst (λ (k : Stepped). Appends (g.O.Sink.state c.args.out.now).held (g.O.Sink.state c.word_step.new.out).held k.made.output) (s.asked left) (s.executed.devices.failed_error rose left told);
       });
-      unserved = on_device Unit _ c.in-Err-word_step.fault c.fault_of.result c.fault_of.ensures (refl, ram_exit _ _ c.args.at.index c.args.at.block c.args.at.offset c.args.at.stage h.control before _ _ c.requires.control below fetched.1 (ram_none _ _));
+      unserved = on_device Unit _ c.in-Err-word_step.fault c.fault_of.result c.fault_of.ensures (refl, ram_exit _ _ c.args.at.index c.args.at.block c.args.at.offset c.args.at.stage h.control before _ _ c.requires.control below fetched.1 (ram_none _ _), ap (λ (k : RamState). k.words) fetched.1);
       unmoved = λ is. absurd (ram_unfailed c.in-Err-word_step.fault c.fault_of.result c.fault_of.ensures is);
       unwritten = λ is. s.executed.devices.failed_input (source_failed c.in-Err-word_step.fault c.fault_of.result c.fault_of.ensures is);
       others_stay = λ is. absurd (ram_unfailed c.in-Err-word_step.fault c.fault_of.result c.fault_of.ensures is);
