@@ -10,3 +10,4 @@ pub mod Starting
 pub mod Scheduling
 pub mod Bounds
 pub mod Stopped
+pub mod Pieces

@@ -124,7 +124,7 @@ event_follows by r c = step_follows (enters r c) by (writes (entered_if (enters 
 abbrev pub StandsAfter : ℕ → Context → ℕ → Shared → Type 0
 StandsAfter k c g s = (now : Context) × (slice_index_or s.contexts g None ≡ Some now) × Follows k c now
 
-event_own : (g : ℕ) (s : Shared) (c : Context) → slice_index_or s.contexts g None ≡ Some c → StandsAfter 1 c g (shared_event g s)
+pub event_own : (g : ℕ) (s : Shared) (c : Context) → slice_index_or s.contexts g None ≡ Some c → StandsAfter 1 c g (shared_event g s)
 event_own g s c is = subst (λ (q : Shared). StandsAfter 1 c g q) (sym at) (by c.machine.ending refl)
   where
     at : shared_event g s ≡ event_by g s c c.machine.ending

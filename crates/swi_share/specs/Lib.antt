@@ -5,4 +5,5 @@ pub mod Event
 pub mod Starting
 pub mod Run
 pub mod Laws
+pub mod Pieces
 pub mod Cuts

@@ -40,6 +40,7 @@ use Rattle.swi_share.specs.Sharing.{Came, IsSharing, ShareData, ShareWith, devic
 use Rattle.swi_share.specs.Starting.{first_context, most_words, shared_start}
 use Rattle.swi_share.proofs.Bounds.{can_start, counted, process_at}
 use Rattle.swi_share.proofs.Later.{fetched_both, front_then}
+use Rattle.swi_share.proofs.Pieces.{in_pieces, writes_alone}
 use Rattle.swi_share.proofs.Scheduling.{anew, run_next, sets_are}
 use Rattle.swi_share.proofs.Stopped.{ram_stopped, sink_stopped}
 use Rattle.swi_answer.specs.declared.answer.Ending.TheVariants as ending
@@ -153,6 +154,8 @@ shares_done o bytes guests d first now out start done report =
       input = refl;
       ram = ram_shared order bytes guests first now start done;
       alone = λ g x is. as_alone order bytes guests now g x is c.came.share done.sharing;
+      pieces = in_pieces order (shared_start bytes guests);
+      wrote = λ g x is. writes_alone order g (shared_start bytes guests) (begun x) (first_at guests g x is);
     }
 
 -- ---- a device broke off an event

@@ -283,7 +283,7 @@ abbrev pub shared_to : Devices → ShelfState → SinkState → SinkState → Ra
 shared_to d s out e ram = record d { shelf = s; output = out; error = e; ram = ram }
 
 shares_again : (o : ShareOptions) (bytes : ℕ) (guests : List Guest) (d m : Devices) (s : ShelfState) (e : Ending) → Shares o bytes guests (record d { shelf = s }) m e [] → Shares o bytes guests d m e []
-shares_again o bytes guests d m s e h = record { ending = h.ending; output = h.output; error = h.error; input = h.input; ram = h.ram; alone = h.alone }
+shares_again o bytes guests d m s e h = record { ending = h.ending; output = h.output; error = h.error; input = h.input; ram = h.ram; alone = h.alone; pieces = h.pieces; wrote = h.wrote }
 
 failed_again : (o : ShareOptions) (bytes : ℕ) (guests : List Guest) (d m : Devices) (s : ShelfState) (r : Refusal) → ShareFailed o bytes guests (record d { shelf = s }) m r [] → ShareFailed o bytes guests d m r []
 failed_again o bytes guests d m s r h = record {

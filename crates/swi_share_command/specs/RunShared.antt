@@ -27,6 +27,7 @@ use Rattle.swi_board.specs.Fetching.{FetchedFront, HasFetched}
 use Rattle.swi_board.specs.Ran.{RamRan}
 use Rattle.swi_share.specs.declared.process.Guest.{Guest}
 use Rattle.swi_share.specs.Laws.{counts_of, events_of, unfetched}
+use Rattle.swi_share.specs.Pieces.{IsInPieces, WritesAlone}
 use Rattle.swi_hart.specs.declared.fault.BoardFault.{BoardFault}
 use Rattle.swi_hart.specs.declared.fault.BoardFault.TheVariants as board_fault
 use Rattle.swi_share.specs.Shared.{Context, Shared, shared_run}
@@ -167,6 +168,9 @@ pub record Shares (o : ShareOptions) (bytes : ℕ) (guests : List Guest) (before
   pub ram : RamShared (order_of (length guests) o.schedule) (shared_start bytes guests) (shared_end o bytes guests) before.ram after.ram
   -- whatever the others do
   pub alone : (g : ℕ) (x : Guest) → slice_get guests g ≡ Some x → IsAsAlone (order_of (length guests) o.schedule) (shared_end o bytes guests) g x
+  -- the bytes of the programs are what their events write, in their order; and what those of one program write is what it writes alone
+  pub pieces : IsInPieces (order_of (length guests) o.schedule) (shared_start bytes guests)
+  pub wrote : (g : ℕ) (x : Guest) → slice_get guests g ≡ Some x → WritesAlone (order_of (length guests) o.schedule) (shared_start bytes guests) g (start_of_guest x)
 
 -- ---- where a device fails
 
