@@ -1,0 +1,7 @@
+mod Parts
+mod Refusals
+mod Alike
+mod Ended
+mod Cached
+mod Answers
+mod Surveyed

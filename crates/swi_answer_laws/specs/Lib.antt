@@ -1,0 +1,4 @@
+pub mod Placed
+pub mod Answered
+pub mod Parts
+pub mod Surveyed
