@@ -1,5 +1,5 @@
 -- Two endings of a command whose cache stands in the ram are the same, and leave the same.
-use Rattle.std.proofs.Common.{◌≡◌, ◌/◌, ℕ, max, List, [], ◌∷◌, ◌++◌, map, length, suc, false, Option, Some, None, Ok, refl, sym, ap, subst, ◌∙◌}
+use Rattle.std.proofs.Common.{◌≡◌, ◌^◌, ◌<◌, ◌/◌, ℕ, max, List, [], ◌∷◌, ◌++◌, map, length, get_or, suc, false, Option, Some, None, Ok, refl, sym, ap, subst, ◌∙◌}
 use Rattle.std.specs.Prelude.{slice_index_or}
 use Rattle.std.specs.List.{AllZip}
 use Rattle.std.specs.Io.KnownBytes.{Appends}
@@ -10,6 +10,9 @@ use Rattle.swi_program.specs.Program.{ProgramData}
 use Rattle.swi_program.specs.Text.{text_of}
 use Rattle.swi_image.specs.Format.{ImageData}
 use Rattle.swi_calls.specs.Flat.{machine_of}
+use Rattle.swi_rom.specs.Coherent.{Coherent}
+use Rattle.swi_rom.specs.Served.{SameFrom}
+use Rattle.swi_slots.specs.Fifo.{extent_of}
 use Rattle.swi_rom.specs.Record.{empty_record, writes}
 use Rattle.swi_cut.specs.declared.cutting.Cutting.TheVariants.{Greedy}
 use Rattle.swi_cut_laws.proofs.Cuts.{cut_is_one}
@@ -33,10 +36,22 @@ use Rattle.swi_share.specs.declared.process.Guest.{Guest}
 use Rattle.swi_share.specs.Shared.{Context, Shared, shared_run}
 use Rattle.swi_share.specs.Starting.{first_context, most_words}
 use Rattle.swi_share_command.specs.RunShared.{AreGuestsOf, IsGuestOf, IsPlaced, limits_by, order_of, share_report, shared_end}
-use Rattle.swi_answer_laws.specs.Placed.{HoldAlike, Standing, ahead_standing, cached_standing, shared_standing}
+use Rattle.swi_answer_laws.specs.Placed.{StandAlike, Standing, ahead_standing, cached_standing, shared_standing}
 use Rattle.swi_answer_laws.proofs.Alike.{RamWent, gain, ran_alike, store_none, went_alike}
-use Rattle.swi_answer_laws.proofs.Ended.{End, EndOnce}
+use Rattle.swi_answer_laws.proofs.Ended.{End, EndOnce, SameRam}
 use Rattle.swi_answer_laws.proofs.Parts.{image_is_one, placed_words_are_one, program_is_one, rounds_are_one}
+
+-- a ram holds the blocks, and no other word was written but where one once stood
+record Holds (s : Standing) (d m : RamState) : Type 0 where
+  coherent : Coherent s.image s.kept s.span m.words
+  unused : SameFrom s.extent d.words m.words
+
+stands : (s : Standing) (x y : End) → SameRam x y → ((i : ℕ) → get_or x.after.ram.words i 0 < 2 ^ 32) → ((i : ℕ) → get_or y.after.ram.words i 0 < 2 ^ 32) →
+    Holds s x.before.ram x.after.ram → Holds s y.before.ram y.after.ram → StandAlike s x.after.ram.words y.after.ram.words
+stands s x y same small small_ h k = record {
+  placed = placed_words_are_one s x.after.ram.words y.after.ram.words small small_ h.coherent k.coherent;
+  unused = λ i far. h.unused i far ∙ (ap (λ (r : RamState). get_or r.words i 0) same ∙ sym (k.unused i far));
+}
 
 -- ---- `cached` and `trace`
 
@@ -63,8 +78,8 @@ cached_once name cache o file input x y same p q =
       ram = went_alike (fetches_after c c.limit) (writes (record_after c c.limit)) (cache.cache_bytes / 4) (words_after c c.limit) x.before.ram x.after.ram y.before.ram y.after.ram same
           (cached_went c x.before.ram x.after.ram one.cached) (cached_went c y.before.ram y.after.ram other.cached) p.answers.ram q.answers.ram;
       placed = λ s left.
-          subst (λ (t : Standing). HoldAlike t x.after.ram.words y.after.ram.words) (sym (left.2 ∙ ap (λ (w : ImageData). cached_standing (by w)) (image_is_one file cache.block_words left.0 v left.1 a.1)))
-          (placed_words_are_one (cached_standing c) x.after.ram.words y.after.ram.words p.words q.words one.cached.ram.coherent other.cached.ram.coherent);
+          subst (λ (t : Standing). StandAlike t x.after.ram.words y.after.ram.words) (sym (left.2 ∙ ap (λ (w : ImageData). cached_standing (by w)) (image_is_one file cache.block_words left.0 v left.1 a.1)))
+          (stands (cached_standing c) x y same p.words q.words (record { coherent = one.cached.ram.coherent; unused = one.cached.ram.unused }) (record { coherent = other.cached.ram.coherent; unused = other.cached.ram.unused }));
     }
 
 -- ---- `prefetch`
@@ -100,8 +115,8 @@ ahead_once name cache o rate file input x y same p q =
           let are : AreRounds c left.2.0 = subst (λ (w : ImageData). AreRounds (by w) left.2.0) image left.2.1 in
           let is : s ≡ ahead_standing c made =
           left.2.2 ∙ (ap (λ (w : ImageData). ahead_standing (by w) left.2.0) image ∙ ap (λ (n : ℕ). ahead_standing c n) (rounds_are_one c left.2.0 made are one.ahead.are)) in
-          subst (λ (t : Standing). HoldAlike t x.after.ram.words y.after.ram.words) (sym is)
-          (placed_words_are_one (ahead_standing c made) x.after.ram.words y.after.ram.words p.words q.words one.ahead.coherent ahead.coherent);
+          subst (λ (t : Standing). StandAlike t x.after.ram.words y.after.ram.words) (sym is)
+          (stands (ahead_standing c made) x y same p.words q.words (record { coherent = one.ahead.coherent; unused = one.ahead.unused }) (record { coherent = ahead.coherent; unused = ahead.unused }));
     }
 
 -- ---- `measure`
@@ -156,8 +171,8 @@ measure_once seed functions cache files input x y same p q =
       placed = λ s left.
           let k : Parts = record { program = left.0; layout = left.1.0; image = left.1.1.0 } in
           let is : s ≡ cached_standing c = left.1.1.2 ∙ ap (λ (l : Parts). cached_standing (run_by cache l)) (parts_once seed functions cache k m left.1.1.1 a.is) in
-          subst (λ (t : Standing). HoldAlike t x.after.ram.words y.after.ram.words) (sym is)
-          (placed_words_are_one (cached_standing c) x.after.ram.words y.after.ram.words p.words q.words a.ran.ram.coherent other.ran.ram.coherent);
+          subst (λ (t : Standing). StandAlike t x.after.ram.words y.after.ram.words) (sym is)
+          (stands (cached_standing c) x y same p.words q.words (record { coherent = a.ran.ram.coherent; unused = a.ran.ram.unused }) (record { coherent = other.ran.ram.coherent; unused = other.ran.ram.unused }));
     }
 
 -- ---- `share`
@@ -235,6 +250,7 @@ record HasShared (o : ShareOptions) (s : Shared) (x : End) : Type 0 where
   output : Appends x.before.output.held x.after.output.held (s.output ++ share_report o s)
   error : Appends x.before.error.held x.after.error.held (s.error ++ ending_line x.ending)
   went : RamWent s.fetches (writes s.kept) s.words x.before.ram x.after.ram
+  unused : SameFrom (extent_of s.setting s.kept) x.before.ram.words x.after.ram.words
   coherent : (g : ℕ) (c : Context) → slice_index_or s.contexts g None ≡ Some c → IsPlaced s g c x.after.ram.words
 
 pub share_once : (names : List (List ℕ)) (cache : CacheOptions) (o : ShareOptions) → EndOnce (RunShared names cache o)
@@ -243,9 +259,9 @@ share_once names cache o files input x y same p q =
     let b = q.answers.done files q.are in
     let bytes : ℕ = cache.cache_bytes in
     let t : Shared = shared_end o bytes a.0 in
-    let one : HasShared o t x = record { output = a.2.output; error = a.2.error; went = record { counted = a.2.ram.ran.fetches; written = a.2.ram.ran.sets; fetched = a.2.ram.words }; coherent = a.2.ram.coherent } in
+    let one : HasShared o t x = record { output = a.2.output; error = a.2.error; went = record { counted = a.2.ram.ran.fetches; written = a.2.ram.ran.sets; fetched = a.2.ram.words }; unused = a.2.ram.unused; coherent = a.2.ram.coherent } in
     let other : HasShared o t y = subst (λ (s : Shared). HasShared o s y) (end_once cache o files b.0 a.0 b.1 a.1)
-    (record { output = b.2.output; error = b.2.error; went = record { counted = b.2.ram.ran.fetches; written = b.2.ram.ran.sets; fetched = b.2.ram.words }; coherent = b.2.ram.coherent }) in
+    (record { output = b.2.output; error = b.2.error; went = record { counted = b.2.ram.ran.fetches; written = b.2.ram.ran.sets; fetched = b.2.ram.words }; unused = b.2.ram.unused; coherent = b.2.ram.coherent }) in
     let ends : x.ending ≡ y.ending = a.2.ending ∙ sym b.2.ending in
     record {
       ending = ends;
@@ -260,6 +276,6 @@ share_once names cache o files input x y same p q =
           let same_end : shared_end o bytes left.0 ≡ t = end_once cache o files left.0 a.0 left.1 a.1 in
           let is_context : slice_index_or t.contexts g None ≡ Some c = subst (λ (u : Shared). slice_index_or u.contexts g None ≡ Some c) same_end left.2.1.1 in
           let is : s ≡ shared_standing t g c = left.2.1.2 ∙ ap (λ (u : Shared). shared_standing u g c) same_end in
-          subst (λ (u : Standing). HoldAlike u x.after.ram.words y.after.ram.words) (sym is)
-          (placed_words_are_one (shared_standing t g c) x.after.ram.words y.after.ram.words p.words q.words (one.coherent g c is_context) (other.coherent g c is_context));
+          subst (λ (u : Standing). StandAlike u x.after.ram.words y.after.ram.words) (sym is)
+          (stands (shared_standing t g c) x y same p.words q.words (record { coherent = one.coherent g c is_context; unused = one.unused }) (record { coherent = other.coherent g c is_context; unused = other.unused }));
     }

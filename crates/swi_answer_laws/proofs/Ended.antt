@@ -27,7 +27,7 @@ use Rattle.swi_file_commands.specs.UpgradeFile.{IsUpgraded}
 use Rattle.swi_survey_command.specs.RunSurvey.{SurveyRun, Surveys, limit_of, survey_lines, survey_of, surveyed}
 use Rattle.swi_top.specs.Tasks.{task_of}
 use Rattle.swi_answer_laws.specs.Answered.{GainAlike, RamsAlike, StoreAlike, cache_words}
-use Rattle.swi_answer_laws.specs.Placed.{HoldAlike, IsLeftBy, Standing}
+use Rattle.swi_answer_laws.specs.Placed.{StandAlike, IsLeftBy, Standing}
 use Rattle.swi_answer_laws.proofs.Alike.{behind_small, gain, gain_none, last_small, ran_alike, same_ram, store_none, store_one}
 use Rattle.swi_answer_laws.proofs.Parts.{image_is_one}
 
@@ -51,7 +51,7 @@ pub record EndAlike (q : Request) (files : (task_of q).Files) (input : List ℕ)
   pub left : x.after.input.left ≡ y.after.input.left
   pub stored : StoreAlike x.before.shelf.stored x.after.shelf.stored y.before.shelf.stored y.after.shelf.stored
   pub ram : RamsAlike (cache_words (task_of q).caches) x.after.ram y.after.ram
-  pub placed : (s : Standing) → IsLeftBy q files input s → HoldAlike s x.after.ram.words y.after.ram.words
+  pub placed : (s : Standing) → IsLeftBy q files input s → StandAlike s x.after.ram.words y.after.ram.words
 
 abbrev pub SameRam : End → End → Type 0
 SameRam x y = x.before.ram ≡ y.before.ram

@@ -15,7 +15,7 @@ use Rattle.swi_task.specs.Devices.{Devices}
 use Rattle.swi_task.specs.Task.{AreFiles}
 use Rattle.swi_top.specs.Alike.{NoneRose}
 use Rattle.swi_top.specs.Tasks.{task_of}
-use Rattle.swi_answer_laws.specs.Placed.{HoldAlike, IsLeftBy, Standing}
+use Rattle.swi_answer_laws.specs.Placed.{StandAlike, IsLeftBy, Standing}
 
 -- ---- what is asked, and what comes of it
 
@@ -78,7 +78,7 @@ pub record RamsAlike (words : ℕ) (one other : RamState) : Type 0 where
   pub beyond : (i : ℕ) → words ≤ i → slice_index one.words i ≡ slice_index other.words i
 
 -- Two answers are the same, and leave the same: the bytes that each sink gained and that are stored under OUT, what is left of the input, and
--- the ram, in which every placed block stands in the same words where the command has ended.
+-- the ram, in which every placed block stands in the same words where the command has ended, and which else no block ever had.
 pub record IsSameAnswer (g : Given) (a b : Answer) : Type 0 where
   pub result : a.result ≡ b.result
   pub output : GainAlike a.before.output a.after.output b.before.output b.after.output
@@ -86,7 +86,7 @@ pub record IsSameAnswer (g : Given) (a b : Answer) : Type 0 where
   pub left : a.after.input.left ≡ b.after.input.left
   pub stored : StoreAlike a.before.shelf.stored a.after.shelf.stored b.before.shelf.stored b.after.shelf.stored
   pub ram : RamsAlike (cache_words (task_of g.request).caches) a.after.ram b.after.ram
-  pub placed : OnOk a.result ((s : Standing) → IsLeftBy g.request g.files g.input s → HoldAlike s a.after.ram.words b.after.ram.words)
+  pub placed : OnOk a.result ((s : Standing) → IsLeftBy g.request g.files g.input s → StandAlike s a.after.ram.words b.after.ram.words)
 
 -- what is asked has one answer
 abbrev pub AnswersAreOne : Type 0

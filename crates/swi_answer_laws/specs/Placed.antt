@@ -1,5 +1,5 @@
 -- The blocks that a command has placed in the ram, where it ended.
-use Rattle.std.specs.Prelude.{◌≡◌, ℕ, ◌+◌, ◌<◌, List, Some, None, slice_index, slice_index_or}
+use Rattle.std.specs.Prelude.{◌≡◌, ℕ, ◌+◌, ◌<◌, ◌≤◌, List, Some, None, slice_index, slice_index_or}
 use Rattle.swi_elf_read.specs.Loaded.{image_of as image_in}
 use Rattle.swi_image.specs.Format.{ImageData}
 use Rattle.swi_image.specs.Place.{length_at}
@@ -8,9 +8,10 @@ use Rattle.swi_rom.specs.Record.{Record, Placed}
 use Rattle.swi_memory.specs.declared.layout.Layout.{Layout}
 use Rattle.swi_program.specs.Program.{ProgramData}
 use Rattle.swi_command.specs.CommandLine.{Request, RunAhead, RunCached, RunShared, MeasureMade}
-use Rattle.swi_cached.specs.Cached.{CachedRun, record_after, span_of}
-use Rattle.swi_engine.specs.Engine.{span_of as engine_span}
+use Rattle.swi_cached.specs.Cached.{CachedRun, record_after, span_of, used_after}
+use Rattle.swi_engine.specs.Engine.{extent_of as engine_extent, span_of as engine_span}
 use Rattle.swi_prefetch.specs.Scheduled.{AheadRun, AreRounds, moment_after, setting_for}
+use Rattle.swi_slots.specs.Fifo.{extent_of as slots_extent}
 use Rattle.swi_slots.specs.Slots.{span_of as slots_span}
 use Rattle.swi_share.specs.declared.process.Guest.{Guest}
 use Rattle.swi_share.specs.Shared.{Context, Shared}
@@ -27,6 +28,8 @@ pub record Standing : Type 0 where
   pub image : ImageData
   pub kept : Record
   pub span : ℕ
+  -- no word from here on was ever a block's
+  pub extent : ℕ
 
 -- two rams hold them in the same words, links included
 pub record HoldAlike (s : Standing) (ws us : List ℕ) : Type 0 where
@@ -34,15 +37,20 @@ pub record HoldAlike (s : Standing) (ws us : List ℕ) : Type 0 where
   pub other : Coherent s.image s.kept s.span us
   pub same : (b f o : ℕ) → Placed s.kept b f → o < length_at s.image b → slice_index ws (f + o) ≡ slice_index us (f + o)
 
+-- and the words that no block ever had are the same
+pub record StandAlike (s : Standing) (ws us : List ℕ) : Type 0 where
+  pub placed : HoldAlike s ws us
+  pub unused : (i : ℕ) → s.extent ≤ i → slice_index ws i ≡ slice_index us i
+
 -- at the end of a run, without and with an engine, and those of program g of several
 abbrev pub cached_standing : CachedRun → Standing
-cached_standing c = record { image = c.image; kept = record_after c c.limit; span = span_of c }
+cached_standing c = record { image = c.image; kept = record_after c c.limit; span = span_of c; extent = used_after c c.limit }
 
 abbrev pub ahead_standing : AheadRun → ℕ → Standing
-ahead_standing c made = record { image = c.image; kept = (moment_after c made).kept; span = engine_span (setting_for c) }
+ahead_standing c made = record { image = c.image; kept = (moment_after c made).kept; span = engine_span (setting_for c); extent = engine_extent (setting_for c) (moment_after c made).kept }
 
 abbrev pub shared_standing : Shared → ℕ → Context → Standing
-shared_standing s g c = record { image = c.image; kept = record s.kept { turn = g }; span = slots_span s.setting }
+shared_standing s g c = record { image = c.image; kept = record s.kept { turn = g }; span = slots_span s.setting; extent = slots_extent s.setting s.kept }
 
 -- so they stand at the end of a command that was asked for this, with these files and this input; the other commands place none
 abbrev pub IsLeftBy : (q : Request) → (task_of q).Files → List ℕ → Standing → Type 0
