@@ -98,7 +98,7 @@ static inline uint32_t block_length(const struct image *image, uint32_t block)
 
 /* The program's registers while the runtime has control, and what the vector reads of the service. */
 struct frame {
-    uint32_t x[32]; /* x[0] is not used */
+    uint32_t x[32]; /* x[0] is 0, and nothing writes it */
     uint32_t text_base;
     uint32_t text_bytes;
     const uint32_t *places;   /* of each text word its place; NULL with SEARCH */

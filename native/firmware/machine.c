@@ -9,7 +9,7 @@
 #include <stddef.h>
 #include "firmware.h"
 
-enum { MSTATUS = 0x300, MTVEC = 0x305, MSCRATCH = 0x340 };
+enum { MSTATUS = 0x300, MTVEC = 0x305, MSCRATCH = 0x340, PMPCFG0 = 0x3a0, PMPCFGS = 16 };
 enum { STATUS_MIE = 1 << 3, STATUS_MPIE = 1 << 7, STATUS_MPP = 3 << 11, STATUS_MPRV = 1 << 17 };
 enum { CAUSE_FETCH_MISALIGNED = 0, CAUSE_FETCH_ACCESS = 1, CAUSE_ILLEGAL = 2 };
 enum { WORD_MRET = 0x30200073, WORD_WFI = 0x10500073, WORD_EBREAK = 0x00100073, WORD_NOP = 0x00000013 };
@@ -24,17 +24,11 @@ enum { SOFTWARE_INTERRUPT = 3, TIMER_INTERRUPT = 7, EXTERNAL_INTERRUPT = 11 };
 enum { SCRATCH, EPC, CAUSE, TVAL, KEPT };
 
 static struct {
-    uint32_t tvec, mpie;
+    uint32_t tvec, mpie, mpp;
+    uint32_t least_mode; /* of the processor, as mstatus.MPP has it */
     uint32_t kept[KEPT];
     uint32_t native_from, native_bytes;
 } machine;
-
-SLOW void machine_start(const struct firmware *firmware)
-{
-    machine.native_from = firmware->native_from;
-    machine.native_bytes = firmware->native_to - firmware->native_from;
-    frame.direct = firmware->handler;
-}
 
 #define READ(csr)                                                                                                      \
     __extension__({                                                                                                    \
@@ -42,6 +36,24 @@ SLOW void machine_start(const struct firmware *firmware)
         __asm__ volatile("csrr %0, " csr : "=r"(value_));                                                              \
         value_;                                                                                                        \
     })
+
+/* Writes mstatus, but with machine mode as MPP, to which the runtime returns; answers what MPP would hold. */
+SHARED static uint32_t put_status(uint32_t value)
+{
+    __asm__ volatile("csrw mstatus, %0" ::"r"(value));
+    uint32_t mpp = READ("mstatus") & STATUS_MPP;
+    __asm__ volatile("csrs mstatus, %0" ::"r"(STATUS_MPP));
+    return mpp;
+}
+
+SLOW void machine_start(const struct firmware *firmware)
+{
+    machine.mpp = READ("mstatus") & STATUS_MPP;
+    machine.least_mode = put_status(READ("mstatus") & ~(uint32_t)STATUS_MPP);
+    machine.native_from = firmware->native_from;
+    machine.native_bytes = firmware->native_to - firmware->native_from;
+    frame.direct = firmware->handler;
+}
 
 static void set_enabled(bool is_enabled)
 {
@@ -63,6 +75,7 @@ SHARED static uint32_t deliver(uint32_t at, uint32_t cause, uint32_t value)
     machine.kept[CAUSE] = cause;
     machine.kept[TVAL] = value;
     machine.mpie = READ("mstatus") & STATUS_MPIE;
+    machine.mpp = STATUS_MPP;
     set_enabled(false);
     uint32_t to = service_enter(handler);
     if (!to)
@@ -108,10 +121,13 @@ void board_poll(void)
         machine_direct(frame.direct, CAUSE_IS_INTERRUPT | interrupt_of(pending));
 }
 
-static uint32_t return_from_trap(void)
+static uint32_t return_from_trap(uint32_t address)
 {
+    if (machine.mpp != STATUS_MPP)
+        firmware_stop(STOP_USER, 0, address);
     set_enabled(machine.mpie);
     machine.mpie = STATUS_MPIE;
+    machine.mpp = machine.least_mode;
     return go_to(machine.kept[EPC]);
 }
 
@@ -121,7 +137,7 @@ static uint32_t read_status(void)
 {
     uint32_t status = READ("mstatus");
     uint32_t enabled = status & STATUS_MPIE ? STATUS_MIE : 0;
-    return (status & ~(uint32_t)(STATUS_MIE | STATUS_MPIE)) | STATUS_MPP | enabled | machine.mpie;
+    return (status & ~(uint32_t)(STATUS_MIE | STATUS_MPIE | STATUS_MPP)) | enabled | machine.mpie | machine.mpp;
 }
 
 static void write_status(uint32_t value)
@@ -129,7 +145,7 @@ static void write_status(uint32_t value)
     uint32_t kept = STATUS_MIE | STATUS_MPIE | STATUS_MPRV;
     uint32_t enabled = value & STATUS_MIE ? STATUS_MPIE : 0;
     machine.mpie = value & STATUS_MPIE;
-    __asm__ volatile("csrw mstatus, %0" ::"r"((value & ~kept) | STATUS_MPP | enabled));
+    machine.mpp = put_status((value & ~kept) | enabled);
 }
 
 /* A handler that stands in the native range is direct. */
@@ -216,6 +232,17 @@ static uint32_t by_a0(uint32_t word)
     return number_of(word) << 20 | rs1 << 15 | operation_of(word) << 12 | 10 << 7 | OPCODE_SYSTEM;
 }
 
+uint32_t machine_read(uint32_t number)
+{
+    return machine_try(number << 20 | OPERATION_SET << 12 | 10 << 7 | OPCODE_SYSTEM, 0).value;
+}
+
+/* Whether a CSR instruction writes the settings of PMP, which may lock memory. */
+static bool is_setting_pmp(uint32_t word)
+{
+    return number_of(word) - PMPCFG0 < PMPCFGS && does_write(word);
+}
+
 /* Executes a CSR instruction: what the register held, and whether there is one. */
 SHARED static struct tried change_csr(uint32_t word, uint32_t operand)
 {
@@ -234,7 +261,7 @@ static bool is_as_it_is(uint32_t word)
 {
     bool is_enable = number_of(word) == MSTATUS && is_immediate(word) && operation_of(word) != OPERATION_WRITE &&
                      source_of(word) == STATUS_MIE && !rd_of(word);
-    return is_enable || !is_kept(number_of(word));
+    return is_enable || !(is_kept(number_of(word)) || is_setting_pmp(word));
 }
 
 static bool is_csr_instruction(uint32_t word)
@@ -242,18 +269,25 @@ static bool is_csr_instruction(uint32_t word)
     return (word & 127) == OPCODE_SYSTEM && operation_of(word);
 }
 
+/* At an EBREAK mtval is its address or 0, as the processor has it: the exit was one too. */
 static uint32_t deliver_word(uint32_t address, uint32_t word)
 {
-    bool is_break = word == WORD_EBREAK;
-    return deliver(address, is_break ? CAUSE_BREAKPOINT : CAUSE_ILLEGAL, is_break ? address : word);
+    if (word == WORD_EBREAK)
+        return deliver(address, CAUSE_BREAKPOINT, READ("mtval") ? address : 0);
+    return deliver(address, CAUSE_ILLEGAL, word);
 }
 
 static uint32_t execute_csr(struct frame *registers, uint32_t pc, uint32_t address, uint32_t word)
 {
-    struct tried tried = change_csr(word, operand_of(registers, word));
+    uint32_t operand = operand_of(registers, word);
+    if (is_setting_pmp(word) &&
+        pmp_locks_runtime(number_of(word), changed(machine_read(number_of(word)), operation_of(word), operand)))
+        firmware_stop(STOP_LOCKED, 0, address);
+    struct tried tried = change_csr(word, operand);
     if (!tried.is_good)
         return deliver_word(address, word);
-    registers->x[rd_of(word)] = tried.value; /* x[0] is not used */
+    if (rd_of(word))
+        registers->x[rd_of(word)] = tried.value;
     if (is_as_it_is(word))
         service_replace(pc, word);
     return go_to(address + 4);
@@ -263,7 +297,7 @@ uint32_t board_word(struct frame *registers, uint32_t pc, uint32_t address)
 {
     uint32_t word = *(const uint32_t *)address;
     if (word == WORD_MRET)
-        return return_from_trap();
+        return return_from_trap(address);
     if (word == WORD_WFI) {
         service_replace(pc, word);
         __asm__ volatile("wfi");

@@ -2,7 +2,7 @@
 #include <stddef.h>
 #include "firmware.h"
 
-_Static_assert(sizeof(struct firmware) == 48, "native/pack writes the header");
+_Static_assert(sizeof(struct firmware) == 52, "native/pack writes the header");
 
 struct stop swicache_stop;
 
@@ -19,44 +19,51 @@ void firmware_stop(enum stop_reason reason, uint32_t pc, uint32_t address)
         __asm__ volatile("wfi" ::: "memory");
 }
 
-/*
- * Two sums over words, as Fletcher has them: a word that changed changes the first, and two words that changed places
- * the second.
- */
-struct sums {
-    uint32_t sum, sum_of_sums;
-};
+/* Before all else, and so not yet summed while it sums: firmware/swicache.ld has it in front. */
+#define FIRST __attribute__((section(".swicache.first"), noinline))
 
-static void add_up(struct sums *sums, const uint32_t *at, uint32_t count)
+/* CRC-32, as zlib has it, of `count` words that stand behind others whose own is `before`. */
+FIRST static uint32_t crc_of(uint32_t before, const uint32_t *at, uint32_t count)
 {
-    for (uint32_t k = 0; k < count; k++) {
-        sums->sum += at[k];
-        sums->sum_of_sums += sums->sum;
+    uint32_t crc = ~before;
+    for (const uint32_t *end = at + count; at != end; at++) {
+        crc ^= *at;
+        crc = crc >> 8 ^ crc_table[crc & 255];
+        crc = crc >> 8 ^ crc_table[crc & 255];
+        crc = crc >> 8 ^ crc_table[crc & 255];
+        crc = crc >> 8 ^ crc_table[crc & 255];
     }
+    return ~crc;
 }
 
-/* The header's numbers are used where its own sum is right alone. */
-static bool is_header_whole(const struct firmware *firmware)
+static uint32_t words_between(const uint32_t *begin, const uint32_t *end)
 {
-    struct sums sums = {0, 0};
-    add_up(&sums, &firmware->magic, offsetof(struct firmware, header_sum) / 4);
-    return sums.sum == firmware->header_sum;
+    return (uint32_t)(end - begin);
 }
 
+/* The header, whose numbers are used where its own sum is right alone, and what runs in flash. */
+FIRST void firmware_check(void)
+{
+    const struct firmware *firmware = &swicache_firmware;
+    if (firmware->magic != FIRMWARE_MAGIC)
+        firmware_stop(STOP_NO_FIRMWARE, 0, (uint32_t)firmware);
+    if (crc_of(0, &firmware->magic, offsetof(struct firmware, header_sum) / 4) != firmware->header_sum ||
+        crc_of(0, swicache_slow, words_between(swicache_slow, swicache_slow_end)) != firmware->slow_sum)
+        firmware_stop(STOP_DAMAGED, 0, (uint32_t)firmware);
+}
+
+/* The fast part where it was copied to, and all that is read of the firmware. */
 static bool is_whole(const struct firmware *firmware)
 {
-    struct sums sums = {0, 0};
-    add_up(&sums, swicache_image, (uint32_t)(swicache_places_end - swicache_image));
-    add_up(&sums, firmware->text, firmware->text_words);
-    return sums.sum == firmware->sum && sums.sum_of_sums == firmware->sum_of_sums;
+    uint32_t sum = crc_of(0, swicache_image, words_between(swicache_image, swicache_places_end));
+    return crc_of(0, swicache_fast, words_between(swicache_fast, swicache_fast_end)) == firmware->fast_sum &&
+           crc_of(sum, firmware->text, firmware->text_words) == firmware->sum;
 }
 
 static void read_image(struct image *image)
 {
     const struct firmware *firmware = &swicache_firmware;
-    if (firmware->magic != FIRMWARE_MAGIC)
-        firmware_stop(STOP_NO_FIRMWARE, 0, (uint32_t)firmware);
-    if (!is_header_whole(firmware) || !is_whole(firmware))
+    if (!is_whole(firmware))
         firmware_stop(STOP_DAMAGED, 0, (uint32_t)firmware);
     struct image_error error = image_read(image, swicache_image, (uint32_t)(swicache_places - swicache_image));
     if (error.number)

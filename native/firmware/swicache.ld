@@ -13,10 +13,13 @@
 {
   swicache_slow = .;
   KEEP(*(.swicache.start))
+  *(.swicache.first)
+  swicache_first_end = .;
   *(.text.slow)
   *image.o(.text .text.* .rodata .rodata.*)
   *libc.o(.text .text.*)
   *start_c.o(.text .text.* .rodata .rodata.*)
+  *pmp.o(.text .text.* .rodata .rodata.*)
   *board.o(.text .text.* .rodata .rodata.* .srodata .srodata.*)
   . = ALIGN(4);
   swicache_slow_end = .;
@@ -55,3 +58,8 @@ swicache_fast_in_flash = LOADADDR(.swicache_fast);
   . += SWICACHE_CACHE_BYTES;
   swicache_cache_end = .;
 } >SWICACHE_CACHE
+/* The runtime's RAM, for native/pack. */
+swicache_ram = ORIGIN(SWICACHE_FAST);
+swicache_ram_end = ORIGIN(SWICACHE_FAST) + LENGTH(SWICACHE_FAST);
+swicache_cache_ram = ORIGIN(SWICACHE_CACHE);
+swicache_cache_ram_end = ORIGIN(SWICACHE_CACHE) + LENGTH(SWICACHE_CACHE);

@@ -7,6 +7,9 @@
 
 #define SOFTWARE (*(volatile uint32_t *)0x02000000)
 #define ENABLE_SOFTWARE 8u
+#define FETCH_ACCESS 1u
+#define PREVIOUS_MODE 0x1800u
+#define STATUS_SEEN (PREVIOUS_MODE | 0x88u)
 
 #define READ(csr)                                                                                                      \
     __extension__({                                                                                                    \
@@ -101,13 +104,16 @@ __attribute__((used)) void handle(struct kept *kept);
 void handle(struct kept *kept)
 {
     cause = READ("mcause");
-    status = READ("mstatus") & 0x88;
+    status = READ("mstatus") & STATUS_SEEN;
     if (cause >> 31) {
         handle_interrupt();
         return;
     }
     value = READ("mtval");
-    kept->epc += 4;
+    if (cause == FETCH_ACCESS)
+        kept->epc = kept->registers[13]; /* ra: behind the call */
+    else
+        kept->epc += 4;
 }
 
 static void put_hex(uint32_t number)
@@ -147,9 +153,13 @@ static void registers(void)
     line("mepc", READ("mepc"), 0);
     WRITE("mcause", 5);
     line("mcause", READ("mcause"), 0);
-    line("mstatus", READ("mstatus") & 8, 0);
+    line("mstatus", READ("mstatus") & STATUS_SEEN, 0);
     __asm__ volatile("csrsi mstatus, 8");
-    line("mstatus", READ("mstatus") & 8, 0);
+    line("mstatus", READ("mstatus") & STATUS_SEEN, 0);
+    for (uint32_t mode = 0; mode < 4; mode++) { /* of which the processor may lack some */
+        __asm__ volatile("csrc mstatus, %0; csrs mstatus, %1" ::"r"(PREVIOUS_MODE), "r"(mode << 11));
+        line("mode", mode, READ("mstatus") & STATUS_SEEN);
+    }
     first = READ("mcycle");
     line("mcycle", READ("mcycle") > first, 0);
     line("misa", READ("misa"), READ("mhartid"));
@@ -161,6 +171,7 @@ static void exceptions(void)
     line("ecall", cause, status);
     __asm__ volatile("ebreak");
     line("ebreak", cause, status);
+    line("ebreak", value, READ("mstatus") & STATUS_SEEN);
     __asm__ volatile(".word 0xffffffff");
     line("illegal", cause, value);
     __asm__ volatile("csrr t0, 0x7c0" ::: "t0");
@@ -173,6 +184,19 @@ static void exceptions(void)
     line("store", cause, value);
     __asm__ volatile("fence.i");
     __asm__ volatile("fence.i");
+}
+
+void missing(void) __attribute__((weak));
+
+/* A call of a weak function that nobody defines is a JALR over x0, which is 0 whatever a CSR held before. */
+static void nowhere(void)
+{
+    WRITE("mtvec", trap_entry);
+    missing();
+    line("call of nowhere", cause, value);
+    WRITE("mscratch", 0x1004);
+    __asm__ volatile("csrw mscratch, zero\n la ra, 1f\n jalr t0, -8(zero)\n 1:" ::: "t0", "ra");
+    line("jump to nowhere", cause, value);
 }
 
 static void interrupts(void)
@@ -235,6 +259,7 @@ int main(void)
     uart_start();
     registers();
     exceptions();
+    nowhere();
     interrupts();
     at_each_place();
     return 0;
