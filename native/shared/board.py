@@ -11,6 +11,7 @@ HERE = pathlib.Path(__file__).resolve().parent.parent
 BOARDS = HERE / "boards"
 IMAGE_HEADER = 0x6C434953  # the type of the program header that has a rewritten file's image
 SYMBOL_TABLE = 2
+ALLOCATED, EXECUTABLE = 2, 4  # flags of a section
 PLACE_BLOCK_SHIFT = 13  # runtime.h
 
 
@@ -55,6 +56,15 @@ class Segment:
     size: int
 
 
+@dataclasses.dataclass(frozen=True)
+class Section:
+    """A section that is loaded."""
+    name: str
+    address: int
+    size: int
+    is_code: bool
+
+
 class Elf:
     """What is read of an ELF file for RV32."""
 
@@ -81,7 +91,18 @@ class Elf:
             elif kind == IMAGE_HEADER:
                 self.image = self.data[offset : offset + held]
         at = range(sections, sections + section_size * section_count, section_size) if section_count else ()
-        self.symbols = dict(self.read_symbols([struct.unpack_from("<10I", self.data, it) for it in at]))
+        headers = [struct.unpack_from("<10I", self.data, it) for it in at]
+        self.symbols = dict(self.read_symbols(headers))
+        self.sections = list(self.read_sections(headers))
+
+    def text_at(self, at):
+        return self.data[at : self.data.index(b"\0", at)].decode(errors="replace")
+
+    def read_sections(self, headers):
+        names = headers[struct.unpack_from("<H", self.data, 50)[0]][4] if headers else 0
+        for name, _, flags, address, _, size, *_ in headers:
+            if flags & ALLOCATED:
+                yield Section(self.text_at(names + name), address, size, bool(flags & EXECUTABLE))
 
     def read_symbols(self, sections):
         """The symbols that are defined, with their values."""
@@ -90,7 +111,15 @@ class Elf:
                 begin, value, _, _, _, section = struct.unpack_from("<IIIBBH", self.data, at)
                 names = sections[link][4]
                 if section:
-                    yield self.data[names + begin : self.data.index(b"\0", names + begin)].decode(errors="replace"), value
+                    yield self.text_at(names + begin), value
+
+    def words_at(self, address, count):
+        """The words that a segment of the file has from an address on, at most so many."""
+        for it in self.segments:
+            if it.address <= address < it.address + len(it.held):
+                held = it.held[address - it.address :][: 4 * count]
+                return struct.unpack(f"<{len(held) // 4}I", held[: len(held) // 4 * 4])
+        return ()
 
     def symbol(self, name):
         """The address of a symbol, or the number that stands in its place."""
