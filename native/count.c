@@ -39,8 +39,11 @@ EXPORT extern int qemu_plugin_version;
 EXPORT int qemu_plugin_version = 1;
 EXPORT int qemu_plugin_install(qemu_plugin_id_t, const struct qemu_info_t *, int, char **);
 
-/* The places in the runtime that are watched. Those from RETURN_EXIT on tell what a service does. */
+/* The places in the runtime that are watched. The first two are where an interrupt is taken, also within a service; those from
+ * RETURN_EXIT on tell what a service does. MISS to UNDO are counters, which change where it does so. */
 enum watched {
+    TRAP_INTERRUPT,
+    MACHINE_DIRECT,
     TRAP_VECTOR,
     TRAP_RETURN,
     TRAP_RETURN_SHORT,
@@ -56,8 +59,9 @@ enum watched {
     WATCHED
 };
 static const char *const watched_names[WATCHED] = {
-    "trap_vector", "trap_return", "trap_return_short", "trap_return_find", "return_exit", "miss",
-    "evict",       "link",        "undo",              "call",             "board_word",  "deliver"};
+    "trap_interrupt", "machine_direct", "trap_vector", "trap_return", "trap_return_short",
+    "trap_return_find", "return_exit",  "miss",        "evict",       "link",
+    "undo",           "call",           "board_word",  "deliver"};
 static uint64_t watched_at[WATCHED];
 
 enum bound { CACHE, CACHE_END, RUNTIME, RUNTIME_END, FAST, FAST_END, BOUNDS };
@@ -100,11 +104,38 @@ static void end_service(void)
     has_started = true;
 }
 
+/* From one interrupt to the next: how many there are, in how many of them more than half of the instructions are the
+ * runtime's, and the most instructions of one, in all and of the runtime. */
+static struct {
+    uint64_t count, starved, most, most_of_runtime;
+} intervals;
+static bool was_interrupted;
+static uint64_t interrupted_at, interrupted_runtime;
+
+static void end_interval(void)
+{
+    uint64_t now = in_cache + in_runtime + elsewhere;
+    uint64_t all = now - interrupted_at, of_runtime = in_runtime - interrupted_runtime;
+    if (was_interrupted) {
+        intervals.count++;
+        intervals.starved += of_runtime > all / 2;
+        if (all > intervals.most)
+            intervals.most = all;
+        if (of_runtime > intervals.most_of_runtime)
+            intervals.most_of_runtime = of_runtime;
+    }
+    was_interrupted = true;
+    interrupted_at = now;
+    interrupted_runtime = in_runtime;
+}
+
 static void passed(unsigned int hart, void *which)
 {
     enum watched at = (enum watched)(intptr_t)which;
     (void)hart;
-    if (at == TRAP_VECTOR)
+    if (at < TRAP_VECTOR)
+        end_interval();
+    else if (at == TRAP_VECTOR)
         begin_service();
     else if (at < RETURN_EXIT)
         end_service();
@@ -115,8 +146,13 @@ static void passed(unsigned int hart, void *which)
 static void touched(unsigned int hart, qemu_plugin_meminfo_t info, uint64_t address, void *data)
 {
     (void)hart, (void)data;
-    if (!qemu_plugin_mem_is_store(info) && (address < bounds[FAST] || address >= bounds[FAST_END]))
+    if (qemu_plugin_mem_is_store(info)) {
+        for (unsigned int k = MISS; k <= UNDO; k++)
+            if (watched_at[k] == address)
+                kind |= 1u << (k - RETURN_EXIT);
+    } else if (address < bounds[FAST] || address >= bounds[FAST_END]) {
         slow_loads++;
+    }
 }
 
 static uint64_t *counter_of(uint64_t address)
@@ -166,6 +202,8 @@ static void write_counts(qemu_plugin_id_t id, void *data)
     }
     fprintf(out, "fetches %" PRIu64 "\nruntime %" PRIu64 "\nelsewhere %" PRIu64 "\nslow %" PRIu64 "\n", in_cache,
             in_runtime, elsewhere, slow_loads);
+    fprintf(out, "intervals %" PRIu64 "\nstarved %" PRIu64 "\ninterval %" PRIu64 "\ninterval_runtime %" PRIu64 "\n",
+            intervals.count, intervals.starved, intervals.most, intervals.most_of_runtime);
     for (unsigned int which = 0; which < KINDS; which++)
         if (kinds[which].count)
             write_kind(out, which);

@@ -172,6 +172,10 @@ uint32_t service_resume(uint32_t pc);
  */
 void service_replace(uint32_t pc, uint32_t word);
 
+/* Leaves the exit at `pc`, which stands for such a word, and puts the word itself behind it, where the vector finds it:
+ * CSRRS or CSRRC of mstatus by a register, with rd = x0. At the block's end nothing is changed. */
+void service_mark(uint32_t pc, uint32_t word);
+
 /* Whether an address is one of the cache. */
 bool service_holds(uint32_t address);
 
@@ -179,6 +183,12 @@ struct counts service_counts(void);
 
 /* Called by the vector: serves a trap at `pc`, and answers where to go on. */
 uint32_t service_trap(struct frame *registers, uint32_t pc, uint32_t cause);
+
+/* The same for a jump over a register to `target`, of whose registers the frame has ra alone, and all where rd is another. */
+uint32_t service_jump(struct frame *registers, uint32_t pc, uint32_t target);
+
+/* The same for an EBREAK with an address behind it that is a multiple of 4: that to which the exit leads. */
+uint32_t service_exit(uint32_t pc, uint32_t target);
 
 /* In trap.S: where mtvec has to lead, and the way into the program, by mepc and the frame. */
 void trap_vector(void);

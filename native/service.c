@@ -19,13 +19,13 @@
 #define JAL_X0 0x0000006fu
 #define NOP 0x00000013u
 
-/* Keeps a call a call, so that its instructions are counted by its address. */
-#define COUNTED __attribute__((noinline))
+/* Not inlined, for the room that it would take, or the registers that its callers would save. */
+#define SHARED __attribute__((noinline))
 
 union word {
     uint32_t bits;
     struct {
-        uint16_t next, previous; /* the index of an exit, plus 1; 0 at the list's end */
+        uint16_t next, previous; /* the index of an exit, plus 1; 0 at the list's end. `next` has the lower bits */
     } link;
 };
 
@@ -34,6 +34,7 @@ static struct {
     struct image image;
     union word *cache;
     struct slot *slots;
+    uint32_t bytes; /* of all slots */
     uint32_t slot_count;
     uint32_t next_slot; /* which the next miss takes */
     bool is_full;       /* whether every slot has a block */
@@ -56,11 +57,30 @@ _Static_assert(offsetof(struct frame, memo_places) == FRAME_MEMO_PLACES, "FRAME_
 _Static_assert(sizeof(struct frame) <= FRAME_BYTES, "FRAME_BYTES");
 #endif
 
-/* Places and slots */
+/* What was written to the cache is fetched from now on. */
+static void synchronize(void)
+{
+#ifdef __riscv
+    __asm__ volatile("fence.i" ::: "memory");
+#endif
+}
 
-struct place {
-    uint32_t block, offset;
-};
+static uint32_t address_of(uint32_t index)
+{
+    return (uint32_t)(uintptr_t)(service.cache + index);
+}
+
+static uint32_t index_of(uint32_t address)
+{
+    return (address - address_of(0)) / 4;
+}
+
+bool service_holds(uint32_t address)
+{
+    return address - address_of(0) < service.bytes;
+}
+
+/* Places and slots */
 
 #ifdef SEARCH
 /* The block of a text word: the last that starts at or before it. */
@@ -77,15 +97,24 @@ static uint32_t block_of(const struct image *image, uint32_t text_word)
 }
 #endif
 
-static struct place place_of(uint32_t text_word)
+/* The place of a text word, as the table has it. */
+static uint32_t place_of(uint32_t text_word)
 {
 #ifdef SEARCH
-    uint32_t block = block_of(&service.image, text_word);
-    return (struct place){block, service.image.offsets[text_word]};
+    return block_of(&service.image, text_word) << PLACE_BLOCK_SHIFT | service.image.offsets[text_word];
 #else
-    uint32_t packed = frame.places[text_word];
-    return (struct place){packed >> PLACE_BLOCK_SHIFT, packed & PLACE_OFFSET_MASK};
+    return frame.places[text_word];
 #endif
+}
+
+static uint32_t block_of_place(uint32_t place)
+{
+    return place >> PLACE_BLOCK_SHIFT;
+}
+
+static uint32_t offset_of_place(uint32_t place)
+{
+    return place & PLACE_OFFSET_MASK;
 }
 
 static uint32_t first_of_slot(uint32_t slot)
@@ -128,10 +157,11 @@ static bool is_link(union word word)
     return word.bits << 20 == JAL_X0 << 20;
 }
 
-/* JAL x0 over so many bytes (The RISC-V Instruction Set Manual, Volume I, section 2.5: the J format). */
+/* JAL x0 over so many bytes, less than 2^20 on either side (The RISC-V Instruction Set Manual, Volume I, section 2.5: the
+ * J format). */
 static uint32_t jump_over(uint32_t bytes)
 {
-    return (bytes & 0x100000) << 11 | (bytes & 0x7fe) << 20 | (bytes & 0x800) << 9 | (bytes & 0xff000) | JAL_X0;
+    return (bytes & 0x800ff000) | (bytes << 20 & 0x7fe00000) | (bytes << 9 & 0x100000) | JAL_X0;
 }
 
 /* The index to which such a word at an index jumps. */
@@ -142,29 +172,36 @@ static uint32_t target_of(uint32_t exit, uint32_t jump)
     return (4 * exit + bytes) / 4;
 }
 
-/* Makes the exit at an index a jump to another, and the first of the links into that one's slot; but where the slot has
- * as many as it may have. */
-COUNTED static void link(uint32_t exit, uint32_t target)
+/* Where the slot of a target has as many links as it may have. */
+SHARED static uint32_t refuse(uint32_t target)
 {
-    union word *cache = service.cache;
+    service.counts.refused++;
+    synchronize();
+    return address_of(target);
+}
+
+/* Makes the exit at an index a jump to another, and the first of the links into that one's slot; but where the slot has
+ * as many as it may have. Answers where the target stands. */
+SHARED static uint32_t link(uint32_t exit, uint32_t target)
+{
     struct slot *slot = &service.slots[slot_at(target)];
-    uint32_t second = slot->first_link;
-    if (slot->links == service.links_most) {
-        service.counts.refused++;
-        return;
-    }
-    cache[exit].bits = jump_over(4 * (target - exit));
-    cache[exit + 1].link.next = (uint16_t)second;
-    cache[exit + 1].link.previous = 0;
+    if (slot->links == service.links_most)
+        return refuse(target);
+    union word *word = service.cache + exit;
+    uint16_t second = slot->first_link, mark = (uint16_t)(exit + 1);
+    word[0].bits = jump_over(4 * (target - exit));
+    word[1].bits = second;
     if (second)
-        cache[second].link.previous = (uint16_t)(exit + 1);
-    slot->first_link = (uint16_t)(exit + 1);
+        service.cache[second].link.previous = mark;
+    slot->first_link = mark;
     slot->links++;
     service.counts.links++;
+    synchronize();
+    return address_of(target);
 }
 
 /* Makes a link an exit again, as it stands in the image. */
-COUNTED static void undo(uint32_t exit)
+static void undo(uint32_t exit)
 {
     uint32_t slot = slot_at(exit);
     uint32_t offset = exit - first_of_slot(slot);
@@ -225,7 +262,7 @@ static void forget_targets(void)
     frame.memo_filled = 0;
 }
 
-COUNTED static void evict(uint32_t slot)
+static void evict(uint32_t slot)
 {
     uint32_t block = service.slots[slot].block;
     take_out_links_from(first_of_slot(slot), block_length(&service.image, block));
@@ -251,7 +288,7 @@ static void copy(union word *to, const uint32_t *from, uint32_t count)
 }
 
 /* Copies a block that has no slot into the next one, and answers the index of its first word. */
-COUNTED static uint32_t miss(uint32_t block)
+SHARED static uint32_t miss(uint32_t block)
 {
     uint32_t slot = service.next_slot;
     uint32_t first = first_of_slot(slot);
@@ -270,56 +307,29 @@ COUNTED static uint32_t miss(uint32_t block)
     return first;
 }
 
-/* Of a text word's address the index where it stands in the cache, plus 1, its block copied where it has to be; 0 of
- * another address. */
-COUNTED static uint32_t find(uint32_t target)
+uint32_t service_enter(uint32_t target)
 {
     uint32_t distance = target - frame.text_base;
     if (distance >= frame.text_bytes || distance % 4 != 0)
         return 0;
-    struct place place = place_of(distance / 4);
-    uint32_t first = first_of(place.block);
-    return place.offset + (first ? first : miss(place.block) + 1);
+    uint32_t place = place_of(distance / 4), first = first_of(block_of_place(place));
+    if (!first) {
+        first = miss(block_of_place(place)) + 1;
+        synchronize();
+    }
+    return address_of(first - 1 + offset_of_place(place));
 }
 
-/* What was written to the cache is fetched from now on. */
-static void synchronize(void)
+/* Copies the block of the place to which the exit at an index leads, and links the exit; but where its own block left for
+ * that one, nothing is linked. */
+SHARED static uint32_t leave_by(uint32_t exit, uint32_t place)
 {
-#ifdef __riscv
-    __asm__ volatile("fence.i" ::: "memory");
-#endif
-}
-
-static uint32_t address_of(uint32_t index)
-{
-    return (uint32_t)(uintptr_t)(service.cache + index);
-}
-
-static uint32_t index_of(uint32_t address)
-{
-    return (address - address_of(0)) / 4;
-}
-
-uint32_t service_enter(uint32_t target)
-{
-    uint32_t found = find(target);
-    if (!found)
-        return 0;
-    synchronize();
-    return address_of(found - 1);
-}
-
-/* The same for the exit at an index, which is linked; but where its own block left for the target's, nothing is. */
-static uint32_t leave_by(uint32_t exit, uint32_t target)
-{
-    uint32_t before = service.counts.misses, found = find(target);
-    if (!found)
-        return 0;
-    bool is_gone = service.counts.misses != before && slot_at(found - 1) == slot_at(exit);
+    uint32_t first = miss(block_of_place(place)), target = first + offset_of_place(place);
+    bool is_gone = exit - first < service.image.block_words;
     if (!is_gone)
-        link(exit, found - 1);
+        return link(exit, target);
     synchronize();
-    return address_of(found - 1);
+    return address_of(target);
 }
 
 uint32_t service_origin(uint32_t pc)
@@ -356,19 +366,25 @@ uint32_t service_resume(uint32_t pc)
     return word[0] == EBREAK && word[1] % 4 == 0 ? word[1] : service_origin(pc);
 }
 
-void service_replace(uint32_t pc, uint32_t word)
+/* Puts two words in place of an exit for a word of the text, which are not the block's last. */
+SHARED static void put_in_place(uint32_t pc, uint32_t first, uint32_t second)
 {
     uint32_t exit = index_of(pc), slot = slot_at(exit);
     if (exit + 2 - first_of_slot(slot) >= block_length(&service.image, service.slots[slot].block))
         return;
-    service.cache[exit].bits = word;
-    service.cache[exit + 1].bits = NOP;
+    service.cache[exit].bits = first;
+    service.cache[exit + 1].bits = second;
     synchronize();
 }
 
-bool service_holds(uint32_t address)
+void service_replace(uint32_t pc, uint32_t word)
 {
-    return address - address_of(0) < 4 * first_of_slot(service.slot_count);
+    put_in_place(pc, word, NOP);
+}
+
+void service_mark(uint32_t pc, uint32_t word)
+{
+    put_in_place(pc, EBREAK, word);
 }
 
 SLOW struct counts service_counts(void)
@@ -396,19 +412,20 @@ static uint32_t immediate_of(uint32_t jalr)
     return jalr >> 20 | (jalr >> 31 ? 0xfffff000 : 0);
 }
 
-/* Where an exit leads on; `to` is 0 where its target is no text word. */
-static uint32_t served(uint32_t to, uint32_t target)
+/* An exit whose target is no text word, or an EBREAK that is none of the cache. */
+SHARED static uint32_t refuse_exit(uint32_t pc, uint32_t target)
 {
-    if (!to)
-        return board_fault(FAULT_FETCH_ACCESS, target, target);
-    frame.services++;
-    return to;
+    return service_holds(pc) ? board_fault(FAULT_FETCH_ACCESS, target, target) : board_trap(&frame, pc, CAUSE_BREAKPOINT);
 }
 
-/* An exit whose descriptor is the target's address. */
-static uint32_t serve_direct(uint32_t pc, uint32_t target)
+uint32_t service_exit(uint32_t pc, uint32_t target)
 {
-    return served(leave_by(index_of(pc), target), target);
+    uint32_t distance = target - frame.text_base;
+    if (!service_holds(pc) || distance >= frame.text_bytes)
+        return refuse_exit(pc, target);
+    uint32_t place = place_of(distance / 4), first = first_of(block_of_place(place));
+    frame.services++;
+    return first ? link(index_of(pc), first - 1 + offset_of_place(place)) : leave_by(index_of(pc), place);
 }
 
 /* Puts a target into the memo of the vector, which does so itself where it finds one. */
@@ -424,19 +441,26 @@ static void remember(uint32_t target, uint32_t place)
 #endif
 }
 
+uint32_t service_jump(struct frame *registers, uint32_t pc, uint32_t target)
+{
+    const union word *exit = service.cache + index_of(pc);
+    uint32_t rd = rd_of(exit[1].bits), linked = exit[2].bits;
+    if (target % 4 != 0)
+        return board_fault(FAULT_FETCH_MISALIGNED, service_origin(pc), target);
+    if (rd)
+        registers->x[rd] = linked;
+    uint32_t to = service_enter(target);
+    if (!to)
+        return board_fault(FAULT_FETCH_ACCESS, target, target);
+    remember(target, to);
+    registers->services++;
+    return to;
+}
+
 /* An exit whose descriptor is the JALR itself; the value that it links stands behind it. */
 static uint32_t serve_register(struct frame *registers, uint32_t pc, uint32_t jalr)
 {
-    uint32_t linked = service.cache[index_of(pc) + 2].bits;
-    uint32_t target = (registers->x[rs1_of(jalr)] + immediate_of(jalr)) & ~1u;
-    if (target % 4 != 0)
-        return board_fault(FAULT_FETCH_MISALIGNED, service_origin(pc), target);
-    if (rd_of(jalr))
-        registers->x[rd_of(jalr)] = linked;
-    uint32_t to = service_enter(target);
-    if (to)
-        remember(target, to);
-    return served(to, target);
+    return service_jump(registers, pc, (registers->x[rs1_of(jalr)] + immediate_of(jalr)) & ~1u);
 }
 
 uint32_t service_trap(struct frame *registers, uint32_t pc, uint32_t cause)
@@ -444,16 +468,13 @@ uint32_t service_trap(struct frame *registers, uint32_t pc, uint32_t cause)
     if (cause != CAUSE_BREAKPOINT || !service_holds(pc))
         return board_trap(registers, pc, cause);
     uint32_t descriptor = service.cache[index_of(pc) + 1].bits;
-    switch (descriptor & 3) {
-    case 0:
-        return serve_direct(pc, descriptor);
-    case 3:
+    if ((descriptor & 7) == 7)
         return serve_register(registers, pc, descriptor);
-    case 2: /* a jump to an address that is no multiple of 4 */
+    if (descriptor % 4 == 0)
+        return service_exit(pc, descriptor);
+    if (descriptor % 4 == 2) /* a jump to an address that is no multiple of 4 */
         return board_fault(FAULT_FETCH_MISALIGNED, service_origin(pc), descriptor);
-    default: /* a word of the text that traps, at the descriptor less 1 */
-        return board_word(registers, pc, descriptor - 1);
-    }
+    return board_word(registers, pc, image_word_at(pc)[1] - 1); /* a word of the text that traps */
 }
 
 /* The start */
@@ -483,6 +504,7 @@ SLOW void service_start(const struct image *image, const struct service_memory *
     service.cache = (union word *)cache;
     service.slots = memory->slots;
     service.slot_count = slots;
+    service.bytes = 4 * slots * image->block_words;
     service.links_most = links_most;
     clear_tables(memory);
     forget_targets();

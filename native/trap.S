@@ -6,8 +6,10 @@
 # frame and ends with its own pc and cause. The C code is built so that it needs neither gp nor tp.
 #
 # A return whose target is in the memo takes the first path. Another jump over a register to a placed block is served here
-# without C too, where its rd is x0 or ra (with SERVE_IN_VECTOR), and fills the memo. A jump over a register that is served in C may read and write any register, so all of them are
-# saved; for all else those are that a C function may change.
+# without C too, where its rd is x0 or ra (with SERVE_IN_VECTOR), and fills the memo; so are CSRRS and CSRRC of mstatus by a
+# register that holds nothing but MIE (with FIRMWARE). What C serves by a register may read and write any, so all of them
+# are saved; for all else those are that a C function may change. The C code is
+# built without a6, a7 and t3 to t6 (native/build).
 
 #include "runtime.h"
 
@@ -25,9 +27,9 @@ frame:
     .option norvc
     .section .text.trap, "ax", @progbits
 
-# Those that a C function may change, but t0 to t2 and sp.
+# Those that the C code may change, but t0 to t2 and sp.
     .macro  each_scratch op
-    .irp    n, 1, 10, 11, 12, 13, 14, 15, 16, 17, 28, 29, 30, 31
+    .irp    n, 1, 10, 11, 12, 13, 14, 15
     \op     x\n, FRAME_X(\n)(sp)
     .endr
     .endm
@@ -38,9 +40,9 @@ frame:
     .endr
     .endm
 
-# Those that a C function leaves as they are, and gp and tp.
+# Those that it leaves as they are.
     .macro  each_saved op
-    .irp    n, 3, 4, 8, 9, 18, 19, 20, 21, 22, 23, 24, 25, 26, 27
+    .irp    n, 3, 4, 8, 9, 16, 17, 18, 19, 20, 21, 22, 23, 24, 25, 26, 27, 28, 29, 30, 31
     \op     x\n, FRAME_X(\n)(sp)
     .endr
     .endm
@@ -63,6 +65,15 @@ frame:
     .macro  entry_for target
     andi    t0, \target, 4 * MEMO_ENTRIES - 4
     add     t0, t0, sp
+    .endm
+
+# The value of the register in the field rs1 of t1, in t0.
+    .macro  read_rs1
+    srli    t0, t1, 12
+    andi    t0, t0, 31 << 3         # by the 8 bytes of its row below
+    la      t2, read_register
+    add     t0, t0, t2
+    jalr    t2, 0(t0)
     .endm
 
     .macro  count_service
@@ -110,9 +121,9 @@ find:
     lw      t2, FRAME_TEXT_BASE(sp)
     sub     t1, t1, t2
     andi    t2, t1, 3
-    bnez    t2, serve_jump
+    bnez    t2, serve_target
     lw      t2, FRAME_TEXT_BYTES(sp)
-    bgeu    t1, t2, serve_jump
+    bgeu    t1, t2, serve_target
     lw      t2, FRAME_PLACES(sp)
     add     t1, t1, t2
     lw      t1, 0(t1)               # its place
@@ -121,7 +132,7 @@ find:
     lw      t0, FRAME_FIRST_OF_BLOCK(sp)
     add     t2, t2, t0
     lhu     t2, 0(t2)               # the index of the block's first word, plus 1
-    beqz    t2, serve_jump
+    beqz    t2, serve_target
     andi    t1, t1, PLACE_OFFSET_MASK
     add     t1, t1, t2
     slli    t1, t1, 2
@@ -138,9 +149,10 @@ go_on:
     csrr    t0, mepc
     lw      t2, 4(t0)
     andi    t2, t2, 1 << 7          # rd is ra: it is linked
-    beqz    t2, 1f
+    beqz    t2, leave
     lw      ra, 8(t0)
-1:  csrw    mepc, t1
+leave:
+    csrw    mepc, t1
     count_service
     each_temporary lw
     csrrw   sp, mscratch, sp
@@ -153,24 +165,50 @@ trap_return_find:
 
 other_exit:
     sw      t2, FRAME_X(7)(sp)
-    andi    t2, t1, 1
-    beqz    t2, serve               # an exit to an address
+    andi    t2, t1, 3
+    beqz    t2, serve_exit          # to an address
 #ifdef SERVE_IN_VECTOR
-    andi    t2, t1, 2
-    beqz    t2, serve_jump          # a word that the front executes: it may name any register
+    andi    t2, t1, 7               # of JALR all three bits are set
+    addi    t2, t2, -7
+    bnez    t2, other_word
     srli    t2, t1, 7
     andi    t2, t2, 30
     bnez    t2, serve_jump          # rd is neither x0 nor ra
-    srli    t2, t1, 12
-    andi    t2, t2, 31 << 3         # rs1, by the 8 bytes of its row below
-    la      t0, read_register
-    add     t0, t0, t2
+    read_rs1
     srai    t1, t1, 20              # the immediate
-    jr      t0
+    add     t1, t1, t0
+    andi    t1, t1, -2
+    entry_for t1
+    lw      t2, FRAME_MEMO_TARGETS(t0)
+    bne     t2, t1, find
+    lw      t1, FRAME_MEMO_PLACES(t0)
+    j       go_on
+
+other_word:
+#ifdef FIRMWARE
+# CSRRS or CSRRC of mstatus (service_mark), of which the lower two bits are set, and not the third: MIE is the processor's
+# MPIE here, and all else is the front's.
+    addi    t2, t2, 7 - 3
+    bnez    t2, serve_jump
+    read_rs1
+    andi    t2, t0, ~(1 << 3)
+    bnez    t2, serve_jump
+    slli    t0, t0, 4
+    slli    t1, t1, 31 - 12         # of CSRRC bit 12 is set
+    bltz    t1, 1f
+    csrs    mstatus, t0
+    j       2f
+1:  csrc    mstatus, t0
+2:  csrr    t1, mepc
+    addi    t1, t1, 8
+    j       leave
+#else
+    j       serve_jump
+#endif
 
     .macro  read_by instruction:vararg
     \instruction
-    j       add_immediate
+    jr      t2
     .endm
 
     .balign 8
@@ -187,17 +225,26 @@ read_register:
     read_by mv t0, x\n
     .endr
 
-add_immediate:
-    add     t1, t1, t0
-    andi    t1, t1, -2
-    entry_for t1
-    lw      t2, FRAME_MEMO_TARGETS(t0)
-    bne     t2, t1, find
-    lw      t1, FRAME_MEMO_PLACES(t0)
-    j       go_on
 #else
     j       serve_jump              # over a register, or a word that the front executes
 #endif
+
+serve_exit:
+    save_scratch
+    csrr    a0, mepc
+    mv      a1, t1
+    call    service_exit            # (mepc, the target): where to go on
+    csrw    mepc, a0
+    j       return
+
+serve_target:                       # whose block has no place
+    save_scratch
+    mv      a0, sp
+    csrr    a1, mepc
+    lw      a2, FRAME_TARGET(sp)
+    call    service_jump            # (frame, mepc, the target): where to go on
+    csrw    mepc, a0
+    j       return
 
 serve:
     save_scratch
@@ -220,8 +267,11 @@ return_jump:
 
 no_exit:
     sw      t2, FRAME_X(7)(sp)
+    sw      a7, FRAME_X(17)(sp)     # of a guest's call
     csrr    t0, mcause
     bgez    t0, serve
+    .globl  trap_interrupt
+trap_interrupt:
     lw      t1, FRAME_DIRECT(sp)
     beqz    t1, serve
 

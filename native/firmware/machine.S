@@ -10,21 +10,20 @@ machine_try:
     li      t0, 0x00008067          # ret
     sw      a0, 0(sp)
     sw      t0, 4(sp)
+    sw      ra, 8(sp)
     fence.i
     mv      a0, a1
     li      a1, 1
     csrr    t1, mstatus
     la      t2, 1f
     csrrw   t2, mtvec, t2
-    mv      t3, ra
-    mv      t4, sp
-    jalr    ra, 0(t4)
+    jalr    ra, 0(sp)
     j       2f
     .balign 4
 1:  li      a1, 0
     csrw    mstatus, t1             # as before this trap
 2:  csrw    mtvec, t2
-    mv      ra, t3
+    lw      ra, 8(sp)
     addi    sp, sp, 16
     ret
 
@@ -35,17 +34,17 @@ machine_try:
 machine_direct:
     csrr    t1, mstatus
     csrw    mcause, a1
-    la      t3, 1f
-    csrw    mepc, t3
-    li      t3, 3 << 11             # MPP: machine mode
-    csrs    mstatus, t3
-    li      t3, 1 << 7              # MPIE: behind the handler's MRET interrupts stay off
-    csrc    mstatus, t3
-    mv      t4, sp
-    la      t3, frame
-    lw      sp, FRAME_X(2)(t3)
+    la      t0, 1f
+    csrw    mepc, t0
+    li      t0, 3 << 11             # MPP: machine mode
+    csrs    mstatus, t0
+    li      t0, 1 << 7              # MPIE: behind the handler's MRET interrupts stay off
+    csrc    mstatus, t0
+    mv      t2, sp
+    la      t0, frame
+    lw      sp, FRAME_X(2)(t0)
     jr      a0
     .balign 4
-1:  mv      sp, t4
+1:  mv      sp, t2
     csrw    mstatus, t1
     ret

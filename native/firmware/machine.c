@@ -264,6 +264,12 @@ static bool is_as_it_is(uint32_t word)
     return is_enable || !(is_kept(number_of(word)) || is_setting_pmp(word));
 }
 
+/* Whether the vector serves it from now on, where the register holds nothing but MIE. */
+static bool is_for_vector(uint32_t word)
+{
+    return number_of(word) == MSTATUS && !is_immediate(word) && operation_of(word) != OPERATION_WRITE && !rd_of(word);
+}
+
 static bool is_csr_instruction(uint32_t word)
 {
     return (word & 127) == OPCODE_SYSTEM && operation_of(word);
@@ -290,6 +296,8 @@ static uint32_t execute_csr(struct frame *registers, uint32_t pc, uint32_t addre
         registers->x[rd_of(word)] = tried.value;
     if (is_as_it_is(word))
         service_replace(pc, word);
+    else if (is_for_vector(word))
+        service_mark(pc, word);
     return go_to(address + 4);
 }
 

@@ -199,6 +199,33 @@ static void nowhere(void)
     line("jump to nowhere", cause, value);
 }
 
+/* One word each, executed with MIE alone, nothing, and more than that, in turns. */
+__attribute__((noinline)) static void set(uint32_t bits)
+{
+    __asm__ volatile("csrs mstatus, %0\n nop" ::"r"(bits));
+}
+
+__attribute__((noinline)) static void clear(uint32_t bits)
+{
+    __asm__ volatile("csrc mstatus, %0\n nop" ::"r"(bits));
+}
+
+static void status_by_register(void)
+{
+    static const uint32_t bits[] = {8, 0, 8, 0x80, 0x1888, 8, 0x1880, 0, 0x88, 8};
+    for (uint32_t k = 0; k < sizeof bits / sizeof bits[0]; k++) {
+        clear(bits[k]);
+        uint32_t cleared = READ("mstatus") & STATUS_SEEN;
+        set(bits[k]);
+        line("status", cleared, READ("mstatus") & STATUS_SEEN);
+    }
+    for (uint32_t k = 0; k < 500; k++) {
+        clear(8);
+        set(8);
+    }
+    line("status", READ("mstatus") & STATUS_SEEN, 0);
+}
+
 static void interrupts(void)
 {
     __asm__ volatile("csrs mie, %0" ::"r"(ENABLE_SOFTWARE));
@@ -260,6 +287,7 @@ int main(void)
     registers();
     exceptions();
     nowhere();
+    status_by_register();
     interrupts();
     at_each_place();
     return 0;
