@@ -2,7 +2,7 @@
 import dataclasses
 from typing import Callable, Iterator
 
-from shared.expand import architecture, distances, frames, guessing, lines
+from shared.expand import architecture, distances, frames, guessing, lines, pitches
 from shared.expand import instructions as rv
 from shared.expand import relocations as rel
 from shared.expand.frames import Frames
@@ -68,6 +68,7 @@ class Expansion:
             self.check_unmarked()
         self.check_read_as_data()
         self.check_exceptions()
+        pitches.check(self.codes, self.label_of)
         relocated = {k: section for k, section in enumerate(self.unit.sections) if section.relocated_by}
         for k, section in relocated.items():
             if k not in self.codes:

@@ -24,11 +24,51 @@ OBJECTS = {
     "zcb": (".globl f\n.type f,@function\nf: .half 0x8150\n ret\n.size f,.-f\n", ".text+0: 8150 is no compressed instruction", True),
     "zcmp": (".attribute arch,\"rv32imac\"\nf: ret\n", ".riscv.attributes+0: for rv32i2p0_zcmp1p0_c2p0: zcmp has compressed instructions that are not known here", False),
     "exceptions": ("f: ret\n .section .gcc_except_table,\"a\"\n .word 1\n", ".gcc_except_table+0: an exception table that is not from GCC", False),
+    "pitch-by-alignment": ("f: .rept 4\n .balign 8\n c.addi a0,1\n c.addi a0,1\n ret\n .endr\n",
+                           ".text+6: code of fixed pitch: places at distances of 8 are now at 16", False),
+    "pitch-by-jump": ("f: la t0,t\n slli t1,a0,3\n c.add t0,t1\n jr t0\n t: .rept 2\n c.addi a0,1\n c.addi a0,1\n c.nop\n ret\n .endr\n",
+                      ".text+e: a jump to an address computed from 10 of .text, where the code grows", False),
     "of-48-bits": ("f: .half 0x1f,0,0\n ret\n", ".text+0: 001f begins no 32-bit instruction", True),
 }
 
 
+# Entries with room, a table of jumps without C, and a table of distances: expanded.
+PITCHES = """
+f:      la t0,t
+        slli t1,a0,6
+        c.add t0,t1
+        jr t0
+        .balign 64
+t:      .rept 4
+        .balign 64
+        c.addi a0,1
+        ret
+        .endr
+g:      la t0,u
+        slli t1,a0,2
+        c.add t0,t1
+        jr t0
+        .option push
+        .option norvc
+u:      .rept 4
+        j f
+        .endr
+        .size u,.-u
+        .option pop
+h:      la a1,v
+        slli a0,a0,2
+        c.add a0,a1
+        lw a0,0(a0)
+        c.add a0,a1
+        jr a0
+        .section .rodata
+        .balign 4
+v:      .word f-v,g-v
+"""
+
+
 def check(folder: pathlib.Path) -> str:
+    run(EXPAND, assemble(folder, "pitches", PITCHES, False), "-o", folder / "kept")
     for name, (source, said, unmarked) in OBJECTS.items():
         refuse(folder, [assemble(folder, name, source, unmarked)], [said])
     others = optimized(folder), thin(folder), bsd(folder), linked(folder)
