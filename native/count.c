@@ -61,7 +61,7 @@ enum watched {
 static const char *const watched_names[WATCHED] = {
     "trap_interrupt", "machine_direct", "trap_vector", "trap_return", "trap_return_short",
     "trap_return_find", "return_exit",  "miss",        "evict",       "link",
-    "undo",           "call",           "board_word",  "deliver"};
+    "undo",           "call",           "board_word",  "machine_deliver"};
 static uint64_t watched_at[WATCHED];
 
 enum bound { CACHE, CACHE_END, RUNTIME, RUNTIME_END, FAST, FAST_END, BOUNDS };

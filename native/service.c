@@ -409,11 +409,11 @@ static uint32_t rs1_of(uint32_t jalr)
 
 static uint32_t immediate_of(uint32_t jalr)
 {
-    return jalr >> 20 | (jalr >> 31 ? 0xfffff000 : 0);
+    return jalr >> 20 | (0 - (jalr >> 31)) << 12;
 }
 
 /* An exit whose target is no text word, or an EBREAK that is none of the cache. */
-SHARED static uint32_t refuse_exit(uint32_t pc, uint32_t target)
+SLOW static uint32_t refuse_exit(uint32_t pc, uint32_t target)
 {
     return service_holds(pc) ? board_fault(FAULT_FETCH_ACCESS, target, target) : board_trap(&frame, pc, CAUSE_BREAKPOINT);
 }
@@ -441,12 +441,24 @@ static void remember(uint32_t target, uint32_t place)
 #endif
 }
 
+/* A jump to an address that is no multiple of 4. */
+SLOW static uint32_t refuse_misaligned(uint32_t pc, uint32_t target)
+{
+    return board_fault(FAULT_FETCH_MISALIGNED, service_origin(pc), target);
+}
+
+/* A word of the text that traps: the image has its address, plus 1, behind the exit. */
+SHARED static uint32_t serve_word(struct frame *registers, uint32_t pc)
+{
+    return board_word(registers, pc, image_word_at(pc)[1] - 1);
+}
+
 uint32_t service_jump(struct frame *registers, uint32_t pc, uint32_t target)
 {
     const union word *exit = service.cache + index_of(pc);
     uint32_t rd = rd_of(exit[1].bits), linked = exit[2].bits;
     if (target % 4 != 0)
-        return board_fault(FAULT_FETCH_MISALIGNED, service_origin(pc), target);
+        return refuse_misaligned(pc, target);
     if (rd)
         registers->x[rd] = linked;
     uint32_t to = service_enter(target);
@@ -472,9 +484,7 @@ uint32_t service_trap(struct frame *registers, uint32_t pc, uint32_t cause)
         return serve_register(registers, pc, descriptor);
     if (descriptor % 4 == 0)
         return service_exit(pc, descriptor);
-    if (descriptor % 4 == 2) /* a jump to an address that is no multiple of 4 */
-        return board_fault(FAULT_FETCH_MISALIGNED, service_origin(pc), descriptor);
-    return board_word(registers, pc, image_word_at(pc)[1] - 1); /* a word of the text that traps */
+    return descriptor % 4 == 2 ? refuse_misaligned(pc, descriptor) : serve_word(registers, pc);
 }
 
 /* The start */

@@ -58,7 +58,6 @@ frame:
     csrr    a1, mepc
     csrr    a2, mcause
     call    service_trap            # (frame, mepc, mcause): where to go on
-    csrw    mepc, a0
     .endm
 
 # The entry of the memo for the target in \target, in t0: its address less that of the targets.
@@ -229,26 +228,26 @@ read_register:
     j       serve_jump              # over a register, or a word that the front executes
 #endif
 
-serve_exit:
-    save_scratch
-    csrr    a0, mepc
-    mv      a1, t1
-    call    service_exit            # (mepc, the target): where to go on
-    csrw    mepc, a0
-    j       return
-
 serve_target:                       # whose block has no place
     save_scratch
     mv      a0, sp
     csrr    a1, mepc
     lw      a2, FRAME_TARGET(sp)
     call    service_jump            # (frame, mepc, the target): where to go on
-    csrw    mepc, a0
-    j       return
+    j       served
 
 serve:
     save_scratch
     call_service
+    j       served
+
+serve_exit:
+    save_scratch
+    csrr    a0, mepc
+    mv      a1, t1
+    call    service_exit            # (mepc, the target): where to go on
+served:
+    csrw    mepc, a0
 return:
     each_scratch lw
     each_temporary lw
@@ -261,6 +260,7 @@ serve_jump:
     save_scratch
     each_saved sw
     call_service
+    csrw    mepc, a0
 return_jump:
     each_saved lw
     j       return

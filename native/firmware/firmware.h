@@ -61,17 +61,84 @@ _Noreturn void firmware_stop(enum stop_reason reason, uint32_t pc, uint32_t addr
 /* machine.c: the program's own machine mode, as the runtime keeps it. */
 void machine_start(const struct firmware *firmware);
 
+#define READ(csr)                                                                                                      \
+    __extension__({                                                                                                    \
+        uint32_t value_;                                                                                               \
+        __asm__ volatile("csrr %0, " csr : "=r"(value_));                                                              \
+        value_;                                                                                                        \
+    })
+
+/* machine.c: leads to the firmware's handler, as the processor does out of flash. */
+uint32_t machine_deliver(uint32_t at, uint32_t cause, uint32_t value);
+
+/* machine.c: goes on at an address, a multiple of 4; a fetch from another than a text word is the firmware's fault. */
+uint32_t machine_go_to(uint32_t address);
+
+/* other.c: executes what is neither MRET nor an instruction of a CSR that is kept. */
+uint32_t machine_other(struct frame *registers, uint32_t pc, uint32_t address, uint32_t word);
+
 /* machine.S: executes one CSR instruction whose rd and rs1 are a0; is_good is 0 where the processor refuses it. */
 struct tried {
     uint32_t value, is_good;
 };
 struct tried machine_try(uint32_t instruction, uint32_t value);
 
-/* machine.c: a CSR of the processor, 0 where it has none of this number. */
-uint32_t machine_read(uint32_t number);
+/* The fields of a CSR instruction (Volume I, chapter Zicsr). */
+enum { OPERATION_WRITE = 1, OPERATION_SET = 2, OPERATION_CLEAR = 3, OPCODE_SYSTEM = 0x73 };
 
-/* pmp.c: whether memory of the runtime or the cache would be locked, if this CSR of PMP's settings had the value. */
-bool pmp_locks_runtime(uint32_t number, uint32_t value);
+static inline uint32_t number_of(uint32_t word)
+{
+    return word >> 20;
+}
+
+static inline uint32_t operation_of(uint32_t word)
+{
+    return word >> 12 & 3;
+}
+
+/* rs1, or the immediate in its place. */
+static inline uint32_t source_of(uint32_t word)
+{
+    return word >> 15 & 31;
+}
+
+static inline bool is_immediate(uint32_t word)
+{
+    return word >> 14 & 1;
+}
+
+static inline bool does_write(uint32_t word)
+{
+    return operation_of(word) == OPERATION_WRITE || source_of(word);
+}
+
+static inline uint32_t rd_of(uint32_t word)
+{
+    return word >> 7 & 31;
+}
+
+static inline uint32_t operand_of(const struct frame *registers, uint32_t word)
+{
+    if (is_immediate(word) || !source_of(word))
+        return source_of(word);
+    return registers->x[source_of(word)];
+}
+
+static inline bool is_csr_instruction(uint32_t word)
+{
+    return (word & 127) == OPCODE_SYSTEM && operation_of(word);
+}
+
+/* What a CSR holds behind one. */
+static inline uint32_t changed(uint32_t old, uint32_t operation, uint32_t operand)
+{
+    if (operation == OPERATION_WRITE)
+        return operand;
+    return operation == OPERATION_SET ? old | operand : old & ~operand;
+}
+
+/* pmp.c: whether a CSR instruction that writes settings of PMP would lock memory of the runtime or the cache. */
+bool pmp_locks_runtime(uint32_t word, uint32_t operand);
 
 /* machine.S: runs a direct handler within a service, on the program's stack. */
 void machine_direct(uint32_t handler, uint32_t cause);

@@ -3,7 +3,7 @@
 
 # struct tried machine_try(instruction, value): the instruction is put on the stack, which so has to be executable, and
 # traps lead behind it. The runtime has interrupts off here.
-    .section .text.machine_try, "ax", @progbits
+    .section .text.slow, "ax", @progbits
     .globl  machine_try
 machine_try:
     addi    sp, sp, -16

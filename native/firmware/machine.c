@@ -1,19 +1,18 @@
 /*
  * The machine mode that a firmware sees while it runs in the cache. Its trap registers are kept here, since the
  * processor's are the runtime's; all other CSRs are the processor's own. An instruction of Zicsr, MRET, WFI or FENCE.I
- * stands in a block as an exit for its text word (it is none of RV32IMA's 59), and is executed here; one that the
- * processor may execute by itself is put into the block in place of the exit.
+ * stands in a block as an exit for its text word (it is none of RV32IMA's 59), and is executed here, or by other.c where it
+ * concerns none of these registers.
  *
  * While the runtime has control, the processor's mstatus.MPIE is the firmware's MIE.
  */
 #include <stddef.h>
 #include "firmware.h"
 
-enum { MSTATUS = 0x300, MTVEC = 0x305, MSCRATCH = 0x340, PMPCFG0 = 0x3a0, PMPCFGS = 16 };
+enum { MSTATUS = 0x300, MTVEC = 0x305, MSCRATCH = 0x340 };
 enum { STATUS_MIE = 1 << 3, STATUS_MPIE = 1 << 7, STATUS_MPP = 3 << 11, STATUS_MPRV = 1 << 17 };
-enum { CAUSE_FETCH_MISALIGNED = 0, CAUSE_FETCH_ACCESS = 1, CAUSE_ILLEGAL = 2 };
-enum { WORD_MRET = 0x30200073, WORD_WFI = 0x10500073, WORD_EBREAK = 0x00100073, WORD_NOP = 0x00000013 };
-enum { OPCODE_SYSTEM = 0x73, OPCODE_FENCE = 0x0f, FUNCT3_FENCE_I = 1 };
+enum { CAUSE_FETCH_MISALIGNED = 0, CAUSE_FETCH_ACCESS = 1 };
+enum { WORD_MRET = 0x30200073 };
 enum { SOFTWARE_INTERRUPT = 3, TIMER_INTERRUPT = 7, EXTERNAL_INTERRUPT = 11 };
 #define CAUSE_IS_INTERRUPT 0x80000000u
 
@@ -29,13 +28,6 @@ static struct {
     uint32_t kept[KEPT];
     uint32_t native_from, native_bytes;
 } machine;
-
-#define READ(csr)                                                                                                      \
-    __extension__({                                                                                                    \
-        uint32_t value_;                                                                                               \
-        __asm__ volatile("csrr %0, " csr : "=r"(value_));                                                              \
-        value_;                                                                                                        \
-    })
 
 /* Writes mstatus, but with machine mode as MPP, to which the runtime returns; answers what MPP would hold. */
 SHARED static uint32_t put_status(uint32_t value)
@@ -66,7 +58,7 @@ static void set_enabled(bool is_enabled)
 /* Traps that are the firmware's */
 
 /* Leads to the firmware's handler, as the processor does out of flash. */
-SHARED static uint32_t deliver(uint32_t at, uint32_t cause, uint32_t value)
+SHARED uint32_t machine_deliver(uint32_t at, uint32_t cause, uint32_t value)
 {
     uint32_t handler = machine.tvec & ~3u;
     if (machine.tvec & 1 && cause & CAUSE_IS_INTERRUPT)
@@ -84,15 +76,15 @@ SHARED static uint32_t deliver(uint32_t at, uint32_t cause, uint32_t value)
 }
 
 /* Goes on at an address, a multiple of 4; a fetch from another than a text word is the firmware's fault. */
-SHARED static uint32_t go_to(uint32_t address)
+SHARED uint32_t machine_go_to(uint32_t address)
 {
     uint32_t to = service_enter(address);
-    return to ? to : deliver(address, CAUSE_FETCH_ACCESS, address);
+    return to ? to : machine_deliver(address, CAUSE_FETCH_ACCESS, address);
 }
 
 uint32_t board_fault(enum fault fault, uint32_t pc, uint32_t address)
 {
-    return deliver(pc, fault == FAULT_FETCH_MISALIGNED ? CAUSE_FETCH_MISALIGNED : CAUSE_FETCH_ACCESS, address);
+    return machine_deliver(pc, fault == FAULT_FETCH_MISALIGNED ? CAUSE_FETCH_MISALIGNED : CAUSE_FETCH_ACCESS, address);
 }
 
 uint32_t board_trap(struct frame *registers, uint32_t pc, uint32_t cause)
@@ -101,9 +93,9 @@ uint32_t board_trap(struct frame *registers, uint32_t pc, uint32_t cause)
     if (!service_holds(pc))
         firmware_stop(STOP_RUNTIME, pc, cause);
     if (cause & CAUSE_IS_INTERRUPT)
-        return deliver(service_resume(pc), cause, 0);
+        return machine_deliver(service_resume(pc), cause, 0);
     uint32_t value = READ("mtval");
-    return deliver(service_origin(pc), cause, value);
+    return machine_deliver(service_origin(pc), cause, value);
 }
 
 /* The one that the processor would take first. */
@@ -128,7 +120,7 @@ static uint32_t return_from_trap(uint32_t address)
     set_enabled(machine.mpie);
     machine.mpie = STATUS_MPIE;
     machine.mpp = machine.least_mode;
-    return go_to(machine.kept[EPC]);
+    return machine_go_to(machine.kept[EPC]);
 }
 
 /* CSRs */
@@ -177,128 +169,34 @@ SHARED static void write_kept(uint32_t number, uint32_t value)
         machine.kept[number - MSCRATCH] = number - MSCRATCH == EPC ? value & ~3u : value;
 }
 
-/* The fields of a CSR instruction (Volume I, chapter Zicsr). */
-enum { OPERATION_WRITE = 1, OPERATION_SET = 2, OPERATION_CLEAR = 3 };
-
-static uint32_t number_of(uint32_t word)
-{
-    return word >> 20;
-}
-
-static uint32_t operation_of(uint32_t word)
-{
-    return word >> 12 & 3;
-}
-
-/* rs1, or the immediate in its place. */
-static uint32_t source_of(uint32_t word)
-{
-    return word >> 15 & 31;
-}
-
-static bool is_immediate(uint32_t word)
-{
-    return word >> 14 & 1;
-}
-
-static bool does_write(uint32_t word)
-{
-    return operation_of(word) == OPERATION_WRITE || source_of(word);
-}
-
-static uint32_t rd_of(uint32_t word)
-{
-    return word >> 7 & 31;
-}
-
-static uint32_t operand_of(const struct frame *registers, uint32_t word)
-{
-    if (is_immediate(word) || !source_of(word))
-        return source_of(word);
-    return registers->x[source_of(word)];
-}
-
-static uint32_t changed(uint32_t old, uint32_t operation, uint32_t operand)
-{
-    if (operation == OPERATION_WRITE)
-        return operand;
-    return operation == OPERATION_SET ? old | operand : old & ~operand;
-}
-
-/* The same instruction with a0 as its rd and rs1; one that doesn't write has rs1 = x0. */
-static uint32_t by_a0(uint32_t word)
-{
-    uint32_t rs1 = does_write(word) ? 10 : 0;
-    return number_of(word) << 20 | rs1 << 15 | operation_of(word) << 12 | 10 << 7 | OPCODE_SYSTEM;
-}
-
-uint32_t machine_read(uint32_t number)
-{
-    return machine_try(number << 20 | OPERATION_SET << 12 | 10 << 7 | OPCODE_SYSTEM, 0).value;
-}
-
-/* Whether a CSR instruction writes the settings of PMP, which may lock memory. */
-static bool is_setting_pmp(uint32_t word)
-{
-    return number_of(word) - PMPCFG0 < PMPCFGS && does_write(word);
-}
-
-/* Executes a CSR instruction: what the register held, and whether there is one. */
-SHARED static struct tried change_csr(uint32_t word, uint32_t operand)
-{
-    uint32_t number = number_of(word);
-    if (!is_kept(number))
-        return machine_try(by_a0(word), operand);
-    uint32_t old = read_kept(number);
-    if (does_write(word))
-        write_kept(number, changed(old, operation_of(word), operand));
-    return (struct tried){old, true};
-}
-
-/* Whether the processor's own answer is the firmware's: of a register that isn't kept here, or where MIE alone is
- * written and nothing read. */
+/* Whether the processor's own answer is the firmware's: where MIE alone is written and nothing read. */
 static bool is_as_it_is(uint32_t word)
 {
-    bool is_enable = number_of(word) == MSTATUS && is_immediate(word) && operation_of(word) != OPERATION_WRITE &&
-                     source_of(word) == STATUS_MIE && !rd_of(word);
-    return is_enable || !(is_kept(number_of(word)) || is_setting_pmp(word));
+    return is_immediate(word) && source_of(word) == STATUS_MIE;
 }
 
-/* Whether the vector serves it from now on, where the register holds nothing but MIE. */
-static bool is_for_vector(uint32_t word)
+/* From now on a word that changes mstatus alone, and reads nothing, takes less: it is executed as it is, or served by the
+ * vector where its register holds nothing but MIE. */
+static void replace(uint32_t pc, uint32_t word)
 {
-    return number_of(word) == MSTATUS && !is_immediate(word) && operation_of(word) != OPERATION_WRITE && !rd_of(word);
-}
-
-static bool is_csr_instruction(uint32_t word)
-{
-    return (word & 127) == OPCODE_SYSTEM && operation_of(word);
-}
-
-/* At an EBREAK mtval is its address or 0, as the processor has it: the exit was one too. */
-static uint32_t deliver_word(uint32_t address, uint32_t word)
-{
-    if (word == WORD_EBREAK)
-        return deliver(address, CAUSE_BREAKPOINT, READ("mtval") ? address : 0);
-    return deliver(address, CAUSE_ILLEGAL, word);
-}
-
-static uint32_t execute_csr(struct frame *registers, uint32_t pc, uint32_t address, uint32_t word)
-{
-    uint32_t operand = operand_of(registers, word);
-    if (is_setting_pmp(word) &&
-        pmp_locks_runtime(number_of(word), changed(machine_read(number_of(word)), operation_of(word), operand)))
-        firmware_stop(STOP_LOCKED, 0, address);
-    struct tried tried = change_csr(word, operand);
-    if (!tried.is_good)
-        return deliver_word(address, word);
-    if (rd_of(word))
-        registers->x[rd_of(word)] = tried.value;
+    if (number_of(word) != MSTATUS || operation_of(word) == OPERATION_WRITE || rd_of(word))
+        return;
     if (is_as_it_is(word))
         service_replace(pc, word);
-    else if (is_for_vector(word))
+    else if (!is_immediate(word))
         service_mark(pc, word);
-    return go_to(address + 4);
+}
+
+/* Executes an instruction of a CSR that is kept. */
+static uint32_t execute_kept(struct frame *registers, uint32_t pc, uint32_t address, uint32_t word)
+{
+    uint32_t operand = operand_of(registers, word), old = read_kept(number_of(word));
+    if (does_write(word))
+        write_kept(number_of(word), changed(old, operation_of(word), operand));
+    if (rd_of(word))
+        registers->x[rd_of(word)] = old;
+    replace(pc, word);
+    return machine_go_to(address + 4);
 }
 
 uint32_t board_word(struct frame *registers, uint32_t pc, uint32_t address)
@@ -306,14 +204,7 @@ uint32_t board_word(struct frame *registers, uint32_t pc, uint32_t address)
     uint32_t word = *(const uint32_t *)address;
     if (word == WORD_MRET)
         return return_from_trap(address);
-    if (word == WORD_WFI) {
-        service_replace(pc, word);
-        __asm__ volatile("wfi");
-        return go_to(address + 4);
-    }
-    if ((word & 0x707f) == (FUNCT3_FENCE_I << 12 | OPCODE_FENCE)) { /* text in flash doesn't change */
-        service_replace(pc, WORD_NOP);
-        return go_to(address + 4);
-    }
-    return is_csr_instruction(word) ? execute_csr(registers, pc, address, word) : deliver_word(address, word);
+    if (is_csr_instruction(word) && is_kept(number_of(word)))
+        return execute_kept(registers, pc, address, word);
+    return machine_other(registers, pc, address, word);
 }

@@ -23,9 +23,15 @@ struct range {
     uint32_t first, last;
 };
 
+/* A CSR; 0 where the processor has none of this number. */
+static uint32_t read_csr(uint32_t number)
+{
+    return machine_try(number << 20 | OPERATION_SET << 12 | 10 << 7 | OPCODE_SYSTEM, 0).value;
+}
+
 static uint32_t address_of(uint32_t entry)
 {
-    return machine_read(PMPADDR0 + entry);
+    return read_csr(PMPADDR0 + entry);
 }
 
 static bool is_range(struct range *range, enum form form, uint32_t entry)
@@ -48,8 +54,9 @@ static bool is_in_runtime(const struct range *range)
     return false;
 }
 
-bool pmp_locks_runtime(uint32_t number, uint32_t value)
+bool pmp_locks_runtime(uint32_t word, uint32_t operand)
 {
+    uint32_t number = number_of(word), value = changed(read_csr(number), operation_of(word), operand);
     for (uint32_t k = 0; k < ENTRIES_OF_ONE; k++, value >>= 8) {
         struct range range;
         bool is_harmless = !(value & LOCK) || (value & PERMISSIONS) == PERMISSIONS;

@@ -19,6 +19,7 @@
   *image.o(.text .text.* .rodata .rodata.*)
   *libc.o(.text .text.*)
   *start_c.o(.text .text.* .rodata .rodata.*)
+  *other.o(.text .text.* .rodata .rodata.*)
   *pmp.o(.text .text.* .rodata .rodata.*)
   *board.o(.text .text.* .rodata .rodata.* .srodata .srodata.*)
   . = ALIGN(4);
