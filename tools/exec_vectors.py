@@ -5,6 +5,10 @@ Each row is an instruction that GNU as encodes and qemu-riscv32 executes, with t
 and what they left. Needs riscv64-unknown-elf-gcc and qemu-riscv32 (Debian: gcc-riscv64-unknown-elf,
 qemu-user). Usage: tools/exec_vectors.py > rows.txt
 """
+import sys
+
+if sys.version_info < (3, 11):
+    sys.exit("exec_vectors.py: Python 3.11 or newer is needed")
 import pathlib
 import struct
 import subprocess
