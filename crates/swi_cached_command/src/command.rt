@@ -14,7 +14,6 @@ ghost use Rattle.swi_task.specs.Answers.{Answers};
 ghost use Rattle.swi_cached_task.specs.Caching.{cache_for};
 ghost use Rattle.swi_task.specs.Devices.{Devices, seen};
 ghost use Rattle.swi_cached_command.specs.RunCached.{RunsOver, refusal_of, cached_task};
-ghost use Rattle.swi_task.specs.Subject.{view_of};
 
 use crate::report::report_board;
 use crate::trace::write_last;
@@ -22,14 +21,14 @@ use std::alloc::Global;
 use swi_answer::{Ending, Refusal};
 use swi_board::BoardFault;
 use swi_cached::{AskedRun, CachedStop, ring_for, run_cached, slots_for};
-use swi_cached_task::{Placed, place};
+use swi_cached_task::place;
 use swi_command::{CacheKind, CacheOptions, RunOptions};
 use swi_image::ImageView;
 use swi_memory::Layout;
 use swi_outside::{Shelf, Sink, Source, SteadyRam};
 use swi_program::Program;
 use swi_rom::CacheRom;
-use swi_task::{SubjectImage, check_size, ending_by, read_file};
+use swi_task::{check_size, ending_by, read_file};
 
 /// What a run is refused with that stopped so.
 fn refusal_of(stop: CachedStop) -> Refusal
@@ -131,48 +130,6 @@ fn run_program<I: Source, O: Sink, E: Sink, R: SteadyRam>(
     }
 }
 
-/// Runs a placed program on the cached machine, in the cache that the options name.
-fn run_placed<I: Source, O: Sink, E: Sink, R: SteadyRam>(
-    alloc: Global,
-    placed: &Placed<'_>,
-    cache: &CacheOptions,
-    options: &RunOptions,
-    input: &mut I,
-    out: &mut O,
-    err: &mut E,
-    ram: &mut R,
-) -> Result<Ending, Refusal>
-    requires ranges { IsInRange options.now.limits }
-    requires holds { 4 * (view_of placed.now.subject.image).block_words ≤ cache.now.cache_bytes }
-    requires most { cache.now.cache_bytes ≤ 2 ^ 23 }
-    requires held { cache.now.cache_bytes ≤ 4 * length (R.state ram.old).words }
-    requires laid_out { IsLayoutOf placed.now.subject.program.segments placed.now.layout }
-    requires own { IsImageOf (text_of placed.now.subject.program.segments) (view_of placed.now.subject.image) }
-    ensures gave { HasGiven (I.state input.old) (I.state input.new) }
-    ensures ran { (d : Devices) → AsTold (I.state input.old) (I.state input.new) (λ before after. RunsOver options.now (cache_for cache.now (view_of placed.now.subject.image)) (view_of placed.now.subject.image) placed.now.subject.program placed.now.layout
-        (record d { input = before; output = O.state out.old; error = E.state err.old; ram = R.state ram.old })
-        (record d { input = after; output = O.state out.new; error = E.state err.new; ram = R.state ram.new }) result) }
-{
-    let (program, layout) = (&placed.subject.program, &placed.layout);
-    match &placed.subject.image {
-        SubjectImage::Own(image) => run_program(
-            alloc, image, program, layout, cache, options, input, out, err, ram,
-        ),
-        SubjectImage::Cut(image) => run_program(
-            alloc,
-            &image.view(),
-            program,
-            layout,
-            cache,
-            options,
-            input,
-            out,
-            err,
-            ram,
-        ),
-    }
-}
-
 /// Runs the program of a file on the cached machine.
 pub fn cached<F: Shelf, I: Source, O: Sink, E: Sink, R: SteadyRam>(
     alloc: Global,
@@ -195,5 +152,9 @@ pub fn cached<F: Shelf, I: Source, O: Sink, E: Sink, R: SteadyRam>(
     check_size(cache.cache_bytes, ram)?;
     let file = read_file(alloc, shelf, name)?;
     let placed = place(alloc, &file, cache, &options.limits)?;
-    run_placed(alloc, &placed, cache, options, input, out, err, ram)
+    let image = placed.subject.image.view();
+    let (program, layout) = (&placed.subject.program, &placed.layout);
+    run_program(
+        alloc, &image, program, layout, cache, options, input, out, err, ram,
+    )
 }

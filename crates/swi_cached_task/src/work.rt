@@ -25,10 +25,7 @@ pub fn board_work<S: CacheRom>(board: &Board<S>) -> Work
             .machine_steps()
             .saturating_sub(1)
             .saturating_sub(unfetched),
-        writes: counts
-            .copied
-            .saturating_add(counts.links)
-            .saturating_add(counts.unlinks),
+        writes: counts.writes(),
         counts,
     }
 }

@@ -12,14 +12,14 @@ ghost use Rattle.swi_task.specs.Answers.{Answers};
 ghost use Rattle.swi_task.specs.Checks.{IsAccepted, IsRefusedOr, file_limit};
 ghost use Rattle.swi_task.specs.Devices.{Devices};
 ghost use Rattle.swi_file_commands.specs.ListFile.{list_checks, list_task, listing};
-ghost use Rattle.swi_task.specs.Subject.{IsSubject, view_of};
+ghost use Rattle.swi_task.specs.Subject.{IsSubject};
 
 use std::alloc::Global;
 use swi_answer::{Ending, Refusal};
 use swi_image::ImageView;
 use swi_outside::{Shelf, Sink};
 use swi_program::Program;
-use swi_task::{Subject, SubjectImage, accept, load, read_file, subject_of};
+use swi_task::{Subject, accept, load, read_file, subject_of};
 use swi_trace::list_block;
 
 /// Lists the blocks of an image of the program, in their order.
@@ -41,21 +41,6 @@ fn list_blocks<O: Sink>(
         }
     }
     Ok(Ending::Done)
-}
-
-/// Lists the blocks of a subject.
-fn list_subject<O: Sink>(subject: &Subject<'_>, out: &mut O) -> Result<Ending, Refusal>
-    requires own { IsImageOf (text_of subject.now.program.segments) (view_of subject.now.image) }
-    ensures done { IfOk result (λ e. (e ≡ Ending.Done)
-        × Appends (O.state out.old).held (O.state out.new).held (listing (text_of subject.now.program.segments) (view_of subject.now.image))) }
-    ensures failed { IfErr result (λ r. (r ≡ Refusal.SinkFault)
-        × AppendsPrefix (O.state out.old).held (O.state out.new).held (listing (text_of subject.now.program.segments) (view_of subject.now.image))) }
-    ensures cause { HasCause (O.state out.old).faults (O.state out.new).faults result }
-{
-    match &subject.image {
-        SubjectImage::Own(view) => list_blocks(&subject.program, view, out),
-        SubjectImage::Cut(image) => list_blocks(&subject.program, &image.view(), out),
-    }
 }
 
 /// The program of a file, with the image that the file has or else the greedy cut of its text.
@@ -86,5 +71,5 @@ pub fn list<F: Shelf, O: Sink>(
 {
     let file = read_file(alloc, shelf, name)?;
     let subject = listed(alloc, &file, block_words)?;
-    list_subject(&subject, out)
+    list_blocks(&subject.program, &subject.image.view(), out)
 }

@@ -16,12 +16,11 @@ ghost use Rattle.swi_render.specs.ImageOf.{IsImageOf};
 ghost use Rattle.swi_task.specs.Answers.{Answers};
 ghost use Rattle.swi_task.specs.Devices.{Devices, seen};
 ghost use Rattle.swi_prefetch_command.specs.RunAhead.{RunsToEnd, RunsWithReport, ahead_task, board_report, board_work_with, fault_refusal};
-ghost use Rattle.swi_task.specs.Subject.{view_of};
 
 use std::alloc::Global;
 use swi_answer::{Ending, Refusal};
 use swi_board::{Board, BoardFault, BootStop};
-use swi_cached_task::{Placed, board_work, place};
+use swi_cached_task::{board_work, place};
 use swi_command::{CacheOptions, Reports, RunOptions};
 use swi_engine::EngineRom;
 use swi_image::ImageView;
@@ -30,7 +29,7 @@ use swi_outside::{CacheRam, Failed, Shelf, Sink, Source};
 use swi_prefetch::Prefetch;
 use swi_program::Program;
 use swi_report::{EngineWork, Work, engine_text};
-use swi_task::{SubjectImage, check_size, ending_by, read_file, write_report};
+use swi_task::{check_size, ending_by, read_file, write_report};
 
 /// A run that is asked for.
 #[derive(Clone, Copy, Debug, PartialEq, Eq)]
@@ -181,47 +180,6 @@ fn run_over<I: Source, O: Sink, E: Sink, R: CacheRam>(
     }
 }
 
-/// Runs a placed program so.
-fn run_placed<I: Source, O: Sink, E: Sink, R: CacheRam>(
-    alloc: Global,
-    placed: &Placed<'_>,
-    asked: &AheadAsked,
-    input: &mut I,
-    out: &mut O,
-    err: &mut E,
-    ram: &mut R,
-) -> Result<Ending, Refusal>
-    requires ranges { IsInRange asked.now.run.limits }
-    requires rate { asked.now.rate ≤ 1024 }
-    requires holds { 4 * (view_of placed.now.subject.image).block_words ≤ asked.now.bytes }
-    requires most { asked.now.bytes ≤ 2 ^ 23 }
-    requires held { asked.now.bytes ≤ 4 * length (R.state ram.old).words }
-    requires laid_out { IsLayoutOf placed.now.subject.program.segments placed.now.layout }
-    requires own { IsImageOf (text_of placed.now.subject.program.segments) (view_of placed.now.subject.image) }
-    ensures gave { HasGiven (I.state input.old) (I.state input.new) }
-    ensures ran { (d : Devices) → AsTold (I.state input.old) (I.state input.new) (λ before after. RunsWithReport asked.now (view_of placed.now.subject.image) placed.now.subject.program placed.now.layout
-        (record d { input = before; output = O.state out.old; error = E.state err.old; ram = R.state ram.old })
-        (record d { input = after; output = O.state out.new; error = E.state err.new; ram = R.state ram.new }) result) }
-{
-    let (program, layout) = (&placed.subject.program, &placed.layout);
-    match &placed.subject.image {
-        SubjectImage::Own(image) => run_over(
-            alloc, image, program, layout, asked, input, out, err, ram,
-        ),
-        SubjectImage::Cut(image) => run_over(
-            alloc,
-            &image.view(),
-            program,
-            layout,
-            asked,
-            input,
-            out,
-            err,
-            ram,
-        ),
-    }
-}
-
 /// Runs the program of a file on the cached machine, beside whose hart an engine copies blocks ahead: behind each of its
 /// events come `rate` (at most 1024) of the engine.
 pub fn prefetch<F: Shelf, I: Source, O: Sink, E: Sink, R: CacheRam>(
@@ -252,5 +210,7 @@ pub fn prefetch<F: Shelf, I: Source, O: Sink, E: Sink, R: CacheRam>(
         bytes: cache.cache_bytes,
         rate,
     };
-    run_placed(alloc, &placed, &asked, input, out, err, ram)
+    let image = placed.subject.image.view();
+    let (program, layout) = (&placed.subject.program, &placed.layout);
+    run_over(alloc, &image, program, layout, &asked, input, out, err, ram)
 }

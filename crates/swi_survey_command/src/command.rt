@@ -11,7 +11,6 @@ ghost use Rattle.swi_render.specs.ImageOf.{IsImageOf};
 ghost use Rattle.swi_task.specs.Answers.{Answers};
 ghost use Rattle.swi_task.specs.Checks.{IsAccepted, IsRefusedBy, IsRefusedOr, file_limit, first_size_refusal};
 ghost use Rattle.swi_task.specs.Devices.{Devices, seen};
-ghost use Rattle.swi_task.specs.Subject.{view_of};
 ghost use Rattle.swi_survey_command.specs.Frames.{AreHeld, frame_by};
 ghost use Rattle.swi_survey_command.specs.RunSurvey.{IsPlacedFor, SurveysOver, hold_block, refusal_of, survey_checks, survey_from, survey_task};
 
@@ -28,8 +27,7 @@ use swi_program::Program;
 use swi_survey::{SurveyStop, run_survey};
 use swi_tally::{Frame, Placing};
 use swi_task::{
-    Prepared, SubjectImage, accept, check_block, check_size, ending_by, prepare, read_file,
-    subject_of,
+    Prepared, accept, check_block, check_size, ending_by, prepare, read_file, subject_of,
 };
 
 /// What a survey is refused with that stopped so.
@@ -177,48 +175,6 @@ fn run_program<I: Source, O: Sink, E: Sink>(
     }
 }
 
-/// Runs a placed program once, and writes a line for each cache.
-fn run_placed<I: Source, O: Sink, E: Sink>(
-    alloc: Global,
-    placed: &Placed<'_>,
-    kind: CacheKind,
-    sizes: &[u32],
-    limits: &RunLimits,
-    input: &mut I,
-    out: &mut O,
-    err: &mut E,
-) -> Result<Ending, Refusal>
-    requires ranges { IsInRange limits.now }
-    requires sizes { AreSizes sizes.now }
-    requires held { AreHeld (view_of placed.now.subject.image).block_words sizes.now }
-    requires laid_out { IsLayoutOf placed.now.subject.program.segments placed.now.layout }
-    requires own { IsImageOf (text_of placed.now.subject.program.segments) (view_of placed.now.subject.image) }
-    ensures gave { HasGiven (I.state input.old) (I.state input.new) }
-    ensures ran { (d : Devices) → AsTold (I.state input.old) (I.state input.new) (λ before after. SurveysOver
-        (survey_from kind sizes.now limits.now (view_of placed.now.subject.image) placed.now.subject.program placed.now.layout)
-        (record d { input = before; output = O.state out.old; error = E.state err.old })
-        (record d { input = after; output = O.state out.new; error = E.state err.new }) result) }
-{
-    let (program, layout) = (&placed.subject.program, &placed.layout);
-    match &placed.subject.image {
-        SubjectImage::Own(image) => run_program(
-            alloc, image, program, layout, kind, sizes, limits, input, out, err,
-        ),
-        SubjectImage::Cut(image) => run_program(
-            alloc,
-            &image.view(),
-            program,
-            layout,
-            kind,
-            sizes,
-            limits,
-            input,
-            out,
-            err,
-        ),
-    }
-}
-
 /// Runs the program of a file once for 1 to 64 caches of one kind, in bytes 8 to 2^32 - 1 each, over one image: the file's
 /// own, or the greedy cut into blocks of at most so many words, 2 to 1024. Behind the program's own bytes it writes a line
 /// for each size, in their order: the size, and what `cached --stats` counts with it.
@@ -251,5 +207,9 @@ pub fn survey<F: Shelf, I: Source, O: Sink, E: Sink, R: CacheRam>(
     check_sizes(sizes, ram)?;
     let file = read_file(alloc, shelf, name)?;
     let placed = place(alloc, &file, sizes, block_words, limits)?;
-    run_placed(alloc, &placed, kind, sizes, limits, input, out, err)
+    let image = placed.subject.image.view();
+    let (program, layout) = (&placed.subject.program, &placed.layout);
+    run_program(
+        alloc, &image, program, layout, kind, sizes, limits, input, out, err,
+    )
 }

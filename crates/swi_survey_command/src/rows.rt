@@ -73,10 +73,7 @@ fn work_of(surveyed: &Surveyed, k: u32) -> Work
     Work {
         machine: surveyed.instructions,
         fetches: surveyed.fetches,
-        writes: counts
-            .copied
-            .saturating_add(counts.links)
-            .saturating_add(counts.unlinks),
+        writes: counts.writes(),
         counts,
     }
 }

@@ -109,6 +109,18 @@ pub enum SubjectImage<'a> {
     Cut(Image),
 }
 
+impl SubjectImage<'_> {
+    /// The image, wherever it stands.
+    pub fn view(&self) -> ImageView<'_>
+        ensures { result ≡ view_of self.now }
+    {
+        match self {
+            SubjectImage::Own(view) => view.again(),
+            SubjectImage::Cut(image) => image.view(),
+        }
+    }
+}
+
 /// What a command works on: a program, and an image of its text.
 #[derive(Drop)]
 pub struct Subject<'a> {
@@ -122,10 +134,7 @@ impl Subject<'_> {
         ensures value { result ≡ (view_of self.now.image).block_words }
         ensures most { result ≤ 1024 }
     {
-        match &self.image {
-            SubjectImage::Own(view) => view.block_words(),
-            SubjectImage::Cut(image) => image.view().block_words(),
-        }
+        self.image.view().block_words()
     }
 }
 

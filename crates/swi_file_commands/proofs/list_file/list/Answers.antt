@@ -29,6 +29,6 @@ returns g c =
     let subject = rw c.deref.ensures.value at c.in_ok-subject.ensures.subject in
     λ d.
     let before : Devices = record d { shelf = g.F.Shelf.state c.args.shelf.now; output = g.O.Sink.state c.args.out.now } in
-    listed c.args.name.now c.args.block_words before (g.F.Shelf.state c.read_file.new.shelf) (g.O.Sink.state c.list_subject.new.out)
-    c.in_ok-file.file.items _ c.list_subject.result read (rw c.deref.ensures.value at c.in_ok-subject.ensures.accepted) subject.image
-    (rw subject.program at c.list_subject.ensures.done) (rw subject.program at c.list_subject.ensures.failed) c.list_subject.ensures.cause
+    listed c.args.name.now c.args.block_words before (g.F.Shelf.state c.read_file.new.shelf) (g.O.Sink.state c.list_blocks.new.out)
+    c.in_ok-file.file.items _ c.list_blocks.result read (rw c.deref.ensures.value at c.in_ok-subject.ensures.accepted) subject.image
+    (rw (subject.program, c.view.ensures) at c.list_blocks.ensures.done) (rw (subject.program, c.view.ensures) at c.list_blocks.ensures.failed) c.list_blocks.ensures.cause

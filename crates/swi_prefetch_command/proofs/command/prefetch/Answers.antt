@@ -46,7 +46,7 @@ returns-in_err-placed-clause-answers g c = λ input rest was.
     (λ file are. read_is read are refl) (rw c.deref.ensures.value at c.in_err-placed.ensures.refused))
 
 pub returns-clause-gave : goal.returns-clause-gave
-returns-clause-gave g c = c.run_placed.ensures.gave
+returns-clause-gave g c = c.run_over.ensures.gave
 
 pub returns-clause-answers : goal.returns-clause-answers
 returns-clause-answers g c = λ input rest was.
@@ -55,9 +55,9 @@ returns-clause-answers g c = λ input rest was.
     let v = view_of c.in_ok-placed.placed.subject.image in
     let before : Devices = seen (g.F.Shelf.state c.args.shelf.now) (told_as (g.I.Source.state c.args.input.now) input) (g.O.Sink.state c.args.out.now) (g.E.Sink.state c.args.err.now) (g.R.CacheRam.state c.args.ram.now) in
     let now : Devices = record before { shelf = g.F.Shelf.state c.read_file.new.shelf } in
-    let after : Devices = cached_to before (g.F.Shelf.state c.read_file.new.shelf) (told_as (g.I.Source.state c.run_placed.new.input) rest) (g.O.Sink.state c.run_placed.new.out) (g.E.Sink.state c.run_placed.new.err)
-    (g.R.CacheRam.state c.run_placed.new.ram) in
-    ahead_answers c.args.name.now c.args.cache.now c.args.options.now c.args.rate before (g.F.Shelf.state c.read_file.new.shelf) (told_as (g.I.Source.state c.run_placed.new.input) rest) (g.O.Sink.state c.run_placed.new.out)
-    (g.E.Sink.state c.run_placed.new.err) (g.R.CacheRam.state c.run_placed.new.ram) c.in_ok-file.file.items v c.in_ok-placed.placed.layout c.run_placed.result c.in_ok-check_size.ensures.ok read
+    let after : Devices = cached_to before (g.F.Shelf.state c.read_file.new.shelf) (told_as (g.I.Source.state c.run_over.new.input) rest) (g.O.Sink.state c.run_over.new.out) (g.E.Sink.state c.run_over.new.err)
+    (g.R.CacheRam.state c.run_over.new.ram) in
+    ahead_answers c.args.name.now c.args.cache.now c.args.options.now c.args.rate before (g.F.Shelf.state c.read_file.new.shelf) (told_as (g.I.Source.state c.run_over.new.input) rest) (g.O.Sink.state c.run_over.new.out)
+    (g.E.Sink.state c.run_over.new.err) (g.R.CacheRam.state c.run_over.new.ram) c.in_ok-file.file.items v c.in_ok-placed.placed.layout c.run_over.result c.in_ok-check_size.ensures.ok read
     (rw c.deref.ensures.value at c.in_ok-placed.ensures.accepted) is.subject.image is.layout
-    (subst (λ (p : ProgramData). RunsWithReport (ahead_asked c.args.cache.now c.args.options.now c.args.rate) v p c.in_ok-placed.placed.layout now after c.run_placed.result) is.subject.program (c.run_placed.ensures.ran now input rest was))
+    (subst (λ (p : ProgramData). RunsWithReport (ahead_asked c.args.cache.now c.args.options.now c.args.rate) v p c.in_ok-placed.placed.layout now after c.run_over.result) is.subject.program (rw c.view.ensures at c.run_over.ensures.ran now input rest was))

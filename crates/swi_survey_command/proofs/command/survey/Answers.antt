@@ -59,7 +59,7 @@ returns-in_err-placed-clause-answers g c = λ input rest was.
     (λ file are. read_is read are refl) (subst (λ (file : List ℕ). IsRefusedOr (survey_checks c.args.limits.now c.args.sizes.now c.args.block_words file) c.in_err-placed.field-0.0) c.deref.ensures.value c.in_err-placed.ensures.refused))
 
 pub returns-clause-gave : goal.returns-clause-gave
-returns-clause-gave g c = c.run_placed.ensures.gave
+returns-clause-gave g c = c.run_program.ensures.gave
 
 pub returns-clause-answers : goal.returns-clause-answers
 returns-clause-answers g c = λ input rest was.
@@ -68,9 +68,9 @@ returns-clause-answers g c = λ input rest was.
     let v = view_of c.in_ok-placed.placed.subject.image in
     let before : Devices = seen (g.F.Shelf.state c.args.shelf.now) (told_as (g.I.Source.state c.args.input.now) input) (g.O.Sink.state c.args.out.now) (g.E.Sink.state c.args.err.now) (g.R.CacheRam.state c.args.ram.now) in
     let now : Devices = record before { shelf = g.F.Shelf.state c.read_file.new.shelf } in
-    let after : Devices = surveyed_to before (g.F.Shelf.state c.read_file.new.shelf) (told_as (g.I.Source.state c.run_placed.new.input) rest) (g.O.Sink.state c.run_placed.new.out) (g.E.Sink.state c.run_placed.new.err) in
-    survey_answers c.args.name.now c.args.sizes.now c.args.block_words c.args.kind c.args.limits.now before (g.F.Shelf.state c.read_file.new.shelf) (told_as (g.I.Source.state c.run_placed.new.input) rest)
-    (g.O.Sink.state c.run_placed.new.out) (g.E.Sink.state c.run_placed.new.err) c.in_ok-file.file.items v c.in_ok-placed.placed.layout c.run_placed.result c.in_ok-check_sizes.ensures.ok read
+    let after : Devices = surveyed_to before (g.F.Shelf.state c.read_file.new.shelf) (told_as (g.I.Source.state c.run_program.new.input) rest) (g.O.Sink.state c.run_program.new.out) (g.E.Sink.state c.run_program.new.err) in
+    survey_answers c.args.name.now c.args.sizes.now c.args.block_words c.args.kind c.args.limits.now before (g.F.Shelf.state c.read_file.new.shelf) (told_as (g.I.Source.state c.run_program.new.input) rest)
+    (g.O.Sink.state c.run_program.new.out) (g.E.Sink.state c.run_program.new.err) c.in_ok-file.file.items v c.in_ok-placed.placed.layout c.run_program.result c.in_ok-check_sizes.ensures.ok read
     (subst (λ (file : List ℕ). IsAccepted (survey_checks c.args.limits.now c.args.sizes.now c.args.block_words file)) c.deref.ensures.value c.in_ok-placed.ensures.accepted) is.subject.image is.layout
-    (subst (λ (p : ProgramData). SurveysOver (survey_from c.args.kind c.args.sizes.now c.args.limits.now v p c.in_ok-placed.placed.layout) now after c.run_placed.result) is.subject.program
-    (c.run_placed.ensures.ran now input rest was))
+    (subst (λ (p : ProgramData). SurveysOver (survey_from c.args.kind c.args.sizes.now c.args.limits.now v p c.in_ok-placed.placed.layout) now after c.run_program.result) is.subject.program
+    (rw c.view.ensures at c.run_program.ensures.ran now input rest was))
