@@ -61,4 +61,4 @@ returns-clause-answers g c = λ input rest was.
     cached_answers c.args.name.now c.args.cache.now c.args.options.now before (g.F.Shelf.state c.read_file.new.shelf) (told_as (g.I.Source.state c.run_program.new.input) rest) (g.O.Sink.state c.run_program.new.out)
     (g.E.Sink.state c.run_program.new.err) (g.R.CacheRam.state c.run_program.new.ram) c.in_ok-file.file.items v c.in_ok-placed.placed.layout c.run_program.result c.in_ok-check_size.ensures.ok read
     (rw c.deref.ensures.value at c.in_ok-placed.ensures.accepted) is.subject.image is.layout
-    (subst (λ (p : ProgramData). RunsOver c.args.options.now (cache_for c.args.cache.now v) v p c.in_ok-placed.placed.layout now after c.run_program.result) is.subject.program (rw c.view.ensures at c.run_program.ensures.ran now input rest was))
+    (subst (λ (p : ProgramData). RunsOver c.args.options.now (cache_for c.args.cache.now v) v p c.in_ok-placed.placed.layout now after c.run_program.result) is.subject.program (rw c.view-image.ensures at c.run_program.ensures.ran now input rest was))

@@ -60,4 +60,4 @@ returns-clause-answers g c = λ input rest was.
     ahead_answers c.args.name.now c.args.cache.now c.args.options.now c.args.rate before (g.F.Shelf.state c.read_file.new.shelf) (told_as (g.I.Source.state c.run_over.new.input) rest) (g.O.Sink.state c.run_over.new.out)
     (g.E.Sink.state c.run_over.new.err) (g.R.CacheRam.state c.run_over.new.ram) c.in_ok-file.file.items v c.in_ok-placed.placed.layout c.run_over.result c.in_ok-check_size.ensures.ok read
     (rw c.deref.ensures.value at c.in_ok-placed.ensures.accepted) is.subject.image is.layout
-    (subst (λ (p : ProgramData). RunsWithReport (ahead_asked c.args.cache.now c.args.options.now c.args.rate) v p c.in_ok-placed.placed.layout now after c.run_over.result) is.subject.program (rw c.view.ensures at c.run_over.ensures.ran now input rest was))
+    (subst (λ (p : ProgramData). RunsWithReport (ahead_asked c.args.cache.now c.args.options.now c.args.rate) v p c.in_ok-placed.placed.layout now after c.run_over.result) is.subject.program (rw c.view-image.ensures at c.run_over.ensures.ran now input rest was))

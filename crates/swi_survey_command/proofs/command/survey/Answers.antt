@@ -73,4 +73,4 @@ returns-clause-answers g c = λ input rest was.
     (g.O.Sink.state c.run_program.new.out) (g.E.Sink.state c.run_program.new.err) c.in_ok-file.file.items v c.in_ok-placed.placed.layout c.run_program.result c.in_ok-check_sizes.ensures.ok read
     (subst (λ (file : List ℕ). IsAccepted (survey_checks c.args.limits.now c.args.sizes.now c.args.block_words file)) c.deref.ensures.value c.in_ok-placed.ensures.accepted) is.subject.image is.layout
     (subst (λ (p : ProgramData). SurveysOver (survey_from c.args.kind c.args.sizes.now c.args.limits.now v p c.in_ok-placed.placed.layout) now after c.run_program.result) is.subject.program
-    (rw c.view.ensures at c.run_program.ensures.ran now input rest was))
+    (rw c.view-image.ensures at c.run_program.ensures.ran now input rest was))
