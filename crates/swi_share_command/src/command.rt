@@ -181,7 +181,10 @@ fn shared_work(share: &Share<'_>, programs: u32) -> SharedWork
         evictions: counts.evictions,
         links: counts.links,
         unlinks: counts.unlinks,
-        writes: counts.writes(),
+        writes: counts
+            .copied
+            .saturating_add(counts.links)
+            .saturating_add(counts.unlinks),
     }
 }
 
