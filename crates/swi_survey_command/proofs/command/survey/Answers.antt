@@ -13,16 +13,19 @@ use Rattle.swi_survey_command.proofs.Sizes.{are_held, are_short}
 use Rattle.swi_survey_command.proofs.Surveying.{survey_answers, surveyed_to}
 use Rattle.swi_survey_command.proofs.command.survey.Goals as goal
 
-pub run_placed-requires : goal.run_placed-requires
-run_placed-requires g c =
-    let is = rw c.deref.ensures.value at c.in_ok-placed.ensures.placed in record {
-      ranges = c.requires.ranges;
-      sizes = c.requires.sizes;
-      held = are_held c.args.limits.now c.args.sizes.now c.args.block_words (length (g.R.CacheRam.state c.args.ram.now).words) c.in_ok-file.file.items (view_of c.in_ok-placed.placed.subject.image) c.in_ok-check_sizes.ensures.ok
-          (subst (λ (file : List ℕ). IsAccepted (survey_checks c.args.limits.now c.args.sizes.now c.args.block_words file)) c.deref.ensures.value c.in_ok-placed.ensures.accepted) is.subject.image;
-      laid_out = is.laid_out;
-      own = is.subject.own;
-    }
+pub run_program-requires-clause-held : goal.run_program-requires-clause-held
+run_program-requires-clause-held g c =
+    let is = rw c.deref.ensures.value at c.in_ok-placed.ensures.placed in
+    rw c.view-image.ensures (are_held c.args.limits.now c.args.sizes.now c.args.block_words (length (g.R.CacheRam.state c.args.ram.now).words) c.in_ok-file.file.items (view_of c.in_ok-placed.placed.subject.image) c.in_ok-check_sizes.ensures.ok
+        (subst (λ (file : List ℕ). IsAccepted (survey_checks c.args.limits.now c.args.sizes.now c.args.block_words file)) c.deref.ensures.value c.in_ok-placed.ensures.accepted) is.subject.image)
+
+pub run_program-requires-clause-own : goal.run_program-requires-clause-own
+run_program-requires-clause-own g c =
+    let is = rw c.deref.ensures.value at c.in_ok-placed.ensures.placed in rw c.view-image.ensures is.subject.own
+
+pub run_program-requires-clause-laid_out : goal.run_program-requires-clause-laid_out
+run_program-requires-clause-laid_out g c =
+    let is = rw c.deref.ensures.value at c.in_ok-placed.ensures.placed in is.laid_out
 
 pub returns-in_err-check_sizes-clause-gave : goal.returns-in_err-check_sizes-clause-gave
 returns-in_err-check_sizes-clause-gave g c = given_still _
