@@ -11,10 +11,11 @@ use Rattle.swi_rom.specs.Collected.{collected}
 use Rattle.swi_tally.specs.declared.tally.Placing.{Placing}
 use Rattle.swi_tally.specs.declared.tally.Placing.TheVariants.{Slots, Ring}
 use Rattle.swi_tally.specs.declared.tallies.Frame.{Frame}
+use Rattle.swi_tally.specs.declared.tallies.Seat.{Seat}
 use Rattle.swi_tally.specs.Masks.{has, has_at}
 use Rattle.swi_tally.specs.Exits.{ExitsData, AreExits, link_at, links_of}
 use Rattle.swi_tally.specs.Tally.{TallyData, InShape, Serves, kept_by, more_of, nowhere, queue_of}
-use Rattle.swi_tally.specs.Tallies.{Row, AreServing, IsFrame, empty_of, empty_tallies, first_row, row_at, row_if}
+use Rattle.swi_tally.specs.Tallies.{Row, AreServing, IsFrame, SeatServes, empty_of, empty_tallies, first_row, row_at, row_if}
 
 -- no exit is a link
 none_has : (n d x : ℕ) → has_at (replicate n 0) d x ≡ false
@@ -38,7 +39,7 @@ none_linked e n d = none_collected e (has_at (replicate n 0) d) (length e.from) 
 
 module _ (v : ImageData) (e : ExitsData) (f : Frame) (image : IsImage v) (are : AreExits e) (blocks : length v.starts ≡ e.blocks) (frame : IsFrame v.block_words f) where
   abbrev empty : TallyData
-  empty = empty_of e.blocks f
+  empty = (empty_of e.blocks f).tally
 
   empty_shape : InShape empty
   empty_shape = record {
@@ -82,13 +83,11 @@ at_index : (frames : List Frame) (words k : ℕ) (f : Frame) → All (IsFrame wo
 at_index frames words k f all at = subst (IsFrame words) (get_or_from_slice_get frames k f f at) (all k f (slice_get_within frames k f at))
 
 pub empty_serving : (v : ImageData) (e : ExitsData) (frames : List Frame) (n : ℕ) → IsImage v → AreExits e → length v.starts ≡ e.blocks → length frames ≤ 64 → All (IsFrame v.block_words) frames → AreServing v n (empty_tallies e frames)
-empty_serving v e frames n image are blocks few all = record { each = λ k. by k (slice_get frames k) refl }
+empty_serving v e frames n image are blocks few all = record { each = λ k. by k (slice_get frames k) refl; few = omega arith }
   where
-    by : (k : ℕ) (o : Option Frame) → slice_get frames k ≡ o → IfSome (slice_get (empty_tallies e frames).caches k) (λ s. Serves v e k (replicate (length e.from) 0) s × (s.counts.services ≤ n))
-    by k None at = subst (λ (o : Option TallyData). IfSome o (λ s. Serves v e k (replicate (length e.from) 0) s × (s.counts.services ≤ n)))
-        (sym (slice_get-map (empty_of e.blocks) frames k ∙ ap (option_map (empty_of e.blocks)) at)) tt
-    by k (Some f) at = subst (λ (o : Option TallyData). IfSome o (λ s. Serves v e k (replicate (length e.from) 0) s × (s.counts.services ≤ n)))
-        (sym (slice_get-map (empty_of e.blocks) frames k ∙ ap (option_map (empty_of e.blocks)) at))
+    by : (k : ℕ) (o : Option Frame) → slice_get frames k ≡ o → IfSome (slice_get (empty_tallies e frames).caches k) (SeatServes v n (empty_tallies e frames) k)
+    by k None at = subst (λ (o : Option Seat). IfSome o (SeatServes v n (empty_tallies e frames) k)) (sym (slice_get-map (empty_of e.blocks) frames k ∙ ap (option_map (empty_of e.blocks)) at)) tt
+    by k (Some f) at = subst (λ (o : Option Seat). IfSome o (SeatServes v n (empty_tallies e frames) k)) (sym (slice_get-map (empty_of e.blocks) frames k ∙ ap (option_map (empty_of e.blocks)) at))
         (empty_serves v e f image are blocks (at_index frames v.block_words k f all at) k (omega (arith, few, slice_get_within frames k f at)), omega arith)
 
 -- each keeps nothing
@@ -96,10 +95,10 @@ more_none : (p : Placing) → more_of p 0 ≡ []
 more_none Slots = refl
 more_none Ring = refl
 
-none_kept : (e : ExitsData) (f : Frame) (n d : ℕ) → kept_by e (has_at (replicate n 0) d) (empty_of e.blocks f) ≡ empty_record
+none_kept : (e : ExitsData) (f : Frame) (n d : ℕ) → kept_by e (has_at (replicate n 0) d) (empty_of e.blocks f).tally ≡ empty_record
 unfolding queue_of
 none_kept e f n d =
-    ap (λ (ls : List Link). let r : Record = record (kept_by e (has_at (replicate n 0) d) (empty_of e.blocks f)) { links = ls } in r) (none_linked e n d)
+    ap (λ (ls : List Link). let r : Record = record (kept_by e (has_at (replicate n 0) d) (empty_of e.blocks f).tally) { links = ls } in r) (none_linked e n d)
     ∙ ap (λ (l : List ℕ). let r : Record = record empty_record { more = l } in r) (more_none f.placing)
 
 abbrev pub first_if : Option Frame → Option Row

@@ -8,9 +8,10 @@ use Rattle.swi_rom.specs.Policy.{served_outside, with_link}
 use Rattle.swi_board.proofs.Counting.{after_append}
 use Rattle.swi_tally.specs.declared.tally.Placing.{Placing}
 use Rattle.swi_tally.specs.declared.exits.Exit.{Exit}
+use Rattle.swi_tally.specs.declared.tallies.Seat.{Seat}
 use Rattle.swi_tally.specs.Exits.{ExitsData}
-use Rattle.swi_tally.specs.Tally.{TallyData, Serves, arrival_of, policy_of}
-use Rattle.swi_tally.specs.Tallies.{TalliesData, Row, AllServed, AreServing, row_at, served_if}
+use Rattle.swi_tally.specs.Tally.{arrival_of, policy_of}
+use Rattle.swi_tally.specs.Tallies.{TalliesData, Row, AllServed, AreServing, SeatServes, row_at, served_if}
 use Rattle.swi_tally.proofs.Crossing.{policy_is}
 use Rattle.swi_survey.specs.Ways.{HasNumber, exit_if, exit_to}
 use Rattle.swi_survey.specs.Track.{AllAfter, after_row}
@@ -49,13 +50,12 @@ pub none_served : (v : ImageData) (t : Transfer) (c : TalliesData) → place_of 
 none_served v t c nowhere k = row_outside v t nowhere (row_at c k)
 
 -- what serves with so many services serves with more
-some_more : (v : ImageData) (e : ExitsData) (k : ℕ) (masks : List ℕ) (n m : ℕ) → n ≤ m → (o : Option TallyData) →
-    IfSome o (λ s. Serves v e k masks s × (s.counts.services ≤ n)) → IfSome o (λ s. Serves v e k masks s × (s.counts.services ≤ m))
-some_more v e k masks n m le None h = tt
-some_more v e k masks n m le (Some s) h = (h.0, omega (arith, h.1, le))
+some_more : (v : ImageData) (c : TalliesData) (k n m : ℕ) → n ≤ m → (o : Option Seat) → IfSome o (SeatServes v n c k) → IfSome o (SeatServes v m c k)
+some_more v c k n m le None h = tt
+some_more v c k n m le (Some s) h = (h.0, omega (arith, h.1, le))
 
 pub serving_more : (v : ImageData) (n m : ℕ) (c : TalliesData) → n ≤ m → AreServing v n c → AreServing v m c
-serving_more v n m c le h = record { each = λ k. some_more v c.exits k c.masks n m le (slice_get c.caches k) (h.each k) }
+serving_more v n m c le h = record { each = λ k. some_more v c k n m le (slice_get c.caches k) (h.each k); few = omega (arith, h.few, le) }
 
 -- ---- the exit with a number, if there is one
 

@@ -15,7 +15,7 @@ use Rattle.swi_rom.specs.Record.{Transfer, indirect}
 use Rattle.swi_board.specs.Transfers.{Here as Place, size, transfers}
 use Rattle.swi_tally.specs.declared.tallies.Frame.{Frame}
 use Rattle.swi_tally.specs.Exits.{ExitsData, AreExits}
-use Rattle.swi_tally.specs.Tally.{TallyData}
+use Rattle.swi_tally.specs.declared.tallies.Seat.{Seat}
 use Rattle.swi_tally.specs.Tallies.{Row, TalliesData, AllServed, AreServing, IsFrame, empty_tallies, row_at, row_if, served_if}
 use Rattle.swi_survey.specs.declared.survey.Surveyed.{Surveyed}
 use Rattle.swi_survey.specs.declared.survey.SurveyStop.{SurveyStop}
@@ -100,7 +100,7 @@ some_row : (c : TalliesData) (k : ℕ) → is_some (row_at c k) ≡ is_some (sli
 unfolding row_at
 some_row c k = by (slice_get c.caches k)
   where
-    by : (o : Option TallyData) → is_some (row_if c k o) ≡ is_some o
+    by : (o : Option Seat) → is_some (row_if c k o) ≡ is_some o
     by None = refl
     by (Some s) = refl
 

@@ -6,7 +6,7 @@ use Rattle.std.specs.List.{flat_map}
 use Rattle.std.specs.Prelude.{slice_index}
 use Rattle.swi_outside.specs.Sink.{SinkState, WasWritten}
 use Rattle.swi_report.specs.declared.stats.Work.{Work}
-use Rattle.swi_tally.specs.Tally.{TallyData}
+use Rattle.swi_tally.specs.declared.tallies.Seat.{Seat}
 use Rattle.swi_tally.specs.Tallies.{TalliesData, Row, row_at, row_if, row_of}
 use Rattle.swi_survey.specs.declared.survey.Surveyed.{Surveyed}
 use Rattle.swi_survey_command.specs.Rows.{CountsAs, work_by}
@@ -19,7 +19,7 @@ get_some (x ∷ xs) (suc i) lt = get_some xs i (omega (arith, lt))
 -- a cache that is there has a row
 row_some : (t : TalliesData) (k : ℕ) → k < length t.caches → (r : Row) × (row_at t k ≡ Some r)
 unfolding row_at
-row_some t k lt = let s = get_some t.caches k lt in (row_of t k s.0, ap (λ (o : Option TallyData). row_if t k o) s.1)
+row_some t k lt = let s = get_some t.caches k lt in (row_of t k s.0, ap (λ (o : Option Seat). row_if t k o) s.1)
 
 -- and has counted what is told of its size
 pub work_told : (s : Surveyed) (sizes : List ℕ) (work : ℕ → Work) (k : ℕ) (w : Work) → length s.caches.caches ≡ length sizes → k < length s.caches.caches → CountsAs s sizes work →

@@ -5,5 +5,7 @@ pub mod Queueing
 pub mod Evicting
 pub mod Arriving
 pub mod Crossing
+pub mod Marking
 pub mod Siding
+pub mod Walking
 pub mod Adding

@@ -1,5 +1,5 @@
 -- A cache without a ram as plain data, and what it keeps.
-use Rattle.std.specs.Prelude.{◌≡◌, ℕ, zero, suc, ◌+◌, ◌-◌, ◌*◌, ◌^◌, ◌<◌, ◌≤◌, Bool, List, [], ◌∷◌, ◌++◌, map, length, replicate, slice_index, slice_set, nat_lt, if◌then◌else◌}
+use Rattle.std.specs.Prelude.{◌≡◌, ℕ, zero, suc, ◌+◌, ◌-◌, ◌*◌, ◌^◌, ◌<◌, ◌≤◌, Bool, true, List, [], ◌∷◌, ◌++◌, map, length, replicate, slice_index, slice_set, nat_lt, if◌then◌else◌}
 use Rattle.swi_image.specs.Format.{ImageData}
 use Rattle.swi_rom.specs.Record.{Record, Placement, Transfer}
 use Rattle.swi_rom.specs.Service.{Setting}
@@ -161,6 +161,17 @@ pub record Serves (v : ImageData) (e : ExitsData) (cache : ℕ) (masks : List �
   pub one : s.placing ≡ Ring → s.slots ≡ 1
   pub unmissed : s.queue ≡ [] → s.counts.misses ≡ 0
   pub unlinked : s.queue ≡ [] → s.counts.links ≡ 0
+
+-- of each of n blocks the caches in which it stands: of one cache these are the blocks that stand in it
+pub record AreMarked (n cache : ℕ) (queue placed : List ℕ) : Type 0 where
+  pub long : length placed ≡ n
+  pub stand : (b : ℕ) → b < n → has_at placed cache b ≡ true → Has queue b
+  pub marked : (b : ℕ) → b < n → Has queue b → has_at placed cache b ≡ true
+
+-- they are so of one cache, and as before of the others
+pub record Marks (n cache : ℕ) (queue old new : List ℕ) : Type 0 where
+  pub are : AreMarked n cache queue new
+  pub others : (d b : ℕ) → d < 64 → (d ≡ cache → ⊥) → b < n → has_at new d b ≡ has_at old d b
 
 -- an exit has become a link where the policy says so; the same blocks stand
 pub record Links (e : ExitsData) (cache x : ℕ) (s t : TallyData) (old new : List ℕ) : Type 0 where

@@ -6,7 +6,7 @@ ghost use Rattle.std.specs.List.{list_any};
 ghost use Rattle.swi_links.specs.Chains.{Has};
 ghost use Rattle.swi_tally.specs.Exits.{ExitsData};
 ghost use Rattle.swi_tally.specs.Masks.{has_at};
-ghost use Rattle.swi_tally.specs.Tally.{Arrives, Bounded, InShape, Links, Moved, Receded, Serves, Stands, counted_tally, empty_tally, freed, kept_by, policy_of, queue_of, setting_of, settled, span, spot, without_oldest};
+ghost use Rattle.swi_tally.specs.Tally.{AreMarked, Arrives, Bounded, InShape, Links, Marks, Moved, Receded, Serves, Stands, counted_tally, empty_tally, freed, kept_by, policy_of, queue_of, setting_of, settled, span, spot, without_oldest};
 ghost use Rattle.swi_ring.specs.Fifo.{cleared, first_for, meets};
 ghost use Rattle.swi_image.specs.Place.{place_of};
 ghost use Rattle.swi_rom.specs.Policy.{evicted};
@@ -14,7 +14,7 @@ ghost use Rattle.swi_rom.specs.Record.{direct, indirect};
 
 use crate::exits::Exits;
 use crate::groups::leave;
-use crate::masks::with;
+use crate::masks::{with, without};
 use std::alloc::Global;
 use std::marker::Model;
 use swi_image::ImageView;
@@ -147,7 +147,7 @@ impl Tally {
     }
 
     // The oldest block leaves, with the links from it and into it.
-    fn evict(&mut self, exits: &Exits, masks: &mut [u64], cache: u32)
+    fn evict(&mut self, exits: &Exits, masks: &mut [u64], placed: &mut [u64], cache: u32)
         requires shape { InShape self.old }
         requires some { 0 < length self.old.queue }
         requires bounded { Bounded exits.now (has_at masks.old cache) self.old }
@@ -155,6 +155,7 @@ impl Tally {
         requires blocks { exits.now.blocks ≡ length self.old.homes }
         requires masks { length masks.old ≡ length exits.now.from }
         requires cache { cache < 64 }
+        requires marked { AreMarked exits.now.blocks cache self.old.queue placed.old }
         ensures kept { kept_by exits.now (has_at masks.new cache) self.new
             ≡ evicted (kept_by exits.now (has_at masks.old cache) self.old) (queue_of self.old.homes self.old.queue) }
         ensures moved { Moved exits.now cache self.old self.new masks.old masks.new }
@@ -163,29 +164,43 @@ impl Tally {
         ensures links { self.new.counts.links ≡ self.old.counts.links }
         ensures next { self.new.next ≡ self.old.next }
         ensures oldest { (b : ℕ) × (self.old.queue ≡ b ∷ self.new.queue) }
+        ensures marks { Marks exits.now.blocks cache self.new.queue placed.old placed.new }
     {
         let _ = exits.len();
         let block = self.take_oldest();
         leave(&exits.from, block, masks, cache);
         let undone = leave(&exits.into, block, masks, cache);
         self.count_unlinks(undone);
+        placed[block as usize] = without(placed[block as usize], cache);
     }
 
     // A block stands from a word on.
-    fn settle(&mut self, block: u32, first: u32, size: u32)
+    fn settle(&mut self, placed: &mut [u64], cache: u32, block: u32, first: u32, size: u32)
         requires shape { InShape self.old }
         requires block { block < length self.old.homes }
         requires absent { Has self.old.queue block → ⊥ }
         requires within { first + size ≤ span self.old }
         requires misses { self.old.counts.misses < 2 ^ 60 }
         requires copied { self.old.counts.copied < 2 ^ 62 }
-        ensures { self.new ≡ settled self.old block first size }
+        requires marks { block < length placed.old }
+        requires cache { cache < 64 }
+        ensures settled { self.new ≡ settled self.old block first size }
+        ensures marks { (n : ℕ) → AreMarked n cache self.old.queue placed.old → Marks n cache self.new.queue placed.old placed.new }
     {
+        placed[block as usize] = with(placed[block as usize], cache);
         self.queue.push(block);
         self.homes[block as usize] = first;
         self.next = first + size;
         self.counts.misses += 1;
         self.counts.copied += size as u64;
+    }
+
+    /// Counts services at which its blocks all stood.
+    pub(crate) fn count_services(&mut self, more: u64)
+        requires { self.old.counts.services + more < 2 ^ 64 }
+        ensures { self.new ≡ record self.old { counts = record self.old.counts { services = self.old.counts.services + more } } }
+    {
+        self.counts.services += more;
     }
 
     // Counts a service, but for the boot.
@@ -209,17 +224,26 @@ impl Tally {
     }
 
     // Where all slots are taken, the oldest block leaves.
-    fn free_slot(&mut self, image: &ImageView<'_>, exits: &Exits, masks: &mut [u64], cache: u32)
+    fn free_slot(
+        &mut self,
+        image: &ImageView<'_>,
+        exits: &Exits,
+        masks: &mut [u64],
+        placed: &mut [u64],
+        cache: u32,
+    )
         requires stands { Stands image.now exits.now cache masks.old self.old }
+        requires marked { AreMarked exits.now.blocks cache self.old.queue placed.old }
         requires services { self.old.counts.services ≤ 2 ^ 50 }
         ensures kept { kept_by exits.now (has_at masks.new cache) self.new
             ≡ freed (setting_of self.old) (kept_by exits.now (has_at masks.old cache) self.old) }
         ensures stands { Stands image.now exits.now cache masks.new self.new }
         ensures moved { Moved exits.now cache self.old self.new masks.old masks.new }
         ensures receded { Receded self.old self.new }
+        ensures marks { Marks exits.now.blocks cache self.new.queue placed.old placed.new }
     {
         if self.queue.len() >= self.slots {
-            self.evict(exits, masks, cache);
+            self.evict(exits, masks, placed, cache);
         }
     }
 
@@ -229,22 +253,25 @@ impl Tally {
         image: &ImageView<'_>,
         exits: &Exits,
         masks: &mut [u64],
+        placed: &mut [u64],
         cache: u32,
         block: u32,
     )
         requires stands { Stands image.now exits.now cache masks.old self.old }
+        requires marked { AreMarked exits.now.blocks cache self.old.queue placed.old }
         requires services { self.old.counts.services ≤ 2 ^ 50 }
         requires missed { self.old.counts.misses ≤ self.old.counts.services }
         requires placing { self.old.placing ≡ Placing.Slots }
         requires block { block < exits.now.blocks }
         requires absent { Has self.old.queue block → ⊥ }
         ensures arrives { Arrives image.now exits.now cache block self.old self.new masks.old masks.new }
+        ensures marks { Marks exits.now.blocks cache self.new.queue placed.old placed.new }
     {
         let _ = image.blocks();
         let size = image.length(block);
         let first = self.next_slot();
-        self.free_slot(image, exits, masks, cache);
-        self.settle(block, first, size);
+        self.free_slot(image, exits, masks, placed, cache);
+        self.settle(placed, cache, block, first, size);
     }
 
     // Whether the k-th oldest block has one of some words.
@@ -284,11 +311,13 @@ impl Tally {
         image: &ImageView<'_>,
         exits: &Exits,
         masks: &mut [u64],
+        placed: &mut [u64],
         cache: u32,
         first: u32,
         size: u32,
     )
         requires stands { Stands image.now exits.now cache masks.old self.old }
+        requires marked { AreMarked exits.now.blocks cache self.old.queue placed.old }
         requires services { self.old.counts.services ≤ 2 ^ 50 }
         requires within { first + size ≤ span self.old }
         ensures kept { kept_by exits.now (has_at masks.new cache) self.new
@@ -296,9 +325,10 @@ impl Tally {
         ensures stands { Stands image.now exits.now cache masks.new self.new }
         ensures moved { Moved exits.now cache self.old self.new masks.old masks.new }
         ensures receded { Receded self.old self.new }
+        ensures marks { Marks exits.now.blocks cache self.new.queue placed.old placed.new }
     {
         while self.is_met(image, first, size) {
-            self.evict(exits, masks, cache);
+            self.evict(exits, masks, placed, cache);
         }
     }
 
@@ -322,10 +352,12 @@ impl Tally {
         image: &ImageView<'_>,
         exits: &Exits,
         masks: &mut [u64],
+        placed: &mut [u64],
         cache: u32,
         block: u32,
     )
         requires stands { Stands image.now exits.now cache masks.old self.old }
+        requires marked { AreMarked exits.now.blocks cache self.old.queue placed.old }
         requires services { self.old.counts.services ≤ 2 ^ 50 }
         requires missed { self.old.counts.misses ≤ self.old.counts.services }
         requires placing { self.old.placing ≡ Placing.Ring }
@@ -333,12 +365,13 @@ impl Tally {
         requires block { block < exits.now.blocks }
         requires absent { Has self.old.queue block → ⊥ }
         ensures arrives { Arrives image.now exits.now cache block self.old self.new masks.old masks.new }
+        ensures marks { Marks exits.now.blocks cache self.new.queue placed.old placed.new }
     {
         let _ = image.blocks();
         let size = image.length(block);
         let first = self.ring_place(size);
-        self.make_room(image, exits, masks, cache, first, size);
-        self.settle(block, first, size);
+        self.make_room(image, exits, masks, placed, cache, first, size);
+        self.settle(placed, cache, block, first, size);
     }
 
     // A block that doesn't stand comes to stand.
@@ -348,20 +381,23 @@ impl Tally {
         image: &ImageView<'_>,
         exits: &Exits,
         masks: &mut [u64],
+        placed: &mut [u64],
         cache: u32,
         block: u32,
     )
         requires stands { Stands image.now exits.now cache masks.old self.old }
+        requires marked { AreMarked exits.now.blocks cache self.old.queue placed.old }
         requires services { self.old.counts.services ≤ 2 ^ 50 }
         requires missed { self.old.counts.misses ≤ self.old.counts.services }
         requires one { self.old.placing ≡ Placing.Ring → self.old.slots ≡ 1 }
         requires block { block < exits.now.blocks }
         requires absent { Has self.old.queue block → ⊥ }
         ensures arrives { Arrives image.now exits.now cache block self.old self.new masks.old masks.new }
+        ensures marks { Marks exits.now.blocks cache self.new.queue placed.old placed.new }
     {
         match self.placing {
-            Placing::Slots => self.fill_slot(image, exits, masks, cache, block),
-            Placing::Ring => self.fill_ring(image, exits, masks, cache, block),
+            Placing::Slots => self.fill_slot(image, exits, masks, placed, cache, block),
+            Placing::Ring => self.fill_ring(image, exits, masks, placed, cache, block),
         }
     }
 
@@ -372,19 +408,22 @@ impl Tally {
         image: &ImageView<'_>,
         exits: &Exits,
         masks: &mut [u64],
+        placed: &mut [u64],
         cache: u32,
         block: u32,
     )
         requires serves { Serves image.now exits.now cache masks.old self.old }
+        requires marked { AreMarked exits.now.blocks cache self.old.queue placed.old }
         requires services { self.old.counts.services < 2 ^ 50 }
         requires block { block < exits.now.blocks }
         ensures arrives { Arrives image.now exits.now cache block (counted_tally self.old) self.new masks.old masks.new }
+        ensures marks { Marks exits.now.blocks cache self.new.queue placed.old placed.new }
     {
         if self.is_placed(block) {
             self.counts.services += 1;
         } else {
             self.count_service();
-            self.fill(image, exits, masks, cache, block);
+            self.fill(image, exits, masks, placed, cache, block);
         }
     }
 
@@ -416,10 +455,12 @@ impl Tally {
         image: &ImageView<'_>,
         exits: &Exits,
         masks: &mut [u64],
+        placed: &mut [u64],
         cache: u32,
         x: u32,
     )
         requires serves { Serves image.now exits.now cache masks.old self.old }
+        requires marked { AreMarked exits.now.blocks cache self.old.queue placed.old }
         requires services { self.old.counts.services < 2 ^ 50 }
         requires exit { x < length exits.now.from }
         requires unlinked { has_at masks.old cache x ≡ false }
@@ -430,9 +471,10 @@ impl Tally {
         ensures serves { Serves image.now exits.now cache masks.new self.new }
         ensures moved { Moved exits.now cache self.old self.new masks.old masks.new }
         ensures services { self.new.counts.services ≤ self.old.counts.services + 1 }
+        ensures marks { Marks exits.now.blocks cache self.new.queue placed.old placed.new }
     {
         let into = exits.exit(x).into;
-        self.serve(image, exits, masks, cache, into);
+        self.serve(image, exits, masks, placed, cache, into);
         self.link(image, exits, masks, cache, x);
     }
 
@@ -443,10 +485,12 @@ impl Tally {
         image: &ImageView<'_>,
         exits: &Exits,
         masks: &mut [u64],
+        placed: &mut [u64],
         cache: u32,
         block: u32,
     )
         requires serves { Serves image.now exits.now cache masks.old self.old }
+        requires marked { AreMarked exits.now.blocks cache self.old.queue placed.old }
         requires services { self.old.counts.services < 2 ^ 50 }
         requires block { block < exits.now.blocks }
         ensures kept { (a o : ℕ) → place_of image.now a ≡ Some (block, o) →
@@ -455,7 +499,8 @@ impl Tally {
         ensures serves { Serves image.now exits.now cache masks.new self.new }
         ensures moved { Moved exits.now cache self.old self.new masks.old masks.new }
         ensures services { self.new.counts.services ≤ self.old.counts.services + 1 }
+        ensures marks { Marks exits.now.blocks cache self.new.queue placed.old placed.new }
     {
-        self.serve(image, exits, masks, cache, block);
+        self.serve(image, exits, masks, placed, cache, block);
     }
 }

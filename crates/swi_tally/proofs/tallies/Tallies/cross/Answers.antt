@@ -1,20 +1,39 @@
-use Rattle.std.proofs.Common.{slice_index, length, arith, ap, refl}
+use Rattle.std.proofs.Common.{slice_index, length, arith, ap, refl, subst}
 use Rattle.swi_rom.specs.Record.{direct}
-use Rattle.swi_tally.specs.Tallies.{TalliesData}
-use Rattle.swi_tally.proofs.Siding.{Over, all_call, all_linked, passed_served, whole_call}
+use Rattle.swi_tally.specs.Exits.{ExitsData}
+use Rattle.swi_tally.specs.Tallies.{TalliesData, AreSeated}
+use Rattle.swi_tally.proofs.Walking.{Over, Unlinked, crossing_first, crossing_next, crossing_serves, crossing_unlinked, passed_served, passed_serving}
 use Rattle.swi_tally.proofs.tallies.Tallies.cross.Goals as goal
 
-pub returns-then-index-self-clause-served : goal.returns-then-index-self-clause-served
-returns-then-index-self-clause-served c = λ a there.
-    let t : TalliesData = c.args.self.now in
-    all_linked c.args.image.now t c.args.x _ c.requires.serving c.requires.exit
-    (all_call t _ c.args.x c.index.result.now c.self.inside.all (ap (λ (q : TalliesData). q.masks) c.self.view_is)
-    (omega (arith, c.self.invariant.1, c.requires.exit, ap (λ (q : TalliesData). length q.masks) c.self.view_is, ap (λ (q : TalliesData). length q.exits.from) c.self.view_is)) c.index.ensures c.if-index-self.true
-    (λ k lt. c.self.invariant.2 k (omega (arith, lt, ap (λ (q : TalliesData). length q.caches) c.self.view_is)))) a
+pub loop-rest-init : goal.loop-rest-init
+loop-rest-init c =
+    crossing_first c.args.image.now c.args.self.now c.self.inside.masks.items c.self.inside.placed.items c.self.inside.caches.items c.self.inside.jumps c.args.x c.self.inside.all c.index.result.now c.lacking-rest.result _ c.lacking-rest.ensures
+    (subst (λ (e : ExitsData). AreSeated e c.self.inside.masks.items c.self.inside.placed.items c.self.inside.all c.self.inside.caches.items c.self.inside.jumps) (ap (λ (q : TalliesData). q.exits) c.self.view_is) c.self.invariant)
+    (ap (λ (q : TalliesData). q.caches) c.self.view_is) (ap (λ (q : TalliesData). q.masks) c.self.view_is) c.index.ensures c.requires.exit c.requires.serving
+
+pub cross_by-requires-clause-cache : goal.cross_by-requires-clause-cache
+cross_by-requires-clause-cache c = omega (arith, (c.loop-rest.invariant.hold c.first-k.result c.first-k.ensures.small c.first-k.ensures.has).0, c.loop-rest.invariant.caches)
+
+pub cross_by-requires-clause-serves : goal.cross_by-requires-clause-serves
+cross_by-requires-clause-serves c = crossing_serves c.args.image.now c.loop-rest.rest c.first-k.result _ c.args.self.now c.loop-rest.self c.loop-rest.invariant c.first-k.ensures.small c.first-k.ensures.has c.requires.serving
+
+pub cross_by-requires-clause-unlinked : goal.cross_by-requires-clause-unlinked
+cross_by-requires-clause-unlinked c =
+    crossing_unlinked c.args.image.now c.loop-rest.rest c.first-k.result c.args.x c.args.self.now c.loop-rest.self c.loop-rest.invariant c.first-k.ensures.small c.first-k.ensures.has c.requires.exit
+
+pub loop-rest-preserved : goal.loop-rest-preserved
+loop-rest-preserved c =
+    crossing_next c.args.image.now c.loop-rest.rest c.without-rest.result c.first-k.result c.args.x c.args.self.now c.loop-rest.self c.cross_by.new.self c.loop-rest.invariant c.first-k.ensures.small c.first-k.ensures.has c.without-rest.ensures.sets
+    c.cross_by.ensures.moved c.cross_by.ensures.served c.cross_by.ensures.serves
 
 pub returns-clause-served : goal.returns-clause-served
-returns-clause-served c = λ a there.
+returns-clause-served c a there =
     let t : TalliesData = c.args.self.now in
-    passed_served (Over c.args.image.now t.exits c.args.x) c.args.image.now t c.loop-k.self
-    (whole_call _ _ t c.loop-k.self c.loop-k.k c.len-k-end.result c.loop-k.invariant c.len-k-end.ensures.value c.loop-k-test.false c.loop-k.auto.k-end)
-    (direct (slice_index t.exits.from c.args.x) (slice_index t.exits.offsets c.args.x) a) (a, there, refl)
+    passed_served (Over c.args.image.now t.exits c.args.x) (Unlinked t c.args.x) c.args.image.now c.loop-rest.rest t.jumps t c.loop-rest.self c.loop-rest.invariant (omega (arith, c.loop-rest-test.false))
+    (omega (arith, c.self.invariant.most, ap (λ (q : TalliesData). length q.caches) c.self.view_is)) (direct (slice_index t.exits.from c.args.x) (slice_index t.exits.offsets c.args.x) a) (a, there, refl)
+
+pub returns-clause-serving : goal.returns-clause-serving
+returns-clause-serving c n serving =
+    let t : TalliesData = c.args.self.now in
+    passed_serving (Over c.args.image.now t.exits c.args.x) (Unlinked t c.args.x) c.args.image.now c.loop-rest.rest t.jumps t c.loop-rest.self c.loop-rest.invariant (omega (arith, c.loop-rest-test.false))
+    (omega (arith, c.self.invariant.most, ap (λ (q : TalliesData). length q.caches) c.self.view_is)) (omega arith) n serving

@@ -1,38 +1,77 @@
 use Rattle.std.proofs.lemmas.List.{with_items_is}
-use Rattle.std.proofs.Common.{◌∙◌, length, arith, ap, subst, sym}
+use Rattle.std.proofs.Common.{◌≡◌, ◌<◌, ℕ, suc, ◌∙◌, List, length, slice_index, arith, ap, refl, subst, sym}
+use Rattle.std.proofs.lemmas.Option.{slice_get_read}
 use Rattle.swi_rom.specs.Record.{direct}
-use Rattle.swi_tally.specs.Tallies.{TalliesData, OneMoved, OneServed}
-use Rattle.std.proofs.Common.{slice_index}
-use Rattle.swi_tally.proofs.Siding.{back_call, cache_call, crossed_call, linked_call, one_crossed, one_linked, one_moved}
+use Rattle.swi_tally.specs.declared.tallies.Seat.{Seat}
+use Rattle.swi_tally.specs.Tally.{TallyData}
+use Rattle.swi_tally.specs.Tallies.{TalliesData, OneMoved, OneServed, ServesAt, told}
+use Rattle.swi_tally.proofs.Siding.{back_call, cache_call, crossed_call, few_call, inside_call, marks_call, one_moved, one_served, one_serves, seat_at}
+use Rattle.swi_tally.proofs.Crossing.{Crossed}
 use Rattle.swi_tally.proofs.tallies.Tallies.cross_by.Goals as goal
 
-pub returns-then-not-has-clause-served : goal.returns-then-not-has-clause-served
-returns-then-not-has-clause-served c = λ a there.
+pub returns-clause-served : goal.returns-clause-served
+returns-clause-served c = λ a there.
+    let v = c.args.image.now in
     let t : TalliesData = c.args.self.now in
-    let at = cache_call t _ c.args.k c.index_mut.result.now (ap (λ (q : TalliesData). q.caches) c.self.view_is) c.requires.cache c.index_mut.ensures.value in
-    let crossed = crossed_call c.args.image.now _ t.exits c.args.k c.args.x c.index_mut.result.now c.cross.new.self _ t.masks c.cross.new.masks (ap (λ (q : TalliesData). q.exits) c.self.view_is)
-    (c.as_mut_slice-masks.ensures.value ∙ ap (λ (q : TalliesData). q.masks) c.self.view_is)
+    let s : Seat = c.index_mut-seat.result.now in
+    let u : TallyData = c.cross.new.self in
+    let at = cache_call t _ c.args.k s (ap (λ (q : TalliesData). q.caches) c.self.view_is) c.requires.cache c.index_mut-seat.ensures.value in
+    let jumps : c.self.inside.jumps ≡ t.jumps = ap (λ (q : TalliesData). q.jumps) c.self.view_is in
+    let counted : c.count_to.new.self.tally ≡ told (t.jumps) s = ap (λ (q : Seat). q.tally) c.count_to.ensures ∙ ap (λ (n : ℕ). told n s) jumps in
+    let done : Crossed v t.exits c.args.k c.args.x (told (t.jumps) s) u t.masks c.cross.new.masks =
+    crossed_call v _ t.exits c.args.k c.args.x _ (told (t.jumps) s) u _ t.masks c.cross.new.masks (ap (λ (q : TalliesData). q.exits) c.self.view_is) counted (c.as_mut_slice-masks.ensures.value ∙ ap (λ (q : TalliesData). q.masks) c.self.view_is)
     (record { kept = c.cross.ensures.kept; serves = c.cross.ensures.serves; moved = c.cross.ensures.moved; services = c.cross.ensures.services }) in
-    subst (λ (q : TalliesData). OneServed c.args.image.now (direct (slice_index t.exits.from c.args.x) (slice_index t.exits.offsets c.args.x) a) c.args.k t q)
-    (sym (back_call t c.self.inside.exits c.self.inside.masks.items c.self.inside.caches.items c.args.k c.cross.new.self _ c.cross.new.masks c.self.view_is
-    (with_items_is c.self.inside.masks c.cross.new.masks (omega (arith, crossed.moved.masks, ap (λ (q : TalliesData). length q.masks) c.self.view_is, c.self.inside.masks.ok.0)))))
-    (one_crossed c.args.image.now t c.args.k c.args.x c.index_mut.result.now c.cross.new.self c.cross.new.masks at crossed a there)
+    let back = back_call t c.self.inside.exits c.self.inside.masks.items c.self.inside.caches.items c.self.inside.jumps c.args.k (seat_at c.count_to.new.self.jumps u) (seat_at t.jumps u) _ c.cross.new.masks c.self.view_is
+    (ap (λ (n : ℕ). seat_at n u) (ap (λ (q : Seat). q.jumps) c.count_to.ensures ∙ jumps)) (with_items_is c.self.inside.masks c.cross.new.masks (omega (arith, done.moved.masks, ap (λ (q : TalliesData). length q.masks) c.self.view_is, c.self.inside.masks.ok.0))) in
+    subst (λ (q : TalliesData). OneServed v (direct (slice_index t.exits.from c.args.x) (slice_index t.exits.offsets c.args.x) a) c.args.k t q) (sym back)
+    (one_served v (direct (slice_index t.exits.from c.args.x) (slice_index t.exits.offsets c.args.x) a) t c.args.k t.jumps s u c.cross.new.masks at done.moved (done.kept a there))
 
-pub returns-then-not-has-clause-moved : goal.returns-then-not-has-clause-moved
-returns-then-not-has-clause-moved c =
+pub returns-clause-serves : goal.returns-clause-serves
+returns-clause-serves c n h =
+    let v = c.args.image.now in
     let t : TalliesData = c.args.self.now in
-    let at = cache_call t _ c.args.k c.index_mut.result.now (ap (λ (q : TalliesData). q.caches) c.self.view_is) c.requires.cache c.index_mut.ensures.value in
-    let crossed = crossed_call c.args.image.now _ t.exits c.args.k c.args.x c.index_mut.result.now c.cross.new.self _ t.masks c.cross.new.masks (ap (λ (q : TalliesData). q.exits) c.self.view_is)
-    (c.as_mut_slice-masks.ensures.value ∙ ap (λ (q : TalliesData). q.masks) c.self.view_is)
+    let s : Seat = c.index_mut-seat.result.now in
+    let u : TallyData = c.cross.new.self in
+    let at = cache_call t _ c.args.k s (ap (λ (q : TalliesData). q.caches) c.self.view_is) c.requires.cache c.index_mut-seat.ensures.value in
+    let jumps : c.self.inside.jumps ≡ t.jumps = ap (λ (q : TalliesData). q.jumps) c.self.view_is in
+    let counted : c.count_to.new.self.tally ≡ told (t.jumps) s = ap (λ (q : Seat). q.tally) c.count_to.ensures ∙ ap (λ (n : ℕ). told n s) jumps in
+    let done : Crossed v t.exits c.args.k c.args.x (told (t.jumps) s) u t.masks c.cross.new.masks =
+    crossed_call v _ t.exits c.args.k c.args.x _ (told (t.jumps) s) u _ t.masks c.cross.new.masks (ap (λ (q : TalliesData). q.exits) c.self.view_is) counted (c.as_mut_slice-masks.ensures.value ∙ ap (λ (q : TalliesData). q.masks) c.self.view_is)
     (record { kept = c.cross.ensures.kept; serves = c.cross.ensures.serves; moved = c.cross.ensures.moved; services = c.cross.ensures.services }) in
-    subst (λ (q : TalliesData). OneMoved c.args.image.now c.args.k t q)
-    (sym (back_call t c.self.inside.exits c.self.inside.masks.items c.self.inside.caches.items c.args.k c.cross.new.self _ c.cross.new.masks c.self.view_is
-    (with_items_is c.self.inside.masks c.cross.new.masks (omega (arith, crossed.moved.masks, ap (λ (q : TalliesData). length q.masks) c.self.view_is, c.self.inside.masks.ok.0)))))
-    (one_moved c.args.image.now t c.args.k c.index_mut.result.now c.cross.new.self c.cross.new.masks (omega (arith, c.self.invariant.0, ap (λ (q : TalliesData). length q.caches) c.self.view_is)) at crossed.moved crossed.serves crossed.services)
+    let back = back_call t c.self.inside.exits c.self.inside.masks.items c.self.inside.caches.items c.self.inside.jumps c.args.k (seat_at c.count_to.new.self.jumps u) (seat_at t.jumps u) _ c.cross.new.masks c.self.view_is
+    (ap (λ (n : ℕ). seat_at n u) (ap (λ (q : Seat). q.jumps) c.count_to.ensures ∙ jumps)) (with_items_is c.self.inside.masks c.cross.new.masks (omega (arith, done.moved.masks, ap (λ (q : TalliesData). length q.masks) c.self.view_is, c.self.inside.masks.ok.0))) in
+    subst (λ (q : TalliesData). ServesAt v (suc n) q c.args.k) (sym back) (one_serves v t c.args.k (t.jumps) n s u c.cross.new.masks at done.serves done.services h)
 
-pub returns-else-not-has-clause-served : goal.returns-else-not-has-clause-served
-returns-else-not-has-clause-served c = λ a there.
+pub returns-clause-moved : goal.returns-clause-moved
+returns-clause-moved c =
+    let v = c.args.image.now in
     let t : TalliesData = c.args.self.now in
-    one_linked c.args.image.now t c.args.k c.args.x _ c.requires.serves c.requires.exit
-    (λ inside. linked_call t _ c.args.x c.args.k c.index.result.now c.has.result (ap (λ (q : TalliesData). q.masks) c.self.view_is)
-    (omega (arith, c.self.invariant.1, c.requires.exit, ap (λ (q : TalliesData). length q.masks) c.self.view_is, ap (λ (q : TalliesData). length q.exits.from) c.self.view_is)) c.index.ensures c.has.ensures c.if-not-has.false) a
+    let s : Seat = c.index_mut-seat.result.now in
+    let u : TallyData = c.cross.new.self in
+    let at = cache_call t _ c.args.k s (ap (λ (q : TalliesData). q.caches) c.self.view_is) c.requires.cache c.index_mut-seat.ensures.value in
+    let jumps : c.self.inside.jumps ≡ t.jumps = ap (λ (q : TalliesData). q.jumps) c.self.view_is in
+    let counted : c.count_to.new.self.tally ≡ told (t.jumps) s = ap (λ (q : Seat). q.tally) c.count_to.ensures ∙ ap (λ (n : ℕ). told n s) jumps in
+    let done : Crossed v t.exits c.args.k c.args.x (told (t.jumps) s) u t.masks c.cross.new.masks =
+    crossed_call v _ t.exits c.args.k c.args.x _ (told (t.jumps) s) u _ t.masks c.cross.new.masks (ap (λ (q : TalliesData). q.exits) c.self.view_is) counted (c.as_mut_slice-masks.ensures.value ∙ ap (λ (q : TalliesData). q.masks) c.self.view_is)
+    (record { kept = c.cross.ensures.kept; serves = c.cross.ensures.serves; moved = c.cross.ensures.moved; services = c.cross.ensures.services }) in
+    let back = back_call t c.self.inside.exits c.self.inside.masks.items c.self.inside.caches.items c.self.inside.jumps c.args.k (seat_at c.count_to.new.self.jumps u) (seat_at t.jumps u) _ c.cross.new.masks c.self.view_is
+    (ap (λ (n : ℕ). seat_at n u) (ap (λ (q : Seat). q.jumps) c.count_to.ensures ∙ jumps)) (with_items_is c.self.inside.masks c.cross.new.masks (omega (arith, done.moved.masks, ap (λ (q : TalliesData). length q.masks) c.self.view_is, c.self.inside.masks.ok.0))) in
+    subst (λ (q : TalliesData). OneMoved c.args.k t q) (sym back) (one_moved t c.args.k (told (t.jumps) s) u (seat_at t.jumps u) c.cross.new.masks done.moved)
+
+pub invariant_of-self : goal.invariant_of-self
+invariant_of-self c =
+    let v = c.args.image.now in
+    let t : TalliesData = c.args.self.now in
+    let s : Seat = c.index_mut-seat.result.now in
+    let u : TallyData = c.cross.new.self in
+    let at = cache_call t _ c.args.k s (ap (λ (q : TalliesData). q.caches) c.self.view_is) c.requires.cache c.index_mut-seat.ensures.value in
+    let jumps : c.self.inside.jumps ≡ t.jumps = ap (λ (q : TalliesData). q.jumps) c.self.view_is in
+    let counted : c.count_to.new.self.tally ≡ told (t.jumps) s = ap (λ (q : Seat). q.tally) c.count_to.ensures ∙ ap (λ (n : ℕ). told n s) jumps in
+    let within : c.args.k < length c.self.inside.caches.items = omega (arith, c.requires.cache, ap (λ (q : TalliesData). length q.caches) c.self.view_is) in
+    let here = slice_get_read c.self.inside.caches.items (length c.self.inside.caches.items) c.args.k s refl within c.index_mut-seat.ensures.value in
+    let long : length c.cross.new.masks ≡ length c.self.inside.masks.items = omega (arith, c.cross.ensures.moved.masks, ap (λ (xs : List ℕ). length xs) c.as_mut_slice-masks.ensures.value) in
+    let marks = marks_call _ _ _ _ c.self.inside.placed.items _ c.as_mut_slice-placed.ensures.value c.cross.ensures.marks in
+    inside_call c.self.inside.exits c.self.inside.masks.items c.cross.new.masks _ c.self.inside.placed.items c.cross.new.placed _ c.self.inside.all c.args.k c.self.inside.caches.items c.self.inside.jumps c.count_to.new.self.jumps s u c.self.invariant here
+    long marks (omega (arith, few_call v t c.args.k _ s c.count_to.new.self.tally u at c.requires.serves counted c.cross.ensures.services))
+    (with_items_is c.self.inside.masks c.cross.new.masks (omega (arith, long, c.self.inside.masks.ok.0))) (with_items_is c.self.inside.placed c.cross.new.placed (omega (arith, marks.are.long, c.self.invariant.placed_long, c.self.inside.placed.ok.0)))
+    (ap (λ (q : Seat). q.jumps) c.count_to.ensures)
