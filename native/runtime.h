@@ -10,14 +10,15 @@
 #define FRAME_TEXT_BASE 128
 #define FRAME_TEXT_BYTES 132
 #define FRAME_PLACES 136
-#define FRAME_FIRST_OF_BLOCK 140
+#define FRAME_MARKS 140
 #define FRAME_BEFORE_CACHE 144
 #define FRAME_SERVICES 148
 #define FRAME_DIRECT 152
 #define FRAME_RESUME 156
 #define FRAME_TARGET 160
 #define FRAME_MEMO_FILLED 164
-#define FRAME_MEMO_TARGETS 168
+#define FRAME_BLOCK_WORDS 168
+#define FRAME_MEMO_TARGETS 172
 #define FRAME_MEMO_PLACES (FRAME_MEMO_TARGETS + 4 * MEMO_ENTRIES)
 #define FRAME_BYTES ((FRAME_MEMO_PLACES + 4 * MEMO_ENTRIES + 15) / 16 * 16)
 
@@ -96,19 +97,30 @@ static inline uint32_t block_length(const struct image *image, uint32_t block)
     return has_ends(image) ? image->ends[block] - block_begin(image, block) : image->block_words;
 }
 
+/* What the table of blocks has for one: the index of its first word in the cache, plus 1; with BYTE_TABLE the number of its
+ * slot, plus 1. 0: it has no slot. */
+#ifdef BYTE_TABLE
+typedef uint8_t block_mark;
+#define CACHE_SLOTS_MOST 255u
+#else
+typedef uint16_t block_mark;
+#define CACHE_SLOTS_MOST CACHE_WORDS_MOST
+#endif
+
 /* The program's registers while the runtime has control, and what the vector reads of the service. */
 struct frame {
     uint32_t x[32]; /* x[0] is 0, and nothing writes it */
     uint32_t text_base;
     uint32_t text_bytes;
     const uint32_t *places;   /* of each text word its place; NULL with SEARCH */
-    uint16_t *first_of_block; /* of each block the index of its first word in the cache, plus 1; 0: it has no slot */
-    uint32_t before_cache;    /* the address of the cache's first word, minus 4 */
+    block_mark *marks;        /* of each block, as above; NULL with SCAN */
+    uint32_t before_cache;    /* the address of the cache's first word, minus 4; with BYTE_TABLE minus a slot's bytes */
     uint32_t services;        /* entries of the service, the start not among them */
     uint32_t direct;          /* the handler to which interrupts lead where it stands; 0: they go to board_trap */
     uint32_t resume;          /* while it runs: where the program goes on */
     uint32_t target;          /* the vector's own */
     uint32_t memo_filled;     /* not 0 where an entry was filled since the memo was emptied */
+    uint32_t block_words;     /* of a slot */
     uint32_t memo_targets[MEMO_ENTRIES]; /* text addresses, and */
     uint32_t memo_places[MEMO_ENTRIES];  /* where they stand in the cache */
 };
@@ -132,7 +144,7 @@ struct slot {
 /* The memory that the service takes for its tables. */
 struct service_memory {
     struct slot *slots;       /* one for each slot */
-    uint16_t *first_of_block; /* one for each block; NULL with SCAN */
+    block_mark *marks;        /* one for each block; NULL with SCAN */
     const uint32_t *places;   /* one for each text word, by service_fill_places; may be slow; NULL with SEARCH */
 };
 
@@ -147,7 +159,7 @@ void service_fill_places(const struct image *image, uint32_t *places);
 
 /*
  * Starts the service: no block stands in the cache, of `slots` slots of image->block_words words each, together at most
- * CACHE_WORDS_MOST. The cache has to be readable, writable and executable in machine mode. At most `links_most` exits,
+ * CACHE_WORDS_MOST, and CACHE_SLOTS_MOST slots. The cache has to be readable, writable and executable in machine mode. At most `links_most` exits,
  * from 1 to LINKS_ANY, are linked into one slot: all of them are undone in the service in which its block leaves.
  */
 void service_start(const struct image *image, const struct service_memory *memory, uint32_t *cache, uint32_t slots,

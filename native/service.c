@@ -9,7 +9,8 @@
  * behind it, its descriptor, is never executed: it holds the list's neighbours, and is read from the image again when
  * the link is undone. No rendering has a JAL with rd = x0 (an exit stands for it), so a word that is one is a link.
  *
- * Built with SCAN a block's slot is found by looking at all slots, and no table has a field for each block. Built with
+ * Built with SCAN a block's slot is found by looking at all slots, and no table has a field for each block; with BYTE_TABLE
+ * this field has one byte in place of two. Built with
  * SEARCH the block of a text word is found by halving, and no table has a field for each text word.
  */
 #include <stddef.h>
@@ -45,13 +46,14 @@ static struct {
 _Static_assert(offsetof(struct frame, text_base) == FRAME_TEXT_BASE, "FRAME_TEXT_BASE");
 _Static_assert(offsetof(struct frame, text_bytes) == FRAME_TEXT_BYTES, "FRAME_TEXT_BYTES");
 _Static_assert(offsetof(struct frame, places) == FRAME_PLACES, "FRAME_PLACES");
-_Static_assert(offsetof(struct frame, first_of_block) == FRAME_FIRST_OF_BLOCK, "FRAME_FIRST_OF_BLOCK");
+_Static_assert(offsetof(struct frame, marks) == FRAME_MARKS, "FRAME_MARKS");
 _Static_assert(offsetof(struct frame, before_cache) == FRAME_BEFORE_CACHE, "FRAME_BEFORE_CACHE");
 _Static_assert(offsetof(struct frame, services) == FRAME_SERVICES, "FRAME_SERVICES");
 _Static_assert(offsetof(struct frame, direct) == FRAME_DIRECT, "FRAME_DIRECT");
 _Static_assert(offsetof(struct frame, resume) == FRAME_RESUME, "FRAME_RESUME");
 _Static_assert(offsetof(struct frame, target) == FRAME_TARGET, "FRAME_TARGET");
 _Static_assert(offsetof(struct frame, memo_filled) == FRAME_MEMO_FILLED, "FRAME_MEMO_FILLED");
+_Static_assert(offsetof(struct frame, block_words) == FRAME_BLOCK_WORDS, "FRAME_BLOCK_WORDS");
 _Static_assert(offsetof(struct frame, memo_targets) == FRAME_MEMO_TARGETS, "FRAME_MEMO_TARGETS");
 _Static_assert(offsetof(struct frame, memo_places) == FRAME_MEMO_PLACES, "FRAME_MEMO_PLACES");
 _Static_assert(sizeof(struct frame) <= FRAME_BYTES, "FRAME_BYTES");
@@ -136,17 +138,31 @@ static uint32_t first_of(uint32_t block)
         if (service.slots[slot].block == block)
             return first_of_slot(slot) + 1;
     return 0;
+#elif defined BYTE_TABLE
+    uint32_t mark = frame.marks[block];
+    return mark ? first_of_slot(mark - 1) + 1 : 0;
 #else
-    return frame.first_of_block[block];
+    return frame.marks[block];
 #endif
 }
 
-static void set_first_of(uint32_t block, uint32_t first)
+static void set_slot(uint32_t block, uint32_t slot)
 {
 #ifdef SCAN
-    (void)block, (void)first;
+    (void)block, (void)slot;
+#elif defined BYTE_TABLE
+    frame.marks[block] = (block_mark)(slot + 1);
 #else
-    frame.first_of_block[block] = (uint16_t)first;
+    frame.marks[block] = (block_mark)(first_of_slot(slot) + 1);
+#endif
+}
+
+static void set_no_slot(uint32_t block)
+{
+#ifdef SCAN
+    (void)block;
+#else
+    frame.marks[block] = 0;
 #endif
 }
 
@@ -267,7 +283,7 @@ static void evict(uint32_t slot)
     uint32_t block = service.slots[slot].block;
     take_out_links_from(first_of_slot(slot), block_length(&service.image, block));
     undo_links_into(slot);
-    set_first_of(block, 0);
+    set_no_slot(block);
     if (frame.memo_filled)
         forget_targets();
     service.counts.evictions++;
@@ -301,7 +317,7 @@ SHARED static uint32_t miss(uint32_t block)
     }
     copy(service.cache + first, service.image.words + block_begin(&service.image, block), length);
     service.slots[slot] = (struct slot){block, 0, 0};
-    set_first_of(block, first + 1);
+    set_slot(block, slot);
     service.counts.misses++;
     service.counts.copied += length;
     return first;
@@ -493,8 +509,8 @@ SLOW static void clear_tables(const struct service_memory *memory)
 {
     for (uint32_t slot = 0; slot < service.slot_count; slot++)
         memory->slots[slot] = (struct slot){0, 0, 0};
-    for (uint32_t block = 0; memory->first_of_block && block < service.image.blocks; block++)
-        memory->first_of_block[block] = 0;
+    for (uint32_t block = 0; memory->marks && block < service.image.blocks; block++)
+        memory->marks[block] = 0;
 }
 
 SLOW void service_fill_places(const struct image *image, uint32_t *places)
@@ -521,6 +537,11 @@ SLOW void service_start(const struct image *image, const struct service_memory *
     frame.text_base = image->base;
     frame.text_bytes = 4 * image->text_words;
     frame.places = memory->places;
-    frame.first_of_block = memory->first_of_block;
+    frame.marks = memory->marks;
+    frame.block_words = image->block_words;
+#ifdef BYTE_TABLE
+    frame.before_cache = address_of(0) - 4 * image->block_words;
+#else
     frame.before_cache = address_of(0) - 4;
+#endif
 }

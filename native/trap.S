@@ -127,11 +127,19 @@ find:
     add     t1, t1, t2
     lw      t1, 0(t1)               # its place
     srli    t2, t1, PLACE_BLOCK_SHIFT
+    lw      t0, FRAME_MARKS(sp)
+#ifdef BYTE_TABLE
+    add     t2, t2, t0
+    lbu     t2, 0(t2)               # the number of the block's slot, plus 1
+    beqz    t2, serve_target
+    lw      t0, FRAME_BLOCK_WORDS(sp)
+    mul     t2, t2, t0
+#else
     slli    t2, t2, 1
-    lw      t0, FRAME_FIRST_OF_BLOCK(sp)
     add     t2, t2, t0
     lhu     t2, 0(t2)               # the index of the block's first word, plus 1
     beqz    t2, serve_target
+#endif
     andi    t1, t1, PLACE_OFFSET_MASK
     add     t1, t1, t2
     slli    t1, t1, 2

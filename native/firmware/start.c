@@ -77,11 +77,11 @@ static void start_service(const struct image *image)
     struct slot *at = (struct slot *)(void *)swicache_tables;
     struct service_memory memory = {
         .slots = at,
-        .first_of_block = (uint16_t *)(at + slots),
+        .marks = (block_mark *)(at + slots),
         .places = swicache_places,
     };
-    uint32_t end = (uint32_t)(memory.first_of_block + image->blocks);
-    if (!slots || slots * image->block_words > CACHE_WORDS_MOST || end > (uint32_t)swicache_tables_end)
+    uint32_t end = (uint32_t)(memory.marks + image->blocks);
+    if (!slots || slots > CACHE_SLOTS_MOST || slots * image->block_words > CACHE_WORDS_MOST || end > (uint32_t)swicache_tables_end)
         firmware_stop(STOP_ROOM, slots, image->blocks);
     service_start(image, &memory, swicache_cache, slots, swicache_firmware.links_most);
 }

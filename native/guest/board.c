@@ -201,6 +201,8 @@ static void lay_out_slots(const struct image *image)
     slot_count = parameters->cache_bytes / slot_bytes;
     if (!slot_count)
         refuse_cache("cache small: ", slot_bytes);
+    if (slot_count > CACHE_SLOTS_MOST)
+        refuse_cache("cache large: ", CACHE_SLOTS_MOST * slot_bytes);
     if (slot_count * image->block_words > CACHE_WORDS_MOST)
         refuse_cache("cache large: ", 4 * CACHE_WORDS_MOST);
 }
@@ -232,7 +234,7 @@ static void start_service(const struct image *image)
     service_fill_places(image, (uint32_t *)PLACES);
 #endif
 #ifndef SCAN
-    memory.first_of_block = (uint16_t *)(memory.slots + slot_count);
+    memory.marks = (block_mark *)(memory.slots + slot_count);
 #endif
     service_start(image, &memory, (uint32_t *)CACHE, slot_count, LINKS_ANY);
 }

@@ -27,7 +27,7 @@ static enum kind kinds[IMAGE_WORDS_MOST];
 /* What the service has. */
 static union word cache[CACHE_WORDS];
 static struct slot slots[SLOTS_MOST];
-static uint16_t first_of_block[BLOCKS_MOST];
+static block_mark marks[BLOCKS_MOST];
 
 /* What it has to have: of each slot the block; of each word of the cache the index that a link leads to, and the word
  * that was put in place of an exit, or 0. */
@@ -106,9 +106,9 @@ static uint32_t block_at(uint32_t text_word)
 /* The service and the model of an image, without a block in the cache. */
 static void start(uint32_t slot_count, uint32_t links_most)
 {
-    struct service_memory tables = {slots, first_of_block, places};
+    struct service_memory tables = {slots, marks, places};
 #ifdef SCAN
-    tables.first_of_block = NULL;
+    tables.marks = NULL;
 #endif
 #ifdef SEARCH
     tables.places = NULL;
@@ -265,9 +265,14 @@ static void compare_tables(void)
     for (uint32_t slot = 0; slot < model.slots; slot++)
         if (model.block[slot] != NONE)
             equal("the block of a slot", slots[slot].block, model.block[slot]);
-    for (uint32_t block = 0; block < image.blocks && frame.first_of_block; block++) {
+    for (uint32_t block = 0; block < image.blocks && frame.marks; block++) {
         uint32_t slot = slot_of(block);
-        equal("the place of a block", first_of_block[block], slot == NONE ? 0 : slot * size() + 1);
+#ifdef BYTE_TABLE
+        uint32_t placed = slot + 1;
+#else
+        uint32_t placed = slot * size() + 1;
+#endif
+        equal("the place of a block", marks[block], slot == NONE ? 0 : placed);
     }
     for (uint32_t entry = 0; entry < MEMO_ENTRIES; entry++)
         compare_memo(entry);

@@ -35,7 +35,7 @@ static const uint32_t words[][WORDS] = {
 struct frame frame;
 static uint32_t cache[SLOTS_MOST * BLOCK_WORDS];
 static struct slot slots[SLOTS_MOST];
-static uint16_t first_of_block[BLOCKS];
+static block_mark marks[BLOCKS];
 static uint32_t places[TEXT_WORDS];
 
 uint32_t board_fault(enum fault fault, uint32_t pc, uint32_t address)
@@ -132,7 +132,7 @@ static void explore(uint32_t slot_count)
 static void start(uint32_t image, uint32_t slot_count, uint32_t links_most)
 {
     struct image given = {BLOCK_WORDS, BLOCKS, TEXT_WORDS, TEXT_BASE, starts, ends, offsets, words[image]};
-    struct service_memory memory = {slots, first_of_block, places};
+    struct service_memory memory = {slots, marks, places};
     service_fill_places(&given, places);
     for (uint32_t k = 0; k < SLOTS_MOST * BLOCK_WORDS; k++)
         cache[k] = 0;

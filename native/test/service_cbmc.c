@@ -163,7 +163,7 @@ static void any_tables(void)
     for (uint32_t slot = 0; slot < SLOTS_MOST; slot++)
         slots[slot] = (struct slot){any(), any_half(), any_half()};
     for (uint32_t block = 0; block < BLOCKS_MOST; block++)
-        first_of_block[block] = any_half();
+        marks[block] = any_half();
     for (uint32_t k = 1; k < 32; k++)
         frame.x[k] = any();
     frame.memo_filled = any();
