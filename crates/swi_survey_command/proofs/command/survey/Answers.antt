@@ -17,7 +17,7 @@ pub run_program-requires-clause-held : goal.run_program-requires-clause-held
 run_program-requires-clause-held g c =
     let is = rw c.deref.ensures.value at c.in_ok-placed.ensures.placed in
     rw c.view-image.ensures (are_held c.args.limits.now c.args.sizes.now c.args.block_words (length (g.R.CacheRam.state c.args.ram.now).words) c.in_ok-file.file.items (view_of c.in_ok-placed.placed.subject.image) c.in_ok-check_sizes.ensures.ok
-        (subst (λ (file : List ℕ). IsAccepted (survey_checks c.args.limits.now c.args.sizes.now c.args.block_words file)) c.deref.ensures.value c.in_ok-placed.ensures.accepted) is.subject.image)
+    (subst (λ (file : List ℕ). IsAccepted (survey_checks c.args.limits.now c.args.sizes.now c.args.block_words file)) c.deref.ensures.value c.in_ok-placed.ensures.accepted) is.subject.image)
 
 pub run_program-requires-clause-own : goal.run_program-requires-clause-own
 run_program-requires-clause-own g c =
