@@ -75,6 +75,16 @@ frame:
     jalr    t2, 0(t0)
     .endm
 
+# Links ra where it is rd; the frame has it when the service in C does the same again.
+    .macro  link
+    csrr    t0, mepc
+    lw      t2, 4(t0)
+    andi    t2, t2, 1 << 7
+    beqz    t2, 9f
+    lw      ra, 8(t0)
+9:
+    .endm
+
     .macro  count_service
     lw      t0, FRAME_SERVICES(sp)
     addi    t0, t0, 1
@@ -112,30 +122,30 @@ trap_return_short:
 unknown_return:
     sw      t2, FRAME_X(7)(sp)
 #ifdef SERVE_IN_VECTOR
-    mv      t1, ra
-
-# t1: the target
-find:
+    andi    t1, ra, -2
     sw      t1, FRAME_TARGET(sp)
+    andi    t2, t1, 2
+    bnez    t2, serve_target
+
+# t1: the target, a multiple of 4, which stands in the frame too
+find:
     lw      t2, FRAME_TEXT_BASE(sp)
     sub     t1, t1, t2
-    andi    t2, t1, 3
-    bnez    t2, serve_target
     lw      t2, FRAME_TEXT_BYTES(sp)
     bgeu    t1, t2, serve_target
     lw      t2, FRAME_PLACES(sp)
     add     t1, t1, t2
     lw      t1, 0(t1)               # its place
-    srli    t2, t1, PLACE_BLOCK_SHIFT
     lw      t0, FRAME_MARKS(sp)
 #ifdef BYTE_TABLE
+    srli    t2, t1, PLACE_BLOCK_SHIFT
     add     t2, t2, t0
     lbu     t2, 0(t2)               # the number of the block's slot, plus 1
     beqz    t2, serve_target
     lw      t0, FRAME_BLOCK_WORDS(sp)
     mul     t2, t2, t0
 #else
-    slli    t2, t2, 1
+    srli    t2, t1, PLACE_BLOCK_SHIFT - 1 # twice the block: the bit below it is 0
     add     t2, t2, t0
     lhu     t2, 0(t2)               # the index of the block's first word, plus 1
     beqz    t2, serve_target
@@ -152,12 +162,6 @@ find:
     sw      sp, FRAME_MEMO_FILLED(sp)
 
 # t1: where it stands
-go_on:
-    csrr    t0, mepc
-    lw      t2, 4(t0)
-    andi    t2, t2, 1 << 7          # rd is ra: it is linked
-    beqz    t2, leave
-    lw      ra, 8(t0)
 leave:
     csrw    mepc, t1
     count_service
@@ -187,9 +191,15 @@ other_exit:
     andi    t1, t1, -2
     entry_for t1
     lw      t2, FRAME_MEMO_TARGETS(t0)
-    bne     t2, t1, find
+    bne     t2, t1, 1f
     lw      t1, FRAME_MEMO_PLACES(t0)
-    j       go_on
+    link
+    j       leave
+1:  andi    t2, t1, 2
+    bnez    t2, serve_jump
+    sw      t1, FRAME_TARGET(sp)
+    link
+    j       find
 
 other_word:
 #ifdef FIRMWARE
@@ -236,7 +246,7 @@ read_register:
     j       serve_jump              # over a register, or a word that the front executes
 #endif
 
-serve_target:                       # whose block has no place
+serve_target:                       # that of the frame: it has no place, or is no text word
     save_scratch
     mv      a0, sp
     csrr    a1, mepc

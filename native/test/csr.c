@@ -197,6 +197,7 @@ static void nowhere(void)
     WRITE("mscratch", 0x1004);
     __asm__ volatile("csrw mscratch, zero\n la ra, 1f\n jalr t0, -8(zero)\n 1:" ::: "t0", "ra");
     line("jump to nowhere", cause, value);
+    __asm__ volatile("la ra, 1f + 1\n ret\n 1:" ::: "ra"); /* the lowest bit is dropped */
 }
 
 /* One word each, executed with MIE alone, nothing, and more than that, in turns. */
