@@ -7,22 +7,24 @@ import itertools
 
 @dataclasses.dataclass(frozen=True)
 class Function:
-    """A function that is executed: its bytes, and the steps in it."""
+    """A function that is executed, or a piece of text in its stead: its bytes, the steps in it, and its address."""
     name: str
     size: int
     steps: int
+    address: int = 0
 
 
 @dataclasses.dataclass(frozen=True)
 class Hot:
-    """A set of functions in fast RAM, the most executed first."""
+    """A set of functions in fast RAM, the most executed first; the whole text has none."""
     size: int
     steps: int
-    names: tuple = ()
+    functions: tuple = ()
 
 
 class Alternatives:
-    """Costs are those of a step, beside a step of the program in slow memory. Calls between the two memories are as any other."""
+    """Costs are those of a step, beside a step of the program in slow memory. Calls between the two memories are as any other. Where the
+    file names no functions, pieces of its text stand in for them."""
 
     def __init__(self, elf, executed, weights):
         self.text, self.steps = elf.text_bytes, max(sum(executed), 1)
@@ -30,8 +32,12 @@ class Alternatives:
         self.load = weights.load
         extents = elf.extents()
         self.named = bool(extents)
-        self.functions = functions_of(extents, elf, executed)
+        self.functions = functions_of(extents or elf.pieces(), elf, executed)
         self.known = {}
+
+    @property
+    def what(self):
+        return "functions" if self.named else "pieces of its text"
 
     def ratio(self, slow):
         """The cost where so many of the steps, of 1, are fetched from slow memory."""
@@ -55,6 +61,16 @@ class Alternatives:
     def hot(self, room):
         return self.ratio(self.cold(room))
 
+    def least_room(self, cost):
+        """The fewest bytes, below those of the text, in which the hottest functions cost less; None where there are none."""
+        low, high = 0, self.text
+        if self.whole >= cost:
+            return None
+        while high - low > 4:
+            room = (low + high) // 8 * 4
+            low, high = (low, room) if self.hot(room) < cost else (room, high)
+        return self.hottest(high).size if high < self.text else None
+
     def even(self, instructions, loads, cold):
         """From how many wait states on a cache costs less, of which a step has so many instructions and slow loads; None for never."""
         spared = self.loads * cold - loads
@@ -62,11 +78,11 @@ class Alternatives:
 
 
 def functions_of(extents, elf, executed):
-    """The functions that are executed."""
+    """The functions that are executed, but the one in which the program begins: that stays where the processor begins."""
     begins = [(address - elf.text) // 4 for address, _, _ in extents]
     ends = [*begins[1:], len(executed)]
     steps = [sum(executed[begin:end]) for begin, end in zip(begins, ends)]
-    return [Function(name, size, made) for (_, size, name), made in zip(extents, steps) if made]
+    return [Function(name, size, made, address) for (address, size, name), made in zip(extents, steps) if made and not address <= elf.entry < address + size]
 
 
 def best_set(functions, room):
@@ -80,7 +96,7 @@ def best_set(functions, room):
         least = max(least, max(steps + rest.whole(k + 1, room - size)[1] for size, steps, _ in points))
         points = [point for point in points if point[1] + rest.most(k + 1, room - point[0]) >= least]
     size, steps, chosen = max(points, key=lambda point: (point[1], -point[0]))
-    return Hot(size, steps, tuple(each.name for each in sorted(unchained(chosen), key=lambda each: (-each.steps, each.name))))
+    return Hot(size, steps, tuple(sorted(unchained(chosen), key=lambda each: (-each.steps, each.name))))
 
 
 class Rest:

@@ -1,11 +1,14 @@
 """ELF files that swic accepts: their text, their functions, and copies with the text moved."""
+import collections
 import dataclasses
 import struct
 
-from shared.runs import Wrong
+from shared.runs import Wrong, remedy
 
 IMAGE = 0x6C434953  # the type of the program header that marks the blocks of a rewritten file
 NOP = struct.pack("<I", 0x13)
+BRANCH, JUMP = 0x63, 0x6F  # the low 7 bits of a branch, and of a JAL
+CALL, GOES, GOES_BY_REGISTER = 0x0EF, 0x06F, 0x067  # the low 12 bits of a JAL that links ra, one that links nothing, and a JALR that links nothing
 
 
 @dataclasses.dataclass(frozen=True)
@@ -25,7 +28,7 @@ class Elf:
 
     def __init__(self, data):
         self.data = data
-        table, count = struct.unpack_from("<I", data, 28)[0], struct.unpack_from("<H", data, 44)[0]
+        (self.entry, table), count = struct.unpack_from("<2I", data, 24), struct.unpack_from("<H", data, 44)[0]
         self.segments = []
         for header in range(table, table + 32 * count, 32):
             kind, offset, address, _, held, size, flags, _ = struct.unpack_from("<8I", data, header)
@@ -77,7 +80,44 @@ class Elf:
             sizes[-1] = found[begins[-1]][3]
         return [(begin, size, found[begin][2]) for begin, size in zip(begins, sizes)]
 
+    def aliases(self):
+        """All names of each function by its address, since a section may have any of them."""
+        found = collections.defaultdict(list)
+        for name, address, _, info in self.symbols():
+            if info & 15 == 2 or info & 15 == 0 and info >> 4:
+                found[address].append(name)
+        return found
+
+    def pieces(self):
+        """The same of a file that names no functions: a piece begins where a call leads, and behind a jump where no other jump or branch
+        leads across."""
+        end, begins, across = self.text + self.text_bytes, {self.text, self.entry}, collections.Counter()
+        for address in range(self.text, end, 4):
+            word = self.word(address)
+            target = address + (jump_of(word) if word & 0x7F == JUMP else branch_of(word) if word & 0x7F == BRANCH else 0)
+            if target % 4 or not self.text <= target < end:
+                continue
+            if word & 0xFFF == CALL:
+                begins.add(target)
+            else:
+                across[min(address, target) + 4] += 1
+                across[max(address, target) + 4] -= 1
+        crossing = 0
+        for address in range(self.text, end, 4):
+            crossing += across[address]
+            if address > self.text and not crossing and self.word(address - 4) & 0xFFF in (GOES, GOES_BY_REGISTER):
+                begins.add(address)
+        begins = sorted(begins)
+        return [(begin, after - begin, f"{begin:08x}") for begin, after in zip(begins, [*begins[1:], end])]
+
     def symbols(self):
+        """The symbols of the text; none where sections or names are damaged, which swic ignores."""
+        try:
+            return list(self.read_symbols())
+        except (struct.error, IndexError, ValueError):
+            return []
+
+    def read_symbols(self):
         table, size, count = struct.unpack_from("<I", self.data, 32)[0], *struct.unpack_from("<HH", self.data, 46)
         sections = [struct.unpack_from("<10I", self.data, table + size * k) for k in range(count if table else 0)]
         for _, kind, _, _, offset, length, link, *_ in sections:
@@ -92,13 +132,25 @@ class Elf:
                     yield name, address, bytes_of, info
 
 
+def jump_of(word):
+    """How far the JAL that a word is leads."""
+    distance = word >> 31 << 20 | (word >> 12 & 255) << 12 | (word >> 20 & 1) << 11 | (word >> 21 & 1023) << 1
+    return distance - (distance >> 20 << 21)
+
+
+def branch_of(word):
+    """How far the branch that a word is leads."""
+    distance = word >> 31 << 12 | (word >> 7 & 1) << 11 | (word >> 25 & 63) << 5 | (word >> 8 & 15) << 1
+    return distance - (distance >> 12 << 13)
+
+
 def program_of(runner, path, name):
     """The file of a program, which `swic check` takes for one that has no blocks of its own."""
     run = runner.run([str(runner.program), "check", str(path)], "/dev/null")
     if run.status in (0, 244, 245):
         raise Wrong(f"{name} was rewritten and has its own blocks: take the file that it was made of")
     if run.status != 252:
-        raise Wrong(f"{name} can't be run: {run.line}")
+        raise Wrong(f"{name} can't be run: {run.line}{remedy(run.line, path, name)}")
     return read_elf(path, name)
 
 

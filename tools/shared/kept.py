@@ -4,14 +4,14 @@ import dataclasses
 import hashlib
 import pathlib
 import re
-import subprocess
 import sys
 import time
 
-from shared import machines, runs
+from shared import executions, machines, runs
 from shared.elf import program_of
 from shared.runs import Cache, Counts, Run, Wrong, say
 
+EXECUTED = "executed"  # begins a line of PREFIX.runs that has the executions of the text's words, by the steps that were counted
 EVENTS = 1000000  # of programs that share a cache, all together
 SURVEYED = 64  # caches of one run by `survey`, at most
 SURVEY = re.compile(rb"((?:\d+(?: \d+){9}\n)+)\Z")
@@ -29,10 +29,10 @@ class Runs:
         self.others = [self.other(name) for name in options.share or []]
         self.prefix = runs.prefix_of(options, self.name, "sweep")
         self.held, self.key = pathlib.Path(f"{self.prefix}.runs"), self.key_of()
-        self.done, self.asked, self.made = {}, set(), 0
+        self.done, self.executed, self.asked, self.made = {}, {}, set(), 0
         self.told = time.monotonic()
         self.machines = machines.machines_of(options, self.runner)
-        self.surveys = not self.others and self.has_survey()
+        self.surveys = not self.others and self.runner.has("survey")
         self.recall()
 
     def other(self, name):
@@ -40,11 +40,6 @@ class Runs:
         path = runs.file_of(name, "file", self.folder / pathlib.Path(name).name)
         program_of(self.runner, path, pathlib.Path(name).name)
         return path
-
-    def has_survey(self):
-        """Whether the program has the command by which one run counts many caches: its usage line tells."""
-        asked = subprocess.run([self.runner.program], stdin=subprocess.DEVNULL, capture_output=True)
-        return b" survey" in asked.stderr
 
     def key_of(self):
         """What the counts of a run follow from, beside cache and blocks."""
@@ -57,7 +52,9 @@ class Runs:
         """Takes the runs that an earlier call has kept."""
         for line in self.held.read_text(errors="replace").splitlines() if self.held.is_file() else []:
             fields = line.split("\t")
-            if len(fields) == 10 and fields[0] == self.key:
+            if fields[0] == self.key and fields[1:2] == [EXECUTED]:
+                self.executed[int(fields[2])] = fields[3]
+            elif len(fields) == 10 and fields[0] == self.key:
                 moved, size, block, ring, status = map(int, (*fields[1:5], fields[6]))
                 rate = int(fields[5]) if fields[5] else None
                 counts = runs.counts_of([int(each) for each in fields[7].split()])
@@ -74,11 +71,25 @@ class Runs:
         counts = " ".join(map(str, dataclasses.astuple(run.counts))) if run.counts else ""
         rate = "" if cache.rate is None else cache.rate
         fields = [self.key, moved, cache.size, cache.block, int(cache.ring), rate, run.status, counts, f"{run.seconds:.3f}", run.line]
+        self.append(fields)
+
+    def append(self, fields):
         try:
             with open(self.held, "a") as out:
                 print(*fields, sep="\t", file=out)
         except OSError as error:
             raise Wrong(f"{self.held} can't be written: {error.strerror}") from None
+
+    def executions(self, text, steps, most):
+        """How often each word of the text is executed in the first steps, at most so many."""
+        counted = min(steps, most)
+        if counted in self.executed:
+            return executions.kept(self.executed[counted], text, counted, steps)
+        limit = self.options.first or self.options.steps if counted == steps else counted
+        words = ["--steps", str(limit), "--heap", str(self.options.heap), "--stack", str(self.options.stack)]
+        found = executions.count(executions.Counted(self.runner, self.file, self.input, words, self.folder), text, counted, steps)
+        self.append([self.key, EXECUTED, counted, found.line()])
+        return found
 
     def words(self, moved, cache):
         """The words of a run; paths are files."""
@@ -111,7 +122,7 @@ class Runs:
     def end(self, at, future):
         if at not in self.done:
             run = runs.run_of(self.machines.answer(future), self.runner)
-            runs.refuse(run, self.name, self.options)
+            runs.refuse(run, self.name, self.options, self.file)
             self.keep(at, run)
         return self.done[at]
 

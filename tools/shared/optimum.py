@@ -1,26 +1,36 @@
 #!/usr/bin/env python3
-"""How often a block would be copied by the best possible eviction, beside first in, first out.
+"""How often a block would be copied by the best possible eviction, beside first in, first out, and how often a return finds its target
+in the runtime's memo.
 
-Reads, by pickle from the standard input, the order of the straight runs of a program, the blocks that each run comes to, those behind
-the last, and numbers of slots. Writes a line for each number: the slots, the misses of first in, first out, and the fewest misses.
-These are Belady's: the block leaves that is needed again last. No eviction that copies each block when control comes to it has fewer.
+Reads, by pickle from the standard input, a `Followed` and numbers of slots. Writes a line for each number: the slots, the misses of
+first in, first out, the fewest misses, and the returns outside the memo by first in, first out. The fewest are Belady's: the block
+leaves that is needed again last. No eviction that copies each block when control comes to it has fewer.
 """
 import array
 import collections
 import pickle
 import sys
 
+MEMO = 16  # targets of jumps over registers, by their address in words (native/README.md)
 
-def entered(order, blocks_of, behind):
-    """The blocks that control comes to, one behind the other."""
-    found, last = array.array("I"), None
+
+def followed(order, blocks_of, behind, begins, jumps):
+    """What control does, one behind the other: numbers below that of the blocks are blocks that it comes to; the others are jumps over
+    registers by (target, its block, whether it is a return), in a list. `order` are numbers of straight runs, of which each comes to
+    `blocks_of`, begins with the word `begins`, and ends with what `jumps` says: None, or whether that is a return."""
+    count = 1 + max((block for blocks in [*blocks_of, behind] for block in blocks), default=0)
+    found, known, last, before = array.array("I"), {}, None, None
     for each in order:
+        if before is not None:
+            jump = begins[each], blocks_of[each][0], before
+            found.append(count + known.setdefault(jump, len(known)))
         for block in blocks_of[each]:
             if block != last:
                 found.append(block)
                 last = block
+        before = jumps[each]
     found.extend(block for block in behind if block != last)
-    return found
+    return found, count, list(known)
 
 
 def next_uses(found):
@@ -32,17 +42,25 @@ def next_uses(found):
     return after
 
 
-def first_out(found, slots):
-    """The misses where the block leaves that came first."""
-    held, queue, misses = set(), collections.deque(), 0
-    for block in found:
-        if block not in held:
-            misses += 1
-            if len(queue) == slots:
-                held.discard(queue.popleft())
-            queue.append(block)
-            held.add(block)
-    return misses
+def first_out(found, count, known, slots):
+    """The misses where the block leaves that came first, and the returns whose target is not in the memo, which an eviction empties."""
+    held, queue, misses, outside, memo = set(), collections.deque(), 0, 0, {}
+    for each in found:
+        if each < count:
+            if each not in held:
+                misses += 1
+                if len(queue) == slots:
+                    held.discard(queue.popleft())
+                    memo.clear()
+                queue.append(each)
+                held.add(each)
+            continue
+        target, block, is_return = known[each - count]
+        if memo.get(target % MEMO) != target:
+            outside += is_return
+            if block in held:
+                memo[target % MEMO] = target
+    return misses, outside
 
 
 def fewest(found, after, slots):
@@ -58,11 +76,13 @@ def fewest(found, after, slots):
 
 
 def main():
-    order, blocks_of, behind, numbers = pickle.load(sys.stdin.buffer)
-    found = entered(order, blocks_of, behind)
-    after, blocks = next_uses(found), len(set(found))
+    course, numbers = pickle.load(sys.stdin.buffer)
+    found, count, known = followed(*course)
+    entered = array.array("I", (each for each in found if each < count))
+    after, blocks = next_uses(entered), len(set(entered))
     for slots in numbers:
-        print(slots, *((blocks, blocks) if slots >= blocks else (first_out(found, slots), fewest(found, after, slots))))
+        misses, outside = first_out(found, count, known, slots)
+        print(slots, misses, blocks if slots >= blocks else fewest(entered, after, slots), outside)
 
 
 if __name__ == "__main__":

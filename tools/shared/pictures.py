@@ -16,7 +16,7 @@ class Panel:
     across: str
     x: object  # of a cache
     up: str
-    y: object  # of counts
+    y: object  # of counts, and the cache that has them
     beside: bool = False  # whether costs beside no cache are shown
     board: object = None  # whose alternatives are shown
 
@@ -64,10 +64,10 @@ def sweep(report):
 
 def panels_of(report):
     size = ("bytes of the cache", lambda cache: cache.size)
-    found = [Panel(*size, "misses for each 1000 steps", lambda counts: counts.of_thousand("misses"))]
+    found = [Panel(*size, "misses for each 1000 steps", lambda counts, _: counts.of_thousand("misses"))]
     if report.board:
         return [*found, Panel("bytes of fast RAM: cache, runtime and tables", report.board.ram, "time of a step; in slow memory it is 1", report.sweep.value, True, report.board)]
-    found.append(Panel(*size, "words fetched and written, for each step", lambda counts: counts.work))
+    found.append(Panel(*size, "words fetched and written, for each step", lambda counts, _: counts.work))
     return [*found, Panel(*size, "cost beside no cache", report.sweep.value, True)] if report.weights else found
 
 
@@ -81,7 +81,7 @@ def heading(report):
 def drawn(report, panel, k, count):
     """A panel in its place; the last has the legend at its right."""
     total, last = WIDTH * count + LEGEND, k + 1 == count
-    values = [panel.y(row.counts) for row in report.rows] + [panel.y(row.jump) for row in report.rows if row.jump] + [1.0] * panel.beside
+    values = [panel.y(row.counts, row.cache) for row in report.rows] + [panel.y(row.jump, row.cache) for row in report.rows if row.jump] + [1.0] * panel.beside
     values += [panel.board.alternatives.whole] if panel.board else []
     places = [panel.x(row.cache) for row in report.rows] + ([report.runs.elf.text_bytes] if panel.board else [])
     low, high = decade_steps(min(value for value in values if value > 0), max(values))
@@ -96,12 +96,12 @@ def drawn(report, panel, k, count):
 def data(report, panel, k):
     """A block of points for each curve, one of what jumps, those of what is marked, and the hottest functions."""
     def point(row):
-        return f"{panel.x(row.cache)} {panel.y(row.counts):.6g}"
+        return f"{panel.x(row.cache)} {panel.y(row.counts, row.cache):.6g}"
     lines = []
     for block, ring in forms_of(report):
         rows = sorted((row for row in report.rows if row.cache.form == (block, ring)), key=lambda row: panel.x(row.cache))
         lines += block_of(f"{curve_name(block, ring)}p{k}", [point(row) for row in rows])
-    lines += block_of(f"jumps{k}", [f"{point(row)} {panel.y(row.jump):.6g}" for row in report.rows if row.jump])
+    lines += block_of(f"jumps{k}", [f"{point(row)} {panel.y(row.jump, row.cache):.6g}" for row in report.rows if row.jump])
     for name, rows in marked(report).items():
         lines += block_of(f"{name}{k}", [point(row) for row in rows])
     if panel.board:

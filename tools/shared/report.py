@@ -1,8 +1,11 @@
 """What a sweep writes: its table, its file of counts, and the lines that say which cache to use, or none."""
 import dataclasses
-import math
 
-from shared import runs, weights
+from shared import placing, runs, weights
+from shared.advice import Advice, Priced
+
+NAMED = 10  # of the hottest functions, at most, on the terminal
+
 
 def powers(needed):
     """Powers of 2 up to a size that holds so many bytes, from a thousandth of it on."""
@@ -33,7 +36,6 @@ def left_out(tried):
         yield f"left out (cache/block) {where}: {reason}"
 
 
-
 def less_of(cache):
     """What `Cache.less` takes away."""
     return f"{4 * cache.block} bytes less" if cache.ring else "one slot less"
@@ -52,16 +54,39 @@ class Report:
         self.runs, self.weights, self.board = sweep.runs, sweep.weights, sweep.board
         self.rows = [sweep.rows[cache] for cache in sorted(sweep.rows)]
         self.has_rings = len(sweep.rings) > 1
+        self.advice = Advice(self.board.alternatives, self.limit(), sweep.options.ram, sweep.pair) if self.board else None
 
     def image(self, block):
         """Bytes of the blocks in slow memory, and how many times the text that is."""
         held = self.sweep.images.bytes.get(block)
         return (held, held / self.runs.elf.text_bytes) if held else (0, 0.0)
 
+    def limit(self):
+        """What a sentence begins with that is told by a part of the run alone."""
+        counted, steps = self.sweep.executions, self.rows[0].counts.steps
+        if self.sweep.spent:
+            return f"by the first {counted.steps if counted else steps} steps alone: "
+        return f"by the first {counted.steps} of {steps} steps (--counted): " if counted and not counted.whole else ""
+
+    def priced(self, row):
+        steps = max(row.counts.steps, 1)
+        instructions, loads = self.sweep.parts(row.counts, row.cache)
+        return Priced(row.cache, row.value, instructions / steps, loads / steps, self.board.ram(row.cache))
+
     def hot(self, row):
-        """What the hottest functions cost in as much fast RAM; None where the program names none, or was not traced."""
-        alternatives = self.board.alternatives
-        return alternatives.hot(self.board.ram(row.cache)) if alternatives.functions else None
+        """What the hottest functions cost in as much fast RAM; None where no executions were counted."""
+        return self.advice.hot(self.board.ram(row.cache))
+
+    def chosen(self, ring=False):
+        """The cache that the last sentence is on, where there is one."""
+        choice = next((choice for choice in self.choices if choice.ring == ring), None)
+        return choice and (choice.recommended or choice.smallest)
+
+    def hottest(self):
+        """The functions that are to stand in fast RAM in place of a cache: as many as have room in as much, or in --ram."""
+        row = self.chosen()
+        ram = self.sweep.options.ram or (self.board.ram(row.cache) if row else self.advice.text)
+        return min(ram, self.advice.text - 1), self.board.alternatives.hottest(min(ram, self.advice.text - 1))
 
     def table(self):
         first = self.rows[0].counts
@@ -79,10 +104,12 @@ class Report:
         if self.sweep.registers is not None:
             returns = "" if self.sweep.returns is None else f", and of these returns: {1000 * self.sweep.returns / max(first.steps, 1):.3f}"
             yield f"of the services, in each of these caches, jumps over registers: {1000 * self.sweep.registers / max(first.steps, 1):.3f}{returns}"
-        if self.board and self.sweep.traced and not self.board.alternatives.functions:
-            yield "hot: the file names no functions (it was stripped), so the hottest are not told"
+        if self.board and self.sweep.executions and not self.board.alternatives.named:
+            yield "hot: the file names no functions (it was stripped), so pieces of its text between jumps and calls stand in for them"
+        if self.sweep.executions and not self.sweep.executions.whole:
+            yield f"hot and the returns are by the first {self.sweep.executions.steps} steps (--counted)"
         if self.sweep.traced and not self.sweep.traced.whole:
-            yield f"least and hot are by the first {self.sweep.traced.steps} steps (--trace)"
+            yield f"least is by the first {self.sweep.traced.steps} steps (--trace)"
         yield from left_out(self.sweep)
 
     def head(self):
@@ -103,7 +130,7 @@ class Report:
 
     def csv(self):
         costs = ["cost", "cost_without_cache", "ratio"] if self.weights else []
-        bytes_of = ["ram", "flash", "hot", "hot_bytes"] if self.board else []
+        bytes_of = ["ram", "flash", "hot", "hot_bytes", "hot_functions"] if self.board else []
         yield ",".join(["file", "cache", "block", "in", *runs.NAMES, "least_misses", *costs, *bytes_of, "return_services", "register_services", "image", "text"])
         for row in self.rows:
             yield f"{quoted(self.runs.name)}," + ",".join("" if each is None else str(each) for each in self.fields(row))
@@ -111,10 +138,12 @@ class Report:
     def fields(self, row):
         yield from (row.cache.size, row.cache.block, kind_of(row.cache), *dataclasses.astuple(row.counts), row.fewest_misses)
         if self.weights:
-            yield from (f"{self.weights.cost(row.counts, self.sweep.jumps()):.0f}", f"{self.weights.alone(row.counts):.0f}", f"{row.value:.4f}")
+            yield from (f"{self.sweep.cost(row.counts, row.cache):.0f}", f"{self.weights.alone(row.counts):.0f}", f"{row.value:.4f}")
         if self.board:
             ram, hot = self.board.ram(row.cache), self.hot(row)
-            yield from (ram, self.board.flash(row.cache), hot and f"{hot:.4f}", None if hot is None else self.board.alternatives.hottest(ram).size)
+            chosen = None if hot is None else self.board.alternatives.hottest(ram)
+            yield from (ram, self.board.flash(row.cache), hot and f"{hot:.4f}", chosen and chosen.size)
+            yield chosen and quoted(" ".join(each.name for each in chosen.functions))
         yield from (self.sweep.returns, self.sweep.registers, self.image(row.cache.block)[0] or None, self.runs.elf.text_bytes)
 
     def unit(self, value):
@@ -132,7 +161,44 @@ class Report:
                 yield from self.beside(row)
         if self.board:
             yield f"without a cache: all text in slow memory 1.000, all in fast RAM {self.board.alternatives.whole:.3f} in {self.runs.elf.text_bytes} bytes"
-            yield from (self.advice(choice) for choice in self.choices)
+            if (row := self.chosen()) and (both := self.advice.both(self.priced(row))):
+                yield both
+            yield from (self.sentence(choice) for choice in self.choices)
+
+    def sentence(self, choice):
+        """The last line on slots, or on rings: what to use."""
+        row, sought = choice.recommended or choice.smallest, [self.priced(row) for row in self.sweep.sought()]
+        if not sought:
+            return self.advice.none(min(self.board.ram(each.cache) for each in self.rows))
+        if row is None:
+            return f"{self.advice.limit}use no cache: none of these, where the whole text takes {self.advice.text} bytes of fast RAM"
+        return self.advice.sentence(self.priced(row), [each for each in sought if each.cache.ring == choice.ring])
+
+    def functions(self):
+        """The hottest functions: how many have room, and the first of them."""
+        ram, hot = self.hottest()
+        what = self.board.alternatives.what
+        yield f"hottest {what} in {ram} bytes of fast RAM: {len(hot.functions)} in {hot.size}, with {100 * hot.steps / self.board.alternatives.steps:.1f}% of the steps"
+        yield f"{'bytes':>8} {'steps':>14} {'%':>6}  {'function' if self.board.alternatives.named else 'from'}"
+        shown = placing.readable([each.name for each in hot.functions[:NAMED]])
+        for each in hot.functions[:NAMED]:
+            yield f"{each.size:8} {each.steps:14} {100 * each.steps / self.board.alternatives.steps:6.1f}  {shown[each.name]}"
+
+    def functions_csv(self):
+        """All functions that are executed, and which are among the hottest."""
+        _, hot = self.hottest()
+        chosen, all_of = set(hot.functions), self.board.alternatives.functions
+        shown = placing.readable([each.name for each in all_of])
+        yield "function,symbol,address,bytes,steps,hottest"
+        for each in sorted(all_of, key=lambda each: (-each.steps, each.name)):
+            yield f"{quoted(shown[each.name])},{quoted(each.name)},{each.address:08x},{each.size},{each.steps},{int(each in chosen)}"
+
+    def fragment(self):
+        """The hottest functions as a piece of a linker script."""
+        ram, hot = self.hottest()
+        what = f"The {len(hot.functions)} hottest functions of {self.runs.name} in {ram} bytes: {hot.size} bytes, {100 * hot.steps / self.board.alternatives.steps:.1f}% of its steps."
+        aliases = self.runs.elf.aliases()
+        return placing.fragment(what.replace("*/", "*"), [aliases[each.address] for each in hot.functions])
 
     def smallest(self, choice):
         best = f"least {'cost' if self.weights else 'work'} ({self.unit(self.sweep.least())})"
@@ -148,7 +214,8 @@ class Report:
         if row is None:
             less = "a block's bytes less" if choice.ring else "one slot less"
             return f"{head} none of these, since none stays within {sweep.options.within:g}% with {less}{moves}: give larger ones by --cache"
-        return f"{head} {row.cache}: {self.unit(row.value)}, with {less_of(row.cache)}{moves} at most {self.unit(row.worst)}"
+        more = ", which is more than slow memory costs" if self.board and row.value > 1 else ""
+        return f"{head} {row.cache}: {self.unit(row.value)}{more}, with {less_of(row.cache)}{moves} at most {self.unit(row.worst)}"
 
     def beside(self, row):
         """What the cache misses beside the best eviction, and what it takes."""
@@ -156,40 +223,3 @@ class Report:
             yield f"eviction: first in, first out misses {row.first_out:.3f} times for each 1000 steps, the best possible {row.fewest:.3f}"
         if self.board:
             yield f"it takes {self.board.ram(row.cache)} bytes of fast RAM and {self.board.flash(row.cache)} of flash, runtime and tables among them"
-
-    def advice(self, choice):
-        """One sentence: the cache, or what costs less than it; and from how many wait states on the cache costs less."""
-        row, text = choice.recommended or choice.smallest, self.runs.elf.text_bytes
-        if not self.sweep.sought():
-            least = min(self.board.ram(each.cache) for each in self.rows)
-            return f"use no cache: the whole text takes {text} bytes of fast RAM, the smallest cache with its runtime {least}"
-        if row is None:
-            return f"use no cache: none of these, where the whole text takes {text} bytes of fast RAM"
-        what, cost = self.other(row)
-        if row.value >= cost:
-            return f"use no cache: {what} {cost:.3f}, the cache {row.value:.3f}; {self.even(row)}{self.elsewhere(choice)}"
-        return f"use the {'ring' if choice.ring else 'cache'}: it costs {row.value:.3f}, {what} {cost:.3f}; {self.even(row)}. Only the whole text in {text} bytes of fast RAM costs less"
-
-    def elsewhere(self, choice):
-        """The best of the caches that cost less than anything else in as much fast RAM, where it is not the one recommended."""
-        rows = [row for row in self.sweep.sought() if row.cache.ring == choice.ring and row.value < self.other(row)[1]]
-        if not rows:
-            return ""
-        best = min(rows, key=lambda row: row.value)
-        return f". Of these caches one pays: {best.cache} cost {best.value:.3f} in {self.board.ram(best.cache)} bytes of fast RAM, without a cache {self.other(best)[1]:.3f}"
-
-    def other(self, row):
-        """What costs the least without a cache in as much fast RAM, and its cost."""
-        hot, ram = self.hot(row), self.board.ram(row.cache)
-        count = len(self.board.alternatives.hottest(ram).names)
-        if not count:
-            return "slow memory costs", 1.0
-        return f"the {count} hottest functions in {self.board.alternatives.hottest(ram).size} of the same {ram} bytes cost" , hot
-
-    def even(self, row):
-        """From how many wait states on the cache costs less than that."""
-        steps = max(row.counts.steps, 1)
-        instructions, loads = (part / steps for part in self.weights.parts(row.counts, self.sweep.jumps()))
-        cold = self.board.alternatives.cold(self.board.ram(row.cache)) if self.hot(row) is not None else 1.0
-        even = self.board.alternatives.even(instructions, loads, cold)
-        return "the cache costs less at no number of wait states" if even is None else f"the cache costs less from {math.floor(even) + 1} wait states on"

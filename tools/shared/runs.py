@@ -18,6 +18,8 @@ TOP = pathlib.Path(__file__).resolve().parent.parent.parent
 SCRIPT = pathlib.Path(sys.argv[0]).name
 BUILT = TOP / "crates/swic/out/swic"
 LARGEST = 8388608  # bytes, the largest cache that is accepted
+REFUSED = (241, 242, 243, 244, 245, 248, 249, 251)  # statuses of a run that has a last line
+LONG = 180  # seconds: what takes longer is told, with what limits it
 REACH = 1 << 20  # bytes that a JAL reaches, so any exit in a cache of this size can be linked
 
 
@@ -174,6 +176,7 @@ class Runner:
         self.program = program
         self.alive = set()
         self.stopped = False
+        self.usage = None
 
     def start(self, words, **how):
         child = subprocess.Popen(words, **how)
@@ -192,6 +195,12 @@ class Runner:
     def run(self, command, source):
         """One run with --stats."""
         return run_of(remote.run(command, source, self.start, self.alive.discard), self)
+
+    def has(self, command):
+        """Whether the program has a command: its usage line tells."""
+        if self.usage is None:
+            self.usage = subprocess.run([self.program], stdin=subprocess.DEVNULL, capture_output=True).stderr
+        return re.search(rb"[ ,]" + command.encode() + rb"\b", self.usage) is not None
 
 
 def run_of(answer, runner):
@@ -292,18 +301,29 @@ def run_words(options):
     return ["--steps", str(options.first or options.steps), "--heap", str(options.heap), "--stack", str(options.stack)]
 
 
-def refuse(run, name, options, faults=False):
-    """Tells why a run gives no counts to compare; one that faults does only where `faults` is set."""
+def remedy(line, file, name):
+    """What tools/hints says of the last line of a run, behind it; nothing where it has nothing to say."""
+    try:
+        said = subprocess.run([TOP / "tools/hints", "--line", line, str(file)], stdin=subprocess.DEVNULL, capture_output=True, text=True, errors="replace")
+    except OSError:
+        return ""
+    told = [each.removeprefix("swic: ").replace(str(file), name) for each in said.stderr.splitlines()]
+    return "".join(f". {each}" for each in told)
+
+
+def refuse(run, name, options, file, faults=False):
+    """Tells why a run gives no counts to compare, and what to do; one that faults does only where `faults` is set."""
+    more = remedy(run.line, file, name) if run.status in REFUSED else ""
     if run.status == 240 and run.line.startswith("spent:") and not options.first:
         raise Wrong(f"{name} doesn't end within {options.steps} steps ({run.line}): give more by --steps, or count its first N steps by --first N")
     if run.status == 241 and run.line.startswith("fault:") and not faults:
-        raise Wrong(f"{name} faults ({run.line})")
+        raise Wrong(f"{name} faults ({run.line}){more}")
     if run.status == 242 and run.line.startswith("store into text"):
-        raise Wrong(f"{name} stores into its own text, so no cache can run it ({run.line})")
+        raise Wrong(f"{name} stores into its own text, so no cache can run it ({run.line}){more}")
     if run.status == 250 and run.counts is None:
         raise Wrong(f"swic does not take these options: {run.line}")
-    if run.status in (243, 248, 249, 251) and run.counts is None:
-        raise Wrong(f"{name} can't be run: {run.line}")
+    if run.status in (243, 244, 245, 248, 249, 251) and run.counts is None:
+        raise Wrong(f"{name} can't be run: {run.line}{more}")
 
 
 def say(text):
@@ -313,6 +333,30 @@ def say(text):
 def time_of(seconds):
     """A time as a reader says it."""
     return f"{max(seconds, 1):.0f} s" if seconds < 100 else f"{seconds / 60:.0f} min" if seconds < 6000 else f"{seconds / 3600:.1f} h"
+
+
+class Progress:
+    """Tells how far a long run is: on a terminal in one line, else every 15 seconds. Where it will take long, once how to limit it."""
+
+    def __init__(self, what, steps, limit="", unit="steps"):
+        self.what, self.steps, self.limit, self.unit = what, steps, limit, unit
+        self.begun = self.told = time.monotonic()
+
+    def tell(self, made):
+        terminal, now = sys.stderr.isatty(), time.monotonic()
+        if not 0 < made < self.steps or now - self.told < (0.5 if terminal else 15):
+            return
+        self.told, left = now, (now - self.begun) * (self.steps - made) / made
+        if self.limit and now - self.begun > 2 and left > LONG:
+            say(f"{self.what} of {self.steps} {self.unit} takes about {time_of(left + now - self.begun)}: {self.limit}")
+            self.limit = ""
+        text = f"{SCRIPT}: {self.what}: {made} of {self.steps} {self.unit}, about {time_of(left)} left"
+        print(f"\r\033[K{text}\r" if terminal else text, end="" if terminal else "\n", file=sys.stderr, flush=True)
+
+    def clear(self):
+        """Takes the line away, where it stands on a terminal."""
+        if sys.stderr.isatty():
+            print("\r\033[K", end="", file=sys.stderr, flush=True)
 
 
 def plot(script, target):

@@ -11,10 +11,10 @@ import itertools
 import re
 import struct
 import subprocess
-import time
 
 from shared import runs
-from shared.runs import Counts, Wrong, say
+from shared.optimum import MEMO
+from shared.runs import Counts, Wrong
 
 LINE = re.compile(rb"([0-9a-f]{8}) ([0-9a-f]{8}|--------) ")
 SPENT = re.compile(rb"spent: [0-9]+ steps, pc ([0-9a-f]{8})\n")
@@ -134,6 +134,7 @@ class Walk:
         self.ran = collections.defaultdict(int)  # how often each run of words was executed without a break, by its first and last
         self.served, self.missed, self.made = collections.Counter(), collections.Counter(), collections.Counter()
         self.pushed, self.evicted, self.undone = collections.Counter(), collections.Counter(), collections.Counter()
+        self.memo, self.found = {}, collections.Counter()  # of targets of jumps over registers; the returns outside it, by their word
         self.last = None  # the word executed last
         # behind each word the one that follows without an exit
         end = [text.kind[k] in (JUMP, REGISTER) or k + 1 == text.count or blocks.of[k + 1] != blocks.of[k] for k in range(text.count)]
@@ -193,6 +194,8 @@ class Walk:
 
     def serve(self, k, how, source):
         self.served[how, source] += 1
+        if how == BY_REGISTER and self.text.words[source] >> 7 & 30 == 0:
+            self.look_up(k, source)
         self.arrive(k, how, source)
 
     def arrive(self, k, how, source):
@@ -204,6 +207,14 @@ class Walk:
         first = self.ring_place(k) if self.cache.ring else self.slot_place(k)
         self.first[block] = first
         self.held.append(block)
+
+    def look_up(self, k, source):
+        """A jump over a register, whose target the runtime's memo may have; where its block is there, it has it then."""
+        entry = (self.text.base // 4 + k) % MEMO
+        if self.memo.get(entry) != k:
+            self.found[source] += self.text.is_return(source)
+            if self.first[self.blocks.of[k]] is not None:
+                self.memo[entry] = k
 
     def slot_place(self, k):
         if len(self.held) < self.cache.slots:
@@ -222,6 +233,7 @@ class Walk:
 
     def push_out(self, k):
         """The oldest block leaves, with the links into it and out of it; answers where it stood."""
+        self.memo.clear()
         block = self.held.popleft()
         first, length = self.first[block], self.blocks.length[block]
         self.pushed[block, self.blocks.of[k]] += 1
@@ -355,14 +367,40 @@ class Course:
         if pc is not None and (self.text.kind[last] == REGISTER or leads(self.text, last, pc)):
             self.arrived = pc
 
-    def executed(self):
-        times, runs_of = collections.Counter(self.order), list(self.numbers)
-        return executed({runs_of[number]: count for number, count in times.items()}, self.text.count)
+    def times(self):
+        """How often each run was executed, by its number."""
+        return collections.Counter(self.order)
 
-    def entered(self, blocks):
-        """The blocks that each run of words comes to, by its number, and those behind the last step."""
-        found = [list(range(blocks.of[begin], blocks.of[last] + 1)) for begin, last in self.numbers]
-        return found, [] if self.arrived is None else [blocks.of[self.arrived]]
+    def executed(self):
+        runs_of = list(self.numbers)
+        return executed({runs_of[number]: count for number, count in self.times().items()}, self.text.count)
+
+    def followed(self, blocks):
+        """What `optimum.py` follows: the order of the runs of words, and by the number of each the blocks that it comes to, its first word,
+        and whether it ends with a return, or another jump over a register that keeps its target in the memo; and the blocks behind."""
+        text = self.text
+        blocks_of = [list(range(blocks.of[begin], blocks.of[last] + 1)) for begin, last in self.numbers]
+        jumps = [text.is_return(last) if text.kind[last] == REGISTER and text.words[last] >> 7 & 30 == 0 else None for _, last in self.numbers]
+        begins = [text.base // 4 + begin for begin, _ in self.numbers]
+        return self.order, blocks_of, [] if self.arrived is None else [blocks.of[self.arrived]], begins, jumps
+
+
+class Pairs(Course):
+    """A course that keeps of the order only how often each run follows each other, so that its memory does not grow with the steps."""
+
+    def __init__(self, text):
+        super().__init__(text)
+        self.order, self.pairs, self.last = self, collections.Counter(), None
+
+    def append(self, number):
+        self.pairs[self.last, number] += 1
+        self.last = number
+
+    def times(self):
+        found = collections.Counter()
+        for (_, number), count in self.pairs.items():
+            found[number] += count
+        return found
 
 
 @dataclasses.dataclass
@@ -373,17 +411,12 @@ class Traced:
     input: object
     words: list
     steps: int
+    limit: str = ""
 
     def read(self, take):
         """Hands the lines to a function, with one that tells the time left."""
         child = self.runner.start([str(self.runner.program), "trace", str(self.file), *self.words], stdin=open(self.input, "rb"), stdout=subprocess.DEVNULL, stderr=subprocess.PIPE, bufsize=1 << 20, pipesize=1 << 20)
-        begun = told = time.monotonic()
-
-        def tell(made):
-            nonlocal told
-            now = time.monotonic()
-            if 0 < made < self.steps and now - told > 5:
-                told = now
-                say(f"{made} of {self.steps} steps, about {runs.time_of((now - begun) * (self.steps - made) / made)} left")
-        take(child.stderr, tell)
+        progress = runs.Progress("following the trace", self.steps, self.limit)
+        take(child.stderr, progress.tell)
+        progress.clear()
         child.wait()

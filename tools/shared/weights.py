@@ -13,6 +13,7 @@ from shared import runs
 from shared.runs import Wrong
 
 NUMBER = r"(?:[0-9]+|[0-9]*\.[0-9]+)"
+OUTSIDE = 0.3  # of the returns those outside the memo, where no trace tells: as measured on the average (native/README.md)
 LOAD = 10.0  # wait states, where none are given
 BOARD = runs.TOP / "native/weights"
 # What can have a weight, and how many a run has of it: `c` are its counts, `j` its jumps over registers.
@@ -21,7 +22,8 @@ EVENTS = {
     "service": lambda c, j: c.services,
     "register": lambda c, j: j.registers,
     "direct": lambda c, j: c.services - j.registers,
-    "return": lambda c, j: j.returns,
+    "return": lambda c, j: j.returns - j.found,
+    "find": lambda c, j: j.found,
     "jump": lambda c, j: c.services - c.links - j.returns,
     "link": lambda c, j: c.links,
     "unlink": lambda c, j: c.unlinks,
@@ -37,9 +39,11 @@ PLACES = ["ram", "ram-slot", "ram-block", "ram-word", "flash", "flash-block", "f
 
 @dataclasses.dataclass(frozen=True)
 class Jumps:
-    """The services of a run that are jumps over registers, and those of them that are returns. They are the same in each cache."""
+    """The services of a run that are jumps over registers, and those of them that are returns, which are the same in each cache; and the
+    returns whose target the runtime's memo has not, which are not."""
     registers: int = 0
     returns: int = 0
+    found: int = 0
 
 
 @dataclasses.dataclass(frozen=True)
@@ -75,7 +79,7 @@ class Weights:
 
     def parts(self, counts, jumps):
         """The cost of a run but for the wait states, and its loads from slow memory."""
-        jumps = jumps if self.has_returns else dataclasses.replace(jumps, returns=0)
+        jumps = dataclasses.replace(jumps, returns=jumps.returns if self.has_returns else 0, found=jumps.found if "find" in self.of else 0)
         numbers = [(weight, EVENTS[event](counts, jumps)) for event, weight in self.of.items()]
         return sum(cost * number for (cost, _), number in numbers), sum(loads * number for (_, loads), number in numbers)
 
