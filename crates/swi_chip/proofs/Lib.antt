@@ -1,0 +1,12 @@
+pub mod Runs
+pub mod Standing
+pub mod Undoing
+pub mod Owning
+pub mod Facts
+pub mod Evicting
+pub mod Arriving
+pub mod Filling
+pub mod Filled
+pub mod Joining
+pub mod Entering
+pub mod Crossing

@@ -1,0 +1,9 @@
+pub mod Lists
+pub mod Undone
+pub mod Owned
+pub mod Parts
+pub mod Held
+pub mod Evicted
+pub mod Service
+pub mod Missed
+pub mod Linked

@@ -1,0 +1,172 @@
+-- What a service on a chip stands for: a service with slots of one program, its image, and the words of its ram.
+use Rattle.std.specs.Prelude.{◌≡◌, ◌⊎◌, ℕ, ◌+◌, ◌*◌, ◌%◌, ◌/◌, ◌^◌, ◌<◌, ◌≤◌, Bool, true, false, List, length, slice_index, slice_set, Option, Some, None, nat_lt, if◌then◌else◌}
+use Rattle.swi_image.specs.Format.{ImageData}
+use Rattle.swi_image.specs.Checks.{block_of}
+use Rattle.swi_image.specs.Place.{length_at, place_of}
+use Rattle.swi_outside.specs.CacheRam.{RamState}
+use Rattle.swi_rom.specs.Coherent.{ExitAt, TargetAt}
+use Rattle.swi_rom.specs.Record.{IsJump, Placed, Transfer, direct, ebreak, indirect, target_of}
+use Rattle.swi_rom.specs.declared.rom.Counts.{Counts}
+use Rattle.swi_slots.specs.Arrived.{Arrived}
+use Rattle.swi_slots.specs.Fifo.{fifo}
+use Rattle.swi_slots.specs.Keys.{Images, key_of}
+use Rattle.swi_slots.specs.Slots.{Slots, kept_by, setting_of}
+use Rattle.swi_slots.specs.Sound.{SlotsServe}
+use Rattle.swi_slots.specs.Steps.{IsAbsent, can_link, counted_slots}
+use Rattle.swi_chip.specs.declared.chip.Chip.{Chip}
+use Rattle.swi_chip.specs.declared.chip.ChipCounts.{ChipCounts}
+use Rattle.swi_chip.specs.Held.{Holds, RowsHold}
+use Rattle.swi_chip.specs.Undone.{begin_in}
+
+-- counts of 32 bits, which begin anew behind the last
+pub record CountsBy (model : Counts) (chip : ChipCounts) : Type 0 where
+  pub services : chip.services ≡ model.services % 2 ^ 32
+  pub misses : chip.misses ≡ model.misses % 2 ^ 32
+  pub evictions : chip.evictions ≡ model.evictions % 2 ^ 32
+  pub links : chip.links ≡ model.links % 2 ^ 32
+  pub unlinks : chip.unlinks ≡ model.unlinks % 2 ^ 32
+  pub copied : chip.copied ≡ model.copied % 2 ^ 32
+
+-- The mark of a block is the index of its first word, plus 1; 0 where it stands in no slot.
+pub record KnowsMarks (s : Slots) (marks : List ℕ) : Type 0 where
+  pub found : (b : ℕ) → b < length marks → (slice_index marks b ≡ 0 → ⊥) → (n : ℕ) × (n < s.filled) × (slice_index s.blocks n ≡ b) × (slice_index marks b ≡ n * s.size + 1)
+  pub known : (n : ℕ) → n < s.filled → (slice_index s.blocks n < length marks) × (slice_index marks (slice_index s.blocks n) ≡ n * s.size + 1)
+
+-- the tables are those of the program's image
+pub record HasTables (v : ImageData) (base : ℕ) (places ends : List ℕ) : Type 0 where
+  pub base_is : base ≡ v.base
+  pub places_long : length places ≡ length v.offsets
+  pub places_are : (k : ℕ) → k < length places → slice_index places k ≡ block_of v.starts k * 2 ^ 10 + slice_index v.offsets k
+  pub ends_long : length ends ≡ length v.blocks
+  pub ends_are : (b : ℕ) → b < length ends → slice_index ends b ≡ begin_in ends b + length_at v b
+
+-- the chip stands for a service of one program that serves its image over these words of a ram
+pub record StandsFor (s : Slots) (vs : Images) (ram : List ℕ) (lists : List (List ℕ)) (c : Chip) : Type 0 where
+  pub serves : SlotsServe s vs ram
+  pub holds : Holds s ram c.cache.now c.heads.now c.links.now c.blocks.now lists
+  pub rows : RowsHold vs c.ends.now c.words.now
+  pub tables : HasTables (vs s.turn) c.base c.places.now c.ends.now
+  pub one : s.programs ≡ 1
+  pub slots_are : c.slots ≡ s.slots
+  pub size_is : c.size ≡ s.size
+  pub next_is : c.next ≡ s.next
+  pub filled_is : c.filled ≡ s.filled
+  -- the cache is just the slots' words
+  pub cache_long : length c.cache.now ≡ s.slots * s.size
+  pub marks : KnowsMarks s c.marks.now
+  pub marks_long : length c.marks.now ≡ length (vs s.turn).blocks
+  pub counts : CountsBy s.counts c.counts
+
+-- the chip stands for some service
+pub record IsSome (c : Chip) : Type 0 where
+  pub s : Slots
+  pub vs : Images
+  pub ram : List ℕ
+  pub lists : List (List ℕ)
+  pub stands : StandsFor s vs ram lists c
+
+-- The block stands in the ram, and its service is counted, as the model's own arrival leaves it; the mark is that of its slot.
+pub record HasArrived (s : Slots) (vs : Images) (ram : List ℕ) (block mark : ℕ) (c : Chip) : Type 0 where
+  pub next : Slots
+  pub words : List ℕ
+  pub lists : List (List ℕ)
+  pub slot : ℕ
+  pub stands : StandsFor next vs words lists c
+  pub mark_is : mark ≡ slot * s.size + 1
+  pub arrived : (before : RamState) → before.words ≡ ram → (after : RamState) × (after.words ≡ words) × Arrived vs s block slot next before after
+
+-- the service is counted, and the block, one of the image's, stands in no slot
+pub record ToFill (s : Slots) (vs : Images) (ram : List ℕ) (lists : List (List ℕ)) (block : ℕ) (c : Chip) : Type 0 where
+  pub serves : SlotsServe s vs ram
+  pub stands : StandsFor (counted_slots s) vs ram lists c
+  pub known : block < length (vs s.turn).blocks
+  pub absent : IsAbsent s (key_of s.turn block)
+
+-- a block can fill a slot; a block is one of the image's; an exit stands at an index
+pub record CanFill (c : Chip) (block : ℕ) : Type 0 where
+  pub s : Slots
+  pub vs : Images
+  pub ram : List ℕ
+  pub lists : List (List ℕ)
+  pub to : ToFill s vs ram lists block c
+
+pub record CanArrive (c : Chip) (block : ℕ) : Type 0 where
+  pub some : IsSome c
+  pub known : block < length (some.vs some.s.turn).blocks
+
+pub record CanCross (c : Chip) (at target : ℕ) : Type 0 where
+  pub some : IsSome c
+  pub exit : ExitAt (some.vs some.s.turn) (kept_by some.s) at target
+
+-- An exit of a block stands at an index, and a word of a slot is its target. Where the block still stands there, the exit is no link.
+pub record ToLinkExit (t : Slots) (vs : Images) (words : List ℕ) (lists : List (List ℕ)) (at home slot to : ℕ) (c : Chip) : Type 0 where
+  pub stands : StandsFor t vs words lists c
+  pub behind : at + 1 < t.slots * t.size
+  pub row : at / t.size < t.filled
+  pub low : slot < t.slots
+  pub target : to < t.slots * t.size
+  pub in_slot : to / t.size ≡ slot
+  pub exit : slice_index t.blocks (at / t.size) ≡ home → (slice_index words at ≡ ebreak) × (t.slots ≤ slice_index t.targets at)
+
+pub record CanLinkExit (c : Chip) (at home slot to : ℕ) : Type 0 where
+  pub t : Slots
+  pub vs : Images
+  pub words : List ℕ
+  pub lists : List (List ℕ)
+  pub k : ToLinkExit t vs words lists at home slot to c
+
+-- the model's slots with the word linked to the slot
+abbrev pub linked_to : Slots → ℕ → ℕ → Slots
+linked_to t at slot = record t { targets = slice_set t.targets at slot; counts = record t.counts { links = t.counts.links + 1 } }
+
+-- The model's ram has a jump there, and where its service serves the images so, the chip stands for it.
+pub record LinkedStands (t : Slots) (vs : Images) (words : List ℕ) (at slot to : ℕ) (c : Chip) : Type 0 where
+  pub word : ℕ
+  pub jumps : IsJump at to word
+  pub lists : List (List ℕ)
+  pub stands : SlotsServe (linked_to t at slot) vs (slice_set words at word) → StandsFor (linked_to t at slot) vs (slice_set words at word) lists c
+
+-- the exit has become a link, or its block is gone and nothing has changed
+abbrev pub LinkedExit : Slots → Images → List ℕ → List (List ℕ) → ℕ → ℕ → ℕ → ℕ → Chip → Type 0
+LinkedExit t vs words lists at home slot to c =
+    ((can_link t at home to ≡ false) × StandsFor t vs words lists c) ⊎ ((can_link t at home to ≡ true) × LinkedStands t vs words at slot to c)
+
+-- the answer: the index of the target's place, plus 1; 0 where the target has none, and then nothing has changed
+abbrev pub AnswersAt : Option (ℕ × ℕ) → Slots → Slots → ImageData → ℕ → ℕ → Type 0
+AnswersAt None s next v target answer = (answer ≡ 0) × (next ≡ s)
+AnswersAt (Some p) s next v target answer = (i : ℕ) × (answer ≡ i + 1) × TargetAt v (kept_by next) target i
+
+-- the service has served a transfer by its policy
+pub record ChipServed (s : Slots) (vs : Images) (t : Transfer) (answer : ℕ) (c : Chip) : Type 0 where
+  pub next : Slots
+  pub words : List ℕ
+  pub lists : List (List ℕ)
+  pub stands : StandsFor next vs words lists c
+  pub setting : setting_of next ≡ setting_of s
+  pub moves : kept_by next ≡ fifo (setting_of s) (kept_by s) (vs s.turn) t
+  pub answers : AnswersAt (place_of (vs s.turn) (target_of t)) s next (vs s.turn) (target_of t) answer
+
+-- `enter` and `cross`, for whatever service the chip stands for
+abbrev pub Enters : Chip → Chip → ℕ → ℕ → Type 0
+Enters old new target answer = (s : Slots) (vs : Images) (ram : List ℕ) (lists : List (List ℕ)) → StandsFor s vs ram lists old → ChipServed s vs (indirect target) answer new
+
+abbrev pub Crosses : Chip → Chip → ℕ → ℕ → ℕ → Type 0
+Crosses old new at target answer = (s : Slots) (vs : Images) (ram : List ℕ) (lists : List (List ℕ)) → StandsFor s vs ram lists old → ExitAt (vs s.turn) (kept_by s) at target →
+    (b o f : ℕ) → Placed (kept_by s) b f → o < length_at (vs s.turn) b → at ≡ f + o → ChipServed s vs (direct b o target) answer new
+
+-- what is counted at a miss, and at a service
+pub record CountedMiss (old new : ChipCounts) (evicts : Bool) (undone words : ℕ) : Type 0 where
+  pub services : new.services ≡ old.services
+  pub misses : new.misses ≡ (old.misses + 1) % 2 ^ 32
+  pub evictions : new.evictions ≡ (if evicts then (old.evictions + 1) % 2 ^ 32 else old.evictions)
+  pub links : new.links ≡ old.links
+  pub unlinks : new.unlinks ≡ (if evicts then (old.unlinks + undone) % 2 ^ 32 else old.unlinks)
+  pub copied : new.copied ≡ (old.copied + words) % 2 ^ 32
+
+pub record CountedService (old new : ChipCounts) (filled : ℕ) : Type 0 where
+  pub services : new.services ≡ (if nat_lt 0 filled then (old.services + 1) % 2 ^ 32 else old.services)
+  pub misses : new.misses ≡ old.misses
+  pub evictions : new.evictions ≡ old.evictions
+  pub links : new.links ≡ old.links
+  pub unlinks : new.unlinks ≡ old.unlinks
+  pub copied : new.copied ≡ old.copied
