@@ -3,6 +3,7 @@ import dataclasses
 import os
 import pathlib
 import struct
+import subprocess
 import tomllib
 
 from shared.words import Wrong
@@ -152,9 +153,21 @@ class Image:
         return struct.pack(f"<{len(found)}I", *found)
 
 
+def hint(*words):
+    """Says what tools/hints says of a file, or of a line of swic, where it says something: before the line that refuses it."""
+    script = HERE.parent / "tools/hints"
+    if script.exists() and not os.environ.get("SWIC_QUIET"):
+        subprocess.run([script, *words], stdin=subprocess.DEVNULL, check=False)
+
+
+def program_named():
+    """The program swic, built or not; SWIC names another."""
+    return pathlib.Path(os.environ.get("SWIC") or HERE.parent / "crates/swic/out/swic")
+
+
 def built_program():
     """The program swic that is built; SWIC names another."""
-    path = pathlib.Path(os.environ.get("SWIC") or HERE.parent / "crates/swic/out/swic")
+    path = program_named()
     if not os.access(path, os.X_OK):
         raise Wrong(f"no program {path}: ./swic --prove proves and builds it, in 20 to 25 minutes; SWIC names another", 254)
     return path
