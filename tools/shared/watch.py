@@ -134,6 +134,10 @@ class Watch:
 
 
 def main(words):
+    if sys.version_info < (3, 11):
+        for each in (signal.SIGPIPE, signal.SIGXFSZ):
+            signal.signal(each, signal.SIG_DFL)
+        os.execv(words[0], words)
     status = Watch(words).run()
     if status < 0:
         signal.signal(-status, signal.SIG_DFL)
