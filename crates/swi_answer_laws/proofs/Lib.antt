@@ -5,3 +5,4 @@ mod Ended
 mod Cached
 mod Answers
 mod Surveyed
+mod Counted

@@ -18,7 +18,7 @@ use Rattle.swi_answer_laws.proofs.Answers.{end, ended}
 use Rattle.swi_answer_laws.proofs.Ended.{Ended}
 use Rattle.swi_answer_laws.proofs.Parts.{image_is_one}
 
-ended_as : (g : Given) (a : Answer) (e : Ending) → IsAnswerTo g a → a.result ≡ Ok e → Ended g.request g.files g.input (end a.before a.after e)
+pub ended_as : (g : Given) (a : Answer) (e : Ending) → IsAnswerTo g a → a.result ≡ Ok e → Ended g.request g.files g.input (end a.before a.after e)
 ended_as g a e x is = ended g a.before a.after e (subst (λ (r : Result Ending Refusal). IsAnswerTo g (record { before = a.before; after = a.after; result = r })) is x)
 
 -- `cached --stats` with one of the sizes, of the survey's image

@@ -2,6 +2,7 @@
 #![tactic(auto)]
 
 ghost use Rattle.swi_answer_laws.specs.Answered.{AnswersAreOne};
+ghost use Rattle.swi_answer_laws.specs.Counted.{StatsMissFew};
 ghost use Rattle.swi_answer_laws.specs.Parts.{ImageIsOne, PlacedWordsAreOne, ProgramIsOne, RefusalIsOne, RoundsAreOne};
 ghost use Rattle.swi_answer_laws.specs.Surveyed.{SurveyIsCached};
 
@@ -22,7 +23,17 @@ pub fn laws_of_parts()
 /// What is asked of a command has one answer, where no device fails and there is memory: the same result, the same bytes
 /// on each sink and under OUT, the same input left, the same counts, fetches and placed blocks. And each line of `survey`
 /// tells what `cached --stats` does with that size.
+///
+/// Of an input that doesn't tell what is left, `top` answers so for each input from which what it gave may have been read;
+/// both laws hold of each of these.
 pub fn laws_of_answers()
     ensures answers { AnswersAreOne }
     ensures survey { SurveyIsCached }
+{}
+
+/// A law of what `cached --stats` tells of a cache with slots, for who reads it; it does nothing.
+///
+/// Whatever another policy of eviction keeps in as many slots, or fewer, it copies few blocks less than are told as missed.
+pub fn laws_of_counts()
+    ensures misses { StatsMissFew }
 {}

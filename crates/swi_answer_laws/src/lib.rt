@@ -3,4 +3,4 @@
 
 mod laws;
 
-pub use laws::{laws_of_answers, laws_of_parts};
+pub use laws::{laws_of_answers, laws_of_counts, laws_of_parts};
