@@ -4,23 +4,23 @@
 
 _Static_assert(sizeof(struct firmware) == 52, "native/pack writes the header");
 
+/* What runs before its own sum is known, and what stops where one is wrong: firmware/swicache.ld has it in front. */
+#define FIRST __attribute__((section(".swicache.first"), noinline))
+
 struct stop swicache_stop;
 
-__attribute__((weak)) void board_stopped(const struct stop *stop)
+FIRST __attribute__((weak)) void board_stopped(const struct stop *stop)
 {
     (void)stop;
 }
 
-void firmware_stop(enum stop_reason reason, uint32_t pc, uint32_t address)
+FIRST void firmware_stop(enum stop_reason reason, uint32_t pc, uint32_t address)
 {
     swicache_stop = (struct stop){reason, pc, address};
     board_stopped(&swicache_stop);
     for (;;)
         __asm__ volatile("wfi" ::: "memory");
 }
-
-/* Before all else, and so not yet summed while it sums: firmware/swicache.ld has it in front. */
-#define FIRST __attribute__((section(".swicache.first"), noinline))
 
 /* CRC-32, as zlib has it, of `count` words that stand behind others whose own is `before`. */
 FIRST static uint32_t crc_of(uint32_t before, const uint32_t *at, uint32_t count)
