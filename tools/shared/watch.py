@@ -4,6 +4,7 @@ Input, outputs and status are the command's, and a signal that ends it ends this
 stood. The program tells no steps while it runs: they are its processor seconds by the speed of its first ten million steps, which are
 made once more, without input, when the first line is due. ./swic calls this.
 """
+import contextlib
 import os
 import signal
 import sys
@@ -17,7 +18,8 @@ COUNTED = ("--steps", "--events")
 
 
 def say(text):
-    os.write(2, f"swic: {text}\n".encode())
+    with contextlib.suppress(OSError):
+        os.write(2, f"swic: {text}\n".encode())
 
 
 def number(count):
@@ -101,8 +103,11 @@ class Watch:
     def tell(self, *_):
         """The line that is due, unless the program mostly waits; and when the next one is."""
         self.due *= 2
-        with open(f"/proc/{self.child}/stat") as stat:
-            fields = stat.read().rpartition(")")[2].split()
+        try:
+            with open(f"/proc/{self.child}/stat") as stat:
+                fields = stat.read().rpartition(")")[2].split()
+        except OSError:
+            return
         used = (int(fields[11]) + int(fields[12])) / TICKS
         busy = used - self.used > 0.1
         self.used = used
