@@ -153,6 +153,12 @@ class Image:
         return struct.pack(f"<{len(found)}I", *found)
 
 
+def build():
+    """Builds what is missing of the runtime, or older than its sources."""
+    if subprocess.run([HERE / "build"], check=False).returncode:
+        raise Wrong("native/build has failed", 254)
+
+
 def hint(*words):
     """Says what tools/hints says of a file, or of a line of swic, where it says something: before the line that refuses it."""
     script = HERE.parent / "tools/hints"

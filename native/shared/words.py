@@ -40,3 +40,6 @@ def main(run):
     except BrokenPipeError:
         os.dup2(os.open(os.devnull, os.O_WRONLY), 1)
         sys.exit(141)
+    except OSError as error:
+        print(f"{pathlib.Path(sys.argv[0]).name}: {error.filename or 'what is written'}: {error.strerror or error}", file=sys.stderr)
+        sys.exit(254)
