@@ -3,6 +3,17 @@ import socket
 import time
 
 WRITE_WATCH, HARDWARE_BREAK = 2, 1
+STOPPED = {  # enum stop_reason of firmware/firmware.h: a line and the status
+    1: ("no firmware in flash", 252),
+    2: ("the flash is damaged: not what was packed", 244),
+    3: ("image {pc} fails its check at word {address}", 244),
+    4: ("the cache or its tables have no room for the image", 247),
+    5: ("the entry {address:08x} is no address of a text word", 243),
+    6: ("a trap of cause {pc:x}, and the handler at {address:08x} is no text word", 241),
+    7: ("a trap of cause {address:x} at {pc:08x}, in the runtime or in native code", 254),
+    8: ("the MRET at {address:08x} leads out of machine mode, where no firmware runs in the cache", 243),
+    9: ("the CSR instruction at {address:08x} locks memory of the runtime or the cache by PMP", 243),
+}
 
 
 class Gone(Exception):
@@ -10,18 +21,20 @@ class Gone(Exception):
 
 
 class Remote:
-    """Stops a machine of qemu where an instruction is executed, or a variable is written, and reads its memory."""
+    """Stops a machine of qemu where an instruction is executed, or a variable is written; reads and writes its memory."""
 
-    def __init__(self, path, qemu):
-        self.socket = socket.socket(socket.AF_UNIX)
+    def __init__(self, place, qemu):
+        """The place is the path of a socket, or a port of this machine."""
         self.held = b""
-        self.connect(path, qemu)
+        self.connect(place, qemu)
 
-    def connect(self, path, qemu):
+    def connect(self, place, qemu):
         while True:
+            self.socket = socket.socket(socket.AF_UNIX if isinstance(place, str) else socket.AF_INET)
             try:
-                return self.socket.connect(path)
+                return self.socket.connect(place if isinstance(place, str) else ("localhost", place))
             except OSError:
+                self.socket.close()
                 if qemu.poll() is not None:
                     raise Gone from None
                 time.sleep(0.01)
@@ -69,6 +82,17 @@ class Remote:
         data = bytes.fromhex(self.ask(f"m{address:x},{4 * count:x}"))
         return [int.from_bytes(data[k : k + 4], "little") for k in range(0, len(data), 4)]
 
+    def write(self, address, data):
+        """These bytes."""
+        if self.ask(f"M{address:x},{len(data):x}:{data.hex()}") != "OK":
+            raise Gone
+
+    def reset(self):
+        """The board's reset, by the monitor; the machine stays stopped."""
+        self.send("qRcmd," + b"system_reset\n".hex())
+        while self.receive() != "OK":  # what the monitor says
+            pass
+
     def go(self, seconds):
         """Runs until the machine stops; False where the time is over, and the machine is stopped then."""
         self.send("c")
@@ -89,7 +113,6 @@ class Remote:
         self.receive()
 
 
-
 def quit_machine(path):
     """Ends qemu by its monitor, without a word."""
     with socket.socket(socket.AF_UNIX) as monitor:
@@ -97,3 +120,10 @@ def quit_machine(path):
         monitor.sendall(b"quit\n")
         while monitor.recv(4096):
             pass
+
+
+def why_stopped(runtime, remote):
+    """The line and the status, where the runtime has stopped for good."""
+    reason, pc, address = remote.read(runtime.symbols["swicache_stop"], 3)
+    line, status = STOPPED.get(reason, ("stopped", 254))
+    return "native: " + line.format(pc=pc, address=address), status
