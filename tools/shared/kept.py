@@ -87,7 +87,7 @@ class Runs:
             return executions.kept(self.executed[counted], text, counted, steps)
         limit = self.options.first or self.options.steps if counted == steps else counted
         words = ["--steps", str(limit), "--heap", str(self.options.heap), "--stack", str(self.options.stack)]
-        found = executions.count(executions.Counted(self.runner, self.file, self.input, words, self.folder), text, counted, steps)
+        found = executions.count(executions.Counted(self.runner, self.file, self.input, words), text, counted, steps)
         self.append([self.key, EXECUTED, counted, found.line()])
         return found
 

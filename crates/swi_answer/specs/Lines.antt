@@ -95,7 +95,7 @@ mismatch_line (mismatch.Word block offset held required) =
 
 -- the line of a refusal; whether the stack fits is check 19 of a file
 abbrev pub refusal_line : Refusal → List ℕ
-refusal_line Usage = codes "usage: swic rewrite, cached, plain, trace, list, check, measure, upgrade, share, prefetch, survey\n"
+refusal_line Usage = codes "usage: swic rewrite, cached, plain, trace, list, check, measure, upgrade, share, prefetch, survey, profile\n"
 refusal_line (CacheLarge bytes) = codes "cache large: " ++ decimal bytes ++ codes "\n"
 refusal_line (RamSmall bytes held) = codes "ram small: " ++ decimal bytes ++ codes " " ++ decimal held ++ codes "\n"
 refusal_line ShelfFault = codes "shelf fault\n"

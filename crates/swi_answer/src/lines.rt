@@ -365,7 +365,7 @@ pub fn line_of_refusal(refusal: &Refusal) -> Line
 {
     match *refusal {
         Refusal::Usage => text_line(
-            "usage: swic rewrite, cached, plain, trace, list, check, measure, upgrade, share, prefetch, survey\n",
+            "usage: swic rewrite, cached, plain, trace, list, check, measure, upgrade, share, prefetch, survey, profile\n",
         ),
         Refusal::CacheLarge { bytes } => number_line("cache large: ", u64::from(bytes)),
         Refusal::RamSmall { bytes, held } => numbers_line("ram small: ", u64::from(bytes), held),

@@ -1,7 +1,7 @@
 -- What is asked has one answer.
 use Rattle.std.proofs.Common.{◌≡◌, ◌⊎◌, inl, inr, ℕ, ◌+◌, ◌≤◌, List, length, take, Option, Some, None, Result, Ok, Err, IsErrOf, refl, sym, ◌∙◌, subst, ap, arith}
 use Rattle.swi_outside.specs.CacheRam.{RamState}
-use Rattle.swi_command.specs.CommandLine.{Request, RewriteFile, RunAhead, RunShared, RunCached, RunPlain, ListFile, CheckFile, UpgradeFile, MeasureMade, RunSurvey}
+use Rattle.swi_command.specs.CommandLine.{Request, RewriteFile, RunAhead, RunShared, RunCached, RunPlain, ListFile, CheckFile, UpgradeFile, MeasureMade, RunSurvey, RunProfile}
 use Rattle.std.specs.Io.KnownBytes.{Appends}
 use Rattle.swi_answer.specs.declared.answer.Ending.{Ending}
 use Rattle.swi_answer.specs.declared.answer.Refusal.{Refusal}
@@ -19,7 +19,7 @@ use Rattle.swi_top.proofs.Alike.{completes}
 use Rattle.swi_answer_laws.specs.Answered.{Answer, AnswersAreOne, Given, IsAnswerTo, IsSameAnswer, cache_words}
 use Rattle.swi_answer_laws.proofs.Alike.{gain, gain_none, same_ram, store_none, whole_answers}
 use Rattle.swi_answer_laws.proofs.Cached.{ahead_once, cached_once, measure_once, share_once}
-use Rattle.swi_answer_laws.proofs.Ended.{End, EndOnce, Ended, check_once, list_once, plain_once, rewrite_once, survey_once, upgrade_once}
+use Rattle.swi_answer_laws.proofs.Ended.{End, EndOnce, Ended, check_once, list_once, plain_once, profile_once, rewrite_once, survey_once, upgrade_once}
 use Rattle.swi_answer_laws.proofs.Refusals.{refusal_is_one}
 
 -- ---- two endings
@@ -35,6 +35,7 @@ end_once (RunAhead name cache o rate) = ahead_once name cache o rate
 end_once (MeasureMade seed functions cache) = measure_once seed functions cache
 end_once (RunShared names cache o) = share_once names cache o
 end_once (RunSurvey name sizes block kind limits) = survey_once name sizes block kind limits
+end_once (RunProfile name limits) = profile_once name limits
 
 -- an answer, of the result that it has
 abbrev answer : Devices → Devices → Result Ending Refusal → Answer
@@ -49,7 +50,6 @@ ended g d m e x = record {
   are = x.are;
   told = x.input;
   stored = x.typed.stored;
-  words = x.typed.words;
 }
 
 both_ended : (g : Given) (d m d_ m_ : Devices) (e f : Ending) → IsAnswerTo g (answer d m (Ok e)) → IsAnswerTo g (answer d_ m_ (Ok f)) → IsSameAnswer g (answer d m (Ok e)) (answer d_ m_ (Ok f))

@@ -1,5 +1,5 @@
 -- Two endings of a command whose cache stands in the ram are the same, and leave the same.
-use Rattle.std.proofs.Common.{◌≡◌, ◌^◌, ◌<◌, ◌/◌, ℕ, max, List, [], ◌∷◌, ◌++◌, map, length, get_or, suc, false, Option, Some, None, Ok, refl, sym, ap, subst, ◌∙◌}
+use Rattle.std.proofs.Common.{◌≡◌, ◌/◌, ℕ, max, List, [], ◌∷◌, ◌++◌, map, length, get_or, suc, false, Option, Some, None, Ok, refl, sym, ap, subst, ◌∙◌}
 use Rattle.std.specs.Prelude.{slice_index_or}
 use Rattle.std.specs.List.{AllZip}
 use Rattle.std.specs.Io.KnownBytes.{Appends}
@@ -46,10 +46,10 @@ record Holds (s : Standing) (d m : RamState) : Type 0 where
   coherent : Coherent s.image s.kept s.span m.words
   unused : SameFrom s.extent d.words m.words
 
-stands : (s : Standing) (x y : End) → SameRam x y → ((i : ℕ) → get_or x.after.ram.words i 0 < 2 ^ 32) → ((i : ℕ) → get_or y.after.ram.words i 0 < 2 ^ 32) →
+stands : (s : Standing) (x y : End) → SameRam x y →
     Holds s x.before.ram x.after.ram → Holds s y.before.ram y.after.ram → StandAlike s x.after.ram.words y.after.ram.words
-stands s x y same small small_ h k = record {
-  placed = placed_words_are_one s x.after.ram.words y.after.ram.words small small_ h.coherent k.coherent;
+stands s x y same h k = record {
+  placed = placed_words_are_one s x.after.ram.words y.after.ram.words h.coherent k.coherent;
   unused = λ i far. h.unused i far ∙ (ap (λ (r : RamState). get_or r.words i 0) same ∙ sym (k.unused i far));
 }
 
@@ -79,7 +79,7 @@ cached_once name cache o file input x y same p q =
           (cached_went c x.before.ram x.after.ram one.cached) (cached_went c y.before.ram y.after.ram other.cached) p.answers.ram q.answers.ram;
       placed = λ s left.
           subst (λ (t : Standing). StandAlike t x.after.ram.words y.after.ram.words) (sym (left.2 ∙ ap (λ (w : ImageData). cached_standing (by w)) (image_is_one file cache.block_words left.0 v left.1 a.1)))
-          (stands (cached_standing c) x y same p.words q.words (record { coherent = one.cached.ram.coherent; unused = one.cached.ram.unused }) (record { coherent = other.cached.ram.coherent; unused = other.cached.ram.unused }));
+          (stands (cached_standing c) x y same (record { coherent = one.cached.ram.coherent; unused = one.cached.ram.unused }) (record { coherent = other.cached.ram.coherent; unused = other.cached.ram.unused }));
     }
 
 -- ---- `prefetch`
@@ -116,7 +116,7 @@ ahead_once name cache o rate file input x y same p q =
           let is : s ≡ ahead_standing c made =
           left.2.2 ∙ (ap (λ (w : ImageData). ahead_standing (by w) left.2.0) image ∙ ap (λ (n : ℕ). ahead_standing c n) (rounds_are_one c left.2.0 made are one.ahead.are)) in
           subst (λ (t : Standing). StandAlike t x.after.ram.words y.after.ram.words) (sym is)
-          (stands (ahead_standing c made) x y same p.words q.words (record { coherent = one.ahead.coherent; unused = one.ahead.unused }) (record { coherent = ahead.coherent; unused = ahead.unused }));
+          (stands (ahead_standing c made) x y same (record { coherent = one.ahead.coherent; unused = one.ahead.unused }) (record { coherent = ahead.coherent; unused = ahead.unused }));
     }
 
 -- ---- `measure`
@@ -172,7 +172,7 @@ measure_once seed functions cache files input x y same p q =
           let k : Parts = record { program = left.0; layout = left.1.0; image = left.1.1.0 } in
           let is : s ≡ cached_standing c = left.1.1.2 ∙ ap (λ (l : Parts). cached_standing (run_by cache l)) (parts_once seed functions cache k m left.1.1.1 a.is) in
           subst (λ (t : Standing). StandAlike t x.after.ram.words y.after.ram.words) (sym is)
-          (stands (cached_standing c) x y same p.words q.words (record { coherent = a.ran.ram.coherent; unused = a.ran.ram.unused }) (record { coherent = other.ran.ram.coherent; unused = other.ran.ram.unused }));
+          (stands (cached_standing c) x y same (record { coherent = a.ran.ram.coherent; unused = a.ran.ram.unused }) (record { coherent = other.ran.ram.coherent; unused = other.ran.ram.unused }));
     }
 
 -- ---- `share`
@@ -277,5 +277,5 @@ share_once names cache o files input x y same p q =
           let is_context : slice_index_or t.contexts g None ≡ Some c = subst (λ (u : Shared). slice_index_or u.contexts g None ≡ Some c) same_end left.2.1.1 in
           let is : s ≡ shared_standing t g c = left.2.1.2 ∙ ap (λ (u : Shared). shared_standing u g c) same_end in
           subst (λ (u : Standing). StandAlike u x.after.ram.words y.after.ram.words) (sym is)
-          (stands (shared_standing t g c) x y same p.words q.words (record { coherent = one.coherent g c is_context; unused = one.unused }) (record { coherent = other.coherent g c is_context; unused = other.unused }));
+          (stands (shared_standing t g c) x y same (record { coherent = one.coherent g c is_context; unused = one.unused }) (record { coherent = other.coherent g c is_context; unused = other.unused }));
     }

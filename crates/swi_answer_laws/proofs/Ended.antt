@@ -1,5 +1,5 @@
 -- Two endings of one command are the same, and leave the same.
-use Rattle.std.proofs.Common.{◌≡◌, ◌^◌, ℕ, ◌<◌, Bool, List, ◌++◌, get_or, Option, Some, Ok, sym, ap, subst, ◌∙◌}
+use Rattle.std.proofs.Common.{◌≡◌, ℕ, ◌<◌, Bool, List, ◌++◌, get_or, Option, Some, Ok, sym, ap, subst, ◌∙◌}
 use Rattle.std.specs.Prelude.{All}
 use Rattle.swi_elf_read.specs.Loaded.{image_of as image_in}
 use Rattle.swi_program.specs.Program.{ProgramData}
@@ -12,7 +12,7 @@ use Rattle.swi_elf_write.specs.Rewritten.{contents, file_header, headers, paddin
 use Rattle.swi_command.specs.declared.command.CacheKind.{CacheKind}
 use Rattle.swi_command.specs.declared.command.RunLimits.{RunLimits}
 use Rattle.swi_command.specs.declared.command.RunOptions.{RunOptions}
-use Rattle.swi_command.specs.CommandLine.{Request, RewriteFile, RunPlain, ListFile, CheckFile, UpgradeFile, RunSurvey}
+use Rattle.swi_command.specs.CommandLine.{Request, RewriteFile, RunPlain, ListFile, CheckFile, UpgradeFile, RunSurvey, RunProfile}
 use Rattle.swi_answer.specs.declared.answer.Ending.{Ending}
 use Rattle.swi_answer.specs.Lines.{ending_line}
 use Rattle.swi_task.specs.Answers.{Answers}
@@ -22,7 +22,9 @@ use Rattle.swi_task.specs.Task.{AreFiles}
 use Rattle.swi_file_commands.specs.CheckFile.{checked_line}
 use Rattle.swi_file_commands.specs.ListFile.{listing}
 use Rattle.swi_file_commands.specs.RewriteFile.{IsRewritten, cutting_of}
+use Rattle.swi_file_commands.specs.RunFlat.{run_of, told_of}
 use Rattle.swi_file_commands.specs.RunPlain.{plain_report, plain_run}
+use Rattle.swi_file_commands.specs.RunProfile.{profile_command}
 use Rattle.swi_file_commands.specs.UpgradeFile.{IsUpgraded}
 use Rattle.swi_survey_command.specs.RunSurvey.{SurveyRun, Surveys, limit_of, survey_lines, survey_of, surveyed}
 use Rattle.swi_top.specs.Tasks.{task_of}
@@ -42,7 +44,6 @@ pub record Ended (q : Request) (files : (task_of q).Files) (input : List ℕ) (x
   pub are : AreFiles (task_of q) x.before.shelf x.after.shelf files
   pub told : x.before.input.left ≡ Some input
   pub stored : All (λ p. (i : ℕ) → get_or p.1 i 0 < 256) x.after.shelf.stored
-  pub words : (i : ℕ) → get_or x.after.ram.words i 0 < 2 ^ 32
 
 pub record EndAlike (q : Request) (files : (task_of q).Files) (input : List ℕ) (x y : End) : Type 0 where
   pub ending : x.ending ≡ y.ending
@@ -160,6 +161,20 @@ pub plain_once : (name : List ℕ) (o : RunOptions) → EndOnce (RunPlain name o
 plain_once name o file input x y same p q =
     let s = plain_run o file input o.limits.steps in
     let r = ran_alike s (plain_report o s) x.before x.after y.before y.after x.ending y.ending (p.answers.done file p.are input p.told) (q.answers.done file q.are input q.told) in
+    record {
+      ending = r.ending;
+      output = r.output;
+      error = r.error;
+      left = r.left;
+      stored = store_none _ _ _ _ p.answers.shelf.passed.stored q.answers.shelf.passed.stored;
+      ram = kept_ram x y same p.answers.ram q.answers.ram;
+      placed = λ s none. absurd none;
+    }
+
+pub profile_once : (name : List ℕ) (limits : RunLimits) → EndOnce (RunProfile name limits)
+profile_once name limits file input x y same p q =
+    let s = run_of (profile_command limits) file input limits.steps in
+    let r = ran_alike s (told_of (profile_command limits) file input) x.before x.after y.before y.after x.ending y.ending (p.answers.done file p.are input p.told) (q.answers.done file q.are input q.told) in
     record {
       ending = r.ending;
       output = r.output;

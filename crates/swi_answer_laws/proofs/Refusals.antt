@@ -1,5 +1,5 @@
 -- The first check that fails gives one refusal.
-use Rattle.std.proofs.Common.{◌≡◌, ◌^◌, ℕ, ◌+◌, ◌*◌, ◌<◌, ◌≤◌, ◌⊎◌, List, [], ◌∷◌, length, get_or, Option, Some, None, option_map, Err, refl, arith, sym, ap, subst, ◌∙◌, inl, inr}
+use Rattle.std.proofs.Common.{◌≡◌, ◌^◌, ℕ, ◌+◌, ◌*◌, ◌<◌, ◌≤◌, ◌⊎◌, List, [], ◌∷◌, length, get_or, Option, Some, option_map, Err, refl, arith, sym, ap, subst, ◌∙◌, inl, inr}
 use Rattle.std.proofs.lemmas.Bool.{cases_lt}
 use Rattle.swi_elf_read.specs.Loaded.{image_of as image_in}
 use Rattle.swi_program.specs.Text.{TextData, text_of}
@@ -9,15 +9,16 @@ use Rattle.swi_image.specs.Format.{ImageData, image_of}
 use Rattle.swi_image.specs.Place.{block_at, next_start}
 use Rattle.swi_render.specs.Cut.{needs_of}
 use Rattle.swi_render.specs.Rendering.{As, Slot}
-use Rattle.swi_render.specs.ImageOf.{IsBlockOf, IsImageOf, OffsetsRight, block_between, offset_in, pad, start_of}
+use Rattle.swi_render.specs.ImageOf.{IsBlockOf, OffsetsRight, block_between, offset_in, pad, start_of}
 use Rattle.swi_render.proofs.Stands.{filled_two}
 use Rattle.swi_check.specs.declared.mismatch.Mismatch.{Mismatch}
 use Rattle.swi_check.specs.declared.mismatch.Mismatch.TheVariants.{Cover, Place, Long, Length, Word}
 use Rattle.swi_check.specs.Mismatches.{IsFirstWrong, IsMismatch, IsUncovered, IsWrongBetween, IsWrongIn, IsWrongPlace, IsWrongWord, Covers, asked_between}
-use Rattle.swi_check.proofs.Never.{err_not}
+use Rattle.swi_check.proofs.Never.{not_block}
 use Rattle.swi_answer.specs.declared.answer.Refusal.{Refusal}
 use Rattle.swi_answer.specs.declared.answer.Refusal.TheVariants as refusal
-use Rattle.swi_task.specs.Checks.{Check, OfImage, IsShort, IsAcceptedElf, HasRoom, HasImage, IsAcceptedImage, IsOwnImage, FitsBlocks, FitsUnlessImage, FitsMade, HoldsBlock, Fails, IsLong, Passes, text_in}
+use Rattle.swi_task.specs.Checks.{Check, IsShort, IsAcceptedElf, HasRoom, HasImage, IsAcceptedImage, IsOwnImage, FitsBlocks, FitsUnlessImage, FitsMade, HoldsBlock, Fails, IsLong, text_in}
+use Rattle.swi_top.proofs.Alike.{fails_not}
 use Rattle.swi_answer_laws.specs.Answered.{HasWord}
 use Rattle.swi_answer_laws.specs.Parts.{RefusalIsOne}
 use Rattle.swi_answer_laws.proofs.Parts.{program_is_one}
@@ -33,16 +34,6 @@ least_once P m n below wrong below_ wrong_ = elim (cases_lt m n) [
     | inr other ↦ omega arith
   ]
 ]
-
--- a block with a difference is none of the text
-not_block : (t : TextData) (v : ImageData) (b : ℕ) (m : Mismatch) → IsWrongIn t v b m → IsBlockOf t v b → ⊥
-not_block t v b (Cover address) w r = w
-not_block t v b (Place address held required) w r = w.wrong (w.held_is ∙ (r.offsets w.word w.low w.high ∙ sym w.required_is))
-not_block t v b (Long block needs) w r = omega (arith, w.2, w.3, r.fits)
-not_block t v b (Length block held required) w r =
-    w.6 (w.5 ∙ (r.words.size ∙ (ap length (filled_two v (block_between t (start_of v b) (next_start v b)) w.4) ∙ sym w.2)))
-not_block t v b (Word block offset held required) w r =
-    w.4.wrong (subst (λ (x : ℕ). As (get_or (asked_between t v (start_of v b) (next_start v b)) offset pad).asked x) (sym w.4.held_is) (r.words.each offset w.4.within))
 
 place_eq : (a b h k r s : ℕ) → a ≡ b → h ≡ k → r ≡ s → Place a h r ≡ Place b k s
 place_eq a b h k r s p q e = λ i. Place (p i) (q i) (e i)
@@ -173,25 +164,6 @@ fails_once (FitsUnlessImage file most) r s p q x y = long_once (text_in file) mo
 fails_once (FitsMade seed functions most) r s p q x y =
     long_once (text_of x.0.segments) most r s x.2 (subst (λ (m : ProgramData). IsLong (text_of m.segments) most s) (program_is_one seed functions y.0 x.0 y.1 x.1) y.2)
 fails_once (HoldsBlock bytes least) r s p q x y = x.1 ∙ sym y.1
-
--- a file does not both pass a check and fail it
-
-image_fact : (x : Option (List ℕ)) (P : List ℕ → Type 0) (bytes : List ℕ) → x ≡ Some bytes → OfImage x P → P bytes
-image_fact x P bytes e h = subst (λ (y : Option (List ℕ)). OfImage y P) e h
-
-fails_not : (c : Check) (r : Refusal) → Passes c → Fails c r → ⊥
-fails_not (IsShort file) r p f = let long = f.0 in omega (arith, p, long)
-fails_not (IsAcceptedElf file) r p f = let bad : ⊥ = cc in bad
-fails_not (HasRoom file limits) r p f = let ok = p.1 in let err = f.1 in let bad : ⊥ = cc in bad
-fails_not (HasImage file) r p f = let some = p.1 in let none = f.0 in let bad : ⊥ = cc in bad
-fails_not (IsAcceptedImage file) r p f =
-    let none = image_fact (image_in file) (λ bytes. image.first_refusal bytes ≡ None) f.0 f.1 p in let some = f.2 in let bad : ⊥ = cc in bad
-fails_not (IsOwnImage file) r p f =
-    err_not (text_in file) (image_of f.0) (Err f.2.0) f.2.1 (image_fact (image_in file) (λ bytes. IsImageOf (text_in file) (image_of bytes)) f.0 f.1 p)
-fails_not (FitsBlocks file most) r p f = let few = p f.0 f.1.within in let long = f.1.long in omega (arith, few, long)
-fails_not (FitsUnlessImage file most) r p f = let few = p f.0 f.1.0 f.1.1.within in let long = f.1.1.long in omega (arith, few, long)
-fails_not (FitsMade seed functions most) r p f = let few = p f.0 f.1 f.2.0 f.2.1.within in let long = f.2.1.long in omega (arith, few, long)
-fails_not (HoldsBlock bytes least) r p f = let less = f.0 in omega (arith, p, less)
 
 pub refusal_is_one : RefusalIsOne
 refusal_is_one [] r s p q x y = absurd x

@@ -37,10 +37,9 @@ abbrev pub HasWord : Result Ending Refusal → Type 0
 HasWord (Err (refusal.Mismatch (mismatch.Word block offset held required))) = required < 2 ^ 32
 HasWord _ = ⊤
 
--- numbers are as their types have them: what is stored under a name is bytes, and the ram holds words of 32 bits
+-- numbers are as their types have them: what is stored under a name is bytes
 pub record IsTyped (a : Answer) : Type 0 where
   pub stored : All (λ p. (i : ℕ) → slice_index p.1 i < 256) a.after.shelf.stored
-  pub words : (i : ℕ) → slice_index a.after.ram.words i < 2 ^ 32
   pub refused : HasWord a.result
 
 -- it is the answer of `top` to what was asked; all its files were given, or are told; no device failed, and there was memory

@@ -1,5 +1,5 @@
--- What the misses that `cached --stats` tells say of any other policy.
-use Rattle.std.specs.Prelude.{◌≡◌, ℕ, ◌+◌, ◌-◌, ◌*◌, ◌≤◌, List, ◌∷◌, ◌++◌, Some, Ok}
+-- What the counts that `cached --stats` tells say of the cache: with room for all blocks, against any other policy, and for so many steps.
+use Rattle.std.specs.Prelude.{◌≡◌, ℕ, ◌+◌, ◌-◌, ◌*◌, ◌≤◌, List, ◌∷◌, ◌++◌, length, Some, Ok}
 use Rattle.std.specs.Io.KnownBytes.{Appends}
 use Rattle.swi_outside.specs.CacheRam.{RamState}
 use Rattle.swi_elf_read.specs.Loaded.{image_of as image_in}
@@ -8,6 +8,7 @@ use Rattle.swi_image.specs.Place.{place_of}
 use Rattle.swi_rom.specs.Record.{indirect}
 use Rattle.swi_board.specs.Transfers.{transfers}
 use Rattle.swi_cache_laws.specs.Paging.{Choice, IsPolicy, copies}
+use Rattle.swi_cache_laws.specs.Room.{exits_of, words_of}
 use Rattle.swi_cache_laws.specs.Transfers.{entered}
 use Rattle.swi_command.specs.declared.command.CacheKind.TheVariants.{Slots}
 use Rattle.swi_command.specs.declared.command.CacheOptions.{CacheOptions}
@@ -59,3 +60,28 @@ StatsMissFew = (q : StatsAsked) (file input : List ℕ) (ram : RamState) (b : An
     IsAnswerTo (stats_given q file input ram) b → b.result ≡ Ok f →
     (t : TellsStats b) × ((v : ImageData) → IsImageFor file q.cache.block_words (image_in file) v →
     AreFew (slots_of q.cache.cache_bytes v) t.work.counts.misses (entered_by (stats_run q file input v)))
+
+-- This is the work of a cache that holds all blocks: none leaves, each is copied once at most, and each exit linked once at most.
+pub record HasRoomFor (v : ImageData) (w : Work) : Type 0 where
+  pub evictions : w.counts.evictions ≡ 0
+  pub unlinks : w.counts.unlinks ≡ 0
+  pub misses : w.counts.misses ≤ length v.blocks
+  pub links : w.counts.links ≤ length (exits_of v)
+  pub writes : w.writes ≤ words_of v + length (exits_of v)
+
+-- So it is where there is a slot for each block.
+abbrev pub StatsHaveRoom : Type 0
+StatsHaveRoom = (q : StatsAsked) (file input : List ℕ) (ram : RamState) (b : Answer) (f : Ending) → q.cache.kind ≡ Slots →
+    IsAnswerTo (stats_given q file input ram) b → b.result ≡ Ok f →
+    (t : TellsStats b) × ((v : ImageData) → IsImageFor file q.cache.block_words (image_in file) v → length v.blocks ≤ slots_of q.cache.cache_bytes v → HasRoomFor v t.work)
+
+-- This is the most work that up to `limit` steps can take, of which so many were made: so whatever each count weighs, they cost no more.
+pub record CostsFew (limit : ℕ) (v : ImageData) (steps : ℕ) (w : Work) : Type 0 where
+  pub machine : w.machine ≤ 3 * steps + 2
+  pub services : w.counts.services ≤ 2 * limit
+  pub writes : w.writes ≤ (2 * limit + 1) * v.block_words + 4 * limit
+
+-- So it is in slots and in a ring.
+abbrev pub StatsCostFew : Type 0
+StatsCostFew = (q : StatsAsked) (file input : List ℕ) (ram : RamState) (b : Answer) (f : Ending) → IsAnswerTo (stats_given q file input ram) b → b.result ≡ Ok f →
+    (t : TellsStats b) × ((v : ImageData) → IsImageFor file q.cache.block_words (image_in file) v → CostsFew q.limits.steps v t.steps t.work)

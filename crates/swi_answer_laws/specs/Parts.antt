@@ -1,5 +1,5 @@
 -- What a contract leaves to a command's choice is one thing each.
-use Rattle.std.specs.Prelude.{◌≡◌, ℕ, ◌^◌, ◌<◌, List, Err, slice_index}
+use Rattle.std.specs.Prelude.{◌≡◌, ℕ, List, Err}
 use Rattle.swi_elf_read.specs.Loaded.{image_of as image_in}
 use Rattle.swi_program.specs.Program.{ProgramData}
 use Rattle.swi_image.specs.Format.{ImageData}
@@ -24,10 +24,9 @@ ProgramIsOne = (seed functions : ℕ) (p q : ProgramData) → IsMade seed functi
 abbrev pub RoundsAreOne : Type 0
 RoundsAreOne = (c : AheadRun) (m n : ℕ) → AreRounds c m → AreRounds c n → m ≡ n
 
--- the words of 32 bits in which blocks stand
+-- the words in which blocks stand
 abbrev pub PlacedWordsAreOne : Type 0
-PlacedWordsAreOne = (s : Standing) (ws us : List ℕ) → ((i : ℕ) → slice_index ws i < 2 ^ 32) → ((i : ℕ) → slice_index us i < 2 ^ 32) →
-    Coherent s.image s.kept s.span ws → Coherent s.image s.kept s.span us → HoldAlike s ws us
+PlacedWordsAreOne = (s : Standing) (ws us : List ℕ) → Coherent s.image s.kept s.span ws → Coherent s.image s.kept s.span us → HoldAlike s ws us
 
 -- the refusal by the first check that fails, down to the first difference of an image
 abbrev pub RefusalIsOne : Type 0

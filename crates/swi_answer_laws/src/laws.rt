@@ -2,7 +2,7 @@
 #![tactic(auto)]
 
 ghost use Rattle.swi_answer_laws.specs.Answered.{AnswersAreOne};
-ghost use Rattle.swi_answer_laws.specs.Counted.{StatsMissFew};
+ghost use Rattle.swi_answer_laws.specs.Counted.{StatsCostFew, StatsHaveRoom, StatsMissFew};
 ghost use Rattle.swi_answer_laws.specs.Parts.{ImageIsOne, PlacedWordsAreOne, ProgramIsOne, RefusalIsOne, RoundsAreOne};
 ghost use Rattle.swi_answer_laws.specs.Surveyed.{SurveyIsCached};
 
@@ -31,9 +31,13 @@ pub fn laws_of_answers()
     ensures survey { SurveyIsCached }
 {}
 
-/// A law of what `cached --stats` tells of a cache with slots, for who reads it; it does nothing.
+/// Three laws of what `cached --stats` tells, for who reads it; it does nothing.
 ///
-/// Whatever another policy of eviction keeps in as many slots, or fewer, it copies few blocks less than are told as missed.
+/// Where there is a slot for each block, none is told as evicted. Whatever another policy of eviction keeps in as many slots,
+/// or fewer, it copies few blocks less than are told as missed. In slots and in a ring the counts are no more than so many
+/// steps can take.
 pub fn laws_of_counts()
+    ensures room { StatsHaveRoom }
     ensures misses { StatsMissFew }
+    ensures cost { StatsCostFew }
 {}

@@ -32,6 +32,7 @@ use Rattle.swi_board.specs.Advancing.{Onward, ServiceStays, Underway, course_fro
 use Rattle.swi_board.specs.Moments.{Moment, Policy, completed, event, events, executed, fell, led, stepped_at}
 use Rattle.swi_board.specs.Tracking.{Point, Running, Tracks, point_of}
 use Rattle.swi_board.specs.Transfers.{Here, at_fall, before_last, here_of, spent_run}
+use Rattle.swi_board.proofs.Fetching.{holds_under}
 use Rattle.swi_board.proofs.Running.{came_none, came_on, no_less, stays_none, stays_on}
 
 -- the machines have the same memory
@@ -104,7 +105,9 @@ module _ {S : Type 0} {k : ServiceOf S} {v : ImageData} {n : ℕ} {old : BoardWi
       record {
         made = suc was.made;
         came = came_on (k.policy (k.setting old.rom)) (k.span (k.setting old.rom)) v n was.made (point_of k old) (point_of k now) (point_of k next) was.came more running word
-            (laws.coherent now.rom v now.ram.words was.stays.sound).once moves (s.made was.stays.sound) stepped;
+            (laws.coherent now.rom v now.ram.words was.stays.sound).once
+            (holds_under v (k.kept now.rom) (k.span (k.setting now.rom)) now.ram.words now.hart (laws.coherent now.rom v now.ram.words was.stays.sound) was.stays.point.fits running word)
+            moves (s.made was.stays.sound) stepped;
         stays = stays_step was.stays laws more running s;
       }
 

@@ -30,6 +30,7 @@ use Rattle.swi_board.specs.Reached.{Reached}
 use Rattle.swi_board.specs.Tracking.{Point}
 use Rattle.swi_board.specs.Transfers.{after_all, here_after, jumps_as, branch_words, leaves_by, step_cost, step_transfers}
 use Rattle.swi_board.specs.Turning.{Begins, Stood, StoodAt, Turn, Turned, board_at, machine_at, service_at}
+use Rattle.swi_board.proofs.Fetching.{HoldsRow, holds_row}
 use Rattle.swi_board.proofs.Strides.{Moves, RamStrode, fall_stride, text_stride}
 use Rattle.swi_board.proofs.Turns.{FetchedRow, laws_of, stays_fetched, stays_more, stays_reached, strode, turned_on, turned_running}
 
@@ -135,6 +136,12 @@ module _ {S : Type 0} {k : ServiceOf S} {v : ImageData} {limit : ℕ} {first : T
         let at = i.at.index in
         index_on t.cursor.row t.cursor.delta n (k.span (k.setting first.rom)) (omega (arith, end, at)) span_small
 
+    -- and the ram has what stands at them
+    pub row_held : (n : ℕ) → i.at.offset + n ≤ length_at v i.at.block → HoldsRow v (k.kept t.rom) t.ram.words i.at.block (sum_of t.cursor.row t.cursor.delta) n
+    row_held n room =
+        holds_row v (k.kept t.rom) (k.span (k.setting t.rom)) t.ram.words (laws.coherent t.rom v t.ram.words i.stays.sound.0) i.at.block i.at.first i.at.offset (sum_of t.cursor.row t.cursor.delta) n
+        i.at.is_placed room i.at.index
+
     -- an original step
     module _ (some : 0 < t.cursor.left) (next : Turn S) (to : StoodAt k v next) (n : ℕ)
         (rest : next.machine ≡ record t.machine { regs = next.machine.regs; bus = next.machine.bus })
@@ -146,7 +153,7 @@ module _ {S : Type 0} {k : ServiceOf S} {v : ImageData} {limit : ℕ} {first : T
         (moves : k.kept next.rom ≡ after_all policy v (k.kept t.rom) (step_transfers (machine_at limit t i.at.pc) (Some (i.at.block, i.at.offset)) (went (machine_at limit t i.at.pc) to.pc next.machine.regs next.machine.bus)))
         (few : ((n ≤ 2) × (k.kept next.rom ≡ k.kept t.rom)) ⊎ ((n ≤ 3) × ((k.kept next.rom).counts.services ≤ (k.kept t.rom).counts.services + 1) × (place_of v to.pc ≡ Some (to.block, to.offset))))
         (ram : RamStrode span n (writes (k.kept next.rom) - writes (k.kept t.rom)) (sum_of t.cursor.row t.cursor.delta) t.ram next.ram)
-        (stays : ServiceStays k v (service_at t) (service_at next)) where
+        (stays : ServiceStays k v (service_at t) (service_at next)) (room : i.at.offset + n ≤ length_at v i.at.block) where
       machine_is : went (machine_at limit t i.at.pc) to.pc next.machine.regs next.machine.bus ≡ machine_at limit next to.pc
       machine_is =
           let below = i.within.left in
@@ -178,7 +185,7 @@ module _ {S : Type 0} {k : ServiceOf S} {v : ImageData} {limit : ℕ} {first : T
           (subst (λ (m : Machine). here_after v (machine_at limit t i.at.pc) (Some (i.at.block, i.at.offset)) m ≡ Some (to.block, to.offset)) machine_is there)
           cost
           (subst (λ (m : Machine). k.kept next.rom ≡ after_all policy v (k.kept t.rom) (step_transfers (machine_at limit t i.at.pc) (Some (i.at.block, i.at.offset)) m)) machine_is moves)
-          few (to.first, to.is_placed, to.index) to.goes)
+          few (to.first, to.is_placed, to.index) to.goes (row_held n room))
           stays
 
     -- one that goes on behind the words that stand for it
@@ -229,6 +236,7 @@ module _ {S : Type 0} {k : ServiceOf S} {v : ImageData} {limit : ℕ} {first : T
           (let inside = behind_span in let few = words.2 in
           strode (k.span (k.setting first.rom)) n (writes (k.kept t.rom) - writes (k.kept t.rom)) (sum_of t.cursor.row t.cursor.delta) t.ram ram ram (omega (arith, inside, few)) row (ram_same (k.span (k.setting first.rom)) (k.kept t.rom) ram))
           (stays_fetched i.stays.sound.0 row.words)
+          (let inside = behind_inside in let few = words.2 in omega (arith, inside, few))
 
     -- where a transfer leads that was served
     module _ (transfer : Transfer) (left : RamState) (rom : S) (ram : RamState) (a there row delta : ℕ) (short : a < 2 ^ 32)
@@ -301,7 +309,7 @@ module _ {S : Type 0} {k : ServiceOf S} {v : ImageData} {limit : ℕ} {first : T
             (transfers_by v (machine_at limit t i.at.pc) w x ss reads decodes rendered (i.at.block, i.at.offset) (went (machine_at limit t i.at.pc) a regs t.machine.bus) jumps i.going ∙ leaves)))
             (inr (words.1, reached_services, reached_place))
             (strode (k.span (k.setting first.rom)) n (writes (k.kept rom) - writes (k.kept t.rom)) (sum_of t.cursor.row t.cursor.delta) t.ram left ram (spans n inside) fetches reached_ram)
-            (reached_stays fetches.words)
+            (reached_stays fetches.words) inside
           where
             spans : (n : ℕ) → i.at.offset + n ≤ length_at v i.at.block → sum_of t.cursor.row t.cursor.delta + n ≤ k.span (k.setting first.rom)
             spans n le =
@@ -348,5 +356,6 @@ module _ {S : Type 0} {k : ServiceOf S} {v : ImageData} {limit : ℕ} {first : T
             (falls.no_place i.at.pc)
             (reached_moves ∙ ap (λ (x : Transfer). policy (k.kept t.rom) v x) own)
             (ap (λ (n : ℕ). place_of v n) (sym pc) ∙ reached_place)
-            (stands.first, stands.is_placed, lands ∙ stands.index))
+            (stands.first, stands.is_placed, lands ∙ stands.index)
+            (let inside = i.at.inside in row_held 1 (omega (arith, inside))))
             (reached_stays fetches.words)

@@ -8,22 +8,23 @@ use Rattle.swi_calls.specs.Held.{held_step}
 use Rattle.swi_calls.specs.State.{FlatState}
 use Rattle.swi_image.specs.Format.{ImageData}
 use Rattle.swi_rom.specs.Record.{Record, writes}
+use Rattle.swi_rom.specs.Standing.{word_in}
 use Rattle.swi_hart.specs.Hart.{original, slots}
-use Rattle.swi_board.specs.Fetching.{fetches_from, index_in, step_words}
+use Rattle.swi_board.specs.Fetching.{fetch_in, fetches_from, index_in, step_words}
 use Rattle.swi_board.specs.Transfers.{Here, after_all, at_fall, before_last, step_size, step_transfers}
-use Rattle.swi_board.specs.Moments.{Moment, Policy, completed, counted, event, events, executed, fell, here_behind, led, stepped_at, written_in}
+use Rattle.swi_board.specs.Moments.{Moment, Policy, completed, counted, event, events, executed, fell, here_behind, led, next_fetch, stepped_at, written_in}
 
 -- ---- what stands for a run of one step more
 
-fetches_snoc : (i m sets : ℕ) → fetches_from i (suc m) sets ≡ fetches_from i m sets ++ fetch (i + m) sets ∷ []
-fetches_snoc i zero sets = let same : i ≡ i + 0 = omega arith in ap (λ (n : ℕ). fetch n sets ∷ []) same
-fetches_snoc i (suc m) sets =
+fetches_snoc : (word : ℕ → ℕ) (i m sets : ℕ) → fetches_from word i (suc m) sets ≡ fetches_from word i m sets ++ fetch (i + m) sets (word (i + m)) ∷ []
+fetches_snoc word i zero sets = let same : i ≡ i + 0 = omega arith in ap (λ (n : ℕ). fetch n sets (word n) ∷ []) same
+fetches_snoc word i (suc m) sets =
     let same : i + 1 + m ≡ i + suc m = omega arith in
-    ap (λ (l : List Fetch). fetch i sets ∷ l) (fetches_snoc (i + 1) m sets ∙ ap (λ (n : ℕ). fetches_from (i + 1) m sets ++ fetch n sets ∷ []) same)
+    ap (λ (l : List Fetch). fetch i sets (word i) ∷ l) (fetches_snoc word (i + 1) m sets ∙ ap (λ (n : ℕ). fetches_from word (i + 1) m sets ++ fetch n sets (word n) ∷ []) same)
 
-reverse_snoc : (i m sets : ℕ) (l : List Fetch) → fetch (i + m) sets ∷ reverse (fetches_from i m sets) ++ l ≡ reverse (fetches_from i (suc m) sets) ++ l
-reverse_snoc i m sets l =
-    ap (λ (x : List Fetch). x ++ l) (sym (reverse-append (fetches_from i m sets) (fetch (i + m) sets ∷ [])) ∙ ap (λ (x : List Fetch). reverse x) (sym (fetches_snoc i m sets)))
+reverse_snoc : (word : ℕ → ℕ) (i m sets : ℕ) (l : List Fetch) → fetch (i + m) sets (word (i + m)) ∷ reverse (fetches_from word i m sets) ++ l ≡ reverse (fetches_from word i (suc m) sets) ++ l
+reverse_snoc word i m sets l =
+    ap (λ (x : List Fetch). x ++ l) (sym (reverse-append (fetches_from word i m sets) (fetch (i + m) sets (word (i + m)) ∷ [])) ∙ ap (λ (x : List Fetch). reverse x) (sym (fetches_snoc word i m sets)))
 
 -- ---- so many events, and one
 
@@ -50,30 +51,30 @@ module _ (by : Policy) (v : ImageData) (t : Moment) (going : is_some t.flat.mach
   pub event_at : (h : Here) → t.here ≡ h → event by v t ≡ stepped_at by v h t
   event_at h is = ap (λ (q : Bool). if q then t else stepped_at by v t.here t) going ∙ ap (λ (x : Here). stepped_at by v x t) is
 
-  pub fall_event : (p : ℕ × ℕ) → t.here ≡ Some p → at_fall v t.flat.machine (Some p) ≡ true → event by v t ≡ counted (fetch (index_in t.kept p + t.spent) t.sets ∷ []) (fell by v p t)
-  fall_event p is falls = event_at (Some p) is ∙ ap (λ (q : Bool). counted (fetch (index_in t.kept p + t.spent) t.sets ∷ []) (if q then fell by v p t else executed by v p t)) falls
+  pub fall_event : (p : ℕ × ℕ) → t.here ≡ Some p → at_fall v t.flat.machine (Some p) ≡ true → event by v t ≡ counted (next_fetch v p t ∷ []) (fell by v p t)
+  fall_event p is falls = event_at (Some p) is ∙ ap (λ (q : Bool). counted (next_fetch v p t ∷ []) (if q then fell by v p t else executed by v p t)) falls
 
   pub lead_event : (p : ℕ × ℕ) → t.here ≡ Some p → at_fall v t.flat.machine (Some p) ≡ false → nat_lt t.spent (before_last t.flat.machine (original t.flat.machine) (slots t.flat.machine)) ≡ true →
-      event by v t ≡ counted (fetch (index_in t.kept p + t.spent) t.sets ∷ []) (led t)
+      event by v t ≡ counted (next_fetch v p t ∷ []) (led t)
   lead_event p is plain less =
-      event_at (Some p) is ∙ ap (λ (q : Bool). counted (fetch (index_in t.kept p + t.spent) t.sets ∷ []) (if q then fell by v p t else executed by v p t)) plain
-      ∙ ap (λ (q : Bool). counted (fetch (index_in t.kept p + t.spent) t.sets ∷ []) (if q then led t else completed by v (Some p) t)) less
+      event_at (Some p) is ∙ ap (λ (q : Bool). counted (next_fetch v p t ∷ []) (if q then fell by v p t else executed by v p t)) plain
+      ∙ ap (λ (q : Bool). counted (next_fetch v p t ∷ []) (if q then led t else completed by v (Some p) t)) less
 
   pub last_event : (p : ℕ × ℕ) → t.here ≡ Some p → at_fall v t.flat.machine (Some p) ≡ false → nat_lt t.spent (before_last t.flat.machine (original t.flat.machine) (slots t.flat.machine)) ≡ false →
-      event by v t ≡ counted (fetch (index_in t.kept p + t.spent) t.sets ∷ []) (completed by v (Some p) t)
+      event by v t ≡ counted (next_fetch v p t ∷ []) (completed by v (Some p) t)
   last_event p is plain last =
-      event_at (Some p) is ∙ ap (λ (q : Bool). counted (fetch (index_in t.kept p + t.spent) t.sets ∷ []) (if q then fell by v p t else executed by v p t)) plain
-      ∙ ap (λ (q : Bool). counted (fetch (index_in t.kept p + t.spent) t.sets ∷ []) (if q then led t else completed by v (Some p) t)) last
+      event_at (Some p) is ∙ ap (λ (q : Bool). counted (next_fetch v p t ∷ []) (if q then fell by v p t else executed by v p t)) plain
+      ∙ ap (λ (q : Bool). counted (next_fetch v p t ∷ []) (if q then led t else completed by v (Some p) t)) last
 
 -- no word is taken back
 pub event_rises : (by : Policy) (v : ImageData) (s : Moment) → length s.words ≤ length (event by v s).words
 event_rises by v s = by_ending s.flat.machine.ending
   where
-    by_words : (p : ℕ × ℕ) (t : Bool) → length s.words ≤ length (counted (fetch (index_in s.kept p + s.spent) s.sets ∷ []) (if t then led s else completed by v (Some p) s)).words
+    by_words : (p : ℕ × ℕ) (t : Bool) → length s.words ≤ length (counted (next_fetch v p s ∷ []) (if t then led s else completed by v (Some p) s)).words
     by_words p true = omega arith
     by_words p false = omega arith
 
-    by_fall : (p : ℕ × ℕ) (t : Bool) → length s.words ≤ length (counted (fetch (index_in s.kept p + s.spent) s.sets ∷ []) (if t then fell by v p s else executed by v p s)).words
+    by_fall : (p : ℕ × ℕ) (t : Bool) → length s.words ≤ length (counted (next_fetch v p s ∷ []) (if t then fell by v p s else executed by v p s)).words
     by_fall p true = omega arith
     by_fall p false = by_words p (nat_lt s.spent (before_last s.flat.machine (original s.flat.machine) (slots s.flat.machine)))
 
@@ -93,13 +94,13 @@ words_rise by v (suc j) s = let so_far = words_rise by v j s in let one = event_
 -- ---- the words of one instruction
 
 -- so many of them were executed
-pub record Leads (p : ℕ × ℕ) (m : ℕ) (s t : Moment) : Type 0 where
+pub record Leads (v : ImageData) (p : ℕ × ℕ) (m : ℕ) (s t : Moment) : Type 0 where
   pub flat : t.flat ≡ s.flat
   pub here : t.here ≡ Some p
   pub spent : t.spent ≡ m
   pub kept : t.kept ≡ s.kept
   pub count : t.count ≡ s.count + m
-  pub words : t.words ≡ reverse (fetches_from (index_in s.kept p) m s.sets) ++ s.words
+  pub words : t.words ≡ reverse (fetches_from (word_in v s.kept p.0) (index_in s.kept p) m s.sets) ++ s.words
   pub many : length t.words ≡ length s.words + m
   pub sets : t.sets ≡ s.sets
 
@@ -111,7 +112,7 @@ pub record StepMade (by : Policy) (v : ImageData) (h : Here) (n : ℕ) (s t : Mo
   pub here : t.here ≡ here_behind v s.flat.machine h (held_step s.flat).machine
   pub spent : t.spent ≡ 0
   pub count : t.count ≡ s.count + n
-  pub words : t.words ≡ reverse (step_words s.flat.machine h (written_in s)) ++ s.words
+  pub words : t.words ≡ reverse (step_words v s.flat.machine h (written_in s)) ++ s.words
   pub before : (j : ℕ) → j < n → (events by v j s).flat ≡ s.flat
   pub many : length t.words ≡ length s.words + step_size 0 s.flat.machine h
   -- before a word of it fewer were fetched
@@ -121,7 +122,7 @@ module _ (by : Policy) (v : ImageData) (s : Moment) (p : ℕ × ℕ) (here : s.h
   abbrev pub last : FlatState → ℕ
   last q = before_last q.machine (original q.machine) (slots q.machine)
 
-  pub leads : (m : ℕ) → m ≤ last s.flat → Leads p m s (events by v m s)
+  pub leads : (m : ℕ) → m ≤ last s.flat → Leads v p m s (events by v m s)
   unfolding events
   leads zero le = record { flat = refl; here = here; spent = none; kept = refl; count = omega arith; words = refl; many = omega arith; sets = refl }
   leads (suc m) le =
@@ -138,11 +139,11 @@ module _ (by : Policy) (v : ImageData) (s : Moment) (p : ℕ × ℕ) (here : s.h
         kept = ap (λ (q : Moment). q.kept) is ∙ was.kept;
         count = ap (λ (q : Moment). q.count) is ∙ omega (arith, c);
         words = ap (λ (q : Moment). q.words) is
-            ∙ ap (λ (r : Record). fetch (index_in r p + (events by v m s).spent) (events by v m s).sets ∷ (events by v m s).words) was.kept
-            ∙ ap (λ (n : ℕ). fetch (index_in s.kept p + n) (events by v m s).sets ∷ (events by v m s).words) was.spent
-            ∙ ap (λ (n : ℕ). fetch (index_in s.kept p + m) n ∷ (events by v m s).words) was.sets
-            ∙ ap (λ (l : List Fetch). fetch (index_in s.kept p + m) s.sets ∷ l) was.words
-            ∙ reverse_snoc (index_in s.kept p) m s.sets s.words;
+            ∙ ap (λ (r : Record). fetch_in v (record { kept = r; sets = (events by v m s).sets }) p.0 (index_in r p + (events by v m s).spent) ∷ (events by v m s).words) was.kept
+            ∙ ap (λ (n : ℕ). fetch_in v (record { kept = s.kept; sets = (events by v m s).sets }) p.0 (index_in s.kept p + n) ∷ (events by v m s).words) was.spent
+            ∙ ap (λ (n : ℕ). fetch_in v (record { kept = s.kept; sets = n }) p.0 (index_in s.kept p + m) ∷ (events by v m s).words) was.sets
+            ∙ ap (λ (l : List Fetch). fetch_in v (written_in s) p.0 (index_in s.kept p + m) ∷ l) was.words
+            ∙ reverse_snoc (word_in v s.kept p.0) (index_in s.kept p) m s.sets s.words;
         many = (let so_far = was.many in let more = ap (λ (q : Moment). length q.words) is in omega (arith, so_far, more));
         sets = ap (λ (q : Moment). q.sets) is ∙ was.sets;
       }
@@ -173,12 +174,12 @@ module _ (by : Policy) (v : ImageData) (s : Moment) (p : ℕ × ℕ) (here : s.h
         spent = ap (λ (q : Moment). q.spent) is;
         count = omega (arith, c, total);
         words = ap (λ (q : Moment). q.words) is
-            ∙ ap (λ (r : Record). fetch (index_in r p + (events by v (last s.flat) s).spent) (events by v (last s.flat) s).sets ∷ (events by v (last s.flat) s).words) was.kept
-            ∙ ap (λ (n : ℕ). fetch (index_in s.kept p + n) (events by v (last s.flat) s).sets ∷ (events by v (last s.flat) s).words) was.spent
-            ∙ ap (λ (n : ℕ). fetch (index_in s.kept p + last s.flat) n ∷ (events by v (last s.flat) s).words) was.sets
-            ∙ ap (λ (l : List Fetch). fetch (index_in s.kept p + last s.flat) s.sets ∷ l) was.words
-            ∙ reverse_snoc (index_in s.kept p) (last s.flat) s.sets s.words
-            ∙ ap (λ (n : ℕ). reverse (fetches_from (index_in s.kept p) n s.sets) ++ s.words) (sym one);
+            ∙ ap (λ (r : Record). fetch_in v (record { kept = r; sets = (events by v (last s.flat) s).sets }) p.0 (index_in r p + (events by v (last s.flat) s).spent) ∷ (events by v (last s.flat) s).words) was.kept
+            ∙ ap (λ (n : ℕ). fetch_in v (record { kept = s.kept; sets = (events by v (last s.flat) s).sets }) p.0 (index_in s.kept p + n) ∷ (events by v (last s.flat) s).words) was.spent
+            ∙ ap (λ (n : ℕ). fetch_in v (record { kept = s.kept; sets = n }) p.0 (index_in s.kept p + last s.flat) ∷ (events by v (last s.flat) s).words) was.sets
+            ∙ ap (λ (l : List Fetch). fetch_in v (written_in s) p.0 (index_in s.kept p + last s.flat) ∷ l) was.words
+            ∙ reverse_snoc (word_in v s.kept p.0) (index_in s.kept p) (last s.flat) s.sets s.words
+            ∙ ap (λ (n : ℕ). reverse (fetches_from (word_in v s.kept p.0) (index_in s.kept p) n s.sets) ++ s.words) (sym one);
         before = λ j lt. (leads j (omega (arith, lt))).flat;
         many = (let so_far = was.many in let more = ap (λ (q : Moment). length q.words) is in omega (arith, so_far, more));
         ahead = λ j lt inside. (let so_far = (leads j (omega (arith, lt))).many in omega (arith, so_far, lt));

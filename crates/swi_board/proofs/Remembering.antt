@@ -39,20 +39,14 @@ still_found v r s found same h = λ k inside d four. (let at = h k inside d four
 -- ---- links
 
 -- how far a jump goes by its offset in bytes
-ahead : (i j off : ℕ) → off ≡ jump_offset i j → i < 2 ^ 21 → j < 2 ^ 21 → off < 2 ^ 31 → sum_of i (off / 4) ≡ j
+pub ahead : (i j off : ℕ) → off ≡ jump_offset i j → i < 2 ^ 21 → j < 2 ^ 21 → off < 2 ^ 31 → sum_of i (off / 4) ≡ j
 ahead i j off is low high near = omega (arith, is, low, high, near)
 
-back : (i j off : ℕ) → off ≡ jump_offset i j → i < 2 ^ 21 → j < 2 ^ 21 → 2 ^ 31 ≤ off → sum_of i (off / 4 + 3 * 2 ^ 30) ≡ j
+pub back : (i j off : ℕ) → off ≡ jump_offset i j → i < 2 ^ 21 → j < 2 ^ 21 → 2 ^ 31 ≤ off → sum_of i (off / 4 + 3 * 2 ^ 30) ≡ j
 back i j off is low high far = omega (arith, is, low, high, far)
 
-offset_is : (i j w off : ℕ) → IsJump i j w → off ≡ offset_of (decoded w) → off ≡ jump_offset i j
-offset_is i j w off jumps is = is ∙ ap offset_of jumps
-
-pub distance_ahead : (i j w off : ℕ) → IsJump i j w → off ≡ offset_of (decoded w) → i < 2 ^ 21 → j < 2 ^ 21 → off < 2 ^ 31 → sum_of i (off / 4) ≡ j
-distance_ahead i j w off jumps is low high near = ahead i j off (offset_is i j w off jumps is) low high near
-
-pub distance_back : (i j w off : ℕ) → IsJump i j w → off ≡ offset_of (decoded w) → i < 2 ^ 21 → j < 2 ^ 21 → 2 ^ 31 ≤ off → sum_of i (off / 4 + 3 * 2 ^ 30) ≡ j
-distance_back i j w off jumps is low high far = back i j off (offset_is i j w off jumps is) low high far
+pub offset_is : (i j w off : ℕ) → IsJump i j w → off ≡ offset_of (decoded w) → off ≡ jump_offset i j
+offset_is i j w off jumps is = is ∙ ap offset_of jumps.decodes
 
 -- 0 is no instruction, and so no jump
 no_instruction : decoded 0 ≡ None
@@ -62,7 +56,7 @@ no_instruction = refl
 pub none_link : (distance : ℕ) → IsLink 0 distance
 none_link distance = record {
   linked = λ e. absurd (omega (arith, e));
-  leads = λ i j jumps low high. absurd (let never : None ≡ Some (Jal 0 (jump_offset i j)) = sym no_instruction ∙ jumps in cc);
+  leads = λ i j jumps low high. absurd (let never : None ≡ Some (Jal 0 (jump_offset i j)) = sym no_instruction ∙ jumps.decodes in cc);
 }
 
 -- so no link is one

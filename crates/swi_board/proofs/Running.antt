@@ -21,6 +21,7 @@ use Rattle.swi_board.specs.Ran.{RamRan}
 use Rattle.swi_board.specs.Runs.{fetched_by, unfetched, weight}
 use Rattle.swi_board.specs.Tracking.{Came, Course, Point, Running, Stays, Tracks}
 use Rattle.swi_board.proofs.Held.{same_steps}
+use Rattle.swi_board.proofs.Fetching.{HoldsUnder}
 use Rattle.swi_board.proofs.Tracks.{ram_on, step_tracks}
 pub use Rattle.swi_board.proofs.Tracks.{kept_both}
 
@@ -38,14 +39,14 @@ goes_with span v n s from now at running more =
 
 -- one more
 pub came_on : (by : Policy) (span : ℕ) (v : ImageData) (n made : ℕ) (old now next : Point) → Came by span v n made old now → now.hart.machine.steps < n → now.hart.machine.ending ≡ None → now.hart.machine.pc < 2 ^ 32 →
-    ((c f g : ℕ) → Placed now.kept c f → Placed now.kept c g → f ≡ g) → next.kept ≡ moved by now.kept v (transfer_at v now.hart.machine now.hart.control) →
+    ((c f g : ℕ) → Placed now.kept c f → Placed now.kept c g → f ≡ g) → HoldsUnder v now.kept now.ram.words now.hart.control → next.kept ≡ moved by now.kept v (transfer_at v now.hart.machine now.hart.control) →
     ((l : List ℕ) → now.left ≡ Some l → Made v next.kept now.hart next.hart l next.left now.out next.out now.err next.err) →
     RamStepped span (writes next.kept - writes now.kept) now.hart.control now.ram next.ram → Came by span v n (suc made) old next
 unfolding events
-came_on by span v n made old now next was more running word once moves step ram = record {
+came_on by span v n made old now next was more running word once held moves step ram = record {
   tracks = λ s from at.
       let mid = was.tracks s from at in
-      step_tracks by span v (events by v made s) from now next mid running word once moves (step (events by v made s).flat.input mid.input) ram;
+      step_tracks by span v (events by v made s) from now next mid running word once held moves (step (events by v made s).flat.input mid.input) ram;
   going = λ s from at j lt. elim (cases_lt j made) [
     | inl less ↦ was.going s from at j less
     | inr least ↦ (
@@ -152,16 +153,3 @@ module _ {run : Course} {now : Point} (so_far : Stays run now) (more : now.hart.
         (ram_on run.span (fetched_by run.from.hart now.hart) (writes now.kept - writes run.from.kept) (weight 0 now.hart.control) (writes next.kept - writes now.kept) now.hart.control
         run.from.ram now.ram next.ram refl so_far.ram stepped));
   }
-
-pub runs_on : {run : Course} {now next : Point} → Running run now → now.hart.machine.steps < run.limit → now.hart.machine.ending ≡ None → now.hart.machine.pc < 2 ^ 32 →
-    ((r : Record) (v : ImageData) (t : Transfer) → writes r ≤ writes (run.policy r v t)) →
-    RamStepped run.span (writes next.kept - writes now.kept) now.hart.control now.ram next.ram →
-    Fits run.image next.kept next.hart → Grown run.image now.kept next.kept now.hart next.hart →
-    next.kept ≡ moved run.policy now.kept run.image (transfer_at run.image now.hart.machine now.hart.control) →
-    ((l : List ℕ) → now.left ≡ Some l → Made run.image next.kept now.hart next.hart l next.left now.out next.out now.err next.err) →
-    ((b f g : ℕ) → Placed now.kept b f → Placed now.kept b g → f ≡ g) → Running run next
-runs_on {run} {now} {next} so_far more running word writing stepped fits grown moves step once = record {
-  made = suc so_far.made;
-  came = came_on run.policy run.span run.image run.limit so_far.made run.from now next so_far.came more running word once moves step stepped;
-  stays = stays_on {run = run} {now = now} so_far.stays more running {next = next} writing stepped fits grown moves;
-}

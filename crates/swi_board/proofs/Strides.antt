@@ -1,6 +1,6 @@
 -- One original step, or the exit before it, of a hart that is between two instructions: the machine instructions that it takes lead where
 -- the definition's do.
-use Rattle.std.proofs.Common.{◌≡◌, ◌⊎◌, if◌then◌else◌, ℕ, zero, suc, ◌+◌, ◌-◌, ◌*◌, ◌<◌, ◌≤◌, Bool, true, false, not, ◌&&◌, List, [], ◌∷◌, ◌++◌, length, reverse, Option, Some, None, is_some, refl, sym, ap, subst, ◌∙◌, inl, inr, arith}
+use Rattle.std.proofs.Common.{◌≡◌, ◌⊎◌, if◌then◌else◌, ℕ, zero, suc, ◌+◌, ◌-◌, ◌*◌, ◌<◌, ◌≤◌, Bool, true, false, not, ◌&&◌, List, [], ◌∷◌, ◌++◌, length, reverse, Option, Some, None, is_some, slice_index, refl, sym, ap, subst, ◌∙◌, inl, inr, arith}
 use Rattle.std.proofs.lemmas.Bool.{cases_lt, false≢true}
 use Rattle.std.proofs.lemmas.List.{append_assoc, append-nil}
 use Rattle.std.specs.Io.KnownBytes.{Appends}
@@ -18,6 +18,7 @@ use Rattle.swi_image.specs.Place.{place_of}
 use Rattle.swi_render.specs.Carried.{GoesOn}
 use Rattle.swi_rom.specs.Record.{Record, Transfer, Placed, direct, is_linked, writes}
 use Rattle.swi_rom.specs.Rams.{risen_more}
+use Rattle.swi_rom.specs.Standing.{first_is, word_in}
 use Rattle.swi_hart.specs.declared.hart.Stage.TheVariants.{Start}
 use Rattle.swi_hart.specs.declared.hart.Control.{Control}
 use Rattle.swi_hart.specs.declared.hart.Control.TheVariants.{At, Outside}
@@ -26,30 +27,30 @@ use Rattle.swi_hart.specs.Hart.{HartData, original, slots}
 use Rattle.swi_hart.specs.Matching.{Agrees, IsIn, Stands, StandsBy}
 use Rattle.swi_hart.proofs.Kept.{image_same, next_text}
 use Rattle.swi_hart.proofs.Stepping.{no_fall, two_places}
-use Rattle.swi_board.specs.Fetching.{fetches_from, index_in}
-use Rattle.swi_board.specs.Moments.{Moment, Policy, counted, events, fell, here_behind}
+use Rattle.swi_board.specs.Fetching.{fetch_in, fetches_from, index_in}
+use Rattle.swi_board.specs.Moments.{Moment, Policy, counted, events, fell, here_behind, next_fetch, written_in}
 use Rattle.swi_board.specs.Ran.{RamRan}
 use Rattle.swi_board.specs.Runs.{fetched_by, unfetched}
 use Rattle.swi_board.specs.Tracking.{Came, Course, Point, Running, Stays, Tracks}
 use Rattle.swi_board.specs.Transfers.{after_all, at_fall, here_after, here_of, spent, step_cost, step_transfers}
 use Rattle.swi_board.proofs.Events.{events_more, events_one, events_none, fall_event, plain_made}
-use Rattle.swi_board.proofs.Fetching.{first_is}
+use Rattle.swi_board.proofs.Fetching.{HoldsRow, row_is}
 use Rattle.swi_board.proofs.Held.{held_steps}
 use Rattle.swi_board.proofs.Running.{goes_with, most_running}
 use Rattle.swi_board.proofs.Tracks.{kept_both, running_spent}
 
 -- ---- over moments alone
 
--- a moment so many words on, at the end of an original step or of an exit: its machine, the service's record, and where it stands
-abbrev pub arrived : ℕ → ℕ → Machine → Record → ℕ × ℕ → Moment → Moment
-arrived index n m r q s = record {
+-- a moment so many words on from a place, at the end of an original step or of an exit: its machine, the service's record, and where it stands
+abbrev pub arrived : ImageData → ℕ × ℕ → ℕ → ℕ → Machine → Record → ℕ × ℕ → Moment → Moment
+arrived v p index n m r q s = record {
   flat = record s.flat { machine = m };
   here = Some q;
   spent = 0;
   kept = r;
   count = s.count + n;
   sets = s.sets + (writes r - writes s.kept);
-  words = reverse (fetches_from index n s.sets) ++ s.words;
+  words = reverse (fetches_from (word_in v s.kept p.0) index n s.sets) ++ s.words;
 }
 
 -- so many machine instructions lead from the one moment to the other
@@ -75,7 +76,7 @@ module _ (by : Policy) (v : ImageData) (s : Moment) (p q : ℕ × ℕ) (m : Mach
     (here : s.here ≡ Some p) (going : s.flat.machine.ending ≡ None) (plain : at_fall v s.flat.machine (Some p) ≡ false) (none : s.spent ≡ 0) (at : index_in s.kept p ≡ index)
     (step : (input : List ℕ) → held_made s.flat.machine input ≡ quiet m input) (on : m.ending ≡ None) (there : here_after v s.flat.machine (Some p) m ≡ Some q) where
   pub step_leads : LeadsTo by v (step_cost s.flat.machine (original s.flat.machine) (slots s.flat.machine)) s
-      (arrived index (step_cost s.flat.machine (original s.flat.machine) (slots s.flat.machine)) m (after_all by v s.kept (step_transfers s.flat.machine (Some p) m)) q s)
+      (arrived v p index (step_cost s.flat.machine (original s.flat.machine) (slots s.flat.machine)) m (after_all by v s.kept (step_transfers s.flat.machine (Some p) m)) q s)
   step_leads =
       let f : Machine = s.flat.machine in
       let n : ℕ = step_cost s.flat.machine (original s.flat.machine) (slots s.flat.machine) in
@@ -83,8 +84,8 @@ module _ (by : Policy) (v : ImageData) (s : Moment) (p q : ℕ × ℕ) (m : Mach
       let state = state_is s.flat m (step s.flat.input) in
       let next : (held_step s.flat).machine ≡ m = ap (λ (k : FlatState). k.machine) state in
       let kept = made.kept ∙ ap (λ (k : Machine). after_all by v s.kept (step_transfers s.flat.machine (Some p) k)) next in
-      let words = made.words ∙ ap (λ (i : ℕ). reverse (fetches_from i (step_cost s.flat.machine (original s.flat.machine) (slots s.flat.machine)) s.sets) ++ s.words) at in
-      let is = moment_is _ (arrived index n m (after_all by v s.kept (step_transfers f (Some p) m)) q s)
+      let words = made.words ∙ ap (λ (i : ℕ). reverse (fetches_from (word_in v s.kept p.0) i (step_cost s.flat.machine (original s.flat.machine) (slots s.flat.machine)) s.sets) ++ s.words) at in
+      let is = moment_is _ (arrived v p index n m (after_all by v s.kept (step_transfers f (Some p) m)) q s)
       (made.flat ∙ state)
       (made.here ∙ ap (λ (k : Machine). here_behind v s.flat.machine (Some p) k) next
       ∙ ap (λ (e : Option End). if is_some e then Some p else here_after v s.flat.machine (Some p) m) on ∙ there)
@@ -100,15 +101,15 @@ module _ (by : Policy) (v : ImageData) (s : Moment) (p q : ℕ × ℕ) (m : Mach
 -- an exit behind a block's last text word
 pub fall_leads : (by : Policy) (v : ImageData) (s : Moment) (p q : ℕ × ℕ) (index : ℕ) → s.here ≡ Some p → s.flat.machine.ending ≡ None → at_fall v s.flat.machine (Some p) ≡ true → s.spent ≡ 0 →
     index_in s.kept p ≡ index → place_of v s.flat.machine.pc ≡ Some q →
-    LeadsTo by v 1 s (arrived index 1 s.flat.machine (by s.kept v (direct p.0 p.1 s.flat.machine.pc)) q s)
+    LeadsTo by v 1 s (arrived v p index 1 s.flat.machine (by s.kept v (direct p.0 p.1 s.flat.machine.pc)) q s)
 fall_leads by v s p q index here going falls none at there =
     let first : index_in s.kept p + s.spent ≡ index = omega (arith, none, at) in
     let is = events_one by v s ∙ fall_event by v s (none_some s.flat.machine.ending going) p here falls
-    ∙ moment_is (counted (fetch (index_in s.kept p + s.spent) s.sets ∷ []) (fell by v p s)) (arrived index 1 s.flat.machine (by s.kept v (direct p.0 p.1 s.flat.machine.pc)) q s)
-    refl there refl refl refl refl (ap (λ (i : ℕ). fetch i s.sets ∷ s.words) first) in
+    ∙ moment_is (counted (next_fetch v p s ∷ []) (fell by v p s)) (arrived v p index 1 s.flat.machine (by s.kept v (direct p.0 p.1 s.flat.machine.pc)) q s)
+    refl there refl refl refl refl (ap (λ (i : ℕ). fetch_in v (written_in s) p.0 i ∷ s.words) first) in
     record {
       is = is;
-      many = (let long : length (reverse (fetches_from index 1 s.sets) ++ s.words) ≡ suc (length s.words) = refl in omega (arith, long));
+      many = (let long : length (reverse (fetches_from (word_in v s.kept p.0) index 1 s.sets) ++ s.words) ≡ suc (length s.words) = refl in omega (arith, long));
       before = λ j lt. (let zero_is : j ≡ 0 = omega (arith, lt) in ap (λ (k : ℕ). (events by v k s).flat) zero_is ∙ ap (λ (t : Moment). t.flat) (events_none by v s));
     }
 
@@ -118,24 +119,24 @@ fall_leads by v s p q index here going falls none at there =
 pub record RamStrode (span n more index : ℕ) (before after : RamState) : Type 0 where
   pub quiet : after.faults ≡ before.faults
   pub fetches : after.fetches ≡ risen before.fetches n
-  pub fetched_at : after.fetched_at ≡ reverse (fetches_from index n before.sets) ++ before.fetched_at
+  pub fetched_at : after.fetched_at ≡ reverse (fetches_from (λ j. slice_index before.words j) index n before.sets) ++ before.fetched_at
   pub sets : after.sets ≡ risen before.sets more
   pub kept : KeepsBeyond span before after
 
 -- In a run from `first` sets on so many words were fetched behind m of them, and in the ram behind k.
-since_from : (first i n m : ℕ) → since first (fetches_from i n m) ≡ fetches_from i n (risen first m)
-since_from first i zero m = refl
-since_from first i (suc n) m = ap (λ (l : List Fetch). fetch i (risen first m) ∷ l) (since_from first (i + 1) n m)
+since_from : (word : ℕ → ℕ) (first i n m : ℕ) → since first (fetches_from word i n m) ≡ fetches_from word i n (risen first m)
+since_from word first i zero m = refl
+since_from word first i (suc n) m = ap (λ (l : List Fetch). fetch i (risen first m) (word i) ∷ l) (since_from word first (i + 1) n m)
 
-words_on : (i n first m k : ℕ) (words earlier before : List Fetch) → k ≡ risen first m → before ≡ since first words ++ earlier →
-    reverse (fetches_from i n k) ++ before ≡ since first (reverse (fetches_from i n m) ++ words) ++ earlier
-words_on i n first m k words earlier before sets was =
-    ap (λ (x : ℕ). reverse (fetches_from i n x) ++ before) sets
-    ∙ ap (λ (l : List Fetch). reverse l ++ before) (sym (since_from first i n m))
-    ∙ ap (λ (l : List Fetch). l ++ before) (sym (since_reverse first (fetches_from i n m)))
-    ∙ ap (λ (l : List Fetch). since first (reverse (fetches_from i n m)) ++ l) was
-    ∙ sym (append_assoc (since first (reverse (fetches_from i n m))) (since first words) earlier)
-    ∙ ap (λ (l : List Fetch). l ++ earlier) (sym (since_append first (reverse (fetches_from i n m)) words))
+words_on : (word : ℕ → ℕ) (i n first m k : ℕ) (words earlier before : List Fetch) → k ≡ risen first m → before ≡ since first words ++ earlier →
+    reverse (fetches_from word i n k) ++ before ≡ since first (reverse (fetches_from word i n m) ++ words) ++ earlier
+words_on word i n first m k words earlier before sets was =
+    ap (λ (x : ℕ). reverse (fetches_from word i n x) ++ before) sets
+    ∙ ap (λ (l : List Fetch). reverse l ++ before) (sym (since_from word first i n m))
+    ∙ ap (λ (l : List Fetch). l ++ before) (sym (since_reverse first (fetches_from word i n m)))
+    ∙ ap (λ (l : List Fetch). since first (reverse (fetches_from word i n m)) ++ l) was
+    ∙ sym (append_assoc (since first (reverse (fetches_from word i n m))) (since first words) earlier)
+    ∙ ap (λ (l : List Fetch). l ++ earlier) (sym (since_append first (reverse (fetches_from word i n m)) words))
 
 -- From where a hart stands between two instructions to where it stands next.
 pub record Stride (by : Policy) (span : ℕ) (v : ImageData) (old new : Point) : Type 0 where
@@ -150,9 +151,10 @@ pub record Stride (by : Policy) (span : ℕ) (v : ImageData) (old new : Point) :
   pub on : new.hart.machine.ending ≡ None
   -- the machine instructions of the definition lead there, and this is what they cost and transfer
   pub leads : (s : Moment) → s.flat.machine ≡ old.hart.machine → s.here ≡ Some here → s.spent ≡ 0 → s.kept ≡ old.kept → index_in s.kept here ≡ index →
-      LeadsTo by v words s (arrived index words new.hart.machine new.kept there s)
+      LeadsTo by v words s (arrived v here index words new.hart.machine new.kept there s)
   pub transfers : List Transfer
   pub moves : new.kept ≡ after_all by v old.kept transfers
+  pub held : HoldsRow v old.kept old.ram.words here.0 index words
   pub is_in : IsIn new.kept to there.0 there.1
   pub goes : GoesOn v new.hart.machine.pc there.0 there.1
   pub text : (x : ℕ) → fetched new.hart.machine.bus x ≡ fetched old.hart.machine.bus x
@@ -199,12 +201,12 @@ module _ {by : Policy} {span : ℕ} {v : ImageData} {old new : Point} (w : Strid
         let here : index_in old.kept w.here ≡ w.index = omega (arith, first, index) in
         ap (λ (r : Record). index_in r w.here) (sym at.kept) ∙ here
 
-    pub leads_on : LeadsTo by v w.words s (arrived w.index w.words new.hart.machine new.kept w.there s)
+    pub leads_on : LeadsTo by v w.words s (arrived v w.here w.index w.words new.hart.machine new.kept w.there s)
     leads_on = w.leads s same (sym (at.here w.going) ∙ ap (λ (c : Control). here_of v s.flat.machine c) w.control)
         (sym at.spent ∙ running_spent s.flat.machine old.hart.control flat_on ∙ ap (λ (c : Control). spent s.flat.machine c) w.control)
         (sym at.kept) first_at
 
-    arrives : Tracks span v (arrived w.index w.words new.hart.machine new.kept w.there s) from new
+    arrives : Tracks span v (arrived v w.here w.index w.words new.hart.machine new.kept w.there s) from new
     arrives = record {
       image = image_same v (λ x. fetched s.flat.machine.bus x) (λ x. fetched new.hart.machine.bus x) (λ x. w.text x ∙ ap (λ (m : Machine). fetched m.bus x) (sym same)) at.image;
       matches = subst (λ (e : Option End). Agrees e v new.kept new.hart.machine new.hart.machine new.hart.control) (sym w.on)
@@ -216,7 +218,10 @@ module _ {by : Policy} {span : ℕ} {v : ImageData} {old new : Point} (w : Strid
       input = w.left ∙ at.input;
       output = subst (λ (o : Option (List ℕ)). Appends from.out o s.flat.output) (sym w.out) at.output;
       error = subst (λ (o : Option (List ℕ)). Appends from.err o s.flat.error) (sym w.err) at.error;
-      words = w.ram.fetched_at ∙ words_on w.index w.words from.ram.sets s.sets old.ram.sets s.words from.ram.fetched_at old.ram.fetched_at at.ram.sets at.words;
+      words = w.ram.fetched_at
+          ∙ ap (λ (l : List Fetch). reverse l ++ old.ram.fetched_at) (row_is v old.kept old.ram.words w.here.0 w.index w.words old.ram.sets w.held)
+          ∙ ap (λ (r : Record). reverse (fetches_from (word_in v r w.here.0) w.index w.words old.ram.sets) ++ old.ram.fetched_at) at.kept
+          ∙ words_on (word_in v s.kept w.here.0) w.index w.words from.ram.sets s.sets old.ram.sets s.words from.ram.fetched_at old.ram.fetched_at at.ram.sets at.words;
       ram = subst (λ (n : ℕ). RamRan span n (s.sets + (writes new.kept - writes s.kept)) from.ram new.ram) (sym leads_on.many)
           (subst (λ (r : Record). RamRan span (length s.words + w.words) (s.sets + (writes new.kept - writes r)) from.ram new.ram) at.kept
           (ram_strode span (length s.words) s.sets w.words (writes new.kept - writes old.kept) w.index from.ram old.ram new.ram at.ram w.ram));
@@ -348,7 +353,7 @@ module _ (by : Policy) (span : ℕ) (v : ImageData) (old new : Point) (n index t
     (cost : step_cost old.hart.machine (original old.hart.machine) (slots old.hart.machine) ≡ n)
     (moves : new.kept ≡ after_all by v old.kept (step_transfers old.hart.machine (Some p) new.hart.machine))
     (few : ((n ≤ 2) × (new.kept ≡ old.kept)) ⊎ ((n ≤ 3) × (new.kept.counts.services ≤ old.kept.counts.services + 1) × (place_of v new.hart.machine.pc ≡ Some q)))
-    (is_in : IsIn new.kept to q.0 q.1) (goes : GoesOn v new.hart.machine.pc q.0 q.1) where
+    (is_in : IsIn new.kept to q.0 q.1) (goes : GoesOn v new.hart.machine.pc q.0 q.1) (held : HoldsRow v old.kept old.ram.words p.0 index n) where
   steps_one : new.hart.machine.steps ≡ old.hart.machine.steps + 1
   steps_one = elim (held_steps old.hart.machine []) [
     | inl one ↦ sym (ap (λ (k : Made). k.machine.steps) (step [])) ∙ one
@@ -381,15 +386,15 @@ module _ (by : Policy) (span : ℕ) (v : ImageData) (old new : Point) (n index t
       ]
 
   text_leads : (s : Moment) → s.flat.machine ≡ old.hart.machine → s.here ≡ Some p → s.spent ≡ 0 → s.kept ≡ old.kept → index_in s.kept p ≡ index →
-      LeadsTo by v n s (arrived index n new.hart.machine new.kept q s)
+      LeadsTo by v n s (arrived v p index n new.hart.machine new.kept q s)
   text_leads s same here none kept first =
       let f : Machine = s.flat.machine in
       let cost_is : step_cost s.flat.machine (original s.flat.machine) (slots s.flat.machine) ≡ n = ap (λ (g : Machine). step_cost g (original g) (slots g)) same ∙ cost in
       let moves_is : after_all by v s.kept (step_transfers s.flat.machine (Some p) new.hart.machine) ≡ new.kept =
       ap (λ (g : Machine). after_all by v s.kept (step_transfers g (Some p) new.hart.machine)) same
       ∙ ap (λ (r : Record). after_all by v r (step_transfers old.hart.machine (Some p) new.hart.machine)) kept ∙ sym moves in
-      subst (λ (k : ℕ). LeadsTo by v k s (arrived index k new.hart.machine new.kept q s)) cost_is
-      (subst (λ (r : Record). LeadsTo by v (step_cost s.flat.machine (original s.flat.machine) (slots s.flat.machine)) s (arrived index (step_cost s.flat.machine (original s.flat.machine) (slots s.flat.machine)) new.hart.machine r q s)) moves_is
+      subst (λ (k : ℕ). LeadsTo by v k s (arrived v p index k new.hart.machine new.kept q s)) cost_is
+      (subst (λ (r : Record). LeadsTo by v (step_cost s.flat.machine (original s.flat.machine) (slots s.flat.machine)) s (arrived v p index (step_cost s.flat.machine (original s.flat.machine) (slots s.flat.machine)) new.hart.machine r q s)) moves_is
       (step_leads by v s p q new.hart.machine index here (ap (λ (g : Machine). g.ending) same ∙ going)
       (ap (λ (g : Machine). at_fall v g (Some p)) same ∙ no_fall v old.hart.machine p.0 p.1 place) none first
       (λ input. ap (λ (g : Machine). held_made g input) same ∙ step input) on (ap (λ (g : Machine). here_after v g (Some p) new.hart.machine) same ∙ there)))
@@ -408,6 +413,7 @@ module _ (by : Policy) (span : ℕ) (v : ImageData) (old new : Point) (n index t
     leads = text_leads;
     transfers = step_transfers old.hart.machine (Some p) new.hart.machine;
     moves = moves;
+    held = held;
     is_in = is_in;
     goes = goes;
     text = λ x. sym (ap (λ (k : Made). fetched k.machine.bus x) (step [])) ∙ next_text x v old.hart.machine Outside old.hart.machine [];
@@ -426,7 +432,8 @@ module _ (by : Policy) (span : ℕ) (v : ImageData) (old new : Point) (n index t
 -- the exit behind a block's last text word
 module _ (by : Policy) (span : ℕ) (v : ImageData) (old new : Point) (index to : ℕ) (p q : ℕ × ℕ) (laws : Laws by) (w : Moves span 1 index p q to old new)
     (going : old.hart.machine.ending ≡ None) (same : new.hart.machine ≡ old.hart.machine) (apart : place_of v old.hart.machine.pc ≡ Some (p.0, p.1) → ⊥)
-    (moves : new.kept ≡ by old.kept v (direct p.0 p.1 old.hart.machine.pc)) (there : place_of v old.hart.machine.pc ≡ Some q) (is_in : IsIn new.kept to q.0 q.1) where
+    (moves : new.kept ≡ by old.kept v (direct p.0 p.1 old.hart.machine.pc)) (there : place_of v old.hart.machine.pc ≡ Some q) (is_in : IsIn new.kept to q.0 q.1)
+    (held : HoldsRow v old.kept old.ram.words p.0 index 1) where
   falls_here : at_fall v old.hart.machine (Some p) ≡ true
   falls_here = ap (λ (t : Bool). not t) (two_places (place_of v old.hart.machine.pc) p.0 p.1 apart)
 
@@ -450,13 +457,14 @@ module _ (by : Policy) (span : ℕ) (v : ImageData) (old new : Point) (index to 
         lands = w.lands;
         going = going;
         on = ap (λ (m : Machine). m.ending) same ∙ going;
-        leads = λ s machine here none kept first. subst (λ (m : Machine). LeadsTo by v 1 s (arrived index 1 m new.kept q s)) (machine ∙ sym same)
-            (subst (λ (r : Record). LeadsTo by v 1 s (arrived index 1 s.flat.machine r q s))
+        leads = λ s machine here none kept first. subst (λ (m : Machine). LeadsTo by v 1 s (arrived v p index 1 m new.kept q s)) (machine ∙ sym same)
+            (subst (λ (r : Record). LeadsTo by v 1 s (arrived v p index 1 s.flat.machine r q s))
             (ap (λ (g : Machine). by s.kept v (direct p.0 p.1 g.pc)) machine ∙ ap (λ (r : Record). by r v (direct p.0 p.1 old.hart.machine.pc)) kept ∙ sym moves)
             (fall_leads by v s p q index here (ap (λ (g : Machine). g.ending) machine ∙ going) (ap (λ (g : Machine). at_fall v g (Some p)) machine ∙ falls_here) none first
             (ap (λ (g : Machine). place_of v g.pc) machine ∙ there)));
         transfers = direct p.0 p.1 old.hart.machine.pc ∷ [];
         moves = moves;
+        held = held;
         is_in = is_in;
         goes = inl (ap (λ (m : Machine). place_of v m.pc) same ∙ there);
         text = λ x. ap (λ (m : Machine). fetched m.bus x) same;

@@ -6,7 +6,7 @@ use Rattle.std.proofs.lemmas.List.{append_assoc, length-append}
 use Rattle.std.specs.Io.KnownBytes.{Appends}
 use Rattle.swi_memory.specs.Bus.{fetched}
 use Rattle.swi_outside.specs.Causes.{risen}
-use Rattle.swi_outside.specs.CacheRam.{Fetch, RamState, KeepsBeyond, fetch, since}
+use Rattle.swi_outside.specs.CacheRam.{Fetch, RamState, KeepsBeyond, since}
 use Rattle.swi_outside.specs.Fetches.{since_append}
 use Rattle.swi_outside.specs.Laws.{Appends-append}
 use Rattle.swi_calls.specs.declared.end.End.{End}
@@ -27,14 +27,14 @@ use Rattle.swi_hart.specs.Leaving.{RamStepped, fetches_after, fetch_under, moved
 use Rattle.swi_hart.specs.Matching.{Agrees, Follows, Matches}
 use Rattle.swi_hart.proofs.Kept.{image_same, next_text}
 use Rattle.swi_hart.proofs.Midway.{step_follows}
-use Rattle.swi_board.specs.Fetching.{index_in}
+use Rattle.swi_board.specs.Fetching.{fetch_in, index_in}
 use Rattle.swi_board.specs.Ran.{RamRan}
 use Rattle.swi_board.specs.Runs.{weight}
 use Rattle.swi_board.specs.Transfers.{Here, after_all, at_fall, before_last, here_after, here_of, spent, spent_by, spent_run, step_transfers}
-use Rattle.swi_board.proofs.Fetching.{under_is, word_at_place}
+use Rattle.swi_board.proofs.Fetching.{HoldsUnder, under_is, word_at_place}
 use Rattle.swi_board.proofs.Held.{next_state, no_exit_no_transfer, same_steps}
 use Rattle.swi_board.proofs.Progress.{Completes, Progress, made_step, lead, fall, beside as outside, progress}
-use Rattle.swi_board.specs.Moments.{Moment, Policy, completed, counted, event, executed, fell, led, stepped_at}
+use Rattle.swi_board.specs.Moments.{Moment, Policy, completed, counted, event, executed, fell, led, next_fetch, stepped_at}
 use Rattle.swi_board.specs.Tracking.{Point, Tracks}
 use Rattle.swi_board.proofs.Spending.{spent_few}
 
@@ -70,29 +70,29 @@ over_spent f c None over = absurd (false≢true over)
 over_spent f c (Some x) over = refl
 
 -- The word under control is fetched: in a run from n sets on it comes behind m of them, and in the ram behind k.
-since_under : (n : ℕ) (c : Control) (m : ℕ) → since n (fetch_under c m) ≡ fetch_under c (risen n m)
-since_under n (At i b o stage) m = refl
-since_under n Outside m = refl
+since_under : (n : ℕ) (c : Control) (m : ℕ) (held : List ℕ) → since n (fetch_under c m held) ≡ fetch_under c (risen n m) held
+since_under n (At i b o stage) m held = refl
+since_under n Outside m held = refl
 
-words_on : (c : Control) (n m k : ℕ) (ws words first before : List Fetch) → k ≡ risen n m → fetch_under c m ≡ ws → before ≡ since n words ++ first → fetch_under c k ++ before ≡ since n (ws ++ words) ++ first
-words_on c n m k ws words first before sets under was =
-    ap (λ (x : ℕ). fetch_under c x ++ before) sets
-    ∙ ap (λ (l : List Fetch). l ++ before) (sym (since_under n c m))
+words_on : (c : Control) (held : List ℕ) (n m k : ℕ) (ws words first before : List Fetch) → k ≡ risen n m → fetch_under c m held ≡ ws → before ≡ since n words ++ first → fetch_under c k held ++ before ≡ since n (ws ++ words) ++ first
+words_on c held n m k ws words first before sets under was =
+    ap (λ (x : ℕ). fetch_under c x held ++ before) sets
+    ∙ ap (λ (l : List Fetch). l ++ before) (sym (since_under n c m held))
     ∙ ap (λ (l : List Fetch). since n l ++ before) under
     ∙ ap (λ (l : List Fetch). since n ws ++ l) was
     ∙ sym (append_assoc (since n ws) (since n words) first)
     ∙ ap (λ (l : List Fetch). l ++ first) (sym (since_append n ws words))
 
-many_more : (c : Control) (sets : ℕ) (ws l : List Fetch) → fetch_under c sets ≡ ws → length (ws ++ l) ≡ length l + weight 0 c
-many_more c sets ws l is = let all = length-append ws l in let one = ap (λ (x : List Fetch). length x) is in omega (arith, all, one, weight_is c)
+many_more : (c : Control) (sets : ℕ) (held : List ℕ) (ws l : List Fetch) → fetch_under c sets held ≡ ws → length (ws ++ l) ≡ length l + weight 0 c
+many_more c sets held ws l is = let all = length-append ws l in let one = ap (λ (x : List Fetch). length x) is in omega (arith, all, one, weight_is c)
   where
-    weight_is : (c : Control) → length (fetch_under c sets) ≡ weight 0 c
+    weight_is : (c : Control) → length (fetch_under c sets held) ≡ weight 0 c
     weight_is (At i b o stage) = refl
     weight_is Outside = refl
 
 -- one machine instruction of a hart that goes on, from a point that stands where a moment does
 module _ (policy : Policy) (span : ℕ) (v : ImageData) (s : Moment) (from a b : Point) (at : Tracks span v s from a) (running : a.hart.machine.ending ≡ None) (word : a.hart.machine.pc < 2 ^ 32)
-    (once : (c f g : ℕ) → Placed a.kept c f → Placed a.kept c g → f ≡ g)
+    (once : (c f g : ℕ) → Placed a.kept c f → Placed a.kept c g → f ≡ g) (held : HoldsUnder v a.kept a.ram.words a.hart.control)
     (moves : b.kept ≡ moved policy a.kept v (transfer_at v a.hart.machine a.hart.control))
     (made : Made v b.kept a.hart b.hart s.flat.input b.left a.out b.out a.err b.err)
     (ram : RamStepped span (writes b.kept - writes a.kept) a.hart.control a.ram b.ram) where
@@ -142,17 +142,17 @@ module _ (policy : Policy) (span : ℕ) (v : ImageData) (s : Moment) (from a b :
 
   -- the word under control
   abbrev word_list : ℕ × ℕ → List Fetch
-  word_list p = fetch (index_in s.kept p + s.spent) s.sets ∷ []
+  word_list p = next_fetch v p s ∷ []
 
-  under : (p : ℕ × ℕ) → here_of v s.flat.machine a.hart.control ≡ Some p → fetch_under a.hart.control s.sets ≡ fetch (index_in s.kept p + s.spent) s.sets ∷ []
+  under : (p : ℕ × ℕ) → here_of v s.flat.machine a.hart.control ≡ Some p → fetch_under a.hart.control s.sets a.ram.words ≡ next_fetch v p s ∷ []
   under p here =
-      sym (under_is v a.kept s.flat.machine a.hart.machine a.hart.control s.sets once running at.matches)
-      ∙ ap (λ (h : Here). word_at_place h a.kept (spent s.flat.machine a.hart.control) s.sets) here
-      ∙ ap (λ (n : ℕ). fetch (index_in a.kept p + n) s.sets ∷ []) spent_now
-      ∙ ap (λ (r : Record). fetch (index_in r p + s.spent) s.sets ∷ []) at.kept
+      sym (under_is v a.kept a.ram.words s.flat.machine a.hart.machine a.hart.control s.sets once held running at.matches)
+      ∙ ap (λ (h : Here). word_at_place v h a.kept (spent s.flat.machine a.hart.control) s.sets) here
+      ∙ ap (λ (n : ℕ). fetch_in v (record { kept = a.kept; sets = s.sets }) p.0 (index_in a.kept p + n) ∷ []) spent_now
+      ∙ ap (λ (r : Record). fetch_in v (record { kept = r; sets = s.sets }) p.0 (index_in r p + s.spent) ∷ []) at.kept
 
   tracks_to : (s' : Moment) → s'.flat ≡ next_state t s.flat → (b.hart.machine.ending ≡ None → here_of v (next_state t s.flat).machine b.hart.control ≡ s'.here) →
-      spent_run (next_state t s.flat).machine b.hart.control ≡ s'.spent → b.kept ≡ s'.kept → s'.count ≡ s.count + 1 → (ws : List Fetch) → fetch_under a.hart.control s.sets ≡ ws → s'.words ≡ ws ++ s.words →
+      spent_run (next_state t s.flat).machine b.hart.control ≡ s'.spent → b.kept ≡ s'.kept → s'.count ≡ s.count + 1 → (ws : List Fetch) → fetch_under a.hart.control s.sets a.ram.words ≡ ws → s'.words ≡ ws ++ s.words →
       s'.sets ≡ s.sets + (writes b.kept - writes a.kept) → Tracks span v s' from b
   tracks_to s' flat here spends kept count ws under words sets = record {
     image = subst (λ (q : FlatState). Carries (fetched q.machine.bus) v) (sym flat)
@@ -171,11 +171,11 @@ module _ (policy : Policy) (span : ℕ) (v : ImageData) (s : Moment) (from a b :
         (Appends-append from.err a.err b.err s.flat.error (next_made v a.hart.machine a.hart.control s.flat.machine s.flat.input).error at.error
         (subst (λ (l : List ℕ). Appends a.err b.err l) follows.error made.did.error));
     words = ram.fetched_at
-        ∙ words_on a.hart.control from.ram.sets s.sets a.ram.sets ws s.words from.ram.fetched_at a.ram.fetched_at at.ram.sets under at.words
+        ∙ words_on a.hart.control a.ram.words from.ram.sets s.sets a.ram.sets ws s.words from.ram.fetched_at a.ram.fetched_at at.ram.sets under at.words
         ∙ ap (λ (l : List Fetch). since from.ram.sets l ++ from.ram.fetched_at) (sym words);
     ram = subst (λ (l : List Fetch). RamRan span (length l) s'.sets from.ram b.ram) (sym words)
         (subst (λ (n : ℕ). RamRan span (length (ws ++ s.words)) n from.ram b.ram) (sym sets)
-        (subst (λ (n : ℕ). RamRan span n (s.sets + (writes b.kept - writes a.kept)) from.ram b.ram) (sym (many_more a.hart.control s.sets ws s.words under))
+        (subst (λ (n : ℕ). RamRan span n (s.sets + (writes b.kept - writes a.kept)) from.ram b.ram) (sym (many_more a.hart.control s.sets a.ram.words ws s.words under))
         (ram_on span (length s.words) s.sets (weight 0 a.hart.control) (writes b.kept - writes a.kept) a.hart.control from.ram a.ram b.ram refl at.ram ram)));
   }
 
@@ -271,7 +271,7 @@ module _ (policy : Policy) (span : ℕ) (v : ImageData) (s : Moment) (from a b :
       (tracks_to (counted [] (completed policy v None s)) (sym state)
       (λ on. absurd (false≢true (sym (ap (λ (q : FlatState). is_some q.machine.ending) (sym state) ∙ ap (λ (e : Option End). is_some e) (next_on on)) ∙ over)))
       (ap (λ (q : FlatState). spent_run q.machine b.hart.control) state ∙ over_spent (held_step s.flat).machine b.hart.control (held_step s.flat).machine.ending over)
-      (same ∙ at.kept) refl [] (ap (λ (c : Control). fetch_under c s.sets) out) refl (sets_as s.kept (same ∙ at.kept)))
+      (same ∙ at.kept) refl [] (ap (λ (c : Control). fetch_under c s.sets a.ram.words) out) refl (sets_as s.kept (same ∙ at.kept)))
 
   pub step_tracks : Led
   step_tracks = by goes

@@ -70,7 +70,7 @@ pub record FetchedRow (n index : ℕ) (before after : RamState) : Type 0 where
   pub words : after.words ≡ before.words
   pub quiet : after.faults ≡ before.faults
   pub fetches : after.fetches ≡ risen before.fetches n
-  pub fetched_at : after.fetched_at ≡ reverse (fetches_from index n before.sets) ++ before.fetched_at
+  pub fetched_at : after.fetched_at ≡ reverse (fetches_from (λ j. slice_index before.words j) index n before.sets) ++ before.fetched_at
   pub sets : after.sets ≡ before.sets
   pub reach : after.reach ≤ max before.reach (index + n)
 
@@ -99,7 +99,7 @@ fetched_three i j m a is two =
       words = refl;
       quiet = refl;
       fetches = ap (λ (n : ℕ). risen n 1) (risen_more a.fetches 1 1) ∙ risen_more a.fetches 2 1;
-      fetched_at = ap (λ (n : ℕ). fetch n a.sets ∷ fetch (i + 1) a.sets ∷ fetch i a.sets ∷ a.fetched_at) (sym third);
+      fetched_at = ap (λ (n : ℕ). fetch n a.sets (slice_index a.words n) ∷ fetch (i + 1) a.sets (slice_index a.words (i + 1)) ∷ fetch i a.sets (slice_index a.words i) ∷ a.fetched_at) (sym third);
       sets = refl;
       reach = three_reach a.reach i;
     }))

@@ -7,13 +7,14 @@ use Rattle.swi_calls.specs.Held.{held_step}
 use Rattle.swi_image.specs.Format.{ImageData}
 use Rattle.swi_rom.specs.Record.{Record, Transfer, writes}
 use Rattle.swi_rom.specs.Policy.{first_of}
+use Rattle.swi_rom.specs.Standing.{word_in}
 use Rattle.swi_hart.specs.Hart.{original, slots}
 use Rattle.swi_board.specs.Transfers.{Here, at_fall, settled, step_cost, fall_transfers, step_transfers, here_after, after_all}
 
--- so many fetches of words one behind the other, behind so many sets
-abbrev pub fetches_from : ℕ → ℕ → ℕ → List Fetch
-fetches_from i zero sets = []
-fetches_from i (suc n) sets = fetch i sets ∷ fetches_from (i + 1) n sets
+-- so many fetches of words one behind the other, behind so many sets, by what stands at each index
+abbrev pub fetches_from : (ℕ → ℕ) → ℕ → ℕ → ℕ → List Fetch
+fetches_from word i zero sets = []
+fetches_from word i (suc n) sets = fetch i sets (word i) ∷ fetches_from word (i + 1) n sets
 
 -- the service's record, and how many words were set
 pub record Written : Type 0 where
@@ -31,23 +32,28 @@ written_by policy v w ts = record {
 abbrev pub index_in : Record → ℕ × ℕ → ℕ
 index_in r p = first_of r p.0 + p.1
 
+-- the fetch at an index of a block, of the word that stands there
+abbrev pub fetch_in : ImageData → Written → ℕ → ℕ → Fetch
+fetch_in v w b i = fetch i w.sets (word_in v w.kept b i)
+
 -- the exit behind a block's last text word, which is fetched first
 abbrev pub fall_words : ImageData → Machine → Here → Written → List Fetch
 fall_words v f None w = []
-fall_words v f (Some p) w = if at_fall v f (Some p) then fetch (index_in w.kept p) w.sets ∷ [] else []
+fall_words v f (Some p) w = if at_fall v f (Some p) then fetch_in v w p.0 (index_in w.kept p) ∷ [] else []
 
 -- the words of its rendering that a step executes; one outside the text fetches none
-abbrev pub step_words : Machine → Here → Written → List Fetch
-step_words f None w = []
-step_words f (Some p) w = fetches_from (index_in w.kept p) (step_cost f (original f) (slots f)) w.sets
+abbrev pub step_words : ImageData → Machine → Here → Written → List Fetch
+step_words v f None w = []
+step_words v f (Some p) w = fetches_from (word_in v w.kept p.0) (index_in w.kept p) (step_cost f (original f) (slots f)) w.sets
 
--- The words that up to so many steps fetch, in order. Each stands where its block does in the service's record, and comes behind the sets
--- of the transfers before it: a transfer is served behind the last word of its step, and behind an exit that is made first.
+-- The words that up to so many steps fetch, in order. Each stands where its block does in the service's record, is the image's word or the
+-- jump of a link that the record has, and comes behind the sets of the transfers before it: a transfer is served behind the last word of its
+-- step, and behind an exit that is made first.
 unfoldable pub words_run : (Record → ImageData → Transfer → Record) → ImageData → ℕ → FlatState → Here → Written → List Fetch
 words_run policy v zero s here w = []
 words_run policy v (suc k) s here w =
     if is_some s.machine.ending then []
-    else fall_words v s.machine here w ++ (step_words s.machine (settled v s.machine here) (written_by policy v w (fall_transfers v s.machine here))
+    else fall_words v s.machine here w ++ (step_words v s.machine (settled v s.machine here) (written_by policy v w (fall_transfers v s.machine here))
     ++ words_run policy v k (held_step s) (here_after v s.machine (settled v s.machine here) (held_step s).machine)
     (written_by policy v (written_by policy v w (fall_transfers v s.machine here)) (step_transfers s.machine (settled v s.machine here) (held_step s).machine)))
 

@@ -1,6 +1,6 @@
 -- The cached machine as plain data, one machine instruction after the other, over the flat machine's steps.
 use Rattle.std.specs.Prelude.{◌≡◌, ℕ, zero, suc, ◌+◌, ◌-◌, ◌<◌, List, [], ◌∷◌, ◌++◌, Some, None, is_some, nat_lt, if◌then◌else◌}
-use Rattle.swi_outside.specs.CacheRam.{Fetch, fetch}
+use Rattle.swi_outside.specs.CacheRam.{Fetch}
 use Rattle.swi_calls.specs.declared.machine.Machine.{Machine}
 use Rattle.swi_calls.specs.Flat.{started}
 use Rattle.swi_calls.specs.Held.{held_step}
@@ -9,7 +9,7 @@ use Rattle.swi_image.specs.Format.{ImageData}
 use Rattle.swi_image.specs.Place.{place_of}
 use Rattle.swi_rom.specs.Record.{Record, Transfer, direct, indirect, writes}
 use Rattle.swi_hart.specs.Hart.{original, slots}
-use Rattle.swi_board.specs.Fetching.{Written, index_in}
+use Rattle.swi_board.specs.Fetching.{Written, fetch_in, index_in}
 use Rattle.swi_board.specs.Transfers.{Here, at_fall, step_transfers, here_after, before_last, after_all}
 
 -- what a service makes of its record at a transfer
@@ -35,6 +35,10 @@ pub record Moment : Type 0 where
 -- what the service has written by then
 abbrev pub written_in : Moment → Written
 written_in s = record { kept = s.kept; sets = s.sets }
+
+-- the fetch of the next word of what stands at a place
+abbrev pub next_fetch : ImageData → ℕ × ℕ → Moment → Fetch
+next_fetch v p s = fetch_in v (written_in s) p.0 (index_in s.kept p + s.spent)
 
 -- a machine instruction that fetched these words
 abbrev pub counted : List Fetch → Moment → Moment
@@ -76,7 +80,7 @@ executed by v p s =
 
 abbrev pub stepped_at : Policy → ImageData → Here → Moment → Moment
 stepped_at by v None s = counted [] (completed by v None s)
-stepped_at by v (Some p) s = counted (fetch (index_in s.kept p + s.spent) s.sets ∷ []) (if at_fall v s.flat.machine (Some p) then fell by v p s else executed by v p s)
+stepped_at by v (Some p) s = counted (next_fetch v p s ∷ []) (if at_fall v s.flat.machine (Some p) then fell by v p s else executed by v p s)
 
 -- one machine instruction; where the run has ended, nothing
 abbrev pub event : Policy → ImageData → Moment → Moment

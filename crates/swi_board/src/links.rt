@@ -3,9 +3,7 @@
 
 ghost use Rattle.std.specs.Prelude.{◌≡◌, ◌<◌, ◌^◌, ℕ, IfSome};
 ghost use Rattle.swi_exec.specs.Arithmetic.{sum_of};
-ghost use Rattle.swi_hart.specs.Leaving.{offset_of};
-ghost use Rattle.swi_isa.specs.Decode.{decoded};
-ghost use Rattle.swi_rom.specs.Record.{IsJump};
+ghost use Rattle.swi_rom.specs.Record.{jump_offset};
 ghost use Rattle.swi_board.specs.Links.{IsLink};
 
 use std::alloc::Global;
@@ -30,7 +28,7 @@ const NONE: Link = Link {
 
 /// How many words on a JAL jumps, modulo 2^32, by its offset in bytes.
 pub(crate) fn distance(off: u32) -> u32
-    ensures { (i j w : ℕ) → IsJump i j w → off ≡ offset_of (decoded w) → i < 2 ^ 21 → j < 2 ^ 21 → sum_of i result ≡ j }
+    ensures { (i j : ℕ) → off ≡ jump_offset i j → i < 2 ^ 21 → j < 2 ^ 21 → sum_of i result ≡ j }
 {
     if off < 1 << 31 {
         off / 4

@@ -8,7 +8,10 @@ use Rattle.swi_outside.specs.Causes.{risen}
 use Rattle.swi_calls.specs.declared.end.End.{End}
 use Rattle.swi_calls.specs.declared.machine.Machine.{Machine}
 use Rattle.swi_calls.specs.State.{FlatState}
+use Rattle.swi_memory.specs.Bus.{fetched}
 use Rattle.swi_image.specs.Format.{ImageData}
+use Rattle.swi_image.specs.Place.{place_of}
+use Rattle.swi_render.specs.Carried.{Carries}
 use Rattle.swi_rom.specs.Coherent.{Coherent}
 use Rattle.swi_rom.specs.Record.{Record, writes}
 use Rattle.swi_rom.specs.Service.{ServiceOf, IsService}
@@ -27,13 +30,13 @@ use Rattle.swi_run_laws.proofs.Between.{between_at, most_any, settled_most}
 use Rattle.swi_run_laws.proofs.RunLaws.{run_after}
 use Rattle.swi_line.specs.declared.trace.Trace.{Trace}
 use Rattle.swi_cached.specs.Answers.{BoardEnded, EndedSo, Ended, RamAfter}
-use Rattle.swi_cached.specs.Cached.{CachedRun, IsFresh, end_of, record_after, words_after}
+use Rattle.swi_cached.specs.Cached.{CachedRun, IsCarried, IsFresh, end_of, record_after, words_after}
 use Rattle.swi_cached.specs.CachedRan.{Around, Booted, with_input}
 use Rattle.swi_cached.specs.Told.{is_each}
 use Rattle.swi_cached.specs.Traced.{Before, ToldAlong, ToldTo}
 use Rattle.swi_cached.proofs.Boot.{lawful}
 use Rattle.swi_cached.proofs.Services.{services_few}
-use Rattle.swi_cached.proofs.Starting.{coherent_run, count_most, first_moment, from_point, given_for, led_to, setting_is, unused_run, written_run}
+use Rattle.swi_cached.proofs.Starting.{coherent_run, count_most, first_moment, from_point, given_for, led_to, machine_is, setting_is, unused_run, written_run}
 use Rattle.swi_cached.proofs.Telling.{history_is}
 use Rattle.swi_cached.proofs.Tells.{all_told}
 
@@ -52,7 +55,7 @@ module _ {S : Type 0} {k : ServiceOf S} (laws : IsService k) {v : ImageData} {ro
     count = most_any v mid.hart.machine mid.hart.control mid.hart.count (count_most boot along going none);
   }
 
-  module _ (left : List ℕ) (told : before.devices.input.left ≡ Some left) where
+  module _ (placed : is_some (place_of v m.pc) ≡ true) (left : List ℕ) (told : before.devices.input.left ≡ Some left) where
     abbrev by : Policy
     by = k.policy (k.setting rom)
 
@@ -110,11 +113,16 @@ module _ {S : Type 0} {k : ServiceOf S} (laws : IsService k) {v : ImageData} {ro
           ∙ after.here (ap (λ (q : FlatState). q.machine.ending) after.flat ∙ on);
     }
 
+    carried_at : (o : Option (ℕ × ℕ)) → place_of v m.pc ≡ o → is_some o ≡ true → IsCarried c
+    carried_at None is some = absurd (false≢true some)
+    carried_at (Some p) is some = record { carries = subst (λ (x : Machine). Carries (fetched x.bus) v) (machine_is boot) boot.entered.fits.image; entry = p; place = is }
+
     words_are : last.words ≡ reverse (words_after c n)
     words_are = after.words ∙ append-nil (reverse (words_after c n))
 
     ram : RamAfter c before.ram mid.ram
     ram = record {
+      carried = carried_at (place_of v m.pc) refl placed;
       coherent = subst (λ (r : Record). Coherent v r (k.span (k.setting rom)) mid.ram.words) record_is (coherent_run laws boot along);
       fetches = to.tracks.ram.fetches ∙ ap (λ (l : List Fetch). risen before.ram.fetches (length l)) words_are
           ∙ ap (λ (x : ℕ). risen before.ram.fetches x) (length-reverse (words_after c n) ∙ words_many by v n start.flat start.here (written_in start));

@@ -52,8 +52,8 @@ stop_cause {T} f {first} {before} {after} same h = cause_from same (cause_as h (
 module _ {S : Type 0} {k : ServiceOf S} (laws : IsService k) {v : ImageData} {rom : S} {m : Machine} {n : ℕ} {telling : Trace} {before after : Around}
     (fresh : IsFresh (k.kept rom)) (going : m.ending ≡ None) (none : m.steps ≡ 0) where
   -- it came to its end
-  ended_steps : m.pc < 2 ^ 32 → (p : BoardOf S × Option (List ℕ)) → BootRan k (given_for k v rom m n telling) rom before (board_around p.0 after) (Ok p.1) → InSteps k (given_for k v rom m n telling) rom before after (Ok p)
-  ended_steps word p r =
+  ended_steps : is_some (place_of v m.pc) ≡ true → m.pc < 2 ^ 32 → (p : BoardOf S × Option (List ℕ)) → BootRan k (given_for k v rom m n telling) rom before (board_around p.0 after) (Ok p.1) → InSteps k (given_for k v rom m n telling) rom before after (Ok p)
+  ended_steps placed word p r =
       let along = r.ran.along in
       let new = sym r.ran.ends.0 in
       let over = r.ran.ends.1 in
@@ -63,7 +63,7 @@ module _ {S : Type 0} {k : ServiceOf S} (laws : IsService k) {v : ImageData} {ro
         ended = λ left is.
             subst (λ (h : Option (List ℕ)). EndedSo k (with_input (given_for k v rom m n telling) left) p.0 telling h before after) told
             (subst (λ (w : BoardWithDevices S). EndedSo k (with_input (given_for k v rom m n telling) left) (record { hart = w.hart; rom = w.rom }) telling r.ran.history before (record { ram = w.ram; devices = w.devices })) new
-            (ended_so laws r.booted fresh going none along over left is));
+            (ended_so laws r.booted fresh going none along over placed left is));
         board = subst (λ (w : BoardWithDevices S). BoardEnded k (given_for k v rom m n telling) rom (record { hart = w.hart; rom = w.rom }) (record { ram = w.ram; devices = w.devices })) new (board_ended laws r.booted fresh going none along over);
         counted = λ left. is_counted (with_input (given_for k v rom m n telling) left) (subst (λ (x : Machine). Carries (fetched x.bus) v) (machine_is r.booted) r.booted.entered.fits.image) word going;
         memory = λ e. let bad : ⊥ = cc in absurd bad;
@@ -130,6 +130,7 @@ module _ {S : Type 0} {k : ServiceOf S} (laws : IsService k) {v : ImageData} {ro
               (causes_from quiet.0 (record {
                 input = record { later = omega arith; cause = λ e. let bad : ⊥ = cc in absurd bad; told = inl refl };
                 sinks = record { one_later = omega arith; other_later = broke.later; cause = λ e. inr broke.rose; one_told = inl refl; other_told = inr refl };
+                once = λ e. let bad : ⊥ = cc in absurd bad;
               })));
           ram_cause = no_cause (ap (λ (w : BoardWithDevices S). w.ram.faults) rest ∙ quiet.1) (λ e. (let one = fault_is {T = Answer S} fault RamFault e in let two = broke.fault_is in let bad : ⊥ = cc in bad));
         }
@@ -157,7 +158,7 @@ module _ {S : Type 0} {k : ServiceOf S} (laws : IsService k) {v : ImageData} {ro
   -- whatever it answers
   pub in_steps : is_some (place_of v m.pc) ≡ true → m.pc < 2 ^ 32 → (result : Result (BoardOf S × Option (List ℕ)) CachedStop) → CachedRan k (given_for k v rom m n telling) rom before after result →
       InSteps k (given_for k v rom m n telling) rom before after result
-  in_steps placed word (Ok p) ran = ended_steps word p ran
+  in_steps placed word (Ok p) ran = ended_steps placed word p ran
   in_steps placed word (Err stop.Memory) same = no_memory same
   in_steps placed word (Err (stop.Fault fault)) (inl b) = boot_steps placed fault b
   in_steps placed word (Err (stop.Fault fault)) (inr r) = elim r.ran.ran.ends [

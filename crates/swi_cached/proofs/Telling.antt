@@ -26,6 +26,7 @@ use Rattle.swi_board.specs.Moments.{GoesOn, Moment, Policy, event, events}
 use Rattle.swi_board.specs.Tracking.{Point, Tracks, point_of}
 use Rattle.swi_board.proofs.Along.{stays_start, stays_step}
 use Rattle.swi_board.proofs.Held.{run_snoc, same_steps}
+use Rattle.swi_board.proofs.Fetching.{holds_under}
 use Rattle.swi_board.proofs.Tracks.{step_tracks}
 use Rattle.swi_run_laws.proofs.RunLaws.{event_flat, flat_at}
 use Rattle.swi_run_laws.proofs.Schedules.{told_tracks}
@@ -217,7 +218,9 @@ module _ {S : Type 0} {k : ServiceOf S} {v : ImageData} {telling : Trace} {n : â
             let b = begun_to was running sink line q from at in
             told_next b (here_at was running q from at) refl more running (was.came q from at).going
             (step_tracks (k.policy (k.setting old.rom)) (k.span (k.setting old.rom)) v (with_errors b.error (events (k.policy (k.setting old.rom)) v was.made q)) from (point_of k (with_sink now sink)) (point_of k next) b.tracks running word
-            (laws.coherent now.rom v now.ram.words was.stays.sound).once moves (s.made was.stays.sound (events (k.policy (k.setting old.rom)) v was.made q).flat.input b.tracks.input) stepped);
+            (laws.coherent now.rom v now.ram.words was.stays.sound).once
+            (holds_under v (k.kept now.rom) (k.span (k.setting now.rom)) now.ram.words now.hart (laws.coherent now.rom v now.ram.words was.stays.sound) was.stays.point.fits running word)
+            moves (s.made was.stays.sound (events (k.policy (k.setting old.rom)) v was.made q).flat.input b.tracks.input) stepped);
         stays = stays_step (stays_told sink same was.stays) laws more running s;
         next = (
             let up = grown.one in

@@ -1,7 +1,7 @@
 -- What is told of a run, step by step.
 use Rattle.std.proofs.Common.{◌≡◌, ◌⊎◌, nat_lt, if◌then◌else◌, ℕ, zero, suc, ◌+◌, ◌-◌, ◌<◌, ◌≤◌, Bool, true, false, List, [], ◌∷◌, ◌++◌, Option, Some, None, is_some, refl, sym, ap, subst, ◌∙◌, inl, inr, arith, append-nil, append_assoc}
 use Rattle.std.proofs.lemmas.Bool.{false≢true, cases_Bool}
-use Rattle.swi_outside.specs.CacheRam.{Fetch, fetch}
+use Rattle.swi_outside.specs.CacheRam.{Fetch}
 use Rattle.swi_memory.specs.Bus.{AreaData, fetched}
 use Rattle.swi_calls.specs.declared.end.End.{End}
 use Rattle.swi_calls.specs.declared.machine.Machine.{Machine}
@@ -15,8 +15,7 @@ use Rattle.swi_hart.specs.declared.hart.Control.{Control}
 use Rattle.swi_hart.specs.declared.hart.Control.TheVariants.{At, Outside}
 use Rattle.swi_hart.specs.Hart.{original, slots}
 use Rattle.swi_hart.specs.Matching.{Stands, Agrees, Matches}
-use Rattle.swi_board.specs.Fetching.{index_in}
-use Rattle.swi_board.specs.Moments.{Moment, Policy, completed, counted, event, executed, fell, led, stepped_at}
+use Rattle.swi_board.specs.Moments.{Moment, Policy, completed, counted, event, executed, fell, led, next_fetch, stepped_at}
 use Rattle.swi_board.specs.Transfers.{Here, at_fall, before_last}
 use Rattle.swi_board.proofs.Held.{held_steps, run_snoc}
 use Rattle.swi_trace.specs.Text.{trace_line_of}
@@ -137,7 +136,7 @@ event_told by v e s = by_ending s.flat.machine.ending
         ((stepped_at by v h (with_errors e s) ≡ with_errors e (stepped_at by v h s)) × ((stepped_at by v h s).flat ≡ s.flat))
         ⊎ ((stepped_at by v h (with_errors e s) ≡ with_errors (e ++ (held_made s.flat.machine s.flat.input).error) (stepped_at by v h s)) × ((stepped_at by v h s).flat ≡ held_step s.flat))
     by_here None = inr (refl, refl)
-    by_here (Some p) = by_fall p (fetch (index_in s.kept p + s.spent) s.sets ∷ []) (at_fall v s.flat.machine (Some p))
+    by_here (Some p) = by_fall p (next_fetch v p s ∷ []) (at_fall v s.flat.machine (Some p))
 
     by_ending : (x : Option End) →
         (((if is_some x then with_errors e s else stepped_at by v s.here (with_errors e s)) ≡ with_errors e (if is_some x then s else stepped_at by v s.here s)) × ((if is_some x then s else stepped_at by v s.here s).flat ≡ s.flat))

@@ -2,7 +2,7 @@
 use Rattle.std.proofs.Common.{◌≡◌, ◌⊎◌, ℕ, zero, suc, ◌+◌, ◌-◌, ◌<◌, ◌≤◌, nat_lt, if◌then◌else◌, Bool, true, false, List, [], ◌∷◌, ◌++◌, reverse, Option, Some, None, is_some, refl, sym, ap, ◌∙◌, inl, inr, arith}
 use Rattle.std.proofs.lemmas.Bool.{cases_Bool, cases_lt, false≢true}
 use Rattle.std.proofs.lemmas.List.{append_assoc, reverse-append, reverse-reverse}
-use Rattle.swi_outside.specs.CacheRam.{Fetch, fetch}
+use Rattle.swi_outside.specs.CacheRam.{Fetch}
 use Rattle.swi_calls.specs.declared.end.End.{End}
 use Rattle.swi_calls.specs.Held.{held_run, held_step}
 use Rattle.swi_calls.specs.Laws.{held_run_over}
@@ -11,8 +11,7 @@ use Rattle.swi_image.specs.Format.{ImageData}
 use Rattle.swi_image.specs.Place.{place_of}
 use Rattle.swi_rom.specs.Record.{Record, Transfer, direct}
 use Rattle.swi_hart.specs.Hart.{original, slots}
-use Rattle.swi_board.specs.Fetching.{index_in}
-use Rattle.swi_board.specs.Moments.{Moment, Policy, completed, counted, event, events, fell}
+use Rattle.swi_board.specs.Moments.{Moment, Policy, completed, counted, event, events, fell, next_fetch}
 use Rattle.swi_board.specs.Transfers.{Here, after_all, at_fall, before_last, cost, fall_transfers, here_run, transfers}
 use Rattle.swi_board.proofs.Counting.{place_not_fall}
 use Rattle.swi_board.proofs.Events.{event_at, events_more, events_one, fall_event, last_event, lead_event}
@@ -80,7 +79,7 @@ module _ (by : Policy) (v : ImageData) (t q : Moment) (was : Inside by v t q) (g
             | inr other ↦ inr (stays ∙ other.0, ap (λ (h : Here). at_fall v t.flat.machine h) stands ∙ other.1)
           ];
         }
-    | inr last ↦ whole (fetch (index_in q.kept p + q.spent) q.sets ∷ []) (Some p) (last_event by v q going p here none last)
+    | inr last ↦ whole (next_fetch v p q ∷ []) (Some p) (last_event by v q going p here none last)
   ]
 
   inside_next : Inside by v t (event by v q)

@@ -21,7 +21,7 @@ use Rattle.swi_board.specs.Transfers.{here_of}
 use Rattle.swi_line.specs.declared.trace.Trace.{Trace}
 use Rattle.swi_cached.specs.declared.run.CachedStop.{CachedStop}
 use Rattle.swi_cached.specs.declared.run.CachedStop.TheVariants as stop
-use Rattle.swi_cached.specs.Cached.{CachedRun, IsCounted, span_of, program_after, told_after, end_of, instructions_after, fetches_after, words_after, place_after, record_after, record_behind_exit, used_after}
+use Rattle.swi_cached.specs.Cached.{CachedRun, IsCarried, IsCounted, span_of, program_after, told_after, end_of, instructions_after, fetches_after, words_after, place_after, record_after, record_behind_exit, used_after}
 use Rattle.swi_cached.specs.CachedRan.{Around, Given, with_input}
 use Rattle.swi_cached.specs.Told.{addresses, history_of, next_told, told_line}
 
@@ -47,6 +47,8 @@ pub record IsShort (h : HartData) : Type 0 where
 
 -- the ram after a run
 pub record RamAfter (c : CachedRun) (before after : RamState) : Type 0 where
+  -- its blocks are those of an image of the program
+  pub carried : IsCarried c
   -- each placed block stands in its slot word for word, but that at each link there is a jump to its target's place
   pub coherent : Coherent c.image (record_after c c.limit) (span_of c) after.words
   -- so many words were fetched, and so many written: the copied blocks, the links, and the links undone

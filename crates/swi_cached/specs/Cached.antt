@@ -11,8 +11,10 @@ use Rattle.swi_calls.specs.State.{FlatState}
 use Rattle.swi_calls.specs.StoresText.{next_store}
 use Rattle.swi_image.specs.Format.{ImageData}
 use Rattle.swi_image.specs.Place.{place_of}
+use Rattle.swi_memory.specs.Bus.{fetched}
 use Rattle.swi_memory.specs.declared.layout.Layout.{Layout}
 use Rattle.swi_program.specs.Program.{ProgramData}
+use Rattle.swi_render.specs.Carried.{Carries}
 use Rattle.swi_rom.specs.Record.{Record, Transfer, indirect, writes}
 use Rattle.swi_rom.specs.Service.{Cache}
 use Rattle.swi_board.specs.Transfers.{Here, transfers, cost, fall_transfers, fetches, here_run, after_all}
@@ -37,6 +39,12 @@ run_of v cache p l asked input = record {
   limit = asked.limit;
   trace = is_each asked.trace;
 }
+
+-- the image is one of the program's text, and the first instruction has a place in it
+pub record IsCarried (c : CachedRun) : Type 0 where
+  pub carries : Carries (fetched c.start.machine.bus) c.image
+  pub entry : ℕ × ℕ
+  pub place : place_of c.image c.start.machine.pc ≡ Some entry
 
 -- the words of the ram that the cache uses
 abbrev pub span_of : CachedRun → ℕ
@@ -106,8 +114,8 @@ record_after c n = after_all (policy_of c) c.image (record_at_boot c)
 abbrev pub written_at_boot : CachedRun → Written
 written_at_boot c = written_by (policy_of c) c.image (record { kept = c.cache.empty; sets = 0 }) (indirect c.start.machine.pc ∷ [])
 
--- The words of the ram that those fetch, in order: each where its block stands by then, and behind the sets of the boot and of all
--- transfers before it.
+-- The words of the ram that those fetch, in order: each where its block stands by then, as the image or a link has it, and behind the sets
+-- of the boot and of all transfers before it.
 abbrev pub words_after : CachedRun → ℕ → List Fetch
 words_after c n = words_run (policy_of c) c.image n c.start (place_of c.image c.start.machine.pc) (written_at_boot c)
 

@@ -47,7 +47,7 @@ use Rattle.swi_cached_task.proofs.Caching.{cached_run_is, cached_to, front_none,
 use Rattle.swi_task.specs.Causes.{HasCauses}
 use Rattle.swi_task.specs.Checks.{IsAccepted, room_in, size_refusal}
 use Rattle.swi_task.specs.Devices.{Devices, stream_faults}
-use Rattle.swi_cached_command.specs.RunCached.{BrokeIn, CachedFailed, RamBroke, RunsCached, StepBroke, RunsOver, addresses_in, cached_report, last_lines, last_told, refusal_of, cached_task, shown_error, told_next}
+use Rattle.swi_cached_command.specs.RunCached.{BrokeIn, CachedFailed, RamBroke, RunsCached, StepBroke, RunsOver, addresses_in, cached_report, last_lines, last_told, stop_refusal, cached_task, shown_error, told_next}
 use Rattle.swi_task.specs.Runs.{FailedAfterRun, FailedAtLine, ending_by, report, start_of}
 use Rattle.swi_task.specs.Subject.{IsImageFor}
 use Rattle.swi_task.proofs.Due.{left_empty}
@@ -90,33 +90,33 @@ memory_after o cache v p l d i out e ram same =
 
 -- a run that stopped so is refused so
 stop_causes : {T : Type 0} (f : CachedStop) (before after : Devices) → after.shelf.faults ≡ before.shelf.faults → BoardCauses {T = T} before after (Err f) →
-    HasCauses {T = Ending} before after (Err (refusal_of f))
+    HasCauses {T = Ending} before after (Err (stop_refusal f))
 stop_causes {T} f before after shelf h =
-    causes_of before after (Err (refusal_of f)) (no_cause shelf (no_shelf f)) (cause_as h.ram_cause (to f (stop.Fault board.RamFault)) (from_ram f))
+    causes_of before after (Err (stop_refusal f)) (no_cause shelf (no_shelf f)) (cause_as h.ram_cause (to f (stop.Fault board.RamFault)) (from_ram f))
     (named_as h.streams (to f (stop.Fault board.SourceFault)) (from_source f) (to f (stop.Fault board.SinkFault)) (from_sink f))
   where
-    no_shelf : (f : CachedStop) → IsErrOf {T = Ending} (Err (refusal_of f)) refusal.ShelfFault → ⊥
+    no_shelf : (f : CachedStop) → IsErrOf {T = Ending} (Err (stop_refusal f)) refusal.ShelfFault → ⊥
     no_shelf stop.Memory e = let never : ⊥ = cc in never
     no_shelf (stop.Fault board.RamFault) e = let never : ⊥ = cc in never
     no_shelf (stop.Fault board.SourceFault) e = let never : ⊥ = cc in never
     no_shelf (stop.Fault board.SinkFault) e = let never : ⊥ = cc in never
 
-    to : (f g : CachedStop) → IsErrOf {T = T} (Err f) g → IsErrOf {T = Ending} (Err (refusal_of f)) (refusal_of g)
-    to f g e = let same : f ≡ g = cc in ap (λ (x : CachedStop). Err (refusal_of x)) same
+    to : (f g : CachedStop) → IsErrOf {T = T} (Err f) g → IsErrOf {T = Ending} (Err (stop_refusal f)) (stop_refusal g)
+    to f g e = let same : f ≡ g = cc in ap (λ (x : CachedStop). Err (stop_refusal x)) same
 
-    from_ram : (f : CachedStop) → IsErrOf {T = Ending} (Err (refusal_of f)) refusal.RamFault → IsErrOf {T = T} (Err f) (stop.Fault board.RamFault)
+    from_ram : (f : CachedStop) → IsErrOf {T = Ending} (Err (stop_refusal f)) refusal.RamFault → IsErrOf {T = T} (Err f) (stop.Fault board.RamFault)
     from_ram (stop.Fault board.RamFault) e = refl
     from_ram stop.Memory e = let never : ⊥ = cc in absurd never
     from_ram (stop.Fault board.SourceFault) e = let never : ⊥ = cc in absurd never
     from_ram (stop.Fault board.SinkFault) e = let never : ⊥ = cc in absurd never
 
-    from_source : (f : CachedStop) → IsErrOf {T = Ending} (Err (refusal_of f)) refusal.SourceFault → IsErrOf {T = T} (Err f) (stop.Fault board.SourceFault)
+    from_source : (f : CachedStop) → IsErrOf {T = Ending} (Err (stop_refusal f)) refusal.SourceFault → IsErrOf {T = T} (Err f) (stop.Fault board.SourceFault)
     from_source (stop.Fault board.SourceFault) e = refl
     from_source stop.Memory e = let never : ⊥ = cc in absurd never
     from_source (stop.Fault board.RamFault) e = let never : ⊥ = cc in absurd never
     from_source (stop.Fault board.SinkFault) e = let never : ⊥ = cc in absurd never
 
-    from_sink : (f : CachedStop) → IsErrOf {T = Ending} (Err (refusal_of f)) refusal.SinkFault → IsErrOf {T = T} (Err f) (stop.Fault board.SinkFault)
+    from_sink : (f : CachedStop) → IsErrOf {T = Ending} (Err (stop_refusal f)) refusal.SinkFault → IsErrOf {T = T} (Err f) (stop.Fault board.SinkFault)
     from_sink (stop.Fault board.SinkFault) e = refl
     from_sink stop.Memory e = let never : ⊥ = cc in absurd never
     from_sink (stop.Fault board.RamFault) e = let never : ⊥ = cc in absurd never
@@ -253,7 +253,7 @@ none_run o cache v p l d = memory_after o cache v p l d d.input d.output d.error
 
 -- it stopped before its end
 pub run_stopped : {T : Type 0} {o : RunOptions} {cache : Cache} {v : ImageData} {p : ProgramData} {l : Layout} {d : Devices} {i : SourceState} {out e : SinkState} {ram : RamState}
-    (f : CachedStop) (r : Refusal) → r ≡ refusal_of f → KeepsBeyond cache.span d.ram ram →
+    (f : CachedStop) (r : Refusal) → r ≡ stop_refusal f → KeepsBeyond cache.span d.ram ram →
     ((left : List ℕ) → d.input.left ≡ Some left → FetchedFront (words_after (run_with o cache v p l left) o.limits.steps) d.ram ram) →
     (IsErrOf {T = T} (Err f) stop.Memory → around_of (ran_all d i out e ram) ≡ around_of d) →
     ((fault : BoardFault) → IsErrOf {T = T} (Err f) (stop.Fault fault) → (left : List ℕ) → d.input.left ≡ Some left → run.Failed (run_with o cache v p l left) fault (around_of d) (around_of (ran_all d i out e ram))) →
@@ -263,7 +263,7 @@ run_stopped {T} {o} {cache} {v} {p} {l} {d} {i} {out} {e} {ram} f r is kept word
   where
     by : (f : CachedStop) → (IsErrOf {T = T} (Err f) stop.Memory → around_of (ran_all d i out e ram) ≡ around_of d) →
         ((fault : BoardFault) → IsErrOf {T = T} (Err f) (stop.Fault fault) → (left : List ℕ) → d.input.left ≡ Some left → run.Failed (run_with o cache v p l left) fault (around_of d) (around_of (ran_all d i out e ram))) →
-        BoardCauses {T = T} d (ran_all d i out e ram) (Err f) → RunsOver o cache v p l d (ran_all d i out e ram) (Err (refusal_of f))
+        BoardCauses {T = T} d (ran_all d i out e ram) (Err f) → RunsOver o cache v p l d (ran_all d i out e ram) (Err (stop_refusal f))
     by stop.Memory memory broke causes =
         let same = memory refl in
         memory_after o cache v p l d i out e ram
@@ -272,9 +272,9 @@ run_stopped {T} {o} {cache} {v} {p} {l} {d} {i} {out} {e} {ram} f r is kept word
     by (stop.Fault board.SourceFault) memory broke causes = source_failed {T = T} o cache v p l d i out e ram kept words (broke board.SourceFault refl) causes
     by (stop.Fault board.SinkFault) memory broke causes = sink_failed {T = T} o cache v p l d i out e ram kept words (broke board.SinkFault refl) causes
 
--- what stopped a run whose refusal `map_err(refusal_of)?` hands on
-pub handed_on : {T : Type 0} (r : Result T CachedStop) (x : Refusal) → MatchResult r (λ y. ◌≡◌ {A = Result T Refusal} (Err x) (Ok y)) (λ f. x ≡ refusal_of f) →
-    (f : CachedStop) × (r ≡ Err f) × (x ≡ refusal_of f)
+-- what stopped a run whose refusal `map_err(stop_refusal)?` hands on
+pub handed_on : {T : Type 0} (r : Result T CachedStop) (x : Refusal) → MatchResult r (λ y. ◌≡◌ {A = Result T Refusal} (Err x) (Ok y)) (λ f. x ≡ stop_refusal f) →
+    (f : CachedStop) × (r ≡ Err f) × (x ≡ stop_refusal f)
 handed_on (Ok y) x h = let bad : ⊥ = cc in absurd bad
 handed_on (Err f) x h = (f, refl, h)
 
@@ -398,6 +398,7 @@ module _ {o : RunOptions} {cache : Cache} {v : ImageData} {p : ProgramData} {l :
           (record {
             input = no_cause input_same (λ x. let bad : ⊥ = cc in bad);
             sinks = record { one_later = omega (arith, still); other_later = later; cause = λ _. inr rose; one_told = inl still; other_told = inr refl };
+            once = λ x. let bad : ⊥ = cc in absurd bad;
           })
 
   -- both were written

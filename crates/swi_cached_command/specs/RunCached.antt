@@ -18,7 +18,6 @@ use Rattle.swi_rom.specs.Service.{Cache}
 use Rattle.swi_trace.specs.History.{last_of}
 use Rattle.swi_cached.specs.Answers.{RamAfter, RamWithin}
 use Rattle.swi_cached.specs.Cached.{CachedRun, IsFlatRun, StopsBeforeStore, end_of, program_after, told_after, fetches_after, words_after}
-use Rattle.swi_hart.specs.declared.fault.BoardFault.TheVariants as board
 use Rattle.swi_board.specs.Fetching.{FetchedFront}
 use Rattle.swi_cached.specs.Told.{addresses, lines_at, next_error, told_line}
 use Rattle.swi_cached.specs.declared.run.CachedStop.{CachedStop}
@@ -32,7 +31,7 @@ use Rattle.swi_cached_task.specs.Placing.{cached_checks}
 use Rattle.swi_task.specs.Causes.{HasCauses}
 use Rattle.swi_task.specs.Checks.{InRam}
 use Rattle.swi_task.specs.Devices.{Devices}
-use Rattle.swi_task.specs.Runs.{Ran, FailedAtStep, FailedAfterRun, report, start_of}
+use Rattle.swi_task.specs.Runs.{Ran, FailedAtStep, FailedAfterRun, refusal_of, report, start_of}
 use Rattle.swi_task.specs.Subject.{IsImageFor}
 use Rattle.swi_task.specs.Task.{Task}
 
@@ -124,11 +123,9 @@ cached_task name cache o = record {
 -- ---- as its functions say it
 
 -- what a run is refused with that stopped so
-abbrev pub refusal_of : CachedStop → Refusal
-refusal_of stop.Memory = refusal.Memory
-refusal_of (stop.Fault board.RamFault) = refusal.RamFault
-refusal_of (stop.Fault board.SourceFault) = refusal.SourceFault
-refusal_of (stop.Fault board.SinkFault) = refusal.SinkFault
+abbrev pub stop_refusal : CachedStop → Refusal
+stop_refusal stop.Memory = refusal.Memory
+stop_refusal (stop.Fault fault) = refusal_of fault
 
 -- what such a run does: it comes to its end, or a device fails in it or behind it; or there was no memory
 pub record RunsOver (o : RunOptions) (k : Cache) (v : ImageData) (p : ProgramData) (l : Layout) (before after : Devices) (result : Result Ending Refusal) : Type 0 where

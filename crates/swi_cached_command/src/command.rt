@@ -1,7 +1,7 @@
 //! The commands `cached` and `trace`: a run on the cached machine.
 #![tactic(auto)]
 
-ghost use Rattle.std.specs.Prelude.{◌≡◌, ◌*◌, ◌^◌, ◌≤◌, [], length};
+ghost use Rattle.std.specs.Prelude.{◌≡◌, ◌*◌, ◌^◌, ◌≤◌, [], length, string_bytes};
 ghost use Rattle.swi_outside.specs.Source.{HasGiven};
 ghost use Rattle.swi_outside.specs.Told.{AsTold};
 ghost use Rattle.swi_command.specs.CommandLine.{IsCacheInRange, IsInRange};
@@ -13,32 +13,29 @@ ghost use Rattle.swi_cached.specs.Cached.{IsFresh};
 ghost use Rattle.swi_task.specs.Answers.{Answers};
 ghost use Rattle.swi_cached_task.specs.Caching.{cache_for};
 ghost use Rattle.swi_task.specs.Devices.{Devices, seen};
-ghost use Rattle.swi_cached_command.specs.RunCached.{RunsOver, refusal_of, cached_task};
+ghost use Rattle.swi_cached_command.specs.RunCached.{RunsOver, cached_task, stop_refusal};
 
 use crate::report::report_board;
 use crate::trace::write_last;
 use std::alloc::Global;
 use swi_answer::{Ending, Refusal};
-use swi_board::BoardFault;
 use swi_cached::{AskedRun, CachedStop, ring_for, run_cached, slots_for};
 use swi_cached_task::place;
-use swi_command::{CacheKind, CacheOptions, RunOptions};
+use swi_command::{CacheKind, CacheOptions, CachedCommand, RunOptions};
 use swi_image::ImageView;
 use swi_memory::Layout;
 use swi_outside::{Shelf, Sink, Source, SteadyRam};
 use swi_program::Program;
 use swi_rom::CacheRom;
-use swi_task::{check_size, ending_by, read_file};
+use swi_task::{check_size, ending_by, read_file, refusal_of};
 
 /// What a run is refused with that stopped so.
-fn refusal_of(stop: CachedStop) -> Refusal
-    ensures { result ≡ refusal_of stop }
+fn stop_refusal(stop: CachedStop) -> Refusal
+    ensures { result ≡ stop_refusal stop }
 {
     match stop {
         CachedStop::Memory => Refusal::Memory,
-        CachedStop::Fault(BoardFault::RamFault) => Refusal::RamFault,
-        CachedStop::Fault(BoardFault::SourceFault) => Refusal::SourceFault,
-        CachedStop::Fault(BoardFault::SinkFault) => Refusal::SinkFault,
+        CachedStop::Fault(fault) => refusal_of(fault),
     }
 }
 
@@ -75,7 +72,7 @@ fn run_over<I: Source, O: Sink, E: Sink, R: SteadyRam, S: CacheRom>(
     let ended = run_cached(
         alloc, image, program, layout, rom, asked, input, out, err, ram,
     )
-    .map_err(refusal_of)?;
+    .map_err(stop_refusal)?;
     let (board, history) = (&ended.0, &ended.1);
     let Ok(()) = report_board(reports, board, out) else {
         return Err(Refusal::SinkFault);
@@ -133,25 +130,26 @@ fn run_program<I: Source, O: Sink, E: Sink, R: SteadyRam>(
 /// Runs the program of a file on the cached machine.
 pub fn cached<F: Shelf, I: Source, O: Sink, E: Sink, R: SteadyRam>(
     alloc: Global,
-    name: &str,
-    cache: &CacheOptions,
-    options: &RunOptions,
+    command: &CachedCommand,
     shelf: &mut F,
     input: &mut I,
     out: &mut O,
     err: &mut E,
     ram: &mut R,
 ) -> Result<Ending, Refusal>
-    requires ranges { IsInRange options.now.limits }
-    requires sizes { IsCacheInRange cache.now }
+    requires ranges { IsInRange command.now.options.limits }
+    requires sizes { IsCacheInRange command.now.cache }
     ensures gave { HasGiven (I.state input.old) (I.state input.new) }
-    ensures answers { AsTold (I.state input.old) (I.state input.new) (λ before after. Answers (cached_task name.now cache.now options.now)
+    ensures answers { AsTold (I.state input.old) (I.state input.new) (λ before after. Answers
+        (cached_task (string_bytes command.now.file) command.now.cache command.now.options)
         (seen (F.state shelf.old) before (O.state out.old) (E.state err.old) (R.state ram.old))
         (seen (F.state shelf.new) after (O.state out.new) (E.state err.new) (R.state ram.new)) result []) }
 {
+    let (cache, options) = (&command.cache, &command.options);
     check_size(cache.cache_bytes, ram)?;
-    let file = read_file(alloc, shelf, name)?;
-    let placed = place(alloc, &file, cache, &options.limits)?;
+    let file = read_file(alloc, shelf, command.file.as_str())?;
+    let sizes = [cache.cache_bytes];
+    let placed = place(alloc, &file, &sizes, cache.block_words, &options.limits)?;
     let image = placed.subject.image.view();
     let (program, layout) = (&placed.subject.program, &placed.layout);
     run_program(

@@ -8,7 +8,7 @@ ghost use Rattle.swi_task.specs.Runs.{report};
 ghost use Rattle.swi_cached_task.specs.Caching.{board_work};
 
 use swi_board::Board;
-use swi_cached_task::board_work;
+use swi_cached_task::{board_work, final_state};
 use swi_command::Reports;
 use swi_outside::{Failed, Sink};
 use swi_rom::CacheRom;
@@ -27,7 +27,5 @@ pub(crate) fn report_board<O: Sink, S: CacheRom>(
         (Some (board_work board.now.hart.count board.now.hart.machine.ending (S.service.kept board.now.rom))) ≡ [] → ⊥) }
 {
     let work = board_work(board);
-    let (pc, steps) = (board.origin_pc(), board.steps());
-    let (regs, bus, heap) = (board.regs(), board.bus(), board.heap());
-    write_report(reports, pc, regs, bus, &heap, steps, Some(&work), out)
+    write_report(reports, &final_state(board), Some(&work), out)
 }

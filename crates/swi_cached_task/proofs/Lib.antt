@@ -1,1 +1,2 @@
 pub mod Caching
+pub mod Placing

@@ -5,4 +5,4 @@ mod placed;
 mod work;
 
 pub use placed::{Placed, place};
-pub use work::board_work;
+pub use work::{board_work, final_state};

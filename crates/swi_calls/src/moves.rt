@@ -2,7 +2,7 @@
 #![tactic(auto)]
 
 ghost use Rattle.std.specs.Prelude.{◌≡◌, ◌≤◌, ◌<◌, ◌+◌, ℕ, true, Some, IfOk, OnErr, length, []};
-ghost use Rattle.swi_outside.specs.Causes.{HasCause};
+ghost use Rattle.swi_outside.specs.Causes.{HasCause, counted};
 ghost use Rattle.swi_outside.specs.Sink.{WasWritten};
 ghost use Rattle.swi_memory.specs.declared.right.Right.TheVariants.{Read, Write};
 ghost use Rattle.swi_memory.specs.Bus.{holds, bytes_at, with_bytes};
@@ -44,6 +44,7 @@ fn read_piece<I: Source>(
     ensures held_still { holds bus.new Write a count ≡ true }
     ensures failed { OnErr result (ReadsInto bus.old bus.new (I.state input.old) (I.state input.new) (a + done) 0) }
     ensures cause { HasCause (I.state input.old).faults (I.state input.new).faults result }
+    ensures once { OnErr result ((I.state input.new).faults ≡ counted (I.state input.old).faults) }
 {
     let mut piece = [0u8; PIECE];
     let room = (count - done).min(PIECE as u32) as usize;
@@ -67,6 +68,7 @@ pub(crate) fn read_into<I: Source>(
     ensures failed { OnErr result ((k : ℕ) × (k ≤ count)
         × ReadsInto bus.old bus.new (I.state input.old) (I.state input.new) a k) }
     ensures cause { HasCause (I.state input.old).faults (I.state input.new).faults result }
+    ensures once { OnErr result ((I.state input.new).faults ≡ counted (I.state input.old).faults) }
 {
     let mut done = 0;
     while done < count {

@@ -1,9 +1,9 @@
 //! What a system call does.
 #![tactic(auto)]
 
-ghost use Rattle.std.specs.Prelude.{◌≡◌, ◌≤◌, ℕ, Some, [], IfOk, IfErr, OnOk, MatchResult, true, false, length, ◌+◌, ◌++◌};
+ghost use Rattle.std.specs.Prelude.{◌≡◌, ◌≤◌, ℕ, Some, [], IfOk, IfErr, OnErr, OnOk, MatchResult, true, false, length, ◌+◌, ◌++◌};
 ghost use Rattle.std.specs.Io.KnownBytes.{Appends};
-ghost use Rattle.swi_outside.specs.Causes.{HasCause};
+ghost use Rattle.swi_outside.specs.Causes.{HasCause, counted};
 ghost use Rattle.swi_outside.specs.Devices.{streams};
 ghost use Rattle.swi_outside.specs.Sink.{AppendsPrefix, WasWritten};
 ghost use Rattle.swi_outside.specs.Source.{ForInput};
@@ -51,6 +51,7 @@ fn read<I: Source>(request: Request, bus: &mut Bus, input: &mut I) -> Result<u32
         × ReadsInto bus.old bus.new (I.state input.old) (I.state input.new) request.second k }
     ensures fault { IfErr result (λ fault. fault ≡ CallFault.SourceFault) }
     ensures cause { HasCause (I.state input.old).faults (I.state input.new).faults result }
+    ensures once { OnErr result ((I.state input.new).faults ≡ counted (I.state input.old).faults) }
 {
     if request.first != 0 {
         return Ok(BAD_DESCRIPTOR);

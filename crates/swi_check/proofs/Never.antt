@@ -11,7 +11,8 @@ use Rattle.swi_check.specs.declared.mismatch.Mismatch.{Mismatch}
 use Rattle.swi_check.specs.declared.mismatch.Mismatch.TheVariants.{Cover, Place, Long, Length, Word}
 use Rattle.swi_check.specs.Mismatches.{asked_between, IsMismatch, IsFirstWrong, IsWrongIn, IsUncovered}
 
-not_block : (t : TextData) (v : ImageData) (b : ℕ) (m : Mismatch) → IsWrongIn t v b m → IsBlockOf t v b → ⊥
+-- a block with a difference is none of the text
+pub not_block : (t : TextData) (v : ImageData) (b : ℕ) (m : Mismatch) → IsWrongIn t v b m → IsBlockOf t v b → ⊥
 not_block t v b (Cover address) w r = w
 not_block t v b (Place address held required) w r = w.wrong (w.held_is ∙ (r.offsets w.word w.low w.high ∙ sym w.required_is))
 not_block t v b (Long block needs) w r = omega (arith, w.2, w.3, r.fits)

@@ -22,9 +22,9 @@ use Rattle.swi_slots.proofs.Calls.{exit_row}
 use Rattle.swi_slots.proofs.Crossing.{ExitIn, crossed, crossed_sound, exit_in, free_stays}
 use Rattle.swi_chip.specs.declared.chip.Chip.{Chip}
 use Rattle.swi_chip.specs.Linked.{LinkedSo, ToLink}
-use Rattle.swi_chip.specs.Service.{AnswersAt, ChipServed, HasArrived, LinkedExit, LinkedStands, StandsFor, ToLinkExit, linked_to}
+use Rattle.swi_chip.specs.Service.{AnswersAt, ChipServed, HasArrived, LinkedExit, LinkedStands, StandsFor, ToLinkExit, address_of, linked_to, no_text}
 use Rattle.swi_chip.proofs.Arriving.{with_words, wrote_words}
-use Rattle.swi_chip.proofs.Entering.{place_known}
+use Rattle.swi_chip.proofs.Entering.{address_is, mark_low, place_known}
 use Rattle.swi_chip.proofs.Filled.{any_ram, any_words}
 use Rattle.swi_chip.proofs.Filling.{own_block}
 
@@ -48,27 +48,30 @@ and_false true q e = absurd (both_ways true e refl)
 and_false false q e = refl
 
 module _ {t : Slots} {vs : Images} {words : List ℕ} {lists : List (List ℕ)} {at home slot to : ℕ} {c : Chip} (k : ToLinkExit t vs words lists at home slot to c) where
-  pub size_some : 0 < c.size
+  pub size_some : 0 < c.size.words
   size_some = (let a = k.stands.size_is in let b = k.stands.serves.shape.size_least in omega (arith, a, b))
 
-  row_is : at / c.size ≡ at / t.size
+  row_is : at / c.size.words ≡ at / t.size
   row_is = ap (λ (n : ℕ). at / n) k.stands.size_is
 
-  pub row_low : at / c.size < length c.blocks.now
+  pub row_low : at / c.size.words < length c.blocks.now
   row_low = (let a = row_is in let b = k.row in let d = k.stands.serves.shape.filled_most in let e = k.stands.holds.blocks_long in omega (arith, a, b, d, e))
 
-  block_here : slice_index c.blocks.now (at / c.size) ≡ slice_index t.blocks (at / t.size)
+  block_here : slice_index c.blocks.now (at / c.size.words) ≡ slice_index t.blocks (at / t.size)
   block_here = ap (λ (n : ℕ). slice_index c.blocks.now n) row_is ∙ (own_block k.stands (at / t.size) k.row).1
 
   cache_small : t.slots * t.size < 2 ^ 16
   cache_small = (let a = k.stands.holds.long in let b = k.stands.holds.stand.few in omega (arith, a, b))
 
+  pub few_at : at < 2 ^ 16
+  few_at = (let b = k.behind in let s = cache_small in omega (arith, b, s))
+
   -- the block is gone
-  pub gone : (slice_index c.blocks.now (at / c.size) ≡ home → ⊥) → LinkedExit t vs words lists at home slot to c
+  pub gone : (slice_index c.blocks.now (at / c.size.words) ≡ home → ⊥) → LinkedExit t vs words lists at home slot to c
   gone ne = inl (and_false (slice_index t.blocks (at / t.size) == home) (reaches at to) (ne_eqb _ _ (λ e. ne (block_here ∙ e))), k.stands)
 
   -- it still stands
-  pub to_link : slice_index c.blocks.now (at / c.size) ≡ home → ToLink t vs words c.cache.now c.heads.now c.links.now c.blocks.now at slot to lists
+  pub to_link : slice_index c.blocks.now (at / c.size.words) ≡ home → ToLink t vs words c.cache.now c.heads.now c.links.now c.blocks.now at slot to lists
   to_link same =
       let x = k.exit (sym block_here ∙ same) in
       record { serves = k.stands.serves; holds = k.stands.holds; behind = k.behind; exit = x.0; free = x.1; low = k.low; target = k.target; in_slot = k.in_slot }
@@ -76,7 +79,7 @@ module _ {t : Slots} {vs : Images} {words : List ℕ} {lists : List (List ℕ)} 
   wraps : (x m : ℕ) → x ≡ m % 2 ^ 32 → (x + 1) % 2 ^ 32 ≡ (m + 1) % 2 ^ 32
   wraps x m e = omega (arith, e)
 
-  pub linked_stands : (c' : Chip) → slice_index c.blocks.now (at / c.size) ≡ home → LinkedSo t words at slot to c'.cache.now c'.heads.now c'.links.now c.blocks.now →
+  pub linked_stands : (c' : Chip) → slice_index c.blocks.now (at / c.size.words) ≡ home → LinkedSo t words at slot to c'.cache.now c'.heads.now c'.links.now c.blocks.now →
       c' ≡ record c { counts = record c.counts { links = (c.counts.links + 1) % 2 ^ 32 }; cache = c'.cache; heads = c'.heads; links = c'.links } → length c'.cache.now ≡ length c.cache.now → LinkedExit t vs words lists at home slot to c'
   linked_stands c' same l is kept =
       inr (
@@ -119,21 +122,23 @@ module _ {t : Slots} {vs : Images} {words : List ℕ} {lists : List (List ℕ)} 
               unlinks = k.stands.counts.unlinks;
               copied = k.stands.counts.copied;
             };
+            starts_are = k.stands.starts_are;
+            numbers = k.stands.numbers;
           };
         }),
       )
 
 -- ---- cross
 
-pub crossed_none : {s : Slots} {vs : Images} {ram : List ℕ} {lists : List (List ℕ)} {c : Chip} (k : StandsFor s vs ram lists c) (b o target : ℕ) → place_of (vs s.turn) target ≡ None → ChipServed s vs (direct b o target) 0 c
-crossed_none {s} {vs} {ram} {lists} k b o target none = record {
+pub crossed_none : {s : Slots} {vs : Images} {ram : List ℕ} {lists : List (List ℕ)} {c : Chip} (k : StandsFor s vs ram lists c) (b o target : ℕ) → place_of (vs s.turn) target ≡ None → ChipServed s vs (direct b o target) no_text c
+crossed_none {s} {vs} {ram} {lists} {c} k b o target none = record {
   next = s;
   words = ram;
   lists = lists;
   stands = k;
   setting = refl;
   moves = sym (served_outside arrived with_link (setting_of s) (kept_by s) (vs s.turn) (direct b o target) none);
-  answers = subst (λ (p : Option (ℕ × ℕ)). AnswersAt p s s (vs s.turn) target 0) (sym none) (refl, refl);
+  answers = subst (λ (p : Option (ℕ × ℕ)). AnswersAt p s s (vs s.turn) c target no_text) (sym none) (refl, refl);
 }
 
 module _ {s : Slots} {vs : Images} {ram : List ℕ} {lists : List (List ℕ)} {c : Chip} (k : StandsFor s vs ram lists c) (at target : ℕ) (x : ExitAt (vs s.turn) (kept_by s) at target) where
@@ -143,17 +148,25 @@ module _ {s : Slots} {vs : Images} {ram : List ℕ} {lists : List (List ℕ)} {c
   exit_at : at / s.size ≡ exit.slot
   exit_at = exit_row vs s at target exit
 
-  pub exit_low : at / c.size < length c.blocks.now
+  pub exit_low : at / c.size.words < length c.blocks.now
   exit_low =
       let a = ap (λ (n : ℕ). at / n) k.size_is in
       let b = exit_at in let d = exit.filled in let e = k.serves.shape.filled_most in let f = k.holds.blocks_long in
       omega (arith, a, b, d, e, f)
 
-  pub size_low : 0 < c.size
+  pub exit_few : at < 2 ^ 16
+  exit_few =
+      let low : exit.slot < s.slots = (let d = exit.filled in let e = k.serves.shape.filled_most in omega (arith, d, e)) in
+      let r = row_fits exit.slot s.size s.slots s.size low (omega arith) in
+      let i = exit.index in let n = exit.inside in
+      let a = k.holds.long in let b = k.holds.stand.few in
+      omega (arith, r, i, n, a, b)
+
+  pub size_low : 0 < c.size.words
   size_low = (let a = k.size_is in let b = k.serves.shape.size_least in omega (arith, a, b))
 
   -- the block of the exit's slot
-  home_is : slice_index c.blocks.now (at / c.size) ≡ slice_index s.blocks exit.slot
+  home_is : slice_index c.blocks.now (at / c.size.words) ≡ slice_index s.blocks exit.slot
   home_is = ap (λ (n : ℕ). slice_index c.blocks.now (at / n)) k.size_is ∙ (ap (λ (n : ℕ). slice_index c.blocks.now n) exit_at ∙ (own_block k exit.slot exit.filled).1)
 
   module _ {block offset mark : ℕ} {c' : Chip} (is : place_of (vs s.turn) target ≡ Some (block, offset)) (h : HasArrived s vs ram block mark c') where
@@ -197,6 +210,9 @@ module _ {s : Slots} {vs : Images} {ram : List ℕ} {lists : List (List ℕ)} {c
         let same : h.slot * s.size ≡ h.slot * t.size = ap (λ (n : ℕ). h.slot * n) (sym arr.size_stays) in
         omega (arith, r, w, z, same)
 
+    index_low_at : h.slot * s.size + offset < h.next.slots * h.next.size
+    index_low_at = index_low
+
     index_slot : index / t.size ≡ h.slot
     index_slot = ap (λ (n : ℕ). index / n) arr.size_stays ∙ (word_slot s h.slot offset offset_low).0
 
@@ -228,7 +244,7 @@ module _ {s : Slots} {vs : Images} {ram : List ℕ} {lists : List (List ℕ)} {c
           subst (λ (n : ℕ). t.slots ≤ slice_index t.targets n) (sym at_is) free,
         )
 
-    pub to_link_exit : (home slot to : ℕ) → home ≡ slice_index c.blocks.now (at / c.size) → slot ≡ h.slot → to ≡ h.slot * s.size + offset → ToLinkExit h.next vs h.words h.lists at home slot to c'
+    pub to_link_exit : (home slot to : ℕ) → home ≡ slice_index c.blocks.now (at / c.size.words) → slot ≡ h.slot → to ≡ h.slot * s.size + offset → ToLinkExit h.next vs h.words h.lists at home slot to c'
     to_link_exit home slot to home_at slot_is to_is = record {
       stands = h.stands;
       behind = exit_behind;
@@ -245,7 +261,7 @@ module _ {s : Slots} {vs : Images} {ram : List ℕ} {lists : List (List ℕ)} {c
     served u d = MaybeLinked t u (can_link t at (slice_index s.blocks exit.slot) (h.slot * s.size + offset)) at h.slot (h.slot * s.size + offset) b d
 
     crossed_by : (u : Slots) (d : RamState) (ws : List ℕ) (ls : List (List ℕ)) (c'' : Chip) → served u d → d.words ≡ ws → (SlotsServe u vs ws → StandsFor u vs ws ls c'') → setting_of u ≡ setting_of s → (bl o f : ℕ) → Placed (kept_by s) bl f → o < length_at (vs s.turn) bl → at ≡ f + o →
-        (answer : ℕ) → answer ≡ h.slot * s.size + offset + 1 → ChipServed s vs (direct bl o target) answer c''
+        (answer : ℕ) → answer ≡ address_of c'' (h.slot * s.size + offset) → ChipServed s vs (direct bl o target) answer c''
     crossed_by u d ws ls c'' maybe words stands setting bl o f placed inside at_place answer answer_is =
         let sound = crossed_sound vs s t u block offset h.slot at target (any_ram ram) b d serves_a exit is arr maybe in
         let done = crossed vs s t u block offset h.slot at target (any_ram ram) b d serves_a exit is arr maybe bl o f placed inside at_place in
@@ -256,7 +272,7 @@ module _ {s : Slots} {vs : Images} {ram : List ℕ} {lists : List (List ℕ)} {c
           stands = stands (subst (λ (xs : List ℕ). SlotsServe u vs xs) words sound.0);
           setting = setting;
           moves = done.moves;
-          answers = subst (λ (p : Option (ℕ × ℕ)). AnswersAt p s u (vs s.turn) target answer) (sym is) (h.slot * s.size + offset, answer_is, done.answer);
+          answers = subst (λ (p : Option (ℕ × ℕ)). AnswersAt p s u (vs s.turn) c'' target answer) (sym is) (h.slot * s.size + offset, answer_is, done.answer);
         }
 
     setting_by : (u : Slots) → u.slots ≡ s.slots → u.size ≡ s.size → u.programs ≡ s.programs → setting_of u ≡ setting_of s
@@ -279,19 +295,22 @@ module _ {s : Slots} {vs : Images} {ram : List ℕ} {lists : List (List ℕ)} {c
           no = λ never. absurd (both_ways (can_link t at (slice_index s.blocks exit.slot) (h.slot * s.size + offset)) never can);
         }
 
-    pub crossed_some : (home slot to : ℕ) (c'' : Chip) → home ≡ slice_index c.blocks.now (at / c.size) → slot ≡ h.slot → to ≡ h.slot * s.size + offset → LinkedExit h.next vs h.words h.lists at home slot to c'' →
-        (bl o f : ℕ) → Placed (kept_by s) bl f → o < length_at (vs s.turn) bl → at ≡ f + o → ChipServed s vs (direct bl o target) (to + 1) c''
-    crossed_some home slot to c'' home_at slot_is to_is l bl o f placed inside at_place =
+    pub crossed_some : (home slot to : ℕ) (c'' : Chip) → home ≡ slice_index c.blocks.now (at / c.size.words) → slot ≡ h.slot → to ≡ h.slot * s.size + offset → LinkedExit h.next vs h.words h.lists at home slot to c'' →
+        (bl o f : ℕ) → Placed (kept_by s) bl f → o < length_at (vs s.turn) bl → at ≡ f + o →
+        (answer : ℕ) → answer ≡ (c''.cache_at + 4 * to) % 2 ^ 32 → c''.cache_at ≡ c'.cache_at → ChipServed s vs (direct bl o target) answer c''
+    crossed_some home slot to c'' home_at slot_is to_is l bl o f placed inside at_place result result_is put =
         let l' : LinkedExit h.next vs h.words h.lists at (slice_index s.blocks exit.slot) h.slot (h.slot * s.size + offset) c'' =
         subst (λ (n : ℕ). LinkedExit h.next vs h.words h.lists at n h.slot (h.slot * s.size + offset) c'') (home_at ∙ home_is)
         (subst (λ (n : ℕ). LinkedExit h.next vs h.words h.lists at home n (h.slot * s.size + offset) c'') slot_is
         (subst (λ (n : ℕ). LinkedExit h.next vs h.words h.lists at home slot n c'') to_is l)) in
-        let answer : to + 1 ≡ h.slot * s.size + offset + 1 = ap (λ (n : ℕ). n + 1) to_is in
+        let answer : result ≡ address_of c'' (h.slot * s.size + offset) =
+        result_is ∙ ap (λ (n : ℕ). (c''.cache_at + 4 * n) % 2 ^ 32) to_is ∙ ap (λ (n : ℕ). (n + 4 * (h.slot * s.size + offset)) % 2 ^ 32) put
+        ∙ address_is h.stands (h.slot * s.size + offset) index_low_at ∙ ap (λ (n : ℕ). n + 4 * (h.slot * s.size + offset)) (sym put) in
         elim l' [
-          | inl none ↦ crossed_by t b h.words h.lists c'' (same_maybe none.0) b_words (λ _. none.1) (setting_by t arr.slots_stay arr.size_stays arr.programs_stay) bl o f placed inside at_place (to + 1) answer
+          | inl none ↦ crossed_by t b h.words h.lists c'' (same_maybe none.0) b_words (λ _. none.1) (setting_by t arr.slots_stay arr.size_stays arr.programs_stay) bl o f placed inside at_place result answer
           | inr some ↦
               crossed_by (linked_to t at h.slot) (with_words b (slice_set h.words at some.1.word) 1) (slice_set h.words at some.1.word) some.1.lists c'' (link_maybe some.1.word some.1.jumps some.0) refl some.1.stands
-              (setting_by (linked_to t at h.slot) arr.slots_stay arr.size_stays arr.programs_stay) bl o f placed inside at_place (to + 1) answer
+              (setting_by (linked_to t at h.slot) arr.slots_stay arr.size_stays arr.programs_stay) bl o f placed inside at_place result answer
         ]
 
 -- ---- the numbers that `cross` reckons with
@@ -300,19 +319,22 @@ module _ {s : Slots} {vs : Images} {ram : List ℕ} {block mark : ℕ} {c' : Chi
   pub mark_some : 1 ≤ mark
   mark_some = (let m = h.mark_is in omega (arith, m))
 
-  size_stays : c'.size ≡ s.size
+  size_stays : c'.size.words ≡ s.size
   size_stays = h.stands.size_is ∙ (h.arrived (any_ram ram) (any_words ram)).2.size_stays
 
   size_least : 2 ≤ s.size
   size_least = (let arr = (h.arrived (any_ram ram) (any_words ram)).2 in let a = arr.sound.shape.size_least in let b = arr.size_stays in omega (arith, a, b))
 
-  pub size_new : 0 < c'.size
+  pub size_new : 0 < c'.size.words
   size_new = (let a = size_stays in let b = size_least in omega (arith, a, b))
 
-  pub slot_found : (mark - 1) / c'.size ≡ h.slot
+  pub slot_found : (mark - 1) / c'.size.words ≡ h.slot
   slot_found =
       let first : mark - 1 ≡ h.slot * s.size + 0 = (let m = h.mark_is in omega (arith, m)) in
       ap (λ (n : ℕ). (mark - 1) / n) size_stays ∙ (ap (λ (n : ℕ). n / s.size) first ∙ (word_slot s h.slot 0 (let l = size_least in omega (arith, l))).0)
 
   pub place_found : (offset : ℕ) → mark - 1 + offset ≡ h.slot * s.size + offset
   place_found offset = (let m = h.mark_is in omega (arith, m))
+
+  pub place_few : mark - 1 < 2 ^ 16
+  place_few = (let m = mark_low h mark refl in omega (arith, m))

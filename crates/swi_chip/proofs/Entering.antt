@@ -1,11 +1,13 @@
 -- What `arrive`, `place` and `enter` come to.
 use Rattle.std.proofs.Common.{◌≡◌, ◌==◌, ◌&&◌, ℕ, zero, suc, ◌+◌, ◌-◌, ◌*◌, ◌/◌, ◌%◌, ◌^◌, ◌<◌, ◌≤◌, Bool, true, false, nat_lt, if◌then◌else◌, List, length, slice_index, Option, Some, None, arith, refl, sym, ◌∙◌, ap, subst}
 use Rattle.std.proofs.lemmas.Bool.{lt-ltb, le-ltb, eq-eqb, ne_eqb, and_left}
+use Rattle.std.proofs.lemmas.Nat.{row_fits}
 use Rattle.swi_image.specs.Checks.{block_of}
 use Rattle.swi_image.specs.Format.{ImageData}
 use Rattle.swi_image.specs.Laws.{block_inside, place_inside}
 use Rattle.swi_image.specs.Place.{distance, length_at, place_of}
 use Rattle.swi_image.specs.Sound.{IsImage}
+use Rattle.swi_rom.specs.Blocks.{block_short}
 use Rattle.swi_rom.specs.Policy.{more_service, served_outside, with_link}
 use Rattle.swi_rom.specs.Record.{indirect}
 use Rattle.swi_slots.specs.Arrived.{Arrived}
@@ -18,7 +20,7 @@ use Rattle.swi_slots.proofs.Arriving.{counted_sound, hit_arrived}
 use Rattle.swi_slots.proofs.Crossing.{entered}
 use Rattle.swi_chip.specs.declared.chip.Chip.{Chip}
 use Rattle.swi_chip.specs.declared.chip.ChipCounts.{ChipCounts}
-use Rattle.swi_chip.specs.Service.{HasTables, StandsFor, ToFill, HasArrived, CountedService, ChipServed, AnswersAt}
+use Rattle.swi_chip.specs.Service.{HasTables, StandsFor, ToFill, HasArrived, CountedService, ChipServed, AnswersAt, address_of, no_text}
 use Rattle.swi_chip.proofs.Filling.{few_blocks, key_is, small_mark}
 use Rattle.swi_chip.proofs.Filled.{any_ram, any_words}
 
@@ -64,6 +66,8 @@ module _ {s : Slots} {vs : Images} {ram : List ℕ} {lists : List (List ℕ)} {c
       unlinks = did.unlinks ∙ k.counts.unlinks;
       copied = did.copied ∙ k.counts.copied;
     };
+    starts_are = k.starts_are;
+    numbers = k.numbers;
   }
 
   module _ (block : ℕ) (known : block < length (vs s.turn).blocks) where
@@ -95,6 +99,9 @@ module _ {s : Slots} {vs : Images} {ram : List ℕ} {lists : List (List ℕ)} {c
           );
         }
 
+    pub hit_at : (mark : ℕ) → mark ≡ slice_index c.marks.now block → (q : ChipCounts) → CountedService c.counts q c.filled → (mark ≡ 0 → ⊥) → HasArrived s vs ram block mark (record c { counts = q })
+    hit_at mark is q did some = subst (λ (n : ℕ). HasArrived s vs ram block n (record c { counts = q })) (sym is) (hit q did (λ none. some (is ∙ none)))
+
     pub to_fill : (q : ChipCounts) → CountedService c.counts q c.filled → slice_index c.marks.now block ≡ 0 → ToFill s vs ram lists block (record c { counts = q })
     to_fill q did none = record { serves = k.serves; stands = counted_stands q did; known = known; absent = no_slot none }
 
@@ -103,7 +110,7 @@ module _ {s : Slots} {vs : Images} {ram : List ℕ} {lists : List (List ℕ)} {c
 distance_is : (a b c : ℕ) → b ≡ c → b < 2 ^ 32 → (a + (2 ^ 32 - b)) % 2 ^ 32 ≡ (a + 2 ^ 32 - c) % 2 ^ 32
 distance_is a b c e lt = ap (λ (n : ℕ). n % 2 ^ 32) (let same : a + (2 ^ 32 - b) ≡ a + 2 ^ 32 - c = omega (arith, e, lt) in same)
 
-module _ (v : ImageData) (base target : ℕ) (places ends : List ℕ) (image : IsImage v) (tables : HasTables v base places ends) (low : base < 2 ^ 32) where
+module _ (v : ImageData) (base target : ℕ) (places ends : List ℕ) (image : IsImage v) (tables : HasTables v base places ends) (low : base < 2 ^ 32) (text_bytes : ℕ) (text : text_bytes ≡ 4 * length places) where
   abbrev far : ℕ
   far = (target + (2 ^ 32 - base)) % 2 ^ 32
 
@@ -116,18 +123,23 @@ module _ (v : ImageData) (base target : ℕ) (places ends : List ℕ) (image : I
       let t : (distance v target % 4 == 0) ≡ false = ne_eqb _ _ (λ e. odd (ap (λ (n : ℕ). n % 4) far_is ∙ e)) in
       sym (ap (λ (q : Bool). if q then Some (block_of v.starts (distance v target / 4), slice_index v.offsets (distance v target / 4)) else None) (and_left (distance v target % 4 == 0) (nat_lt (distance v target / 4) (length v.offsets)) t))
 
-  pub place_past : far % 4 ≡ 0 → length places ≤ far / 4 → None ≡ place_of v target
+  pub place_past : far % 4 ≡ 0 → text_bytes ≤ far → None ≡ place_of v target
   unfolding place_of
-  place_past even past =
+  place_past even beyond =
+      let past : length places ≤ far / 4 = omega (arith, beyond, text) in
       let t : (distance v target % 4 == 0) ≡ true = eq-eqb _ _ (ap (λ (n : ℕ). n % 4) (sym far_is) ∙ even) in
       let d : far / 4 ≡ distance v target / 4 = ap (λ (n : ℕ). n / 4) far_is in
       let u : nat_lt (distance v target / 4) (length v.offsets) ≡ false = le-ltb _ _ (let l = tables.places_long in omega (arith, d, l, past)) in
       sym (ap (λ (q : Bool). if q && nat_lt (distance v target / 4) (length v.offsets) then Some (block_of v.starts (distance v target / 4), slice_index v.offsets (distance v target / 4)) else None) t
       ∙ ap (λ (q : Bool). if q then Some (block_of v.starts (distance v target / 4), slice_index v.offsets (distance v target / 4)) else None) u)
 
-  pub place_here : far % 4 ≡ 0 → far / 4 < length places → Some (slice_index places (far / 4) / 1024, slice_index places (far / 4) % 1024) ≡ place_of v target
+  word_inside : far % 4 ≡ 0 → far < text_bytes → far / 4 < length places
+  word_inside even below = omega (arith, below, text)
+
+  pub place_here : far % 4 ≡ 0 → far < text_bytes → Some (slice_index places (far / 4) / 8192, slice_index places (far / 4) % 1024) ≡ place_of v target
   unfolding place_of
-  place_here even inside =
+  place_here even below =
+      let inside = word_inside even below in
       let t : (distance v target % 4 == 0) ≡ true = eq-eqb _ _ (ap (λ (n : ℕ). n % 4) (sym far_is) ∙ even) in
       let d : far / 4 ≡ distance v target / 4 = ap (λ (n : ℕ). n / 4) far_is in
       let low' : far / 4 < length v.offsets = (let l = tables.places_long in omega (arith, l, inside)) in
@@ -135,17 +147,17 @@ module _ (v : ImageData) (base target : ℕ) (places ends : List ℕ) (image : I
       let w = tables.places_are (far / 4) inside in
       let o : slice_index v.offsets (far / 4) < 1024 =
       offset_short (block_of v.starts (far / 4)) (block_inside v.starts (far / 4) image.some) (image.within (far / 4) low') in
-      let high : slice_index places (far / 4) / 1024 ≡ block_of v.starts (far / 4) = parts_high (block_of v.starts (far / 4)) (slice_index v.offsets (far / 4)) (slice_index places (far / 4)) w o in
+      let high : slice_index places (far / 4) / 8192 ≡ block_of v.starts (far / 4) = parts_high (block_of v.starts (far / 4)) (slice_index v.offsets (far / 4)) (slice_index places (far / 4)) w o in
       let rest : slice_index places (far / 4) % 1024 ≡ slice_index v.offsets (far / 4) = parts_rest (block_of v.starts (far / 4)) (slice_index v.offsets (far / 4)) (slice_index places (far / 4)) w o in
       ap (λ (n : ℕ). Some (n, slice_index places (far / 4) % 1024)) high ∙ ap (λ (n : ℕ). Some (block_of v.starts (far / 4), n)) rest
       ∙ ap (λ (n : ℕ). Some (block_of v.starts n, slice_index v.offsets n)) d
       ∙ sym (ap (λ (q : Bool). if q && nat_lt (distance v target / 4) (length v.offsets) then Some (block_of v.starts (distance v target / 4), slice_index v.offsets (distance v target / 4)) else None) t
       ∙ ap (λ (q : Bool). if q then Some (block_of v.starts (distance v target / 4), slice_index v.offsets (distance v target / 4)) else None) u)
     where
-      parts_high : (b o w : ℕ) → w ≡ b * 2 ^ 10 + o → o < 1024 → w / 1024 ≡ b
+      parts_high : (b o w : ℕ) → w ≡ b * 2 ^ 13 + o → o < 1024 → w / 8192 ≡ b
       parts_high b o w e lt = omega (arith, e, lt)
 
-      parts_rest : (b o w : ℕ) → w ≡ b * 2 ^ 10 + o → o < 1024 → w % 1024 ≡ o
+      parts_rest : (b o w : ℕ) → w ≡ b * 2 ^ 13 + o → o < 1024 → w % 1024 ≡ o
       parts_rest b o w e lt = omega (arith, e, lt)
 
       offset_short : (b : ℕ) → b < length v.starts → slice_index v.offsets (far / 4) < length_at v b → slice_index v.offsets (far / 4) < 1024
@@ -171,19 +183,45 @@ mark_low {s} {vs} {ram} {block} {mark} {c'} h n e =
     let l = arr.sound.shape.size_least in
     omega (arith, m, row, w, l, e)
 
-pub entered_none : {s : Slots} {vs : Images} {ram : List ℕ} {lists : List (List ℕ)} {c : Chip} (k : StandsFor s vs ram lists c) (target : ℕ) → place_of (vs s.turn) target ≡ None → ChipServed s vs (indirect target) 0 c
-entered_none {s} {vs} {ram} {lists} k target none = record {
+-- an address of the cache
+pub index_inside : {s : Slots} {vs : Images} {ram : List ℕ} {block mark : ℕ} {c' : Chip} (h : HasArrived s vs ram block mark c') (target offset : ℕ) → place_of (vs s.turn) target ≡ Some (block, offset) → h.slot * s.size + offset < h.next.slots * h.next.size
+index_inside {s} {vs} {ram} {block} {mark} {c'} h target offset is =
+    let arr = (h.arrived (any_ram ram) (any_words ram)).2 in
+    let low : h.slot < h.next.slots = (let a = arr.filled in let b = arr.sound.shape.filled_most in omega (arith, a, b)) in
+    let p = place_known (vs s.turn) target block offset (arr.sound.images s.turn) is in
+    let q = block_short (vs s.turn) block (arr.sound.images s.turn) p.0 in
+    let m = arr.sound.size_most s.turn in
+    let r = row_fits h.slot h.next.size h.next.slots h.next.size low (omega arith) in
+    let same : h.slot * s.size ≡ h.slot * h.next.size = ap (λ (n : ℕ). h.slot * n) (sym arr.size_stays) in
+    let o = p.1 in
+    omega (arith, o, q, m, r, same)
+
+pub address_is : {s : Slots} {vs : Images} {ram : List ℕ} {lists : List (List ℕ)} {c : Chip} → StandsFor s vs ram lists c → (i : ℕ) → i < s.slots * s.size → (c.cache_at + 4 * i) % 2 ^ 32 ≡ address_of c i
+address_is k i lt = (let r = k.numbers.room in omega (arith, r, lt))
+
+-- and such an index is small
+pub index_few : {s : Slots} {vs : Images} {ram : List ℕ} {block mark : ℕ} {c' : Chip} (h : HasArrived s vs ram block mark c') (target offset : ℕ) → place_of (vs s.turn) target ≡ Some (block, offset) → mark - 1 + offset < 2 ^ 16
+index_few h target offset is =
+    let i = index_inside h target offset is in
+    let m = h.mark_is in
+    let a = h.stands.holds.long in
+    let b = h.stands.holds.stand.few in
+    omega (arith, i, m, a, b)
+
+pub entered_none : {s : Slots} {vs : Images} {ram : List ℕ} {lists : List (List ℕ)} {c : Chip} (k : StandsFor s vs ram lists c) (target : ℕ) → place_of (vs s.turn) target ≡ None → ChipServed s vs (indirect target) no_text c
+entered_none {s} {vs} {ram} {lists} {c} k target none = record {
   next = s;
   words = ram;
   lists = lists;
   stands = k;
   setting = refl;
   moves = sym (served_outside arrived with_link (setting_of s) (kept_by s) (vs s.turn) (indirect target) none);
-  answers = subst (λ (p : Option (ℕ × ℕ)). AnswersAt p s s (vs s.turn) target 0) (sym none) (refl, refl);
+  answers = subst (λ (p : Option (ℕ × ℕ)). AnswersAt p s s (vs s.turn) c target no_text) (sym none) (refl, refl);
 }
 
-pub entered_some : {s : Slots} {vs : Images} {ram : List ℕ} {c' : Chip} (target block offset mark : ℕ) → place_of (vs s.turn) target ≡ Some (block, offset) → HasArrived s vs ram block mark c' → ChipServed s vs (indirect target) (mark + offset) c'
-entered_some {s} {vs} {ram} {c'} target block offset mark is h =
+pub entered_some : {s : Slots} {vs : Images} {ram : List ℕ} {c' : Chip} (target block offset mark : ℕ) → place_of (vs s.turn) target ≡ Some (block, offset) → HasArrived s vs ram block mark c' →
+    (answer : ℕ) → answer ≡ (c'.cache_at + 4 * (mark - 1 + offset)) % 2 ^ 32 → ChipServed s vs (indirect target) answer c'
+entered_some {s} {vs} {ram} {c'} target block offset mark is h answer answer_is =
     let a = h.arrived (any_ram ram) (any_words ram) in
     let arr : Arrived vs s block h.slot h.next (any_ram ram) a.0 = a.2 in
     let e = entered vs s h.next block offset h.slot target (any_ram ram) a.0 arr is in
@@ -194,9 +232,12 @@ entered_some {s} {vs} {ram} {c'} target block offset mark is h =
       stands = h.stands;
       setting = setting_same s h.next arr.slots_stay arr.size_stays arr.programs_stay;
       moves = e.moves;
-      answers = subst (λ (p : Option (ℕ × ℕ)). AnswersAt p s h.next (vs s.turn) target (mark + offset)) (sym is)
-          (h.slot * s.size + offset, (let m = h.mark_is in omega (arith, m)), e.answer);
+      answers = subst (λ (p : Option (ℕ × ℕ)). AnswersAt p s h.next (vs s.turn) c' target answer) (sym is)
+          (h.slot * s.size + offset, answer_is ∙ ap (λ (n : ℕ). (c'.cache_at + 4 * n) % 2 ^ 32) (index_is h.mark_is) ∙ address_is h.stands (h.slot * s.size + offset) (index_inside h target offset is), e.answer);
     }
   where
+    index_is : mark ≡ h.slot * s.size + 1 → mark - 1 + offset ≡ h.slot * s.size + offset
+    index_is m = omega (arith, m)
+
     setting_same : (s t : Slots) → t.slots ≡ s.slots → t.size ≡ s.size → t.programs ≡ s.programs → setting_of t ≡ setting_of s
     setting_same s t a b d = λ i. record { slots = a i; slot_words = b i; programs = d i }

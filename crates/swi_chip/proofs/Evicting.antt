@@ -93,6 +93,12 @@ module _ {s : Slots} {vs : Images} {ram cache heads links blocks ends words : Li
   pub known_can : (n x : ℕ) → Has (list_at lists n) x → CanRestore blocks ends words size x
   known_can n x has = subst (λ (z : ℕ). CanRestore blocks ends words z x) (sym k.size_is) (can_restore k.serves k.holds k.rows n x has)
 
+  pub known_room : length heads * size ≤ length cache
+  known_room =
+      let a = k.holds.long in let b = k.holds.slots_are in
+      let e : length heads * size ≡ s.slots * s.size = ap (λ (z : ℕ). length heads * z) k.size_is ∙ ap (λ (z : ℕ). z * s.size) b in
+      omega (arith, a, e)
+
   slot_low : slot < s.slots
   slot_low = (let a = k.filled in let b = k.serves.shape.filled_most in omega (arith, a, b))
 

@@ -14,7 +14,7 @@ use Rattle.swi_slots.proofs.Misses.{miss_arrived}
 use Rattle.swi_chip.specs.declared.chip.Chip.{Chip}
 use Rattle.swi_chip.specs.Held.{RowsHold}
 use Rattle.swi_chip.specs.Missed.{ToMiss, Missed}
-use Rattle.swi_chip.specs.Service.{CountsBy, KnowsMarks, HasTables, StandsFor, ToFill, HasArrived, CountedMiss}
+use Rattle.swi_chip.specs.Service.{CountsBy, KnowsMarks, HasNumbers, HasTables, StandsFor, ToFill, HasArrived, CountedMiss}
 use Rattle.swi_chip.specs.Undone.{begin_in}
 use Rattle.swi_chip.proofs.Filling.{MarksSettled, Settles, marks_free, marks_full, count_free, count_full, few_blocks, key_is, own_block, own_words, ends_at, few_slots, small_mark}
 
@@ -29,7 +29,7 @@ any_words words = refl
 pub record FilledFields (c c' : Chip) (full : Bool) (undone words block old mark : ℕ) : Type 0 where
   pub counts : CountedMiss c.counts c'.counts full undone words
   pub slots : c'.slots ≡ c.slots
-  pub size : c'.size ≡ c.size
+  pub size : c'.size.words ≡ c.size.words
   pub base : c'.base ≡ c.base
   pub next : c'.next ≡ wrapped (c.next + 1) c.slots
   pub filled : c'.filled ≡ min (c.filled + 1) c.slots
@@ -38,6 +38,8 @@ pub record FilledFields (c c' : Chip) (full : Bool) (undone words block old mark
   pub ends : c'.ends.now ≡ c.ends.now
   pub image : c'.words.now ≡ c.words.now
   pub cache : length c'.cache.now ≡ length c.cache.now
+  pub rest : c' ≡ record c { counts = c'.counts; next = c'.next; filled = c'.filled; cache = c'.cache; heads = c'.heads; links = c'.links; blocks = c'.blocks; marks = c'.marks; memo = c'.memo }
+  pub memo : length c'.memo.now ≡ length c.memo.now
 
 module _ {s : Slots} {vs : Images} {ram : List ℕ} {lists : List (List ℕ)} {block : ℕ} {c : Chip} (k : ToFill s vs ram lists block c) where
   abbrev t : Slots
@@ -82,7 +84,7 @@ module _ {s : Slots} {vs : Images} {ram : List ℕ} {lists : List (List ℕ)} {b
   pub to_miss : (full : Bool) (old words : ℕ) → (full ≡ true → s.filled ≡ s.slots) → (full ≡ false → s.filled < s.slots) →
       (full ≡ true → old ≡ slice_index c.ends.now (slice_index c.blocks.now c.next) - begin_in c.ends.now (slice_index c.blocks.now c.next)) →
       words ≡ slice_index c.ends.now block - begin_in c.ends.now block →
-      ToMiss (counted_slots s) vs ram c.cache.now c.heads.now c.links.now c.next full old block words c.blocks.now c.ends.now c.words.now c.size lists
+      ToMiss (counted_slots s) vs ram c.cache.now c.heads.now c.links.now c.next full old block words c.blocks.now c.ends.now c.words.now c.size.words lists
   to_miss full old words is_full not_full old_is words_is = record {
     serves = st.serves;
     holds = st.holds;
@@ -102,7 +104,7 @@ module _ {s : Slots} {vs : Images} {ram : List ℕ} {lists : List (List ℕ)} {b
   }
 
   -- the mark is small
-  pub mark_small : c.next * c.size + 1 < 2 ^ 16
+  pub mark_small : c.next * c.size.words + 1 < 2 ^ 16
   mark_small =
       let m = small_mark st c.next next_low in
       let e = ap (λ (n : ℕ). c.next * n) st.size_is in
@@ -115,13 +117,13 @@ module _ {s : Slots} {vs : Images} {ram : List ℕ} {lists : List (List ℕ)} {b
   -- ---- behind it
 
   module _ {c' : Chip} {full : Bool} {undone words mark : ℕ} (is_full : full ≡ true → s.filled ≡ s.slots) (not_full : full ≡ false → s.filled < s.slots)
-      (words_is : words ≡ slice_index c.ends.now block - begin_in c.ends.now block) (mark_is : mark ≡ c.next * c.size + 1)
+      (words_is : words ≡ slice_index c.ends.now block - begin_in c.ends.now block) (mark_is : mark ≡ c.next * c.size.words + 1)
       (f : FilledFields c c' full undone words block (slice_index c.blocks.now c.next) mark) (m : Missed (counted_slots s) vs ram block undone c'.cache.now c'.heads.now c'.links.now c'.blocks.now) where
     abbrev L : ℕ
     L = length_at (vs s.turn) block
 
     mark_at : mark ≡ s.next * s.size + 1
-    mark_at = mark_is ∙ ap (λ (n : ℕ). n * c.size + 1) st.next_is ∙ ap (λ (n : ℕ). s.next * n + 1) st.size_is
+    mark_at = mark_is ∙ ap (λ (n : ℕ). n * c.size.words + 1) st.next_is ∙ ap (λ (n : ℕ). s.next * n + 1) st.size_is
 
     settles : Settles s.filled s.slots s.next block s.blocks c.marks.now
     settles = record {
@@ -186,6 +188,14 @@ module _ {s : Slots} {vs : Images} {ram : List ℕ} {lists : List (List ℕ)} {b
     serves_now : SlotsServe m.next vs m.words
     serves_now = (let a = arrived_at (any_ram ram) (any_words ram) in subst (λ (ws : List ℕ). SlotsServe m.next vs ws) a.1 a.2.sound)
 
+    starts_now : c'.starts.now ≡ (vs s.turn).starts
+    starts_now = subst (λ (x : Chip). x.starts.now ≡ (vs s.turn).starts) (sym f.rest) st.starts_are
+
+    numbers_now : HasNumbers (s.slots * s.size) c'.size.words (length c'.places.now) c'.size.inverse c'.text_bytes c'.cache_at c'.cache_bytes (length c'.memo.now)
+    numbers_now =
+        subst (λ (n : ℕ). HasNumbers (s.slots * s.size) c'.size.words (length c'.places.now) c'.size.inverse c'.text_bytes c'.cache_at c'.cache_bytes n) (sym f.memo)
+        (subst (λ (x : Chip). HasNumbers (s.slots * s.size) x.size.words (length x.places.now) x.size.inverse x.text_bytes x.cache_at x.cache_bytes (length c.memo.now)) (sym f.rest) st.numbers)
+
     stands_now : StandsFor m.next vs m.words m.lists c'
     stands_now = record {
       serves = serves_now;
@@ -202,6 +212,8 @@ module _ {s : Slots} {vs : Images} {ram : List ℕ} {lists : List (List ℕ)} {b
       marks_long = marks_now.long ∙ st.marks_long ∙ ap (λ (x : Slots). length (vs x.turn).blocks) (sym m.next_is);
       counts = subst (λ (x : Slots). CountsBy x.counts c'.counts) (sym m.next_is)
           (counts_by full is_full not_full (subst (λ (n : ℕ). CountedMiss c.counts c'.counts full undone n) (words_is ∙ words_at block block_low) f.counts));
+      starts_are = subst (λ (x : Slots). c'.starts.now ≡ (vs x.turn).starts) (sym m.next_is) starts_now;
+      numbers = subst (λ (x : Slots). HasNumbers (x.slots * x.size) c'.size.words (length c'.places.now) c'.size.inverse c'.text_bytes c'.cache_at c'.cache_bytes (length c'.memo.now)) (sym m.next_is) numbers_now;
     }
 
     pub has_filled : HasArrived s vs ram block mark c'

@@ -137,7 +137,7 @@ module _ {s : Slots} {vs : Images} {ram cache heads links blocks : List ℕ} {at
 
     link_is : (is_jump w ≡ true) × (lands_in s.size at w ≡ slot)
     link_is =
-        let a = link_word w (jump_offset at to) jumps in
+        let a = link_word w (jump_offset at to) jumps.decodes in
         let few = k.serves.shape.words_few in
         let low : at < 2 ^ 21 = (let q = at_low in omega (arith, q, few)) in
         let low' : to < 2 ^ 21 = (let q = k.target in omega (arith, q, few)) in

@@ -10,3 +10,7 @@ pub mod Filled
 pub mod Joining
 pub mod Entering
 pub mod Crossing
+pub mod Dividing
+pub mod Starting
+pub mod Emptying
+pub mod Stands

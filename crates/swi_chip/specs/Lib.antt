@@ -1,4 +1,6 @@
 pub mod Lists
+pub mod Sizes
+pub mod Memo
 pub mod Undone
 pub mod Owned
 pub mod Parts
@@ -7,3 +9,7 @@ pub mod Evicted
 pub mod Service
 pub mod Missed
 pub mod Linked
+pub mod Starting
+pub mod Standing
+pub mod Leaving
+pub mod Replacing

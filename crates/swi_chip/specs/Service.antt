@@ -1,5 +1,5 @@
 -- What a service on a chip stands for: a service with slots of one program, its image, and the words of its ram.
-use Rattle.std.specs.Prelude.{◌≡◌, ◌⊎◌, ℕ, ◌+◌, ◌*◌, ◌%◌, ◌/◌, ◌^◌, ◌<◌, ◌≤◌, Bool, true, false, List, length, slice_index, slice_set, Option, Some, None, nat_lt, if◌then◌else◌}
+use Rattle.std.specs.Prelude.{◌≡◌, ◌⊎◌, ℕ, ◌+◌, ◌-◌, ◌*◌, ◌%◌, ◌/◌, ◌^◌, ◌<◌, ◌≤◌, Bool, true, false, List, length, slice_index, slice_set, Option, Some, None, nat_lt, if◌then◌else◌}
 use Rattle.swi_image.specs.Format.{ImageData}
 use Rattle.swi_image.specs.Checks.{block_of}
 use Rattle.swi_image.specs.Place.{length_at, place_of}
@@ -16,6 +16,7 @@ use Rattle.swi_slots.specs.Steps.{IsAbsent, can_link, counted_slots}
 use Rattle.swi_chip.specs.declared.chip.Chip.{Chip}
 use Rattle.swi_chip.specs.declared.chip.ChipCounts.{ChipCounts}
 use Rattle.swi_chip.specs.Held.{Holds, RowsHold}
+use Rattle.swi_chip.specs.Sizes.{IsInverse}
 use Rattle.swi_chip.specs.Undone.{begin_in}
 
 -- counts of 32 bits, which begin anew behind the last
@@ -36,9 +37,19 @@ pub record KnowsMarks (s : Slots) (marks : List ℕ) : Type 0 where
 pub record HasTables (v : ImageData) (base : ℕ) (places ends : List ℕ) : Type 0 where
   pub base_is : base ≡ v.base
   pub places_long : length places ≡ length v.offsets
-  pub places_are : (k : ℕ) → k < length places → slice_index places k ≡ block_of v.starts k * 2 ^ 10 + slice_index v.offsets k
+  pub places_are : (k : ℕ) → k < length places → slice_index places k ≡ block_of v.starts k * 2 ^ 13 + slice_index v.offsets k
   pub ends_long : length ends ≡ length v.blocks
   pub ends_are : (b : ℕ) → b < length ends → slice_index ends b ≡ begin_in ends b + length_at v b
+
+-- numbers that are reckoned once: of so many words of the cache, of a slot and of the text
+pub record HasNumbers (cells size texts inverse text_bytes cache_at cache_bytes memo : ℕ) : Type 0 where
+  pub inverse_is : IsInverse size inverse
+  pub text_is : text_bytes ≡ 4 * texts
+  pub bytes_are : cache_bytes ≡ 4 * cells
+  -- the cache's words have addresses
+  pub aligned : cache_at % 4 ≡ 0
+  pub room : cache_at + 4 * cells ≤ 2 ^ 32
+  pub memo_long : memo ≡ 17
 
 -- the chip stands for a service of one program that serves its image over these words of a ram
 pub record StandsFor (s : Slots) (vs : Images) (ram : List ℕ) (lists : List (List ℕ)) (c : Chip) : Type 0 where
@@ -48,7 +59,7 @@ pub record StandsFor (s : Slots) (vs : Images) (ram : List ℕ) (lists : List (L
   pub tables : HasTables (vs s.turn) c.base c.places.now c.ends.now
   pub one : s.programs ≡ 1
   pub slots_are : c.slots ≡ s.slots
-  pub size_is : c.size ≡ s.size
+  pub size_is : c.size.words ≡ s.size
   pub next_is : c.next ≡ s.next
   pub filled_is : c.filled ≡ s.filled
   -- the cache is just the slots' words
@@ -56,6 +67,8 @@ pub record StandsFor (s : Slots) (vs : Images) (ram : List ℕ) (lists : List (L
   pub marks : KnowsMarks s c.marks.now
   pub marks_long : length c.marks.now ≡ length (vs s.turn).blocks
   pub counts : CountsBy s.counts c.counts
+  pub starts_are : c.starts.now ≡ (vs s.turn).starts
+  pub numbers : HasNumbers (s.slots * s.size) c.size.words (length c.places.now) c.size.inverse c.text_bytes c.cache_at c.cache_bytes (length c.memo.now)
 
 -- the chip stands for some service
 pub record IsSome (c : Chip) : Type 0 where
@@ -82,17 +95,13 @@ pub record ToFill (s : Slots) (vs : Images) (ram : List ℕ) (lists : List (List
   pub known : block < length (vs s.turn).blocks
   pub absent : IsAbsent s (key_of s.turn block)
 
--- a block can fill a slot; a block is one of the image's; an exit stands at an index
+-- a block can fill a slot; an exit stands at an index
 pub record CanFill (c : Chip) (block : ℕ) : Type 0 where
   pub s : Slots
   pub vs : Images
   pub ram : List ℕ
   pub lists : List (List ℕ)
   pub to : ToFill s vs ram lists block c
-
-pub record CanArrive (c : Chip) (block : ℕ) : Type 0 where
-  pub some : IsSome c
-  pub known : block < length (some.vs some.s.turn).blocks
 
 pub record CanCross (c : Chip) (at target : ℕ) : Type 0 where
   pub some : IsSome c
@@ -115,6 +124,16 @@ pub record CanLinkExit (c : Chip) (at home slot to : ℕ) : Type 0 where
   pub lists : List (List ℕ)
   pub k : ToLinkExit t vs words lists at home slot to c
 
+-- the same, and the block still stands there
+pub record CanLinkHere (c : Chip) (at slot to : ℕ) : Type 0 where
+  pub t : Slots
+  pub vs : Images
+  pub words : List ℕ
+  pub lists : List (List ℕ)
+  pub home : ℕ
+  pub k : ToLinkExit t vs words lists at home slot to c
+  pub here : slice_index c.blocks.now (at / c.size.words) ≡ home
+
 -- the model's slots with the word linked to the slot
 abbrev pub linked_to : Slots → ℕ → ℕ → Slots
 linked_to t at slot = record t { targets = slice_set t.targets at slot; counts = record t.counts { links = t.counts.links + 1 } }
@@ -131,10 +150,31 @@ abbrev pub LinkedExit : Slots → Images → List ℕ → List (List ℕ) → �
 LinkedExit t vs words lists at home slot to c =
     ((can_link t at home to ≡ false) × StandsFor t vs words lists c) ⊎ ((can_link t at home to ≡ true) × LinkedStands t vs words at slot to c)
 
--- the answer: the index of the target's place, plus 1; 0 where the target has none, and then nothing has changed
-abbrev pub AnswersAt : Option (ℕ × ℕ) → Slots → Slots → ImageData → ℕ → ℕ → Type 0
-AnswersAt None s next v target answer = (answer ≡ 0) × (next ≡ s)
-AnswersAt (Some p) s next v target answer = (i : ℕ) × (answer ≡ i + 1) × TargetAt v (kept_by next) target i
+-- the reasons for which a call answers no address, which is a multiple of 4
+abbrev pub no_text : ℕ
+no_text = 1
+
+abbrev pub again : ℕ
+again = 2
+
+abbrev pub damaged : ℕ
+damaged = 3
+
+abbrev pub misaligned : ℕ
+misaligned = 5
+
+-- the address of a word of the cache
+abbrev pub address_of : Chip → ℕ → ℕ
+address_of c i = c.cache_at + 4 * i
+
+-- how far an address lies behind that of the cache's first word
+abbrev pub far_in : Chip → ℕ → ℕ
+far_in c pc = (pc + (2 ^ 32 - c.cache_at)) % 2 ^ 32
+
+-- the answer: the address of the target's place; `no_text` where the target has none, and then nothing has changed
+abbrev pub AnswersAt : Option (ℕ × ℕ) → Slots → Slots → ImageData → Chip → ℕ → ℕ → Type 0
+AnswersAt None s next v c target answer = (answer ≡ no_text) × (next ≡ s)
+AnswersAt (Some p) s next v c target answer = (i : ℕ) × (answer ≡ address_of c i) × TargetAt v (kept_by next) target i
 
 -- the service has served a transfer by its policy
 pub record ChipServed (s : Slots) (vs : Images) (t : Transfer) (answer : ℕ) (c : Chip) : Type 0 where
@@ -144,7 +184,7 @@ pub record ChipServed (s : Slots) (vs : Images) (t : Transfer) (answer : ℕ) (c
   pub stands : StandsFor next vs words lists c
   pub setting : setting_of next ≡ setting_of s
   pub moves : kept_by next ≡ fifo (setting_of s) (kept_by s) (vs s.turn) t
-  pub answers : AnswersAt (place_of (vs s.turn) (target_of t)) s next (vs s.turn) (target_of t) answer
+  pub answers : AnswersAt (place_of (vs s.turn) (target_of t)) s next (vs s.turn) c (target_of t) answer
 
 -- `enter` and `cross`, for whatever service the chip stands for
 abbrev pub Enters : Chip → Chip → ℕ → ℕ → Type 0
@@ -152,6 +192,27 @@ Enters old new target answer = (s : Slots) (vs : Images) (ram : List ℕ) (lists
 
 abbrev pub Crosses : Chip → Chip → ℕ → ℕ → ℕ → Type 0
 Crosses old new at target answer = (s : Slots) (vs : Images) (ram : List ℕ) (lists : List (List ℕ)) → StandsFor s vs ram lists old → ExitAt (vs s.turn) (kept_by s) at target →
+    (b o f : ℕ) → Placed (kept_by s) b f → o < length_at (vs s.turn) b → at ≡ f + o → ChipServed s vs (direct b o target) answer new
+
+-- the same, where the target's block, with an offset, stands in no slot
+pub record CanEnterNew (c : Chip) (block offset : ℕ) : Type 0 where
+  pub some : IsSome c
+  pub target : ℕ
+  pub is : place_of (some.vs some.s.turn) target ≡ Some (block, offset)
+  pub absent : slice_index c.marks.now block ≡ 0
+
+pub record CanCrossNew (c : Chip) (at block offset : ℕ) : Type 0 where
+  pub some : IsSome c
+  pub target : ℕ
+  pub is : place_of (some.vs some.s.turn) target ≡ Some (block, offset)
+  pub absent : slice_index c.marks.now block ≡ 0
+  pub exit : ExitAt (some.vs some.s.turn) (kept_by some.s) at target
+
+abbrev pub EntersNew : Chip → Chip → ℕ → ℕ → ℕ → Type 0
+EntersNew old new block offset answer = (s : Slots) (vs : Images) (ram : List ℕ) (lists : List (List ℕ)) → StandsFor s vs ram lists old → (target : ℕ) → place_of (vs s.turn) target ≡ Some (block, offset) → ChipServed s vs (indirect target) answer new
+
+abbrev pub CrossesNew : Chip → Chip → ℕ → ℕ → ℕ → ℕ → Type 0
+CrossesNew old new at block offset answer = (s : Slots) (vs : Images) (ram : List ℕ) (lists : List (List ℕ)) → StandsFor s vs ram lists old → (target : ℕ) → place_of (vs s.turn) target ≡ Some (block, offset) → ExitAt (vs s.turn) (kept_by s) at target →
     (b o f : ℕ) → Placed (kept_by s) b f → o < length_at (vs s.turn) b → at ≡ f + o → ChipServed s vs (direct b o target) answer new
 
 -- what is counted at a miss, and at a service
@@ -162,6 +223,7 @@ pub record CountedMiss (old new : ChipCounts) (evicts : Bool) (undone words : �
   pub links : new.links ≡ old.links
   pub unlinks : new.unlinks ≡ (if evicts then (old.unlinks + undone) % 2 ^ 32 else old.unlinks)
   pub copied : new.copied ≡ (old.copied + words) % 2 ^ 32
+  pub refused : new.refused ≡ old.refused
 
 pub record CountedService (old new : ChipCounts) (filled : ℕ) : Type 0 where
   pub services : new.services ≡ (if nat_lt 0 filled then (old.services + 1) % 2 ^ 32 else old.services)
@@ -170,3 +232,18 @@ pub record CountedService (old new : ChipCounts) (filled : ℕ) : Type 0 where
   pub links : new.links ≡ old.links
   pub unlinks : new.unlinks ≡ old.unlinks
   pub copied : new.copied ≡ old.copied
+  pub refused : new.refused ≡ old.refused
+
+-- what the caller has set stays
+pub record StaysPut (old new : Chip) : Type 0 where
+  pub cache_at : new.cache_at ≡ old.cache_at
+  pub most : new.most ≡ old.most
+
+-- the exit at an address of the cache
+pub record CanExit (c : Chip) (pc target : ℕ) : Type 0 where
+  pub some : IsSome c
+  pub exit : far_in c pc < c.cache_bytes → ExitAt (some.vs some.s.turn) (kept_by some.s) (far_in c pc / 4) target
+
+-- `exit`: as `cross`, at an address of the cache
+abbrev pub Exits : Chip → Chip → ℕ → ℕ → ℕ → Type 0
+Exits old new pc target answer = (far_in old pc < old.cache_bytes → Crosses old new (far_in old pc / 4) target answer) × (old.cache_bytes ≤ far_in old pc → (answer ≡ damaged) × (new ≡ old))

@@ -58,7 +58,7 @@ module _ {v : ImageData} {r : Record} {span : ℕ} {words : List ℕ} {h : HartD
   not_linked is = elim (cases_Bool (is_linked r b o)) [
     | inl linked ↦
         let l = u.coherent.linked b own.first o own.is_placed linked in
-        let jal : decoded (slice_index words (own.first + o)) ≡ Some (instr.Jal 0 (jump_offset (own.first + o) l.0)) = l.2 in
+        let jal : decoded (slice_index words (own.first + o)) ≡ Some (instr.Jal 0 (jump_offset (own.first + o) l.0)) = l.2.decodes in
         let got : slice_index words (own.first + o) ≡ ebreak = ap (λ n. slice_index words n) (sym own.index) ∙ is in
         let two : Some (instr.Jal 0 (jump_offset (own.first + o) l.0)) ≡ Some instr.Ebreak = sym jal ∙ ap decoded got ∙ ebreak_decodes in
         absurd (cc)
@@ -153,7 +153,7 @@ links_lead v r span words held h i b o stage u holds linked =
     let own : Home v r h.machine i b o stage = own u in
     let l = u.coherent.linked b own.first o own.is_placed linked in
     let index : own.first + o ≡ i = sym own.index in
-    let jump : decoded (slice_index words i) ≡ Some (instr.Jal 0 (jump_offset i l.0)) = subst (λ (n : ℕ). IsJump n l.0 (slice_index words n)) index l.2 in
+    let jump : decoded (slice_index words i) ≡ Some (instr.Jal 0 (jump_offset i l.0)) = (subst (λ (n : ℕ). IsJump n l.0 (slice_index words n)) index l.2).decodes in
     let here : i < span = (let k = u.coherent.inside b own.first own.is_placed in let n = inside u in omega (arith, k, n, index)) in
     let into = (place_inside v u.fits.image.image (word_at v b (o + 1)) l.1.block l.1.offset l.1.place_is).1 in
     let there : l.0 < span = (let k = u.coherent.inside l.1.block l.1.first l.1.is_placed in let q = l.1.index in omega (arith, k, into, q)) in

@@ -1,6 +1,7 @@
 -- A run of a chip, against the machine instructions of the definition.
-use Rattle.std.proofs.Common.{◌≡◌, ℕ, zero, suc, ◌+◌, ◌-◌, ◌^◌, ◌≤◌, false, List, [], ◌++◌, slice_index, Option, Some, None, max, arith, refl, sym, ap, subst, ◌∙◌, inl, inr, append-nil, if◌then◌else◌}
+use Rattle.std.proofs.Common.{◌≡◌, ℕ, zero, suc, ◌+◌, ◌-◌, ◌^◌, ◌≤◌, false, List, [], ◌++◌, slice_index, Option, Some, None, max, arith, refl, sym, ap, subst, ◌∙◌, inl, inr, append-nil, if◌then◌else◌, length, replicate, ◌<◌}
 use Rattle.std.proofs.lemmas.Bool.{eq-eqb, ne_eqb}
+use Rattle.std.proofs.lemmas.List.{get_or-replicate, get_or_past, length-replicate}
 use Rattle.swi_outside.specs.CacheRam.{RamState}
 use Rattle.swi_outside.specs.Causes.{risen}
 use Rattle.swi_memory.specs.Bus.{fetched}
@@ -10,8 +11,9 @@ use Rattle.swi_calls.specs.State.{FlatState}
 use Rattle.swi_image.specs.Format.{ImageData}
 use Rattle.swi_image.specs.Place.{word_at}
 use Rattle.swi_render.specs.Carried.{Carries}
-use Rattle.swi_rom.specs.Record.{ebreak, writes}
+use Rattle.swi_rom.specs.Record.{ebreak, writes, Record}
 use Rattle.swi_rom.specs.Coherent.{IsExit}
+use Rattle.swi_rom.specs.Standing.{word_in}
 use Rattle.swi_hart.specs.declared.hart.Stage.{Stage}
 use Rattle.swi_hart.specs.declared.hart.Control.{Control}
 use Rattle.swi_hart.specs.declared.hart.Control.TheVariants.{At, Outside}
@@ -19,7 +21,9 @@ use Rattle.swi_hart.specs.declared.hart.ExitKind.{ExitKind}
 use Rattle.swi_hart.specs.Hart.{exit_kind}
 use Rattle.swi_hart.specs.Calling.{Made}
 use Rattle.swi_hart.specs.Leaving.{RamStepped, exit_transfer, fetch_under, fetches_after, moved, transfer_at}
-use Rattle.swi_hart.specs.Matching.{BoardStep, Matches}
+use Rattle.swi_hart.specs.Matching.{BoardStep, Fits, Matches}
+use Rattle.swi_hart.proofs.Homes.{home}
+use Rattle.swi_hart.proofs.Exchanging.{home_inside}
 use Rattle.swi_hart.proofs.Fitting.{matched_fits}
 use Rattle.swi_hart.proofs.Stepping.{direct_kind}
 use Rattle.swi_board.specs.Moments.{Moment, Policy, events}
@@ -27,6 +31,7 @@ use Rattle.swi_board.specs.Tracking.{Point, Tracks}
 use Rattle.swi_board.specs.Transfers.{cost, here_of, spent_run}
 use Rattle.swi_board.proofs.Events.{events_next, events_none}
 use Rattle.swi_board.proofs.Held.{same_steps}
+use Rattle.swi_board.proofs.Fetching.{HoldsUnder}
 use Rattle.swi_board.proofs.Tracks.{step_tracks}
 use Rattle.swi_run_laws.specs.After.{IsAfter}
 use Rattle.swi_run_laws.proofs.After.{is_after}
@@ -88,29 +93,69 @@ module _ (by : Policy) (v : ImageData) (span : ℕ) (f : Machine) (a b : ChipSta
 
 -- ---- a ram that counts as the model's does
 
-ram_at : (ℕ → ChipState) → ℕ → RamState
-ram_at at zero = record { words = []; fetches = 0; sets = 0; faults = 0; reach = 0; fetched_at = []; last_failed = false }
-ram_at at (suc j) = record (ram_at at j) {
-  fetches = fetches_after (at j).hart.control (ram_at at j).fetches;
-  sets = risen (ram_at at j).sets (writes (at (suc j)).kept - writes (at j).kept);
-  fetched_at = fetch_under (at j).hart.control (ram_at at j).sets ++ (ram_at at j).fetched_at;
+-- what stands at the word under control
+word_under : ImageData → Record → Control → ℕ
+word_under v r (At i b o stage) = word_in v r b i
+word_under v r Outside = 0
+
+-- it holds that everywhere
+abbrev words_at : ImageData → ℕ → (ℕ → ChipState) → ℕ → List ℕ
+words_at v span at j = replicate span (word_under v (at j).kept (at j).hart.control)
+
+ram_at : ImageData → ℕ → (ℕ → ChipState) → ℕ → RamState
+ram_at v span at zero = record { words = words_at v span at 0; fetches = 0; sets = 0; faults = 0; reach = 0; fetched_at = []; last_failed = false }
+ram_at v span at (suc j) = record (ram_at v span at j) {
+  words = words_at v span at (suc j);
+  fetches = fetches_after (at j).hart.control (ram_at v span at j).fetches;
+  sets = risen (ram_at v span at j).sets (writes (at (suc j)).kept - writes (at j).kept);
+  fetched_at = fetch_under (at j).hart.control (ram_at v span at j).sets (ram_at v span at j).words ++ (ram_at v span at j).fetched_at;
 }
+
+words_are : (v : ImageData) (span : ℕ) (at : ℕ → ChipState) (j : ℕ) → (ram_at v span at j).words ≡ words_at v span at j
+unfolding ram_at
+words_are v span at zero = refl
+words_are v span at (suc j) = refl
 
 no_less : (p q : ℕ) → p ≤ max p q
 no_less p q = grind arith
 
-ram_steps : (at : ℕ → ChipState) (span j : ℕ) → RamStepped span (writes (at (suc j)).kept - writes (at j).kept) (at j).hart.control (ram_at at j) (ram_at at (suc j))
+ram_steps : (v : ImageData) (at : ℕ → ChipState) (span j : ℕ) → RamStepped span (writes (at (suc j)).kept - writes (at j).kept) (at j).hart.control (ram_at v span at j) (ram_at v span at (suc j))
 unfolding ram_at
-ram_steps at span j = record {
+ram_steps v at span j = record {
   quiet = refl;
   fetches = refl;
   fetched_at = refl;
   sets = refl;
-  kept = record { same_length = refl; beyond = λ i le. refl; reached = no_less (ram_at at j).reach span };
+  kept = record {
+    same_length = length-replicate span (word_under v (at (suc j)).kept (at (suc j)).hart.control)
+        ∙ sym (ap (λ (l : List ℕ). length l) (words_are v span at j) ∙ length-replicate span (word_under v (at j).kept (at j).hart.control));
+    beyond = λ i le.
+        past (word_under v (at (suc j)).kept (at (suc j)).hart.control) i le
+        ∙ sym (ap (λ (l : List ℕ). slice_index l i) (words_are v span at j) ∙ past (word_under v (at j).kept (at j).hart.control) i le);
+    reached = no_less (ram_at v span at j).reach span;
+  };
 }
+  where
+    past : (w i : ℕ) → span ≤ i → slice_index (replicate span w) i ≡ 0
+    past w i le = let long = length-replicate span w in get_or_past (replicate span w) i 0 (omega (arith, le, long))
 
-abbrev point_at : (ℕ → ChipState) → ℕ → Point
-point_at at j = record { hart = (at j).hart; kept = (at j).kept; ram = ram_at at j; left = Some (at j).input; out = Some (at j).output; err = Some (at j).error }
+ram_holds : (v : ImageData) (span : ℕ) (at : ℕ → ChipState) (j : ℕ) → HoldsCache v span (at j) → Fits v (at j).kept (at j).hart → (at j).hart.machine.ending ≡ None → (at j).hart.machine.pc < 2 ^ 32 →
+    HoldsUnder v (at j).kept (ram_at v span at j).words (at j).hart.control
+unfolding word_under
+ram_holds v span at j holds fits running short =
+    subst (λ (l : List ℕ). HoldsUnder v (at j).kept l (at j).hart.control) (sym (words_are v span at j)) (by (at j).hart.control refl)
+  where
+    by : (c : Control) → (at j).hart.control ≡ c → HoldsUnder v (at j).kept (replicate span (word_under v (at j).kept c)) c
+    by Outside is = tt
+    by (At i b o stage) is =
+        let h = home v (at j).kept (at j).hart i b o stage fits is running short in
+        let end = holds.coherent.inside b h.first h.is_placed in
+        let inside = home_inside v (at j).kept (at j).hart.machine i b o stage h in
+        let index = h.index in
+        get_or-replicate span i (word_in v (at j).kept b i) 0 (omega (arith, end, inside, index))
+
+abbrev point_at : ImageData → ℕ → (ℕ → ChipState) → ℕ → Point
+point_at v span at j = record { hart = (at j).hart; kept = (at j).kept; ram = ram_at v span at j; left = Some (at j).input; out = Some (at j).output; err = Some (at j).error }
 
 -- ---- the run
 
@@ -124,9 +169,9 @@ module _ (by : Policy) (v : ImageData) (span n : ℕ) (f : Machine) (at : ℕ �
   abbrev start : Moment
   start = moment_of v f (at 0)
 
-  tracks : (j : ℕ) → j ≤ n → Tracks span v (events by v j start) (point_at at 0) (point_at at j)
+  tracks : (j : ℕ) → j ≤ n → Tracks span v (events by v j start) (point_at v span at 0) (point_at v span at j)
   unfolding ram_at
-  tracks zero le = subst (λ (s : Moment). Tracks span v s (point_at at 0) (point_at at 0)) (sym (events_none by v start)) (record {
+  tracks zero le = subst (λ (s : Moment). Tracks span v s (point_at v span at 0) (point_at v span at 0)) (sym (events_none by v start)) (record {
     image = run.image;
     matches = run.matches;
     here = λ on. refl;
@@ -141,15 +186,16 @@ module _ (by : Policy) (v : ImageData) (span n : ℕ) (f : Machine) (at : ℕ �
   })
   tracks (suc j) le =
       let s : Moment = events by v j start in
-      let was : Tracks span v s (point_at at 0) (point_at at j) = tracks j (omega (arith, le)) in
+      let was : Tracks span v s (point_at v span at 0) (point_at v span at j) = tracks j (omega (arith, le)) in
       let holds : HoldsCache v span (at j) = run.ran.holds j (omega (arith, le)) in
       let m : ChipMoved by v (at j) (at (suc j)) = run.ran.moves j (omega (arith, le)) in
       let input : (at j).input ≡ s.flat.input = some_list (at j).input s.flat.input was.input in
-      subst (λ (q : Moment). Tracks span v q (point_at at 0) (point_at at (suc j))) (sym (events_next by v j start))
-      (step_tracks by span v s (point_at at 0) (point_at at j) (point_at at (suc j)) was m.running holds.short holds.coherent.once
+      subst (λ (q : Moment). Tracks span v q (point_at v span at 0) (point_at v span at (suc j))) (sym (events_next by v j start))
+      (step_tracks by span v s (point_at v span at 0) (point_at v span at j) (point_at v span at (suc j)) was m.running holds.short holds.coherent.once
+      (ram_holds v span at j holds (matched_fits v (at j).kept s.flat.machine (at j).hart was.image was.matches) m.running holds.short)
       (transfer_is by v span s.flat.machine (at j) (at (suc j)) run.policy run.small holds m was.image was.matches)
       (made_is by v span s.flat.machine (at j) (at (suc j)) run.policy run.small holds m was.image was.matches s.flat.input input)
-      (ram_steps at span j))
+      (ram_steps v at span j))
 
   stands_after : StandsAfter v (events by v n start) (at 0) (at n)
   stands_after =

@@ -6,7 +6,7 @@ use Rattle.clap.proofs.OnLiterals.{clap_on_literals}
 use Rattle.swi_command.specs.Arguments.{form_of}
 use Rattle.swi_command.specs.CommandLine.{matches_on, without_fault, app_by}
 use Rattle.swi_command.specs.declared.name.CommandName.{CommandName}
-use Rattle.swi_command.specs.declared.name.CommandName.TheVariants.{Rewrite, Cached, Plain, Trace, Listing, Check, Upgrade, Measure, Share, Prefetch, Survey}
+use Rattle.swi_command.specs.declared.name.CommandName.TheVariants.{Rewrite, Cached, Plain, Trace, Listing, Check, Upgrade, Measure, Share, Prefetch, Survey, Profile}
 
 pub app_is_simple : (name : CommandName) → is_simple_and_free (app_by (form_of name)) ≡ true
 unfolding clap_on_literals
@@ -21,6 +21,7 @@ app_is_simple Measure = refl
 app_is_simple Share = refl
 app_is_simple Prefetch = refl
 app_is_simple Survey = refl
+app_is_simple Profile = refl
 
 left_true : (a b : Bool) → (a && b) ≡ true → a ≡ true
 left_true true b h = refl

@@ -38,9 +38,9 @@ differs a b other = go (bytes_eq a b) refl
 -- no command has another name than those of the table
 pub form_named-none : (w : Text) → (w ≡ codes "rewrite" → ⊥) → (w ≡ codes "cached" → ⊥) → (w ≡ codes "plain" → ⊥) → (w ≡ codes "trace" → ⊥)
     → (w ≡ codes "list" → ⊥) → (w ≡ codes "check" → ⊥) → (w ≡ codes "upgrade" → ⊥) → (w ≡ codes "measure" → ⊥)
-    → (w ≡ codes "share" → ⊥) → (w ≡ codes "prefetch" → ⊥) → (w ≡ codes "survey" → ⊥) → form_named w ≡ None
+    → (w ≡ codes "share" → ⊥) → (w ≡ codes "prefetch" → ⊥) → (w ≡ codes "survey" → ⊥) → (w ≡ codes "profile" → ⊥) → form_named w ≡ None
 unfolding form_named
-form_named-none w rewrite cached plain trace list check upgrade measure share prefetch survey =
+form_named-none w rewrite cached plain trace list check upgrade measure share prefetch survey profile =
     let at_rewrite = differs w (codes "rewrite") rewrite in
     let at_cached = differs w (codes "cached") cached in
     let at_plain = differs w (codes "plain") plain in
@@ -52,4 +52,5 @@ form_named-none w rewrite cached plain trace list check upgrade measure share pr
     let at_share = differs w (codes "share") share in
     let at_prefetch = differs w (codes "prefetch") prefetch in
     let at_survey = differs w (codes "survey") survey in
-    rw (at_rewrite, at_cached, at_plain, at_trace, at_list, at_check, at_upgrade, at_measure, at_share, at_prefetch, at_survey) refl
+    let at_profile = differs w (codes "profile") profile in
+    rw (at_rewrite, at_cached, at_plain, at_trace, at_list, at_check, at_upgrade, at_measure, at_share, at_prefetch, at_survey, at_profile) refl

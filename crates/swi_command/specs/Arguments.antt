@@ -1,7 +1,7 @@
 -- The code's names of commands and arguments, in the words of the table of commands.
 use Rattle.std.specs.Prelude.{codes}
 use Rattle.clap.specs.Words.{Rule, Text}
-use Rattle.swi_command.specs.CommandLine.{Form, NumberForm, positional, further, many, option, flag, rewrite_form, cached_form, plain_form, trace_form, list_form, check_form, upgrade_form, measure_form, share_form, prefetch_form, survey_form, steps_form, cache_form, block_form, heap_form, stack_form, events_form, seed_form, rate_form}
+use Rattle.swi_command.specs.CommandLine.{Form, NumberForm, positional, further, many, option, flag, rewrite_form, cached_form, plain_form, trace_form, list_form, check_form, upgrade_form, measure_form, share_form, prefetch_form, survey_form, profile_form, steps_form, cache_form, block_form, heap_form, stack_form, events_form, seed_form, rate_form}
 use Rattle.swi_command.specs.declared.argument.Argument.{Argument}
 use Rattle.swi_command.specs.declared.argument.Argument.TheVariants as argument
 use Rattle.swi_command.specs.declared.argument.Flag.{Flag}
@@ -73,3 +73,4 @@ form_of name.Measure = measure_form
 form_of name.Share = share_form
 form_of name.Prefetch = prefetch_form
 form_of name.Survey = survey_form
+form_of name.Profile = profile_form

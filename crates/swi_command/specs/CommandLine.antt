@@ -13,7 +13,7 @@ use Rattle.swi_command.specs.declared.command.CacheKind.{CacheKind}
 use Rattle.swi_command.specs.declared.command.CacheKind.TheVariants.{Slots, Ring}
 use Rattle.swi_command.specs.declared.command.CacheOptions.{CacheOptions}
 use Rattle.swi_command.specs.declared.command.Command.{Command}
-use Rattle.swi_command.specs.declared.command.Command.TheVariants.{Rewrite, Cached, Plain, Listing, Check, Upgrade, Measure, Share, Prefetch, Survey}
+use Rattle.swi_command.specs.declared.command.Command.TheVariants as parsed
 use Rattle.swi_command.specs.declared.command.Reports.{Reports}
 use Rattle.swi_command.specs.declared.command.RunLimits.{RunLimits}
 use Rattle.swi_command.specs.declared.command.RunOptions.{RunOptions}
@@ -207,6 +207,7 @@ pub data Request : Type 0 where
   RunShared : (files : List Text) (cache : CacheOptions) (options : ShareOptions) → Request
   RunAhead : (file : Text) (cache : CacheOptions) (options : RunOptions) (rate : ℕ) → Request
   RunSurvey : (file : Text) (sizes : List ℕ) (block_words : ℕ) (kind : CacheKind) (limits : RunLimits) → Request
+  RunProfile : (file : Text) (limits : RunLimits) → Request
 
 abbrev pub rewrite_request : List Row → Option Request
 rewrite_request rows = option_and_then (λ i. option_and_then (λ o.
@@ -253,6 +254,10 @@ abbrev pub prefetch_request : List Row → Option Request
 prefetch_request rows = option_and_then (λ f. option_and_then (λ c. option_and_then (λ o.
     option_map (λ n. RunAhead f c o n) (number_of rate_form rows)) (options_of rows))
     (cache_with Slots rows)) (first_of (codes "FILE") rows)
+
+abbrev pub profile_request : List Row → Option Request
+profile_request rows = option_and_then (λ f.
+    option_map (λ l. RunProfile f l) (limits_of rows)) (first_of (codes "FILE") rows)
 
 -- all caches are of one kind, and of one cut
 abbrev pub survey_request : List Row → Option Request
@@ -401,9 +406,17 @@ survey_form = record {
   request = survey_request;
 }
 
+-- FILE --steps n --heap n --stack n
+abbrev pub profile_form : Form
+profile_form = record {
+  name = codes "profile";
+  rules = positional (codes "FILE") ∷ option (codes "steps") ∷ option (codes "heap") ∷ option (codes "stack") ∷ [];
+  request = profile_request;
+}
+
 abbrev pub forms : List Form
 forms = rewrite_form ∷ cached_form ∷ plain_form ∷ trace_form ∷ list_form ∷ check_form ∷ upgrade_form ∷ measure_form
-    ∷ share_form ∷ prefetch_form ∷ survey_form ∷ []
+    ∷ share_form ∷ prefetch_form ∷ survey_form ∷ profile_form ∷ []
 
 -- the command of a name
 unfoldable pub form_named : Text → Option Form
@@ -438,17 +451,17 @@ command_of words = option_and_then (request_by words) (form_first words)
 
 -- what a command asks for
 abbrev pub request_of : Command → Request
-request_of (Rewrite input output block_words whole_loops) =
-    RewriteFile (string_bytes input) (string_bytes output) block_words whole_loops
-request_of (Cached file cache options) = RunCached (string_bytes file) cache options
-request_of (Plain file options) = RunPlain (string_bytes file) options
-request_of (Listing file block_words) = ListFile (string_bytes file) block_words
-request_of (Check file) = CheckFile (string_bytes file)
-request_of (Upgrade input output) = UpgradeFile (string_bytes input) (string_bytes output)
-request_of (Measure seed functions cache) = MeasureMade seed functions cache
-request_of (Share files cache options) = RunShared (map (λ f. string_bytes f) files.items) cache options
-request_of (Prefetch file cache options rate) = RunAhead (string_bytes file) cache options rate
-request_of (Survey file sizes block_words kind limits) = RunSurvey (string_bytes file) sizes.items block_words kind limits
+request_of (parsed.Rewrite c) = RewriteFile (string_bytes c.input) (string_bytes c.output) c.block_words c.whole_loops
+request_of (parsed.Cached c) = RunCached (string_bytes c.file) c.cache c.options
+request_of (parsed.Plain c) = RunPlain (string_bytes c.file) c.options
+request_of (parsed.List c) = ListFile (string_bytes c.file) c.block_words
+request_of (parsed.Check c) = CheckFile (string_bytes c.file)
+request_of (parsed.Upgrade c) = UpgradeFile (string_bytes c.input) (string_bytes c.output)
+request_of (parsed.Measure c) = MeasureMade c.seed c.functions c.cache
+request_of (parsed.Share c) = RunShared (map (λ f. string_bytes f) c.files.items) c.cache c.options
+request_of (parsed.Prefetch c) = RunAhead (string_bytes c.file) c.cache c.options c.rate
+request_of (parsed.Survey c) = RunSurvey (string_bytes c.file) c.sizes.items c.block_words c.kind c.limits
+request_of (parsed.Profile c) = RunProfile (string_bytes c.file) c.limits
 
 -- ---- ranges
 
@@ -498,15 +511,14 @@ pub record AreSizes (sizes : List ℕ) : Type 0 where
 
 -- and so do those of a command
 abbrev pub HasLimitsInRange : Command → Type 0
-HasLimitsInRange (Rewrite input output block_words whole_loops) = IsBlockSize block_words
-HasLimitsInRange (Cached file cache options) = IsCacheInRange cache × IsInRange options.limits
-HasLimitsInRange (Plain file options) = IsInRange options.limits
-HasLimitsInRange (Listing file block_words) = IsBlockSize block_words
-HasLimitsInRange (Check file) = Unit
-HasLimitsInRange (Upgrade input output) = Unit
-HasLimitsInRange (Measure seed functions cache) = IsFunctionCount functions × IsCacheInRange cache
-HasLimitsInRange (Share files cache options) =
-    IsShareCount (length files.items) × (IsCacheInRange cache × IsShareInRange options)
-HasLimitsInRange (Prefetch file cache options rate) =
-    IsCacheInRange cache × (IsInRange options.limits × rate ≤ 1024)
-HasLimitsInRange (Survey file sizes block_words kind limits) = AreSizes sizes.items × (IsBlockSize block_words × IsInRange limits)
+HasLimitsInRange (parsed.Rewrite c) = IsBlockSize c.block_words
+HasLimitsInRange (parsed.Cached c) = IsCacheInRange c.cache × IsInRange c.options.limits
+HasLimitsInRange (parsed.Plain c) = IsInRange c.options.limits
+HasLimitsInRange (parsed.List c) = IsBlockSize c.block_words
+HasLimitsInRange (parsed.Check c) = Unit
+HasLimitsInRange (parsed.Upgrade c) = Unit
+HasLimitsInRange (parsed.Measure c) = IsFunctionCount c.functions × IsCacheInRange c.cache
+HasLimitsInRange (parsed.Share c) = IsShareCount (length c.files.items) × (IsCacheInRange c.cache × IsShareInRange c.options)
+HasLimitsInRange (parsed.Prefetch c) = IsCacheInRange c.cache × (IsInRange c.options.limits × c.rate ≤ 1024)
+HasLimitsInRange (parsed.Survey c) = AreSizes c.sizes.items × (IsBlockSize c.block_words × IsInRange c.limits)
+HasLimitsInRange (parsed.Profile c) = IsInRange c.limits

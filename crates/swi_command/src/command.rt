@@ -73,72 +73,126 @@ pub struct CacheOptions {
     pub kind: CacheKind,
 }
 
-/// What the words ask for. Each file is a name.
+/// `rewrite`: the input's program, cut into blocks, is put under the output's name.
+#[derive(Debug, Drop, PartialEq, Eq)]
+pub struct RewriteCommand {
+    /// The name of the file that is read.
+    pub input: String,
+    /// The name of the file that is written.
+    pub output: String,
+    /// The most words of a block, 2 to 1024.
+    pub block_words: u32,
+    /// LR.W and its SC.W stand in one block where a block has room for them.
+    pub whole_loops: bool,
+}
+
+/// `cached` and `trace`: a run of the file's program on the cached machine, with a trace or without one.
+#[derive(Debug, Drop, PartialEq, Eq)]
+pub struct CachedCommand {
+    /// The file's name.
+    pub file: String,
+    pub cache: CacheOptions,
+    pub options: RunOptions,
+}
+
+/// `plain`: a run of the file's program on the flat machine, which has no cache.
+#[derive(Debug, Drop, PartialEq, Eq)]
+pub struct PlainCommand {
+    /// The file's name.
+    pub file: String,
+    pub options: RunOptions,
+}
+
+/// `list`: the blocks of the file's program are listed: those of its image, or, where it has none, those of the greedy cut.
+#[derive(Debug, Drop, PartialEq, Eq)]
+pub struct ListCommand {
+    /// The file's name.
+    pub file: String,
+    /// The most words of a block that is cut, 2 to 1024.
+    pub block_words: u32,
+}
+
+/// `check`: the file's image is checked against its text.
+#[derive(Debug, Drop, PartialEq, Eq)]
+pub struct CheckCommand {
+    /// The file's name.
+    pub file: String,
+}
+
+/// `upgrade`: the input with its image in the newest version is put under the output's name.
+#[derive(Debug, Drop, PartialEq, Eq)]
+pub struct UpgradeCommand {
+    /// The name of the file that is read.
+    pub input: String,
+    /// The name of the file that is written.
+    pub output: String,
+}
+
+/// `measure`: a run on the cached machine of a program that is made.
+#[derive(Clone, Copy, Debug, PartialEq, Eq)]
+pub struct MeasureCommand {
+    /// The number that the program is made of.
+    pub seed: u32,
+    /// How many functions it has, 1 to 4096.
+    pub functions: u32,
+    pub cache: CacheOptions,
+}
+
+/// `share`: a run of several programs, which share a cache with slots.
+#[derive(Debug, Drop, PartialEq, Eq)]
+pub struct ShareCommand {
+    /// The names of their files, two to eight.
+    pub files: Vec<String>,
+    pub cache: CacheOptions,
+    pub options: ShareOptions,
+}
+
+/// `prefetch`: a run of the file's program on the cached machine, with slots, beside an engine that copies the next block.
+#[derive(Debug, Drop, PartialEq, Eq)]
+pub struct PrefetchCommand {
+    /// The file's name.
+    pub file: String,
+    pub cache: CacheOptions,
+    pub options: RunOptions,
+    /// How many events of the engine come behind each machine step, at most 1024.
+    pub rate: u32,
+}
+
+/// `survey`: a run of the file's program on the cached machine, once for many caches of the same cut.
+#[derive(Debug, Drop, PartialEq, Eq)]
+pub struct SurveyCommand {
+    /// The file's name.
+    pub file: String,
+    /// The sizes of the caches in bytes: 1 to 64 of them, 8 to 2^32 - 1 each.
+    pub sizes: Vec<u32>,
+    /// The most words of a block, 2 to 1024.
+    pub block_words: u32,
+    pub kind: CacheKind,
+    pub limits: RunLimits,
+}
+
+/// `profile`: a run of the file's program on the flat machine, of which is told how often it executed each word of its text.
+#[derive(Debug, Drop, PartialEq, Eq)]
+pub struct ProfileCommand {
+    /// The file's name.
+    pub file: String,
+    pub limits: RunLimits,
+}
+
+/// What the words ask for.
 #[derive(Debug, Drop, PartialEq, Eq)]
 pub enum Command {
-    /// The input's program, cut into blocks of so many words (2 to 1024), is put under the output's name. With
-    /// `whole_loops` LR.W and its SC.W stand in one block where a block has room for them.
-    Rewrite {
-        input: String,
-        output: String,
-        block_words: u32,
-        whole_loops: bool,
-    },
-    /// A run of the file's program on the cached machine, with a trace or without one.
-    Cached {
-        file: String,
-        cache: CacheOptions,
-        options: RunOptions,
-    },
-    /// A run of the file's program on the flat machine, which has no cache.
-    Plain {
-        file: String,
-        options: RunOptions,
-    },
-    /// The blocks of the file's program are listed: those of its image, or, where it has none, those of
-    /// the greedy cut into blocks of at most so many words (2 to 1024).
-    Listing {
-        file: String,
-        block_words: u32,
-    },
-    /// The file's image is checked against its text.
-    Check {
-        file: String,
-    },
-    /// The input with its image in the newest version is put under the output's name.
-    Upgrade {
-        input: String,
-        output: String,
-    },
-    /// A run on the cached machine of the program that is made of a seed with so many functions (1 to 4096).
-    Measure {
-        seed: u32,
-        functions: u32,
-        cache: CacheOptions,
-    },
-    /// A run of the programs of two to eight files, which share a cache with slots.
-    Share {
-        files: Vec<String>,
-        cache: CacheOptions,
-        options: ShareOptions,
-    },
-    /// A run of the file's program on the cached machine, with slots, beside an engine that copies the next block: after each
-    /// machine step come so many events of the engine (0 to 1024).
-    Prefetch {
-        file: String,
-        cache: CacheOptions,
-        options: RunOptions,
-        rate: u32,
-    },
-    /// A run of the file's program on the cached machine, once for many caches of the same cut: 1 to 64 sizes in bytes, 8 to
-    /// 2^32 - 1 each.
-    Survey {
-        file: String,
-        sizes: Vec<u32>,
-        block_words: u32,
-        kind: CacheKind,
-        limits: RunLimits,
-    },
+    Rewrite(RewriteCommand),
+    Cached(CachedCommand),
+    Plain(PlainCommand),
+    List(ListCommand),
+    Check(CheckCommand),
+    Upgrade(UpgradeCommand),
+    Measure(MeasureCommand),
+    Share(ShareCommand),
+    Prefetch(PrefetchCommand),
+    Survey(SurveyCommand),
+    Profile(ProfileCommand),
 }
 
 /// Why words give no command.

@@ -16,8 +16,9 @@ mod read;
 mod syntax;
 
 pub use command::{
-    CacheKind, CacheOptions, Command, CommandError, Reports, RunLimits, RunOptions, Schedule,
-    ShareOptions,
+    CacheKind, CacheOptions, CachedCommand, CheckCommand, Command, CommandError, ListCommand,
+    MeasureCommand, PlainCommand, PrefetchCommand, ProfileCommand, Reports, RewriteCommand,
+    RunLimits, RunOptions, Schedule, ShareCommand, ShareOptions, SurveyCommand, UpgradeCommand,
 };
 use name::CommandName;
 use read::command_from;
@@ -40,6 +41,7 @@ use syntax::command_matches;
 /// | `share` | FILE FILE, up to six FILE more, `--events` `--seed` `--cache` `--block` `--heap` `--stack` `--stats` |
 /// | `prefetch` | FILE `--rate` `--steps` `--cache` `--block` `--heap` `--stack` `--state` `--calls` `--stats` |
 /// | `survey` | FILE BYTES, up to 63 BYTES more, `--steps` `--block` `--heap` `--stack` `--ring` |
+/// | `profile` | FILE `--steps` `--heap` `--stack` |
 ///
 /// | Option | Range | Where not given |
 /// |---|---|---|

@@ -96,6 +96,13 @@ const SURVEY: &[Argument] = &[
     Argument::Flag(Flag::Ring),
 ];
 
+const PROFILE: &[Argument] = &[
+    Argument::Positional(Positional::File),
+    Argument::Number(NumberOption::Steps),
+    Argument::Number(NumberOption::Heap),
+    Argument::Number(NumberOption::Stack),
+];
+
 const PREFETCH: &[Argument] = &[
     Argument::Positional(Positional::File),
     Argument::Number(NumberOption::Rate),
@@ -122,6 +129,7 @@ pub enum CommandName {
     Share,
     Prefetch,
     Survey,
+    Profile,
 }
 
 impl CommandName {
@@ -141,6 +149,7 @@ impl CommandName {
             "share" => Some(CommandName::Share),
             "prefetch" => Some(CommandName::Prefetch),
             "survey" => Some(CommandName::Survey),
+            "profile" => Some(CommandName::Profile),
             _ => None,
         }
     }
@@ -161,6 +170,7 @@ impl CommandName {
             CommandName::Share => "share",
             CommandName::Prefetch => "prefetch",
             CommandName::Survey => "survey",
+            CommandName::Profile => "profile",
         }
     }
 
@@ -180,6 +190,7 @@ impl CommandName {
             CommandName::Share => SHARE,
             CommandName::Prefetch => PREFETCH,
             CommandName::Survey => SURVEY,
+            CommandName::Profile => PROFILE,
         }
     }
 }

@@ -9,8 +9,9 @@ use crate::argument::{Flag, NumberOption, Positional};
 use crate::name::CommandName;
 use crate::number::{NumberRule, read_number_in};
 use crate::{
-    CacheKind, CacheOptions, Command, CommandError, Reports, RunLimits, RunOptions, Schedule,
-    ShareOptions,
+    CacheKind, CacheOptions, CachedCommand, CheckCommand, Command, CommandError, ListCommand,
+    MeasureCommand, PlainCommand, PrefetchCommand, ProfileCommand, Reports, RewriteCommand,
+    RunLimits, RunOptions, Schedule, ShareCommand, ShareOptions, SurveyCommand, UpgradeCommand,
 };
 use clap::ArgMatches;
 use std::alloc::Global;
@@ -340,59 +341,63 @@ pub fn command_from(
 {
     let usage = CommandError::Usage;
     match name {
-        CommandName::Rewrite => Ok(Command::Rewrite {
+        CommandName::Rewrite => Ok(Command::Rewrite(RewriteCommand {
             input: file_name(alloc, matches, Positional::Input)?,
             output: file_name(alloc, matches, Positional::Output)?,
             block_words: block_words(matches).ok_or(usage)?,
             whole_loops: is_given(matches, Flag::WholeLoops),
-        }),
-        CommandName::Cached => Ok(Command::Cached {
+        })),
+        CommandName::Cached => Ok(Command::Cached(CachedCommand {
             file: file_name(alloc, matches, Positional::File)?,
             cache: cache_options(matches).ok_or(usage)?,
             options: run_options(matches).ok_or(usage)?,
-        }),
-        CommandName::Plain => Ok(Command::Plain {
+        })),
+        CommandName::Plain => Ok(Command::Plain(PlainCommand {
             file: file_name(alloc, matches, Positional::File)?,
             options: run_options(matches).ok_or(usage)?,
-        }),
-        CommandName::Trace => Ok(Command::Cached {
+        })),
+        CommandName::Trace => Ok(Command::Cached(CachedCommand {
             file: file_name(alloc, matches, Positional::File)?,
             cache: cache_options(matches).ok_or(usage)?,
             options: trace_options(matches).ok_or(usage)?,
-        }),
-        CommandName::Listing => Ok(Command::Listing {
+        })),
+        CommandName::Listing => Ok(Command::List(ListCommand {
             file: file_name(alloc, matches, Positional::File)?,
             block_words: block_words(matches).ok_or(usage)?,
-        }),
-        CommandName::Check => Ok(Command::Check {
+        })),
+        CommandName::Check => Ok(Command::Check(CheckCommand {
             file: file_name(alloc, matches, Positional::File)?,
-        }),
-        CommandName::Upgrade => Ok(Command::Upgrade {
+        })),
+        CommandName::Upgrade => Ok(Command::Upgrade(UpgradeCommand {
             input: file_name(alloc, matches, Positional::Input)?,
             output: file_name(alloc, matches, Positional::Output)?,
-        }),
-        CommandName::Measure => Ok(Command::Measure {
+        })),
+        CommandName::Measure => Ok(Command::Measure(MeasureCommand {
             seed: seed(matches).ok_or(usage)?,
             functions: function_count(matches).ok_or(usage)?,
             cache: cache_options(matches).ok_or(usage)?,
-        }),
-        CommandName::Share => Ok(Command::Share {
+        })),
+        CommandName::Share => Ok(Command::Share(ShareCommand {
             files: shared_files(alloc, matches)?,
             cache: cache_with(matches, CacheKind::Slots).ok_or(usage)?,
             options: share_options(matches).ok_or(usage)?,
-        }),
-        CommandName::Survey => Ok(Command::Survey {
+        })),
+        CommandName::Survey => Ok(Command::Survey(SurveyCommand {
             file: file_name(alloc, matches, Positional::File)?,
             sizes: sizes(alloc, matches)?,
             block_words: block_words(matches).ok_or(usage)?,
             kind: cache_kind(matches),
             limits: run_limits(matches).ok_or(usage)?,
-        }),
-        CommandName::Prefetch => Ok(Command::Prefetch {
+        })),
+        CommandName::Profile => Ok(Command::Profile(ProfileCommand {
+            file: file_name(alloc, matches, Positional::File)?,
+            limits: run_limits(matches).ok_or(usage)?,
+        })),
+        CommandName::Prefetch => Ok(Command::Prefetch(PrefetchCommand {
             file: file_name(alloc, matches, Positional::File)?,
             cache: cache_with(matches, CacheKind::Slots).ok_or(usage)?,
             options: run_options(matches).ok_or(usage)?,
             rate: engine_rate(matches).ok_or(usage)?,
-        }),
+        })),
     }
 }

@@ -1,5 +1,5 @@
 -- How often devices were asked, and how often they failed.
-use Rattle.std.specs.Prelude.{ℕ, ◌+◌, ◌==◌, if◌then◌else◌, Bool, true, false, Result, Ok, Err}
+use Rattle.std.specs.Prelude.{ℕ, ◌+◌, ◌==◌, if◌then◌else◌, Bool, Result, Ok, Err}
 use Rattle.swi_devices.specs.declared.count.Tally.{Tally}
 use Rattle.swi_devices.specs.declared.count.Tally.TheVariants.{None, More', Sum'}
 

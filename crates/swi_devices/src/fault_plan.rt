@@ -1,4 +1,4 @@
-ghost use Rattle.std.specs.Prelude.{◌≡◌, Contains, IsErr, IsTrue, ◌↔◌};
+ghost use Rattle.std.specs.Prelude.{◌≡◌, Contains, IsErr, IsTrue, OnErr, ◌↔◌};
 ghost use Rattle.swi_outside.specs.Causes.{HasCause, counted};
 
 use swi_outside::Failed;
@@ -35,6 +35,7 @@ impl FaultPlan {
         ensures counted { self.new.calls ≡ counted self.old.calls }
         ensures listed { IsErr result ↔ Contains self.old.failing.items (counted self.old.calls) }
         ensures cause { HasCause self.old.faults self.new.faults result }
+        ensures once { OnErr result (self.new.faults ≡ counted self.old.faults) }
         ensures kept { self.new.failing ≡ self.old.failing }
     {
         if self.count_call() {

@@ -108,8 +108,9 @@ impl CacheRam for FaultRam {
         self.plan.try_call()?;
         self.last_failed = false;
         self.fetches = self.fetches.saturating_add(1);
-        self.made = Snapshot::of(&RamCalls::Fetched(Snapshot::of(&self.made), i));
-        Ok(self.words[i as usize])
+        let word = self.words[i as usize];
+        self.made = Snapshot::of(&RamCalls::Fetched(Snapshot::of(&self.made), i, word));
+        Ok(word)
     }
 
     fn set(&mut self, i: u32, w: u32) -> Result<(), Failed>

@@ -1,8 +1,8 @@
-ghost use Rattle.std.specs.Prelude.{◌≡◌, ◌+◌, ◌<◌, [], false, if◌then◌else◌, length};
+ghost use Rattle.std.specs.Prelude.{◌≡◌, ◌+◌, ◌<◌, [], false, if◌then◌else◌, length, OnErr};
 ghost use Rattle.std.specs.Io.{ReadsAtMost};
 ghost use Rattle.swi_devices.specs.Counts.{ended_after, failures_after};
 ghost use Rattle.swi_devices.specs.Streams.{HandsOn, sink_of, source_of};
-ghost use Rattle.swi_outside.specs.Causes.{HasCause};
+ghost use Rattle.swi_outside.specs.Causes.{HasCause, counted};
 ghost use Rattle.swi_outside.specs.Sink.{WasWritten};
 ghost use Rattle.swi_outside.specs.Source.{WasRead};
 
@@ -139,6 +139,7 @@ impl<W: Write> Sink for RealSink<W> {
 fn count_failure<T>(faults: &mut u64, answer: Result<T, Failed>) -> Result<T, Failed>
     ensures handed { result ≡ answer }
     ensures cause { HasCause faults.old faults.new answer }
+    ensures once { OnErr answer (faults.new ≡ counted faults.old) }
 {
     if answer.is_err() {
         *faults = faults.saturating_add(1);

@@ -86,8 +86,9 @@ impl CacheRam for VecRam {
         ensures fetched { Fetched self.old i result self.new }
         ensures never_fails { IsOk result }
     {
-        self.calls = Snapshot::of(&RamCalls::Fetched(Snapshot::of(&self.calls), i));
-        Ok(self.words.word(i))
+        let word = self.words.word(i);
+        self.calls = Snapshot::of(&RamCalls::Fetched(Snapshot::of(&self.calls), i, word));
+        Ok(word)
     }
 
     #[inline(always)]

@@ -1,5 +1,5 @@
 -- A run on the flat machine, from what its functions say.
-use Rattle.std.proofs.Common.{◌≡◌, ◌⊎◌, inl, inr, ℕ, ◌-◌, ◌<◌, ◌≤◌, List, [], ◌++◌, length, take, Option, None, Some, Ok, Err, IsErrOf, refl, sym, ◌∙◌, subst, ap, arith}
+use Rattle.std.proofs.Common.{◌≡◌, ◌⊎◌, inl, inr, ℕ, ◌-◌, ◌≤◌, List, [], ◌++◌, length, take, None, Some, Ok, Err, IsErrOf, refl, sym, ◌∙◌, subst, ap, arith}
 use Rattle.std.proofs.lemmas.List.{append-nil}
 use Rattle.std.specs.Io.KnownBytes.{Appends}
 use Rattle.swi_outside.specs.Laws.{Appends-append, named_as, no_cause, ok_unmoved}
@@ -24,7 +24,8 @@ use Rattle.swi_answer.specs.declared.answer.Refusal.{Refusal}
 use Rattle.swi_answer.specs.declared.answer.Refusal.TheVariants as refusal
 use Rattle.swi_task.specs.Devices.{Devices, stream_faults}
 use Rattle.swi_task.specs.Causes.{HasCauses}
-use Rattle.swi_file_commands.specs.RunPlain.{RunsPlain, plain_report, read_room_of, run_from}
+use Rattle.swi_file_commands.specs.RunFlat.{FlatCommand, RunsFlat, limit_of, read_room_of, run_from, start_from}
+use Rattle.swi_file_commands.specs.RunPlain.{plain_command, plain_report}
 use Rattle.swi_task.specs.Runs.{FailedAfterRun, Ran, StepFailed, ending_by, report}
 use Rattle.swi_task.proofs.Refusals.{calm_causes, causes_of, out_causes}
 
@@ -85,10 +86,10 @@ run_causes {T} {U} call.SinkFault d i o e h =
     (named_as h (λ x. let never : ⊥ = cc in absurd never) (λ x. let never : ⊥ = cc in absurd never) (λ _. refl) (λ _. refl))
 
 -- a run that is not begun yet, by its machine
-start_same : (o : RunOptions) (p : ProgramData) (l : Layout) (f : FlatData) (n : ℕ) (left : List ℕ) → f ≡ unfailed (machine_of p l o.reports.calls) →
-    state_at n f.machine left ≡ run_from o p l left n
-start_same o p l f n left is =
-    ap (λ (x : FlatData). state_at n x.machine left) is ∙ from_none (machine_of p l o.reports.calls) n left refl
+pub start_same : (c : FlatCommand) (p : ProgramData) (l : Layout) (f : FlatData) (n : ℕ) (left : List ℕ) → f ≡ unfailed (machine_of p l c.options.reports.calls) →
+    state_at n f.machine left ≡ run_from c p l left n
+start_same c p l f n left is =
+    ap (λ (x : FlatData). state_at n x.machine left) is ∙ from_none (machine_of p l c.options.reports.calls) n left refl
 
 kind_of : (f : CallFault) → (refusal_of f ≡ refusal.SourceFault) ⊎ ((refusal_of f ≡ refusal.SinkFault) ⊎ (refusal_of f ≡ refusal.Memory))
 kind_of call.SourceFault = inl refl
@@ -99,8 +100,8 @@ not_memory call.SourceFault e = let bad : ⊥ = cc in bad
 not_memory call.SinkFault e = let bad : ⊥ = cc in bad
 
 -- there was no memory, and nothing changed
-pub no_memory : (o : RunOptions) (p : ProgramData) (l : Layout) (d : Devices) → RunsPlain o p l d d (Err refusal.Memory)
-no_memory o p l d = record {
+pub no_memory : (c : FlatCommand) (p : ProgramData) (l : Layout) (d : Devices) → RunsFlat c p l d d (Err refusal.Memory)
+no_memory c p l d = record {
   done = tt;
   refused = inr (inr refl);
   memory = λ _. refl;
@@ -112,10 +113,10 @@ no_memory o p l d = record {
 abbrev pub streams_of : Devices → outside.Devices
 streams_of d = record { input = d.input; output = d.output; error = d.error }
 
-pub run_failed : (f : CallFault) (o : RunOptions) (p : ProgramData) (l : Layout) (first new : FlatData) (d : Devices) (i : SourceState) (out e : SinkState) →
-    first ≡ unfailed (machine_of p l o.reports.calls) → RanTold first.machine o.limits.steps new (streams_of d) (streams_of (run_to d i out e)) (Err f) →
-    RunsPlain o p l d (run_to d i out e) (Err (refusal_of f))
-run_failed f o p l first new d i out e first_is ran = record {
+pub run_failed : (f : CallFault) (c : FlatCommand) (p : ProgramData) (l : Layout) (first new : FlatData) (d : Devices) (i : SourceState) (out e : SinkState) →
+    first ≡ unfailed (machine_of p l c.options.reports.calls) → RanTold first.machine (limit_of c) new (streams_of d) (streams_of (run_to d i out e)) (Err f) →
+    RunsFlat c p l d (run_to d i out e) (Err (refusal_of f))
+run_failed f c p l first new d i out e first_is ran = record {
   done = tt;
   refused = kind_of f;
   memory = λ x. absurd (not_memory f x);
@@ -126,27 +127,28 @@ run_failed f o p l first new d i out e first_is ran = record {
         let state = state_at new.machine.steps first.machine input in
         let ended : state.machine.ending ≡ None = sym (ap (λ (x : FlatData). x.machine.ending) (ran.stays input left)) ∙ ran.going in
         subst (λ (s : FlatState). StepFailed s s.error (next_made s) (read_room_of s) d (run_to d i out e) (refusal_of f) [])
-        (start_same o p l first new.machine.steps input first_is)
+        (start_same c p l first new.machine.steps input first_is)
         (step_failed {T = Unit {0}} f state new.machine.bus d (run_to d i out e) ended (ran.output_part input left) (ran.error_part input left) (λ x. ran.failed_input x input left) (λ rose. ran.failed_output rose input left) (λ rose. ran.failed_error rose input left) (ran.front input left)
         (record { output = ran.unasked_output input left; error = ran.unasked_error input left }));
   });
   causes = run_causes {T = Unit {0}} {U = Ending} f d i out e ran.causes;
 }
 
--- the run came to its end, and the report was written
-pub run_done : {u : Unit} (o : RunOptions) (p : ProgramData) (l : Layout) (first new : FlatData) (d : Devices) (i : SourceState) (mid out e : SinkState) (x : Ending) →
-    first ≡ unfailed (machine_of p l o.reports.calls) → RanTold first.machine o.limits.steps new (streams_of d) (streams_of (run_to d i mid e)) (Ok u) →
-    x ≡ ending_by new.machine.ending new.machine.pc new.machine.steps → Appends mid.held out.held (report o.reports new.machine None) → out.faults ≡ mid.faults →
-    RunsPlain o p l d (run_to d i out e) (Ok x)
-run_done o p l first new d i mid out e x first_is ran ending written still = record {
+-- the run came to its end, and what is told of it was written
+pub run_done : {u : Unit} (c : FlatCommand) (p : ProgramData) (l : Layout) (first new : FlatData) (d : Devices) (i : SourceState) (mid out e : SinkState) (x : Ending) →
+    first ≡ unfailed (machine_of p l c.options.reports.calls) → RanTold first.machine (limit_of c) new (streams_of d) (streams_of (run_to d i mid e)) (Ok u) →
+    x ≡ ending_by new.machine.ending new.machine.pc new.machine.steps →
+    ((left : List ℕ) → d.input.left ≡ Some left → Appends mid.held out.held (c.told p (start_from c p l left))) → out.faults ≡ mid.faults →
+    RunsFlat c p l d (run_to d i out e) (Ok x)
+run_done c p l first new d i mid out e x first_is ran ending written still = record {
   done = λ left told.
-      let state = state_at o.limits.steps first.machine left in
+      let state = state_at (limit_of c) first.machine left in
+      let lines = c.told p (start_from c p l left) in
       let same : new.machine ≡ state.machine = ap (λ (y : FlatData). y.machine) (ran.machine left told) in
-      subst (λ (s : FlatState). Ran s (plain_report o s) d (run_to d i out e) x []) (start_same o p l first o.limits.steps left first_is) (record {
+      subst (λ (s : FlatState). Ran s lines d (run_to d i out e) x []) (start_same c p l first (limit_of c) left first_is) (record {
         ending = ending ∙ ap (λ (m : Machine). ending_by m.ending m.pc m.steps) same;
         input = ran.input left told;
-        output = Appends-append d.output.held mid.held out.held state.output (plain_report o state) (ran.output left told)
-            (subst (λ (m : Machine). Appends mid.held out.held (report o.reports m None)) same written);
+        output = Appends-append d.output.held mid.held out.held state.output lines (ran.output left told) (written left told);
         error = subst (λ (y : List ℕ). Appends d.error.held e.held y) (sym (append-nil state.error)) (ran.error left told);
       });
   refused = tt;
@@ -157,11 +159,11 @@ run_done o p l first new d i mid out e x first_is ran ending written still = rec
 }
 
 -- or not to its end
-pub report_failed : {u : Unit} (o : RunOptions) (p : ProgramData) (l : Layout) (first new : FlatData) (d : Devices) (i : SourceState) (mid out e : SinkState) →
-    first ≡ unfailed (machine_of p l o.reports.calls) → RanTold first.machine o.limits.steps new (streams_of d) (streams_of (run_to d i mid e)) (Ok u) →
-    AppendsPrefix mid.held out.held (report o.reports new.machine None) → (report o.reports new.machine None ≡ [] → ⊥) →
-    mid.faults ≤ out.faults → Rose mid.faults out.faults → RunsPlain o p l d (run_to d i out e) (Err refusal.SinkFault)
-report_failed o p l first new d i mid out e first_is ran part due later rose =
+pub told_failed : {u : Unit} (c : FlatCommand) (p : ProgramData) (l : Layout) (first new : FlatData) (d : Devices) (i : SourceState) (mid out e : SinkState) →
+    first ≡ unfailed (machine_of p l c.options.reports.calls) → RanTold first.machine (limit_of c) new (streams_of d) (streams_of (run_to d i mid e)) (Ok u) →
+    ((left : List ℕ) → d.input.left ≡ Some left → AppendsPrefix mid.held out.held (c.told p (start_from c p l left)) × (c.told p (start_from c p l left) ≡ [] → ⊥)) →
+    mid.faults ≤ out.faults → Rose mid.faults out.faults → RunsFlat c p l d (run_to d i out e) (Err refusal.SinkFault)
+told_failed c p l first new d i mid out e first_is ran broke later rose =
     let quiet : stream_faults (run_to d i mid e) ≡ stream_faults d = ok_unmoved ran.causes in
     let still : mid.faults ≡ d.output.faults = ap (λ (x : outside.Faults). x.output) quiet in
     let up : Rose d.output.faults out.faults = subst (λ (n : ℕ). Rose n out.faults) still rose in record {
@@ -169,19 +171,25 @@ report_failed o p l first new d i mid out e first_is ran part due later rose =
       refused = inr (inl refl);
       memory = λ y. let bad : ⊥ = cc in absurd bad;
       failed = λ _ left told. inr (
-          let state = state_at o.limits.steps first.machine left in
-          let same : new.machine ≡ state.machine = ap (λ (y : FlatData). y.machine) (ran.machine left told) in
-          subst (λ (s : FlatState). FailedAfterRun s (plain_report o s) [] d (run_to d i out e) refusal.SinkFault []) (start_same o p l first o.limits.steps left first_is) (record {
+          let state = state_at (limit_of c) first.machine left in
+          let lines = c.told p (start_from c p l left) in
+          let part = (broke left told).0 in
+          subst (λ (s : FlatState). FailedAfterRun s lines [] d (run_to d i out e) refusal.SinkFault []) (start_same c p l first (limit_of c) left first_is) (record {
             output_front = part.0;
-            output = Appends-append d.output.held mid.held out.held state.output (take part.0 (plain_report o state)) (ran.output left told)
-                (subst (λ (m : Machine). Appends mid.held out.held (take part.0 (report o.reports m None))) same part.1);
+            output = Appends-append d.output.held mid.held out.held state.output (take part.0 lines) (ran.output left told) part.1;
             error_front = 0;
             error = subst (λ (y : List ℕ). Appends d.error.held e.held y) (sym (append-nil (state.error ++ [])))
                 (subst (λ (y : List ℕ). Appends d.error.held e.held y) (sym (append-nil state.error)) (ran.error left told));
-            behind = inl (refl, subst (λ (m : Machine). report o.reports m None ≡ [] → ⊥) same due, up);
+            behind = inl (refl, (broke left told).1, up);
             input = ran.input left told;
             fault = refl;
           }));
       causes = out_causes d (run_to d i out e) refl refl (ap (λ (x : outside.Faults). x.input) quiet) (ap (λ (x : outside.Faults). x.error) quiet)
           (subst (λ (n : ℕ). n ≤ out.faults) still later) up;
     }
+
+-- the report of `plain`
+pub plain_told : (o : RunOptions) (p : ProgramData) (l : Layout) (first new : FlatData) (left : List ℕ) → first ≡ unfailed (machine_of p l o.reports.calls) →
+    new ≡ unfailed (state_at o.limits.steps first.machine left).machine → report o.reports new.machine None ≡ (plain_command o).told p (start_from (plain_command o) p l left)
+plain_told o p l first new left first_is is =
+    ap (λ (y : FlatData). report o.reports y.machine None) is ∙ ap (λ (s : FlatState). plain_report o s) (start_same (plain_command o) p l first o.limits.steps left first_is)

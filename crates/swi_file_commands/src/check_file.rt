@@ -1,7 +1,7 @@
 //! The command `check`.
 #![tactic(auto)]
 
-ghost use Rattle.std.specs.Prelude.{◌≡◌, ◌≤◌, ℕ, List, IfOk, IfErr, OnOk, Some, [], length};
+ghost use Rattle.std.specs.Prelude.{◌≡◌, ◌≤◌, ℕ, List, IfOk, IfErr, OnOk, Some, [], length, string_bytes};
 ghost use Rattle.swi_elf_read.specs.Loaded.{image_of as image_in};
 ghost use Rattle.swi_image.specs.Format.{image_of};
 ghost use Rattle.swi_task.specs.Answers.{Answers};
@@ -11,6 +11,7 @@ ghost use Rattle.swi_task.specs.Devices.{Devices};
 
 use std::alloc::Global;
 use swi_answer::{Ending, Refusal, image_line};
+use swi_command::CheckCommand;
 use swi_elf_read::image_bytes;
 use swi_image::ImageView;
 use swi_outside::{Shelf, Sink};
@@ -34,15 +35,15 @@ fn confirmed<'a>(alloc: Global, file: &'a [u8]) -> Result<ImageView<'a>, Refusal
 /// Checks that the image of a file is one of its text, and writes a line that says so.
 pub fn check<F: Shelf, O: Sink>(
     alloc: Global,
-    name: &str,
+    command: &CheckCommand,
     shelf: &mut F,
     out: &mut O,
 ) -> Result<Ending, Refusal>
-    ensures { (d : Devices) → Answers (check_task name.now)
+    ensures { (d : Devices) → Answers (check_task (string_bytes command.now.file))
         (record d { shelf = F.state shelf.old; output = O.state out.old })
         (record d { shelf = F.state shelf.new; output = O.state out.new }) result [] }
 {
-    let file = read_file(alloc, shelf, name)?;
+    let file = read_file(alloc, shelf, command.file.as_str())?;
     let view = confirmed(alloc, &file)?;
     match out.write(image_line(view.blocks(), view.block_words()).as_bytes()) {
         Ok(()) => Ok(Ending::Done),

@@ -1,7 +1,7 @@
 //! The command `list`.
 #![tactic(auto)]
 
-ghost use Rattle.std.specs.Prelude.{◌≡◌, ◌≤◌, IfOk, IfErr, OnOk, [], length};
+ghost use Rattle.std.specs.Prelude.{◌≡◌, ◌≤◌, IfOk, IfErr, OnOk, [], length, string_bytes};
 ghost use Rattle.std.specs.Io.KnownBytes.{Appends};
 ghost use Rattle.swi_outside.specs.Causes.{HasCause};
 ghost use Rattle.swi_outside.specs.Sink.{AppendsPrefix};
@@ -16,6 +16,7 @@ ghost use Rattle.swi_task.specs.Subject.{IsSubject};
 
 use std::alloc::Global;
 use swi_answer::{Ending, Refusal};
+use swi_command::ListCommand;
 use swi_image::ImageView;
 use swi_outside::{Shelf, Sink};
 use swi_program::Program;
@@ -59,17 +60,16 @@ fn listed<'a>(alloc: Global, file: &'a [u8], block_words: u32) -> Result<Subject
 /// Lists the blocks of the program of a file.
 pub fn list<F: Shelf, O: Sink>(
     alloc: Global,
-    name: &str,
-    block_words: u32,
+    command: &ListCommand,
     shelf: &mut F,
     out: &mut O,
 ) -> Result<Ending, Refusal>
-    requires size { IsBlockSize block_words }
-    ensures { (d : Devices) → Answers (list_task name.now block_words)
+    requires size { IsBlockSize command.now.block_words }
+    ensures { (d : Devices) → Answers (list_task (string_bytes command.now.file) command.now.block_words)
         (record d { shelf = F.state shelf.old; output = O.state out.old })
         (record d { shelf = F.state shelf.new; output = O.state out.new }) result [] }
 {
-    let file = read_file(alloc, shelf, name)?;
-    let subject = listed(alloc, &file, block_words)?;
+    let file = read_file(alloc, shelf, command.file.as_str())?;
+    let subject = listed(alloc, &file, command.block_words)?;
     list_blocks(&subject.program, &subject.image.view(), out)
 }

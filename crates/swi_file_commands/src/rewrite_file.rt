@@ -1,7 +1,7 @@
 //! The command `rewrite`.
 #![tactic(auto)]
 
-ghost use Rattle.std.specs.Prelude.{◌≡◌, ◌≤◌, IfOk, IfErr, OnOk, [], length};
+ghost use Rattle.std.specs.Prelude.{◌≡◌, ◌≤◌, IfOk, IfErr, OnOk, [], length, string_bytes};
 ghost use Rattle.swi_command.specs.CommandLine.{IsBlockSize};
 ghost use Rattle.swi_task.specs.Answers.{Answers};
 ghost use Rattle.swi_task.specs.Checks.{IsAccepted, IsRefusedOr, file_limit};
@@ -10,6 +10,7 @@ ghost use Rattle.swi_file_commands.specs.RewriteFile.{IsRewritten, cutting_of, r
 
 use std::alloc::Global;
 use swi_answer::{Ending, Refusal};
+use swi_command::RewriteCommand;
 use swi_cut::Cutting;
 use swi_outside::Shelf;
 use swi_task::{accept, cut_image_by, file_with, load, read_file, write_file};
@@ -49,19 +50,17 @@ fn rewritten(
 /// dropped, unread.
 pub fn rewrite<F: Shelf>(
     alloc: Global,
-    input: &str,
-    output: &str,
-    block_words: u32,
-    whole_loops: bool,
+    command: &RewriteCommand,
     shelf: &mut F,
 ) -> Result<Ending, Refusal>
-    requires size { IsBlockSize block_words }
-    ensures { (d : Devices) → Answers (rewrite_task input.now output.now block_words whole_loops)
+    requires size { IsBlockSize command.now.block_words }
+    ensures { (d : Devices) → Answers (rewrite_task (string_bytes command.now.input) (string_bytes command.now.output)
+        command.now.block_words command.now.whole_loops)
         (record d { shelf = F.state shelf.old })
         (record d { shelf = F.state shelf.new }) result [] }
 {
-    let file = read_file(alloc, shelf, input)?;
-    let bytes = rewritten(alloc, &file, block_words, whole_loops)?;
-    write_file(alloc, shelf, output, &bytes)?;
+    let file = read_file(alloc, shelf, command.input.as_str())?;
+    let bytes = rewritten(alloc, &file, command.block_words, command.whole_loops)?;
+    write_file(alloc, shelf, command.output.as_str(), &bytes)?;
     Ok(Ending::Done)
 }

@@ -1,25 +1,42 @@
 //! The command `plain`: a run on the flat machine.
 #![tactic(auto)]
 
-ghost use Rattle.std.specs.Prelude.{◌≤◌, IfOk, IfErr, OnOk, [], length};
+ghost use Rattle.std.specs.Prelude.{◌≡◌, [], string_bytes};
 ghost use Rattle.swi_outside.specs.Source.{HasGiven};
 ghost use Rattle.swi_outside.specs.Told.{AsTold};
 ghost use Rattle.swi_command.specs.CommandLine.{IsInRange};
 ghost use Rattle.swi_program.specs.Layout.{IsLayoutOf};
 ghost use Rattle.swi_task.specs.Answers.{Answers};
-ghost use Rattle.swi_task.specs.Checks.{IsAccepted, IsRefusedOr, file_limit};
 ghost use Rattle.swi_task.specs.Devices.{Devices};
-ghost use Rattle.swi_file_commands.specs.RunPlain.{RunsPlain, plain_checks, plain_task};
-ghost use Rattle.swi_task.specs.Subject.{IsPrepared};
+ghost use Rattle.swi_file_commands.specs.RunFlat.{RunsFlat};
+ghost use Rattle.swi_file_commands.specs.RunPlain.{plain_command, plain_task};
 
+use crate::flat_file::accepted;
 use std::alloc::Global;
 use swi_answer::{Ending, Refusal};
 use swi_calls::CallFault;
-use swi_command::RunOptions;
-use swi_elf_read::image_bytes;
+use swi_command::{PlainCommand, RunOptions};
 use swi_flat::Flat;
 use swi_outside::{Shelf, Sink, Source};
-use swi_task::{Prepared, accept, ending_by, own_image, prepare, read_file, write_report};
+use swi_report::FinalState;
+use swi_task::{Prepared, ending_by, read_file, write_report};
+
+/// How a machine stands.
+fn final_state(machine: &Flat) -> FinalState<'_>
+    ensures pc { result.pc ≡ machine.now.machine.pc }
+    ensures regs { result.regs.now ≡ machine.now.machine.regs }
+    ensures bus { result.bus.now ≡ machine.now.machine.bus }
+    ensures heap { result.heap ≡ machine.now.machine.heap }
+    ensures steps { result.steps ≡ machine.now.machine.steps }
+{
+    FinalState {
+        pc: machine.pc(),
+        regs: machine.regs(),
+        bus: machine.bus(),
+        heap: machine.heap(),
+        steps: machine.steps(),
+    }
+}
 
 /// Runs a program on the flat machine, and writes what is asked for of its end.
 fn run_plain<I: Source, O: Sink, E: Sink>(
@@ -33,8 +50,8 @@ fn run_plain<I: Source, O: Sink, E: Sink>(
     requires ranges { IsInRange options.now.limits }
     requires laid_out { IsLayoutOf prepared.now.program.segments prepared.now.layout }
     ensures gave { HasGiven (I.state input.old) (I.state input.new) }
-    ensures ran { (d : Devices) → AsTold (I.state input.old) (I.state input.new) (λ old new. RunsPlain
-        options.now prepared.now.program prepared.now.layout
+    ensures ran { (d : Devices) → AsTold (I.state input.old) (I.state input.new) (λ old new. RunsFlat
+        (plain_command options.now) prepared.now.program prepared.now.layout
         (record d { input = old; output = O.state out.old; error = E.state err.old })
         (record d { input = new; output = O.state out.new; error = E.state err.new }) result) }
 {
@@ -51,52 +68,30 @@ fn run_plain<I: Source, O: Sink, E: Sink>(
         Err(CallFault::SourceFault) => return Err(Refusal::SourceFault),
         Err(CallFault::SinkFault) => return Err(Refusal::SinkFault),
     }
-    let (pc, steps) = (machine.pc(), machine.steps());
-    let (regs, bus, heap) = (machine.regs(), machine.bus(), machine.heap());
-    match write_report(&options.reports, pc, regs, bus, &heap, steps, None, out) {
-        Ok(()) => Ok(ending_by(machine.ending(), pc, steps)),
+    match write_report(&options.reports, &final_state(&machine), None, out) {
+        Ok(()) => Ok(ending_by(machine.ending(), machine.pc(), machine.steps())),
         Err(_) => Err(Refusal::SinkFault),
     }
-}
-
-/// The program of a file with its layout: the file passes every check of a run on the flat machine.
-fn accepted<'a>(
-    alloc: Global,
-    file: &'a [u8],
-    options: &RunOptions,
-) -> Result<Prepared<'a>, Refusal>
-    requires within { length file.now ≤ file_limit }
-    requires ranges { IsInRange options.now.limits }
-    ensures prepared { IfOk result (IsPrepared file.now options.now.limits) }
-    ensures accepted { OnOk result (IsAccepted (plain_checks options.now.limits file.now)) }
-    ensures refused { IfErr result (IsRefusedOr (plain_checks options.now.limits file.now)) }
-{
-    let elf = accept(file)?;
-    let prepared = prepare(alloc, &elf, &options.limits)?;
-    let Some(bytes) = image_bytes(&elf) else {
-        return Ok(prepared);
-    };
-    own_image(&prepared.program, bytes)?;
-    Ok(prepared)
 }
 
 /// Runs the program of a file on the flat machine.
 pub fn plain<F: Shelf, I: Source, O: Sink, E: Sink>(
     alloc: Global,
-    name: &str,
-    options: &RunOptions,
+    command: &PlainCommand,
     shelf: &mut F,
     input: &mut I,
     out: &mut O,
     err: &mut E,
 ) -> Result<Ending, Refusal>
-    requires ranges { IsInRange options.now.limits }
+    requires ranges { IsInRange command.now.options.limits }
     ensures gave { HasGiven (I.state input.old) (I.state input.new) }
-    ensures answers { (d : Devices) → AsTold (I.state input.old) (I.state input.new) (λ old new. Answers (plain_task name.now options.now)
+    ensures answers { (d : Devices) → AsTold (I.state input.old) (I.state input.new) (λ old new. Answers
+        (plain_task (string_bytes command.now.file) command.now.options)
         (record d { shelf = F.state shelf.old; input = old; output = O.state out.old; error = E.state err.old })
         (record d { shelf = F.state shelf.new; input = new; output = O.state out.new; error = E.state err.new }) result []) }
 {
-    let file = read_file(alloc, shelf, name)?;
-    let prepared = accepted(alloc, &file, options)?;
+    let options = &command.options;
+    let file = read_file(alloc, shelf, command.file.as_str())?;
+    let prepared = accepted(alloc, &file, &options.limits)?;
     run_plain(alloc, &prepared, options, input, out, err)
 }

@@ -1,7 +1,7 @@
 //! The command `upgrade`.
 #![tactic(auto)]
 
-ghost use Rattle.std.specs.Prelude.{◌≤◌, IfOk, IfErr, OnOk, [], length};
+ghost use Rattle.std.specs.Prelude.{◌≤◌, IfOk, IfErr, OnOk, [], length, string_bytes};
 ghost use Rattle.swi_task.specs.Answers.{Answers};
 ghost use Rattle.swi_task.specs.Checks.{IsAccepted, IsRefusedOr, file_limit, image_checks};
 ghost use Rattle.swi_task.specs.Devices.{Devices};
@@ -9,6 +9,7 @@ ghost use Rattle.swi_file_commands.specs.UpgradeFile.{IsUpgraded, upgrade_task};
 
 use std::alloc::Global;
 use swi_answer::{Ending, Refusal};
+use swi_command::UpgradeCommand;
 use swi_cut::upgrade as upgrade_image;
 use swi_elf_read::image_bytes;
 use swi_outside::Shelf;
@@ -36,16 +37,15 @@ fn upgraded(alloc: Global, file: &[u8]) -> Result<Vec<u8>, Refusal>
 /// Puts the program of a file under another name, with the file's image in version 2.
 pub fn upgrade<F: Shelf>(
     alloc: Global,
-    input: &str,
-    output: &str,
+    command: &UpgradeCommand,
     shelf: &mut F,
 ) -> Result<Ending, Refusal>
-    ensures { (d : Devices) → Answers (upgrade_task input.now output.now)
+    ensures { (d : Devices) → Answers (upgrade_task (string_bytes command.now.input) (string_bytes command.now.output))
         (record d { shelf = F.state shelf.old })
         (record d { shelf = F.state shelf.new }) result [] }
 {
-    let file = read_file(alloc, shelf, input)?;
+    let file = read_file(alloc, shelf, command.input.as_str())?;
     let bytes = upgraded(alloc, &file)?;
-    write_file(alloc, shelf, output, &bytes)?;
+    write_file(alloc, shelf, command.output.as_str(), &bytes)?;
     Ok(Ending::Done)
 }

@@ -14,7 +14,7 @@ use swi_image::ImageRefusal;
 static REFUSALS: [(Refusal, &str, u8); 23] = [
     (
         Refusal::Usage,
-        "usage: swic rewrite, cached, plain, trace, list, check, measure, upgrade, share, prefetch, survey\n",
+        "usage: swic rewrite, cached, plain, trace, list, check, measure, upgrade, share, prefetch, survey, profile\n",
         250,
     ),
     (

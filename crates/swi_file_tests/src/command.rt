@@ -2,7 +2,7 @@ use self::Said::*;
 use std::alloc::Global;
 use std::test::Fail;
 use swi_command::CacheKind::{self, Ring, Slots};
-use swi_command::{CacheOptions, Command, CommandError, Reports, RunOptions, parse_command};
+use swi_command::{CacheOptions, Command, CommandError, Reports, RunLimits, parse_command};
 use swi_line::Trace;
 
 /// A cache's bytes, the most words of its blocks, and its kind.
@@ -30,6 +30,7 @@ enum Said<'a> {
     Prefetch(&'a str, Cache, u32, Limits, Reports),
     /// The caches' bytes, the most words of their blocks, and their kind.
     Survey(&'a str, &'a [u32], u32, CacheKind, Limits),
+    Profile(&'a str, Limits),
 }
 
 const USAGE: Said<'static> = Refused(CommandError::Usage);
@@ -89,8 +90,8 @@ fn words_of(alloc: Global, line: &str) -> Result<Vec<String>, Fail> {
 /// The names of shared files in brackets, and of other commands none.
 fn names_of(alloc: Global, read: &Result<Command, CommandError>) -> Result<String, Fail> {
     let mut names = String::new(alloc);
-    if let Ok(Command::Share { files, .. }) = read {
-        for file in files {
+    if let Ok(Command::Share(command)) = read {
+        for file in command.files.as_slice() {
             names.push_str("[")?;
             names.push_str(file.as_str())?;
             names.push_str("]")?;
@@ -103,80 +104,62 @@ fn cache_of(cache: &CacheOptions) -> Cache {
     (cache.cache_bytes, cache.block_words, cache.kind)
 }
 
-fn limits_of(options: &RunOptions) -> Limits {
-    (
-        options.limits.steps,
-        options.limits.heap,
-        options.limits.stack,
-    )
+fn limits_of(limits: &RunLimits) -> Limits {
+    (limits.steps, limits.heap, limits.stack)
 }
 
 fn said_by<'a>(command: &'a Command, names: &'a str) -> Said<'a> {
     match command {
-        Command::Rewrite {
-            input,
-            output,
-            block_words,
-            whole_loops,
-        } => Rewrite(input.as_str(), output.as_str(), *block_words, *whole_loops),
-        Command::Cached {
-            file,
-            cache,
-            options,
-        } => Cached(
-            file.as_str(),
-            cache_of(cache),
-            limits_of(options),
-            options.reports,
-        ),
-        Command::Plain { file, options } => {
-            Plain(file.as_str(), limits_of(options), options.reports)
+        Command::Rewrite(c) => {
+            Rewrite(
+                c.input.as_str(),
+                c.output.as_str(),
+                c.block_words,
+                c.whole_loops,
+            )
         }
-        Command::Listing { file, block_words } => Listing(file.as_str(), *block_words),
-        Command::Check { file } => Check(file.as_str()),
-        Command::Upgrade { input, output } => Upgrade(input.as_str(), output.as_str()),
-        Command::Measure {
-            seed,
-            functions,
-            cache,
-        } => Measure(*seed, *functions, cache_of(cache)),
-        Command::Share { cache, options, .. } => Share(
+        Command::Cached(c) => Cached(
+            c.file.as_str(),
+            cache_of(&c.cache),
+            limits_of(&c.options.limits),
+            c.options.reports,
+        ),
+        Command::Plain(c) => Plain(
+            c.file.as_str(),
+            limits_of(&c.options.limits),
+            c.options.reports,
+        ),
+        Command::List(c) => Listing(c.file.as_str(), c.block_words),
+        Command::Check(c) => Check(c.file.as_str()),
+        Command::Upgrade(c) => Upgrade(c.input.as_str(), c.output.as_str()),
+        Command::Measure(c) => Measure(c.seed, c.functions, cache_of(&c.cache)),
+        Command::Share(c) => Share(
             names,
-            cache_of(cache),
-            (options.schedule.events, options.schedule.seed),
-            (options.heap, options.stack),
-            options.stats,
+            cache_of(&c.cache),
+            (c.options.schedule.events, c.options.schedule.seed),
+            (c.options.heap, c.options.stack),
+            c.options.stats,
         ),
-        Command::Prefetch {
-            file,
-            cache,
-            options,
-            rate,
-        } => Prefetch(
-            file.as_str(),
-            cache_of(cache),
-            *rate,
-            limits_of(options),
-            options.reports,
+        Command::Prefetch(c) => Prefetch(
+            c.file.as_str(),
+            cache_of(&c.cache),
+            c.rate,
+            limits_of(&c.options.limits),
+            c.options.reports,
         ),
-        Command::Survey {
-            file,
-            sizes,
-            block_words,
-            kind,
-            limits,
-        } => Survey(
-            file.as_str(),
-            sizes.as_slice(),
-            *block_words,
-            *kind,
-            (limits.steps, limits.heap, limits.stack),
+        Command::Profile(c) => Profile(c.file.as_str(), limits_of(&c.limits)),
+        Command::Survey(c) => Survey(
+            c.file.as_str(),
+            c.sizes.as_slice(),
+            c.block_words,
+            c.kind,
+            limits_of(&c.limits),
         ),
     }
 }
 
 /// Lines of words, and how each is read.
-static LINES: [(&str, Said<'static>); 183] = [
+static LINES: [(&str, Said<'static>); 188] = [
     // One to 64 sizes, as `--cache` takes them.
     (
         "survey A 256",
@@ -196,6 +179,14 @@ static LINES: [(&str, Said<'static>); 183] = [
     ("survey A 7", USAGE),
     ("survey A 256 4294967296", USAGE),
     ("survey A 256 --stats", USAGE),
+    ("profile A", Profile("A", (1000000000, 1048576, 65536))),
+    (
+        "profile --steps 0 A --heap=8 --stack 4096",
+        Profile("A", (0, 8, 4096)),
+    ),
+    ("profile", USAGE),
+    ("profile A B", USAGE),
+    ("profile A --stats", USAGE),
     // Options stand before and after the file, in both forms.
     (
         "cached --steps 4 A --state",

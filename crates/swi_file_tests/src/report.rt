@@ -10,8 +10,8 @@ use swi_exec::Regs;
 use swi_isa::Reg;
 use swi_memory::{Bus, Layout, Segment};
 use swi_report::{
-    EngineWork, Measured, SharedWork, Work, engine_text, shared_text, state_text, stats_text,
-    summary_text,
+    EngineWork, FinalState, Measured, SharedWork, Work, engine_text, shared_text, state_text,
+    stats_text, summary_text,
 };
 use swi_rom::Counts;
 
@@ -90,7 +90,14 @@ fn sink(alloc: Global, failing: u32) -> Result<MemSink, Fail> {
 /// The state's text over this memory, on a sink of which one call fails: whether it was written, and the sink.
 fn state(alloc: Global, bus: &Bus, failing: u32) -> Result<(bool, MemSink), Fail> {
     let mut out = sink(alloc, failing)?;
-    let is_ok = state_text(0x10008, &regs(), bus, &HEAP, &mut out).is_ok();
+    let state = FinalState {
+        pc: 0x10008,
+        regs: &regs(),
+        bus,
+        heap: HEAP,
+        steps: 0,
+    };
+    let is_ok = state_text(&state, &mut out).is_ok();
     Ok((is_ok, out))
 }
 

@@ -1,5 +1,5 @@
 -- The step of a system call.
-use Rattle.std.proofs.Common.{◌≡◌, refl, ℕ, Bool, true, false, if◌then◌else◌, List, ◌%◌, ◌/◌, ◌*◌, ◌==◌}
+use Rattle.std.proofs.Common.{◌≡◌, refl, sym, subst, ℕ, Bool, true, false, if◌then◌else◌, List, ◌%◌, ◌/◌, ◌*◌, ◌==◌, Result}
 use Rattle.swi_isa.specs.declared.instr.AtomicOp.{AtomicOp}
 use Rattle.swi_isa.specs.declared.instr.AtomicOp.TheVariants.{LrW, ScW}
 use Rattle.swi_isa.specs.declared.instr.Instr.{Instr}
@@ -10,6 +10,11 @@ use Rattle.swi_exec.specs.Arithmetic.{sum_of}
 use Rattle.swi_exec.specs.Registers.{Registers, reg, with_reg}
 use Rattle.swi_exec.specs.Execute.{Effect, executed, is_taken, lets_reserve, lets_store_word, lets_update, is_reserved, load_size, store_size, address_of, updates, jumps}
 use Rattle.swi_exec.specs.declared.done.Done.TheVariants as done
+use Rattle.swi_outside.specs.Devices.{Devices}
+use Rattle.swi_calls.specs.declared.end.CallFault.{CallFault}
+use Rattle.swi_hart.specs.declared.hart.Stage.{Stage}
+use Rattle.swi_hart.specs.Hart.{HartData, Stepped, call_stepped}
+use Rattle.swi_hart.specs.Calling.{WordExecuted}
 
 if_no_call : (t : Bool) (a b : Effect) → (a.done ≡ done.Call → ⊥) → (b.done ≡ done.Call → ⊥) → (if t then a else b).done ≡ done.Call → ⊥
 if_no_call true a b x y = x
@@ -36,3 +41,11 @@ call_is (instr.Store op rs1 rs2 imm) p regs bus e = absurd (if_no_call (holds bu
 call_is (instr.Atomic op rd rs1 rs2) p regs bus e = absurd (atomic_no_call op rd rs1 rs2 p regs bus e)
 call_is instr.Ecall p regs bus e = refl
 call_is x p regs bus e = cc
+
+-- a word that makes a call leaves what the call does
+pub call_is_word : {T : Type 0} (word : List ℕ → Stepped) (i b o : ℕ) (stage : Stage) (h first h' : HartData) (before after : Devices) (result : Result T CallFault) → first ≡ h →
+    ((input : List ℕ) → word input ≡ call_stepped i b o stage h.machine input) → WordExecuted (λ left. call_stepped i b o stage first.machine left) first h' before after result →
+    WordExecuted word h h' before after result
+call_is_word {T} word i b o stage h first h' before after result is same done =
+    subst (λ (f : List ℕ → Stepped). WordExecuted {T = T} f h h' before after result) (λ j left. sym (same left) j)
+    (subst (λ (q : HartData). WordExecuted {T = T} (λ left. call_stepped i b o stage q.machine left) q h' before after result) is done)

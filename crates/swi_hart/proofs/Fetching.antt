@@ -64,7 +64,7 @@ module _ (v : ImageData) (r : Record) (m : Machine) (span : ℕ) (words : List �
       elim (cases_Bool (is_linked r b o)) [
         | inl linked ↦
             let l = coherent.linked b home.first o home.is_placed linked in
-            (instr.Jal 0 (jump_offset (home.first + o) l.0), ap (λ n. decoded (slice_index words n)) home.index ∙ l.2, refl)
+            (instr.Jal 0 (jump_offset (home.first + o) l.0), ap (λ n. decoded (slice_index words n)) home.index ∙ l.2.decodes, refl)
         | inr plain ↦
             (instr.Ebreak, ap (λ n. decoded (slice_index words n)) home.index ∙ ap decoded (coherent.plain b home.first o home.is_placed (omega (arith, e.inside)) plain ∙ e.is_exit) ∙ ebreak_decodes, refl)
       ]

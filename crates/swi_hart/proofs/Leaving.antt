@@ -88,7 +88,7 @@ exit_unlinked v r span words w i b o coherent at is =
     elim (cases_Bool (is_linked r b o)) [
       | inl linked ↦
           let l = coherent.linked b at.first o at.is_placed linked in
-          let jal : decoded (slice_index words (at.first + o)) ≡ Some (instr.Jal 0 (jump_offset (at.first + o) l.0)) = l.2 in
+          let jal : decoded (slice_index words (at.first + o)) ≡ Some (instr.Jal 0 (jump_offset (at.first + o) l.0)) = l.2.decodes in
           let got : slice_index words (at.first + o) ≡ ebreak = ap (λ n. slice_index words n) (sym at.index) ∙ sym at.fetched ∙ is in
           let two : Some (instr.Jal 0 (jump_offset (at.first + o) l.0)) ≡ Some instr.Ebreak = sym jal ∙ ap decoded got ∙ ebreak_decodes in
           absurd (cc)

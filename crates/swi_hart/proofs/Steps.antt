@@ -147,8 +147,8 @@ ram_unserved v m c span i b o stage first before after control below fetched fai
   kept = kept_after span i first before after below fetched failed.kept;
 }
   where
-    fetched_at : before.fetched_at ≡ fetch_under c first.sets ++ first.fetched_at
-    fetched_at = ap (λ (k : RamState). k.fetched_at) fetched ∙ sym (ap (λ (k : Control). fetch_under k first.sets ++ first.fetched_at) control)
+    fetched_at : before.fetched_at ≡ fetch_under c first.sets first.words ++ first.fetched_at
+    fetched_at = ap (λ (k : RamState). k.fetched_at) fetched ∙ sym (ap (λ (k : Control). fetch_under k first.sets first.words ++ first.fetched_at) control)
 
 -- how many words such a ram has fetched
 pub ram_fetches : {v : ImageData} {m : Machine} {c : Control} {span : ℕ} {before after : RamState} → RamBroken v m c span before after →

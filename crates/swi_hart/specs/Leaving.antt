@@ -181,15 +181,15 @@ abbrev pub fetches_after : Control → ℕ → ℕ
 fetches_after (At i b o stage) n = counted n
 fetches_after Outside n = n
 
--- the fetch of the word under control, behind so many sets
-abbrev pub fetch_under : Control → ℕ → List Fetch
-fetch_under (At i b o stage) sets = fetch i sets ∷ []
-fetch_under Outside sets = []
+-- the fetch of the word under control, behind so many sets, out of these words
+abbrev pub fetch_under : Control → ℕ → List ℕ → List Fetch
+fetch_under (At i b o stage) sets words = fetch i sets (slice_index words i) ∷ []
+fetch_under Outside sets words = []
 
 pub record RamStepped (span more : ℕ) (c : Control) (before after : RamState) : Type 0 where
   pub quiet : after.faults ≡ before.faults
   pub fetches : after.fetches ≡ fetches_after c before.fetches
-  pub fetched_at : after.fetched_at ≡ fetch_under c before.sets ++ before.fetched_at
+  pub fetched_at : after.fetched_at ≡ fetch_under c before.sets before.words ++ before.fetched_at
   pub sets : after.sets ≡ risen before.sets more
   pub kept : KeepsBeyond span before after
 
@@ -207,5 +207,5 @@ pub record RamBroken (v : ImageData) (m : Machine) (c : Control) (span : ℕ) (b
   -- no call of it comes behind the one that failed
   pub last_failed : after.last_failed ≡ true
   pub asked : (after ≡ record before { faults = after.faults; reach = after.reach; last_failed = true })
-      ⊎ (((after.fetches ≡ counted before.fetches) × (after.fetched_at ≡ fetch_under c before.sets ++ before.fetched_at)) × HasPlace v (transfer_at v m c))
+      ⊎ (((after.fetches ≡ counted before.fetches) × (after.fetched_at ≡ fetch_under c before.sets before.words ++ before.fetched_at)) × HasPlace v (transfer_at v m c))
   pub kept : KeepsBeyond span before after

@@ -4,7 +4,7 @@
 ghost use Rattle.std.specs.Prelude.{◌≡◌, ◌+◌, ◌^◌, ◌%◌, ◌<◌, ℕ, List, IfOk, Some, None};
 ghost use Rattle.swi_image.specs.Format.{ImageData};
 ghost use Rattle.swi_image.specs.Place.{word_at};
-ghost use Rattle.swi_rom.specs.Record.{direct, indirect, IsJump};
+ghost use Rattle.swi_rom.specs.Record.{direct, indirect, jump_offset};
 ghost use Rattle.swi_rom.specs.Coherent.{TargetAt};
 ghost use Rattle.swi_hart.specs.Matching.{Arrives};
 ghost use Rattle.swi_hart.specs.Leaving.{LeaveAt, fell, is_back, offset_of};
@@ -65,7 +65,7 @@ pub(crate) fn fell(stage: Stage, pc: u32, target: u32, back: bool) -> bool
 /// The index of the word to which the JAL at word `i` of the ram goes, by its offset in bytes.
 #[inline(always)]
 fn jump_index(off: u32, i: u32) -> u32
-    ensures { (j w : ℕ) → IsJump i j w → off ≡ offset_of (decoded w) → j < 2 ^ 30 → i < 2 ^ 30 → result ≡ j }
+    ensures { (j : ℕ) → off ≡ jump_offset i j → j < 2 ^ 30 → i < 2 ^ 30 → result ≡ j }
 {
     i.wrapping_mul(4).wrapping_add(off) / 4
 }

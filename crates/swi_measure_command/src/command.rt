@@ -27,7 +27,7 @@ use swi_board::{Board, BoardFault};
 use swi_cached::{AskedRun, CachedStop, ring_for, run_cached, slots_for};
 use swi_cached_task::board_work;
 use swi_calls::End;
-use swi_command::{CacheKind, CacheOptions};
+use swi_command::{CacheKind, MeasureCommand};
 use swi_image::ImageView;
 use swi_line::Trace;
 use swi_make::{BASE, make};
@@ -200,20 +200,19 @@ fn measure_over<O: Sink, R: SteadyRam, S: CacheRom>(
 /// the summary where it exits.
 pub fn measure<O: Sink, R: SteadyRam>(
     alloc: Global,
-    seed: u32,
-    functions: u32,
-    cache: &CacheOptions,
+    command: &MeasureCommand,
     out: &mut O,
     ram: &mut R,
 ) -> Result<Ending, Refusal>
-    requires count { IsFunctionCount functions }
-    requires sizes { IsCacheInRange cache.now }
-    ensures { (d : Devices) → Answers (measure_task seed functions cache.now)
+    requires count { IsFunctionCount command.now.functions }
+    requires sizes { IsCacheInRange command.now.cache }
+    ensures { (d : Devices) → Answers (measure_task command.now.seed command.now.functions command.now.cache)
         (record d { output = O.state out.old; ram = R.state ram.old })
         (record d { output = O.state out.new; ram = R.state ram.new }) result [] }
 {
+    let (functions, cache) = (command.functions, &command.cache);
     check_size(cache.cache_bytes, ram)?;
-    let text = made_text(alloc, seed, functions)?;
+    let text = made_text(alloc, command.seed, functions)?;
     let prepared = prepare_text(alloc, &text)?;
     let image = cut_image(alloc, &prepared.program, cache.block_words)?;
     check_block(cache.cache_bytes, cache.block_words)?;

@@ -2,13 +2,14 @@
 use Rattle.std.specs.Prelude.{◌≡◌, ◌⊎◌, ℕ, ◌+◌, ◌<◌, ◌≤◌, max, Bool, true, false, List, [], ◌∷◌, length, slice_index, slice_set, Result, Ok, Err}
 use Rattle.swi_outside.specs.Causes.{Rose, counted, risen}
 
--- a fetch that answered `Ok`: of which word, and how many sets had answered `Ok` before it
+-- a fetch that answered `Ok`: at which index, how many sets had answered `Ok` before it, and the word that it answered
 pub record Fetch : Type 0 where
   pub index : ℕ
   pub sets_before : ℕ
+  pub word : ℕ
 
-abbrev pub fetch : ℕ → ℕ → Fetch
-fetch i sets = record { index = i; sets_before = sets }
+abbrev pub fetch : ℕ → ℕ → ℕ → Fetch
+fetch i sets w = record { index = i; sets_before = sets; word = w }
 
 pub record RamState : Type 0 where
   -- the words, from index 0
@@ -27,7 +28,7 @@ pub record RamState : Type 0 where
 
 -- after a fetch of word i, and a set of it to w, that answered `Ok`
 abbrev pub with_fetch : RamState → ℕ → RamState
-with_fetch s i = record s { fetches = counted s.fetches; reach = max s.reach (i + 1); fetched_at = fetch i s.sets ∷ s.fetched_at; last_failed = false }
+with_fetch s i = record s { fetches = counted s.fetches; reach = max s.reach (i + 1); fetched_at = fetch i s.sets (slice_index s.words i) ∷ s.fetched_at; last_failed = false }
 
 abbrev pub with_set : RamState → ℕ → ℕ → RamState
 with_set s i w = record s { words = slice_set s.words i w; sets = counted s.sets; reach = max s.reach (i + 1); last_failed = false }
@@ -48,12 +49,12 @@ WordSet old i w (Err e) new = Rose old.faults new.faults × (old.faults ≤ new.
 -- fetches of a run in the count of a ram that had made so many sets before it
 abbrev pub since : ℕ → List Fetch → List Fetch
 since n [] = []
-since n (f ∷ fs) = fetch f.index (risen n f.sets_before) ∷ since n fs
+since n (f ∷ fs) = fetch f.index (risen n f.sets_before) f.word ∷ since n fs
 
 -- and in that of a run that had
 abbrev pub later : ℕ → List Fetch → List Fetch
 later n [] = []
-later n (f ∷ fs) = fetch f.index (n + f.sets_before) ∷ later n fs
+later n (f ∷ fs) = fetch f.index (n + f.sets_before) f.word ∷ later n fs
 
 -- n sets from an index on leave every other word, what was fetched, and the number of words
 pub record LeavesBeside (first n : ℕ) (before after : RamState) : Type 0 where

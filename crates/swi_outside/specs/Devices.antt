@@ -1,6 +1,6 @@
 -- The devices of a run but for the ram, and the one rule of their faults.
-use Rattle.std.specs.Prelude.{ℕ}
-use Rattle.swi_outside.specs.Causes.{DeviceCause, PairCause}
+use Rattle.std.specs.Prelude.{◌≡◌, ℕ}
+use Rattle.swi_outside.specs.Causes.{DeviceCause, PairCause, counted}
 use Rattle.swi_outside.specs.Source.{SourceState}
 use Rattle.swi_outside.specs.Sink.{SinkState}
 
@@ -23,7 +23,8 @@ abbrev pub faults_of : Devices → Faults
 faults_of d = record { input = d.input.faults; output = d.output.faults; error = d.error.faults }
 
 -- A call over the devices, by what its answer names: no count falls, the answer names the input, or the sinks, only where a count of theirs
--- rose, and it names each count that rose.
+-- rose, and it names each count that rose. An input that failed was asked once: it wasn't asked again.
 pub record HasCauses (before after : Faults) (source sink : Type 0) : Type 0 where
   pub input : DeviceCause before.input after.input source
   pub sinks : PairCause before.output after.output before.error after.error sink
+  pub once : source → after.input ≡ counted before.input

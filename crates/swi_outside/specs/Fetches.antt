@@ -6,7 +6,7 @@ use Rattle.swi_outside.specs.Causes.{risen}
 
 pub since_append : (n : ℕ) (xs ys : List Fetch) → since n (xs ++ ys) ≡ since n xs ++ since n ys
 since_append n [] ys = refl
-since_append n (x ∷ xs) ys = ap (λ (l : List Fetch). fetch x.index (risen n x.sets_before) ∷ l) (since_append n xs ys)
+since_append n (x ∷ xs) ys = ap (λ (l : List Fetch). fetch x.index (risen n x.sets_before) x.word ∷ l) (since_append n xs ys)
 
 pub since_reverse : (n : ℕ) (xs : List Fetch) → since n (reverse xs) ≡ reverse (since n xs)
 since_reverse n [] = refl
@@ -22,7 +22,7 @@ since_length n (x ∷ xs) = ap suc (since_length n xs)
 
 pub later_append : (n : ℕ) (xs ys : List Fetch) → later n (xs ++ ys) ≡ later n xs ++ later n ys
 later_append n [] ys = refl
-later_append n (x ∷ xs) ys = ap (λ (l : List Fetch). fetch x.index (n + x.sets_before) ∷ l) (later_append n xs ys)
+later_append n (x ∷ xs) ys = ap (λ (l : List Fetch). fetch x.index (n + x.sets_before) x.word ∷ l) (later_append n xs ys)
 
 pub later_length : (n : ℕ) (xs : List Fetch) → length (later n xs) ≡ length xs
 later_length n [] = refl
@@ -32,8 +32,8 @@ later_length n (x ∷ xs) = ap suc (later_length n xs)
 pub since_later : (n m : ℕ) (xs : List Fetch) → since n (later m xs) ≡ since (risen n m) xs
 since_later n m [] = refl
 since_later n m (x ∷ xs) =
-    ap (λ (k : ℕ). fetch x.index k ∷ since n (later m xs)) (risen_more n m x.sets_before)
-    ∙ ap (λ (l : List Fetch). fetch x.index (risen (risen n m) x.sets_before) ∷ l) (since_later n m xs)
+    ap (λ (k : ℕ). fetch x.index k x.word ∷ since n (later m xs)) (risen_more n m x.sets_before)
+    ∙ ap (λ (l : List Fetch). fetch x.index (risen (risen n m) x.sets_before) x.word ∷ l) (since_later n m xs)
   where
     risen_more : (n m k : ℕ) → risen n (m + k) ≡ risen (risen n m) k
     risen_more n m k = grind arith

@@ -46,6 +46,7 @@ named_as h to from on back = record {
     one_told = told_as h.sinks.one_told on;
     other_told = told_as h.sinks.other_told on;
   };
+  once = λ n. h.once (from n);
 }
 
 -- where no count rose and the answer names none
@@ -60,6 +61,7 @@ none_named {before} {after} {source} {sink} same no_source no_sink =
         one_told = inl refl;
         other_told = inl refl;
       };
+      once = λ n. absurd (no_source n);
     })
 
 ok_is_none : {T E : Type 0} (v : T) (e : E) → IsErrOf (Ok v) e → ⊥

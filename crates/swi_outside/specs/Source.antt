@@ -1,7 +1,7 @@
 -- A source: the bytes that it gave, those that are left, and its count of faults.
-use Rattle.std.specs.Prelude.{◌≡◌, ℕ, List, [], ◌++◌, take, Option, Some, None, ⊤, Result, IfOk, MatchResult}
+use Rattle.std.specs.Prelude.{◌≡◌, ℕ, List, [], ◌++◌, take, Option, Some, None, ⊤, Result, IfOk, OnErr, MatchResult}
 use Rattle.std.specs.Io.KnownBytes.{Consumes}
-use Rattle.swi_outside.specs.Causes.{HasCause}
+use Rattle.swi_outside.specs.Causes.{HasCause, counted}
 
 pub record SourceState : Type 0 where
   -- the bytes that it gave, from the first on
@@ -21,11 +21,12 @@ abbrev pub HasGiven : SourceState → SourceState → Type 0
 HasGiven old new = (bytes : List ℕ) × Gave old new bytes
 
 -- A read, by its answer: it gives the bytes that it puts into the buffer, none only at the end, behind which none comes; and a failure gives
--- none. The count of faults never falls, and rises with a failure alone, unless it stands at 2^64 - 1 or above.
+-- none. The count of faults never falls, and rises with a failure alone and by one, unless it stands at 2^64 - 1 or above.
 pub record WasRead {E : Type 0} (old new : SourceState) (result : Result ℕ E) (buffer : List ℕ) : Type 0 where
   pub bytes : MatchResult result (λ n. Gave old new (take n buffer)) (λ _. Gave old new [])
   pub ended : IfOk result (λ n. n ≡ 0 → new.left ≡ Some [])
   pub cause : HasCause old.faults new.faults result
+  pub once : OnErr result (new.faults ≡ counted old.faults)
 
 -- this may be all that is left
 abbrev pub MayBeLeft : Option (List ℕ) → List ℕ → Type 0

@@ -5,7 +5,7 @@ use Rattle.std.proofs.lemmas.Bool.{cases_lt, eq-eqb, false≢true}
 use Rattle.std.proofs.lemmas.List.{map-append}
 use Rattle.std.proofs.lemmas.Nat.{same_from_place}
 use Rattle.std.proofs.Math.Nat.{mul-div_cancel}
-use Rattle.swi_outside.specs.CacheRam.{Fetch, fetch}
+use Rattle.swi_outside.specs.CacheRam.{Fetch}
 use Rattle.swi_calls.specs.declared.end.End.{End}
 use Rattle.swi_calls.specs.declared.machine.Machine.{Machine}
 use Rattle.swi_calls.specs.Held.{held_step}
@@ -16,8 +16,7 @@ use Rattle.swi_rom.specs.Record.{Has, Link, Placed, Placement, Record, Transfer,
 use Rattle.swi_rom.specs.Service.{Setting}
 use Rattle.swi_hart.specs.Hart.{original, slots}
 use Rattle.swi_hart.specs.MachineStep.{BoardWithRam}
-use Rattle.swi_board.specs.Fetching.{index_in}
-use Rattle.swi_board.specs.Moments.{Moment, completed, counted, event as instruction, executed, fell, led, stepped_at}
+use Rattle.swi_board.specs.Moments.{Moment, completed, counted, event as instruction, executed, fell, led, next_fetch, stepped_at}
 use Rattle.swi_board.specs.Transfers.{Here, after_all, at_fall, before_last, step_transfers}
 use Rattle.swi_engine.specs.declared.copying.Copying.{Copying}
 use Rattle.swi_engine.specs.Engine.{Event, ahead, arrived, beside, brought, copy_of, dropped, empty_beside, engine_copies, engine_words, event, event_by, first_word, free_slot, into, into_free, into_oldest, is_taken, lowest, made_way, missed, newest_first, newest_into, numbers, oldest_but, others, undone, with_block, wrote_next}
@@ -260,7 +259,7 @@ hart_seated : (by : Setting) (v : ImageData) (s : Moment) → Seated by.slot_wor
 hart_seated by v s is = by_ending s.flat.machine.ending
   where
     word : ℕ × ℕ → List Fetch
-    word p = fetch (index_in s.kept p + s.spent) s.sets ∷ []
+    word p = next_fetch v p s ∷ []
 
     whole : (h : Here) (ws : List Fetch) → Seated by.slot_words (counted ws (completed (beside by) v h s)).kept
     whole h ws = all_seated by v (step_transfers s.flat.machine h (held_step s.flat).machine) s.kept is

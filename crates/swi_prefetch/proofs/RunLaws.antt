@@ -2,7 +2,7 @@
 use Rattle.std.proofs.Common.{◌≡◌, ℕ, zero, suc, ◌+◌, ◌-◌, ◌<◌, ◌≤◌, not, ◌&&◌, nat_lt, if◌then◌else◌, Bool, true, false, List, [], ◌∷◌, replicate, Option, Some, None, is_some, Err, refl, sym, ap, subst, ◌∙◌, inl, inr, arith}
 use Rattle.std.proofs.lemmas.Bool.{cases_Bool, false≢true, ltb-true}
 use Rattle.std.proofs.lemmas.Bool.Decides.{nat_tests}
-use Rattle.swi_outside.specs.CacheRam.{Fetch, RamState, fetch}
+use Rattle.swi_outside.specs.CacheRam.{Fetch, RamState}
 use Rattle.swi_outside.specs.Devices.{Devices, faults_of}
 use Rattle.swi_calls.specs.declared.end.End.{End}
 use Rattle.swi_calls.specs.declared.machine.Machine.{Machine}
@@ -18,8 +18,7 @@ use Rattle.swi_rom.specs.Service.{Setting}
 use Rattle.swi_hart.specs.declared.fault.BoardFault.{BoardFault}
 use Rattle.swi_hart.specs.Hart.{original, slots, unbooted}
 use Rattle.swi_board.specs.Board.{BoardOf}
-use Rattle.swi_board.specs.Fetching.{index_in}
-use Rattle.swi_board.specs.Moments.{GoesOn, Moment, Policy, completed, counted, event as instruction, executed, fell, led, stepped_at}
+use Rattle.swi_board.specs.Moments.{GoesOn, Moment, Policy, completed, counted, event as instruction, executed, fell, led, next_fetch, stepped_at}
 use Rattle.swi_board.specs.Tracking.{Point}
 use Rattle.swi_board.specs.Transfers.{at_fall, before_last}
 use Rattle.swi_board.proofs.Along.{same_between}
@@ -80,7 +79,7 @@ module _ (by : Policy) (v : ImageData) (limit : ℕ) (start : FlatState) (none :
 
   -- the word under control
   abbrev word : ℕ × ℕ → List Fetch
-  word p = fetch (index_in s.kept p + s.spent) s.sets ∷ []
+  word p = next_fetch v p s ∷ []
 
   whole_made : (h : Option (ℕ × ℕ)) (ws : List Fetch) → Comes limit start (counted ws (completed by v h s))
   whole_made h ws = let few = fewer in record {

@@ -2,7 +2,7 @@
 use Rattle.std.proofs.Common.{◌≡◌, if◌then◌else◌, ℕ, zero, suc, ◌+◌, ◌≤◌, nat_lt, Bool, true, false, List, [], ◌∷◌, Option, Some, None, is_some, refl, sym, ap, subst, ◌∙◌, inl, inr, zero-add, arith}
 use Rattle.std.proofs.lemmas.Bool.{cases_Bool, false≢true}
 use Rattle.std.proofs.lemmas.Bool.Decides.{nat_tests}
-use Rattle.swi_outside.specs.CacheRam.{Fetch, fetch}
+use Rattle.swi_outside.specs.CacheRam.{Fetch}
 use Rattle.swi_calls.specs.declared.end.End.{End}
 use Rattle.swi_calls.specs.Held.{held_run, held_step}
 use Rattle.swi_calls.specs.Laws.{held_run_none, held_run_more, held_run_over}
@@ -11,8 +11,7 @@ use Rattle.swi_image.specs.Format.{ImageData}
 use Rattle.swi_image.specs.Place.{place_of}
 use Rattle.swi_rom.specs.Service.{Setting}
 use Rattle.swi_hart.specs.Hart.{original, slots}
-use Rattle.swi_board.specs.Fetching.{index_in}
-use Rattle.swi_board.specs.Moments.{Moment, Policy, completed, counted, event as instruction, executed, fell, here_behind, led, stepped_at}
+use Rattle.swi_board.specs.Moments.{Moment, Policy, completed, counted, event as instruction, executed, fell, here_behind, led, next_fetch, stepped_at}
 use Rattle.swi_board.specs.Transfers.{Here, at_fall, before_last, here_after, here_run, settled, size, step_size}
 use Rattle.swi_board.proofs.Counting.{cost_more, here_none, here_more, place_not_fall}
 use Rattle.swi_board.proofs.Held.{run_snoc}
@@ -70,7 +69,7 @@ one_size n v s there is plain going =
 module _ (by : Policy) (v : ImageData) (s0 s : Moment) (at : Stood v s0 s) (on : s.flat.machine.ending ≡ None) where
   -- the word under control
   abbrev word : ℕ × ℕ → List Fetch
-  word p = fetch (index_in s.kept p + s.spent) s.sets ∷ []
+  word p = next_fetch v p s ∷ []
 
   going : is_some s.flat.machine.ending ≡ false
   going = ap (λ (e : Option End). is_some e) on

@@ -24,6 +24,8 @@ use Rattle.swi_board.specs.Runs.{unfetched}
 use Rattle.swi_board.specs.Tracking.{Point, Tracks, point_of}
 use Rattle.swi_board.specs.Transfers.{Here, here_of}
 use Rattle.swi_board.proofs.Held.{same_steps}
+use Rattle.swi_hart.proofs.Fitting.{matched_fits}
+use Rattle.swi_board.proofs.Fetching.{holds_under}
 use Rattle.swi_board.proofs.Tracks.{step_tracks}
 use Rattle.swi_run_laws.specs.Schedules.{beside as with_set}
 use Rattle.swi_run_laws.proofs.Schedules.{beside_tracks}
@@ -47,9 +49,9 @@ point b d = point_of engine_service (with_devices b d)
 -- ---- the hart
 
 -- a machine instruction fetches a word, but for one outside the text
-weighs : (c : Control) (n : ℕ) (l : List Fetch) → length (fetch_under c n ++ l) + (if is_outside c then 1 else 0) ≡ length l + 1
-weighs (At i b o stage) n l = omega arith
-weighs Outside n l = omega arith
+weighs : (c : Control) (n : ℕ) (held : List ℕ) (l : List Fetch) → length (fetch_under c n held ++ l) + (if is_outside c then 1 else 0) ≡ length l + 1
+weighs (At i b o stage) n held l = omega arith
+weighs Outside n held l = omega arith
 
 module _ (v : ImageData) (a b : BoardWithRam EngineData) (d d' : Devices) (was : Beside engine_service v a) (word : a.hart.machine.pc < 2 ^ 32) (turn : HartTurned engine_service v a b d d' (Ok tt))
     (s : Moment) (from : Point) (at : BoardTracks v s from (with_devices a d)) where
@@ -65,6 +67,7 @@ module _ (v : ImageData) (a b : BoardWithRam EngineData) (d d' : Devices) (was :
           let step = turn.stepped running in
           subst (λ (q : Setting). Tracks (span_of q) v (instruction (beside (setting_of a.rom)) v s) from (point b d')) (sym step.setting)
           (step_tracks (beside (setting_of a.rom)) (span_of (setting_of a.rom)) v s from (point a d) (point b d') at running word (engine_coherent a.rom v a.ram.words was.sound).once
+          (holds_under v (kept_by a.rom) _ a.ram.words a.hart (engine_coherent a.rom v a.ram.words was.sound) (matched_fits v (kept_by a.rom) s.flat.machine a.hart at.image at.matches) running word)
           step.policy (step.made was.sound s.flat.input at.input) step.ram)
       by (Some x) ended =
           let same = turn.ended x ended in
@@ -96,7 +99,7 @@ module _ (v : ImageData) (a b : BoardWithRam EngineData) (d d' : Devices) (was :
           let up = grown.count in
           let none : unfetched a.hart ≡ 0 = ap {B = ℕ} (λ (e : Option End). if is_some e && is_outside a.hart.control then 1 else 0) running in
           let out : (if is_outside a.hart.control then 1 else 0) ≡ unfetched b.hart = ap {B = ℕ} (λ (t : Bool). if t then 1 else 0) (sym grown.outside) in
-          let weight = weighs a.hart.control a.ram.sets a.ram.fetched_at in
+          let weight = weighs a.hart.control a.ram.sets a.ram.words a.ram.fetched_at in
           omega (arith, first, last, more, counts, count, up, none, out, weight)
       by (Some x) ended =
           let same = turn.ended x ended in

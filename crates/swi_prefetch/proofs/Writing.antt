@@ -1,7 +1,7 @@
 -- Whatever the events are, each word that was set is told by the counts of the service or by the engine's, and no word fetched is taken back.
 use Rattle.std.proofs.Common.{◌≡◌, ◌==◌, ◌&&◌, not, if◌then◌else◌, ℕ, ◌+◌, ◌*◌, ◌/◌, ◌≤◌, nat_lt, Bool, true, false, List, [], ◌∷◌, ◌++◌, length, filter, Option, Some, None, is_some, refl, sym, ap, ◌∙◌, arith}
 use Rattle.std.proofs.lemmas.List.{append_assoc}
-use Rattle.swi_outside.specs.CacheRam.{Fetch, fetch}
+use Rattle.swi_outside.specs.CacheRam.{Fetch}
 use Rattle.swi_calls.specs.declared.end.End.{End}
 use Rattle.swi_calls.specs.declared.machine.Machine.{Machine}
 use Rattle.swi_calls.specs.Flat.{started}
@@ -12,8 +12,7 @@ use Rattle.swi_rom.specs.Policy.{evicted, is_placed, is_undone, served_writes}
 use Rattle.swi_rom.specs.Record.{Link, Placement, Record, Transfer, direct, indirect, writes}
 use Rattle.swi_rom.specs.Service.{Setting}
 use Rattle.swi_hart.specs.Hart.{original, slots}
-use Rattle.swi_board.specs.Fetching.{index_in}
-use Rattle.swi_board.specs.Moments.{Moment, completed, counted, event as instruction, events, executed, fell, led, served, stepped_at}
+use Rattle.swi_board.specs.Moments.{Moment, completed, counted, event as instruction, events, executed, fell, led, next_fetch, served, stepped_at}
 use Rattle.swi_board.specs.Transfers.{Here, after_all, at_fall, before_last, step_transfers}
 use Rattle.swi_run_laws.proofs.RunLaws.{words_front}
 use Rattle.swi_engine.specs.declared.copying.Copying.{Copying}
@@ -39,7 +38,7 @@ hart_written : (by : Setting) (v : ImageData) (s : Moment) → Written s → Wri
 hart_written by v s is = by_ending s.flat.machine.ending
   where
     word : ℕ × ℕ → List Fetch
-    word p = fetch (index_in s.kept p + s.spent) s.sets ∷ []
+    word p = next_fetch v p s ∷ []
 
     whole : (h : Here) (ws : List Fetch) → Written (counted ws (completed (beside by) v h s))
     whole h ws = served_written by v (step_transfers s.flat.machine h (held_step s.flat).machine) s is

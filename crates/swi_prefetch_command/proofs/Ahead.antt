@@ -63,9 +63,9 @@ use Rattle.swi_cached_task.specs.Caching.{IsRunErr, board_work, held_next}
 use Rattle.swi_task.specs.Causes.{HasCauses}
 use Rattle.swi_task.specs.Checks.{IsAccepted, room_in, size_refusal}
 use Rattle.swi_task.specs.Devices.{Devices, stream_faults}
-use Rattle.swi_prefetch_command.specs.RunAhead.{AheadFailed, HasFetchedEach, IsAheadRun, IsFlatFrom, RamBrokeAhead, RunsAhead, RunsToEnd, RunsWithReport, StepBrokeAhead, StopsFrom, ahead_asked, ahead_from, ahead_report, ahead_run, ahead_span, ahead_task, ahead_work, around, board_report, board_work_with, engine_lines, engine_work, fault_refusal, report_with}
+use Rattle.swi_prefetch_command.specs.RunAhead.{AheadFailed, HasFetchedEach, IsAheadRun, IsFlatFrom, RamBrokeAhead, RunsAhead, RunsToEnd, RunsWithReport, StepBrokeAhead, StopsFrom, ahead_asked, ahead_from, ahead_report, ahead_run, ahead_span, ahead_task, ahead_work, around, board_report, board_work_with, engine_lines, engine_work, report_with}
 use Rattle.swi_cached_task.specs.Placing.{cached_checks}
-use Rattle.swi_task.specs.Runs.{ending_by, start_of}
+use Rattle.swi_task.specs.Runs.{ending_by, refusal_of, start_of}
 use Rattle.swi_task.specs.Subject.{IsImageFor}
 use Rattle.swi_cached_task.proofs.Caching.{cached_to, fetches_are, front_none, keeps_all, keeps_less, ran_all, risen_min, run_err_asked, run_err_given, run_err_short, run_err_checked, run_err_not, run_err_size, to_nil}
 use Rattle.swi_task.proofs.Due.{left_empty, right_empty}
@@ -149,7 +149,7 @@ boot_broke a v p l d ram h = record {
 -- a device failed in the run: the answer's causes
 fault_causes : {T U : Type 0} (f : BoardFault) (before after : Devices) → after.shelf.faults ≡ before.shelf.faults → DeviceCause before.ram.faults after.ram.faults (IsErrOf {T = T} (Err f) fault.RamFault) →
     outside.HasCauses (stream_faults before) (stream_faults after) (IsErrOf {T = T} (Err f) fault.SourceFault) (IsErrOf {T = T} (Err f) fault.SinkFault) →
-    HasCauses {T = U} before after (Err (fault_refusal f))
+    HasCauses {T = U} before after (Err (refusal_of f))
 fault_causes {T} {U} fault.RamFault before after shelf ram streams =
     causes_of before after (Err refusal.RamFault) (no_cause shelf (λ x. let never : ⊥ = cc in never)) (cause_as ram (λ _. refl) (λ _. refl))
     (named_as streams (λ x. let never : ⊥ = cc in absurd never) (λ x. let never : ⊥ = cc in absurd never) (λ x. let never : ⊥ = cc in absurd never) (λ x. let never : ⊥ = cc in absurd never))
@@ -201,7 +201,7 @@ ram_from c d m b before after h = elim h.stopped [
 
 step_at : (f : BoardFault) (c : AheadRun) (d m : Devices) (b : BoardOf EngineData) → (f ≡ fault.RamFault → ⊥) → (h : AheadBroke c f (point_around b (around d)) (point_around b (around m)) (stream_faults d) (stream_faults m)) →
     DeviceBroke (beside (setting_for c)) c.image f (moment_after c h.made) (point_around b (around d)) (point_around b (around m)) → Unasked (next_of (moment_after c h.made).flat) (stream_faults d) (stream_faults m) →
-    InOrder (moment_after c h.made).flat (point_around b (around d)) (point_around b (around m)) (stream_faults d) (stream_faults m) → StepBrokeAhead c d m (fault_refusal f) []
+    InOrder (moment_after c h.made).flat (point_around b (around d)) (point_around b (around m)) (stream_faults d) (stream_faults m) → StepBrokeAhead c d m (refusal_of f) []
 step_at f c d m b other h broke unasked order =
     let going = h.going h.made (omega arith) in
     record {
@@ -231,18 +231,18 @@ step_at f c d m b other h broke unasked order =
     s : FlatState
     s = (moment_after c h.made).flat
 
-    kind : (f : BoardFault) → (f ≡ fault.RamFault → ⊥) → (fault_refusal f ≡ refusal.SourceFault) ⊎ (fault_refusal f ≡ refusal.SinkFault)
+    kind : (f : BoardFault) → (f ≡ fault.RamFault → ⊥) → (refusal_of f ≡ refusal.SourceFault) ⊎ (refusal_of f ≡ refusal.SinkFault)
     kind fault.RamFault other = absurd (other refl)
     kind fault.SourceFault other = inl refl
     kind fault.SinkFault other = inr refl
 
-    named : (f : BoardFault) → fault_refusal f ≡ refusal.SourceFault → f ≡ fault.SourceFault
+    named : (f : BoardFault) → refusal_of f ≡ refusal.SourceFault → f ≡ fault.SourceFault
     named fault.SourceFault is = refl
     named fault.RamFault is = absurd (let bad : ⊥ = cc in bad)
     named fault.SinkFault is = absurd (let bad : ⊥ = cc in bad)
 
 step_from : (f : BoardFault) (c : AheadRun) (d m : Devices) (b : BoardOf EngineData) → (f ≡ fault.RamFault → ⊥) → AheadBroke c f (point_around b (around d)) (point_around b (around m)) (stream_faults d) (stream_faults m) →
-    StepBrokeAhead c d m (fault_refusal f) []
+    StepBrokeAhead c d m (refusal_of f) []
 step_from f c d m b other h = elim h.stopped [
   | inl hart ↦ step_at f c d m b other h (of_device f other hart.broke) (hart.unasked other) (hart.in_order other)
   | inr engine ↦ absurd (other engine.told)
@@ -306,7 +306,7 @@ module _ (a : AheadAsked) (v : ImageData) (p : ProgramData) (l : Layout) (d : De
   pub run_failed : (f : BoardFault) (last : Option (BoardOf EngineData)) (i : SourceState) (out e : SinkState) (ram : RamState) → KeepsBehind first middle ram →
       RunBroke v a.run.limits.steps a.rate (whole first begun) (whole last (around (ran_all d i out e ram))) (Err f) →
       outside.HasCauses (stream_faults d) (stream_faults (ran_all d i out e ram)) (IsErrOf {T = Unit {0}} (Err f) fault.SourceFault) (IsErrOf {T = Unit {0}} (Err f) fault.SinkFault) →
-      DeviceCause middle.faults ram.faults (IsErrOf {T = Unit {0}} (Err f) fault.RamFault) → RunsToEnd a v p l d (ran_all d i out e ram) (Err (fault_refusal f))
+      DeviceCause middle.faults ram.faults (IsErrOf {T = Unit {0}} (Err f) fault.RamFault) → RunsToEnd a v p l d (ran_all d i out e ram) (Err (refusal_of f))
   run_failed f last i out e ram kept broke streams cause = record {
     ended = tt;
     refused = inr (
@@ -318,14 +318,14 @@ module _ (a : AheadAsked) (v : ImageData) (p : ProgramData) (l : Layout) (d : De
     causes = fault_causes {T = Unit {0}} f d (ran_all d i out e ram) refl (cause_from boot_quiet cause) streams;
   }
     where
-      is_run : (f : BoardFault) → IsRunFault (fault_refusal f)
+      is_run : (f : BoardFault) → IsRunFault (refusal_of f)
       is_run fault.RamFault = tt
       is_run fault.SourceFault = tt
       is_run fault.SinkFault = tt
 
       by : (f : BoardFault) (left : List ℕ) (o : Option (BoardOf EngineData)) →
           OfBoard o (λ b. AheadBroke (ahead_from a v p l left) f (point_around b (around d)) (point_around b (around (ran_all d i out e ram))) (stream_faults d) (stream_faults (ran_all d i out e ram))) →
-          RamBrokeAhead (ahead_from a v p l left) d (ran_all d i out e ram) (fault_refusal f) [] ⊎ StepBrokeAhead (ahead_from a v p l left) d (ran_all d i out e ram) (fault_refusal f) []
+          RamBrokeAhead (ahead_from a v p l left) d (ran_all d i out e ram) (refusal_of f) [] ⊎ StepBrokeAhead (ahead_from a v p l left) d (ran_all d i out e ram) (refusal_of f) []
       by f left None broke = absurd broke
       by fault.RamFault left (Some b) broke = inl (ram_from (ahead_from a v p l left) d (ran_all d i out e ram) b (stream_faults d) (stream_faults (ran_all d i out e ram)) broke)
       by fault.SourceFault left (Some b) broke = inr (step_from fault.SourceFault (ahead_from a v p l left) d (ran_all d i out e ram) b (λ x. cc) broke)

@@ -1,7 +1,7 @@
 -- Whatever the events are, each machine step but the boot has fetched a word, but for one at an address without a text word.
 use Rattle.std.proofs.Common.{◌≡◌, not, nat_lt, if◌then◌else◌, ℕ, suc, ◌+◌, ◌^◌, ◌<◌, Bool, true, false, List, [], ◌∷◌, length, Option, Some, None, is_some, refl, sym, ap, subst, ◌∙◌, arith}
 use Rattle.std.proofs.lemmas.Bool.{false≢true}
-use Rattle.swi_outside.specs.CacheRam.{Fetch, fetch}
+use Rattle.swi_outside.specs.CacheRam.{Fetch}
 use Rattle.swi_memory.specs.Bus.{fetched}
 use Rattle.swi_calls.specs.declared.end.End.{End}
 use Rattle.swi_calls.specs.declared.machine.Machine.{Machine}
@@ -14,8 +14,7 @@ use Rattle.swi_rom.specs.Service.{Setting}
 use Rattle.swi_hart.specs.declared.hart.Control.TheVariants.{Outside}
 use Rattle.swi_hart.specs.Hart.{is_place, original, slots}
 use Rattle.swi_hart.proofs.Kept.{image_same, next_text}
-use Rattle.swi_board.specs.Fetching.{index_in}
-use Rattle.swi_board.specs.Moments.{Moment, Policy, completed, counted, event as instruction, executed, fell, led, stepped_at}
+use Rattle.swi_board.specs.Moments.{Moment, Policy, completed, counted, event as instruction, executed, fell, led, next_fetch, stepped_at}
 use Rattle.swi_board.specs.Transfers.{Here, at_fall, before_last, here_after}
 use Rattle.swi_engine.specs.Engine.{Event, beside, event}
 use Rattle.swi_prefetch.specs.Events.{Turn, of_hart, of_engine, booted, engine_event, turned, turned_all, worked}
@@ -38,7 +37,7 @@ module _ (by : Policy) (v : ImageData) (s : Moment) (on : s.flat.machine.ending 
 
   -- the word under control
   abbrev under : ℕ × ℕ → List Fetch
-  under p = fetch (index_in s.kept p + s.spent) s.sets ∷ []
+  under p = next_fetch v p s ∷ []
 
   abbrev next : Machine
   next = (held_step s.flat).machine

@@ -20,8 +20,6 @@ use Rattle.swi_calls.specs.StoresText.{next_store}
 use Rattle.swi_rom.specs.Coherent.{Coherent}
 use Rattle.swi_rom.specs.Record.{Record, writes}
 use Rattle.swi_rom.specs.Served.{SameFrom}
-use Rattle.swi_hart.specs.declared.fault.BoardFault.{BoardFault}
-use Rattle.swi_hart.specs.declared.fault.BoardFault.TheVariants as fault
 use Rattle.swi_hart.specs.Hart.{HartData}
 use Rattle.swi_board.specs.Board.{BoardOf}
 use Rattle.swi_board.specs.Fetching.{HasFetched}
@@ -196,12 +194,6 @@ ahead_task name cache o rate = record {
 -- the run of a program with this input, from its boot
 abbrev pub ahead_from : AheadAsked → ImageData → ProgramData → Layout → List ℕ → AheadRun
 ahead_from a v p l input = ahead_run a v (flat_start p l a.run.reports.calls input)
-
--- what a run is refused with in which a device failed so
-abbrev pub fault_refusal : BoardFault → Refusal
-fault_refusal fault.RamFault = refusal.RamFault
-fault_refusal fault.SourceFault = refusal.SourceFault
-fault_refusal fault.SinkFault = refusal.SinkFault
 
 -- why a run is refused that did not come to its end: there was no memory, and nothing changed; or a device failed in it
 abbrev pub IsAheadErr : AheadAsked → ImageData → ProgramData → Layout → Devices → Devices → Refusal → Type 0

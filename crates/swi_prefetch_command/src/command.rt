@@ -1,7 +1,7 @@
 //! The command `prefetch`: a run on the cached machine beside whose hart an engine copies blocks ahead.
 #![tactic(auto)]
 
-ghost use Rattle.std.specs.Prelude.{◌≡◌, ◌*◌, ◌^◌, ◌<◌, ◌≤◌, IfOk, OnErr, [], false, length};
+ghost use Rattle.std.specs.Prelude.{◌≡◌, ◌*◌, ◌^◌, ◌<◌, ◌≤◌, IfOk, OnErr, [], false, length, string_bytes};
 ghost use Rattle.swi_command.specs.CommandLine.{IsCacheInRange, IsInRange};
 ghost use Rattle.swi_engine.specs.State.{kept_by};
 ghost use Rattle.swi_outside.specs.Causes.{HasCause};
@@ -15,13 +15,13 @@ ghost use Rattle.swi_render.specs.Carried.{Carries};
 ghost use Rattle.swi_render.specs.ImageOf.{IsImageOf};
 ghost use Rattle.swi_task.specs.Answers.{Answers};
 ghost use Rattle.swi_task.specs.Devices.{Devices, seen};
-ghost use Rattle.swi_prefetch_command.specs.RunAhead.{RunsToEnd, RunsWithReport, ahead_task, board_report, board_work_with, fault_refusal};
+ghost use Rattle.swi_prefetch_command.specs.RunAhead.{RunsToEnd, RunsWithReport, ahead_task, board_report, board_work_with};
 
 use std::alloc::Global;
 use swi_answer::{Ending, Refusal};
-use swi_board::{Board, BoardFault, BootStop};
-use swi_cached_task::{board_work, place};
-use swi_command::{CacheOptions, Reports, RunOptions};
+use swi_board::{Board, BootStop};
+use swi_cached_task::{board_work, final_state, place};
+use swi_command::{PrefetchCommand, Reports, RunOptions};
 use swi_engine::EngineRom;
 use swi_image::ImageView;
 use swi_memory::Layout;
@@ -29,7 +29,7 @@ use swi_outside::{CacheRam, Failed, Shelf, Sink, Source};
 use swi_prefetch::Prefetch;
 use swi_program::Program;
 use swi_report::{EngineWork, Work, engine_text};
-use swi_task::{check_size, ending_by, read_file, write_report};
+use swi_task::{check_size, ending_by, read_file, refusal_of, write_report};
 
 /// A run that is asked for.
 #[derive(Clone, Copy, Debug, PartialEq, Eq)]
@@ -40,17 +40,6 @@ struct AheadAsked {
     bytes: u32,
     /// How many events of the engine come behind each of the hart, at most 1024.
     rate: u32,
-}
-
-/// What a run is refused with in which a device failed so.
-fn refusal_of(fault: BoardFault) -> Refusal
-    ensures { result ≡ fault_refusal fault }
-{
-    match fault {
-        BoardFault::RamFault => Refusal::RamFault,
-        BoardFault::SourceFault => Refusal::SourceFault,
-        BoardFault::SinkFault => Refusal::SinkFault,
-    }
 }
 
 /// The image carries the program's text, which it is one of.
@@ -138,9 +127,7 @@ fn report_ahead<O: Sink>(
     ensures asked { OnErr result (board_report reports.now board.now ≡ [] → ⊥) }
 {
     let work = work_with(board);
-    let (pc, steps) = (board.origin_pc(), board.steps());
-    let (regs, bus, heap) = (board.regs(), board.bus(), board.heap());
-    write_report(reports, pc, regs, bus, &heap, steps, Some(&work), out)?;
+    write_report(reports, &final_state(board), Some(&work), out)?;
     if reports.stats {
         let (words, copies) = board.rom().copied();
         engine_text(&EngineWork { words, copies }, out)?;
@@ -181,34 +168,34 @@ fn run_over<I: Source, O: Sink, E: Sink, R: CacheRam>(
 }
 
 /// Runs the program of a file on the cached machine, beside whose hart an engine copies blocks ahead: behind each of its
-/// events come `rate` (at most 1024) of the engine.
+/// events come so many of the engine as are asked for.
 pub fn prefetch<F: Shelf, I: Source, O: Sink, E: Sink, R: CacheRam>(
     alloc: Global,
-    name: &str,
-    cache: &CacheOptions,
-    options: &RunOptions,
-    rate: u32,
+    command: &PrefetchCommand,
     shelf: &mut F,
     input: &mut I,
     out: &mut O,
     err: &mut E,
     ram: &mut R,
 ) -> Result<Ending, Refusal>
-    requires ranges { IsInRange options.now.limits }
-    requires sizes { IsCacheInRange cache.now }
-    requires rate { rate ≤ 1024 }
+    requires ranges { IsInRange command.now.options.limits }
+    requires sizes { IsCacheInRange command.now.cache }
+    requires rate { command.now.rate ≤ 1024 }
     ensures gave { HasGiven (I.state input.old) (I.state input.new) }
-    ensures answers { AsTold (I.state input.old) (I.state input.new) (λ before after. Answers (ahead_task name.now cache.now options.now rate)
+    ensures answers { AsTold (I.state input.old) (I.state input.new) (λ before after. Answers
+        (ahead_task (string_bytes command.now.file) command.now.cache command.now.options command.now.rate)
         (seen (F.state shelf.old) before (O.state out.old) (E.state err.old) (R.state ram.old))
         (seen (F.state shelf.new) after (O.state out.new) (E.state err.new) (R.state ram.new)) result []) }
 {
+    let (cache, options) = (&command.cache, &command.options);
     check_size(cache.cache_bytes, ram)?;
-    let file = read_file(alloc, shelf, name)?;
-    let placed = place(alloc, &file, cache, &options.limits)?;
+    let file = read_file(alloc, shelf, command.file.as_str())?;
+    let sizes = [cache.cache_bytes];
+    let placed = place(alloc, &file, &sizes, cache.block_words, &options.limits)?;
     let asked = AheadAsked {
         run: *options,
         bytes: cache.cache_bytes,
-        rate,
+        rate: command.rate,
     };
     let image = placed.subject.image.view();
     let (program, layout) = (&placed.subject.program, &placed.layout);

@@ -13,6 +13,6 @@ mod summary;
 
 pub use engine::{EngineWork, engine_text};
 pub use shared::{SharedWork, shared_text};
-pub use state::state_text;
+pub use state::{FinalState, state_text};
 pub use stats::{Work, stats_text};
 pub use summary::{Measured, summary_text};

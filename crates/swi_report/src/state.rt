@@ -13,6 +13,18 @@ use swi_line::Line;
 use swi_memory::Bus;
 use swi_outside::{Failed, Sink};
 
+/// What is told of a machine when its run is over.
+#[derive(Clone, Copy)]
+pub struct FinalState<'a> {
+    /// The address of the next instruction, or of the one that ended the run.
+    pub pc: u32,
+    pub regs: &'a Regs,
+    pub bus: &'a Bus,
+    pub heap: Heap,
+    /// The number of steps made, the one that ended the run included.
+    pub steps: u64,
+}
+
 fn pc_line(pc: u32) -> Line
     ensures { result ≡ pc_line pc }
 {
@@ -60,22 +72,15 @@ fn write_registers<S: Sink>(regs: &Regs, sink: &mut S) -> Result<(), Failed>
 /// Writes the state after a run to the sink: the pc, the registers and the break, a line each, then
 /// the memory that can be written, in order of address, sixteen bytes a line. A line has its address,
 /// a multiple of 16, and a byte outside the segment or region is `--` there; sixteen bytes that are
-/// all zero or outside have no line. `pc` is the address of the next instruction, or of the one that
-/// ended the run.
+/// all zero or outside have no line.
 ///
 /// Failed only where the sink's count of faults rose; it then holds a front of the text.
-pub fn state_text<S: Sink>(
-    pc: u32,
-    regs: &Regs,
-    bus: &Bus,
-    heap: &Heap,
-    sink: &mut S,
-) -> Result<(), Failed>
+pub fn state_text<S: Sink>(state: &FinalState<'_>, sink: &mut S) -> Result<(), Failed>
     ensures { WasWritten (S.state sink.old) (S.state sink.new) result
-        (state_text_of pc regs.now bus.now heap.entry.now.now) }
+        (state_text_of state.now.pc state.now.regs.now state.now.bus.now state.now.heap.now) }
 {
-    sink.write(pc_line(pc).as_bytes())?;
-    write_registers(regs, sink)?;
-    sink.write(break_line(heap.now).as_bytes())?;
-    write_memory(bus, sink)
+    sink.write(pc_line(state.pc).as_bytes())?;
+    write_registers(state.regs, sink)?;
+    sink.write(break_line(state.heap.now).as_bytes())?;
+    write_memory(state.bus, sink)
 }

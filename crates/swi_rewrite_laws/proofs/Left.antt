@@ -10,7 +10,7 @@ use Rattle.swi_calls.specs.Laws.{held_is_flat}
 use Rattle.swi_calls.specs.State.{FlatState}
 use Rattle.swi_command.specs.declared.command.CacheOptions.{CacheOptions}
 use Rattle.swi_command.specs.declared.command.RunOptions.{RunOptions}
-use Rattle.swi_command.specs.CommandLine.{Request, RewriteFile, RunAhead, RunShared, RunCached, RunPlain, ListFile, CheckFile, UpgradeFile, MeasureMade, RunSurvey}
+use Rattle.swi_command.specs.CommandLine.{Request, RewriteFile, RunAhead, RunShared, RunCached, RunPlain, ListFile, CheckFile, UpgradeFile, MeasureMade, RunSurvey, RunProfile}
 use Rattle.swi_report.specs.Stats.{work_text}
 use Rattle.swi_trace.specs.History.{last_of}
 use Rattle.swi_line.specs.declared.trace.Trace.{Trace}
@@ -166,6 +166,7 @@ left_of (ListFile name most) before after e a file input h = absurd (no_run a h.
 left_of (MeasureMade seed functions cache) before after e a file input h = absurd (no_run a h.asked)
 left_of (RunShared names cache o) before after e a file input h = absurd (no_run a h.asked)
 left_of (RunSurvey name sizes block kind limits) before after e a file input h = absurd (no_run a h.asked)
+left_of (RunProfile name limits) before after e a file input h = absurd (no_run a h.asked)
 
 -- ---- two of them
 

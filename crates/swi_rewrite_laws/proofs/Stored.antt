@@ -7,7 +7,7 @@ use Rattle.swi_image.specs.Format.{ImageData, image_of}
 use Rattle.swi_program.specs.Text.{TextData}
 use Rattle.swi_render.specs.ImageOf.{IsImageOf}
 use Rattle.swi_cut.specs.Cuts.{IsCutBy}
-use Rattle.swi_command.specs.CommandLine.{Request, RewriteFile, RunAhead, RunShared, RunCached, RunPlain, ListFile, CheckFile, UpgradeFile, MeasureMade, RunSurvey}
+use Rattle.swi_command.specs.CommandLine.{Request, RewriteFile, RunAhead, RunShared, RunCached, RunPlain, ListFile, CheckFile, UpgradeFile, MeasureMade, RunSurvey, RunProfile}
 use Rattle.swi_answer.specs.declared.answer.Ending.{Ending}
 use Rattle.swi_file_commands.specs.RewriteFile.{cutting_of, rewrite_task}
 use Rattle.swi_file_commands.specs.UpgradeFile.{upgrade_task}
@@ -81,6 +81,7 @@ copied (ListFile name most) before after e file out h = absurd (none_stored befo
 copied (MeasureMade seed functions cache) before after e file out h = absurd (none_stored before.shelf.stored after.shelf.stored (h.name, out) h.ended.answers.answers.shelf.passed.stored h.stored)
 copied (RunShared names cache o) before after e file out h = absurd (none_stored before.shelf.stored after.shelf.stored (h.name, out) h.ended.answers.answers.shelf.passed.stored h.stored)
 copied (RunSurvey name sizes block kind limits) before after e file out h = absurd (none_stored before.shelf.stored after.shelf.stored (h.name, out) h.ended.answers.answers.shelf.passed.stored h.stored)
+copied (RunProfile name limits) before after e file out h = absurd (none_stored before.shelf.stored after.shelf.stored (h.name, out) h.ended.answers.answers.shelf.passed.stored h.stored)
 
 pub written : (file out : List ℕ) (c : Outcome) → HasWrittenFile file out c → length (program_of_file file).segments ≤ 63 → IsAsOriginal file out (block_written c.request file)
 written file out c h few = as_original file out (block_written c.request file) (copied c.request c.before c.after c.ending file out h) few

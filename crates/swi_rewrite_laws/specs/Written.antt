@@ -9,7 +9,7 @@ use Rattle.swi_command.specs.CommandLine.{Request, RewriteFile}
 use Rattle.swi_task.specs.Checks.{FitsBlocks, HasRoom, IsAccepted, Passes, block_words, image_checks}
 use Rattle.swi_file_commands.specs.ListFile.{list_checks}
 use Rattle.swi_file_commands.specs.RewriteFile.{rewrite_checks}
-use Rattle.swi_file_commands.specs.RunPlain.{plain_checks}
+use Rattle.swi_file_commands.specs.RunFlat.{flat_checks}
 use Rattle.swi_cached_task.specs.Placing.{cached_checks}
 use Rattle.swi_share_command.specs.RunShared.{guest_checks}
 use Rattle.swi_rewrite_laws.specs.Ran.{Outcome, IsOutcomeOf, RunAlike}
@@ -34,7 +34,7 @@ pub record PassesAll (file out : List ℕ) (block : ℕ) : Type 0 where
   -- of `rewrite`, into blocks for which the other one isn't too long
   pub rewritten : (most : ℕ) → Passes (FitsBlocks file most) → IsAccepted (rewrite_checks most out)
   -- of `plain`; of `cached`, `trace` and `prefetch`; and, as one of its files, of `share`
-  pub plain : (limits : RunLimits) → Passes (HasRoom file limits) → IsAccepted (plain_checks limits out)
+  pub plain : (limits : RunLimits) → Passes (HasRoom file limits) → IsAccepted (flat_checks limits out)
   pub cached : (limits : RunLimits) (cache : CacheOptions) → Passes (HasRoom file limits) → 4 * block ≤ cache.cache_bytes → IsAccepted (cached_checks limits cache out)
   pub shared : (limits : RunLimits) (most : ℕ) → Passes (HasRoom file limits) → IsAccepted (guest_checks limits most out)
 

@@ -4,7 +4,7 @@ use Rattle.swi_isa.specs.Decode.{decoded, decoded_by}
 use Rattle.swi_isa.specs.Table.{imm_j}
 use Rattle.swi_image.specs.Format.{ImageData}
 use Rattle.swi_image.specs.Place.{place_of, block_at}
-use Rattle.swi_rom.specs.Record.{Record, Placement, Link, Transfer, direct, indirect, empty_record, exit_among, IsJump}
+use Rattle.swi_rom.specs.Record.{Record, Placement, Link, Transfer, direct, indirect, empty_record, exit_among, IsJump, jump_word}
 use Rattle.swi_rom.specs.Service.{Setting}
 use Rattle.swi_rom.specs.Policy.{served_by, went, linked, evicted, counted, is_placed, first_of, with_link, is_undone, is_kept}
 use Rattle.swi_ring.specs.Fifo.{ring, arrived, appended, cleared, first_for}
@@ -59,8 +59,8 @@ unfolding served_by went linked arrived appended cleared first_for evicted count
 nine_words = refl
 
 jump_back : IsJump 7 0 0xFE5FF06F
-unfolding decoded decoded_by imm_j
-jump_back = refl
+unfolding decoded decoded_by imm_j jump_word
+jump_back = record { word = refl; decodes = refl }
 
 -- the second block, which is older than the third and not in the way, leaves with it
 older_leaves : run (of_words 9) empty_record jumper (indirect 0x10000 ∷ indirect 0x10010 ∷ indirect 0x10008 ∷ indirect 0x10000 ∷ []) ≡

@@ -1,1 +1,2 @@
+mod Jumps
 pub mod Moving

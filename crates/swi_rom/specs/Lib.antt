@@ -3,6 +3,7 @@ pub mod Coherent
 pub mod Service
 pub mod Policy
 pub mod Found
+pub mod Standing
 pub mod Links
 pub mod Collected
 pub mod Served

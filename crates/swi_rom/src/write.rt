@@ -48,6 +48,7 @@ pub fn reach(from: u32, to: u32) -> bool
 }
 
 /// The word that jumps from one word to another and writes no register.
+#[tactic(auto, using(crate::proofs::Jumps::is_jump))]
 pub fn jump(from: u32, to: u32) -> u32
     requires from { from < 2 ^ 30 }
     requires to { to < 2 ^ 30 }

@@ -2,7 +2,7 @@
 use Rattle.std.proofs.Common.{◌≡◌, if◌then◌else◌, ℕ, zero, suc, ◌+◌, ◌-◌, ◌<◌, ◌≤◌, Bool, true, false, List, [], ◌∷◌, ◌++◌, length, reverse, Option, Some, None, is_some, refl, sym, ap, subst, ◌∙◌, inl, inr, arith}
 use Rattle.std.proofs.lemmas.Bool.{cases_Bool, cases_lt, false≢true}
 use Rattle.std.proofs.lemmas.List.{append_assoc, reverse-append}
-use Rattle.swi_outside.specs.CacheRam.{Fetch, fetch}
+use Rattle.swi_outside.specs.CacheRam.{Fetch}
 use Rattle.swi_calls.specs.declared.end.End.{End}
 use Rattle.swi_calls.specs.declared.machine.Machine.{Machine}
 use Rattle.swi_calls.specs.Held.{held_run, held_step}
@@ -11,12 +11,12 @@ use Rattle.swi_calls.specs.State.{FlatState}
 use Rattle.swi_image.specs.Format.{ImageData}
 use Rattle.swi_image.specs.Place.{place_of}
 use Rattle.swi_rom.specs.Record.{Record, Transfer, direct, writes}
-use Rattle.swi_board.specs.Fetching.{Written, fall_words, index_in, step_words, words_run, written_by}
+use Rattle.swi_board.specs.Fetching.{Written, fall_words, fetch_in, index_in, step_words, words_run, written_by}
 use Rattle.swi_board.specs.Transfers.{Here, after_all, at_fall, cost, fall_transfers, fetches, here_after, here_run, settled, step_size, step_transfers, transfers}
 use Rattle.swi_board.proofs.Counting.{after_append, transfers_more, cost_more, cost_none, here_more, here_none, over_cost, over_transfers, place_not_fall, transfers_none}
 use Rattle.swi_board.proofs.Fetching.{words_more, words_none, words_over}
 use Rattle.swi_board.proofs.Held.{held_steps}
-use Rattle.swi_board.specs.Moments.{GoesOn, Moment, Policy, counted, event, events, fell, here_behind, written_in}
+use Rattle.swi_board.specs.Moments.{GoesOn, Moment, Policy, counted, event, events, fell, here_behind, next_fetch, written_in}
 use Rattle.swi_board.proofs.Events.{events_more, events_none, events_one, fall_event, plain_made, words_rise}
 pub use Rattle.swi_board.proofs.Events.{Leads, events_more, leads}
 use Rattle.swi_run_laws.specs.After.{IsAfter, IsWithin}
@@ -50,7 +50,7 @@ record OneStep (by : Policy) (v : ImageData) (h : Here) (n : ℕ) (s t : Moment)
   here : t.here ≡ here_behind v s.flat.machine (settled v s.flat.machine h) (held_step s.flat).machine
   spent : t.spent ≡ 0
   count : t.count ≡ s.count + n
-  words : t.words ≡ reverse (step_words s.flat.machine (settled v s.flat.machine h) (written_by by v (written_in s) (fall_transfers v s.flat.machine h))) ++ (reverse (fall_words v s.flat.machine h (written_in s)) ++ s.words)
+  words : t.words ≡ reverse (step_words v s.flat.machine (settled v s.flat.machine h) (written_by by v (written_in s) (fall_transfers v s.flat.machine h))) ++ (reverse (fall_words v s.flat.machine h (written_in s)) ++ s.words)
   before : (j : ℕ) → j < n → (events by v j s).flat ≡ s.flat
   many : length t.words ≡ length s.words + step_fetches v s.flat.machine h
   ahead : (j : ℕ) → j < n → ((events by v j s).here ≡ None → ⊥) → length (events by v j s).words + 1 ≤ length s.words + step_fetches v s.flat.machine h
@@ -60,7 +60,7 @@ module _ (by : Policy) (v : ImageData) (s : Moment) (going : is_some s.flat.mach
   no_fall None plain = (refl, refl, refl)
   no_fall (Some p) plain = (
     ap (λ (t : Bool). if t then direct p.0 p.1 s.flat.machine.pc ∷ [] else []) plain,
-    ap (λ (t : Bool). if t then fetch (index_in s.kept p) s.sets ∷ [] else []) plain,
+    ap (λ (t : Bool). if t then fetch_in v (written_in s) p.0 (index_in s.kept p) ∷ [] else []) plain,
     ap (λ (t : Bool). if t then place_of v s.flat.machine.pc else Some p) plain,
   )
 
@@ -82,10 +82,10 @@ module _ (by : Policy) (v : ImageData) (s : Moment) (going : is_some s.flat.mach
         spent = made.spent;
         count = made.count;
         words = made.words
-            ∙ ap (λ (x : Here). reverse (step_words s.flat.machine x (written_in s)) ++ s.words) (sym same.2)
-            ∙ ap (λ (w : Written). reverse (step_words s.flat.machine (settled v s.flat.machine h) w) ++ s.words) (sym (written_none by v (written_in s)))
-            ∙ ap (λ (l : List Transfer). reverse (step_words s.flat.machine (settled v s.flat.machine h) (written_by by v (written_in s) l)) ++ s.words) (sym same.0)
-            ∙ ap (λ (l : List Fetch). reverse (step_words s.flat.machine (settled v s.flat.machine h) (written_by by v (written_in s) (fall_transfers v s.flat.machine h))) ++ (reverse l ++ s.words)) (sym same.1);
+            ∙ ap (λ (x : Here). reverse (step_words v s.flat.machine x (written_in s)) ++ s.words) (sym same.2)
+            ∙ ap (λ (w : Written). reverse (step_words v s.flat.machine (settled v s.flat.machine h) w) ++ s.words) (sym (written_none by v (written_in s)))
+            ∙ ap (λ (l : List Transfer). reverse (step_words v s.flat.machine (settled v s.flat.machine h) (written_by by v (written_in s) l)) ++ s.words) (sym same.0)
+            ∙ ap (λ (l : List Fetch). reverse (step_words v s.flat.machine (settled v s.flat.machine h) (written_by by v (written_in s) (fall_transfers v s.flat.machine h))) ++ (reverse l ++ s.words)) (sym same.1);
         before = made.before;
         many = made.many ∙ ap (λ (n : ℕ). length s.words + n) (sym fetches_is);
         ahead = λ j lt inside. (let up = made.ahead j lt inside in omega (arith, up, fetches_is));
@@ -96,14 +96,14 @@ module _ (by : Policy) (v : ImageData) (s : Moment) (going : is_some s.flat.mach
 
   one_fall : (p : ℕ × ℕ) → s.here ≡ Some p → at_fall v s.flat.machine (Some p) ≡ true → OneStep by v (Some p) (step_events v s.flat.machine (Some p)) s (events by v (step_events v s.flat.machine (Some p)) s)
   one_fall p is falls =
-      let at : event by v s ≡ counted (fetch (index_in s.kept p + s.spent) s.sets ∷ []) (fell by v p s) = fall_event by v s going p is falls in
+      let at : event by v s ≡ counted (next_fetch v p s ∷ []) (fell by v p s) = fall_event by v s going p is falls in
       let settles : settled v s.flat.machine (Some p) ≡ place_of v s.flat.machine.pc = ap (λ (t : Bool). if t then place_of v s.flat.machine.pc else Some p) falls in
       let served_is : fall_transfers v s.flat.machine (Some p) ≡ direct p.0 p.1 s.flat.machine.pc ∷ [] = ap (λ (t : Bool). if t then direct p.0 p.1 s.flat.machine.pc ∷ [] else []) falls in
-      let fetched_is : fall_words v s.flat.machine (Some p) (written_in s) ≡ fetch (index_in s.kept p) s.sets ∷ [] = ap (λ (t : Bool). if t then fetch (index_in s.kept p) s.sets ∷ [] else []) falls in
-      let made = plain_made by v (counted (fetch (index_in s.kept p + s.spent) s.sets ∷ []) (fell by v p s)) (place_of v s.flat.machine.pc) refl going (place_not_fall v s.flat.machine) refl in
+      let fetched_is : fall_words v s.flat.machine (Some p) (written_in s) ≡ fetch_in v (written_in s) p.0 (index_in s.kept p) ∷ [] = ap (λ (t : Bool). if t then fetch_in v (written_in s) p.0 (index_in s.kept p) ∷ [] else []) falls in
+      let made = plain_made by v (counted (next_fetch v p s ∷ []) (fell by v p s)) (place_of v s.flat.machine.pc) refl going (place_not_fall v s.flat.machine) refl in
       let count_is : step_events v s.flat.machine (Some p) ≡ 1 + step_size 1 s.flat.machine (place_of v s.flat.machine.pc) =
       ap (λ (t : Bool). (if t then 1 else 0) + step_size 1 s.flat.machine (settled v s.flat.machine (Some p))) falls ∙ ap (λ (x : Here). 1 + step_size 1 s.flat.machine x) settles in
-      let all : events by v (1 + step_size 1 s.flat.machine (place_of v s.flat.machine.pc)) s ≡ events by v (step_size 1 s.flat.machine (place_of v s.flat.machine.pc)) (counted (fetch (index_in s.kept p + s.spent) s.sets ∷ []) (fell by v p s)) =
+      let all : events by v (1 + step_size 1 s.flat.machine (place_of v s.flat.machine.pc)) s ≡ events by v (step_size 1 s.flat.machine (place_of v s.flat.machine.pc)) (counted (next_fetch v p s ∷ []) (fell by v p s)) =
       events_more by v 1 (step_size 1 s.flat.machine (place_of v s.flat.machine.pc)) s ∙ ap (λ (q : Moment). events by v (step_size 1 s.flat.machine (place_of v s.flat.machine.pc)) q) (events_one by v s ∙ at) in
       let index : index_in s.kept p + s.spent ≡ index_in s.kept p = omega (arith, none) in
       let c = made.count in
@@ -112,25 +112,25 @@ module _ (by : Policy) (v : ImageData) (s : Moment) (going : is_some s.flat.mach
       subst (λ (n : ℕ). OneStep by v (Some p) n s (events by v n s)) (sym count_is)
       (subst (λ (q : Moment). OneStep by v (Some p) (1 + step_size 1 s.flat.machine (place_of v s.flat.machine.pc)) s q) (sym all) (record {
         flat = made.flat;
-        written = written_is by v (counted (fetch (index_in s.kept p + s.spent) s.sets ∷ []) (fell by v p s)) (events by v (step_size 1 s.flat.machine (place_of v s.flat.machine.pc)) (counted (fetch (index_in s.kept p + s.spent) s.sets ∷ []) (fell by v p s))) (step_transfers s.flat.machine (place_of v s.flat.machine.pc) (held_step s.flat).machine) made.kept made.sets
+        written = written_is by v (counted (next_fetch v p s ∷ []) (fell by v p s)) (events by v (step_size 1 s.flat.machine (place_of v s.flat.machine.pc)) (counted (next_fetch v p s ∷ []) (fell by v p s))) (step_transfers s.flat.machine (place_of v s.flat.machine.pc) (held_step s.flat).machine) made.kept made.sets
             ∙ ap (λ (x : Here). written_by by v (written_by by v (written_in s) (direct p.0 p.1 s.flat.machine.pc ∷ [])) (step_transfers s.flat.machine x (held_step s.flat).machine)) (sym settles)
             ∙ ap (λ (l : List Transfer). written_by by v (written_by by v (written_in s) l) (step_transfers s.flat.machine (settled v s.flat.machine (Some p)) (held_step s.flat).machine)) (sym served_is);
         here = made.here ∙ ap (λ (x : Here). here_behind v s.flat.machine x (held_step s.flat).machine) (sym settles);
         spent = made.spent;
         count = omega (arith, c);
         words = made.words
-            ∙ ap (λ (n : ℕ). reverse (step_words s.flat.machine (place_of v s.flat.machine.pc) (written_by by v (written_in s) (direct p.0 p.1 s.flat.machine.pc ∷ []))) ++ (fetch n s.sets ∷ s.words)) index
-            ∙ ap (λ (x : Here). reverse (step_words s.flat.machine x (written_by by v (written_in s) (direct p.0 p.1 s.flat.machine.pc ∷ []))) ++ (fetch (index_in s.kept p) s.sets ∷ s.words)) (sym settles)
-            ∙ ap (λ (l : List Transfer). reverse (step_words s.flat.machine (settled v s.flat.machine (Some p)) (written_by by v (written_in s) l)) ++ (fetch (index_in s.kept p) s.sets ∷ s.words)) (sym served_is)
-            ∙ ap (λ (l : List Fetch). reverse (step_words s.flat.machine (settled v s.flat.machine (Some p)) (written_by by v (written_in s) (fall_transfers v s.flat.machine (Some p)))) ++ (reverse l ++ s.words)) (sym fetched_is);
+            ∙ ap (λ (n : ℕ). reverse (step_words v s.flat.machine (place_of v s.flat.machine.pc) (written_by by v (written_in s) (direct p.0 p.1 s.flat.machine.pc ∷ []))) ++ (fetch_in v (written_in s) p.0 n ∷ s.words)) index
+            ∙ ap (λ (x : Here). reverse (step_words v s.flat.machine x (written_by by v (written_in s) (direct p.0 p.1 s.flat.machine.pc ∷ []))) ++ (fetch_in v (written_in s) p.0 (index_in s.kept p) ∷ s.words)) (sym settles)
+            ∙ ap (λ (l : List Transfer). reverse (step_words v s.flat.machine (settled v s.flat.machine (Some p)) (written_by by v (written_in s) l)) ++ (fetch_in v (written_in s) p.0 (index_in s.kept p) ∷ s.words)) (sym served_is)
+            ∙ ap (λ (l : List Fetch). reverse (step_words v s.flat.machine (settled v s.flat.machine (Some p)) (written_by by v (written_in s) (fall_transfers v s.flat.machine (Some p)))) ++ (reverse l ++ s.words)) (sym fetched_is);
         before = λ j lt. first_or j lt made.before at;
         many = (let up = made.many in omega (arith, up, fetches_is));
         ahead = λ j lt inside. first_ahead j lt inside made.ahead at fetches_is;
       }))
     where
       first_or : (j : ℕ) → j < 1 + step_size 1 s.flat.machine (place_of v s.flat.machine.pc) →
-          ((i : ℕ) → i < step_size 1 s.flat.machine (place_of v s.flat.machine.pc) → (events by v i (counted (fetch (index_in s.kept p + s.spent) s.sets ∷ []) (fell by v p s))).flat ≡ s.flat) →
-          event by v s ≡ counted (fetch (index_in s.kept p + s.spent) s.sets ∷ []) (fell by v p s) → (events by v j s).flat ≡ s.flat
+          ((i : ℕ) → i < step_size 1 s.flat.machine (place_of v s.flat.machine.pc) → (events by v i (counted (next_fetch v p s ∷ []) (fell by v p s))).flat ≡ s.flat) →
+          event by v s ≡ counted (next_fetch v p s ∷ []) (fell by v p s) → (events by v j s).flat ≡ s.flat
       first_or zero lt before at = ap (λ (q : Moment). q.flat) (events_none by v s)
       first_or (suc i) lt before at =
           let one : suc i ≡ 1 + i = omega arith in
@@ -138,14 +138,14 @@ module _ (by : Policy) (v : ImageData) (s : Moment) (going : is_some s.flat.mach
           ∙ before i (omega (arith, lt))
 
       first_ahead : (j : ℕ) → j < 1 + step_size 1 s.flat.machine (place_of v s.flat.machine.pc) → ((events by v j s).here ≡ None → ⊥) →
-          ((i : ℕ) → i < step_size 1 s.flat.machine (place_of v s.flat.machine.pc) → ((events by v i (counted (fetch (index_in s.kept p + s.spent) s.sets ∷ []) (fell by v p s))).here ≡ None → ⊥) →
-          length (events by v i (counted (fetch (index_in s.kept p + s.spent) s.sets ∷ []) (fell by v p s))).words + 1 ≤ suc (length s.words) + step_size 0 s.flat.machine (place_of v s.flat.machine.pc)) →
-          event by v s ≡ counted (fetch (index_in s.kept p + s.spent) s.sets ∷ []) (fell by v p s) → step_fetches v s.flat.machine (Some p) ≡ 1 + step_size 0 s.flat.machine (place_of v s.flat.machine.pc) →
+          ((i : ℕ) → i < step_size 1 s.flat.machine (place_of v s.flat.machine.pc) → ((events by v i (counted (next_fetch v p s ∷ []) (fell by v p s))).here ≡ None → ⊥) →
+          length (events by v i (counted (next_fetch v p s ∷ []) (fell by v p s))).words + 1 ≤ suc (length s.words) + step_size 0 s.flat.machine (place_of v s.flat.machine.pc)) →
+          event by v s ≡ counted (next_fetch v p s ∷ []) (fell by v p s) → step_fetches v s.flat.machine (Some p) ≡ 1 + step_size 0 s.flat.machine (place_of v s.flat.machine.pc) →
           length (events by v j s).words + 1 ≤ length s.words + step_fetches v s.flat.machine (Some p)
       first_ahead zero lt inside ahead at fetches_is = let same = ap (λ (q : Moment). length q.words) (events_none by v s) in omega (arith, same, fetches_is)
       first_ahead (suc i) lt inside ahead at fetches_is =
           let one : suc i ≡ 1 + i = omega arith in
-          let is : events by v (suc i) s ≡ events by v i (counted (fetch (index_in s.kept p + s.spent) s.sets ∷ []) (fell by v p s)) =
+          let is : events by v (suc i) s ≡ events by v i (counted (next_fetch v p s ∷ []) (fell by v p s)) =
           ap (λ (n : ℕ). events by v n s) one ∙ events_more by v 1 i s ∙ ap (λ (q : Moment). events by v i q) (events_one by v s ∙ at) in
           let up = ahead i (omega (arith, lt)) (λ none. inside (ap (λ (q : Moment). q.here) is ∙ none)) in
           let same = ap (λ (q : Moment). length q.words) is in
@@ -217,7 +217,7 @@ module _ (by : Policy) (v : ImageData) (k : ℕ) (s : Moment) (h : Here) (going 
   more_after rest =
       let f = s.flat.machine in
       let falls = fall_words v s.flat.machine h (written_in s) in
-      let own = step_words s.flat.machine (settled v s.flat.machine h) (written_by by v (written_in s) (fall_transfers v s.flat.machine h)) in
+      let own = step_words v s.flat.machine (settled v s.flat.machine h) (written_by by v (written_in s) (fall_transfers v s.flat.machine h)) in
       let others = words_run by v k (held_step s.flat) next_here (written_by by v (written_by by v (written_in s) (fall_transfers v s.flat.machine h)) (step_transfers s.flat.machine (settled v s.flat.machine h) (held_step s.flat).machine)) in
       let c = made.count in
       let d = rest.count in

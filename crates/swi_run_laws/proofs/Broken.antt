@@ -1,5 +1,5 @@
 -- What stands where a device broke a machine instruction off.
-use Rattle.std.proofs.Common.{◌≡◌, if◌then◌else◌, nat_lt, ℕ, zero, suc, ◌+◌, ◌^◌, ◌<◌, ◌≤◌, Bool, true, false, List, [], ◌∷◌, ◌++◌, length, take, Option, Some, None, is_some, refl, sym, ap, subst, ◌∙◌, inl, inr, arith}
+use Rattle.std.proofs.Common.{◌≡◌, if◌then◌else◌, nat_lt, ℕ, zero, suc, ◌+◌, ◌^◌, ◌<◌, ◌≤◌, Bool, true, false, List, [], ◌∷◌, ◌++◌, length, take, Option, Some, None, is_some, refl, sym, ap, subst, ◌∙◌, inl, inr, arith, slice_index}
 use Rattle.std.proofs.lemmas.List.{append_assoc}
 use Rattle.std.specs.Io.KnownBytes.{Appends, Consumes}
 use Rattle.swi_outside.specs.Causes.{counted as with_one, risen}
@@ -27,37 +27,37 @@ use Rattle.swi_hart.proofs.Growing.{after_one}
 use Rattle.swi_hart.proofs.Midway.{step_follows}
 use Rattle.swi_hart.proofs.Taking.{input_shrinks}
 use Rattle.swi_board.specs.Board.{BoardWithDevices}
-use Rattle.swi_board.specs.Fetching.{index_in}
 use Rattle.swi_board.specs.Ran.{Unasked, next_of}
 use Rattle.swi_board.specs.Transfers.{Here, at_fall, before_last, spent, spent_by}
-use Rattle.swi_board.proofs.Fetching.{under_is, word_at_place}
+use Rattle.swi_board.proofs.Fetching.{HoldsUnder, holds_under, under_is, word_at_place}
+use Rattle.swi_hart.proofs.Fitting.{matched_fits}
 use Rattle.swi_board.proofs.Held.{same_steps}
 use Rattle.swi_run_laws.specs.Broken.{Broke, DeviceBroke, InOrder, RamBroke}
-use Rattle.swi_board.specs.Moments.{Moment, Policy, completed, counted, event, executed, fell, led, stepped_at}
+use Rattle.swi_board.specs.Moments.{Moment, Policy, completed, counted, event, executed, fell, led, next_fetch, stepped_at}
 use Rattle.swi_board.specs.BoardRan.{BrokeOff}
 use Rattle.swi_board.specs.Tracking.{Point, Tracks, point_of}
 use Rattle.swi_run_laws.proofs.Inside.{exit_serves}
 
 -- the words of a moment's event are those under control
-event_words : (by : Policy) (v : ImageData) (s : Moment) → s.flat.machine.ending ≡ None → (event by v s).words ≡ word_at_place s.here s.kept s.spent s.sets ++ s.words
+event_words : (by : Policy) (v : ImageData) (s : Moment) → s.flat.machine.ending ≡ None → (event by v s).words ≡ word_at_place v s.here s.kept s.spent s.sets ++ s.words
 event_words by v s on = ap (λ (e : Option End). (if is_some e then s else stepped_at by v s.here s).words) on ∙ by_here s.here
   where
-    by_words : (p : ℕ × ℕ) (t : Bool) → (counted (fetch (index_in s.kept p + s.spent) s.sets ∷ []) (if t then led s else completed by v (Some p) s)).words ≡ fetch (index_in s.kept p + s.spent) s.sets ∷ s.words
+    by_words : (p : ℕ × ℕ) (t : Bool) → (counted (next_fetch v p s ∷ []) (if t then led s else completed by v (Some p) s)).words ≡ next_fetch v p s ∷ s.words
     by_words p true = refl
     by_words p false = refl
 
-    by_fall : (p : ℕ × ℕ) (t : Bool) → (counted (fetch (index_in s.kept p + s.spent) s.sets ∷ []) (if t then fell by v p s else executed by v p s)).words ≡ fetch (index_in s.kept p + s.spent) s.sets ∷ s.words
+    by_fall : (p : ℕ × ℕ) (t : Bool) → (counted (next_fetch v p s ∷ []) (if t then fell by v p s else executed by v p s)).words ≡ next_fetch v p s ∷ s.words
     by_fall p true = refl
     by_fall p false = by_words p (nat_lt s.spent (before_last s.flat.machine (original s.flat.machine) (slots s.flat.machine)))
 
-    by_here : (h : Here) → (stepped_at by v h s).words ≡ word_at_place h s.kept s.spent s.sets ++ s.words
+    by_here : (h : Here) → (stepped_at by v h s).words ≡ word_at_place v h s.kept s.spent s.sets ++ s.words
     by_here None = refl
     by_here (Some p) = by_fall p (at_fall v s.flat.machine (Some p))
 
 -- in the count of the ram
-fetch_since : (c : Control) (n sets : ℕ) → fetch_under c (risen n sets) ≡ since n (fetch_under c sets)
-fetch_since (At i b o stage) n sets = refl
-fetch_since Outside n sets = refl
+fetch_since : (c : Control) (n sets : ℕ) (held : List ℕ) → fetch_under c (risen n sets) held ≡ since n (fetch_under c sets held)
+fetch_since (At i b o stage) n sets held = refl
+fetch_since Outside n sets held = refl
 
 take_nil : (n : ℕ) → ◌≡◌ {A = List ℕ} (take n []) []
 take_nil zero = refl
@@ -77,37 +77,37 @@ input_next true f input n le = le
 input_next false f input n le = omega (arith, le, input_shrinks f input)
 
 module _ (by : Policy) (span : ℕ) (v : ImageData) (s : Moment) (from a b : Point) (at : Tracks span v s from a) (running : a.hart.machine.ending ≡ None) (word : a.hart.machine.pc < 2 ^ 32)
-    (once : (c f g : ℕ) → Placed a.kept c f → Placed a.kept c g → f ≡ g) where
+    (once : (c f g : ℕ) → Placed a.kept c f → Placed a.kept c g → f ≡ g) (held : HoldsUnder v a.kept a.ram.words a.hart.control) where
   flat_on : s.flat.machine.ending ≡ None
   flat_on = sym (same_steps v a.kept s.flat.machine a.hart.machine a.hart.control at.matches).1 ∙ running
 
   spends : spent s.flat.machine a.hart.control ≡ s.spent
   spends = sym (ap (λ (e : Option End). spent_by e s.flat.machine a.hart.control) flat_on) ∙ at.spent
 
-  under : fetch_under a.hart.control s.sets ≡ word_at_place s.here s.kept s.spent s.sets
+  under : fetch_under a.hart.control s.sets a.ram.words ≡ word_at_place v s.here s.kept s.spent s.sets
   under =
-      sym (under_is v a.kept s.flat.machine a.hart.machine a.hart.control s.sets once running at.matches)
-      ∙ ap (λ (h : Here). word_at_place h a.kept (spent s.flat.machine a.hart.control) s.sets) (at.here running)
-      ∙ ap (λ (n : ℕ). word_at_place s.here a.kept n s.sets) spends
-      ∙ ap (λ (r : Record). word_at_place s.here r s.spent s.sets) at.kept
+      sym (under_is v a.kept a.ram.words s.flat.machine a.hart.machine a.hart.control s.sets once held running at.matches)
+      ∙ ap (λ (h : Here). word_at_place v h a.kept (spent s.flat.machine a.hart.control) s.sets) (at.here running)
+      ∙ ap (λ (n : ℕ). word_at_place v s.here a.kept n s.sets) spends
+      ∙ ap (λ (r : Record). word_at_place v s.here r s.spent s.sets) at.kept
 
   -- some word is under control, unless it is outside
   inside_now : (a.hart.control ≡ Outside → ⊥) → s.here ≡ None → ⊥
   inside_now inside none = by_control a.hart.control inside under
     where
-      by_control : (c : Control) → (c ≡ Outside → ⊥) → fetch_under c s.sets ≡ word_at_place s.here s.kept s.spent s.sets → ⊥
-      by_control (At i b o stage) inside is = let clash : ◌≡◌ {A = List Fetch} (fetch i s.sets ∷ []) [] = is ∙ ap (λ (h : Here). word_at_place h s.kept s.spent s.sets) none in let bad : ⊥ = cc in bad
+      by_control : (c : Control) → (c ≡ Outside → ⊥) → fetch_under c s.sets a.ram.words ≡ word_at_place v s.here s.kept s.spent s.sets → ⊥
+      by_control (At i b o stage) inside is = let clash : ◌≡◌ {A = List Fetch} (fetch i s.sets (slice_index a.ram.words i) ∷ []) [] = is ∙ ap (λ (h : Here). word_at_place v h s.kept s.spent s.sets) none in let bad : ⊥ = cc in bad
       by_control Outside inside is = inside refl
 
   -- where the word under control was fetched
-  words_next : b.ram.fetched_at ≡ fetch_under a.hart.control a.ram.sets ++ a.ram.fetched_at → b.ram.fetched_at ≡ since from.ram.sets (event by v s).words ++ from.ram.fetched_at
+  words_next : b.ram.fetched_at ≡ fetch_under a.hart.control a.ram.sets a.ram.words ++ a.ram.fetched_at → b.ram.fetched_at ≡ since from.ram.sets (event by v s).words ++ from.ram.fetched_at
   words_next more =
-      more ∙ ap (λ (n : ℕ). fetch_under a.hart.control n ++ a.ram.fetched_at) at.ram.sets
-      ∙ ap (λ (l : List Fetch). l ++ a.ram.fetched_at) (fetch_since a.hart.control from.ram.sets s.sets)
+      more ∙ ap (λ (n : ℕ). fetch_under a.hart.control n a.ram.words ++ a.ram.fetched_at) at.ram.sets
+      ∙ ap (λ (l : List Fetch). l ++ a.ram.fetched_at) (fetch_since a.hart.control from.ram.sets s.sets a.ram.words)
       ∙ ap (λ (l : List Fetch). since from.ram.sets l ++ a.ram.fetched_at) under
-      ∙ ap (λ (l : List Fetch). since from.ram.sets (word_at_place s.here s.kept s.spent s.sets) ++ l) at.words
-      ∙ sym (append_assoc (since from.ram.sets (word_at_place s.here s.kept s.spent s.sets)) (since from.ram.sets s.words) from.ram.fetched_at)
-      ∙ ap (λ (l : List Fetch). l ++ from.ram.fetched_at) (sym (since_append from.ram.sets (word_at_place s.here s.kept s.spent s.sets) s.words))
+      ∙ ap (λ (l : List Fetch). since from.ram.sets (word_at_place v s.here s.kept s.spent s.sets) ++ l) at.words
+      ∙ sym (append_assoc (since from.ram.sets (word_at_place v s.here s.kept s.spent s.sets)) (since from.ram.sets s.words) from.ram.fetched_at)
+      ∙ ap (λ (l : List Fetch). l ++ from.ram.fetched_at) (sym (since_append from.ram.sets (word_at_place v s.here s.kept s.spent s.sets) s.words))
       ∙ ap (λ (l : List Fetch). since from.ram.sets l ++ from.ram.fetched_at) (sym (event_words by v s flat_on))
 
   fetches_next : b.ram.fetches ≡ fetches_after a.hart.control a.ram.fetches → b.ram.fetches ≡ risen from.ram.fetches (length (event by v s).words)
@@ -118,14 +118,14 @@ module _ (by : Policy) (span : ℕ) (v : ImageData) (s : Moment) (from a b : Poi
       one_more : (n k : ℕ) → with_one (risen n k) ≡ risen n (suc k)
       one_more n k = grind arith
 
-      by_control : (c : Control) (n : ℕ) (words : List Fetch) → fetches_after c (risen n (length words)) ≡ risen n (length (fetch_under c s.sets ++ words))
+      by_control : (c : Control) (n : ℕ) (words : List Fetch) → fetches_after c (risen n (length words)) ≡ risen n (length (fetch_under c s.sets a.ram.words ++ words))
       by_control (At i b o stage) n words = one_more n (length words)
       by_control Outside n words = refl
 
   one_longer : (a.hart.control ≡ Outside → ⊥) → length (event by v s).words ≡ length s.words + 1
   one_longer inside = ap (λ (l : List Fetch). length l) (event_words by v s flat_on) ∙ ap (λ (l : List Fetch). length (l ++ s.words)) (sym under) ∙ by_control a.hart.control inside
     where
-      by_control : (c : Control) → (c ≡ Outside → ⊥) → length (fetch_under c s.sets ++ s.words) ≡ length s.words + 1
+      by_control : (c : Control) → (c ≡ Outside → ⊥) → length (fetch_under c s.sets a.ram.words ++ s.words) ≡ length s.words + 1
       by_control (At i b o stage) inside = omega arith
       by_control Outside inside = absurd (inside refl)
 
@@ -200,18 +200,28 @@ module _ (by : Policy) (span : ℕ) (v : ImageData) (s : Moment) (from a b : Poi
           whole 0 0 (subst (λ (o : Option (List ℕ)). Appends a.out o []) (sym kept.0) (Appends-none a.out)) (subst (λ (o : Option (List ℕ)). Appends a.err o []) (sym kept.1) (Appends-none a.err)) (λ e. (refl, refl)) taken input few
       by_fault SinkFault is same out err taken input few = whole out.0 err.0 out.1 err.1 (λ e. (let clash : SourceFault ≡ SinkFault = sym e ∙ is in let bad : ⊥ = cc in absurd bad)) taken input few
 
+-- the ram holds what stands at the word under control
+held_at : {S : Type 0} (k : ServiceOf S) (laws : IsService k) (v : ImageData) (mid : BoardWithDevices S) (s : Moment) (from : Point) → k.sound mid.rom v mid.ram.words → Tracks (k.span (k.setting mid.rom)) v s from (point_of k mid) →
+    mid.hart.machine.ending ≡ None → mid.hart.machine.pc < 2 ^ 32 → HoldsUnder v (k.kept mid.rom) mid.ram.words mid.hart.control
+held_at {S} k laws v mid s from sound at running short =
+    holds_under v (k.kept mid.rom) (k.span (k.setting mid.rom)) mid.ram.words mid.hart (laws.coherent mid.rom v mid.ram.words sound)
+    (matched_fits v (k.kept mid.rom) s.flat.machine mid.hart at.image at.matches) running short
+
 -- Of a board: whatever fails, the moment before tells what stands.
 pub broke_off : {S : Type 0} (k : ServiceOf S) (laws : IsService k) (v : ImageData) (n : ℕ) (mid new : BoardWithDevices S) (fault : BoardFault) → k.sound mid.rom v mid.ram.words → BrokeOff k v n mid new fault →
     (s : Moment) (from : Point) → Tracks (k.span (k.setting mid.rom)) v s from (point_of k mid) → Broke (k.policy (k.setting mid.rom)) v fault s from (point_of k new)
 broke_off {S} k laws v n mid new RamFault sound off s from at =
     let same = off.broke.others_stay refl in
     ram_broke (k.policy (k.setting mid.rom)) (k.span (k.setting mid.rom)) v s from (point_of k mid) (point_of k new) at off.running off.short (laws.coherent mid.rom v mid.ram.words sound).once
+    (held_at k laws v mid s from sound at off.running off.short)
     (ap (λ (d : Devices). d.input.left) same) (ap (λ (d : Devices). d.output.held) same) (ap (λ (d : Devices). d.error.held) same) (off.broke.ram_failed refl)
 broke_off {S} k laws v n mid new SourceFault sound off s from at =
     device_broke (k.policy (k.setting mid.rom)) (k.span (k.setting mid.rom)) v s from (point_of k mid) (point_of k new) at off.running off.short (laws.coherent mid.rom v mid.ram.words sound).once
+    (held_at k laws v mid s from sound at off.running off.short)
     SourceFault (off.broke.broke sound s.flat.input at.input) (λ e. (let u = off.broke.unwritten refl in (ap (λ (d : SinkState). d.held) u.0, ap (λ (d : SinkState). d.held) u.1))) (λ e. cc) off.broke.unserved.1
 broke_off {S} k laws v n mid new SinkFault sound off s from at =
     device_broke (k.policy (k.setting mid.rom)) (k.span (k.setting mid.rom)) v s from (point_of k mid) (point_of k new) at off.running off.short (laws.coherent mid.rom v mid.ram.words sound).once
+    (held_at k laws v mid s from sound at off.running off.short)
     SinkFault (off.broke.broke sound s.flat.input at.input) (λ e. cc) (λ e. cc) off.broke.unserved.1
 
 nothing_written : (t : Bool) (f : Machine) (input : List ℕ) → (held_made f input).output ≡ [] → (if t then held_made f input else quiet f input).output ≡ []

@@ -4,7 +4,6 @@ use Rattle.std.proofs.lemmas.Bool.Decides.{nat_tests}
 use Rattle.swi_isa.specs.declared.instr.Instr.{Instr}
 use Rattle.swi_isa.specs.declared.instr.Instr.TheVariants as instr
 use Rattle.swi_isa.specs.Decode.{decoded}
-use Rattle.swi_outside.specs.CacheRam.{fetch}
 use Rattle.swi_memory.specs.Bus.{fetched}
 use Rattle.swi_exec.specs.Registers.{with_reg}
 use Rattle.swi_exec.specs.Execute.{address_of}
@@ -28,8 +27,7 @@ use Rattle.swi_hart.specs.Hart.{Stepped, exit_kind, is_fall, left_made, next_mad
 use Rattle.swi_hart.specs.Leaving.{HasPlace, exit_transfer, jump_transfer, moved, transfer_at}
 use Rattle.swi_hart.specs.Matching.{Arrives, BoardStep, ExitStep, Follows, HomeStep, Jumps, JumpsBy, Matches}
 use Rattle.swi_hart.proofs.Midway.{at_exit, step_follows}
-use Rattle.swi_board.specs.Fetching.{index_in}
-use Rattle.swi_board.specs.Moments.{Moment, Policy, completed, counted, event, executed, fell, led, stepped_at}
+use Rattle.swi_board.specs.Moments.{Moment, Policy, completed, counted, event, executed, fell, led, next_fetch, stepped_at}
 use Rattle.swi_board.specs.Transfers.{Here, after_all, at_fall, before_last, here_after, here_of, jumps_as, leaves_by, spent}
 use Rattle.swi_board.proofs.Held.{same_steps}
 use Rattle.swi_board.proofs.Progress.{Completes, Progress, made_step, lead, fall, beside, progress}
@@ -175,8 +173,8 @@ module _ (by : Policy) (v : ImageData) (s : Moment) (r : Record) (m : Machine) (
   completes p is at plain done =
       subst (λ (t : Moment). Serves t)
       (sym (event_at p at
-      ∙ ap (λ (q : Bool). counted (fetch (index_in s.kept p + s.spent) s.sets ∷ []) (if q then fell by v p s else executed by v p s)) plain
-      ∙ ap (λ (q : Bool). counted (fetch (index_in s.kept p + s.spent) s.sets ∷ []) (if q then led s else completed by v (Some p) s)) (last s.spent (before_last s.flat.machine (original s.flat.machine) (slots s.flat.machine)) (omega (arith, done.cost, spends))))) (
+      ∙ ap (λ (q : Bool). counted (next_fetch v p s ∷ []) (if q then fell by v p s else executed by v p s)) plain
+      ∙ ap (λ (q : Bool). counted (next_fetch v p s ∷ []) (if q then led s else completed by v (Some p) s)) (last s.spent (before_last s.flat.machine (original s.flat.machine) (slots s.flat.machine)) (omega (arith, done.cost, spends))))) (
         bytes,
         goes_on,
         λ none. arrives (held_step s.flat).machine (here_after v s.flat.machine (Some p) (held_step s.flat).machine) (done.here goes_on)
@@ -210,6 +208,6 @@ module _ (by : Policy) (v : ImageData) (s : Moment) (r : Record) (m : Machine) (
       by_case (lead p part at plain same there deeper) = absurd (not_alone r w.block same)
       by_case (fall p part at falls none moves there none') =
           subst (λ (t : Moment). Serves t)
-          (sym (event_at p at ∙ ap (λ (q : Bool). counted (fetch (index_in s.kept p + s.spent) s.sets ∷ []) (if q then fell by v p s else executed by v p s)) falls))
+          (sym (event_at p at ∙ ap (λ (q : Bool). counted (next_fetch v p s ∷ []) (if q then fell by v p s else executed by v p s)) falls))
           (none_gone s.flat, sym (same_steps v r s.flat.machine m c matches).1 ∙ running, arrives s.flat.machine (place_of v s.flat.machine.pc) there)
       by_case (beside t is same over) = absurd (not_alone r w.block same)

@@ -1,14 +1,15 @@
 -- A run from midway in an instruction.
 use Rattle.std.proofs.Common.{◌≡◌, if◌then◌else◌, ℕ, zero, suc, ◌+◌, ◌-◌, ◌≤◌, nat_lt, Bool, true, false, List, [], ◌∷◌, ◌++◌, reverse, Option, Some, None, is_some, refl, sym, ap, ◌∙◌, zero-add, arith, append-nil}
 use Rattle.std.proofs.lemmas.List.{append_assoc}
-use Rattle.swi_outside.specs.CacheRam.{Fetch, fetch}
+use Rattle.swi_outside.specs.CacheRam.{Fetch}
 use Rattle.swi_calls.specs.declared.end.End.{End}
 use Rattle.swi_image.specs.Format.{ImageData}
+use Rattle.swi_rom.specs.Standing.{word_in}
 use Rattle.swi_hart.specs.Hart.{original, slots}
 use Rattle.swi_board.specs.Fetching.{fetches_from, index_in, words_run}
 use Rattle.swi_board.specs.Transfers.{Here, at_fall, before_last, cost}
 use Rattle.swi_run_laws.specs.After.{IsAfter, IsAfterMidway}
-use Rattle.swi_board.specs.Moments.{Moment, Policy, completed, counted, event, events, executed, fell, led, stepped_at, written_in}
+use Rattle.swi_board.specs.Moments.{Moment, Policy, completed, counted, event, events, executed, fell, led, next_fetch, stepped_at, written_in}
 use Rattle.swi_run_laws.proofs.After.{Leads, events_more, is_after, leads}
 
 -- the same moment with this count and these words
@@ -39,7 +40,7 @@ one_adds by v s = by_ending s.flat.machine.ending
 
     by_here : (h : Here) → Adds s (stepped_at by v h s) (λ a w. stepped_at by v h (with_count a w s))
     by_here None = whole None []
-    by_here (Some p) = by_fall p (fetch (index_in s.kept p + s.spent) s.sets ∷ []) (at_fall v s.flat.machine (Some p))
+    by_here (Some p) = by_fall p (next_fetch v p s ∷ []) (at_fall v s.flat.machine (Some p))
 
     none_more : (n : ℕ) → n ≡ n + 0
     none_more n = omega arith
@@ -83,14 +84,14 @@ module _ (by : Policy) (v : ImageData) (k : ℕ) (s : Moment) (p : ℕ × ℕ) (
   abbrev all : ℕ
   all = cost v k s.flat (Some p)
 
-  led_to : Leads p s.spent first (events by v s.spent first)
+  led_to : Leads v p s.spent first (events by v s.spent first)
   led_to = leads by v first p here going plain refl s.spent few
 
   same : (a b : Moment) → a.flat ≡ b.flat → a.here ≡ b.here → a.spent ≡ b.spent → a.kept ≡ b.kept → a.count ≡ b.count → a.sets ≡ b.sets → a.words ≡ b.words → a ≡ b
   same a b e f g h i j l = λ x. record { flat = e x; here = f x; spent = g x; kept = h x; count = i x; sets = j x; words = l x }
 
   abbrev before : List Fetch
-  before = reverse (fetches_from (index_in s.kept p) s.spent s.sets)
+  before = reverse (fetches_from (word_in v s.kept p.0) (index_in s.kept p) s.spent s.sets)
 
   there : events by v s.spent first ≡ with_count s.spent before s
   there = same (events by v s.spent first) (with_count s.spent before s) led_to.flat (led_to.here ∙ sym here) led_to.spent led_to.kept (led_to.count ∙ zero-add s.spent) led_to.sets (led_to.words ∙ append-nil before)

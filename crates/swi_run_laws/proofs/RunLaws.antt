@@ -10,12 +10,12 @@ use Rattle.swi_calls.specs.State.{FlatState}
 use Rattle.swi_image.specs.Format.{ImageData}
 use Rattle.swi_rom.specs.Record.{Record, Transfer, direct, writes}
 use Rattle.swi_hart.specs.Hart.{original, slots}
-use Rattle.swi_board.specs.Fetching.{index_in, words_run}
+use Rattle.swi_board.specs.Fetching.{words_run}
 use Rattle.swi_board.proofs.Fetching.{words_many}
 use Rattle.swi_board.specs.Transfers.{Here, after_all, at_fall, before_last, cost, fetches, step_transfers}
 use Rattle.swi_board.proofs.Held.{held_steps, run_snoc}
 use Rattle.swi_run_laws.specs.After.{IsAfter}
-use Rattle.swi_board.specs.Moments.{GoesOn, IsRun, Moment, Policy, completed, counted, event, events, executed, fell, led, served, stepped_at, written_in}
+use Rattle.swi_board.specs.Moments.{GoesOn, IsRun, Moment, Policy, completed, counted, event, events, executed, fell, led, next_fetch, served, stepped_at, written_in}
 use Rattle.swi_run_laws.proofs.After.{events_more, goes_before, is_after, is_within}
 
 -- ---- where the flat machine stands
@@ -40,13 +40,13 @@ steps_are (suc k) s on = elim (cases_Bool (is_some s.machine.ending)) [
 pub event_flat : (by : Policy) (v : ImageData) (s : Moment) → ((event by v s).flat ≡ s.flat) ⊎ ((event by v s).flat ≡ held_step s.flat) × (is_some s.flat.machine.ending ≡ false)
 event_flat by v s = by_ending s.flat.machine.ending refl
   where
-    by_words : (p : ℕ × ℕ) (t : Bool) (on : is_some s.flat.machine.ending ≡ false) → ((counted (fetch (index_in s.kept p + s.spent) s.sets ∷ []) (if t then led s else completed by v (Some p) s)).flat ≡ s.flat)
-        ⊎ ((counted (fetch (index_in s.kept p + s.spent) s.sets ∷ []) (if t then led s else completed by v (Some p) s)).flat ≡ held_step s.flat) × (is_some s.flat.machine.ending ≡ false)
+    by_words : (p : ℕ × ℕ) (t : Bool) (on : is_some s.flat.machine.ending ≡ false) → ((counted (next_fetch v p s ∷ []) (if t then led s else completed by v (Some p) s)).flat ≡ s.flat)
+        ⊎ ((counted (next_fetch v p s ∷ []) (if t then led s else completed by v (Some p) s)).flat ≡ held_step s.flat) × (is_some s.flat.machine.ending ≡ false)
     by_words p true on = inl refl
     by_words p false on = inr (refl, on)
 
-    by_fall : (p : ℕ × ℕ) (t : Bool) (on : is_some s.flat.machine.ending ≡ false) → ((counted (fetch (index_in s.kept p + s.spent) s.sets ∷ []) (if t then fell by v p s else executed by v p s)).flat ≡ s.flat)
-        ⊎ ((counted (fetch (index_in s.kept p + s.spent) s.sets ∷ []) (if t then fell by v p s else executed by v p s)).flat ≡ held_step s.flat) × (is_some s.flat.machine.ending ≡ false)
+    by_fall : (p : ℕ × ℕ) (t : Bool) (on : is_some s.flat.machine.ending ≡ false) → ((counted (next_fetch v p s ∷ []) (if t then fell by v p s else executed by v p s)).flat ≡ s.flat)
+        ⊎ ((counted (next_fetch v p s ∷ []) (if t then fell by v p s else executed by v p s)).flat ≡ held_step s.flat) × (is_some s.flat.machine.ending ≡ false)
     by_fall p true on = inl refl
     by_fall p false on = by_words p (nat_lt s.spent (before_last s.flat.machine (original s.flat.machine) (slots s.flat.machine))) on
 
@@ -195,11 +195,11 @@ module _ (by : Policy) (v : ImageData) (first : ℕ) (rises : (r : Record) (v : 
       whole : (h : Here) (ws : List Fetch) → Written first (counted ws (completed by v h s))
       whole h ws = served_written (step_transfers s.flat.machine h (held_step s.flat).machine) s is
 
-      by_words : (p : ℕ × ℕ) (t : Bool) → Written first (counted (fetch (index_in s.kept p + s.spent) s.sets ∷ []) (if t then led s else completed by v (Some p) s))
+      by_words : (p : ℕ × ℕ) (t : Bool) → Written first (counted (next_fetch v p s ∷ []) (if t then led s else completed by v (Some p) s))
       by_words p true = is
-      by_words p false = whole (Some p) (fetch (index_in s.kept p + s.spent) s.sets ∷ [])
+      by_words p false = whole (Some p) (next_fetch v p s ∷ [])
 
-      by_fall : (p : ℕ × ℕ) (t : Bool) → Written first (counted (fetch (index_in s.kept p + s.spent) s.sets ∷ []) (if t then fell by v p s else executed by v p s))
+      by_fall : (p : ℕ × ℕ) (t : Bool) → Written first (counted (next_fetch v p s ∷ []) (if t then fell by v p s else executed by v p s))
       by_fall p true = served_written (direct p.0 p.1 s.flat.machine.pc ∷ []) s is
       by_fall p false = by_words p (nat_lt s.spent (before_last s.flat.machine (original s.flat.machine) (slots s.flat.machine)))
 
@@ -222,12 +222,12 @@ module _ (by : Policy) (v : ImageData) (first : ℕ) (rises : (r : Record) (v : 
 event_grows : (by : Policy) (v : ImageData) (s : Moment) → (xs : List Fetch) × ((event by v s).words ≡ xs ++ s.words)
 event_grows by v s = by_ending s.flat.machine.ending
   where
-    by_words : (p : ℕ × ℕ) (t : Bool) → (xs : List Fetch) × ((counted (fetch (index_in s.kept p + s.spent) s.sets ∷ []) (if t then led s else completed by v (Some p) s)).words ≡ xs ++ s.words)
-    by_words p true = (fetch (index_in s.kept p + s.spent) s.sets ∷ [], refl)
-    by_words p false = (fetch (index_in s.kept p + s.spent) s.sets ∷ [], refl)
+    by_words : (p : ℕ × ℕ) (t : Bool) → (xs : List Fetch) × ((counted (next_fetch v p s ∷ []) (if t then led s else completed by v (Some p) s)).words ≡ xs ++ s.words)
+    by_words p true = (next_fetch v p s ∷ [], refl)
+    by_words p false = (next_fetch v p s ∷ [], refl)
 
-    by_fall : (p : ℕ × ℕ) (t : Bool) → (xs : List Fetch) × ((counted (fetch (index_in s.kept p + s.spent) s.sets ∷ []) (if t then fell by v p s else executed by v p s)).words ≡ xs ++ s.words)
-    by_fall p true = (fetch (index_in s.kept p + s.spent) s.sets ∷ [], refl)
+    by_fall : (p : ℕ × ℕ) (t : Bool) → (xs : List Fetch) × ((counted (next_fetch v p s ∷ []) (if t then fell by v p s else executed by v p s)).words ≡ xs ++ s.words)
+    by_fall p true = (next_fetch v p s ∷ [], refl)
     by_fall p false = by_words p (nat_lt s.spent (before_last s.flat.machine (original s.flat.machine) (slots s.flat.machine)))
 
     by_here : (h : Here) → (xs : List Fetch) × ((stepped_at by v h s).words ≡ xs ++ s.words)

@@ -3,6 +3,7 @@ use Rattle.std.specs.Prelude.{◌≡◌, ℕ, ◌+◌, ◌<◌, ◌≤◌, List,
 use Rattle.swi_outside.specs.CacheRam.{Fetch}
 use Rattle.swi_calls.specs.Held.{held_run}
 use Rattle.swi_image.specs.Format.{ImageData}
+use Rattle.swi_rom.specs.Standing.{word_in}
 use Rattle.swi_board.specs.Fetching.{fetches_from, index_in, words_run}
 use Rattle.swi_board.specs.Transfers.{Here, after_all, cost, fetches, here_run, transfers}
 use Rattle.swi_board.specs.Moments.{Moment, Policy, written_in}
@@ -35,6 +36,6 @@ pub record IsAfterMidway (by : Policy) (v : ImageData) (k : ℕ) (p : ℕ × ℕ
   -- the words of the run, but those executed before
   pub more : List Fetch
   pub words : t.words ≡ more ++ s.words
-  pub more_is : more ++ reverse (fetches_from (index_in s.kept p) s.spent s.sets) ≡ reverse (words_run by v k s.flat (Some p) (written_in s))
+  pub more_is : more ++ reverse (fetches_from (word_in v s.kept p.0) (index_in s.kept p) s.spent s.sets) ≡ reverse (words_run by v k s.flat (Some p) (written_in s))
   pub here : t.flat.machine.ending ≡ None → t.here ≡ here_run v k s.flat (Some p)
   pub spent : t.spent ≡ 0

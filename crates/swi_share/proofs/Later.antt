@@ -9,8 +9,9 @@ use Rattle.swi_calls.specs.Held.{held_step}
 use Rattle.swi_calls.specs.State.{FlatState}
 use Rattle.swi_image.specs.Format.{ImageData}
 use Rattle.swi_rom.specs.Record.{Record, Transfer, writes}
+use Rattle.swi_rom.specs.Standing.{word_in}
 use Rattle.swi_hart.specs.Hart.{original, slots}
-use Rattle.swi_board.specs.Fetching.{FetchedFront, HasFetched, Written, fall_words, fetches_from, index_in, step_words, words_run, written_by}
+use Rattle.swi_board.specs.Fetching.{FetchedFront, HasFetched, Written, fall_words, fetch_in, fetches_from, index_in, step_words, words_run, written_by}
 use Rattle.swi_board.specs.Moments.{Policy}
 use Rattle.swi_board.specs.Transfers.{Here, after_all, at_fall, fall_transfers, here_after, settled, step_cost, step_transfers}
 
@@ -18,7 +19,7 @@ use Rattle.swi_board.specs.Transfers.{Here, after_all, at_fall, fall_transfers, 
 
 pub later_none : (xs : List Fetch) → later 0 xs ≡ xs
 later_none [] = refl
-later_none (x ∷ xs) = ap (λ (n : ℕ). fetch x.index n ∷ later 0 xs) (none_more x.sets_before) ∙ ap (λ (l : List Fetch). x ∷ l) (later_none xs)
+later_none (x ∷ xs) = ap (λ (n : ℕ). fetch x.index n x.word ∷ later 0 xs) (none_more x.sets_before) ∙ ap (λ (l : List Fetch). x ∷ l) (later_none xs)
   where
     none_more : (n : ℕ) → 0 + n ≡ n
     none_more n = omega arith
@@ -62,19 +63,19 @@ written_behind policy v m w ts =
     sum : (a b c : ℕ) → a + b + c ≡ a + (b + c)
     sum a b c = omega arith
 
-fetches_behind : (i n m sets : ℕ) → fetches_from i n (m + sets) ≡ later m (fetches_from i n sets)
-fetches_behind i zero m sets = refl
-fetches_behind i (suc n) m sets = ap (λ (l : List Fetch). fetch i (m + sets) ∷ l) (fetches_behind (i + 1) n m sets)
+fetches_behind : (word : ℕ → ℕ) (i n m sets : ℕ) → fetches_from word i n (m + sets) ≡ later m (fetches_from word i n sets)
+fetches_behind word i zero m sets = refl
+fetches_behind word i (suc n) m sets = ap (λ (l : List Fetch). fetch i (m + sets) (word i) ∷ l) (fetches_behind word (i + 1) n m sets)
 
-step_behind : (f : Machine) (here : Here) (m : ℕ) (w : Written) → step_words f here (behind m w) ≡ later m (step_words f here w)
-step_behind f None m w = refl
-step_behind f (Some p) m w = fetches_behind (index_in w.kept p) (step_cost f (original f) (slots f)) m w.sets
+step_behind : (v : ImageData) (f : Machine) (here : Here) (m : ℕ) (w : Written) → step_words v f here (behind m w) ≡ later m (step_words v f here w)
+step_behind v f None m w = refl
+step_behind v f (Some p) m w = fetches_behind (word_in v w.kept p.0) (index_in w.kept p) (step_cost f (original f) (slots f)) m w.sets
 
 fall_behind : (v : ImageData) (f : Machine) (here : Here) (m : ℕ) (w : Written) → fall_words v f here (behind m w) ≡ later m (fall_words v f here w)
 fall_behind v f None m w = refl
 fall_behind v f (Some p) m w = by (at_fall v f (Some p))
   where
-    by : (t : Bool) → (if t then fetch (index_in w.kept p) (m + w.sets) ∷ [] else []) ≡ later m (if t then fetch (index_in w.kept p) w.sets ∷ [] else [])
+    by : (t : Bool) → (if t then fetch_in v (behind m w) p.0 (index_in w.kept p) ∷ [] else []) ≡ later m (if t then fetch_in v w p.0 (index_in w.kept p) ∷ [] else [])
     by true = refl
     by false = refl
 
@@ -98,7 +99,7 @@ words_behind policy v (suc k) s here m w =
     let first = written_by policy v w falls in
     let fell = written_behind policy v m w falls in
     goes_on_later (is_some s.machine.ending) m _ _ (three_later m _ _ _ _ _ _ (fall_behind v s.machine here m w)
-    (ap (λ (x : Written). step_words s.machine at x) fell ∙ step_behind s.machine at m first)
+    (ap (λ (x : Written). step_words v s.machine at x) fell ∙ step_behind v s.machine at m first)
     (ap (λ (x : Written). words_run policy v k (held_step s) next (written_by policy v x steps)) fell
     ∙ ap (λ (x : Written). words_run policy v k (held_step s) next x) (written_behind policy v m first steps)
     ∙ words_behind policy v k (held_step s) next m (written_by policy v first steps)))

@@ -45,10 +45,11 @@ use Rattle.swi_share.proofs.Scheduling.{anew, run_next, sets_are}
 use Rattle.swi_share.proofs.Stopped.{ram_stopped, sink_stopped}
 use Rattle.swi_answer.specs.declared.answer.Ending.TheVariants as ending
 use Rattle.swi_answer.specs.declared.answer.Refusal.TheVariants as refusal
+use Rattle.swi_task.specs.Runs.{refusal_of}
 use Rattle.swi_task.specs.Devices.{Devices}
 use Rattle.swi_task.proofs.Refusals.{calm_causes, causes_of, out_causes, rose_cause, same_count}
 use Rattle.swi_share_command.proofs.Sharing.{order_at, order_length, process_below, turn_below}
-use Rattle.swi_share_command.specs.RunShared.{EndsAlone, EventBroken, EventCutOff, EventUnfetched, IsAsAlone, IsPlaced, RamShared, ReportBroken, Shares, SharesOver, order_of, refusal_by, share_report, shared_end, start_of_guest}
+use Rattle.swi_share_command.specs.RunShared.{EndsAlone, EventBroken, EventCutOff, EventUnfetched, IsAsAlone, IsPlaced, RamShared, ReportBroken, Shares, SharesOver, order_of, share_report, shared_end, start_of_guest}
 
 -- ---- each program as alone
 
@@ -355,7 +356,7 @@ module _ (o : ShareOptions) (bytes : ℕ) (guests : List Guest) (d : Devices) (f
   }
 
   -- in an event
-  pub over_broken : (fault : BoardFault) → ScheduleRan order first after (Err fault) → SharesOver o bytes guests (with_streams d first) (with_streams d after) (Err (refusal_by fault))
+  pub over_broken : (fault : BoardFault) → ScheduleRan order first after (Err fault) → SharesOver o bytes guests (with_streams d first) (with_streams d after) (Err (refusal_of fault))
   over_broken SourceFault ran = absurd (ran.ends.stopped.broke.fed refl)
   over_broken SinkFault ran =
       let st = ran.ends in
@@ -373,6 +374,7 @@ module _ (o : ShareOptions) (bytes : ℕ) (guests : List Guest) (d : Devices) (f
             (record {
               input = no_cause refl (λ e. let bad : ⊥ = cc in bad);
               sinks = record { one_later = sinks.one_later; other_later = sinks.other_later; cause = λ _. sinks.cause refl; one_told = inr refl; other_told = inr refl };
+              once = λ e. let bad : ⊥ = cc in absurd bad;
             });
       }
   over_broken RamFault ran =
@@ -391,6 +393,7 @@ module _ (o : ShareOptions) (bytes : ℕ) (guests : List Guest) (d : Devices) (f
             (record {
               input = no_cause refl (λ e. let bad : ⊥ = cc in bad);
               sinks = pair_none (elim sinks.one_told [ inl e ↦ e | inr e ↦ absurd (let bad : ⊥ = cc in bad) ]) (elim sinks.other_told [ inl e ↦ e | inr e ↦ absurd (let bad : ⊥ = cc in bad) ]) (λ e. let bad : ⊥ = cc in bad);
+              once = λ e. let bad : ⊥ = cc in absurd bad;
             });
       }
 

@@ -28,8 +28,6 @@ use Rattle.swi_board.specs.Ran.{RamRan}
 use Rattle.swi_share.specs.declared.process.Guest.{Guest}
 use Rattle.swi_share.specs.Laws.{counts_of, events_of, unfetched}
 use Rattle.swi_share.specs.Pieces.{IsInPieces, WritesAlone}
-use Rattle.swi_hart.specs.declared.fault.BoardFault.{BoardFault}
-use Rattle.swi_hart.specs.declared.fault.BoardFault.TheVariants as board_fault
 use Rattle.swi_share.specs.Shared.{Context, Shared, shared_run}
 use Rattle.swi_share.specs.Starting.{AreGuests, shared_start}
 use Rattle.swi_share.specs.Waiting.{most_steps}
@@ -331,12 +329,6 @@ pub record FilesRefused (limits : RunLimits) (most : ℕ) (names : List (List �
 abbrev pub FilesUnread : RunLimits → ℕ → List (List ℕ) → ShelfState → ShelfState → Refusal → Type 0
 FilesUnread limits most names old new r =
     ((r ≡ refusal.ShelfFault) × ShelfBroke limits most names old new) ⊎ FilesRefused limits most names old new r
-
--- what programs are refused with over whose event a device broke off
-abbrev pub refusal_by : BoardFault → Refusal
-refusal_by board_fault.RamFault = refusal.RamFault
-refusal_by board_fault.SourceFault = refusal.SourceFault
-refusal_by board_fault.SinkFault = refusal.SinkFault
 
 -- why programs over a cache are refused
 abbrev pub IsShareErr : Refusal → Type 0

@@ -10,12 +10,12 @@ ghost use Rattle.swi_share.specs.Starting.{AreGuests, IsGuest, most_words};
 ghost use Rattle.swi_task.specs.Answers.{Answers};
 ghost use Rattle.swi_task.specs.Checks.{IsAccepted, IsRefusedOr, file_limit};
 ghost use Rattle.swi_task.specs.Devices.{Devices};
-ghost use Rattle.swi_share_command.specs.RunShared.{FilesUnread, GuestsRead, HaveEnded, IsGuestOf, SharesOver, guest_checks, guest_lines, limits_by, order_of, refusal_by, share_report, share_task, shared_work};
+ghost use Rattle.swi_share_command.specs.RunShared.{FilesUnread, GuestsRead, HaveEnded, IsGuestOf, SharesOver, guest_checks, guest_lines, limits_by, order_of, share_report, share_task, shared_work};
 
 use std::alloc::Global;
 use std::array;
 use swi_answer::{Ending, Refusal, line_of_guest};
-use swi_command::{CacheOptions, RunLimits, Schedule, ShareOptions};
+use swi_command::{RunLimits, Schedule, ShareCommand, ShareOptions};
 use swi_hart::BoardFault;
 use swi_image::Image;
 use swi_make::next_number;
@@ -24,7 +24,7 @@ use swi_report::{SharedWork, shared_text};
 use swi_share::{Guest, Share, most_words};
 use swi_task::{
     Prepared, Subject, SubjectImage, accept, check_block, check_size, ending_by, prepare,
-    read_file, subject_of,
+    read_file, refusal_of, subject_of,
 };
 
 /// What the program of a file borrows: the file's bytes, and the greedy cut of its text where the file has no image.
@@ -206,17 +206,6 @@ fn report_share<O: Sink>(
     shared_text(&shared_work(share, programs), out)
 }
 
-/// What programs are refused with over whose event a device broke off.
-fn refusal_by(fault: BoardFault) -> Refusal
-    ensures { result ≡ refusal_by fault }
-{
-    match fault {
-        BoardFault::RamFault => Refusal::RamFault,
-        BoardFault::SourceFault => Refusal::SourceFault,
-        BoardFault::SinkFault => Refusal::SinkFault,
-    }
-}
-
 /// Runs programs over one cache of so many bytes, and writes what is told of them.
 fn run_guests<O: Sink, E: Sink, R: CacheRam>(
     alloc: Global,
@@ -242,7 +231,7 @@ fn run_guests<O: Sink, E: Sink, R: CacheRam>(
         return Err(Refusal::Memory);
     };
     if let Err(fault) = run_schedule(&mut share, programs, options.schedule, out, err, ram) {
-        return Err(refusal_by(fault));
+        return Err(refusal_of(fault));
     }
     match report_share(&share, programs, options, out) {
         Ok(()) => Ok(Ending::Done),
@@ -262,22 +251,23 @@ fn run_guests<O: Sink, E: Sink, R: CacheRam>(
 /// the words of the ram behind the cache. The one ending is Done; the line of a refusal is the caller's to write.
 pub fn share<F: Shelf, O: Sink, E: Sink, R: CacheRam>(
     alloc: Global,
-    names: &[String],
-    cache: &CacheOptions,
-    options: &ShareOptions,
+    command: &ShareCommand,
     shelf: &mut F,
     out: &mut O,
     err: &mut E,
     ram: &mut R,
 ) -> Result<Ending, Refusal>
-    requires count { IsShareCount (length names.now) }
-    requires sizes { IsCacheInRange cache.now }
-    requires ranges { IsShareInRange options.now }
-    ensures { (d : Devices) → Answers (share_task (map (λ n. string_bytes n) names.now) cache.now options.now)
+    requires count { IsShareCount (length command.now.files.items) }
+    requires sizes { IsCacheInRange command.now.cache }
+    requires ranges { IsShareInRange command.now.options }
+    ensures { (d : Devices) → Answers
+        (share_task (map (λ n. string_bytes n) command.now.files.items) command.now.cache command.now.options)
         (record d { shelf = F.state shelf.old; output = O.state out.old; error = E.state err.old; ram = R.state ram.old })
         (record d { shelf = F.state shelf.new; output = O.state out.new; error = E.state err.new; ram = R.state ram.new }) result [] }
 {
+    let (cache, options) = (&command.cache, &command.options);
     check_size(cache.cache_bytes, ram)?;
+    let names = command.files.as_slice();
     let limits = limits_by(options);
     // There are eight names at most.
     let mut files: [GuestFile; 8] = array::from_fn(|_| GuestFile {

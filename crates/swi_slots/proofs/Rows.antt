@@ -4,7 +4,7 @@ use Rattle.swi_isa.specs.Decode.{decoded, decoded_by}
 use Rattle.swi_isa.specs.Table.{imm_j}
 use Rattle.swi_image.specs.Format.{ImageData}
 use Rattle.swi_image.specs.Place.{place_of, block_at}
-use Rattle.swi_rom.specs.Record.{Record, Placement, Link, Transfer, direct, indirect, exit_among, empty_record, IsJump, reaches}
+use Rattle.swi_rom.specs.Record.{Record, Placement, Link, Transfer, direct, indirect, exit_among, empty_record, IsJump, reaches, jump_word}
 use Rattle.swi_rom.specs.Service.{Setting}
 use Rattle.swi_rom.specs.Policy.{served_by, went, linked, evicted, counted, is_placed, first_of, with_link, is_undone, is_kept}
 use Rattle.swi_slots.specs.Fifo.{fifo, arrived, appended}
@@ -74,8 +74,8 @@ unfolding served_by went linked arrived appended evicted counted is_placed first
 self_link = refl
 
 self_jump : IsJump 3 1 0xFF9FF06F
-unfolding decoded decoded_by imm_j
-self_jump = refl
+unfolding decoded decoded_by imm_j jump_word
+self_jump = record { word = refl; decodes = refl }
 
 abbrev turns : List Transfer
 turns = indirect 0x10000 ∷ direct 0 2 0x10008 ∷ direct 1 1 0x10004 ∷ direct 0 2 0x10008 ∷ direct 1 1 0x10004 ∷ direct 0 2 0x10008 ∷ direct 1 3 0x1000C ∷ []
@@ -92,8 +92,8 @@ unfolding served_by went linked arrived appended evicted counted is_placed first
 two_slots = refl
 
 two_jump : IsJump 8 0 0xFE1FF06F
-unfolding decoded decoded_by imm_j
-two_jump = refl
+unfolding decoded decoded_by imm_j jump_word
+two_jump = record { word = refl; decodes = refl }
 
 -- first-in order at its worst
 circling : run (slots 2 2) empty_record circle (indirect 0x10000 ∷ direct 0 0 0x10004 ∷ direct 1 0 0x10008 ∷ direct 2 0 0x10000 ∷ direct 0 0 0x10004 ∷ direct 1 0 0x10008 ∷ direct 2 0 0x10000 ∷ []) ≡

@@ -1,6 +1,6 @@
 -- Caches in which nothing stands serve an image.
 use Rattle.std.proofs.Common.{◌≡◌, ℕ, zero, suc, ◌^◌, ◌<◌, ◌≤◌, ◌==◌, Bool, false, List, [], length, replicate, slice_get, slice_index, All, Option, Some, None, IfSome, option_map, ◌/◌, ◌%◌, arith, refl, sym, ◌∙◌, ap, subst, inl, inr}
-use Rattle.std.proofs.lemmas.Bool.{cases_lt}
+use Rattle.std.proofs.lemmas.Bool.{both_ways, cases_lt}
 use Rattle.std.proofs.lemmas.List.{length-replicate, get_or-replicate, get_or_past}
 use Rattle.std.proofs.lemmas.Option.{get_or_from_slice_get, slice_get-map, slice_get_within}
 use Rattle.std.proofs.lemmas.Nat.Bits.{bit_at-zero}
@@ -48,6 +48,7 @@ module _ (v : ImageData) (e : ExitsData) (f : Frame) (image : IsImage v) (are : 
     words_most = frame.most;
     next_most = omega arith;
     few = omega (arith, length-replicate e.blocks nowhere, blocks, image.fewer, image.few);
+    led_long = length-replicate e.blocks false ∙ sym (length-replicate e.blocks nowhere);
     room_is = sym (length-replicate e.blocks nowhere);
     distinct = tt;
     known = λ b h. absurd h;
@@ -72,6 +73,7 @@ module _ (v : ImageData) (e : ExitsData) (f : Frame) (image : IsImage v) (are : 
         evictions = refl;
         copied = omega arith;
         undone = omega (arith, ap (λ (ls : List Link). length ls) (none_linked e (length e.from) d));
+        led = λ x inside is ne. absurd (both_ways (has_at (replicate (length e.from) 0) d x) (none_has (length e.from) d x) is);
       };
     };
     one = frame.one;

@@ -14,12 +14,12 @@ use Rattle.swi_command.specs.declared.command.RunLimits.{RunLimits}
 use Rattle.swi_answer.specs.declared.answer.Refusal.{Refusal}
 use Rattle.swi_tally.specs.declared.tally.Placing.TheVariants as placing
 use Rattle.swi_tally.specs.Tallies.{IsFrame}
+use Rattle.swi_cached_task.specs.Placing.{hold_block, placed_checks}
 use Rattle.swi_task.specs.Checks.{Check, HoldsBlock, Fails, IsAccepted, IsRefusedBy, block_words, file_limit, first_size_refusal, size_refusal}
 use Rattle.swi_task.specs.Subject.{IsImageFor}
 use Rattle.swi_task.proofs.Images.{size_is}
 use Rattle.swi_task.proofs.Refusals.{AreShort}
 use Rattle.swi_survey_command.specs.Frames.{AreHeld, frame_by}
-use Rattle.swi_survey_command.specs.RunSurvey.{hold_block, survey_checks}
 
 -- ---- one size behind another
 
@@ -47,7 +47,7 @@ each_held [] ram words sized holds = tt
 each_held (bytes ∷ sizes) ram words sized holds = let both = none_first bytes ram sizes sized in ((holds.0, size_most bytes ram both.0), each_held sizes ram words both.1 holds.1)
 
 -- of a file that passes, with the image that is used
-pub are_held : (limits : RunLimits) (sizes : List ℕ) (block ram : ℕ) (file : List ℕ) (v : ImageData) → first_size_refusal sizes ram ≡ None → IsAccepted (survey_checks limits sizes block file) →
+pub are_held : (limits : RunLimits) (sizes : List ℕ) (block ram : ℕ) (file : List ℕ) (v : ImageData) → first_size_refusal sizes ram ≡ None → IsAccepted (placed_checks limits sizes block file) →
     IsImageFor file block (image_in file) v → AreHeld v.block_words sizes
 are_held limits sizes block ram file v sized passed own =
     subst (λ (words : ℕ). AreHeld words sizes) (size_is file block (image_in file) v own)
@@ -90,5 +90,5 @@ holds_short [] least = tt
 holds_short (bytes ∷ sizes) least = holds_short sizes least
 
 -- are those of the file
-pub are_short : (limits : RunLimits) (sizes : List ℕ) (block : ℕ) (file : List ℕ) → length file ≤ file_limit → AreShort (survey_checks limits sizes block file)
+pub are_short : (limits : RunLimits) (sizes : List ℕ) (block : ℕ) (file : List ℕ) → length file ≤ file_limit → AreShort (placed_checks limits sizes block file)
 are_short limits sizes block file within = (within, holds_short sizes (4 * block_words (image_in file) block))

@@ -37,6 +37,7 @@ use Rattle.swi_answer.specs.declared.answer.Ending.{Ending}
 use Rattle.swi_answer.specs.declared.answer.Refusal.{Refusal}
 use Rattle.swi_answer.specs.declared.answer.Refusal.TheVariants as refusal
 use Rattle.swi_answer.specs.Lines.{ending_line}
+use Rattle.swi_cached_task.specs.Placing.{placed_checks}
 use Rattle.swi_task.specs.Answers.{Answers, IsChecked, IsRunFault}
 use Rattle.swi_task.specs.Causes.{HasCauses}
 use Rattle.swi_task.specs.Checks.{IsAccepted, first_size_refusal, room_in}
@@ -46,11 +47,11 @@ use Rattle.swi_task.specs.Subject.{IsImageFor}
 use Rattle.swi_task.proofs.Lines.{IsLined, after_line, after_run_line, at_step_line, holds_then, ran_line, told_to}
 use Rattle.swi_task.proofs.Refusals.{IsRead, calm_causes, causes_behind, keeps_read, none_long, out_causes, read_is, sized_along, sized_err, sized_ok}
 use Rattle.swi_task.proofs.Starts.{start_is}
-use Rattle.swi_file_commands.specs.RunPlain.{read_room_of}
+use Rattle.swi_file_commands.specs.RunFlat.{read_room_of}
 use Rattle.swi_file_commands.proofs.Running.{from_none, refusal_of as flat_refusal, run_causes, run_to, step_failed, streams_of}
 use Rattle.swi_cached_task.specs.Caching.{IsRunErr}
 use Rattle.swi_cached_task.proofs.Caching.{run_err_asked, run_err_checked, run_err_given, run_err_not, run_err_short, run_err_size}
-use Rattle.swi_survey_command.specs.RunSurvey.{SurveyBroke, SurveyFailed, SurveyRun, Surveys, SurveysOver, counting, limit_of, refusal_of, run_through, survey_checks, survey_from, survey_lines, survey_of, survey_task, surveyed}
+use Rattle.swi_survey_command.specs.RunSurvey.{SurveyBroke, SurveyFailed, SurveyRun, Surveys, SurveysOver, counting, limit_of, refusal_of, run_through, survey_from, survey_lines, survey_of, survey_task, surveyed}
 use Rattle.swi_survey_command.proofs.Counting.{run_as}
 
 -- the program's run is the flat machine's, whatever cache is counted for
@@ -260,7 +261,7 @@ from_start : CacheKind → List ℕ → RunLimits → ImageData → FlatState �
 from_start k sizes limits v q = record { image = v; kind = k; sizes = sizes; limits = limits; start = q }
 
 pub survey_answers : (name sizes : List ℕ) (block : ℕ) (k : CacheKind) (limits : RunLimits) (d : Devices) (s : ShelfState) (i : SourceState) (o e : SinkState) (bytes : List ℕ) (v : ImageData) (l : Layout)
-    (r : Result Ending Refusal) → first_size_refusal sizes (length d.ram.words) ≡ None → IsRead d.shelf s name bytes → IsAccepted (survey_checks limits sizes block bytes) →
+    (r : Result Ending Refusal) → first_size_refusal sizes (length d.ram.words) ≡ None → IsRead d.shelf s name bytes → IsAccepted (placed_checks limits sizes block bytes) →
     IsImageFor bytes block (image_in bytes) v → room_in bytes limits ≡ Ok l →
     SurveysOver (survey_from k sizes limits v (program_of_file bytes) l) (record d { shelf = s }) (surveyed_to d s i o e) r → Answers (survey_task name sizes block k limits) d (surveyed_to d s i o e) r []
 unfolding from_start
@@ -268,7 +269,7 @@ survey_answers name sizes block k limits d s i o e bytes v l (Ok x) size read ac
     let m : Devices = surveyed_to d s i o e in record {
       asked = λ y. let bad : ⊥ = cc in bad;
       sized = sized_along (first_size_refusal sizes (length d.ram.words)) (Ok x) size (sized_ok x);
-      checked = λ file are. subst (λ (f : List ℕ). IsAccepted (survey_checks limits sizes block f)) (read_is read are refl) accepted;
+      checked = λ file are. subst (λ (f : List ℕ). IsAccepted (placed_checks limits sizes block f)) (read_is read are refl) accepted;
       long = λ limit y. absurd (let bad : ⊥ = cc in bad);
       ended = tt;
       done = λ file are. subst (λ (f : List ℕ). (survey_task name sizes block k limits).does f d m x []) (read_is read are refl) (
@@ -288,8 +289,8 @@ survey_answers name sizes block k limits d s i o e bytes v l (Err r) size read a
     let m : Devices = surveyed_to d s i o e in record {
       asked = run_err_not r refusal.Usage run.refused (λ x. x);
       sized = sized_along (first_size_refusal sizes (length d.ram.words)) (Err r) size (sized_err r (run_err_size r run.refused));
-      checked = λ file are. subst (λ (f : List ℕ). IsChecked (survey_checks limits sizes block f) s.last_failed (Err r)) (read_is read are refl)
-          (run_err_checked (survey_checks limits sizes block bytes) s.last_failed r run.refused accepted);
+      checked = λ file are. subst (λ (f : List ℕ). IsChecked (placed_checks limits sizes block f) s.last_failed (Err r)) (read_is read are refl)
+          (run_err_checked (placed_checks limits sizes block bytes) s.last_failed r run.refused accepted);
       long = none_long (survey_task name sizes block k limits) d.shelf.contents r (run_err_short r run.refused);
       ended = tt;
       done = tt;

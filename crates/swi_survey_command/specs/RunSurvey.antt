@@ -1,9 +1,8 @@
 -- The command `survey`: one run of a program, and the counts of many caches.
-use Rattle.std.specs.Prelude.{◌≡◌, ◌⊎◌, ℕ, ◌*◌, ◌≤◌, List, [], ◌∷◌, map, true, false, Some, None, Result, Ok, IfOk, IfErr, ⊤}
+use Rattle.std.specs.Prelude.{◌≡◌, ◌⊎◌, ℕ, List, [], ◌∷◌, true, false, Some, None, Result, IfOk, IfErr, ⊤}
 use Rattle.std.specs.List.{flat_map}
 use Rattle.swi_elf_read.specs.Loaded.{image_of as image_in}
 use Rattle.swi_memory.specs.declared.layout.Layout.{Layout}
-use Rattle.swi_program.specs.Layout.{IsLayoutOf}
 use Rattle.swi_program.specs.Program.{ProgramData}
 use Rattle.swi_image.specs.Format.{ImageData}
 use Rattle.swi_command.specs.declared.command.CacheKind.{CacheKind}
@@ -17,19 +16,19 @@ use Rattle.swi_calls.specs.declared.end.CallFault.TheVariants as call
 use Rattle.swi_flat.specs.FlatData.{next_made}
 use Rattle.swi_survey.specs.declared.survey.SurveyStop.{SurveyStop}
 use Rattle.swi_survey.specs.declared.survey.SurveyStop.TheVariants as stop
-use Rattle.swi_file_commands.specs.RunPlain.{read_room_of}
+use Rattle.swi_file_commands.specs.RunFlat.{read_room_of}
 use Rattle.swi_cached.specs.Cached.{CachedRun, IsFlatRun, StopsBeforeStore, end_of}
 use Rattle.swi_answer.specs.declared.answer.Ending.{Ending}
 use Rattle.swi_answer.specs.declared.answer.Refusal.{Refusal}
 use Rattle.swi_answer.specs.declared.answer.Refusal.TheVariants as refusal
 use Rattle.swi_task.specs.Answers.{IsRunFault}
 use Rattle.swi_task.specs.Causes.{HasCauses}
-use Rattle.swi_task.specs.Checks.{CountedFor, Check, IsShort, IsAcceptedElf, HasRoom, IsAcceptedImage, IsOwnImage, FitsUnlessImage, HoldsBlock, block_words, room_in}
+use Rattle.swi_task.specs.Checks.{CountedFor}
 use Rattle.swi_task.specs.Devices.{Devices}
 use Rattle.swi_task.specs.Runs.{Ran, FailedAtStep, FailedAfterRun, start_of}
-use Rattle.swi_task.specs.Subject.{IsImageFor, IsSubject}
+use Rattle.swi_task.specs.Subject.{IsImageFor}
 use Rattle.swi_task.specs.Task.{Task}
-use Rattle.swi_cached_task.specs.declared.placed.Placed.{Placed}
+use Rattle.swi_cached_task.specs.Placing.{placed_checks}
 use Rattle.swi_cached_task.specs.Caching.{IsRunErr, cache_by, cached_run, work_of}
 use Rattle.swi_survey_command.specs.Rows.{size_line}
 
@@ -88,16 +87,6 @@ pub record SurveyFailed (r : SurveyRun) (before after : Devices) (f : Refusal) (
   pub flat : (bytes : ℕ) → IsFlatRun (run_through r bytes)
   pub stops : (bytes : ℕ) → StopsBeforeStore (run_through r bytes)
 
--- each cache holds a block of so many bytes
-abbrev pub hold_block : List ℕ → ℕ → List Check
-hold_block sizes least = map (λ bytes. HoldsBlock bytes least) sizes
-
--- those of `cached`, the last one of each size in turn
-abbrev pub survey_checks : RunLimits → List ℕ → ℕ → List ℕ → List Check
-survey_checks limits sizes block file =
-    IsShort file ∷ IsAcceptedElf file ∷ HasRoom file limits ∷ IsAcceptedImage file ∷ IsOwnImage file ∷ FitsUnlessImage file block
-    ∷ hold_block sizes (4 * block_words (image_in file) block)
-
 -- the survey of a file's program with this image and this input
 abbrev pub survey_of : CacheKind → List ℕ → RunLimits → List ℕ → ImageData → List ℕ → SurveyRun
 survey_of kind sizes limits file v input = record { image = v; kind = kind; sizes = sizes; limits = limits; start = start_of (counting limits) file input }
@@ -110,7 +99,7 @@ survey_task name sizes block kind limits = record {
   writes = None;
   takes_input = true;
   caches = CountedFor sizes;
-  checks = survey_checks limits sizes block;
+  checks = placed_checks limits sizes block;
   before_next = λ file. [];
   ends = λ e. ⊤;
   does = λ file before after e last. (v : ImageData) × IsImageFor file block (image_in file) v
@@ -138,9 +127,3 @@ pub record SurveysOver (r : List ℕ → SurveyRun) (before after : Devices) (re
   pub quiet : IfErr result (λ f. (IsRunFault f → ⊥) → after ≡ before)
   pub failed : IfErr result (λ f. IsRunFault f → (input : List ℕ) → before.input.left ≡ Some input → SurveyFailed (r input) before after f [])
   pub causes : HasCauses before after result
-
--- the file's program with its image and its layout, and each cache holds a block of it
-pub record IsPlacedFor (file : List ℕ) (limits : RunLimits) (sizes : List ℕ) (block : ℕ) (p : Placed) : Type 0 where
-  pub subject : IsSubject file block p.subject
-  pub layout : room_in file limits ≡ Ok p.layout
-  pub laid_out : IsLayoutOf p.subject.program.segments p.layout

@@ -1,7 +1,7 @@
 //! The command.
 #![tactic(auto)]
 
-ghost use Rattle.std.specs.Prelude.{◌≡◌, ◌≤◌, ◌*◌, None, Some, [], IfOk, IfErr, OnOk, length, map};
+ghost use Rattle.std.specs.Prelude.{◌≡◌, ◌≤◌, ◌*◌, None, Some, [], IfOk, IfErr, OnOk, length, map, string_bytes};
 ghost use Rattle.swi_outside.specs.Source.{HasGiven};
 ghost use Rattle.swi_outside.specs.Told.{AsTold};
 ghost use Rattle.swi_command.specs.CommandLine.{AreSizes, IsBlockSize, IsInRange};
@@ -9,26 +9,24 @@ ghost use Rattle.swi_program.specs.Layout.{IsLayoutOf};
 ghost use Rattle.swi_program.specs.Text.{text_of};
 ghost use Rattle.swi_render.specs.ImageOf.{IsImageOf};
 ghost use Rattle.swi_task.specs.Answers.{Answers};
-ghost use Rattle.swi_task.specs.Checks.{IsAccepted, IsRefusedBy, IsRefusedOr, file_limit, first_size_refusal};
+ghost use Rattle.swi_task.specs.Checks.{first_size_refusal};
 ghost use Rattle.swi_task.specs.Devices.{Devices, seen};
 ghost use Rattle.swi_survey_command.specs.Frames.{AreHeld, frame_by};
-ghost use Rattle.swi_survey_command.specs.RunSurvey.{IsPlacedFor, SurveysOver, hold_block, refusal_of, survey_checks, survey_from, survey_task};
+ghost use Rattle.swi_survey_command.specs.RunSurvey.{SurveysOver, refusal_of, survey_from, survey_task};
 
 use crate::rows::write_rows;
 use std::alloc::Global;
 use swi_answer::{Ending, Refusal};
-use swi_cached_task::Placed;
+use swi_cached_task::place;
 use swi_calls::CallFault;
-use swi_command::{CacheKind, RunLimits};
+use swi_command::{CacheKind, RunLimits, SurveyCommand};
 use swi_image::ImageView;
 use swi_memory::Layout;
 use swi_outside::{CacheRam, Memory, Shelf, Sink, Source};
 use swi_program::Program;
 use swi_survey::{SurveyStop, run_survey};
 use swi_tally::{Frame, Placing};
-use swi_task::{
-    Prepared, accept, check_block, check_size, ending_by, prepare, read_file, subject_of,
-};
+use swi_task::{check_size, ending_by, read_file};
 
 /// What a survey is refused with that stopped so.
 fn refusal_of(stop: SurveyStop) -> Refusal
@@ -92,41 +90,6 @@ fn check_sizes<R: CacheRam>(sizes: &[u32], ram: &R) -> Result<(), Refusal>
     Ok(())
 }
 
-/// Refuses the first cache that holds no block.
-fn check_blocks(sizes: &[u32], block_words: u32) -> Result<(), Refusal>
-    requires most { block_words ≤ 1024 }
-    ensures hold { OnOk result (IsAccepted (hold_block sizes.now (4 * block_words))) }
-    ensures refused { IfErr result (IsRefusedBy (hold_block sizes.now (4 * block_words))) }
-{
-    for bytes in sizes {
-        check_block(*bytes, block_words)?;
-    }
-    Ok(())
-}
-
-/// The program of a file with its layout, and with the image that the file has or else the greedy cut of its text: the file
-/// passes every check of a run in each of these caches.
-fn place<'a>(
-    alloc: Global,
-    file: &'a [u8],
-    sizes: &[u32],
-    block_words: u32,
-    limits: &RunLimits,
-) -> Result<Placed<'a>, Refusal>
-    requires within { length file.now ≤ file_limit }
-    requires ranges { IsInRange limits.now }
-    requires block { IsBlockSize block_words }
-    ensures placed { IfOk result (IsPlacedFor file.now limits.now sizes.now block_words) }
-    ensures accepted { OnOk result (IsAccepted (survey_checks limits.now sizes.now block_words file.now)) }
-    ensures refused { IfErr result (IsRefusedOr (survey_checks limits.now sizes.now block_words file.now)) }
-{
-    let elf = accept(file)?;
-    let Prepared { program, layout } = prepare(alloc, &elf, limits)?;
-    let subject = subject_of(alloc, &elf, program, block_words)?;
-    check_blocks(sizes, subject.block_words())?;
-    Ok(Placed { subject, layout })
-}
-
 /// Runs a program once, and writes a line for each cache.
 fn run_program<I: Source, O: Sink, E: Sink>(
     alloc: Global,
@@ -185,31 +148,38 @@ fn run_program<I: Source, O: Sink, E: Sink>(
 /// steps made have written, and a front of what comes next; any other refusal, Memory too, leaves input and output alone.
 pub fn survey<F: Shelf, I: Source, O: Sink, E: Sink, R: CacheRam>(
     alloc: Global,
-    name: &str,
-    sizes: &[u32],
-    block_words: u32,
-    kind: CacheKind,
-    limits: &RunLimits,
+    command: &SurveyCommand,
     shelf: &mut F,
     input: &mut I,
     out: &mut O,
     err: &mut E,
     ram: &R,
 ) -> Result<Ending, Refusal>
-    requires sizes { AreSizes sizes.now }
-    requires block { IsBlockSize block_words }
-    requires ranges { IsInRange limits.now }
+    requires sizes { AreSizes command.now.sizes.items }
+    requires block { IsBlockSize command.now.block_words }
+    requires ranges { IsInRange command.now.limits }
     ensures gave { HasGiven (I.state input.old) (I.state input.new) }
-    ensures answers { AsTold (I.state input.old) (I.state input.new) (λ before after. Answers (survey_task name.now sizes.now block_words kind limits.now)
+    ensures answers { AsTold (I.state input.old) (I.state input.new) (λ before after. Answers
+        (survey_task (string_bytes command.now.file) command.now.sizes.items command.now.block_words command.now.kind command.now.limits)
         (seen (F.state shelf.old) before (O.state out.old) (E.state err.old) (R.state ram.now))
         (seen (F.state shelf.new) after (O.state out.new) (E.state err.new) (R.state ram.now)) result []) }
 {
+    let (sizes, limits) = (command.sizes.as_slice(), &command.limits);
     check_sizes(sizes, ram)?;
-    let file = read_file(alloc, shelf, name)?;
-    let placed = place(alloc, &file, sizes, block_words, limits)?;
+    let file = read_file(alloc, shelf, command.file.as_str())?;
+    let placed = place(alloc, &file, sizes, command.block_words, limits)?;
     let image = placed.subject.image.view();
     let (program, layout) = (&placed.subject.program, &placed.layout);
     run_program(
-        alloc, &image, program, layout, kind, sizes, limits, input, out, err,
+        alloc,
+        &image,
+        program,
+        layout,
+        command.kind,
+        sizes,
+        limits,
+        input,
+        out,
+        err,
     )
 }

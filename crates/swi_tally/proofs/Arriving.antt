@@ -17,6 +17,7 @@ use Rattle.swi_tally.specs.Exits.{ExitsData}
 use Rattle.swi_links.specs.Chains.{Has}
 use Rattle.swi_links.proofs.Numbers.{append_here}
 use Rattle.swi_tally.specs.Tally.{TallyData, InShape, Moved, Stands, Receded, Arrives, arrival_of, behind, freed, kept_by, queue_of, setting_of, settled, span, spot}
+use Rattle.swi_tally.proofs.Leading.{leads_settled}
 use Rattle.swi_tally.proofs.Queueing.{queue_long, queue_next, settled_shape, settled_queue}
 
 -- where all slots are taken, and where one is free
@@ -247,6 +248,7 @@ settled_moved v e cache b first n s masks stands within none some few fits misse
     evictions = omega (arith, stands.bounded.evictions, length_push s.queue b);
     copied = omega (arith, stands.bounded.copied, few);
     undone = stands.bounded.undone;
+    led = λ x lt is ne. leads_settled s b first n (slice_index e.from x) (slice_index e.into x) none (stands.bounded.led x lt is ne);
   };
 }
 

@@ -1,6 +1,6 @@
 -- A direct exit is served, and a jump to an address in a block.
 use Rattle.std.proofs.Common.{◌≡◌, ℕ, ◌+◌, ◌^◌, ◌<◌, ◌≤◌, ◌==◌, ◌&&◌, ◌||◌, Bool, true, false, List, [], ◌∷◌, length, filter, slice_index, slice_index_or, slice_set, nat_lt, IsTrue, ◌↔◌, Some, if◌then◌else◌, arith, refl, sym, ◌∙◌, ap, subst, inl, inr}
-use Rattle.std.proofs.lemmas.Bool.{cases_eq, and_parts, eq-eqb, ne_eqb, or_right, both_ways, false_from_ne_true}
+use Rattle.std.proofs.lemmas.Bool.{cases_eq, and_parts, eq-eqb, eqb-true, or_cases, ne_eqb, or_right, both_ways, false_from_ne_true}
 use Rattle.std.proofs.lemmas.List.{length-set, get_or-set_same, get_or-set_other, get_or_read}
 use Rattle.swi_image.specs.Format.{ImageData}
 use Rattle.swi_image.specs.Place.{place_of, length_at}
@@ -17,10 +17,11 @@ use Rattle.swi_tally.specs.declared.tally.Placing.TheVariants.{Slots, Ring}
 use Rattle.swi_tally.specs.Masks.{has, has_at}
 use Rattle.swi_tally.specs.Exits.{ExitsData, AreExits, link_of, links_of}
 use Rattle.swi_links.specs.Chains.{Has}
-use Rattle.swi_tally.specs.Tally.{TallyData, InShape, Moved, Stands, Serves, Links, Arrives, arrival_of, counted_tally, kept_by, policy_of, queue_of, setting_of}
+use Rattle.swi_tally.specs.Tally.{TallyData, InShape, Moved, Stands, Serves, Links, Arrives, AreLeading, Leads, arrival_of, counted_tally, kept_by, policy_of, queue_of, setting_of}
 use Rattle.swi_tally.proofs.Sets.{or_none}
 use Rattle.swi_tally.proofs.Linking.{links_with, linked_is}
 use Rattle.swi_tally.proofs.Queueing.{queue_long}
+use Rattle.swi_tally.proofs.Leading.{leads_led, led_tally}
 use Rattle.swi_tally.proofs.Arriving.{arrives_there, is_absent, is_there, moved_none, moved_both, stands_on}
 
 -- a service is counted
@@ -39,6 +40,7 @@ counted_shape s shape = record {
   words_most = shape.words_most;
   next_most = shape.next_most;
   few = shape.few;
+  led_long = shape.led_long;
   room_is = shape.room_is;
   distinct = shape.distinct;
   known = shape.known;
@@ -73,6 +75,7 @@ counted_moved v e cache masks s stands = record {
     evictions = stands.bounded.evictions;
     copied = stands.bounded.copied;
     undone = stands.bounded.undone;
+    led = stands.bounded.led;
   };
 }
 
@@ -98,6 +101,51 @@ served_there v e cache b s masks serves h =
     subst (λ (u : TallyData). Arrives v e cache b (counted_tally s) u masks masks)
     (ap (λ (n : ℕ). let u : TallyData = record s { counts = record s.counts { services = s.counts.services + n } } in u) (more_there s.queue b h))
     (arrives_there v e cache b (counted_tally s) masks (counted_serves v e cache masks s serves).stands h)
+
+-- and it is kept that a later block may have a link into it
+pub led_arrives : (v : ImageData) (e : ExitsData) (cache b : ℕ) (s t : TallyData) (old new : List ℕ) → Arrives v e cache b s t old new → Arrives v e cache b s (led_tally b t) old new
+led_arrives v e cache b s t old new arrives = record {
+  kept = arrives.kept;
+  moved = moved_both e cache s t (led_tally b t) old new new arrives.moved last;
+  stands = stands_on v e cache t (led_tally b t) new new arrives.stands last;
+  here = arrives.here;
+  services = arrives.services;
+  links = arrives.links;
+}
+  where
+    shape : InShape t
+    shape = arrives.stands.shape
+
+    last : Moved e cache t (led_tally b t) new new
+    last = record {
+      placing = refl;
+      slots = refl;
+      slot_words = refl;
+      homes = refl;
+      masks = refl;
+      others = λ d x small ne lt. refl;
+      shape = record {
+        some_slot = shape.some_slot;
+        words_few = shape.words_few;
+        words_most = shape.words_most;
+        next_most = shape.next_most;
+        few = shape.few;
+        led_long = length-set t.led b true ∙ shape.led_long;
+        room_is = shape.room_is;
+        distinct = shape.distinct;
+        known = shape.known;
+        placed = shape.placed;
+        absent = shape.absent;
+      };
+      bounded = record {
+        misses = arrives.stands.bounded.misses;
+        links = arrives.stands.bounded.links;
+        evictions = arrives.stands.bounded.evictions;
+        copied = arrives.stands.bounded.copied;
+        undone = arrives.stands.bounded.undone;
+        led = λ x lt is ne. leads_led b t (slice_index e.from x) (slice_index e.into x) shape (arrives.stands.bounded.led x lt is ne);
+      };
+    }
 
 -- where a block stands
 first_here : (homes queue : List ℕ) (b : ℕ) → Has queue b → first_in (queue_of homes queue) 0 b ≡ slice_index homes b
@@ -184,8 +232,8 @@ joins_other masks cache x m lt new d y small ne = elim (cases_eq y x) [
 pub links_near : (v : ImageData) (e : ExitsData) (cache x m : ℕ) (s : TallyData) (masks : List ℕ) → Stands v e cache masks s → x < length e.from → has_at masks cache x ≡ false →
     ((d : ℕ) → d < 64 → has m d ≡ (has_at masks d x || d == cache)) → s.counts.links ≤ s.counts.services → Has s.queue (slice_index e.from x) → Has s.queue (slice_index e.into x) →
     reaches (slice_index s.homes (slice_index e.from x) + slice_index e.offsets x) (slice_index s.homes (slice_index e.into x) + slice_index e.ats x) ≡ true →
-    Links e cache x s (linked_tally s) masks (slice_set masks x m)
-links_near v e cache x m s masks stands lt none new few from into near = record {
+    AreLeading s (slice_index e.into x) → Links e cache x s (linked_tally s) masks (slice_set masks x m)
+links_near v e cache x m s masks stands lt none new few from into near leading = record {
   kept = ap (λ (ls : List Link). record (kept_by e (has_at masks cache) s) { links = ls; counts = record s.counts { links = s.counts.links + 1 } }) list
       ∙ sym (linked_as true (kept_by e (has_at masks cache) s) (slice_index e.from x) (slice_index e.offsets x) (slice_index e.into x, slice_index e.ats x)
       (reached e (has_at masks cache) s (slice_index e.from x) (slice_index e.offsets x) (slice_index e.into x, slice_index e.ats x) from into ∙ near));
@@ -203,6 +251,10 @@ links_near v e cache x m s masks stands lt none new few from into near = record 
       evictions = stands.bounded.evictions;
       copied = stands.bounded.copied;
       undone = omega (arith, stands.bounded.undone, ap (λ (ls : List Link). length ls) list, length_with_all (link_of e x) (links_of e (has_at masks cache)));
+      led = λ y inside is ne. elim (or_cases (has_at masks cache y) (y == x) (sym (joins_here masks cache x m stands.cache_below within new y) ∙ is)) [
+        | inl old ↦ stands.bounded.led y inside old ne
+        | inr here ↦ leading_here y (eqb-true _ _ here) ne
+      ];
     };
   };
   queue = refl;
@@ -215,6 +267,11 @@ links_near v e cache x m s masks stands lt none new few from into near = record 
     list : links_of e (has_at (slice_set masks x m) cache) ≡ with_link (link_of e x) (links_of e (has_at masks cache))
     list = links_with e x (has_at masks cache) (has_at (slice_set masks x m) cache) stands.are lt none (λ y inside. joins_here masks cache x m stands.cache_below within new y)
 
+    leading_here : (y : ℕ) → y ≡ x → (slice_index e.from y ≡ slice_index e.into y → ⊥) → Leads s (slice_index e.from y) (slice_index e.into y)
+    leading_here y same ne =
+        subst (λ (z : ℕ). Leads s (slice_index e.from z) (slice_index e.into z)) (sym same)
+        (leading (slice_index e.from x) from (subst (λ (z : ℕ). slice_index e.from z ≡ slice_index e.into z → ⊥) same ne))
+
     linked_shape : InShape s → InShape (linked_tally s)
     linked_shape shape = record {
       some_slot = shape.some_slot;
@@ -222,6 +279,7 @@ links_near v e cache x m s masks stands lt none new few from into near = record 
       words_most = shape.words_most;
       next_most = shape.next_most;
       few = shape.few;
+      led_long = shape.led_long;
       room_is = shape.room_is;
       distinct = shape.distinct;
       known = shape.known;

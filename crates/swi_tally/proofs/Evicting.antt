@@ -1,14 +1,16 @@
 -- The oldest block leaves, with its links.
-use Rattle.std.proofs.Common.{◌≡◌, ℕ, ◌+◌, ◌<◌, ◌≤◌, ◌&&◌, Bool, not, List, ◌∷◌, filter, length, slice_set, nat_le, arith, refl, sym, ◌∙◌, ap, subst}
-use Rattle.std.proofs.lemmas.Bool.{eq-eqb, ne_eqb, le-leb}
+use Rattle.std.proofs.Common.{◌≡◌, ℕ, ◌+◌, ◌<◌, ◌≤◌, ◌&&◌, ◌==◌, Bool, true, false, not, List, ◌∷◌, filter, length, slice_index, slice_index_or, slice_set, nat_le, inl, inr, arith, refl, sym, ◌∙◌, ap, subst}
+use Rattle.std.proofs.lemmas.Bool.{and_parts, both_ways, eq-eqb, eqb-true, false_from_ne_true, ne_eqb, le-leb}
 use Rattle.swi_rom.specs.Record.{Placement}
 use Rattle.swi_rom.specs.Policy.{evicted, is_undone}
 use Rattle.swi_rom.specs.Collected.{undone_apart}
 use Rattle.swi_tally.specs.Masks.{has_at}
-use Rattle.swi_tally.specs.Groups.{Left, held_in, is_in}
+use Rattle.swi_tally.specs.Groups.{Left, NoneIn, held_in, is_in}
 use Rattle.swi_tally.specs.Exits.{ExitsData, AreExits, links_of}
-use Rattle.swi_tally.specs.Tally.{TallyData, InShape, Bounded, Moved, kept_by, nowhere, queue_of, spot, without_oldest}
-use Rattle.swi_tally.proofs.Sets.{and_all}
+use Rattle.swi_tally.specs.Tally.{TallyData, InShape, Before, Bounded, Leads, Moved, kept_by, nowhere, queue_of, spot, without_oldest}
+use Rattle.swi_links.specs.Chains.{Distinct}
+use Rattle.swi_tally.proofs.Leading.{leads_left, none_before}
+use Rattle.swi_tally.proofs.Sets.{and_all, not_on}
 use Rattle.swi_tally.proofs.Grouping.{held_none, held_more}
 use Rattle.swi_tally.proofs.Linking.{links_kept, stays_linked, undone_is}
 use Rattle.swi_tally.proofs.Queueing.{queue_next, without_queue, without_shape}
@@ -24,6 +26,22 @@ left_here keys g c old new x small lt left =
 left_other : (keys : List ℕ) (g c : ℕ) (old new : List ℕ) (d x : ℕ) → d < 64 → (d ≡ c → ⊥) → x < length old → Left keys g c 0 old new → has_at new d x ≡ has_at old d x
 left_other keys g c old new d x small ne lt left =
     left.sets d x small lt ∙ ap (λ (t : Bool). has_at old d x && not (t && (is_in keys g x && nat_le 0 x))) (ne_eqb d c ne) ∙ and_all (has_at old d x)
+
+unequal : (x b : ℕ) → not (x == b) ≡ true → x ≡ b → ⊥
+unequal x b off same = both_ways (x == b) (not_on (x == b) off) (eq-eqb x b same)
+
+-- the oldest block, of which is not kept that a later one has a link into it, has left the sets of its own exits: no link leads into it
+pub none_into : (e : ExitsData) (s : TallyData) (b : ℕ) (rest : List ℕ) (c : ℕ) (old between : List ℕ) → InShape s → s.queue ≡ b ∷ rest → Bounded e (has_at old c) s → c < 64 → length old ≡ length e.from → AreExits e →
+    Left e.from b c 0 old between → slice_index_or s.led b true ≡ false → NoneIn e.into b between c
+none_into e s b rest c old between shape is bounded small long are left unled x lt into = false_from_ne_true _ (λ (h : has_at between c x ≡ true).
+    let inside : x < length e.from = omega (arith, lt, are.into_long) in
+    let same : slice_index e.into x ≡ b = eqb-true _ _ into in
+    let parts = and_parts (has_at old c x) (not (is_in e.from b x)) (sym (left_here e.from b c old between x small (omega (arith, inside, long)) left) ∙ h) in
+    later (slice_index e.from x) (subst (λ (y : ℕ). Leads s (slice_index e.from x) y) same (bounded.led x inside parts.0 (λ (loop : slice_index e.from x ≡ slice_index e.into x). unequal _ _ parts.1 (loop ∙ same)))))
+  where
+    later : (a : ℕ) → Leads s a b → ⊥
+    later a (inl h) = none_before b rest a (subst (λ (q : List ℕ). Distinct q) is shape.distinct) (subst (λ (q : List ℕ). Before q a b) is h)
+    later a (inr h) = both_ways (slice_index_or s.led b true) unled h.1
 
 -- a block leaves the sets: as its own exits' block, and then as that of targets
 pub record Leaves (e : ExitsData) (b c : ℕ) (old between new : List ℕ) (undone : ℕ) : Type 0 where
@@ -78,6 +96,10 @@ left_bounded e s b rest c old between new undone are is l bounded =
       evictions = omega (arith, bounded.evictions, ap (λ (xs : List ℕ). length xs) is);
       copied = bounded.copied;
       undone = omega (arith, bounded.undone, fewer);
+      led = λ x lt stays ne. (
+          let first = and_parts (has_at old c x && not (slice_index e.from x == b)) (not (slice_index e.into x == b)) (sym (leaves_links e p c old between new undone l x lt) ∙ stays) in
+          let second = and_parts (has_at old c x) (not (slice_index e.from x == b)) first.0 in
+          leads_left s b rest (slice_index e.from x) (slice_index e.into x) is (unequal _ _ second.1) (unequal _ _ first.1) (bounded.led x lt second.0 ne));
     }
 
 pub evict_moved : (e : ExitsData) (s : TallyData) (b : ℕ) (rest : List ℕ) (c : ℕ) (old between new : List ℕ) (undone : ℕ) → AreExits e → InShape s → s.queue ≡ b ∷ rest → Leaves e b c old between new undone → Bounded e (has_at old c) s →
@@ -99,6 +121,7 @@ evict_moved e s b rest c old between new undone are shape is l bounded =
         words_most = t.words_most;
         next_most = t.next_most;
         few = t.few;
+        led_long = t.led_long;
         room_is = t.room_is;
         distinct = t.distinct;
         known = t.known;

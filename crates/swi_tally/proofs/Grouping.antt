@@ -3,7 +3,7 @@ use Rattle.std.proofs.Common.{◌≡◌, ℕ, zero, suc, ◌+◌, ◌-◌, ◌<�
 use Rattle.std.proofs.lemmas.Bool.{cases_eq, cases_lt, eqb-true, eq-eqb, ne_eqb, le-leb, lt-leb, and_right}
 use Rattle.std.proofs.lemmas.List.{length-set, length_push, get_or_append_left, get_or_push, get_or-set_same, get_or-set_other, get_or_read, get_or-replicate, length-replicate}
 use Rattle.swi_tally.specs.Masks.{has, has_at}
-use Rattle.swi_tally.specs.Groups.{GroupsData, Grouped, Drops, Left, end_of, held_in, is_in}
+use Rattle.swi_tally.specs.Groups.{GroupsData, Grouped, Drops, Left, NoneIn, end_of, held_in, is_in}
 use Rattle.swi_outside.specs.declared.failure.Memory.{Memory}
 use Rattle.swi_tally.proofs.Sets.{and_all}
 
@@ -202,6 +202,31 @@ grouped_none groups = record {
   last = λ g lt. get_or-replicate groups g 0 0 (omega (arith, lt, length-replicate {A = ℕ} groups 0));
   earlier = λ x lt. absurd (omega arith);
 }
+
+-- a group of which no number has the cache in its set
+pub none_left : (keys : List ℕ) (g c : ℕ) (masks : List ℕ) → NoneIn keys g masks c → length masks ≡ length keys → Left keys g c 0 masks masks
+none_left keys g c masks none long = record { long = refl; sets = λ d x small lt. same d x lt (is_in keys g x) refl }
+  where
+    gone : (t u w : Bool) → t ≡ false → t ≡ (t && not (u && w))
+    gone false u w e = refl
+    gone true u w e = absurd cc
+
+    same : (d x : ℕ) → x < length masks → (t : Bool) → is_in keys g x ≡ t → has_at masks d x ≡ (has_at masks d x && not (d == c && (is_in keys g x && nat_le 0 x)))
+    same d x lt false is = sym (ap (λ (t : Bool). has_at masks d x && not (d == c && (t && nat_le 0 x))) is ∙ and_false (has_at masks d x) (d == c))
+    same d x lt true is = elim (cases_eq d c) [
+      | inl here ↦ gone (has_at masks d x) (d == c) (is_in keys g x && nat_le 0 x) (rw here (none x (omega (arith, lt, long)) is))
+      | inr ne ↦ sym (ap (λ (t : Bool). has_at masks d x && not (t && (is_in keys g x && nat_le 0 x))) (ne_eqb d c ne) ∙ and_all (has_at masks d x))
+    ]
+
+pub none_held : (keys : List ℕ) (g c : ℕ) (masks : List ℕ) (n : ℕ) → NoneIn keys g masks c → n ≤ length keys → held_in keys g masks c n ≡ 0
+unfolding held_in
+none_held keys g c masks zero none le = refl
+none_held keys g c masks (suc n) none le =
+    ap (λ (t : Bool). if t then held_in keys g masks c n + 1 else held_in keys g masks c n) (off (is_in keys g n) refl) ∙ none_held keys g c masks n none (omega (arith, le))
+  where
+    off : (t : Bool) → is_in keys g n ≡ t → (is_in keys g n && has_at masks c n) ≡ false
+    off false is = ap (λ (t : Bool). t && has_at masks c n) is
+    off true is = and_right (is_in keys g n) (has_at masks c n) (none n (omega (arith, le)) is)
 
 -- the calls, as their code meets them
 on_ok : {P : Type 0} (r : Result Unit Memory) → false ≡ is_err r → OnOk r P → P

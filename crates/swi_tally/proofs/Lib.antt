@@ -2,6 +2,7 @@ pub mod Sets
 pub mod Grouping
 pub mod Linking
 pub mod Queueing
+pub mod Leading
 pub mod Evicting
 pub mod Arriving
 pub mod Crossing

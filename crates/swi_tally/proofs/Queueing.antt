@@ -1,5 +1,5 @@
 -- The queue of a cache: which blocks it has, and where they stand.
-use Rattle.std.proofs.Common.{◌≡◌, ◌⊎◌, ℕ, ◌+◌, ◌<◌, ◌≤◌, ◌==◌, ◌++◌, not, List, [], ◌∷◌, length, slice_index, slice_set, slice_index_or, IsTrue, arith, refl, sym, ◌∙◌, ap, subst, inl, inr, ◌↔◌}
+use Rattle.std.proofs.Common.{◌≡◌, ◌⊎◌, ℕ, ◌+◌, ◌<◌, ◌≤◌, ◌==◌, ◌++◌, false, not, List, [], ◌∷◌, length, slice_index, slice_set, slice_index_or, IsTrue, arith, refl, sym, ◌∙◌, ap, subst, inl, inr, ◌↔◌}
 use Rattle.std.proofs.lemmas.Bool.{cases_eq, eq-eqb, ne_eqb, both_ways}
 use Rattle.std.proofs.lemmas.List.{length-set, length-map, get_or-set_same, get_or-set_other, get_or_read}
 use Rattle.swi_rom.specs.Record.{Placement}
@@ -19,7 +19,7 @@ rest_distinct s b rest shape is = subst (λ (xs : List ℕ). Distinct xs) is sha
 pub rest_other : (s : TallyData) (b : ℕ) (rest : List ℕ) → InShape s → s.queue ≡ b ∷ rest → (x : ℕ) → Has rest x → x ≡ b → ⊥
 rest_other s b rest shape is x h same = (rest_distinct s b rest shape is).0 (subst (λ (y : ℕ). Has rest y) same h)
 
-other_rest : (s : TallyData) (b : ℕ) (rest : List ℕ) → s.queue ≡ b ∷ rest → (x : ℕ) → Has s.queue x → (x ≡ b → ⊥) → Has rest x
+pub other_rest : (s : TallyData) (b : ℕ) (rest : List ℕ) → s.queue ≡ b ∷ rest → (x : ℕ) → Has s.queue x → (x ≡ b → ⊥) → Has rest x
 other_rest s b rest is x h ne = ways (subst (λ (xs : List ℕ). Has xs x) is h)
   where
     ways : Has (b ∷ rest) x → Has rest x
@@ -58,6 +58,7 @@ without_shape s b rest shape is =
       words_most = shape.words_most;
       next_most = shape.next_most;
       few = omega (arith, shape.few, length-set s.homes b nowhere);
+      led_long = shape.led_long ∙ sym (length-set s.homes b nowhere);
       room_is = shape.room_is ∙ sym (length-set s.homes b nowhere);
       distinct = (rest_distinct s b rest shape is).1;
       known = λ x h. omega (arith, shape.known x (rest_has s b rest is x h), length-set s.homes b nowhere);
@@ -82,6 +83,7 @@ settled_shape s b first n shape within none some fits = record {
   words_most = shape.words_most;
   next_most = fits;
   few = omega (arith, shape.few, length-set s.homes b first);
+  led_long = length-set s.led b false ∙ shape.led_long ∙ sym (length-set s.homes b first);
   room_is = shape.room_is ∙ sym (length-set s.homes b first);
   distinct = append_distinct s.queue b shape.distinct none;
   known = λ x h. omega (arith, length-set s.homes b first, known x (has_append s.queue b x h));

@@ -111,6 +111,7 @@ masks_serve v e k s old new long links serves = record {
       evictions = serves.stands.bounded.evictions;
       copied = serves.stands.bounded.copied;
       undone = omega (arith, serves.stands.bounded.undone, ap (λ (ls : List Link). length ls) (links_same e (has_at new k) (has_at old k) links));
+      led = λ x lt is ne. serves.stands.bounded.led x lt (sym (links x lt) ∙ is) ne;
     };
   };
   one = serves.one;

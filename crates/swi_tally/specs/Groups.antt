@@ -1,5 +1,5 @@
 -- Numbers from 0 on, each in a group.
-use Rattle.std.specs.Prelude.{◌≡◌, ℕ, zero, suc, ◌+◌, ◌<◌, ◌==◌, ◌&&◌, Bool, not, List, length, slice_index, nat_le, if◌then◌else◌}
+use Rattle.std.specs.Prelude.{◌≡◌, ℕ, zero, suc, ◌+◌, ◌<◌, ◌==◌, ◌&&◌, Bool, true, false, not, List, length, slice_index, nat_le, if◌then◌else◌}
 use Rattle.swi_tally.specs.Masks.{has_at}
 
 pub record GroupsData : Type 0 where
@@ -28,6 +28,10 @@ unfoldable pub held_in : List ℕ → ℕ → List ℕ → ℕ → ℕ → ℕ
 held_in keys group masks cache zero = 0
 held_in keys group masks cache (suc n) =
     if is_in keys group n && has_at masks cache n then held_in keys group masks cache n + 1 else held_in keys group masks cache n
+
+-- no number of the group has the cache in its set
+abbrev pub NoneIn : List ℕ → ℕ → List ℕ → ℕ → Type 0
+NoneIn keys group masks cache = (x : ℕ) → x < length keys → is_in keys group x ≡ true → has_at masks cache x ≡ false
 
 -- the cache has left the sets of the numbers from one on that are in the group, and no other
 pub record Left (keys : List ℕ) (group cache from : ℕ) (old new : List ℕ) : Type 0 where

@@ -1,5 +1,5 @@
 -- A cache without a ram as plain data, and what it keeps.
-use Rattle.std.specs.Prelude.{◌≡◌, ℕ, zero, suc, ◌+◌, ◌-◌, ◌*◌, ◌^◌, ◌<◌, ◌≤◌, Bool, true, List, [], ◌∷◌, ◌++◌, map, length, replicate, slice_index, slice_set, nat_lt, if◌then◌else◌}
+use Rattle.std.specs.Prelude.{◌≡◌, ℕ, zero, suc, ◌+◌, ◌-◌, ◌*◌, ◌^◌, ◌<◌, ◌≤◌, ◌⊎◌, Bool, true, false, List, [], ◌∷◌, ◌++◌, map, length, replicate, slice_index, slice_index_or, slice_set, nat_lt, if◌then◌else◌}
 use Rattle.swi_image.specs.Format.{ImageData}
 use Rattle.swi_rom.specs.Record.{Record, Placement, Transfer}
 use Rattle.swi_rom.specs.Service.{Setting}
@@ -25,6 +25,8 @@ pub record TallyData : Type 0 where
   pub queue : List ℕ
   -- of each block its first word; of one that isn't placed nowhere
   pub homes : List ℕ
+  -- of each block whether a block that came later may have a link into it
+  pub led : List Bool
   -- how many blocks the queue has room for
   pub room : ℕ
   pub counts : Counts
@@ -68,6 +70,19 @@ abbrev pub arrival_of : Placing → Arrival
 arrival_of Slots = slots.arrived
 arrival_of Ring = ring.arrived
 
+-- the one block came before the other, and both stand
+abbrev pub Before : List ℕ → ℕ → ℕ → Type 0
+Before [] a b = ⊥
+Before (q ∷ qs) a b = ((q ≡ a) × Has qs b) ⊎ Before qs a b
+
+-- it came before, or what is kept of the other says that it may have come later
+abbrev pub Leads : TallyData → ℕ → ℕ → Type 0
+Leads s a b = Before s.queue a b ⊎ (Has s.queue b × (slice_index_or s.led b true ≡ true))
+
+-- so it is of each other block that stands
+abbrev pub AreLeading : TallyData → ℕ → Type 0
+AreLeading s b = (a : ℕ) → Has s.queue a → (a ≡ b → ⊥) → Leads s a b
+
 -- the numbers keep their shape
 pub record InShape (s : TallyData) : Type 0 where
   pub some_slot : 1 ≤ s.slots
@@ -75,6 +90,7 @@ pub record InShape (s : TallyData) : Type 0 where
   pub words_most : s.slot_words ≤ 2 ^ 21
   pub next_most : s.next ≤ span s
   pub few : length s.homes ≤ 2 ^ 19
+  pub led_long : length s.led ≡ length s.homes
   pub room_is : s.room ≡ length s.homes
   -- no block stands twice, and those that stand are placed
   pub distinct : Distinct s.queue
@@ -82,13 +98,14 @@ pub record InShape (s : TallyData) : Type 0 where
   pub placed : (b : ℕ) → Has s.queue b → slice_index s.homes b < span s
   pub absent : (b : ℕ) → b < length s.homes → (Has s.queue b → ⊥) → slice_index s.homes b ≡ nowhere
 
--- the counts are bounded by the services
+-- the counts are bounded by the services, and no link leads into a block from a later one but where that is kept of it
 pub record Bounded (e : ExitsData) (linked : ℕ → Bool) (s : TallyData) : Type 0 where
   pub misses : s.counts.misses ≤ s.counts.services + 1
   pub links : s.counts.links ≤ s.counts.services + 1
   pub evictions : s.counts.evictions + length s.queue ≡ s.counts.misses
   pub copied : s.counts.copied ≤ 1024 * s.counts.misses
   pub undone : s.counts.unlinks + length (links_of e linked) ≤ s.counts.links
+  pub led : (x : ℕ) → x < length e.from → linked x ≡ true → (slice_index e.from x ≡ slice_index e.into x → ⊥) → Leads s (slice_index e.from x) (slice_index e.into x)
 
 -- the oldest block has left, but for the links that it had
 abbrev pub without_oldest : TallyData → ℕ → List ℕ → TallyData
@@ -98,12 +115,13 @@ without_oldest s b rest = record s {
   counts = record s.counts { evictions = s.counts.evictions + 1 };
 }
 
--- a block stands from a word on, in so many words
+-- a block stands from a word on, in so many words; none came later
 abbrev pub settled : TallyData → ℕ → ℕ → ℕ → TallyData
 settled s b first n = record s {
   next = first + n;
   queue = s.queue ++ b ∷ [];
   homes = slice_set s.homes b first;
+  led = slice_set s.led b false;
   counts = record s.counts { misses = s.counts.misses + 1; copied = s.counts.copied + n };
 }
 
@@ -190,6 +208,7 @@ empty_tally placing slots slot_words blocks = record {
   next = 0;
   queue = [];
   homes = replicate blocks nowhere;
+  led = replicate blocks false;
   room = blocks;
   counts = record { services = 0; misses = 0; evictions = 0; links = 0; unlinks = 0; copied = 0 };
 }

@@ -171,6 +171,7 @@ impl Tallies {
     }
 
     // The k-th cache serves a direct exit that is no link in it.
+    #[inline(always)]
     fn cross_by(&mut self, image: &ImageView<'_>, k: u32, x: u32)
         requires cache { k < length self.old.caches }
         requires serves { ServesAt image.now (2 ^ 50 - 1) self.old k }
@@ -189,6 +190,7 @@ impl Tallies {
     }
 
     // The k-th cache serves the last of the jumps, to an address in a block, and counts on its own up to it.
+    #[inline(always)]
     fn enter_by(&mut self, image: &ImageView<'_>, k: u32, block: u32)
         requires cache { k < length self.old.caches }
         requires serves { ServesAt image.now (2 ^ 50 - 1) (before self.old) k }

@@ -1,12 +1,13 @@
 //! One cache without a ram.
 #![tactic(auto)]
 
-ghost use Rattle.std.specs.Prelude.{◌≡◌, ◌+◌, ◌*◌, ◌%◌, ◌^◌, ◌<◌, ◌≤◌, ◌↔◌, ◌∷◌, ℕ, Bool, false, Some, IfOk, IsTrue, length, slice_index};
+ghost use Rattle.std.specs.Prelude.{◌≡◌, ◌+◌, ◌*◌, ◌%◌, ◌^◌, ◌<◌, ◌≤◌, ◌↔◌, ◌∷◌, ℕ, Bool, false, true, Some, IfOk, IsTrue, length, slice_index, slice_index_or};
 ghost use Rattle.std.specs.List.{list_any};
 ghost use Rattle.swi_links.specs.Chains.{Has};
 ghost use Rattle.swi_tally.specs.Exits.{ExitsData};
+ghost use Rattle.swi_tally.specs.Groups.{Left, NoneIn, held_in};
 ghost use Rattle.swi_tally.specs.Masks.{has_at};
-ghost use Rattle.swi_tally.specs.Tally.{AreMarked, Arrives, Bounded, InShape, Links, Marks, Moved, Receded, Serves, Stands, counted_tally, empty_tally, freed, kept_by, policy_of, queue_of, setting_of, settled, span, spot, without_oldest};
+ghost use Rattle.swi_tally.specs.Tally.{AreLeading, AreMarked, Arrives, Bounded, InShape, Links, Marks, Moved, Receded, Serves, Stands, counted_tally, empty_tally, freed, kept_by, policy_of, queue_of, setting_of, settled, span, spot, without_oldest};
 ghost use Rattle.swi_ring.specs.Fifo.{cleared, first_for, meets};
 ghost use Rattle.swi_image.specs.Place.{place_of};
 ghost use Rattle.swi_rom.specs.Policy.{evicted};
@@ -44,6 +45,8 @@ pub struct Tally {
     queue: BlockQueue,
     // Of each block its first word; of one that isn't placed NOWHERE.
     homes: Vec<u32>,
+    // Of each block whether a block that came later may have a link into it.
+    led: Vec<bool>,
     counts: Counts,
 }
 
@@ -59,6 +62,7 @@ impl Model for Tally {
       next = s.next;
       queue = s.queue.blocks;
       homes = s.homes.items;
+      led = s.led.items;
       room = s.queue.room;
       counts = s.counts;
     } };
@@ -81,6 +85,7 @@ impl Tally {
     {
         let queue = BlockQueue::new(alloc, blocks)?;
         let homes = vec![in alloc; NOWHERE; blocks as usize].map_err(|_| Memory)?;
+        let led = vec![in alloc; false; blocks as usize].map_err(|_| Memory)?;
         Ok(Tally {
             placing,
             slots,
@@ -88,6 +93,7 @@ impl Tally {
             next: 0,
             queue,
             homes,
+            led,
             counts: Counts {
                 services: 0,
                 misses: 0,
@@ -125,6 +131,7 @@ impl Tally {
     }
 
     // The oldest block leaves, but for the links that it had.
+    #[inline(always)]
     fn take_oldest(&mut self) -> u32
         requires shape { InShape self.old }
         requires some { 0 < length self.old.queue }
@@ -139,6 +146,7 @@ impl Tally {
     }
 
     // Counts links that were undone.
+    #[inline(always)]
     fn count_unlinks(&mut self, undone: u32)
         requires { self.old.counts.unlinks < 2 ^ 60 }
         ensures { self.new ≡ record self.old { counts = record self.old.counts { unlinks = self.old.counts.unlinks + undone } } }
@@ -146,7 +154,27 @@ impl Tally {
         self.counts.unlinks += undone as u64;
     }
 
+    // The links into a block that has left are undone: how many there were. There is none where no later block had one.
+    #[inline(always)]
+    fn undo(&self, exits: &Exits, block: u32, masks: &mut [u64], cache: u32) -> u32
+        requires block { block < exits.now.blocks }
+        requires led { block < length self.now.led }
+        requires masks { length masks.old ≡ length exits.now.from }
+        requires cache { cache < 64 }
+        requires none { slice_index_or self.now.led block true ≡ false → NoneIn exits.now.into block masks.old cache }
+        ensures left { Left exits.now.into block cache 0 masks.old masks.new }
+        ensures count { result ≡ held_in exits.now.into block masks.old cache (length exits.now.into) }
+    {
+        let _ = exits.len();
+        if self.led[block as usize] {
+            leave(&exits.into, block, masks, cache)
+        } else {
+            0
+        }
+    }
+
     // The oldest block leaves, with the links from it and into it.
+    #[inline(always)]
     fn evict(&mut self, exits: &Exits, masks: &mut [u64], placed: &mut [u64], cache: u32)
         requires shape { InShape self.old }
         requires some { 0 < length self.old.queue }
@@ -169,12 +197,13 @@ impl Tally {
         let _ = exits.len();
         let block = self.take_oldest();
         leave(&exits.from, block, masks, cache);
-        let undone = leave(&exits.into, block, masks, cache);
+        let undone = self.undo(exits, block, masks, cache);
         self.count_unlinks(undone);
         placed[block as usize] = without(placed[block as usize], cache);
     }
 
     // A block stands from a word on.
+    #[inline(always)]
     fn settle(&mut self, placed: &mut [u64], cache: u32, block: u32, first: u32, size: u32)
         requires shape { InShape self.old }
         requires block { block < length self.old.homes }
@@ -190,6 +219,7 @@ impl Tally {
         placed[block as usize] = with(placed[block as usize], cache);
         self.queue.push(block);
         self.homes[block as usize] = first;
+        self.led[block as usize] = false;
         self.next = first + size;
         self.counts.misses += 1;
         self.counts.copied += size as u64;
@@ -215,6 +245,7 @@ impl Tally {
     }
 
     // The first word of the slot that is filled next.
+    #[inline(always)]
     fn next_slot(&self) -> u32
         requires { InShape self.now }
         ensures value { result ≡ self.now.counts.misses % self.now.slots * self.now.slot_words }
@@ -224,6 +255,7 @@ impl Tally {
     }
 
     // Where all slots are taken, the oldest block leaves.
+    #[inline(always)]
     fn free_slot(
         &mut self,
         image: &ImageView<'_>,
@@ -248,6 +280,7 @@ impl Tally {
     }
 
     // A block that doesn't stand is placed in the next slot.
+    #[inline(always)]
     fn fill_slot(
         &mut self,
         image: &ImageView<'_>,
@@ -265,6 +298,7 @@ impl Tally {
         requires block { block < exits.now.blocks }
         requires absent { Has self.old.queue block → ⊥ }
         ensures arrives { Arrives image.now exits.now cache block self.old self.new masks.old masks.new }
+        ensures leading { AreLeading self.new block }
         ensures marks { Marks exits.now.blocks cache self.new.queue placed.old placed.new }
     {
         let _ = image.blocks();
@@ -347,6 +381,7 @@ impl Tally {
     }
 
     // A block that doesn't stand is placed behind the one that was placed last.
+    #[inline(never)]
     fn fill_ring(
         &mut self,
         image: &ImageView<'_>,
@@ -365,6 +400,7 @@ impl Tally {
         requires block { block < exits.now.blocks }
         requires absent { Has self.old.queue block → ⊥ }
         ensures arrives { Arrives image.now exits.now cache block self.old self.new masks.old masks.new }
+        ensures leading { AreLeading self.new block }
         ensures marks { Marks exits.now.blocks cache self.new.queue placed.old placed.new }
     {
         let _ = image.blocks();
@@ -375,7 +411,7 @@ impl Tally {
     }
 
     // A block that doesn't stand comes to stand.
-    #[inline(never)]
+    #[inline(always)]
     fn fill(
         &mut self,
         image: &ImageView<'_>,
@@ -393,6 +429,7 @@ impl Tally {
         requires block { block < exits.now.blocks }
         requires absent { Has self.old.queue block → ⊥ }
         ensures arrives { Arrives image.now exits.now cache block self.old self.new masks.old masks.new }
+        ensures leading { AreLeading self.new block }
         ensures marks { Marks exits.now.blocks cache self.new.queue placed.old placed.new }
     {
         match self.placing {
@@ -417,10 +454,12 @@ impl Tally {
         requires services { self.old.counts.services < 2 ^ 50 }
         requires block { block < exits.now.blocks }
         ensures arrives { Arrives image.now exits.now cache block (counted_tally self.old) self.new masks.old masks.new }
+        ensures leading { AreLeading self.new block }
         ensures marks { Marks exits.now.blocks cache self.new.queue placed.old placed.new }
     {
         if self.is_placed(block) {
             self.counts.services += 1;
+            self.led[block as usize] = true;
         } else {
             self.count_service();
             self.fill(image, exits, masks, placed, cache, block);
@@ -428,11 +467,13 @@ impl Tally {
     }
 
     // The exit becomes a link, where its block still stands and a JAL reaches.
+    #[inline(always)]
     fn link(&mut self, image: &ImageView<'_>, exits: &Exits, masks: &mut [u64], cache: u32, x: u32)
         requires stands { Stands image.now exits.now cache masks.old self.old }
         requires exit { x < length exits.now.from }
         requires unlinked { has_at masks.old cache x ≡ false }
         requires here { Has self.old.queue (slice_index exits.now.into x) }
+        requires leading { AreLeading self.old (slice_index exits.now.into x) }
         requires links { self.old.counts.links ≤ self.old.counts.services }
         requires services { self.old.counts.services ≤ 2 ^ 50 }
         ensures links { Links exits.now cache x self.old self.new masks.old masks.new }
@@ -450,6 +491,7 @@ impl Tally {
     }
 
     /// Serves a direct exit that isn't linked, by the policy.
+    #[inline(always)]
     pub(crate) fn cross(
         &mut self,
         image: &ImageView<'_>,

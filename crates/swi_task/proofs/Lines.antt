@@ -239,6 +239,7 @@ err_causes d m error e h later rose =
         one_told = inr refl;
         other_told = inr refl;
       };
+      once = λ x. let never : ⊥ = cc in absurd never;
     })
 
 sized_fault : (x : Option Refusal) (e : Ending) → IsSized x (Ok e) → IsSized x (Err refusal.SinkFault)

@@ -219,6 +219,7 @@ out_causes d m shelf ram input error later rose =
     (record {
       input = no_cause input (λ x. let never : ⊥ = cc in never);
       sinks = record { one_later = later; other_later = omega (arith, error); cause = λ _. inl rose; one_told = inr refl; other_told = inl error };
+      once = λ x. let never : ⊥ = cc in absurd never;
     })
 
 -- ---- what stays

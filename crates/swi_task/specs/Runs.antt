@@ -15,6 +15,8 @@ use Rattle.swi_calls.specs.declared.end.End.TheVariants as end
 use Rattle.swi_calls.specs.declared.machine.Machine.{Machine}
 use Rattle.swi_calls.specs.State.{FlatState}
 use Rattle.swi_calls.specs.Flat.{Made, flat_start}
+use Rattle.swi_hart.specs.declared.fault.BoardFault.{BoardFault}
+use Rattle.swi_hart.specs.declared.fault.BoardFault.TheVariants as fault
 use Rattle.swi_board.specs.Ran.{Unasked}
 use Rattle.swi_report.specs.declared.stats.Work.{Work}
 use Rattle.swi_report.specs.State.{state_text_of}
@@ -45,6 +47,12 @@ ending_by (Some (end.StoreText a)) pc steps = ending.StoreText pc a steps
 -- as the machine did, or with its steps spent
 abbrev pub ending_of : FlatState → Ending
 ending_of s = ending_by s.machine.ending s.machine.pc s.machine.steps
+
+-- what a run is refused with in which a device failed so
+abbrev pub refusal_of : BoardFault → Refusal
+refusal_of fault.RamFault = refusal.RamFault
+refusal_of fault.SourceFault = refusal.SourceFault
+refusal_of fault.SinkFault = refusal.SinkFault
 
 -- what is written to the output behind the program's own bytes: the state and the counts, as far as they are asked for
 abbrev pub report_of : Reports → ℕ → Registers → List AreaData → ℕ → ℕ → Option Work → List ℕ

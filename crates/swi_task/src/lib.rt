@@ -9,7 +9,7 @@ mod subject;
 
 pub use cache::{check_block, check_size};
 pub use file::{file_with, read_file, write_file};
-pub use report::{ending_by, write_report};
+pub use report::{ending_by, refusal_of, write_report};
 pub use subject::{
     Prepared, Subject, SubjectImage, accept, cut_image, cut_image_by, load, own_image, prepare,
     subject_of,

@@ -43,7 +43,7 @@ use Rattle.swi_task.proofs.Refusals.{gave_same}
 image_fact : (x : Option (List ℕ)) (P : List ℕ → Type 0) (bytes : List ℕ) → x ≡ Some bytes → OfImage x P → P bytes
 image_fact x P bytes e h = subst (λ (y : Option (List ℕ)). OfImage y P) e h
 
-fails_not : (c : Check) (r : Refusal) → Passes c → Fails c r → ⊥
+pub fails_not : (c : Check) (r : Refusal) → Passes c → Fails c r → ⊥
 fails_not (IsShort file) r p f = let long = f.0 in omega (arith, p, long)
 fails_not (IsAcceptedElf file) r p f = let bad : ⊥ = cc in bad
 fails_not (HasRoom file limits) r p f = let ok = p.1 in let err = f.1 in let bad : ⊥ = cc in bad

@@ -13,7 +13,7 @@ use std::alloc::Global;
 use swi_answer::{Ending, Refusal};
 use swi_cached_command::cached;
 use swi_command::Command;
-use swi_file_commands::{check, list, plain, rewrite, upgrade};
+use swi_file_commands::{check, list, plain, profile, rewrite, upgrade};
 use swi_measure_command::measure;
 use swi_outside::{Shelf, Sink, Source, SteadyRam};
 use swi_prefetch_command::prefetch;
@@ -37,107 +37,16 @@ pub(crate) fn perform<F: Shelf, I: Source, O: Sink, E: Sink, R: SteadyRam>(
         (seen (F.state shelf.new) after (O.state out.new) (E.state err.new) (R.state ram.new)) result []) }
 {
     match command {
-        Command::Rewrite {
-            input: from,
-            output: to,
-            block_words,
-            whole_loops,
-        } => {
-            rewrite(
-                alloc,
-                from.as_str(),
-                to.as_str(),
-                *block_words,
-                *whole_loops,
-                shelf,
-            )
-        }
-        Command::Cached {
-            file,
-            cache,
-            options,
-        } => {
-            cached(
-                alloc,
-                file.as_str(),
-                cache,
-                options,
-                shelf,
-                input,
-                out,
-                err,
-                ram,
-            )
-        }
-        Command::Prefetch {
-            file,
-            cache,
-            options,
-            rate,
-        } => {
-            prefetch(
-                alloc,
-                file.as_str(),
-                cache,
-                options,
-                *rate,
-                shelf,
-                input,
-                out,
-                err,
-                ram,
-            )
-        }
-        Command::Plain { file, options } => {
-            plain(alloc, file.as_str(), options, shelf, input, out, err)
-        }
-        Command::Listing { file, block_words } => {
-            list(alloc, file.as_str(), *block_words, shelf, out)
-        }
-        Command::Check { file } => check(alloc, file.as_str(), shelf, out),
-        Command::Upgrade {
-            input: from,
-            output: to,
-        } => upgrade(alloc, from.as_str(), to.as_str(), shelf),
-        Command::Measure {
-            seed,
-            functions,
-            cache,
-        } => measure(alloc, *seed, *functions, cache, out, ram),
-        Command::Share {
-            files,
-            cache,
-            options,
-        } => share(
-            alloc,
-            files.as_slice(),
-            cache,
-            options,
-            shelf,
-            out,
-            err,
-            ram,
-        ),
-        Command::Survey {
-            file,
-            sizes,
-            block_words,
-            kind,
-            limits,
-        } => {
-            survey(
-                alloc,
-                file.as_str(),
-                sizes.as_slice(),
-                *block_words,
-                *kind,
-                limits,
-                shelf,
-                input,
-                out,
-                err,
-                ram,
-            )
-        }
+        Command::Rewrite(command) => rewrite(alloc, command, shelf),
+        Command::Cached(command) => cached(alloc, command, shelf, input, out, err, ram),
+        Command::Prefetch(command) => prefetch(alloc, command, shelf, input, out, err, ram),
+        Command::Plain(command) => plain(alloc, command, shelf, input, out, err),
+        Command::List(command) => list(alloc, command, shelf, out),
+        Command::Check(command) => check(alloc, command, shelf, out),
+        Command::Upgrade(command) => upgrade(alloc, command, shelf),
+        Command::Measure(command) => measure(alloc, command, out, ram),
+        Command::Share(command) => share(alloc, command, shelf, out, err, ram),
+        Command::Profile(command) => profile(alloc, command, shelf, input, out, err),
+        Command::Survey(command) => survey(alloc, command, shelf, input, out, err, ram),
     }
 }

@@ -144,7 +144,7 @@ impl Device {
 
 /// A command on a text, or without one on `TABLE`; the device of which each call fails in turn; and how many calls of it
 /// the command makes, worked out by hand.
-static FAILING: [(Row, Device, u32); 16] = [
+static FAILING: [(Row, Device, u32); 18] = [
     // ten words are set for the block and its link, and eleven are fetched
     (
         row!(words: "cached A --block 16 --cache 64 --stats", text: COUNT, ram: 16),
@@ -177,6 +177,11 @@ static FAILING: [(Row, Device, u32); 16] = [
         Device::Input,
         2,
     ),
+    (
+        row!(words: "profile A", text: ECHO, input: "abc"),
+        Device::Input,
+        2,
+    ),
     // what the program writes, and a line of each count
     (row!(words: "plain A --stats", text: &[]), Device::Output, 2),
     (
@@ -201,6 +206,8 @@ static FAILING: [(Row, Device, u32); 16] = [
         Device::Output,
         11,
     ),
+    // a line of each word that was executed
+    (row!(words: "profile A", text: SEVEN), Device::Output, 3),
     (
         row!(words: "cached A --calls", text: ECHO, input: "abc"),
         Device::Errors,

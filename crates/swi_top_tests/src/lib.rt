@@ -26,6 +26,8 @@ mod measure;
 #[cfg(test)]
 mod prefetch;
 #[cfg(test)]
+mod profile;
+#[cfg(test)]
 mod programs;
 #[cfg(test)]
 mod rewrite;

@@ -91,7 +91,7 @@ pub const SECOND: [u32; 48] = [
 pub const NONE: u32 = 0xFFFF_FFFF;
 
 pub const USAGE: &str =
-    "usage: swic rewrite, cached, plain, trace, list, check, measure, upgrade, share, prefetch, survey\n";
+    "usage: swic rewrite, cached, plain, trace, list, check, measure, upgrade, share, prefetch, survey, profile\n";
 
 /// The names of the counts, in their order.
 const COUNTS: [&str; 9] = [

@@ -3,6 +3,7 @@ use Rattle.swi_isa.specs.Decode.{decoded}
 use Rattle.swi_image.specs.Place.{place_of}
 use Rattle.swi_image.specs.Row.{row_inside}
 use Rattle.swi_hart.specs.Leaving.{offset_of}
+use Rattle.swi_board.proofs.Remembering.{offset_is}
 use Rattle.swi_board.proofs.Passing.{crossed, exit_at, never, over_link}
 use Rattle.swi_board.proofs.ways.pass.Goals as goal
 
@@ -11,7 +12,7 @@ returns-then-word-ne-EBREAK-clause-passed g c =
     let off : c.in-Some-Jal.off ≡ offset_of (decoded c.args.word) = search rules in
     over_link g.met.R.CacheRom.laws c.args.image.now c.args.rom.now (g.M.CacheRam.state c.args.ram.now) c.requires.sound c.requires.exit c.args.word c.distance-distance.result c.requires.word (record {
       linked = c.if-word-ne-EBREAK.true;
-      leads = λ i j jumps low high. c.distance-distance.ensures i j c.args.word jumps off low high;
+      leads = λ i j jumps low high. c.distance-distance.ensures i j (offset_is i j c.args.word c.in-Some-Jal.off jumps off) low high;
     })
 
 pub overflow_cast-exit : goal.overflow_cast-exit

@@ -45,7 +45,7 @@ returns c = record {
         | else-block-eq0 w ↦ inr (w.if-block-eq0.false, w.begin-is)
       ]) in
       let l = length_is k in
-      let row : c.args.slot * c.args.size ≡ c.args.slot * s.size = ap (λ (z : ℕ). c.args.slot * z) k.size_is in
+      let row : c.args.slot * c.args.size.words ≡ c.args.slot * s.size = ap (λ (z : ℕ). c.args.slot * z) k.size_is in
       missed k c.copy.new.cache room c.copy.auto.cache
       (λ j lt. ap (λ (z : ℕ). slice_index c.copy.new.cache (z + j)) (sym row) ∙ (c.copy.ensures.copied j (omega (arith, lt, l)) ∙ ap (λ (z : ℕ). slice_index c.args.words.now (z + j)) begin))
       (λ i w. c.copy.ensures.others i (elim w [ inl lt ↦ inl (omega (arith, lt, row)) | inr ge ↦ inr (omega (arith, ge, row, l)) ])));

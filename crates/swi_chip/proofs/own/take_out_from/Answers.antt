@@ -1,4 +1,6 @@
-use Rattle.std.proofs.Common.{◌≡◌, ◌+◌, ◌-◌, ◌<◌, ℕ, List, length, slice_index, slice_set, arith, sym, ◌∙◌, subst}
+use Rattle.std.proofs.Common.{◌≡◌, ◌+◌, ◌-◌, ◌*◌, ◌<◌, ℕ, List, length, slice_index, slice_set, arith, refl, sym, ◌∙◌, subst}
+use Rattle.swi_chip.specs.Owned.{lands_at, lands_in}
+use Rattle.swi_chip.proofs.Dividing.{below_slots}
 use Rattle.swi_chip.proofs.Owning.{Taking, taking_passed, taking_left, now_has, slot_inside, count_is}
 use Rattle.swi_chip.proofs.own.take_out_from.Goals as goal
 use Rattle.swi_chip.proofs.own.take_out_from.Goals.{then-is_link, else-is_link}
@@ -9,6 +11,17 @@ taking_as first at at' words w w' h h' l l' lists ea ew eh el t =
     (subst (λ (xs : List ℕ). Taking first at words xs h' l' lists) (sym ew)
     (subst (λ (xs : List ℕ). Taking first at words w xs l' lists) (sym eh)
     (subst (λ (xs : List ℕ). Taking first at words w h xs lists) (sym el) t)))
+
+pub slot_of-slot-requires-clause-few : goal.slot_of-slot-requires-clause-few
+slot_of-slot-requires-clause-few c =
+    (let L = c.requires.stand.0 in let s = c.requires.stand.1 in
+    let n : ℕ = c.args.size.words in
+    let w : ℕ = slice_index c.loop-at.cache c.loop-at.at in
+    let inside = slot_inside (c.loop-at.invariant.2 L s) (c.requires.tied L s) (c.requires.apart L s) c.loop-at.invariant.0 c.loop-at-test.true (lands_in n c.loop-at.at w) refl (sym c.is_link.ensures ∙ c.if-is_link.true) in
+    let some = c.requires.inverse.least in
+    let low : lands_at c.loop-at.at w < length c.args.heads.now * n = below_slots (lands_at c.loop-at.at w) n (length c.args.heads.now) (omega (arith, some)) (omega (arith, inside, c.loop-at.auto.heads)) in
+    let room = c.requires.room in let few = s.few in
+    omega (arith, low, room, few))
 
 pub leave-requires-clause-has : goal.leave-requires-clause-has
 leave-requires-clause-has c =

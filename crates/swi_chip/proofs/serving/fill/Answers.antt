@@ -48,6 +48,7 @@ miss-undone-requires c =
         to_miss k (c.args.chip.now.filled == c.args.chip.now.slots) c.leaving-old_words.result c.length_of-new_words.result (full_is k) (free_is k)
             (chosen (c.args.chip.now.filled == c.args.chip.now.slots) c.leaving-old_words.result (leaving_words c.args.chip.now) c.leaving-old_words.ensures) c.length_of-new_words.ensures,
       );
+      inverse = k.stands.numbers.inverse_is;
     })
 
 pub overflow_cast-chip : goal.overflow_cast-chip
@@ -56,11 +57,11 @@ overflow_cast-chip c = (let m = mark_small c.requires.can.to in omega (arith, m)
 pub overflow_add-chip : goal.overflow_add-chip
 overflow_add-chip c = (let m = filled_small c.requires.can.to in omega (arith, m))
 
-pub returns : goal.returns
-returns c = λ s vs ram lists k.
+pub returns-clause-arrived : goal.returns-clause-arrived
+returns-clause-arrived c = λ s vs ram lists k.
     (let full : Bool = c.args.chip.now.filled == c.args.chip.now.slots in
     let tm = to_miss k (c.args.chip.now.filled == c.args.chip.now.slots) c.leaving-old_words.result c.length_of-new_words.result (full_is k) (free_is k)
     (chosen (c.args.chip.now.filled == c.args.chip.now.slots) c.leaving-old_words.result (leaving_words c.args.chip.now) c.leaving-old_words.ensures) c.length_of-new_words.ensures in
     has_filled k (full_is k) (free_is k) c.length_of-new_words.ensures refl
-    (record { counts = c.count_miss.ensures; slots = refl; size = refl; base = refl; next = c.following-chip.ensures; filled = c.min-chip.ensures; marks = ap (λ (l : List ℕ). slice_set l c.args.block (c.args.chip.now.next * c.args.chip.now.size + 1)) c.forget.ensures; places = refl; ends = refl; image = refl; cache = c.miss-undone.auto.cache })
+    (record { counts = c.count_miss.ensures; slots = refl; size = refl; base = refl; next = c.following-chip.ensures; filled = c.min-chip.ensures; marks = ap (λ (l : List ℕ). slice_set l c.args.block (c.args.chip.now.next * c.args.chip.now.size.words + 1)) c.forget.ensures; places = refl; ends = refl; image = refl; cache = c.miss-undone.auto.cache; rest = refl; memo = c.forget-2.auto.memo })
     (c.miss-undone.ensures.missed (counted_slots s) vs ram lists tm))

@@ -23,7 +23,7 @@ bounds-cache-cell-in-loop-k c =
 pub descriptor-requires : goal.descriptor-requires
 descriptor-requires c =
     (let e = c.requires.count c.requires.stand.0 c.requires.stand.1 in
-    record { can = c.requires.can c.requires.stand.0 c.requires.stand.1 c.loop-k.cell (cell_known (c.loop-k.invariant c.requires.stand.0 c.requires.stand.1) (omega (arith, e, c.loop-k-test.true))).2 })
+    record { can = c.requires.can c.requires.stand.0 c.requires.stand.1 c.loop-k.cell (cell_known (c.loop-k.invariant c.requires.stand.0 c.requires.stand.1) (omega (arith, e, c.loop-k-test.true))).2; inverse = c.requires.inverse })
 
 pub bounds-cache-cell-in-loop-k-2 : goal.bounds-cache-cell-in-loop-k-2
 bounds-cache-cell-in-loop-k-2 c =
@@ -36,7 +36,7 @@ loop-k-preserved c = λ lists s.
     (let e = c.requires.count lists s in
     let n = next_cell (c.loop-k.invariant lists s) (omega (arith, e, c.loop-k-test.true)) in
     let more = undoing_more n c.descriptor.result c.descriptor.ensures (s.distinct c.args.slot c.requires.slot) (λ x y h k q. c.requires.apart lists s c.args.slot c.args.slot x y h k q) (cells_some c.args.slot s c.requires.slot) in
-    subst (λ (z : ℕ). Undoing c.args.cache.now (slice_set (slice_set c.loop-k.cache (c.loop-k.cell - 1) 1048691) c.loop-k.cell c.descriptor.result) (restored c.args.blocks.now c.args.ends.now c.args.words.now c.args.size) z (c.loop-k._k + 1) (list_at lists c.args.slot)) (sym c.next_of-next.ensures) more)
+    subst (λ (z : ℕ). Undoing c.args.cache.now (slice_set (slice_set c.loop-k.cache (c.loop-k.cell - 1) 1048691) c.loop-k.cell c.descriptor.result) (restored c.args.blocks.now c.args.ends.now c.args.words.now c.args.size.words) z (c.loop-k._k + 1) (list_at lists c.args.slot)) (sym c.next_of-next.ensures) more)
 
 pub returns-clause-undone : goal.returns-clause-undone
 returns-clause-undone c = λ lists s. (let e = c.requires.count lists s in undone_all (c.loop-k.invariant lists s) (omega (arith, e, c.loop-k-test.false, c.loop-k.auto._k-end)))
@@ -44,5 +44,5 @@ returns-clause-undone c = λ lists s. (let e = c.requires.count lists s in undon
 pub returns-clause-stand : goal.returns-clause-stand
 returns-clause-stand c = λ lists s.
     (let e = c.requires.count lists s in
-    undone_stands c.args.cache.now c.loop-k.cache c.args.heads.now lists c.args.slot (restored c.args.blocks.now c.args.ends.now c.args.words.now c.args.size) s c.requires.slot (c.requires.apart lists s)
+    undone_stands c.args.cache.now c.loop-k.cache c.args.heads.now lists c.args.slot (restored c.args.blocks.now c.args.ends.now c.args.words.now c.args.size.words) s c.requires.slot (c.requires.apart lists s)
     (undone_all (c.loop-k.invariant lists s) (omega (arith, e, c.loop-k-test.false, c.loop-k.auto._k-end))))

@@ -1,5 +1,7 @@
-use Rattle.std.proofs.Common.{arith, refl, sym, subst}
+use Rattle.std.proofs.Common.{Option, arith, refl, sym, subst, ap, ◌∙◌}
+use Rattle.swi_isa.specs.declared.instr.Instr.{Instr}
 use Rattle.swi_rom.specs.Coherent.{TargetAt}
+use Rattle.swi_hart.specs.Leaving.{offset_of}
 use Rattle.swi_hart.proofs.Falls.{ram_same, words_same}
 use Rattle.swi_hart.proofs.Leaving.{by_error, served_at, served_outside, served_not, exit_unlinked, jump_linked, link_target}
 use Rattle.swi_hart.proofs.exit.leave.Goals as goal
@@ -11,7 +13,7 @@ returns-then-got-ne-EBREAK-clause-control g c =
     let r = g.R.CacheRom.service.kept c.args.rom.now in
     let coherent = g.met.R.CacheRom.laws.coherent _ _ _ s in
     let to = link_target v r _ _ c.args.got c.args.at.index c.args.at.block c.args.at.offset c.jump_index.result coherent (g.met.R.CacheRom.laws.image _ _ _ s) (g.met.R.CacheRom.laws.small _ _ _ s)
-    c.requires.exit c.if-got-ne-EBREAK.true (λ n jumps. c.jump_index.ensures n c.args.got jumps c.requires.offset) in
+    c.requires.exit c.if-got-ne-EBREAK.true (λ n jumps. c.jump_index.ensures n (c.requires.offset ∙ ap (λ (x : Option Instr). offset_of x) jumps.decodes)) in
     c.control_at.ensures v _ c.args.target s (subst (λ n. TargetAt v r n c.jump_index.result) (sym c.requires.target) to)
 
 pub returns-then-got-ne-EBREAK-clause-served : goal.returns-then-got-ne-EBREAK-clause-served

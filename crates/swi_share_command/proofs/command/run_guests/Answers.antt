@@ -24,7 +24,7 @@ returns-in-Err g c = λ d.
     let first : ShareWith = record { share = c.in-Ok.share; ram = g.R.CacheRam.state c.args.ram.now; out = g.O.Sink.state c.args.out.now; err = g.E.Sink.state c.args.err.now } in
     let after : ShareWith = record { share = c.run_schedule.new.share; ram = g.R.CacheRam.state c.run_schedule.new.ram; out = g.O.Sink.state c.run_schedule.new.out; err = g.E.Sink.state c.run_schedule.new.err } in
     let ran = subst (λ (n : ℕ). ScheduleRan (order_of n c.args.options.now.schedule) first after (Err c.in-Err.fault)) count c.in-Err.ensures in
-    subst (λ (r : Refusal). SharesOver c.args.options.now c.args.cache_bytes c.args.guests.items (with_streams d first) (with_streams d after) (Err r)) (sym c.refusal_by.ensures)
+    subst (λ (r : Refusal). SharesOver c.args.options.now c.args.cache_bytes c.args.guests.items (with_streams d first) (with_streams d after) (Err r)) (sym c.refusal_of.ensures)
     (over_broken c.args.options.now c.args.cache_bytes c.args.guests.items d first after c.in-Ok.ensures.start c.in-Err.fault ran)
 
 pub returns-in-Ok-report_share : goal.returns-in-Ok-report_share

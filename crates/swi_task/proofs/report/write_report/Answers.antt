@@ -18,7 +18,7 @@ writes_part o p (Err e) x err part = part
 
 pub returns-in_err-stats_text-clause-bytes : goal.returns-in_err-stats_text-clause-bytes
 returns-in_err-stats_text-clause-bytes g c =
-    let state = (if c.args.reports.now.state then state_text_of c.args.pc c.args.regs.now c.args.bus.now c.args.heap.now.now else []) in
+    let state = (if c.args.reports.now.state then state_text_of c.args.state.now.pc c.args.state.now.regs.now c.args.state.now.bus.now c.args.state.now.heap.now else []) in
     let first : Appends (g.O.Sink.state c.args.out.now).held (g.O.Sink.state c.if-reports.out).held state = elim c.if-reports.branch [
       | then-reports+in_ok-state_text w ↦ rw (w.if-reports.true, w.out-is) w.in_ok-state_text.ensures.bytes
       | else-reports w ↦ rw (w.if-reports.false, w.out-is) (Appends-none (g.O.Sink.state c.args.out.now).held)
@@ -26,4 +26,4 @@ returns-in_err-stats_text-clause-bytes g c =
     rw c.if-reports-2.true
     (writes_part (g.O.Sink.state c.args.out.now).held (g.O.Sink.state c.stats_text.new.sink).held c.from_residual-in_err-stats_text.result _ c.from_residual-in_err-stats_text.ensures.0
     (prefix_last (g.O.Sink.state c.args.out.now).held (g.O.Sink.state c.if-reports.out).held (g.O.Sink.state c.stats_text.new.sink).held state
-    (stats_text_of c.args.steps (option_copied c.args.work)) first c.in_err-stats_text.ensures.bytes))
+    (stats_text_of c.args.state.now.steps (option_copied c.args.work)) first c.in_err-stats_text.ensures.bytes))

@@ -1,5 +1,5 @@
 use Rattle.std.proofs.Common.{◌≡◌, List, ℕ, Some, sym, subst, refl}
-use Rattle.swi_command.specs.CommandLine.{form_named, rewrite_form, cached_form, plain_form, trace_form, list_form, check_form, upgrade_form, measure_form, share_form, prefetch_form, survey_form}
+use Rattle.swi_command.specs.CommandLine.{form_named, rewrite_form, cached_form, plain_form, trace_form, list_form, check_form, upgrade_form, measure_form, share_form, prefetch_form, survey_form, profile_form}
 use Rattle.swi_command.proofs.Naming.{form_named-none}
 use Rattle.swi_command.proofs.name.CommandName.named.Goals as goal
 
@@ -47,8 +47,12 @@ pub returns-in-survey : goal.returns-in-survey
 unfolding form_named
 returns-in-survey c = subst (λ (w : List ℕ). Some survey_form ≡ form_named w) (sym c.in-survey.is) refl
 
+pub returns-in-profile : goal.returns-in-profile
+unfolding form_named
+returns-in-profile c = subst (λ (w : List ℕ). Some profile_form ≡ form_named w) (sym c.in-profile.is) refl
+
 pub returns-in_default : goal.returns-in_default
 returns-in_default c =
     sym (form_named-none c.args.word.now c.in_default.not-rewrite c.in_default.not-cached c.in_default.not-plain
     c.in_default.not-trace c.in_default.not-list c.in_default.not-check c.in_default.not-upgrade c.in_default.not-measure
-    c.in_default.not-share c.in_default.not-prefetch c.in_default.not-survey)
+    c.in_default.not-share c.in_default.not-prefetch c.in_default.not-survey c.in_default.not-profile)

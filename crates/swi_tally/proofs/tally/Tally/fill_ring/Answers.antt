@@ -1,6 +1,7 @@
 use Rattle.std.proofs.Common.{arith}
 use Rattle.swi_tally.specs.Masks.{has_at}
 use Rattle.swi_tally.proofs.Arriving.{ring_arrives}
+use Rattle.swi_tally.proofs.Leading.{settled_last}
 use Rattle.swi_tally.proofs.Marking.{marks_both}
 use Rattle.swi_tally.proofs.tally.Tally.fill_ring.Goals as goal
 
@@ -12,3 +13,6 @@ returns-clause-arrives c =
 
 pub returns-clause-marks : goal.returns-clause-marks
 returns-clause-marks c = marks_both _ _ _ _ _ _ _ c.make_room.ensures.marks (c.settle.ensures.marks c.args.exits.now.blocks c.make_room.ensures.marks.are)
+
+pub returns-clause-leading : goal.returns-clause-leading
+returns-clause-leading c = settled_last c.make_room.new.self _ _ _ _ c.settle.ensures.settled

@@ -1,5 +1,6 @@
 use Rattle.std.proofs.Common.{arith}
 use Rattle.swi_tally.proofs.Arriving.{slot_arrives}
+use Rattle.swi_tally.proofs.Leading.{settled_last}
 use Rattle.swi_tally.proofs.Marking.{marks_both}
 use Rattle.swi_tally.proofs.tally.Tally.fill_slot.Goals as goal
 
@@ -11,3 +12,6 @@ returns-clause-arrives c =
 
 pub returns-clause-marks : goal.returns-clause-marks
 returns-clause-marks c = marks_both _ _ _ _ _ _ _ c.free_slot.ensures.marks (c.settle.ensures.marks c.args.exits.now.blocks c.free_slot.ensures.marks.are)
+
+pub returns-clause-leading : goal.returns-clause-leading
+returns-clause-leading c = settled_last c.free_slot.new.self _ _ _ _ c.settle.ensures.settled

@@ -30,7 +30,7 @@ returns-then-reach c =
     let near = reach_call _ _ _ _ _ _ (both_are home (ap (λ (x : Exit). x.offset) c.exit-exit.ensures.value)) (both_are goes (ap (λ (x : Exit). x.at) c.exit-exit.ensures.value)) c.reach.ensures c.if-reach.true in
     record {
       links = subst (λ (u : TallyData). Links c.args.exits.now c.args.cache c.args.x c.args.self.now u c.args.masks.now (slice_set c.args.masks.now c.args.x c.with.result)) (sym (ap linked_tally c.self.view_is))
-          (links_near _ _ _ _ _ _ _ c.requires.stands c.requires.exit c.requires.unlinked c.with.ensures c.requires.links from c.requires.here near);
+          (links_near _ _ _ _ _ _ _ c.requires.stands c.requires.exit c.requires.unlinked c.with.ensures c.requires.links from c.requires.here near c.requires.leading);
     }
 
 pub returns-else-reach : goal.returns-else-reach

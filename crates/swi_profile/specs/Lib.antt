@@ -1,0 +1,4 @@
+pub mod Executions
+pub mod Laws
+pub mod Profiled
+pub mod Totals
