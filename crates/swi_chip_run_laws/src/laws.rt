@@ -1,0 +1,15 @@
+//! The laws as a function that does nothing.
+#![tactic(auto)]
+
+ghost use Rattle.swi_chip_run_laws.specs.Runs.{EntersRight, ProcessorFollows, ProcessorRunsInSteps};
+
+/// Laws of a processor with the service of `swi_chip`, for who reads them; it does nothing.
+///
+/// The service stands for slots, the processor executes words where they stand, and its vector calls the service at an
+/// EBREAK. Then behind each machine instruction it stands where the flat machine does, or midway to its next step; and
+/// behind as many as so many original steps cost it stands behind these.
+pub fn laws_of_processors()
+    ensures enters { EntersRight }
+    ensures follows { ProcessorFollows }
+    ensures runs { ProcessorRunsInSteps }
+{}
