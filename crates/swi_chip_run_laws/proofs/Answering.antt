@@ -71,5 +71,7 @@ enters_right v s ram lists old new f answer c k e goes =
       words = q.words;
       lists = q.lists;
       stands = q.stands;
+      setting = q.setting;
+      moves = q.moves;
       matches = agrees v q.next f f.ending c (arrives s q.next v new f.pc answer q.stands.numbers.aligned q.answers c goes);
     }

@@ -1,3 +1,4 @@
-pub mod Answering
-pub mod Stepping
-pub mod Running
+mod Answering
+mod Stepping
+mod Running
+mod Files

@@ -5,6 +5,7 @@ use Rattle.swi_calls.specs.declared.machine.Machine.{Machine}
 use Rattle.swi_calls.specs.Flat.{started}
 use Rattle.swi_image.specs.Format.{ImageData}
 use Rattle.swi_render.specs.Carried.{Carries}
+use Rattle.swi_rom.specs.Record.{indirect}
 use Rattle.swi_slots.specs.Fifo.{fifo}
 use Rattle.swi_slots.specs.Slots.{Slots, kept_by, setting_of}
 use Rattle.swi_hart.specs.declared.hart.Control.{Control}
@@ -21,16 +22,18 @@ abbrev pub state_of : Slots → List ℕ → ProcessorState → ChipState
 state_of s words p = record { hart = p.hart; held = p.chip.cache.now; input = p.input; output = p.output; error = p.error; kept = kept_by s; words = words }
 
 -- The service has been entered at the flat machine's pc, and the processor goes on at its answer: so it stands where the flat machine does.
-pub record EnteredAt (v : ImageData) (f : Machine) (chip : Chip) (c : Control) : Type 0 where
+pub record EnteredAt (v : ImageData) (s : Slots) (f : Machine) (chip : Chip) (c : Control) : Type 0 where
   pub next : Slots
   pub words : List ℕ
   pub lists : List (List ℕ)
   pub stands : StandsFor next (λ p. v) words lists chip
+  pub setting : setting_of next ≡ setting_of s
+  pub moves : kept_by next ≡ fifo (setting_of s) (kept_by s) v (indirect f.pc)
   pub matches : Matches v (kept_by next) f f c
 
 abbrev pub EntersRight : Type 0
 EntersRight = (v : ImageData) (s : Slots) (ram : List ℕ) (lists : List (List ℕ)) (old new : Chip) (f : Machine) (answer : ℕ) (c : Control) → StandsFor s (λ p. v) ram lists old →
-    Enters old new f.pc answer → GoesOnAt v new f.pc answer c → EnteredAt v f new c
+    Enters old new f.pc answer → GoesOnAt v new f.pc answer c → EnteredAt v s f new c
 
 -- so many machine instructions, from one state to the next; at first the hart stands where the flat machine does, over an image of its text
 pub record IsProcessorRun (v : ImageData) (s : Slots) (n : ℕ) (f : Machine) (at : ℕ → ProcessorState) : Type 0 where

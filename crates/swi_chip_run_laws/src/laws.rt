@@ -1,6 +1,7 @@
 //! The laws as a function that does nothing.
 #![tactic(auto)]
 
+ghost use Rattle.swi_chip_run_laws.specs.Files.{RunsFromFile};
 ghost use Rattle.swi_chip_run_laws.specs.Runs.{EntersRight, ProcessorFollows, ProcessorRunsInSteps};
 
 /// Laws of a processor with the service of `swi_chip`, for who reads them; it does nothing.
@@ -12,4 +13,13 @@ pub fn laws_of_processors()
     ensures enters { EntersRight }
     ensures follows { ProcessorFollows }
     ensures runs { ProcessorRunsInSteps }
+{}
+
+/// The law of a processor's run from a file on, for who reads it; it does nothing.
+///
+/// The file passes its checks, and its image is one of a program's text. Its tables are handed in as they stand there, and
+/// the service was started and entered at the program's pc. Then behind as many machine instructions as so many original
+/// steps cost the processor stands behind these, with a record that began with nothing.
+pub fn laws_of_files()
+    ensures { RunsFromFile }
 {}

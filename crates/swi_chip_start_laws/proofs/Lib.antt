@@ -1,2 +1,2 @@
 mod Jumps
-mod Files
+pub mod Files
