@@ -1,7 +1,7 @@
 /*
  * What the cache service, the trap vector and the board tell each other.
  *
- * The vector is assembly: it reads struct frame by the offsets below, which service.c compares with the struct.
+ * The vector is assembly: it reads struct frame by the offsets below, which are compared with the struct at the end.
  */
 #ifndef RUNTIME_H
 #define RUNTIME_H
@@ -16,8 +16,8 @@
 #define FRAME_DIRECT 152
 #define FRAME_RESUME 156
 #define FRAME_TARGET 160
-#define FRAME_MEMO_FILLED 164
-#define FRAME_BLOCK_WORDS 168
+#define FRAME_BLOCK_WORDS 164
+#define FRAME_MEMO_FILLED 168
 #define FRAME_MEMO_TARGETS 172
 #define FRAME_MEMO_PLACES (FRAME_MEMO_TARGETS + 4 * MEMO_ENTRIES)
 #define FRAME_BYTES ((FRAME_MEMO_PLACES + 4 * MEMO_ENTRIES + 15) / 16 * 16)
@@ -119,8 +119,8 @@ struct frame {
     uint32_t direct;          /* the handler to which interrupts lead where it stands; 0: they go to board_trap */
     uint32_t resume;          /* while it runs: where the program goes on */
     uint32_t target;          /* the vector's own */
-    uint32_t memo_filled;     /* not 0 where an entry was filled since the memo was emptied */
     uint32_t block_words;     /* of a slot */
+    uint32_t memo_filled;     /* not 0 where an entry was filled since the memo was emptied */
     uint32_t memo_targets[MEMO_ENTRIES]; /* text addresses, and */
     uint32_t memo_places[MEMO_ENTRIES];  /* where they stand in the cache */
 };
@@ -201,6 +201,9 @@ uint32_t service_jump(struct frame *registers, uint32_t pc, uint32_t target);
 
 /* The same for an EBREAK with an address behind it that is a multiple of 4: that to which the exit leads. */
 uint32_t service_exit(uint32_t pc, uint32_t target);
+
+/* The same with PROVED, where the proved service has answered no address (chip.c). */
+uint32_t service_refused(uint32_t pc, uint32_t answer);
 
 /* In trap.S: where mtvec has to lead, and the way into the program, by mepc and the frame. */
 void trap_vector(void);

@@ -513,16 +513,6 @@ SLOW static void clear_tables(const struct service_memory *memory)
         memory->marks[block] = 0;
 }
 
-SLOW void service_fill_places(const struct image *image, uint32_t *places)
-{
-    uint32_t block = 0;
-    for (uint32_t word = 0; word < image->text_words; word++) {
-        if (block + 1 < image->blocks && image->starts[block + 1] == word)
-            block++;
-        places[word] = block << PLACE_BLOCK_SHIFT | image->offsets[word];
-    }
-}
-
 SLOW void service_start(const struct image *image, const struct service_memory *memory, uint32_t *cache, uint32_t slots,
                         uint32_t links_most)
 {

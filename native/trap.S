@@ -8,8 +8,8 @@
 # A return whose target is in the memo takes the first path. Another jump over a register to a placed block is served here
 # without C too, where its rd is x0 or ra (with SERVE_IN_VECTOR), and fills the memo; so are CSRRS and CSRRC of mstatus by a
 # register that holds nothing but MIE (with FIRMWARE). What C serves by a register may read and write any, so all of them
-# are saved; for all else those are that a C function may change. The C code is
-# built without a6, a7 and t3 to t6 (native/build).
+# are saved; for all else those are that a C function may change. The C code, and the proved service (with PROVED), are
+# built without a6, a7 and t3 to t6 (native/build, native/chip).
 
 #include "runtime.h"
 
@@ -261,9 +261,23 @@ serve:
 
 serve_exit:
     save_scratch
+#ifdef PROVED
+    la      a0, service
+    csrr    a1, mepc
+    mv      a2, t1
+    call    chip_exit               # (the service, mepc, the target): where to go on, or why not at once
+    andi    t0, a0, 3
+    bnez    t0, 1f
+    fence.i
+    j       served
+1:  mv      a1, a0
+    csrr    a0, mepc
+    call    service_refused         # (mepc, the answer): where to go on
+#else
     csrr    a0, mepc
     mv      a1, t1
     call    service_exit            # (mepc, the target): where to go on
+#endif
 served:
     csrw    mepc, a0
 return:

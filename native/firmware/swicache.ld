@@ -16,7 +16,9 @@
   *(.swicache.first)
   swicache_first_end = .;
   *(.text.slow)
+  *places.o(.text .text.*)
   *image.o(.text .text.* .rodata .rodata.*)
+  *swi_chip.o(.text.chip_start .text.chip_start.*)
   *libc.o(.text .text.*)
   *start_c.o(.text .text.* .rodata .rodata.*)
   *other.o(.text .text.* .rodata .rodata.*)
@@ -30,6 +32,7 @@
   swicache_fast = .;
   *trap.o(.text.trap)
   *service.o(.text .text.* .rodata .rodata.*)
+  *swi_chip.o(.text .text.*)
   swicache_machine = .;
   *machine_s.o(.text .text.*)
   *machine.o(.text .text.* .rodata .rodata.*)

@@ -5,6 +5,7 @@
  * Whoever includes this file says BLOCKS_MOST, WORDS_MOST (of a block), SLOTS_MOST, and what equal(what, found,
  * expected) does.
  */
+#include "../places.c"
 #include "../service.c"
 
 #define TEXT_BASE 0x10000u

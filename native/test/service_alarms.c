@@ -8,6 +8,7 @@
  */
 #include <__fc_builtin.h>
 
+#include "../places.c"
 #include "../service.c"
 
 #define BLOCKS 3u

@@ -36,7 +36,7 @@ def end_by(number: int) -> None:
 
 def lines_below(name: str) -> dict[str, str]:
     """The lines of crates.txt of a crate and of those that it stands on, directly or not."""
-    lines = {line.split(":")[0]: line for line in (TOP / "crates.txt").read_text().splitlines() if line[:1].isalpha()}
+    lines = {line.split(":")[0].split()[0]: line for line in (TOP / "crates.txt").read_text().splitlines() if line[:1].isalpha()}
     found: set[str] = set()
     pending = {name}
     while pending:
