@@ -7,7 +7,7 @@
 #include <stddef.h>
 #include "runtime.h"
 
-/* A slice as code for a machine of 64 bits has it: of its address the lower word is read alone, and of its length none. */
+/* A slice as code for a machine of 64 bits has it: of its address the lower word is read alone. */
 struct slice {
     const void *at;
     uint32_t unused;

@@ -7,8 +7,9 @@ stands, the other stops for a moment where a block is copied, and so sees to tha
 """
 import gdb
 
-SLOT_BYTES = 8  # struct slot of runtime.h, whose first word is the block
 EBREAK = 0x00100073
+SLOT_BYTES = 8  # struct slot of runtime.h, whose first word is the block
+BLOCK_BYTES = 4  # of the proved service, which has the slots' blocks in a row
 
 
 def address_of(symbol):
@@ -17,7 +18,16 @@ def address_of(symbol):
 
 def service(field):
     """A number that the service keeps; the firmware may have such names too."""
-    return int(gdb.parse_and_eval(f"'service.c'::service.{field}"))
+    return int(gdb.parse_and_eval(f"'{'chip' if IS_PROVED else 'service'}.c'::service.{field}"))
+
+
+def is_proved():
+    """Whether the runtime has the proved service."""
+    try:
+        gdb.parse_and_eval("'chip.c'::service.next")
+    except gdb.error:
+        return False
+    return True
 
 
 def word(address):
@@ -41,7 +51,7 @@ class Image:
         return (self.cache_end - self.cache) // (4 * self.block_words)
 
     def block_in(self, slot):
-        return word(address_of("swicache_tables") + SLOT_BYTES * slot)
+        return word(address_of("swicache_tables") + (BLOCK_BYTES if IS_PROVED else SLOT_BYTES) * slot)
 
     def start(self, block):
         return word(self.starts + 4 * block) if block < self.blocks else self.text_words
@@ -115,24 +125,33 @@ class CopyBreak(gdb.Breakpoint):
 
     def __init__(self, image, block, offset, named):
         self.image, self.block, self.offset, self.named = image, block, offset, named
-        super().__init__("*&'service.c'::miss", type=gdb.BP_HARDWARE_BREAKPOINT, internal=True)
+        super().__init__("*&'swi_chip::serving::fill'" if IS_PROVED else "*&'service.c'::miss", type=gdb.BP_HARDWARE_BREAKPOINT, internal=True)
         self.silent = True
         self.commands = "silent\npython CopyBreak.follow()\ncontinue"  # a breakpoint may not be set within `stop`
         self.known.append(self)
         self.there = None
-        filled = image.slots if service("is_full") else service("next_slot")
-        for slot in range(filled):
+        for slot in range(self.filled()):
             if image.block_in(slot) == block:
                 self.put(slot)
+
+    def filled(self):
+        """How many slots have a block."""
+        if IS_PROVED:
+            return service("filled")
+        return self.image.slots if service("is_full") else service("next_slot")
+
+    @staticmethod
+    def next_slot():
+        return service("next" if IS_PROVED else "next_slot")
 
     def put(self, slot):
         self.there = SlotBreak(self.image, slot, self.block, self.offset, self.named)
 
     def is_copied(self):
-        return int(gdb.parse_and_eval("(unsigned int)$a0")) == self.block
+        return int(gdb.parse_and_eval("(unsigned int)$a1" if IS_PROVED else "(unsigned int)$a0")) == self.block
 
     def stop(self):
-        return self.is_copied() or self.there is not None and self.there.slot == service("next_slot")
+        return self.is_copied() or self.there is not None and self.there.slot == self.next_slot()
 
     @classmethod
     def follow(cls):
@@ -142,7 +161,7 @@ class CopyBreak(gdb.Breakpoint):
                     each.there.delete()
                     each.there = None
                 if each.is_copied():
-                    each.put(service("next_slot"))
+                    each.put(cls.next_slot())
 
 
 class OriginalBreak(gdb.Command):
@@ -172,6 +191,7 @@ def tell(event):
             print(f"stopped at {met.named}")
 
 
+IS_PROVED = is_proved()
 Original()
 OriginalBreak()
 gdb.events.stop.connect(tell)
