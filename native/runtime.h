@@ -41,6 +41,14 @@
 #define SERVE_IN_VECTOR
 #endif
 
+/* The proved service reads no other version, and has one form. */
+#if defined(PROVED) && !defined(VERSION_2)
+#define VERSION_2
+#endif
+#if defined(PROVED) && (defined(SEARCH) || defined(SCAN) || defined(BYTE_TABLE))
+#error "-DPROVED goes with none of -DSEARCH, -DSCAN and -DBYTE_TABLE"
+#endif
+
 #ifndef __ASSEMBLER__
 #include <stdbool.h>
 #include <stdint.h>

@@ -18,7 +18,7 @@
   *(.text.slow)
   *places.o(.text .text.*)
   *image.o(.text .text.* .rodata .rodata.*)
-  *swi_chip.o(.text.chip_start .text.chip_start.*)
+  *swi_chip.o(.text.chip_start .text.chip_put)
   *libc.o(.text .text.*)
   *start_c.o(.text .text.* .rodata .rodata.*)
   *other.o(.text .text.* .rodata .rodata.*)
