@@ -64,6 +64,9 @@ struct chip service;
 #define EBREAK 0x00100073u
 #define NOP 0x00000013u
 
+/* Not inlined, for the room that it would take. */
+#define SHARED __attribute__((noinline))
+
 /* What was written to the cache is fetched from now on. */
 static uint32_t synchronized(uint32_t answer)
 {
@@ -142,7 +145,7 @@ uint32_t service_refused(uint32_t pc, uint32_t answer)
     return is_address(answer) ? synchronized(answer) : refuse(pc, target, answer);
 }
 
-uint32_t service_jump(struct frame *registers, uint32_t pc, uint32_t target)
+SHARED uint32_t service_jump(struct frame *registers, uint32_t pc, uint32_t target)
 {
     uint32_t to;
     while ((to = chip_leave(&service, registers->x, pc, target)) == AGAIN)
