@@ -2,11 +2,15 @@
 
 Input, outputs and status are the command's, and a signal that ends it ends this too; where that was Ctrl-C, the last line says where it
 stood. The program tells no steps while it runs: they are its processor seconds by the speed of its first ten million steps, which are
-made once more, without input, when the first line is due. ./swic calls this.
+made once more, without input, when the first line is due. What the command writes to the terminal comes through one pipe, in its order;
+behind an end that was none of the program's own, tools/hints says what to do. ./swic calls this.
 """
 import contextlib
 import os
+import pathlib
+import re
 import signal
+import subprocess
 import sys
 import time
 
@@ -15,6 +19,10 @@ TRIED = 10_000_000
 PATIENCE = 2.0  # seconds that these may take
 TICKS = os.sysconf("SC_CLK_TCK")
 COUNTED = ("--steps", "--events")
+ENDED = (241, 242, 249, 251)  # by a line that tools/hints may know
+LINE = re.compile(rb"(?:fault: \w|store into text: |sink fault|source fault|no memory)[^\n]*\n\Z")
+LINE_MOST = 200  # bytes
+HINTS = pathlib.Path(__file__).resolve().parent.parent / "hints"
 
 
 def say(text):
@@ -30,9 +38,8 @@ def number(count):
     return str(round(count))
 
 
-def spawn(words, files=()):
-    """Begins a command with the signals of a program, and other files in place of the first ones."""
-    actions = [(os.POSIX_SPAWN_OPEN, at, "/dev/null", flags, 0) for at, flags in files]
+def spawn(words, actions):
+    """Begins a command with the signals of a program, and what these actions make of its first files."""
     # Python has these ignored.
     return os.posix_spawn(words[0], words, os.environ, file_actions=actions, setsigdef=[signal.SIGPIPE, signal.SIGXFSZ])
 
@@ -58,7 +65,7 @@ class Limit:
     def seconds(self, steps):
         """What so many steps take of a processor, or none where there are fewer, or they take long."""
         words = [*self.front, self.option, str(steps), *self.rest]
-        child = spawn(words, ((0, os.O_RDONLY), (1, os.O_WRONLY), (2, os.O_WRONLY)))
+        child = spawn(words, [(os.POSIX_SPAWN_OPEN, at, "/dev/null", os.O_RDWR, 0) for at in (0, 1, 2)])
         end = time.monotonic() + PATIENCE
         while True:
             ended, status, used = os.wait4(child, os.WNOHANG)
@@ -79,12 +86,23 @@ class Limit:
         return None if none is None or some is None or some <= none else TRIED / (some - none)
 
 
+def is_terminal(output):
+    """Whether an output is the terminal to which the errors go."""
+    try:
+        return os.path.sameopenfile(output, 2)
+    except OSError:
+        return False
+
+
 class Watch:
     def __init__(self, words):
         self.words = words
         self.begun, self.due, self.used = time.monotonic(), FIRST, 0.0
         self.asked, self.limit, self.speed = False, None, None
-        self.child = spawn(words)
+        outputs = [at for at in (1, 2) if is_terminal(at)]
+        self.written, end = os.pipe()
+        self.child = spawn(words, [(os.POSIX_SPAWN_DUP2, end, at) for at in outputs])
+        os.close(end)
 
     def ask(self):
         """Finds the speed, once."""
@@ -120,6 +138,16 @@ class Watch:
             say(f"{passed:.0f} s")
         signal.setitimer(signal.ITIMER_REAL, max(self.begun + self.due - time.monotonic(), 1))
 
+    def pass_on(self):
+        """Writes what the program writes, until it ends or the terminal is gone, and answers the last bytes."""
+        last = b""
+        with contextlib.suppress(OSError), open(self.written, "rb", buffering=0) as written:
+            while piece := written.read(1 << 16):
+                last = (last + piece)[-LINE_MOST:]
+                while piece:
+                    piece = piece[os.write(2, piece) :]
+        return last
+
     def run(self):
         """Waits for the end, and answers the status, or minus the signal."""
         for each in (signal.SIGTERM, signal.SIGHUP):
@@ -128,6 +156,7 @@ class Watch:
             signal.signal(signal.SIGINT, lambda *_: None)  # the terminal tells the program too
         signal.signal(signal.SIGALRM, self.tell)
         signal.setitimer(signal.ITIMER_REAL, FIRST)
+        last = self.pass_on()
         _, status, used = os.wait4(self.child, 0)
         signal.setitimer(signal.ITIMER_REAL, 0)
         status = os.waitstatus_to_exitcode(status)
@@ -135,6 +164,9 @@ class Watch:
         if status == -signal.SIGINT and passed > FIRST:
             where = f", at about {number(self.steps(used.ru_utime + used.ru_stime))} {self.limit.option[2:]}" if self.speed else ""
             say(f"stopped after {passed:.0f} s{where}")
+        if status in ENDED and (line := LINE.search(last)):
+            with contextlib.suppress(OSError):
+                subprocess.run([HINTS, "--end", line[0].rstrip(), *self.words[1:]], stdin=subprocess.DEVNULL)
         return status
 
 
