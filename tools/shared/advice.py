@@ -30,8 +30,17 @@ class Pair:
     ram: int
     limit: str = ""
 
-    def told(self):
-        return f"{self.limit}both would cost {self.cost:.3f} in {self.ram} bytes: {self.cache}, and the {self.functions} hottest functions in {self.bytes}"
+    def told(self, least):
+        """What is said of both, beside the least cost of one of them."""
+        said = f"{self.limit}both would cost {self.cost:.3f} in {self.ram} bytes: {self.cache}, and the {self.functions} hottest functions in {self.bytes}"
+        return f"{said}; {'that is less, but ' if self.cost < least else ''}{NO_PAIR}"
+
+
+class NoPair:
+    """In place of a pair for a firmware."""
+
+    def told(self, _least):
+        return f"both are not priced for a firmware, since its runs on the board leave no trace of the jumps between them; {NO_PAIR}"
 
 
 NO_PAIR = "no runtime here has both: that of native/ runs no function in RAM from the cache"
@@ -84,8 +93,7 @@ class Advice:
         """What a cache and functions together would cost, where that is asked for."""
         if self.pair is None:
             return None
-        least = min(self.beside(self.room(priced))[1], priced.cost)
-        return f"{self.pair.told()}; {'that is less, but ' if self.pair.cost < least else ''}{NO_PAIR}"
+        return self.pair.told(min(self.beside(self.room(priced))[1], priced.cost))
 
     def none(self, least):
         """The sentence where each cache takes more fast RAM than there is, or than the whole text."""

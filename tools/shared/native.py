@@ -18,6 +18,7 @@ if __name__ == "__main__":
     sys.path.insert(0, str(TOP / "tools"))
 
 from shared import executions, runs, tracing  # noqa: E402
+from shared.advice import NoPair  # noqa: E402
 from shared.alternatives import Alternatives  # noqa: E402
 from shared.board import Board, Images  # noqa: E402
 from shared.elf import program_of  # noqa: E402
@@ -139,10 +140,11 @@ class Choice:
 
 class Sweep:
     """The runs of a firmware in caches of a board, and which cache is recommended."""
-    rings, registers, returns, traced, pair, spent, fixed = (False,), None, None, None, None, False, ""
+    rings, registers, returns, traced, spent, fixed = (False,), None, None, None, False, ""
 
     def __init__(self, options, firmware):
         self.options, self.runs = options, firmware
+        self.pair = NoPair() if options.ram else None
         self.weights = dataclasses.replace(options.weights, named=f"counts on {options.native}")
         self.text, self.rows, self.left, self.made = tracing.Text(firmware.elf), {}, {}, {}
 
